@@ -1,0 +1,10 @@
+pub mod TableLemmas
+pub mod ShortestLemmas
+pub mod GrammarLemmas
+pub mod NumberLemmas
+pub mod NumberExact
+pub mod OperatorLemmas
+pub mod BodyLemmas
+pub mod CodeNumbers
+pub mod CodeLemmas
+pub mod BodyReader

@@ -1,0 +1,8 @@
+use Rattle.wasm_code.proofs.BodyReader as lemmas
+use Rattle.wasm_code.proofs.laws.body_at_reads.Goals as goal
+
+pub returns-clause-spelled : goal.returns-clause-spelled
+returns-clause-spelled c start text xs s = lemmas.body_spelled start text xs s
+
+pub returns-clause-faulty : goal.returns-clause-faulty
+returns-clause-faulty c start text kind offset s other = lemmas.body_faulty start text kind offset s other

@@ -1,0 +1,10 @@
+pub mod Fault
+pub mod Table
+pub mod Finding
+pub mod Instruction
+pub mod Grammar
+pub mod Number
+pub mod Operator
+pub mod Body
+pub mod Code
+pub mod Reader

@@ -1,0 +1,106 @@
+//! Bodies: operators one after another.
+ghost use Rattle.std.specs.Prelude.{◌≡◌, ◌≤◌, ℕ, List, length, IfOk, IfErr, MatchResult, slice_range};
+ghost use Rattle.wasm_code.specs.Body.{SpellsBody, IsFault, kind_of, is_end};
+ghost use Rattle.wasm_code.specs.declared.operator.Operator.{Operator};
+ghost use Rattle.wasm_code.specs.declared.fault.ReadKind.TheVariants.{Memory};
+
+use crate::fault::{Cause, ReadError, ReadKind};
+use crate::operator::Operator;
+use crate::parse::operator_from;
+use std::alloc::Global;
+
+/// An operator, and the offset of its first byte.
+pub type OperatorAndByteOffset = (Operator, usize);
+
+fn kind(cause: Cause) -> ReadKind
+    ensures { result ≡ kind_of cause }
+{
+    match cause {
+        Cause::Truncated => ReadKind::Truncated,
+        Cause::UnknownOpcode => ReadKind::UnknownOpcode,
+        Cause::BadInteger => ReadKind::BadInteger,
+    }
+}
+
+fn is_end_of(operator: &Operator) -> bool
+    ensures { result ≡ is_end operator.now }
+{
+    match operator {
+        Operator::Instr(_) => false,
+        Operator::End => true,
+    }
+}
+
+/// The operators of a body, one after another.
+fn operators_of(
+    alloc: Global,
+    bytes: &[u8],
+    from: usize,
+    to: usize,
+) -> Result<Vec<OperatorAndByteOffset>, ReadError>
+    requires order { from ≤ to }
+    requires bounds { to ≤ length bytes.now }
+    // What is read is spelled so.
+    ensures found { IfOk result (λ v. SpellsBody from (slice_range bytes.now from to) v.items) }
+    // What doesn't come from memory is the first fault.
+    ensures fault { IfErr result (λ e. IsFault from to (slice_range bytes.now from to) e.kind e.offset) }
+{
+    let mut found = Vec::new(alloc);
+    let mut rest = &bytes[from..to];
+    let mut ended = false;
+    while !rest.is_empty() {
+        let offset = to - rest.len();
+        match operator_from(rest) {
+            Ok((operator, after)) => {
+                ended = is_end_of(&operator);
+                if found.push((operator, offset)).is_err() {
+                    return Err(ReadError {
+                        kind: ReadKind::Memory,
+                        offset: from,
+                    });
+                }
+                rest = after;
+            }
+            Err(cause) => return Err(ReadError {
+                kind: kind(cause),
+                offset,
+            }),
+        }
+    }
+    if ended {
+        Ok(found)
+    } else {
+        Err(ReadError {
+            kind: ReadKind::NoEnd,
+            offset: to,
+        })
+    }
+}
+
+/// Reads the operators of the body `bytes[from..to]`, each with its offset from the start of `bytes`.
+///
+/// It accepts exactly the bytes that spell whole operators, one after another, of which the last is `end`
+/// (WebAssembly Core Specification 3.0, section 5.4, Instructions). Nesting and types aren't checked.
+///
+/// An error names the first fault from the left and where the operator at fault starts:
+/// `Truncated` where the bytes end inside it, `UnknownOpcode` where no row of the table has its opcode and it
+/// isn't `end`, `BadInteger` where a number has too many bytes or is out of range; `NoEnd` at `to` where all
+/// bytes are operators and the last one isn't `end`, or there is none; `Memory` at `from` where no memory was left.
+pub fn read_body(
+    alloc: Global,
+    bytes: &[u8],
+    from: usize,
+    to: usize,
+) -> Result<Vec<OperatorAndByteOffset>, ReadError>
+    requires order { from ≤ to }
+    requires bounds { to ≤ length bytes.now }
+    // What is read is spelled so.
+    ensures found { IfOk result (λ v. SpellsBody from (slice_range bytes.now from to) v.items) }
+    // What is spelled so is read, unless memory runs out.
+    ensures only { (xs : List (Operator × ℕ)) → SpellsBody from (slice_range bytes.now from to) xs
+        → MatchResult result (λ v. v.items ≡ xs) (λ e. e.kind ≡ Memory) }
+    // What doesn't come from memory is the first fault.
+    ensures fault { IfErr result (λ e. IsFault from to (slice_range bytes.now from to) e.kind e.offset) }
+{
+    operators_of(alloc, bytes, from, to)
+}

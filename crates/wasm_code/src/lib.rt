@@ -1,0 +1,22 @@
+//! Function bodies of WebAssembly as bytes: the instruction table, the operators
+//! that bytes spell, and the sink into which instructions are written.
+#![tactic(auto)]
+
+mod body;
+mod fault;
+mod immediate;
+pub mod laws;
+mod number;
+mod operator;
+mod parse;
+mod reading;
+mod sink;
+mod table;
+mod writing;
+
+pub use body::{OperatorAndByteOffset, read_body};
+pub use fault::{ReadError, ReadKind, SinkError};
+pub use immediate::{Imm, ValType};
+pub use operator::{Instr, Operator};
+pub use sink::Function;
+pub use table::{Opcode, ResultKind, RowInfo, row_info, row_of};
