@@ -1,0 +1,5 @@
+use Rattle.peephole_lang.proofs.ReadBackLemmas.{reads_back}
+use Rattle.peephole_lang.proofs.laws.text_reads_back.Goals as goal
+
+pub returns : goal.returns
+returns c = reads_back
