@@ -42,6 +42,13 @@ impl<'a, R: Drop> WasmMutate<'a, R> {
         self.preserving = preserving;
     }
 
+    /// Whether the meaning is to be preserved.
+    pub fn preserves_semantics(&self) -> bool
+        ensures { result ≡ self.now.preserving }
+    {
+        self.preserving
+    }
+
     /// Takes the module and the generator, in place of those before.
     pub fn set_up(&mut self, info: ModuleInfo<'a>, generator: R)
         ensures { self.new ≡ record self.old { info = Some info.entry; generator = Some generator } }

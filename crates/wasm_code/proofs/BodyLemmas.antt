@@ -11,7 +11,7 @@ use Rattle.wasm_code.specs.declared.fault.ReadKind.{ReadKind}
 use Rattle.wasm_code.specs.declared.operator.Operator.{Operator}
 use Rattle.wasm_code.specs.Operator.{Spells, Fails}
 use Rattle.wasm_code.specs.Reader.{operator_at}
-use Rattle.wasm_code.specs.Body.{SpellsAll, is_end, ends, SpellsBody, StopsAt, LacksEnd, IsFault, kind_of}
+use Rattle.wasm_code.specs.Body.{SpellsAll, is_end, ends, SpellsBody, StopsAt, IsFault, kind_of}
 use Rattle.wasm_code.proofs.OperatorLemmas.{operator_exact, one_spelling}
 
 pub record IsReadSoFar (start : ℕ) (text rest : List ℕ) (xs : List (Operator × ℕ)) (ended : Bool) : Type 0 where
@@ -88,9 +88,6 @@ whole text (b ∷ rest) e = absurd (omega (arith, e))
 
 pub done : (start : ℕ) (text rest : List ℕ) (xs : List (Operator × ℕ)) → length rest ≡ 0 → IsReadSoFar start text rest xs true → SpellsBody start text xs
 done start text rest xs none so_far = record { all = subst (SpellsAll xs start) (sym (so_far.parts ∙ whole so_far.front rest none)) so_far.all; last = sym so_far.last }
-
-pub lacks : (start to : ℕ) (text rest : List ℕ) (xs : List (Operator × ℕ)) → length rest ≡ 0 → IsReadSoFar start text rest xs false → LacksEnd start text
-lacks start to text rest xs none so_far = record { operators = xs; all = subst (SpellsAll xs start) (sym (so_far.parts ∙ whole so_far.front rest none)) so_far.all; last = sym so_far.last }
 
 -- ---- what is answered is the only answer
 

@@ -61,6 +61,11 @@ first_step most start to ended x front back place spells at room =
 abbrev Walked : (most to : ℕ) (ended : Bool) (front back : List ℕ) (xs : List (Operator × ℕ)) → Type 0
 Walked most to ended front back xs = (m : ℕ) × (length back ≤ m) × (operators_at most to ended (front ++ back) ≡ with_front xs (operators_at m to (ended_after ended xs) back))
 
+then_walked : (most to m : ℕ) (ended : Bool) (x : Operator × ℕ) (xs : List (Operator × ℕ)) (front rear back : List ℕ) → operators_at most to ended (front ++ back) ≡ and_first x (operators_at m to (is_end x.0) (rear ++ back))
+    → Walked m to (is_end x.0) rear back xs → Walked most to ended front back (x ∷ xs)
+unfolding with_front ended_after
+then_walked most to m ended x xs front rear back e w = (w.0, w.1, e ∙ ap (and_first x) w.2)
+
 -- all operators in front
 walks : (xs : List (Operator × ℕ)) (most start to : ℕ) (ended : Bool) (front back : List ℕ) → SpellsAll xs start front → to ≡ start + length (front ++ back) → length (front ++ back) ≤ most → Walked most to ended front back xs
 unfolding with_front ended_after
@@ -71,7 +76,7 @@ walks (x ∷ xs) most start to ended front back all at room =
     let some = some_byte all.front x.0 all.spells in
     let one = first_step most start to ended x all.front (all.back ++ back) all.offset all.spells (omega (arith, at, len)) (omega (arith, room, len)) in
     let rest = walks xs one.0 (start + length all.front) to (is_end x.0) all.back back all.rest (omega (arith, at, len)) (omega (arith, room, len, some, one.1)) in
-    (rest.0, rest.1, ap (λ (l : List ℕ). operators_at most to ended l) is ∙ one.2 ∙ ap (and_first x) rest.2)
+    then_walked most to one.0 ended x xs front all.back back (ap (λ (l : List ℕ). operators_at most to ended l) is ∙ one.2) rest
 
 stop_step : (m to : ℕ) (ended : Bool) (first : ℕ) (back : List ℕ) (cause : Cause) → operator_at (first ∷ back) ≡ Err cause → length (first ∷ back) ≤ m → operators_at m to ended (first ∷ back) ≡ Err (kind_of cause, to - length (first ∷ back))
 unfolding operators_at

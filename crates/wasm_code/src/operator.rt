@@ -59,7 +59,7 @@ impl Instr {
     }
 
     /// The instruction of row `row` with the immediate `imm`, which has to be of the row's kind.
-    pub fn of_row(row: u16, imm: Imm) -> Instr
+    pub(crate) fn of_row(row: u16, imm: Imm) -> Instr
         requires { IsInstruction (record { row = row; imm = imm }) }
         ensures { result ≡ record { row = row; imm = imm } }
     {

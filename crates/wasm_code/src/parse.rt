@@ -39,10 +39,7 @@ fn row_form_of(op: Opcode) -> Option<Form>
     ensures gives { result ≡ row_form (row_with op) }
     ensures in_table { IfSome result IsForm }
 {
-    match row_by_opcode(op) {
-        Some(row) => Some(Form::Row(row)),
-        None => None,
-    }
+    row_by_opcode(op).map(Form::Row)
 }
 
 fn byte_form_of(b: u8) -> Option<Form>

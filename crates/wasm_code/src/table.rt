@@ -149,10 +149,7 @@ pub fn row_by_opcode(op: Opcode) -> Option<Row>
 pub fn row_info(row: u16) -> Option<RowInfo>
     ensures { result ≡ info_of row }
 {
-    match find_row(row) {
-        Some(found) => Some(found.info),
-        None => None,
-    }
+    find_row(row).map(|found| found.info)
 }
 
 /// The number of the row that has the opcode, or none where no row has it.

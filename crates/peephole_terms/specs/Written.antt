@@ -1,0 +1,60 @@
+-- The written body: the bytes outside a block as they stood, and between them the code of the block's forest in postfix, in which a term stands for the
+-- tree of the operator at the insertion point. This project's rule.
+use Rattle.std.specs.Prelude.{ℕ, ◌+◌, ◌-◌, ◌<◌, ◌≤◌, ◌==◌, List, [], ◌++◌, length, map, if◌then◌else◌, slice_index, slice_range}
+use Rattle.wasm_code.specs.Instruction.{Instruction}
+use Rattle.wasm_code.specs.Code.{codes}
+use Rattle.wasm_code.specs.Body.{SpellsBody}
+use Rattle.wasm_code.specs.declared.operator.Operator.{Operator}
+use Rattle.mutate_base.specs.declared.module.ModuleInfo.{ModuleInfo}
+use Rattle.peephole_lang.specs.declared.lang.Head.{Head}
+use Rattle.peephole_lang.specs.Term.{Term}
+use Rattle.peephole_terms.specs.Block.{BlockRange, IsBlockOf}
+use Rattle.peephole_terms.specs.Shape.{Shape, block_of}
+use Rattle.peephole_terms.specs.Tree.{Trees, no_trees, entry, node, ◌▸◌, instructions_of}
+use Rattle.peephole_terms.specs.Forest.{forest}
+use Rattle.peephole_terms.specs.Expansion.{expansion_of}
+
+-- The instructions of the trees in postfix, those of the insertion point's tree replaced. The trees number operators from the block's first one on,
+-- whose index in the body is `first`.
+abbrev pub replaced : (first at : ℕ) → List Instruction → Trees → List Instruction
+replaced first at code no_trees = []
+replaced first at code (entry m ▸ ts) = replaced first at code ts
+replaced first at code (node i s kids ▸ ts) = (if first + i == at then code else instructions_of (node i s kids)) ++ replaced first at code ts
+
+-- the block's shapes, the last operator's first
+abbrev pub shapes_in : ModuleInfo → List (Operator × ℕ) → BlockRange → List Shape
+shapes_in info operators block = block_of info (slice_range operators block.start block.end)
+
+-- what the block is written as
+abbrev pub written_block : ModuleInfo → List (Operator × ℕ) → BlockRange → ℕ → Term Head → List Instruction
+written_block info operators block at term = replaced block.start at (expansion_of term) (forest (shapes_in info operators block))
+
+-- where an operator starts in the input
+abbrev pub offset_of : List (Operator × ℕ) → ℕ → ℕ
+offset_of operators i = slice_index (map (λ (o : Operator × ℕ). o.1) operators) i
+
+-- the input from the body's first operator up to the block
+abbrev pub before_block : List ℕ → List (Operator × ℕ) → BlockRange → List ℕ
+before_block input operators block = slice_range input (offset_of operators 0) (offset_of operators block.start)
+
+-- the input from the operator after the block through the one byte of the last operator
+abbrev pub after_block : List ℕ → List (Operator × ℕ) → BlockRange → List ℕ
+after_block input operators block = slice_range input (offset_of operators block.end) (offset_of operators (length operators - 1) + 1)
+
+-- the body with the block written as these instructions
+abbrev pub written_body : List ℕ → List (Operator × ℕ) → BlockRange → List Instruction → List ℕ
+written_body input operators block code = before_block input operators block ++ (codes code ++ after_block input operators block)
+
+-- The operators are those of a body in the input, with their offsets.
+pub record IsBodyIn (input : List ℕ) (operators : List (Operator × ℕ)) : Type 0 where
+  pub from : ℕ
+  pub to : ℕ
+  pub ordered : from ≤ to
+  pub inside : to ≤ length input
+  pub spells : SpellsBody from (slice_range input from to) operators
+
+-- The block is that of one of the operators.
+pub record IsBlockIn (operators : List (Operator × ℕ)) (block : BlockRange) : Type 0 where
+  pub index : ℕ
+  pub inside : index < length operators
+  pub is : IsBlockOf operators index block.start block.end

@@ -1,0 +1,185 @@
+//! The graph of a block.
+
+ghost use Rattle.std.specs.Prelude.{◌≡◌, ◌<◌, ◌-◌, ◌↔◌, ℕ, IsTrue, length, reverse, slice_index, nat_eq};
+ghost use Rattle.std.specs.HashMap as hash;
+ghost use Rattle.std.proofs.Props.{props};
+ghost use Rattle.peephole_lang.specs.Lang.{numbers_of};
+ghost use Rattle.peephole_terms.specs.Downwards.{downwards, sizes_of, flags_of, forward, forwards, HasOneColour};
+ghost use Rattle.peephole_terms.specs.Entries.{kins_of, colours, Measured};
+ghost use Rattle.peephole_terms.specs.Layout.{HasTrees, Lang-set};
+
+use crate::layout::lay_out;
+use mutate_base::Error;
+use peephole_lang::{Id, Lang, RecExpr};
+use std::alloc::Global;
+use std::collections::HashMap;
+
+/// An entry of a graph: an operator of the block, or a missing operand.
+#[derive(Drop)]
+pub struct StackEntry {
+    /// The node, whose children are the indexes of entries; `Undef` of a missing operand.
+    pub operator: Lang,
+    /// The colour; 4294967295 of a missing operand.
+    pub color: u32,
+    /// The index, in the body, of the operator that it is or that took it.
+    pub operator_idx: usize,
+}
+
+/// The graph of a block: its entries, each with the indexes of its operands' entries as children. What it says of the block is said at `DFGBuilder::get_dfg`.
+#[derive(Drop)]
+pub struct MiniDFG {
+    map: HashMap<usize, usize>,
+    entries: Vec<StackEntry>,
+    parents: Vec<Option<usize>>,
+    // How many entries there are from each one downwards.
+    sizes: Vec<usize>,
+    // Whether these have one colour.
+    same: Vec<bool>,
+    ghost sizes_are: { reverse sizes.items ≡ sizes_of (kins_of entries.items) } by { Prim.hlevel props },
+    ghost flags_are: { reverse same.items ≡ flags_of (kins_of entries.items) } by { Prim.hlevel props },
+    ghost trees: { HasTrees entries.items (hash.get nat_eq map) } by { Prim.hlevel (props, Lang-set) },
+}
+
+// The colour of an entry, or 0 past the end.
+fn color_at(entries: &[StackEntry], i: usize) -> u32
+    ensures { result ≡ slice_index (colours entries.now) i }
+{
+    if i < entries.len() {
+        entries[i].color
+    } else {
+        0
+    }
+}
+
+// The size at an index, or 0 past the end.
+fn size_at(sizes: &[usize], i: usize) -> usize
+    ensures { result ≡ slice_index sizes.now i }
+{
+    if i < sizes.len() { sizes[i] } else { 0 }
+}
+
+// Whether the children that are no missing operands lie, by their sizes, one behind another from an index on.
+fn lie_forward(entries: &[StackEntry], sizes: &[usize], children: &[Id], from: usize) -> bool
+    ensures { result ≡ forward (λ i. slice_index sizes.now i) (λ i. slice_index (colours entries.now) i) from (numbers_of children.now) }
+{
+    let mut at = from;
+    for child in children {
+        let i = child.0 as usize;
+        if color_at(entries, i) != u32::MAX {
+            let size = size_at(sizes, i);
+            if size > i + 1 || i + 1 - size != at {
+                return false;
+            }
+            at = i + 1;
+        }
+    }
+    true
+}
+
+impl MiniDFG {
+    ghost use Rattle.std.specs.Prelude.{map, IfOk, IfErr, IfSome, IsSome};
+    ghost use Rattle.peephole_lang.specs.Lang.{node_of, head_of, children_of};
+    ghost use Rattle.peephole_lang.specs.Term.{tree_at, term_of};
+    ghost use Rattle.peephole_terms.specs.Layout.{entry_nodes, laid};
+    ghost use Rattle.peephole_terms.specs.Dfg.{entries_of, parents_of, look_of};
+
+    // The graph of these parts.
+    pub(crate) fn of_parts(
+        map: HashMap<usize, usize>,
+        entries: Vec<StackEntry>,
+        parents: Vec<Option<usize>>,
+        sizes: Vec<usize>,
+        same: Vec<bool>,
+    ) -> MiniDFG
+        requires measured { Measured entries.items sizes.items same.items }
+        requires trees { HasTrees entries.items (hash.get nat_eq map) }
+        ensures map { (k : ℕ) → look_of result k ≡ hash.get nat_eq map k }
+        ensures entries { entries_of result ≡ entries.items }
+        ensures parents { parents_of result ≡ parents.items }
+    {
+        MiniDFG {
+            map,
+            entries,
+            parents,
+            sizes,
+            same,
+        }
+    }
+
+    /// The index of the own entry of each of the block's operators, by the operator's index in the body.
+    pub fn map(&self) -> &HashMap<usize, usize>
+        ensures { (k : ℕ) → hash.get nat_eq result.now k ≡ look_of self.now k }
+    {
+        &self.map
+    }
+
+    /// The entries. Children stand before their parents, and operators in the block's order.
+    pub fn entries(&self) -> &[StackEntry]
+        ensures { result.now ≡ entries_of self.now }
+    {
+        self.entries.as_slice()
+    }
+
+    /// The index of each entry's parent, none of a root.
+    pub fn parents(&self) -> &[Option<usize>]
+        ensures { result.now ≡ parents_of self.now }
+    {
+        self.parents.as_slice()
+    }
+
+    /// The tree of the operator with the index `at` in the body, laid out in postfix: its operands' trees one after another, then its own node, the last one. Each node names its children by their places; a missing operand is `Undef`. Refused for want of memory alone (`Memory`). Condition: `at` is a key of `map()`.
+    pub fn get_expr(&self, alloc: Global, at: usize) -> Result<RecExpr<Lang>, Error>
+        requires { IsSome (look_of self.now at) }
+        ensures laid { IfOk result (λ expr. IfSome (look_of self.now at) (λ i. map node_of expr ≡ laid 0 (tree_at (entry_nodes (entries_of self.now)) i))) }
+        ensures term { IfOk result (λ expr. IfSome (look_of self.now at) (λ i. term_of head_of children_of expr ≡ tree_at (entry_nodes (entries_of self.now)) i)) }
+        ensures some { IfOk result (λ expr. 0 < length expr) }
+        ensures refused { IfErr result (λ e. e ≡ Error.Memory) }
+    {
+        match self.map.get(&at) {
+            Some(root) => lay_out(alloc, &self.entries, *root),
+            None => unreachable!(),
+        }
+    }
+
+    /// How many entries there are from the one at index `i` downwards, with itself. Condition: the entry is there.
+    pub fn subtree_len(&self, i: usize) -> usize
+        requires { i < length (entries_of self.now) }
+        ensures { result ≡ length (downwards (kins_of (entries_of self.now)) i) }
+    {
+        self.sizes[i]
+    }
+
+    /// Whether all entries from the one at index `i` downwards have one colour. Condition: the entry is there.
+    pub fn is_subtree_consistent(&self, i: usize) -> bool
+        requires { i < length (entries_of self.now) }
+        ensures { IsTrue result ↔ HasOneColour (kins_of (entries_of self.now)) i }
+    {
+        self.same[i]
+    }
+
+    /// The same of the last entry, which is the block's last operator's. Condition: there is an entry.
+    pub fn is_subtree_consistent_from_root(&self) -> bool
+        requires { 0 < length (entries_of self.now) }
+        ensures { IsTrue result ↔ HasOneColour (kins_of (entries_of self.now)) (length (entries_of self.now) - 1) }
+    {
+        self.is_subtree_consistent(self.entries.len() - 1)
+    }
+
+    /// Whether the trees lie one after another: whether the roots' trees, the roots ascending, each in postfix, have the block's operators in their order. True of no entries.
+    pub fn keeps_order(&self) -> bool
+        ensures { result ≡ forwards (kins_of (entries_of self.now)) }
+    {
+        for i in 0..self.entries.len() {
+            let from = (i + 1).saturating_sub(self.sizes[i]);
+            if !lie_forward(
+                &self.entries[..i],
+                &self.sizes[..i],
+                self.entries[i].operator.children(),
+                from,
+            ) {
+                return false;
+            }
+        }
+        true
+    }
+}

@@ -1,0 +1,25 @@
+//! Blocks of a body as forests and graphs, and bodies written with a term in the place of a tree; and all that the
+//! crates below show, under one roof.
+#![tactic(auto)]
+
+mod block;
+mod builder;
+mod dfg;
+pub mod encoder;
+mod frames;
+mod growing;
+pub mod laws;
+mod layout;
+mod shape;
+
+pub use block::BBlock;
+pub use builder::DFGBuilder;
+pub use dfg::{MiniDFG, StackEntry};
+pub use encoder::expr2wasm::expr2wasm;
+pub use encoder::{Encoder, ResourceRequest};
+pub use mutate_base::{Error, ModuleInfo, PrimitiveTypeInfo, TermError, WasmMutate, Words};
+pub use peephole_lang::{Id, Lang, Language, RecExpr};
+pub use wasm_code::{
+    Function, Imm, Instr, Opcode, Operator, OperatorAndByteOffset, ReadError, ReadKind, ResultKind,
+    RowInfo, SinkError, ValType, read_body, row_info, row_of,
+};
