@@ -1,0 +1,9 @@
+pub mod Devices
+pub mod Lines
+pub mod Answer
+pub mod Values
+pub mod Blocks
+pub mod Growths
+pub mod Outcomes
+pub mod Readings
+pub mod OwnTrees

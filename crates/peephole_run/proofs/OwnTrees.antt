@@ -1,0 +1,149 @@
+-- Where an operator's own tree stands for itself, the block's trees are unchanged.
+use Rattle.std.proofs.Common.{◌≡◌, ℕ, zero, suc, ◌+◌, ◌-◌, ◌<◌, ◌≤◌, inl, inr, List, [], ◌∷◌, ◌++◌, length, get_or, Bool, true, refl, sym, ap, subst, ◌∙◌, arith, Option, Some, None}
+use Rattle.std.specs.Prelude.{reverse, slice_get, slice_range, option_map, IsSome, IfSome, IsTrue, is_some}
+use Rattle.std.proofs.lemmas.Bool.{cond-true, cond-false}
+use Rattle.std.proofs.lemmas.Bool.Decides.{eqb_tells}
+use Rattle.std.proofs.lemmas.Grind.{common_steps}
+use Rattle.std.proofs.lemmas.List.{reverse-append}
+use Rattle.std.proofs.lemmas.Option.{slice_get-get_or}
+use Rattle.wasm_code.specs.declared.operator.Operator.{Operator}
+use Rattle.wasm_code.specs.Instruction.{Instruction}
+use Rattle.mutate_base.specs.declared.module.ModuleInfo.{ModuleInfo}
+use Rattle.peephole_terms.specs.declared.shape.Shape.{Shape}
+use Rattle.peephole_terms.specs.declared.dfg.StackEntry.{StackEntry}
+use Rattle.peephole_terms.specs.Shape.{block_of}
+use Rattle.peephole_terms.specs.Tree.{Tree, Trees, entry, node, ◌▸◌, instructions_of, instructions}
+use Rattle.peephole_terms.specs.Graph.{Entry, entry_at, is_operator, pick, tree_at, tree_of_entry, undefs, roots}
+use Rattle.peephole_terms.specs.Forest.{forest}
+use Rattle.peephole_terms.specs.Entries.{seen, shape_of, entry_of, nodes_of, entry_tree}
+use Rattle.peephole_terms.specs.GraphOf.{IsGraphOf}
+use Rattle.peephole_lang.specs.Lang.{instr_of}
+use Rattle.peephole_terms.proofs.DfgLemmas.{nodes_length, entry_seen}
+use Rattle.peephole_terms.proofs.GraphLemmas.{entry_later}
+use Rattle.peephole_terms.specs.Written.{replaced}
+use Rattle.peephole_terms.specs.Block.{BlockRange}
+use Rattle.peephole_terms.specs.declared.dfg.MiniDFG.{MiniDFG}
+use Rattle.peephole_terms.specs.Dfg.{entries_of, parents_of, look_of}
+
+-- ---- lists
+
+abbrev Each : (ℕ → Type 0) → List ℕ → Type 0
+Each P [] = Unit {0}
+Each P (x ∷ xs) = P x × Each P xs
+
+each_push : (P : ℕ → Type 0) (xs : List ℕ) (x : ℕ) → Each P xs → P x → Each P (xs ++ x ∷ [])
+each_push P [] x h p = (p, tt)
+each_push P (y ∷ ys) x h p = (h.0, each_push P ys x h.1 p)
+
+each_reverse : (P : ℕ → Type 0) (xs : List ℕ) → Each P xs → Each P (reverse xs)
+each_reverse P [] h = tt
+each_reverse P (x ∷ xs) h = subst (Each P) (sym (reverse-append (x ∷ []) xs)) (each_push P (reverse xs) x (each_reverse P xs h.1) h.0)
+
+each_less : (n m : ℕ) (xs : List ℕ) → n ≤ m → Each (λ r. r < n) xs → Each (λ r. r < m) xs
+each_less n m [] l h = tt
+each_less n m (x ∷ xs) l h = let here = h.0 in (omega arith, each_less n m xs l h.1)
+
+roots_less : (ps : List (Option ℕ)) → Each (λ r. r < length ps) (roots ps)
+roots_less [] = tt
+roots_less (None ∷ earlier) = (omega arith, each_less (length earlier) (suc (length earlier)) (roots earlier) (omega arith) (roots_less earlier))
+roots_less (Some p ∷ earlier) = each_less (length earlier) (suc (length earlier)) (roots earlier) (omega arith) (roots_less earlier)
+
+-- ---- the number of a tree is that of its entry
+
+IsSeen : Tree → Entry → Type 0
+IsSeen t e = (i : ℕ) (s : Shape) (kids : Trees) → t ≡ node i s kids → (is_operator e.shape ≡ true) × (e.number ≡ i)
+
+own_seen : (shape : Option Shape) (children : List ℕ) (number missing : ℕ) (at : ℕ → Tree) (i : ℕ) (s : Shape) (kids : Trees) → tree_of_entry shape children number missing at ≡ node i s kids → (is_operator shape ≡ true) × (number ≡ i)
+own_seen None children number missing at i s kids h = absurd cc
+own_seen (Some t) children number missing at i s kids h = (refl, cc)
+
+seen_at : (nodes : List Entry) (r i : ℕ) (s : Shape) (kids : Trees) → r < length nodes → tree_at nodes r ≡ node i s kids → (is_operator (entry_at nodes r).shape ≡ true) × ((entry_at nodes r).number ≡ i)
+seen_at [] r i s kids l h = absurd (omega arith)
+seen_at (e ∷ earlier) r i s kids l h =
+    elim (eqb_tells (length earlier) r) [
+      | inl same ↦
+          let here : entry_at (e ∷ earlier) r ≡ e = cond-true _ _ _ same.0 in
+          let top : tree_at (e ∷ earlier) r ≡ tree_of_entry e.shape e.children e.number (undefs earlier) (tree_at earlier) = cond-true _ _ _ same.0 in
+          rw here (own_seen e.shape e.children e.number (undefs earlier) (tree_at earlier) i s kids (sym top ∙ h))
+      | inr other ↦
+          let apart = other.1 in
+          let here : entry_at (e ∷ earlier) r ≡ entry_at earlier r = cond-false _ _ _ other.0 in
+          let below : tree_at (e ∷ earlier) r ≡ tree_at earlier r = cond-false _ _ _ other.0 in
+          rw here (seen_at earlier r i s kids (omega arith) (sym below ∙ h))
+    ]
+
+-- ---- the trees
+
+one_own : (first at : ℕ) (code : List Instruction) (t : Tree) (ts : Trees) → ((i : ℕ) (s : Shape) (kids : Trees) → t ≡ node i s kids → first + i ≡ at → code ≡ instructions_of t) →
+    replaced first at code (t ▸ ts) ≡ instructions_of t ++ replaced first at code ts
+one_own first at code (entry m) ts h = refl
+one_own first at code (node i s kids) ts h =
+    ap (λ (x : List Instruction). x ++ replaced first at code ts) (elim (eqb_tells (first + i) at) [
+      | inl same ↦ cond-true _ _ _ same.0 ∙ h i s kids refl same.1
+      | inr other ↦ cond-false _ _ _ other.0
+    ])
+
+own_all : (nodes : List Entry) (first at i : ℕ) (code : List Instruction) (rs : List ℕ) → code ≡ instructions_of (tree_at nodes i) →
+    ((r : ℕ) → r < length nodes → is_operator (entry_at nodes r).shape ≡ true → first + (entry_at nodes r).number ≡ at → i ≡ r) → Each (λ r. r < length nodes) rs →
+    replaced first at code (pick (tree_at nodes) rs) ≡ instructions (pick (tree_at nodes) rs)
+own_all nodes first at i code [] c only less = refl
+own_all nodes first at i code (r ∷ rs) c only less =
+    one_own first at code (tree_at nodes r) (pick (tree_at nodes) rs) (λ j s kids t w.
+    let seen = seen_at nodes r j s kids less.0 t in
+    let place : i ≡ r = only r less.0 seen.0 (ap (λ k. first + k) seen.1 ∙ w) in
+    c ∙ ap (λ k. instructions_of (tree_at nodes k)) place)
+    ∙ ap (λ (x : List Instruction). instructions_of (tree_at nodes r) ++ x) (own_all nodes first at i code rs c only less.1)
+
+get_some : {A : Type 0} (xs : List A) (i : ℕ) → i < length xs → (x : A) × (slice_get xs i ≡ Some x)
+get_some [] i l = absurd (omega arith)
+get_some (x ∷ xs) zero l = (x, refl)
+get_some (x ∷ xs) (suc i) l = get_some xs i (omega arith)
+
+is_own : (info : ModuleInfo) (i : Option Instruction) → is_operator (option_map (shape_of info) i) ≡ true → is_some i ≡ true
+is_own info None h = h
+is_own info (Some i) h = refl
+
+-- the operator has one own entry
+only_entry : (info : ModuleInfo) (keeping : Bool) (first : ℕ) (operators : List (Operator × ℕ)) (entries : List StackEntry) (parents : List (Option ℕ)) (look : ℕ → Option ℕ) → IsGraphOf info keeping first operators entries parents look →
+    (at i r : ℕ) → look at ≡ Some i → r < length (nodes_of info first entries) → is_operator (entry_at (nodes_of info first entries) r).shape ≡ true → first + (entry_at (nodes_of info first entries) r).number ≡ at → i ≡ r
+only_entry info keeping first operators entries parents look h at i r k l o n =
+    let m = nodes_length info first entries in
+    let there : r < length entries = omega arith in
+    let d = (get_some entries r there).0 in
+    let e = get_or entries r d in
+    let same : entry_at (nodes_of info first entries) r ≡ entry_of info first (seen e) = entry_seen info first entries r d there in
+    let here : slice_get entries r ≡ Some e = slice_get-get_or entries r d there in
+    let later : first ≤ e.operator_idx = (entry_later info keeping first operators entries parents look h r d there).0 in
+    let number : first + (e.operator_idx - first) ≡ at = ap (λ (x : Entry). first + x.number) (sym same) ∙ n in
+    let place : e.operator_idx ≡ at = omega arith in
+    let operator : is_some (instr_of e.operator) ≡ true = is_own info (instr_of e.operator) (ap (λ (x : Entry). is_operator x.shape) (sym same) ∙ o) in
+    let found : look at ≡ Some r = (h.finds at r).1 (e, here, place, operator) in
+    let both : ◌≡◌ {A = Option ℕ} (Some i) (Some r) = sym k ∙ found in
+    cc
+
+pub own_replaced : (info : ModuleInfo) (keeping : Bool) (first : ℕ) (operators : List (Operator × ℕ)) (entries : List StackEntry) (parents : List (Option ℕ)) (look : ℕ → Option ℕ) (at i : ℕ) (code : List Instruction) →
+    IsGraphOf info keeping first operators entries parents look → look at ≡ Some i → code ≡ instructions_of (entry_tree info first entries i) →
+    replaced first at code (forest (block_of info operators)) ≡ instructions (forest (block_of info operators))
+own_replaced info keeping first operators entries parents look at i code h k e =
+    let nodes = nodes_of info first entries in
+    let less : Each (λ r. r < length nodes) (reverse (roots (reverse parents))) = subst (λ m. Each (λ r. r < m) (reverse (roots (reverse parents)))) h.stands.same_length (each_reverse (λ r. r < length (reverse parents)) (roots (reverse parents)) (roots_less (reverse parents))) in
+    subst (λ (ts : Trees). replaced first at code ts ≡ instructions ts) h.stands.trees
+    (own_all nodes first at i code (reverse (roots (reverse parents))) e (λ r l o n. only_entry info keeping first operators entries parents look h at i r k l o n) less)
+
+-- ---- the block's operators have entries
+
+length_range : (os : List (Operator × ℕ)) (start end : ℕ) → start ≤ end → end ≤ length os → length (slice_range os start end) ≡ end - start
+length_range os start end l m = grind (arith, common_steps)
+
+has_entry : (info : ModuleInfo) (keeping : Bool) (os : List (Operator × ℕ)) (start end at : ℕ) (entries : List StackEntry) (parents : List (Option ℕ)) (look : ℕ → Option ℕ) →
+    IsGraphOf info keeping start (slice_range os start end) entries parents look → start ≤ at → at < end → end ≤ length os → IsSome (look at)
+has_entry info keeping os start end at entries parents look h l m w =
+    let n : length (slice_range os start end) ≡ end - start = length_range os start end (omega arith) w in
+    let e : start + (at - start) ≡ at = omega arith in
+    ap (λ k. is_some (look k)) (sym e) ∙ h.keys (at - start) (omega arith)
+
+-- the same of a graph under a configuration
+pub has_entry_under : (under : Option ModuleInfo) (keeping : Bool) (os : List (Operator × ℕ)) (range : BlockRange) (at : ℕ) (graph : MiniDFG) → IsTrue (is_some under) →
+    IfSome under (λ info. IsGraphOf info keeping range.start (slice_range os range.start range.end) (entries_of graph) (parents_of graph) (look_of graph)) → range.start ≤ at → at < range.end → range.end ≤ length os → IsSome (look_of graph at)
+has_entry_under None keeping os range at graph i h l m w = absurd (cc i)
+has_entry_under (Some info) keeping os range at graph i h l m w = has_entry info keeping os range.start range.end at (entries_of graph) (parents_of graph) (look_of graph) h l m w

@@ -1,0 +1,29 @@
+//! Runs the commands of standard input: what they print goes to standard output.
+#![tactic(auto)]
+
+mod arguments;
+mod body;
+mod command;
+mod fault;
+mod input;
+mod reply;
+mod run;
+mod session;
+mod tally;
+#[cfg(test)]
+mod tests;
+mod text;
+mod writing;
+
+use std::io;
+use std::process::ExitCode;
+use tally::Tally;
+
+fn main(rt: HostRuntime) -> ExitCode {
+    let mut input = Tally::new(rt.stdin());
+    let mut output = Tally::new(rt.stdout());
+    match run::run(rt.alloc(), &mut input, &mut output) {
+        Ok(true) => ExitCode::SUCCESS,
+        _ => ExitCode::FAILURE,
+    }
+}
