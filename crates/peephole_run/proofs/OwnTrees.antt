@@ -50,9 +50,6 @@ roots_less (Some p ∷ earlier) = each_less (length earlier) (suc (length earlie
 
 -- ---- the number of a tree is that of its entry
 
-IsSeen : Tree → Entry → Type 0
-IsSeen t e = (i : ℕ) (s : Shape) (kids : Trees) → t ≡ node i s kids → (is_operator e.shape ≡ true) × (e.number ≡ i)
-
 own_seen : (shape : Option Shape) (children : List ℕ) (number missing : ℕ) (at : ℕ → Tree) (i : ℕ) (s : Shape) (kids : Trees) → tree_of_entry shape children number missing at ≡ node i s kids → (is_operator shape ≡ true) × (number ≡ i)
 own_seen None children number missing at i s kids h = absurd cc
 own_seen (Some t) children number missing at i s kids h = (refl, cc)

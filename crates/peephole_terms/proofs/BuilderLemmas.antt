@@ -55,10 +55,6 @@ found_fits i (Some row) s e = go row.operands refl e
         let v = fits_same (record { instr = i; operands = k; has_result = has_result row.result; change = row.change }) s u in
         (sym (ap (λ (x : Shape). x.instr) v), ap (λ x. is_count x s.operands) w ∙ eq-eqb k s.operands (ap (λ (x : Shape). x.operands) v))
 
-pub fit_operator : (info : ModuleInfo) (o : Operator) (s : Shape) → judge info o ≡ Fits s → o ≡ Instr s.instr
-fit_operator info (Instr i) s e = ap Instr (sym (found_fits i (info_of i.row) s e).0)
-fit_operator info End s e = unfit_fits s e
-
 pub shape_fit : (info : ModuleInfo) (o : Operator) (s : Shape) → judge info o ≡ Fits s → shape_of info s.instr ≡ s
 shape_fit info (Instr i) s e = ap (λ x. shape_of info x) (found_fits i (info_of i.row) s e).0 ∙ ap (shape_of_judged i) e
 shape_fit info End s e = unfit_fits s e

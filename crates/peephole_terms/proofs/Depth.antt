@@ -25,10 +25,6 @@ value (s ∷ earlier) (suc d) = cond s.has_result (value earlier (d + s.operands
 abbrev at_depth : List Shape → ℕ → ℤ
 at_depth earlier d = height earlier -ℤ pos (suc d)
 
-top_cong : (f g : ℕ → Tree) → ((d : ℕ) → f d ≡ g d) → (k : ℕ) → top f k ≡ top g k
-top_cong f g h zero = refl
-top_cong f g h (suc k) = let e = h k in let es = top_cong f g h k in cc
-
 from_place_top : (at : ℤ → Tree) (f : ℕ → Tree) (h : ℤ) → ((d : ℕ) → at (h -ℤ pos (suc d)) ≡ f d) → (k : ℕ) → from_place at (h -ℤ pos k) k ≡ top f k
 from_place_top at f h e zero = refl
 from_place_top at f h e (suc k) =

@@ -5,8 +5,8 @@ use Rattle.mutate_base.specs.declared.module.ModuleInfo.{ModuleInfo}
 use Rattle.peephole_lang.specs.Lang.{instr_of, children_of}
 use Rattle.peephole_terms.specs.declared.dfg.StackEntry.{StackEntry}
 use Rattle.peephole_terms.specs.Shape.{Shape, Judged, Fits, Unfit, judge_instruction}
-use Rattle.peephole_terms.specs.Tree.{Tree, Trees}
-use Rattle.peephole_terms.specs.Graph.{Entry, pick, tree_at, roots}
+use Rattle.peephole_terms.specs.Tree.{Tree}
+use Rattle.peephole_terms.specs.Graph.{Entry, tree_at, roots}
 use Rattle.peephole_terms.specs.Downwards.{Kin, sizes_of, flags_of}
 
 -- An entry's instruction, or none for a missing operand; its children; the body's index of the operator that it is or that took it; its colour.
@@ -48,10 +48,6 @@ roots_of parents = reverse (roots (reverse parents))
 -- the tree of the entry with an index
 abbrev pub entry_tree : ModuleInfo → ℕ → List StackEntry → ℕ → Tree
 entry_tree info first entries i = tree_at (nodes_of info first entries) i
-
--- the trees of the roots, ascending
-abbrev pub forest_of : ModuleInfo → ℕ → List StackEntry → List (Option ℕ) → Trees
-forest_of info first entries parents = pick (entry_tree info first entries) (roots_of parents)
 
 abbrev pub colours : List StackEntry → List ℕ
 colours entries = map (λ (e : StackEntry). e.color) entries

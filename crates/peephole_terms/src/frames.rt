@@ -28,12 +28,18 @@ pub fn descend(frames: &mut Vec<Frame>, frame: Frame, children: &[Id]) -> Result
         ++ record { node = frame.node; next = frame.next + 1 } ∷ record { node = slice_index (numbers_of children.now) frame.next; next = 0 } ∷ []) }
 {
     let child = children[frame.next];
-    push_frame(frames, Frame {
-        node: frame.node,
-        next: frame.next + 1,
-    })?;
-    push_frame(frames, Frame {
-        node: child.0 as usize,
-        next: 0,
-    })
+    push_frame(
+        frames,
+        Frame {
+            node: frame.node,
+            next: frame.next + 1,
+        },
+    )?;
+    push_frame(
+        frames,
+        Frame {
+            node: child.0 as usize,
+            next: 0,
+        },
+    )
 }
