@@ -19,12 +19,12 @@ use Rattle.peephole_terms.specs.Forest.{IsInOrder}
 use Rattle.peephole_terms.specs.Colour.{colour_after}
 use Rattle.peephole_terms.specs.Graph.{undef, Entry, entry_at, parent_at, is_operator, IsSmall, Stands, standing, lacking}
 use Rattle.peephole_terms.specs.Step.{down, grown, State}
-use Rattle.peephole_terms.specs.Downwards.{total, sizes_of, flags_of, Kin, forwards}
-use Rattle.peephole_terms.specs.Entries.{Seen, Measured, seen, kins_of, shape_of_judged, shape_of, entry_of, nodes_of}
+use Rattle.peephole_terms.specs.Downwards.{total, Kin, forwards}
+use Rattle.peephole_terms.specs.Entries.{Seen, Measured, seen, shape_of_judged, shape_of, entry_of, nodes_of}
 use Rattle.peephole_terms.specs.Growing.{undef_entry, lacks, taken_of, own_index, Added}
 use Rattle.peephole_terms.specs.GraphOf.{FirstFault, IsOwnEntry, IsOwnOrUndef, IsRefused, IsLarge}
 use Rattle.peephole_terms.specs.Building.{HasGrown}
-use Rattle.peephole_lang.specs.Lang.{instr_of, is_count, takes, takes_children}
+use Rattle.peephole_lang.specs.Lang.{instr_of, is_count, takes}
 use Rattle.peephole_terms.proofs.StackGraph.{graph, is_graph, IsGraph}
 use Rattle.peephole_terms.proofs.Standing.{own, Facts, last_of, stands, facts, stack_standing, own_replicate, behind}
 use Rattle.peephole_terms.specs.declared.growing.Growing.{Growing}
@@ -58,10 +58,6 @@ found_fits i (Some row) s e = go row.operands refl e
 pub shape_fit : (info : ModuleInfo) (o : Operator) (s : Shape) → judge info o ≡ Fits s → shape_of info s.instr ≡ s
 shape_fit info (Instr i) s e = ap (λ x. shape_of info x) (found_fits i (info_of i.row) s e).0 ∙ ap (shape_of_judged i) e
 shape_fit info End s e = unfit_fits s e
-
-pub takes_fit : (info : ModuleInfo) (o : Operator) (s : Shape) → judge info o ≡ Fits s → takes_children s.instr.row s.operands ≡ true
-takes_fit info (Instr i) s e = let p = found_fits i (info_of i.row) s e in ap (λ (x : Instruction). takes (info_of x.row) s.operands) p.0 ∙ p.1
-takes_fit info End s e = unfit_fits s e
 
 shapes_append : (info : ModuleInfo) (os ps : List (Operator × ℕ)) → operator_shapes info (os ++ ps) ≡ operator_shapes info os ++ operator_shapes info ps
 shapes_append info [] ps = refl
@@ -188,26 +184,6 @@ names_more info first n s c given g old new e m l h a k =
     (λ u. ap (λ x. if nat_le first k then x else None) (sym (own_replicate more n (k - first) g.nodes) ∙ sym (cond-false _ _ _ (ne_eqb n (k - first) (λ v. w (omega arith))))))
     (cases_lt k first)))
     (cases_eq (first + n) k) ∙ ap (λ x. named first x k) (sym same))
-
-pub kept_none : (info : ModuleInfo) (keeping : Bool) (first : ℕ) (g : Growing) → g.sizes.items ≡ [] → g.same.items ≡ [] → g.entries.items ≡ [] → g.parents.items ≡ [] → g.stack.items ≡ [] → g.color ≡ 0 → ((k : ℕ) → hash.get nat_eq g.map k ≡ None) → Kept info keeping first [] g
-kept_none info keeping first g x y a b c d e = record {
-  measured = record { sizes_are = ap reverse x ∙ ap (λ z. sizes_of (kins_of z)) (sym a); flags_are = ap reverse y ∙ ap (λ z. flags_of (kins_of z)) (sym a) };
-  missing = subst (All IsOwnOrUndef) (sym a) (All-nil IsOwnOrUndef);
-  fit = All-nil (λ (o : Operator × ℕ). IsFit (judge info o.0));
-  small = tt;
-  state = λ i. record { nodes = nodes_of info first (a i); parents = reverse (b i); stack = reverse (c i) };
-  names = λ k. e k ∙ (go (nat_le first k) ∙ ap (λ x. named first (nodes_of info first x) k) (sym a));
-  later = subst (λ x. All (λ (y : Seen). first ≤ y.operator) (map seen x)) (sym a) (All-nil (λ (y : Seen). first ≤ y.operator));
-  colour = d ∙ zero_is keeping;
-}
-  where
-    go : (b : Bool) → ◌≡◌ {A = Option ℕ} None (if b then None else None)
-    go true = refl
-    go false = refl
-
-    zero_is : (b : Bool) → 0 ≡ colour_after b []
-    zero_is true = refl
-    zero_is false = refl
 
 -- the map finds the own entry of each operator, and nothing else
 operator_some : (info : ModuleInfo) (o : Option Instruction) → is_operator (option_map (shape_of info) o) ≡ is_some o
