@@ -1,6 +1,6 @@
 -- A node seen as place, payload and children, and its instruction (this project: a node's place is 12 more than the
 -- row of its instruction, and below 12 for a node without one).
-use Rattle.std.specs.Prelude.{◌≡◌, ℕ, ◌-◌, ◌==◌, nat_lt, Bool, true, false, List, [], ◌∷◌, Option, Some, None, if◌then◌else◌}
+use Rattle.std.specs.Prelude.{◌≡◌, ℕ, ◌-◌, ◌==◌, ◌||◌, nat_lt, Bool, true, false, List, [], ◌∷◌, Option, Some, None, if◌then◌else◌}
 use Rattle.wasm_code.specs.declared.immediate.Imm.{Imm}
 use Rattle.wasm_code.specs.declared.immediate.Imm.TheVariants as imm
 use Rattle.wasm_code.specs.declared.table.RowInfo.{RowInfo}
@@ -83,6 +83,10 @@ takes (Some info) count = is_count info.operands count
 -- the row takes that many children
 abbrev pub takes_children : ℕ → ℕ → Bool
 takes_children row count = takes (info_of row) count
+
+-- the row's instructions have a node: drop, local.get, local.set, i32.const and i32.add; those of the other rows have none yet
+abbrev pub has_node : ℕ → Bool
+has_node row = row == 2 || row == 4 || row == 5 || row == 36 || row == 77
 
 -- the two nodes say the same, and have the same children
 abbrev pub SameNode : Lang → Lang → Type 0

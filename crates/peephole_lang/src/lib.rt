@@ -14,3 +14,4 @@ pub use expr::RecExpr;
 pub use id::Id;
 pub use lang::{Head, Lang, Payload};
 pub use language::Language;
+pub use making::has_node;

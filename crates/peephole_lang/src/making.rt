@@ -1,6 +1,6 @@
 //! Nodes made of a place, a payload and children.
-ghost use Rattle.std.specs.Prelude.{◌≡◌, ◌+◌, IfSome, Some, is_some, length, [], ◌∷◌};
-ghost use Rattle.peephole_lang.specs.Lang.{place_of, payload_of, ids_of, instr_of, takes_children};
+ghost use Rattle.std.specs.Prelude.{◌≡◌, ◌+◌, ◌&&◌, IfSome, Some, is_some, length, [], ◌∷◌};
+ghost use Rattle.peephole_lang.specs.Lang.{place_of, payload_of, ids_of, instr_of, takes_children, has_node};
 ghost use Rattle.peephole_lang.specs.Making.{is_nothing_0, is_nothing_1, is_nothing_2, is_index_0, is_index_1, is_i32_0, fits, payload_of_imm};
 ghost use Rattle.peephole_lang.specs.declared.lang.Payload.TheVariants as P;
 
@@ -9,27 +9,38 @@ use crate::lang::{Lang, Payload};
 use wasm_code::{Imm, Instr};
 
 impl Lang {
-    /// The node of an instruction with these children, the first operand first, or None where their number isn't the
-    /// row's number of operands.
+    /// The node of an instruction with these children, the first operand first, or None where the row's instructions
+    /// have no node, or the number of the children isn't the row's number of operands.
     pub fn of_instr(instr: &Instr, children: Vec<Id>) -> Option<Lang>
         ensures instruction { IfSome result (λ l. instr_of l ≡ Some instr.now) }
         ensures children { IfSome result (λ l. ids_of l ≡ children.items) }
-        ensures complete { is_some result ≡ takes_children instr.now.row (length children.items) }
+        ensures complete { is_some result ≡ (has_node instr.now.row && takes_children instr.now.row (length children.items)) }
     {
         let row = instr.row();
-        let payload = payload_of_immediate(instr.imm());
-        make(12 + row, payload, &children)
+        match payload_of_immediate(instr.imm()) {
+            Some(payload) => make(12 + row, payload, &children),
+            None => None,
+        }
     }
 }
 
-// The payload that stands for an immediate.
-fn payload_of_immediate(imm: Imm) -> Payload
+/// Whether the instructions of row `row` have a node: those of `drop`, `local.get`, `local.set`, `i32.const` and
+/// `i32.add`. The other rows have none yet.
+pub fn has_node(row: u16) -> bool
+    ensures { result ≡ has_node row }
+{
+    matches!(row, 2 | 4 | 5 | 36 | 77)
+}
+
+// The payload that stands for an immediate, or None where no node says such an immediate.
+fn payload_of_immediate(imm: Imm) -> Option<Payload>
     ensures { result ≡ payload_of_imm imm }
 {
     match imm {
-        Imm::Nothing => Payload::Nothing,
-        Imm::Index(index) => Payload::Index(index),
-        Imm::I32(number) => Payload::I32(number),
+        Imm::Nothing => Some(Payload::Nothing),
+        Imm::Index(index) => Some(Payload::Index(index)),
+        Imm::I32(number) => Some(Payload::I32(number)),
+        _ => None,
     }
 }
 

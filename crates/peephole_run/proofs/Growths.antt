@@ -20,7 +20,18 @@ Operators = List (Operator × ℕ)
 
 judge_is : (info : ModuleInfo) (o : Operator) → judged o ≡ judge info o
 judge_is info (op.Instr i) = refl
+judge_is info (op.Block t) = refl
+judge_is info (op.Loop t) = refl
+judge_is info (op.If t) = refl
+judge_is info op.Else = refl
 judge_is info op.End = refl
+judge_is info (op.Br label) = refl
+judge_is info (op.BrIf label) = refl
+judge_is info (op.BrTable count) = refl
+judge_is info op.Return = refl
+judge_is info op.Unreachable = refl
+judge_is info (op.CallIndirect type table) = refl
+judge_is info (op.TypedSelect count first) = refl
 
 room : (s : Shape) (block : List Shape) → length block + lacking (s ∷ block) < 4294967296 → has_room block s ≡ true
 room s block h = grind (arith, nat_tests)

@@ -25,6 +25,7 @@ named_fault bytes text kinds.Memory offset e law h = inl refl
 named_fault bytes text kinds.Truncated offset e law h = inr (ap (with_operators bytes) (law 0 bytes kinds.Truncated offset (rw e at h) (λ m. cc)))
 named_fault bytes text kinds.UnknownOpcode offset e law h = inr (ap (with_operators bytes) (law 0 bytes kinds.UnknownOpcode offset (rw e at h) (λ m. cc)))
 named_fault bytes text kinds.BadInteger offset e law h = inr (ap (with_operators bytes) (law 0 bytes kinds.BadInteger offset (rw e at h) (λ m. cc)))
+named_fault bytes text kinds.BadImmediate offset e law h = inr (ap (with_operators bytes) (law 0 bytes kinds.BadImmediate offset (rw e at h) (λ m. cc)))
 named_fault bytes text kinds.NoEnd offset e law h =
     let n : 0 + length bytes ≡ length bytes = omega arith in
     inr (ap (with_operators bytes) (law 0 bytes kinds.NoEnd offset (rw n (rw e at h)) (λ m. cc)))

@@ -1,18 +1,18 @@
 -- What the command `write` makes of a body (this project's rules).
 use Rattle.std.specs.Prelude.{◌≡◌, IfSome, ℕ, ◌+◌, ◌-◌, nat_lt, Bool, false, List, [], ◌∷◌, length, reverse, slice_range, if◌then◌else◌}
 use Rattle.wasm_code.specs.declared.operator.Operator.{Operator}
-use Rattle.wasm_code.specs.declared.operator.Operator.TheVariants.{Instr, End}
-use Rattle.wasm_code.specs.Table.{info_of}
+use Rattle.wasm_code.specs.declared.operator.Operator.TheVariants.{Instr}
 use Rattle.wasm_code.specs.Instruction.{Instruction}
 use Rattle.mutate_base.specs.declared.error.Error.TheVariants.{TooLarge}
 use Rattle.mutate_base.specs.Config.{Config}
 use Rattle.peephole_lang.specs.Term.{Node, tree_at}
+use Rattle.peephole_lang.specs.Lang.{has_node}
 use Rattle.peephole_lang.specs.declared.lang.Head.{Head}
 use Rattle.peephole_terms.specs.Block.{BlockRange}
 use Rattle.peephole_terms.specs.declared.shape.Shape.{Shape}
 use Rattle.peephole_terms.specs.declared.shape.Judged.{Judged}
 use Rattle.peephole_terms.specs.declared.shape.Judged.TheVariants.{Fits, Unfit}
-use Rattle.peephole_terms.specs.Shape.{judge_found}
+use Rattle.peephole_terms.specs.Shape.{judge_with_node}
 use Rattle.peephole_terms.specs.Graph.{lacking}
 use Rattle.peephole_terms.specs.Forest.{forest}
 use Rattle.peephole_terms.specs.Tree.{instructions}
@@ -41,8 +41,8 @@ with_operator block (Fits s) more = if has_room block s then more (s ∷ block) 
 
 -- what an operator is to a graph, in a module of which nothing but the bytes is known
 abbrev pub judged : Operator → Judged
-judged (Instr i) = judge_found i (info_of i.row)
-judged End = Unfit
+judged (Instr i) = judge_with_node (has_node i.row) i
+judged _ = Unfit
 
 -- the operators behind a block, one after another; the first at fault decides
 abbrev pub growth : List Shape → List (Operator × ℕ) → Growth

@@ -85,6 +85,14 @@ fn worked_runs(rt: HostRuntime) {
         b"no block\nline 3: NoBlock\n",
         false,
     );
+    // The instruction nop has no node yet.
+    answers(
+        &rt,
+        alloc,
+        b"body 010b\nat 0\nwrite\n",
+        b"block 0..1\nno graph\n",
+        true,
+    );
     answers(
         &rt,
         alloc,
@@ -98,6 +106,8 @@ fn worked_runs(rt: HostRuntime) {
 fn faulty_lines(rt: HostRuntime) {
     let alloc = rt.alloc();
     answers(&rt, alloc, b"body 41", b"line 1: Truncated\n", false);
+    answers(&rt, alloc, b"body 06", b"line 1: UnknownOpcode\n", false);
+    answers(&rt, alloc, b"body 02410b", b"line 1: BadImmediate\n", false);
     answers(&rt, alloc, b"body 4", b"line 1: BadArgument\n", false);
     answers(&rt, alloc, b"at +7", b"line 1: BadArgument\n", false);
     answers(&rt, alloc, b"at 7", b"line 1: NoBody\n", false);

@@ -6,7 +6,7 @@ use Rattle.std.proofs.lemmas.List.{length-take, length-drop}
 use Rattle.wasm_code.specs.Operator.{is_delimiter, Spells}
 use Rattle.wasm_code.specs.Body.{SpellsAll, is_end, ends}
 use Rattle.wasm_code.specs.declared.operator.Operator.{Operator}
-use Rattle.wasm_code.specs.declared.operator.Operator.TheVariants.{Instr, End}
+use Rattle.wasm_code.specs.declared.operator.Operator.TheVariants.{Instr, Block, Loop, If, Else, End, Br, BrIf, BrTable, Return, Unreachable, CallIndirect, TypedSelect}
 use Rattle.peephole_terms.specs.Block.{BlockRange}
 use Rattle.peephole_terms.specs.Written.{offset_of, IsBodyIn, IsBlockIn}
 use Rattle.peephole_terms.specs.EncoderSteps.{IsInside}
@@ -24,7 +24,18 @@ spelling_size o front s =
 
 end_delimits : (o : Operator) → IsTrue (is_end o) → is_delimiter o ≡ true
 end_delimits (Instr i) e = absurd cc
+end_delimits (Block t) e = absurd cc
+end_delimits (Loop t) e = absurd cc
+end_delimits (If t) e = absurd cc
+end_delimits Else e = absurd cc
 end_delimits End e = refl
+end_delimits (Br label) e = absurd cc
+end_delimits (BrIf label) e = absurd cc
+end_delimits (BrTable count) e = absurd cc
+end_delimits Return e = absurd cc
+end_delimits Unreachable e = absurd cc
+end_delimits (CallIndirect type table) e = absurd cc
+end_delimits (TypedSelect count first) e = absurd cc
 
 -- ---- offsets
 

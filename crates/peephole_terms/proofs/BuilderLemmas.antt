@@ -1,6 +1,6 @@
 -- What the loop of `build` keeps.
 use Rattle.std.proofs.Common.{◌≡◌, ℕ, zero, suc, ◌+◌, ◌-◌, ◌<◌, ◌≤◌, Bool, true, false, cond, List, [], ◌∷◌, ◌++◌, length, take, drop, get_or, map, replicate, Option, None, Some, refl, sym, ap, ap₂, ◌∙◌, subst, arith, ⊎_elim}
-use Rattle.std.specs.Prelude.{◌⊎◌, ◌==◌, nat_le, is_some, option_map, slice_get, reverse, if◌then◌else◌}
+use Rattle.std.specs.Prelude.{◌⊎◌, ◌==◌, ◌&&◌, nat_le, is_some, option_map, slice_get, reverse, if◌then◌else◌}
 use Rattle.std.specs.Bool.{nat_eq}
 use Rattle.std.specs.List.{All}
 use Rattle.std.specs.HashMap as hash
@@ -11,10 +11,10 @@ use Rattle.std.proofs.lemmas.Option.{get_or_from_slice_get, slice_get-get_or, sl
 use Rattle.wasm_code.specs.Instruction.{Instruction}
 use Rattle.wasm_code.specs.Table.{info_of}
 use Rattle.wasm_code.specs.declared.operator.Operator.{Operator}
-use Rattle.wasm_code.specs.declared.operator.Operator.TheVariants.{Instr, End}
+use Rattle.wasm_code.specs.declared.operator.Operator.TheVariants.{Instr, Block, Loop, If, Else, End, Br, BrIf, BrTable, Return, Unreachable, CallIndirect, TypedSelect}
 use Rattle.wasm_code.specs.declared.table.RowInfo.{RowInfo}
 use Rattle.mutate_base.specs.declared.module.ModuleInfo.{ModuleInfo}
-use Rattle.peephole_terms.specs.Shape.{Shape, Judged, Fits, Unfit, has_result, judge_row, judge_found, judge, IsFit, AreFit, and_shape, operator_shapes, block_of}
+use Rattle.peephole_terms.specs.Shape.{Shape, Judged, Fits, Unfit, has_result, judge_row, judge_found, judge_with_node, judge_instruction, judge, IsFit, AreFit, and_shape, operator_shapes, block_of}
 use Rattle.peephole_terms.specs.Forest.{IsInOrder}
 use Rattle.peephole_terms.specs.Colour.{colour_after}
 use Rattle.peephole_terms.specs.Graph.{undef, Entry, entry_at, parent_at, is_operator, IsSmall, Stands, standing, lacking}
@@ -24,7 +24,7 @@ use Rattle.peephole_terms.specs.Entries.{Seen, Measured, seen, shape_of_judged, 
 use Rattle.peephole_terms.specs.Growing.{undef_entry, lacks, taken_of, own_index, Added}
 use Rattle.peephole_terms.specs.GraphOf.{FirstFault, IsOwnEntry, IsOwnOrUndef, IsRefused, IsLarge}
 use Rattle.peephole_terms.specs.Building.{HasGrown}
-use Rattle.peephole_lang.specs.Lang.{instr_of, is_count, takes}
+use Rattle.peephole_lang.specs.Lang.{instr_of, is_count, takes, takes_children, has_node}
 use Rattle.peephole_terms.proofs.StackGraph.{graph, is_graph, IsGraph}
 use Rattle.peephole_terms.proofs.Standing.{own, Facts, last_of, stands, facts, stack_standing, own_replicate, behind}
 use Rattle.peephole_terms.specs.declared.growing.Growing.{Growing}
@@ -55,9 +55,37 @@ found_fits i (Some row) s e = go row.operands refl e
         let v = fits_same (record { instr = i; operands = k; has_result = has_result row.result; change = row.change }) s u in
         (sym (ap (λ (x : Shape). x.instr) v), ap (λ x. is_count x s.operands) w ∙ eq-eqb k s.operands (ap (λ (x : Shape). x.operands) v))
 
+noded_fits : (i : Instruction) (noded : Bool) (s : Shape) → judge_with_node noded i ≡ Fits s → (s.instr ≡ i) × (noded ≡ true) × (takes (info_of i.row) s.operands ≡ true)
+noded_fits i false s e = unfit_fits s e
+noded_fits i true s e = let f = found_fits i (info_of i.row) s e in (f.0, refl, f.1)
+
+-- an operator that fits is the instruction of its shape, which has a node and takes so many children
+record IsOfShape (info : ModuleInfo) (s : Shape) (i : Instruction) : Type 0 where
+  judged : judge_instruction info i ≡ Fits s
+  makes : (has_node i.row && takes_children i.row s.operands) ≡ true
+
+of_shape : (info : ModuleInfo) (o : Operator) (s : Shape) → judge info o ≡ Fits s → IsOfShape info s s.instr
+of_shape info (Instr i) s e =
+    let f = noded_fits i (has_node i.row) s e in
+    subst (IsOfShape info s) (sym f.0) (record { judged = e; makes = ap₂ (λ a b. a && b) f.1 f.2 })
+of_shape info (Block t) s e = unfit_fits s e
+of_shape info (Loop t) s e = unfit_fits s e
+of_shape info (If t) s e = unfit_fits s e
+of_shape info Else s e = unfit_fits s e
+of_shape info End s e = unfit_fits s e
+of_shape info (Br label) s e = unfit_fits s e
+of_shape info (BrIf label) s e = unfit_fits s e
+of_shape info (BrTable count) s e = unfit_fits s e
+of_shape info Return s e = unfit_fits s e
+of_shape info Unreachable s e = unfit_fits s e
+of_shape info (CallIndirect type table) s e = unfit_fits s e
+of_shape info (TypedSelect count first) s e = unfit_fits s e
+
 pub shape_fit : (info : ModuleInfo) (o : Operator) (s : Shape) → judge info o ≡ Fits s → shape_of info s.instr ≡ s
-shape_fit info (Instr i) s e = ap (λ x. shape_of info x) (found_fits i (info_of i.row) s e).0 ∙ ap (shape_of_judged i) e
-shape_fit info End s e = unfit_fits s e
+shape_fit info o s e = ap (shape_of_judged s.instr) (of_shape info o s e).judged
+
+pub shape_makes : (info : ModuleInfo) (o : Operator) (s : Shape) → Fits s ≡ judge info o → (has_node s.instr.row && takes_children s.instr.row s.operands) ≡ true
+shape_makes info o s e = (of_shape info o s (sym e)).makes
 
 shapes_append : (info : ModuleInfo) (os ps : List (Operator × ℕ)) → operator_shapes info (os ++ ps) ≡ operator_shapes info os ++ operator_shapes info ps
 shapes_append info [] ps = refl

@@ -1,5 +1,5 @@
 -- What a reader of a graph needs of its entries, its parents and its roots.
-use Rattle.std.proofs.Common.{◌≡◌, ℕ, ◌+◌, ◌-◌, ◌<◌, ◌≤◌, Bool, true, List, [], ◌∷◌, ◌++◌, length, get_or, Option, None, Some, refl, sym, ap, ◌∙◌, arith}
+use Rattle.std.proofs.Common.{◌≡◌, ℕ, ◌+◌, ◌-◌, ◌<◌, ◌≤◌, Bool, true, false, List, [], ◌∷◌, ◌++◌, length, get_or, Option, None, Some, refl, sym, ap, ◌∙◌, arith}
 use Rattle.std.specs.Prelude.{◌==◌, reverse}
 use Rattle.std.specs.List.{All}
 use Rattle.std.proofs.lemmas.Bool.{eq-eqb, or_left, or_right}
@@ -10,9 +10,9 @@ use Rattle.wasm_code.specs.Table.{info_of}
 use Rattle.wasm_code.specs.declared.operator.Operator.{Operator}
 use Rattle.wasm_code.specs.declared.table.RowInfo.{RowInfo}
 use Rattle.mutate_base.specs.declared.module.ModuleInfo.{ModuleInfo}
-use Rattle.peephole_lang.specs.Lang.{children_of}
+use Rattle.peephole_lang.specs.Lang.{children_of, has_node}
 use Rattle.peephole_terms.specs.declared.dfg.StackEntry.{StackEntry}
-use Rattle.peephole_terms.specs.Shape.{judge_row, judge_found}
+use Rattle.peephole_terms.specs.Shape.{judge_row, judge_found, judge_with_node}
 use Rattle.peephole_terms.specs.Forest.{has}
 use Rattle.peephole_terms.specs.Graph.{Entry, roots, entry_at}
 use Rattle.peephole_terms.specs.Entries.{shape_of_judged, shape_of, nodes_of, roots_of}
@@ -56,7 +56,7 @@ entry_later info keeping first operators entries parents look h i d l =
 
 -- a shape is of its instruction
 pub shape_instr : (info : ModuleInfo) (j : Instruction) → (shape_of info j).instr ≡ j
-shape_instr info j = found (info_of j.row)
+shape_instr info j = noded (has_node j.row)
   where
     by : (row : RowInfo) (o : Option ℕ) → (shape_of_judged j (judge_row j row o)).instr ≡ j
     by row None = refl
@@ -65,3 +65,7 @@ shape_instr info j = found (info_of j.row)
     found : (r : Option RowInfo) → (shape_of_judged j (judge_found j r)).instr ≡ j
     found None = refl
     found (Some row) = by row row.operands
+
+    noded : (b : Bool) → (shape_of_judged j (judge_with_node b j)).instr ≡ j
+    noded false = refl
+    noded true = found (info_of j.row)

@@ -1,5 +1,6 @@
 -- An instruction takes its node's children.
 use Rattle.std.proofs.Common.{◌≡◌, ℕ, ◌-◌, ◌<◌, ◌≤◌, true, false, Option, Some, None, refl, sym, ap₂, ◌∙◌, inl, inr, arith, nat_lt}
+use Rattle.std.specs.Prelude.{◌&&◌}
 use Rattle.std.proofs.lemmas.Bool.{cond-true, cond-false, cases_lt}
 use Rattle.wasm_code.specs.Instruction.{Instruction}
 use Rattle.wasm_code.specs.Table.{row_at, info_of, table}
@@ -7,7 +8,7 @@ use Rattle.peephole_lang.specs.declared.lang.Lang.{Lang}
 use Rattle.peephole_lang.specs.declared.lang.Lang.TheVariants.{Undef, Drop, LocalGet, LocalSet, I32, I32Add}
 use Rattle.peephole_lang.specs.declared.lang.Head.{Head}
 use Rattle.peephole_lang.specs.declared.lang.Payload.{Payload}
-use Rattle.peephole_lang.specs.Lang.{place_of, head_of, count_of, imm_of, instr_of, instr_of_head, takes_children}
+use Rattle.peephole_lang.specs.Lang.{place_of, head_of, count_of, imm_of, instr_of, instr_of_head, takes_children, has_node}
 
 -- The place of an instruction's node.
 record IsRowOf (i : Instruction) (place : ℕ) : Type 0 where
@@ -39,7 +40,7 @@ from_head h i e =
     parts : (place : ℕ) (p : Payload) (i : Instruction) → 12 ≤ place → instruction_at place p ≡ Some i → IsRowOf i place
     parts place p i own e = record { own = own; row = cc }
 
-takes_at : (l : Lang) → 12 ≤ place_of l → takes_children (place_of l - 12) (count_of l) ≡ true
+takes_at : (l : Lang) → 12 ≤ place_of l → (has_node (place_of l - 12) && takes_children (place_of l - 12) (count_of l)) ≡ true
 unfolding row_at info_of table
 takes_at Undef h = absurd (omega arith)
 takes_at (Drop _) h = refl
@@ -48,8 +49,8 @@ takes_at (LocalSet _ _) h = refl
 takes_at (I32 _) h = refl
 takes_at (I32Add _) h = refl
 
--- the instruction takes the node's children
-pub takes_own : (l : Lang) (i : Instruction) (n : ℕ) → instr_of l ≡ Some i → n ≡ count_of l → takes_children i.row n ≡ true
+-- the instruction has a node, and takes the node's children
+pub takes_own : (l : Lang) (i : Instruction) (n : ℕ) → instr_of l ≡ Some i → n ≡ count_of l → (has_node i.row && takes_children i.row n) ≡ true
 takes_own l i n e c =
     let h = from_head (head_of l) i e in
-    ap₂ takes_children (sym h.row) c ∙ takes_at l h.own
+    ap₂ (λ row count. has_node row && takes_children row count) (sym h.row) c ∙ takes_at l h.own

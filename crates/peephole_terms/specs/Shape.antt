@@ -1,4 +1,4 @@
--- What an operator is to a graph under a module's information. The numbers of operands, the results and the changes of the colour are those of the instruction table; that a delimiter has no place in a graph is this project's rule.
+-- What an operator is to a graph under a module's information. The numbers of operands, the results and the changes of the colour are those of the instruction table; that a delimiter, `call_indirect` and a `select` that is no instruction have no place in a graph is this project's rule.
 use Rattle.std.specs.Prelude.{ℕ, Bool, true, false, List, [], ◌∷◌, Option, None, Some, reverse}
 use Rattle.std.specs.List.{All}
 use Rattle.wasm_code.specs.Instruction.{Instruction}
@@ -7,8 +7,9 @@ use Rattle.wasm_code.specs.declared.table.RowInfo.{RowInfo}
 use Rattle.wasm_code.specs.declared.table.ResultKind.{ResultKind}
 use Rattle.wasm_code.specs.declared.table.ResultKind.TheVariants.{Nothing}
 use Rattle.wasm_code.specs.declared.operator.Operator.{Operator}
-use Rattle.wasm_code.specs.declared.operator.Operator.TheVariants.{Instr, End}
+use Rattle.wasm_code.specs.declared.operator.Operator.TheVariants.{Instr}
 use Rattle.mutate_base.specs.declared.module.ModuleInfo.{ModuleInfo}
+use Rattle.peephole_lang.specs.Lang.{has_node}
 -- a shape has the fields `instr`, `operands`, `has_result` and `change`; an operator is judged to fit with a shape, or to be unfit
 pub use Rattle.peephole_terms.specs.declared.shape.Shape.{Shape}
 pub use Rattle.peephole_terms.specs.declared.shape.Judged.{Judged}
@@ -27,13 +28,18 @@ abbrev pub judge_found : Instruction → Option RowInfo → Judged
 judge_found i None = Unfit
 judge_found i (Some row) = judge_row i row row.operands
 
-abbrev pub judge_instruction : ModuleInfo → Instruction → Judged
-judge_instruction info i = judge_found i (info_of i.row)
+-- an instruction whose row has no node does not fit yet
+abbrev pub judge_with_node : Bool → Instruction → Judged
+judge_with_node false i = Unfit
+judge_with_node true i = judge_found i (info_of i.row)
 
--- an instruction by its row; no delimiter fits
+abbrev pub judge_instruction : ModuleInfo → Instruction → Judged
+judge_instruction info i = judge_with_node (has_node i.row) i
+
+-- an instruction by its row; no other operator fits
 abbrev pub judge : ModuleInfo → Operator → Judged
 judge info (Instr i) = judge_instruction info i
-judge info End = Unfit
+judge info _ = Unfit
 
 abbrev pub IsFit : Judged → Type 0
 IsFit (Fits s) = Unit {0}

@@ -112,7 +112,7 @@ impl DFGBuilder {
         Some(BBlock::of_range(start, index + 1))
     }
 
-    /// The graph of a block of `operators`, made anew at each call. The first operator at fault decides: none at an operator that no graph holds, as a delimiter where the block was cut from another list; `TooLarge` where an entry's index would pass 32 bits, or an operator's colour would be 4294967295 or more. Else refused for want of memory alone (`Memory`). The builder stays as it was. Condition: the block's range lies in `operators`.
+    /// The graph of a block of `operators`, made anew at each call. The first operator at fault decides: none at an operator that no graph holds: an instruction without a node, as long as some rows have none, `call_indirect`, a `select` that is no instruction, or a delimiter where the block was cut from another list; `TooLarge` where an entry's index would pass 32 bits, or an operator's colour would be 4294967295 or more. Else refused for want of memory alone (`Memory`). The builder stays as it was. Condition: the block's range lies in `operators`.
     pub fn get_dfg(
         &mut self,
         alloc: Global,

@@ -20,6 +20,7 @@ pub use encoder::{Encoder, ResourceRequest};
 pub use mutate_base::{Error, ModuleInfo, PrimitiveTypeInfo, TermError, WasmMutate, Words};
 pub use peephole_lang::{Id, Lang, Language, RecExpr};
 pub use wasm_code::{
-    Function, Imm, Instr, Opcode, Operator, OperatorAndByteOffset, ReadError, ReadKind, ResultKind,
-    RowInfo, SinkError, ValType, read_body, row_info, row_of,
+    AbstractHeapType, BlockType, Function, HeapType, Imm, Instr, MemArg, Opcode, Operator,
+    OperatorAndByteOffset, ReadError, ReadKind, ResultKind, RowInfo, SinkError, ValType, read_body,
+    row_info, row_of,
 };

@@ -1,10 +1,11 @@
 //! What an operator is to a graph.
 
 ghost use Rattle.std.specs.Prelude.{◌≡◌};
-ghost use Rattle.wasm_code.specs.Table.{info_of};
-ghost use Rattle.peephole_terms.specs.Shape.{has_result, judge_found, judge};
+ghost use Rattle.peephole_lang.specs.Lang.{has_node};
+ghost use Rattle.peephole_terms.specs.Shape.{has_result, judge_with_node, judge};
 
 use mutate_base::ModuleInfo;
+use peephole_lang::has_node;
 use wasm_code::{Instr, Operator, ResultKind, row_info};
 
 /// An instruction with what counts of it in a graph: the number of its operands, whether it has a result, and by how much it raises the colour.
@@ -33,8 +34,11 @@ fn is_result(kind: ResultKind) -> bool
 }
 
 fn judge_instr(instr: Instr) -> Judged
-    ensures { result ≡ judge_found instr (info_of instr.row) }
+    ensures { result ≡ judge_with_node (has_node instr.row) instr }
 {
+    if !has_node(instr.row()) {
+        return Judged::Unfit;
+    }
     match row_info(instr.row()) {
         None => Judged::Unfit,
         Some(row) => match row.operands {
@@ -55,6 +59,6 @@ pub fn judge_operator(_info: &ModuleInfo, operator: &Operator) -> Judged
 {
     match operator {
         Operator::Instr(instr) => judge_instr(*instr),
-        Operator::End => Judged::Unfit,
+        _ => Judged::Unfit,
     }
 }

@@ -98,6 +98,24 @@ fn is_graph(
     Ok(())
 }
 
+/// The instruction nop has no node yet.
+#[test]
+fn no_graph(rt: HostRuntime) -> Result<(), Fail> {
+    let alloc = rt.alloc();
+    let bytes = [0x1a, 0x01, 0x0b];
+    let operators = read_body(alloc, &bytes, 0, bytes.len())?;
+    let config: WasmMutate<Words> = WasmMutate::new();
+    let mut builder = DFGBuilder::new(&config);
+    let info = ModuleInfo::new(&bytes);
+    assert!(rt; operators.len() == 3);
+    let Some(block) = builder.get_bb_from_operator(1, &operators) else {
+        assert!(rt; false, "no block");
+        return Ok(());
+    };
+    assert!(rt; builder.get_dfg(alloc, &info, &operators, &block)?.is_none());
+    Ok(())
+}
+
 #[test]
 fn missing_operands(rt: HostRuntime) -> Result<(), Fail> {
     // drop, local.get 0, i32.add: two operators lack an operand.

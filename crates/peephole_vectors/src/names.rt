@@ -28,6 +28,7 @@ fn errors_display_their_names(rt: HostRuntime) -> Result<(), Fail> {
         (ReadKind::Truncated, "Truncated"),
         (ReadKind::UnknownOpcode, "UnknownOpcode"),
         (ReadKind::BadInteger, "BadInteger"),
+        (ReadKind::BadImmediate, "BadImmediate"),
         (ReadKind::NoEnd, "NoEnd"),
         (ReadKind::Memory, "Memory"),
     ] {

@@ -21,6 +21,10 @@ fn is_read(
                 let found = match operator {
                     Operator::Instr(instr) => Some((instr.row(), instr.imm())),
                     Operator::End => None,
+                    _ => {
+                        assert!(rt; false, "{bytes:?}: {operator:?}");
+                        None
+                    }
                 };
                 assert_eq!(rt; found, *instruction, "{bytes:?}");
             }
@@ -93,7 +97,7 @@ fn bodies(rt: HostRuntime) {
 #[test]
 fn hostile_bytes(rt: HostRuntime) {
     let alloc = rt.alloc();
-    let bad: [(&[u8], ReadKind, usize); 15] = [
+    let bad: [(&[u8], ReadKind, usize); 16] = [
         (&[], ReadKind::NoEnd, 0),
         (&[0x1a], ReadKind::NoEnd, 1),
         (&[0x0b, 0x1a], ReadKind::NoEnd, 2),
@@ -125,10 +129,11 @@ fn hostile_bytes(rt: HostRuntime) {
             ReadKind::BadInteger,
             0,
         ),
-        (&[0x01], ReadKind::UnknownOpcode, 0),
+        (&[0x06], ReadKind::UnknownOpcode, 0),
         (&[0x41, 0x00, 0x06, 0x0b], ReadKind::UnknownOpcode, 2),
         (&[0xfc, 0x12, 0x0b], ReadKind::UnknownOpcode, 0),
         (&[0xfd, 0x94, 0x02, 0x0b], ReadKind::UnknownOpcode, 0),
+        (&[0x01, 0x02, 0x41, 0x0b], ReadKind::BadImmediate, 1),
     ];
     for (bytes, kind, offset) in bad {
         is_refused(&rt, alloc, bytes, kind, offset);

@@ -6,7 +6,7 @@ use Rattle.wasm_code.specs.declared.fault.ReadKind.TheVariants as kinds
 use Rattle.wasm_code.specs.declared.fault.ReadError.{ReadError}
 use Rattle.std.proofs.lemmas.List.{length-append, append-nil, length-take, length-drop}
 use Rattle.wasm_code.specs.declared.fault.Cause.{Cause}
-use Rattle.wasm_code.specs.declared.fault.Cause.TheVariants.{Truncated, UnknownOpcode, BadInteger}
+use Rattle.wasm_code.specs.declared.fault.Cause.TheVariants.{Truncated, UnknownOpcode, BadInteger, BadImmediate}
 use Rattle.wasm_code.specs.declared.fault.ReadKind.{ReadKind}
 use Rattle.wasm_code.specs.declared.operator.Operator.{Operator}
 use Rattle.wasm_code.specs.Operator.{Spells, Fails}
@@ -74,6 +74,7 @@ fault_of : (start to : ℕ) (text : List ℕ) (offset : ℕ) (cause : Cause) →
 fault_of start to text offset Truncated s = s
 fault_of start to text offset UnknownOpcode s = s
 fault_of start to text offset BadInteger s = s
+fault_of start to text offset BadImmediate s = s
 
 pub stops : (bytes : List ℕ) (start to : ℕ) (rest : List ℕ) (xs : List (Operator × ℕ)) (ended : Bool) (cause : Cause) → start ≤ to → to ≤ length bytes → 0 < length rest
     → IsReadSoFar start (slice_range bytes start to) rest xs ended → operator_at rest ≡ Err cause → IsFault start to (slice_range bytes start to) (kind_of cause) (to - length rest)
@@ -106,7 +107,8 @@ pair_is x y p q =
     let g : ℕ → Operator × ℕ = λ k. (y.0, k) in
     ap f p ∙ ap g q
 
-same_all : (xs ys : List (Operator × ℕ)) (start : ℕ) (text : List ℕ) → SpellsAll xs start text → SpellsAll ys start text → xs ≡ ys
+-- bytes spell one list of operators
+pub same_all : (xs ys : List (Operator × ℕ)) (start : ℕ) (text : List ℕ) → SpellsAll xs start text → SpellsAll ys start text → xs ≡ ys
 same_all [] [] start text p q = refl
 same_all [] (y ∷ ys) start text p q = absurd (nothing_is q.front q.back y.0 (sym p ∙ q.parts) q.spells)
 same_all (x ∷ xs) [] start text p q = absurd (nothing_is p.front p.back x.0 (sym q ∙ p.parts) p.spells)
@@ -139,6 +141,7 @@ no_fault start to text xs kinds.NoEnd offset p s = let same = same_all xs s.0.op
 no_fault start to text xs kinds.Truncated offset p s = absurd (no_stop xs s.operators start text s.front s.first s.back Truncated p.all s.parts s.before s.cause)
 no_fault start to text xs kinds.UnknownOpcode offset p s = absurd (no_stop xs s.operators start text s.front s.first s.back UnknownOpcode p.all s.parts s.before s.cause)
 no_fault start to text xs kinds.BadInteger offset p s = absurd (no_stop xs s.operators start text s.front s.first s.back BadInteger p.all s.parts s.before s.cause)
+no_fault start to text xs kinds.BadImmediate offset p s = absurd (no_stop xs s.operators start text s.front s.first s.back BadImmediate p.all s.parts s.before s.cause)
 
 pub only : (start to : ℕ) (text : List ℕ) (r : Result (Vec (Operator × ℕ)) ReadError) (xs : List (Operator × ℕ)) → IfOk r (λ v. SpellsBody start text v.items) → IfErr r (λ e. IsFault start to text e.kind e.offset)
     → SpellsBody start text xs → MatchResult r (λ v. v.items ≡ xs) (λ e. e.kind ≡ kinds.Memory)

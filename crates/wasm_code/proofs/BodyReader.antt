@@ -1,16 +1,16 @@
 -- Reading a body as a function answers what the grammar says.
-use Rattle.std.proofs.Common.{◌≡◌, ◌≢◌, ℕ, zero, suc, ◌+◌, ◌-◌, ◌<◌, ◌≤◌, Bool, true, false, List, [], ◌∷◌, ◌++◌, length, Ok, Err, refl, sym, ap, ◌∙◌, append_assoc, arith}
+use Rattle.std.proofs.Common.{◌≡◌, ◌≢◌, ℕ, zero, suc, ◌+◌, ◌-◌, ◌<◌, ◌≤◌, ◌⊎◌, inl, inr, Bool, true, false, List, [], ◌∷◌, ◌++◌, length, Result, Ok, Err, refl, sym, ap, subst, ◌∙◌, append_assoc, arith}
 use Rattle.std.proofs.lemmas.List.{length-append, append-nil}
 use Rattle.wasm_code.specs.declared.fault.Cause.{Cause}
-use Rattle.wasm_code.specs.declared.fault.Cause.TheVariants.{Truncated, UnknownOpcode, BadInteger}
+use Rattle.wasm_code.specs.declared.fault.Cause.TheVariants.{Truncated, UnknownOpcode, BadInteger, BadImmediate}
 use Rattle.wasm_code.specs.declared.fault.ReadKind.{ReadKind}
 use Rattle.wasm_code.specs.declared.fault.ReadKind.TheVariants as kinds
 use Rattle.wasm_code.specs.declared.operator.Operator.{Operator}
-use Rattle.wasm_code.specs.Body.{SpellsAll, SpellsBody, StopsAt, IsFault, is_end, ends, kind_of}
+use Rattle.wasm_code.specs.Body.{SpellsAll, SpellsBody, StopsAt, LacksEnd, IsFault, is_end, ends, kind_of}
 use Rattle.wasm_code.specs.Operator.{Spells}
-use Rattle.wasm_code.specs.Reader.{Read, and_first, stopped, operator_at, operators_at, body_at}
+use Rattle.wasm_code.specs.Reader.{Read, and_first, stopped, after, operator_at, operators_at, body_at}
 use Rattle.wasm_code.proofs.OperatorLemmas.{operator_exact}
-use Rattle.wasm_code.proofs.BodyLemmas.{some_byte}
+use Rattle.wasm_code.proofs.BodyLemmas.{some_byte, shrinks}
 
 -- what is answered where these operators stand in front
 with_front : List (Operator × ℕ) → Read → Read
@@ -61,10 +61,10 @@ first_step most start to ended x front back place spells at room =
 abbrev Walked : (most to : ℕ) (ended : Bool) (front back : List ℕ) (xs : List (Operator × ℕ)) → Type 0
 Walked most to ended front back xs = (m : ℕ) × (length back ≤ m) × (operators_at most to ended (front ++ back) ≡ with_front xs (operators_at m to (ended_after ended xs) back))
 
-then_walked : (most to m : ℕ) (ended : Bool) (x : Operator × ℕ) (xs : List (Operator × ℕ)) (front rear back : List ℕ) → operators_at most to ended (front ++ back) ≡ and_first x (operators_at m to (is_end x.0) (rear ++ back))
+then_walked : (most to m : ℕ) (ended : Bool) (x : Operator × ℕ) (xs : List (Operator × ℕ)) (front rear back text : List ℕ) → front ++ back ≡ text → operators_at most to ended text ≡ and_first x (operators_at m to (is_end x.0) (rear ++ back))
     → Walked m to (is_end x.0) rear back xs → Walked most to ended front back (x ∷ xs)
 unfolding with_front ended_after
-then_walked most to m ended x xs front rear back e w = (w.0, w.1, e ∙ ap (and_first x) w.2)
+then_walked most to m ended x xs front rear back text is e w = (w.0, w.1, ap (λ (l : List ℕ). operators_at most to ended l) is ∙ e ∙ ap (and_first x) w.2)
 
 -- all operators in front
 walks : (xs : List (Operator × ℕ)) (most start to : ℕ) (ended : Bool) (front back : List ℕ) → SpellsAll xs start front → to ≡ start + length (front ++ back) → length (front ++ back) ≤ most → Walked most to ended front back xs
@@ -76,7 +76,7 @@ walks (x ∷ xs) most start to ended front back all at room =
     let some = some_byte all.front x.0 all.spells in
     let one = first_step most start to ended x all.front (all.back ++ back) all.offset all.spells (omega (arith, at, len)) (omega (arith, room, len)) in
     let rest = walks xs one.0 (start + length all.front) to (is_end x.0) all.back back all.rest (omega (arith, at, len)) (omega (arith, room, len, some, one.1)) in
-    then_walked most to one.0 ended x xs front all.back back (ap (λ (l : List ℕ). operators_at most to ended l) is ∙ one.2) rest
+    then_walked most to one.0 ended x xs front all.back back (all.front ++ (all.back ++ back)) is one.2 rest
 
 stop_step : (m to : ℕ) (ended : Bool) (first : ℕ) (back : List ℕ) (cause : Cause) → operator_at (first ∷ back) ≡ Err cause → length (first ∷ back) ≤ m → operators_at m to ended (first ∷ back) ≡ Err (kind_of cause, to - length (first ∷ back))
 unfolding operators_at
@@ -111,8 +111,113 @@ pub body_faulty : (start : ℕ) (text : List ℕ) (kind : ReadKind) (offset : �
 body_faulty start text kinds.Truncated offset s other = stops_at start text offset Truncated s
 body_faulty start text kinds.UnknownOpcode offset s other = stops_at start text offset UnknownOpcode s
 body_faulty start text kinds.BadInteger offset s other = stops_at start text offset BadInteger s
+body_faulty start text kinds.BadImmediate offset s other = stops_at start text offset BadImmediate s
 body_faulty start text kinds.NoEnd offset s other =
     let to = start + length text in
     whole start text s.0.operators s.0.all ∙ ap (λ (b : Bool). with_front s.0.operators (stopped b to)) s.0.last ∙ front_err s.0.operators (kinds.NoEnd, to)
     ∙ ap (λ (k : ℕ). let r : Read = Err (kinds.NoEnd, k) in r) (sym s.1)
 body_faulty start text kinds.Memory offset s other = absurd (other refl)
+
+-- ---- every text has an outcome
+
+-- all bytes are operators, and the last one isn't `end`, where these stand behind another one
+record Unended (start to : ℕ) (ended : Bool) (text : List ℕ) (e : ReadKind × ℕ) : Type 0 where
+  operators : List (Operator × ℕ)
+  all : SpellsAll operators start text
+  last : ended_after ended operators ≡ false
+  kind : e.0 ≡ kinds.NoEnd
+  offset : e.1 ≡ to
+
+-- the bytes stop being operators
+record Stopped (start : ℕ) (text : List ℕ) (e : ReadKind × ℕ) : Type 0 where
+  why : Cause
+  stops : StopsAt start text e.1 why
+  kind : e.0 ≡ kind_of why
+
+abbrev Outcome : (start to : ℕ) (ended : Bool) (text : List ℕ) → Read → Type 0
+Outcome start to ended text (Ok xs) = SpellsAll xs start text × (ended_after ended xs ≡ true)
+Outcome start to ended text (Err e) = Unended start to ended text e ⊎ Stopped start text e
+
+-- an operator in front of what was read
+next_is : (start offset : ℕ) (x : Operator) (xs : List (Operator × ℕ)) (text front rest : List ℕ) → text ≡ front ++ rest → offset ≡ start → Spells front x → SpellsAll xs (start + length front) rest → SpellsAll ((x, offset) ∷ xs) start text
+next_is start offset x xs text front rest parts place spells all = record { front = front; back = rest; parts = parts; offset = place; spells = spells; rest = all }
+
+and_stopped : (start offset : ℕ) (x : Operator) (text front rest : List ℕ) (e : ReadKind × ℕ) → text ≡ front ++ rest → offset ≡ start → Spells front x → Stopped (start + length front) rest e → Stopped start text e
+and_stopped start offset x text front rest e parts place spells s =
+    let t = s.stops in
+    record {
+      why = s.why;
+      stops = record {
+        operators = (x, offset) ∷ t.operators;
+        front = front ++ t.front;
+        first = t.first;
+        back = t.back;
+        parts = parts ∙ ap (λ (l : List ℕ). front ++ l) t.parts ∙ sym (append_assoc front t.front (t.first ∷ t.back));
+        before = next_is start offset x t.operators (front ++ t.front) front t.front refl place spells t.before;
+        at = omega (arith, t.at, length-append front t.front);
+        cause = t.cause;
+      };
+      kind = s.kind;
+    }
+
+and_first_outcome : (start to offset : ℕ) (ended : Bool) (x : Operator) (text front rest : List ℕ) (r : Read) → text ≡ front ++ rest → offset ≡ start → Spells front x → Outcome (start + length front) to (is_end x) rest r → Outcome start to ended text (and_first (x, offset) r)
+unfolding ended_after
+and_first_outcome start to offset ended x text front rest (Ok xs) parts place spells o = (next_is start offset x xs text front rest parts place spells o.0, o.1)
+and_first_outcome start to offset ended x text front rest (Err e) parts place spells o =
+    elim o [
+      | inl u ↦ inl (record { operators = (x, offset) ∷ u.operators; all = next_is start offset x u.operators text front rest parts place spells u.all; last = u.last; kind = u.kind; offset = u.offset })
+      | inr s ↦ inr (and_stopped start offset x text front rest e parts place spells s)
+    ]
+
+stopped_outcome : (start to : ℕ) (ended : Bool) → to ≡ start + 0 → Outcome start to ended [] (stopped ended to)
+unfolding ended_after
+stopped_outcome start to true at = (refl, refl)
+stopped_outcome start to false at = inl (record { operators = []; all = refl; last = refl; kind = refl; offset = refl })
+
+-- one operator, or none, and what reading behind it answers
+after_outcome : (m start to : ℕ) (ended : Bool) (b : ℕ) (bytes : List ℕ) (a : Result (Operator × List ℕ) Cause) → operator_at (b ∷ bytes) ≡ a → to ≡ start + length (b ∷ bytes) → length (b ∷ bytes) ≤ suc m
+    → ((from : ℕ) (v : Bool) (rest : List ℕ) → to ≡ from + length rest → length rest ≤ m → Outcome from to v rest (operators_at m to v rest))
+    → Outcome start to ended (b ∷ bytes) (after (λ x rest. and_first (x, to - length (b ∷ bytes)) (operators_at m to (is_end x) rest)) (to - length (b ∷ bytes)) a)
+after_outcome m start to ended b bytes (Ok p) e at room more =
+    let t = operator_exact.takes (b ∷ bytes) p.0 p.1 e in
+    let len : length (b ∷ bytes) ≡ length t.0 + length p.1 = ap length t.1 ∙ length-append t.0 p.1 in
+    let less = shrinks (b ∷ bytes) p.1 p.0 e in
+    and_first_outcome start to (to - length (b ∷ bytes)) ended p.0 (b ∷ bytes) t.0 p.1 (operators_at m to (is_end p.0) p.1) t.1 (omega (arith, at)) t.2
+    (more (start + length t.0) (is_end p.0) p.1 (omega (arith, at, len)) (omega (arith, less, room)))
+after_outcome m start to ended b bytes (Err cause) e at room more =
+    inr (record { why = cause; stops = record { operators = []; front = []; first = b; back = bytes; parts = refl; before = refl; at = omega (arith, at); cause = operator_exact.stops (b ∷ bytes) cause e }; kind = refl })
+
+outcome : (most start to : ℕ) (ended : Bool) (text : List ℕ) → to ≡ start + length text → length text ≤ most → Outcome start to ended text (operators_at most to ended text)
+unfolding operators_at
+outcome most start to ended [] at room = stopped_outcome start to ended at
+outcome zero start to ended (b ∷ bytes) at room = absurd (omega (arith, room))
+outcome (suc m) start to ended (b ∷ bytes) at room = after_outcome m start to ended b bytes (operator_at (b ∷ bytes)) refl at room (λ from v rest at room. outcome m from to v rest at room)
+
+body_outcome : (start : ℕ) (text : List ℕ) (r : Read) → body_at start text ≡ r → Outcome start (start + length text) false text r
+unfolding body_at
+body_outcome start text r e = subst (Outcome start (start + length text) false text) e (outcome (length text) start (start + length text) false text refl (omega arith))
+
+-- What is answered is spelled.
+pub body_answers : (start : ℕ) (text : List ℕ) (xs : List (Operator × ℕ)) → body_at start text ≡ Ok xs → SpellsBody start text xs
+body_answers start text xs e = let o = body_outcome start text (Ok xs) e in record { all = o.0; last = sym (all_ends xs) ∙ o.1 }
+
+abbrev Faulted : (start to : ℕ) (text : List ℕ) (kind : ReadKind) (offset : ℕ) → Type 0
+Faulted start to text kind offset = IsFault start to text kind offset × (kind ≢ kinds.Memory)
+
+stops_there : (start to : ℕ) (text : List ℕ) (offset : ℕ) (why : Cause) → StopsAt start text offset why → Faulted start to text (kind_of why) offset
+stops_there start to text offset Truncated s = (s, λ e. absurd cc)
+stops_there start to text offset UnknownOpcode s = (s, λ e. absurd cc)
+stops_there start to text offset BadInteger s = (s, λ e. absurd cc)
+stops_there start to text offset BadImmediate s = (s, λ e. absurd cc)
+
+lacks_end : (start to : ℕ) (text : List ℕ) (offset : ℕ) → LacksEnd start text → offset ≡ to → Faulted start to text kinds.NoEnd offset
+lacks_end start to text offset s at = ((s, at), λ e. absurd cc)
+
+-- What is answered as a fault is one.
+pub body_faults : (start : ℕ) (text : List ℕ) (kind : ReadKind) (offset : ℕ) → body_at start text ≡ Err (kind, offset) → IsFault start (start + length text) text kind offset × (kind ≢ kinds.Memory)
+body_faults start text kind offset e =
+    let to = start + length text in
+    elim (body_outcome start text (Err (kind, offset)) e) [
+      | inl u ↦ subst (λ (k : ReadKind). Faulted start to text k offset) (sym u.kind) (lacks_end start to text offset (record { operators = u.operators; all = u.all; last = sym (all_ends u.operators) ∙ u.last }) u.offset)
+      | inr s ↦ subst (λ (k : ReadKind). Faulted start to text k offset) (sym s.kind) (stops_there start to text offset s.why s.stops)
+    ]

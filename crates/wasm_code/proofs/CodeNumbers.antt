@@ -2,11 +2,12 @@
 use Rattle.std.proofs.Common.{◌≡◌, ℕ, ℤ, pos, negsuc, neg_ℤ, ◌-ℤ◌, ◌≤ℤ◌, ◌<ℤ◌, zero, suc, ◌+◌, ◌-◌, ◌*◌, ◌%◌, ◌/◌, ◌^◌, ◌<◌, ◌≤◌, Bool, true, false, cond, leb, List, [], ◌∷◌, length, refl, sym, ap, ◌∙◌, arith, inl, inr}
 use Rattle.std.proofs.lemmas.Bool.{le-ltb, lt-ltb, cases_lt, le-leb, lt-leb, leb-true, leb-false}
 use Rattle.std.proofs.lemmas.Int.{ints}
-use Rattle.std.proofs.Math.Nat.{pow-suc}
+use Rattle.std.proofs.Math.Nat.{pow-suc, pow-le-pow_right}
+use Rattle.std.proofs.lemmas.Nat.{pow-add}
 use Rattle.wasm_code.specs.Number.{IsGroup, value, is_negative, signed_value, SpellsUnsigned, SpellsSigned, most_bytes}
 use Rattle.wasm_code.specs.Code.{shortest_within, shortest, low_bits, signed_within, signed_form, shortest_signed}
 use Rattle.wasm_code.proofs.NumberLemmas.{value_below}
-use Rattle.wasm_code.proofs.ShortestLemmas.{within_more, form_more}
+use Rattle.wasm_code.proofs.ShortestLemmas.{within_many, form_many}
 
 more_group : (b : ℕ) (group : List ℕ) → 128 ≤ b → IsGroup group → IsGroup (b ∷ group)
 more_group b [] high g = absurd g
@@ -42,17 +43,48 @@ least (suc k) n (b ∷ c ∷ text) lt g is =
           rw (le-ltb n 128 big) (omega (arith, least k (n / 128) (c ∷ text) (omega (arith, lt, pow-suc 128 (suc k))) g.1 rest))
     ]
 
-unsigned_32 : (n : ℕ) → n < 2 ^ 32 → shortest n ≡ shortest_within 4 n
-unfolding shortest
-unsigned_32 n lt = within_more 8 n (omega arith) ∙ within_more 7 n (omega arith) ∙ within_more 6 n (omega arith) ∙ within_more 5 n (omega arith) ∙ within_more 4 n (omega arith)
+-- ---- so many bits in so many bytes
 
-pub spells_32 : (n : ℕ) → n < 2 ^ 32 → SpellsUnsigned 32 (shortest n) n
-spells_32 n lt = let f = within_is 4 n (omega arith) in rw (unsigned_32 n lt) (record { group = f.group; short = f.short; is = f.is; fits = lt })
+power_128 : (k : ℕ) → 128 ^ k ≡ 2 ^ (7 * k)
+power_128 zero = refl
+power_128 (suc k) =
+    let e : 7 * suc k ≡ 7 + 7 * k = omega arith in
+    rw (e, pow-add 2 7 (7 * k), pow-suc 128 k, power_128 k) (omega arith)
+
+-- one byte less than a number of so many bits has at most
+abbrev more_bytes : ℕ → ℕ
+more_bytes bits = most_bytes bits - 1
+
+fits_bytes : (bits n : ℕ) → n < 2 ^ bits → n < 128 ^ suc (more_bytes bits)
+fits_bytes bits n lt =
+    let le : bits ≤ 7 * suc (more_bytes bits) = omega arith in
+    rw (power_128 (suc (more_bytes bits))) (omega (arith, lt, pow-le-pow_right {n = 2} (omega arith) le))
+
+fits_half_bytes : (bits n : ℕ) → n < 2 ^ (bits - 1) → n < 64 * 128 ^ more_bytes bits
+fits_half_bytes bits n lt =
+    let le : bits - 1 ≤ 6 + 7 * more_bytes bits = omega arith in
+    rw (power_128 (more_bytes bits)) (omega (arith, lt, pow-add 2 6 (7 * more_bytes bits), pow-le-pow_right {n = 2} (omega arith) le))
+
+within_64 : (bits n : ℕ) → bits ≤ 64 → n < 2 ^ bits → n < 2 ^ 64
+within_64 bits n le lt = omega (arith, lt, pow-le-pow_right {n = 2} (omega arith) le)
+
+shortest_is : (bits n : ℕ) → bits ≤ 64 → n < 2 ^ bits → shortest n ≡ shortest_within (more_bytes bits) n
+unfolding shortest
+shortest_is bits n le lt =
+    let k = more_bytes bits in
+    let e : 9 ≡ (9 - k) + k = omega arith in
+    ap (λ (j : ℕ). shortest_within j n) e ∙ within_many (9 - k) k n (fits_bytes bits n lt)
+
+-- The shortest spelling of a number spells it, at any number of bits that it fits.
+pub shortest_spells : (bits n : ℕ) → 1 ≤ bits → bits ≤ 64 → n < 2 ^ bits → SpellsUnsigned bits (shortest n) n
+shortest_spells bits n some le lt =
+    let f = within_is (more_bytes bits) n (fits_bytes bits n lt) in
+    rw (shortest_is bits n le lt) (record { group = f.group; short = omega (arith, f.short); is = f.is; fits = lt })
 
 -- No spelling of a number has fewer bytes than the shortest one.
-pub shortest_least : (bits n : ℕ) (text : List ℕ) → n < 2 ^ 64 → SpellsUnsigned bits text n → length (shortest n) ≤ length text
+pub shortest_least : (bits n : ℕ) (text : List ℕ) → bits ≤ 64 → SpellsUnsigned bits text n → length (shortest n) ≤ length text
 unfolding shortest
-shortest_least bits n text lt s = least 9 n text (omega arith) s.group s.is
+shortest_least bits n text le s = let lt = within_64 bits n le s.fits in least 9 n text (omega arith) s.group s.is
 
 -- ---- signed numbers
 
@@ -106,23 +138,29 @@ signed_value_is : (k : ℕ) (negative : Bool) (n : ℕ) (text : List ℕ) → Is
 signed_value_is k false n text f = rw f.sign (ap pos f.is)
 signed_value_is k true n text f = rw f.sign (less_power (value text) (128 ^ length text) n f.is)
 
-within_pos : (half n : ℕ) → n < half → (neg_ℤ (pos half) ≤ℤ pos n) × (pos n <ℤ pos half)
-within_pos half n lt = (omega (arith, ints), omega (arith, ints))
-
-within_neg : (half n : ℕ) → n < half → (neg_ℤ (pos half) ≤ℤ negsuc n) × (negsuc n <ℤ pos half)
-within_neg half n lt = (omega (arith, ints), omega (arith, ints))
-
-form_32 : (negative : Bool) (n : ℕ) → n < 2 ^ 31 → signed_form negative n ≡ signed_within 4 negative n
+form_is : (bits : ℕ) (negative : Bool) (n : ℕ) → bits ≤ 64 → n < 2 ^ (bits - 1) → signed_form negative n ≡ signed_within (more_bytes bits) negative n
 unfolding signed_form
-form_32 negative n lt = form_more 8 negative n (omega arith) ∙ form_more 7 negative n (omega arith) ∙ form_more 6 negative n (omega arith) ∙ form_more 5 negative n (omega arith) ∙ form_more 4 negative n (omega arith)
+form_is bits negative n le lt =
+    let k = more_bytes bits in
+    let e : 9 ≡ (9 - k) + k = omega arith in
+    ap (λ (j : ℕ). signed_within j negative n) e ∙ form_many (9 - k) k negative n (fits_half_bytes bits n lt)
 
-spells_signed : (bits k : ℕ) (z : ℤ) (negative : Bool) (n : ℕ) (text : List ℕ) → suc k ≤ most_bytes bits → IsSignedForm k negative n text → cond negative (negsuc n) (pos n) ≡ z
-    → (neg_ℤ (pos (2 ^ (bits - 1))) ≤ℤ z) × (z <ℤ pos (2 ^ (bits - 1))) → SpellsSigned bits text z
-spells_signed bits k z negative n text le f e w = record { group = f.group; short = omega (arith, f.short); is = signed_value_is k negative n text f ∙ e; low = w.0; high = w.1 }
+form_spells : (bits : ℕ) (negative : Bool) (n : ℕ) (z : ℤ) → 1 ≤ bits → bits ≤ 64 → n < 2 ^ (bits - 1) → cond negative (negsuc n) (pos n) ≡ z
+    → (neg_ℤ (pos (2 ^ (bits - 1))) ≤ℤ z) × (z <ℤ pos (2 ^ (bits - 1))) → SpellsSigned bits (signed_form negative n) z
+form_spells bits negative n z some le lt e w =
+    let f = signed_is (more_bytes bits) negative n (fits_half_bytes bits n lt) in
+    rw (form_is bits negative n le lt) (record { group = f.group; short = omega (arith, f.short); is = signed_value_is (more_bytes bits) negative n _ f ∙ e; low = w.0; high = w.1 })
 
-pub spells_i32 : (z : ℤ) → neg_ℤ (pos (2 ^ 31)) ≤ℤ z → z <ℤ pos (2 ^ 31) → SpellsSigned 32 (shortest_signed z) z
-spells_i32 (pos n) low high = let lt : n < 2 ^ 31 = omega (arith, ints) in rw (form_32 false n lt) (spells_signed 32 4 (pos n) false n (signed_within 4 false n) (omega arith) (signed_is 4 false n (omega arith)) refl (within_pos (2 ^ 31) n lt))
-spells_i32 (negsuc n) low high = let lt : n < 2 ^ 31 = omega (arith, ints) in rw (form_32 true n lt) (spells_signed 32 4 (negsuc n) true n (signed_within 4 true n) (omega arith) (signed_is 4 true n (omega arith)) refl (within_neg (2 ^ 31) n lt))
+below_half : (half n : ℕ) → pos n <ℤ pos half → n < half
+below_half half n lt = omega (arith, ints)
+
+above_half : (half n : ℕ) → neg_ℤ (pos half) ≤ℤ negsuc n → n < half
+above_half half n le = omega (arith, ints)
+
+-- The shortest spelling of a signed number spells it, at any number of bits that it fits.
+pub shortest_signed_spells : (bits : ℕ) (z : ℤ) → 1 ≤ bits → bits ≤ 64 → neg_ℤ (pos (2 ^ (bits - 1))) ≤ℤ z → z <ℤ pos (2 ^ (bits - 1)) → SpellsSigned bits (shortest_signed z) z
+shortest_signed_spells bits (pos n) some le low high = form_spells bits false n (pos n) some le (below_half _ n high) refl (low, high)
+shortest_signed_spells bits (negsuc n) some le low high = form_spells bits true n (negsuc n) some le (above_half _ n low) refl (low, high)
 
 -- ---- no spelling of a signed number has fewer bytes
 
@@ -156,14 +194,15 @@ negsuc_sum : (v : Bool) (text : List ℕ) (n : ℕ) → is_negative text ≡ v �
 negsuc_sum false text n e s = absurd cc
 negsuc_sum true text n e s = let below = value_below text in (refl, omega (arith, ints, s))
 
+below_form : (bits n : ℕ) → bits ≤ 64 → n < 2 ^ (bits - 1) → n < 64 * 128 ^ 9
+below_form bits n le lt = let e : bits - 1 ≤ 64 = omega arith in omega (arith, within_64 (bits - 1) n e lt)
+
 -- No spelling of a signed number has fewer bytes than the shortest one.
-pub shortest_signed_least : (z : ℤ) (text : List ℕ) → SpellsSigned 32 text z → length (shortest_signed z) ≤ length text
+pub shortest_signed_least : (bits : ℕ) (z : ℤ) (text : List ℕ) → bits ≤ 64 → SpellsSigned bits text z → length (shortest_signed z) ≤ length text
 unfolding signed_form
-shortest_signed_least (pos n) text s =
+shortest_signed_least bits (pos n) text le s =
     let p = pos_sum (is_negative text) text n refl s.is in
-    let lt : n < 2 ^ 31 = let high = s.high in omega (arith, ints, high) in
-    least_signed 9 false n text (omega arith) s.group p.0 p.1
-shortest_signed_least (negsuc n) text s =
+    least_signed 9 false n text (below_form bits n le (below_half _ n s.high)) s.group p.0 p.1
+shortest_signed_least bits (negsuc n) text le s =
     let p = negsuc_sum (is_negative text) text n refl s.is in
-    let lt : n < 2 ^ 31 = let low = s.low in omega (arith, ints, low) in
-    least_signed 9 true n text (omega arith) s.group p.0 p.1
+    least_signed 9 true n text (below_form bits n le (above_half _ n s.low)) s.group p.0 p.1

@@ -1,9 +1,12 @@
 -- Reading functions and grammars, part by part.
-use Rattle.std.proofs.Common.{◌≡◌, ◌⊎◌, inl, inr, ℕ, Bool, true, false, cond, List, [], ◌∷◌, ◌++◌, Result, Ok, Err, refl, sym, ap, ◌∙◌, append_assoc}
+use Rattle.std.proofs.Common.{◌≡◌, ◌≢◌, ◌⊎◌, inl, inr, ℕ, zero, suc, ◌<◌, ◌≤◌, ltb, Bool, true, false, cond, List, [], ◌∷◌, ◌++◌, length, get_or, take, drop, Option, Some, None, Result, Ok, Err, refl, sym, ap, ◌∙◌, append_assoc, arith}
+use Rattle.std.specs.Prelude.{All}
+use Rattle.std.proofs.lemmas.Bool.{le-ltb, lt-ltb, ltb-true, ltb-false}
+use Rattle.std.proofs.lemmas.List.{length-append, length-take, take-append-drop, take_at, drop_at, get_or-take, get_or_default}
 use Rattle.wasm_code.specs.declared.fault.Cause.{Cause}
-use Rattle.wasm_code.specs.declared.fault.Cause.TheVariants.{Truncated}
-use Rattle.wasm_code.specs.Grammar.{IsByte, LacksByte, Ends, NeverFails, Of, Choose, FailsChosen, Then, FailsThen}
-use Rattle.wasm_code.specs.Reader.{◌>>=◌, byte_at}
+use Rattle.wasm_code.specs.declared.fault.Cause.TheVariants.{Truncated, BadImmediate}
+use Rattle.wasm_code.specs.Grammar.{IsByte, LacksByte, AreBytes, LacksBytes, IsCode, FailsCode, NoBytes, NeverFails, Never, NamesNothing, Of, Choose, FailsChosen, Then, FailsThen, Times, FailsTimes}
+use Rattle.wasm_code.specs.Reader.{◌>>=◌, byte_at, bytes_at, named_at, times_at}
 
 abbrev pub Reader : Type 0 → Type 0
 Reader A = List ℕ → Result (A × List ℕ) Cause
@@ -52,7 +55,7 @@ byte_stops (b ∷ bytes) cause e = absurd cc
 pub byte_exact : Exact IsByte LacksByte byte_at
 byte_exact = record { takes = byte_takes; again = λ text rest b s. rw s refl; stops = byte_stops; fails = λ bytes cause f. rw (f.0, f.1) refl }
 
-pub exact_ends : {A : Type 0} (x : A) → Exact (Ends x) NeverFails (λ bytes. Ok (x, bytes))
+pub exact_ends : {A : Type 0} (x : A) → Exact (NoBytes x) NeverFails (λ bytes. Ok (x, bytes))
 exact_ends {A} x = record {
   takes = λ bytes y rest e.
       let p = ok_is (x, bytes) (y, rest) e in
@@ -120,3 +123,99 @@ exact_same to from fails_to fails_from one = record {
   stops = λ bytes c e. fails_to bytes c (one.stops bytes c e);
   fails = λ bytes c s. one.fails bytes c (fails_from bytes c s);
 }
+
+-- another reading function that answers the same
+pub exact_at : {A : Type 0} {Spells : List ℕ → A → Type 0} {Fails : List ℕ → Cause → Type 0} {at other : Reader A} → ((bytes : List ℕ) → at bytes ≡ other bytes) → Exact Spells Fails at → Exact Spells Fails other
+exact_at same one = record {
+  takes = λ bytes x rest e. one.takes bytes x rest (same bytes ∙ e);
+  again = λ text rest x s. sym (same (text ++ rest)) ∙ one.again text rest x s;
+  stops = λ bytes cause e. one.stops bytes cause (same bytes ∙ e);
+  fails = λ bytes cause s. sym (same bytes) ∙ one.fails bytes cause s;
+}
+
+-- that always fails, since what stands before names nothing
+pub exact_never : {A : Type 0} → Exact {A = A} Never NamesNothing (λ bytes. Err BadImmediate)
+exact_never {A} = record {
+  takes = λ bytes x rest e. absurd cc;
+  again = λ text rest x s. absurd s;
+  stops = λ bytes cause e. sym (err_is {A = A × List ℕ} BadImmediate cause e);
+  fails = λ bytes cause s. ap failed (sym s);
+}
+
+-- ---- so many bytes
+
+-- a test that did not fail, the other way round
+passed : {A : Type 0} (b : Bool) (c : Cause) (x y : A) → cond b (Err c) (Ok x) ≡ Ok y → (b ≡ false) × (x ≡ y)
+passed true c x y e = absurd cc
+passed false c x y e = (refl, cc)
+
+stopped : {A : Type 0} (b : Bool) (c d : Cause) (x : A) → cond b (Err c) (Ok x) ≡ Err d → (b ≡ true) × (c ≡ d)
+stopped {A} true c d x e = (refl, err_is {A = A} c d e)
+stopped false c d x e = absurd cc
+
+pub bytes_exact : (n : ℕ) → Exact (AreBytes n) (LacksBytes n) (bytes_at n)
+bytes_exact n = record {
+  takes = λ bytes x rest e.
+      let g = passed (ltb (length bytes) n) Truncated (take n bytes, drop n bytes) (x, rest) e in
+      let long : n ≤ length bytes = ltb-false _ _ g.0 in
+      let rest-is : drop n bytes ≡ rest = ap (λ (p : List ℕ × List ℕ). p.1) g.1 in
+      (take n bytes, sym (take-append-drop n bytes) ∙ ap (λ (r : List ℕ). take n bytes ++ r) rest-is, (omega (arith, length-take n bytes), ap (λ (p : List ℕ × List ℕ). p.0) g.1));
+  again = λ text rest x s.
+      let long : ltb (length (text ++ rest)) n ≡ false = le-ltb _ _ (omega (arith, length-append text rest, s.0)) in
+      rw (long, take_at text rest n s.0, drop_at text rest n s.0) (ap (λ (y : List ℕ). Ok (y, rest)) s.1);
+  stops = λ bytes cause e.
+      let g = stopped (ltb (length bytes) n) Truncated cause (take n bytes, drop n bytes) e in
+      (ltb-true _ _ g.0, sym g.1);
+  fails = λ bytes cause s. rw (lt-ltb _ _ s.0, s.1) refl;
+}
+
+-- so many bytes of bytes are bytes
+pub bytes_small : (n : ℕ) (bytes text rest : List ℕ) → bytes_at n bytes ≡ Ok (text, rest) → ((i : ℕ) → get_or bytes i 0 < 256) → (length text ≡ n) × All (λ b. b < 256) text
+bytes_small n bytes text rest e small =
+    let g = passed (ltb (length bytes) n) Truncated (take n bytes, drop n bytes) (text, rest) e in
+    let long : n ≤ length bytes = ltb-false _ _ g.0 in
+    let is : take n bytes ≡ text = ap (λ (p : List ℕ × List ℕ). p.0) g.1 in
+    let len : length text ≡ n = omega (arith, sym (ap length is), length-take n bytes, long) in
+    (len, λ k d within. omega (arith, ap (λ (l : List ℕ). get_or l k d) is, get_or-take n bytes k d (omega (arith, within, len)), get_or_default bytes k d 0 (omega (arith, within, len, long)), small k))
+
+-- ---- the byte of a code
+
+code_takes : {A : Type 0} (code : A → ℕ) (b : ℕ) (bytes : List ℕ) (o : Option A) (x : A) (rest : List ℕ) → ((y : A) → o ≡ Some y → code y ≡ b) → named_at o bytes ≡ Ok (x, rest) → (text : List ℕ) × (b ∷ bytes ≡ text ++ rest) × IsCode code text x
+code_takes code b bytes None x rest is e = absurd cc
+code_takes {A} code b bytes (Some y) x rest is e =
+    let p = ok_is (y, bytes) (x, rest) e in
+    (b ∷ [], ap (λ (q : A × List ℕ). b ∷ q.1) p, ap (λ (c : ℕ). c ∷ []) (sym (is y refl)) ∙ ap (λ (q : A × List ℕ). code q.0 ∷ []) p)
+
+code_stops : {A : Type 0} (code : A → ℕ) (b : ℕ) (bytes : List ℕ) (o : Option A) (cause : Cause) → ((y : A) → code y ≡ b → o ≡ Some y) → named_at o bytes ≡ Err cause → (cause ≡ BadImmediate) × ((x : A) → code x ≢ b)
+code_stops {A} code b bytes None cause is e = (sym (err_is {A = A × List ℕ} BadImmediate cause e), λ x same. let clash = is x same in absurd cc)
+code_stops code b bytes (Some y) cause is e = absurd cc
+
+code_fails : {A : Type 0} (code : A → ℕ) (b : ℕ) (bytes : List ℕ) (o : Option A) (cause : Cause) → ((y : A) → o ≡ Some y → code y ≡ b) → (cause ≡ BadImmediate) × ((x : A) → code x ≢ b) → named_at o bytes ≡ Err cause
+code_fails code b bytes None cause is s = ap failed (sym s.0)
+code_fails code b bytes (Some y) cause is s = absurd (s.1 y (is y refl))
+
+pub exact_code : {A : Type 0} (code : A → ℕ) (named : ℕ → Option A) → ((b : ℕ) (x : A) → named b ≡ Some x → code x ≡ b) → ((x : A) → named (code x) ≡ Some x)
+    → Exact (IsCode code) (FailsCode code) (λ bytes. byte_at bytes >>= λ b. named_at (named b.0) b.1)
+exact_code {A} code named right left = record { takes = takes; again = λ text rest x s. rw (s, left x) refl; stops = stops; fails = fails }
+  where
+    back : (b : ℕ) (x : A) → code x ≡ b → named b ≡ Some x
+    back b x is = ap named (sym is) ∙ left x
+
+    takes : (bytes : List ℕ) (x : A) (rest : List ℕ) → (byte_at bytes >>= λ b. named_at (named b.0) b.1) ≡ Ok (x, rest) → (text : List ℕ) × (bytes ≡ text ++ rest) × IsCode code text x
+    takes [] x rest e = absurd cc
+    takes (b ∷ bytes) x rest e = code_takes code b bytes (named b) x rest (right b) e
+
+    stops : (bytes : List ℕ) (cause : Cause) → (byte_at bytes >>= λ b. named_at (named b.0) b.1) ≡ Err cause → FailsCode code bytes cause
+    stops [] cause e = sym (err_is {A = A × List ℕ} Truncated cause e)
+    stops (b ∷ bytes) cause e = code_stops code b bytes (named b) cause (back b) e
+
+    fails : (bytes : List ℕ) (cause : Cause) → FailsCode code bytes cause → (byte_at bytes >>= λ b. named_at (named b.0) b.1) ≡ Err cause
+    fails [] cause s = ap failed (sym s)
+    fails (b ∷ bytes) cause s = code_fails code b bytes (named b) cause (right b) s
+
+-- ---- one after another
+
+pub exact_times : {A : Type 0} {One : List ℕ → A → Type 0} {FailsOne : List ℕ → Cause → Type 0} {at : Reader A} → Exact One FailsOne at → (n : ℕ) → Exact (Times n One) (FailsTimes n FailsOne One) (times_at n at)
+unfolding times_at
+exact_times one zero = exact_ends tt
+exact_times one (suc n) = exact_then one (λ _. exact_times one n)

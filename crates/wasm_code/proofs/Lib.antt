@@ -1,10 +1,15 @@
 pub mod TableLemmas
 pub mod ShortestLemmas
 pub mod GrammarLemmas
+pub mod TimesLemmas
 pub mod NumberLemmas
 pub mod NumberExact
+pub mod ImmediateLemmas
+pub mod BlockTypeLemmas
+pub mod FormLemmas
 pub mod OperatorLemmas
 pub mod BodyLemmas
 pub mod CodeNumbers
 pub mod CodeLemmas
 pub mod BodyReader
+pub mod JoinLemmas

@@ -2,7 +2,7 @@
 use Rattle.std.proofs.Common.{◌≡◌, ℕ, ℤ, pos, negsuc, neg_ℤ, ◌≤ℤ◌, ◌<ℤ◌, zero, suc, ◌-◌, ◌^◌, ◌<◌, ◌≤◌, ◌⊎◌, Bool, true, false, cond, ltb, List, [], ◌∷◌, ◌++◌, length, Ok, Err, refl, ap, subst, ◌∙◌, arith, inl, inr}
 use Rattle.std.proofs.lemmas.Bool.{le-ltb, lt-ltb, ltb-true, ltb-false, cases_lt}
 use Rattle.std.proofs.lemmas.Int.{ints}
-use Rattle.wasm_code.specs.declared.fault.Cause.TheVariants.{Truncated, UnknownOpcode, BadInteger}
+use Rattle.wasm_code.specs.declared.fault.Cause.TheVariants.{Truncated, UnknownOpcode, BadInteger, BadImmediate}
 use Rattle.wasm_code.specs.declared.fault.Cause.{Cause}
 use Rattle.wasm_code.specs.Number.{IsGroup, value, signed_value, most_bytes, SpellsUnsigned, SpellsSigned, AreHigh, EndsInside, GoesOn, FailsNumber, IsAbove, IsOutside, FailsUnsigned, FailsSigned}
 use Rattle.wasm_code.specs.Reader.{fits_half, group_at, below_at, within_at, unsigned_at, signed_at}
@@ -55,11 +55,13 @@ abbrev FailsGroup : ℕ → List ℕ → Cause → Type 0
 FailsGroup most bytes Truncated = EndsInside most bytes
 FailsGroup most bytes BadInteger = GoesOn most bytes
 FailsGroup most bytes UnknownOpcode = ⊥
+FailsGroup most bytes BadImmediate = ⊥
 
 one_later : (most b : ℕ) (bytes : List ℕ) (c : Cause) → 128 ≤ b → FailsGroup most bytes c → FailsGroup (suc most) (b ∷ bytes) c
 one_later most b bytes Truncated high s = record { high = (high, s.high); short = omega (arith, s.short) }
 one_later most b bytes BadInteger high s = record { front = b ∷ s.front; back = s.back; parts = ap (λ (l : List ℕ). b ∷ l) s.parts; high = (high, s.high); long = omega (arith, s.long) }
 one_later most b bytes UnknownOpcode high s = s
+one_later most b bytes BadImmediate high s = s
 
 group_stops : (most : ℕ) (bytes : List ℕ) (c : Cause) → group_at most bytes ≡ Err c → FailsGroup most bytes c
 unfolding group_at
@@ -94,6 +96,7 @@ number_of : (Out : List ℕ → Type 0) (most : ℕ) (bytes : List ℕ) (c : Cau
 number_of Out most bytes Truncated s = s
 number_of Out most bytes BadInteger s = inl s
 number_of Out most bytes UnknownOpcode s = s
+number_of Out most bytes BadImmediate s = s
 
 unsigned_stops : (bits : ℕ) (bytes : List ℕ) (c : Cause) → unsigned_at bits bytes ≡ Err c → FailsUnsigned bits bytes c
 unfolding below_at
@@ -115,6 +118,7 @@ unsigned_fails bits bytes BadInteger s =
       | inr big ↦ rw (big.parts, group_again (most_bytes bits) big.group big.rest big.is_group big.short, le-ltb _ _ big.out) refl
     ]
 unsigned_fails bits bytes UnknownOpcode s = absurd s
+unsigned_fails bits bytes BadImmediate s = absurd s
 
 pub unsigned_exact : (bits : ℕ) → Exact (SpellsUnsigned bits) (FailsUnsigned bits) (unsigned_at bits)
 unfolding below_at
@@ -172,6 +176,7 @@ signed_fails bits bytes BadInteger s =
       | inr out ↦ rw (out.parts, group_again (most_bytes bits) out.group out.rest out.is_group out.short, outside-fits_half (2 ^ (bits - 1)) (signed_value out.group) out.out) refl
     ]
 signed_fails bits bytes UnknownOpcode s = absurd s
+signed_fails bits bytes BadImmediate s = absurd s
 
 pub signed_exact : (bits : ℕ) → Exact (SpellsSigned bits) (FailsSigned bits) (signed_at bits)
 unfolding within_at

@@ -1,13 +1,13 @@
 -- The loops that find a group of bytes and its value.
-use Rattle.std.proofs.Common.{to_z, of_z, w64, pos, negsuc, ◌-ℤ◌, leb, ◌≡◌, ℕ, suc, ◌+◌, ◌-◌, ◌*◌, ◌%◌, ◌^◌, ◌<◌, ◌≤◌, true, false, ltb, List, [], ◌∷◌, ◌++◌, length, get_or, take, drop, Result, Ok, Err, refl, ap, append_assoc, arith}
-use Rattle.std.proofs.lemmas.Bool.{le-ltb, lt-ltb, le-leb}
-use Rattle.std.proofs.lemmas.List.{drop_more, take_more, drop_all}
+use Rattle.std.proofs.Common.{to_z, of_z, w64, pos, negsuc, ◌-ℤ◌, leb, ◌≡◌, ℕ, zero, suc, ◌+◌, ◌-◌, ◌*◌, ◌%◌, ◌^◌, ◌<◌, ◌≤◌, true, false, ltb, List, [], ◌∷◌, ◌++◌, length, get_or, take, drop, Result, Ok, Err, refl, sym, ap, ◌∙◌, append_assoc, arith}
+use Rattle.std.proofs.lemmas.Bool.{le-ltb, lt-ltb, le-leb, lt-leb}
+use Rattle.std.proofs.lemmas.List.{drop_more, take_more, drop_all, take_all}
 use Rattle.std.proofs.lemmas.Grind.{pow_more}
 use Rattle.std.proofs.Math.Nat.{pow-le-pow_right, pow-suc}
 use Rattle.wasm_code.specs.declared.fault.Cause.{Cause}
 use Rattle.wasm_code.specs.declared.fault.Cause.TheVariants.{Truncated, BadInteger}
 use Rattle.wasm_code.specs.Number.{value}
-use Rattle.wasm_code.specs.Reader.{◌>>=◌, group_at, within_at}
+use Rattle.wasm_code.specs.Reader.{◌>>=◌, group_at, below_at, within_at}
 use Rattle.std.proofs.lemmas.Int.{ints}
 
 -- a group of which the front has been read
@@ -87,3 +87,53 @@ done_below group i sum scale past in_range h e =
 -- what the code computes for a negative number
 pub negative_is : (r h j : ℕ) → r ≡ j → j < h → h ≤ 2 ^ 63 → negsuc j ≡ to_z w64 (of_z w64 (negsuc 0 -ℤ to_z w64 r))
 negative_is r h j e lt le = omega (arith, ints)
+
+-- ---- a number of one byte
+
+-- the number that the first byte is, and what follows that byte
+abbrev pub OneByte : {A : Type 0} → (List ℕ → Result (A × List ℕ) Cause) → List ℕ → A → Type 0
+OneByte at bytes x = at bytes ≡ Ok (x, take (length bytes - 1) (drop 1 bytes))
+
+rest_is : (rest : List ℕ) → rest ≡ take (suc (length rest) - 1) rest
+rest_is rest = let le : length rest ≤ suc (length rest) - 1 = omega arith in sym (take_all (suc (length rest) - 1) rest le)
+
+short_unsigned : (limit most b : ℕ) (rest : List ℕ) → 1 ≤ most → b < 128 → 128 ≤ limit → below_at limit most (b ∷ rest) ≡ Ok (b, rest)
+unfolding below_at group_at
+short_unsigned limit zero b rest some low fits = absurd (omega (arith, some))
+short_unsigned limit (suc most) b rest some low fits =
+    let is : b % 128 + 128 * 0 ≡ b = omega arith in
+    let lt : b < limit = omega arith in
+    rw (lt-ltb b 128 low, is, lt-ltb b limit lt) refl
+
+pub one_unsigned : (limit most : ℕ) (bytes : List ℕ) → 1 ≤ most → 1 ≤ length bytes → get_or bytes 0 0 < 128 → 128 ≤ limit → OneByte (below_at limit most) bytes (get_or bytes 0 0)
+one_unsigned limit most [] some has low fits = absurd (omega (arith, has))
+one_unsigned limit most (b ∷ rest) some has low fits = short_unsigned limit most b rest some low fits ∙ ap (λ (r : List ℕ). Ok (b, r)) (rest_is rest)
+
+short_positive : (half most b : ℕ) (rest : List ℕ) → 1 ≤ most → b < 64 → 64 ≤ half → within_at half most (b ∷ rest) ≡ Ok (pos b, rest)
+unfolding within_at group_at
+short_positive half zero b rest some low fits = absurd (omega (arith, some))
+short_positive half (suc most) b rest some low fits =
+    let is : b % 128 + 128 * 0 ≡ b = omega arith in
+    let below : b < 128 = omega arith in
+    let lt : b < half = omega arith in
+    rw (lt-ltb b 128 below, lt-leb 64 b low, is, lt-ltb b half lt) refl
+
+pub one_positive : (half most : ℕ) (bytes : List ℕ) → 1 ≤ most → 1 ≤ length bytes → get_or bytes 0 0 < 64 → 64 ≤ half → OneByte (within_at half most) bytes (pos (get_or bytes 0 0))
+one_positive half most [] some has low fits = absurd (omega (arith, has))
+one_positive half most (b ∷ rest) some has low fits = short_positive half most b rest some low fits ∙ ap (λ (r : List ℕ). Ok (pos b, r)) (rest_is rest)
+
+short_negative : (half most b : ℕ) (rest : List ℕ) → 1 ≤ most → 64 ≤ b → b < 128 → 64 ≤ half → within_at half most (b ∷ rest) ≡ Ok (negsuc (127 - b), rest)
+unfolding within_at group_at
+short_negative half zero b rest some high low fits = absurd (omega (arith, some))
+short_negative half (suc most) b rest some high low fits =
+    let is : b % 128 + 128 * 0 ≡ b = omega arith in
+    let lt : 127 - b < half = omega arith in
+    rw (lt-ltb b 128 low, le-leb 64 b high, is, less_power b 128 low, lt-ltb (127 - b) half lt) refl
+
+pub one_negative : (half most : ℕ) (bytes : List ℕ) → 1 ≤ most → 1 ≤ length bytes → 64 ≤ get_or bytes 0 0 → get_or bytes 0 0 < 128 → 64 ≤ half → OneByte (within_at half most) bytes (negsuc (127 - get_or bytes 0 0))
+one_negative half most [] some has high low fits = absurd (omega (arith, has))
+one_negative half most (b ∷ rest) some has high low fits = short_negative half most b rest some high low fits ∙ ap (λ (r : List ℕ). Ok (negsuc (127 - b), r)) (rest_is rest)
+
+-- what the code computes for a negative number of one byte
+pub byte_less : (b : ℕ) → 64 ≤ b → b < 128 → negsuc (127 - b) ≡ to_z w64 (of_z w64 (to_z w64 b -ℤ pos 128))
+byte_less b high low = omega (arith, ints)

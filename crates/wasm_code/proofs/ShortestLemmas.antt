@@ -1,7 +1,7 @@
 -- The shortest spellings, a byte at a time.
 use Rattle.std.proofs.Common.{◌≡◌, ℕ, zero, suc, ◌+◌, ◌*◌, ◌%◌, ◌/◌, ◌^◌, ◌<◌, ◌≤◌, Bool, List, [], ◌∷◌, ◌++◌, refl, sym, ap, ◌∙◌, append_assoc, arith, inl, inr}
 use Rattle.std.proofs.lemmas.Bool.{le-ltb, lt-ltb, cases_lt}
-use Rattle.std.proofs.Math.Nat.{pow-suc}
+use Rattle.std.proofs.Math.Nat.{pow-suc, pow-le-pow_right}
 use Rattle.wasm_code.specs.Code.{shortest_within, shortest, low_bits, signed_within, signed_form, BeginsWith}
 
 pub within_more : (k n : ℕ) → n < 128 ^ suc k → shortest_within (suc k) n ≡ shortest_within k n
@@ -12,6 +12,15 @@ within_more (suc k) n lt =
       | inl small ↦ rw (lt-ltb n 128 small) refl
       | inr big ↦ rw (le-ltb n 128 big, within_more k (n / 128) (omega (arith, lt, pow-suc 128 (suc k)))) refl
     ]
+
+-- more bytes than a number needs make no difference
+pub within_many : (j k n : ℕ) → n < 128 ^ suc k → shortest_within (j + k) n ≡ shortest_within k n
+within_many zero k n lt = let e : zero + k ≡ k = omega arith in rw e refl
+within_many (suc j) k n lt =
+    let le : suc k ≤ suc (j + k) = omega arith in
+    let below : n < 128 ^ suc (j + k) = omega (arith, lt, pow-le-pow_right {n = 128} (omega arith) le) in
+    let e : suc j + k ≡ suc (j + k) = omega arith in
+    rw e (within_more (j + k) n below ∙ within_many j k n lt)
 
 pub shortest_last : (n : ℕ) → n < 128 → shortest n ≡ n ∷ []
 unfolding shortest shortest_within
@@ -29,6 +38,14 @@ form_more (suc k) negative n lt =
       | inl small ↦ rw (lt-ltb n 64 small) refl
       | inr big ↦ rw (le-ltb n 64 big, form_more k negative (n / 128) (omega (arith, lt, pow-suc 128 k))) refl
     ]
+
+pub form_many : (j k : ℕ) (negative : Bool) (n : ℕ) → n < 64 * 128 ^ k → signed_within (j + k) negative n ≡ signed_within k negative n
+form_many zero k negative n lt = let e : zero + k ≡ k = omega arith in rw e refl
+form_many (suc j) k negative n lt =
+    let le : k ≤ j + k = omega arith in
+    let below : n < 64 * 128 ^ (j + k) = omega (arith, lt, pow-le-pow_right {n = 128} (omega arith) le) in
+    let e : suc j + k ≡ suc (j + k) = omega arith in
+    rw e (form_more (j + k) negative n below ∙ form_many j k negative n lt)
 
 pub form_last : (negative : Bool) (n : ℕ) → n < 64 → signed_form negative n ≡ low_bits negative n ∷ []
 unfolding signed_form signed_within

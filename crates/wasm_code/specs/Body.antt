@@ -1,10 +1,10 @@
 -- Bodies: whole operators, one after another, the last one `end`; and the first fault of bytes that are none
--- (WebAssembly Core Specification 3.0, section 5.4.9, Expressions; the order of the faults is this project's own).
+-- (WebAssembly Core Specification 3.0, section 5.4, Expressions; the order of the faults is this project's own).
 use Rattle.std.specs.Prelude.{◌≡◌, ℕ, ◌+◌, List, [], ◌∷◌, ◌++◌, length, Bool, true, false, IsTrue}
 use Rattle.wasm_code.specs.declared.fault.ReadKind.{ReadKind}
 use Rattle.wasm_code.specs.declared.fault.ReadKind.TheVariants as kinds
 use Rattle.wasm_code.specs.declared.fault.Cause.{Cause}
-use Rattle.wasm_code.specs.declared.fault.Cause.TheVariants.{Truncated, UnknownOpcode, BadInteger}
+use Rattle.wasm_code.specs.declared.fault.Cause.TheVariants.{Truncated, UnknownOpcode, BadInteger, BadImmediate}
 use Rattle.wasm_code.specs.declared.operator.Operator.{Operator}
 use Rattle.wasm_code.specs.declared.operator.Operator.TheVariants as op
 use Rattle.wasm_code.specs.Operator.{Spells, Fails}
@@ -27,13 +27,45 @@ SpellsAll (x ∷ xs) start text = IsNext (SpellsAll xs) start text x
 
 abbrev pub is_end : Operator → Bool
 is_end op.End = true
-is_end (op.Instr i) = false
+is_end _ = false
 
 -- the last operator is `end`
 abbrev pub ends : List (Operator × ℕ) → Bool
 ends [] = false
 ends (x ∷ []) = is_end x.0
 ends (x ∷ y ∷ xs) = ends (y ∷ xs)
+
+-- ---- joined spellings
+
+-- each operator has a spelling
+abbrev pub AreSpelled : List (Operator × List ℕ) → Type 0
+AreSpelled [] = Unit {0}
+AreSpelled (x ∷ xs) = Spells x.1 x.0 × AreSpelled xs
+
+-- the spellings, joined
+abbrev pub joined : List (Operator × List ℕ) → List ℕ
+joined [] = []
+joined (x ∷ xs) = x.1 ++ joined xs
+
+-- the operators with their offsets, where the first byte of the joined spellings has the offset `start`
+abbrev pub placed : ℕ → List (Operator × List ℕ) → List (Operator × ℕ)
+placed start [] = []
+placed start (x ∷ xs) = (x.0, start) ∷ placed (start + length x.1) xs
+
+-- the operators with offsets that much larger
+abbrev pub shifted : ℕ → List (Operator × ℕ) → List (Operator × ℕ)
+shifted by [] = []
+shifted by (x ∷ xs) = (x.0, x.1 + by) ∷ shifted by xs
+
+-- the bytes, cut behind the spellings of the first operators
+pub record IsCut (xs ys : List (Operator × ℕ)) (start : ℕ) (text : List ℕ) : Type 0 where
+  pub front : List ℕ
+  pub back : List ℕ
+  pub parts : text ≡ front ++ back
+  pub first : SpellsAll xs start front
+  pub second : SpellsAll ys (start + length front) back
+
+-- ---- bodies
 
 -- The bytes spell these operators, and the last one is `end`.
 pub record SpellsBody (start : ℕ) (text : List ℕ) (xs : List (Operator × ℕ)) : Type 0 where
@@ -64,6 +96,7 @@ abbrev pub IsFault : (start to : ℕ) → List ℕ → ReadKind → ℕ → Type
 IsFault start to text kinds.Truncated offset = StopsAt start text offset Truncated
 IsFault start to text kinds.UnknownOpcode offset = StopsAt start text offset UnknownOpcode
 IsFault start to text kinds.BadInteger offset = StopsAt start text offset BadInteger
+IsFault start to text kinds.BadImmediate offset = StopsAt start text offset BadImmediate
 IsFault start to text kinds.NoEnd offset = LacksEnd start text × (offset ≡ to)
 IsFault start to text kinds.Memory offset = offset ≡ start
 
@@ -71,3 +104,4 @@ abbrev pub kind_of : Cause → ReadKind
 kind_of Truncated = kinds.Truncated
 kind_of UnknownOpcode = kinds.UnknownOpcode
 kind_of BadInteger = kinds.BadInteger
+kind_of BadImmediate = kinds.BadImmediate

@@ -1,11 +1,14 @@
 -- The code of an instruction: its opcode and its immediate, with shortest numbers
 -- (WebAssembly Core Specification 3.0, sections 5.2.2, Integers, and 5.4, Instructions).
-use Rattle.std.specs.Prelude.{◌≡◌, ℕ, ℤ, pos, negsuc, zero, suc, ◌+◌, ◌-◌, ◌%◌, ◌/◌, List, [], ◌∷◌, ◌++◌, Bool, true, false, Option, Some, None, nat_lt, if◌then◌else◌}
+use Rattle.std.specs.Prelude.{◌≡◌, ℕ, ℤ, pos, negsuc, zero, suc, ◌+◌, ◌-◌, ◌%◌, ◌/◌, ◌==◌, List, [], ◌∷◌, ◌++◌, Bool, true, false, Option, Some, None, nat_lt, if◌then◌else◌}
 use Rattle.wasm_code.specs.declared.table.Opcode.{Opcode}
 use Rattle.wasm_code.specs.declared.table.Opcode.TheVariants.{Byte, Fc, Fd}
 use Rattle.wasm_code.specs.declared.table.Row.{Row}
+use Rattle.std.specs.Int.{w32, w64, w128, to_le_bytes, cast_unsigned}
+use Rattle.wasm_code.specs.declared.immediate.MemArg.{MemArg}
 use Rattle.wasm_code.specs.declared.immediate.Imm.{Imm}
 use Rattle.wasm_code.specs.declared.immediate.Imm.TheVariants as imm
+use Rattle.wasm_code.specs.Immediate.{val_type_code, heap_type_code}
 use Rattle.wasm_code.specs.Table.{row_at}
 use Rattle.wasm_code.specs.Instruction.{Instruction}
 
@@ -36,15 +39,34 @@ abbrev pub shortest_signed : ℤ → List ℕ
 shortest_signed (pos n) = signed_form false n
 shortest_signed (negsuc n) = signed_form true n
 
+-- the exponent of the alignment and the offset; for another memory than 0 the exponent plus 64, the index, the offset
+unfoldable pub memarg_code : MemArg → List ℕ
+memarg_code m = if m.memory == 0 then shortest m.align ++ shortest m.offset else shortest (m.align + 64) ++ shortest m.memory ++ shortest m.offset
+
+-- sixteen bytes, the lowest first
+unfoldable pub v128_code : ℤ → List ℕ
+v128_code z = to_le_bytes w128 (cast_unsigned w128 z)
+
 unfoldable pub imm_code : Imm → List ℕ
 imm_code imm.Nothing = []
 imm_code (imm.Index n) = shortest n
+imm_code (imm.Pair a b) = shortest a ++ shortest b
+imm_code (imm.Mem m) = memarg_code m
+imm_code (imm.MemLane m lane) = memarg_code m ++ lane ∷ []
+imm_code (imm.Lane lane) = lane ∷ []
 imm_code (imm.I32 z) = shortest_signed z
+imm_code (imm.I64 z) = shortest_signed z
+imm_code (imm.F32 bits) = to_le_bytes w32 bits
+imm_code (imm.F64 bits) = to_le_bytes w64 bits
+imm_code (imm.V128 z) = v128_code z
+imm_code (imm.Shuffle lanes) = lanes
+imm_code (imm.Heap t) = heap_type_code t ∷ []
+imm_code (imm.Val t) = 1 ∷ val_type_code t ∷ []
 
 unfoldable pub opcode_code : Opcode → List ℕ
 opcode_code (Byte b) = b ∷ []
-opcode_code (Fc n) = 252 ∷ shortest n
-opcode_code (Fd n) = 253 ∷ shortest n
+opcode_code (Fc n) = 0xfc ∷ shortest n
+opcode_code (Fd n) = 0xfd ∷ shortest n
 
 abbrev pub row_code : Option Row → List ℕ
 row_code None = []

@@ -9,6 +9,7 @@ abbrev pub kind_name : ReadKind → List ℕ
 kind_name kinds.Truncated = codes "Truncated"
 kind_name kinds.UnknownOpcode = codes "UnknownOpcode"
 kind_name kinds.BadInteger = codes "BadInteger"
+kind_name kinds.BadImmediate = codes "BadImmediate"
 kind_name kinds.NoEnd = codes "NoEnd"
 kind_name kinds.Memory = codes "Memory"
 

@@ -1,9 +1,12 @@
 pub mod Fault
+pub mod ValType
 pub mod Table
 pub mod Finding
+pub mod Dense
 pub mod Instruction
 pub mod Grammar
 pub mod Number
+pub mod Immediate
 pub mod Operator
 pub mod Body
 pub mod Code

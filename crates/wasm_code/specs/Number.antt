@@ -1,7 +1,7 @@
 -- Numbers as bytes, seven bits in each, the lowest first: LEB128 (WebAssembly Core Specification 3.0, section 5.2.2, Integers).
 use Rattle.std.specs.Prelude.{◌≡◌, ◌⊎◌, ℕ, ℤ, pos, neg_ℤ, ◌+◌, ◌-◌, ◌*◌, ◌%◌, ◌/◌, ◌^◌, ◌<◌, ◌≤◌, ◌-ℤ◌, ◌≤ℤ◌, ◌<ℤ◌, nat_le, slice_index, List, [], ◌∷◌, ◌++◌, length, if◌then◌else◌, Bool}
 use Rattle.wasm_code.specs.declared.fault.Cause.{Cause}
-use Rattle.wasm_code.specs.declared.fault.Cause.TheVariants.{Truncated, UnknownOpcode, BadInteger}
+use Rattle.wasm_code.specs.declared.fault.Cause.TheVariants.{Truncated, UnknownOpcode, BadInteger, BadImmediate}
 
 -- ---- what bytes spell
 
@@ -76,6 +76,7 @@ abbrev pub FailsNumber : (List ℕ → Type 0) → ℕ → List ℕ → Cause �
 FailsNumber Out most bytes Truncated = EndsInside most bytes
 FailsNumber Out most bytes BadInteger = GoesOn most bytes ⊎ IsOut Out most bytes
 FailsNumber Out most bytes UnknownOpcode = ⊥
+FailsNumber Out most bytes BadImmediate = ⊥
 
 -- a group's number is 2 ^ bits or more
 abbrev pub IsAbove : ℕ → List ℕ → Type 0

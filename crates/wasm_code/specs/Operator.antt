@@ -1,50 +1,37 @@
 -- Operators as bytes (WebAssembly Core Specification 3.0, section 5.4, Instructions).
-use Rattle.std.specs.Prelude.{◌≡◌, ◌≢◌, ℕ, ◌==◌, List, [], Bool, true, false, Some}
+use Rattle.std.specs.Prelude.{◌≡◌, ◌≢◌, ◌⊎◌, ℕ, ◌==◌, List, [], ◌∷◌, Bool, true, false, Some}
 use Rattle.wasm_code.specs.declared.fault.Cause.{Cause}
-use Rattle.wasm_code.specs.declared.fault.Cause.TheVariants.{Truncated, UnknownOpcode, BadInteger}
+use Rattle.wasm_code.specs.declared.fault.Cause.TheVariants.{UnknownOpcode}
 use Rattle.wasm_code.specs.declared.table.Opcode.{Opcode}
 use Rattle.wasm_code.specs.declared.table.Opcode.TheVariants.{Byte, Fc, Fd}
-use Rattle.wasm_code.specs.declared.table.Kind.{Kind}
-use Rattle.wasm_code.specs.declared.table.Kind.TheVariants as kind
 use Rattle.wasm_code.specs.declared.table.Row.{Row}
-use Rattle.wasm_code.specs.declared.immediate.Imm.{Imm}
-use Rattle.wasm_code.specs.declared.immediate.Imm.TheVariants as imm
 use Rattle.wasm_code.specs.declared.operator.Operator.{Operator}
 use Rattle.wasm_code.specs.declared.operator.Operator.TheVariants as op
-use Rattle.wasm_code.specs.Grammar.{IsByte, LacksByte, Ends, NeverFails, Of, Choose, FailsChosen, Then, FailsThen}
-use Rattle.wasm_code.specs.Number.{SpellsUnsigned, SpellsSigned, FailsUnsigned, FailsSigned}
+use Rattle.wasm_code.specs.Grammar.{IsByte, LacksByte, NoBytes, NeverFails, Of, Choose, FailsChosen, Then, FailsThen}
+use Rattle.wasm_code.specs.Number.{SpellsUnsigned, FailsUnsigned}
+use Rattle.wasm_code.specs.Immediate.{SpellsImm, FailsImm, SpellsBlockType, FailsBlockType, SpellsPair, FailsPair, SpellsLabels, FailsLabels, SpellsTypes}
 use Rattle.wasm_code.specs.Table.{row_at, HasOpcode}
 use Rattle.wasm_code.specs.Instruction.{Instruction}
 
 -- an operator that ends a basic block
 abbrev pub is_delimiter : Operator → Bool
 is_delimiter (op.Instr i) = false
-is_delimiter op.End = true
+is_delimiter (op.CallIndirect type table) = false
+is_delimiter (op.TypedSelect count first) = false
+is_delimiter _ = true
 
 -- ---- opcodes
 
--- a byte, and behind FC (252) and FD (253) a number
+-- a byte, and behind FC and FD a number
 abbrev pub SpellsOpcode : List ℕ → Opcode → Type 0
 SpellsOpcode = Then IsByte (λ b.
-    Choose (b == 252) (Of (λ n. Fc n) (SpellsUnsigned 32))
-    (Choose (b == 253) (Of (λ n. Fd n) (SpellsUnsigned 32)) (Ends (Byte b))))
+    Choose (b == 0xfc) (Of (λ n. Fc n) (SpellsUnsigned 32))
+    (Choose (b == 0xfd) (Of (λ n. Fd n) (SpellsUnsigned 32)) (NoBytes (Byte b))))
 
 abbrev pub FailsOpcode : List ℕ → Cause → Type 0
 FailsOpcode = FailsThen LacksByte IsByte (λ b.
-    FailsChosen (b == 252) (FailsUnsigned 32)
-    (FailsChosen (b == 253) (FailsUnsigned 32) NeverFails))
-
--- ---- immediates
-
-abbrev pub SpellsImm : Kind → List ℕ → Imm → Type 0
-SpellsImm kind.Nothing = Ends imm.Nothing
-SpellsImm kind.Index = Of (λ n. imm.Index n) (SpellsUnsigned 32)
-SpellsImm kind.I32 = Of (λ z. imm.I32 z) (SpellsSigned 32)
-
-abbrev pub FailsImm : Kind → List ℕ → Cause → Type 0
-FailsImm kind.Nothing = NeverFails
-FailsImm kind.Index = FailsUnsigned 32
-FailsImm kind.I32 = FailsSigned 32
+    FailsChosen (b == 0xfc) (FailsUnsigned 32)
+    (FailsChosen (b == 0xfd) (FailsUnsigned 32) NeverFails))
 
 -- ---- what stands behind an opcode
 
@@ -55,9 +42,23 @@ pub record SpellsRow (o : Opcode) (text : List ℕ) (i : Instruction) : Type 0 w
   pub opcode : row.opcode ≡ o
   pub imm : SpellsImm row.kind text i.imm
 
+-- an instruction by its row; the others by their own opcodes
 abbrev pub SpellsBehind : Opcode → List ℕ → Operator → Type 0
 SpellsBehind o text (op.Instr i) = SpellsRow o text i
-SpellsBehind o text op.End = (o ≡ Byte 11) × (text ≡ [])
+SpellsBehind o text op.Unreachable = (o ≡ Byte 0x00) × (text ≡ [])
+SpellsBehind o text (op.Block t) = (o ≡ Byte 0x02) × SpellsBlockType text t
+SpellsBehind o text (op.Loop t) = (o ≡ Byte 0x03) × SpellsBlockType text t
+SpellsBehind o text (op.If t) = (o ≡ Byte 0x04) × SpellsBlockType text t
+SpellsBehind o text op.Else = (o ≡ Byte 0x05) × (text ≡ [])
+SpellsBehind o text op.End = (o ≡ Byte 0x0b) × (text ≡ [])
+SpellsBehind o text (op.Br label) = (o ≡ Byte 0x0c) × SpellsUnsigned 32 text label
+SpellsBehind o text (op.BrIf label) = (o ≡ Byte 0x0d) × SpellsUnsigned 32 text label
+SpellsBehind o text (op.BrTable count) = (o ≡ Byte 0x0e) × SpellsLabels text count
+SpellsBehind o text op.Return = (o ≡ Byte 0x0f) × (text ≡ [])
+SpellsBehind o text (op.CallIndirect type table) = (o ≡ Byte 0x11) × SpellsPair text (type, table)
+SpellsBehind o text (op.TypedSelect count first) = (o ≡ Byte 0x1c) × (count ≢ 1) × SpellsTypes text (count, first)
+
+-- ---- faults
 
 -- a row has that opcode, and its immediate fails
 pub record FailsRow (o : Opcode) (bytes : List ℕ) (cause : Cause) : Type 0 where
@@ -67,14 +68,27 @@ pub record FailsRow (o : Opcode) (bytes : List ℕ) (cause : Cause) : Type 0 whe
   pub opcode : row.opcode ≡ o
   pub imm : FailsImm row.kind bytes cause
 
--- no row has that opcode, and it isn't `end`
-abbrev pub IsUnknown : Opcode → Type 0
-IsUnknown o = ((r : ℕ) → HasOpcode r o → ⊥) × (o ≢ Byte 11)
+-- the opcode is one of these bytes
+abbrev pub IsOneOf : Opcode → List ℕ → Type 0
+IsOneOf o [] = ⊥
+IsOneOf o (b ∷ bytes) = (o ≡ Byte b) ⊎ IsOneOf o bytes
 
+-- the opcode is that of an operator that is no row of the table, and its immediate fails (a select with value types, however
+-- many, fails as row 445 does)
+abbrev pub FailsControl : Opcode → List ℕ → Cause → Type 0
+FailsControl o bytes cause =
+    (IsOneOf o (0x02 ∷ 0x03 ∷ 0x04 ∷ []) × FailsBlockType bytes cause)
+    ⊎ (IsOneOf o (0x0c ∷ 0x0d ∷ []) × FailsUnsigned 32 bytes cause)
+    ⊎ (IsOneOf o (0x0e ∷ []) × FailsLabels bytes cause)
+    ⊎ (IsOneOf o (0x11 ∷ []) × FailsPair bytes cause)
+
+-- no row has that opcode, and no other operator
+abbrev pub IsUnknown : Opcode → Type 0
+IsUnknown o = ((r : ℕ) → HasOpcode r o → ⊥) × (IsOneOf o (0x00 ∷ 0x02 ∷ 0x03 ∷ 0x04 ∷ 0x05 ∷ 0x0b ∷ 0x0c ∷ 0x0d ∷ 0x0e ∷ 0x0f ∷ 0x11 ∷ []) → ⊥)
+
+-- nothing has the opcode, or what stands behind it fails
 abbrev pub FailsBehindOpcode : Opcode → List ℕ → Cause → Type 0
-FailsBehindOpcode o bytes UnknownOpcode = IsUnknown o
-FailsBehindOpcode o bytes Truncated = FailsRow o bytes Truncated
-FailsBehindOpcode o bytes BadInteger = FailsRow o bytes BadInteger
+FailsBehindOpcode o bytes cause = (IsUnknown o × (cause ≡ UnknownOpcode)) ⊎ FailsRow o bytes cause ⊎ FailsControl o bytes cause
 
 -- ---- operators
 

@@ -1,8 +1,8 @@
 -- Reading as functions (this project): for proofs, and for programs that answer what reading answers.
 -- The contracts go by the grammar; `laws` joins the two.
-use Rattle.std.specs.Prelude.{◌≡◌, ℕ, ℤ, pos, negsuc, zero, suc, ◌+◌, ◌-◌, ◌^◌, ◌==◌, nat_lt, if◌then◌else◌, Bool, true, false, List, [], ◌∷◌, length, Option, Some, None, Result, Ok, Err}
+use Rattle.std.specs.Prelude.{◌≡◌, ◌≢◌, ℕ, ℤ, pos, negsuc, zero, suc, ◌+◌, ◌-◌, ◌^◌, ◌==◌, nat_lt, if◌then◌else◌, Bool, true, false, List, [], ◌∷◌, length, take, drop, Option, Some, None, Result, Ok, Err}
 use Rattle.wasm_code.specs.declared.fault.Cause.{Cause}
-use Rattle.wasm_code.specs.declared.fault.Cause.TheVariants.{Truncated, UnknownOpcode, BadInteger}
+use Rattle.wasm_code.specs.declared.fault.Cause.TheVariants.{Truncated, UnknownOpcode, BadInteger, BadImmediate}
 use Rattle.wasm_code.specs.declared.fault.ReadKind.{ReadKind}
 use Rattle.wasm_code.specs.declared.fault.ReadKind.TheVariants as kinds
 use Rattle.wasm_code.specs.declared.table.Opcode.{Opcode}
@@ -10,6 +10,15 @@ use Rattle.wasm_code.specs.declared.table.Opcode.TheVariants.{Byte, Fc, Fd}
 use Rattle.wasm_code.specs.declared.table.Kind.{Kind}
 use Rattle.wasm_code.specs.declared.table.Kind.TheVariants as kind
 use Rattle.wasm_code.specs.declared.table.Row.{Row}
+use Rattle.std.specs.Int.{w32, w64, w128, from_le_bytes, cast_signed}
+use Rattle.wasm_code.specs.declared.immediate.ValType.{ValType}
+use Rattle.wasm_code.specs.declared.immediate.ValType.TheVariants.{I32, I64, F32, F64, V128, FuncRef, ExternRef}
+use Rattle.wasm_code.specs.declared.immediate.HeapType.{HeapType}
+use Rattle.wasm_code.specs.declared.immediate.HeapType.TheVariants.{Abstract}
+use Rattle.wasm_code.specs.declared.immediate.AbstractHeapType.TheVariants.{Func, Extern}
+use Rattle.wasm_code.specs.declared.immediate.BlockType.{BlockType}
+use Rattle.wasm_code.specs.declared.immediate.BlockType.TheVariants.{Empty, Value, FuncType}
+use Rattle.wasm_code.specs.declared.immediate.MemArg.{MemArg}
 use Rattle.wasm_code.specs.declared.immediate.Imm.{Imm}
 use Rattle.wasm_code.specs.declared.immediate.Imm.TheVariants as imm
 use Rattle.wasm_code.specs.declared.operator.Operator.{Operator}
@@ -70,35 +79,128 @@ signed_at bits bytes = within_at (2 ^ (bits - 1)) (most_bytes bits) bytes
 
 unfoldable pub opcode_at : List ℕ → Result (Opcode × List ℕ) Cause
 opcode_at bytes = byte_at bytes >>= λ b.
-    if b.0 == 252 then (unsigned_at 32 b.1 >>= λ n. Ok (Fc n.0, n.1))
-    else if b.0 == 253 then (unsigned_at 32 b.1 >>= λ n. Ok (Fd n.0, n.1))
+    if b.0 == 0xfc then (unsigned_at 32 b.1 >>= λ n. Ok (Fc n.0, n.1))
+    else if b.0 == 0xfd then (unsigned_at 32 b.1 >>= λ n. Ok (Fd n.0, n.1))
     else Ok (Byte b.0, b.1)
 
+-- so many bytes
+abbrev pub bytes_at : ℕ → List ℕ → Result (List ℕ × List ℕ) Cause
+bytes_at n bytes = if nat_lt (length bytes) n then Err Truncated else Ok (take n bytes, drop n bytes)
+
+-- what is named, or else no immediate
+abbrev pub named_at : {A : Type 0} → Option A → List ℕ → Result (A × List ℕ) Cause
+named_at None rest = Err BadImmediate
+named_at (Some x) rest = Ok (x, rest)
+
+-- the value type that has this byte
+unfoldable pub val_type_of : ℕ → Option ValType
+val_type_of b = if b == 0x7f then Some I32 else if b == 0x7e then Some I64 else if b == 0x7d then Some F32 else if b == 0x7c then Some F64 else if b == 0x7b then Some V128 else if b == 0x70 then Some FuncRef else if b == 0x6f then Some ExternRef else None
+
+-- the heap type that has this byte
+unfoldable pub heap_type_of : ℕ → Option HeapType
+heap_type_of b = if b == 0x70 then Some (Abstract Func) else if b == 0x6f then Some (Abstract Extern) else None
+
+unfoldable pub val_type_at : List ℕ → Result (ValType × List ℕ) Cause
+val_type_at bytes = byte_at bytes >>= λ b. named_at (val_type_of b.0) b.1
+
+unfoldable pub heap_type_at : List ℕ → Result (HeapType × List ℕ) Cause
+heap_type_at bytes = byte_at bytes >>= λ b. named_at (heap_type_of b.0) b.1
+
+abbrev pub func_type_at : ℤ → List ℕ → Result (BlockType × List ℕ) Cause
+func_type_at (pos n) rest = Ok (FuncType n, rest)
+func_type_at (negsuc n) rest = Err BadImmediate
+
+unfoldable pub block_type_of : Option ValType → List ℕ → List ℕ → Result (BlockType × List ℕ) Cause
+block_type_of (Some t) bytes rest = Ok (Value t, rest)
+block_type_of None bytes rest = signed_at 33 bytes >>= λ z. func_type_at z.0 z.1
+
+unfoldable pub block_type_at : List ℕ → Result (BlockType × List ℕ) Cause
+block_type_at bytes = byte_at bytes >>= λ b. if b.0 == 0x40 then Ok (Empty, b.1) else block_type_of (val_type_of b.0) bytes b.1
+
+unfoldable pub offset_at : ℕ → ℕ → List ℕ → Result (MemArg × List ℕ) Cause
+offset_at align memory bytes = unsigned_at 64 bytes >>= λ offset. Ok (record { offset = offset.0; align = align; memory = memory }, offset.1)
+
+unfoldable pub memarg_at : List ℕ → Result (MemArg × List ℕ) Cause
+memarg_at bytes = unsigned_at 32 bytes >>= λ n.
+    if nat_lt n.0 64 then offset_at n.0 0 n.1
+    else if nat_lt n.0 128 then (unsigned_at 32 n.1 >>= λ memory. offset_at (n.0 - 64) memory.0 memory.1)
+    else Err BadImmediate
+
+unfoldable pub pair_at : List ℕ → Result ((ℕ × ℕ) × List ℕ) Cause
+pair_at bytes = unsigned_at 32 bytes >>= λ a. unsigned_at 32 a.1 >>= λ b. Ok ((a.0, b.0), b.1)
+
+-- so many values one after another, which aren't kept
+unfoldable pub times_at : {A : Type 0} → ℕ → (List ℕ → Result (A × List ℕ) Cause) → List ℕ → Result (Unit {0} × List ℕ) Cause
+times_at zero at bytes = Ok (tt, bytes)
+times_at (suc n) at bytes = at bytes >>= λ x. times_at n at x.1
+
+unfoldable pub labels_at : List ℕ → Result (ℕ × List ℕ) Cause
+labels_at bytes = unsigned_at 32 bytes >>= λ n. times_at (n.0 + 1) (unsigned_at 32) n.1 >>= λ rest. Ok (n.0, rest.1)
+
+unfoldable pub first_at : ℕ → List ℕ → Result (Option ValType × List ℕ) Cause
+first_at n bytes = if n == 0 then Ok (None, bytes) else (val_type_at bytes >>= λ t. times_at (n - 1) val_type_at t.1 >>= λ rest. Ok (Some t.0, rest.1))
+
+unfoldable pub types_at : List ℕ → Result ((ℕ × Option ValType) × List ℕ) Cause
+types_at bytes = unsigned_at 32 bytes >>= λ n. first_at n.0 n.1 >>= λ first. Ok ((n.0, first.0), first.1)
+
+-- the immediate of a kind (`Val` stands behind a count: `types_at`)
 unfoldable pub imm_at : Kind → List ℕ → Result (Imm × List ℕ) Cause
 imm_at kind.Nothing bytes = Ok (imm.Nothing, bytes)
 imm_at kind.Index bytes = unsigned_at 32 bytes >>= λ n. Ok (imm.Index n.0, n.1)
+imm_at kind.Pair bytes = pair_at bytes >>= λ p. Ok (imm.Pair p.0.0 p.0.1, p.1)
+imm_at kind.Mem bytes = memarg_at bytes >>= λ m. Ok (imm.Mem m.0, m.1)
+imm_at kind.MemLane bytes = memarg_at bytes >>= λ m. byte_at m.1 >>= λ lane. Ok (imm.MemLane m.0 lane.0, lane.1)
+imm_at kind.Lane bytes = byte_at bytes >>= λ lane. Ok (imm.Lane lane.0, lane.1)
 imm_at kind.I32 bytes = signed_at 32 bytes >>= λ z. Ok (imm.I32 z.0, z.1)
+imm_at kind.I64 bytes = signed_at 64 bytes >>= λ z. Ok (imm.I64 z.0, z.1)
+imm_at kind.F32 bytes = bytes_at 4 bytes >>= λ b. Ok (imm.F32 (from_le_bytes w32 b.0), b.1)
+imm_at kind.F64 bytes = bytes_at 8 bytes >>= λ b. Ok (imm.F64 (from_le_bytes w64 b.0), b.1)
+imm_at kind.V128 bytes = bytes_at 16 bytes >>= λ b. Ok (imm.V128 (cast_signed w128 (from_le_bytes w128 b.0)), b.1)
+imm_at kind.Shuffle bytes = bytes_at 16 bytes >>= λ b. Ok (imm.Shuffle b.0, b.1)
+imm_at kind.Heap bytes = heap_type_at bytes >>= λ t. Ok (imm.Heap t.0, t.1)
+imm_at kind.Val bytes = Err BadImmediate
 
-abbrev pub row_form : Option Row → Option Form
+abbrev pub row_form : Option (ℕ × Row) → Option Form
 row_form None = None
-row_form (Some row) = Some (form.Row row)
+row_form (Some found) = Some (form.Row found.0 found.1)
 
 abbrev pub byte_form : ℕ → Option Form
-byte_form b = if b == 11 then Some form.End else row_form (row_with (Byte b))
+byte_form b =
+    if b == 0x00 then Some form.Unreachable else if b == 0x02 then Some form.Block else if b == 0x03 then Some form.Loop
+    else if b == 0x04 then Some form.If else if b == 0x05 then Some form.Else else if b == 0x0b then Some form.End
+    else if b == 0x0c then Some form.Br else if b == 0x0d then Some form.BrIf else if b == 0x0e then Some form.BrTable
+    else if b == 0x0f then Some form.Return else if b == 0x11 then Some form.CallIndirect else if b == 0x1c then Some form.TypedSelect
+    else row_form (row_with (Byte b))
 
 unfoldable pub form_of : Opcode → Option Form
 form_of (Byte b) = byte_form b
 form_of (Fc n) = row_form (row_with (Fc n))
 form_of (Fd n) = row_form (row_with (Fd n))
 
--- a row's form has a row of the table
+-- a row's form has a row of the table, and no value type behind it
 abbrev pub IsForm : Form → Type 0
-IsForm (form.Row row) = row_at row.number ≡ Some row
-IsForm form.End = Unit {0}
+IsForm (form.Row number row) = (row_at number ≡ Some row) × (row.kind ≢ kind.Val)
+IsForm _ = Unit {0}
+
+-- one value type makes an instruction; any other number of them is an operator of its own
+abbrev pub select_of : ℕ → Option ValType → Operator
+select_of count None = op.TypedSelect count None
+select_of count (Some t) = if count == 1 then op.Instr (record { row = 445; imm = imm.Val t }) else op.TypedSelect count (Some t)
 
 unfoldable pub behind_at : Form → List ℕ → Result (Operator × List ℕ) Cause
-behind_at (form.Row row) bytes = imm_at row.kind bytes >>= λ i. Ok (op.Instr (record { row = row.number; imm = i.0 }), i.1)
+behind_at (form.Row number row) bytes = imm_at row.kind bytes >>= λ i. Ok (op.Instr (record { row = number; imm = i.0 }), i.1)
+behind_at form.Unreachable bytes = Ok (op.Unreachable, bytes)
+behind_at form.Block bytes = block_type_at bytes >>= λ t. Ok (op.Block t.0, t.1)
+behind_at form.Loop bytes = block_type_at bytes >>= λ t. Ok (op.Loop t.0, t.1)
+behind_at form.If bytes = block_type_at bytes >>= λ t. Ok (op.If t.0, t.1)
+behind_at form.Else bytes = Ok (op.Else, bytes)
 behind_at form.End bytes = Ok (op.End, bytes)
+behind_at form.Br bytes = unsigned_at 32 bytes >>= λ n. Ok (op.Br n.0, n.1)
+behind_at form.BrIf bytes = unsigned_at 32 bytes >>= λ n. Ok (op.BrIf n.0, n.1)
+behind_at form.BrTable bytes = labels_at bytes >>= λ n. Ok (op.BrTable n.0, n.1)
+behind_at form.Return bytes = Ok (op.Return, bytes)
+behind_at form.CallIndirect bytes = pair_at bytes >>= λ p. Ok (op.CallIndirect p.0.0 p.0.1, p.1)
+behind_at form.TypedSelect bytes = types_at bytes >>= λ t. Ok (select_of t.0.0 t.0.1, t.1)
 
 abbrev pub formed_at : Option Form → List ℕ → Result (Operator × List ℕ) Cause
 formed_at None bytes = Err UnknownOpcode

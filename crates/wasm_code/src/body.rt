@@ -19,16 +19,14 @@ fn kind(cause: Cause) -> ReadKind
         Cause::Truncated => ReadKind::Truncated,
         Cause::UnknownOpcode => ReadKind::UnknownOpcode,
         Cause::BadInteger => ReadKind::BadInteger,
+        Cause::BadImmediate => ReadKind::BadImmediate,
     }
 }
 
 fn is_end_of(operator: &Operator) -> bool
     ensures { result ≡ is_end operator.now }
 {
-    match operator {
-        Operator::Instr(_) => false,
-        Operator::End => true,
-    }
+    matches!(operator, Operator::End)
 }
 
 /// The operators of a body, one after another.
@@ -80,12 +78,15 @@ fn operators_of(
 /// Reads the operators of the body `bytes[from..to]`, each with its offset from the start of `bytes`.
 ///
 /// It accepts exactly the bytes that spell whole operators, one after another, of which the last is `end`
-/// (WebAssembly Core Specification 3.0, section 5.4, Instructions). Nesting and types aren't checked.
+/// (WebAssembly Core Specification 3.0, section 5.4, Instructions). Operators are the instructions of the table and
+/// the control operators of `Operator`: those of tail calls, exceptions, threads, typed references and garbage
+/// collection are no operators here. Nesting and types aren't checked.
 ///
 /// An error names the first fault from the left and where the operator at fault starts:
-/// `Truncated` where the bytes end inside it, `UnknownOpcode` where no row of the table has its opcode and it
-/// isn't `end`, `BadInteger` where a number has too many bytes or is out of range; `NoEnd` at `to` where all
-/// bytes are operators and the last one isn't `end`, or there is none; `Memory` at `from` where no memory was left.
+/// `Truncated` where the bytes end inside it, `UnknownOpcode` where no operator has its opcode, `BadInteger` where
+/// a number has too many bytes or is out of range, `BadImmediate` where a whole immediate names no alignment, block
+/// type, heap type or value type; `NoEnd` at `to` where all bytes are operators and the last one isn't `end`, or
+/// there is none; `Memory` at `from` where no memory was left.
 pub fn read_body(
     alloc: Global,
     bytes: &[u8],

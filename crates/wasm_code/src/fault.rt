@@ -15,6 +15,8 @@ pub enum Cause {
     UnknownOpcode,
     /// A number has too many bytes, or doesn't fit its type.
     BadInteger,
+    /// A whole immediate names no alignment, no block type, no heap type or no value type.
+    BadImmediate,
 }
 
 /// Why bytes are no body.
@@ -23,12 +25,15 @@ pub enum ReadKind {
     /// The bytes end inside an operator.
     #[error("Truncated")]
     Truncated,
-    /// No operator has the opcode.
+    /// No instruction of the table and no control operator has the opcode.
     #[error("UnknownOpcode")]
     UnknownOpcode,
     /// A number has too many bytes, or doesn't fit its type.
     #[error("BadInteger")]
     BadInteger,
+    /// A whole immediate names no alignment, no block type, no heap type or no value type.
+    #[error("BadImmediate")]
+    BadImmediate,
     /// The last operator isn't `end`, or there is none.
     #[error("NoEnd")]
     NoEnd,
@@ -46,6 +51,7 @@ impl ReadKind {
             ReadKind::Truncated => "Truncated",
             ReadKind::UnknownOpcode => "UnknownOpcode",
             ReadKind::BadInteger => "BadInteger",
+            ReadKind::BadImmediate => "BadImmediate",
             ReadKind::NoEnd => "NoEnd",
             ReadKind::Memory => "Memory",
         }
@@ -58,7 +64,8 @@ impl ReadKind {
 pub struct ReadError {
     /// What is wrong.
     pub kind: ReadKind,
-    /// The start of the operator at fault, counted in bytes from the start of the whole slice.
+    /// The start of the operator at fault, counted in bytes from the start of the whole slice; for `NoEnd` the end of
+    /// the body, for `Memory` its start.
     pub offset: usize,
 }
 

@@ -1,9 +1,10 @@
 //! Laws on spellings: functions that do nothing, and whose contracts hold for all values.
-ghost use Rattle.std.specs.Prelude.{◌≡◌, ◌≢◌, ◌≤◌, ◌+◌, ◌++◌, ℕ, List, length, Ok, Err};
+ghost use Rattle.std.specs.Prelude.{◌≡◌, ◌≢◌, ◌<◌, ◌≤◌, ◌+◌, ◌-◌, ◌^◌, ◌≤ℤ◌, ◌<ℤ◌, ◌++◌, ℕ, ℤ, pos, neg_ℤ, List, length, Ok, Err};
 ghost use Rattle.wasm_code.specs.Instruction.{Instruction, IsInstruction};
 ghost use Rattle.wasm_code.specs.Operator.{Spells};
-ghost use Rattle.wasm_code.specs.Code.{code};
-ghost use Rattle.wasm_code.specs.Body.{SpellsBody, IsFault};
+ghost use Rattle.wasm_code.specs.Number.{SpellsUnsigned, SpellsSigned};
+ghost use Rattle.wasm_code.specs.Code.{shortest, shortest_signed, code};
+ghost use Rattle.wasm_code.specs.Body.{SpellsBody, IsFault, SpellsAll, AreSpelled, joined, placed, shifted, IsCut};
 ghost use Rattle.wasm_code.specs.Reader.{body_at};
 ghost use Rattle.wasm_code.specs.declared.fault.ReadKind.{ReadKind};
 ghost use Rattle.wasm_code.specs.declared.fault.ReadKind.TheVariants.{Memory};
@@ -20,13 +21,45 @@ pub fn code_spells()
     ensures { (i : Instruction) → IsInstruction i → Spells (code i) (op.Instr i) }
 {}
 
-/// The code of an instruction is the shortest of its spellings.
+/// No spelling of an instruction has fewer bytes than its code.
 pub fn code_is_shortest()
     ensures { (i : Instruction) (text : List ℕ) → Spells text (op.Instr i) → length (code i) ≤ length text }
 {}
 
-/// Reading a body as a function answers its operators, or the kind and the offset of its first fault.
+/// Reading a body as a function answers its operators, or the kind and the offset of its first fault, and nothing else:
+/// every text has one of the two.
 pub fn body_at_reads()
     ensures spelled { (start : ℕ) (text : List ℕ) (xs : List (Operator × ℕ)) → SpellsBody start text xs → body_at start text ≡ Ok xs }
     ensures faulty { (start : ℕ) (text : List ℕ) (kind : ReadKind) (offset : ℕ) → IsFault start (start + length text) text kind offset → kind ≢ Memory → body_at start text ≡ Err (kind, offset) }
+    ensures answers { (start : ℕ) (text : List ℕ) (xs : List (Operator × ℕ)) → body_at start text ≡ Ok xs → SpellsBody start text xs }
+    ensures faults { (start : ℕ) (text : List ℕ) (kind : ReadKind) (offset : ℕ) → body_at start text ≡ Err (kind, offset) → IsFault start (start + length text) text kind offset × (kind ≢ Memory) }
+{}
+
+/// A joined list of spelled operators is read as that list, with its offsets.
+pub fn joined_spellings()
+    ensures { (start : ℕ) (xs : List (Operator × List ℕ)) → AreSpelled xs → SpellsAll (placed start xs) start (joined xs) }
+{}
+
+/// Lists of operators are joined, moved and cut as their bytes are.
+pub fn bodies_append()
+    ensures joins { (xs ys : List (Operator × ℕ)) (start : ℕ) (a b : List ℕ) → SpellsAll xs start a → SpellsAll ys (start + length a) b → SpellsAll (xs ++ ys) start (a ++ b) }
+    ensures shifts { (xs : List (Operator × ℕ)) (start by : ℕ) (text : List ℕ) → SpellsAll xs start text → SpellsAll (shifted by xs) (start + by) text }
+    ensures cuts { (xs ys : List (Operator × ℕ)) (start : ℕ) (text : List ℕ) → SpellsAll (xs ++ ys) start text → IsCut xs ys start text }
+{}
+
+/// Bytes spell one list of operators.
+pub fn one_list()
+    ensures { (xs ys : List (Operator × ℕ)) (start : ℕ) (text : List ℕ) → SpellsAll xs start text → SpellsAll ys start text → xs ≡ ys }
+{}
+
+/// The shortest spelling of a number spells it, at any number of bits to 64 that it fits.
+pub fn shortest_is_a_spelling()
+    ensures unsigned { (bits n : ℕ) → 1 ≤ bits → bits ≤ 64 → n < 2 ^ bits → SpellsUnsigned bits (shortest n) n }
+    ensures signed { (bits : ℕ) (z : ℤ) → 1 ≤ bits → bits ≤ 64 → neg_ℤ (pos (2 ^ (bits - 1))) ≤ℤ z → z <ℤ pos (2 ^ (bits - 1)) → SpellsSigned bits (shortest_signed z) z }
+{}
+
+/// No spelling of a number has fewer bytes than the shortest one.
+pub fn shortest_is_least()
+    ensures unsigned { (bits n : ℕ) (text : List ℕ) → bits ≤ 64 → SpellsUnsigned bits text n → length (shortest n) ≤ length text }
+    ensures signed { (bits : ℕ) (z : ℤ) (text : List ℕ) → bits ≤ 64 → SpellsSigned bits text z → length (shortest_signed z) ≤ length text }
 {}

@@ -3,6 +3,7 @@
 #![tactic(auto)]
 
 mod body;
+mod dense;
 mod fault;
 mod immediate;
 pub mod laws;
@@ -10,13 +11,16 @@ mod number;
 mod operator;
 mod parse;
 mod reading;
+mod rows;
 mod sink;
 mod table;
+#[cfg(test)]
+mod tests;
 mod writing;
 
 pub use body::{OperatorAndByteOffset, read_body};
 pub use fault::{ReadError, ReadKind, SinkError};
-pub use immediate::{Imm, ValType};
+pub use immediate::{AbstractHeapType, BlockType, HeapType, Imm, MemArg, ValType};
 pub use operator::{Instr, Operator};
 pub use sink::Function;
 pub use table::{Opcode, ResultKind, RowInfo, row_info, row_of};

@@ -4,7 +4,7 @@ ghost use Rattle.wasm_code.specs.Table.{row_at};
 ghost use Rattle.wasm_code.specs.Instruction.{Instruction, IsInstruction, InRange, is_of_kind, fits_row};
 ghost use Rattle.wasm_code.specs.Operator.{is_delimiter};
 
-use crate::immediate::Imm;
+use crate::immediate::{BlockType, Imm, ValType};
 use crate::table::{Kind, find_row};
 use std::marker::Model;
 
@@ -15,7 +15,18 @@ fn is_of(kind: Kind, imm: Imm) -> bool
     match (kind, imm) {
         (Kind::Nothing, Imm::Nothing) => true,
         (Kind::Index, Imm::Index(_)) => true,
+        (Kind::Pair, Imm::Pair(_, _)) => true,
+        (Kind::Mem, Imm::Mem(m)) => m.align < 64,
+        (Kind::MemLane, Imm::MemLane(m, _)) => m.align < 64,
+        (Kind::Lane, Imm::Lane(_)) => true,
         (Kind::I32, Imm::I32(_)) => true,
+        (Kind::I64, Imm::I64(_)) => true,
+        (Kind::F32, Imm::F32(_)) => true,
+        (Kind::F64, Imm::F64(_)) => true,
+        (Kind::V128, Imm::V128(_)) => true,
+        (Kind::Shuffle, Imm::Shuffle(_)) => true,
+        (Kind::Heap, Imm::Heap(_)) => true,
+        (Kind::Val, Imm::Val(_)) => true,
         _ => false,
     }
 }
@@ -40,8 +51,8 @@ impl Model for Instr {
 }
 
 impl Instr {
-    /// The instruction of row `row` with the immediate `imm`, or none where the table has
-    /// no such row or the immediate isn't of the row's kind.
+    /// The instruction of row `row` (see `row_info`) with the immediate `imm`, or none where the table has no such row,
+    /// the immediate isn't of the row's kind, or the exponent of its alignment is 64 or more.
     pub fn new(row: u16, imm: Imm) -> Option<Instr>
         ensures some { IfSome result (λ i. (i ≡ record { row = row; imm = imm }) × IsInstruction i) }
         ensures none { IfNone result (IsFalse (fits_row (row_at row) imm)) }
@@ -87,18 +98,50 @@ impl Instr {
 pub enum Operator {
     /// An instruction of the table.
     Instr(Instr),
+    /// A block.
+    Block(BlockType),
+    /// A loop.
+    Loop(BlockType),
+    /// A conditional.
+    If(BlockType),
+    /// The other part of a conditional.
+    Else,
     /// The end of the body, or of a block inside it.
     End,
+    /// A branch to this label.
+    Br(u32),
+    /// A branch to this label under a condition.
+    BrIf(u32),
+    /// A branch by a table with so many labels, the default one not counted.
+    BrTable(u32),
+    /// A return.
+    Return,
+    /// What is never reached.
+    Unreachable,
+    /// A call through a table.
+    CallIndirect {
+        /// The index of the function's type.
+        type_index: u32,
+        /// The index of the table.
+        table_index: u32,
+    },
+    /// A selection with so many value types, any number of them but one (that one is an instruction).
+    TypedSelect {
+        /// How many value types it names.
+        count: u32,
+        /// The first of them.
+        first: Option<ValType>,
+    },
 }
 
 impl Operator {
-    /// Whether it ends a basic block: true for `End`.
+    /// Whether it ends a basic block: true for all but `Instr`, `CallIndirect` and `TypedSelect`.
     pub fn is_delimiter(&self) -> bool
         ensures { result ≡ is_delimiter self.now }
     {
-        match self {
-            Operator::Instr(_) => false,
-            Operator::End => true,
-        }
+        !matches!(
+            self,
+            Operator::Instr(_) | Operator::CallIndirect { .. } | Operator::TypedSelect { .. }
+        )
     }
 }

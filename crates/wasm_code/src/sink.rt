@@ -21,7 +21,7 @@ impl Model for Function {
 }
 
 impl Function {
-    /// No bytes. Growth takes its memory from `alloc`.
+    /// A sink that holds no bytes. Growth takes its memory from `alloc`.
     pub fn new(alloc: Global) -> Function
         ensures { result ≡ [] }
     {
@@ -39,7 +39,8 @@ impl Function {
         Ok(())
     }
 
-    /// Appends the code of the instruction: the opcode of its row and its immediate, with shortest numbers.
+    /// Appends the code of the instruction: the opcode of its row and its immediate, with shortest numbers and no index
+    /// for memory 0 (WebAssembly Core Specification 3.0, sections 5.2.2, Integers, and 5.4, Instructions).
     /// `SinkError::Memory` where no memory was left: the sink is then as it was.
     pub fn instruction(&mut self, i: &Instr) -> Result<(), SinkError>
         ensures ok { OnOk result (self.new ≡ self.old ++ code i.now) }

@@ -1,9 +1,12 @@
 //! The instruction table: opcode, kind of immediate, operands, result and change of each row.
-ghost use Rattle.std.specs.Prelude.{◌≡◌, ℕ, Some, IfSome};
-ghost use Rattle.wasm_code.specs.Table.{row_in, row_at, info_of, HasOpcode};
-ghost use Rattle.wasm_code.specs.Finding.{number_with, row_with};
+ghost use Rattle.std.specs.Prelude.{◌≡◌, ℕ, Some, IfSome, slice_get};
+ghost use Rattle.wasm_code.specs.Table.{row_at, info_of, HasOpcode};
+ghost use Rattle.wasm_code.specs.Finding.{row_with};
+ghost use Rattle.wasm_code.specs.Dense.{cell, dense_row};
 
+use crate::dense::{BYTE_ROWS, FC_ROWS, FD_ROWS};
 use crate::immediate::ValType;
+use crate::rows::ROWS;
 
 /// What names an instruction in the bytes.
 #[derive(Clone, Copy, Debug, PartialEq, Eq)]
@@ -23,8 +26,30 @@ pub enum Kind {
     Nothing,
     /// An index.
     Index,
+    /// Two indexes.
+    Pair,
+    /// A place in a memory.
+    Mem,
+    /// A place in a memory and a lane.
+    MemLane,
+    /// A lane.
+    Lane,
     /// A constant of type i32.
     I32,
+    /// A constant of type i64.
+    I64,
+    /// A constant of type f32.
+    F32,
+    /// A constant of type f64.
+    F64,
+    /// A constant of type v128.
+    V128,
+    /// Sixteen lanes.
+    Shuffle,
+    /// The type of what a reference refers to.
+    Heap,
+    /// One type of a value.
+    Val,
 }
 
 /// What decides the type of an instruction's result.
@@ -48,7 +73,8 @@ pub enum ResultKind {
     Element,
     /// The type of the first operand.
     First,
-    /// The type that the immediate is.
+    /// The type that the immediate names: a function reference for `Func`, an external one for `Extern`, or the value
+    /// type itself.
     Immediate,
 }
 
@@ -59,69 +85,22 @@ pub struct RowInfo {
     pub operands: Option<u8>,
     /// What decides the type of its result.
     pub result: ResultKind,
-    /// By how much the colour rises after it.
+    /// By how much the colour rises after it while the meaning is preserved. For `call`, whose function decides, it is 0.
     pub change: u8,
 }
 
-/// A row of the table.
+/// A row of the table; its number is its place there.
 #[derive(Clone, Copy, Debug, PartialEq, Eq)]
 pub struct Row {
-    pub number: u16,
     pub opcode: Opcode,
     pub kind: Kind,
     pub info: RowInfo,
 }
 
-const I32: ResultKind = ResultKind::Fixed(ValType::I32);
-
-const LOCAL: ResultKind = ResultKind::Local;
-
-const NOTHING: ResultKind = ResultKind::Nothing;
-
-macro_rules! row {
-    ($row:literal, $opcode:ident $number:literal, $kind:ident, $operands:expr, $result:expr, $change:literal) => {
-        Row {
-            number: $row,
-            opcode: Opcode::$opcode($number),
-            kind: Kind::$kind,
-            info: RowInfo {
-                operands: $operands,
-                result: $result,
-                change: $change,
-            },
-        }
-    };
-}
-
-/// The rows, by ascending number.
-pub const ROWS: [Row; 5] = [
-    row!(2, Byte 0x1a, Nothing, Some(1), NOTHING, 1), // drop
-    row!(4, Byte 0x20, Index, Some(0), LOCAL, 0), // local.get
-    row!(5, Byte 0x21, Index, Some(1), NOTHING, 1), // local.set
-    row!(36, Byte 0x41, I32, Some(0), I32, 0), // i32.const
-    row!(77, Byte 0x6a, Nothing, Some(2), I32, 0), // i32.add
-];
-
-fn find_number(rows: &[Row], number: u16) -> Option<Row>
-    ensures { result ≡ row_in rows.now number }
+fn row_in(rows: &[Row], number: usize) -> Option<Row>
+    ensures { result ≡ slice_get rows.now number }
 {
-    for row in rows {
-        if row.number == number {
-            return Some(*row);
-        }
-    }
-    None
-}
-
-fn find_opcode(rows: &[Row], op: Opcode) -> Option<u16>
-    ensures { result ≡ number_with rows.now op }
-{
-    for row in rows {
-        if row.opcode == op {
-            return Some(row.number);
-        }
-    }
-    None
+    rows.get(number).copied()
 }
 
 /// The row with that number, or none.
@@ -129,22 +108,43 @@ fn find_opcode(rows: &[Row], op: Opcode) -> Option<u16>
 pub fn find_row(number: u16) -> Option<Row>
     ensures { result ≡ row_at number }
 {
-    find_number(&ROWS, number)
+    row_in(&ROWS, number as usize)
 }
 
-/// The row that has the opcode, or none.
-#[tactic(auto, using(crate::proofs::TableLemmas::same_rows), unfolding(crate::specs::Finding::row_with))]
-pub fn row_by_opcode(op: Opcode) -> Option<Row>
-    ensures gives { result ≡ row_with op }
-    ensures in_table { IfSome result (λ row. row_at row.number ≡ Some row) }
+fn cell_at(cells: &[u16], n: u32) -> Option<u16>
+    ensures { result ≡ cell cells.now n }
 {
-    match find_opcode(&ROWS, op) {
-        Some(number) => find_row(number),
-        None => None,
+    match cells.get(n as usize) {
+        Some(row) if *row != 65535 => Some(*row),
+        _ => None,
     }
 }
 
+#[tactic(auto, unfolding(crate::specs::Dense::dense_row))]
+fn number_of(op: Opcode) -> Option<u16>
+    ensures { result ≡ dense_row op }
+{
+    match op {
+        Opcode::Byte(b) => cell_at(&BYTE_ROWS, b as u32),
+        Opcode::Fc(n) => cell_at(&FC_ROWS, n),
+        Opcode::Fd(n) => cell_at(&FD_ROWS, n),
+    }
+}
+
+/// The row that has the opcode and its number, or none.
+pub fn row_by_opcode(op: Opcode) -> Option<(u16, Row)>
+    ensures gives { result ≡ row_with op }
+    ensures in_table { IfSome result (λ p. row_at p.0 ≡ Some p.1) }
+{
+    let number = number_of(op)?;
+    let row = find_row(number)?;
+    Some((number, row))
+}
+
 /// What the table says of the row numbered `row`, or none where the table has no such row.
+///
+/// Rows are numbered from 0: one-byte opcodes ascending, then those behind FC, then those behind FD (WebAssembly Core
+/// Specification 3.0, section 5.4, Instructions). Row 445 is the select with one value type.
 #[tactic(auto, unfolding(crate::specs::Table::info_of))]
 pub fn row_info(row: u16) -> Option<RowInfo>
     ensures { result ≡ info_of row }
@@ -157,5 +157,5 @@ pub fn row_of(op: Opcode) -> Option<u16>
     ensures some { IfSome result (λ r. HasOpcode r op) }
     ensures only { (r : ℕ) → HasOpcode r op → result ≡ Some r }
 {
-    find_opcode(&ROWS, op)
+    number_of(op)
 }

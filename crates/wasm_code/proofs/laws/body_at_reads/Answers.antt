@@ -6,3 +6,9 @@ returns-clause-spelled c start text xs s = lemmas.body_spelled start text xs s
 
 pub returns-clause-faulty : goal.returns-clause-faulty
 returns-clause-faulty c start text kind offset s other = lemmas.body_faulty start text kind offset s other
+
+pub returns-clause-answers : goal.returns-clause-answers
+returns-clause-answers c start text xs e = lemmas.body_answers start text xs e
+
+pub returns-clause-faults : goal.returns-clause-faults
+returns-clause-faults c start text kind offset e = lemmas.body_faults start text kind offset e

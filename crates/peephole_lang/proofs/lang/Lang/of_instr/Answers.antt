@@ -1,6 +1,5 @@
-use Rattle.std.proofs.Common.{length, ◌∙◌, ap, arith}
-use Rattle.peephole_lang.specs.Making.{payload_of_imm}
-use Rattle.peephole_lang.proofs.MakingLemmas.{takes_its_children, row_small}
+use Rattle.std.proofs.Common.{length, ap, arith}
+use Rattle.peephole_lang.proofs.MakingLemmas.{row_small, of_some, of_none}
 use Rattle.peephole_lang.proofs.lang.Lang.of_instr.Goals as goal
 
 pub overflow_add-row : goal.overflow_add-row
@@ -9,10 +8,10 @@ overflow_add-row c =
     let same = c.row-row.ensures.row in
     omega (arith, small, same)
 
+pub returns-in-Some-clause-complete : goal.returns-in-Some-clause-complete
+returns-in-Some-clause-complete c =
+    of_some c.args.instr.now _ c.row-row.result (length c.deref.result.now) (length c.args.children.items) c.in-Some.payload c.imm.result c.row-row.ensures.instruction c.row-row.ensures.row c.imm.ensures c.in-Some.ensures
+    (ap length c.deref.ensures.value) c.make.ensures.complete
+
 pub returns-clause-complete : goal.returns-clause-complete
-returns-clause-complete c =
-    let row = c.row-row.ensures.row in
-    let payload = c.payload_of_immediate-payload.ensures ∙ ap payload_of_imm c.imm.ensures in
-    let children = c.deref.ensures.value in
-    let known = rw (row, payload, children) at c.make.ensures.complete in
-    known ∙ takes_its_children c.args.instr.now (length c.args.children.items) c.row-row.ensures.instruction
+returns-clause-complete c = of_none c.args.instr.now (length c.args.children.items) c.imm.result c.row-row.ensures.instruction c.imm.ensures c.in-None.ensures
