@@ -1,14 +1,28 @@
--- The types' names: those of the standard, and `empty` for no value (this project).
-use Rattle.std.specs.Prelude.{ℕ, List, codes}
-use Rattle.mutate_base.specs.declared.module.PrimitiveTypeInfo.{PrimitiveTypeInfo}
-use Rattle.mutate_base.specs.declared.module.PrimitiveTypeInfo.TheVariants.{I32, I64, F32, F64, V128, FuncRef, ExternRef, Empty}
+-- What is known of a module, as lists: its bytes, and the types of its globals, functions, tables and memories (this project).
+use Rattle.std.specs.Prelude.{ℕ, List, [], Option, Some, None, slice_get}
+use Rattle.mutate_base.specs.declared.types.PrimitiveTypeInfo.{PrimitiveTypeInfo}
+use Rattle.mutate_base.specs.declared.types.TypeInfo.{TypeInfo}
+use Rattle.mutate_base.specs.declared.types.TableType.{TableType}
+use Rattle.mutate_base.specs.declared.types.MemoryType.{MemoryType}
 
-abbrev pub type_name : PrimitiveTypeInfo → List ℕ
-type_name I32 = codes "i32"
-type_name I64 = codes "i64"
-type_name F32 = codes "f32"
-type_name F64 = codes "f64"
-type_name V128 = codes "v128"
-type_name FuncRef = codes "funcref"
-type_name ExternRef = codes "externref"
-type_name Empty = codes "empty"
+pub record Module : Type 0 where
+  pub input : List ℕ
+  pub globals : List PrimitiveTypeInfo
+  pub types : List TypeInfo
+  -- of each function the place of its type
+  pub functions : List ℕ
+  pub tables : List TableType
+  pub memories : List MemoryType
+
+-- a module of which nothing is known but its bytes
+abbrev pub module_of : List ℕ → Module
+module_of input = record { input = input; globals = []; types = []; functions = []; tables = []; memories = [] }
+
+-- the declared type at this place, where there is a place
+abbrev pub type_at : Module → Option ℕ → Option TypeInfo
+type_at m None = None
+type_at m (Some place) = slice_get m.types place
+
+-- the type of the function with this index
+abbrev pub function_type : Module → ℕ → Option TypeInfo
+function_type m index = type_at m (slice_get m.functions index)

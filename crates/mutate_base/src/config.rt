@@ -1,4 +1,6 @@
-ghost use Rattle.std.specs.Prelude.{◌≡◌, false, is_some, IsTrue};
+ghost use Rattle.std.specs.Prelude.{◌≡◌, false, is_some, IsSome, IsTrue};
+ghost use Rattle.std.specs.Borrow.{sem};
+ghost use Rattle.std.specs.Option.Follows.{option_follows_value};
 
 use crate::module::ModuleInfo;
 use std::marker::Model;
@@ -24,6 +26,8 @@ impl<'a, R> Model for WasmMutate<'a, R> {
 }
 
 impl<'a, R: Drop> WasmMutate<'a, R> {
+    ghost use Rattle.mutate_base.specs.Lending.{LendsGenerator};
+
     /// A configuration that doesn't preserve the meaning, and isn't set up.
     pub fn new() -> WasmMutate<'a, R>
         ensures { result ≡ record { preserving = false; info = None; generator = None } }
@@ -70,5 +74,26 @@ impl<'a, R: Drop> WasmMutate<'a, R> {
         ensures { self.now.info ≡ Some result.now }
     {
         self.info.as_ref().unwrap()
+    }
+
+    /// The generator, to draw from. Nothing else of the configuration changes. Condition: set up.
+    pub fn rng(&mut self) -> &mut R
+        requires { IsTrue (is_some self.old.info) }
+        ensures* lends { sem 𝓛 (LendsGenerator R.row self.entry result) }
+        ensures value { self.old.generator ≡ Some result.now }
+    {
+        content_mut(&mut self.generator)
+    }
+}
+
+// What an `Option` holds, to write to. Condition: it holds something.
+fn content_mut<T>(slot: &mut Option<T>) -> &mut T
+    requires { IsSome slot.old }
+    ensures* lends { sem 𝓛 (option_follows_value T.row slot.entry result) }
+    ensures value { slot.old ≡ Some result.now }
+{
+    match slot {
+        Some(content) => content,
+        None => unreachable!(),
     }
 }

@@ -1,5 +1,5 @@
 ghost use Rattle.std.specs.Prelude.{◌≡◌};
-ghost use Rattle.mutate_base.specs.Error.{error_name, term_error_name};
+ghost use Rattle.mutate_base.specs.Error.{error_name};
 
 use std::alloc::{AllocError, AllocFailed};
 use thiserror::Error as ThisError;
@@ -14,6 +14,30 @@ pub enum Error {
     /// No mutation of the given place writes anything.
     #[error("NoMutationsApplicable")]
     NoMutationsApplicable,
+    /// The module has no function with this index, or no type for it.
+    #[error("UnknownFunction")]
+    UnknownFunction(u32),
+    /// The function has no local with this index.
+    #[error("UnknownLocal")]
+    UnknownLocal(u32),
+    /// The module has no global with this index.
+    #[error("UnknownGlobal")]
+    UnknownGlobal(u32),
+    /// The module has no table with this index.
+    #[error("UnknownTable")]
+    UnknownTable(u32),
+    /// The module has no memory with this index.
+    #[error("UnknownMemory")]
+    UnknownMemory(u32),
+    /// The type of an operand that decides the result's isn't known.
+    #[error("UnknownOperand")]
+    UnknownOperand,
+    /// What is to be unfolded is no constant of the type that is asked for.
+    #[error("CannotUnfold")]
+    CannotUnfold,
+    /// A requested global would need an index of more than 32 bits.
+    #[error("GlobalIndex")]
+    GlobalIndex,
     /// A place or a colour would need more than 32 bits.
     #[error("TooLarge")]
     TooLarge,
@@ -27,6 +51,14 @@ impl Error {
         match self {
             Error::Memory => "Memory",
             Error::NoMutationsApplicable => "NoMutationsApplicable",
+            Error::UnknownFunction(_) => "UnknownFunction",
+            Error::UnknownLocal(_) => "UnknownLocal",
+            Error::UnknownGlobal(_) => "UnknownGlobal",
+            Error::UnknownTable(_) => "UnknownTable",
+            Error::UnknownMemory(_) => "UnknownMemory",
+            Error::UnknownOperand => "UnknownOperand",
+            Error::CannotUnfold => "CannotUnfold",
+            Error::GlobalIndex => "GlobalIndex",
             Error::TooLarge => "TooLarge",
         }
     }
@@ -62,40 +94,5 @@ impl From<SinkError> for Error {
 
     fn from(_refused: SinkError) -> Error {
         Error::Memory
-    }
-}
-
-/// Why a text with given children names no node. It displays as its name.
-#[derive(Clone, Copy, Debug, PartialEq, Eq, ThisError)]
-pub enum TermError {
-    /// No node has this text.
-    #[error("InvalidToken")]
-    InvalidToken,
-    /// Children are given to a node that has none.
-    #[error("ExpectedZeroChildren")]
-    ExpectedZeroChildren,
-    /// A node of one child is given this other number of children.
-    #[error("ExpectedOneChild")]
-    ExpectedOneChild(usize),
-    /// A node of this number of children is given another number.
-    #[error("ExpectedChildren")]
-    ExpectedChildren(usize),
-    /// A number isn't written in decimal digits, or is out of its type's range.
-    #[error("BadInteger")]
-    BadInteger,
-}
-
-impl TermError {
-    /// The variant's name, as `InvalidToken`.
-    pub fn name(&self) -> &'static str
-        ensures { result.now ≡ term_error_name self.now }
-    {
-        match self {
-            TermError::InvalidToken => "InvalidToken",
-            TermError::ExpectedZeroChildren => "ExpectedZeroChildren",
-            TermError::ExpectedOneChild(_) => "ExpectedOneChild",
-            TermError::ExpectedChildren(_) => "ExpectedChildren",
-            TermError::BadInteger => "BadInteger",
-        }
     }
 }

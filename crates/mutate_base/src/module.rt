@@ -1,68 +1,86 @@
-ghost use Rattle.std.specs.Prelude.{◌≡◌, ◌≢◌, IfSome, IfNone};
-ghost use Rattle.mutate_base.specs.Module.{type_name};
-ghost use Rattle.mutate_base.specs.declared.module.PrimitiveTypeInfo.{PrimitiveTypeInfo};
+ghost use Rattle.std.specs.Prelude.{◌≡◌, length, option_copied};
+ghost use Rattle.mutate_base.specs.Module.{module_of, function_type};
 
-/// A value type, or `Empty` for no value.
-#[derive(Clone, Copy, Debug, PartialEq, Eq)]
-pub enum PrimitiveTypeInfo {
-    I32,
-    I64,
-    F32,
-    F64,
-    V128,
-    FuncRef,
-    ExternRef,
-    Empty,
-}
+use crate::types::{MemoryType, PrimitiveTypeInfo, TableType, TypeInfo};
+use std::alloc::{AllocError, Global};
+use std::marker::Model;
 
-impl PrimitiveTypeInfo {
-    /// The type's name: `i32`, `i64`, `f32`, `f64`, `v128`, `funcref`, `externref` or `empty`.
-    pub fn name(&self) -> &'static str
-        ensures { result.now ≡ type_name self.now }
-    {
-        match self {
-            PrimitiveTypeInfo::I32 => "i32",
-            PrimitiveTypeInfo::I64 => "i64",
-            PrimitiveTypeInfo::F32 => "f32",
-            PrimitiveTypeInfo::F64 => "f64",
-            PrimitiveTypeInfo::V128 => "v128",
-            PrimitiveTypeInfo::FuncRef => "funcref",
-            PrimitiveTypeInfo::ExternRef => "externref",
-            PrimitiveTypeInfo::Empty => "empty",
-        }
-    }
-
-    /// The type of this name, or None where no type has it.
-    pub fn from_name(name: &str) -> Option<PrimitiveTypeInfo>
-        ensures some { IfSome result (λ t. name.now ≡ type_name t) }
-        ensures none { IfNone result ((t : PrimitiveTypeInfo) → name.now ≢ type_name t) }
-    {
-        match name {
-            "i32" => Some(PrimitiveTypeInfo::I32),
-            "i64" => Some(PrimitiveTypeInfo::I64),
-            "f32" => Some(PrimitiveTypeInfo::F32),
-            "f64" => Some(PrimitiveTypeInfo::F64),
-            "v128" => Some(PrimitiveTypeInfo::V128),
-            "funcref" => Some(PrimitiveTypeInfo::FuncRef),
-            "externref" => Some(PrimitiveTypeInfo::ExternRef),
-            "empty" => Some(PrimitiveTypeInfo::Empty),
-            _ => None,
-        }
-    }
-}
-
-/// What is known of the module that a body comes from.
-#[derive(Clone, Copy, Debug)]
+/// What is known of the module that a body comes from. A contract sees the lists.
+#[derive(Debug, Drop)]
 pub struct ModuleInfo<'a> {
     /// The module's bytes, of which the bodies' offsets count.
     pub input_wasm: &'a [u8],
+    /// The types of the globals.
+    pub global_types: Vec<PrimitiveTypeInfo>,
+    /// The types that it declares.
+    pub types_map: Vec<TypeInfo>,
+    /// Of each function the place of its type.
+    pub function_map: Vec<u32>,
+    /// The tables.
+    pub table_types: Vec<TableType>,
+    /// The memories.
+    pub memory_types: Vec<MemoryType>,
+}
+
+impl<'a> Model for ModuleInfo<'a> {
+    ghost use Rattle.mutate_base.specs.Module.{Module};
+
+    ghost Value = { Module };
+
+    ghost view = { λ m. record {
+      input = m.input_wasm.now;
+      globals = m.global_types.items;
+      types = m.types_map.items;
+      functions = m.function_map.items;
+      tables = m.table_types.items;
+      memories = m.memory_types.items;
+    } };
 }
 
 impl<'a> ModuleInfo<'a> {
     /// A module of which nothing is known but its bytes.
-    pub fn new(input_wasm: &'a [u8]) -> ModuleInfo<'a>
-        ensures { result.input_wasm ≡ input_wasm.entry }
+    pub fn new(alloc: Global, input_wasm: &'a [u8]) -> ModuleInfo<'a>
+        ensures { result ≡ module_of input_wasm.now }
     {
-        ModuleInfo { input_wasm }
+        ModuleInfo {
+            input_wasm,
+            global_types: Vec::new(alloc),
+            types_map: Vec::new(alloc),
+            function_map: Vec::new(alloc),
+            table_types: Vec::new(alloc),
+            memory_types: Vec::new(alloc),
+        }
+    }
+
+    /// The type of the function with this index, or None where the function or its type isn't there.
+    pub fn get_functype_idx(&self, idx: u32) -> Option<&TypeInfo>
+        ensures { option_copied result ≡ function_type self.now idx }
+    {
+        let place = self.function_map.get(idx as usize)?;
+        self.types_map.get(*place as usize)
+    }
+
+    /// How many globals there are.
+    pub fn get_global_count(&self) -> usize
+        ensures { result ≡ length self.now.globals }
+    {
+        self.global_types.len()
+    }
+}
+
+impl<'a> Clone for ModuleInfo<'a> {
+    ghost use Rattle.std.specs.Prelude.{◌≡◌};
+
+    ghost is_clone = { λ m n. n ≡ m };
+
+    fn clone(&self) -> Result<ModuleInfo<'a>, AllocError> {
+        Ok(ModuleInfo {
+            input_wasm: self.input_wasm,
+            global_types: self.global_types.clone()?,
+            types_map: self.types_map.clone()?,
+            function_map: self.function_map.clone()?,
+            table_types: self.table_types.clone()?,
+            memory_types: self.memory_types.clone()?,
+        })
     }
 }

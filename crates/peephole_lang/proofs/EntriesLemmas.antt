@@ -2,8 +2,8 @@
 use Rattle.std.proofs.Common.{◌≡◌, ℕ, Bool, true, false, cond, List, [], ◌∷◌, Option, Some, None, Result, Ok, Err, pos, ℤ, refl, sym, ap, ◌∙◌, inl, inr}
 use Rattle.std.specs.Option.{option_map, ok_or}
 use Rattle.std.proofs.lemmas.Bool.{ne_eqb, cases_eq}
-use Rattle.mutate_base.specs.declared.error.TermError.{TermError}
-use Rattle.mutate_base.specs.declared.error.TermError.TheVariants.{BadInteger}
+use Rattle.mutate_base.specs.declared.term_error.TermError.{TermError}
+use Rattle.mutate_base.specs.declared.term_error.TermError.TheVariants.{BadInteger}
 use Rattle.peephole_lang.specs.Lang.{Payload}
 use Rattle.peephole_lang.specs.Lang.payload as payload
 use Rattle.peephole_lang.specs.Making.{is_nothing_0, is_nothing_1, is_nothing_2, is_index_0, is_index_1, is_i32_0, fits}

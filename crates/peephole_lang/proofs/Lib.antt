@@ -1,6 +1,7 @@
 pub mod LangLemmas
 pub mod EntriesLemmas
 pub mod MakingLemmas
-pub mod NumberLemmas
-pub mod ReadBackLemmas
 pub mod TextLemmas
+pub mod Relends
+pub mod NodeLemmas
+pub mod FitLemmas

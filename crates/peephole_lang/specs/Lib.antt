@@ -1,6 +1,14 @@
 pub mod Term
 pub mod Lang
 pub mod Making
-pub mod Number
 pub mod Text
 pub mod Entries
+pub mod Compared
+pub mod Language
+pub mod Written
+pub mod WithIds
+pub mod WithIdsLemmas
+pub mod Node
+pub mod Lending
+pub mod Children
+pub mod ReadBackLemmas

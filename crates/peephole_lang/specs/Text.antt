@@ -3,11 +3,11 @@
 use Rattle.std.specs.Prelude.{◌≡◌, ℕ, ◌==◌, List, [], ◌∷◌, ◌++◌, length, Option, Some, None, Result, Ok, Err, codes, if◌then◌else◌}
 use Rattle.std.specs.Fmt.{decimal, signed_decimal}
 use Rattle.std.specs.Option.{option_map, ok_or}
-use Rattle.mutate_base.specs.declared.error.TermError.{TermError}
-use Rattle.mutate_base.specs.declared.error.TermError.TheVariants.{InvalidToken, ExpectedZeroChildren, ExpectedOneChild, ExpectedChildren, BadInteger}
+use Rattle.mutate_base.specs.declared.term_error.TermError.{TermError}
+use Rattle.mutate_base.specs.declared.term_error.TermError.TheVariants.{InvalidToken, ExpectedZeroChildren, ExpectedOneChild, ExpectedChildren, BadInteger}
 use Rattle.peephole_lang.specs.Lang.{Payload, Head, place_of, payload_of, head_of, ids_of}
 use Rattle.peephole_lang.specs.Lang.payload as payload
-use Rattle.peephole_lang.specs.Number.{read_unsigned, read_signed}
+use Rattle.mutate_base.specs.Number.{read_unsigned, read_signed}
 use Rattle.peephole_lang.specs.declared.id.Id.{Id}
 use Rattle.peephole_lang.specs.declared.lang.Lang.{Lang}
 use Rattle.peephole_lang.specs.declared.text.PayloadKind.{PayloadKind}

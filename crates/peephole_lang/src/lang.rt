@@ -1,15 +1,14 @@
 //! The nodes of peephole terms, seen as place, payload and children.
 ghost use Rattle.std.specs.Prelude.{◌≡◌, length};
-ghost use Rattle.peephole_lang.specs.Term.{numbers_of};
-ghost use Rattle.peephole_lang.specs.Lang.{place_of, payload_of, ids_of, count_of, head_of, children_of, imm_of, instr_of};
+ghost use Rattle.wasm_code.specs.Instruction.{InRange};
+ghost use Rattle.peephole_lang.specs.Lang.{place_of, payload_of, ids_of, count_of, imm_of, instr_of};
 
 use crate::id::Id;
-use crate::language::Language;
 use std::alloc::AllocError;
 use wasm_code::{Imm, Instr};
 
 /// What a node says besides its variant and its children.
-#[derive(Clone, Copy, Debug, PartialEq, Eq)]
+#[derive(Clone, Copy, Debug, PartialEq, Eq, PartialOrd, Ord, Hash)]
 pub enum Payload {
     Nothing,
     /// An index, as of a local.
@@ -45,13 +44,14 @@ pub enum Lang {
 
 impl Payload {
     // The immediate that stands for the payload in an instruction.
-    fn imm(&self) -> Imm
-        ensures { result ≡ imm_of self.now }
+    pub(crate) fn imm(self) -> Imm
+        ensures value { result ≡ imm_of self }
+        ensures in_range { InRange result }
     {
         match self {
             Payload::Nothing => Imm::Nothing,
-            Payload::Index(index) => Imm::Index(*index),
-            Payload::I32(number) => Imm::I32(*number),
+            Payload::Index(index) => Imm::Index(index),
+            Payload::I32(number) => Imm::I32(number),
         }
     }
 }
@@ -109,18 +109,6 @@ impl Lang {
             return None;
         }
         Instr::new(place - 12, self.payload().imm())
-    }
-}
-
-impl Language for Lang {
-    type Head = Head;
-
-    ghost head = { head_of };
-
-    ghost children = { children_of };
-
-    fn children(&self) -> &[Id] {
-        self.children()
     }
 }
 

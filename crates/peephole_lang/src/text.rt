@@ -7,8 +7,8 @@ ghost use Rattle.peephole_lang.specs.Entries.{variant_of, found};
 use crate::id::Id;
 use crate::lang::{Lang, Payload};
 use crate::making::make;
-use crate::number::{read_i32, read_u32};
 use mutate_base::TermError;
+use mutate_base::number::{read_i32, read_u32};
 use std::fmt;
 
 impl Lang {

@@ -8,7 +8,7 @@ use Rattle.std.proofs.lemmas.List.{reverse-append}
 use Rattle.std.proofs.lemmas.Option.{slice_get-get_or}
 use Rattle.wasm_code.specs.declared.operator.Operator.{Operator}
 use Rattle.wasm_code.specs.Instruction.{Instruction}
-use Rattle.mutate_base.specs.declared.module.ModuleInfo.{ModuleInfo}
+use Rattle.mutate_base.specs.Module.{Module}
 use Rattle.peephole_terms.specs.declared.shape.Shape.{Shape}
 use Rattle.peephole_terms.specs.declared.dfg.StackEntry.{StackEntry}
 use Rattle.peephole_terms.specs.Shape.{block_of}
@@ -96,12 +96,12 @@ get_some [] i l = absurd (omega arith)
 get_some (x ∷ xs) zero l = (x, refl)
 get_some (x ∷ xs) (suc i) l = get_some xs i (omega arith)
 
-is_own : (info : ModuleInfo) (i : Option Instruction) → is_operator (option_map (shape_of info) i) ≡ true → is_some i ≡ true
+is_own : (info : Module) (i : Option Instruction) → is_operator (option_map (shape_of info) i) ≡ true → is_some i ≡ true
 is_own info None h = h
 is_own info (Some i) h = refl
 
 -- the operator has one own entry
-only_entry : (info : ModuleInfo) (keeping : Bool) (first : ℕ) (operators : List (Operator × ℕ)) (entries : List StackEntry) (parents : List (Option ℕ)) (look : ℕ → Option ℕ) → IsGraphOf info keeping first operators entries parents look →
+only_entry : (info : Module) (keeping : Bool) (first : ℕ) (operators : List (Operator × ℕ)) (entries : List StackEntry) (parents : List (Option ℕ)) (look : ℕ → Option ℕ) → IsGraphOf info keeping first operators entries parents look →
     (at i r : ℕ) → look at ≡ Some i → r < length (nodes_of info first entries) → is_operator (entry_at (nodes_of info first entries) r).shape ≡ true → first + (entry_at (nodes_of info first entries) r).number ≡ at → i ≡ r
 only_entry info keeping first operators entries parents look h at i r k l o n =
     let m = nodes_length info first entries in
@@ -118,7 +118,7 @@ only_entry info keeping first operators entries parents look h at i r k l o n =
     let both : ◌≡◌ {A = Option ℕ} (Some i) (Some r) = sym k ∙ found in
     cc
 
-pub own_replaced : (info : ModuleInfo) (keeping : Bool) (first : ℕ) (operators : List (Operator × ℕ)) (entries : List StackEntry) (parents : List (Option ℕ)) (look : ℕ → Option ℕ) (at i : ℕ) (code : List Instruction) →
+pub own_replaced : (info : Module) (keeping : Bool) (first : ℕ) (operators : List (Operator × ℕ)) (entries : List StackEntry) (parents : List (Option ℕ)) (look : ℕ → Option ℕ) (at i : ℕ) (code : List Instruction) →
     IsGraphOf info keeping first operators entries parents look → look at ≡ Some i → code ≡ instructions_of (entry_tree info first entries i) →
     replaced first at code (forest (block_of info operators)) ≡ instructions (forest (block_of info operators))
 own_replaced info keeping first operators entries parents look at i code h k e =
@@ -132,7 +132,7 @@ own_replaced info keeping first operators entries parents look at i code h k e =
 length_range : (os : List (Operator × ℕ)) (start end : ℕ) → start ≤ end → end ≤ length os → length (slice_range os start end) ≡ end - start
 length_range os start end l m = grind (arith, common_steps)
 
-has_entry : (info : ModuleInfo) (keeping : Bool) (os : List (Operator × ℕ)) (start end at : ℕ) (entries : List StackEntry) (parents : List (Option ℕ)) (look : ℕ → Option ℕ) →
+has_entry : (info : Module) (keeping : Bool) (os : List (Operator × ℕ)) (start end at : ℕ) (entries : List StackEntry) (parents : List (Option ℕ)) (look : ℕ → Option ℕ) →
     IsGraphOf info keeping start (slice_range os start end) entries parents look → start ≤ at → at < end → end ≤ length os → IsSome (look at)
 has_entry info keeping os start end at entries parents look h l m w =
     let n : length (slice_range os start end) ≡ end - start = length_range os start end (omega arith) w in
@@ -140,7 +140,7 @@ has_entry info keeping os start end at entries parents look h l m w =
     ap (λ k. is_some (look k)) (sym e) ∙ h.keys (at - start) (omega arith)
 
 -- the same of a graph under a configuration
-pub has_entry_under : (under : Option ModuleInfo) (keeping : Bool) (os : List (Operator × ℕ)) (range : BlockRange) (at : ℕ) (graph : MiniDFG) → IsTrue (is_some under) →
+pub has_entry_under : (under : Option Module) (keeping : Bool) (os : List (Operator × ℕ)) (range : BlockRange) (at : ℕ) (graph : MiniDFG) → IsTrue (is_some under) →
     IfSome under (λ info. IsGraphOf info keeping range.start (slice_range os range.start range.end) (entries_of graph) (parents_of graph) (look_of graph)) → range.start ≤ at → at < range.end → range.end ≤ length os → IsSome (look_of graph at)
 has_entry_under None keeping os range at graph i h l m w = absurd (cc i)
 has_entry_under (Some info) keeping os range at graph i h l m w = has_entry info keeping os range.start range.end at (entries_of graph) (parents_of graph) (look_of graph) h l m w

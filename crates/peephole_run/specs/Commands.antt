@@ -5,7 +5,7 @@ use Rattle.std.specs.Str.{bytes_eq}
 use Rattle.std.specs.Result.{result_ok}
 use Rattle.hex.specs.Hex.{decode_of, encode_lower}
 use Rattle.wasm_code.specs.declared.fault.ReadKind.{ReadKind}
-use Rattle.mutate_base.specs.declared.error.TermError.{TermError}
+use Rattle.mutate_base.specs.declared.term_error.TermError.{TermError}
 use Rattle.mutate_base.specs.Error.{error_name}
 use Rattle.peephole_lang.specs.declared.lang.Head.{Head}
 use Rattle.peephole_lang.specs.Text.{reads}

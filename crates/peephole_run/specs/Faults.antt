@@ -1,7 +1,7 @@
 -- When a call on a device failed, and the names of the faults (this project's).
 use Rattle.std.specs.Prelude.{ℕ, Bool, true, ◌&&◌, ◌==◌, nat_lt, ◌<◌, Ok, Err, List, length, Option, codes}
 use Rattle.wasm_code.specs.Fault.{kind_name}
-use Rattle.mutate_base.specs.Error.{term_error_name}
+use Rattle.mutate_base.specs.TermError.{term_error_name}
 use Rattle.peephole_run.specs.declared.fault.Fault.{Fault}
 use Rattle.peephole_run.specs.declared.fault.Fault.TheVariants as fault
 use Rattle.peephole_run.specs.declared.fault.RunError.{RunError}

@@ -1,18 +1,17 @@
 -- What the command `write` makes of a body (this project's rules).
 use Rattle.std.specs.Prelude.{◌≡◌, IfSome, ℕ, ◌+◌, ◌-◌, nat_lt, Bool, false, List, [], ◌∷◌, length, reverse, slice_range, if◌then◌else◌}
 use Rattle.wasm_code.specs.declared.operator.Operator.{Operator}
-use Rattle.wasm_code.specs.declared.operator.Operator.TheVariants.{Instr}
 use Rattle.wasm_code.specs.Instruction.{Instruction}
 use Rattle.mutate_base.specs.declared.error.Error.TheVariants.{TooLarge}
 use Rattle.mutate_base.specs.Config.{Config}
+use Rattle.mutate_base.specs.Module.{Module, module_of}
 use Rattle.peephole_lang.specs.Term.{Node, tree_at}
-use Rattle.peephole_lang.specs.Lang.{has_node}
 use Rattle.peephole_lang.specs.declared.lang.Head.{Head}
 use Rattle.peephole_terms.specs.Block.{BlockRange}
 use Rattle.peephole_terms.specs.declared.shape.Shape.{Shape}
 use Rattle.peephole_terms.specs.declared.shape.Judged.{Judged}
 use Rattle.peephole_terms.specs.declared.shape.Judged.TheVariants.{Fits, Unfit}
-use Rattle.peephole_terms.specs.Shape.{judge_with_node}
+use Rattle.peephole_terms.specs.Shape.{judge}
 use Rattle.peephole_terms.specs.Graph.{lacking}
 use Rattle.peephole_terms.specs.Forest.{forest}
 use Rattle.peephole_terms.specs.Tree.{instructions}
@@ -39,15 +38,10 @@ abbrev pub with_operator : List Shape → Judged → (List Shape → Growth) →
 with_operator block Unfit more = no_graph
 with_operator block (Fits s) more = if has_room block s then more (s ∷ block) else too_large
 
--- what an operator is to a graph, in a module of which nothing but the bytes is known
-abbrev pub judged : Operator → Judged
-judged (Instr i) = judge_with_node (has_node i.row) i
-judged _ = Unfit
-
 -- the operators behind a block, one after another; the first at fault decides
-abbrev pub growth : List Shape → List (Operator × ℕ) → Growth
-growth block [] = grown block
-growth block (o ∷ os) = with_operator block (judged o.0) (λ more. growth more os)
+abbrev pub growth : Module → List Shape → List (Operator × ℕ) → Growth
+growth info block [] = grown block
+growth info block (o ∷ os) = with_operator block (judge info o.0) (λ more. growth info more os)
 
 -- The block's instructions: its trees in postfix, in which the term stands for the tree of the operator with the number `point`; without nodes the trees alone. The block's first operator has the number `first`.
 abbrev pub block_code : (first point : ℕ) → List Shape → List (Node Head) → List Instruction
@@ -59,10 +53,10 @@ outcome_of_growth body point range nodes no_graph = outcome.NoGraph
 outcome_of_growth body point range nodes too_large = outcome.Refused TooLarge
 outcome_of_growth body point range nodes (grown block) = outcome.Written (written_body body.bytes body.operators range (block_code range.start point block nodes))
 
--- what comes of writing the body with the nodes in place of the tree of the operator `point`
+-- what comes of writing the body with the nodes in place of the tree of the operator `point`, in a module of which nothing is known but these bytes
 abbrev pub outcome_of : Contents → ℕ → BlockRange → List (Node Head) → Outcome
 outcome_of body point range nodes =
-    outcome_of_growth body point range nodes (growth [] (slice_range body.operators range.start range.end))
+    outcome_of_growth body point range nodes (growth (module_of body.bytes) [] (slice_range body.operators range.start range.end))
 
 -- a graph is the block's under the configuration
 abbrev pub IsGraphIn : {R : Type 0} → Config R → Contents → BlockRange → MiniDFG → Type 0

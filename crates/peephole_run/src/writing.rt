@@ -33,8 +33,7 @@ fn refused(error: Error) -> Result<Outcome, Fault>
 {
     match error {
         Error::Memory => Err(Fault::Memory),
-        Error::NoMutationsApplicable => Ok(Outcome::Refused(error)),
-        Error::TooLarge => Ok(Outcome::Refused(error)),
+        _ => Ok(Outcome::Refused(error)),
     }
 }
 
@@ -116,7 +115,10 @@ pub fn write_body(
     ensures { MatchResult result (λ outcome. outcome_of body.now point block.now (map node_of nodes.now) ≡ outcome) (λ fault. fault ≡ Fault.Memory) }
 {
     let mut config = WasmMutate::new();
-    config.set_up(ModuleInfo::new(body.bytes()), Words::new(Vec::new(alloc)));
+    config.set_up(
+        ModuleInfo::new(alloc, body.bytes()),
+        Words::new(Vec::new(alloc)),
+    );
     let mut builder = DFGBuilder::new(&config);
     match builder.get_dfg(alloc, config.info(), body.operators(), block) {
         Ok(Some(graph)) => match build_with(alloc, &mut config, body, point, nodes, block, &graph) {

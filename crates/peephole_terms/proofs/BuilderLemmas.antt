@@ -13,7 +13,7 @@ use Rattle.wasm_code.specs.Table.{info_of}
 use Rattle.wasm_code.specs.declared.operator.Operator.{Operator}
 use Rattle.wasm_code.specs.declared.operator.Operator.TheVariants.{Instr, Block, Loop, If, Else, End, Br, BrIf, BrTable, Return, Unreachable, CallIndirect, TypedSelect}
 use Rattle.wasm_code.specs.declared.table.RowInfo.{RowInfo}
-use Rattle.mutate_base.specs.declared.module.ModuleInfo.{ModuleInfo}
+use Rattle.mutate_base.specs.Module.{Module}
 use Rattle.peephole_terms.specs.Shape.{Shape, Judged, Fits, Unfit, has_result, judge_row, judge_found, judge_with_node, judge_instruction, judge, IsFit, AreFit, and_shape, operator_shapes, block_of}
 use Rattle.peephole_terms.specs.Forest.{IsInOrder}
 use Rattle.peephole_terms.specs.Colour.{colour_after}
@@ -60,11 +60,11 @@ noded_fits i false s e = unfit_fits s e
 noded_fits i true s e = let f = found_fits i (info_of i.row) s e in (f.0, refl, f.1)
 
 -- an operator that fits is the instruction of its shape, which has a node and takes so many children
-record IsOfShape (info : ModuleInfo) (s : Shape) (i : Instruction) : Type 0 where
+record IsOfShape (info : Module) (s : Shape) (i : Instruction) : Type 0 where
   judged : judge_instruction info i ≡ Fits s
   makes : (has_node i.row && takes_children i.row s.operands) ≡ true
 
-of_shape : (info : ModuleInfo) (o : Operator) (s : Shape) → judge info o ≡ Fits s → IsOfShape info s s.instr
+of_shape : (info : Module) (o : Operator) (s : Shape) → judge info o ≡ Fits s → IsOfShape info s s.instr
 of_shape info (Instr i) s e =
     let f = noded_fits i (has_node i.row) s e in
     subst (IsOfShape info s) (sym f.0) (record { judged = e; makes = ap₂ (λ a b. a && b) f.1 f.2 })
@@ -81,13 +81,13 @@ of_shape info Unreachable s e = unfit_fits s e
 of_shape info (CallIndirect type table) s e = unfit_fits s e
 of_shape info (TypedSelect count first) s e = unfit_fits s e
 
-pub shape_fit : (info : ModuleInfo) (o : Operator) (s : Shape) → judge info o ≡ Fits s → shape_of info s.instr ≡ s
+pub shape_fit : (info : Module) (o : Operator) (s : Shape) → judge info o ≡ Fits s → shape_of info s.instr ≡ s
 shape_fit info o s e = ap (shape_of_judged s.instr) (of_shape info o s e).judged
 
-pub shape_makes : (info : ModuleInfo) (o : Operator) (s : Shape) → Fits s ≡ judge info o → (has_node s.instr.row && takes_children s.instr.row s.operands) ≡ true
+pub shape_makes : (info : Module) (o : Operator) (s : Shape) → Fits s ≡ judge info o → (has_node s.instr.row && takes_children s.instr.row s.operands) ≡ true
 shape_makes info o s e = (of_shape info o s (sym e)).makes
 
-shapes_append : (info : ModuleInfo) (os ps : List (Operator × ℕ)) → operator_shapes info (os ++ ps) ≡ operator_shapes info os ++ operator_shapes info ps
+shapes_append : (info : Module) (os ps : List (Operator × ℕ)) → operator_shapes info (os ++ ps) ≡ operator_shapes info os ++ operator_shapes info ps
 shapes_append info [] ps = refl
 shapes_append info (o ∷ os) ps = go (judge info o.0) (shapes_append info os ps)
   where
@@ -95,10 +95,10 @@ shapes_append info (o ∷ os) ps = go (judge info o.0) (shapes_append info os ps
     go (Fits s) w = ap (λ x. s ∷ x) w
     go Unfit w = w
 
-pub block_push : (info : ModuleInfo) (os : List (Operator × ℕ)) (o : Operator × ℕ) (s : Shape) → judge info o.0 ≡ Fits s → block_of info (os ++ o ∷ []) ≡ s ∷ block_of info os
+pub block_push : (info : Module) (os : List (Operator × ℕ)) (o : Operator × ℕ) (s : Shape) → judge info o.0 ≡ Fits s → block_of info (os ++ o ∷ []) ≡ s ∷ block_of info os
 block_push info os o s e = ap reverse (shapes_append info os (o ∷ [])) ∙ (ap (λ j. reverse (operator_shapes info os ++ and_shape j [])) e ∙ reverse-append (operator_shapes info os) (s ∷ []))
 
-shapes_length : (info : ModuleInfo) (os : List (Operator × ℕ)) → AreFit info os → length (operator_shapes info os) ≡ length os
+shapes_length : (info : Module) (os : List (Operator × ℕ)) → AreFit info os → length (operator_shapes info os) ≡ length os
 shapes_length info [] h = refl
 shapes_length info (o ∷ os) h = go (judge info o.0) (All-head (λ (o : Operator × ℕ). IsFit (judge info o.0)) o os h) (shapes_length info os (All-tail (λ (o : Operator × ℕ). IsFit (judge info o.0)) o os h))
   where
@@ -106,7 +106,7 @@ shapes_length info (o ∷ os) h = go (judge info o.0) (All-head (λ (o : Operato
     go (Fits s) u w = ap suc w
     go Unfit u w = absurd u
 
-pub block_length : (info : ModuleInfo) (os : List (Operator × ℕ)) → AreFit info os → length (block_of info os) ≡ length os
+pub block_length : (info : Module) (os : List (Operator × ℕ)) → AreFit info os → length (block_of info os) ≡ length os
 block_length info os h = length-reverse (operator_shapes info os) ∙ shapes_length info os h
 
 map_replicate : {A B : Type 0} (f : A → B) (k : ℕ) (x : A) → map f (replicate k x) ≡ replicate k (f x)
@@ -121,10 +121,10 @@ All_replicate P (suc k) x h = All-cons P x (replicate k x) h (All_replicate P k 
 abbrev pub named : ℕ → List Entry → ℕ → Option ℕ
 named first nodes k = if nat_le first k then own nodes (k - first) else None
 
-abbrev pub state_of : ModuleInfo → ℕ → Growing → State
+abbrev pub state_of : Module → ℕ → Growing → State
 state_of info first g = record { nodes = nodes_of info first g.entries.items; parents = reverse g.parents.items; stack = reverse g.stack.items }
 
-pub record Kept (info : ModuleInfo) (keeping : Bool) (first : ℕ) (operators : List (Operator × ℕ)) (g : Growing) : Type 0 where
+pub record Kept (info : Module) (keeping : Bool) (first : ℕ) (operators : List (Operator × ℕ)) (g : Growing) : Type 0 where
   pub fit : AreFit info operators
   pub small : IsSmall keeping (block_of info operators)
   pub state : state_of info first g ≡ graph keeping (block_of info operators)
@@ -134,19 +134,19 @@ pub record Kept (info : ModuleInfo) (keeping : Bool) (first : ℕ) (operators : 
   pub measured : Measured g.entries.items g.sizes.items g.same.items
   pub missing : All IsOwnOrUndef g.entries.items
 
-pub kept_below : (info : ModuleInfo) (keeping : Bool) (first : ℕ) (operators : List (Operator × ℕ)) (g : Growing) → Kept info keeping first operators g → All (λ i. i < length g.parents.items) g.stack.items
+pub kept_below : (info : Module) (keeping : Bool) (first : ℕ) (operators : List (Operator × ℕ)) (g : Growing) → Kept info keeping first operators g → All (λ i. i < length g.parents.items) g.stack.items
 kept_below info keeping first operators g h =
     stack_below (block_of info operators) (nodes_of info first g.entries.items) g.parents.items g.stack.items (subst (IsGraph (block_of info operators)) (sym h.state) (is_graph keeping (block_of info operators)))
 
-pub kept_parents : (info : ModuleInfo) (keeping : Bool) (first : ℕ) (operators : List (Operator × ℕ)) (g : Growing) → Kept info keeping first operators g → length g.parents.items ≡ length g.entries.items
+pub kept_parents : (info : Module) (keeping : Bool) (first : ℕ) (operators : List (Operator × ℕ)) (g : Growing) → Kept info keeping first operators g → length g.parents.items ≡ length g.entries.items
 kept_parents info keeping first operators g h =
     let ig : IsGraph (block_of info operators) (state_of info first g) = subst (IsGraph (block_of info operators)) (sym h.state) (is_graph keeping (block_of info operators)) in
     sym (length-reverse g.parents.items) ∙ (ig.same_length ∙ (length-reverse (map (entry_of info first) (map seen g.entries.items)) ∙ (length-map (map seen g.entries.items) (entry_of info first) ∙ length-map g.entries.items seen)))
 
-pub kept_low : (info : ModuleInfo) (keeping : Bool) (first : ℕ) (operators : List (Operator × ℕ)) (g : Growing) → Kept info keeping first operators g → All (λ i. i < length g.entries.items) g.stack.items
+pub kept_low : (info : Module) (keeping : Bool) (first : ℕ) (operators : List (Operator × ℕ)) (g : Growing) → Kept info keeping first operators g → All (λ i. i < length g.entries.items) g.stack.items
 kept_low info keeping first operators g h = subst (λ n. All (λ i. i < n) g.stack.items) (kept_parents info keeping first operators g h) (kept_below info keeping first operators g h)
 
-pub kept_room : (info : ModuleInfo) (keeping : Bool) (first : ℕ) (operators : List (Operator × ℕ)) (g : Growing) → Kept info keeping first operators g → total (λ i. slice_index g.sizes.items i) g.stack.items ≤ length g.entries.items
+pub kept_room : (info : Module) (keeping : Bool) (first : ℕ) (operators : List (Operator × ℕ)) (g : Growing) → Kept info keeping first operators g → total (λ i. slice_index g.sizes.items i) g.stack.items ≤ length g.entries.items
 kept_room info keeping first operators g h =
     stack_room g.entries.items g.sizes.items g.stack.items (state_of info first g) info first refl refl h.measured.sizes_are
     (subst (λ (x : State). total (size_of_entry x) x.stack ≤ length x.nodes) (sym h.state) (stack_total keeping (block_of info operators)))
@@ -166,7 +166,7 @@ seen_added given operator old new a =
     record { instr = a.own_instr i; children = a.own_children i; operator = a.own_operator i; colour = a.own_colour i } ∷ []))
 
 -- the new entries are those of the graph's next step
-added_is : (info : ModuleInfo) (first n : ℕ) (given : Shape) (s : Shape) (old new : Growing) → given ≡ s → shape_of info s.instr ≡ s → All (λ i. i < length old.parents.items) old.stack.items → Added given (first + n) old new →
+added_is : (info : Module) (first n : ℕ) (given : Shape) (s : Shape) (old new : Growing) → given ≡ s → shape_of info s.instr ≡ s → All (λ i. i < length old.parents.items) old.stack.items → Added given (first + n) old new →
     state_of info first new ≡ grown (state_of info first old) s n old.color
 added_is info first n given s old new e f b a =
     let same_instr : given.instr ≡ s.instr = ap (λ (x : Shape). x.instr) e in
@@ -197,7 +197,7 @@ colour_more : (keeping : Bool) (s : Shape) (block : List Shape) → (if keeping 
 colour_more true s block = refl
 colour_more false s block = refl
 
-names_more : (info : ModuleInfo) (first n : ℕ) (s : Shape) (c : ℕ) (given : Shape) (g : State) (old new : Growing) → state_of info first new ≡ grown g s n c → lacks given.operands old ≡ s.operands - length g.stack → length g.nodes ≡ length old.entries.items →
+names_more : (info : Module) (first n : ℕ) (s : Shape) (c : ℕ) (given : Shape) (g : State) (old new : Growing) → state_of info first new ≡ grown g s n c → lacks given.operands old ≡ s.operands - length g.stack → length g.nodes ≡ length old.entries.items →
     ((k : ℕ) → hash.get nat_eq old.map k ≡ named first g.nodes k) → ((k : ℕ) → hash.get nat_eq new.map k ≡ (if (first + n) == k then Some (own_index given.operands old) else hash.get nat_eq old.map k)) →
     (k : ℕ) → hash.get nat_eq new.map k ≡ named first (nodes_of info first new.entries.items) k
 names_more info first n s c given g old new e m l h a k =
@@ -214,7 +214,7 @@ names_more info first n s c given g old new e m l h a k =
     (cases_eq (first + n) k) ∙ ap (λ x. named first x k) (sym same))
 
 -- the map finds the own entry of each operator, and nothing else
-operator_some : (info : ModuleInfo) (o : Option Instruction) → is_operator (option_map (shape_of info) o) ≡ is_some o
+operator_some : (info : Module) (o : Option Instruction) → is_operator (option_map (shape_of info) o) ≡ is_some o
 operator_some info None = refl
 operator_some info (Some i) = refl
 
@@ -227,10 +227,10 @@ none_entry e w = cc
 there : (es : List StackEntry) (i : ℕ) (x : StackEntry) → slice_get es i ≡ Some x → i < length es
 there es i x e = ⊎_elim (λ p. p.1) (λ p. none_entry x (sym p.1 ∙ e)) (slice_get_cases es i).1
 
-read_entry : (info : ModuleInfo) (first : ℕ) (es : List StackEntry) (i : ℕ) (x : StackEntry) → i < length es → get_or es i x ≡ x → entry_at (nodes_of info first es) i ≡ entry_of info first (seen x)
+read_entry : (info : Module) (first : ℕ) (es : List StackEntry) (i : ℕ) (x : StackEntry) → i < length es → get_or es i x ≡ x → entry_at (nodes_of info first es) i ≡ entry_of info first (seen x)
 read_entry info first es i x l g = entry_seen info first es i x l ∙ ap (λ e. entry_of info first (seen e)) g
 
-found_own : (info : ModuleInfo) (keeping : Bool) (first : ℕ) (block : List Shape) (es : List StackEntry) (parents : List (Option ℕ)) (look : ℕ → Option ℕ) → Facts keeping block (nodes_of info first es) parents → ((k : ℕ) → look k ≡ named first (nodes_of info first es) k) →
+found_own : (info : Module) (keeping : Bool) (first : ℕ) (block : List Shape) (es : List StackEntry) (parents : List (Option ℕ)) (look : ℕ → Option ℕ) → Facts keeping block (nodes_of info first es) parents → ((k : ℕ) → look k ≡ named first (nodes_of info first es) k) →
     All (λ (x : Seen). first ≤ x.operator) (map seen es) → (k i : ℕ) → look k ≡ Some i → IsOwnEntry es k i
 found_own info keeping first block es parents look f names later k i e = ⊎_elim
     (λ u. none_index i (sym (cond-false _ _ _ (lt-leb first k u)) ∙ (sym (names k) ∙ e)))
@@ -248,7 +248,7 @@ found_own info keeping first block es parents look f names later k i e = ⊎_eli
     (slice_get_cases es i).1)
     (cases_lt k first)
 
-own_found : (info : ModuleInfo) (keeping : Bool) (first : ℕ) (block : List Shape) (es : List StackEntry) (parents : List (Option ℕ)) (look : ℕ → Option ℕ) → Facts keeping block (nodes_of info first es) parents → ((k : ℕ) → look k ≡ named first (nodes_of info first es) k) →
+own_found : (info : Module) (keeping : Bool) (first : ℕ) (block : List Shape) (es : List StackEntry) (parents : List (Option ℕ)) (look : ℕ → Option ℕ) → Facts keeping block (nodes_of info first es) parents → ((k : ℕ) → look k ≡ named first (nodes_of info first es) k) →
     All (λ (x : Seen). first ≤ x.operator) (map seen es) → (k i : ℕ) → IsOwnEntry es k i → look k ≡ Some i
 own_found info keeping first block es parents look f names later k i w =
     let l = there es i w.0 w.1 in
@@ -265,7 +265,7 @@ own_found info keeping first block es parents look f names later k i w =
 named_key : (first n : ℕ) (nodes : List Entry) → named first nodes (first + n) ≡ own nodes n
 named_key first n nodes = let e : (first + n) - first ≡ n = omega arith in cond-true _ _ _ (le-leb first (first + n) (omega arith)) ∙ ap (own nodes) e
 
-last_entry : (info : ModuleInfo) (first : ℕ) (block : List Shape) (es : List StackEntry) (parents : List (Option ℕ)) (look : ℕ → Option ℕ) → length parents ≡ length es → 0 < length es → ((k : ℕ) → look k ≡ named first (nodes_of info first es) k) →
+last_entry : (info : Module) (first : ℕ) (block : List Shape) (es : List StackEntry) (parents : List (Option ℕ)) (look : ℕ → Option ℕ) → length parents ≡ length es → 0 < length es → ((k : ℕ) → look k ≡ named first (nodes_of info first es) k) →
     (own (nodes_of info first es) (length block - 1) ≡ Some (length (nodes_of info first es) - 1)) × (parent_at (reverse parents) (length (nodes_of info first es) - 1) ≡ None) → (n : ℕ) → length block ≡ suc n →
     (look (first + n) ≡ Some (length es - 1)) × (slice_get parents (length es - 1) ≡ Some None)
 last_entry info first block es parents look m l names h n e =
@@ -275,7 +275,7 @@ last_entry info first block es parents look m l names h n e =
       slice_get-get_or parents (length es - 1) None (omega arith) ∙ ap Some (get_item None parents (length es - 1) ∙ (ap (parent_at (reverse parents)) (sym same) ∙ h.1)),
     )
 
-pub grown_from : (info : ModuleInfo) (keeping : Bool) (first : ℕ) (operators : List (Operator × ℕ)) (g : Growing) → Kept info keeping first operators g → HasGrown info keeping first operators g
+pub grown_from : (info : Module) (keeping : Bool) (first : ℕ) (operators : List (Operator × ℕ)) (g : Growing) → Kept info keeping first operators g → HasGrown info keeping first operators g
 grown_from info keeping first operators g h =
     let block = block_of info operators in
     let es = g.entries.items in
@@ -304,10 +304,10 @@ grown_from info keeping first operators g h =
 pub split_at : (operators : List (Operator × ℕ)) (i : ℕ) (d : Operator × ℕ) → i < length operators → operators ≡ take i operators ++ get_or operators i d ∷ drop (i + 1) operators
 split_at operators i d l = sym (take-append-drop i operators) ∙ ap (λ x. take i operators ++ x) (drop_more operators i d l)
 
-pub kept_all : (info : ModuleInfo) (keeping : Bool) (first : ℕ) (operators : List (Operator × ℕ)) (i : ℕ) (g : Growing) → length operators ≤ i → Kept info keeping first (take i operators) g → HasGrown info keeping first operators g
+pub kept_all : (info : Module) (keeping : Bool) (first : ℕ) (operators : List (Operator × ℕ)) (i : ℕ) (g : Growing) → length operators ≤ i → Kept info keeping first (take i operators) g → HasGrown info keeping first operators g
 kept_all info keeping first operators i g l h = grown_from info keeping first operators g (subst (λ x. Kept info keeping first x g) (take_all i operators l) h)
 
-pub fault : (info : ModuleInfo) (keeping : Bool) (first : ℕ) (operators : List (Operator × ℕ)) (i : ℕ) (d : Operator × ℕ) (g : Growing) (P : List Shape → Judged → Type 0) → i < length operators → Kept info keeping first (take i operators) g →
+pub fault : (info : Module) (keeping : Bool) (first : ℕ) (operators : List (Operator × ℕ)) (i : ℕ) (d : Operator × ℕ) (g : Growing) (P : List Shape → Judged → Type 0) → i < length operators → Kept info keeping first (take i operators) g →
     P (block_of info (take i operators)) (judge info (get_or operators i d).0) → FirstFault info keeping operators P
 fault info keeping first operators i d g P l h p = record {
   before = take i operators;
@@ -320,7 +320,7 @@ fault info keeping first operators i d g P l h p = record {
 }
 
 -- the index of the next operator's entry
-place_is : (info : ModuleInfo) (keeping : Bool) (first : ℕ) (operators : List (Operator × ℕ)) (given : Shape) (old : Growing) → Kept info keeping first operators old →
+place_is : (info : Module) (keeping : Bool) (first : ℕ) (operators : List (Operator × ℕ)) (given : Shape) (old : Growing) → Kept info keeping first operators old →
     own_index given.operands old ≡ length (block_of info operators) + lacking (given ∷ block_of info operators)
 place_is info keeping first operators given old h =
     let block = block_of info operators in
@@ -332,7 +332,7 @@ place_is info keeping first operators given old h =
     let lacks_is : lacks given.operands old ≡ given.operands - standing block = ap (λ x. given.operands - x) stack_is in
     omega arith
 
-pub refused : (info : ModuleInfo) (keeping : Bool) (first : ℕ) (operators : List (Operator × ℕ)) (i : ℕ) (d : Operator × ℕ) (given : Shape) (old : Growing) (e : Error) → i < length operators → Kept info keeping first (take i operators) old →
+pub refused : (info : Module) (keeping : Bool) (first : ℕ) (operators : List (Operator × ℕ)) (i : ℕ) (d : Operator × ℕ) (given : Shape) (old : Growing) (e : Error) → i < length operators → Kept info keeping first (take i operators) old →
     Fits given ≡ judge info (get_or operators i d).0 → (e ≡ Memory) ⊎ ((e ≡ TooLarge) × ((4294967296 ≤ own_index given.operands old) ⊎ (4294967295 ≤ old.color))) → IsRefused info keeping operators e
 refused info keeping first operators i d given old e l h j w =
     let block = block_of info (take i operators) in
@@ -352,7 +352,7 @@ missing_more given operator old new a h =
     (All-append IsOwnOrUndef old.entries.items (replicate (lacks given.operands old) (undef_entry operator)) h (All_replicate IsOwnOrUndef (lacks given.operands old) (undef_entry operator) (λ e. refl)))
     (All-cons IsOwnOrUndef a.own [] (λ e. some_none given.instr (sym a.own_instr ∙ e)) (All-nil IsOwnOrUndef)))
 
-pub kept_more : (info : ModuleInfo) (keeping : Bool) (first : ℕ) (operators : List (Operator × ℕ)) (o : Operator × ℕ) (given : Shape) (old new : Growing) → Kept info keeping first operators old → Fits given ≡ judge info o.0 →
+pub kept_more : (info : Module) (keeping : Bool) (first : ℕ) (operators : List (Operator × ℕ)) (o : Operator × ℕ) (given : Shape) (old new : Growing) → Kept info keeping first operators old → Fits given ≡ judge info o.0 →
     Added given (first + length operators) old new → own_index given.operands old < 4294967296 → old.color < 4294967295 → new.color ≡ (if keeping then old.color + given.change else old.color) → Kept info keeping first (operators ++ o ∷ []) new
 kept_more info keeping first operators o given old new h e a p q r =
     let s = given in
@@ -382,7 +382,7 @@ kept_more info keeping first operators o given old new h e a p q r =
       colour = r ∙ (ap (λ x. if keeping then x + s.change else x) h.colour ∙ (colour_more keeping s block ∙ ap (colour_after keeping) (sym push)));
     }
 
-pub kept_next : (info : ModuleInfo) (keeping : Bool) (first : ℕ) (operators : List (Operator × ℕ)) (i : ℕ) (d : Operator × ℕ) (given : Shape) (old new : Growing) → i < length operators → Kept info keeping first (take i operators) old →
+pub kept_next : (info : Module) (keeping : Bool) (first : ℕ) (operators : List (Operator × ℕ)) (i : ℕ) (d : Operator × ℕ) (given : Shape) (old new : Growing) → i < length operators → Kept info keeping first (take i operators) old →
     Fits given ≡ judge info (get_or operators i d).0 → Added given (first + i) old new → own_index given.operands old < 4294967296 → old.color < 4294967295 → new.color ≡ (if keeping then old.color + given.change else old.color) →
     Kept info keeping first (take (i + 1) operators) new
 kept_next info keeping first operators i d given old new l h e a p q r =

@@ -11,7 +11,7 @@ use Rattle.peephole_terms.specs.Step.{State, grown}
 use Rattle.peephole_terms.specs.Downwards.{Kin, forward, forwards, HasOneColour, are_coloured, downwards, kin_at, sizes_of, flags_of, total, are_alike}
 use Rattle.peephole_terms.specs.Entries.{Seen, Measured, seen, kin, kins_of, colours, entry_of, nodes_of}
 use Rattle.peephole_lang.specs.Lang.{children_of}
-use Rattle.mutate_base.specs.declared.module.ModuleInfo.{ModuleInfo}
+use Rattle.mutate_base.specs.Module.{Module}
 use Rattle.peephole_terms.proofs.StackGraph.{IsGraph}
 use Rattle.peephole_terms.proofs.Sizes.{sizes_length, flags_length, total_reverse, size_at, flag_at, alike_reverse}
 use Rattle.peephole_terms.proofs.Totals.{kin_of, kins, sizes_grown, flags_grown, size_of_entry}
@@ -22,7 +22,7 @@ map_reverse : {A B : Type 0} (f : A → B) (xs : List A) → map f (reverse xs) 
 map_reverse f [] = refl
 map_reverse f (x ∷ xs) = ap (map f) (reverse-append (x ∷ []) xs) ∙ (map-append f (reverse xs) (x ∷ []) ∙ (ap (λ y. y ++ f x ∷ []) (map_reverse f xs) ∙ sym (reverse-append (f x ∷ []) (map f xs))))
 
-pub kins_same : (info : ModuleInfo) (first : ℕ) (es : List StackEntry) → kins (nodes_of info first es) ≡ kins_of es
+pub kins_same : (info : Module) (first : ℕ) (es : List StackEntry) → kins (nodes_of info first es) ≡ kins_of es
 kins_same info first es = map_reverse kin_of (map (entry_of info first) (map seen es)) ∙ ap reverse (go es)
   where
     go : (es : List StackEntry) → map kin_of (map (entry_of info first) (map seen es)) ≡ map kin es
@@ -85,7 +85,7 @@ sizes_are es sizes h i = get_item 0 sizes i ∙ ap (λ x. item 0 x i) h
 pub flags_are : (es : List StackEntry) (same : List Bool) → reverse same ≡ flags_of (kins_of es) → (i : ℕ) → slice_index_or same i false ≡ item false (flags_of (kins_of es)) i
 flags_are es same h i = get_item false same i ∙ ap (λ x. item false x i) h
 
-pub measured_more : (info : ModuleInfo) (first n : ℕ) (row : Shape) (s : Shape) (earlier : List Shape) (es es' : List StackEntry) (sizes sizes' : List ℕ) (same same' : List Bool) (c : ℕ) (stack : List ℕ) (more : ℕ) (taken : List ℕ) (g : State) → IsGraph earlier g →
+pub measured_more : (info : Module) (first n : ℕ) (row : Shape) (s : Shape) (earlier : List Shape) (es es' : List StackEntry) (sizes sizes' : List ℕ) (same same' : List Bool) (c : ℕ) (stack : List ℕ) (more : ℕ) (taken : List ℕ) (g : State) → IsGraph earlier g →
     g.nodes ≡ nodes_of info first es → g.stack ≡ reverse stack → nodes_of info first es' ≡ (grown g s n c).nodes → c < 4294967295 →
     more ≡ s.operands - length stack → taken ≡ drop (length stack - s.operands) stack → Measured es sizes same →
     sizes' ≡ (sizes ++ replicate more 1) ++ suc (more + total (λ i. slice_index sizes i) taken) ∷ [] →
@@ -116,7 +116,7 @@ measured_more info first n row s earlier es es' sizes sizes' same same' c stack 
     }
 
 -- what `add_row` wants
-pub stack_room : (es : List StackEntry) (sizes : List ℕ) (stack : List ℕ) (g : State) (info : ModuleInfo) (first : ℕ) → g.nodes ≡ nodes_of info first es → g.stack ≡ reverse stack → reverse sizes ≡ sizes_of (kins_of es) → total (size_of_entry g) g.stack ≤ length g.nodes →
+pub stack_room : (es : List StackEntry) (sizes : List ℕ) (stack : List ℕ) (g : State) (info : Module) (first : ℕ) → g.nodes ≡ nodes_of info first es → g.stack ≡ reverse stack → reverse sizes ≡ sizes_of (kins_of es) → total (size_of_entry g) g.stack ≤ length g.nodes →
     total (λ i. slice_index sizes i) stack ≤ length es
 stack_room es sizes stack g info first gn gs h l =
     let kins_old : kins g.nodes ≡ kins_of es = ap kins gn ∙ kins_same info first es in
@@ -216,11 +216,11 @@ forwards_read es sizes h i l e p z from q w es' x sizes' y ns k b f t =
     forwards_next es sizes h i l e from (w ∙ ap (λ u. (i + 1) - u) zero_is) t b
     (f ∙ (λ j. forward (λ c. slice_index (take i (y j)) c) (λ c. slice_index (colours (take i (x j))) c) from ((k ∙ same) j)))
 
-pub nodes_length : (info : ModuleInfo) (first : ℕ) (entries : List StackEntry) → length (nodes_of info first entries) ≡ length entries
+pub nodes_length : (info : Module) (first : ℕ) (entries : List StackEntry) → length (nodes_of info first entries) ≡ length entries
 nodes_length info first entries = length-reverse (map (entry_of info first) (map seen entries)) ∙ (length-map (map seen entries) (entry_of info first) ∙ length-map entries seen)
 
 -- an entry of the graph is what the code's entry is seen as
-map_both : (info : ModuleInfo) (first : ℕ) (es : List StackEntry) → map (entry_of info first) (map seen es) ≡ map (λ (e : StackEntry). entry_of info first (seen e)) es
+map_both : (info : Module) (first : ℕ) (es : List StackEntry) → map (entry_of info first) (map seen es) ≡ map (λ (e : StackEntry). entry_of info first (seen e)) es
 map_both info first [] = refl
 map_both info first (e ∷ es) = ap (λ x. entry_of info first (seen e) ∷ x) (map_both info first es)
 
@@ -231,7 +231,7 @@ item_default c d (x ∷ xs) i l = ⊎_elim
     (λ w. cond-false _ _ _ (ne_eqb (length xs) i w) ∙ (item_default c d xs i (omega arith) ∙ sym (cond-false _ _ _ (ne_eqb (length xs) i w))))
     (cases_eq (length xs) i)
 
-pub entry_seen : (info : ModuleInfo) (first : ℕ) (entries : List StackEntry) (i : ℕ) (d : StackEntry) → i < length entries → entry_at (nodes_of info first entries) i ≡ entry_of info first (seen (get_or entries i d))
+pub entry_seen : (info : Module) (first : ℕ) (entries : List StackEntry) (i : ℕ) (d : StackEntry) → i < length entries → entry_at (nodes_of info first entries) i ≡ entry_of info first (seen (get_or entries i d))
 entry_seen info first entries i d l =
     let f : StackEntry → Entry = λ e. entry_of info first (seen e) in
     item_default (undef 0) (f d) (nodes_of info first entries) i (let e = nodes_length info first entries in omega arith) ∙

@@ -7,7 +7,7 @@ use Rattle.std.proofs.lemmas.List.Elements.{All-nil, All-cons, All-head, All-tai
 use Rattle.wasm_code.specs.Instruction.{Instruction}
 use Rattle.wasm_code.specs.Code.{codes}
 use Rattle.wasm_code.specs.declared.operator.Operator.{Operator}
-use Rattle.mutate_base.specs.declared.module.ModuleInfo.{ModuleInfo}
+use Rattle.mutate_base.specs.Module.{Module}
 use Rattle.peephole_lang.specs.declared.lang.Head.{Head}
 use Rattle.peephole_lang.specs.declared.lang.Lang.{Lang}
 use Rattle.peephole_lang.specs.Lang.{head_of, children_of, instr_of}
@@ -66,7 +66,7 @@ before_last_behind n i = grind arith
 -- ---- an entry's tree and its node's term
 
 -- an entry as the theory has it, and its node
-abbrev as_entry : ModuleInfo → ℕ → StackEntry → Entry
+abbrev as_entry : Module → ℕ → StackEntry → Entry
 as_entry info first e = entry_of info first (seen e)
 
 abbrev as_node : StackEntry → term.Node Head
@@ -76,7 +76,7 @@ picked : (at : ℕ → Tree) (terms : ℕ → term.Term Head) (is : List ℕ) �
 picked at terms [] same = refl
 picked at terms (k ∷ is) same = ap₂ (λ x y. x ++ y) (same k) (picked at terms is same)
 
-own_is : (info : ModuleInfo) (e : StackEntry) (i : Option Instruction) → IsOwnOrUndef e → i ≡ instr_of e.operator → (number missing : ℕ) (at : ℕ → Tree) (terms : ℕ → term.Term Head) →
+own_is : (info : Module) (e : StackEntry) (i : Option Instruction) → IsOwnOrUndef e → i ≡ instr_of e.operator → (number missing : ℕ) (at : ℕ → Tree) (terms : ℕ → term.Term Head) →
     ((k : ℕ) → instructions_of (at k) ≡ expansion_of (terms k)) →
     instructions_of (tree_of_entry (option_map (shape_of info) i) (children_of e.operator) number missing at) ≡ expansion_of (term.node (head_of e.operator) (term.pick terms (children_of e.operator)))
 own_is info e (Some j) own is number missing at terms same =
@@ -90,7 +90,7 @@ chosen_same true false x y s t e p q = absurd cc
 chosen_same false true x y s t e p q = absurd cc
 chosen_same false false x y s t e p q = q
 
-trees_are : (info : ModuleInfo) (first : ℕ) (es : List StackEntry) → All IsOwnOrUndef es → (i : ℕ) →
+trees_are : (info : Module) (first : ℕ) (es : List StackEntry) → All IsOwnOrUndef es → (i : ℕ) →
     instructions_of (tree_at (map (as_entry info first) es) i) ≡ expansion_of (term.tree_at (map as_node es) i)
 trees_are info first [] all i = refl
 trees_are info first (e ∷ earlier) all i =
@@ -128,7 +128,7 @@ chosen_number true false first x y m n e p q = absurd cc
 chosen_number false true first x y m n e p q = absurd cc
 chosen_number false false first x y m n e p q = q
 
-numbers_are : (info : ModuleInfo) (first : ℕ) (es : List StackEntry) → All (IsLater first) es → (i : ℕ) → IsNode (tree_at (map (as_entry info first) es) i) →
+numbers_are : (info : Module) (first : ℕ) (es : List StackEntry) → All (IsLater first) es → (i : ℕ) → IsNode (tree_at (map (as_entry info first) es) i) →
     first + number_of (tree_at (map (as_entry info first) es) i) ≡ item 0 (map (λ (e : StackEntry). e.operator_idx) es) i
 numbers_are info first [] all i n = absurd n
 numbers_are info first (e ∷ earlier) all i n =
@@ -175,7 +175,7 @@ roots_are first at code entries tree (i ∷ is) n numbers own =
     ∙ ap₂ (λ (x y : List Instruction). x ++ y) (ap₂ (λ (k : ℕ) (x : List Instruction). cond (k == at) code x) (numbers i n.0) (own i)) (sym (roots_are first at code entries tree is n.1 numbers own)))
 
 -- the same lists, seen from the last entry on
-entries_back : (info : ModuleInfo) (first : ℕ) (entries : List StackEntry) → nodes_of info first entries ≡ map (as_entry info first) (reverse entries)
+entries_back : (info : Module) (first : ℕ) (entries : List StackEntry) → nodes_of info first entries ≡ map (as_entry info first) (reverse entries)
 entries_back info first entries = ap (λ (x : List Entry). reverse x) (map-map (entry_of info first) seen entries) ∙ sym (map-reverse (as_entry info first) entries)
 
 operator_back : (entries : List StackEntry) (i : ℕ) → operator_at entries i ≡ item 0 (map (λ (e : StackEntry). e.operator_idx) (reverse entries)) i
@@ -183,7 +183,7 @@ operator_back entries i =
     get_item 0 (map (λ (e : StackEntry). e.operator_idx) entries) i ∙ ap (λ (x : List ℕ). item 0 x i) (sym (map-reverse (λ (e : StackEntry). e.operator_idx) entries))
 
 -- what the encoder writes for the roots is what the block is written as
-pub roots_written : (info : ModuleInfo) (keeping : Bool) (first : ℕ) (operators : List (Operator × ℕ)) (entries : List StackEntry) (parents : List (Option ℕ)) (look : ℕ → Option ℕ) (at : ℕ) (code : List Instruction) →
+pub roots_written : (info : Module) (keeping : Bool) (first : ℕ) (operators : List (Operator × ℕ)) (entries : List StackEntry) (parents : List (Option ℕ)) (look : ℕ → Option ℕ) (at : ℕ) (code : List Instruction) →
     IsGraphOf info keeping first operators entries parents look → roots_code at code entries (roots_of parents) ≡ replaced first at code (forest (block_of info operators))
 roots_written info keeping first operators entries parents look at code h =
     let back = reverse entries in
@@ -206,7 +206,7 @@ each_less n (i ∷ is) h = All-cons (λ i. i < n) i is (h i (ap (λ (b : Bool). 
     more true c e = refl
     more false c e = e
 
-below_of : (info : ModuleInfo) (first : ℕ) (es : List StackEntry) → ((p i : ℕ) → has i (entry_at (map (as_entry info first) es) p).children ≡ true → i < p) → term.AreBelow (map as_node es)
+below_of : (info : Module) (first : ℕ) (es : List StackEntry) → ((p i : ℕ) → has i (entry_at (map (as_entry info first) es) p).children ≡ true → i < p) → term.AreBelow (map as_node es)
 below_of info first [] h = tt
 below_of info first (e ∷ earlier) h =
     let n = length-map earlier (as_entry info first) in
@@ -228,7 +228,7 @@ below_of info first (e ∷ earlier) h =
     none : (p i : ℕ) → length (map (as_entry info first) earlier) ≤ p → has i (entry_at (map (as_entry info first) earlier) p).children ≡ true → ⊥
     none p i l t = let e : false ≡ true = sym (ap (λ (x : Entry). has i x.children) (item_none (undef 0) (map (as_entry info first) earlier) p l)) ∙ t in cc
 
-pub walkable : (info : ModuleInfo) (keeping : Bool) (first : ℕ) (operators : List (Operator × ℕ)) (entries : List StackEntry) (parents : List (Option ℕ)) (look : ℕ → Option ℕ) →
+pub walkable : (info : Module) (keeping : Bool) (first : ℕ) (operators : List (Operator × ℕ)) (entries : List StackEntry) (parents : List (Option ℕ)) (look : ℕ → Option ℕ) →
     IsGraphOf info keeping first operators entries parents look → IsWalkable entries parents
 walkable info keeping first operators entries parents look h =
     let same = entries_back info first entries in
@@ -280,12 +280,12 @@ some_parent None b e t = absurd (differ (e ∙ ap not t))
 
 -- ---- under a configuration that is set up
 
-pub walkable_under : (under : Option ModuleInfo) (keeping : Bool) (first : ℕ) (operators : List (Operator × ℕ)) (entries : List StackEntry) (parents : List (Option ℕ)) (look : ℕ → Option ℕ) →
+pub walkable_under : (under : Option Module) (keeping : Bool) (first : ℕ) (operators : List (Operator × ℕ)) (entries : List StackEntry) (parents : List (Option ℕ)) (look : ℕ → Option ℕ) →
     IsTrue (is_some under) → IfSome under (λ info. IsGraphOf info keeping first operators entries parents look) → IsWalkable entries parents
 walkable_under None keeping first operators entries parents look s h = absurd cc
 walkable_under (Some info) keeping first operators entries parents look s h = walkable info keeping first operators entries parents look h
 
-pub written_under : (under : Option ModuleInfo) (keeping : Bool) (input : List ℕ) (operators : List (Operator × ℕ)) (block : BlockRange) (entries es : List StackEntry) (parents ps : List (Option ℕ)) (look : ℕ → Option ℕ)
+pub written_under : (under : Option Module) (keeping : Bool) (input : List ℕ) (operators : List (Operator × ℕ)) (block : BlockRange) (entries es : List StackEntry) (parents ps : List (Option ℕ)) (look : ℕ → Option ℕ)
     (at : ℕ) (expr nodes : List Lang) (front back old new : List ℕ) → IfSome under (λ info. IsGraphOf info keeping block.start (slice_range operators block.start block.end) entries parents look) →
     es ≡ entries → ps ≡ parents → nodes ≡ expr → front ≡ before_block input operators block → back ≡ after_block input operators block →
     new ≡ old ++ (front ++ (codes (roots_code at (expansion_of (term.term_of head_of children_of nodes)) es (roots_of ps)) ++ back)) →

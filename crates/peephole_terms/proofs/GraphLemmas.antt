@@ -9,7 +9,7 @@ use Rattle.wasm_code.specs.Instruction.{Instruction}
 use Rattle.wasm_code.specs.Table.{info_of}
 use Rattle.wasm_code.specs.declared.operator.Operator.{Operator}
 use Rattle.wasm_code.specs.declared.table.RowInfo.{RowInfo}
-use Rattle.mutate_base.specs.declared.module.ModuleInfo.{ModuleInfo}
+use Rattle.mutate_base.specs.Module.{Module}
 use Rattle.peephole_lang.specs.Lang.{children_of, has_node}
 use Rattle.peephole_terms.specs.declared.dfg.StackEntry.{StackEntry}
 use Rattle.peephole_terms.specs.Shape.{judge_row, judge_found, judge_with_node}
@@ -21,7 +21,7 @@ use Rattle.peephole_terms.proofs.GrowingLemmas.{reverse_push}
 use Rattle.peephole_terms.proofs.DfgLemmas.{nodes_length, entry_seen, later_entries}
 use Rattle.peephole_terms.proofs.BuilderLemmas.{block_length}
 
-pub parents_length : (info : ModuleInfo) (keeping : Bool) (first : ℕ) (operators : List (Operator × ℕ)) (entries : List StackEntry) (parents : List (Option ℕ)) (look : ℕ → Option ℕ) → IsGraphOf info keeping first operators entries parents look →
+pub parents_length : (info : Module) (keeping : Bool) (first : ℕ) (operators : List (Operator × ℕ)) (entries : List StackEntry) (parents : List (Option ℕ)) (look : ℕ → Option ℕ) → IsGraphOf info keeping first operators entries parents look →
     length parents ≡ length entries
 parents_length info keeping first operators entries parents look h = sym (length-reverse parents) ∙ (h.stands.same_length ∙ nodes_length info first entries)
 
@@ -39,13 +39,13 @@ all_has : (P : ℕ → Type 0) (cs : List ℕ) → ((c : ℕ) → has c cs ≡ t
 all_has P [] h = All-nil P
 all_has P (c ∷ cs) h = All-cons P c cs (h c (or_left (c == c) (has c cs) (eq-eqb c c refl))) (all_has P cs (λ x w. h x (or_right (c == x) (has x cs) w)))
 
-pub children_below : (info : ModuleInfo) (keeping : Bool) (first : ℕ) (operators : List (Operator × ℕ)) (entries : List StackEntry) (parents : List (Option ℕ)) (look : ℕ → Option ℕ) → IsGraphOf info keeping first operators entries parents look →
+pub children_below : (info : Module) (keeping : Bool) (first : ℕ) (operators : List (Operator × ℕ)) (entries : List StackEntry) (parents : List (Option ℕ)) (look : ℕ → Option ℕ) → IsGraphOf info keeping first operators entries parents look →
     (i : ℕ) (d : StackEntry) → i < length entries → All (λ c. c < i) (children_of (get_or entries i d).operator)
 children_below info keeping first operators entries parents look h i d l =
     all_has (λ c. c < i) (children_of (get_or entries i d).operator) (λ c w. (h.stands.parent i c (ap (λ (e : Entry). has c e.children) (entry_seen info first entries i d l) ∙ w)).1)
 
 -- an entry's operator is one of the block
-pub entry_later : (info : ModuleInfo) (keeping : Bool) (first : ℕ) (operators : List (Operator × ℕ)) (entries : List StackEntry) (parents : List (Option ℕ)) (look : ℕ → Option ℕ) → IsGraphOf info keeping first operators entries parents look →
+pub entry_later : (info : Module) (keeping : Bool) (first : ℕ) (operators : List (Operator × ℕ)) (entries : List StackEntry) (parents : List (Option ℕ)) (look : ℕ → Option ℕ) → IsGraphOf info keeping first operators entries parents look →
     (i : ℕ) (d : StackEntry) → i < length entries → (first ≤ (get_or entries i d).operator_idx) × ((get_or entries i d).operator_idx < first + length operators)
 entry_later info keeping first operators entries parents look h i d l =
     let a : first ≤ (get_or entries i d).operator_idx = All-get_or (λ (e : StackEntry). first ≤ e.operator_idx) entries i d l (later_entries first entries h.later) in
@@ -55,7 +55,7 @@ entry_later info keeping first operators entries parents look h i d l =
     (a, omega arith)
 
 -- a shape is of its instruction
-pub shape_instr : (info : ModuleInfo) (j : Instruction) → (shape_of info j).instr ≡ j
+pub shape_instr : (info : Module) (j : Instruction) → (shape_of info j).instr ≡ j
 shape_instr info j = noded (has_node j.row)
   where
     by : (row : RowInfo) (o : Option ℕ) → (shape_of_judged j (judge_row j row o)).instr ≡ j

@@ -7,7 +7,7 @@ use Rattle.std.proofs.lemmas.List.{length-reverse, length-map}
 use Rattle.std.proofs.lemmas.List.Elements.{All-head, All-tail}
 use Rattle.wasm_code.specs.declared.operator.Operator.{Operator}
 use Rattle.wasm_code.specs.Instruction.{Instruction}
-use Rattle.mutate_base.specs.declared.module.ModuleInfo.{ModuleInfo}
+use Rattle.mutate_base.specs.Module.{Module}
 use Rattle.peephole_lang.specs.declared.lang.Head.{Head}
 use Rattle.peephole_lang.specs.declared.lang.Lang.{Lang}
 use Rattle.peephole_lang.specs.Lang.{instr_of, head_of, children_of}
@@ -29,10 +29,10 @@ kids_same : (f : ℕ → Term Head) (g : ℕ → Tree) (n : ℕ) → ((k : ℕ) 
 kids_same f g n same [] all = refl
 kids_same f g n same (i ∷ is) all = ap₂ (λ x y. x ++ y) (same i (All-head (λ k. k < n) i is all)) (kids_same f g n same is (All-tail (λ k. k < n) i is all))
 
-abbrev shape_for : ModuleInfo → ℕ → Option Instruction → Option Shape
+abbrev shape_for : Module → ℕ → Option Instruction → Option Shape
 shape_for info first x = (entry_of info first (record { instr = x; children = []; operator = 0; colour = 0 })).shape
 
-own_same : (info : ModuleInfo) (first : ℕ) (e : StackEntry) (earlier : List StackEntry) (o : Option Instruction) → instr_of e.operator ≡ o → IsOwnOrUndef e →
+own_same : (info : Module) (first : ℕ) (e : StackEntry) (earlier : List StackEntry) (o : Option Instruction) → instr_of e.operator ≡ o → IsOwnOrUndef e →
     ((is : List ℕ) → All (λ k. k < length earlier) is → expansion (pick (tree_at (map node_of_entry earlier)) is) ≡ instructions (graph.pick (graph.tree_at (map (view info first) earlier)) is)) →
     All (λ k. k < length earlier) (children_of e.operator) → (missing : ℕ) →
     expansion (pick (tree_at (map node_of_entry earlier)) (children_of e.operator)) ++ own_instructions (head_of e.operator)
@@ -48,7 +48,7 @@ own_same info first e earlier (Some i) is own kids below missing =
     ∙ (ap (λ (x : Instruction). instructions (graph.pick (graph.tree_at (map (view info first) earlier)) (children_of e.operator)) ++ x ∷ []) (sym (shape_instr info i))
     ∙ sym (ap (λ x. instructions_of (tree_of_entry x (children_of e.operator) (view info first e).number missing (graph.tree_at (map (view info first) earlier)))) some))
 
-same_expansion : (info : ModuleInfo) (first : ℕ) (rs : List StackEntry) → Ordered rs → All IsOwnOrUndef rs → (i : ℕ) → i < length rs →
+same_expansion : (info : Module) (first : ℕ) (rs : List StackEntry) → Ordered rs → All IsOwnOrUndef rs → (i : ℕ) → i < length rs →
     expansion_of (tree_at (map node_of_entry rs) i) ≡ instructions_of (graph.tree_at (map (view info first) rs) i)
 same_expansion info first [] b m i l = absurd (omega arith)
 same_expansion info first (e ∷ earlier) b m i l =
@@ -68,7 +68,7 @@ same_expansion info first (e ∷ earlier) b m i l =
     ]
 
 -- an entry's term expands to its tree's instructions
-pub entry_expands : (info : ModuleInfo) (first : ℕ) (entries : List StackEntry) → AreBelow (entry_nodes entries) → All IsOwnOrUndef entries → (i : ℕ) → i < length entries →
+pub entry_expands : (info : Module) (first : ℕ) (entries : List StackEntry) → AreBelow (entry_nodes entries) → All IsOwnOrUndef entries → (i : ℕ) → i < length entries →
     expansion_of (tree_at (entry_nodes entries) i) ≡ instructions_of (entry_tree info first entries i)
 entry_expands info first entries b m i l =
     let rs = reverse entries in
@@ -80,7 +80,7 @@ entry_expands info first entries b m i l =
     ∙ sym (ap (λ (x : List Entry). instructions_of (graph.tree_at x i)) graph_nodes))
 
 -- so does the expression that is laid out for an operator of a block's graph
-pub expr_expands : (info : ModuleInfo) (keeping : Bool) (first : ℕ) (operators : List (Operator × ℕ)) (entries : List StackEntry) (parents : List (Option ℕ)) (look : ℕ → Option ℕ) (at i : ℕ) (expr : List Lang) →
+pub expr_expands : (info : Module) (keeping : Bool) (first : ℕ) (operators : List (Operator × ℕ)) (entries : List StackEntry) (parents : List (Option ℕ)) (look : ℕ → Option ℕ) (at i : ℕ) (expr : List Lang) →
     IsGraphOf info keeping first operators entries parents look → look at ≡ Some i → term_of head_of children_of expr ≡ tree_at (entry_nodes entries) i →
     expansion_of (term_of head_of children_of expr) ≡ instructions_of (entry_tree info first entries i)
 expr_expands info keeping first operators entries parents look at i expr h l e =

@@ -9,7 +9,7 @@ use Rattle.std.proofs.lemmas.List.{length-reverse, length-map, reverse-append, m
 use Rattle.std.proofs.lemmas.List.Elements.{All-nil, All-cons, All-head, All-tail, All-append}
 use Rattle.wasm_code.specs.declared.operator.Operator.{Operator}
 use Rattle.wasm_code.specs.Instruction.{Instruction}
-use Rattle.mutate_base.specs.declared.module.ModuleInfo.{ModuleInfo}
+use Rattle.mutate_base.specs.Module.{Module}
 use Rattle.peephole_lang.specs.declared.lang.Head.{Head}
 use Rattle.peephole_lang.specs.Lang.{instr_of, children_of}
 use Rattle.peephole_lang.specs.Term.{Term, Node, AreBelow, pick, tree_at}
@@ -30,13 +30,13 @@ use Rattle.peephole_terms.proofs.LayoutForest.{whole, wholes, wholes-forest, one
 -- ---- an entry's term has as many nodes as its tree
 
 -- an entry of the graph, as a block's theory has it
-abbrev pub view : ModuleInfo → ℕ → StackEntry → Entry
+abbrev pub view : Module → ℕ → StackEntry → Entry
 view info first e = entry_of info first (seen e)
 
 abbrev pub Ordered : List StackEntry → Type 0
 Ordered rs = AreBelow (map node_of_entry rs)
 
-own_size : (info : ModuleInfo) (first : ℕ) (e : StackEntry) (earlier : List StackEntry) (o : Option Instruction) → instr_of e.operator ≡ o → IsOwnOrUndef e →
+own_size : (info : Module) (first : ℕ) (e : StackEntry) (earlier : List StackEntry) (o : Option Instruction) → instr_of e.operator ≡ o → IsOwnOrUndef e →
     ((is : List ℕ) → All (λ k. k < length earlier) is → size (pick (tree_at (map node_of_entry earlier)) is) ≡ wholes (graph.pick (graph.tree_at (map (view info first) earlier)) is)) →
     All (λ k. k < length earlier) (children_of e.operator) → (missing : ℕ) →
     suc (size (pick (tree_at (map node_of_entry earlier)) (children_of e.operator))) ≡ whole (tree_of_entry (view info first e).shape (children_of e.operator) (view info first e).number missing (graph.tree_at (map (view info first) earlier)))
@@ -63,7 +63,7 @@ sizes_same f g n same (i ∷ is) all = ap₂ (λ x y. x + y) (same i (All-head (
 pub last_or_before : (n i : ℕ) → i < suc n → (n ≡ i) ⊎ (i < n)
 last_or_before n i l = elim (eqb_tells n i) [ inl h ↦ inl h.1 | inr h ↦ let e = h.1 in inr (omega arith) ]
 
-same_size : (info : ModuleInfo) (first : ℕ) (rs : List StackEntry) → Ordered rs → All IsOwnOrUndef rs → (i : ℕ) → i < length rs →
+same_size : (info : Module) (first : ℕ) (rs : List StackEntry) → Ordered rs → All IsOwnOrUndef rs → (i : ℕ) → i < length rs →
     size_of (tree_at (map node_of_entry rs) i) ≡ whole (graph.tree_at (map (view info first) rs) i)
 same_size info first [] b m i l = absurd (omega arith)
 same_size info first (e ∷ earlier) b m i l =
@@ -82,7 +82,7 @@ same_size info first (e ∷ earlier) b m i l =
           ∙ (older i h ∙ sym (ap whole (cond-false _ _ _ (ne_eqb (length (map (view info first) earlier)) i (omega arith)))))
     ]
 
-same_children : (info : ModuleInfo) (first : ℕ) (rs : List StackEntry) (p : ℕ) → (node_at (map node_of_entry rs) p).children ≡ (entry_at (map (view info first) rs) p).children
+same_children : (info : Module) (first : ℕ) (rs : List StackEntry) (p : ℕ) → (node_at (map node_of_entry rs) p).children ≡ (entry_at (map (view info first) rs) p).children
 same_children info first [] p = refl
 same_children info first (e ∷ earlier) p =
     let n = length-map earlier node_of_entry in
@@ -139,7 +139,7 @@ one_child at i (j ∷ is) h = elim (or_cases (j == i) (has i is) h) [
   | inr e ↦ let rest = one_child at i is e in omega arith
 ]
 
-climb : (info : ModuleInfo) (first : ℕ) (keeping : Bool) (block : List Shape) (rs : List StackEntry) (ps : List (Option ℕ)) → Stands keeping block (map (view info first) rs) ps →
+climb : (info : Module) (first : ℕ) (keeping : Bool) (block : List Shape) (rs : List StackEntry) (ps : List (Option ℕ)) → Stands keeping block (map (view info first) rs) ps →
     Ordered rs → All IsOwnOrUndef rs → (fuel i : ℕ) → length rs ≤ i + fuel → i < length rs → size_of (tree_at (map node_of_entry rs) i) ≤ length block + lacking block
 climb info first keeping block rs ps st b m zero i f l = absurd (omega arith)
 climb info first keeping block rs ps st b m (suc fuel) i f l = go (parent_at ps i) refl (λ p below. climb info first keeping block rs ps st b m fuel p (omega arith))
@@ -173,7 +173,7 @@ map_turned f [] = refl
 map_turned f (x ∷ xs) =
     reverse-append (f x ∷ []) (map f xs) ∙ (ap (λ z. z ++ f x ∷ []) (map_turned f xs) ∙ (sym (map-append f (reverse xs) (x ∷ [])) ∙ ap (map f) (sym (reverse-append (x ∷ []) xs))))
 
-pub map_twice : (info : ModuleInfo) (first : ℕ) (entries : List StackEntry) → map (entry_of info first) (map seen entries) ≡ map (view info first) entries
+pub map_twice : (info : Module) (first : ℕ) (entries : List StackEntry) → map (entry_of info first) (map seen entries) ≡ map (view info first) entries
 map_twice info first [] = refl
 map_twice info first (e ∷ es) = ap (λ z. view info first e ∷ z) (map_twice info first es)
 
@@ -185,7 +185,7 @@ All_turned (e ∷ es) h =
 
 -- ---- the entries of a block's graph
 
-pub has_trees : (info : ModuleInfo) (keeping : Bool) (first : ℕ) (operators : List (Operator × ℕ)) (entries : List StackEntry) (parents : List (Option ℕ)) (look : ℕ → Option ℕ) →
+pub has_trees : (info : Module) (keeping : Bool) (first : ℕ) (operators : List (Operator × ℕ)) (entries : List StackEntry) (parents : List (Option ℕ)) (look : ℕ → Option ℕ) →
     IsGraphOf info keeping first operators entries parents look → HasTrees entries look
 has_trees info keeping first operators entries parents look h =
     let rs = reverse entries in

@@ -1,7 +1,7 @@
 -- The entries of a graph, as what they stand for. The code's lists ascend; those of the theory have the last entry first. This project's rule.
 use Rattle.std.specs.Prelude.{ℕ, ◌-◌, ◌≡◌, Bool, false, List, map, reverse, Option, option_map}
 use Rattle.wasm_code.specs.Instruction.{Instruction}
-use Rattle.mutate_base.specs.declared.module.ModuleInfo.{ModuleInfo}
+use Rattle.mutate_base.specs.Module.{Module}
 use Rattle.peephole_lang.specs.Lang.{instr_of, children_of}
 use Rattle.peephole_terms.specs.declared.dfg.StackEntry.{StackEntry}
 use Rattle.peephole_terms.specs.Shape.{Shape, Judged, Fits, Unfit, judge_instruction}
@@ -31,14 +31,14 @@ abbrev pub shape_of_judged : Instruction → Judged → Shape
 shape_of_judged i (Fits s) = s
 shape_of_judged i Unfit = record { instr = i; operands = 0; has_result = false; change = 0 }
 
-abbrev pub shape_of : ModuleInfo → Instruction → Shape
+abbrev pub shape_of : Module → Instruction → Shape
 shape_of info i = shape_of_judged i (judge_instruction info i)
 
 -- the operators are numbered from the block's first one on, whose index in the body is `first`
-abbrev pub entry_of : ModuleInfo → ℕ → Seen → Entry
+abbrev pub entry_of : Module → ℕ → Seen → Entry
 entry_of info first e = record { shape = option_map (shape_of info) e.instr; children = e.children; number = e.operator - first; colour = e.colour }
 
-abbrev pub nodes_of : ModuleInfo → ℕ → List StackEntry → List Entry
+abbrev pub nodes_of : Module → ℕ → List StackEntry → List Entry
 nodes_of info first entries = reverse (map (entry_of info first) (map seen entries))
 
 -- the indexes, ascending, of the entries without a parent
@@ -46,7 +46,7 @@ abbrev pub roots_of : List (Option ℕ) → List ℕ
 roots_of parents = reverse (roots (reverse parents))
 
 -- the tree of the entry with an index
-abbrev pub entry_tree : ModuleInfo → ℕ → List StackEntry → ℕ → Tree
+abbrev pub entry_tree : Module → ℕ → List StackEntry → ℕ → Tree
 entry_tree info first entries i = tree_at (nodes_of info first entries) i
 
 abbrev pub colours : List StackEntry → List ℕ

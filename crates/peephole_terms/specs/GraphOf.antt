@@ -2,9 +2,9 @@
 use Rattle.std.specs.Prelude.{ℕ, suc, ◌+◌, ◌-◌, ◌<◌, ◌≤◌, ◌≡◌, ◌↔◌, IsTrue, Bool, true, List, ◌∷◌, ◌++◌, length, map, reverse, Option, None, Some, is_some, slice_get}
 use Rattle.std.specs.List.{All}
 use Rattle.wasm_code.specs.declared.operator.Operator.{Operator}
-use Rattle.mutate_base.specs.declared.module.ModuleInfo.{ModuleInfo}
+use Rattle.mutate_base.specs.Module.{Module}
 use Rattle.mutate_base.specs.declared.error.Error.{Error}
-use Rattle.mutate_base.specs.declared.error.Error.TheVariants.{Memory, NoMutationsApplicable, TooLarge}
+use Rattle.mutate_base.specs.declared.error.Error.TheVariants.{Memory, TooLarge}
 use Rattle.peephole_lang.specs.Lang.{instr_of}
 use Rattle.peephole_lang.specs.declared.lang.Lang.TheVariants.{Undef}
 use Rattle.peephole_terms.specs.declared.dfg.StackEntry.{StackEntry}
@@ -23,7 +23,7 @@ abbrev pub IsOwnOrUndef : StackEntry → Type 0
 IsOwnOrUndef e = instr_of e.operator ≡ None → e.operator ≡ Undef
 
 -- The graph of a block whose first operator has the body's index `first`: its entries, its parents, and where `look` finds the own entry of an operator by the body's index.
-pub record IsGraphOf (info : ModuleInfo) (keeping : Bool) (first : ℕ) (operators : List (Operator × ℕ)) (entries : List StackEntry) (parents : List (Option ℕ)) (look : ℕ → Option ℕ) : Type 0 where
+pub record IsGraphOf (info : Module) (keeping : Bool) (first : ℕ) (operators : List (Operator × ℕ)) (entries : List StackEntry) (parents : List (Option ℕ)) (look : ℕ → Option ℕ) : Type 0 where
   pub fit : AreFit info operators
   pub small : IsSmall keeping (block_of info operators)
   pub stands : Stands keeping (block_of info operators) (nodes_of info first entries) (reverse parents)
@@ -35,7 +35,7 @@ pub record IsGraphOf (info : ModuleInfo) (keeping : Bool) (first : ℕ) (operato
   pub ordered : IsTrue (forwards (kins_of entries)) ↔ IsInOrder (block_of info operators)
 
 -- The first operator at fault, of which `P` holds with the block before it.
-pub record FirstFault (info : ModuleInfo) (keeping : Bool) (operators : List (Operator × ℕ)) (P : List Shape → Judged → Type 0) : Type 0 where
+pub record FirstFault (info : Module) (keeping : Bool) (operators : List (Operator × ℕ)) (P : List Shape → Judged → Type 0) : Type 0 where
   pub before : List (Operator × ℕ)
   pub at : Operator × ℕ
   pub rest : List (Operator × ℕ)
@@ -49,18 +49,18 @@ abbrev pub IsLarge : Bool → List Shape → Judged → Type 0
 IsLarge keeping block j = (s : Shape) × (j ≡ Fits s) × (IsSmall keeping (s ∷ block) → ⊥)
 
 -- the first operator at fault is one that no graph holds
-abbrev pub HasNoGraph : ModuleInfo → Bool → List (Operator × ℕ) → Type 0
+abbrev pub HasNoGraph : Module → Bool → List (Operator × ℕ) → Type 0
 HasNoGraph info keeping operators = FirstFault info keeping operators (λ b j. j ≡ Unfit)
 
 -- the first operator at fault has an index or a colour that does not fit
-abbrev pub IsTooLarge : ModuleInfo → Bool → List (Operator × ℕ) → Type 0
+abbrev pub IsTooLarge : Module → Bool → List (Operator × ℕ) → Type 0
 IsTooLarge info keeping operators = FirstFault info keeping operators (IsLarge keeping)
 
--- Why no graph was answered: at want of memory nothing is said.
-abbrev pub IsRefused : ModuleInfo → Bool → List (Operator × ℕ) → Error → Type 0
+-- Why no graph was answered: at want of memory nothing is said, and no error is answered but these two.
+abbrev pub IsRefused : Module → Bool → List (Operator × ℕ) → Error → Type 0
 IsRefused info keeping operators Memory = Unit {0}
 IsRefused info keeping operators TooLarge = IsTooLarge info keeping operators
-IsRefused info keeping operators NoMutationsApplicable = ⊥
+IsRefused info keeping operators _ = ⊥
 
 -- What a builder keeps: whether the order of effects is to be preserved.
 pub record Mode : Type 0 where

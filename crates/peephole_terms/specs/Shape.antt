@@ -8,7 +8,7 @@ use Rattle.wasm_code.specs.declared.table.ResultKind.{ResultKind}
 use Rattle.wasm_code.specs.declared.table.ResultKind.TheVariants.{Nothing}
 use Rattle.wasm_code.specs.declared.operator.Operator.{Operator}
 use Rattle.wasm_code.specs.declared.operator.Operator.TheVariants.{Instr}
-use Rattle.mutate_base.specs.declared.module.ModuleInfo.{ModuleInfo}
+use Rattle.mutate_base.specs.Module.{Module}
 use Rattle.peephole_lang.specs.Lang.{has_node}
 -- a shape has the fields `instr`, `operands`, `has_result` and `change`; an operator is judged to fit with a shape, or to be unfit
 pub use Rattle.peephole_terms.specs.declared.shape.Shape.{Shape}
@@ -33,11 +33,11 @@ abbrev pub judge_with_node : Bool → Instruction → Judged
 judge_with_node false i = Unfit
 judge_with_node true i = judge_found i (info_of i.row)
 
-abbrev pub judge_instruction : ModuleInfo → Instruction → Judged
+abbrev pub judge_instruction : Module → Instruction → Judged
 judge_instruction info i = judge_with_node (has_node i.row) i
 
 -- an instruction by its row; no other operator fits
-abbrev pub judge : ModuleInfo → Operator → Judged
+abbrev pub judge : Module → Operator → Judged
 judge info (Instr i) = judge_instruction info i
 judge info _ = Unfit
 
@@ -46,7 +46,7 @@ IsFit (Fits s) = Unit {0}
 IsFit Unfit = ⊥
 
 -- Operators with their offsets, which count for nothing here.
-abbrev pub AreFit : ModuleInfo → List (Operator × ℕ) → Type 0
+abbrev pub AreFit : Module → List (Operator × ℕ) → Type 0
 AreFit info operators = All (λ (o : Operator × ℕ). IsFit (judge info o.0)) operators
 
 abbrev pub and_shape : Judged → List Shape → List Shape
@@ -54,10 +54,10 @@ and_shape (Fits s) later = s ∷ later
 and_shape Unfit later = later
 
 -- the shapes of operators that all fit
-abbrev pub operator_shapes : ModuleInfo → List (Operator × ℕ) → List Shape
+abbrev pub operator_shapes : Module → List (Operator × ℕ) → List Shape
 operator_shapes info [] = []
 operator_shapes info (o ∷ os) = and_shape (judge info o.0) (operator_shapes info os)
 
 -- A block as the theory has it: the shapes of its operators, the last operator first.
-abbrev pub block_of : ModuleInfo → List (Operator × ℕ) → List Shape
+abbrev pub block_of : Module → List (Operator × ℕ) → List Shape
 block_of info operators = reverse (operator_shapes info operators)

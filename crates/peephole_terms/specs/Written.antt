@@ -5,7 +5,7 @@ use Rattle.wasm_code.specs.Instruction.{Instruction}
 use Rattle.wasm_code.specs.Code.{codes}
 use Rattle.wasm_code.specs.Body.{SpellsBody}
 use Rattle.wasm_code.specs.declared.operator.Operator.{Operator}
-use Rattle.mutate_base.specs.declared.module.ModuleInfo.{ModuleInfo}
+use Rattle.mutate_base.specs.Module.{Module}
 use Rattle.peephole_lang.specs.declared.lang.Head.{Head}
 use Rattle.peephole_lang.specs.Term.{Term}
 use Rattle.peephole_terms.specs.Block.{BlockRange, IsBlockOf}
@@ -22,11 +22,11 @@ replaced first at code (entry m ▸ ts) = replaced first at code ts
 replaced first at code (node i s kids ▸ ts) = (if first + i == at then code else instructions_of (node i s kids)) ++ replaced first at code ts
 
 -- the block's shapes, the last operator's first
-abbrev pub shapes_in : ModuleInfo → List (Operator × ℕ) → BlockRange → List Shape
+abbrev pub shapes_in : Module → List (Operator × ℕ) → BlockRange → List Shape
 shapes_in info operators block = block_of info (slice_range operators block.start block.end)
 
 -- what the block is written as
-abbrev pub written_block : ModuleInfo → List (Operator × ℕ) → BlockRange → ℕ → Term Head → List Instruction
+abbrev pub written_block : Module → List (Operator × ℕ) → BlockRange → ℕ → Term Head → List Instruction
 written_block info operators block at term = replaced block.start at (expansion_of term) (forest (shapes_in info operators block))
 
 -- where an operator starts in the input

@@ -17,10 +17,14 @@ pub use builder::DFGBuilder;
 pub use dfg::{MiniDFG, StackEntry};
 pub use encoder::expr2wasm::expr2wasm;
 pub use encoder::{Encoder, ResourceRequest};
-pub use mutate_base::{Error, ModuleInfo, PrimitiveTypeInfo, TermError, WasmMutate, Words};
+pub use mutate_base::{
+    ElementType, Error, F32, F64, FuncInfo, MemArg, MemArgLane, MemoryCopy, MemoryInit, MemoryType,
+    ModuleInfo, PrimitiveTypeInfo, RefType, Shuffle, TableCopy, TableInit, TableType, TermError,
+    TypeInfo, WasmMutate, Words, read_val_type,
+};
 pub use peephole_lang::{Id, Lang, Language, RecExpr};
 pub use wasm_code::{
-    AbstractHeapType, BlockType, Function, HeapType, Imm, Instr, MemArg, Opcode, Operator,
+    AbstractHeapType, BlockType, Function, HeapType, Imm, Instr, Opcode, Operator,
     OperatorAndByteOffset, ReadError, ReadKind, ResultKind, RowInfo, SinkError, ValType, read_body,
     row_info, row_of,
 };

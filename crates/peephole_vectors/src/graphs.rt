@@ -61,7 +61,7 @@ fn is_graph(
     let mut config: WasmMutate<Words> = WasmMutate::new();
     config.preserve_semantics(preserving);
     let mut builder = DFGBuilder::new(&config);
-    let info = ModuleInfo::new(bytes);
+    let info = ModuleInfo::new(alloc, bytes);
     let Some(block) = builder.get_bb_from_operator(at, &operators) else {
         assert!(rt; false, "no block");
         return Ok(());
@@ -106,7 +106,7 @@ fn no_graph(rt: HostRuntime) -> Result<(), Fail> {
     let operators = read_body(alloc, &bytes, 0, bytes.len())?;
     let config: WasmMutate<Words> = WasmMutate::new();
     let mut builder = DFGBuilder::new(&config);
-    let info = ModuleInfo::new(&bytes);
+    let info = ModuleInfo::new(alloc, &bytes);
     assert!(rt; operators.len() == 3);
     let Some(block) = builder.get_bb_from_operator(1, &operators) else {
         assert!(rt; false, "no block");

@@ -24,7 +24,7 @@ fn is_written(
     assert!(rt; last < operators.len());
     let mut config: WasmMutate<Words> = WasmMutate::new();
     config.preserve_semantics(preserving);
-    config.set_up(ModuleInfo::new(bytes), Words::new(Vec::new(alloc)));
+    config.set_up(ModuleInfo::new(alloc, bytes), Words::new(Vec::new(alloc)));
     let mut builder = DFGBuilder::new(&config);
     let Some(block) = builder.get_bb_from_operator(last, &operators) else {
         assert!(rt; false, "no block");
@@ -158,7 +158,7 @@ fn own_trees(rt: HostRuntime) -> Result<(), Fail> {
 fn terms_alone(rt: HostRuntime) -> Result<(), Fail> {
     let alloc = rt.alloc();
     let mut config: WasmMutate<Words> = WasmMutate::new();
-    config.set_up(ModuleInfo::new(&[]), Words::new(Vec::new(alloc)));
+    config.set_up(ModuleInfo::new(alloc, &[]), Words::new(Vec::new(alloc)));
     let mut term = RecExpr::new(alloc);
     let missing = term.add(Lang::Undef)?;
     let local = term.add(Lang::LocalGet(300))?;

@@ -1,14 +1,14 @@
 use Rattle.std.proofs.Common.{◌≡◌, ℕ, List, get_or, sym, ap, ◌∙◌}
 use Rattle.std.proofs.lemmas.Result.{err_from_is_err_and}
 use Rattle.wasm_code.specs.declared.operator.Operator.{Operator}
-use Rattle.mutate_base.specs.declared.module.ModuleInfo.{ModuleInfo}
+use Rattle.mutate_base.specs.Module.{Module}
 use Rattle.peephole_terms.specs.Shape.{Judged, Unfit, judge}
 use Rattle.peephole_terms.proofs.BuilderLemmas.{shape_makes, kept_low, kept_parents, kept_room, kept_next, kept_all, refused, fault}
 use Rattle.peephole_terms.proofs.DfgLemmas.{sizes_count, flags_count}
 use Rattle.peephole_terms.proofs.builder.build.Goals as goal
 
 -- of the operator that was read
-judged : (info : ModuleInfo) (operators : List (Operator × ℕ)) (i : ℕ) (o : Operator × ℕ) (j : Judged) → o ≡ get_or operators i o → j ≡ judge info o.0 → j ≡ judge info (get_or operators i o).0
+judged : (info : Module) (operators : List (Operator × ℕ)) (i : ℕ) (o : Operator × ℕ) (j : Judged) → o ≡ get_or operators i o → j ≡ judge info o.0 → j ≡ judge info (get_or operators i o).0
 judged info operators i o j e h = h ∙ ap (λ (x : Operator × ℕ). judge info x.0) e
 
 pub add_operator-requires-clause-fits : goal.add_operator-requires-clause-fits

@@ -4,7 +4,7 @@ use Rattle.std.proofs.lemmas.Grind.{common_steps}
 use Rattle.std.specs.Bool.{nat_eq}
 use Rattle.std.specs.HashMap as hash
 use Rattle.wasm_code.specs.declared.operator.Operator.{Operator}
-use Rattle.mutate_base.specs.declared.module.ModuleInfo.{ModuleInfo}
+use Rattle.mutate_base.specs.Module.{Module}
 use Rattle.peephole_terms.specs.declared.dfg.MiniDFG.{MiniDFG}
 use Rattle.peephole_terms.specs.declared.dfg.StackEntry.{StackEntry}
 use Rattle.peephole_terms.specs.Dfg.{entries_of, parents_of, look_of}
@@ -17,20 +17,20 @@ use Rattle.peephole_terms.proofs.LayoutTrees.{has_trees}
 use Rattle.peephole_terms.proofs.builder.DFGBuilder.get_dfg.Goals.{in-None, in-Some}
 use Rattle.peephole_terms.proofs.builder.DFGBuilder.get_dfg.Goals as goal
 
-graph_is : (info : ModuleInfo) (keeping : Bool) (first : ℕ) (operators : List (Operator × ℕ)) (entries : List StackEntry) (parents : List (Option ℕ)) (look : ℕ → Option ℕ) (g : MiniDFG) → IsGraphOf info keeping first operators entries parents look →
+graph_is : (info : Module) (keeping : Bool) (first : ℕ) (operators : List (Operator × ℕ)) (entries : List StackEntry) (parents : List (Option ℕ)) (look : ℕ → Option ℕ) (g : MiniDFG) → IsGraphOf info keeping first operators entries parents look →
     ((k : ℕ) → look_of g k ≡ look k) → entries_of g ≡ entries → parents_of g ≡ parents → IsGraphOf info keeping first operators (entries_of g) (parents_of g) (look_of g)
 graph_is info keeping first operators entries parents look g h m e p =
     let P : List StackEntry → List (Option ℕ) → (ℕ → Option ℕ) → Type 0 = λ x y z. IsGraphOf info keeping first operators x y z in
     let look_is : look ≡ look_of g = λ i k. sym (m k) i in
     subst (λ x. P x (parents_of g) (look_of g)) (sym e) (subst (λ y. P entries y (look_of g)) (sym p) (subst (λ z. P entries parents z) look_is h))
 
-abbrev Answers : ModuleInfo → Bool → ℕ → List (Operator × ℕ) → Result (Option MiniDFG) Error → Type 0
+abbrev Answers : Module → Bool → ℕ → List (Operator × ℕ) → Result (Option MiniDFG) Error → Type 0
 Answers info keeping first operators r = IfOk r (λ o. IfSome o (λ g. IsGraphOf info keeping first operators (entries_of g) (parents_of g) (look_of g)))
 
-none_is : (info : ModuleInfo) (keeping : Bool) (first : ℕ) (operators : List (Operator × ℕ)) (r : Result (Option MiniDFG) Error) → r ≡ Ok None → Answers info keeping first operators r
+none_is : (info : Module) (keeping : Bool) (first : ℕ) (operators : List (Operator × ℕ)) (r : Result (Option MiniDFG) Error) → r ≡ Ok None → Answers info keeping first operators r
 none_is info keeping first operators r e = subst (Answers info keeping first operators) (sym e) tt
 
-some_is : (info : ModuleInfo) (keeping keeping' : Bool) (first first' : ℕ) (operators operators' : List (Operator × ℕ)) (o : Option Growing) (g : Growing) (d : MiniDFG) (r : Result (Option MiniDFG) Error) →
+some_is : (info : Module) (keeping keeping' : Bool) (first first' : ℕ) (operators operators' : List (Operator × ℕ)) (o : Option Growing) (g : Growing) (d : MiniDFG) (r : Result (Option MiniDFG) Error) →
     MatchOption o (HasNoGraph info keeping operators) (λ g. HasGrown info keeping first operators g) → o ≡ Some g → keeping ≡ keeping' → first ≡ first' → operators ≡ operators' →
     ((k : ℕ) → look_of d k ≡ hash.get nat_eq g.map k) → entries_of d ≡ g.entries.items → parents_of d ≡ g.parents.items → r ≡ Ok (Some d) → Answers info keeping' first' operators' r
 some_is info keeping keeping' first first' operators operators' o g d r h s a b c m e p w =
@@ -48,7 +48,7 @@ returns-clause-graph c = elim c.match-growing.branch [
       (ap₂ (slice_range c.args.operators.now) c.range-range.ensures.start c.range-range.ensures.end) w.of_parts.ensures.map w.of_parts.ensures.entries w.of_parts.ensures.parents w.result-is
 ]
 
-trees_are : (info : ModuleInfo) (keeping : Bool) (first : ℕ) (operators : List (Operator × ℕ)) (o : Option Growing) (g : Growing) →
+trees_are : (info : Module) (keeping : Bool) (first : ℕ) (operators : List (Operator × ℕ)) (o : Option Growing) (g : Growing) →
     MatchOption o (HasNoGraph info keeping operators) (λ g. HasGrown info keeping first operators g) → o ≡ Some g → HasTrees g.entries.items (hash.get nat_eq g.map)
 trees_are info keeping first operators o g h s =
     has_trees info keeping first operators g.entries.items g.parents.items (hash.get nat_eq g.map)

@@ -1,0 +1,32 @@
+//! What holds of payloads and their texts, for every caller.
+ghost use Rattle.std.specs.Prelude.{◌≡◌, ◌<◌, ◌^◌, Ok, length};
+ghost use Rattle.std.specs.List.{AllByRecursion};
+ghost use Rattle.wasm_code.specs.declared.immediate.ValType.{ValType};
+ghost use Rattle.wasm_code.specs.ValType.{val_type_name};
+ghost use Rattle.mutate_base.specs.PayloadText as text;
+ghost use Rattle.mutate_base.specs.declared.float.F32.{F32};
+ghost use Rattle.mutate_base.specs.declared.float.F64.{F64};
+ghost use Rattle.mutate_base.specs.declared.payload.RefType.{RefType};
+ghost use Rattle.mutate_base.specs.declared.payload.MemArg.{MemArg};
+ghost use Rattle.mutate_base.specs.declared.payload.MemArgLane.{MemArgLane};
+ghost use Rattle.mutate_base.specs.declared.payload.Shuffle.{Shuffle};
+ghost use Rattle.mutate_base.specs.declared.payload.TableCopy.{TableCopy};
+ghost use Rattle.mutate_base.specs.declared.payload.MemoryCopy.{MemoryCopy};
+ghost use Rattle.mutate_base.specs.declared.payload.TableInit.{TableInit};
+ghost use Rattle.mutate_base.specs.declared.payload.MemoryInit.{MemoryInit};
+
+/// A payload's text reads as that payload, where its numbers are within their types.
+pub fn payload_texts_read_back()
+    ensures f32 { (x : F32) → x.bits < 2 ^ 32 → text.read_f32 (text.f32_text x) ≡ Ok x }
+    ensures f64 { (x : F64) → x.bits < 2 ^ 64 → text.read_f64 (text.f64_text x) ≡ Ok x }
+    ensures ref_type { (x : RefType) → text.read_ref_type (text.ref_type_text x) ≡ Ok x }
+    ensures val_type { (x : ValType) → text.read_val_type (val_type_name x) ≡ Ok x }
+    ensures mem_arg { (x : MemArg) → x.static_offset < 2 ^ 64 → x.align < 2 ^ 8 → x.mem < 2 ^ 32 → text.read_mem_arg (text.mem_arg_text x) ≡ Ok x }
+    ensures mem_arg_lane { (x : MemArgLane) → x.memarg.static_offset < 2 ^ 64 → x.memarg.align < 2 ^ 8 → x.memarg.mem < 2 ^ 32 → x.lane < 2 ^ 8
+        → text.read_mem_arg_lane (text.mem_arg_lane_text x) ≡ Ok x }
+    ensures shuffle { (x : Shuffle) → length x.indices ≡ 16 → AllByRecursion (λ n. n < 256) x.indices → text.read_shuffle (text.shuffle_text x) ≡ Ok x }
+    ensures table_copy { (x : TableCopy) → x.src < 2 ^ 32 → x.dst < 2 ^ 32 → text.read_table_copy (text.table_copy_text x) ≡ Ok x }
+    ensures memory_copy { (x : MemoryCopy) → x.src < 2 ^ 32 → x.dst < 2 ^ 32 → text.read_memory_copy (text.memory_copy_text x) ≡ Ok x }
+    ensures table_init { (x : TableInit) → x.table < 2 ^ 32 → x.segment < 2 ^ 32 → text.read_table_init (text.table_init_text x) ≡ Ok x }
+    ensures memory_init { (x : MemoryInit) → x.memory < 2 ^ 32 → x.segment < 2 ^ 32 → text.read_memory_init (text.memory_init_text x) ≡ Ok x }
+{}
