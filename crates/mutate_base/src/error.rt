@@ -11,7 +11,7 @@ pub enum Error {
     /// An allocation was refused.
     #[error("Memory")]
     Memory,
-    /// No mutation of the given place writes anything.
+    /// While the meaning is to be preserved, the trees of the block don't lie one after another.
     #[error("NoMutationsApplicable")]
     NoMutationsApplicable,
     /// The module has no function with this index, or no type for it.
@@ -38,7 +38,7 @@ pub enum Error {
     /// A requested global would need an index of more than 32 bits.
     #[error("GlobalIndex")]
     GlobalIndex,
-    /// A place or a colour would need more than 32 bits.
+    /// A place would need more than 32 bits, or an operator's colour would be 4294967295 or more.
     #[error("TooLarge")]
     TooLarge,
 }

@@ -1,8 +1,10 @@
 //! What holds of payloads and their texts, for every caller.
-ghost use Rattle.std.specs.Prelude.{◌≡◌, ◌<◌, ◌^◌, Ok, length};
+ghost use Rattle.std.specs.Prelude.{◌≡◌, ◌<◌, ◌≤◌, ◌^◌, ◌-◌, ℕ, ℤ, pos, neg_ℤ, ◌≤ℤ◌, ◌<ℤ◌, Some, Ok, length};
+ghost use Rattle.std.specs.Fmt.{decimal, signed_decimal};
 ghost use Rattle.std.specs.List.{AllByRecursion};
 ghost use Rattle.wasm_code.specs.declared.immediate.ValType.{ValType};
 ghost use Rattle.wasm_code.specs.ValType.{val_type_name};
+ghost use Rattle.mutate_base.specs.Number.{read_unsigned, read_signed};
 ghost use Rattle.mutate_base.specs.PayloadText as text;
 ghost use Rattle.mutate_base.specs.declared.float.F32.{F32};
 ghost use Rattle.mutate_base.specs.declared.float.F64.{F64};
@@ -17,6 +19,8 @@ ghost use Rattle.mutate_base.specs.declared.payload.MemoryInit.{MemoryInit};
 
 /// A payload's text reads as that payload, where its numbers are within their types.
 pub fn payload_texts_read_back()
+    ensures unsigned { (bits n : ℕ) → n < 2 ^ bits → n < 2 ^ 64 → read_unsigned bits (decimal n) ≡ Some n }
+    ensures signed { (bits : ℕ) (z : ℤ) → bits ≤ 128 → neg_ℤ (pos (2 ^ (bits - 1))) ≤ℤ z → z <ℤ pos (2 ^ (bits - 1)) → read_signed bits (signed_decimal z) ≡ Some z }
     ensures f32 { (x : F32) → x.bits < 2 ^ 32 → text.read_f32 (text.f32_text x) ≡ Ok x }
     ensures f64 { (x : F64) → x.bits < 2 ^ 64 → text.read_f64 (text.f64_text x) ≡ Ok x }
     ensures ref_type { (x : RefType) → text.read_ref_type (text.ref_type_text x) ≡ Ok x }

@@ -8,7 +8,7 @@ use std::marker::Model;
 /// What is known of the module that a body comes from. A contract sees the lists.
 #[derive(Debug, Drop)]
 pub struct ModuleInfo<'a> {
-    /// The module's bytes, of which the bodies' offsets count.
+    /// The module's bytes, from whose start the offsets of bodies count.
     pub input_wasm: &'a [u8],
     /// The types of the globals.
     pub global_types: Vec<PrimitiveTypeInfo>,

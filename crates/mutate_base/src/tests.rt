@@ -1,4 +1,4 @@
-//! Tests, of what no clause says: each public call once, and texts typed from outside.
+//! Tests, of what no clause says: the calls on modules and words, and texts typed from outside.
 
 mod module;
 mod payload;

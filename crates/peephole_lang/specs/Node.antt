@@ -1,5 +1,5 @@
 -- What is true of every node of `Lang` (this project), and what its comparisons say of it.
-use Rattle.std.specs.Prelude.{◌≡◌, ℕ, ◌==◌, ◌&&◌, length, Bool, true, false, Ok, refl}
+use Rattle.std.specs.Prelude.{◌≡◌, ℕ, ◌==◌, ◌&&◌, ◌++◌, length, Bool, true, false, Ok, refl}
 use Rattle.std.specs.Bool.{Decides}
 use Rattle.std.specs.Cmp.{IsEquivalence, unsigned_Decides, signed_Decides}
 use Rattle.std.proofs.Common.{ap, ap₂}
@@ -11,7 +11,7 @@ use Rattle.peephole_lang.specs.Lang.{Payload, Head, place_of, payload_of, ids_of
 use Rattle.peephole_lang.specs.Lang.payload as payload
 use Rattle.peephole_lang.specs.Language.{IsAlike, alike_equivalence}
 use Rattle.peephole_lang.specs.Compared.{lang_matches, given_of}
-use Rattle.peephole_lang.specs.Text.{text_of, reads}
+use Rattle.peephole_lang.specs.Text.{variants, name_in, payload_text, text_of, reads}
 use Rattle.peephole_lang.specs.ReadBackLemmas.{reads_back}
 
 -- its numbers are of their types, and it has as many children as its variant
@@ -63,3 +63,7 @@ matches_equivalence = alike_equivalence head_of ids_of lang_matches matches_exac
 
 pub node_reads_back : (l : Lang) → IsNode l → reads (text_of l) (length (ids_of l)) ≡ Ok (head_of l)
 node_reads_back l is = reads_back l is.0 is.1
+
+-- a node's text is its head's
+pub says : (l m : Lang) → head_of l ≡ head_of m → text_of l ≡ text_of m
+says l m e = ap (λ (h : Head). name_in variants h.place ++ payload_text h.payload) e

@@ -26,11 +26,13 @@ pub trait Language: Display + Drop {
     // the places that they name
     ghost children: { Self → List ℕ };
 
+    // what it displays as
     ghost text: { Self → List ℕ };
 
     // the head that a text reads as, given that many children, or the refusal
     ghost reads: { List ℕ → ℕ → Result Self.Head TermError };
 
+    // both say the same and have as many children
     ghost matches: { Self → Self → Bool };
 
     // the node with these children in the place of its own
@@ -65,6 +67,9 @@ pub trait Language: Display + Drop {
 
     // the places of the children are those that their ids name
     ghost numbers: { (l : Self) → children l ≡ numbers_of (ids l) };
+
+    // what a node is decides its text
+    ghost says: { (l m : Self) → head l ≡ head m → text l ≡ text m };
 
     // a node displays as its text
     ghost displays: { (l : Self) → Self.output l ≡ Some (text l) };

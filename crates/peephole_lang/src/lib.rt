@@ -20,3 +20,7 @@ pub use lang::{Head, Lang, Payload};
 pub use language::Language;
 pub use lending::no_children;
 pub use making::has_node;
+pub use mutate_base::{
+    F32, F64, MemArg, MemArgLane, MemoryCopy, MemoryInit, RefType, Shuffle, TableCopy, TableInit,
+    TermError,
+};

@@ -5,7 +5,7 @@ ghost use Rattle.peephole_lang.specs.Text.{text_of, reads};
 ghost use Rattle.peephole_lang.specs.Compared.{lang_matches};
 ghost use Rattle.peephole_lang.specs.WithIds.{with_ids};
 ghost use Rattle.peephole_lang.specs.WithIdsLemmas.{keeps_head, has_written};
-ghost use Rattle.peephole_lang.specs.Node.{IsNode, matches_exactly, matches_equivalence, node_reads_back};
+ghost use Rattle.peephole_lang.specs.Node.{IsNode, matches_exactly, matches_equivalence, says, node_reads_back};
 
 use crate::id::Id;
 use crate::lang::{Head, Lang};
@@ -43,6 +43,7 @@ impl Language for Lang {
     ghost IsNode = { IsNode };
 
     fn children(&self) -> &[Id] {
+        // the payload's numbers are of their types, which the trait's contract says too
         let _in_range = self.payload().imm();
         self.children()
     }
@@ -67,6 +68,8 @@ impl Language for Lang {
     }
 
     ghost numbers = { λ l. refl };
+
+    ghost says = { says };
 
     ghost displays = { λ l. refl };
 

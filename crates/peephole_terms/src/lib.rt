@@ -22,7 +22,7 @@ pub use mutate_base::{
     ModuleInfo, PrimitiveTypeInfo, RefType, Shuffle, TableCopy, TableInit, TableType, TermError,
     TypeInfo, WasmMutate, Words, read_val_type,
 };
-pub use peephole_lang::{Id, Lang, Language, RecExpr};
+pub use peephole_lang::{Children, Head, Id, Lang, Language, Payload, RecExpr};
 pub use wasm_code::{
     AbstractHeapType, BlockType, Function, HeapType, Imm, Instr, Opcode, Operator,
     OperatorAndByteOffset, ReadError, ReadKind, ResultKind, RowInfo, SinkError, ValType, read_body,

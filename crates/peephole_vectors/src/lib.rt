@@ -1,8 +1,16 @@
-//! Examples from outside, as tests. The crate has no code of its own.
+//! Examples from outside, as tests, and a second small kind of nodes with callers that know no more than the trait says.
 #![tactic(auto)]
+
+mod arith;
+mod uses;
+
+pub use arith::{Arith, ArithHead};
+pub use uses::{all_first, read_again, set_first};
 
 #[cfg(test)]
 mod graphs;
+#[cfg(test)]
+mod languages;
 #[cfg(test)]
 mod names;
 #[cfg(test)]

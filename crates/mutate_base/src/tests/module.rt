@@ -1,4 +1,4 @@
-//! Each public call once on its happy path, and the words that are drawn.
+//! Modules, configurations, and the words that are drawn.
 
 use crate::{
     ElementType, Error, FuncInfo, MemoryType, ModuleInfo, PrimitiveTypeInfo, TableType, TypeInfo,

@@ -1,10 +1,14 @@
 use Rattle.std.proofs.Common.{sym}
 use Rattle.mutate_base.proofs.LawLemmas.{f32_back, f64_back, ref_type_back, mem_back, mem_lane_back, shuffle_back, table_copy_back, memory_copy_back, table_init_back, memory_init_back}
+use Rattle.mutate_base.proofs.NumberBack.{signed_in_range_back}
 use Rattle.mutate_base.proofs.PayloadLemmas.{same_type}
+use Rattle.mutate_base.proofs.ReadBackLemmas.{unsigned_back}
 use Rattle.mutate_base.proofs.laws.payload_texts_read_back.Goals as goal
 
 pub returns : goal.returns
 returns c = record {
+  unsigned = unsigned_back;
+  signed = signed_in_range_back;
   f32 = f32_back;
   f64 = f64_back;
   ref_type = ref_type_back;

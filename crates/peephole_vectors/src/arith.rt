@@ -1,0 +1,138 @@
+//! The nodes of arithmetic, and their texts.
+ghost use Rattle.std.specs.Prelude.{◌≡◌, Some, codes, refl};
+ghost use Rattle.std.specs.Option.{option_copied};
+ghost use Rattle.peephole_lang.specs.Text.{after};
+ghost use Rattle.peephole_vectors.specs.Arith.{head_of, ids_of, children_of, with_ids, IsNode, arith_matches, text_of, reads, says, reads_back, keeps_head, has_written, matches_exactly, matches_equivalence};
+
+use mutate_base::number::read_u32;
+use mutate_base::{Error, TermError};
+use peephole_lang::{Children, Id, Language, no_children};
+use std::fmt;
+
+/// What a node is, apart from its children.
+#[derive(Clone, Copy, Debug, PartialEq, Eq)]
+pub enum ArithHead {
+    Num(u32),
+    Neg,
+    Sum,
+}
+
+/// A node of a term of arithmetic.
+#[derive(Drop)]
+pub enum Arith {
+    /// `num.1`: a number
+    Num(u32),
+    /// `neg`: the negative of its child
+    Neg(Id),
+    /// `sum`: the sum of its children
+    Sum([Id; 2]),
+}
+
+// The text behind `num.`.
+fn behind_num(text: &str) -> Option<&str>
+    ensures { option_copied result ≡ after (codes "num.") text.now }
+{
+    match text.strip_prefix("num.") {
+        Some(digits) => Some(digits),
+        None => None,
+    }
+}
+
+impl fmt::Display for Arith {
+    ghost output = { λ a. Some (text_of a) };
+
+    fn fmt<W: fmt::Write>(&self, f: &mut fmt::Formatter<W>) -> fmt::Result {
+        match self {
+            Arith::Num(number) => write!(f, "num.{number}"),
+            Arith::Neg(_) => write!(f, "neg"),
+            Arith::Sum(_) => write!(f, "sum"),
+        }
+    }
+}
+
+impl Language for Arith {
+    type Head = ArithHead;
+
+    ghost head = { head_of };
+
+    ghost ids = { ids_of };
+
+    ghost children = { children_of };
+
+    ghost text = { text_of };
+
+    ghost reads = { reads };
+
+    ghost matches = { arith_matches };
+
+    ghost with_ids = { with_ids };
+
+    ghost IsNode = { IsNode };
+
+    fn children(&self) -> &[Id] {
+        match self {
+            Arith::Num(number) => {
+                let _in_range = *number;
+                &[]
+            }
+            Arith::Neg(child) => std::slice::from_ref(child),
+            Arith::Sum(children) => children,
+        }
+    }
+
+    fn children_mut(&mut self) -> &mut [Id] {
+        match self {
+            Arith::Num(_) => no_children(self),
+            Arith::Neg(child) => std::slice::from_mut(child),
+            Arith::Sum(children) => children.as_mut_slice(),
+        }
+    }
+
+    fn matches(&self, other: &Arith) -> bool {
+        match (self, other) {
+            (Arith::Num(number), Arith::Num(second)) => *number == *second,
+            (Arith::Neg(_), Arith::Neg(_)) => true,
+            (Arith::Sum(first), Arith::Sum(second)) => first.as_slice().len()
+                == second.as_slice().len(),
+            _ => false,
+        }
+    }
+
+    fn from_op_str(op_str: &str, given: Vec<Id>) -> Result<Arith, TermError> {
+        if op_str == "neg" {
+            return Ok(Arith::Neg(Children::from(given)?));
+        }
+        if op_str == "sum" {
+            return Ok(Arith::Sum(Children::from(given)?));
+        }
+        match behind_num(op_str) {
+            Some(_) if !given.is_empty() => Err(TermError::ExpectedZeroChildren),
+            Some(digits) => Ok(Arith::Num(read_u32(digits)?)),
+            None => Err(TermError::InvalidToken),
+        }
+    }
+
+    fn clone_node(&self) -> Result<Arith, Error> {
+        Ok(match self {
+            Arith::Num(number) => Arith::Num(*number),
+            Arith::Neg(child) => Arith::Neg(*child),
+            Arith::Sum(children) => Arith::Sum(*children),
+        })
+    }
+
+    ghost numbers = { λ a. refl };
+
+    ghost says = { says };
+
+    ghost displays = { λ a. refl };
+
+    ghost matches_exactly = { matches_exactly };
+
+    ghost matches_equivalence = { matches_equivalence };
+
+    ghost keeps_head = { keeps_head };
+
+    ghost has_written = { has_written };
+
+    ghost text_reads_back = { reads_back };
+}
