@@ -44,16 +44,6 @@ read_some count text long all =
     ap (λ b. if b && AllHex text then Some (digits_value 16 text) else None) (eq-eqb (length text) count long)
     ∙ ap (λ b. if b then Some (digits_value 16 text) else None) (all_hex text all)
 
-pub other_length : (count : ℕ) (text : List ℕ) → length text ≢ count → None ≡ read_hex count text
-other_length count text other = sym (read_none count text (λ long all. other long))
-
-no_plus : (text : List ℕ) → get_or text 0 0 ≡ 43 → 0 < length text → AllDigits 16 text → ⊥
-no_plus [] plus some all = absurd (omega arith)
-no_plus (c ∷ cs) plus some all = let low : digit_value 43 < 16 = subst (λ x. digit_value x < 16) plus all.0 in omega arith
-
-pub plus_is_no_digit : (count : ℕ) (text : List ℕ) → 0 < length text → get_or text 0 0 ≡ 43 → None ≡ read_hex count text
-plus_is_no_digit count text some plus = sym (read_none count text (λ long all. no_plus text plus some all))
-
 pub parsed : (E : Type 0) (count n : ℕ) (text : List ℕ) → length text ≡ count → get_or text 0 0 ≢ 43 → ParsesUnsigned {E = E} 64 16 text (Ok n)
     → (Some n ≡ read_hex count text) × (n < 16 ^ count)
 parsed E count n text long plain h =

@@ -1,10 +1,10 @@
 -- The loop that reads the lanes of a shuffle.
-use Rattle.std.proofs.Common.{◌≡◌, ◌≢◌, ℕ, suc, ◌+◌, ◌<◌, ◌≤◌, eqb, List, [], ◌∷◌, ◌++◌, length, take, drop, get_or, set, Result, Ok, Err, refl, sym, ap, ◌∙◌, ◌⊎◌, inl, inr, append_assoc, append-nil, length-append, length-set, arith}
+use Rattle.std.proofs.Common.{◌≡◌, ℕ, suc, ◌+◌, ◌<◌, ◌≤◌, eqb, List, [], ◌∷◌, ◌++◌, length, take, drop, get_or, set, Result, Ok, Err, refl, sym, ap, ◌∙◌, ◌⊎◌, inl, inr, append_assoc, append-nil, length-append, length-set, arith}
 use Rattle.std.specs.Prelude.{if◌then◌else◌}
 use Rattle.std.specs.Fmt.{decimal}
 use Rattle.std.specs.List.{flat_map}
 use Rattle.std.specs.Option.{ok_or}
-use Rattle.std.proofs.lemmas.Bool.{eq-eqb, ne_eqb}
+use Rattle.std.proofs.lemmas.Bool.{eq-eqb}
 use Rattle.std.proofs.lemmas.List.{take_all}
 use Rattle.std.proofs.Math.Seq.{take-suc-set}
 use Rattle.mutate_base.specs.Number.{read_unsigned}
@@ -95,11 +95,6 @@ whole text left indices count h e full = elim h.kept [
       sym (all_read text left h.done h.read e ∙ ap Made (sym same) ∙ ap (λ b. if b then Ok (record { indices = indices }) else Err WrongLanes) (eq-eqb (length indices) 16 h.long))
   | inr many ↦ absurd (omega arith)
 ]
-
-pub not_sixteen : (text : List ℕ) (left : List (List ℕ)) (indices : List ℕ) (count : ℕ) → Reading text left indices count → left ≡ [] → count ≢ 16 → Err WrongLanes ≡ read_shuffle text
-not_sixteen text left indices count h e other =
-    let differs : length h.done ≢ 16 = elim h.kept [ inl few ↦ (λ is. other (few.1 ∙ is)) | inr many ↦ (λ is. absurd (omega arith)) ] in
-    sym (all_read text left h.done h.read e ∙ ap (λ b. if b then Ok (record { indices = h.done }) else Err WrongLanes) (ne_eqb (length h.done) 16 differs))
 
 -- ---- writing
 

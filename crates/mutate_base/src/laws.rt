@@ -1,10 +1,13 @@
-//! What holds of payloads and their texts, for every caller.
-ghost use Rattle.std.specs.Prelude.{◌≡◌, ◌<◌, ◌≤◌, ◌^◌, ◌-◌, ℕ, ℤ, pos, neg_ℤ, ◌≤ℤ◌, ◌<ℤ◌, Some, Ok, length};
+//! What holds of payloads and their texts, and of words, for every caller.
+ghost use Rattle.std.specs.Prelude.{◌≡◌, ◌<◌, ◌≤◌, ◌^◌, ◌-◌, ◌+◌, ◌/◌, ◌%◌, List, drop, ℕ, ℤ, pos, neg_ℤ, ◌≤ℤ◌, ◌<ℤ◌, Some, Ok, length};
 ghost use Rattle.std.specs.Fmt.{decimal, signed_decimal};
 ghost use Rattle.std.specs.List.{AllByRecursion};
 ghost use Rattle.wasm_code.specs.declared.immediate.ValType.{ValType};
 ghost use Rattle.wasm_code.specs.ValType.{val_type_name};
+ghost use Rattle.rand_core.specs.Stream.{next_u32, next_u64, fill_bytes};
+ghost use Rattle.rand_core.specs.Steps.{fill_via_u64};
 ghost use Rattle.mutate_base.specs.Number.{read_unsigned, read_signed};
+ghost use Rattle.mutate_base.specs.Words.{word_step, word_stream};
 ghost use Rattle.mutate_base.specs.PayloadText as text;
 ghost use Rattle.mutate_base.specs.declared.float.F32.{F32};
 ghost use Rattle.mutate_base.specs.declared.float.F64.{F64};
@@ -33,4 +36,13 @@ pub fn payload_texts_read_back()
     ensures memory_copy { (x : MemoryCopy) → x.src < 2 ^ 32 → x.dst < 2 ^ 32 → text.read_memory_copy (text.memory_copy_text x) ≡ Ok x }
     ensures table_init { (x : TableInit) → x.table < 2 ^ 32 → x.segment < 2 ^ 32 → text.read_table_init (text.table_init_text x) ≡ Ok x }
     ensures memory_init { (x : MemoryInit) → x.memory < 2 ^ 32 → x.segment < 2 ^ 32 → text.read_memory_init (text.memory_init_text x) ≡ Ok x }
+{}
+
+/// What is drawn from given words, and the words that are left: 32 bits are the low half of the next word, 64 bits the next
+/// word, and bytes take a word for each eight of them or part of eight.
+pub fn words_are_drawn()
+    ensures u32 { (words : List ℕ) → next_u32 (word_stream words) ≡ ((word_step words).0 % 2 ^ 32, word_stream (word_step words).1) }
+    ensures u64 { (words : List ℕ) → next_u64 (word_stream words) ≡ ((word_step words).0, word_stream (word_step words).1) }
+    ensures bytes { (n : ℕ) (words : List ℕ) → fill_bytes n (word_stream words) ≡ ((fill_via_u64 word_step n words).0, word_stream (fill_via_u64 word_step n words).1) }
+    ensures left { (n : ℕ) (words : List ℕ) → (fill_via_u64 word_step n words).1 ≡ drop ((n + 7) / 8) words }
 {}

@@ -4,9 +4,6 @@ use Rattle.wasm_code.specs.declared.fault.Cause.{Cause}
 use Rattle.wasm_code.specs.Reader.{times_at}
 use Rattle.wasm_code.proofs.GrammarLemmas.{Reader}
 
-pub begins : {A : Type 0} (at : Reader A) (count : ℕ) (bytes : List ℕ) → times_at (count - 0) at bytes ≡ times_at count at bytes
-begins at count bytes = let k : count - 0 ≡ count = omega arith in rw k refl
-
 pub goes_on : {A : Type 0} (at : Reader A) (count i : ℕ) (bytes after : List ℕ) (x : A) → i < count → at bytes ≡ Ok (x, after) → times_at (count - i) at bytes ≡ times_at (count - (i + 1)) at after
 unfolding times_at
 goes_on at count i bytes after x lt e =
