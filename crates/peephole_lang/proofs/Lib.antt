@@ -1,7 +1,7 @@
-pub mod LangLemmas
-pub mod EntriesLemmas
-pub mod MakingLemmas
-pub mod TextLemmas
 pub mod Relends
+pub mod RowLemmas
+pub mod InstrLemmas
+pub mod SearchLemmas
+pub mod TextLemmas
+pub mod InstrLaws
 pub mod NodeLemmas
-pub mod FitLemmas

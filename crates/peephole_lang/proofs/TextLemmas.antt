@@ -1,50 +1,84 @@
--- The parts of a text that is read, and the table of the code.
-use Rattle.std.proofs.Common.{◌≡◌, ◌≢◌, ℕ, eqb, true, false, List, [], ◌∷◌, ◌++◌, length, Option, Some, None, refl, sym, ap, ap₂, ◌∙◌, ◌⊎◌, inl, inr, arith}
-use Rattle.std.specs.Prelude.{MatchOption, codes}
-use Rattle.std.specs.Option.{option_copied}
-use Rattle.std.proofs.lemmas.Bool.{eq-eqb, ne_eqb, cases_eq}
-use denote.Ref.{Bor}
-use Rattle.peephole_lang.specs.Text.{after, behind_name}
-use Rattle.peephole_lang.specs.declared.text.PayloadKind.{PayloadKind}
-use Rattle.peephole_lang.specs.declared.text.PayloadKind.TheVariants as kind
+-- What is read by a variant of the table makes a node.
+use Rattle.std.proofs.Common.{◌≡◌, ℕ, true, List, Option, Some, None, Result, Ok, Err, refl, sym, ap, ◌∙◌, inl, inr}
+use Rattle.std.proofs.lemmas.Bool.{ne_eqb, cases_eq, eq-eqb}
+use Rattle.std.proofs.lemmas.Option.{same_Some}
+use Rattle.mutate_base.specs.declared.term_error.TermError.{TermError}
+use Rattle.mutate_base.specs.declared.term_error.TermError.TheVariants.{InvalidToken}
+use Rattle.peephole_lang.specs.declared.payload.Payload.{Payload}
+use Rattle.peephole_lang.specs.declared.variants.Arity.{Arity}
+use Rattle.peephole_lang.specs.declared.variants.Arity.TheVariants as arity
+use Rattle.peephole_lang.specs.declared.variants.Entry.{Entry}
+use Rattle.peephole_lang.specs.Entries.{entry_of, found}
+use Rattle.peephole_lang.specs.MadeLemmas.{fits_variant, fits_made}
+use Rattle.peephole_lang.specs.Making.{is_made}
+use Rattle.peephole_lang.specs.Names.{find_in}
+use Rattle.peephole_lang.specs.Node.{is_right}
+use Rattle.peephole_lang.specs.PayloadLemmas.{read_is_of}
+use Rattle.peephole_lang.specs.PayloadText.{read_payload}
+use Rattle.peephole_lang.specs.TableLemmas.{place_is}
+use Rattle.peephole_lang.specs.Text.{wrong_count, judged, with_place, read_found}
+use Rattle.peephole_lang.specs.VariantLemmas.{found_is}
+use Rattle.peephole_lang.specs.Variants.{Variant, variants}
 
-after_append : (front rest : List ℕ) → after front (front ++ rest) ≡ Some rest
-after_append [] rest = refl
-after_append (c ∷ front) rest = rw (eq-eqb c c refl) (after_append front rest)
+-- what an entry of the table reads
+abbrev pub entry_reads : Entry → List ℕ → ℕ → Result Payload TermError
+entry_reads entry rest count = judged entry.children (wrong_count entry.children count) (read_payload entry.payload rest)
 
-pub after_is : (front text rest : List ℕ) → text ≡ front ++ rest → after front text ≡ Some rest
-after_is front text rest e = rw e (after_append front rest)
+-- what is read by the entry that was found is what the text reads as
+pub reads_found : (o : Option (Variant × List ℕ)) (entry : Entry) (rest : List ℕ) (count : ℕ) → Some (entry, rest) ≡ found o
+    → read_found o count ≡ with_place entry.place (entry_reads entry rest count)
+reads_found None entry rest count e = absurd cc
+reads_found (Some x) entry rest count e =
+    let same : (entry_of x.0, x.1) ≡ (entry, rest) = same_Some _ _ (sym e) in
+    ap (λ (y : Entry × List ℕ). with_place y.0.place (entry_reads y.0 y.1 count)) same
 
-pub after_none : (front text : List ℕ) → ((rest : List ℕ) → text ≢ front ++ rest) → after front text ≡ None
-after_none [] text lacks = absurd (lacks text refl)
-after_none (c ∷ front) [] lacks = refl
-after_none (c ∷ front) (d ∷ text) lacks =
-    elim (cases_eq c d) [
-      | inl same ↦ rw (eq-eqb c d same) (after_none front text (λ rest e. lacks rest (ap₂ (λ x y. x ∷ y) (sym same) e)))
-      | inr other ↦ rw (ne_eqb c d other) refl
-    ]
+pub reads_none : (o : Option (Variant × List ℕ)) (count : ℕ) → None ≡ found o → read_found o count ≡ Err InvalidToken
+reads_none None count e = refl
+reads_none (Some x) count e = absurd cc
 
-pub nothing_behind : (name text rest : List ℕ) → text ≡ name ++ rest → eqb (length rest) 0 ≡ true → Some rest ≡ behind_name kind.Nothing (after name text)
-nothing_behind name text [] e empty = sym (ap (behind_name kind.Nothing) (after_is name text [] e))
-nothing_behind name text (c ∷ rest) e empty = absurd (false_is_true (sym (ne_eqb (length (c ∷ rest)) 0 (λ is. absurd (omega arith))) ∙ empty))
-  where
-    false_is_true : false ≡ true → ⊥
-    false_is_true e = absurd cc
+judged_ok : (a : Arity) (wrong : Option TermError) (read : Result Payload TermError) (p : Payload) → Ok p ≡ judged a wrong read → (wrong ≡ None) × (read ≡ Ok p)
+judged_ok arity.Zero None (Ok q) p e = (refl, sym e)
+judged_ok arity.Zero None (Err x) p e = absurd cc
+judged_ok arity.Zero (Some x) read p e = absurd cc
+judged_ok arity.One None (Ok q) p e = (refl, sym e)
+judged_ok arity.One None (Err x) p e = absurd cc
+judged_ok arity.One (Some x) (Ok q) p e = absurd cc
+judged_ok arity.One (Some x) (Err y) p e = absurd cc
+judged_ok (arity.Several n) None (Ok q) p e = (refl, sym e)
+judged_ok (arity.Several n) None (Err x) p e = absurd cc
+judged_ok (arity.Several n) (Some x) (Ok q) p e = absurd cc
+judged_ok (arity.Several n) (Some x) (Err y) p e = absurd cc
+judged_ok arity.Any None (Ok q) p e = (refl, sym e)
+judged_ok arity.Any None (Err x) p e = absurd cc
+judged_ok arity.Any (Some x) (Ok q) p e = absurd cc
+judged_ok arity.Any (Some x) (Err y) p e = absurd cc
 
-pub more_behind : (name text rest : List ℕ) → text ≡ name ++ rest → eqb (length rest) 0 ≡ false → None ≡ behind_name kind.Nothing (after name text)
-more_behind name text [] e some = absurd cc
-more_behind name text (c ∷ rest) e some = sym (ap (behind_name kind.Nothing) (after_is name text (c ∷ rest) e))
+some_is_none : (e : TermError) → Some e ≡ None → ⊥
+some_is_none e h = cc
 
--- what stands behind the dot that the rest of a text begins with, or None
-dot : (rest : List ℕ) (r : Option (Bor (List ℕ))) → MatchOption r ((more : List ℕ) → rest ≢ 46 ∷ more) (λ x. rest ≡ 46 ∷ x.now) → option_copied r ≡ after (codes ".") rest
-dot rest None lacks = sym (after_none (codes ".") rest lacks)
-dot rest (Some x) e = sym (after_is (codes ".") rest x.now e)
+none_right : (a : Arity) (count : ℕ) → wrong_count a count ≡ None → is_right a count ≡ true
+none_right arity.Zero count e =
+    elim (cases_eq count 0) [ inl is ↦ eq-eqb 0 count (sym is) | inr other ↦ absurd (some_is_none _ (rw (ne_eqb count 0 other) at e)) ]
+none_right arity.One count e =
+    elim (cases_eq count 1) [ inl is ↦ eq-eqb 1 count (sym is) | inr other ↦ absurd (some_is_none _ (rw (ne_eqb count 1 other) at e)) ]
+none_right (arity.Several n) count e =
+    elim (cases_eq count n) [ inl is ↦ eq-eqb n count (sym is) | inr other ↦ absurd (some_is_none _ (rw (ne_eqb count n other) at e)) ]
+none_right arity.Any count e = refl
 
-pub dot_behind : (k : PayloadKind) (name text rest : List ℕ) (r : Option (Bor (List ℕ))) → (k ≡ kind.Index) ⊎ (k ≡ kind.I32) → text ≡ name ++ rest
-    → MatchOption r ((more : List ℕ) → rest ≢ 46 ∷ more) (λ x. rest ≡ 46 ∷ x.now) → option_copied r ≡ behind_name k (after name text)
-dot_behind kind.Nothing name text rest r some e h = elim some [ inl is ↦ absurd cc | inr is ↦ absurd cc ]
-dot_behind kind.Index name text rest r some e h = dot rest r h ∙ sym (ap (behind_name kind.Index) (after_is name text rest e))
-dot_behind kind.I32 name text rest r some e h = dot rest r h ∙ sym (ap (behind_name kind.I32) (after_is name text rest e))
+made_of_variant : (text : List ℕ) (x : Variant × List ℕ) (p : Payload) (count : ℕ) → find_in variants text ≡ Some x → Ok p ≡ entry_reads (entry_of x.0) x.1 count
+    → is_made x.0.place p count ≡ true
+made_of_variant text x p count e ok =
+    let f = found_is text x e in
+    let own = place_is f.0 x.0 f.1 in
+    let parts = judged_ok x.0.children (wrong_count x.0.children count) (read_payload x.0.payload x.1) p ok in
+    let fits = fits_variant f.0 p count (record { variant = x.0; at = f.1; kind = read_is_of x.0.payload x.1 p parts.1; right = none_right x.0.children count parts.0 }) in
+    ap (λ n. is_made n p count) own ∙ fits_made f.0 p count fits
 
-pub none_behind : (k : PayloadKind) (name text : List ℕ) → ((rest : List ℕ) → text ≢ name ++ rest) → None ≡ behind_name k (after name text)
-none_behind k name text lacks = sym (ap (behind_name k) (after_none name text lacks))
+-- what was found and read is a node's
+pub is_a_node : (o : Option (Variant × List ℕ)) (text : List ℕ) (entry : Entry) (rest : List ℕ) (p : Payload) (count : ℕ) → find_in variants text ≡ o → Some (entry, rest) ≡ found o
+    → Ok p ≡ entry_reads entry rest count → is_made entry.place p count ≡ true
+is_a_node None text entry rest p count e same ok = absurd cc
+is_a_node (Some x) text entry rest p count e same ok =
+    let known : (entry_of x.0, x.1) ≡ (entry, rest) = same_Some _ _ (sym same) in
+    ap (λ (y : Entry × List ℕ). is_made y.0.place p count) (sym known)
+    ∙ made_of_variant text x p count e (ok ∙ ap (λ (y : Entry × List ℕ). entry_reads y.0 y.1 count) (sym known))

@@ -12,12 +12,12 @@ use Rattle.peephole_lang.specs.contracts.id.IdHash.TheImpl as id_hash
 use Rattle.peephole_lang.specs.contracts.id.IdEq.TheImpl.Laws.{laws-law as id_equiv}
 use Rattle.peephole_lang.specs.contracts.id.IdOrd.TheImpl.Laws.{total-law as id_total, matches_eq-law as id_ties}
 use Rattle.peephole_lang.specs.contracts.id.IdHash.TheImpl.Laws.{respects_eq-law as id_alike}
-use Rattle.peephole_lang.specs.contracts.lang.PayloadPartialEq.TheImpl as payload_eq
-use Rattle.peephole_lang.specs.contracts.lang.PayloadOrd.TheImpl as payload_ord
-use Rattle.peephole_lang.specs.contracts.lang.PayloadHash.TheImpl as payload_hash
-use Rattle.peephole_lang.specs.contracts.lang.PayloadEq.TheImpl.Laws.{laws-law as payload_equiv}
-use Rattle.peephole_lang.specs.contracts.lang.PayloadOrd.TheImpl.Laws.{total-law as payload_total, matches_eq-law as payload_ties}
-use Rattle.peephole_lang.specs.contracts.lang.PayloadHash.TheImpl.Laws.{respects_eq-law as payload_alike}
+use Rattle.peephole_lang.specs.contracts.payload.PayloadPartialEq.TheImpl as payload_eq
+use Rattle.peephole_lang.specs.contracts.payload.PayloadOrd.TheImpl as payload_ord
+use Rattle.peephole_lang.specs.contracts.payload.PayloadHash.TheImpl as payload_hash
+use Rattle.peephole_lang.specs.contracts.payload.PayloadEq.TheImpl.Laws.{laws-law as payload_equiv}
+use Rattle.peephole_lang.specs.contracts.payload.PayloadOrd.TheImpl.Laws.{total-law as payload_total, matches_eq-law as payload_ties}
+use Rattle.peephole_lang.specs.contracts.payload.PayloadHash.TheImpl.Laws.{respects_eq-law as payload_alike}
 use Rattle.peephole_lang.specs.declared.lang.Lang.{Lang}
 use Rattle.peephole_lang.specs.Lang.{place_of, payload_of, ids_of}
 

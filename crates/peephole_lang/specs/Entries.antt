@@ -1,13 +1,24 @@
--- The table of the code as the list of variants (this project).
-use Rattle.std.specs.Prelude.{ℕ, List, Option}
-use Rattle.std.specs.Option.{option_map}
+-- What the code's table says of a variant (this project).
+use Rattle.std.specs.Prelude.{ℕ, List, Option, Some, None}
 use denote.Ref.{Bor}
-use Rattle.peephole_lang.specs.Text.{Variant}
-use Rattle.peephole_lang.specs.declared.text.Entry.{Entry}
+use Rattle.peephole_lang.specs.Variants.{Variant}
+use Rattle.peephole_lang.specs.declared.variants.Entry.{Entry}
 
-abbrev pub variant_of : Entry → Variant
-variant_of e = record { place = e.place; name = e.name.now; payload = e.payload; children = e.children }
+-- the variant without its name
+abbrev pub entry_of : Variant → Entry
+entry_of v = record { place = v.place; payload = v.payload; children = v.children }
 
--- the variant that was found, and the text of the payload
-abbrev pub found : Option (Entry × Bor (List ℕ)) → Option (Variant × List ℕ)
-found r = option_map (λ x. (variant_of x.0, x.1.now)) r
+-- an entry and a text that a function gives
+abbrev pub given : Option (Entry × Bor (List ℕ)) → Option (Entry × List ℕ)
+given None = None
+given (Some x) = Some (x.0, x.1.now)
+
+-- the entry of the variant that was found, and the text of the payload
+abbrev pub found : Option (Variant × List ℕ) → Option (Entry × List ℕ)
+found None = None
+found (Some x) = Some (entry_of x.0, x.1)
+
+-- the place of the variant that was found
+abbrev pub place_found : Option (Variant × List ℕ) → Option ℕ
+place_found None = None
+place_found (Some x) = Some x.0.place

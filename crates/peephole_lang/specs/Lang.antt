@@ -1,93 +1,279 @@
--- A node seen as place, payload and children, and its instruction (this project: a node's place is 12 more than the
--- row of its instruction, and below 12 for a node without one).
-use Rattle.std.specs.Prelude.{◌≡◌, ℕ, ◌-◌, ◌==◌, ◌||◌, nat_lt, Bool, true, false, List, [], ◌∷◌, Option, Some, None, if◌then◌else◌}
-use Rattle.wasm_code.specs.declared.immediate.Imm.{Imm}
-use Rattle.wasm_code.specs.declared.immediate.Imm.TheVariants as imm
-use Rattle.wasm_code.specs.declared.table.RowInfo.{RowInfo}
-use Rattle.wasm_code.specs.Instruction.{Instruction}
-use Rattle.wasm_code.specs.Table.{info_of}
-use Rattle.peephole_lang.specs.Term.{Node, numbers_of}
+-- A node seen as place, payload and children (this project: a node's place is 12 more than the row of its instruction,
+-- and below 12 for a node without one).
+use Rattle.std.specs.Prelude.{ℕ, List, [], ◌∷◌, length}
 use Rattle.peephole_lang.specs.declared.id.Id.{Id}
+use Rattle.peephole_lang.specs.declared.payload.Payload.{Payload}
+use Rattle.peephole_lang.specs.declared.payload.Payload.TheVariants as payload
 use Rattle.peephole_lang.specs.declared.lang.Lang.{Lang}
-use Rattle.peephole_lang.specs.declared.lang.Lang.TheVariants.{Undef, Drop, LocalGet, LocalSet, I32, I32Add}
-pub use Rattle.peephole_lang.specs.Term.{numbers_of}
-pub use Rattle.peephole_lang.specs.declared.lang.Payload.{Payload}
-pub use Rattle.peephole_lang.specs.declared.lang.Payload.TheVariants as payload
-pub use Rattle.peephole_lang.specs.declared.lang.Head.{Head}
+use Rattle.peephole_lang.specs.declared.lang.Lang.TheVariants.{RandI32, RandI64, RandF32, RandF64, Undef, UnfoldI32, UnfoldI64, I32UseGlobal, I64UseGlobal, F32UseGlobal, F64UseGlobal, Container, Nop, Call, Drop, Select, LocalGet, LocalSet, LocalTee, GlobalGet, GlobalSet, TableGet, TableSet, I32Load, I64Load, F32Load, F64Load, I32Load8S, I32Load8U, I32Load16S, I32Load16U, I64Load8S, I64Load8U, I64Load16S, I64Load16U, I64Load32S, I64Load32U, I32Store, I64Store, F32Store, F64Store, I32Store8, I32Store16, I64Store8, I64Store16, I64Store32, MemorySize, MemoryGrow, I32, I64, F32, F64, RefNull, RefIsNull, RefFunc, MemoryInit, DataDrop, MemoryCopy, MemoryFill, TableInit, ElemDrop, TableCopy, TableGrow, TableSize, TableFill, TypedSelect, Numeric, Simd}
+use Rattle.peephole_lang.specs.Numeric.{numeric_place_of, numeric_ids_of, numeric_count_of}
+use Rattle.peephole_lang.specs.Simd.{simd_place_of, simd_payload_of}
+use Rattle.peephole_lang.specs.SimdChildren.{simd_ids_of, simd_count_of}
 
-abbrev pub place_of : Lang → ℕ
+-- the place of its variant in the order of nodes
+unfoldable pub place_of : Lang → ℕ
+place_of RandI32 = 0
+place_of RandI64 = 1
+place_of RandF32 = 2
+place_of RandF64 = 3
 place_of Undef = 4
+place_of (UnfoldI32 _) = 5
+place_of (UnfoldI64 _) = 6
+place_of (I32UseGlobal _) = 7
+place_of (I64UseGlobal _) = 8
+place_of (F32UseGlobal _) = 9
+place_of (F64UseGlobal _) = 10
+place_of (Container _) = 11
+place_of Nop = 12
+place_of (Call _ _) = 13
 place_of (Drop _) = 14
+place_of (Select _) = 15
 place_of (LocalGet _) = 16
 place_of (LocalSet _ _) = 17
+place_of (LocalTee _ _) = 18
+place_of (GlobalGet _) = 19
+place_of (GlobalSet _ _) = 20
+place_of (TableGet _ _) = 21
+place_of (TableSet _ _) = 22
+place_of (I32Load _ _) = 23
+place_of (I64Load _ _) = 24
+place_of (F32Load _ _) = 25
+place_of (F64Load _ _) = 26
+place_of (I32Load8S _ _) = 27
+place_of (I32Load8U _ _) = 28
+place_of (I32Load16S _ _) = 29
+place_of (I32Load16U _ _) = 30
+place_of (I64Load8S _ _) = 31
+place_of (I64Load8U _ _) = 32
+place_of (I64Load16S _ _) = 33
+place_of (I64Load16U _ _) = 34
+place_of (I64Load32S _ _) = 35
+place_of (I64Load32U _ _) = 36
+place_of (I32Store _ _) = 37
+place_of (I64Store _ _) = 38
+place_of (F32Store _ _) = 39
+place_of (F64Store _ _) = 40
+place_of (I32Store8 _ _) = 41
+place_of (I32Store16 _ _) = 42
+place_of (I64Store8 _ _) = 43
+place_of (I64Store16 _ _) = 44
+place_of (I64Store32 _ _) = 45
+place_of (MemorySize _) = 46
+place_of (MemoryGrow _ _) = 47
 place_of (I32 _) = 48
-place_of (I32Add _) = 89
+place_of (I64 _) = 49
+place_of (F32 _) = 50
+place_of (F64 _) = 51
+place_of (RefNull _) = 180
+place_of (RefIsNull _) = 181
+place_of (RefFunc _) = 182
+place_of (MemoryInit _ _) = 191
+place_of (DataDrop _) = 192
+place_of (MemoryCopy _ _) = 193
+place_of (MemoryFill _ _) = 194
+place_of (TableInit _ _) = 195
+place_of (ElemDrop _) = 196
+place_of (TableCopy _ _) = 197
+place_of (TableGrow _ _) = 198
+place_of (TableSize _) = 199
+place_of (TableFill _ _) = 200
+place_of (TypedSelect _ _) = 457
+place_of (Numeric n) = numeric_place_of n
+place_of (Simd s) = simd_place_of s
 
-abbrev pub payload_of : Lang → Payload
-payload_of Undef = payload.Nothing
-payload_of (Drop _) = payload.Nothing
-payload_of (LocalGet index) = payload.Index index
-payload_of (LocalSet index _) = payload.Index index
-payload_of (I32 number) = payload.I32 number
-payload_of (I32Add _) = payload.Nothing
+-- what it says besides its variant and its children
+unfoldable pub payload_of : Lang → Payload
+payload_of (Call p _) = payload.Index p
+payload_of (LocalGet p) = payload.Index p
+payload_of (LocalSet p _) = payload.Index p
+payload_of (LocalTee p _) = payload.Index p
+payload_of (GlobalGet p) = payload.Index p
+payload_of (GlobalSet p _) = payload.Index p
+payload_of (TableGet p _) = payload.Index p
+payload_of (TableSet p _) = payload.Index p
+payload_of (I32Load p _) = payload.Memory p
+payload_of (I64Load p _) = payload.Memory p
+payload_of (F32Load p _) = payload.Memory p
+payload_of (F64Load p _) = payload.Memory p
+payload_of (I32Load8S p _) = payload.Memory p
+payload_of (I32Load8U p _) = payload.Memory p
+payload_of (I32Load16S p _) = payload.Memory p
+payload_of (I32Load16U p _) = payload.Memory p
+payload_of (I64Load8S p _) = payload.Memory p
+payload_of (I64Load8U p _) = payload.Memory p
+payload_of (I64Load16S p _) = payload.Memory p
+payload_of (I64Load16U p _) = payload.Memory p
+payload_of (I64Load32S p _) = payload.Memory p
+payload_of (I64Load32U p _) = payload.Memory p
+payload_of (I32Store p _) = payload.Memory p
+payload_of (I64Store p _) = payload.Memory p
+payload_of (F32Store p _) = payload.Memory p
+payload_of (F64Store p _) = payload.Memory p
+payload_of (I32Store8 p _) = payload.Memory p
+payload_of (I32Store16 p _) = payload.Memory p
+payload_of (I64Store8 p _) = payload.Memory p
+payload_of (I64Store16 p _) = payload.Memory p
+payload_of (I64Store32 p _) = payload.Memory p
+payload_of (MemorySize p) = payload.Index p
+payload_of (MemoryGrow p _) = payload.Index p
+payload_of (I32 p) = payload.I32 p
+payload_of (I64 p) = payload.I64 p
+payload_of (F32 p) = payload.F32 p
+payload_of (F64 p) = payload.F64 p
+payload_of (RefNull p) = payload.Ref p
+payload_of (RefFunc p) = payload.Index p
+payload_of (MemoryInit p _) = payload.MemoryInit p
+payload_of (DataDrop p) = payload.Index p
+payload_of (MemoryCopy p _) = payload.MemoryCopy p
+payload_of (MemoryFill p _) = payload.Index p
+payload_of (TableInit p _) = payload.TableInit p
+payload_of (ElemDrop p) = payload.Index p
+payload_of (TableCopy p _) = payload.TableCopy p
+payload_of (TableGrow p _) = payload.Index p
+payload_of (TableSize p) = payload.Index p
+payload_of (TableFill p _) = payload.Index p
+payload_of (TypedSelect p _) = payload.Value p
+payload_of (Simd s) = simd_payload_of s
+payload_of _ = payload.Nothing
 
 -- the ids of the children, the first operand first
-abbrev pub ids_of : Lang → List Id
+unfoldable pub ids_of : Lang → List Id
+ids_of RandI32 = []
+ids_of RandI64 = []
+ids_of RandF32 = []
+ids_of RandF64 = []
 ids_of Undef = []
+ids_of (UnfoldI32 child) = child ∷ []
+ids_of (UnfoldI64 child) = child ∷ []
+ids_of (I32UseGlobal child) = child ∷ []
+ids_of (I64UseGlobal child) = child ∷ []
+ids_of (F32UseGlobal child) = child ∷ []
+ids_of (F64UseGlobal child) = child ∷ []
+ids_of (Container children) = children.items
+ids_of Nop = []
+ids_of (Call _ children) = children.items
 ids_of (Drop children) = children
+ids_of (Select children) = children
 ids_of (LocalGet _) = []
 ids_of (LocalSet _ child) = child ∷ []
+ids_of (LocalTee _ child) = child ∷ []
+ids_of (GlobalGet _) = []
+ids_of (GlobalSet _ child) = child ∷ []
+ids_of (TableGet _ child) = child ∷ []
+ids_of (TableSet _ children) = children
+ids_of (I32Load _ child) = child ∷ []
+ids_of (I64Load _ child) = child ∷ []
+ids_of (F32Load _ child) = child ∷ []
+ids_of (F64Load _ child) = child ∷ []
+ids_of (I32Load8S _ child) = child ∷ []
+ids_of (I32Load8U _ child) = child ∷ []
+ids_of (I32Load16S _ child) = child ∷ []
+ids_of (I32Load16U _ child) = child ∷ []
+ids_of (I64Load8S _ child) = child ∷ []
+ids_of (I64Load8U _ child) = child ∷ []
+ids_of (I64Load16S _ child) = child ∷ []
+ids_of (I64Load16U _ child) = child ∷ []
+ids_of (I64Load32S _ child) = child ∷ []
+ids_of (I64Load32U _ child) = child ∷ []
+ids_of (I32Store _ children) = children
+ids_of (I64Store _ children) = children
+ids_of (F32Store _ children) = children
+ids_of (F64Store _ children) = children
+ids_of (I32Store8 _ children) = children
+ids_of (I32Store16 _ children) = children
+ids_of (I64Store8 _ children) = children
+ids_of (I64Store16 _ children) = children
+ids_of (I64Store32 _ children) = children
+ids_of (MemorySize _) = []
+ids_of (MemoryGrow _ child) = child ∷ []
 ids_of (I32 _) = []
-ids_of (I32Add children) = children
+ids_of (I64 _) = []
+ids_of (F32 _) = []
+ids_of (F64 _) = []
+ids_of (RefNull _) = []
+ids_of (RefIsNull child) = child ∷ []
+ids_of (RefFunc _) = []
+ids_of (MemoryInit _ children) = children
+ids_of (DataDrop _) = []
+ids_of (MemoryCopy _ children) = children
+ids_of (MemoryFill _ children) = children
+ids_of (TableInit _ children) = children
+ids_of (ElemDrop _) = []
+ids_of (TableCopy _ children) = children
+ids_of (TableGrow _ children) = children
+ids_of (TableSize _) = []
+ids_of (TableFill _ children) = children
+ids_of (TypedSelect _ children) = children
+ids_of (Numeric n) = numeric_ids_of n
+ids_of (Simd s) = simd_ids_of s
 
 -- how many children the variant has
-abbrev pub count_of : Lang → ℕ
+unfoldable pub count_of : Lang → ℕ
+count_of RandI32 = 0
+count_of RandI64 = 0
+count_of RandF32 = 0
+count_of RandF64 = 0
 count_of Undef = 0
+count_of (UnfoldI32 _) = 1
+count_of (UnfoldI64 _) = 1
+count_of (I32UseGlobal _) = 1
+count_of (I64UseGlobal _) = 1
+count_of (F32UseGlobal _) = 1
+count_of (F64UseGlobal _) = 1
+count_of (Container children) = length children.items
+count_of Nop = 0
+count_of (Call _ children) = length children.items
 count_of (Drop _) = 1
+count_of (Select _) = 3
 count_of (LocalGet _) = 0
 count_of (LocalSet _ _) = 1
+count_of (LocalTee _ _) = 1
+count_of (GlobalGet _) = 0
+count_of (GlobalSet _ _) = 1
+count_of (TableGet _ _) = 1
+count_of (TableSet _ _) = 2
+count_of (I32Load _ _) = 1
+count_of (I64Load _ _) = 1
+count_of (F32Load _ _) = 1
+count_of (F64Load _ _) = 1
+count_of (I32Load8S _ _) = 1
+count_of (I32Load8U _ _) = 1
+count_of (I32Load16S _ _) = 1
+count_of (I32Load16U _ _) = 1
+count_of (I64Load8S _ _) = 1
+count_of (I64Load8U _ _) = 1
+count_of (I64Load16S _ _) = 1
+count_of (I64Load16U _ _) = 1
+count_of (I64Load32S _ _) = 1
+count_of (I64Load32U _ _) = 1
+count_of (I32Store _ _) = 2
+count_of (I64Store _ _) = 2
+count_of (F32Store _ _) = 2
+count_of (F64Store _ _) = 2
+count_of (I32Store8 _ _) = 2
+count_of (I32Store16 _ _) = 2
+count_of (I64Store8 _ _) = 2
+count_of (I64Store16 _ _) = 2
+count_of (I64Store32 _ _) = 2
+count_of (MemorySize _) = 0
+count_of (MemoryGrow _ _) = 1
 count_of (I32 _) = 0
-count_of (I32Add _) = 2
-
-abbrev pub children_of : Lang → List ℕ
-children_of l = numbers_of (ids_of l)
-
-abbrev pub head_of : Lang → Head
-head_of l = record { place = place_of l; payload = payload_of l }
-
-abbrev pub node_of : Lang → Node Head
-node_of l = record { head = head_of l; children = children_of l }
-
--- the immediate that stands for a payload
-abbrev pub imm_of : Payload → Imm
-imm_of payload.Nothing = imm.Nothing
-imm_of (payload.Index index) = imm.Index index
-imm_of (payload.I32 number) = imm.I32 number
-
-abbrev pub instr_of_head : Head → Option Instruction
-instr_of_head h = if nat_lt h.place 12 then None else Some (record { row = h.place - 12; imm = imm_of h.payload })
-
--- the node's instruction
-abbrev pub instr_of : Lang → Option Instruction
-instr_of l = instr_of_head (head_of l)
-
--- that many children are as many as the operands, of which a row with None has any number
-abbrev pub is_count : Option ℕ → ℕ → Bool
-is_count None count = true
-is_count (Some operands) count = operands == count
-
-abbrev pub takes : Option RowInfo → ℕ → Bool
-takes None count = false
-takes (Some info) count = is_count info.operands count
-
--- the row takes that many children
-abbrev pub takes_children : ℕ → ℕ → Bool
-takes_children row count = takes (info_of row) count
-
--- the row's instructions have a node: drop, local.get, local.set, i32.const and i32.add; those of the other rows have none yet
-abbrev pub has_node : ℕ → Bool
-has_node row = row == 2 || row == 4 || row == 5 || row == 36 || row == 77
-
--- the two nodes say the same, and have the same children
-abbrev pub SameNode : Lang → Lang → Type 0
-SameNode l m = (head_of m ≡ head_of l) × (ids_of m ≡ ids_of l)
+count_of (I64 _) = 0
+count_of (F32 _) = 0
+count_of (F64 _) = 0
+count_of (RefNull _) = 0
+count_of (RefIsNull _) = 1
+count_of (RefFunc _) = 0
+count_of (MemoryInit _ _) = 3
+count_of (DataDrop _) = 0
+count_of (MemoryCopy _ _) = 3
+count_of (MemoryFill _ _) = 3
+count_of (TableInit _ _) = 3
+count_of (ElemDrop _) = 0
+count_of (TableCopy _ _) = 3
+count_of (TableGrow _ _) = 2
+count_of (TableSize _) = 0
+count_of (TableFill _ _) = 3
+count_of (TypedSelect _ _) = 3
+count_of (Numeric n) = numeric_count_of n
+count_of (Simd s) = simd_count_of s

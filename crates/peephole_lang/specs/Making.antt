@@ -1,42 +1,72 @@
--- Which places have a node with a given payload and number of children, one definition a shape (this project).
-use Rattle.std.specs.Prelude.{ℕ, ◌==◌, Bool, false, Option, Some, None, if◌then◌else◌}
-use Rattle.wasm_code.specs.declared.immediate.Imm.{Imm}
-use Rattle.wasm_code.specs.declared.immediate.Imm.TheVariants as imm
-use Rattle.peephole_lang.specs.declared.lang.Payload.{Payload}
-use Rattle.peephole_lang.specs.declared.lang.Payload.TheVariants as payload
+-- Which nodes are made of a place, a payload and a number of children: the cases of `make` (this project).
+use Rattle.std.specs.Prelude.{ℕ, ◌==◌, ◌||◌, Bool, true, false, if◌then◌else◌}
+use Rattle.peephole_lang.specs.declared.payload.Payload.{Payload}
+use Rattle.peephole_lang.specs.declared.payload.Payload.TheVariants as payload
+use Rattle.peephole_lang.specs.LangShapes as lang
+use Rattle.peephole_lang.specs.NumericShapes as numeric
+use Rattle.peephole_lang.specs.SimdShapes as simd
 
-unfoldable pub is_nothing_0 : ℕ → Bool
-is_nothing_0 place = place == 4
+abbrev pub is_numeric : ℕ → ℕ → Bool
+is_numeric place count =
+    if count == 2 then numeric.is_numeric_plain_two_a place || numeric.is_numeric_plain_two_b place else
+    if count == 1 then numeric.is_numeric_plain_one_a place || numeric.is_numeric_plain_one_b place else false
 
-unfoldable pub is_nothing_1 : ℕ → Bool
-is_nothing_1 place = place == 14
+abbrev pub is_simd_plain : ℕ → ℕ → Bool
+is_simd_plain place count =
+    if count == 3 then simd.is_simd_plain_three place else
+    if count == 2 then simd.is_simd_plain_two_a place || simd.is_simd_plain_two_b place || simd.is_simd_plain_two_c place || simd.is_simd_plain_two_d place else
+    if count == 1 then simd.is_simd_plain_one_a place || simd.is_simd_plain_one_b place else false
 
-unfoldable pub is_nothing_2 : ℕ → Bool
-is_nothing_2 place = place == 89
+-- with a payload
+abbrev pub is_simd : ℕ → Payload → ℕ → Bool
+is_simd place (payload.Lane _) count = if count == 2 then simd.is_simd_lane_two place else if count == 1 then simd.is_simd_lane_one place else false
+is_simd place (payload.V128 _) count = if count == 0 then simd.is_simd_v128_leaf place else false
+is_simd place (payload.Memory _) count = if count == 2 then simd.is_simd_memory_two place else if count == 1 then simd.is_simd_memory_one place else false
+is_simd place (payload.MemoryLane _) count = if count == 2 then simd.is_simd_memory_lane_two place else false
+is_simd place (payload.Shuffle _) count = if count == 2 then simd.is_simd_shuffle_two place else false
+is_simd _ _ _ = false
 
-unfoldable pub is_index_0 : ℕ → Bool
-is_index_0 place = place == 16
+abbrev pub is_few : ℕ → ℕ → Bool
+is_few place count =
+    if count == 3 then lang.is_plain_three place else
+    if count == 1 then lang.is_plain_one place else
+    if count == 0 then lang.is_plain_leaf place else false
 
-unfoldable pub is_index_1 : ℕ → Bool
-is_index_1 place = place == 17
+abbrev pub is_plain : ℕ → ℕ → Bool
+is_plain place count = if place == 11 then true else is_numeric place count || (is_simd_plain place count || is_few place count)
 
-unfoldable pub is_i32_0 : ℕ → Bool
-is_i32_0 place = place == 48
+abbrev pub is_index : ℕ → ℕ → Bool
+is_index place count =
+    if place == 13 then true else
+    if count == 3 then lang.is_index_three place else
+    if count == 2 then lang.is_index_two place else
+    if count == 1 then lang.is_index_one place else
+    if count == 0 then lang.is_index_leaf place else false
 
--- a node has that place, that kind of payload and that many children
-abbrev pub fits : ℕ → Payload → ℕ → Bool
-fits place payload.Nothing count = if count == 2 then is_nothing_2 place else if count == 1 then is_nothing_1 place else if count == 0 then is_nothing_0 place else false
-fits place (payload.Index _) count = if count == 1 then is_index_1 place else if count == 0 then is_index_0 place else false
-fits place (payload.I32 _) count = if count == 0 then is_i32_0 place else false
+abbrev pub is_memory : ℕ → ℕ → Bool
+is_memory place count = if count == 2 then lang.is_memory_two place else if count == 1 then lang.is_memory_one place else false
 
--- the payload that stands for an immediate in a node; the other immediates have none yet
-abbrev pub payload_of_imm : Imm → Option Payload
-payload_of_imm imm.Nothing = Some payload.Nothing
-payload_of_imm (imm.Index index) = Some (payload.Index index)
-payload_of_imm (imm.I32 number) = Some (payload.I32 number)
-payload_of_imm _ = None
+-- with a payload that only a node without children has, or only one with three
+abbrev pub is_single : ℕ → Payload → ℕ → Bool
+is_single place (payload.I32 _) count = if count == 0 then lang.is_i32_leaf place else false
+is_single place (payload.I64 _) count = if count == 0 then lang.is_i64_leaf place else false
+is_single place (payload.F32 _) count = if count == 0 then lang.is_f32_leaf place else false
+is_single place (payload.F64 _) count = if count == 0 then lang.is_f64_leaf place else false
+is_single place (payload.Ref _) count = if count == 0 then lang.is_ref_leaf place else false
+is_single place (payload.Value _) count = if count == 3 then lang.is_value_three place else false
+is_single place (payload.MemoryInit _) count = if count == 3 then lang.is_memory_init_three place else false
+is_single place (payload.MemoryCopy _) count = if count == 3 then lang.is_memory_copy_three place else false
+is_single place (payload.TableInit _) count = if count == 3 then lang.is_table_init_three place else false
+is_single place (payload.TableCopy _) count = if count == 3 then lang.is_table_copy_three place else false
+is_single _ _ _ = false
 
--- a node has that place, that payload and that many children
-abbrev pub fits_some : ℕ → Option Payload → ℕ → Bool
-fits_some place None count = false
-fits_some place (Some p) count = fits place p count
+-- a node is made of that place, that payload and that many children
+abbrev pub is_made : ℕ → Payload → ℕ → Bool
+is_made place payload.Nothing count = is_plain place count
+is_made place (payload.Index _) count = is_index place count
+is_made place (payload.Memory m) count = is_simd place (payload.Memory m) count || is_memory place count
+is_made place (payload.Lane lane) count = is_simd place (payload.Lane lane) count
+is_made place (payload.V128 z) count = is_simd place (payload.V128 z) count
+is_made place (payload.MemoryLane m) count = is_simd place (payload.MemoryLane m) count
+is_made place (payload.Shuffle s) count = is_simd place (payload.Shuffle s) count
+is_made place p count = is_single place p count

@@ -1,69 +1,75 @@
--- What is true of every node of `Lang` (this project), and what its comparisons say of it.
-use Rattle.std.specs.Prelude.{◌≡◌, ℕ, ◌==◌, ◌&&◌, ◌++◌, length, Bool, true, false, Ok, refl}
-use Rattle.std.specs.Bool.{Decides}
-use Rattle.std.specs.Cmp.{IsEquivalence, unsigned_Decides, signed_Decides}
-use Rattle.std.proofs.Common.{ap, ap₂}
-use Rattle.wasm_code.specs.Instruction.{InRange}
-use Rattle.peephole_lang.specs.contracts.lang.PayloadPartialEq.TheImpl as payload_eq
-use Rattle.peephole_lang.specs.contracts.lang.PayloadEq.TheImpl.Laws.{laws-law as payload_equiv}
+-- What a node is: its place, its payload and its children; and its instruction (this project: a node's place is 12 more
+-- than the row of its instruction, and below 12 for a node without one).
+use Rattle.std.specs.Prelude.{◌≡◌, ℕ, ◌-◌, ◌&&◌, ◌==◌, nat_lt, length, Bool, true, false, List, Option, Some, None, if◌then◌else◌}
+use Rattle.wasm_code.specs.Instruction.{Instruction, InRange}
+use Rattle.wasm_code.specs.Table.{info_of}
+use Rattle.wasm_code.specs.declared.table.RowInfo.{RowInfo}
+use Rattle.peephole_lang.specs.declared.lang.Head.{Head}
 use Rattle.peephole_lang.specs.declared.lang.Lang.{Lang}
-use Rattle.peephole_lang.specs.Lang.{Payload, Head, place_of, payload_of, ids_of, count_of, head_of, imm_of}
-use Rattle.peephole_lang.specs.Lang.payload as payload
-use Rattle.peephole_lang.specs.Language.{IsAlike, alike_equivalence}
-use Rattle.peephole_lang.specs.Compared.{lang_matches, given_of}
-use Rattle.peephole_lang.specs.Text.{variants, name_in, payload_text, text_of, reads}
-use Rattle.peephole_lang.specs.ReadBackLemmas.{reads_back}
+use Rattle.peephole_lang.specs.declared.payload.Payload.{Payload}
+use Rattle.peephole_lang.specs.declared.variants.Arity.{Arity}
+use Rattle.peephole_lang.specs.declared.variants.Arity.TheVariants as arity
+use Rattle.peephole_lang.specs.Lang.{place_of, payload_of, ids_of, count_of}
+use Rattle.peephole_lang.specs.Payload.{imm_of, is_of, is_writable}
+use Rattle.peephole_lang.specs.Term.{Node, numbers_of}
+use Rattle.peephole_lang.specs.Variants.{Variant, variant_at}
+
+abbrev pub head_of : Lang → Head
+head_of l = record { place = place_of l; payload = payload_of l }
+
+-- the places that the children name
+abbrev pub children_of : Lang → List ℕ
+children_of l = numbers_of (ids_of l)
+
+abbrev pub node_of : Lang → Node Head
+node_of l = record { head = head_of l; children = children_of l }
 
 -- its numbers are of their types, and it has as many children as its variant
 abbrev pub IsNode : Lang → Type 0
 IsNode l = InRange (imm_of (payload_of l)) × (length (ids_of l) ≡ count_of l)
 
--- ---- matching
+-- the two nodes say the same, and have the same children
+abbrev pub SameNode : Lang → Lang → Type 0
+SameNode l m = (head_of m ≡ head_of l) × (ids_of m ≡ ids_of l)
 
-pub same_payload : (p q : Payload) → payload_eq.ghosts.eq p q ≡ true → p ≡ q
-same_payload payload.Nothing payload.Nothing e = refl
-same_payload (payload.Index n) (payload.Index m) e = ap (λ k. payload.Index k) ((unsigned_Decides n m).0 e)
-same_payload (payload.I32 n) (payload.I32 m) e = ap (λ k. payload.I32 k) ((signed_Decides n m).0 e)
-same_payload _ _ e = absurd cc
+-- ---- instructions
 
-pub payload_itself : (p q : Payload) → p ≡ q → payload_eq.ghosts.eq p q ≡ true
-payload_itself p q e = rw e (payload_equiv.refl q)
+-- the instruction of a place and a payload: none below place 12, or where no instruction says the payload
+abbrev pub instr_of_head : Head → Option Instruction
+instr_of_head h =
+    if nat_lt h.place 12 then None else
+    if is_writable h.payload then Some (record { row = h.place - 12; imm = imm_of h.payload }) else None
 
-pub both : (a b c : Bool) → (a && (b && c)) ≡ true → (a ≡ true) × ((b ≡ true) × (c ≡ true))
-both true true true e = (refl, (refl, refl))
-both true true false e = absurd cc
-both true false c e = absurd cc
-both false b c e = absurd cc
+-- the node's instruction
+abbrev pub instr_of : Lang → Option Instruction
+instr_of l = instr_of_head (head_of l)
 
-pub joined : (a b c : Bool) → a ≡ true → b ≡ true → c ≡ true → (a && (b && c)) ≡ true
-joined a b c p q r = rw (p, q, r) refl
+-- that many children are as many as the operands, of which a row with None has any number
+abbrev pub is_count : Option ℕ → ℕ → Bool
+is_count None count = true
+is_count (Some operands) count = operands == count
 
-pub same_head : (place place' : ℕ) (p p' : Payload) → place ≡ place' → p ≡ p' → ◌≡◌ {A = Head} (record { place = place; payload = p }) (record { place = place'; payload = p' })
-same_head place place' p p' e f = ap₂ (λ (k : ℕ) (q : Payload). record { place = k; payload = q }) e f
+abbrev pub takes : Option RowInfo → ℕ → Bool
+takes None count = false
+takes (Some info) count = is_count info.operands count
 
-matches_says : (l m : Lang) → lang_matches l m ≡ true → IsAlike head_of ids_of l m
-matches_says l m e =
-    let parts = both (place_of l == place_of m) (payload_eq.ghosts.eq (payload_of l) (payload_of m)) (given_of l == given_of m) e in (
-      same_head (place_of l) (place_of m) (payload_of l) (payload_of m) ((unsigned_Decides (place_of l) (place_of m)).0 parts.0) (same_payload (payload_of l) (payload_of m) parts.1.0),
-      (unsigned_Decides (given_of l) (given_of m)).0 parts.1.1,
-    )
+-- the row takes that many children
+abbrev pub takes_children : ℕ → ℕ → Bool
+takes_children row count = takes (info_of row) count
 
-alike_matches : (l m : Lang) → IsAlike head_of ids_of l m → lang_matches l m ≡ true
-alike_matches l m a =
-    joined (place_of l == place_of m) (payload_eq.ghosts.eq (payload_of l) (payload_of m)) (given_of l == given_of m)
-    ((unsigned_Decides (place_of l) (place_of m)).1 (ap (λ (h : Head). h.place) a.0)) (payload_itself (payload_of l) (payload_of m) (ap (λ (h : Head). h.payload) a.0))
-    ((unsigned_Decides (given_of l) (given_of m)).1 a.1)
+-- ---- what nodes there are
 
--- two nodes match exactly where they say the same and have as many children
-pub matches_exactly : (l m : Lang) → Decides (lang_matches l m) (IsAlike head_of ids_of l m)
-matches_exactly l m = (matches_says l m, alike_matches l m)
+-- that many children are right for the variant
+abbrev pub is_right : Arity → ℕ → Bool
+is_right arity.Zero count = 0 == count
+is_right arity.One count = 1 == count
+is_right (arity.Several n) count = n == count
+is_right arity.Any count = true
 
-pub matches_equivalence : IsEquivalence lang_matches
-matches_equivalence = alike_equivalence head_of ids_of lang_matches matches_exactly
+abbrev pub is_node_of : Option Variant → Payload → ℕ → Bool
+is_node_of None p count = false
+is_node_of (Some v) p count = is_of v.payload p && is_right v.children count
 
-pub node_reads_back : (l : Lang) → IsNode l → reads (text_of l) (length (ids_of l)) ≡ Ok (head_of l)
-node_reads_back l is = reads_back l is.0 is.1
-
--- a node's text is its head's
-pub says : (l m : Lang) → head_of l ≡ head_of m → text_of l ≡ text_of m
-says l m e = ap (λ (h : Head). name_in variants h.place ++ payload_text h.payload) e
+-- there is a variant with that place, that kind of payload and that many children
+abbrev pub fits : ℕ → Payload → ℕ → Bool
+fits place p count = is_node_of (variant_at place) p count

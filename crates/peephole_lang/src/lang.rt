@@ -1,114 +1,182 @@
-//! The nodes of peephole terms, seen as place, payload and children.
-ghost use Rattle.std.specs.Prelude.{◌≡◌, length};
-ghost use Rattle.wasm_code.specs.Instruction.{InRange};
-ghost use Rattle.peephole_lang.specs.Lang.{place_of, payload_of, ids_of, count_of, imm_of, instr_of};
-
+//! The nodes of peephole terms.
 use crate::id::Id;
-use std::alloc::AllocError;
-use wasm_code::{Imm, Instr};
-
-/// What a node says besides its variant and its children.
-#[derive(Clone, Copy, Debug, PartialEq, Eq, PartialOrd, Ord, Hash)]
-pub enum Payload {
-    Nothing,
-    /// An index, as of a local.
-    Index(u32),
-    /// A constant of type i32.
-    I32(i32),
-}
+use crate::numeric::Numeric;
+use crate::payload::Payload;
+use crate::simd::Simd;
+use mutate_base::{F32, F64, MemArg, MemoryCopy, MemoryInit, RefType, TableCopy, TableInit};
+use wasm_code::ValType;
 
 /// What a node is, apart from its children.
 #[derive(Clone, Copy, Debug, PartialEq, Eq)]
 pub struct Head {
     /// The place of its variant: 12 more than the row of its instruction, or below 12 where it has none.
     pub place: u16,
+    /// What it says besides.
     pub payload: Payload,
 }
 
-/// A node of a term: an instruction whose operands are the children, or one of the nodes without an instruction.
+/// A node of a term: an instruction whose operands are the children, or one of the twelve nodes without an instruction.
+/// Numeric instructions with operands and vector instructions are held in one: their places are those of what is held.
+/// `TypedSelect` has the last place.
 #[derive(Drop)]
 pub enum Lang {
+    /// Any number of type i32, drawn when it is written.
+    RandI32,
+    /// Any number of type i64, drawn when it is written.
+    RandI64,
+    /// Any number of type f32, drawn when it is written.
+    RandF32,
+    /// Any number of type f64, drawn when it is written.
+    RandF64,
     /// No value is known.
     Undef,
+    /// The i32 constant that is its child, as a sum.
+    UnfoldI32(Id),
+    /// The i64 constant that is its child, as a sum.
+    UnfoldI64(Id),
+    /// Its child, put into a requested global of type i32 and read from it again.
+    I32UseGlobal(Id),
+    /// Its child, put into a requested global of type i64 and read from it again.
+    I64UseGlobal(Id),
+    /// Its child, put into a requested global of type f32 and read from it again.
+    F32UseGlobal(Id),
+    /// Its child, put into a requested global of type f64 and read from it again.
+    F64UseGlobal(Id),
+    /// Its children, one after another.
+    Container(Vec<Id>),
+    /// `nop`
+    Nop,
+    /// `call`
+    Call(u32, Vec<Id>),
     /// `drop`
     Drop([Id; 1]),
-    /// `local.get` of this local
+    /// `select`
+    Select([Id; 3]),
+    /// `local.get`
     LocalGet(u32),
-    /// `local.set` of this local
+    /// `local.set`
     LocalSet(u32, Id),
+    /// `local.tee`
+    LocalTee(u32, Id),
+    /// `global.get`
+    GlobalGet(u32),
+    /// `global.set`
+    GlobalSet(u32, Id),
+    /// `table.get`
+    TableGet(u32, Id),
+    /// `table.set`
+    TableSet(u32, [Id; 2]),
+    /// `i32.load`
+    I32Load(MemArg, Id),
+    /// `i64.load`
+    I64Load(MemArg, Id),
+    /// `f32.load`
+    F32Load(MemArg, Id),
+    /// `f64.load`
+    F64Load(MemArg, Id),
+    /// `i32.load8_s`
+    I32Load8S(MemArg, Id),
+    /// `i32.load8_u`
+    I32Load8U(MemArg, Id),
+    /// `i32.load16_s`
+    I32Load16S(MemArg, Id),
+    /// `i32.load16_u`
+    I32Load16U(MemArg, Id),
+    /// `i64.load8_s`
+    I64Load8S(MemArg, Id),
+    /// `i64.load8_u`
+    I64Load8U(MemArg, Id),
+    /// `i64.load16_s`
+    I64Load16S(MemArg, Id),
+    /// `i64.load16_u`
+    I64Load16U(MemArg, Id),
+    /// `i64.load32_s`
+    I64Load32S(MemArg, Id),
+    /// `i64.load32_u`
+    I64Load32U(MemArg, Id),
+    /// `i32.store`
+    I32Store(MemArg, [Id; 2]),
+    /// `i64.store`
+    I64Store(MemArg, [Id; 2]),
+    /// `f32.store`
+    F32Store(MemArg, [Id; 2]),
+    /// `f64.store`
+    F64Store(MemArg, [Id; 2]),
+    /// `i32.store8`
+    I32Store8(MemArg, [Id; 2]),
+    /// `i32.store16`
+    I32Store16(MemArg, [Id; 2]),
+    /// `i64.store8`
+    I64Store8(MemArg, [Id; 2]),
+    /// `i64.store16`
+    I64Store16(MemArg, [Id; 2]),
+    /// `i64.store32`
+    I64Store32(MemArg, [Id; 2]),
+    /// `memory.size`
+    MemorySize(u32),
+    /// `memory.grow`
+    MemoryGrow(u32, Id),
     /// `i32.const`
     I32(i32),
-    /// `i32.add`
-    I32Add([Id; 2]),
+    /// `i64.const`
+    I64(i64),
+    /// `f32.const`
+    F32(F32),
+    /// `f64.const`
+    F64(F64),
+    /// `ref.null`
+    RefNull(RefType),
+    /// `ref.is_null`
+    RefIsNull(Id),
+    /// `ref.func`
+    RefFunc(u32),
+    /// `memory.init`
+    MemoryInit(MemoryInit, [Id; 3]),
+    /// `data.drop`
+    DataDrop(u32),
+    /// `memory.copy`
+    MemoryCopy(MemoryCopy, [Id; 3]),
+    /// `memory.fill`
+    MemoryFill(u32, [Id; 3]),
+    /// `table.init`
+    TableInit(TableInit, [Id; 3]),
+    /// `elem.drop`
+    ElemDrop(u32),
+    /// `table.copy`
+    TableCopy(TableCopy, [Id; 3]),
+    /// `table.grow`
+    TableGrow(u32, [Id; 2]),
+    /// `table.size`
+    TableSize(u32),
+    /// `table.fill`
+    TableFill(u32, [Id; 3]),
+    /// `select` with the type of its value
+    TypedSelect(ValType, [Id; 3]),
+    /// A numeric instruction with operands.
+    Numeric(Numeric),
+    /// A vector instruction.
+    Simd(Simd),
 }
 
-impl Payload {
-    // The immediate that stands for the payload in an instruction.
-    pub(crate) fn imm(self) -> Imm
-        ensures value { result ≡ imm_of self }
-        ensures in_range { InRange result }
-    {
-        match self {
-            Payload::Nothing => Imm::Nothing,
-            Payload::Index(index) => Imm::Index(index),
-            Payload::I32(number) => Imm::I32(number),
-        }
+impl From<Numeric> for Lang {
+    ghost use Rattle.std.specs.Prelude.{◌≡◌};
+    ghost use Rattle.peephole_lang.specs.declared.lang.Lang.TheVariants as variant;
+
+    ghost from_gives = { λ n l. l ≡ variant.Numeric n };
+
+    fn from(node: Numeric) -> Lang {
+        Lang::Numeric(node)
     }
 }
 
-impl Lang {
-    /// The place of its variant in the order of nodes.
-    pub fn place(&self) -> u16
-        ensures { result ≡ place_of self.now }
-    {
-        match self {
-            Lang::Undef => 4,
-            Lang::Drop(..) => 14,
-            Lang::LocalGet(..) => 16,
-            Lang::LocalSet(..) => 17,
-            Lang::I32(..) => 48,
-            Lang::I32Add(..) => 89,
-        }
-    }
+impl From<Simd> for Lang {
+    ghost use Rattle.std.specs.Prelude.{◌≡◌};
+    ghost use Rattle.peephole_lang.specs.declared.lang.Lang.TheVariants as variant;
 
-    /// What it says besides its variant and its children.
-    pub fn payload(&self) -> Payload
-        ensures { result ≡ payload_of self.now }
-    {
-        match self {
-            Lang::Undef => Payload::Nothing,
-            Lang::Drop(_) => Payload::Nothing,
-            Lang::LocalGet(index) => Payload::Index(*index),
-            Lang::LocalSet(index, _) => Payload::Index(*index),
-            Lang::I32(number) => Payload::I32(*number),
-            Lang::I32Add(_) => Payload::Nothing,
-        }
-    }
+    ghost from_gives = { λ s l. l ≡ variant.Simd s };
 
-    /// The ids of the children, the first operand first.
-    pub fn children(&self) -> &[Id]
-        ensures value { result.now ≡ ids_of self.now }
-        ensures count { length result.now ≡ count_of self.now }
-    {
-        match self {
-            Lang::Undef => &[],
-            Lang::Drop(children) => children,
-            Lang::LocalGet(_) => &[],
-            Lang::LocalSet(_, child) => std::slice::from_ref(child),
-            Lang::I32(_) => &[],
-            Lang::I32Add(children) => children,
-        }
-    }
-
-    /// The node's instruction, or None for a node without one.
-    pub fn instr(&self) -> Option<Instr>
-        ensures { result ≡ instr_of self.now }
-    {
-        let place = self.place();
-        if place < 12 {
-            return None;
-        }
-        Instr::new(place - 12, self.payload().imm())
+    fn from(node: Simd) -> Lang {
+        Lang::Simd(node)
     }
 }
 
@@ -120,22 +188,5 @@ impl Default for Lang {
 
     fn default() -> Lang {
         Lang::Undef
-    }
-}
-
-impl Clone for Lang {
-    ghost use Rattle.peephole_lang.specs.Lang.{SameNode};
-
-    ghost is_clone = { SameNode };
-
-    fn clone(&self) -> Result<Lang, AllocError> {
-        Ok(match self {
-            Lang::Undef => Lang::Undef,
-            Lang::Drop(children) => Lang::Drop(*children),
-            Lang::LocalGet(index) => Lang::LocalGet(*index),
-            Lang::LocalSet(index, child) => Lang::LocalSet(*index, *child),
-            Lang::I32(number) => Lang::I32(*number),
-            Lang::I32Add(children) => Lang::I32Add(*children),
-        })
     }
 }

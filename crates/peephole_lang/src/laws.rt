@@ -1,27 +1,48 @@
 //! What holds of nodes and their texts, for every caller.
-ghost use Rattle.std.specs.Prelude.{◌≡◌, List, Bool, true, Ok, length};
+ghost use Rattle.std.specs.Prelude.{◌≡◌, ℕ, List, Bool, true, Some, IsSome, Ok, length};
+ghost use Rattle.std.specs.List.{Contains};
+ghost use Rattle.wasm_code.specs.Instruction.{Instruction};
+ghost use Rattle.peephole_lang.specs.contracts.payload.PayloadPartialEq.TheImpl as payload_eq;
+ghost use Rattle.peephole_lang.specs.declared.payload.Payload.{Payload};
+ghost use Rattle.peephole_lang.specs.Names.{after, behind_name};
+ghost use Rattle.peephole_lang.specs.Variants.{Variant, variants};
 ghost use Rattle.std.specs.Bool.{Decides};
-ghost use Rattle.wasm_code.specs.Instruction.{InRange};
-ghost use Rattle.peephole_lang.specs.Lang.{place_of, payload_of, ids_of, count_of, head_of, imm_of};
+ghost use Rattle.peephole_lang.specs.Lang.{place_of, payload_of, ids_of};
 ghost use Rattle.peephole_lang.specs.declared.id.Id.{Id};
 ghost use Rattle.peephole_lang.specs.declared.lang.Lang.{Lang};
 ghost use Rattle.peephole_lang.specs.Compared.{lang_eq};
 ghost use Rattle.peephole_lang.specs.Language.{IsSame};
-ghost use Rattle.peephole_lang.specs.Making.{fits};
-ghost use Rattle.peephole_lang.specs.Node.{IsNode};
+ghost use Rattle.peephole_lang.specs.Node.{IsNode, head_of, instr_of, takes_children, fits};
 ghost use Rattle.peephole_lang.specs.Text.{text_of, reads};
 
 use crate::language::Language;
 
 /// What a node's text reads as, with its children, is that node.
 pub fn text_reads_back()
-    ensures { (l : Lang) → InRange (imm_of (payload_of l)) → length (ids_of l) ≡ count_of l → reads (text_of l) (length (ids_of l)) ≡ Ok (head_of l) }
+    ensures { (l : Lang) → IsNode l → reads (text_of l) (length (ids_of l)) ≡ Ok (head_of l) }
 {}
 
-/// A node is made of each node's place, payload and children. By the contract of `make` it has these too, so that by
-/// `equal_exactly` it is that node.
-pub fn can_be_made_again()
+/// Each node is of a variant of the table: with that place, that kind of payload, and that many children.
+pub fn is_of_its_variant()
     ensures { (l : Lang) → IsNode l → fits (place_of l) (payload_of l) (length (ids_of l)) ≡ true }
+{}
+
+/// At most one variant fits a text: the whole text is its name, or its name and a dot begin the text where it has a payload.
+pub fn one_variant_a_text()
+    ensures { (v w : Variant) (text : List ℕ) → Contains variants v → Contains variants w
+        → IsSome (behind_name v.payload (after v.name text)) → IsSome (behind_name w.payload (after w.name text)) → v ≡ w }
+{}
+
+/// The instruction of a node takes the node's children, and nodes with the same instruction and children are the same. By
+/// the contract of `of_instr`, the node that it makes of a node's instruction and children is therefore that node.
+pub fn instruction_decides_node()
+    ensures takes { (l : Lang) (i : Instruction) → IsNode l → instr_of l ≡ Some i → takes_children i.row (length (ids_of l)) ≡ true }
+    ensures one { (l m : Lang) (i : Instruction) → instr_of l ≡ Some i → instr_of m ≡ Some i → ids_of l ≡ ids_of m → IsSame head_of ids_of m l }
+{}
+
+/// The test for equal payloads is true exactly where they are equal.
+pub fn equal_payloads()
+    ensures { (p q : Payload) → Decides (payload_eq.ghosts.eq p q) (p ≡ q) }
 {}
 
 /// Two nodes are equal exactly where they have the same place, payload and children.

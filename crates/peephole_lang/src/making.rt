@@ -1,150 +1,246 @@
 //! Nodes made of a place, a payload and children.
-ghost use Rattle.std.specs.Prelude.{◌≡◌, ◌+◌, ◌&&◌, IfSome, Some, is_some, length, [], ◌∷◌};
-ghost use Rattle.peephole_lang.specs.Lang.{place_of, payload_of, ids_of, instr_of, takes_children, has_node};
-ghost use Rattle.peephole_lang.specs.Making.{is_nothing_0, is_nothing_1, is_nothing_2, is_index_0, is_index_1, is_i32_0, fits, payload_of_imm};
-ghost use Rattle.peephole_lang.specs.declared.lang.Payload.TheVariants as P;
+ghost use Rattle.std.specs.Prelude.{◌≡◌, ◌||◌, IfSome, is_some, length, [], ◌∷◌};
+ghost use Rattle.peephole_lang.specs.Lang.{place_of, payload_of, ids_of, count_of};
+ghost use Rattle.peephole_lang.specs.Making.{is_numeric, is_simd_plain, is_simd, is_few, is_plain, is_index, is_memory, is_single, is_made};
+ghost use Rattle.peephole_lang.specs.Numeric.{numeric_place_of, numeric_ids_of, numeric_count_of};
+ghost use Rattle.peephole_lang.specs.Simd.{simd_place_of, simd_payload_of};
+ghost use Rattle.peephole_lang.specs.SimdChildren.{simd_ids_of, simd_count_of};
+ghost use Rattle.peephole_lang.specs.SimdShapes.{is_simd_plain_two_a, is_simd_plain_two_b, is_simd_plain_two_c, is_simd_plain_two_d};
+ghost use Rattle.peephole_lang.specs.declared.payload.Payload.TheVariants as P;
 
 use crate::id::Id;
-use crate::lang::{Lang, Payload};
-use wasm_code::{Imm, Instr};
+use crate::lang::Lang;
+use crate::numeric::Numeric;
+use crate::payload::Payload;
+use crate::simd::Simd;
+use crate::{lang_shapes as lang, numeric_shapes as numeric, simd_shapes as simd};
+use mutate_base::MemArg;
 
-impl Lang {
-    /// The node of an instruction with these children, the first operand first, or None where the row's instructions
-    /// have no node, or the number of the children isn't the row's number of operands.
-    pub fn of_instr(instr: &Instr, children: Vec<Id>) -> Option<Lang>
-        ensures instruction { IfSome result (λ l. instr_of l ≡ Some instr.now) }
-        ensures children { IfSome result (λ l. ids_of l ≡ children.items) }
-        ensures complete { is_some result ≡ (has_node instr.now.row && takes_children instr.now.row (length children.items)) }
-    {
-        let row = instr.row();
-        match payload_of_immediate(instr.imm()) {
-            Some(payload) => make(12 + row, payload, &children),
-            None => None,
+/// The node with this place, payload and children, or None where no variant of the place has that kind of payload and
+/// that many children.
+#[tactic(auto, unfolding(crate::specs::Lang::place_of, crate::specs::Lang::payload_of, crate::specs::Lang::ids_of, crate::specs::Lang::count_of))]
+pub fn make(place: u16, payload: Payload, children: Vec<Id>) -> Option<Lang>
+    ensures place { IfSome result (λ l. place_of l ≡ place) }
+    ensures payload { IfSome result (λ l. payload_of l ≡ payload) }
+    ensures children { IfSome result (λ l. ids_of l ≡ children.items) }
+    ensures count { IfSome result (λ l. count_of l ≡ length children.items) }
+    ensures complete { is_some result ≡ is_made place payload (length children.items) }
+{
+    match payload {
+        Payload::Nothing => make_plain(place, children),
+        Payload::Index(index) => make_index(place, index, children),
+        Payload::Memory(memarg) => make_memory(place, memarg, &children),
+        Payload::Lane(_) | Payload::V128(_) | Payload::MemoryLane(_) | Payload::Shuffle(_) => {
+            Some(Lang::Simd(make_simd(place, payload, &children)?))
         }
+        _ => make_single(place, payload, &children),
     }
 }
 
-/// Whether the instructions of row `row` have a node: those of `drop`, `local.get`, `local.set`, `i32.const` and
-/// `i32.add`. The other rows have none yet.
-pub fn has_node(row: u16) -> bool
-    ensures { result ≡ has_node row }
+// A node without payload.
+#[tactic(auto, unfolding(crate::specs::Lang::place_of, crate::specs::Lang::payload_of, crate::specs::Lang::ids_of, crate::specs::Lang::count_of))]
+fn make_plain(place: u16, children: Vec<Id>) -> Option<Lang>
+    ensures place { IfSome result (λ l. place_of l ≡ place) }
+    ensures payload { IfSome result (λ l. payload_of l ≡ P.Nothing) }
+    ensures children { IfSome result (λ l. ids_of l ≡ children.items) }
+    ensures count { IfSome result (λ l. count_of l ≡ length children.items) }
+    ensures complete { is_some result ≡ is_plain place (length children.items) }
 {
-    matches!(row, 2 | 4 | 5 | 36 | 77)
+    if place == 11 {
+        return Some(Lang::Container(children));
+    }
+    if let Some(node) = make_numeric(place, &children) {
+        return Some(Lang::Numeric(node));
+    }
+    if let Some(node) = make_simd_plain(place, &children) {
+        return Some(Lang::Simd(node));
+    }
+    make_few(place, &children)
 }
 
-// The payload that stands for an immediate, or None where no node says such an immediate.
-fn payload_of_immediate(imm: Imm) -> Option<Payload>
-    ensures { result ≡ payload_of_imm imm }
+// A node without payload that is neither numeric nor a vector node.
+fn make_few(place: u16, children: &[Id]) -> Option<Lang>
+    ensures place { IfSome result (λ l. place_of l ≡ place) }
+    ensures payload { IfSome result (λ l. payload_of l ≡ P.Nothing) }
+    ensures children { IfSome result (λ l. ids_of l ≡ children.now) }
+    ensures count { IfSome result (λ l. count_of l ≡ length children.now) }
+    ensures complete { is_some result ≡ is_few place (length children.now) }
 {
-    match imm {
-        Imm::Nothing => Some(Payload::Nothing),
-        Imm::Index(index) => Some(Payload::Index(index)),
-        Imm::I32(number) => Some(Payload::I32(number)),
+    match children {
+        [] => lang::plain_leaf(place),
+        [child] => lang::plain_one(place, *child),
+        [first, second, third] => lang::plain_three(place, *first, *second, *third),
         _ => None,
     }
 }
 
-/// The node with this place, payload and children, or None where no variant of the place has that kind of payload and
-/// that many children.
-pub fn make(place: u16, payload: Payload, children: &[Id]) -> Option<Lang>
-    ensures place { IfSome result (λ l. place_of l ≡ place) }
-    ensures payload { IfSome result (λ l. payload_of l ≡ payload) }
-    ensures children { IfSome result (λ l. ids_of l ≡ children.now) }
-    ensures complete { is_some result ≡ fits place payload (length children.now) }
+fn make_numeric(place: u16, children: &[Id]) -> Option<Numeric>
+    ensures place { IfSome result (λ l. numeric_place_of l ≡ place) }
+    ensures children { IfSome result (λ l. numeric_ids_of l ≡ children.now) }
+    ensures count { IfSome result (λ l. numeric_count_of l ≡ length children.now) }
+    ensures complete { is_some result ≡ is_numeric place (length children.now) }
 {
-    match payload {
-        Payload::Nothing => match children {
-            [] => make_nothing_0(place),
-            [child] => make_nothing_1(place, [*child]),
-            [first, second] => make_nothing_2(place, [*first, *second]),
-            _ => None,
+    match children {
+        [child] => match numeric::numeric_plain_one_a(place, *child) {
+            Some(node) => Some(node),
+            None => numeric::numeric_plain_one_b(place, *child),
         },
-        Payload::Index(index) => match children {
-            [] => make_index_0(place, index),
-            [child] => make_index_1(place, index, *child),
-            _ => None,
+        [first, second] => match numeric::numeric_plain_two_a(place, *first, *second) {
+            Some(node) => Some(node),
+            None => numeric::numeric_plain_two_b(place, *first, *second),
         },
-        Payload::I32(number) => match children {
-            [] => make_i32_0(place, number),
-            _ => None,
-        },
+        _ => None,
     }
 }
 
-#[tactic(auto, unfolding(crate::specs::Making::is_nothing_0))]
-fn make_nothing_0(place: u16) -> Option<Lang>
-    ensures place { IfSome result (λ l. place_of l ≡ place) }
-    ensures payload { IfSome result (λ l. payload_of l ≡ P.Nothing) }
-    ensures children { IfSome result (λ l. ids_of l ≡ []) }
-    ensures complete { is_some result ≡ is_nothing_0 place }
+// A vector node without payload.
+fn make_simd_plain(place: u16, children: &[Id]) -> Option<Simd>
+    ensures place { IfSome result (λ l. simd_place_of l ≡ place) }
+    ensures payload { IfSome result (λ l. simd_payload_of l ≡ P.Nothing) }
+    ensures children { IfSome result (λ l. simd_ids_of l ≡ children.now) }
+    ensures count { IfSome result (λ l. simd_count_of l ≡ length children.now) }
+    ensures complete { is_some result ≡ is_simd_plain place (length children.now) }
 {
-    Some(match place {
-        4 => Lang::Undef,
-        _ => return None,
-    })
+    match children {
+        [child] => match simd::simd_plain_one_a(place, *child) {
+            Some(node) => Some(node),
+            None => simd::simd_plain_one_b(place, *child),
+        },
+        [first, second] => make_simd_two(place, *first, *second),
+        [first, second, third] => simd::simd_plain_three(place, *first, *second, *third),
+        _ => None,
+    }
 }
 
-#[tactic(auto, unfolding(crate::specs::Making::is_nothing_1))]
-fn make_nothing_1(place: u16, children: [Id; 1]) -> Option<Lang>
-    ensures place { IfSome result (λ l. place_of l ≡ place) }
-    ensures payload { IfSome result (λ l. payload_of l ≡ P.Nothing) }
-    ensures children { IfSome result (λ l. ids_of l ≡ children) }
-    ensures complete { is_some result ≡ is_nothing_1 place }
+// A vector node without payload, of two children.
+fn make_simd_two(place: u16, first: Id, second: Id) -> Option<Simd>
+    ensures place { IfSome result (λ l. simd_place_of l ≡ place) }
+    ensures payload { IfSome result (λ l. simd_payload_of l ≡ P.Nothing) }
+    ensures children { IfSome result (λ l. simd_ids_of l ≡ first ∷ second ∷ []) }
+    ensures count { IfSome result (λ l. simd_count_of l ≡ 2) }
+    ensures complete { is_some result ≡ is_simd_plain_two_a place || is_simd_plain_two_b place || is_simd_plain_two_c place || is_simd_plain_two_d place }
 {
-    Some(match place {
-        14 => Lang::Drop(children),
-        _ => return None,
-    })
+    if let Some(node) = simd::simd_plain_two_a(place, first, second) {
+        return Some(node);
+    }
+    if let Some(node) = simd::simd_plain_two_b(place, first, second) {
+        return Some(node);
+    }
+    if let Some(node) = simd::simd_plain_two_c(place, first, second) {
+        return Some(node);
+    }
+    simd::simd_plain_two_d(place, first, second)
 }
 
-#[tactic(auto, unfolding(crate::specs::Making::is_nothing_2))]
-fn make_nothing_2(place: u16, children: [Id; 2]) -> Option<Lang>
-    ensures place { IfSome result (λ l. place_of l ≡ place) }
-    ensures payload { IfSome result (λ l. payload_of l ≡ P.Nothing) }
-    ensures children { IfSome result (λ l. ids_of l ≡ children) }
-    ensures complete { is_some result ≡ is_nothing_2 place }
-{
-    Some(match place {
-        89 => Lang::I32Add(children),
-        _ => return None,
-    })
-}
-
-#[tactic(auto, unfolding(crate::specs::Making::is_index_0))]
-fn make_index_0(place: u16, index: u32) -> Option<Lang>
+#[tactic(auto, unfolding(crate::specs::Lang::place_of, crate::specs::Lang::payload_of, crate::specs::Lang::ids_of, crate::specs::Lang::count_of))]
+fn make_index(place: u16, index: u32, children: Vec<Id>) -> Option<Lang>
     ensures place { IfSome result (λ l. place_of l ≡ place) }
     ensures payload { IfSome result (λ l. payload_of l ≡ P.Index index) }
-    ensures children { IfSome result (λ l. ids_of l ≡ []) }
-    ensures complete { is_some result ≡ is_index_0 place }
+    ensures children { IfSome result (λ l. ids_of l ≡ children.items) }
+    ensures count { IfSome result (λ l. count_of l ≡ length children.items) }
+    ensures complete { is_some result ≡ is_index place (length children.items) }
 {
-    Some(match place {
-        16 => Lang::LocalGet(index),
-        _ => return None,
-    })
+    if place == 13 {
+        return Some(Lang::Call(index, children));
+    }
+    match children.as_slice() {
+        [] => lang::index_leaf(place, index),
+        [child] => lang::index_one(place, index, *child),
+        [first, second] => lang::index_two(place, index, *first, *second),
+        [first, second, third] => lang::index_three(place, index, *first, *second, *third),
+        _ => None,
+    }
 }
 
-#[tactic(auto, unfolding(crate::specs::Making::is_index_1))]
-fn make_index_1(place: u16, index: u32, child: Id) -> Option<Lang>
+#[tactic(auto, unfolding(crate::specs::Lang::place_of, crate::specs::Lang::payload_of, crate::specs::Lang::ids_of, crate::specs::Lang::count_of))]
+fn make_memory(place: u16, memarg: MemArg, children: &[Id]) -> Option<Lang>
     ensures place { IfSome result (λ l. place_of l ≡ place) }
-    ensures payload { IfSome result (λ l. payload_of l ≡ P.Index index) }
-    ensures children { IfSome result (λ l. ids_of l ≡ child ∷ []) }
-    ensures complete { is_some result ≡ is_index_1 place }
+    ensures payload { IfSome result (λ l. payload_of l ≡ P.Memory memarg) }
+    ensures children { IfSome result (λ l. ids_of l ≡ children.now) }
+    ensures count { IfSome result (λ l. count_of l ≡ length children.now) }
+    ensures complete { is_some result ≡ is_simd place (P.Memory memarg) (length children.now) || is_memory place (length children.now) }
 {
-    Some(match place {
-        17 => Lang::LocalSet(index, child),
-        _ => return None,
-    })
+    if let Some(node) = make_simd(place, Payload::Memory(memarg), children) {
+        return Some(Lang::Simd(node));
+    }
+    match children {
+        [child] => lang::memory_one(place, memarg, *child),
+        [first, second] => lang::memory_two(place, memarg, *first, *second),
+        _ => None,
+    }
 }
 
-#[tactic(auto, unfolding(crate::specs::Making::is_i32_0))]
-fn make_i32_0(place: u16, number: i32) -> Option<Lang>
-    ensures place { IfSome result (λ l. place_of l ≡ place) }
-    ensures payload { IfSome result (λ l. payload_of l ≡ P.I32 number) }
-    ensures children { IfSome result (λ l. ids_of l ≡ []) }
-    ensures complete { is_some result ≡ is_i32_0 place }
+// A vector node with a payload.
+fn make_simd(place: u16, payload: Payload, children: &[Id]) -> Option<Simd>
+    ensures place { IfSome result (λ l. simd_place_of l ≡ place) }
+    ensures payload { IfSome result (λ l. simd_payload_of l ≡ payload) }
+    ensures children { IfSome result (λ l. simd_ids_of l ≡ children.now) }
+    ensures count { IfSome result (λ l. simd_count_of l ≡ length children.now) }
+    ensures complete { is_some result ≡ is_simd place payload (length children.now) }
 {
-    Some(match place {
-        48 => Lang::I32(number),
-        _ => return None,
-    })
+    match (payload, children) {
+        (Payload::Lane(lane), [child]) => simd::simd_lane_one(place, lane, *child),
+        (Payload::Lane(lane), [first, second]) => simd::simd_lane_two(place, lane, *first, *second),
+        (Payload::V128(number), []) => simd::simd_v128_leaf(place, number),
+        (Payload::Memory(memarg), [child]) => simd::simd_memory_one(place, memarg, *child),
+        (Payload::Memory(memarg), [first, second]) => simd::simd_memory_two(
+            place, memarg, *first, *second,
+        ),
+        (Payload::MemoryLane(memarg), [first, second]) => simd::simd_memory_lane_two(
+            place, memarg, *first, *second,
+        ),
+        (Payload::Shuffle(shuffle), [first, second]) => simd::simd_shuffle_two(
+            place, shuffle, *first, *second,
+        ),
+        _ => None,
+    }
+}
+
+// A node with a payload that no other node has.
+fn make_single(place: u16, payload: Payload, children: &[Id]) -> Option<Lang>
+    ensures place { IfSome result (λ l. place_of l ≡ place) }
+    ensures payload { IfSome result (λ l. payload_of l ≡ payload) }
+    ensures children { IfSome result (λ l. ids_of l ≡ children.now) }
+    ensures count { IfSome result (λ l. count_of l ≡ length children.now) }
+    ensures complete { is_some result ≡ is_single place payload (length children.now) }
+{
+    match children {
+        [] => make_constant(place, payload),
+        [first, second, third] => make_three(place, payload, *first, *second, *third),
+        _ => None,
+    }
+}
+
+fn make_constant(place: u16, payload: Payload) -> Option<Lang>
+    ensures place { IfSome result (λ l. place_of l ≡ place) }
+    ensures payload { IfSome result (λ l. payload_of l ≡ payload) }
+    ensures children { IfSome result (λ l. ids_of l ≡ []) }
+    ensures count { IfSome result (λ l. count_of l ≡ 0) }
+    ensures complete { is_some result ≡ is_single place payload 0 }
+{
+    match payload {
+        Payload::I32(number) => lang::i32_leaf(place, number),
+        Payload::I64(number) => lang::i64_leaf(place, number),
+        Payload::F32(number) => lang::f32_leaf(place, number),
+        Payload::F64(number) => lang::f64_leaf(place, number),
+        Payload::Ref(ty) => lang::ref_leaf(place, ty),
+        _ => None,
+    }
+}
+
+fn make_three(place: u16, payload: Payload, first: Id, second: Id, third: Id) -> Option<Lang>
+    ensures place { IfSome result (λ l. place_of l ≡ place) }
+    ensures payload { IfSome result (λ l. payload_of l ≡ payload) }
+    ensures children { IfSome result (λ l. ids_of l ≡ first ∷ second ∷ third ∷ []) }
+    ensures count { IfSome result (λ l. count_of l ≡ 3) }
+    ensures complete { is_some result ≡ is_single place payload 3 }
+{
+    match payload {
+        Payload::Value(ty) => lang::value_three(place, ty, first, second, third),
+        Payload::MemoryInit(init) => lang::memory_init_three(place, init, first, second, third),
+        Payload::MemoryCopy(copy) => lang::memory_copy_three(place, copy, first, second, third),
+        Payload::TableInit(init) => lang::table_init_three(place, init, first, second, third),
+        Payload::TableCopy(copy) => lang::table_copy_three(place, copy, first, second, third),
+        _ => None,
+    }
 }

@@ -1,11 +1,13 @@
 //! The nodes of `Lang` as a kind of nodes.
 ghost use Rattle.std.specs.Prelude.{◌≡◌, refl};
-ghost use Rattle.peephole_lang.specs.Lang.{head_of, ids_of, children_of};
+ghost use Rattle.peephole_lang.specs.Lang.{ids_of};
 ghost use Rattle.peephole_lang.specs.Text.{text_of, reads};
 ghost use Rattle.peephole_lang.specs.Compared.{lang_matches};
 ghost use Rattle.peephole_lang.specs.WithIds.{with_ids};
 ghost use Rattle.peephole_lang.specs.WithIdsLemmas.{keeps_head, has_written};
-ghost use Rattle.peephole_lang.specs.Node.{IsNode, matches_exactly, matches_equivalence, says, node_reads_back};
+ghost use Rattle.peephole_lang.specs.Node.{IsNode, head_of, children_of};
+ghost use Rattle.peephole_lang.specs.NodeLemmas.{matches_exactly, matches_equivalence, says};
+ghost use Rattle.peephole_lang.specs.TextLemmas.{reads_back};
 
 use crate::id::Id;
 use crate::lang::{Head, Lang};
@@ -81,5 +83,5 @@ impl Language for Lang {
 
     ghost has_written = { has_written };
 
-    ghost text_reads_back = { node_reads_back };
+    ghost text_reads_back = { reads_back };
 }

@@ -1,6 +1,6 @@
 -- Where an operator's own tree stands for itself, the block's trees are unchanged.
 use Rattle.std.proofs.Common.{◌≡◌, ℕ, zero, suc, ◌+◌, ◌-◌, ◌<◌, ◌≤◌, inl, inr, List, [], ◌∷◌, ◌++◌, length, get_or, Bool, true, refl, sym, ap, subst, ◌∙◌, arith, Option, Some, None}
-use Rattle.std.specs.Prelude.{reverse, slice_get, slice_range, option_map, IsSome, IfSome, IsTrue, is_some}
+use Rattle.std.specs.Prelude.{reverse, slice_get, slice_range, option_map, IsSome, is_some}
 use Rattle.std.proofs.lemmas.Bool.{cond-true, cond-false}
 use Rattle.std.proofs.lemmas.Bool.Decides.{eqb_tells}
 use Rattle.std.proofs.lemmas.Grind.{common_steps}
@@ -17,13 +17,15 @@ use Rattle.peephole_terms.specs.Graph.{Entry, entry_at, is_operator, pick, tree_
 use Rattle.peephole_terms.specs.Forest.{forest}
 use Rattle.peephole_terms.specs.Entries.{seen, shape_of, entry_of, nodes_of, entry_tree}
 use Rattle.peephole_terms.specs.GraphOf.{IsGraphOf}
-use Rattle.peephole_lang.specs.Lang.{instr_of}
+use Rattle.peephole_lang.specs.Node.{instr_of}
 use Rattle.peephole_terms.proofs.DfgLemmas.{nodes_length, entry_seen}
 use Rattle.peephole_terms.proofs.GraphLemmas.{entry_later}
 use Rattle.peephole_terms.specs.Written.{replaced}
 use Rattle.peephole_terms.specs.Block.{BlockRange}
 use Rattle.peephole_terms.specs.declared.dfg.MiniDFG.{MiniDFG}
-use Rattle.peephole_terms.specs.Dfg.{entries_of, parents_of, look_of}
+use Rattle.peephole_terms.specs.Dfg.{look_of}
+use Rattle.peephole_run.specs.Body.{Contents}
+use Rattle.peephole_run.specs.Writing.{IsBareGraph}
 
 -- ---- lists
 
@@ -132,15 +134,10 @@ own_replaced info keeping first operators entries parents look at i code h k e =
 length_range : (os : List (Operator × ℕ)) (start end : ℕ) → start ≤ end → end ≤ length os → length (slice_range os start end) ≡ end - start
 length_range os start end l m = grind (arith, common_steps)
 
-has_entry : (info : Module) (keeping : Bool) (os : List (Operator × ℕ)) (start end at : ℕ) (entries : List StackEntry) (parents : List (Option ℕ)) (look : ℕ → Option ℕ) →
-    IsGraphOf info keeping start (slice_range os start end) entries parents look → start ≤ at → at < end → end ≤ length os → IsSome (look at)
-has_entry info keeping os start end at entries parents look h l m w =
-    let n : length (slice_range os start end) ≡ end - start = length_range os start end (omega arith) w in
-    let e : start + (at - start) ≡ at = omega arith in
-    ap (λ k. is_some (look k)) (sym e) ∙ h.keys (at - start) (omega arith)
-
--- the same of a graph under a configuration
-pub has_entry_under : (under : Option Module) (keeping : Bool) (os : List (Operator × ℕ)) (range : BlockRange) (at : ℕ) (graph : MiniDFG) → IsTrue (is_some under) →
-    IfSome under (λ info. IsGraphOf info keeping range.start (slice_range os range.start range.end) (entries_of graph) (parents_of graph) (look_of graph)) → range.start ≤ at → at < range.end → range.end ≤ length os → IsSome (look_of graph at)
-has_entry_under None keeping os range at graph i h l m w = absurd (cc i)
-has_entry_under (Some info) keeping os range at graph i h l m w = has_entry info keeping os range.start range.end at (entries_of graph) (parents_of graph) (look_of graph) h l m w
+pub has_entry : (body : Contents) (range : BlockRange) (at : ℕ) (graph : MiniDFG) → IsBareGraph body range graph →
+    range.start ≤ at → at < range.end → range.end ≤ length body.operators → IsSome (look_of graph at)
+has_entry body range at graph h l m w =
+    let n : length (slice_range body.operators range.start range.end) ≡ range.end - range.start =
+    length_range body.operators range.start range.end (omega arith) w in
+    let e : range.start + (at - range.start) ≡ at = omega arith in
+    ap (λ k. is_some (look_of graph k)) (sym e) ∙ h.keys (at - range.start) (omega arith)

@@ -4,7 +4,7 @@ ghost use Rattle.std.specs.Prelude.{◌≡◌, ◌<◌, ◌^◌, nat_lt, map, Al
 ghost use Rattle.std.specs.List.{concat, list_all};
 ghost use Rattle.peephole_run.specs.Text.{number_of};
 ghost use Rattle.peephole_run.specs.Commands.{all_of, Argument};
-ghost use Rattle.peephole_lang.specs.Lang.{numbers_of as places_of};
+ghost use Rattle.peephole_lang.specs.Term.{numbers_of as places_of};
 
 use crate::fault::Fault;
 use crate::text::number_of;

@@ -2,7 +2,7 @@
 
 ghost use Rattle.std.specs.Prelude.{◌≡◌, ◌⊎◌, ◌<◌, ◌≤◌, ◌^◌, List, [], map, length, nat_lt, Ok, Err, MatchResult, IsTrue};
 ghost use Rattle.std.specs.List.{list_all};
-ghost use Rattle.peephole_lang.specs.Lang.{node_of};
+ghost use Rattle.peephole_lang.specs.Node.{node_of};
 ghost use Rattle.peephole_lang.specs.Text.{reads};
 ghost use Rattle.peephole_run.specs.State.{State, Reply, PointsInto, start};
 ghost use Rattle.peephole_run.specs.Commands.{step_line, step, command_step, body_step, at_step, node_step, node_read, node_words, write_step, Steps};

@@ -85,11 +85,17 @@ fn worked_runs(rt: HostRuntime) {
         b"no block\nline 3: NoBlock\n",
         false,
     );
-    // The instruction nop has no node yet.
     answers(
         &rt,
         alloc,
         b"body 010b\nat 0\nwrite\n",
+        b"block 0..1\nbytes 010b\n",
+        true,
+    );
+    answers(
+        &rt,
+        alloc,
+        b"body 1c000b\nat 0\nwrite\n",
         b"block 0..1\nno graph\n",
         true,
     );

@@ -1,11 +1,11 @@
 //! The body with the term in it.
 
-ghost use Rattle.std.specs.Prelude.{◌≡◌, ◌≢◌, ◌<◌, map, length, IfOk, IfErr, IfSome, IsTrue, is_some, MatchResult};
-ghost use Rattle.peephole_lang.specs.Lang.{node_of, head_of, children_of};
+ghost use Rattle.std.specs.Prelude.{◌≡◌, ◌≢◌, ◌<◌, map, length, IfOk, IfErr, MatchResult};
+ghost use Rattle.peephole_lang.specs.Node.{node_of, head_of, children_of};
 ghost use Rattle.peephole_lang.specs.Term.{term_of};
 ghost use Rattle.peephole_terms.specs.Block.{IsBlockOf};
 ghost use Rattle.peephole_terms.specs.Written.{written_block, written_body};
-ghost use Rattle.peephole_run.specs.Writing.{IsGraphIn, outcome_of};
+ghost use Rattle.peephole_run.specs.Writing.{bare_module, IsGraphIn, outcome_of};
 ghost use Rattle.peephole_run.specs.declared.writing.Outcome.TheVariants as outcome;
 
 use crate::body::Body;
@@ -47,13 +47,12 @@ fn build(
     block: &BBlock,
     graph: &MiniDFG,
 ) -> Result<Function, Error>
-    requires set_up { IsTrue (is_some config.old.info) }
     requires within { point < length body.now.operators }
     requires some { 0 < length expr.now }
     requires block { IsBlockOf body.now.operators point block.now.start block.now.end }
     requires graph { IsGraphIn config.old body.now block.now graph.now }
-    ensures written { IfOk result (λ sink. IfSome config.old.info (λ info. sink ≡ written_body body.now.bytes body.now.operators block.now
-        (written_block info body.now.operators block.now point (term_of head_of children_of expr.now)))) }
+    ensures written { IfOk result (λ sink. sink ≡ written_body body.now.bytes body.now.operators block.now
+        (written_block (bare_module body.now) body.now.operators block.now point (term_of head_of children_of expr.now))) }
     ensures refused { IfErr result (λ e. e ≡ Error.Memory) }
 {
     let mut sink = Function::new(alloc);
@@ -83,7 +82,6 @@ fn build_with(
     block: &BBlock,
     graph: &MiniDFG,
 ) -> Result<Function, Error>
-    requires set_up { IsTrue (is_some config.old.info) }
     requires within { point < length body.now.operators }
     requires block { IsBlockOf body.now.operators point block.now.start block.now.end }
     requires graph { IsGraphIn config.old body.now block.now graph.now }

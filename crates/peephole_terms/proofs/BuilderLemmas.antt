@@ -1,6 +1,6 @@
 -- What the loop of `build` keeps.
 use Rattle.std.proofs.Common.{◌≡◌, ℕ, zero, suc, ◌+◌, ◌-◌, ◌<◌, ◌≤◌, Bool, true, false, cond, List, [], ◌∷◌, ◌++◌, length, take, drop, get_or, map, replicate, Option, None, Some, refl, sym, ap, ap₂, ◌∙◌, subst, arith, ⊎_elim}
-use Rattle.std.specs.Prelude.{◌⊎◌, ◌==◌, ◌&&◌, nat_le, is_some, option_map, slice_get, reverse, if◌then◌else◌}
+use Rattle.std.specs.Prelude.{◌⊎◌, ◌==◌, nat_le, is_some, option_map, slice_get, reverse, if◌then◌else◌}
 use Rattle.std.specs.Bool.{nat_eq}
 use Rattle.std.specs.List.{All}
 use Rattle.std.specs.HashMap as hash
@@ -10,11 +10,17 @@ use Rattle.std.proofs.lemmas.List.Elements.{All-head, All-tail, All-append, All-
 use Rattle.std.proofs.lemmas.Option.{get_or_from_slice_get, slice_get-get_or, slice_get_cases}
 use Rattle.wasm_code.specs.Instruction.{Instruction}
 use Rattle.wasm_code.specs.Table.{info_of}
+use Rattle.wasm_code.specs.declared.immediate.Imm.{Imm}
+use Rattle.wasm_code.specs.declared.immediate.Imm.TheVariants.{Index}
 use Rattle.wasm_code.specs.declared.operator.Operator.{Operator}
 use Rattle.wasm_code.specs.declared.operator.Operator.TheVariants.{Instr, Block, Loop, If, Else, End, Br, BrIf, BrTable, Return, Unreachable, CallIndirect, TypedSelect}
 use Rattle.wasm_code.specs.declared.table.RowInfo.{RowInfo}
-use Rattle.mutate_base.specs.Module.{Module}
-use Rattle.peephole_terms.specs.Shape.{Shape, Judged, Fits, Unfit, has_result, judge_row, judge_found, judge_with_node, judge_instruction, judge, IsFit, AreFit, and_shape, operator_shapes, block_of}
+use Rattle.mutate_base.specs.Module.{Module, function_type}
+use Rattle.mutate_base.specs.declared.types.PrimitiveTypeInfo.{PrimitiveTypeInfo}
+use Rattle.mutate_base.specs.declared.types.TypeInfo.{TypeInfo}
+use Rattle.mutate_base.specs.declared.types.TypeInfo.TheVariants.{Func}
+use Rattle.peephole_terms.specs.Shape.{Shape, Judged, Fits, Unfit, Unknown, IsFit, AreFit, and_shape, operator_shapes, block_of}
+use Rattle.peephole_terms.specs.Shape.{has_result, call_shape, judge_callee, judge_call, judge_row, judge_found, judge_instruction, judge}
 use Rattle.peephole_terms.specs.Forest.{IsInOrder}
 use Rattle.peephole_terms.specs.Colour.{colour_after}
 use Rattle.peephole_terms.specs.Graph.{undef, Entry, entry_at, parent_at, is_operator, IsSmall, Stands, standing, lacking}
@@ -24,7 +30,8 @@ use Rattle.peephole_terms.specs.Entries.{Seen, Measured, seen, shape_of_judged, 
 use Rattle.peephole_terms.specs.Growing.{undef_entry, lacks, taken_of, own_index, Added}
 use Rattle.peephole_terms.specs.GraphOf.{FirstFault, IsOwnEntry, IsOwnOrUndef, IsRefused, IsLarge}
 use Rattle.peephole_terms.specs.Building.{HasGrown}
-use Rattle.peephole_lang.specs.Lang.{instr_of, is_count, takes, takes_children, has_node}
+use Rattle.peephole_lang.specs.Lang.{place_of, ids_of}
+use Rattle.peephole_lang.specs.Node.{instr_of, is_count, takes, takes_children}
 use Rattle.peephole_terms.proofs.StackGraph.{graph, is_graph, IsGraph}
 use Rattle.peephole_terms.proofs.Standing.{own, Facts, last_of, stands, facts, stack_standing, own_replicate, behind}
 use Rattle.peephole_terms.specs.declared.growing.Growing.{Growing}
@@ -34,6 +41,8 @@ use Rattle.mutate_base.specs.declared.error.Error.TheVariants.{Memory, TooLarge}
 use Rattle.peephole_terms.proofs.GrowingLemmas.{grown_is, stack_below}
 use Rattle.peephole_terms.proofs.DfgLemmas.{get_item, nodes_length, entry_seen, later_entries, kins_same, measured_more, stack_room}
 use Rattle.peephole_terms.proofs.Forwards.{order_forwards}
+use Rattle.peephole_terms.proofs.Raising.{block_raises}
+use Rattle.peephole_terms.proofs.Contiguous.{contiguous}
 use Rattle.std.specs.Prelude.{◌↔◌, IsTrue}
 use Rattle.peephole_terms.proofs.Totals.{kins, stack_total, size_of_entry}
 use Rattle.std.specs.Prelude.{slice_index}
@@ -44,30 +53,50 @@ fits_same s t e = cc
 unfit_fits : {P : Type 0} (s : Shape) → Unfit ≡ Fits s → P
 unfit_fits s e = cc
 
+unknown_fits : {P : Type 0} (function : ℕ) (s : Shape) → Unknown function ≡ Fits s → P
+unknown_fits function s e = cc
+
+-- a call that fits is that of its shape
+results_fit : (i : Instruction) (parameters : ℕ) (returns : List PrimitiveTypeInfo) (s : Shape) → call_shape i parameters returns ≡ Fits s → s.instr ≡ i
+results_fit i parameters [] s e =
+    sym (ap (λ (x : Shape). x.instr) (fits_same (record { instr = i; operands = parameters; has_result = false; change = 2 }) s e))
+results_fit i parameters (one ∷ []) s e =
+    sym (ap (λ (x : Shape). x.instr) (fits_same (record { instr = i; operands = parameters; has_result = true; change = 1 }) s e))
+results_fit i parameters (one ∷ other ∷ more) s e = unfit_fits s e
+
+callee_fits : (i : Instruction) (function : ℕ) (type : Option TypeInfo) (s : Shape) → judge_callee i function type ≡ Fits s → s.instr ≡ i
+callee_fits i function None s e = unknown_fits function s e
+callee_fits i function (Some (Func type)) s e = results_fit i (length type.params) type.returns s e
+
+call_fits : (info : Module) (i : Instruction) (imm : Imm) (s : Shape) → judge_call info i imm ≡ Fits s → s.instr ≡ i
+call_fits info i (Index function) s e = callee_fits i function (function_type info function) s e
+call_fits info i _ s e = unfit_fits s e
+
 -- an instruction that fits is that of its shape, and takes so many children
-found_fits : (i : Instruction) (found : Option RowInfo) (s : Shape) → judge_found i found ≡ Fits s → (s.instr ≡ i) × (takes found s.operands ≡ true)
-found_fits i None s e = unfit_fits s e
-found_fits i (Some row) s e = go row.operands refl e
+found_fits : (info : Module) (i : Instruction) (found : Option RowInfo) (s : Shape) → judge_found info i found ≡ Fits s →
+    (s.instr ≡ i) × (takes found s.operands ≡ true)
+found_fits info i None s e = unfit_fits s e
+found_fits info i (Some row) s e = go row.operands refl e
   where
-    go : (o : Option ℕ) → row.operands ≡ o → judge_row i row o ≡ Fits s → (s.instr ≡ i) × (takes (Some row) s.operands ≡ true)
-    go None w u = unfit_fits s u
+    go : (o : Option ℕ) → row.operands ≡ o → judge_row info i row o ≡ Fits s → (s.instr ≡ i) × (takes (Some row) s.operands ≡ true)
+    go None w u = (call_fits info i i.imm s u, ap (λ x. is_count x s.operands) w)
     go (Some k) w u =
         let v = fits_same (record { instr = i; operands = k; has_result = has_result row.result; change = row.change }) s u in
         (sym (ap (λ (x : Shape). x.instr) v), ap (λ x. is_count x s.operands) w ∙ eq-eqb k s.operands (ap (λ (x : Shape). x.operands) v))
 
-noded_fits : (i : Instruction) (noded : Bool) (s : Shape) → judge_with_node noded i ≡ Fits s → (s.instr ≡ i) × (noded ≡ true) × (takes (info_of i.row) s.operands ≡ true)
-noded_fits i false s e = unfit_fits s e
-noded_fits i true s e = let f = found_fits i (info_of i.row) s e in (f.0, refl, f.1)
+pub instruction_fits : (info : Module) (i : Instruction) (s : Shape) → judge_instruction info i ≡ Fits s →
+    (s.instr ≡ i) × (takes_children i.row s.operands ≡ true)
+instruction_fits info i s e = found_fits info i (info_of i.row) s e
 
--- an operator that fits is the instruction of its shape, which has a node and takes so many children
+-- an operator that fits is the instruction of its shape, which takes so many children
 record IsOfShape (info : Module) (s : Shape) (i : Instruction) : Type 0 where
   judged : judge_instruction info i ≡ Fits s
-  makes : (has_node i.row && takes_children i.row s.operands) ≡ true
+  makes : takes_children i.row s.operands ≡ true
 
 of_shape : (info : Module) (o : Operator) (s : Shape) → judge info o ≡ Fits s → IsOfShape info s s.instr
 of_shape info (Instr i) s e =
-    let f = noded_fits i (has_node i.row) s e in
-    subst (IsOfShape info s) (sym f.0) (record { judged = e; makes = ap₂ (λ a b. a && b) f.1 f.2 })
+    let f = instruction_fits info i s e in
+    subst (IsOfShape info s) (sym f.0) (record { judged = e; makes = f.1 })
 of_shape info (Block t) s e = unfit_fits s e
 of_shape info (Loop t) s e = unfit_fits s e
 of_shape info (If t) s e = unfit_fits s e
@@ -84,7 +113,7 @@ of_shape info (TypedSelect count first) s e = unfit_fits s e
 pub shape_fit : (info : Module) (o : Operator) (s : Shape) → judge info o ≡ Fits s → shape_of info s.instr ≡ s
 shape_fit info o s e = ap (shape_of_judged s.instr) (of_shape info o s e).judged
 
-pub shape_makes : (info : Module) (o : Operator) (s : Shape) → Fits s ≡ judge info o → (has_node s.instr.row && takes_children s.instr.row s.operands) ≡ true
+pub shape_makes : (info : Module) (o : Operator) (s : Shape) → Fits s ≡ judge info o → takes_children s.instr.row s.operands ≡ true
 shape_makes info o s e = (of_shape info o s (sym e)).makes
 
 shapes_append : (info : Module) (os ps : List (Operator × ℕ)) → operator_shapes info (os ++ ps) ≡ operator_shapes info os ++ operator_shapes info ps
@@ -93,7 +122,7 @@ shapes_append info (o ∷ os) ps = go (judge info o.0) (shapes_append info os ps
   where
     go : (j : Judged) → operator_shapes info (os ++ ps) ≡ operator_shapes info os ++ operator_shapes info ps → and_shape j (operator_shapes info (os ++ ps)) ≡ and_shape j (operator_shapes info os) ++ operator_shapes info ps
     go (Fits s) w = ap (λ x. s ∷ x) w
-    go Unfit w = w
+    go _ w = w
 
 pub block_push : (info : Module) (os : List (Operator × ℕ)) (o : Operator × ℕ) (s : Shape) → judge info o.0 ≡ Fits s → block_of info (os ++ o ∷ []) ≡ s ∷ block_of info os
 block_push info os o s e = ap reverse (shapes_append info os (o ∷ [])) ∙ (ap (λ j. reverse (operator_shapes info os ++ and_shape j [])) e ∙ reverse-append (operator_shapes info os) (s ∷ []))
@@ -104,7 +133,7 @@ shapes_length info (o ∷ os) h = go (judge info o.0) (All-head (λ (o : Operato
   where
     go : (j : Judged) → IsFit j → length (operator_shapes info os) ≡ length os → length (and_shape j (operator_shapes info os)) ≡ suc (length os)
     go (Fits s) u w = ap suc w
-    go Unfit u w = absurd u
+    go _ u w = absurd u
 
 pub block_length : (info : Module) (os : List (Operator × ℕ)) → AreFit info os → length (block_of info os) ≡ length os
 block_length info os h = length-reverse (operator_shapes info os) ∙ shapes_length info os h
@@ -159,6 +188,7 @@ undef_seen operator = record { instr = None; children = []; operator = operator;
 seen_added : (given : Shape) (operator : ℕ) (old new : Growing) → Added given operator old new →
     map seen new.entries.items ≡ (map seen old.entries.items ++ replicate (lacks given.operands old) (undef_seen operator)) ++
     record { instr = Some given.instr; children = down (length old.entries.items) (lacks given.operands old) ++ taken_of given.operands old; operator = operator; colour = old.color } ∷ []
+unfolding place_of ids_of
 seen_added given operator old new a =
     ap (map seen) a.entries ∙
     (map-append seen (old.entries.items ++ replicate (lacks given.operands old) (undef_entry operator)) (a.own ∷ []) ∙
@@ -297,6 +327,7 @@ grown_from info keeping first operators g h =
         later = h.later;
         missing = h.missing;
         ordered = subst (λ (x : List Kin). IsTrue (forwards x) ↔ IsInOrder block) (ap (λ (x : State). kins x.nodes) state ∙ kins_same info first es) (order_forwards keeping block h.small);
+        contiguous = λ on. contiguous info first block es (ap (λ (k : Bool). (graph k block).nodes) (sym on) ∙ ap (λ (x : State). x.nodes) state) h.later (block_raises info operators) (subst (λ k. IsSmall k block) on h.small);
       },
       h.measured,
     )

@@ -10,7 +10,7 @@ use Rattle.peephole_terms.specs.Graph.{Entry, undef, item, entry_at}
 use Rattle.peephole_terms.specs.Step.{State, grown}
 use Rattle.peephole_terms.specs.Downwards.{Kin, forward, forwards, HasOneColour, are_coloured, downwards, kin_at, sizes_of, flags_of, total, are_alike}
 use Rattle.peephole_terms.specs.Entries.{Seen, Measured, seen, kin, kins_of, colours, entry_of, nodes_of}
-use Rattle.peephole_lang.specs.Lang.{children_of}
+use Rattle.peephole_lang.specs.Node.{children_of}
 use Rattle.mutate_base.specs.Module.{Module}
 use Rattle.peephole_terms.proofs.StackGraph.{IsGraph}
 use Rattle.peephole_terms.proofs.Sizes.{sizes_length, flags_length, total_reverse, size_at, flag_at, alike_reverse}

@@ -10,7 +10,8 @@ use Rattle.wasm_code.specs.declared.operator.Operator.{Operator}
 use Rattle.mutate_base.specs.Module.{Module}
 use Rattle.peephole_lang.specs.declared.lang.Head.{Head}
 use Rattle.peephole_lang.specs.declared.lang.Lang.{Lang}
-use Rattle.peephole_lang.specs.Lang.{head_of, children_of, instr_of}
+use Rattle.peephole_lang.specs.Lang.{place_of, payload_of, ids_of}
+use Rattle.peephole_lang.specs.Node.{head_of, children_of, instr_of}
 use Rattle.peephole_lang.specs.Term as term
 use Rattle.peephole_terms.specs.declared.dfg.StackEntry.{StackEntry}
 use Rattle.peephole_terms.specs.declared.shape.Shape.{Shape}
@@ -79,6 +80,7 @@ picked at terms (k ∷ is) same = ap₂ (λ x y. x ++ y) (same k) (picked at ter
 own_is : (info : Module) (e : StackEntry) (i : Option Instruction) → IsOwnOrUndef e → i ≡ instr_of e.operator → (number missing : ℕ) (at : ℕ → Tree) (terms : ℕ → term.Term Head) →
     ((k : ℕ) → instructions_of (at k) ≡ expansion_of (terms k)) →
     instructions_of (tree_of_entry (option_map (shape_of info) i) (children_of e.operator) number missing at) ≡ expansion_of (term.node (head_of e.operator) (term.pick terms (children_of e.operator)))
+unfolding place_of payload_of ids_of
 own_is info e (Some j) own is number missing at terms same =
     ap₂ (λ x y. x ++ y) (picked at terms (children_of e.operator) same) (ap (λ x. x ∷ []) (shape_instr info j) ∙ ap listed is)
 own_is info e None own is number missing at terms same =

@@ -75,7 +75,7 @@ forwards_replicate u (suc k) xs e =
 item_older : {A : Type 0} (d x : A) (ys : List A) (i : ℕ) → i < length ys → item d ys i ≡ item d (x ∷ ys) i
 item_older d x ys i l = sym (cond-false _ _ _ (ne_eqb (length ys) i (λ w. omega arith)))
 
-kin_entry : (nodes : List Entry) (i : ℕ) → i < length nodes → kin_at (kins nodes) i ≡ kin_of (entry_at nodes i)
+pub kin_entry : (nodes : List Entry) (i : ℕ) → i < length nodes → kin_at (kins nodes) i ≡ kin_of (entry_at nodes i)
 kin_entry [] i l = absurd (omega arith)
 kin_entry (e ∷ nodes) i l = ⊎_elim
     (λ w. cond-true _ _ _ (eq-eqb (length (kins nodes)) i (length-map nodes kin_of ∙ w)) ∙ ap kin_of (sym (cond-true _ _ _ (eq-eqb (length nodes) i w))))
@@ -89,7 +89,7 @@ colour_small keeping (s ∷ earlier) n h l = ⊎_elim
     (λ w. subst (λ x. x < 4294967295) (sym (cond-false _ _ _ (ne_eqb (length earlier) n w))) (colour_small keeping earlier n h.0 (omega arith)))
     (cases_eq (length earlier) n)
 
-operator_colour : (keeping : Bool) (block : List Shape) (e : Entry) (o : Option Shape) → IsOperator keeping block o e → is_operator o ≡ true → e.colour ≡ colour_at keeping block e.number
+pub operator_colour : (keeping : Bool) (block : List Shape) (e : Entry) (o : Option Shape) → IsOperator keeping block o e → is_operator o ≡ true → e.colour ≡ colour_at keeping block e.number
 operator_colour keeping block e None h w = absurd (false≢true w)
 operator_colour keeping block e (Some s) h w = h.1
 

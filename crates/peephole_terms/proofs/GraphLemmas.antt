@@ -1,25 +1,23 @@
 -- What a reader of a graph needs of its entries, its parents and its roots.
-use Rattle.std.proofs.Common.{◌≡◌, ℕ, ◌+◌, ◌-◌, ◌<◌, ◌≤◌, Bool, true, false, List, [], ◌∷◌, ◌++◌, length, get_or, Option, None, Some, refl, sym, ap, ◌∙◌, arith}
+use Rattle.std.proofs.Common.{◌≡◌, ℕ, ◌+◌, ◌-◌, ◌<◌, ◌≤◌, Bool, true, List, [], ◌∷◌, ◌++◌, length, get_or, Option, None, Some, refl, sym, ap, ◌∙◌, arith}
 use Rattle.std.specs.Prelude.{◌==◌, reverse}
 use Rattle.std.specs.List.{All}
 use Rattle.std.proofs.lemmas.Bool.{eq-eqb, or_left, or_right}
 use Rattle.std.proofs.lemmas.List.{length-reverse, reverse-append}
 use Rattle.std.proofs.lemmas.List.Elements.{All-nil, All-cons, All-get_or}
 use Rattle.wasm_code.specs.Instruction.{Instruction}
-use Rattle.wasm_code.specs.Table.{info_of}
 use Rattle.wasm_code.specs.declared.operator.Operator.{Operator}
-use Rattle.wasm_code.specs.declared.table.RowInfo.{RowInfo}
 use Rattle.mutate_base.specs.Module.{Module}
-use Rattle.peephole_lang.specs.Lang.{children_of, has_node}
+use Rattle.peephole_lang.specs.Node.{children_of}
 use Rattle.peephole_terms.specs.declared.dfg.StackEntry.{StackEntry}
-use Rattle.peephole_terms.specs.Shape.{judge_row, judge_found, judge_with_node}
+use Rattle.peephole_terms.specs.Shape.{Shape, Judged, Fits, judge_instruction}
 use Rattle.peephole_terms.specs.Forest.{has}
 use Rattle.peephole_terms.specs.Graph.{Entry, roots, entry_at}
 use Rattle.peephole_terms.specs.Entries.{shape_of_judged, shape_of, nodes_of, roots_of}
 use Rattle.peephole_terms.specs.GraphOf.{IsGraphOf}
 use Rattle.peephole_terms.proofs.GrowingLemmas.{reverse_push}
 use Rattle.peephole_terms.proofs.DfgLemmas.{nodes_length, entry_seen, later_entries}
-use Rattle.peephole_terms.proofs.BuilderLemmas.{block_length}
+use Rattle.peephole_terms.proofs.BuilderLemmas.{block_length, instruction_fits}
 
 pub parents_length : (info : Module) (keeping : Bool) (first : ℕ) (operators : List (Operator × ℕ)) (entries : List StackEntry) (parents : List (Option ℕ)) (look : ℕ → Option ℕ) → IsGraphOf info keeping first operators entries parents look →
     length parents ≡ length entries
@@ -56,16 +54,8 @@ entry_later info keeping first operators entries parents look h i d l =
 
 -- a shape is of its instruction
 pub shape_instr : (info : Module) (j : Instruction) → (shape_of info j).instr ≡ j
-shape_instr info j = noded (has_node j.row)
+shape_instr info j = go (judge_instruction info j) (λ s e. (instruction_fits info j s e).0)
   where
-    by : (row : RowInfo) (o : Option ℕ) → (shape_of_judged j (judge_row j row o)).instr ≡ j
-    by row None = refl
-    by row (Some k) = refl
-
-    found : (r : Option RowInfo) → (shape_of_judged j (judge_found j r)).instr ≡ j
-    found None = refl
-    found (Some row) = by row row.operands
-
-    noded : (b : Bool) → (shape_of_judged j (judge_with_node b j)).instr ≡ j
-    noded false = refl
-    noded true = found (info_of j.row)
+    go : (judged : Judged) → ((s : Shape) → judged ≡ Fits s → s.instr ≡ j) → (shape_of_judged j judged).instr ≡ j
+    go (Fits s) h = h s refl
+    go _ h = refl

@@ -8,9 +8,10 @@ use Rattle.std.proofs.lemmas.List.Elements.{All-head, All-tail}
 use Rattle.wasm_code.specs.declared.operator.Operator.{Operator}
 use Rattle.wasm_code.specs.Instruction.{Instruction}
 use Rattle.mutate_base.specs.Module.{Module}
+use Rattle.peephole_lang.specs.Lang.{ids_of}
 use Rattle.peephole_lang.specs.declared.lang.Head.{Head}
 use Rattle.peephole_lang.specs.declared.lang.Lang.{Lang}
-use Rattle.peephole_lang.specs.Lang.{instr_of, head_of, children_of}
+use Rattle.peephole_lang.specs.Node.{instr_of, head_of, children_of}
 use Rattle.peephole_lang.specs.Term.{Term, Node, AreBelow, pick, tree_at, term_of}
 use Rattle.peephole_terms.specs.declared.dfg.StackEntry.{StackEntry}
 use Rattle.peephole_terms.specs.Shape.{Shape}
@@ -22,8 +23,7 @@ use Rattle.peephole_terms.specs.GraphOf.{IsGraphOf, IsOwnOrUndef}
 use Rattle.peephole_terms.specs.Expansion.{listed, own_instructions, expansion_of, expansion}
 use Rattle.peephole_terms.specs.Layout.{entry_nodes}
 use Rattle.peephole_terms.proofs.GraphLemmas.{shape_instr}
-use Rattle.peephole_terms.proofs.LayoutWalk.{node_of_entry, entries_below}
-use Rattle.peephole_terms.proofs.LayoutTrees.{view, Ordered, map_turned, map_twice, All_turned, last_or_before, has_trees}
+use Rattle.peephole_terms.proofs.LayoutTrees.{node_of_entry, entries_below, view, Ordered, map_turned, map_twice, All_turned, last_or_before, has_trees}
 
 kids_same : (f : ℕ → Term Head) (g : ℕ → Tree) (n : ℕ) → ((k : ℕ) → k < n → expansion_of (f k) ≡ instructions_of (g k)) → (is : List ℕ) → All (λ k. k < n) is → expansion (pick f is) ≡ instructions (graph.pick g is)
 kids_same f g n same [] all = refl
@@ -37,6 +37,7 @@ own_same : (info : Module) (first : ℕ) (e : StackEntry) (earlier : List StackE
     All (λ k. k < length earlier) (children_of e.operator) → (missing : ℕ) →
     expansion (pick (tree_at (map node_of_entry earlier)) (children_of e.operator)) ++ own_instructions (head_of e.operator)
     ≡ instructions_of (tree_of_entry (view info first e).shape (children_of e.operator) (view info first e).number missing (graph.tree_at (map (view info first) earlier)))
+unfolding ids_of
 own_same info first e earlier None is own kids below missing =
     let none : (view info first e).shape ≡ None = ap (shape_for info first) is in
     let no_kids : children_of e.operator ≡ [] = ap children_of (own is) in
@@ -85,4 +86,4 @@ pub expr_expands : (info : Module) (keeping : Bool) (first : ℕ) (operators : L
     expansion_of (term_of head_of children_of expr) ≡ instructions_of (entry_tree info first entries i)
 expr_expands info keeping first operators entries parents look at i expr h l e =
     let trees = has_trees info keeping first operators entries parents look h in
-    ap expansion_of e ∙ entry_expands info first entries (entries_below entries trees.below) trees.missing i (trees.found at i l)
+    ap expansion_of e ∙ entry_expands info first entries (entries_below entries trees.below) h.missing i (trees.found at i l)

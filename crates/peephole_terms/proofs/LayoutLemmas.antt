@@ -3,11 +3,8 @@ use Rattle.std.proofs.Common.{◌≡◌, ℕ, suc, ◌+◌, ◌-◌, ◌<◌, Li
 use Rattle.std.specs.Prelude.{reverse}
 use Rattle.std.proofs.lemmas.Bool.{cond-true, cond-false, eq-eqb, ne_eqb}
 use Rattle.std.proofs.lemmas.List.{reverse-append, length-reverse, length-map}
-use Rattle.peephole_lang.specs.declared.lang.Head.{Head}
-use Rattle.peephole_lang.specs.declared.lang.Lang.{Lang}
-use Rattle.peephole_lang.specs.Lang.{node_of, head_of, children_of}
 use Rattle.peephole_lang.specs.Term.{Term, Terms, absent, node, no_terms, ◌▸◌, Node, pick, tree_at, term_of}
-use Rattle.peephole_terms.specs.Layout.{size_of, size, places, laid, laid_all, IsWhole, AreWhole, KeepsTheTerm}
+use Rattle.peephole_terms.specs.Layout.{node_by, size_of, size, places, laid, laid_all, IsWhole, AreWhole, KeepsTheTerm}
 
 -- ---- how many nodes
 
@@ -67,8 +64,8 @@ mutual
       (tree_front (reverse later) here (first + size_of t - 1) (omega arith) ∙ term_behind before first t l w.0)
       (terms_behind here (first + size_of t) ts n w.1)
 
-pub laid_term : KeepsTheTerm
-laid_term t w =
+laid_back : {H : Type 0} (t : Term H) → IsWhole t → tree_at (reverse (laid 0 t)) (length (laid 0 t) - 1) ≡ t
+laid_back t w =
     let n = length_laid 0 t in
     let m : length (laid 0 t) - 1 ≡ 0 + size_of t - 1 = omega arith in
     ap (λ z. tree_at (reverse (laid 0 t)) z) m ∙ (ap (λ z. tree_at z (0 + size_of t - 1)) (sym (append_none (reverse (laid 0 t)))) ∙ term_behind [] 0 t refl w)
@@ -77,13 +74,16 @@ laid_term t w =
     append_none [] = refl
     append_none (x ∷ xs) = ap (λ z. x ∷ z) (append_none xs)
 
--- the term of an expression whose nodes are those of a term laid out
-pub term_is : (expr : List Lang) (t : Term Head) → IsWhole t → map node_of expr ≡ laid 0 t → term_of head_of children_of expr ≡ t
-term_is expr t w e =
-    let n : length expr ≡ length (laid 0 t) = sym (length-map expr node_of) ∙ ap (λ (x : List (Node Head)). length x) e in
-    ap₂ (λ (x : List (Node Head)) (y : ℕ). tree_at (reverse x) (y - 1)) e n ∙ laid_term t w
+pub laid_term : KeepsTheTerm
+laid_term t w = laid_back t w
 
-pub some_expr : (expr : List Lang) (t : Term Head) → IsWhole t → map node_of expr ≡ laid 0 t → 0 < length expr
-some_expr expr t w e =
-    let n : length expr ≡ length (laid 0 t) = sym (length-map expr node_of) ∙ ap (λ (x : List (Node Head)). length x) e in
+-- the term of an expression whose nodes are those of a term laid out
+pub term_is : {L H : Type 0} (head : L → H) (children : L → List ℕ) (expr : List L) (t : Term H) → IsWhole t → map (node_by head children) expr ≡ laid 0 t → term_of head children expr ≡ t
+term_is {L} {H} head children expr t w e =
+    let n : length expr ≡ length (laid 0 t) = sym (length-map expr (node_by head children)) ∙ ap (λ (x : List (Node H)). length x) e in
+    ap₂ (λ (x : List (Node H)) (y : ℕ). tree_at (reverse x) (y - 1)) e n ∙ laid_back t w
+
+pub some_expr : {L H : Type 0} (head : L → H) (children : L → List ℕ) (expr : List L) (t : Term H) → IsWhole t → map (node_by head children) expr ≡ laid 0 t → 0 < length expr
+some_expr {L} {H} head children expr t w e =
+    let n : length expr ≡ length (laid 0 t) = sym (length-map expr (node_by head children)) ∙ ap (λ (x : List (Node H)). length x) e in
     omega (arith, length_laid 0 t, some_nodes t w)

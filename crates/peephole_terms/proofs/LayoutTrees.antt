@@ -1,18 +1,20 @@
 -- The entries of a block's graph have trees that can be laid out.
-use Rattle.std.proofs.Common.{◌≡◌, ℕ, zero, suc, ◌+◌, ◌<◌, ◌≤◌, ◌⊎◌, inl, inr, Bool, true, List, [], ◌∷◌, ◌++◌, length, map, refl, sym, ap, ap₂, subst, ◌∙◌, arith, Option, Some, None}
+use Rattle.std.proofs.Common.{◌≡◌, ℕ, zero, suc, ◌+◌, ◌<◌, ◌≤◌, ◌⊎◌, inl, inr, Bool, true, List, [], ◌∷◌, ◌++◌, length, get_or, map, refl, sym, ap, ap₂, subst, ◌∙◌, arith, Option, Some, None}
 use Rattle.std.specs.Prelude.{reverse, ◌==◌}
 use Rattle.std.specs.List.{All}
 use Rattle.std.proofs.lemmas.Bool.{cond-true, cond-false, eq-eqb, ne_eqb, or_left, or_right, or_cases, eqb-true}
 use Rattle.std.proofs.lemmas.Bool.Decides.{eqb_tells}
 use Rattle.std.proofs.lemmas.Option.{slice_get_within}
-use Rattle.std.proofs.lemmas.List.{length-reverse, length-map, reverse-append, map-append}
+use Rattle.std.proofs.lemmas.List.{length-reverse, length-map, reverse-append, map-append, get_or_default}
 use Rattle.std.proofs.lemmas.List.Elements.{All-nil, All-cons, All-head, All-tail, All-append}
 use Rattle.wasm_code.specs.declared.operator.Operator.{Operator}
 use Rattle.wasm_code.specs.Instruction.{Instruction}
 use Rattle.mutate_base.specs.Module.{Module}
+use Rattle.peephole_lang.specs.Lang.{ids_of}
 use Rattle.peephole_lang.specs.declared.lang.Head.{Head}
-use Rattle.peephole_lang.specs.Lang.{instr_of, children_of}
-use Rattle.peephole_lang.specs.Term.{Term, Node, AreBelow, pick, tree_at}
+use Rattle.peephole_lang.specs.declared.lang.Lang.TheVariants.{Undef}
+use Rattle.peephole_lang.specs.Node.{instr_of, head_of, node_of, children_of}
+use Rattle.peephole_lang.specs.Term.{Term, node, Node, AreBelow, pick, tree_at}
 use Rattle.peephole_terms.specs.declared.dfg.StackEntry.{StackEntry}
 use Rattle.peephole_terms.specs.Shape.{Shape, block_of}
 use Rattle.peephole_terms.specs.Tree.{Tree}
@@ -22,10 +24,33 @@ use Rattle.peephole_terms.specs.Graph.{Entry, Stands, entry_at, parent_at, roots
 use Rattle.peephole_terms.specs.Entries.{seen, shape_of, entry_of, nodes_of}
 use Rattle.peephole_terms.specs.GraphOf.{IsGraphOf, IsOwnOrUndef}
 use Rattle.peephole_terms.specs.Layout.{size_of, size, entry_nodes, HasTrees}
-use Rattle.peephole_terms.proofs.LayoutWalk.{node_at, tree_is, node_of_entry}
+use Rattle.peephole_terms.proofs.LayoutWalk as walk
 use Rattle.peephole_terms.proofs.Standing.{has_reversed}
 use Rattle.peephole_terms.proofs.GraphLemmas.{children_below}
 use Rattle.peephole_terms.proofs.LayoutForest.{whole, wholes, wholes-forest, one_of, block_small}
+
+-- ---- the nodes of entries
+
+abbrev pub node_of_entry : StackEntry → Node Head
+node_of_entry e = node_of e.operator
+
+abbrev node_at : List (Node Head) → ℕ → Node Head
+node_at ns i = walk.node_at (head_of Undef) ns i
+
+tree_is : (ns : List (Node Head)) (i : ℕ) → AreBelow ns → i < length ns → tree_at ns i ≡ node (node_at ns i).head (pick (tree_at ns) (node_at ns i).children)
+tree_is ns i b l = walk.tree_is (head_of Undef) ns i b l
+
+pub entries_below : (entries : List StackEntry) → ((i : ℕ) (d : StackEntry) → i < length entries → All (λ c. c < i) (children_of (get_or entries i d).operator)) → AreBelow (entry_nodes entries)
+entries_below entries h =
+    let ns = entry_nodes entries in
+    let n = walk.length-held node_of_entry entries in
+    walk.below_all (head_of Undef) ns (λ p l.
+    let k : p < length entries = omega arith in
+    let e = get_or entries p some_entry in
+    subst (λ (x : Node Head). All (λ c. c < p) x.children) (sym (walk.node_at_is (head_of Undef) node_of_entry entries p e k (get_or_default entries p some_entry e k))) (h p some_entry k))
+  where
+    some_entry : StackEntry
+    some_entry = record { operator = Undef; color = 0; operator_idx = 0 }
 
 -- ---- an entry's term has as many nodes as its tree
 
@@ -40,6 +65,7 @@ own_size : (info : Module) (first : ℕ) (e : StackEntry) (earlier : List StackE
     ((is : List ℕ) → All (λ k. k < length earlier) is → size (pick (tree_at (map node_of_entry earlier)) is) ≡ wholes (graph.pick (graph.tree_at (map (view info first) earlier)) is)) →
     All (λ k. k < length earlier) (children_of e.operator) → (missing : ℕ) →
     suc (size (pick (tree_at (map node_of_entry earlier)) (children_of e.operator))) ≡ whole (tree_of_entry (view info first e).shape (children_of e.operator) (view info first e).number missing (graph.tree_at (map (view info first) earlier)))
+unfolding ids_of
 own_size info first e earlier None is own kids below missing =
     let none : (view info first e).shape ≡ None = ap (λ (x : Option Instruction). opt_shape x) is in
     let no_kids : children_of e.operator ≡ [] = ap children_of (own is) in
@@ -83,6 +109,7 @@ same_size info first (e ∷ earlier) b m i l =
     ]
 
 same_children : (info : Module) (first : ℕ) (rs : List StackEntry) (p : ℕ) → (node_at (map node_of_entry rs) p).children ≡ (entry_at (map (view info first) rs) p).children
+unfolding ids_of
 same_children info first [] p = refl
 same_children info first (e ∷ earlier) p =
     let n = length-map earlier node_of_entry in
@@ -201,7 +228,6 @@ has_trees info keeping first operators entries parents look h =
     let count = length-map rs (view info first) in
     record {
       below = children_below info keeping first operators entries parents look h;
-      missing = h.missing;
       found = λ k i e. let own = (h.finds k i).0 e in slice_get_within entries i own.0 own.1;
       small = λ i l.
           let most = climb info first keeping block rs (reverse parents) st below missing (length rs) i (omega arith) (omega arith) in

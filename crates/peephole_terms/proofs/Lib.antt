@@ -14,6 +14,8 @@ pub mod Chains
 pub mod Forwards
 pub mod GrowingLemmas
 pub mod DfgLemmas
+pub mod Raising
+pub mod Contiguous
 pub mod BuilderLemmas
 pub mod GraphLemmas
 pub mod PlaceLemmas
@@ -21,8 +23,10 @@ pub mod WalkLemmas
 pub mod BodyLemmas
 pub mod EncoderLemmas
 pub mod LayoutLemmas
-pub mod LayoutNodes
 pub mod LayoutWalk
 pub mod LayoutForest
 pub mod LayoutTrees
 pub mod LayoutExpansion
+pub mod ForestWalk
+pub mod Copies
+pub mod Answering

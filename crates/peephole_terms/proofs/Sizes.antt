@@ -10,7 +10,7 @@ use Rattle.peephole_terms.specs.Step.{down}
 use Rattle.peephole_terms.specs.Downwards.{Kin, gather, downwards, kin_at, are_coloured, sizes_of, flags_of, total, are_alike}
 use Rattle.peephole_terms.proofs.Standing.{at_old, at_more, behind}
 
-gather_append : (f : ℕ → List ℕ) (is js : List ℕ) → gather f (is ++ js) ≡ gather f is ++ gather f js
+pub gather_append : (f : ℕ → List ℕ) (is js : List ℕ) → gather f (is ++ js) ≡ gather f is ++ gather f js
 gather_append f [] js = refl
 gather_append f (i ∷ is) js = ap (λ x. f i ++ x) (gather_append f is js) ∙ sym (assoc (f i) (gather f is) (gather f js))
   where
@@ -39,11 +39,11 @@ total_down f b zero h = refl
 total_down f b (suc k) h = let e = h (b + k) (omega arith) (omega arith) in let g = total_down f b k (λ i a c. h i a (omega arith)) in omega arith
 
 -- old entries keep what lies below them
-down_old : (new u : Kin) (more : ℕ) (xs : List Kin) (i : ℕ) → i < length xs → downwards (replicate more u ++ xs) i ≡ downwards xs i
+pub down_old : (new u : Kin) (more : ℕ) (xs : List Kin) (i : ℕ) → i < length xs → downwards (replicate more u ++ xs) i ≡ downwards xs i
 down_old new u zero xs i l = refl
 down_old new u (suc k) xs i l = cond-false _ _ _ (ne_eqb (length (replicate k u ++ xs)) i (λ w. let e = behind u k xs in omega arith)) ∙ down_old new u k xs i l
 
-down_more : (u : Kin) (more : ℕ) (xs : List Kin) (i : ℕ) → u.children ≡ [] → length xs ≤ i → i < length xs + more → downwards (replicate more u ++ xs) i ≡ i ∷ []
+pub down_more : (u : Kin) (more : ℕ) (xs : List Kin) (i : ℕ) → u.children ≡ [] → length xs ≤ i → i < length xs + more → downwards (replicate more u ++ xs) i ≡ i ∷ []
 down_more u zero xs i e m l = absurd (omega arith)
 down_more u (suc k) xs i e m l =
     let b = behind u k xs in
@@ -121,7 +121,7 @@ All_weaker : (m n : ℕ) (is : List ℕ) → m ≤ n → All (λ i. i < m) is �
 All_weaker m n [] l h = All-nil (λ i. i < n)
 All_weaker m n (i ∷ is) l h = All-cons (λ i. i < n) i is (let a = All-head (λ i. i < m) i is h in omega arith) (All_weaker m n is l (All-tail (λ i. i < m) i is h))
 
-All_gather : (f : ℕ → List ℕ) (n : ℕ) (is : List ℕ) → ((i : ℕ) → All (λ j. j < n) (f i)) → All (λ j. j < n) (gather f is)
+pub All_gather : (f : ℕ → List ℕ) (n : ℕ) (is : List ℕ) → ((i : ℕ) → All (λ j. j < n) (f i)) → All (λ j. j < n) (gather f is)
 All_gather f n [] h = All-nil (λ j. j < n)
 All_gather f n (i ∷ is) h = All-append (λ j. j < n) (f i) (gather f is) (h i) (All_gather f n is h)
 
@@ -154,7 +154,7 @@ flag_at (e ∷ xs) i l = ⊎_elim
     (cases_eq (length xs) i)
 
 -- the entry itself is the last one
-down_last : (xs : List Kin) (i : ℕ) → i < length xs → (is : List ℕ) × (downwards xs i ≡ is ++ i ∷ [])
+pub down_last : (xs : List Kin) (i : ℕ) → i < length xs → (is : List ℕ) × (downwards xs i ≡ is ++ i ∷ [])
 down_last [] i l = absurd (omega arith)
 down_last (e ∷ xs) i l = ⊎_elim
     (λ w. (gather (downwards xs) e.children, cond-true _ _ _ (eq-eqb (length xs) i w) ∙ ap (λ j. gather (downwards xs) e.children ++ j ∷ []) w))

@@ -9,7 +9,8 @@ use Rattle.wasm_code.specs.Instruction.{Instruction}
 use Rattle.peephole_lang.specs.declared.lang.Head.{Head}
 use Rattle.peephole_lang.specs.declared.id.Id.{Id}
 use Rattle.peephole_lang.specs.declared.lang.Lang.{Lang}
-use Rattle.peephole_lang.specs.Lang.{head_of, children_of, ids_of}
+use Rattle.peephole_lang.specs.Lang.{ids_of}
+use Rattle.peephole_lang.specs.Node.{head_of, children_of}
 use Rattle.peephole_lang.specs.Term.{numbers_of, Term, Terms, absent, node, no_terms, ◌▸◌, Node, AreBelow, pick, tree_at}
 use Rattle.peephole_terms.specs.Expansion.{own_instructions, expansion_of, expansion, nodes_in}
 use Rattle.peephole_terms.specs.declared.frames.Frame.{Frame}

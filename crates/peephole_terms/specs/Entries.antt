@@ -2,9 +2,9 @@
 use Rattle.std.specs.Prelude.{ℕ, ◌-◌, ◌≡◌, Bool, false, List, map, reverse, Option, option_map}
 use Rattle.wasm_code.specs.Instruction.{Instruction}
 use Rattle.mutate_base.specs.Module.{Module}
-use Rattle.peephole_lang.specs.Lang.{instr_of, children_of}
+use Rattle.peephole_lang.specs.Node.{instr_of, children_of}
 use Rattle.peephole_terms.specs.declared.dfg.StackEntry.{StackEntry}
-use Rattle.peephole_terms.specs.Shape.{Shape, Judged, Fits, Unfit, judge_instruction}
+use Rattle.peephole_terms.specs.Shape.{Shape, Judged, Fits, judge_instruction}
 use Rattle.peephole_terms.specs.Tree.{Tree}
 use Rattle.peephole_terms.specs.Graph.{Entry, tree_at, roots}
 use Rattle.peephole_terms.specs.Downwards.{Kin, sizes_of, flags_of}
@@ -29,7 +29,7 @@ kins_of entries = reverse (map kin entries)
 -- an instruction's shape, where a graph can hold it
 abbrev pub shape_of_judged : Instruction → Judged → Shape
 shape_of_judged i (Fits s) = s
-shape_of_judged i Unfit = record { instr = i; operands = 0; has_result = false; change = 0 }
+shape_of_judged i _ = record { instr = i; operands = 0; has_result = false; change = 0 }
 
 abbrev pub shape_of : Module → Instruction → Shape
 shape_of info i = shape_of_judged i (judge_instruction info i)

@@ -1,7 +1,7 @@
 -- The expansion of a term: the instructions that it is written as, children first (this project).
 use Rattle.std.specs.Prelude.{List, [], ◌∷◌, ◌++◌, Option, Some, None}
 use Rattle.wasm_code.specs.Instruction.{Instruction}
-use Rattle.peephole_lang.specs.Lang.{head_of, children_of, instr_of_head}
+use Rattle.peephole_lang.specs.Node.{head_of, children_of, instr_of_head}
 use Rattle.peephole_lang.specs.declared.lang.Head.{Head}
 use Rattle.peephole_lang.specs.declared.lang.Lang.{Lang}
 use Rattle.peephole_lang.specs.Term.{Term, Terms, absent, node, no_terms, ◌▸◌, Node, nodes_of}

@@ -4,15 +4,16 @@ use Rattle.std.specs.List.{All}
 use Rattle.wasm_code.specs.declared.operator.Operator.{Operator}
 use Rattle.mutate_base.specs.Module.{Module}
 use Rattle.mutate_base.specs.declared.error.Error.{Error}
-use Rattle.mutate_base.specs.declared.error.Error.TheVariants.{Memory, TooLarge}
-use Rattle.peephole_lang.specs.Lang.{instr_of}
+use Rattle.mutate_base.specs.declared.error.Error.TheVariants.{Memory, TooLarge, UnknownFunction}
+use Rattle.peephole_lang.specs.Node.{instr_of}
 use Rattle.peephole_lang.specs.declared.lang.Lang.TheVariants.{Undef}
 use Rattle.peephole_terms.specs.declared.dfg.StackEntry.{StackEntry}
-use Rattle.peephole_terms.specs.Shape.{Shape, Judged, Fits, Unfit, judge, AreFit, block_of}
+use Rattle.peephole_terms.specs.Shape.{Shape, Judged, Fits, Unfit, Unknown, judge, AreFit, block_of}
 use Rattle.peephole_terms.specs.Forest.{IsInOrder}
 use Rattle.peephole_terms.specs.Graph.{IsSmall, Stands}
 use Rattle.peephole_terms.specs.Downwards.{forwards}
 use Rattle.peephole_terms.specs.Entries.{Seen, seen, kins_of, nodes_of}
+use Rattle.peephole_terms.specs.Contiguous.{HasContiguousTrees}
 
 -- the entry with the index `i` is the own entry of the operator with the body's index `k`
 abbrev pub IsOwnEntry : List StackEntry → ℕ → ℕ → Type 0
@@ -33,6 +34,7 @@ pub record IsGraphOf (info : Module) (keeping : Bool) (first : ℕ) (operators :
   pub last : (n : ℕ) → length operators ≡ suc n → (look (first + n) ≡ Some (length entries - 1)) × (slice_get parents (length entries - 1) ≡ Some None)
   pub later : All (λ (x : Seen). first ≤ x.operator) (map seen entries)
   pub ordered : IsTrue (forwards (kins_of entries)) ↔ IsInOrder (block_of info operators)
+  pub contiguous : IsTrue keeping → HasContiguousTrees entries
 
 -- The first operator at fault, of which `P` holds with the block before it.
 pub record FirstFault (info : Module) (keeping : Bool) (operators : List (Operator × ℕ)) (P : List Shape → Judged → Type 0) : Type 0 where
@@ -52,14 +54,19 @@ IsLarge keeping block j = (s : Shape) × (j ≡ Fits s) × (IsSmall keeping (s �
 abbrev pub HasNoGraph : Module → Bool → List (Operator × ℕ) → Type 0
 HasNoGraph info keeping operators = FirstFault info keeping operators (λ b j. j ≡ Unfit)
 
+-- the first operator at fault is a call of the function with that index, which isn't there or has no type
+abbrev pub CallsUnknown : Module → Bool → List (Operator × ℕ) → ℕ → Type 0
+CallsUnknown info keeping operators function = FirstFault info keeping operators (λ b j. j ≡ Unknown function)
+
 -- the first operator at fault has an index or a colour that does not fit
 abbrev pub IsTooLarge : Module → Bool → List (Operator × ℕ) → Type 0
 IsTooLarge info keeping operators = FirstFault info keeping operators (IsLarge keeping)
 
--- Why no graph was answered: at want of memory nothing is said, and no error is answered but these two.
+-- Why no graph was answered: at want of memory nothing is said, and no error is answered but these three.
 abbrev pub IsRefused : Module → Bool → List (Operator × ℕ) → Error → Type 0
 IsRefused info keeping operators Memory = Unit {0}
 IsRefused info keeping operators TooLarge = IsTooLarge info keeping operators
+IsRefused info keeping operators (UnknownFunction function) = CallsUnknown info keeping operators function
 IsRefused info keeping operators _ = ⊥
 
 -- What a builder keeps: whether the order of effects is to be preserved.

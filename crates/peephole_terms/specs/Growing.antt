@@ -2,7 +2,7 @@
 use Rattle.std.specs.Prelude.{ℕ, suc, ◌+◌, ◌-◌, ◌≡◌, ◌==◌, ◌&&◌, true, false, List, [], ◌∷◌, ◌++◌, length, take, drop, replicate, slice_set, slice_index, slice_index_or, Option, None, Some, if◌then◌else◌}
 use Rattle.std.specs.HashMap as hash
 use Rattle.std.specs.Bool.{nat_eq}
-use Rattle.peephole_lang.specs.Lang.{instr_of, children_of}
+use Rattle.peephole_lang.specs.Node.{instr_of, children_of}
 use Rattle.peephole_lang.specs.declared.lang.Lang.TheVariants.{Undef}
 use Rattle.peephole_terms.specs.declared.dfg.StackEntry.{StackEntry}
 use Rattle.peephole_terms.specs.declared.growing.Growing.{Growing}

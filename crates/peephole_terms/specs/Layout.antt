@@ -6,10 +6,17 @@ use Rattle.std.specs.List.{All}
 use Rattle.peephole_lang.specs.declared.lang.Head.{Head}
 use Rattle.peephole_lang.specs.declared.lang.Lang.{Lang}
 use Rattle.peephole_lang.specs.contracts.lang.Lang.{the_row}
-use Rattle.peephole_lang.specs.Lang.{node_of, children_of}
+use Rattle.peephole_lang.specs.Node.{node_of, children_of}
 use Rattle.peephole_lang.specs.Term.{Term, Terms, absent, node, no_terms, ◌▸◌, Node, tree_at}
-use Rattle.peephole_terms.specs.GraphOf.{IsOwnOrUndef}
 use Rattle.peephole_terms.specs.declared.dfg.StackEntry.{StackEntry}
+
+-- what a node is, and the places of its children, by the parts of its language
+abbrev pub node_by : {L H : Type 0} → (L → H) → (L → List ℕ) → L → Node H
+node_by head children l = record { head = head l; children = children l }
+
+-- the nodes that items hold, the last one first
+abbrev pub held_nodes : {A H : Type 0} → (A → Node H) → List A → List (Node H)
+held_nodes held items = reverse (map held items)
 
 -- how many nodes there are, a shared one counted as often as it is named
 abbrev mutual
@@ -52,13 +59,12 @@ KeepsTheTerm = (t : Term Head) → IsWhole t → tree_at (reverse (laid 0 t)) (l
 
 -- the nodes of a graph's entries, the last one first
 abbrev pub entry_nodes : List StackEntry → List (Node Head)
-entry_nodes entries = reverse (map (λ (e : StackEntry). node_of e.operator) entries)
+entry_nodes entries = held_nodes (λ (e : StackEntry). node_of e.operator) entries
 
--- What holds of the entries of every graph: each child stands below its parent, what has no instruction is `Undef`,
--- `look` finds entries, and each entry's tree has at most 2^32 nodes.
+-- What holds of the entries of every graph: each child stands below its parent, `look` finds entries, and each entry's
+-- tree has at most 2^32 nodes.
 pub record HasTrees (entries : List StackEntry) (look : ℕ → Option ℕ) : Type 0 where
   pub below : (i : ℕ) (d : StackEntry) → i < length entries → All (λ c. c < i) (children_of (slice_index_or entries i d).operator)
-  pub missing : All IsOwnOrUndef entries
   pub found : (k i : ℕ) → look k ≡ Some i → i < length entries
   pub small : (i : ℕ) → i < length entries → size_of (tree_at (entry_nodes entries) i) ≤ 2 ^ 32
 

@@ -7,12 +7,16 @@ pub mod Step
 pub mod Downwards
 pub mod Laws
 pub mod Entries
+pub mod Contiguous
 pub mod GraphOf
 pub mod Block
 pub mod Dfg
 pub mod Growing
 pub mod Building
 pub mod Layout
+pub mod Asking
 pub mod Expansion
 pub mod Written
 pub mod EncoderSteps
+pub mod ForestText
+pub mod ForestSteps

@@ -48,7 +48,8 @@ fn block_start(index: usize, operators: &[OperatorAndByteOffset]) -> usize
     start
 }
 
-// The graph of the operators of a block whose first one has the index `first`; none at an operator that no graph holds.
+// The graph of the operators of a block whose first one has the index `first`; none at an operator that no graph holds,
+// and refused at a call of a function that isn't known.
 fn build(
     alloc: Global,
     info: &ModuleInfo,
@@ -80,6 +81,7 @@ fn build(
                 preserving,
             )?,
             Judged::Unfit => return Ok(None),
+            Judged::Unknown(function) => return Err(Error::UnknownFunction(function)),
         }
     }
     Ok(Some(growing))
@@ -112,7 +114,17 @@ impl DFGBuilder {
         Some(BBlock::of_range(start, index + 1))
     }
 
-    /// The graph of a block of `operators`, made anew at each call. The first operator at fault decides: none at an operator that no graph holds: an instruction without a node, as long as some rows have none, `call_indirect`, a `select` that is no instruction, or a delimiter where the block was cut from another list; `TooLarge` where an entry's index would pass 32 bits, or an operator's colour would be 4294967295 or more. Else refused for want of memory alone (`Memory`). The builder stays as it was. Condition: the block's range lies in `operators`.
+    /// The graph of a block of `operators`, made anew at each call. An operator `call` takes as many operands as its function
+    /// in `info` has parameters, and has a result where the function has one. The builder stays as it was.
+    /// While preserving, the operators of a tree whose entries have one colour follow one another in the body.
+    ///
+    /// The first operator at fault decides. None where no graph holds it: a `call` of a function with more than one result,
+    /// `call_indirect`, a `select` that is no instruction, or a delimiter where the block was cut from another list.
+    /// `UnknownFunction` with the function's index where it is a `call` and `info` doesn't have the function or its type.
+    /// `TooLarge` where the index of its entry would pass 32 bits, or its colour would be 4294967295 or more. Else `Memory`,
+    /// where an allocation was refused.
+    ///
+    /// Condition: the block's range lies in `operators`.
     pub fn get_dfg(
         &mut self,
         alloc: Global,

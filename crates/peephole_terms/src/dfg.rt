@@ -3,19 +3,21 @@
 ghost use Rattle.std.specs.Prelude.{◌≡◌, ◌<◌, ◌-◌, ◌↔◌, ℕ, IsTrue, length, reverse, slice_index, nat_eq};
 ghost use Rattle.std.specs.HashMap as hash;
 ghost use Rattle.std.proofs.Props.{props};
-ghost use Rattle.peephole_lang.specs.Lang.{numbers_of};
+ghost use Rattle.peephole_lang.specs.Term.{numbers_of};
 ghost use Rattle.peephole_terms.specs.Downwards.{downwards, sizes_of, flags_of, forward, forwards, HasOneColour};
 ghost use Rattle.peephole_terms.specs.Entries.{kins_of, colours, Measured};
 ghost use Rattle.peephole_terms.specs.Layout.{HasTrees, Lang-set};
 
+use crate::forest_text::{operator_text, print_forest};
 use crate::layout::lay_out;
 use mutate_base::Error;
 use peephole_lang::{Id, Lang, RecExpr};
-use std::alloc::Global;
+use std::alloc::{AllocError, Global};
 use std::collections::HashMap;
+use std::fmt;
 
 /// An entry of a graph: an operator of the block, or a missing operand.
-#[derive(Drop)]
+#[derive(Debug, Drop)]
 pub struct StackEntry {
     /// The node, whose children are the indexes of entries; `Undef` of a missing operand.
     pub operator: Lang,
@@ -38,6 +40,7 @@ pub struct MiniDFG {
     ghost sizes_are: { reverse sizes.items ≡ sizes_of (kins_of entries.items) } by { Prim.hlevel props },
     ghost flags_are: { reverse same.items ≡ flags_of (kins_of entries.items) } by { Prim.hlevel props },
     ghost trees: { HasTrees entries.items (hash.get nat_eq map) } by { Prim.hlevel (props, Lang-set) },
+    ghost paired: { length parents.items ≡ length entries.items } by { Prim.hlevel props },
 }
 
 // The colour of an entry, or 0 past the end.
@@ -76,12 +79,43 @@ fn lie_forward(entries: &[StackEntry], sizes: &[usize], children: &[Id], from: u
     true
 }
 
+impl Clone for StackEntry {
+    ghost use Rattle.peephole_terms.specs.Dfg.{IsSameEntry};
+
+    ghost is_clone = { IsSameEntry };
+
+    fn clone(&self) -> Result<StackEntry, AllocError> {
+        Ok(StackEntry {
+            operator: self.operator.clone()?,
+            color: self.color,
+            operator_idx: self.operator_idx,
+        })
+    }
+}
+
+impl Clone for MiniDFG {
+    ghost use Rattle.peephole_terms.specs.Dfg.{IsSameGraph};
+
+    ghost is_clone = { IsSameGraph };
+
+    fn clone(&self) -> Result<MiniDFG, AllocError> {
+        let map = self.map.clone()?;
+        let entries = self.entries.clone()?;
+        let parents = Vec::from_slice(*self.parents.allocator(), &self.parents)?;
+        let sizes = self.sizes.clone()?;
+        let same = self.same.clone()?;
+        Ok(MiniDFG::of_parts(map, entries, parents, sizes, same))
+    }
+}
+
 impl MiniDFG {
-    ghost use Rattle.std.specs.Prelude.{map, IfOk, IfErr, IfSome, IsSome};
-    ghost use Rattle.peephole_lang.specs.Lang.{node_of, head_of, children_of};
+    ghost use Rattle.std.specs.Prelude.{map, [], None, List, Result, IfOk, IfErr, IfSome, IsSome, MatchResult, string_bytes};
+    ghost use Rattle.mutate_base.specs.declared.error.Error.{Error};
+    ghost use Rattle.peephole_lang.specs.Node.{node_of, head_of, children_of};
     ghost use Rattle.peephole_lang.specs.Term.{tree_at, term_of};
     ghost use Rattle.peephole_terms.specs.Layout.{entry_nodes, laid};
     ghost use Rattle.peephole_terms.specs.Dfg.{entries_of, parents_of, look_of};
+    ghost use Rattle.peephole_terms.specs.ForestText.{forest_text, default_text, IsText, Tells};
 
     // The graph of these parts.
     pub(crate) fn of_parts(
@@ -93,6 +127,7 @@ impl MiniDFG {
     ) -> MiniDFG
         requires measured { Measured entries.items sizes.items same.items }
         requires trees { HasTrees entries.items (hash.get nat_eq map) }
+        requires paired { length parents.items ≡ length entries.items }
         ensures map { (k : ℕ) → look_of result k ≡ hash.get nat_eq map k }
         ensures entries { entries_of result ≡ entries.items }
         ensures parents { parents_of result ≡ parents.items }
@@ -104,6 +139,21 @@ impl MiniDFG {
             sizes,
             same,
         }
+    }
+
+    /// A graph without entries.
+    pub fn empty(alloc: Global) -> MiniDFG
+        ensures map { (k : ℕ) → look_of result k ≡ None }
+        ensures entries { entries_of result ≡ [] }
+        ensures parents { parents_of result ≡ [] }
+    {
+        MiniDFG::of_parts(
+            HashMap::new(alloc),
+            Vec::new(alloc),
+            Vec::new(alloc),
+            Vec::new(alloc),
+            Vec::new(alloc),
+        )
     }
 
     /// The index of the own entry of each of the block's operators, by the operator's index in the body.
@@ -181,5 +231,57 @@ impl MiniDFG {
             }
         }
         true
+    }
+
+    /// The text of the forest: the line `DFG forest`, and then the roots in ascending order, each with its tree. An entry's
+    /// line is a prefix that draws the tree, `(colour)(at operator_idx) `, and the text that `f` answers of it.
+    ///
+    /// Refused where `f` refuses, with the first refusal in the order of the lines, and for want of memory (`Memory`).
+    pub fn pretty_print<F: Fn(&StackEntry) -> Result<String, Error>>(
+        &self,
+        alloc: Global,
+        f: F,
+    ) -> Result<String, Error>
+        requires { F.IsAlwaysCallable f }
+        ensures { (said : StackEntry → Result (List ℕ) Error) → Tells F.Fn f said
+            → IsText (forest_text said (entries_of self.now) (parents_of self.now)) result }
+    {
+        print_forest(alloc, &self.entries, &self.parents, &f)
+    }
+
+    /// The same with the texts of the entries' operators. Refused for want of memory alone (`Memory`).
+    pub fn pretty_print_default(&self, alloc: Global) -> Result<String, Error>
+        ensures { MatchResult result
+            (λ text. string_bytes text ≡ default_text (entries_of self.now) (parents_of self.now))
+            (λ e. e ≡ Error.Memory) }
+    {
+        self.pretty_print(alloc, |entry| operator_text(alloc, entry))
+    }
+}
+
+impl fmt::Display for MiniDFG {
+    ghost use Rattle.std.specs.Prelude.{Some};
+    ghost use Rattle.peephole_terms.specs.Dfg.{entries_of, parents_of};
+    ghost use Rattle.peephole_terms.specs.ForestText.{default_text};
+
+    ghost output = { λ g. Some (default_text (entries_of g) (parents_of g)) };
+
+    fn fmt<W: fmt::Write>(&self, f: &mut fmt::Formatter<W>) -> fmt::Result {
+        match self.pretty_print_default(*self.entries.allocator()) {
+            Ok(text) => f.write_str(text.as_str()),
+            Err(_) => Err(fmt::Error),
+        }
+    }
+}
+
+impl fmt::Debug for MiniDFG {
+    ghost use Rattle.std.specs.Prelude.{Some};
+    ghost use Rattle.peephole_terms.specs.Dfg.{entries_of, parents_of};
+    ghost use Rattle.peephole_terms.specs.ForestText.{default_text};
+
+    ghost debug_output = { λ g. Some (default_text (entries_of g) (parents_of g)) };
+
+    fn fmt<W: fmt::Write>(&self, f: &mut fmt::Formatter<W>) -> fmt::Result {
+        fmt::Display::fmt(self, f)
     }
 }

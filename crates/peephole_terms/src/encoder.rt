@@ -2,7 +2,7 @@
 
 ghost use Rattle.std.specs.Prelude.{◌≡◌, ◌≢◌, ◌<◌, ◌++◌, ◌↔◌, [], true, length, take, slice_range, IfOk, IfErr, OnOk, OnErr, IfSome, IsTrue, is_some, Err};
 ghost use Rattle.wasm_code.specs.Code.{codes};
-ghost use Rattle.peephole_lang.specs.Lang.{head_of, children_of};
+ghost use Rattle.peephole_lang.specs.Node.{head_of, children_of};
 ghost use Rattle.peephole_lang.specs.Term.{AreBelow, nodes_of, term_of};
 ghost use Rattle.peephole_terms.specs.Dfg.{entries_of, parents_of, look_of};
 ghost use Rattle.peephole_terms.specs.Entries.{roots_of};

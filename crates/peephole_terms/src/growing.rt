@@ -3,7 +3,8 @@
 ghost use Rattle.std.specs.Prelude.{◌≡◌, ◌+◌, ◌-◌, ◌^◌, ◌<◌, ◌≤◌, ◌++◌, ◌∷◌, [], ◌⊎◌, if◌then◌else◌, true, false, slice_index, slice_index_or, nat_eq, ◌==◌, ◌&&◌, suc, ℕ, length, take, drop, replicate, IfOk, OnOk, IfErr};
 ghost use Rattle.std.specs.List.{All};
 ghost use Rattle.std.specs.HashMap as hash;
-ghost use Rattle.peephole_lang.specs.Lang.{instr_of, children_of, numbers_of, takes_children, has_node};
+ghost use Rattle.peephole_lang.specs.Node.{instr_of, children_of, takes_children};
+ghost use Rattle.peephole_lang.specs.Term.{numbers_of};
 ghost use Rattle.peephole_terms.specs.Downwards.{total, are_alike};
 ghost use Rattle.peephole_terms.specs.Entries.{colours};
 ghost use Rattle.peephole_terms.specs.Growing.{undef_entry, set_each, lacks, own_index, Added};
@@ -71,7 +72,7 @@ fn own_node(
     taken: &[u32],
 ) -> Result<Lang, Error>
     requires room { base + missing < 2 ^ 32 }
-    requires fits { (has_node instr.row && takes_children instr.row (missing + length taken.now)) ≡ true }
+    requires fits { takes_children instr.row (missing + length taken.now) ≡ true }
     ensures node { IfOk result (λ l. (instr_of l ≡ Some instr) × (children_of l ≡ down base missing ++ taken.now)) }
     ensures refused { IfErr result (λ e. e ≡ Error.Memory) }
 {
@@ -211,7 +212,7 @@ fn next_color(preserving: bool, color: u64, change: u8) -> u64
     }
 }
 
-/// Takes an operator's operands and puts its entry behind the others. Conditions: the instruction has a node and takes so many operands, and the lists are those of a graph.
+/// Takes an operator's operands and puts its entry behind the others. Conditions: the instruction takes so many operands, and the lists are those of a graph.
 pub fn add_operator(
     alloc: Global,
     growing: &mut Growing,
@@ -219,7 +220,7 @@ pub fn add_operator(
     operator_idx: usize,
     preserving: bool,
 ) -> Result<(), Error>
-    requires fits { (has_node shape.instr.row && takes_children shape.instr.row shape.operands) ≡ true }
+    requires fits { takes_children shape.instr.row shape.operands ≡ true }
     requires below { All (λ i. i < length growing.old.entries.items) growing.old.stack.items }
     requires parents { length growing.old.parents.items ≡ length growing.old.entries.items }
     requires sizes { length growing.old.sizes.items ≡ length growing.old.entries.items }

@@ -1,79 +1,91 @@
-// Lays the tree of an entry out as an expression.
-ghost use Rattle.std.specs.Prelude.{◌≡◌, ℕ, ◌+◌, ◌<◌, ◌≤◌, ◌-◌, ◌^◌, ◌++◌, ◌∷◌, [], ◌⊎◌, None, length, take, drop, map, IfOk, OnOk, IfErr, slice_index, slice_index_or};
+// Lays a tree out as an expression.
+ghost use Rattle.std.specs.Prelude.{◌≡◌, ℕ, ◌<◌, ◌≤◌, ◌-◌, ◌^◌, ◌++◌, ◌∷◌, [], ◌⊎◌, length, take, drop, map, IfOk, OnOk, IfErr};
 ghost use Rattle.std.specs.List.{All};
-ghost use Rattle.peephole_lang.specs.Lang.{node_of, head_of, ids_of, children_of, numbers_of, count_of, instr_of};
-ghost use Rattle.peephole_lang.specs.Term.{AreBelow, tree_at, term_of};
-ghost use Rattle.peephole_terms.specs.declared.dfg.StackEntry.{StackEntry};
-ghost use Rattle.peephole_terms.specs.GraphOf.{IsOwnOrUndef};
-ghost use Rattle.peephole_terms.specs.Layout.{entry_nodes, laid, size_of, KeepsTheTerm};
+ghost use Rattle.peephole_lang.specs.Term.{AreBelow, numbers_of, tree_at, term_of};
+ghost use Rattle.peephole_terms.specs.Layout.{node_by, held_nodes, laid, size_of};
 
 use crate::dfg::StackEntry;
 use crate::frames::{Frame, descend, push_frame};
 use mutate_base::Error;
-use peephole_lang::{Id, Lang, RecExpr};
+use peephole_lang::{Id, Lang, Language, RecExpr};
 use std::alloc::Global;
 
-// The node of an entry.
-fn operator_at(entries: &[StackEntry], i: usize) -> &Lang
-    requires { i < length entries.now }
-    ensures { (d : StackEntry) → result.now ≡ (slice_index_or entries.now i d).operator }
-{
-    &entries[i].operator
+// What stands at a place of a list of nodes: a node of the language, or what holds one.
+pub(crate) trait Holds<L: Language> {
+    ghost held: { Self → L };
+
+    fn as_node(&self) -> &L
+        ensures { result.now ≡ held self.now };
 }
 
-// The same node over other children, which are as many. What has no instruction is a missing operand.
-fn over(operator: &Lang, ids: Vec<Id>) -> Lang
-    requires count { length ids.items ≡ count_of operator.now }
-    requires missing { instr_of operator.now ≡ None → operator.now ≡ Lang.Undef }
-    ensures head { head_of result ≡ head_of operator.now }
-    ensures children { children_of result ≡ numbers_of ids.items }
-{
-    match operator.instr() {
-        Some(instr) => match Lang::of_instr(&instr, ids) {
-            Some(node) => node,
-            None => unreachable!(),
-        },
-        None => Lang::Undef,
+impl Holds<Lang> for StackEntry {
+    ghost held = { λ e. e.operator };
+
+    fn as_node(&self) -> &Lang {
+        &self.operator
     }
 }
 
+impl<'a, L: Language> Holds<L> for &'a L {
+    ghost held = { λ node. node.now };
+
+    fn as_node(&self) -> &L {
+        *self
+    }
+}
+
+// The same node over other children, which are as many.
+fn over<L: Language>(node: &L, ids: &[Id]) -> Result<L, Error>
+    requires { length ids.now ≡ length (L.ids node.now) }
+    ensures head { IfOk result (λ l. L.head l ≡ L.head node.now) }
+    ensures ids { IfOk result (λ l. L.ids l ≡ ids.now) }
+    ensures refused { IfErr result (λ e. e ≡ Error.Memory) }
+{
+    let mut copy = node.clone_node()?;
+    copy.children_mut().copy_from_slice(ids);
+    Ok(copy)
+}
+
 // Puts a node behind those laid out, over the finished ones that are its children, and finishes it.
-fn add_own(expr: &mut RecExpr<Lang>, finished: &mut Vec<Id>, operator: &Lang) -> Result<(), Error>
-    requires missing { instr_of operator.now ≡ None → operator.now ≡ Lang.Undef }
-    requires enough { length (ids_of operator.now) ≤ length finished.old.items }
+fn add_own<L: Language>(
+    expr: &mut RecExpr<L>,
+    finished: &mut Vec<Id>,
+    node: &L,
+) -> Result<(), Error>
+    requires enough { length (L.ids node.now) ≤ length finished.old.items }
     requires below { All (λ (k : ℕ). k < length expr.old) (numbers_of finished.old.items) }
-    ensures added { OnOk result (map node_of expr.new ≡ map node_of expr.old ++ record {
-      head = head_of operator.now;
-      children = drop (length finished.old.items - length (ids_of operator.now)) (numbers_of finished.old.items);
+    ensures added { OnOk result (map (node_by L.head L.children) expr.new ≡ map (node_by L.head L.children) expr.old ++ record {
+      head = L.head node.now;
+      children = drop (length finished.old.items - length (L.ids node.now)) (numbers_of finished.old.items);
     } ∷ []) }
     ensures finished { OnOk result (numbers_of finished.new.items
-        ≡ take (length finished.old.items - length (ids_of operator.now)) (numbers_of finished.old.items) ++ length expr.old ∷ []) }
+        ≡ take (length finished.old.items - length (L.ids node.now)) (numbers_of finished.old.items) ++ length expr.old ∷ []) }
     ensures refused { IfErr result (λ e. (e ≡ Error.Memory) ⊎ ((e ≡ Error.TooLarge) × (2 ^ 32 ≤ length expr.old))) }
 {
-    let count = operator.children().len();
+    let count = node.children().len();
     let ids = finished.split_off(finished.len() - count)?;
-    let own = expr.add(over(operator, ids))?;
+    let own = expr.add(over(node, &ids)?)?;
     finished.push(own)?;
     Ok(())
 }
 
-/// The tree of the entry `root`, laid out in postfix: the children's trees one after another, then the entry's own node,
-/// which names each child by its place. A missing operand is `Undef`.
+/// The tree of the node at `root`, laid out in postfix: the children's trees one after another, then the node itself,
+/// which names each child by its place.
 ///
 /// Memory is the result's and the tree's depth. `Memory` where an allocation was refused, `TooLarge` where the tree has more
 /// than 2^32 nodes.
-pub(crate) fn lay_out(
+pub(crate) fn lay_out<L: Language, N: Holds<L>>(
     alloc: Global,
-    entries: &[StackEntry],
+    nodes: &[N],
     root: usize,
-) -> Result<RecExpr<Lang>, Error>
-    requires root { root < length entries.now }
-    requires below { AreBelow (entry_nodes entries.now) }
-    requires missing { All IsOwnOrUndef entries.now }
-    ensures laid { IfOk result (λ expr. map node_of expr ≡ laid 0 (tree_at (entry_nodes entries.now) root)) }
-    ensures term { IfOk result (λ expr. term_of head_of children_of expr ≡ tree_at (entry_nodes entries.now) root) }
+) -> Result<RecExpr<L>, Error>
+    requires root { root < length nodes.now }
+    requires below { AreBelow (held_nodes (λ n. node_by L.head L.children (N.held n)) nodes.now) }
+    ensures laid { IfOk result (λ expr. map (node_by L.head L.children) expr ≡ laid 0 (tree_at (held_nodes (λ n. node_by L.head L.children (N.held n)) nodes.now) root)) }
+    ensures term { IfOk result (λ expr. term_of L.head L.children expr ≡ tree_at (held_nodes (λ n. node_by L.head L.children (N.held n)) nodes.now) root) }
     ensures some { IfOk result (λ expr. 0 < length expr) }
-    ensures refused { IfErr result (λ e. (e ≡ Error.Memory) ⊎ ((e ≡ Error.TooLarge) × (2 ^ 32 < size_of (tree_at (entry_nodes entries.now) root)))) }
+    ensures refused { IfErr result (λ e. (e ≡ Error.Memory)
+        ⊎ ((e ≡ Error.TooLarge) × (2 ^ 32 < size_of (tree_at (held_nodes (λ n. node_by L.head L.children (N.held n)) nodes.now) root)))) }
 {
     let mut expr = RecExpr::new(alloc);
     let mut finished = Vec::new(alloc);
@@ -86,15 +98,15 @@ pub(crate) fn lay_out(
         },
     )?;
     while let Some(frame) = frames.pop() {
-        let operator = operator_at(entries, frame.node);
-        let below = operator.children();
+        let node = nodes[frame.node].as_node();
+        let below = node.children();
         if frame.next < below.len() {
             match descend(&mut frames, frame, below) {
                 Ok(()) => {}
                 Err(_) => return Err(Error::Memory),
             }
         } else {
-            match add_own(&mut expr, &mut finished, operator) {
+            match add_own(&mut expr, &mut finished, node) {
                 Ok(()) => {}
                 Err(refusal) => return Err(refusal),
             }

@@ -2,16 +2,19 @@
 //! crates below show, under one roof.
 #![tactic(auto)]
 
+mod asking;
 mod block;
 mod builder;
 mod dfg;
 pub mod encoder;
+mod forest_text;
 mod frames;
 mod growing;
 pub mod laws;
 mod layout;
 mod shape;
 
+pub use asking::build_expr;
 pub use block::BBlock;
 pub use builder::DFGBuilder;
 pub use dfg::{MiniDFG, StackEntry};
@@ -22,7 +25,9 @@ pub use mutate_base::{
     ModuleInfo, PrimitiveTypeInfo, RefType, Shuffle, TableCopy, TableInit, TableType, TermError,
     TypeInfo, WasmMutate, Words, read_val_type,
 };
-pub use peephole_lang::{Children, Head, Id, Lang, Language, Payload, RecExpr};
+pub use peephole_lang::{
+    Children, Head, Id, Lang, Language, Numeric, Payload, RecExpr, Simd, no_children,
+};
 pub use wasm_code::{
     AbstractHeapType, BlockType, Function, HeapType, Imm, Instr, Opcode, Operator,
     OperatorAndByteOffset, ReadError, ReadKind, ResultKind, RowInfo, SinkError, ValType, read_body,

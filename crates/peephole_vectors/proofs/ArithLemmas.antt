@@ -1,7 +1,7 @@
 -- What stands behind the beginning of a text.
 use Rattle.std.proofs.Common.{◌≡◌, ◌≢◌, ℕ, List, [], ◌∷◌, ◌++◌, Some, None, refl, sym, ap₂, inl, inr}
 use Rattle.std.proofs.lemmas.Bool.{eq-eqb, ne_eqb, cases_eq}
-use Rattle.peephole_lang.specs.Text.{after}
+use Rattle.peephole_lang.specs.Names.{after}
 
 after_append : (front rest : List ℕ) → after front (front ++ rest) ≡ Some rest
 after_append [] rest = refl

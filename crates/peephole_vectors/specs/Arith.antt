@@ -13,7 +13,7 @@ use Rattle.peephole_lang.specs.Language.{IsAlike, alike_equivalence}
 use Rattle.mutate_base.specs.Number.{read_unsigned}
 use Rattle.mutate_base.proofs.ReadBackLemmas.{unsigned_back}
 use Rattle.peephole_lang.specs.Term.{numbers_of}
-use Rattle.peephole_lang.specs.Text.{after}
+use Rattle.peephole_lang.specs.Names.{after}
 use Rattle.peephole_lang.specs.Written.{none_written, one_written}
 use Rattle.peephole_vectors.specs.declared.arith.Arith.{Arith}
 use Rattle.peephole_vectors.specs.declared.arith.Arith.TheVariants.{Num, Neg, Sum}

@@ -1,7 +1,7 @@
 //! The nodes of arithmetic, and their texts.
 ghost use Rattle.std.specs.Prelude.{◌≡◌, Some, codes, refl};
 ghost use Rattle.std.specs.Option.{option_copied};
-ghost use Rattle.peephole_lang.specs.Text.{after};
+ghost use Rattle.peephole_lang.specs.Names.{after};
 ghost use Rattle.peephole_vectors.specs.Arith.{head_of, ids_of, children_of, with_ids, IsNode, arith_matches, text_of, reads, says, reads_back, keeps_head, has_written, matches_exactly, matches_equivalence};
 
 use mutate_base::number::read_u32;

@@ -1,6 +1,8 @@
 //! Blocks, and the graphs of blocks, entry by entry.
 
-use peephole_terms::{DFGBuilder, ModuleInfo, WasmMutate, Words, read_body};
+use peephole_terms::{
+    DFGBuilder, Error, FuncInfo, ModuleInfo, TypeInfo, WasmMutate, Words, read_body,
+};
 use std::alloc::Global;
 use std::process::Abort;
 use std::test::Fail;
@@ -98,11 +100,11 @@ fn is_graph(
     Ok(())
 }
 
-/// The instruction nop has no node yet.
+/// drop, call_indirect: the latter is no instruction of a graph.
 #[test]
 fn no_graph(rt: HostRuntime) -> Result<(), Fail> {
     let alloc = rt.alloc();
-    let bytes = [0x1a, 0x01, 0x0b];
+    let bytes = [0x1a, 0x11, 0x00, 0x00, 0x0b];
     let operators = read_body(alloc, &bytes, 0, bytes.len())?;
     let config: WasmMutate<Words> = WasmMutate::new();
     let mut builder = DFGBuilder::new(&config);
@@ -113,6 +115,81 @@ fn no_graph(rt: HostRuntime) -> Result<(), Fail> {
         return Ok(());
     };
     assert!(rt; builder.get_dfg(alloc, &info, &operators, &block)?.is_none());
+    Ok(())
+}
+
+/// A call of function 5, which the module doesn't have.
+#[test]
+fn unknown_function(rt: HostRuntime) -> Result<(), Fail> {
+    let alloc = rt.alloc();
+    let bytes = [0x1a, 0x10, 0x05, 0x0b];
+    let operators = read_body(alloc, &bytes, 0, bytes.len())?;
+    let config: WasmMutate<Words> = WasmMutate::new();
+    let mut builder = DFGBuilder::new(&config);
+    let info = ModuleInfo::new(alloc, &bytes);
+    assert!(rt; operators.len() == 3);
+    let Some(block) = builder.get_bb_from_operator(1, &operators) else {
+        assert!(rt; false, "no block");
+        return Ok(());
+    };
+    match builder.get_dfg(alloc, &info, &operators, &block) {
+        Err(error) => assert!(rt; error == Error::UnknownFunction(5)),
+        Ok(_) => assert!(rt; false, "a graph"),
+    }
+    Ok(())
+}
+
+/// local.get 0, block, end, i32.const 1, i32.add: the block of the last one, drawn.
+#[test]
+fn text_of_a_forest(rt: HostRuntime) -> Result<(), Fail> {
+    let alloc = rt.alloc();
+    let bytes = [0x20, 0x00, 0x02, 0x40, 0x0b, 0x41, 0x01, 0x6a, 0x0b];
+    let operators = read_body(alloc, &bytes, 0, bytes.len())?;
+    let config: WasmMutate<Words> = WasmMutate::new();
+    let mut builder = DFGBuilder::new(&config);
+    let info = ModuleInfo::new(alloc, &bytes);
+    assert!(rt; operators.len() == 6);
+    let Some(block) = builder.get_bb_from_operator(4, &operators) else {
+        assert!(rt; false, "no block");
+        return Ok(());
+    };
+    let Some(graph) = builder.get_dfg(alloc, &info, &operators, &block)? else {
+        assert!(rt; false, "no graph");
+        return Ok(());
+    };
+    let text = format!(in alloc; "{graph}")?;
+    let wanted =
+        "DFG forest\n(0)(at 4) i32.add\n├──(4294967295)(at 4) undef\n└──(0)(at 3) i32.const.1\n";
+    assert!(rt; text.as_str() == wanted);
+    Ok(())
+}
+
+/// call 0, nop, while preserving: a function that takes and gives nothing raises the colour by two.
+#[test]
+fn text_of_a_call(rt: HostRuntime) -> Result<(), Fail> {
+    let alloc = rt.alloc();
+    let bytes = [0x10, 0x00, 0x01, 0x0b];
+    let operators = read_body(alloc, &bytes, 0, bytes.len())?;
+    let mut config: WasmMutate<Words> = WasmMutate::new();
+    config.preserve_semantics(true);
+    let mut builder = DFGBuilder::new(&config);
+    let mut info = ModuleInfo::new(alloc, &bytes);
+    let params = Vec::new(alloc);
+    let returns = Vec::new(alloc);
+    info.types_map
+        .push(TypeInfo::Func(FuncInfo { params, returns }))?;
+    info.function_map.push(0)?;
+    assert!(rt; operators.len() == 3);
+    let Some(block) = builder.get_bb_from_operator(1, &operators) else {
+        assert!(rt; false, "no block");
+        return Ok(());
+    };
+    let Some(graph) = builder.get_dfg(alloc, &info, &operators, &block)? else {
+        assert!(rt; false, "no graph");
+        return Ok(());
+    };
+    let text = format!(in alloc; "{graph}")?;
+    assert!(rt; text.as_str() == "DFG forest\n(0)(at 0) call.0\n(2)(at 1) nop\n");
     Ok(())
 }
 

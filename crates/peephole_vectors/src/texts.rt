@@ -57,7 +57,7 @@ fn refused_texts(rt: HostRuntime) -> Result<(), Fail> {
         ("i32", 0, TermError::InvalidToken),
         ("", 0, TermError::InvalidToken),
         ("i32.add.", 2, TermError::InvalidToken),
-        ("i32.sub", 2, TermError::InvalidToken),
+        ("i32.sum", 2, TermError::InvalidToken),
         ("i32.const.2147483648", 0, TermError::BadInteger),
         ("i32.const.", 0, TermError::BadInteger),
         ("i32.const.++5", 0, TermError::BadInteger),

@@ -1,8 +1,8 @@
 //! Bodies that are written with a term.
 
 use peephole_terms::{
-    DFGBuilder, Encoder, Error, Function, Id, Lang, ModuleInfo, RecExpr, WasmMutate, Words,
-    expr2wasm, read_body,
+    DFGBuilder, Encoder, Error, Function, Id, Lang, ModuleInfo, Numeric, RecExpr, WasmMutate,
+    Words, expr2wasm, read_body,
 };
 use std::alloc::Global;
 use std::process::Abort;
@@ -74,13 +74,14 @@ fn no_term(alloc: Global) -> RecExpr<Lang> {
 }
 
 #[test]
+#[tactic(auto, unfolding(peephole_lang::specs::Lang::ids_of, peephole_lang::specs::Numeric::numeric_ids_of))]
 fn terms(rt: HostRuntime) -> Result<(), Fail> {
     let alloc = rt.alloc();
     let bytes = [0x41, 0x2a, 0x41, 0x01, 0x6a, 0x0b];
     let mut sum = RecExpr::new(alloc);
     let one = sum.add(Lang::I32(1))?;
     let forty_two = sum.add(Lang::I32(42))?;
-    sum.add(Lang::I32Add([one, forty_two]))?;
+    sum.add(Numeric::I32Add([one, forty_two]).into())?;
     is_written(
         &rt,
         alloc,
@@ -93,7 +94,7 @@ fn terms(rt: HostRuntime) -> Result<(), Fail> {
     )?;
     let mut shared = RecExpr::new(alloc);
     let ten = shared.add(Lang::I32(10))?;
-    shared.add(Lang::I32Add([ten, ten]))?;
+    shared.add(Numeric::I32Add([ten, ten]).into())?;
     is_written(
         &rt,
         alloc,
@@ -155,6 +156,7 @@ fn own_trees(rt: HostRuntime) -> Result<(), Fail> {
 }
 
 #[test]
+#[tactic(auto, unfolding(peephole_lang::specs::Lang::ids_of, peephole_lang::specs::Numeric::numeric_ids_of))]
 fn terms_alone(rt: HostRuntime) -> Result<(), Fail> {
     let alloc = rt.alloc();
     let mut config: WasmMutate<Words> = WasmMutate::new();
@@ -162,7 +164,7 @@ fn terms_alone(rt: HostRuntime) -> Result<(), Fail> {
     let mut term = RecExpr::new(alloc);
     let missing = term.add(Lang::Undef)?;
     let local = term.add(Lang::LocalGet(300))?;
-    let sum = term.add(Lang::I32Add([missing, local]))?;
+    let sum = term.add(Numeric::I32Add([missing, local]).into())?;
     term.add(Lang::LocalSet(1, sum))?;
     let mut sink = Function::new(alloc);
     let requests = expr2wasm(alloc, &mut config, &term, &mut sink)?;

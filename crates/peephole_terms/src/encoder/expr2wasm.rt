@@ -2,7 +2,7 @@
 
 ghost use Rattle.std.specs.Prelude.{◌≡◌, ◌++◌, ◌<◌, [], length, IfOk, IfErr, OnErr, IsTrue, is_some};
 ghost use Rattle.wasm_code.specs.Code.{codes};
-ghost use Rattle.peephole_lang.specs.Lang.{head_of, children_of};
+ghost use Rattle.peephole_lang.specs.Node.{head_of, children_of};
 ghost use Rattle.peephole_lang.specs.Term.{term_of};
 ghost use Rattle.peephole_terms.specs.Expansion.{expansion_of};
 

@@ -3,7 +3,7 @@
 ghost use Rattle.std.specs.Prelude.{◌≡◌, ◌<◌, ◌+◌, ◌++◌, ◌∷◌, [], List, length, take, slice_index, OnOk, IfErr};
 ghost use Rattle.wasm_code.specs.Code.{codes};
 ghost use Rattle.peephole_lang.specs.declared.lang.Lang.{Lang};
-ghost use Rattle.peephole_lang.specs.Lang.{head_of};
+ghost use Rattle.peephole_lang.specs.Node.{head_of};
 ghost use Rattle.peephole_lang.specs.Term.{AreBelow, numbers_of, tree_at};
 ghost use Rattle.peephole_terms.specs.Expansion.{expansion_of, nodes_in, own_instructions};
 

@@ -1,5 +1,5 @@
 use Rattle.std.proofs.Common.{◌≡◌, take}
-use Rattle.peephole_lang.specs.Lang.{numbers_of}
+use Rattle.peephole_lang.specs.Term.{numbers_of}
 use Rattle.peephole_run.proofs.arguments.ids_of.Given as goal
 
 -- the ids so far are those of the places so far

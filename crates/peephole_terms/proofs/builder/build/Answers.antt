@@ -2,7 +2,7 @@ use Rattle.std.proofs.Common.{◌≡◌, ℕ, List, get_or, sym, ap, ◌∙◌}
 use Rattle.std.proofs.lemmas.Result.{err_from_is_err_and}
 use Rattle.wasm_code.specs.declared.operator.Operator.{Operator}
 use Rattle.mutate_base.specs.Module.{Module}
-use Rattle.peephole_terms.specs.Shape.{Judged, Unfit, judge}
+use Rattle.peephole_terms.specs.Shape.{Judged, Unfit, Unknown, judge}
 use Rattle.peephole_terms.proofs.BuilderLemmas.{shape_makes, kept_low, kept_parents, kept_room, kept_next, kept_all, refused, fault}
 use Rattle.peephole_terms.proofs.DfgLemmas.{sizes_count, flags_count}
 use Rattle.peephole_terms.proofs.builder.build.Goals as goal
@@ -31,6 +31,12 @@ add_operator-requires-clause-room c = kept_room _ _ _ _ _ c.loop-number.invarian
 
 pub returns-in-Unfit : goal.returns-in-Unfit
 returns-in-Unfit c = let h = c.in-Unfit.ensures in fault _ _ _ _ c.loop-number.number c.index-operators-number.result _ (λ b j. j ≡ Unfit) c.loop-number-test.true c.loop-number.invariant (sym (judged c.args.info.now c.args.operators.now c.loop-number.number _ _ c.index-operators-number.is h))
+
+pub returns-in-Unknown : goal.returns-in-Unknown
+returns-in-Unknown c =
+    fault _ _ _ _ c.loop-number.number c.index-operators-number.result _ (λ b j. j ≡ Unknown c.in-Unknown.function)
+    c.loop-number-test.true c.loop-number.invariant
+    (sym (judged c.args.info.now c.args.operators.now c.loop-number.number _ _ c.index-operators-number.is c.in-Unknown.ensures))
 
 pub loop-number-preserved : goal.loop-number-preserved
 loop-number-preserved c =

@@ -1,7 +1,7 @@
 use Rattle.std.proofs.Common.{◌≡◌, drop, get_or}
 use Rattle.peephole_terms.specs.Downwards.{forward}
 use Rattle.peephole_terms.specs.Entries.{colours}
-use Rattle.peephole_lang.specs.Lang.{numbers_of}
+use Rattle.peephole_lang.specs.Term.{numbers_of}
 use Rattle.peephole_terms.proofs.dfg.lie_forward.Given as goal
 
 abbrev pub invariant-loop-child : goal.invariant-loop-child

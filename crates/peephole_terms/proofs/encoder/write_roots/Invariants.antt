@@ -1,6 +1,6 @@
 use Rattle.std.proofs.Common.{◌≡◌, ◌++◌, length, take}
 use Rattle.wasm_code.specs.Code.{codes}
-use Rattle.peephole_lang.specs.Lang.{head_of, children_of}
+use Rattle.peephole_lang.specs.Node.{head_of, children_of}
 use Rattle.peephole_lang.specs.Term.{term_of}
 use Rattle.peephole_terms.specs.Entries.{roots_of}
 use Rattle.peephole_terms.specs.Expansion.{expansion_of}

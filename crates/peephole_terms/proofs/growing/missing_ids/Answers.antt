@@ -2,7 +2,7 @@
 use Rattle.std.proofs.Common.{◌≡◌, ℕ, zero, suc, ◌+◌, ◌-◌, ◌<◌, ◌++◌, ◌∷◌, [], List, refl, sym, ap, ◌∙◌, arith, append_assoc}
 use Rattle.std.proofs.lemmas.List.{map_push}
 use Rattle.peephole_terms.specs.Step.{down}
-use Rattle.peephole_lang.specs.Lang.{numbers_of}
+use Rattle.peephole_lang.specs.Term.{numbers_of}
 use Rattle.peephole_lang.specs.declared.id.Id.{Id}
 use Rattle.peephole_terms.proofs.growing.missing_ids.Goals as goal
 

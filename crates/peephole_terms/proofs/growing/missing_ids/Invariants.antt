@@ -1,6 +1,6 @@
 use Rattle.std.proofs.Common.{◌≡◌, ◌++◌, ◌≤◌}
 use Rattle.peephole_terms.specs.Step.{down}
-use Rattle.peephole_lang.specs.Lang.{numbers_of}
+use Rattle.peephole_lang.specs.Term.{numbers_of}
 use Rattle.peephole_terms.proofs.growing.missing_ids.Given as goal
 
 abbrev pub invariant-loop-left : goal.invariant-loop-left

@@ -1,9 +1,9 @@
 -- So many children as the instruction takes.
 use Rattle.std.proofs.Common.{◌≡◌, ℕ, zero, suc, ◌+◌, ◌++◌, List, length, refl, sym, ap, ◌∙◌}
-use Rattle.std.specs.Prelude.{◌&&◌}
 use Rattle.std.proofs.lemmas.Bool.{false≢true}
 use Rattle.std.proofs.lemmas.List.{length-append, length-map}
-use Rattle.peephole_lang.specs.Lang.{numbers_of, takes_children, has_node}
+use Rattle.peephole_lang.specs.Node.{takes_children}
+use Rattle.peephole_lang.specs.Term.{numbers_of}
 use Rattle.peephole_lang.specs.declared.id.Id.{Id}
 use Rattle.peephole_terms.specs.Step.{down}
 use Rattle.peephole_terms.proofs.growing.own_node.Goals as goal
@@ -19,4 +19,4 @@ length_ids ids old base missing taken e f =
 pub unreachable-requires : goal.unreachable-requires
 unreachable-requires c =
     let count = length_ids c.push_ids.new.ids.items c.in_ok-ids.ids.items c.args.base c.args.missing c.args.taken.now c.in_ok-push_ids.ensures c.in_ok-ids.ensures in
-    false≢true (c.in-None.ensures.complete ∙ (ap (λ n. has_node c.args.instr.row && takes_children c.args.instr.row n) count ∙ c.requires.fits))
+    false≢true (c.in-None.ensures.complete ∙ (ap (λ n. takes_children c.args.instr.row n) count ∙ c.requires.fits))

@@ -1,5 +1,5 @@
 use Rattle.std.proofs.Common.{◌≡◌, ◌++◌, take}
-use Rattle.peephole_lang.specs.Lang.{numbers_of}
+use Rattle.peephole_lang.specs.Term.{numbers_of}
 use Rattle.peephole_terms.proofs.growing.push_ids.Given as goal
 
 abbrev pub invariant-loop-i : goal.invariant-loop-i

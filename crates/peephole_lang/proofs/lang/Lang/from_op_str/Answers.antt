@@ -1,13 +1,16 @@
-use Rattle.std.proofs.Common.{◌∙◌, sym, ap}
-use Rattle.peephole_lang.specs.Making.{fits}
-use Rattle.peephole_lang.specs.Entries.{variant_of}
-use Rattle.peephole_lang.proofs.EntriesLemmas.{is_a_node}
+use Rattle.std.proofs.Common.{◌≡◌, ◌∙◌, ap, refl, length, arith}
+use Rattle.peephole_lang.specs.Making.{is_made}
+use Rattle.peephole_lang.specs.Names.{find_in}
+use Rattle.peephole_lang.specs.Variants.{variants}
+use Rattle.peephole_lang.proofs.TextLemmas.{is_a_node}
 use Rattle.peephole_lang.proofs.lang.Lang.from_op_str.Goals as goal
 
 pub unwrap-requires : goal.unwrap-requires
 unwrap-requires c =
-    let counted = c.deref.ensures.len ∙ sym c.len.ensures in
+    let whole = c.args.children.ok.0 in
+    let len = c.len.ensures in
+    let counted : length c.args.children.items ≡ c.len.result = omega (arith, whole, len) in
     c.make.ensures.complete
-    ∙ (ap (fits c.in-Some.entry.place c.in_ok-payload-in-Some.payload) counted
-    ∙ is_a_node (variant_of c.in-Some.entry, c.in-Some.payload_text.now) c.args.text.now c.in_ok-payload-in-Some.payload c.len.result c.in-Some.ensures
+    ∙ (ap (is_made c.in-Some.entry.place c.in_ok-payload-in-Some.payload) counted
+    ∙ is_a_node (find_in variants c.args.text.now) c.args.text.now c.in-Some.entry c.in-Some.payload_text.now c.in_ok-payload-in-Some.payload c.len.result refl c.in-Some.ensures
     c.in_ok-payload-in-Some.ensures)

@@ -1,5 +1,5 @@
 -- What was built is the graph that is answered.
-use Rattle.std.proofs.Common.{◌≡◌, ℕ, Bool, List, Option, Ok, Some, None, IfOk, IfSome, sym, subst, ap₂, slice_range, MatchOption, Result, arith}
+use Rattle.std.proofs.Common.{◌≡◌, ℕ, Bool, List, Option, Ok, Some, None, IfOk, IfSome, sym, subst, ap₂, slice_range, MatchOption, Result, length, arith}
 use Rattle.std.proofs.lemmas.Grind.{common_steps}
 use Rattle.std.specs.Bool.{nat_eq}
 use Rattle.std.specs.HashMap as hash
@@ -13,6 +13,7 @@ use Rattle.peephole_terms.specs.declared.growing.Growing.{Growing}
 use Rattle.peephole_terms.specs.GraphOf.{IsGraphOf, HasNoGraph}
 use Rattle.peephole_terms.specs.Building.{HasGrown}
 use Rattle.peephole_terms.specs.Layout.{HasTrees}
+use Rattle.peephole_terms.proofs.GraphLemmas.{parents_length}
 use Rattle.peephole_terms.proofs.LayoutTrees.{has_trees}
 use Rattle.peephole_terms.proofs.builder.DFGBuilder.get_dfg.Goals.{in-None, in-Some}
 use Rattle.peephole_terms.proofs.builder.DFGBuilder.get_dfg.Goals as goal
@@ -56,3 +57,12 @@ trees_are info keeping first operators o g h s =
 
 pub of_parts-requires-clause-trees : goal.of_parts-requires-clause-trees
 of_parts-requires-clause-trees c = trees_are _ _ _ _ c.in_ok-growing.growing c.in-Some.growing c.in_ok-growing.ensures c.in-Some.is
+
+paired_are : (info : Module) (keeping : Bool) (first : ℕ) (operators : List (Operator × ℕ)) (o : Option Growing) (g : Growing) →
+    MatchOption o (HasNoGraph info keeping operators) (λ g. HasGrown info keeping first operators g) → o ≡ Some g → length g.parents.items ≡ length g.entries.items
+paired_are info keeping first operators o g h s =
+    parents_length info keeping first operators g.entries.items g.parents.items (hash.get nat_eq g.map)
+    (subst (λ x. MatchOption x (HasNoGraph info keeping operators) (λ g. HasGrown info keeping first operators g)) s h).0
+
+pub of_parts-requires-clause-paired : goal.of_parts-requires-clause-paired
+of_parts-requires-clause-paired c = paired_are _ _ _ _ c.in_ok-growing.growing c.in-Some.growing c.in_ok-growing.ensures c.in-Some.is

@@ -1,6 +1,6 @@
 use Rattle.std.proofs.Common.{arith, ◌<◌, ◌+◌, ◌∙◌, sym, ap, length}
 use Rattle.std.proofs.lemmas.Grind.{common_steps}
-use Rattle.peephole_lang.specs.Lang.{numbers_of}
+use Rattle.peephole_lang.specs.Term.{numbers_of}
 use Rattle.peephole_terms.proofs.DfgLemmas.{sizes_count, forwards_read, forwards_stop}
 use Rattle.peephole_terms.proofs.dfg.MiniDFG.keeps_order.Goals as goal
 

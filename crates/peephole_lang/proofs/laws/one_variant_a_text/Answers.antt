@@ -1,0 +1,5 @@
+use Rattle.peephole_lang.specs.VariantLemmas.{one_variant}
+use Rattle.peephole_lang.proofs.laws.one_variant_a_text.Goals as goal
+
+pub returns : goal.returns
+returns c = one_variant

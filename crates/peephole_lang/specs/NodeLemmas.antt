@@ -1,0 +1,53 @@
+-- What the comparisons of nodes say of them, and that a node's text is its head's.
+use Rattle.std.specs.Prelude.{◌≡◌, ℕ, ◌==◌, ◌&&◌, ◌++◌, Bool, true, false, refl}
+use Rattle.std.specs.Bool.{Decides}
+use Rattle.std.specs.Cmp.{IsEquivalence, unsigned_Decides}
+use Rattle.std.proofs.Common.{ap, ap₂}
+use Rattle.peephole_lang.specs.contracts.payload.PayloadPartialEq.TheImpl as payload_eq
+use Rattle.peephole_lang.specs.declared.lang.Head.{Head}
+use Rattle.peephole_lang.specs.declared.lang.Lang.{Lang}
+use Rattle.peephole_lang.specs.declared.payload.Payload.{Payload}
+use Rattle.peephole_lang.specs.Compared.{lang_matches, given_of}
+use Rattle.peephole_lang.specs.Lang.{place_of, payload_of, ids_of}
+use Rattle.peephole_lang.specs.Language.{IsAlike, alike_equivalence}
+use Rattle.peephole_lang.specs.Node.{head_of}
+use Rattle.peephole_lang.specs.PayloadLemmas.{same_payload, payload_itself}
+use Rattle.peephole_lang.specs.PayloadText.{payload_text}
+use Rattle.peephole_lang.specs.Text.{name_in, text_of}
+use Rattle.peephole_lang.specs.Variants.{variant_at}
+
+pub both : (a b c : Bool) → (a && (b && c)) ≡ true → (a ≡ true) × ((b ≡ true) × (c ≡ true))
+both true true true e = (refl, (refl, refl))
+both true true false e = absurd cc
+both true false c e = absurd cc
+both false b c e = absurd cc
+
+pub joined : (a b c : Bool) → a ≡ true → b ≡ true → c ≡ true → (a && (b && c)) ≡ true
+joined a b c p q r = rw (p, q, r) refl
+
+pub same_head : (place place' : ℕ) (p p' : Payload) → place ≡ place' → p ≡ p' → ◌≡◌ {A = Head} (record { place = place; payload = p }) (record { place = place'; payload = p' })
+same_head place place' p p' e f = ap₂ (λ (k : ℕ) (q : Payload). record { place = k; payload = q }) e f
+
+matches_says : (l m : Lang) → lang_matches l m ≡ true → IsAlike head_of ids_of l m
+matches_says l m e =
+    let parts = both (place_of l == place_of m) (payload_eq.ghosts.eq (payload_of l) (payload_of m)) (given_of l == given_of m) e in (
+      same_head (place_of l) (place_of m) (payload_of l) (payload_of m) ((unsigned_Decides (place_of l) (place_of m)).0 parts.0) (same_payload (payload_of l) (payload_of m) parts.1.0),
+      (unsigned_Decides (given_of l) (given_of m)).0 parts.1.1,
+    )
+
+alike_matches : (l m : Lang) → IsAlike head_of ids_of l m → lang_matches l m ≡ true
+alike_matches l m a =
+    joined (place_of l == place_of m) (payload_eq.ghosts.eq (payload_of l) (payload_of m)) (given_of l == given_of m)
+    ((unsigned_Decides (place_of l) (place_of m)).1 (ap (λ (h : Head). h.place) a.0)) (payload_itself (payload_of l) (payload_of m) (ap (λ (h : Head). h.payload) a.0))
+    ((unsigned_Decides (given_of l) (given_of m)).1 a.1)
+
+-- two nodes match exactly where they say the same and have as many children
+pub matches_exactly : (l m : Lang) → Decides (lang_matches l m) (IsAlike head_of ids_of l m)
+matches_exactly l m = (matches_says l m, alike_matches l m)
+
+pub matches_equivalence : IsEquivalence lang_matches
+matches_equivalence = alike_equivalence head_of ids_of lang_matches matches_exactly
+
+-- a node's text is its head's
+pub says : (l m : Lang) → head_of l ≡ head_of m → text_of l ≡ text_of m
+says l m e = ap (λ (h : Head). name_in (variant_at h.place) ++ payload_text h.payload) e

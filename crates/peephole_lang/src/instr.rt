@@ -1,0 +1,44 @@
+//! A node's instruction, and the node of an instruction.
+ghost use Rattle.std.specs.Prelude.{◌≡◌, IfSome, Some, is_some, length};
+ghost use Rattle.peephole_lang.specs.Lang.{payload_of, ids_of};
+ghost use Rattle.peephole_lang.specs.Node.{instr_of, takes_children};
+ghost use Rattle.peephole_lang.specs.Payload.{is_writable};
+
+use crate::id::Id;
+use crate::lang::Lang;
+use crate::making::make;
+use crate::names::entry_at;
+use wasm_code::Instr;
+
+impl Lang {
+    /// False exactly where the node has a memory argument whose `align` is 64 or more: such a node has no bytes (WebAssembly
+    /// Core Specification 3.0, section 5.4, Instructions).
+    pub fn is_writable(&self) -> bool
+        ensures { result ≡ is_writable (payload_of self.now) }
+    {
+        self.payload().is_writable()
+    }
+
+    /// The node's instruction, or None for a node without one, and where the node isn't writable.
+    pub fn instr(&self) -> Option<Instr>
+        ensures { result ≡ instr_of self.now }
+    {
+        let place = self.place();
+        if place < 12 {
+            return None;
+        }
+        Instr::new(place - 12, self.payload().imm())
+    }
+
+    /// The node of an instruction with these children, the first operand first, or None where the number of the children
+    /// isn't the row's number of operands; `call` takes any number.
+    pub fn of_instr(instr: &Instr, children: Vec<Id>) -> Option<Lang>
+        ensures instruction { IfSome result (λ l. instr_of l ≡ Some instr.now) }
+        ensures children { IfSome result (λ l. ids_of l ≡ children.items) }
+        ensures complete { is_some result ≡ takes_children instr.now.row (length children.items) }
+    {
+        let entry = entry_at(12 + instr.row())?;
+        let payload = entry.payload.of_imm(instr.imm())?;
+        make(entry.place, payload, children)
+    }
+}

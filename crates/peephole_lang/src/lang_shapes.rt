@@ -1,0 +1,345 @@
+//! Nodes by place, one function for each kind of payload and number of children.
+ghost use Rattle.std.specs.Prelude.{◌≡◌, IfSome, is_some, [], ◌∷◌};
+ghost use Rattle.peephole_lang.specs.Lang.{place_of, payload_of, ids_of, count_of};
+ghost use Rattle.peephole_lang.specs.LangShapes.{is_plain_leaf, is_plain_one, is_plain_three, is_index_leaf, is_index_one, is_index_two, is_index_three, is_memory_one, is_memory_two, is_i32_leaf, is_i64_leaf, is_f32_leaf, is_f64_leaf, is_ref_leaf, is_memory_init_three, is_memory_copy_three, is_table_init_three, is_table_copy_three, is_value_three};
+ghost use Rattle.peephole_lang.specs.declared.payload.Payload.TheVariants as P;
+
+use crate::id::Id;
+use crate::lang::Lang;
+use mutate_base::{F32, F64, MemArg, MemoryCopy, MemoryInit, RefType, TableCopy, TableInit};
+use wasm_code::ValType;
+
+#[tactic(auto, unfolding(crate::specs::LangShapes::is_plain_leaf, crate::specs::Lang::place_of, crate::specs::Lang::payload_of, crate::specs::Lang::ids_of, crate::specs::Lang::count_of))]
+pub fn plain_leaf(place: u16) -> Option<Lang>
+    ensures place { IfSome result (λ l. place_of l ≡ place) }
+    ensures payload { IfSome result (λ l. payload_of l ≡ P.Nothing) }
+    ensures children { IfSome result (λ l. ids_of l ≡ []) }
+    ensures count { IfSome result (λ l. count_of l ≡ 0) }
+    ensures complete { is_some result ≡ is_plain_leaf place }
+{
+    Some(match place {
+        0 => Lang::RandI32,
+        1 => Lang::RandI64,
+        2 => Lang::RandF32,
+        3 => Lang::RandF64,
+        4 => Lang::Undef,
+        12 => Lang::Nop,
+        _ => return None,
+    })
+}
+
+#[tactic(auto, unfolding(crate::specs::LangShapes::is_plain_one, crate::specs::Lang::place_of, crate::specs::Lang::payload_of, crate::specs::Lang::ids_of, crate::specs::Lang::count_of))]
+pub fn plain_one(place: u16, child: Id) -> Option<Lang>
+    ensures place { IfSome result (λ l. place_of l ≡ place) }
+    ensures payload { IfSome result (λ l. payload_of l ≡ P.Nothing) }
+    ensures children { IfSome result (λ l. ids_of l ≡ child ∷ []) }
+    ensures count { IfSome result (λ l. count_of l ≡ 1) }
+    ensures complete { is_some result ≡ is_plain_one place }
+{
+    Some(match place {
+        5 => Lang::UnfoldI32(child),
+        6 => Lang::UnfoldI64(child),
+        7 => Lang::I32UseGlobal(child),
+        8 => Lang::I64UseGlobal(child),
+        9 => Lang::F32UseGlobal(child),
+        10 => Lang::F64UseGlobal(child),
+        14 => Lang::Drop([child]),
+        181 => Lang::RefIsNull(child),
+        _ => return None,
+    })
+}
+
+#[tactic(auto, unfolding(crate::specs::LangShapes::is_plain_three, crate::specs::Lang::place_of, crate::specs::Lang::payload_of, crate::specs::Lang::ids_of, crate::specs::Lang::count_of))]
+pub fn plain_three(place: u16, first: Id, second: Id, third: Id) -> Option<Lang>
+    ensures place { IfSome result (λ l. place_of l ≡ place) }
+    ensures payload { IfSome result (λ l. payload_of l ≡ P.Nothing) }
+    ensures children { IfSome result (λ l. ids_of l ≡ first ∷ second ∷ third ∷ []) }
+    ensures count { IfSome result (λ l. count_of l ≡ 3) }
+    ensures complete { is_some result ≡ is_plain_three place }
+{
+    Some(match place {
+        15 => Lang::Select([first, second, third]),
+        _ => return None,
+    })
+}
+
+#[tactic(auto, unfolding(crate::specs::LangShapes::is_index_leaf, crate::specs::Lang::place_of, crate::specs::Lang::payload_of, crate::specs::Lang::ids_of, crate::specs::Lang::count_of))]
+pub fn index_leaf(place: u16, payload: u32) -> Option<Lang>
+    ensures place { IfSome result (λ l. place_of l ≡ place) }
+    ensures payload { IfSome result (λ l. payload_of l ≡ P.Index payload) }
+    ensures children { IfSome result (λ l. ids_of l ≡ []) }
+    ensures count { IfSome result (λ l. count_of l ≡ 0) }
+    ensures complete { is_some result ≡ is_index_leaf place }
+{
+    Some(match place {
+        16 => Lang::LocalGet(payload),
+        19 => Lang::GlobalGet(payload),
+        46 => Lang::MemorySize(payload),
+        182 => Lang::RefFunc(payload),
+        192 => Lang::DataDrop(payload),
+        196 => Lang::ElemDrop(payload),
+        199 => Lang::TableSize(payload),
+        _ => return None,
+    })
+}
+
+#[tactic(auto, unfolding(crate::specs::LangShapes::is_index_one, crate::specs::Lang::place_of, crate::specs::Lang::payload_of, crate::specs::Lang::ids_of, crate::specs::Lang::count_of))]
+pub fn index_one(place: u16, payload: u32, child: Id) -> Option<Lang>
+    ensures place { IfSome result (λ l. place_of l ≡ place) }
+    ensures payload { IfSome result (λ l. payload_of l ≡ P.Index payload) }
+    ensures children { IfSome result (λ l. ids_of l ≡ child ∷ []) }
+    ensures count { IfSome result (λ l. count_of l ≡ 1) }
+    ensures complete { is_some result ≡ is_index_one place }
+{
+    Some(match place {
+        17 => Lang::LocalSet(payload, child),
+        18 => Lang::LocalTee(payload, child),
+        20 => Lang::GlobalSet(payload, child),
+        21 => Lang::TableGet(payload, child),
+        47 => Lang::MemoryGrow(payload, child),
+        _ => return None,
+    })
+}
+
+#[tactic(auto, unfolding(crate::specs::LangShapes::is_index_two, crate::specs::Lang::place_of, crate::specs::Lang::payload_of, crate::specs::Lang::ids_of, crate::specs::Lang::count_of))]
+pub fn index_two(place: u16, payload: u32, first: Id, second: Id) -> Option<Lang>
+    ensures place { IfSome result (λ l. place_of l ≡ place) }
+    ensures payload { IfSome result (λ l. payload_of l ≡ P.Index payload) }
+    ensures children { IfSome result (λ l. ids_of l ≡ first ∷ second ∷ []) }
+    ensures count { IfSome result (λ l. count_of l ≡ 2) }
+    ensures complete { is_some result ≡ is_index_two place }
+{
+    Some(match place {
+        22 => Lang::TableSet(payload, [first, second]),
+        198 => Lang::TableGrow(payload, [first, second]),
+        _ => return None,
+    })
+}
+
+#[tactic(auto, unfolding(crate::specs::LangShapes::is_index_three, crate::specs::Lang::place_of, crate::specs::Lang::payload_of, crate::specs::Lang::ids_of, crate::specs::Lang::count_of))]
+pub fn index_three(place: u16, payload: u32, first: Id, second: Id, third: Id) -> Option<Lang>
+    ensures place { IfSome result (λ l. place_of l ≡ place) }
+    ensures payload { IfSome result (λ l. payload_of l ≡ P.Index payload) }
+    ensures children { IfSome result (λ l. ids_of l ≡ first ∷ second ∷ third ∷ []) }
+    ensures count { IfSome result (λ l. count_of l ≡ 3) }
+    ensures complete { is_some result ≡ is_index_three place }
+{
+    Some(match place {
+        194 => Lang::MemoryFill(payload, [first, second, third]),
+        200 => Lang::TableFill(payload, [first, second, third]),
+        _ => return None,
+    })
+}
+
+#[tactic(auto, unfolding(crate::specs::LangShapes::is_memory_one, crate::specs::Lang::place_of, crate::specs::Lang::payload_of, crate::specs::Lang::ids_of, crate::specs::Lang::count_of))]
+pub fn memory_one(place: u16, payload: MemArg, child: Id) -> Option<Lang>
+    ensures place { IfSome result (λ l. place_of l ≡ place) }
+    ensures payload { IfSome result (λ l. payload_of l ≡ P.Memory payload) }
+    ensures children { IfSome result (λ l. ids_of l ≡ child ∷ []) }
+    ensures count { IfSome result (λ l. count_of l ≡ 1) }
+    ensures complete { is_some result ≡ is_memory_one place }
+{
+    Some(match place {
+        23 => Lang::I32Load(payload, child),
+        24 => Lang::I64Load(payload, child),
+        25 => Lang::F32Load(payload, child),
+        26 => Lang::F64Load(payload, child),
+        27 => Lang::I32Load8S(payload, child),
+        28 => Lang::I32Load8U(payload, child),
+        29 => Lang::I32Load16S(payload, child),
+        30 => Lang::I32Load16U(payload, child),
+        31 => Lang::I64Load8S(payload, child),
+        32 => Lang::I64Load8U(payload, child),
+        33 => Lang::I64Load16S(payload, child),
+        34 => Lang::I64Load16U(payload, child),
+        35 => Lang::I64Load32S(payload, child),
+        36 => Lang::I64Load32U(payload, child),
+        _ => return None,
+    })
+}
+
+#[tactic(auto, unfolding(crate::specs::LangShapes::is_memory_two, crate::specs::Lang::place_of, crate::specs::Lang::payload_of, crate::specs::Lang::ids_of, crate::specs::Lang::count_of))]
+pub fn memory_two(place: u16, payload: MemArg, first: Id, second: Id) -> Option<Lang>
+    ensures place { IfSome result (λ l. place_of l ≡ place) }
+    ensures payload { IfSome result (λ l. payload_of l ≡ P.Memory payload) }
+    ensures children { IfSome result (λ l. ids_of l ≡ first ∷ second ∷ []) }
+    ensures count { IfSome result (λ l. count_of l ≡ 2) }
+    ensures complete { is_some result ≡ is_memory_two place }
+{
+    Some(match place {
+        37 => Lang::I32Store(payload, [first, second]),
+        38 => Lang::I64Store(payload, [first, second]),
+        39 => Lang::F32Store(payload, [first, second]),
+        40 => Lang::F64Store(payload, [first, second]),
+        41 => Lang::I32Store8(payload, [first, second]),
+        42 => Lang::I32Store16(payload, [first, second]),
+        43 => Lang::I64Store8(payload, [first, second]),
+        44 => Lang::I64Store16(payload, [first, second]),
+        45 => Lang::I64Store32(payload, [first, second]),
+        _ => return None,
+    })
+}
+
+#[tactic(auto, unfolding(crate::specs::LangShapes::is_i32_leaf, crate::specs::Lang::place_of, crate::specs::Lang::payload_of, crate::specs::Lang::ids_of, crate::specs::Lang::count_of))]
+pub fn i32_leaf(place: u16, payload: i32) -> Option<Lang>
+    ensures place { IfSome result (λ l. place_of l ≡ place) }
+    ensures payload { IfSome result (λ l. payload_of l ≡ P.I32 payload) }
+    ensures children { IfSome result (λ l. ids_of l ≡ []) }
+    ensures count { IfSome result (λ l. count_of l ≡ 0) }
+    ensures complete { is_some result ≡ is_i32_leaf place }
+{
+    Some(match place {
+        48 => Lang::I32(payload),
+        _ => return None,
+    })
+}
+
+#[tactic(auto, unfolding(crate::specs::LangShapes::is_i64_leaf, crate::specs::Lang::place_of, crate::specs::Lang::payload_of, crate::specs::Lang::ids_of, crate::specs::Lang::count_of))]
+pub fn i64_leaf(place: u16, payload: i64) -> Option<Lang>
+    ensures place { IfSome result (λ l. place_of l ≡ place) }
+    ensures payload { IfSome result (λ l. payload_of l ≡ P.I64 payload) }
+    ensures children { IfSome result (λ l. ids_of l ≡ []) }
+    ensures count { IfSome result (λ l. count_of l ≡ 0) }
+    ensures complete { is_some result ≡ is_i64_leaf place }
+{
+    Some(match place {
+        49 => Lang::I64(payload),
+        _ => return None,
+    })
+}
+
+#[tactic(auto, unfolding(crate::specs::LangShapes::is_f32_leaf, crate::specs::Lang::place_of, crate::specs::Lang::payload_of, crate::specs::Lang::ids_of, crate::specs::Lang::count_of))]
+pub fn f32_leaf(place: u16, payload: F32) -> Option<Lang>
+    ensures place { IfSome result (λ l. place_of l ≡ place) }
+    ensures payload { IfSome result (λ l. payload_of l ≡ P.F32 payload) }
+    ensures children { IfSome result (λ l. ids_of l ≡ []) }
+    ensures count { IfSome result (λ l. count_of l ≡ 0) }
+    ensures complete { is_some result ≡ is_f32_leaf place }
+{
+    Some(match place {
+        50 => Lang::F32(payload),
+        _ => return None,
+    })
+}
+
+#[tactic(auto, unfolding(crate::specs::LangShapes::is_f64_leaf, crate::specs::Lang::place_of, crate::specs::Lang::payload_of, crate::specs::Lang::ids_of, crate::specs::Lang::count_of))]
+pub fn f64_leaf(place: u16, payload: F64) -> Option<Lang>
+    ensures place { IfSome result (λ l. place_of l ≡ place) }
+    ensures payload { IfSome result (λ l. payload_of l ≡ P.F64 payload) }
+    ensures children { IfSome result (λ l. ids_of l ≡ []) }
+    ensures count { IfSome result (λ l. count_of l ≡ 0) }
+    ensures complete { is_some result ≡ is_f64_leaf place }
+{
+    Some(match place {
+        51 => Lang::F64(payload),
+        _ => return None,
+    })
+}
+
+#[tactic(auto, unfolding(crate::specs::LangShapes::is_ref_leaf, crate::specs::Lang::place_of, crate::specs::Lang::payload_of, crate::specs::Lang::ids_of, crate::specs::Lang::count_of))]
+pub fn ref_leaf(place: u16, payload: RefType) -> Option<Lang>
+    ensures place { IfSome result (λ l. place_of l ≡ place) }
+    ensures payload { IfSome result (λ l. payload_of l ≡ P.Ref payload) }
+    ensures children { IfSome result (λ l. ids_of l ≡ []) }
+    ensures count { IfSome result (λ l. count_of l ≡ 0) }
+    ensures complete { is_some result ≡ is_ref_leaf place }
+{
+    Some(match place {
+        180 => Lang::RefNull(payload),
+        _ => return None,
+    })
+}
+
+#[tactic(auto, unfolding(crate::specs::LangShapes::is_memory_init_three, crate::specs::Lang::place_of, crate::specs::Lang::payload_of, crate::specs::Lang::ids_of, crate::specs::Lang::count_of))]
+pub fn memory_init_three(
+    place: u16,
+    payload: MemoryInit,
+    first: Id,
+    second: Id,
+    third: Id,
+) -> Option<Lang>
+    ensures place { IfSome result (λ l. place_of l ≡ place) }
+    ensures payload { IfSome result (λ l. payload_of l ≡ P.MemoryInit payload) }
+    ensures children { IfSome result (λ l. ids_of l ≡ first ∷ second ∷ third ∷ []) }
+    ensures count { IfSome result (λ l. count_of l ≡ 3) }
+    ensures complete { is_some result ≡ is_memory_init_three place }
+{
+    Some(match place {
+        191 => Lang::MemoryInit(payload, [first, second, third]),
+        _ => return None,
+    })
+}
+
+#[tactic(auto, unfolding(crate::specs::LangShapes::is_memory_copy_three, crate::specs::Lang::place_of, crate::specs::Lang::payload_of, crate::specs::Lang::ids_of, crate::specs::Lang::count_of))]
+pub fn memory_copy_three(
+    place: u16,
+    payload: MemoryCopy,
+    first: Id,
+    second: Id,
+    third: Id,
+) -> Option<Lang>
+    ensures place { IfSome result (λ l. place_of l ≡ place) }
+    ensures payload { IfSome result (λ l. payload_of l ≡ P.MemoryCopy payload) }
+    ensures children { IfSome result (λ l. ids_of l ≡ first ∷ second ∷ third ∷ []) }
+    ensures count { IfSome result (λ l. count_of l ≡ 3) }
+    ensures complete { is_some result ≡ is_memory_copy_three place }
+{
+    Some(match place {
+        193 => Lang::MemoryCopy(payload, [first, second, third]),
+        _ => return None,
+    })
+}
+
+#[tactic(auto, unfolding(crate::specs::LangShapes::is_table_init_three, crate::specs::Lang::place_of, crate::specs::Lang::payload_of, crate::specs::Lang::ids_of, crate::specs::Lang::count_of))]
+pub fn table_init_three(
+    place: u16,
+    payload: TableInit,
+    first: Id,
+    second: Id,
+    third: Id,
+) -> Option<Lang>
+    ensures place { IfSome result (λ l. place_of l ≡ place) }
+    ensures payload { IfSome result (λ l. payload_of l ≡ P.TableInit payload) }
+    ensures children { IfSome result (λ l. ids_of l ≡ first ∷ second ∷ third ∷ []) }
+    ensures count { IfSome result (λ l. count_of l ≡ 3) }
+    ensures complete { is_some result ≡ is_table_init_three place }
+{
+    Some(match place {
+        195 => Lang::TableInit(payload, [first, second, third]),
+        _ => return None,
+    })
+}
+
+#[tactic(auto, unfolding(crate::specs::LangShapes::is_table_copy_three, crate::specs::Lang::place_of, crate::specs::Lang::payload_of, crate::specs::Lang::ids_of, crate::specs::Lang::count_of))]
+pub fn table_copy_three(
+    place: u16,
+    payload: TableCopy,
+    first: Id,
+    second: Id,
+    third: Id,
+) -> Option<Lang>
+    ensures place { IfSome result (λ l. place_of l ≡ place) }
+    ensures payload { IfSome result (λ l. payload_of l ≡ P.TableCopy payload) }
+    ensures children { IfSome result (λ l. ids_of l ≡ first ∷ second ∷ third ∷ []) }
+    ensures count { IfSome result (λ l. count_of l ≡ 3) }
+    ensures complete { is_some result ≡ is_table_copy_three place }
+{
+    Some(match place {
+        197 => Lang::TableCopy(payload, [first, second, third]),
+        _ => return None,
+    })
+}
+
+#[tactic(auto, unfolding(crate::specs::LangShapes::is_value_three, crate::specs::Lang::place_of, crate::specs::Lang::payload_of, crate::specs::Lang::ids_of, crate::specs::Lang::count_of))]
+pub fn value_three(place: u16, payload: ValType, first: Id, second: Id, third: Id) -> Option<Lang>
+    ensures place { IfSome result (λ l. place_of l ≡ place) }
+    ensures payload { IfSome result (λ l. payload_of l ≡ P.Value payload) }
+    ensures children { IfSome result (λ l. ids_of l ≡ first ∷ second ∷ third ∷ []) }
+    ensures count { IfSome result (λ l. count_of l ≡ 3) }
+    ensures complete { is_some result ≡ is_value_three place }
+{
+    Some(match place {
+        457 => Lang::TypedSelect(payload, [first, second, third]),
+        _ => return None,
+    })
+}
