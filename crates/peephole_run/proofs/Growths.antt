@@ -1,5 +1,5 @@
 -- What a look-up of the graph found is what the growth of the block gives.
-use Rattle.std.proofs.Common.{◌≡◌, ℕ, ◌+◌, ◌<◌, List, [], ◌∷◌, ◌++◌, length, Bool, true, false, refl, sym, ap, ◌∙◌, arith, append_assoc, cond}
+use Rattle.std.proofs.Common.{◌≡◌, ℕ, List, [], ◌∷◌, ◌++◌, Bool, true, false, refl, sym, ap, ◌∙◌, arith, append_assoc, cond, ◌≤◌}
 use Rattle.std.specs.Prelude.{reverse}
 use Rattle.std.proofs.lemmas.Bool.Decides.{nat_tests}
 use Rattle.std.proofs.lemmas.List.{reverse-append}
@@ -10,17 +10,18 @@ use Rattle.peephole_terms.specs.declared.shape.Shape.{Shape}
 use Rattle.peephole_terms.specs.declared.shape.Judged.{Judged}
 use Rattle.peephole_terms.specs.declared.shape.Judged.TheVariants.{Fits, Unfit, Unknown}
 use Rattle.peephole_terms.specs.Shape.{judge, IsFit, AreFit, and_shape, operator_shapes, block_of}
-use Rattle.peephole_terms.specs.Graph.{IsSmall, lacking}
-use Rattle.peephole_terms.specs.GraphOf.{FirstFault, IsLarge, HasNoGraph, CallsUnknown, IsTooLarge}
+use Rattle.peephole_terms.specs.Tree.{full_size}
+use Rattle.peephole_terms.specs.Forest.{forest}
+use Rattle.peephole_terms.specs.GraphOf.{IsSmall, FirstFault, IsLarge, HasNoGraph, CallsUnknown, IsTooLarge}
 use Rattle.peephole_run.specs.Writing.{grown, no_graph, calls_unknown, too_large, has_room, with_operator, growth}
 
 abbrev Operators : Type 0
 Operators = List (Operator × ℕ)
 
-room : (s : Shape) (block : List Shape) → length block + lacking (s ∷ block) < 4294967296 → has_room block s ≡ true
+room : (s : Shape) (block : List Shape) → full_size (forest (s ∷ block)) ≤ 4294967296 → has_room block s ≡ true
 room s block h = grind (arith, nat_tests)
 
-no_room : (s : Shape) (block : List Shape) → (length block + lacking (s ∷ block) < 4294967296 → ⊥) → has_room block s ≡ false
+no_room : (s : Shape) (block : List Shape) → (full_size (forest (s ∷ block)) ≤ 4294967296 → ⊥) → has_room block s ≡ false
 no_room s block h = grind (arith, nat_tests)
 
 small_back : (xs ys : List Shape) → IsSmall false (xs ++ ys) → IsSmall false ys

@@ -13,10 +13,12 @@ use Rattle.peephole_terms.specs.declared.shape.Shape.{Shape}
 use Rattle.peephole_terms.specs.declared.dfg.StackEntry.{StackEntry}
 use Rattle.peephole_terms.specs.Shape.{block_of}
 use Rattle.peephole_terms.specs.Tree.{Tree, Trees, entry, node, ◌▸◌, instructions_of, instructions}
-use Rattle.peephole_terms.specs.Graph.{Entry, entry_at, is_operator, pick, tree_at, tree_of_entry, undefs, roots}
+use Rattle.peephole_terms.specs.Graph.{Entry, pick, tree_at, tree_of_entry, undefs, roots}
+use Rattle.peephole_terms.proofs.Stands.{entry_at, is_operator}
 use Rattle.peephole_terms.specs.Forest.{forest}
 use Rattle.peephole_terms.specs.Entries.{seen, shape_of, entry_of, nodes_of, entry_tree}
 use Rattle.peephole_terms.specs.GraphOf.{IsGraphOf}
+use Rattle.peephole_terms.proofs.GraphOfLemmas.{represents}
 use Rattle.peephole_lang.specs.Node.{instr_of}
 use Rattle.peephole_terms.proofs.DfgLemmas.{nodes_length, entry_seen}
 use Rattle.peephole_terms.proofs.GraphLemmas.{entry_later}
@@ -125,8 +127,8 @@ pub own_replaced : (info : Module) (keeping : Bool) (first : ℕ) (operators : L
     replaced first at code (forest (block_of info operators)) ≡ instructions (forest (block_of info operators))
 own_replaced info keeping first operators entries parents look at i code h k e =
     let nodes = nodes_of info first entries in
-    let less : Each (λ r. r < length nodes) (reverse (roots (reverse parents))) = subst (λ m. Each (λ r. r < m) (reverse (roots (reverse parents)))) h.stands.same_length (each_reverse (λ r. r < length (reverse parents)) (roots (reverse parents)) (roots_less (reverse parents))) in
-    subst (λ (ts : Trees). replaced first at code ts ≡ instructions ts) h.stands.trees
+    let less : Each (λ r. r < length nodes) (reverse (roots (reverse parents))) = subst (λ m. Each (λ r. r < m) (reverse (roots (reverse parents)))) (represents info keeping first operators entries parents look h).stands.same_length (each_reverse (λ r. r < length (reverse parents)) (roots (reverse parents)) (roots_less (reverse parents))) in
+    subst (λ (ts : Trees). replaced first at code ts ≡ instructions ts) (represents info keeping first operators entries parents look h).stands.trees
     (own_all nodes first at i code (reverse (roots (reverse parents))) e (λ r l o n. only_entry info keeping first operators entries parents look h at i r k l o n) less)
 
 -- ---- the block's operators have entries

@@ -1,5 +1,5 @@
 -- What the command `write` makes of a body (this project's rules).
-use Rattle.std.specs.Prelude.{◌≡◌, Some, ℕ, ◌+◌, ◌-◌, nat_lt, Bool, false, List, [], ◌∷◌, length, reverse, slice_range, if◌then◌else◌}
+use Rattle.std.specs.Prelude.{◌≡◌, Some, ℕ, ◌-◌, Bool, false, List, [], ◌∷◌, length, reverse, slice_range, if◌then◌else◌, nat_le}
 use Rattle.wasm_code.specs.declared.operator.Operator.{Operator}
 use Rattle.wasm_code.specs.Instruction.{Instruction}
 use Rattle.mutate_base.specs.declared.error.Error.TheVariants.{TooLarge, UnknownFunction}
@@ -12,9 +12,8 @@ use Rattle.peephole_terms.specs.declared.shape.Shape.{Shape}
 use Rattle.peephole_terms.specs.declared.shape.Judged.{Judged}
 use Rattle.peephole_terms.specs.declared.shape.Judged.TheVariants.{Fits, Unfit, Unknown}
 use Rattle.peephole_terms.specs.Shape.{judge}
-use Rattle.peephole_terms.specs.Graph.{lacking}
 use Rattle.peephole_terms.specs.Forest.{forest}
-use Rattle.peephole_terms.specs.Tree.{instructions}
+use Rattle.peephole_terms.specs.Tree.{full_size, instructions}
 use Rattle.peephole_terms.specs.declared.dfg.MiniDFG.{MiniDFG}
 use Rattle.peephole_terms.specs.Dfg.{entries_of, parents_of, look_of}
 use Rattle.peephole_terms.specs.GraphOf.{IsGraphOf}
@@ -33,7 +32,7 @@ pub data Growth : Type 0 where
 
 -- whether the operator's index in the graph, behind those of its missing operands, has 32 bits
 abbrev pub has_room : List Shape → Shape → Bool
-has_room block s = nat_lt (length block + lacking (s ∷ block)) 4294967296
+has_room block s = nat_le (full_size (forest (s ∷ block))) 4294967296
 
 abbrev pub with_operator : List Shape → Judged → (List Shape → Growth) → Growth
 with_operator block Unfit more = no_graph

@@ -5,7 +5,7 @@ use Rattle.std.specs.Bool.{nat_eq}
 use Rattle.std.specs.List.{All}
 use Rattle.std.specs.HashMap as hash
 use Rattle.std.proofs.lemmas.Bool.{cond-true, cond-false, eq-eqb, ne_eqb, le-leb, lt-leb, cases_lt, cases_eq}
-use Rattle.std.proofs.lemmas.List.{reverse-append, length-reverse, map-append, length-map, take-append-drop, drop_more, take_more, take_all, length-take}
+use Rattle.std.proofs.lemmas.List.{reverse-append, length-reverse, map-append, length-map, take-append-drop, drop_more, take_more, length-take}
 use Rattle.std.proofs.lemmas.List.Elements.{All-head, All-tail, All-append, All-cons, All-nil, All-get_or}
 use Rattle.std.proofs.lemmas.Option.{get_or_from_slice_get, slice_get-get_or, slice_get_cases}
 use Rattle.wasm_code.specs.Instruction.{Instruction}
@@ -21,30 +21,28 @@ use Rattle.mutate_base.specs.declared.types.TypeInfo.{TypeInfo}
 use Rattle.mutate_base.specs.declared.types.TypeInfo.TheVariants.{Func}
 use Rattle.peephole_terms.specs.Shape.{Shape, Judged, Fits, Unfit, Unknown, IsFit, AreFit, and_shape, operator_shapes, block_of}
 use Rattle.peephole_terms.specs.Shape.{has_result, call_shape, judge_callee, judge_call, judge_row, judge_found, judge_instruction, judge}
-use Rattle.peephole_terms.specs.Forest.{IsInOrder}
 use Rattle.peephole_terms.specs.Colour.{colour_after}
-use Rattle.peephole_terms.specs.Graph.{undef, Entry, entry_at, parent_at, is_operator, IsSmall, Stands, standing, lacking}
+use Rattle.peephole_terms.specs.Graph.{undef, Entry}
+use Rattle.peephole_terms.specs.GraphOf.{IsSmall}
+use Rattle.peephole_terms.proofs.Stands.{entry_at, parent_at, is_operator, standing, lacking}
 use Rattle.peephole_terms.specs.Step.{down, grown, State}
-use Rattle.peephole_terms.specs.Downwards.{total, Kin, forwards}
+use Rattle.peephole_terms.specs.Downwards.{total}
 use Rattle.peephole_terms.specs.Entries.{Seen, Measured, seen, shape_of_judged, shape_of, entry_of, nodes_of}
 use Rattle.peephole_terms.specs.Growing.{undef_entry, lacks, taken_of, own_index, Added}
-use Rattle.peephole_terms.specs.GraphOf.{FirstFault, IsOwnEntry, IsOwnOrUndef, IsRefused, IsLarge}
-use Rattle.peephole_terms.specs.Building.{HasGrown}
+use Rattle.peephole_terms.specs.GraphOf.{FirstFault, IsOwnEntry, IsRefused, IsLarge}
+use Rattle.peephole_terms.proofs.Represents.{IsOwnOrUndef}
 use Rattle.peephole_lang.specs.Lang.{place_of, ids_of}
 use Rattle.peephole_lang.specs.Node.{instr_of, is_count, takes, takes_children}
 use Rattle.peephole_terms.proofs.StackGraph.{graph, is_graph, IsGraph}
-use Rattle.peephole_terms.proofs.Standing.{own, Facts, last_of, stands, facts, stack_standing, own_replicate, behind}
+use Rattle.peephole_terms.proofs.Standing.{own, Facts, facts, stack_standing, own_replicate, behind}
 use Rattle.peephole_terms.specs.declared.growing.Growing.{Growing}
 use Rattle.peephole_terms.specs.declared.dfg.StackEntry.{StackEntry}
 use Rattle.mutate_base.specs.declared.error.Error.{Error}
 use Rattle.mutate_base.specs.declared.error.Error.TheVariants.{Memory, TooLarge}
 use Rattle.peephole_terms.proofs.GrowingLemmas.{grown_is, stack_below}
-use Rattle.peephole_terms.proofs.DfgLemmas.{get_item, nodes_length, entry_seen, later_entries, kins_same, measured_more, stack_room}
-use Rattle.peephole_terms.proofs.Forwards.{order_forwards}
-use Rattle.peephole_terms.proofs.Raising.{block_raises}
-use Rattle.peephole_terms.proofs.Contiguous.{contiguous}
-use Rattle.std.specs.Prelude.{◌↔◌, IsTrue}
-use Rattle.peephole_terms.proofs.Totals.{kins, stack_total, size_of_entry}
+use Rattle.peephole_terms.proofs.DfgLemmas.{get_item, nodes_length, entry_seen, later_entries, measured_more, stack_room}
+use Rattle.peephole_terms.proofs.LayoutForest.{wholes-forest}
+use Rattle.peephole_terms.proofs.Totals.{stack_total, size_of_entry}
 use Rattle.std.specs.Prelude.{slice_index}
 
 fits_same : (s t : Shape) → Fits s ≡ Fits t → s ≡ t
@@ -109,6 +107,30 @@ of_shape info Return s e = unfit_fits s e
 of_shape info Unreachable s e = unfit_fits s e
 of_shape info (CallIndirect type table) s e = unfit_fits s e
 of_shape info (TypedSelect count first) s e = unfit_fits s e
+
+-- an operator that fits is the instruction of its shape
+pub operator_fits : (info : Module) (o : Operator) (s : Shape) → judge info o ≡ Fits s → o ≡ Instr s.instr
+operator_fits info (Instr i) s e = ap Instr (sym (instruction_fits info i s e).0)
+operator_fits info (Block t) s e = unfit_fits s e
+operator_fits info (Loop t) s e = unfit_fits s e
+operator_fits info (If t) s e = unfit_fits s e
+operator_fits info Else s e = unfit_fits s e
+operator_fits info End s e = unfit_fits s e
+operator_fits info (Br label) s e = unfit_fits s e
+operator_fits info (BrIf label) s e = unfit_fits s e
+operator_fits info (BrTable count) s e = unfit_fits s e
+operator_fits info Return s e = unfit_fits s e
+operator_fits info Unreachable s e = unfit_fits s e
+operator_fits info (CallIndirect type table) s e = unfit_fits s e
+operator_fits info (TypedSelect count first) s e = unfit_fits s e
+
+-- a shape is of its instruction
+pub shape_instr : (info : Module) (j : Instruction) → (shape_of info j).instr ≡ j
+shape_instr info j = go (judge_instruction info j) (λ s e. (instruction_fits info j s e).0)
+  where
+    go : (judged : Judged) → ((s : Shape) → judged ≡ Fits s → s.instr ≡ j) → (shape_of_judged j judged).instr ≡ j
+    go (Fits s) h = h s refl
+    go _ h = refl
 
 pub shape_fit : (info : Module) (o : Operator) (s : Shape) → judge info o ≡ Fits s → shape_of info s.instr ≡ s
 shape_fit info o s e = ap (shape_of_judged s.instr) (of_shape info o s e).judged
@@ -260,7 +282,7 @@ there es i x e = ⊎_elim (λ p. p.1) (λ p. none_entry x (sym p.1 ∙ e)) (slic
 read_entry : (info : Module) (first : ℕ) (es : List StackEntry) (i : ℕ) (x : StackEntry) → i < length es → get_or es i x ≡ x → entry_at (nodes_of info first es) i ≡ entry_of info first (seen x)
 read_entry info first es i x l g = entry_seen info first es i x l ∙ ap (λ e. entry_of info first (seen e)) g
 
-found_own : (info : Module) (keeping : Bool) (first : ℕ) (block : List Shape) (es : List StackEntry) (parents : List (Option ℕ)) (look : ℕ → Option ℕ) → Facts keeping block (nodes_of info first es) parents → ((k : ℕ) → look k ≡ named first (nodes_of info first es) k) →
+pub found_own : (info : Module) (keeping : Bool) (first : ℕ) (block : List Shape) (es : List StackEntry) (parents : List (Option ℕ)) (look : ℕ → Option ℕ) → Facts keeping block (nodes_of info first es) parents → ((k : ℕ) → look k ≡ named first (nodes_of info first es) k) →
     All (λ (x : Seen). first ≤ x.operator) (map seen es) → (k i : ℕ) → look k ≡ Some i → IsOwnEntry es k i
 found_own info keeping first block es parents look f names later k i e = ⊎_elim
     (λ u. none_index i (sym (cond-false _ _ _ (lt-leb first k u)) ∙ (sym (names k) ∙ e)))
@@ -278,7 +300,7 @@ found_own info keeping first block es parents look f names later k i e = ⊎_eli
     (slice_get_cases es i).1)
     (cases_lt k first)
 
-own_found : (info : Module) (keeping : Bool) (first : ℕ) (block : List Shape) (es : List StackEntry) (parents : List (Option ℕ)) (look : ℕ → Option ℕ) → Facts keeping block (nodes_of info first es) parents → ((k : ℕ) → look k ≡ named first (nodes_of info first es) k) →
+pub own_found : (info : Module) (keeping : Bool) (first : ℕ) (block : List Shape) (es : List StackEntry) (parents : List (Option ℕ)) (look : ℕ → Option ℕ) → Facts keeping block (nodes_of info first es) parents → ((k : ℕ) → look k ≡ named first (nodes_of info first es) k) →
     All (λ (x : Seen). first ≤ x.operator) (map seen es) → (k i : ℕ) → IsOwnEntry es k i → look k ≡ Some i
 own_found info keeping first block es parents look f names later k i w =
     let l = there es i w.0 w.1 in
@@ -292,10 +314,10 @@ own_found info keeping first block es parents look f names later k i w =
     let m : (entry_at (nodes_of info first es) i).number ≡ k - first = ap (λ (e : Entry). e.number) q ∙ ap (λ x. x - first) c in
     names k ∙ (cond-true _ _ _ (le-leb first k (omega arith)) ∙ (ap (own (nodes_of info first es)) (sym m) ∙ o))
 
-named_key : (first n : ℕ) (nodes : List Entry) → named first nodes (first + n) ≡ own nodes n
+pub named_key : (first n : ℕ) (nodes : List Entry) → named first nodes (first + n) ≡ own nodes n
 named_key first n nodes = let e : (first + n) - first ≡ n = omega arith in cond-true _ _ _ (le-leb first (first + n) (omega arith)) ∙ ap (own nodes) e
 
-last_entry : (info : Module) (first : ℕ) (block : List Shape) (es : List StackEntry) (parents : List (Option ℕ)) (look : ℕ → Option ℕ) → length parents ≡ length es → 0 < length es → ((k : ℕ) → look k ≡ named first (nodes_of info first es) k) →
+pub last_entry : (info : Module) (first : ℕ) (block : List Shape) (es : List StackEntry) (parents : List (Option ℕ)) (look : ℕ → Option ℕ) → length parents ≡ length es → 0 < length es → ((k : ℕ) → look k ≡ named first (nodes_of info first es) k) →
     (own (nodes_of info first es) (length block - 1) ≡ Some (length (nodes_of info first es) - 1)) × (parent_at (reverse parents) (length (nodes_of info first es) - 1) ≡ None) → (n : ℕ) → length block ≡ suc n →
     (look (first + n) ≡ Some (length es - 1)) × (slice_get parents (length es - 1) ≡ Some None)
 last_entry info first block es parents look m l names h n e =
@@ -305,38 +327,8 @@ last_entry info first block es parents look m l names h n e =
       slice_get-get_or parents (length es - 1) None (omega arith) ∙ ap Some (get_item None parents (length es - 1) ∙ (ap (parent_at (reverse parents)) (sym same) ∙ h.1)),
     )
 
-pub grown_from : (info : Module) (keeping : Bool) (first : ℕ) (operators : List (Operator × ℕ)) (g : Growing) → Kept info keeping first operators g → HasGrown info keeping first operators g
-grown_from info keeping first operators g h =
-    let block = block_of info operators in
-    let es = g.entries.items in
-    let look = hash.get nat_eq g.map in
-    let count = block_length info operators h.fit in
-    let state : graph keeping block ≡ state_of info first g = sym h.state in
-    let f : Facts keeping block (nodes_of info first es) (reverse g.parents.items) = subst (λ (x : State). Facts keeping block x.nodes x.parents) state (facts keeping block) in
-    let n = nodes_length info first es in
-    let some_entries : (m : ℕ) → length operators ≡ suc m → 0 < length es = λ m e. let c = f.count in omega arith in
-    let last : 0 < length block → (own (nodes_of info first es) (length block - 1) ≡ Some (length (nodes_of info first es) - 1)) × (parent_at (reverse g.parents.items) (length (nodes_of info first es) - 1) ≡ None) =
-    λ l. subst (λ (x : State). (own x.nodes (length block - 1) ≡ Some (length x.nodes - 1)) × (parent_at x.parents (length x.nodes - 1) ≡ None)) state (last_of keeping block l) in (
-      record {
-        fit = h.fit;
-        small = h.small;
-        stands = subst (λ (x : State). Stands keeping block x.nodes x.parents) state (stands keeping block);
-        finds = λ k i. (found_own info keeping first block es (reverse g.parents.items) look f h.names h.later k i, own_found info keeping first block es (reverse g.parents.items) look f h.names h.later k i);
-        keys = λ m l. let w = f.owns m (omega arith) in ap is_some (h.names (first + m) ∙ (named_key first m (nodes_of info first es) ∙ w.2));
-        last = λ m e. last_entry info first block es g.parents.items look (kept_parents info keeping first operators g h) (some_entries m e) h.names (last (omega arith)) m (omega arith);
-        later = h.later;
-        missing = h.missing;
-        ordered = subst (λ (x : List Kin). IsTrue (forwards x) ↔ IsInOrder block) (ap (λ (x : State). kins x.nodes) state ∙ kins_same info first es) (order_forwards keeping block h.small);
-        contiguous = λ on. contiguous info first block es (ap (λ (k : Bool). (graph k block).nodes) (sym on) ∙ ap (λ (x : State). x.nodes) state) h.later (block_raises info operators) (subst (λ k. IsSmall k block) on h.small);
-      },
-      h.measured,
-    )
-
 pub split_at : (operators : List (Operator × ℕ)) (i : ℕ) (d : Operator × ℕ) → i < length operators → operators ≡ take i operators ++ get_or operators i d ∷ drop (i + 1) operators
 split_at operators i d l = sym (take-append-drop i operators) ∙ ap (λ x. take i operators ++ x) (drop_more operators i d l)
-
-pub kept_all : (info : Module) (keeping : Bool) (first : ℕ) (operators : List (Operator × ℕ)) (i : ℕ) (g : Growing) → length operators ≤ i → Kept info keeping first (take i operators) g → HasGrown info keeping first operators g
-kept_all info keeping first operators i g l h = grown_from info keeping first operators g (subst (λ x. Kept info keeping first x g) (take_all i operators l) h)
 
 pub fault : (info : Module) (keeping : Bool) (first : ℕ) (operators : List (Operator × ℕ)) (i : ℕ) (d : Operator × ℕ) (g : Growing) (P : List Shape → Judged → Type 0) → i < length operators → Kept info keeping first (take i operators) g →
     P (block_of info (take i operators)) (judge info (get_or operators i d).0) → FirstFault info keeping operators P
@@ -370,7 +362,7 @@ refused info keeping first operators i d given old e l h j w =
     ⊎_elim
     (λ m. subst (IsRefused info keeping operators) (sym m) tt)
     (λ m. subst (IsRefused info keeping operators) (sym m.0) (fault info keeping first operators i d old (IsLarge keeping) l h
-    (given, sym j, λ small. let p = place_is info keeping first (take i operators) given old h in let q = h.colour in let a = small.1 in let b = small.2 in ⊎_elim (λ u. omega arith) (λ u. omega arith) m.1)))
+    (given, sym j, λ small. let p = place_is info keeping first (take i operators) given old h in let q = h.colour in let a = small.1 in let b = small.2 in let w = wholes-forest (given ∷ block) in ⊎_elim (λ u. omega arith) (λ u. omega arith) m.1)))
     w
 
 some_none : {P : Type 0} (i : Instruction) → ◌≡◌ {A = Option Instruction} (Some i) None → P
@@ -401,7 +393,7 @@ kept_more info keeping first operators o given old new h e a p q r =
     let own_is = place_is info keeping first operators given old h in
     record {
       fit = All-append (λ (o : Operator × ℕ). IsFit (judge info o.0)) operators (o ∷ []) h.fit (All-cons (λ (o : Operator × ℕ). IsFit (judge info o.0)) o [] (subst IsFit e tt) (All-nil (λ (o : Operator × ℕ). IsFit (judge info o.0))));
-      small = subst (IsSmall keeping) (sym push) (h.small, omega arith, subst (λ x. x < 4294967295) h.colour q);
+      small = subst (IsSmall keeping) (sym push) (h.small, let w = wholes-forest (s ∷ block) in omega arith, subst (λ x. x < 4294967295) h.colour q);
       missing = missing_more given (first + n) old new a h.missing;
       state = state1 ∙ (state2 ∙ ap (graph keeping) (sym push));
       names = names_more info first n s old.color given (state_of info first old) old new state1 (ap (λ x. s.operands - x) (sym (length-reverse old.stack.items))) es_length h.names a.named;

@@ -11,13 +11,15 @@ use Rattle.peephole_terms.specs.Shape.{Shape}
 use Rattle.peephole_terms.specs.Tree.{range_from}
 use Rattle.peephole_terms.specs.Forest.{has}
 use Rattle.peephole_terms.specs.Colour.{raised, colour_at}
-use Rattle.peephole_terms.specs.Graph.{Entry, undef, entry_at, IsSmall}
+use Rattle.peephole_terms.specs.Graph.{Entry, undef}
+use Rattle.peephole_terms.specs.GraphOf.{IsSmall}
+use Rattle.peephole_terms.proofs.Stands.{entry_at}
 use Rattle.peephole_terms.specs.Step.{down, State, grown}
 use Rattle.peephole_terms.specs.Downwards.{Kin, gather, downwards, kin_at, HasOneColour}
 use Rattle.peephole_terms.specs.Entries.{Seen, seen, nodes_of}
 use Rattle.peephole_terms.specs.Contiguous.{operators_of, AreConsecutive, HasContiguousTrees}
 use Rattle.peephole_terms.specs.Growing.{undef_entry}
-use Rattle.peephole_terms.proofs.OneColour.{range_more}
+use Rattle.peephole_terms.proofs.DepthLemmas.{range_more}
 use Rattle.peephole_terms.proofs.StackGraph.{graph, is_graph}
 use Rattle.peephole_terms.proofs.Standing.{at_old, at_more, at_own, behind, taken_root, facts}
 use Rattle.peephole_terms.proofs.Sizes.{gather_append, down_old, down_more, down_own, down_below, All_gather, down_last}
@@ -337,7 +339,7 @@ colours_seen nodes c (i ∷ is) l h =
     (sym (ap (λ (k : Kin). k.colour) (kin_entry nodes i (All-head (λ i. i < length nodes) i is l))) ∙ All-head (λ j. (kin_at (kins nodes) j).colour ≡ c) i is h)
     (colours_seen nodes c is (All-tail (λ i. i < length nodes) i is l) (All-tail (λ j. (kin_at (kins nodes) j).colour ≡ c) i is h))
 
-number_seen : (info : Module) (first : ℕ) (es : List StackEntry) → All (λ (x : Seen). first ≤ x.operator) (map seen es) → (j : ℕ) → j < length es →
+pub number_seen : (info : Module) (first : ℕ) (es : List StackEntry) → All (λ (x : Seen). first ≤ x.operator) (map seen es) → (j : ℕ) → j < length es →
     slice_index (operators_of es) j ≡ first + (entry_at (nodes_of info first es) j).number
 number_seen info first es later j l =
     let d = undef_entry 0 in

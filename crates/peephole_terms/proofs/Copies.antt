@@ -1,17 +1,21 @@
 -- A copy of a graph's entries is measured and laid out as they are.
 use Rattle.std.proofs.Common.{◌≡◌, ℕ, ◌<◌, Bool, List, [], ◌∷◌, length, map, Option, refl, sym, ap, ap₂, ◌∙◌, subst, arith}
-use Rattle.std.specs.Prelude.{reverse}
+use Rattle.std.specs.Prelude.{◌↔◌, IsTrue, false, filter, is_some, reverse, slice_get, slice_index, slice_index_or}
 use Rattle.std.specs.List.{All, AllZip}
+use Rattle.std.specs.List.Sorted.{IsStrictlyIncreasing}
 use Rattle.std.specs.Map.{lookup}
 use Rattle.std.proofs.lemmas.List.Elements.{AllZip-get_or, length_all_zip, same_from_all_zip}
 use Rattle.peephole_lang.specs.declared.id.Id.{Id}
 use Rattle.peephole_lang.specs.declared.lang.Head.{Head}
-use Rattle.peephole_lang.specs.Node.{node_of}
+use Rattle.peephole_lang.specs.Node.{node_of, children_of, instr_of, instr_of_head}
 use Rattle.peephole_lang.specs.Term.{Node, numbers_of, tree_at}
 use Rattle.peephole_terms.specs.declared.dfg.StackEntry.{StackEntry}
 use Rattle.peephole_terms.specs.Dfg.{IsSameEntry}
-use Rattle.peephole_terms.specs.Downwards.{Kin, sizes_of, flags_of}
-use Rattle.peephole_terms.specs.Entries.{kin, kins_of, Measured}
+use Rattle.peephole_terms.specs.Forest.{has}
+use Rattle.peephole_terms.specs.Downwards.{Kin, gather, downwards, forwards, sizes_of, flags_of}
+use Rattle.peephole_terms.specs.Contiguous.{operators_of}
+use Rattle.peephole_terms.specs.Order.{is_operator_at, forest_operators, AreInOrder}
+use Rattle.peephole_terms.specs.Entries.{kin, kins_of, roots_of, children_at, IsForest, Measured}
 use Rattle.peephole_terms.specs.Layout.{entry_nodes, size_of, HasTrees}
 
 kin_same : (e f : StackEntry) → IsSameEntry e f → kin f ≡ kin e
@@ -76,3 +80,40 @@ copied_trees es fs look look' h same t =
           (tree_at ns i)) nodes in
           omega arith;
     }
+
+child_same : (e f : StackEntry) → IsSameEntry e f → children_of f.operator ≡ children_of e.operator
+child_same e f h = ap numbers_of h.0.1
+
+kids_same : (es fs : List StackEntry) → AllZip IsSameEntry es fs → (p : ℕ) → children_at fs p ≡ children_at es p
+kids_same es fs h p = ap (λ (xs : List (List ℕ)). slice_index_or xs p []) (map_same (λ (e : StackEntry). children_of e.operator) child_same es fs h)
+
+pub copied_forest : (es fs : List StackEntry) (parents parents' : List (Option ℕ)) → AllZip IsSameEntry es fs → parents' ≡ parents → IsForest es parents → IsForest fs parents'
+copied_forest es fs parents parents' h e f =
+    let n = length_all_zip IsSameEntry es fs h in
+    let m = ap length e in
+    record {
+      paired = let l = f.paired in omega arith;
+      parent = λ p i w. let q = f.parent p i (sym (ap (has i) (kids_same es fs h p)) ∙ w) in (ap (λ (x : List (Option ℕ)). slice_get x i) e ∙ q.0, q.1);
+      child = λ p i w. ap (has i) (kids_same es fs h p) ∙ f.child p i (sym (ap (λ (x : List (Option ℕ)). slice_get x i) e) ∙ w);
+    }
+
+own_same : (e f : StackEntry) → IsSameEntry e f → is_some (instr_of f.operator) ≡ is_some (instr_of e.operator)
+own_same e f h = ap (λ (x : Head). is_some (instr_of_head x)) h.0.0
+
+-- the operators of the forest are the same
+operators_same : (es fs : List StackEntry) (parents : List (Option ℕ)) → AllZip IsSameEntry es fs → forest_operators fs parents ≡ forest_operators es parents
+operators_same es fs parents h =
+    let kins = kins_same es fs h in
+    let test : List Bool → ℕ → Bool = λ xs i. slice_index_or xs i false in
+    let tests : is_operator_at fs ≡ is_operator_at es = ap test (map_same (λ (e : StackEntry). is_some (instr_of e.operator)) own_same es fs h) in
+    let numbers : operators_of fs ≡ operators_of es = map_same (λ (e : StackEntry). e.operator_idx) (λ e f s. s.2) es fs h in
+    λ j. map (λ i. slice_index (numbers j) i) (filter (tests j) (gather (downwards (kins j)) (roots_of parents)))
+
+pub copied_order : (es fs : List StackEntry) (parents parents' : List (Option ℕ)) → AllZip IsSameEntry es fs → parents' ≡ parents →
+    IsTrue (forwards (kins_of es)) ↔ AreInOrder es parents → IsTrue (forwards (kins_of fs)) ↔ AreInOrder fs parents'
+copied_order es fs parents parents' h e lies =
+    let kins = ap forwards (kins_same es fs h) in
+    let order : forest_operators fs parents' ≡ forest_operators es parents = ap (forest_operators fs) e ∙ operators_same es fs parents h in (
+      λ t. subst IsStrictlyIncreasing (sym order) (lies.0 (sym kins ∙ t)),
+      λ a. kins ∙ lies.1 (subst IsStrictlyIncreasing order a),
+    )

@@ -6,7 +6,8 @@ use Rattle.std.proofs.lemmas.Bool.{cond-true, cond-false, eq-eqb, ne_eqb, eqb-tr
 use Rattle.std.proofs.lemmas.List.{length-append, length-map, length-reverse, map-append, reverse-append, get_or_default, take-append-drop, length-drop, length-take, take_more}
 use Rattle.std.proofs.lemmas.List.Elements.{All-head, All-tail, All-nil, All-cons}
 use Rattle.peephole_terms.specs.Shape.{Shape}
-use Rattle.peephole_terms.specs.Graph.{Entry, undef, item, entry_at}
+use Rattle.peephole_terms.specs.Graph.{Entry, undef, item}
+use Rattle.peephole_terms.proofs.Stands.{entry_at}
 use Rattle.peephole_terms.specs.Step.{State, grown}
 use Rattle.peephole_terms.specs.Downwards.{Kin, forward, forwards, HasOneColour, are_coloured, downwards, kin_at, sizes_of, flags_of, total, are_alike}
 use Rattle.peephole_terms.specs.Entries.{Seen, Measured, seen, kin, kins_of, colours, entry_of, nodes_of}
@@ -18,7 +19,7 @@ use Rattle.peephole_terms.proofs.Totals.{kin_of, kins, sizes_grown, flags_grown,
 use Rattle.peephole_terms.specs.declared.dfg.StackEntry.{StackEntry}
 use Rattle.peephole_terms.proofs.GrowingLemmas.{take_reverse, drop_reverse, reverse_push, reverse_replicate}
 
-map_reverse : {A B : Type 0} (f : A → B) (xs : List A) → map f (reverse xs) ≡ reverse (map f xs)
+pub map_reverse : {A B : Type 0} (f : A → B) (xs : List A) → map f (reverse xs) ≡ reverse (map f xs)
 map_reverse f [] = refl
 map_reverse f (x ∷ xs) = ap (map f) (reverse-append (x ∷ []) xs) ∙ (map-append f (reverse xs) (x ∷ []) ∙ (ap (λ y. y ++ f x ∷ []) (map_reverse f xs) ∙ sym (reverse-append (f x ∷ []) (map f xs))))
 
@@ -47,7 +48,7 @@ get_item d [] i = refl
 get_item d (x ∷ xs) zero = sym (ap (λ y. item d y 0) (reverse-append (x ∷ []) xs) ∙ item_first d x (reverse xs))
 get_item d (x ∷ xs) (suc i) = get_item d xs i ∙ sym (ap (λ y. item d y (suc i)) (reverse-append (x ∷ []) xs) ∙ item_later d x (reverse xs) i)
 
-item_map : {A B : Type 0} (f : A → B) (d : A) (xs : List A) (i : ℕ) → f (item d xs i) ≡ item (f d) (map f xs) i
+pub item_map : {A B : Type 0} (f : A → B) (d : A) (xs : List A) (i : ℕ) → f (item d xs i) ≡ item (f d) (map f xs) i
 item_map f d [] i = refl
 item_map f d (x ∷ xs) i = ⊎_elim
     (λ w. ap f (cond-true _ _ _ (eq-eqb (length xs) i w)) ∙ sym (cond-true _ _ _ (eq-eqb (length (map f xs)) i (length-map xs f ∙ w))))

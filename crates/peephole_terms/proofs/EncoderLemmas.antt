@@ -1,6 +1,8 @@
 -- The roots of a graph, as the encoder goes over them, are the trees of the block's forest.
 use Rattle.std.proofs.Common.{◌≡◌, ℕ, ◌+◌, ◌-◌, ◌<◌, ◌≤◌, ◌⊎◌, inl, inr, List, [], ◌∷◌, ◌++◌, length, take, get_or, refl, sym, ap, ap₂, subst, ◌∙◌, arith, append_assoc, append-nil, Bool, true, false, cond, map, Option, Some, None, IsTrue}
-use Rattle.std.specs.Prelude.{reverse, All, ◌==◌, ◌||◌, option_map, slice_range, is_some, IfSome, not}
+use Rattle.std.specs.Prelude.{reverse, All, ◌==◌, ◌||◌, ◌↔◌, option_map, slice_range, is_some, IfSome, not, Result, Ok, Err}
+use Rattle.mutate_base.specs.declared.error.Error.{Error}
+use Rattle.mutate_base.specs.declared.error.Error.TheVariants.{Memory, NoMutationsApplicable}
 use Rattle.std.proofs.lemmas.Bool.{cond-true, cond-false, eq-eqb, ne_eqb}
 use Rattle.std.proofs.lemmas.List.{reverse-append, length-map, map-append, take_more, length-take}
 use Rattle.std.proofs.lemmas.List.Elements.{All-nil, All-cons, All-head, All-tail}
@@ -17,16 +19,21 @@ use Rattle.peephole_terms.specs.declared.dfg.StackEntry.{StackEntry}
 use Rattle.peephole_terms.specs.declared.shape.Shape.{Shape}
 use Rattle.peephole_terms.specs.Shape.{block_of}
 use Rattle.peephole_terms.specs.Tree.{Tree, Trees, entry, node, no_trees, ◌▸◌, join, instructions_of, instructions}
-use Rattle.peephole_terms.specs.Forest.{has, forest, trees, tree_of, is_operand, without}
-use Rattle.peephole_terms.specs.Graph.{Entry, pick, tree_at, tree_of_entry, undefs, item, entry_at, undef}
+use Rattle.peephole_terms.specs.Forest.{has, forest, trees, tree_of, is_operand, without, IsInOrder}
+use Rattle.peephole_terms.specs.Order.{AreInOrder}
+use Rattle.peephole_terms.specs.Graph.{Entry, pick, tree_at, tree_of_entry, undefs, item, undef}
+use Rattle.peephole_terms.proofs.Stands.{entry_at}
 use Rattle.peephole_terms.specs.Entries.{Seen, seen, entry_of, nodes_of, roots_of, shape_of}
-use Rattle.peephole_terms.specs.GraphOf.{IsGraphOf, IsOwnOrUndef}
+use Rattle.peephole_terms.specs.GraphOf.{IsGraphOf}
+use Rattle.peephole_terms.proofs.Represents.{IsOwnOrUndef}
+use Rattle.peephole_terms.proofs.GraphOfLemmas.{represents}
 use Rattle.peephole_terms.specs.Expansion.{expansion_of, expansion, listed}
 use Rattle.peephole_terms.specs.EncoderSteps.{operator_at, entry_nodes, root_code, roots_code, IsWalkable}
 use Rattle.peephole_terms.specs.Block.{BlockRange}
 use Rattle.peephole_terms.specs.Written.{replaced, before_block, after_block, written_body, written_block}
 use Rattle.peephole_terms.proofs.DfgLemmas.{get_item}
-use Rattle.peephole_terms.proofs.GraphLemmas.{parents_length, roots_root, roots_child, shape_instr}
+use Rattle.peephole_terms.proofs.GraphLemmas.{parents_length, roots_root, roots_child}
+use Rattle.peephole_terms.proofs.BuilderLemmas.{shape_instr}
 use Rattle.peephole_terms.proofs.WalkLemmas.{codes-append}
 
 -- ---- lists the other way round
@@ -190,9 +197,9 @@ pub roots_written : (info : Module) (keeping : Bool) (first : ℕ) (operators : 
 roots_written info keeping first operators entries parents look at code h =
     let back = reverse entries in
     let same = entries_back info first entries in
-    let later : All (IsLater first) back = All-reverse (IsLater first) entries (All-unmap (λ (x : Seen). first ≤ x.operator) seen entries h.later) in
-    let own : All IsOwnOrUndef back = All-reverse IsOwnOrUndef entries h.missing in
-    let stands : pick (tree_at (map (as_entry info first) back)) (roots_of parents) ≡ forest (block_of info operators) = ap (λ (x : List Entry). pick (tree_at x) (roots_of parents)) (sym same) ∙ h.stands.trees in
+    let later : All (IsLater first) back = All-reverse (IsLater first) entries (All-unmap (λ (x : Seen). first ≤ x.operator) seen entries (represents info keeping first operators entries parents look h).later) in
+    let own : All IsOwnOrUndef back = All-reverse IsOwnOrUndef entries (represents info keeping first operators entries parents look h).missing in
+    let stands : pick (tree_at (map (as_entry info first) back)) (roots_of parents) ≡ forest (block_of info operators) = ap (λ (x : List Entry). pick (tree_at x) (roots_of parents)) (sym same) ∙ (represents info keeping first operators entries parents look h).stands.trees in
     roots_are first at code entries (tree_at (map (as_entry info first) back)) (roots_of parents) (subst AreNodes (sym stands) (nodes_of_forest (block_of info operators)))
     (λ i n. numbers_are info first back later i n ∙ sym (operator_back entries i))
     (λ i. trees_are info first back own i ∙ ap (λ (x : List (term.Node Head)). expansion_of (term.tree_at x i)) (map-reverse as_node entries))
@@ -236,7 +243,7 @@ walkable info keeping first operators entries parents look h =
     let same = entries_back info first entries in
     record {
       below = subst term.AreBelow (map-reverse as_node entries)
-          (below_of info first (reverse entries) (λ p i t. (h.stands.parent p i (ap (λ (x : List Entry). has i (entry_at x p).children) same ∙ t)).1));
+          (below_of info first (reverse entries) (λ p i t. ((represents info keeping first operators entries parents look h).stands.parent p i (ap (λ (x : List Entry). has i (entry_at x p).children) same ∙ t)).1));
       parent_each = parents_length info keeping first operators entries parents look h;
     }
 
@@ -300,3 +307,22 @@ written_under (Some info) keeping input operators block entries es parents ps lo
     let block_code = roots_written info keeping block.start (slice_range operators block.start block.end) entries parents look at code h in
     e ∙ (ap₂ (λ (x y : List ℕ). old ++ (x ++ (codes (roots_code at (expansion_of (term.term_of head_of children_of nodes)) es (roots_of ps)) ++ y))) d f
     ∙ ap (λ (x : List Instruction). old ++ written_body input operators block x) (roots ∙ block_code))
+
+-- a call that writes answers no refusal for the order's sake, and the block is in order where that is to be preserved
+pub order_kept : {T : Type 0} (under : Option Module) (keeping : Bool) (first : ℕ) (operators : List (Operator × ℕ)) (entries : List StackEntry) (parents : List (Option ℕ)) (look : ℕ → Option ℕ) (r : Result T Error) →
+    IfSome under (λ info. IsGraphOf info keeping first operators entries parents look) → (keeping ≡ true → AreInOrder entries parents) → (r ≡ Err NoMutationsApplicable → ⊥) →
+    IfSome under (λ info. (r ≡ Err NoMutationsApplicable) ↔ ((keeping ≡ true) × ((IsInOrder (block_of info operators)) → ⊥)))
+order_kept None keeping first operators entries parents look r h lies other = tt
+order_kept (Some info) keeping first operators entries parents look r h lies other = (λ e. absurd (other e), λ k. absurd (k.1 (h.ordered.0 (lies k.0))))
+
+pub wrote : {T : Type 0} (x : T) → Ok x ≡ Err NoMutationsApplicable → ⊥
+wrote x e = cc
+
+pub no_memory : {T : Type 0} (e : Error) → e ≡ Memory → ◌≡◌ {A = Result T Error} (Err e) (Err NoMutationsApplicable) → ⊥
+no_memory {T} e m w = let same : e ≡ NoMutationsApplicable = other e w in never (sym m ∙ same)
+  where
+    other : (e : Error) → ◌≡◌ {A = Result T Error} (Err e) (Err NoMutationsApplicable) → e ≡ NoMutationsApplicable
+    other e w = cc
+
+    never : Memory ≡ NoMutationsApplicable → ⊥
+    never e = cc

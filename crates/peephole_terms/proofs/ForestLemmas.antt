@@ -6,7 +6,7 @@ use Rattle.peephole_terms.specs.Shape.{Shape}
 use Rattle.peephole_terms.specs.Tree.{Tree, entry, node, Trees, no_trees, ◌▸◌, join}
 use Rattle.peephole_terms.specs.Forest.{tree_of, trees, is_root, is_operand, without, forest}
 use Rattle.peephole_terms.proofs.Depth.{top, value, tree_of_is}
-use Rattle.peephole_terms.proofs.OneColour.{top_same, top_first}
+use Rattle.peephole_terms.proofs.DepthLemmas.{top_same, top_first}
 use Rattle.peephole_terms.proofs.Stacked.{is_open, forest_value, kept, pulled, stacked, missing, forest_value_top, forest_value_under, forest_value_done, kept_open, kept_done, pulled_open, pulled_done, value_stacked, operator}
 
 abbrev pub rev : Trees → Trees

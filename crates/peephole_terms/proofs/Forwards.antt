@@ -8,7 +8,9 @@ use Rattle.std.proofs.lemmas.List.Elements.{All-head, All-tail, All-append, All-
 use Rattle.peephole_terms.specs.Shape.{Shape}
 use Rattle.peephole_terms.specs.Forest.{has, IsInOrder}
 use Rattle.peephole_terms.specs.Colour.{colour_after, colour_at}
-use Rattle.peephole_terms.specs.Graph.{Entry, undef, item, entry_at, is_operator, IsOperator, IsSmall}
+use Rattle.peephole_terms.specs.Graph.{Entry, undef, item}
+use Rattle.peephole_terms.specs.GraphOf.{IsSmall}
+use Rattle.peephole_terms.proofs.Stands.{entry_at, is_operator, IsOperator}
 use Rattle.peephole_terms.specs.Step.{down}
 use Rattle.peephole_terms.specs.Downwards.{Kin, downwards, kin_at, sizes_of, total, forward, forwards}
 use Rattle.peephole_terms.proofs.StackGraph.{graph, is_graph}

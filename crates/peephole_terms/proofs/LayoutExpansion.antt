@@ -19,10 +19,12 @@ use Rattle.peephole_terms.specs.Tree.{Tree, instructions_of, instructions}
 use Rattle.peephole_terms.specs.Graph as graph
 use Rattle.peephole_terms.specs.Graph.{Entry, tree_of_entry}
 use Rattle.peephole_terms.specs.Entries.{shape_of, entry_of, nodes_of, entry_tree}
-use Rattle.peephole_terms.specs.GraphOf.{IsGraphOf, IsOwnOrUndef}
+use Rattle.peephole_terms.specs.GraphOf.{IsGraphOf}
+use Rattle.peephole_terms.proofs.Represents.{IsOwnOrUndef}
+use Rattle.peephole_terms.proofs.GraphOfLemmas.{represents}
 use Rattle.peephole_terms.specs.Expansion.{listed, own_instructions, expansion_of, expansion}
 use Rattle.peephole_terms.specs.Layout.{entry_nodes}
-use Rattle.peephole_terms.proofs.GraphLemmas.{shape_instr}
+use Rattle.peephole_terms.proofs.BuilderLemmas.{shape_instr}
 use Rattle.peephole_terms.proofs.LayoutTrees.{node_of_entry, entries_below, view, Ordered, map_turned, map_twice, All_turned, last_or_before, has_trees}
 
 kids_same : (f : ℕ → Term Head) (g : ℕ → Tree) (n : ℕ) → ((k : ℕ) → k < n → expansion_of (f k) ≡ instructions_of (g k)) → (is : List ℕ) → All (λ k. k < n) is → expansion (pick f is) ≡ instructions (graph.pick g is)
@@ -86,4 +88,4 @@ pub expr_expands : (info : Module) (keeping : Bool) (first : ℕ) (operators : L
     expansion_of (term_of head_of children_of expr) ≡ instructions_of (entry_tree info first entries i)
 expr_expands info keeping first operators entries parents look at i expr h l e =
     let trees = has_trees info keeping first operators entries parents look h in
-    ap expansion_of e ∙ entry_expands info first entries (entries_below entries trees.below) h.missing i (trees.found at i l)
+    ap expansion_of e ∙ entry_expands info first entries (entries_below entries trees.below) (represents info keeping first operators entries parents look h).missing i (trees.found at i l)

@@ -3,74 +3,66 @@ use Rattle.std.proofs.Common.{◌≡◌, ℕ, zero, suc, ◌+◌, ◌-◌, ◌�
 use Rattle.std.specs.Prelude.{◌==◌}
 use Rattle.std.proofs.lemmas.Bool.{or_cases, eqb-true}
 use Rattle.peephole_terms.specs.Shape.{Shape}
-use Rattle.peephole_terms.specs.Tree.{Tree, entry, node, Trees, no_trees, ◌▸◌, join}
+use Rattle.peephole_terms.specs.Tree.{Tree, Trees, no_trees, ◌▸◌, join, full_size_of, full_size}
 use Rattle.peephole_terms.specs.Forest.{forest, has}
-use Rattle.peephole_terms.specs.Graph.{lacking, pick, IsSmall}
+use Rattle.peephole_terms.specs.Graph.{pick}
+use Rattle.peephole_terms.specs.GraphOf.{IsSmall}
+use Rattle.peephole_terms.proofs.Stands.{lacking}
 use Rattle.peephole_terms.proofs.Stacked.{is_open, opens, kept, pulled, stacked, missing, kept_open, kept_done, pulled_open, pulled_done}
 use Rattle.peephole_terms.proofs.ForestLemmas.{rev, forest_is}
 use Rattle.peephole_terms.proofs.Readable.{entries, top_pulled}
 use Rattle.peephole_terms.proofs.Standing.{standing_is}
 
--- how many nodes, entry operands too
-abbrev mutual
-  pub whole : Tree → ℕ
-  whole (entry m) = 1
-  whole (node i s kids) = suc (wholes kids)
-
-  pub wholes : Trees → ℕ
-  wholes no_trees = 0
-  wholes (t ▸ ts) = whole t + wholes ts
-
-wholes-join : (ts us : Trees) → wholes (join ts us) ≡ wholes ts + wholes us
+wholes-join : (ts us : Trees) → full_size (join ts us) ≡ full_size ts + full_size us
 wholes-join no_trees us = omega arith
 wholes-join (t ▸ ts) us = let e = wholes-join ts us in omega arith
 
-wholes-rev : (ts : Trees) → wholes (rev ts) ≡ wholes ts
+wholes-rev : (ts : Trees) → full_size (rev ts) ≡ full_size ts
 wholes-rev no_trees = refl
 wholes-rev (t ▸ ts) = let e = wholes-rev ts in let f = wholes-join (rev ts) (t ▸ no_trees) in omega arith
 
-wholes-entries : (m k : ℕ) → wholes (entries m k) ≡ k
+wholes-entries : (m k : ℕ) → full_size (entries m k) ≡ k
 wholes-entries m zero = refl
 wholes-entries m (suc k) = let e = wholes-entries m k in omega arith
 
-wholes-split : (f : Trees) (k : ℕ) → wholes (kept f k) + wholes (pulled f k) ≡ wholes f
+wholes-split : (f : Trees) (k : ℕ) → full_size (kept f k) + full_size (pulled f k) ≡ full_size f
 wholes-split no_trees k = refl
 wholes-split (t ▸ f) zero = omega arith
 wholes-split (t ▸ f) (suc k) = go (is_open t) refl (wholes-split f k) (wholes-split f (suc k))
   where
-    go : (b : Bool) → is_open t ≡ b → wholes (kept f k) + wholes (pulled f k) ≡ wholes f → wholes (kept f (suc k)) + wholes (pulled f (suc k)) ≡ wholes f →
-        wholes (kept (t ▸ f) (suc k)) + wholes (pulled (t ▸ f) (suc k)) ≡ wholes (t ▸ f)
-    go true e u v = let p = ap wholes (kept_open t f k e) in let q = ap wholes (pulled_open t f k e) in omega arith
-    go false e u v = let p = ap wholes (kept_done t f (suc k) e) in let q = ap wholes (pulled_done t f (suc k) e) in omega arith
+    go : (b : Bool) → is_open t ≡ b → full_size (kept f k) + full_size (pulled f k) ≡ full_size f → full_size (kept f (suc k)) + full_size (pulled f (suc k)) ≡ full_size f →
+        full_size (kept (t ▸ f) (suc k)) + full_size (pulled (t ▸ f) (suc k)) ≡ full_size (t ▸ f)
+    go true e u v = let p = ap full_size (kept_open t f k e) in let q = ap full_size (pulled_open t f k e) in omega arith
+    go false e u v = let p = ap full_size (kept_done t f (suc k) e) in let q = ap full_size (pulled_done t f (suc k) e) in omega arith
 
-wholes-stacked : (block : List Shape) → wholes (stacked block) ≡ length block + lacking block
+wholes-stacked : (block : List Shape) → full_size (stacked block) ≡ length block + lacking block
 wholes-stacked [] = refl
 wholes-stacked (s ∷ earlier) =
     let older = wholes-stacked earlier in
     let standing = standing_is earlier in
     let more = s.operands - opens (stacked earlier) in
-    let kids = ap wholes (top_pulled (stacked earlier) (missing earlier) s.operands) in
+    let kids = ap full_size (top_pulled (stacked earlier) (missing earlier) s.operands) in
     let parts = wholes-join (entries (missing earlier) more) (rev (pulled (stacked earlier) s.operands)) in
     let lacks = wholes-entries (missing earlier) more in
     let turned = wholes-rev (pulled (stacked earlier) s.operands) in
     let split = wholes-split (stacked earlier) s.operands in
     omega arith
 
-pub wholes-forest : (block : List Shape) → wholes (forest block) ≡ length block + lacking block
-wholes-forest block = ap wholes (forest_is block) ∙ (wholes-rev (stacked block) ∙ wholes-stacked block)
+pub wholes-forest : (block : List Shape) → full_size (forest block) ≡ length block + lacking block
+wholes-forest block = ap full_size (forest_is block) ∙ (wholes-rev (stacked block) ∙ wholes-stacked block)
 
 -- a tree is no larger than those that it is one of
-pub one_of : (at : ℕ → Tree) (i : ℕ) (is : List ℕ) → has i is ≡ true → whole (at i) ≤ wholes (pick at is)
+pub one_of : (at : ℕ → Tree) (i : ℕ) (is : List ℕ) → has i is ≡ true → full_size_of (at i) ≤ full_size (pick at is)
 one_of at i [] h = absurd (never h)
   where
     never : false ≡ true → ⊥
     never e = cc
 one_of at i (j ∷ is) h = elim (or_cases (j == i) (has i is) h) [
-  | inl e ↦ let same : whole (at j) ≡ whole (at i) = ap (λ k. whole (at k)) (eqb-true j i e) in omega arith
+  | inl e ↦ let same : full_size_of (at j) ≡ full_size_of (at i) = ap (λ k. full_size_of (at k)) (eqb-true j i e) in omega arith
   | inr e ↦ let rest = one_of at i is e in omega arith
 ]
 
 -- a graph has at most 2^32 entries
 pub block_small : (keeping : Bool) (block : List Shape) → IsSmall keeping block → length block + lacking block ≤ 4294967296
 block_small keeping [] h = omega arith
-block_small keeping (s ∷ earlier) h = let l = h.1 in omega arith
+block_small keeping (s ∷ earlier) h = let l = h.1 in let e = wholes-forest (s ∷ earlier) in omega arith

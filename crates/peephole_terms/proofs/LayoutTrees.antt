@@ -17,17 +17,20 @@ use Rattle.peephole_lang.specs.Node.{instr_of, head_of, node_of, children_of}
 use Rattle.peephole_lang.specs.Term.{Term, node, Node, AreBelow, pick, tree_at}
 use Rattle.peephole_terms.specs.declared.dfg.StackEntry.{StackEntry}
 use Rattle.peephole_terms.specs.Shape.{Shape, block_of}
-use Rattle.peephole_terms.specs.Tree.{Tree}
+use Rattle.peephole_terms.specs.Tree.{Tree, full_size_of, full_size}
 use Rattle.peephole_terms.specs.Forest.{has}
 use Rattle.peephole_terms.specs.Graph as graph
-use Rattle.peephole_terms.specs.Graph.{Entry, Stands, entry_at, parent_at, roots, tree_of_entry, lacking}
+use Rattle.peephole_terms.specs.Graph.{Entry, roots, tree_of_entry}
+use Rattle.peephole_terms.proofs.Stands.{Stands, entry_at, parent_at, lacking}
 use Rattle.peephole_terms.specs.Entries.{seen, shape_of, entry_of, nodes_of}
-use Rattle.peephole_terms.specs.GraphOf.{IsGraphOf, IsOwnOrUndef}
+use Rattle.peephole_terms.specs.GraphOf.{IsGraphOf}
+use Rattle.peephole_terms.proofs.Represents.{IsOwnOrUndef}
+use Rattle.peephole_terms.proofs.GraphOfLemmas.{represents}
 use Rattle.peephole_terms.specs.Layout.{size_of, size, entry_nodes, HasTrees}
 use Rattle.peephole_terms.proofs.LayoutWalk as walk
 use Rattle.peephole_terms.proofs.Standing.{has_reversed}
 use Rattle.peephole_terms.proofs.GraphLemmas.{children_below}
-use Rattle.peephole_terms.proofs.LayoutForest.{whole, wholes, wholes-forest, one_of, block_small}
+use Rattle.peephole_terms.proofs.LayoutForest.{wholes-forest, one_of, block_small}
 
 -- ---- the nodes of entries
 
@@ -62,27 +65,27 @@ abbrev pub Ordered : List StackEntry → Type 0
 Ordered rs = AreBelow (map node_of_entry rs)
 
 own_size : (info : Module) (first : ℕ) (e : StackEntry) (earlier : List StackEntry) (o : Option Instruction) → instr_of e.operator ≡ o → IsOwnOrUndef e →
-    ((is : List ℕ) → All (λ k. k < length earlier) is → size (pick (tree_at (map node_of_entry earlier)) is) ≡ wholes (graph.pick (graph.tree_at (map (view info first) earlier)) is)) →
+    ((is : List ℕ) → All (λ k. k < length earlier) is → size (pick (tree_at (map node_of_entry earlier)) is) ≡ full_size (graph.pick (graph.tree_at (map (view info first) earlier)) is)) →
     All (λ k. k < length earlier) (children_of e.operator) → (missing : ℕ) →
-    suc (size (pick (tree_at (map node_of_entry earlier)) (children_of e.operator))) ≡ whole (tree_of_entry (view info first e).shape (children_of e.operator) (view info first e).number missing (graph.tree_at (map (view info first) earlier)))
+    suc (size (pick (tree_at (map node_of_entry earlier)) (children_of e.operator))) ≡ full_size_of (tree_of_entry (view info first e).shape (children_of e.operator) (view info first e).number missing (graph.tree_at (map (view info first) earlier)))
 unfolding ids_of
 own_size info first e earlier None is own kids below missing =
     let none : (view info first e).shape ≡ None = ap (λ (x : Option Instruction). opt_shape x) is in
     let no_kids : children_of e.operator ≡ [] = ap children_of (own is) in
     ap (λ x. suc (size (pick (tree_at (map node_of_entry earlier)) x))) no_kids
-    ∙ sym (ap (λ x. whole (tree_of_entry x (children_of e.operator) (view info first e).number missing (graph.tree_at (map (view info first) earlier)))) none)
+    ∙ sym (ap (λ x. full_size_of (tree_of_entry x (children_of e.operator) (view info first e).number missing (graph.tree_at (map (view info first) earlier)))) none)
   where
     opt_shape : Option Instruction → Option Shape
     opt_shape x = (entry_of info first (record { instr = x; children = []; operator = 0; colour = 0 })).shape
 own_size info first e earlier (Some i) is own kids below missing =
     let some : (view info first e).shape ≡ Some (shape_of info i) = ap (λ (x : Option Instruction). opt_shape x) is in
     ap suc (kids (children_of e.operator) below)
-    ∙ sym (ap (λ x. whole (tree_of_entry x (children_of e.operator) (view info first e).number missing (graph.tree_at (map (view info first) earlier)))) some)
+    ∙ sym (ap (λ x. full_size_of (tree_of_entry x (children_of e.operator) (view info first e).number missing (graph.tree_at (map (view info first) earlier)))) some)
   where
     opt_shape : Option Instruction → Option Shape
     opt_shape x = (entry_of info first (record { instr = x; children = []; operator = 0; colour = 0 })).shape
 
-sizes_same : (f : ℕ → Term Head) (g : ℕ → Tree) (n : ℕ) → ((k : ℕ) → k < n → size_of (f k) ≡ whole (g k)) → (is : List ℕ) → All (λ k. k < n) is → size (pick f is) ≡ wholes (graph.pick g is)
+sizes_same : (f : ℕ → Term Head) (g : ℕ → Tree) (n : ℕ) → ((k : ℕ) → k < n → size_of (f k) ≡ full_size_of (g k)) → (is : List ℕ) → All (λ k. k < n) is → size (pick f is) ≡ full_size (graph.pick g is)
 sizes_same f g n same [] all = refl
 sizes_same f g n same (i ∷ is) all = ap₂ (λ x y. x + y) (same i (All-head (λ k. k < n) i is all)) (sizes_same f g n same is (All-tail (λ k. k < n) i is all))
 
@@ -90,7 +93,7 @@ pub last_or_before : (n i : ℕ) → i < suc n → (n ≡ i) ⊎ (i < n)
 last_or_before n i l = elim (eqb_tells n i) [ inl h ↦ inl h.1 | inr h ↦ let e = h.1 in inr (omega arith) ]
 
 same_size : (info : Module) (first : ℕ) (rs : List StackEntry) → Ordered rs → All IsOwnOrUndef rs → (i : ℕ) → i < length rs →
-    size_of (tree_at (map node_of_entry rs) i) ≡ whole (graph.tree_at (map (view info first) rs) i)
+    size_of (tree_at (map node_of_entry rs) i) ≡ full_size_of (graph.tree_at (map (view info first) rs) i)
 same_size info first [] b m i l = absurd (omega arith)
 same_size info first (e ∷ earlier) b m i l =
     let n = length-map earlier node_of_entry in
@@ -102,10 +105,10 @@ same_size info first (e ∷ earlier) b m i l =
       | inl h ↦
           ap size_of (cond-true _ _ _ (eq-eqb (length (map node_of_entry earlier)) i (n ∙ h)))
           ∙ (own_size info first e earlier (instr_of e.operator) refl (All-head IsOwnOrUndef e earlier m) kids below (graph.undefs (map (view info first) earlier))
-          ∙ sym (ap whole (cond-true _ _ _ (eq-eqb (length (map (view info first) earlier)) i (p ∙ h)))))
+          ∙ sym (ap full_size_of (cond-true _ _ _ (eq-eqb (length (map (view info first) earlier)) i (p ∙ h)))))
       | inr h ↦
           ap size_of (cond-false _ _ _ (ne_eqb (length (map node_of_entry earlier)) i (omega arith)))
-          ∙ (older i h ∙ sym (ap whole (cond-false _ _ _ (ne_eqb (length (map (view info first) earlier)) i (omega arith)))))
+          ∙ (older i h ∙ sym (ap full_size_of (cond-false _ _ _ (ne_eqb (length (map (view info first) earlier)) i (omega arith)))))
     ]
 
 same_children : (info : Module) (first : ℕ) (rs : List StackEntry) (p : ℕ) → (node_at (map node_of_entry rs) p).children ≡ (entry_at (map (view info first) rs) p).children
@@ -178,7 +181,7 @@ climb info first keeping block rs ps st b m (suc fuel) i f l = go (parent_at ps 
         let same = same_size info first rs b m i l in
         let is = has_reversed i (roots ps) (root_has i ps e (let n = st.same_length in omega arith)) in
         let within = one_of (graph.tree_at (map (view info first) rs)) i (reverse (roots ps)) is in
-        let all = ap wholes st.trees in
+        let all = ap full_size st.trees in
         let sum = wholes-forest block in
         omega arith
     go (Some p) e up =
@@ -219,8 +222,8 @@ has_trees info keeping first operators entries parents look h =
     let block = block_of info operators in
     let own_nodes : entry_nodes entries ≡ map node_of_entry rs = map_turned node_of_entry entries in
     let graph_nodes : nodes_of info first entries ≡ map (view info first) rs = ap reverse (map_twice info first entries) ∙ map_turned (view info first) entries in
-    let st : Stands keeping block (map (view info first) rs) (reverse parents) = subst (λ (x : List Entry). Stands keeping block x (reverse parents)) graph_nodes h.stands in
-    let missing = All_turned entries h.missing in
+    let st : Stands keeping block (map (view info first) rs) (reverse parents) = subst (λ (x : List Entry). Stands keeping block x (reverse parents)) graph_nodes (represents info keeping first operators entries parents look h).stands in
+    let missing = All_turned entries (represents info keeping first operators entries parents look h).missing in
     let lower : (p i : ℕ) → p < length (map node_of_entry rs) → has i (node_at (map node_of_entry rs) p).children ≡ true → i < p =
     λ p i l w. (st.parent p i (subst (λ (x : List ℕ). has i x ≡ true) (same_children info first rs p) w)).1 in
     let below : Ordered rs = below_from (map node_of_entry rs) lower in

@@ -1,5 +1,6 @@
 pub mod Depth
-pub mod OneColour
+pub mod DepthLemmas
+pub mod Stands
 pub mod Stacked
 pub mod ForestLemmas
 pub mod Readable
@@ -16,7 +17,11 @@ pub mod GrowingLemmas
 pub mod DfgLemmas
 pub mod Raising
 pub mod Contiguous
+pub mod OrderLemmas
+pub mod Represents
 pub mod BuilderLemmas
+pub mod GraphOfLemmas
+pub mod GrownLemmas
 pub mod GraphLemmas
 pub mod PlaceLemmas
 pub mod WalkLemmas

@@ -7,7 +7,7 @@ use Rattle.peephole_terms.specs.Shape.{Shape}
 use Rattle.peephole_terms.specs.Tree.{Tree, entry, node, Trees, no_trees, ◌▸◌, join, numbers_of, numbers, range_from, shapes_of, shapes, size_of, size, renumbered_of, renumbered}
 use Rattle.peephole_terms.specs.Forest.{forest, tree_of, trees, without, IsInOrder}
 use Rattle.peephole_terms.proofs.Depth.{top, value, tree_of_is}
-use Rattle.peephole_terms.proofs.OneColour.{value_result, value_under, value_none}
+use Rattle.peephole_terms.proofs.DepthLemmas.{value_result, value_under, value_none}
 use Rattle.peephole_terms.proofs.Rereading.{same_trees}
 
 pub range_append : (a n m : ℕ) → range_from a n ++ range_from (a + n) m ≡ range_from a (n + m)

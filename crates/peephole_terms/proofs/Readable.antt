@@ -4,7 +4,7 @@ use Rattle.std.specs.Prelude.{⊤}
 use Rattle.peephole_terms.specs.Shape.{Shape}
 use Rattle.peephole_terms.specs.Tree.{entry, node, Trees, no_trees, ◌▸◌, join}
 use Rattle.peephole_terms.proofs.Depth.{top}
-use Rattle.peephole_terms.proofs.OneColour.{top_same, top_first}
+use Rattle.peephole_terms.proofs.DepthLemmas.{top_same, top_first}
 use Rattle.peephole_terms.proofs.Stacked.{is_open, opens, forest_value, kept, pulled, stacked, missing, forest_value_top, forest_value_under, forest_value_done, kept_open, kept_done, pulled_open, pulled_done, opens_open, opens_done}
 use Rattle.peephole_terms.proofs.ForestLemmas.{rev, join_nil}
 

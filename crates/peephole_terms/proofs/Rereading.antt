@@ -6,7 +6,7 @@ use Rattle.peephole_terms.specs.Shape.{Shape}
 use Rattle.peephole_terms.specs.Tree.{Tree, entry, node, Trees, no_trees, ◌▸◌, join, shapes_of, shapes, size_of, size, renumbered_of, renumbered}
 use Rattle.peephole_terms.specs.Forest.{forest}
 use Rattle.peephole_terms.proofs.Depth.{top}
-use Rattle.peephole_terms.proofs.OneColour.{top_same, top_first}
+use Rattle.peephole_terms.proofs.DepthLemmas.{top_same, top_first}
 use Rattle.peephole_terms.proofs.Stacked.{is_open, opens, forest_value, kept, stacked, missing, kept_zero, forest_value_top, forest_value_under, forest_value_done, kept_open, kept_done, opens_open, opens_done}
 use Rattle.peephole_terms.proofs.ForestLemmas.{rev, join_nil, forest_is}
 use Rattle.peephole_terms.proofs.Readable.{join_assoc, count, AllOpen, entries, Reads, nothing, one_more, reads_stacked}

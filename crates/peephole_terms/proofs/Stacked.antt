@@ -4,7 +4,7 @@ use Rattle.std.proofs.lemmas.Bool.{cond-true, cond-false}
 use Rattle.peephole_terms.specs.Shape.{Shape}
 use Rattle.peephole_terms.specs.Tree.{Tree, entry, node, Trees, no_trees, ◌▸◌}
 use Rattle.peephole_terms.proofs.Depth.{top, value}
-use Rattle.peephole_terms.proofs.OneColour.{top_same, value_result, value_under, value_none}
+use Rattle.peephole_terms.proofs.DepthLemmas.{top_same, value_result, value_under, value_none}
 
 abbrev pub is_open : Tree → Bool
 is_open (entry m) = false

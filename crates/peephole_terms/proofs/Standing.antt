@@ -8,7 +8,8 @@ use Rattle.peephole_terms.specs.Shape.{Shape}
 use Rattle.peephole_terms.specs.Tree.{Trees, no_trees, ◌▸◌}
 use Rattle.peephole_terms.specs.Forest.{forest, has}
 use Rattle.peephole_terms.specs.Colour.{colour_after}
-use Rattle.peephole_terms.specs.Graph.{undef, Entry, undefs, tree_at, tree_of_entry, roots, item, entry_at, parent_at, standing, lacking, IsOperator, IsEntryOf, is_operator, Stands}
+use Rattle.peephole_terms.specs.Graph.{undef, Entry, undefs, tree_at, tree_of_entry, roots, item}
+use Rattle.peephole_terms.proofs.Stands.{entry_at, parent_at, standing, lacking, IsOperator, IsEntryOf, is_operator, Stands}
 use Rattle.peephole_terms.specs.Step.{down, mark, State, grown}
 use Rattle.peephole_terms.proofs.Stacked.{is_open, opens, kept, stacked, opens_open, opens_done, kept_open, kept_done}
 use Rattle.peephole_terms.proofs.StackGraph.{graph, IsGraph, is_graph, graph_forest, open_at, stack_length, length-mark}
@@ -414,7 +415,6 @@ stands keeping block =
     let f = facts keeping block in
     record {
       same_length = ig.same_length;
-      count = f.count;
       trees = graph_forest block (graph keeping block) ig;
       entries = f.entries;
       parent = f.parent;

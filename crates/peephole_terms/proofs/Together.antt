@@ -7,7 +7,7 @@ use Rattle.peephole_terms.specs.Shape.{Shape}
 use Rattle.peephole_terms.specs.Tree.{Tree, entry, node, Trees, no_trees, ◌▸◌, numbers_of, numbers, range_from}
 use Rattle.peephole_terms.specs.Forest.{tree_of, is_root, has, IsInOrder, AreTogether}
 use Rattle.peephole_terms.proofs.Depth.{top}
-use Rattle.peephole_terms.proofs.OneColour.{numbers-join}
+use Rattle.peephole_terms.proofs.DepthLemmas.{numbers-join}
 use Rattle.peephole_terms.proofs.Stacked.{is_open, opens, forest_value, kept, pulled, stacked, missing, kept_open, kept_done, pulled_open, pulled_done, operator}
 use Rattle.peephole_terms.proofs.ForestLemmas.{rev, or_assoc, forest_is, Falling, Falling-stacked, tree_of_stacked, root_below}
 use Rattle.peephole_terms.proofs.Readable.{entries, top_pulled, AllOpen, open_pulled}

@@ -1,12 +1,13 @@
 -- The entries of a graph, as what they stand for. The code's lists ascend; those of the theory have the last entry first. This project's rule.
-use Rattle.std.specs.Prelude.{ℕ, ◌-◌, ◌≡◌, Bool, false, List, map, reverse, Option, option_map}
+use Rattle.std.specs.Prelude.{ℕ, ◌-◌, ◌<◌, ◌≡◌, Bool, true, false, List, [], length, map, reverse, slice_get, slice_index_or, Option, Some, option_map}
 use Rattle.wasm_code.specs.Instruction.{Instruction}
 use Rattle.mutate_base.specs.Module.{Module}
 use Rattle.peephole_lang.specs.Node.{instr_of, children_of}
 use Rattle.peephole_terms.specs.declared.dfg.StackEntry.{StackEntry}
 use Rattle.peephole_terms.specs.Shape.{Shape, Judged, Fits, judge_instruction}
-use Rattle.peephole_terms.specs.Tree.{Tree}
-use Rattle.peephole_terms.specs.Graph.{Entry, tree_at, roots}
+use Rattle.peephole_terms.specs.Tree.{Tree, Trees}
+use Rattle.peephole_terms.specs.Forest.{has}
+use Rattle.peephole_terms.specs.Graph.{Entry, pick, tree_at, roots}
 use Rattle.peephole_terms.specs.Downwards.{Kin, sizes_of, flags_of}
 
 -- An entry's instruction, or none for a missing operand; its children; the body's index of the operator that it is or that took it; its colour.
@@ -48,6 +49,20 @@ roots_of parents = reverse (roots (reverse parents))
 -- the tree of the entry with an index
 abbrev pub entry_tree : Module → ℕ → List StackEntry → ℕ → Tree
 entry_tree info first entries i = tree_at (nodes_of info first entries) i
+
+-- the trees of the entries without a parent, ascending
+abbrev pub forest_of : Module → ℕ → List StackEntry → List (Option ℕ) → Trees
+forest_of info first entries parents = pick (entry_tree info first entries) (roots_of parents)
+
+-- the children of the entry with an index, and none past the last one
+abbrev pub children_at : List StackEntry → ℕ → List ℕ
+children_at entries p = slice_index_or (map (λ (e : StackEntry). children_of e.operator) entries) p []
+
+-- The entries are a forest: an entry is the child of its parent and of no other entry, and stands before it.
+pub record IsForest (entries : List StackEntry) (parents : List (Option ℕ)) : Type 0 where
+  pub paired : length parents ≡ length entries
+  pub parent : (p i : ℕ) → has i (children_at entries p) ≡ true → (slice_get parents i ≡ Some (Some p)) × (i < p)
+  pub child : (p i : ℕ) → slice_get parents i ≡ Some (Some p) → has i (children_at entries p) ≡ true
 
 abbrev pub colours : List StackEntry → List ℕ
 colours entries = map (λ (e : StackEntry). e.color) entries

@@ -8,6 +8,7 @@ pub mod Downwards
 pub mod Laws
 pub mod Entries
 pub mod Contiguous
+pub mod Order
 pub mod GraphOf
 pub mod Block
 pub mod Dfg

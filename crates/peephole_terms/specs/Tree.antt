@@ -1,5 +1,5 @@
 -- Trees of operators, as a block's stack code stands for them, and their postfix. This project's rule.
-use Rattle.std.specs.Prelude.{ℕ, zero, suc, ◌+◌, ◌≡◌, List, [], ◌∷◌, ◌++◌}
+use Rattle.std.specs.Prelude.{ℕ, zero, suc, ◌+◌, List, [], ◌∷◌, ◌++◌}
 use Rattle.wasm_code.specs.Instruction.{Instruction}
 use Rattle.peephole_terms.specs.Shape.{Shape}
 
@@ -63,6 +63,16 @@ abbrev mutual
   size no_trees = 0
   size (t ▸ ts) = size_of t + size ts
 
+-- how many operators and entry operands there are
+abbrev mutual
+  pub full_size_of : Tree → ℕ
+  full_size_of (entry m) = 1
+  full_size_of (node i s kids) = suc (full_size kids)
+
+  pub full_size : Trees → ℕ
+  full_size no_trees = 0
+  full_size (t ▸ ts) = full_size_of t + full_size ts
+
 -- the same trees, the operators numbered in postfix from `first` on
 abbrev mutual
   pub renumbered_of : ℕ → Tree → Tree
@@ -72,7 +82,3 @@ abbrev mutual
   pub renumbered : ℕ → Trees → Trees
   renumbered first no_trees = no_trees
   renumbered first (t ▸ ts) = renumbered_of first t ▸ renumbered (first + size_of t) ts
-
--- the numbers of the trees are consecutive and ascending
-abbrev pub AreConsecutive : Trees → Type 0
-AreConsecutive ts = (first count : ℕ) × (numbers ts ≡ range_from first count)

@@ -5,7 +5,8 @@ ghost use Rattle.std.specs.HashMap as hash;
 ghost use Rattle.std.proofs.Props.{props};
 ghost use Rattle.peephole_lang.specs.Term.{numbers_of};
 ghost use Rattle.peephole_terms.specs.Downwards.{downwards, sizes_of, flags_of, forward, forwards, HasOneColour};
-ghost use Rattle.peephole_terms.specs.Entries.{kins_of, colours, Measured};
+ghost use Rattle.peephole_terms.specs.Entries.{kins_of, colours, Measured, IsForest};
+ghost use Rattle.peephole_terms.specs.Order.{AreInOrder};
 ghost use Rattle.peephole_terms.specs.Layout.{HasTrees, Lang-set};
 
 use crate::forest_text::{operator_text, print_forest};
@@ -40,7 +41,9 @@ pub struct MiniDFG {
     ghost sizes_are: { reverse sizes.items ≡ sizes_of (kins_of entries.items) } by { Prim.hlevel props },
     ghost flags_are: { reverse same.items ≡ flags_of (kins_of entries.items) } by { Prim.hlevel props },
     ghost trees: { HasTrees entries.items (hash.get nat_eq map) } by { Prim.hlevel (props, Lang-set) },
-    ghost paired: { length parents.items ≡ length entries.items } by { Prim.hlevel props },
+    ghost forest: { IsForest entries.items parents.items } by { Prim.hlevel props },
+    // Whether the trees lie one after another is seen from the entries' sizes alone.
+    ghost lies: { IsTrue (forwards (kins_of entries.items)) ↔ AreInOrder entries.items parents.items } by { Prim.hlevel props },
 }
 
 // The colour of an entry, or 0 past the end.
@@ -127,7 +130,8 @@ impl MiniDFG {
     ) -> MiniDFG
         requires measured { Measured entries.items sizes.items same.items }
         requires trees { HasTrees entries.items (hash.get nat_eq map) }
-        requires paired { length parents.items ≡ length entries.items }
+        requires forest { IsForest entries.items parents.items }
+        requires lies { IsTrue (forwards (kins_of entries.items)) ↔ AreInOrder entries.items parents.items }
         ensures map { (k : ℕ) → look_of result k ≡ hash.get nat_eq map k }
         ensures entries { entries_of result ≡ entries.items }
         ensures parents { parents_of result ≡ parents.items }
@@ -170,9 +174,11 @@ impl MiniDFG {
         self.entries.as_slice()
     }
 
-    /// The index of each entry's parent, none of a root.
+    /// The index of each entry's parent, none of a root. Entries and parents make a forest: an entry is the child of its
+    /// parent and of no other entry, and stands before it.
     pub fn parents(&self) -> &[Option<usize>]
-        ensures { result.now ≡ parents_of self.now }
+        ensures value { result.now ≡ parents_of self.now }
+        ensures forest { IsForest (entries_of self.now) (parents_of self.now) }
     {
         self.parents.as_slice()
     }
@@ -215,8 +221,8 @@ impl MiniDFG {
         self.is_subtree_consistent(self.entries.len() - 1)
     }
 
-    /// Whether the trees lie one after another: whether the roots' trees, the roots ascending, each in postfix, have the block's operators in their order. True of no entries.
-    pub fn keeps_order(&self) -> bool
+    // Whether the children of every entry lie one behind another, and end right before it.
+    fn lies_forward(&self) -> bool
         ensures { result ≡ forwards (kins_of (entries_of self.now)) }
     {
         for i in 0..self.entries.len() {
@@ -231,6 +237,14 @@ impl MiniDFG {
             }
         }
         true
+    }
+
+    /// Whether the trees lie one after another: whether the operators of the roots' trees, the roots ascending and each tree
+    /// in postfix, ascend. True of no entries.
+    pub fn keeps_order(&self) -> bool
+        ensures { IsTrue result ↔ AreInOrder (entries_of self.now) (parents_of self.now) }
+    {
+        self.lies_forward()
     }
 
     /// The text of the forest: the line `DFG forest`, and then the roots in ascending order, each with its tree. An entry's

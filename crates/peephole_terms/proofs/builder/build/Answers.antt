@@ -3,7 +3,8 @@ use Rattle.std.proofs.lemmas.Result.{err_from_is_err_and}
 use Rattle.wasm_code.specs.declared.operator.Operator.{Operator}
 use Rattle.mutate_base.specs.Module.{Module}
 use Rattle.peephole_terms.specs.Shape.{Judged, Unfit, Unknown, judge}
-use Rattle.peephole_terms.proofs.BuilderLemmas.{shape_makes, kept_low, kept_parents, kept_room, kept_next, kept_all, refused, fault}
+use Rattle.peephole_terms.proofs.BuilderLemmas.{shape_makes, kept_low, kept_parents, kept_room, kept_next, refused, fault}
+use Rattle.peephole_terms.proofs.GrownLemmas.{kept_all}
 use Rattle.peephole_terms.proofs.DfgLemmas.{sizes_count, flags_count}
 use Rattle.peephole_terms.proofs.builder.build.Goals as goal
 

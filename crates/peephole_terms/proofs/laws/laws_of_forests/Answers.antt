@@ -2,7 +2,6 @@
 use Rattle.std.proofs.Common.{◌∙◌, ap}
 use Rattle.std.specs.Prelude.{reverse}
 use Rattle.std.proofs.lemmas.List.{reverse-reverse}
-use Rattle.peephole_terms.proofs.OneColour.{one_colour}
 use Rattle.peephole_terms.proofs.Rereading.{same_trees}
 use Rattle.peephole_terms.proofs.Order.{written_in_order, written_again, in_order_code}
 use Rattle.peephole_terms.proofs.Together.{together_from_order, order_from_together}
@@ -16,9 +15,6 @@ returns-clause-order c = written_in_order
 
 pub returns-clause-again : goal.returns-clause-again
 returns-clause-again c block = ap reverse (written_again block)
-
-pub returns-clause-consecutive : goal.returns-clause-consecutive
-returns-clause-consecutive c = one_colour
 
 pub returns-clause-together : goal.returns-clause-together
 returns-clause-together c block = (together_from_order block, order_from_together block)

@@ -1,5 +1,5 @@
 -- What was built is the graph that is answered.
-use Rattle.std.proofs.Common.{◌≡◌, ℕ, Bool, List, Option, Ok, Some, None, IfOk, IfSome, sym, subst, ap₂, slice_range, MatchOption, Result, length, arith}
+use Rattle.std.proofs.Common.{◌≡◌, ℕ, Bool, List, Option, Ok, Some, None, IfOk, IfSome, sym, subst, ap₂, slice_range, MatchOption, Result, arith}
 use Rattle.std.proofs.lemmas.Grind.{common_steps}
 use Rattle.std.specs.Bool.{nat_eq}
 use Rattle.std.specs.HashMap as hash
@@ -12,8 +12,6 @@ use Rattle.mutate_base.specs.declared.error.Error.{Error}
 use Rattle.peephole_terms.specs.declared.growing.Growing.{Growing}
 use Rattle.peephole_terms.specs.GraphOf.{IsGraphOf, HasNoGraph}
 use Rattle.peephole_terms.specs.Building.{HasGrown}
-use Rattle.peephole_terms.specs.Layout.{HasTrees}
-use Rattle.peephole_terms.proofs.GraphLemmas.{parents_length}
 use Rattle.peephole_terms.proofs.LayoutTrees.{has_trees}
 use Rattle.peephole_terms.proofs.builder.DFGBuilder.get_dfg.Goals.{in-None, in-Some}
 use Rattle.peephole_terms.proofs.builder.DFGBuilder.get_dfg.Goals as goal
@@ -36,7 +34,7 @@ some_is : (info : Module) (keeping keeping' : Bool) (first first' : ℕ) (operat
     ((k : ℕ) → look_of d k ≡ hash.get nat_eq g.map k) → entries_of d ≡ g.entries.items → parents_of d ≡ g.parents.items → r ≡ Ok (Some d) → Answers info keeping' first' operators' r
 some_is info keeping keeping' first first' operators operators' o g d r h s a b c m e p w =
     let grown : HasGrown info keeping first operators g = subst (λ x. MatchOption x (HasNoGraph info keeping operators) (λ g. HasGrown info keeping first operators g)) s h in
-    let is = graph_is info keeping first operators g.entries.items g.parents.items (hash.get nat_eq g.map) d grown.0 m e p in
+    let is = graph_is info keeping first operators g.entries.items g.parents.items (hash.get nat_eq g.map) d grown.graph m e p in
     subst (Answers info keeping' first' operators') (sym w)
     (subst (λ x. IsGraphOf info x first' operators' (entries_of d) (parents_of d) (look_of d)) a
     (subst (λ x. IsGraphOf info keeping x operators' (entries_of d) (parents_of d) (look_of d)) b
@@ -49,20 +47,17 @@ returns-clause-graph c = elim c.match-growing.branch [
       (ap₂ (slice_range c.args.operators.now) c.range-range.ensures.start c.range-range.ensures.end) w.of_parts.ensures.map w.of_parts.ensures.entries w.of_parts.ensures.parents w.result-is
 ]
 
-trees_are : (info : Module) (keeping : Bool) (first : ℕ) (operators : List (Operator × ℕ)) (o : Option Growing) (g : Growing) →
-    MatchOption o (HasNoGraph info keeping operators) (λ g. HasGrown info keeping first operators g) → o ≡ Some g → HasTrees g.entries.items (hash.get nat_eq g.map)
-trees_are info keeping first operators o g h s =
-    has_trees info keeping first operators g.entries.items g.parents.items (hash.get nat_eq g.map)
-    (subst (λ x. MatchOption x (HasNoGraph info keeping operators) (λ g. HasGrown info keeping first operators g)) s h).0
+has_grown : (info : Module) (keeping : Bool) (first : ℕ) (operators : List (Operator × ℕ)) (o : Option Growing) (g : Growing) →
+    MatchOption o (HasNoGraph info keeping operators) (λ g. HasGrown info keeping first operators g) → o ≡ Some g → HasGrown info keeping first operators g
+has_grown info keeping first operators o g h s = subst (λ x. MatchOption x (HasNoGraph info keeping operators) (λ g. HasGrown info keeping first operators g)) s h
 
 pub of_parts-requires-clause-trees : goal.of_parts-requires-clause-trees
-of_parts-requires-clause-trees c = trees_are _ _ _ _ c.in_ok-growing.growing c.in-Some.growing c.in_ok-growing.ensures c.in-Some.is
+of_parts-requires-clause-trees c =
+    has_trees _ _ _ _ c.in-Some.growing.entries.items c.in-Some.growing.parents.items (hash.get nat_eq c.in-Some.growing.map)
+    (has_grown _ _ _ _ c.in_ok-growing.growing c.in-Some.growing c.in_ok-growing.ensures c.in-Some.is).graph
 
-paired_are : (info : Module) (keeping : Bool) (first : ℕ) (operators : List (Operator × ℕ)) (o : Option Growing) (g : Growing) →
-    MatchOption o (HasNoGraph info keeping operators) (λ g. HasGrown info keeping first operators g) → o ≡ Some g → length g.parents.items ≡ length g.entries.items
-paired_are info keeping first operators o g h s =
-    parents_length info keeping first operators g.entries.items g.parents.items (hash.get nat_eq g.map)
-    (subst (λ x. MatchOption x (HasNoGraph info keeping operators) (λ g. HasGrown info keeping first operators g)) s h).0
+pub of_parts-requires-clause-forest : goal.of_parts-requires-clause-forest
+of_parts-requires-clause-forest c = (has_grown _ _ _ _ c.in_ok-growing.growing c.in-Some.growing c.in_ok-growing.ensures c.in-Some.is).graph.forest_is
 
-pub of_parts-requires-clause-paired : goal.of_parts-requires-clause-paired
-of_parts-requires-clause-paired c = paired_are _ _ _ _ c.in_ok-growing.growing c.in-Some.growing c.in_ok-growing.ensures c.in-Some.is
+pub of_parts-requires-clause-lies : goal.of_parts-requires-clause-lies
+of_parts-requires-clause-lies c = (has_grown _ _ _ _ c.in_ok-growing.growing c.in-Some.growing c.in_ok-growing.ensures c.in-Some.is).lies

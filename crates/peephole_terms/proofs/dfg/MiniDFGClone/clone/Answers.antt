@@ -1,10 +1,10 @@
-use Rattle.std.proofs.Common.{◌≡◌, List, [], ◌∷◌, length, suc, refl, ◌∙◌, sym, ap, subst}
+use Rattle.std.proofs.Common.{List, ◌∙◌, sym, subst}
 use Rattle.std.specs.Prelude.{nat_eq}
 use Rattle.std.specs.HashMap as hash
 use Rattle.std.specs.List.{AllZip}
 use Rattle.peephole_terms.specs.declared.dfg.StackEntry.{StackEntry}
 use Rattle.peephole_terms.specs.Dfg.{IsSameEntry}
-use Rattle.peephole_terms.proofs.Copies.{found_same, copied_measured, copied_trees}
+use Rattle.peephole_terms.proofs.Copies.{found_same, copied_measured, copied_trees, copied_forest, copied_order}
 use Rattle.peephole_terms.proofs.dfg.MiniDFGClone.clone.Goals as goal
 
 pub of_parts-requires-clause-measured : goal.of_parts-requires-clause-measured
@@ -19,16 +19,15 @@ of_parts-requires-clause-trees c =
     c.in_ok-entries.ensures.cases.0 (λ k. found_same (nat_eq k) c.args.self.now.map.entries c.in_ok-map.map.entries c.in_ok-map.ensures.cases)
     c.args.self.now.trees
 
-zip_length : {A B : Type 0} (R : A → B → Type 0) (xs : List A) (ys : List B) → AllZip R xs ys → length ys ≡ length xs
-zip_length R [] [] z = refl
-zip_length R [] (y ∷ ys) z = absurd z
-zip_length R (x ∷ xs) [] z = absurd z
-zip_length R (x ∷ xs) (y ∷ ys) z = ap suc (zip_length R xs ys z.1)
+pub of_parts-requires-clause-forest : goal.of_parts-requires-clause-forest
+of_parts-requires-clause-forest c =
+    copied_forest c.args.self.now.entries.items c.in_ok-entries.entries.items c.args.self.now.parents.items c.in_ok-parents.parents.items
+    c.in_ok-entries.ensures.cases.0 (c.in_ok-parents.ensures.items ∙ c.deref.ensures.value) c.args.self.now.forest
 
-pub of_parts-requires-clause-paired : goal.of_parts-requires-clause-paired
-of_parts-requires-clause-paired c =
-    ap length (c.in_ok-parents.ensures.items ∙ c.deref.ensures.value)
-    ∙ (c.args.self.now.paired ∙ sym (zip_length IsSameEntry c.args.self.now.entries.items c.in_ok-entries.entries.items c.in_ok-entries.ensures.cases.0))
+pub of_parts-requires-clause-lies : goal.of_parts-requires-clause-lies
+of_parts-requires-clause-lies c =
+    copied_order c.args.self.now.entries.items c.in_ok-entries.entries.items c.args.self.now.parents.items c.in_ok-parents.parents.items
+    c.in_ok-entries.ensures.cases.0 (c.in_ok-parents.ensures.items ∙ c.deref.ensures.value) c.args.self.now.lies
 
 pub returns : goal.returns
 returns c = record {

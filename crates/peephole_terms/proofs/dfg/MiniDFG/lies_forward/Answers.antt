@@ -2,7 +2,7 @@ use Rattle.std.proofs.Common.{arith, ◌<◌, ◌+◌, ◌∙◌, sym, ap, lengt
 use Rattle.std.proofs.lemmas.Grind.{common_steps}
 use Rattle.peephole_lang.specs.Term.{numbers_of}
 use Rattle.peephole_terms.proofs.DfgLemmas.{sizes_count, forwards_read, forwards_stop}
-use Rattle.peephole_terms.proofs.dfg.MiniDFG.keeps_order.Goals as goal
+use Rattle.peephole_terms.proofs.dfg.MiniDFG.lies_forward.Goals as goal
 
 pub index-requires : goal.index-requires
 index-requires c = let e = sizes_count c.args.self.now.entries.items c.args.self.now.sizes.items c.args.self.now.sizes_are in grind (arith, common_steps)
