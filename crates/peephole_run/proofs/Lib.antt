@@ -2,8 +2,9 @@ pub mod Devices
 pub mod Lines
 pub mod Answer
 pub mod Values
+pub mod Names
 pub mod Blocks
-pub mod Growths
-pub mod Outcomes
+pub mod Refusals
+pub mod Writings
 pub mod Readings
 pub mod OwnTrees

@@ -23,11 +23,6 @@ use Rattle.peephole_lang.specs.Node.{instr_of}
 use Rattle.peephole_terms.proofs.DfgLemmas.{nodes_length, entry_seen}
 use Rattle.peephole_terms.proofs.GraphLemmas.{entry_later}
 use Rattle.peephole_terms.specs.Written.{replaced}
-use Rattle.peephole_terms.specs.Block.{BlockRange}
-use Rattle.peephole_terms.specs.declared.dfg.MiniDFG.{MiniDFG}
-use Rattle.peephole_terms.specs.Dfg.{look_of}
-use Rattle.peephole_run.specs.Body.{Contents}
-use Rattle.peephole_run.specs.Writing.{IsBareGraph}
 
 -- ---- lists
 
@@ -133,13 +128,12 @@ own_replaced info keeping first operators entries parents look at i code h k e =
 
 -- ---- the block's operators have entries
 
-length_range : (os : List (Operator × ℕ)) (start end : ℕ) → start ≤ end → end ≤ length os → length (slice_range os start end) ≡ end - start
+pub length_range : (os : List (Operator × ℕ)) (start end : ℕ) → start ≤ end → end ≤ length os → length (slice_range os start end) ≡ end - start
 length_range os start end l m = grind (arith, common_steps)
 
-pub has_entry : (body : Contents) (range : BlockRange) (at : ℕ) (graph : MiniDFG) → IsBareGraph body range graph →
-    range.start ≤ at → at < range.end → range.end ≤ length body.operators → IsSome (look_of graph at)
-has_entry body range at graph h l m w =
-    let n : length (slice_range body.operators range.start range.end) ≡ range.end - range.start =
-    length_range body.operators range.start range.end (omega arith) w in
-    let e : range.start + (at - range.start) ≡ at = omega arith in
-    ap (λ k. is_some (look_of graph k)) (sym e) ∙ h.keys (at - range.start) (omega arith)
+pub has_entry : (info : Module) (keeping : Bool) (first end : ℕ) (all : List (Operator × ℕ)) (entries : List StackEntry) (parents : List (Option ℕ)) (look : ℕ → Option ℕ) (at : ℕ) →
+    IsGraphOf info keeping first (slice_range all first end) entries parents look → first ≤ at → at < end → end ≤ length all → IsSome (look at)
+has_entry info keeping first end all entries parents look at h l m w =
+    let n : length (slice_range all first end) ≡ end - first = length_range all first end (omega arith) w in
+    let e : first + (at - first) ≡ at = omega arith in
+    ap (λ k. is_some (look k)) (sym e) ∙ h.keys (at - first) (omega arith)

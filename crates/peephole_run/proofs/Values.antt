@@ -6,7 +6,8 @@ use Rattle.peephole_run.specs.declared.fault.Fault.TheVariants as fault
 use Rattle.peephole_lang.specs.Text.{reads}
 use Rattle.peephole_run.specs.Text.{number_of}
 use Rattle.peephole_run.specs.State.{State}
-use Rattle.peephole_run.specs.Commands.{all_of, node_words, node_read}
+use Rattle.peephole_run.specs.Arguments.{all_of}
+use Rattle.peephole_run.specs.Commands.{node_words, node_read}
 
 abbrev pub texts : List (Bor (List ℕ)) → List (List ℕ)
 texts words = map (λ word. word.now) words

@@ -14,12 +14,17 @@ use Rattle.peephole_run.specs.declared.command.Command.{Command}
 use Rattle.peephole_run.specs.declared.command.Command.TheVariants as name
 use Rattle.peephole_run.specs.declared.fault.Fault.{Fault}
 use Rattle.peephole_run.specs.declared.fault.Fault.TheVariants as fault
+use Rattle.peephole_run.specs.declared.declarations.Declaration.{Declaration}
+use Rattle.peephole_run.specs.declared.declarations.Declaration.TheVariants as declare
+use Rattle.peephole_run.specs.declared.graphs.Refusal.{Refusal}
+use Rattle.peephole_run.specs.declared.graphs.Refusal.TheVariants as refusal
+use Rattle.peephole_run.specs.declared.place.Place.{Place}
 use Rattle.peephole_run.specs.Text.{is_text, words_of, number_of}
+use Rattle.peephole_run.specs.Arguments.{all_of, type_of, is_yes}
 use Rattle.peephole_run.specs.Body.{Contents, body_of, block_at}
-use Rattle.peephole_run.specs.State.{State, Reply}
-use Rattle.peephole_run.specs.Writing.{outcome_of}
-use Rattle.peephole_run.specs.declared.writing.Outcome.{Outcome}
-use Rattle.peephole_run.specs.declared.writing.Outcome.TheVariants as outcome
+use Rattle.peephole_run.specs.Declarations.{declared}
+use Rattle.peephole_run.specs.State.{State, Reply, module_with}
+use Rattle.peephole_run.specs.Writing.{written}
 
 -- a line that writes nothing
 abbrev pub quiet : State → Result Reply Fault
@@ -30,19 +35,23 @@ abbrev pub with_argument : {A : Type 0} → Option A → (A → Result Reply Fau
 with_argument None f = Err fault.BadArgument
 with_argument (Some x) f = f x
 
--- a value for each word, where each word has one
-abbrev pub cons_some : {A : Type 0} → Option A → Option (List A) → Option (List A)
-cons_some None xs = None
-cons_some (Some x) None = None
-cons_some (Some x) (Some xs) = Some (x ∷ xs)
+-- the module's lines
+abbrev pub declare_step : Declaration → State → List (List ℕ) → Result Reply Fault
+declare_step declaration s words = with_argument (declared declaration s.info words) (λ info. quiet (record s { info = info }))
 
-abbrev pub all_of : {A : Type 0} → (List ℕ → Option A) → List (List ℕ) → Option (List A)
-all_of f [] = Some []
-all_of f (word ∷ words) = cons_some (f word) (all_of f words)
+-- `local T`: a local of that type
+abbrev pub local_step : State → List (List ℕ) → Result Reply Fault
+local_step s (word ∷ []) = with_argument (type_of word) (λ t. quiet (record s { locals = s.locals ++ t ∷ [] }))
+local_step s _ = Err fault.BadArgument
+
+-- `preserve yes|no`: the mode
+abbrev pub preserve_step : State → List (List ℕ) → Result Reply Fault
+preserve_step s (word ∷ []) = with_argument (is_yes word) (λ preserving. quiet (record s { preserving = preserving }))
+preserve_step s _ = Err fault.BadArgument
 
 -- `body HEX*`: the words joined are the body, in hexadecimal digits; point and nodes are cleared
 abbrev pub body_read : State → Result Contents ReadKind → Result Reply Fault
-body_read s (Ok body) = quiet (record { body = Some body; point = None; nodes = [] })
+body_read s (Ok body) = quiet (record s { body = Some body; point = None; nodes = [] })
 body_read s (Err kind) = Err (fault.Read kind)
 
 abbrev pub body_step : State → List (List ℕ) → Result Reply Fault
@@ -78,24 +87,40 @@ abbrev pub node_step : State → List (List ℕ) → Result Reply Fault
 node_step s [] = Err fault.BadArgument
 node_step s (text ∷ words) = node_words s text words
 
+-- where `show` and `write` work, which take no words: the body, the point and its block
+abbrev pub place_at : Contents → ℕ → Option BlockRange → Result (Contents × ℕ × BlockRange) Fault
+place_at body point None = Err fault.NoBlock
+place_at body point (Some block) = Ok (body, point, block)
+
+abbrev pub place_in : Option Contents → Option ℕ → Result (Contents × ℕ × BlockRange) Fault
+place_in None point = Err fault.NoBlock
+place_in (Some body) None = Err fault.NoBlock
+place_in (Some body) (Some point) = place_at body point (block_at body.operators point)
+
+abbrev pub place_of : State → List (List ℕ) → Result (Contents × ℕ × BlockRange) Fault
+place_of s [] = place_in s.body s.point
+place_of s _ = Err fault.BadArgument
+
+abbrev pub at_place : State → Result (Contents × ℕ × BlockRange) Fault → (Contents → ℕ → BlockRange → List ℕ) → Result Reply Fault
+at_place s (Ok p) text = Ok (record { text = text p.0 p.1 p.2; next = s })
+at_place s (Err f) text = Err f
+
+-- what is said where a call refused, or there is no graph
+abbrev pub refusal_line : Refusal → List ℕ
+refusal_line refusal.NoGraph = codes "no graph\n"
+refusal_line (refusal.Refused e) = codes "refused " ++ (error_name e ++ codes "\n")
+
+abbrev pub answer_text : (List ℕ → List ℕ) → Result (List ℕ) Refusal → List ℕ
+answer_text text (Ok answer) = text answer
+answer_text text (Err r) = refusal_line r
+
 -- `write`: the body with the term
-abbrev pub outcome_line : Outcome → List ℕ
-outcome_line outcome.NoGraph = codes "no graph\n"
-outcome_line (outcome.Refused e) = codes "refused " ++ (error_name e ++ codes "\n")
-outcome_line (outcome.Written bytes) = codes "bytes " ++ (encode_lower bytes ++ codes "\n")
-
-abbrev pub write_block : State → Contents → ℕ → Option BlockRange → Result Reply Fault
-write_block s body point None = Err fault.NoBlock
-write_block s body point (Some block) = Ok (record { text = outcome_line (outcome_of body point block s.nodes); next = s })
-
-abbrev pub write_point : State → Option Contents → Option ℕ → Result Reply Fault
-write_point s None point = Err fault.NoBlock
-write_point s (Some body) None = Err fault.NoBlock
-write_point s (Some body) (Some at) = write_block s body at (block_at body.operators at)
+abbrev pub bytes_line : List ℕ → List ℕ
+bytes_line bytes = codes "bytes " ++ (encode_lower bytes ++ codes "\n")
 
 abbrev pub write_step : State → List (List ℕ) → Result Reply Fault
-write_step s [] = write_point s s.body s.point
-write_step s _ = Err fault.BadArgument
+write_step s words = at_place s (place_of s words) (λ body point block.
+    answer_text bytes_line (written (module_with s.info body) s.preserving body point block s.nodes))
 
 -- the commands
 abbrev pub command_step : Command → State → List (List ℕ) → Result Reply Fault
@@ -103,6 +128,9 @@ command_step name.Body = body_step
 command_step name.At = at_step
 command_step name.Node = node_step
 command_step name.Write = write_step
+command_step name.Local = local_step
+command_step name.Preserve = preserve_step
+command_step (name.Declare declaration) = declare_step declaration
 
 -- the command of a name
 abbrev pub command_of : List ℕ → Option Command
@@ -111,6 +139,13 @@ command_of word =
     else if bytes_eq word (codes "at") then Some name.At
     else if bytes_eq word (codes "node") then Some name.Node
     else if bytes_eq word (codes "write") then Some name.Write
+    else if bytes_eq word (codes "global") then Some (name.Declare declare.Global)
+    else if bytes_eq word (codes "memory") then Some (name.Declare declare.Memory)
+    else if bytes_eq word (codes "table") then Some (name.Declare declare.Table)
+    else if bytes_eq word (codes "type") then Some (name.Declare declare.Type)
+    else if bytes_eq word (codes "func") then Some (name.Declare declare.Function)
+    else if bytes_eq word (codes "local") then Some name.Local
+    else if bytes_eq word (codes "preserve") then Some name.Preserve
     else None
 
 abbrev pub run_command : State → Option Command → List (List ℕ) → Result Reply Fault
@@ -130,6 +165,6 @@ step_line s line = if is_text line then step s (words_of line) else Err fault.Te
 abbrev pub Steps : {A : Type 0} → Result Reply Fault → State → Result (Vec ℕ A) Fault → Type 0
 Steps answer new result = MatchResult result (λ text. answer ≡ Ok (record { text = text.items; next = new })) (λ f. (f ≡ fault.Memory) ⊎ (answer ≡ Err f))
 
--- a call that reads arguments found these values, or that no memory was left
-abbrev pub Argument : {T A : Type 0} → Option (List T) → Result (Vec T A) Fault → Type 0
-Argument found result = MatchResult result (λ values. found ≡ Some values.items) (λ f. (f ≡ fault.Memory) ⊎ ((f ≡ fault.BadArgument) × (found ≡ None)))
+-- a call found the place, or answered the fault
+abbrev pub Finds : Result (Contents × ℕ × BlockRange) Fault → Result Place Fault → Type 0
+Finds said result = MatchResult result (λ p. said ≡ Ok (p.body.now, p.point, p.block)) (λ f. said ≡ Err f)

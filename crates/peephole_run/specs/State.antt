@@ -1,17 +1,29 @@
 -- What the program keeps between two lines (this project's).
-use Rattle.std.specs.Prelude.{ℕ, ◌<◌, List, [], length, Option, Some, None, IfSome}
+use Rattle.std.specs.Prelude.{ℕ, ◌<◌, Bool, false, List, [], length, Option, Some, None, IfSome}
+use Rattle.mutate_base.specs.Module.{Module, module_of}
+use Rattle.mutate_base.specs.declared.types.PrimitiveTypeInfo.{PrimitiveTypeInfo}
 use Rattle.peephole_lang.specs.Term.{Node}
 use Rattle.peephole_lang.specs.declared.lang.Head.{Head}
 use Rattle.peephole_run.specs.Body.{Contents}
 
 pub record State : Type 0 where
+  -- what was said of the module, without its bytes
+  pub info : Module
+  -- the types of the function's locals
+  pub locals : List PrimitiveTypeInfo
+  -- whether the order of effects is to be preserved
+  pub preserving : Bool
   pub body : Option Contents
   pub point : Option ℕ
   -- the term's nodes, the first one first
   pub nodes : List (Node Head)
 
 abbrev pub start : State
-start = record { body = None; point = None; nodes = [] }
+start = record { info = module_of []; locals = []; preserving = false; body = None; point = None; nodes = [] }
+
+-- the module, with a body's bytes as its own
+abbrev pub module_with : Module → Contents → Module
+module_with info body = record info { input = body.bytes }
 
 -- what a line that isn't faulty writes, and the state after it
 pub record Reply : Type 0 where

@@ -3,6 +3,8 @@
 ghost use Rattle.std.specs.Prelude.{◌≡◌};
 ghost use Rattle.peephole_run.specs.Commands.{command_of};
 
+use crate::declarations::Declaration;
+
 /// What a line asks for.
 #[derive(Clone, Copy, Debug, PartialEq, Eq)]
 pub enum Command {
@@ -14,6 +16,12 @@ pub enum Command {
     Node,
     /// Writes the body with the term.
     Write,
+    /// Adds a local.
+    Local,
+    /// Sets the mode.
+    Preserve,
+    /// Adds to the module.
+    Declare(Declaration),
 }
 
 /// The command of a name, if there is one.
@@ -28,6 +36,20 @@ pub fn command_of(word: &str) -> Option<Command>
         Some(Command::Node)
     } else if word == "write" {
         Some(Command::Write)
+    } else if word == "global" {
+        Some(Command::Declare(Declaration::Global))
+    } else if word == "memory" {
+        Some(Command::Declare(Declaration::Memory))
+    } else if word == "table" {
+        Some(Command::Declare(Declaration::Table))
+    } else if word == "type" {
+        Some(Command::Declare(Declaration::Type))
+    } else if word == "func" {
+        Some(Command::Declare(Declaration::Function))
+    } else if word == "local" {
+        Some(Command::Local)
+    } else if word == "preserve" {
+        Some(Command::Preserve)
     } else {
         None
     }

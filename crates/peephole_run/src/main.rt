@@ -4,8 +4,11 @@
 mod arguments;
 mod body;
 mod command;
+mod declarations;
 mod fault;
+mod graphs;
 mod input;
+mod place;
 mod reply;
 mod run;
 mod session;

@@ -1,12 +1,16 @@
 //! The lines that commands print.
 
-ghost use Rattle.std.specs.Prelude.{◌≡◌, MatchResult};
-ghost use Rattle.peephole_run.specs.Commands.{block_line, outcome_line};
+ghost use Rattle.std.specs.Prelude.{◌≡◌, ◌≢◌, MatchResult};
+ghost use Rattle.mutate_base.specs.declared.error.Error.TheVariants.{Memory};
+ghost use Rattle.peephole_run.specs.declared.graphs.Refusal.TheVariants.{Refused};
+ghost use Rattle.peephole_run.specs.Commands.{block_line, bytes_line, refusal_line};
 
 use crate::fault::Fault;
-use crate::writing::Outcome;
+use crate::graphs::Refusal;
+use mutate_base::Error;
 use peephole_terms::BBlock;
 use std::alloc::Global;
+use wasm_code::Function;
 
 /// The line that `at` prints of the point's block. `Memory` where an allocation was refused.
 pub fn block_line(alloc: Global, block: &Option<BBlock>) -> Result<Vec<u8>, Fault>
@@ -19,31 +23,43 @@ pub fn block_line(alloc: Global, block: &Option<BBlock>) -> Result<Vec<u8>, Faul
         }
         None => format!(in alloc; "no block\n"),
     };
-    match text {
-        Ok(text) => Ok(text.into_bytes()),
-        Err(_) => Err(Fault::Memory),
+    Ok(text?.into_bytes())
+}
+
+/// The line that `write` prints of a body. `Memory` where an allocation was refused.
+pub fn bytes_line(alloc: Global, sink: &Function) -> Result<Vec<u8>, Fault>
+    ensures { MatchResult result (λ line. line.items ≡ bytes_line sink.now) (λ fault. fault ≡ Fault.Memory) }
+{
+    let Ok(digits) = hex::encode(alloc, sink.bytes()) else {
+        return Err(Fault::Memory);
+    };
+    let text = format!(in alloc; "bytes {digits}\n")?;
+    Ok(text.into_bytes())
+}
+
+// The line of a call that refused for another cause than memory.
+fn refused_line(alloc: Global, error: Error) -> Result<Vec<u8>, Fault>
+    ensures { MatchResult result (λ line. (error ≢ Memory) × (line.items ≡ refusal_line (Refused error))) (λ fault. fault ≡ Fault.Memory) }
+{
+    match error {
+        Error::Memory => Err(Fault::Memory),
+        _ => {
+            let name = error.name();
+            let text = format!(in alloc; "refused {name}\n")?;
+            Ok(text.into_bytes())
+        }
     }
 }
 
-/// The line that `write` prints. `Memory` where an allocation was refused.
-pub fn outcome_line(alloc: Global, outcome: &Outcome) -> Result<Vec<u8>, Fault>
-    ensures { MatchResult result (λ line. line.items ≡ outcome_line outcome.now) (λ fault. fault ≡ Fault.Memory) }
+/// The line that a command prints where it has no answer, but for want of memory. `Memory` where an allocation was refused.
+pub fn refusal_line(alloc: Global, refusal: Refusal) -> Result<Vec<u8>, Fault>
+    ensures { MatchResult result (λ line. (refusal ≢ Refused Memory) × (line.items ≡ refusal_line refusal)) (λ fault. fault ≡ Fault.Memory) }
 {
-    let text = match outcome {
-        Outcome::NoGraph => format!(in alloc; "no graph\n"),
-        Outcome::Refused(error) => {
-            let name = error.name();
-            format!(in alloc; "refused {name}\n")
+    match refusal {
+        Refusal::NoGraph => {
+            let text = format!(in alloc; "no graph\n")?;
+            Ok(text.into_bytes())
         }
-        Outcome::Written(sink) => {
-            let Ok(digits) = hex::encode(alloc, sink.bytes()) else {
-                return Err(Fault::Memory);
-            };
-            format!(in alloc; "bytes {digits}\n")
-        }
-    };
-    match text {
-        Ok(text) => Ok(text.into_bytes()),
-        Err(_) => Err(Fault::Memory),
+        Refusal::Refused(error) => refused_line(alloc, error),
     }
 }

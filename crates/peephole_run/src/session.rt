@@ -1,29 +1,37 @@
 //! What the program keeps between two lines, and what each command does to it.
 
-ghost use Rattle.std.specs.Prelude.{◌≡◌, ◌⊎◌, ◌<◌, ◌≤◌, ◌^◌, List, [], map, length, nat_lt, Ok, Err, MatchResult, IsTrue};
+ghost use Rattle.std.specs.Prelude.{◌≡◌, ◌⊎◌, ◌<◌, ◌≤◌, ◌^◌, List, [], map, length, nat_lt, Some, Ok, Err, IfOk, MatchResult, IsTrue};
 ghost use Rattle.std.specs.List.{list_all};
 ghost use Rattle.peephole_lang.specs.Node.{node_of};
 ghost use Rattle.peephole_lang.specs.Text.{reads};
-ghost use Rattle.peephole_run.specs.State.{State, Reply, PointsInto, start};
-ghost use Rattle.peephole_run.specs.Commands.{step_line, step, command_step, body_step, at_step, node_step, node_read, node_words, write_step, Steps};
+ghost use Rattle.peephole_run.specs.State.{State, Reply, PointsInto, start, module_with};
+ghost use Rattle.peephole_run.specs.Graphs.{IsPlace};
+ghost use Rattle.peephole_run.specs.Commands.{step_line, step, command_step, declare_step, local_step, preserve_step, body_step, at_step, node_step, node_read, node_words, place_of, write_step, Steps, Finds};
 
-use crate::arguments::{all_below, ids_of, joined, numbers_of};
+use crate::arguments::{all_below, ids_of, is_yes, joined, numbers_of, type_of};
 use crate::body::Body;
 use crate::command::{Command, command_of};
+use crate::declarations::{Declaration, declare};
 use crate::fault::Fault;
-use crate::reply::{block_line, outcome_line};
+use crate::graphs::configured;
+use crate::place::Place;
+use crate::reply::{block_line, bytes_line, refusal_line};
 use crate::text::{is_text, number_of, words_of};
 use crate::writing::write_body;
-use mutate_base::Error;
+use mutate_base::{Error, ModuleInfo, PrimitiveTypeInfo};
 use peephole_lang::{Lang, RecExpr};
 use std::alloc::Global;
 use std::marker::Model;
 use wasm_code::ReadKind;
 
-/// What the program keeps between two lines: the body, the number of the operator that is the point, and the term.
+/// What the program keeps between two lines: the module and the mode, the body, the number of the operator that is the
+/// point, and the term.
 #[derive(Drop)]
 pub struct Session {
     alloc: Global,
+    info: ModuleInfo<'static>,
+    locals: Vec<PrimitiveTypeInfo>,
+    preserving: bool,
     body: Option<Body>,
     point: Option<usize>,
     nodes: RecExpr<Lang>,
@@ -32,18 +40,28 @@ pub struct Session {
 impl Model for Session {
     ghost Value = { State };
 
-    ghost view = { λ s. record { body = s.body; point = s.point; nodes = map node_of s.nodes } };
+    ghost view = { λ s. record {
+      info = s.info;
+      locals = s.locals.items;
+      preserving = s.preserving;
+      body = s.body;
+      point = s.point;
+      nodes = map node_of s.nodes;
+    } };
 
     ghost invariant = { λ s. PointsInto s.body s.point × (length s.nodes ≤ 2 ^ 32) };
 }
 
 impl Session {
-    /// What stands before the first line: no body, no point and no node.
+    /// What stands before the first line: an empty module, no body, no point and no node.
     pub fn new(alloc: Global) -> Self
         ensures { result ≡ start }
     {
         Session {
             alloc,
+            info: ModuleInfo::new(alloc, &[]),
+            locals: Vec::new(alloc),
+            preserving: false,
             body: None,
             point: None,
             nodes: RecExpr::new(alloc),
@@ -86,7 +104,43 @@ impl Session {
             Command::At => self.at(arguments),
             Command::Node => self.node(arguments),
             Command::Write => self.write(arguments),
+            Command::Local => self.local(arguments),
+            Command::Preserve => self.preserve(arguments),
+            Command::Declare(declaration) => self.declare(declaration, arguments),
         }
+    }
+
+    fn declare(&mut self, declaration: Declaration, arguments: &[&str]) -> Result<Vec<u8>, Fault>
+        ensures { Steps (declare_step declaration self.old (map (λ word. word.now) arguments.now)) self.new result }
+    {
+        declare(self.alloc, &mut self.info, declaration, arguments)?;
+        Ok(Vec::new(self.alloc))
+    }
+
+    fn local(&mut self, arguments: &[&str]) -> Result<Vec<u8>, Fault>
+        ensures { Steps (local_step self.old (map (λ word. word.now) arguments.now)) self.new result }
+    {
+        let [word] = arguments else {
+            return Err(Fault::BadArgument);
+        };
+        let Some(value) = type_of(word) else {
+            return Err(Fault::BadArgument);
+        };
+        self.locals.push(value)?;
+        Ok(Vec::new(self.alloc))
+    }
+
+    fn preserve(&mut self, arguments: &[&str]) -> Result<Vec<u8>, Fault>
+        ensures { Steps (preserve_step self.old (map (λ word. word.now) arguments.now)) self.new result }
+    {
+        let [word] = arguments else {
+            return Err(Fault::BadArgument);
+        };
+        let Some(preserving) = is_yes(word) else {
+            return Err(Fault::BadArgument);
+        };
+        self.preserving = preserving;
+        Ok(Vec::new(self.alloc))
     }
 
     fn body(&mut self, arguments: &[&str]) -> Result<Vec<u8>, Fault>
@@ -177,8 +231,10 @@ impl Session {
         }
     }
 
-    fn write(&mut self, arguments: &[&str]) -> Result<Vec<u8>, Fault>
-        ensures { Steps (write_step self.old (map (λ word. word.now) arguments.now)) self.new result }
+    // Where a command without arguments works.
+    fn place(&self, arguments: &[&str]) -> Result<Place<'_>, Fault>
+        ensures place { Finds (place_of self.now (map (λ word. word.now) arguments.now)) result }
+        ensures is { IfOk result IsPlace }
     {
         if !arguments.is_empty() {
             return Err(Fault::BadArgument);
@@ -186,10 +242,20 @@ impl Session {
         let (Some(body), Some(point)) = (&self.body, self.point) else {
             return Err(Fault::NoBlock);
         };
-        let Some(block) = body.block_at(point) else {
-            return Err(Fault::NoBlock);
-        };
-        let outcome = write_body(self.alloc, body, point, &self.nodes, &block)?;
-        outcome_line(self.alloc, &outcome)
+        match body.block_at(point) {
+            Some(block) => Ok(Place { body, point, block }),
+            None => Err(Fault::NoBlock),
+        }
+    }
+
+    fn write(&self, arguments: &[&str]) -> Result<Vec<u8>, Fault>
+        ensures { Steps (write_step self.now (map (λ word. word.now) arguments.now)) self.now result }
+    {
+        let place = self.place(arguments)?;
+        let mut config = configured(self.alloc, &self.info, self.preserving, place.body)?;
+        match write_body(self.alloc, &mut config, &place, &self.nodes) {
+            Ok(sink) => bytes_line(self.alloc, &sink),
+            Err(refusal) => refusal_line(self.alloc, refusal),
+        }
     }
 }

@@ -1,71 +1,51 @@
 //! The body with the term in it.
 
-ghost use Rattle.std.specs.Prelude.{◌≡◌, ◌≢◌, ◌<◌, map, length, IfOk, IfErr, MatchResult};
+ghost use Rattle.std.specs.Prelude.{◌≡◌, ◌⊎◌, ◌<◌, map, length, is_some, IsTrue, Ok, Err, MatchResult};
+ghost use Rattle.mutate_base.specs.declared.error.Error.TheVariants.{Memory};
 ghost use Rattle.peephole_lang.specs.Node.{node_of, head_of, children_of};
 ghost use Rattle.peephole_lang.specs.Term.{term_of};
-ghost use Rattle.peephole_terms.specs.Block.{IsBlockOf};
-ghost use Rattle.peephole_terms.specs.Written.{written_block, written_body};
-ghost use Rattle.peephole_run.specs.Writing.{bare_module, IsGraphIn, outcome_of};
-ghost use Rattle.peephole_run.specs.declared.writing.Outcome.TheVariants as outcome;
+ghost use Rattle.peephole_terms.specs.Written.{written_block, shapes_in};
+ghost use Rattle.peephole_run.specs.declared.graphs.Refusal.TheVariants.{Refused};
+ghost use Rattle.peephole_run.specs.Graphs.{module_in, IsPlace, IsGraphAt, Tells};
+ghost use Rattle.peephole_run.specs.Writing.{written_as, written};
 
-use crate::body::Body;
-use crate::fault::Fault;
-use mutate_base::{Error, ModuleInfo, WasmMutate, Words};
+use crate::graphs::{Refusal, graph_of};
+use crate::place::Place;
+use mutate_base::{Error, WasmMutate, Words};
 use peephole_lang::{Lang, RecExpr};
-use peephole_terms::{BBlock, DFGBuilder, Encoder, MiniDFG};
+use peephole_terms::{Encoder, MiniDFG};
 use std::alloc::Global;
 use wasm_code::Function;
-
-/// What comes of writing a body with a term.
-#[derive(Drop)]
-pub enum Outcome {
-    /// The block has no graph.
-    NoGraph,
-    /// A call refused, for another cause than memory.
-    Refused(Error),
-    /// The body.
-    Written(Function),
-}
-
-// What comes of a refusal.
-fn refused(error: Error) -> Result<Outcome, Fault>
-    ensures { MatchResult result (λ o. (error ≢ Error.Memory) × (o ≡ outcome.Refused error)) (λ fault. fault ≡ Fault.Memory) }
-{
-    match error {
-        Error::Memory => Err(Fault::Memory),
-        _ => Ok(Outcome::Refused(error)),
-    }
-}
 
 // The body with the term of an expression in place of the tree of the operator at the point.
 fn build(
     alloc: Global,
     config: &mut WasmMutate<'_, Words>,
-    body: &Body,
-    point: usize,
+    place: &Place,
     expr: &RecExpr<Lang>,
-    block: &BBlock,
     graph: &MiniDFG,
 ) -> Result<Function, Error>
-    requires within { point < length body.now.operators }
+    requires set_up { IsTrue (is_some config.old.info) }
+    requires place { IsPlace place.now }
     requires some { 0 < length expr.now }
-    requires block { IsBlockOf body.now.operators point block.now.start block.now.end }
-    requires graph { IsGraphIn config.old body.now block.now graph.now }
-    ensures written { IfOk result (λ sink. sink ≡ written_body body.now.bytes body.now.operators block.now
-        (written_block (bare_module body.now) body.now.operators block.now point (term_of head_of children_of expr.now))) }
-    ensures refused { IfErr result (λ e. e ≡ Error.Memory) }
+    requires graph { IsGraphAt config.old place.now graph.now }
+    ensures { let info = module_in config.old.info in
+        let body = place.now.body.now in
+        let said = written_as config.old.preserving body place.now.block (shapes_in info body.operators place.now.block)
+        (written_block info body.operators place.now.block place.now.point (term_of head_of children_of expr.now)) in
+        MatchResult result (λ sink. said ≡ Ok sink) (λ e. (e ≡ Memory) ⊎ (said ≡ Err (Refused e))) }
 {
     let mut sink = Function::new(alloc);
     match Encoder::build_function(
         alloc,
         config,
-        point,
+        place.point,
         expr,
-        body.operators(),
-        block,
+        place.body.operators(),
+        &place.block,
         &mut sink,
         graph,
-        body.bytes(),
+        place.body.bytes(),
     ) {
         Ok(_) => Ok(sink),
         Err(refusal) => Err(refusal),
@@ -76,54 +56,38 @@ fn build(
 fn build_with(
     alloc: Global,
     config: &mut WasmMutate<'_, Words>,
-    body: &Body,
-    point: usize,
+    place: &Place,
     nodes: &RecExpr<Lang>,
-    block: &BBlock,
     graph: &MiniDFG,
 ) -> Result<Function, Error>
-    requires within { point < length body.now.operators }
-    requires block { IsBlockOf body.now.operators point block.now.start block.now.end }
-    requires graph { IsGraphIn config.old body.now block.now graph.now }
-    ensures written { IfOk result (λ sink. outcome_of body.now point block.now (map node_of nodes.now) ≡ outcome.Written sink) }
-    ensures refused { IfErr result (λ e. e ≡ Error.Memory) }
+    requires set_up { IsTrue (is_some config.old.info) }
+    requires place { IsPlace place.now }
+    requires graph { IsGraphAt config.old place.now graph.now }
+    ensures { let said = written (module_in config.old.info) config.old.preserving place.now.body.now place.now.point place.now.block (map node_of nodes.now) in
+        MatchResult result (λ sink. said ≡ Ok sink) (λ e. (e ≡ Memory) ⊎ (said ≡ Err (Refused e))) }
 {
     if nodes.len() > 0 {
-        return build(alloc, config, body, point, nodes, block, graph);
+        return build(alloc, config, place, nodes, graph);
     }
-    match graph.get_expr(alloc, point) {
-        Ok(own) => build(alloc, config, body, point, &own, block, graph),
+    match graph.get_expr(alloc, place.point) {
+        Ok(own) => build(alloc, config, place, &own, graph),
         Err(refusal) => Err(refusal),
     }
 }
 
-/// Writes the body with the term in place of the tree of the operator at the point; without
-/// nodes the body with its own trees. Refuses with `Memory` alone.
-///
-/// Condition: `block` is the block of that operator.
+/// The body with the term in place of the tree of the operator at the point; without nodes the body with its own trees.
+/// Condition: the configuration is set up.
 pub fn write_body(
     alloc: Global,
-    body: &Body,
-    point: usize,
+    config: &mut WasmMutate<'_, Words>,
+    place: &Place,
     nodes: &RecExpr<Lang>,
-    block: &BBlock,
-) -> Result<Outcome, Fault>
-    requires block { IsBlockOf body.now.operators point block.now.start block.now.end }
-    requires within { point < length body.now.operators }
-    ensures { MatchResult result (λ outcome. outcome_of body.now point block.now (map node_of nodes.now) ≡ outcome) (λ fault. fault ≡ Fault.Memory) }
+) -> Result<Function, Refusal>
+    requires set_up { IsTrue (is_some config.old.info) }
+    requires place { IsPlace place.now }
+    ensures { Tells (λ sink. sink) (written (module_in config.old.info) config.old.preserving place.now.body.now place.now.point place.now.block (map node_of nodes.now)) result }
 {
-    let mut config = WasmMutate::new();
-    config.set_up(
-        ModuleInfo::new(alloc, body.bytes()),
-        Words::new(Vec::new(alloc)),
-    );
-    let mut builder = DFGBuilder::new(&config);
-    match builder.get_dfg(alloc, config.info(), body.operators(), block) {
-        Ok(Some(graph)) => match build_with(alloc, &mut config, body, point, nodes, block, &graph) {
-            Ok(sink) => Ok(Outcome::Written(sink)),
-            Err(_) => Err(Fault::Memory),
-        },
-        Ok(None) => Ok(Outcome::NoGraph),
-        Err(error) => refused(error),
-    }
+    let graph = graph_of(alloc, config, place)?;
+    let sink = build_with(alloc, config, place, nodes, &graph)?;
+    Ok(sink)
 }

@@ -1,13 +1,19 @@
-use Rattle.peephole_run.proofs.Outcomes.{graph_under, written_under}
+use Rattle.peephole_terms.specs.Dfg.{entries_of, parents_of, look_of}
+use Rattle.peephole_run.proofs.Writings.{graph_under, build_ok, build_err}
 use Rattle.peephole_run.proofs.writing.build.Goals as goal
 
 pub build_function-requires-clause-graph : goal.build_function-requires-clause-graph
 build_function-requires-clause-graph c =
-    graph_under c.args.config.now.info c.args.config.now.preserving c.args.body.now c.operators.result.now c.args.block.now c.args.graph.now
-    c.requires.graph.0 c.requires.graph.1 c.operators.ensures.value c.requires.graph.2
+    graph_under c.args.config.now.info c.args.config.now.preserving c.args.place.now.body.now.operators c.operators.result.now c.args.place.now.block
+    (entries_of c.args.graph.now) (parents_of c.args.graph.now) (look_of c.args.graph.now) c.requires.set_up c.operators.ensures.value c.requires.graph
 
-pub returns-in-Ok-clause-written : goal.returns-in-Ok-clause-written
-returns-in-Ok-clause-written c =
-    written_under c.args.config.now.info c.args.body.now c.bytes.result.now c.operators.result.now c.args.point c.args.block.now
-    c.args.expr.now c.new-sink.result c.build_function.new.newfunc
-    c.requires.graph.1 c.bytes.ensures c.operators.ensures.value c.new-sink.ensures (c.in-Ok.ensures.written)
+pub returns-in-Ok : goal.returns-in-Ok
+returns-in-Ok c =
+    build_ok _ c.args.config.now.info c.args.config.now.preserving c.args.place.now.body.now c.bytes.result.now c.operators.result.now c.args.place.now.point c.args.place.now.block
+    c.args.expr.now c.new-sink.result c.build_function.new.newfunc _
+    c.requires.set_up c.bytes.ensures c.operators.ensures.value c.new-sink.ensures c.in-Ok.ensures.written c.in-Ok.ensures.order
+
+pub returns-in-Err : goal.returns-in-Err
+returns-in-Err c =
+    build_err _ c.args.config.now.info c.args.config.now.preserving c.args.place.now.body.now c.operators.result.now c.args.place.now.point c.args.place.now.block
+    c.args.expr.now c.in-Err.refusal c.requires.set_up c.operators.ensures.value c.in-Err.ensures.order c.in-Err.ensures.refusal
