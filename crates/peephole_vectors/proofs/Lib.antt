@@ -1,1 +1,2 @@
 pub mod ArithLemmas
+pub mod Trees

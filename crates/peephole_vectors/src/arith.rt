@@ -1,10 +1,11 @@
 //! The nodes of arithmetic, and their texts.
-ghost use Rattle.std.specs.Prelude.{◌≡◌, Some, codes, refl};
+ghost use Rattle.std.specs.Prelude.{◌≡◌, [], Some, codes, refl};
 ghost use Rattle.std.specs.Option.{option_copied};
+ghost use Rattle.peephole_lang.specs.Language.{ReadsInto};
 ghost use Rattle.peephole_lang.specs.Names.{after};
-ghost use Rattle.peephole_vectors.specs.Arith.{head_of, ids_of, children_of, with_ids, IsNode, arith_matches, text_of, reads, says, reads_back, keeps_head, has_written, matches_exactly, matches_equivalence};
+ghost use Rattle.peephole_vectors.specs.Arith.{head_of, ids_of, children_of, with_ids, IsNode, arith_matches, text_of, read_number, reads, says, reads_back, keeps_head, has_written, matches_exactly, matches_equivalence};
 
-use mutate_base::number::read_u32;
+use mutate_base::number::read_i32;
 use mutate_base::{Error, TermError};
 use peephole_lang::{Children, Id, Language, no_children};
 use std::fmt;
@@ -12,8 +13,9 @@ use std::fmt;
 /// What a node is, apart from its children.
 #[derive(Clone, Copy, Debug, PartialEq, Eq)]
 pub enum ArithHead {
-    Num(u32),
+    Num(i32),
     Neg,
+    Add,
     Sum,
 }
 
@@ -21,11 +23,13 @@ pub enum ArithHead {
 #[derive(Drop)]
 pub enum Arith {
     /// `num.1`: a number
-    Num(u32),
+    Num(i32),
     /// `neg`: the negative of its child
-    Neg(Id),
-    /// `sum`: the sum of its children
-    Sum([Id; 2]),
+    Neg([Id; 1]),
+    /// `add`: the sum of its two children
+    Add([Id; 2]),
+    /// `sum`: the sum of its children, of which there may be any number
+    Sum(Vec<Id>),
 }
 
 // The text behind `num.`.
@@ -38,6 +42,13 @@ fn behind_num(text: &str) -> Option<&str>
     }
 }
 
+// The node of the number that the digits write.
+fn read_num(digits: &str) -> Result<Arith, TermError>
+    ensures { ReadsInto head_of ids_of (λ text count. read_number text) digits.now [] result }
+{
+    Ok(Arith::Num(read_i32(digits)?))
+}
+
 impl fmt::Display for Arith {
     ghost output = { λ a. Some (text_of a) };
 
@@ -45,6 +56,7 @@ impl fmt::Display for Arith {
         match self {
             Arith::Num(number) => write!(f, "num.{number}"),
             Arith::Neg(_) => write!(f, "neg"),
+            Arith::Add(_) => write!(f, "add"),
             Arith::Sum(_) => write!(f, "sum"),
         }
     }
@@ -75,15 +87,17 @@ impl Language for Arith {
                 let _in_range = *number;
                 &[]
             }
-            Arith::Neg(child) => std::slice::from_ref(child),
-            Arith::Sum(children) => children,
+            Arith::Neg(children) => children,
+            Arith::Add(children) => children,
+            Arith::Sum(children) => children.as_slice(),
         }
     }
 
     fn children_mut(&mut self) -> &mut [Id] {
         match self {
             Arith::Num(_) => no_children(self),
-            Arith::Neg(child) => std::slice::from_mut(child),
+            Arith::Neg(children) => children.as_mut_slice(),
+            Arith::Add(children) => children.as_mut_slice(),
             Arith::Sum(children) => children.as_mut_slice(),
         }
     }
@@ -91,9 +105,11 @@ impl Language for Arith {
     fn matches(&self, other: &Arith) -> bool {
         match (self, other) {
             (Arith::Num(number), Arith::Num(second)) => *number == *second,
-            (Arith::Neg(_), Arith::Neg(_)) => true,
-            (Arith::Sum(first), Arith::Sum(second)) => first.as_slice().len()
+            (Arith::Neg(first), Arith::Neg(second)) => first.as_slice().len()
                 == second.as_slice().len(),
+            (Arith::Add(first), Arith::Add(second)) => first.as_slice().len()
+                == second.as_slice().len(),
+            (Arith::Sum(first), Arith::Sum(second)) => first.len() == second.len(),
             _ => false,
         }
     }
@@ -102,12 +118,15 @@ impl Language for Arith {
         if op_str == "neg" {
             return Ok(Arith::Neg(Children::from(given)?));
         }
+        if op_str == "add" {
+            return Ok(Arith::Add(Children::from(given)?));
+        }
         if op_str == "sum" {
             return Ok(Arith::Sum(Children::from(given)?));
         }
         match behind_num(op_str) {
             Some(_) if !given.is_empty() => Err(TermError::ExpectedZeroChildren),
-            Some(digits) => Ok(Arith::Num(read_u32(digits)?)),
+            Some(digits) => read_num(digits),
             None => Err(TermError::InvalidToken),
         }
     }
@@ -115,8 +134,9 @@ impl Language for Arith {
     fn clone_node(&self) -> Result<Arith, Error> {
         Ok(match self {
             Arith::Num(number) => Arith::Num(*number),
-            Arith::Neg(child) => Arith::Neg(*child),
-            Arith::Sum(children) => Arith::Sum(*children),
+            Arith::Neg(children) => Arith::Neg(*children),
+            Arith::Add(children) => Arith::Add(*children),
+            Arith::Sum(children) => Arith::Sum(children.clone()?),
         })
     }
 

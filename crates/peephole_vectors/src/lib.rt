@@ -5,17 +5,19 @@ mod arith;
 mod uses;
 
 pub use arith::{Arith, ArithHead};
-pub use uses::{all_first, read_again, set_first};
+pub use uses::{all_first, read_again, set_first, tree_of};
 
+#[cfg(test)]
+mod deep;
 #[cfg(test)]
 mod graphs;
 #[cfg(test)]
 mod languages;
 #[cfg(test)]
+mod memory;
+#[cfg(test)]
 mod names;
 #[cfg(test)]
 mod reading;
-#[cfg(test)]
-mod texts;
 #[cfg(test)]
 mod writing;

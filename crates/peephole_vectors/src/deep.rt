@@ -1,0 +1,65 @@
+//! Blocks of many operators, each of which is an operand of the next.
+
+use crate::graphs::{graph_of, order_and_color};
+use peephole_terms::{Id, MiniDFG};
+use std::alloc::Global;
+use std::process::Abort;
+use std::test::Fail;
+
+/// A body of `local.get 0`, then some bytes 100,000 times, then `end`.
+fn deep_body(alloc: Global, repeated: &[u8]) -> Result<Vec<u8>, Fail> {
+    let mut bytes = Vec::new(alloc);
+    bytes.extend_from_slice(&[0x20, 0x00])?;
+    for _ in 0..100_000 {
+        bytes.extend_from_slice(repeated)?;
+    }
+    bytes.push(0x0b)?;
+    Ok(bytes)
+}
+
+/// The tree of the operator at `at` is the whole graph, and its last node has these children.
+fn is_one_tree(
+    rt: &impl Abort,
+    alloc: Global,
+    graph: &MiniDFG,
+    at: usize,
+    children: &[Id],
+) -> Result<(), Fail> {
+    let count = graph.entries().len();
+    assert!(rt; at < count && count - at == 1);
+    assert!(rt; graph.subtree_len(at) == count);
+    assert!(rt; order_and_color(rt, graph) == (true, true));
+    assert!(rt; graph.map().contains_key(&at));
+    let expr = graph.get_expr(alloc, at)?;
+    assert!(rt; expr.len() == count);
+    match expr.as_ref().last() {
+        Some(root) => assert!(rt; root.children() == children),
+        None => panic!(rt; "no nodes"),
+    }
+    Ok(())
+}
+
+/// i32.eqz of i32.eqz, 100,000 times.
+#[test]
+fn chain(rt: HostRuntime) -> Result<(), Fail> {
+    let alloc = rt.alloc();
+    let bytes = deep_body(alloc, &[0x45])?;
+    for preserving in [false, true] {
+        let graph = graph_of(&rt, alloc, &bytes, 100_000, preserving)?;
+        is_one_tree(&rt, alloc, &graph, 100_000, &[Id(99_999)])?;
+    }
+    Ok(())
+}
+
+/// 100,000 times a select between the one before and 1, under the condition 1.
+#[test]
+fn selects(rt: HostRuntime) -> Result<(), Fail> {
+    let alloc = rt.alloc();
+    let bytes = deep_body(alloc, &[0x41, 0x01, 0x41, 0x01, 0x1b])?;
+    for preserving in [false, true] {
+        let graph = graph_of(&rt, alloc, &bytes, 300_000, preserving)?;
+        let children = [Id(299_997), Id(299_998), Id(299_999)];
+        is_one_tree(&rt, alloc, &graph, 300_000, &children)?;
+    }
+    Ok(())
+}

@@ -1,0 +1,205 @@
+//! Memory that runs out. `rt try --test --fail-alloc N` refuses each test its allocation N.
+
+ghost use Rattle.std.specs.Prelude.{◌≡◌, ◌<◌, length, IfOk};
+
+use crate::arith::Arith;
+use crate::uses::tree_of;
+use peephole_terms::{
+    DFGBuilder, Error, Id, Language, MiniDFG, ModuleInfo, OperatorAndByteOffset, RecExpr,
+    WasmMutate, Words, read_body,
+};
+use std::alloc::{AllocError, Global};
+use std::process::Abort;
+
+/// drop, local.get 0, i32.add
+const BYTES: [u8; 5] = [0x1a, 0x20, 0x00, 0x6a, 0x0b];
+
+/// The operators, at the second try where memory was refused.
+fn operators(rt: &impl Abort, alloc: Global) -> Vec<OperatorAndByteOffset> {
+    for _ in 0..2 {
+        if let Ok(operators) = read_body(alloc, &BYTES, 0, BYTES.len()) {
+            return operators;
+        }
+    }
+    panic!(rt; "no operators")
+}
+
+/// What the builder makes of the block of the sum, or none where memory was refused.
+fn try_graph(
+    rt: &impl Abort,
+    alloc: Global,
+    builder: &mut DFGBuilder,
+    info: &ModuleInfo,
+    operators: &[OperatorAndByteOffset],
+) -> Option<MiniDFG> {
+    assert!(rt; operators.len() == 4);
+    let Some(block) = builder.get_bb_from_operator(2, operators) else {
+        panic!(rt; "no block");
+    };
+    match builder.get_dfg(alloc, info, operators, &block) {
+        Ok(Some(graph)) => Some(graph),
+        Ok(None) => panic!(rt; "no graph"),
+        Err(error) => {
+            assert!(rt; error == Error::Memory);
+            None
+        }
+    }
+}
+
+/// The graph, at the second try where memory was refused.
+fn graph(rt: &impl Abort, alloc: Global) -> MiniDFG {
+    let operators = operators(rt, alloc);
+    let config: WasmMutate<Words> = WasmMutate::new();
+    let mut builder = DFGBuilder::new(&config);
+    let info = ModuleInfo::new(alloc, &BYTES);
+    for _ in 0..2 {
+        if let Some(graph) = try_graph(rt, alloc, &mut builder, &info, &operators) {
+            return graph;
+        }
+    }
+    panic!(rt; "memory was refused twice")
+}
+
+/// The graph is that of the block of the sum: two operators lack an operand.
+fn is_whole(rt: &impl Abort, graph: &MiniDFG) {
+    let entries = graph.entries();
+    assert!(rt; entries.len() == 5);
+    assert!(rt; entries[0].operator.children().is_empty());
+    assert!(rt; entries[1].operator.children() == [Id(0)].as_slice());
+    assert!(rt; entries[2].operator.children().is_empty());
+    assert!(rt; entries[3].operator.children().is_empty());
+    assert!(rt; entries[4].operator.children() == [Id(3), Id(2)].as_slice());
+    let parents = [Some(1), None, Some(4), Some(4), None];
+    assert!(rt; graph.parents() == parents.as_slice());
+    for (operator, entry) in [(0, 1), (1, 2), (2, 4)] {
+        assert!(rt; graph.map().get(&operator) == Some(&entry));
+    }
+}
+
+#[test]
+fn graphs(rt: HostRuntime) {
+    is_whole(&rt, &graph(&rt, rt.alloc()));
+}
+
+/// A copy, or none where memory was refused; the graph is as it was.
+fn try_clone(rt: &impl Abort, graph: &MiniDFG) -> Option<MiniDFG> {
+    let copy: Result<MiniDFG, AllocError> = graph.clone();
+    is_whole(rt, graph);
+    match copy {
+        Ok(copy) => Some(copy),
+        Err(_) => None,
+    }
+}
+
+#[test]
+fn clones(rt: HostRuntime) {
+    let graph = graph(&rt, rt.alloc());
+    for _ in 0..2 {
+        if let Some(copy) = try_clone(&rt, &graph) {
+            is_whole(&rt, &copy);
+            return;
+        }
+    }
+    panic!(&rt; "memory was refused twice")
+}
+
+/// Whether the tree of the sum was laid out; else memory was refused. The graph is as it was.
+fn is_laid_out(rt: &impl Abort, alloc: Global, graph: &MiniDFG) -> bool {
+    assert!(rt; graph.map().contains_key(&2));
+    let answer = graph.get_expr(alloc, 2);
+    is_whole(rt, graph);
+    match answer {
+        Ok(expr) => {
+            assert!(rt; expr.len() == 3);
+            let nodes = expr.as_ref();
+            assert!(rt; nodes[0].children().is_empty());
+            assert!(rt; nodes[1].children().is_empty());
+            assert!(rt; nodes[2].children() == [Id(0), Id(1)].as_slice());
+            true
+        }
+        Err(error) => {
+            assert!(rt; error == Error::Memory);
+            false
+        }
+    }
+}
+
+#[test]
+fn layouts(rt: HostRuntime) {
+    let graph = graph(&rt, rt.alloc());
+    let first = is_laid_out(&rt, rt.alloc(), &graph);
+    let second = is_laid_out(&rt, rt.alloc(), &graph);
+    assert!(rt; first || second);
+}
+
+/// Whether the forest was drawn; else memory was refused. The graph is as it was.
+fn is_drawn(rt: &impl Abort, alloc: Global, graph: &MiniDFG) -> bool {
+    let answer = graph.pretty_print(alloc, |entry| {
+        let operator = &entry.operator;
+        Ok(format!(in alloc; "{operator}")?)
+    });
+    is_whole(rt, graph);
+    match answer {
+        Ok(text) => {
+            let wanted =
+                "DFG forest\n(0)(at 0) drop\n└──(4294967295)(at 0) undef\n\
+                (0)(at 2) i32.add\n├──(4294967295)(at 2) undef\n└──(0)(at 1) local.get.0\n";
+            assert!(rt; text.as_str() == wanted);
+            true
+        }
+        Err(error) => {
+            assert!(rt; error == Error::Memory);
+            false
+        }
+    }
+}
+
+#[test]
+fn texts(rt: HostRuntime) {
+    let graph = graph(&rt, rt.alloc());
+    let first = is_drawn(&rt, rt.alloc(), &graph);
+    let second = is_drawn(&rt, rt.alloc(), &graph);
+    assert!(rt; first || second);
+}
+
+/// num.1, sum 0 0
+fn some_sum(alloc: Global) -> Result<RecExpr<Arith>, Error>
+    ensures { IfOk result (λ expr. length expr ≡ 2) }
+{
+    let mut expr = RecExpr::new(alloc);
+    let one = expr.add(Arith::Num(1))?;
+    expr.add(Arith::Sum(vec![in alloc; one, one]?))?;
+    Ok(expr)
+}
+
+/// Whether the tree of the sum was laid out, with its shared node twice; else memory was refused.
+fn is_tree(rt: &impl Abort, alloc: Global, expr: &RecExpr<Arith>) -> bool
+    requires { 1 < length expr.now }
+{
+    let answer = tree_of(alloc, expr, Id(1));
+    assert!(rt; expr.as_ref()[1].children() == [Id(0), Id(0)].as_slice());
+    match answer {
+        Ok(tree) => {
+            assert!(rt; tree.len() == 3);
+            assert!(rt; tree.as_ref()[2].children() == [Id(0), Id(1)].as_slice());
+            true
+        }
+        Err(error) => {
+            assert!(rt; error == Error::Memory);
+            false
+        }
+    }
+}
+
+#[test]
+fn trees(rt: HostRuntime) {
+    for _ in 0..2 {
+        if let Ok(expr) = some_sum(rt.alloc()) {
+            let first = is_tree(&rt, rt.alloc(), &expr);
+            let second = is_tree(&rt, rt.alloc(), &expr);
+            assert!(rt; first || second);
+            return;
+        }
+    }
+    panic!(&rt; "memory was refused twice")
+}
