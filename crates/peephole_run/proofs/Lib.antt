@@ -6,5 +6,6 @@ pub mod Names
 pub mod Blocks
 pub mod Refusals
 pub mod Writings
+pub mod Shows
 pub mod Readings
 pub mod OwnTrees

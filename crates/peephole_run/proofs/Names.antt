@@ -14,21 +14,6 @@ use Rattle.peephole_run.proofs.Values.{texts}
 
 -- ---- types
 
--- the type that a name is of
-pub type_named : (word : List ℕ) (t : PrimitiveTypeInfo) → word ≡ type_name t → t ≢ type.Empty → Some t ≡ type_of word
-type_named word type.I32 e h = rw e refl
-type_named word type.I64 e h = rw e refl
-type_named word type.F32 e h = rw e refl
-type_named word type.F64 e h = rw e refl
-type_named word type.V128 e h = rw e refl
-type_named word type.FuncRef e h = rw e refl
-type_named word type.ExternRef e h = rw e refl
-type_named word type.Empty e h = absurd (h refl)
-
--- `empty` is no value's
-pub type_empty : (word : List ℕ) → word ≡ type_name type.Empty → None ≡ type_of word
-type_empty word e = rw e refl
-
 -- no type has the name
 pub type_none : (word : List ℕ) → ((t : PrimitiveTypeInfo) → word ≢ type_name t) → None ≡ type_of word
 type_none word h =

@@ -25,6 +25,7 @@ use Rattle.peephole_run.specs.Body.{Contents, body_of, block_at}
 use Rattle.peephole_run.specs.Declarations.{declared}
 use Rattle.peephole_run.specs.State.{State, Reply, module_with}
 use Rattle.peephole_run.specs.Writing.{written}
+use Rattle.peephole_run.specs.Show.{shown}
 
 -- a line that writes nothing
 abbrev pub quiet : State → Result Reply Fault
@@ -114,6 +115,11 @@ abbrev pub answer_text : (List ℕ → List ℕ) → Result (List ℕ) Refusal �
 answer_text text (Ok answer) = text answer
 answer_text text (Err r) = refusal_line r
 
+-- `show`: the forest, and two answers
+abbrev pub show_step : State → List (List ℕ) → Result Reply Fault
+show_step s words = at_place s (place_of s words) (λ body point block.
+    answer_text (λ text. text) (shown (module_with s.info body) s.preserving body block))
+
 -- `write`: the body with the term
 abbrev pub bytes_line : List ℕ → List ℕ
 bytes_line bytes = codes "bytes " ++ (encode_lower bytes ++ codes "\n")
@@ -128,6 +134,7 @@ command_step name.Body = body_step
 command_step name.At = at_step
 command_step name.Node = node_step
 command_step name.Write = write_step
+command_step name.Show = show_step
 command_step name.Local = local_step
 command_step name.Preserve = preserve_step
 command_step (name.Declare declaration) = declare_step declaration
@@ -139,6 +146,7 @@ command_of word =
     else if bytes_eq word (codes "at") then Some name.At
     else if bytes_eq word (codes "node") then Some name.Node
     else if bytes_eq word (codes "write") then Some name.Write
+    else if bytes_eq word (codes "show") then Some name.Show
     else if bytes_eq word (codes "global") then Some (name.Declare declare.Global)
     else if bytes_eq word (codes "memory") then Some (name.Declare declare.Memory)
     else if bytes_eq word (codes "table") then Some (name.Declare declare.Table)

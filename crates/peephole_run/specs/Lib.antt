@@ -6,5 +6,6 @@ pub mod Declarations
 pub mod State
 pub mod Graphs
 pub mod Writing
+pub mod Show
 pub mod Commands
 pub mod Answer

@@ -16,6 +16,8 @@ pub enum Command {
     Node,
     /// Writes the body with the term.
     Write,
+    /// Shows the forest of the point's block.
+    Show,
     /// Adds a local.
     Local,
     /// Sets the mode.
@@ -36,6 +38,8 @@ pub fn command_of(word: &str) -> Option<Command>
         Some(Command::Node)
     } else if word == "write" {
         Some(Command::Write)
+    } else if word == "show" {
+        Some(Command::Show)
     } else if word == "global" {
         Some(Command::Declare(Declaration::Global))
     } else if word == "memory" {

@@ -12,6 +12,7 @@ mod place;
 mod reply;
 mod run;
 mod session;
+mod show;
 mod tally;
 #[cfg(test)]
 mod tests;

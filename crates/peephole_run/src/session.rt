@@ -6,7 +6,7 @@ ghost use Rattle.peephole_lang.specs.Node.{node_of};
 ghost use Rattle.peephole_lang.specs.Text.{reads};
 ghost use Rattle.peephole_run.specs.State.{State, Reply, PointsInto, start, module_with};
 ghost use Rattle.peephole_run.specs.Graphs.{IsPlace};
-ghost use Rattle.peephole_run.specs.Commands.{step_line, step, command_step, declare_step, local_step, preserve_step, body_step, at_step, node_step, node_read, node_words, place_of, write_step, Steps, Finds};
+ghost use Rattle.peephole_run.specs.Commands.{step_line, step, command_step, declare_step, local_step, preserve_step, body_step, at_step, node_step, node_read, node_words, place_of, show_step, write_step, Steps, Finds};
 
 use crate::arguments::{all_below, ids_of, is_yes, joined, numbers_of, type_of};
 use crate::body::Body;
@@ -16,6 +16,7 @@ use crate::fault::Fault;
 use crate::graphs::configured;
 use crate::place::Place;
 use crate::reply::{block_line, bytes_line, refusal_line};
+use crate::show::show_block;
 use crate::text::{is_text, number_of, words_of};
 use crate::writing::write_body;
 use mutate_base::{Error, ModuleInfo, PrimitiveTypeInfo};
@@ -104,6 +105,7 @@ impl Session {
             Command::At => self.at(arguments),
             Command::Node => self.node(arguments),
             Command::Write => self.write(arguments),
+            Command::Show => self.show(arguments),
             Command::Local => self.local(arguments),
             Command::Preserve => self.preserve(arguments),
             Command::Declare(declaration) => self.declare(declaration, arguments),
@@ -245,6 +247,17 @@ impl Session {
         match body.block_at(point) {
             Some(block) => Ok(Place { body, point, block }),
             None => Err(Fault::NoBlock),
+        }
+    }
+
+    fn show(&self, arguments: &[&str]) -> Result<Vec<u8>, Fault>
+        ensures { Steps (show_step self.now (map (λ word. word.now) arguments.now)) self.now result }
+    {
+        let place = self.place(arguments)?;
+        let config = configured(self.alloc, &self.info, self.preserving, place.body)?;
+        match show_block(self.alloc, &config, &place) {
+            Ok(text) => Ok(text.into_bytes()),
+            Err(refusal) => refusal_line(self.alloc, refusal),
         }
     }
 

@@ -102,7 +102,7 @@ fn worked_runs(rt: HostRuntime) {
     answers(
         &rt,
         alloc,
-        b"body 1a0b\nat 0\nshow\nwrite",
+        b"body 1a0b\nat 0\nresult\nwrite",
         b"block 0..1\nline 3: UnknownCommand\n",
         false,
     );
@@ -168,5 +168,325 @@ fn long_inputs(rt: HostRuntime) -> Result<(), Fail> {
     assert!(&rt; !output.failed());
     let bytes = output.into_inner();
     assert!(&rt; bytes.is_empty());
+    Ok(())
+}
+
+/// A run without a faulty line.
+fn says(rt: &impl Abort, alloc: Global, text: &str, written: &str) {
+    answers(rt, alloc, text.as_bytes(), written.as_bytes(), true);
+}
+
+/// A run of a faulty line alone.
+fn is_faulty(rt: &impl Abort, alloc: Global, line: &str) {
+    answers(rt, alloc, line.as_bytes(), b"line 1: BadArgument\n", false);
+}
+
+#[test]
+fn order_of_effects(rt: HostRuntime) {
+    let alloc = rt.alloc();
+    says(
+        &rt,
+        alloc,
+        "body 20004101210021010b\nat 3\nshow\nwrite\npreserve yes\nshow\nwrite",
+        "block 0..4\n\
+         DFG forest\n\
+         (0)(at 2) local.set.0\n\
+         └──(0)(at 1) i32.const.1\n\
+         (0)(at 3) local.set.1\n\
+         └──(0)(at 0) local.get.0\n\
+         in order no\n\
+         consistent yes\n\
+         bytes 41012100200021010b\n\
+         DFG forest\n\
+         (0)(at 2) local.set.0\n\
+         └──(0)(at 1) i32.const.1\n\
+         (1)(at 3) local.set.1\n\
+         └──(0)(at 0) local.get.0\n\
+         in order no\n\
+         consistent no\n\
+         refused NoMutationsApplicable\n",
+    );
+    says(
+        &rt,
+        alloc,
+        "body 20000120016a0b\nat 3\nshow\npreserve yes\npreserve yes\nshow\n\
+         preserve no\npreserve no\nwrite",
+        "block 0..4\n\
+         DFG forest\n\
+         (0)(at 1) nop\n\
+         (0)(at 3) i32.add\n\
+         ├──(0)(at 0) local.get.0\n\
+         └──(0)(at 2) local.get.1\n\
+         in order no\n\
+         consistent yes\n\
+         DFG forest\n\
+         (0)(at 1) nop\n\
+         (1)(at 3) i32.add\n\
+         ├──(0)(at 0) local.get.0\n\
+         └──(1)(at 2) local.get.1\n\
+         in order no\n\
+         consistent no\n\
+         bytes 01200020016a0b\n",
+    );
+}
+
+#[test]
+fn missing_operands(rt: HostRuntime) {
+    let alloc = rt.alloc();
+    says(
+        &rt,
+        alloc,
+        "body 200002400b41016a0b\nat 4\nshow\nwrite\npreserve yes\nshow\nwrite",
+        "block 3..5\n\
+         DFG forest\n\
+         (0)(at 4) i32.add\n\
+         ├──(4294967295)(at 4) undef\n\
+         └──(0)(at 3) i32.const.1\n\
+         in order yes\n\
+         consistent no\n\
+         bytes 200002400b41016a0b\n\
+         DFG forest\n\
+         (0)(at 4) i32.add\n\
+         ├──(4294967295)(at 4) undef\n\
+         └──(0)(at 3) i32.const.1\n\
+         in order yes\n\
+         consistent no\n\
+         bytes 200002400b41016a0b\n",
+    );
+    says(
+        &rt,
+        alloc,
+        "body 2000016a0b\nat 2\nshow\nwrite\nbody 0120006a0b\nat 2\nshow\nwrite",
+        "block 0..3\n\
+         DFG forest\n\
+         (0)(at 1) nop\n\
+         (0)(at 2) i32.add\n\
+         ├──(4294967295)(at 2) undef\n\
+         └──(0)(at 0) local.get.0\n\
+         in order no\n\
+         consistent no\n\
+         bytes 0120006a0b\n\
+         block 0..3\n\
+         DFG forest\n\
+         (0)(at 0) nop\n\
+         (0)(at 2) i32.add\n\
+         ├──(4294967295)(at 2) undef\n\
+         └──(0)(at 1) local.get.0\n\
+         in order yes\n\
+         consistent no\n\
+         bytes 0120006a0b\n",
+    );
+}
+
+#[test]
+fn colours(rt: HostRuntime) {
+    let alloc = rt.alloc();
+    says(
+        &rt,
+        alloc,
+        "preserve yes\nbody 3f0041012800006a0b\nat 3\nshow",
+        "block 0..4\n\
+         DFG forest\n\
+         (0)(at 3) i32.add\n\
+         ├──(0)(at 0) memory.size.0\n\
+         └──(0)(at 2) i32.load.0.0.0\n    \
+         └──(0)(at 1) i32.const.1\n\
+         in order yes\n\
+         consistent yes\n",
+    );
+    says(
+        &rt,
+        alloc,
+        "preserve yes\nbody 3f00410140006a0b\nat 3\nshow",
+        "block 0..4\n\
+         DFG forest\n\
+         (1)(at 3) i32.add\n\
+         ├──(0)(at 0) memory.size.0\n\
+         └──(0)(at 2) memory.grow.0\n    \
+         └──(0)(at 1) i32.const.1\n\
+         in order yes\n\
+         consistent no\n",
+    );
+    says(
+        &rt,
+        alloc,
+        "preserve yes\nbody fc1000d0704101fc0f006a0b\nat 4\nshow",
+        "block 0..5\n\
+         DFG forest\n\
+         (1)(at 4) i32.add\n\
+         ├──(0)(at 0) table.size.0\n\
+         └──(0)(at 3) table.grow.0\n    \
+         ├──(0)(at 1) ref.null.func\n    \
+         └──(0)(at 2) i32.const.1\n\
+         in order yes\n\
+         consistent no\n",
+    );
+    says(
+        &rt,
+        alloc,
+        "type ->\nfunc 0\npreserve yes\nbody 1000010b\nat 1\nshow",
+        "block 0..2\nDFG forest\n(0)(at 0) call.0\n(2)(at 1) nop\nin order yes\nconsistent yes\n",
+    );
+}
+
+#[test]
+fn blocks(rt: HostRuntime) {
+    let alloc = rt.alloc();
+    says(
+        &rt,
+        alloc,
+        "body 200020006a280200044041360541d7000b41386a0340410120006a21000b0b\nat 5\n\
+         at 4\nat 3\nat 10",
+        "block 5..6\nno block\nblock 0..4\nblock 9..11\n",
+    );
+    says(
+        &rt,
+        alloc,
+        "body 412028020041e4002802004101 4a41014b1a0b\nat 7\nshow",
+        "block 0..8\n\
+         DFG forest\n\
+         (0)(at 1) i32.load.0.2.0\n\
+         └──(0)(at 0) i32.const.32\n\
+         (0)(at 7) i32.gt_u\n\
+         ├──(0)(at 5) i32.gt_s\n\
+         │   ├──(0)(at 3) i32.load.0.2.0\n\
+         │   │   └──(0)(at 2) i32.const.100\n\
+         │   └──(0)(at 4) i32.const.1\n\
+         └──(0)(at 6) i32.const.1\n\
+         in order yes\n\
+         consistent yes\n",
+    );
+    says(
+        &rt,
+        alloc,
+        "body 41201a200020006a6a0b\nat 0\nshow",
+        "block 0..1\nDFG forest\n(0)(at 0) i32.const.32\nin order yes\nconsistent yes\n",
+    );
+}
+
+#[test]
+fn calls(rt: HostRuntime) {
+    let alloc = rt.alloc();
+    says(
+        &rt,
+        alloc,
+        "type i32 i32 i32 -> i32\nfunc 0\nbody 410a410a410a10000b\nat 3\nshow\nwrite",
+        "block 0..4\n\
+         DFG forest\n\
+         (0)(at 3) call.0\n\
+         ├──(0)(at 0) i32.const.10\n\
+         ├──(0)(at 1) i32.const.10\n\
+         └──(0)(at 2) i32.const.10\n\
+         in order yes\n\
+         consistent yes\n\
+         bytes 410a410a410a10000b\n",
+    );
+    says(
+        &rt,
+        alloc,
+        "type -> i64\ntype i32 i32 i32 -> i32 i32\nfunc 1\nfunc 0\n\
+         body 410a410a410a10000b\nat 3\nshow\nwrite",
+        "block 0..4\nno graph\nno graph\n",
+    );
+    says(
+        &rt,
+        alloc,
+        "body 410a410a410a10000b\nat 3\nshow\nwrite",
+        "block 0..4\nrefused UnknownFunction\nrefused UnknownFunction\n",
+    );
+}
+
+#[test]
+fn faulty_declarations(rt: HostRuntime) {
+    let alloc = rt.alloc();
+    let lines = [
+        "global",
+        "global empty",
+        "global i16",
+        "global i32 i32",
+        "local",
+        "local empty",
+        "local i32 i32",
+        "memory",
+        "memory 16",
+        "memory 032",
+        "memory 64 64",
+        "table func",
+        "table func 16",
+        "table 32 func",
+        "table any 32",
+        "type",
+        "type i32",
+        "type i32 -> empty",
+        "type empty ->",
+        "type -> i32 -> i32",
+        "func",
+        "func 0",
+        "func +0",
+        "func 0 0",
+        "func 18446744073709551616",
+        "preserve",
+        "preserve on",
+        "preserve yes no",
+        "show 1",
+        "write 1",
+    ];
+    for line in lines {
+        is_faulty(&rt, alloc, line);
+    }
+}
+
+#[test]
+fn declarations(rt: HostRuntime) {
+    let alloc = rt.alloc();
+    says(
+        &rt,
+        alloc,
+        "global i32\nglobal externref\nlocal v128\nmemory 32\nmemory 64\ntable func 32\n\
+         table extern 64\ntype ->\ntype f32 f64 funcref ->\ntype -> i64\nfunc 02\nfunc 0",
+        "",
+    );
+    answers(
+        &rt,
+        alloc,
+        b"type ->\nfunc 1",
+        b"line 2: BadArgument\n",
+        false,
+    );
+    answers(&rt, alloc, b"show", b"line 1: NoBlock\n", false);
+    answers(&rt, alloc, b"body 0b\nshow", b"line 2: NoBlock\n", false);
+    answers(
+        &rt,
+        alloc,
+        b"body 0b\nat 0\nshow",
+        b"no block\nline 3: NoBlock\n",
+        false,
+    );
+    answers(
+        &rt,
+        alloc,
+        b"body 010b\nat 0\nbody 010b\nshow",
+        b"block 0..1\nline 4: NoBlock\n",
+        false,
+    );
+}
+
+/// A chain of 1,000 operators, each the operand of the next one.
+#[test]
+fn deep_chain(rt: HostRuntime) -> Result<(), Fail> {
+    let alloc = rt.alloc();
+    let mut text = String::from_str(alloc, "body 2000")?;
+    let mut written = String::from_str(alloc, "block 0..1001\nDFG forest\n(0)(at 1000) i32.eqz\n")?;
+    let mut inner = String::new(alloc);
+    for above in 0..1000u32 {
+        text.push_str("45")?;
+        let at = 999 - above;
+        let name = if at == 0 { "local.get.0" } else { "i32.eqz" };
+        writeln!(written, "{inner}└──(0)(at {at}) {name}")?;
+        inner.push_str("    ")?;
+    }
+    text.push_str("0b\nat 1000\nshow")?;
+    written.push_str("in order yes\nconsistent yes\n")?;
+    says(&rt, alloc, text.as_str(), written.as_str());
     Ok(())
 }

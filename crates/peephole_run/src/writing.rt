@@ -63,7 +63,8 @@ fn build_with(
     requires set_up { IsTrue (is_some config.old.info) }
     requires place { IsPlace place.now }
     requires graph { IsGraphAt config.old place.now graph.now }
-    ensures { let said = written (module_in config.old.info) config.old.preserving place.now.body.now place.now.point place.now.block (map node_of nodes.now) in
+    ensures { let said = written (module_in config.old.info) config.old.preserving
+        place.now.body.now place.now.point place.now.block (map node_of nodes.now) in
         MatchResult result (λ sink. said ≡ Ok sink) (λ e. (e ≡ Memory) ⊎ (said ≡ Err (Refused e))) }
 {
     if nodes.len() > 0 {
@@ -85,7 +86,8 @@ pub fn write_body(
 ) -> Result<Function, Refusal>
     requires set_up { IsTrue (is_some config.old.info) }
     requires place { IsPlace place.now }
-    ensures { Tells (λ sink. sink) (written (module_in config.old.info) config.old.preserving place.now.body.now place.now.point place.now.block (map node_of nodes.now)) result }
+    ensures { Tells (λ sink. sink) (written (module_in config.old.info) config.old.preserving
+        place.now.body.now place.now.point place.now.block (map node_of nodes.now)) result }
 {
     let graph = graph_of(alloc, config, place)?;
     let sink = build_with(alloc, config, place, nodes, &graph)?;

@@ -133,13 +133,13 @@ size_read es sizes h i l d = get_or_default sizes i d 0 (let e = sizes_count es 
 flag_read : (es : List StackEntry) (same : List Bool) → reverse same ≡ flags_of (kins_of es) → (i : ℕ) → i < length es → (d : Bool) → get_or same i d ≡ are_coloured (kins_of es) (kin_at (kins_of es) i).colour (downwards (kins_of es) i)
 flag_read es same h i l d = get_or_default same i d false (let e = flags_count es same h in omega arith) ∙ (flags_are es same h i ∙ sym (flag_at (kins_of es) i (let e = kins_length es in omega arith)))
 
-coloured_all : (xs : List Kin) (c : ℕ) (is : List ℕ) → are_coloured xs c is ≡ true → All (λ j. (kin_at xs j).colour ≡ c) is
+pub coloured_all : (xs : List Kin) (c : ℕ) (is : List ℕ) → are_coloured xs c is ≡ true → All (λ j. (kin_at xs j).colour ≡ c) is
 coloured_all xs c [] h = All-nil (λ j. (kin_at xs j).colour ≡ c)
 coloured_all xs c (i ∷ is) h =
     let p = and_parts ((kin_at xs i).colour == c) (are_coloured xs c is) h in
     All-cons (λ j. (kin_at xs j).colour ≡ c) i is (eqb-true (kin_at xs i).colour c p.0) (coloured_all xs c is p.1)
 
-all_coloured : (xs : List Kin) (c : ℕ) (is : List ℕ) → All (λ j. (kin_at xs j).colour ≡ c) is → are_coloured xs c is ≡ true
+pub all_coloured : (xs : List Kin) (c : ℕ) (is : List ℕ) → All (λ j. (kin_at xs j).colour ≡ c) is → are_coloured xs c is ≡ true
 all_coloured xs c [] h = refl
 all_coloured xs c (i ∷ is) h =
     and_from ((kin_at xs i).colour == c) (are_coloured xs c is) (eq-eqb (kin_at xs i).colour c (All-head (λ j. (kin_at xs j).colour ≡ c) i is h)) (all_coloured xs c is (All-tail (λ j. (kin_at xs j).colour ≡ c) i is h))

@@ -84,7 +84,7 @@ kin_entry (e ∷ nodes) i l = ⊎_elim
     (λ w. cond-false _ _ _ (ne_eqb (length (kins nodes)) i (λ v. w (sym (length-map nodes kin_of) ∙ v))) ∙ (kin_entry nodes i (omega arith) ∙ ap kin_of (sym (cond-false _ _ _ (ne_eqb (length nodes) i w)))))
     (cases_eq (length nodes) i)
 
-colour_small : (keeping : Bool) (block : List Shape) (n : ℕ) → IsSmall keeping block → n < length block → colour_at keeping block n < 4294967295
+pub colour_small : (keeping : Bool) (block : List Shape) (n : ℕ) → IsSmall keeping block → n < length block → colour_at keeping block n < 4294967295
 colour_small keeping [] n h l = absurd (omega arith)
 colour_small keeping (s ∷ earlier) n h l = ⊎_elim
     (λ w. subst (λ x. x < 4294967295) (sym (cond-true _ _ _ (eq-eqb (length earlier) n w))) h.2)

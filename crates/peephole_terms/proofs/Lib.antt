@@ -35,3 +35,5 @@ pub mod LayoutExpansion
 pub mod ForestWalk
 pub mod Copies
 pub mod Answering
+pub mod TreeTextLemmas
+pub mod TreeColourLemmas

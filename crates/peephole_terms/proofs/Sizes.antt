@@ -109,11 +109,11 @@ and_comm' true false = refl
 and_comm' false true = refl
 and_comm' false false = refl
 
-coloured_append : (xs : List Kin) (c : ℕ) (is js : List ℕ) → are_coloured xs c (is ++ js) ≡ (are_coloured xs c is && are_coloured xs c js)
+pub coloured_append : (xs : List Kin) (c : ℕ) (is js : List ℕ) → are_coloured xs c (is ++ js) ≡ (are_coloured xs c is && are_coloured xs c js)
 coloured_append xs c [] js = refl
 coloured_append xs c (i ∷ is) js = ap (λ b. ((kin_at xs i).colour == c) && b) (coloured_append xs c is js) ∙ sym (and_assoc' ((kin_at xs i).colour == c) (are_coloured xs c is) (are_coloured xs c js))
 
-coloured_same : (xs ys : List Kin) (c n : ℕ) (is : List ℕ) → All (λ i. i < n) is → ((i : ℕ) → i < n → kin_at xs i ≡ kin_at ys i) → are_coloured xs c is ≡ are_coloured ys c is
+pub coloured_same : (xs ys : List Kin) (c n : ℕ) (is : List ℕ) → All (λ i. i < n) is → ((i : ℕ) → i < n → kin_at xs i ≡ kin_at ys i) → are_coloured xs c is ≡ are_coloured ys c is
 coloured_same xs ys c n [] h e = refl
 coloured_same xs ys c n (i ∷ is) h e = ap₂ (λ (k : Kin) b. (k.colour == c) && b) (e i (All-head (λ i. i < n) i is h)) (coloured_same xs ys c n is (All-tail (λ i. i < n) i is h) e)
 
@@ -135,7 +135,7 @@ down_below (e ∷ xs) i = go (length xs == i) (down_below xs)
         (All-cons (λ j. j < suc (length xs)) (length xs) [] (omega arith) (All-nil (λ j. j < suc (length xs))))
     go false h = All_weaker (length xs) (suc (length xs)) (downwards xs i) (omega arith) (h i)
 
-kin_older : (e : Kin) (xs : List Kin) (i : ℕ) → i < length xs → kin_at (e ∷ xs) i ≡ kin_at xs i
+pub kin_older : (e : Kin) (xs : List Kin) (i : ℕ) → i < length xs → kin_at (e ∷ xs) i ≡ kin_at xs i
 kin_older e xs i l = cond-false _ _ _ (ne_eqb (length xs) i (λ w. omega arith))
 
 coloured_older : (e : Kin) (xs : List Kin) (c i : ℕ) → are_coloured (e ∷ xs) c (downwards xs i) ≡ are_coloured xs c (downwards xs i)

@@ -64,9 +64,13 @@ forest_lines entries parents = root_lines entries (roots_of parents)
 
 -- ---- their text, where `said` tells the text of each entry, or its refusal
 
--- an entry's own text: `(colour)(at operator_idx) text`, and a newline
+-- what stands behind a line's prefix: `(colour)(at operator) text`, and a newline
+abbrev pub line_text : (colour operator : ℕ) → List ℕ → List ℕ
+line_text colour operator text = codes "(" ++ (decimal colour ++ (codes ")(at " ++ (decimal operator ++ (codes ") " ++ (text ++ codes "\n")))))
+
+-- the same of an entry
 abbrev pub entry_text : StackEntry → List ℕ → List ℕ
-entry_text e text = codes "(" ++ (decimal e.color ++ (codes ")(at " ++ (decimal e.operator_idx ++ (codes ") " ++ (text ++ codes "\n")))))
+entry_text e text = line_text e.color e.operator_idx text
 
 -- with an entry's own text behind it
 abbrev pub with_text : List ℕ → StackEntry → Result (List ℕ) Error → Result (List ℕ) Error

@@ -21,3 +21,5 @@ pub mod Written
 pub mod EncoderSteps
 pub mod ForestText
 pub mod ForestSteps
+pub mod TreeText
+pub mod Shown

@@ -1,6 +1,7 @@
 //! What holds of the forest of every block. A function here does nothing: its contract is the laws.
 
 ghost use Rattle.peephole_terms.specs.Layout.{KeepsTheTerm};
+ghost use Rattle.peephole_terms.specs.Shown.{ShowsTheForest, ShowsTheColour};
 ghost use Rattle.peephole_terms.specs.Laws.{HasSameTrees, IsWrittenInOrder, StaysWhenWrittenAgain, OrderIsTogether, OrderedIsPostfix};
 
 /// A block that is written with its own trees has the same trees, renumbered by the new places (`same`), is in order
@@ -17,4 +18,11 @@ pub fn laws_of_forests()
 /// The term of what is laid out is the term that was laid out.
 pub fn layout_keeps_the_term()
     ensures { KeepsTheTerm }
+{}
+
+/// A block's graph shows its forest: its text is the text of the forest, told by the trees alone (`text`); and a test of the
+/// forest's last tree decides whether all entries of the last operator's tree have one colour (`colour`).
+pub fn graph_shows_the_forest()
+    ensures text { ShowsTheForest }
+    ensures colour { ShowsTheColour }
 {}

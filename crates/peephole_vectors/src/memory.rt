@@ -141,8 +141,7 @@ fn is_drawn(rt: &impl Abort, alloc: Global, graph: &MiniDFG) -> bool {
     is_whole(rt, graph);
     match answer {
         Ok(text) => {
-            let wanted =
-                "DFG forest\n(0)(at 0) drop\n└──(4294967295)(at 0) undef\n\
+            let wanted = "DFG forest\n(0)(at 0) drop\n└──(4294967295)(at 0) undef\n\
                 (0)(at 2) i32.add\n├──(4294967295)(at 2) undef\n└──(0)(at 1) local.get.0\n";
             assert!(rt; text.as_str() == wanted);
             true

@@ -61,8 +61,6 @@ pub fn tree_of<L: Language>(alloc: Global, expr: &RecExpr<L>, root: Id) -> Resul
         |id: Id|
             requires { id.0 < length nodes.now }
             ensures { (d : L) → result.now ≡ slice_index_or nodes.entry.now id.0 d }
-        {
-            &nodes[id.0 as usize]
-        },
+        { &nodes[id.0 as usize] },
     )
 }

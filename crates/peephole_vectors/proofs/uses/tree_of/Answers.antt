@@ -8,10 +8,12 @@ build_expr-requires g c κs =
     let many = ap (λ xs. length xs) c.as_ref-nodes.ensures.nodes in
     let there : c.args.root.0 < length c.args.expr.now = c.requires in (
       (refl, tt),
-      (λ id l. omega arith,
-      λ id node l p.
-      children_below g.L.Language.head g.L.Language.children c.args.expr.now id.0 node.now c.as_ref-nodes.ensures.below (omega arith)
-      (p.1 node.now ∙ ap (λ xs. slice_index_or xs id.0 node.now) c.as_ref-nodes.ensures.nodes)),
+      (
+        λ id l. omega arith,
+        λ id node l p.
+            children_below g.L.Language.head g.L.Language.children c.args.expr.now id.0 node.now c.as_ref-nodes.ensures.below (omega arith)
+            (p.1 node.now ∙ ap (λ xs. slice_index_or xs id.0 node.now) c.as_ref-nodes.ensures.nodes),
+      ),
     )
 
 pub returns-clause-laid : goal.returns-clause-laid
