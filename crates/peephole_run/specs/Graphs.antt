@@ -1,5 +1,5 @@
 -- Whether a block has a graph under a module and a mode, and what is refused where it has none (this project's rules).
-use Rattle.std.specs.Prelude.{◌≡◌, ◌⊎◌, ℕ, ◌+◌, ◌<◌, nat_lt, MatchResult, Bool, ◌&&◌, List, [], ◌∷◌, length, reverse, slice_range, Option, Some, None, Result, Ok, Err, if◌then◌else◌, nat_le}
+use Rattle.std.specs.Prelude.{◌≡◌, ◌⊎◌, ℕ, ◌<◌, nat_lt, MatchResult, Bool, ◌&&◌, List, [], ◌∷◌, length, reverse, slice_range, Option, Some, None, Result, Ok, Err, if◌then◌else◌, nat_le}
 use Rattle.wasm_code.specs.declared.operator.Operator.{Operator}
 use Rattle.mutate_base.specs.declared.error.Error.TheVariants.{Memory, TooLarge, UnknownFunction}
 use Rattle.mutate_base.specs.Config.{Config}
