@@ -9,4 +9,3 @@ pub mod Writings
 pub mod Shows
 pub mod Readings
 pub mod OwnTrees
-pub mod OwnNodes

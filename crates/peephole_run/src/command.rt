@@ -22,8 +22,6 @@ pub enum Command {
     Local,
     /// Sets the mode.
     Preserve,
-    /// Adds a word to be drawn.
-    Word,
     /// Adds to the module.
     Declare(Declaration),
 }
@@ -56,8 +54,6 @@ pub fn command_of(word: &str) -> Option<Command>
         Some(Command::Local)
     } else if word == "preserve" {
         Some(Command::Preserve)
-    } else if word == "word" {
-        Some(Command::Word)
     } else {
         None
     }
