@@ -9,3 +9,4 @@ pub mod Writings
 pub mod Shows
 pub mod Readings
 pub mod OwnTrees
+pub mod OwnNodes

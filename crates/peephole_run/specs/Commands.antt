@@ -1,5 +1,5 @@
 -- What each command does (this project's rules).
-use Rattle.std.specs.Prelude.{◌≡◌, ◌⊎◌, ◌^◌, MatchResult, Vec, ℕ, List, [], ◌∷◌, ◌++◌, length, codes, decimal, nat_lt, Option, Some, None, Result, Ok, Err, if◌then◌else◌}
+use Rattle.std.specs.Prelude.{◌≡◌, ◌⊎◌, ◌^◌, MatchResult, Vec, ℕ, not, List, [], ◌∷◌, ◌++◌, length, map, codes, decimal, nat_lt, Option, Some, None, Result, Ok, Err, if◌then◌else◌}
 use Rattle.std.specs.List.{list_all, concat}
 use Rattle.std.specs.Str.{bytes_eq}
 use Rattle.std.specs.Result.{result_ok}
@@ -7,9 +7,16 @@ use Rattle.hex.specs.Hex.{decode_of, encode_lower}
 use Rattle.wasm_code.specs.declared.fault.ReadKind.{ReadKind}
 use Rattle.mutate_base.specs.declared.term_error.TermError.{TermError}
 use Rattle.mutate_base.specs.Error.{error_name}
+use Rattle.mutate_base.specs.Types.{type_name}
+use Rattle.mutate_base.specs.Words.{word_stream}
 use Rattle.peephole_lang.specs.declared.lang.Head.{Head}
+use Rattle.peephole_lang.specs.Payload.{is_writable}
+use Rattle.peephole_lang.specs.Term.{Node}
 use Rattle.peephole_lang.specs.Text.{reads}
 use Rattle.peephole_terms.specs.Block.{BlockRange}
+use Rattle.peephole_terms.specs.declared.encoder.request.ResourceRequest.{ResourceRequest}
+use Rattle.peephole_terms.specs.declared.encoder.request.ResourceRequest.TheVariants.{Global}
+use Rattle.peephole_terms.specs.Expansion.{Setting}
 use Rattle.peephole_run.specs.declared.command.Command.{Command}
 use Rattle.peephole_run.specs.declared.command.Command.TheVariants as name
 use Rattle.peephole_run.specs.declared.fault.Fault.{Fault}
@@ -24,7 +31,7 @@ use Rattle.peephole_run.specs.Arguments.{all_of, type_of, is_yes}
 use Rattle.peephole_run.specs.Body.{Contents, body_of, block_at}
 use Rattle.peephole_run.specs.Declarations.{declared}
 use Rattle.peephole_run.specs.State.{State, Reply, module_with}
-use Rattle.peephole_run.specs.Writing.{written}
+use Rattle.peephole_run.specs.Writing.{Output, written}
 use Rattle.peephole_run.specs.Show.{shown}
 
 -- a line that writes nothing
@@ -50,6 +57,11 @@ abbrev pub preserve_step : State → List (List ℕ) → Result Reply Fault
 preserve_step s (word ∷ []) = with_argument (is_yes word) (λ preserving. quiet (record s { preserving = preserving }))
 preserve_step s _ = Err fault.BadArgument
 
+-- `word N`: a further word to be drawn
+abbrev pub word_step : State → List (List ℕ) → Result Reply Fault
+word_step s (word ∷ []) = with_argument (number_of word) (λ n. quiet (record s { words = s.words ++ n ∷ [] }))
+word_step s _ = Err fault.BadArgument
+
 -- `body HEX*`: the words joined are the body, in hexadecimal digits; point and nodes are cleared
 abbrev pub body_read : State → Result Contents ReadKind → Result Reply Fault
 body_read s (Ok body) = quiet (record s { body = Some body; point = None; nodes = [] })
@@ -74,10 +86,15 @@ abbrev pub at_step : State → List (List ℕ) → Result Reply Fault
 at_step s (word ∷ []) = with_argument (number_of word) (λ n. at_body s n s.body)
 at_step s _ = Err fault.BadArgument
 
--- `node TEXT ID*`: the text with earlier nodes as children is the next node of the term
+-- `node TEXT ID*`: the text with earlier nodes as children is the next node of the term, where it can be written
+abbrev pub node_added : State → Node Head → Result Reply Fault
+node_added s node =
+    if not (is_writable node.head.payload) then Err fault.Unwritable
+    else if nat_lt (length s.nodes) (2 ^ 32) then quiet (record s { nodes = s.nodes ++ node ∷ [] })
+    else Err fault.TooLarge
+
 abbrev pub node_read : State → List ℕ → Result Head TermError → Result Reply Fault
-node_read s children (Ok head) =
-    if nat_lt (length s.nodes) (2 ^ 32) then quiet (record s { nodes = s.nodes ++ record { head = head; children = children } ∷ [] }) else Err fault.TooLarge
+node_read s children (Ok head) = node_added s (record { head = head; children = children })
 node_read s children (Err e) = Err (fault.Term e)
 
 abbrev pub node_words : State → List ℕ → List (List ℕ) → Result Reply Fault
@@ -111,7 +128,7 @@ abbrev pub refusal_line : Refusal → List ℕ
 refusal_line refusal.NoGraph = codes "no graph\n"
 refusal_line (refusal.Refused e) = codes "refused " ++ (error_name e ++ codes "\n")
 
-abbrev pub answer_text : (List ℕ → List ℕ) → Result (List ℕ) Refusal → List ℕ
+abbrev pub answer_text : {A : Type 0} → (A → List ℕ) → Result A Refusal → List ℕ
 answer_text text (Ok answer) = text answer
 answer_text text (Err r) = refusal_line r
 
@@ -120,13 +137,23 @@ abbrev pub show_step : State → List (List ℕ) → Result Reply Fault
 show_step s words = at_place s (place_of s words) (λ body point block.
     answer_text (λ text. text) (shown (module_with s.info body) s.preserving body block))
 
--- `write`: the body with the term
+-- `write`: the body with the term, then the globals that it asks for
 abbrev pub bytes_line : List ℕ → List ℕ
 bytes_line bytes = codes "bytes " ++ (encode_lower bytes ++ codes "\n")
 
+abbrev pub global_line : ResourceRequest → List ℕ
+global_line (Global t mutable shared) = codes "global " ++ (type_name t ++ codes "\n")
+
+abbrev pub output_lines : Output → List ℕ
+output_lines o = bytes_line o.bytes ++ concat (map global_line o.requests)
+
+-- what it goes by: each time the words from the first one on
+abbrev pub setting_with : State → Contents → Setting
+setting_with s body = record { info = module_with s.info body; stream = word_stream s.words }
+
 abbrev pub write_step : State → List (List ℕ) → Result Reply Fault
 write_step s words = at_place s (place_of s words) (λ body point block.
-    answer_text bytes_line (written (module_with s.info body) s.preserving body point block s.nodes))
+    answer_text output_lines (written (setting_with s body) s.preserving body point block s.nodes))
 
 -- the commands
 abbrev pub command_step : Command → State → List (List ℕ) → Result Reply Fault
@@ -137,6 +164,7 @@ command_step name.Write = write_step
 command_step name.Show = show_step
 command_step name.Local = local_step
 command_step name.Preserve = preserve_step
+command_step name.Word = word_step
 command_step (name.Declare declaration) = declare_step declaration
 
 -- the command of a name
@@ -154,6 +182,7 @@ command_of word =
     else if bytes_eq word (codes "func") then Some (name.Declare declare.Function)
     else if bytes_eq word (codes "local") then Some name.Local
     else if bytes_eq word (codes "preserve") then Some name.Preserve
+    else if bytes_eq word (codes "word") then Some name.Word
     else None
 
 abbrev pub run_command : State → Option Command → List (List ℕ) → Result Reply Fault

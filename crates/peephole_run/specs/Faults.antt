@@ -35,5 +35,6 @@ fault_name fault.NoBlock = codes "NoBlock"
 fault_name (fault.Read kind) = kind_name kind
 fault_name fault.BadChild = codes "BadChild"
 fault_name (fault.Term e) = term_error_name e
+fault_name fault.Unwritable = codes "Unwritable"
 fault_name fault.TooLarge = codes "TooLarge"
 fault_name fault.Memory = codes "Memory"

@@ -4,6 +4,7 @@ use Rattle.wasm_code.specs.declared.operator.Operator.{Operator}
 use Rattle.mutate_base.specs.declared.error.Error.TheVariants.{Memory, TooLarge, UnknownFunction}
 use Rattle.mutate_base.specs.Config.{Config}
 use Rattle.mutate_base.specs.Module.{Module, module_of}
+use Rattle.mutate_base.specs.Words.{word_stream}
 use Rattle.peephole_terms.specs.Block.{BlockRange, IsBlockOf}
 use Rattle.peephole_terms.specs.declared.shape.Shape.{Shape}
 use Rattle.peephole_terms.specs.declared.shape.Judged.{Judged}
@@ -12,6 +13,7 @@ use Rattle.peephole_terms.specs.declared.dfg.MiniDFG.{MiniDFG}
 use Rattle.peephole_terms.specs.Shape.{judge, block_of}
 use Rattle.peephole_terms.specs.Colour.{colour_after}
 use Rattle.peephole_terms.specs.Tree.{full_size}
+use Rattle.peephole_terms.specs.Expansion.{Setting}
 use Rattle.peephole_terms.specs.Forest.{forest}
 use Rattle.peephole_terms.specs.Dfg.{entries_of, parents_of, look_of}
 use Rattle.peephole_terms.specs.GraphOf.{IsGraphOf}
@@ -48,7 +50,7 @@ abbrev pub graphed : Module → Bool → List (Operator × ℕ) → Result (List
 graphed info keeping operators = unless (refusal_of info keeping (reverse operators)) (block_of info operators)
 
 -- what is said of a block by its shapes, where it has a graph
-abbrev pub of_graph : Result (List Shape) Refusal → (List Shape → Result (List ℕ) Refusal) → Result (List ℕ) Refusal
+abbrev pub of_graph : {A : Type 0} → Result (List Shape) Refusal → (List Shape → Result A Refusal) → Result A Refusal
 of_graph (Ok block) f = f block
 of_graph (Err r) f = Err r
 
@@ -67,11 +69,20 @@ abbrev pub module_in : Option Module → Module
 module_in None = module_of []
 module_in (Some info) = info
 
+-- the words of its generator
+abbrev pub words_in : Option (List ℕ) → List ℕ
+words_in None = []
+words_in (Some words) = words
+
+-- what it writes terms by
+abbrev pub setting_in : Config (List ℕ) → Setting
+setting_in config = record { info = module_in config.info; stream = word_stream (words_in config.generator) }
+
 -- the graph is the block's under the configuration
 abbrev pub IsGraphAt : {R : Type 0} → Config R → Place → MiniDFG → Type 0
 IsGraphAt config p graph =
     IsGraphOf (module_in config.info) config.preserving p.block.start (operators_in p.body.now p.block) (entries_of graph) (parents_of graph) (look_of graph)
 
 -- a call answered what is said, which `read` reads of its answer, or memory was refused
-abbrev pub Tells : {A : Type 0} → (A → List ℕ) → Result (List ℕ) Refusal → Result A Refusal → Type 0
+abbrev pub Tells : {A B : Type 0} → (A → B) → Result B Refusal → Result A Refusal → Type 0
 Tells read said result = MatchResult result (λ x. said ≡ Ok (read x)) (λ r. (r ≡ refusal.Refused Memory) ⊎ (said ≡ Err r))

@@ -22,6 +22,8 @@ pub enum Command {
     Local,
     /// Sets the mode.
     Preserve,
+    /// Adds a word to be drawn.
+    Word,
     /// Adds to the module.
     Declare(Declaration),
 }
@@ -54,6 +56,8 @@ pub fn command_of(word: &str) -> Option<Command>
         Some(Command::Local)
     } else if word == "preserve" {
         Some(Command::Preserve)
+    } else if word == "word" {
+        Some(Command::Word)
     } else {
         None
     }

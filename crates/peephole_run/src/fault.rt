@@ -69,6 +69,9 @@ pub enum Fault {
     /// The text with these children is no node.
     #[error("{0}")]
     Term(TermError),
+    /// The node cannot be written.
+    #[error("Unwritable")]
+    Unwritable,
     /// The node's number passes 32 bits.
     #[error("TooLarge")]
     TooLarge,
@@ -92,6 +95,7 @@ impl Fault {
             Fault::Read(kind) => kind.name(),
             Fault::BadChild => "BadChild",
             Fault::Term(error) => error.name(),
+            Fault::Unwritable => "Unwritable",
             Fault::TooLarge => "TooLarge",
             Fault::Memory => "Memory",
         }

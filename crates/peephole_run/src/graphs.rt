@@ -32,20 +32,24 @@ impl From<Error> for Refusal {
     }
 }
 
-/// The configuration of a module with a body in it, and of a mode.
+/// The configuration of a module with a body in it, of a mode, and of the words to be drawn.
 pub fn configured<'a>(
     alloc: Global,
     info: &ModuleInfo<'static>,
     preserving: bool,
+    words: &[u64],
     body: &'a Body,
 ) -> Result<WasmMutate<'a, Words>, AllocError>
-    ensures { IfOk result (λ config. (config.preserving ≡ preserving) × (config.info ≡ Some (module_with info.now body.now))) }
+    ensures mode { IfOk result (λ config. config.preserving ≡ preserving) }
+    ensures module { IfOk result (λ config. config.info ≡ Some (module_with info.now body.now)) }
+    ensures generator { IfOk result (λ config. config.generator ≡ Some words.now) }
 {
     let mut info: ModuleInfo<'a> = info.clone()?;
     info.input_wasm = body.bytes();
+    let words = words.to_vec(alloc)?;
     let mut config = WasmMutate::new();
     config.preserve_semantics(preserving);
-    config.set_up(info, Words::new(Vec::new(alloc)));
+    config.set_up(info, Words::new(words));
     Ok(config)
 }
 

@@ -3,12 +3,13 @@
 ghost use Rattle.std.specs.Prelude.{◌≡◌, ◌≢◌, MatchResult};
 ghost use Rattle.mutate_base.specs.declared.error.Error.TheVariants.{Memory};
 ghost use Rattle.peephole_run.specs.declared.graphs.Refusal.TheVariants.{Refused};
-ghost use Rattle.peephole_run.specs.Commands.{block_line, bytes_line, refusal_line};
+ghost use Rattle.peephole_run.specs.Commands.{block_line, bytes_line, global_line, output_lines, refusal_line};
+ghost use Rattle.peephole_run.specs.Writing.{output};
 
 use crate::fault::Fault;
 use crate::graphs::Refusal;
 use mutate_base::Error;
-use peephole_terms::BBlock;
+use peephole_terms::{BBlock, ResourceRequest};
 use std::alloc::Global;
 use wasm_code::Function;
 
@@ -26,8 +27,8 @@ pub fn block_line(alloc: Global, block: &Option<BBlock>) -> Result<Vec<u8>, Faul
     Ok(text?.into_bytes())
 }
 
-/// The line that `write` prints of a body. `Memory` where an allocation was refused.
-pub fn bytes_line(alloc: Global, sink: &Function) -> Result<Vec<u8>, Fault>
+// The line that `write` prints of a body.
+fn bytes_line(alloc: Global, sink: &Function) -> Result<Vec<u8>, Fault>
     ensures { MatchResult result (λ line. line.items ≡ bytes_line sink.now) (λ fault. fault ≡ Fault.Memory) }
 {
     let Ok(digits) = hex::encode(alloc, sink.bytes()) else {
@@ -35,6 +36,35 @@ pub fn bytes_line(alloc: Global, sink: &Function) -> Result<Vec<u8>, Fault>
     };
     let text = format!(in alloc; "bytes {digits}\n")?;
     Ok(text.into_bytes())
+}
+
+// The line that `write` prints of a requested global.
+fn global_line(alloc: Global, request: &ResourceRequest) -> Result<Vec<u8>, Fault>
+    ensures { MatchResult result (λ line. line.items ≡ global_line request.now) (λ fault. fault ≡ Fault.Memory) }
+{
+    match request {
+        ResourceRequest::Global { tpe, .. } => {
+            let name = tpe.name();
+            let text = format!(in alloc; "global {name}\n")?;
+            Ok(text.into_bytes())
+        }
+    }
+}
+
+/// The lines that `write` prints of a body, and of the globals that it asks for. `Memory` where an allocation was refused.
+pub fn output_lines(
+    alloc: Global,
+    sink: &Function,
+    requests: &[ResourceRequest],
+) -> Result<Vec<u8>, Fault>
+    ensures { MatchResult result (λ lines. lines.items ≡ output_lines (output sink.now requests.now)) (λ fault. fault ≡ Fault.Memory) }
+{
+    let mut lines = bytes_line(alloc, sink)?;
+    for request in requests {
+        let line = global_line(alloc, request)?;
+        lines.extend_from_slice(line.as_slice())?;
+    }
+    Ok(lines)
 }
 
 // The line of a call that refused for another cause than memory.

@@ -4,9 +4,9 @@ ghost use Rattle.std.specs.Prelude.{◌≡◌, ◌⊎◌, ◌<◌, ◌≤◌, �
 ghost use Rattle.std.specs.List.{list_all};
 ghost use Rattle.peephole_lang.specs.Node.{node_of};
 ghost use Rattle.peephole_lang.specs.Text.{reads};
-ghost use Rattle.peephole_run.specs.State.{State, Reply, PointsInto, start, module_with};
+ghost use Rattle.peephole_run.specs.State.{State, Reply, PointsInto, AreWritable, start, module_with};
 ghost use Rattle.peephole_run.specs.Graphs.{IsPlace};
-ghost use Rattle.peephole_run.specs.Commands.{step_line, step, command_step, declare_step, local_step, preserve_step, body_step, at_step, node_step, node_read, node_words, place_of, show_step, write_step, Steps, Finds};
+ghost use Rattle.peephole_run.specs.Commands.{step_line, step, command_step, declare_step, local_step, preserve_step, word_step, body_step, at_step, node_step, node_read, node_words, place_of, show_step, write_step, Steps, Finds};
 
 use crate::arguments::{all_below, ids_of, is_yes, joined, numbers_of, type_of};
 use crate::body::Body;
@@ -15,7 +15,7 @@ use crate::declarations::{Declaration, declare};
 use crate::fault::Fault;
 use crate::graphs::configured;
 use crate::place::Place;
-use crate::reply::{block_line, bytes_line, refusal_line};
+use crate::reply::{block_line, output_lines, refusal_line};
 use crate::show::show_block;
 use crate::text::{is_text, number_of, words_of};
 use crate::writing::write_body;
@@ -25,14 +25,15 @@ use std::alloc::Global;
 use std::marker::Model;
 use wasm_code::ReadKind;
 
-/// What the program keeps between two lines: the module and the mode, the body, the number of the operator that is the
-/// point, and the term.
+/// What the program keeps between two lines: the module and the mode, the words to be drawn, the body, the number of the
+/// operator that is the point, and the term.
 #[derive(Drop)]
 pub struct Session {
     alloc: Global,
     info: ModuleInfo<'static>,
     locals: Vec<PrimitiveTypeInfo>,
     preserving: bool,
+    words: Vec<u64>,
     body: Option<Body>,
     point: Option<usize>,
     nodes: RecExpr<Lang>,
@@ -45,12 +46,13 @@ impl Model for Session {
       info = s.info;
       locals = s.locals.items;
       preserving = s.preserving;
+      words = s.words.items;
       body = s.body;
       point = s.point;
       nodes = map node_of s.nodes;
     } };
 
-    ghost invariant = { λ s. PointsInto s.body s.point × (length s.nodes ≤ 2 ^ 32) };
+    ghost invariant = { λ s. PointsInto s.body s.point × (length s.nodes ≤ 2 ^ 32) × AreWritable s.nodes };
 }
 
 impl Session {
@@ -63,6 +65,7 @@ impl Session {
             info: ModuleInfo::new(alloc, &[]),
             locals: Vec::new(alloc),
             preserving: false,
+            words: Vec::new(alloc),
             body: None,
             point: None,
             nodes: RecExpr::new(alloc),
@@ -108,6 +111,7 @@ impl Session {
             Command::Show => self.show(arguments),
             Command::Local => self.local(arguments),
             Command::Preserve => self.preserve(arguments),
+            Command::Word => self.word(arguments),
             Command::Declare(declaration) => self.declare(declaration, arguments),
         }
     }
@@ -142,6 +146,19 @@ impl Session {
             return Err(Fault::BadArgument);
         };
         self.preserving = preserving;
+        Ok(Vec::new(self.alloc))
+    }
+
+    fn word(&mut self, arguments: &[&str]) -> Result<Vec<u8>, Fault>
+        ensures { Steps (word_step self.old (map (λ word. word.now) arguments.now)) self.new result }
+    {
+        let [word] = arguments else {
+            return Err(Fault::BadArgument);
+        };
+        let Some(number) = number_of(word) else {
+            return Err(Fault::BadArgument);
+        };
+        self.words.push(number)?;
         Ok(Vec::new(self.alloc))
     }
 
@@ -226,6 +243,9 @@ impl Session {
             Ok(node) => node,
             Err(error) => return Err(Fault::Term(error)),
         };
+        if !node.is_writable() {
+            return Err(Fault::Unwritable);
+        }
         match self.nodes.add(node) {
             Ok(_) => Ok(Vec::new(self.alloc)),
             Err(Error::TooLarge) => Err(Fault::TooLarge),
@@ -254,7 +274,13 @@ impl Session {
         ensures { Steps (show_step self.now (map (λ word. word.now) arguments.now)) self.now result }
     {
         let place = self.place(arguments)?;
-        let config = configured(self.alloc, &self.info, self.preserving, place.body)?;
+        let config = configured(
+            self.alloc,
+            &self.info,
+            self.preserving,
+            self.words.as_slice(),
+            place.body,
+        )?;
         match show_block(self.alloc, &config, &place) {
             Ok(text) => Ok(text.into_bytes()),
             Err(refusal) => refusal_line(self.alloc, refusal),
@@ -265,9 +291,15 @@ impl Session {
         ensures { Steps (write_step self.now (map (λ word. word.now) arguments.now)) self.now result }
     {
         let place = self.place(arguments)?;
-        let mut config = configured(self.alloc, &self.info, self.preserving, place.body)?;
+        let mut config = configured(
+            self.alloc,
+            &self.info,
+            self.preserving,
+            self.words.as_slice(),
+            place.body,
+        )?;
         match write_body(self.alloc, &mut config, &place, &self.nodes) {
-            Ok(sink) => bytes_line(self.alloc, &sink),
+            Ok(written) => output_lines(self.alloc, &written.body, written.requests.as_slice()),
             Err(refusal) => refusal_line(self.alloc, refusal),
         }
     }

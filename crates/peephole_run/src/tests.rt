@@ -330,6 +330,139 @@ fn colours(rt: HostRuntime) {
 }
 
 #[test]
+fn nodes_without_instruction(rt: HostRuntime) {
+    let alloc = rt.alloc();
+    says(
+        &rt,
+        alloc,
+        "body 420a500b\nat 1\nnode i64.const.10\nnode i64.const.0\nnode i64.eq 0 1\nwrite",
+        "block 0..2\nbytes 420a4200510b\n",
+    );
+    says(
+        &rt,
+        alloc,
+        "body 41050b\nat 0\nnode nop\nnode i32.const.5\nnode container 0 1\nwrite",
+        "block 0..1\nbytes 0141050b\n",
+    );
+    says(
+        &rt,
+        alloc,
+        "word 1731343737\nbody 41380b\nat 0\nnode i32.const.56\nnode i32.unfold 0\nwrite",
+        "block 0..1\nbytes 41f9eac8b90641bf95b7c6796a0b\n",
+    );
+    says(
+        &rt,
+        alloc,
+        "body 412a41016a0b\nat 2\nnode i32.const.5\nnode local.get.0\nnode i32.unfold 1\n\
+         node i32.add 0 2\nwrite\n\
+         at 2\nnode i32.const.5\nnode i64.const.9\nnode i32.unfold 1\nnode i32.add 0 2\nwrite",
+        "block 0..3\nrefused CannotUnfold\nblock 0..3\nrefused CannotUnfold\n",
+    );
+}
+
+#[test]
+fn requested_globals(rt: HostRuntime) {
+    let alloc = rt.alloc();
+    says(
+        &rt,
+        alloc,
+        "global i32\nglobal externref\nbody 410741086a0b\nat 2\nnode i32.const.7\n\
+         node i32.use_of_global 0\nnode i32.const.8\nnode i32.use_of_global 2\n\
+         node i32.add 1 3\nwrite",
+        "block 0..3\nbytes 4107240223024108240323036a0b\nglobal i32\nglobal i32\n",
+    );
+    says(
+        &rt,
+        alloc,
+        "body 41070b\nat 0\nnode i64.const.1\nnode i64.use_of_global 0\n\
+         node f32.const.00000000\nnode f32.use_of_global 2\n\
+         node f64.const.0000000000000000\nnode f64.use_of_global 4\nnode container 1 3 5\nwrite",
+        "block 0..1\n\
+         bytes 420124002300430000000024012301440000000000000000240223020b\n\
+         global i64\nglobal f32\nglobal f64\n",
+    );
+}
+
+/// What is written at operator 0 of `41 07 0B` for some nodes, after some lines.
+fn draws(
+    rt: &impl Abort,
+    alloc: Global,
+    words: &str,
+    nodes: &str,
+    bytes: &str,
+) -> Result<(), Fail> {
+    let input = format!(in alloc; "{words}body 41070b\nat 0\n{nodes}write\nwrite")?;
+    let output = format!(in alloc; "block 0..1\nbytes {bytes}\nbytes {bytes}\n")?;
+    says(rt, alloc, input.as_str(), output.as_str());
+    Ok(())
+}
+
+#[test]
+fn drawn_words(rt: HostRuntime) -> Result<(), Fail> {
+    let alloc = rt.alloc();
+    let cases = [
+        (
+            "word 3\nword 5\n",
+            "node i32.rand\nnode i32.rand\nnode i32.sub 0 1\n",
+            "410341056b0b",
+        ),
+        ("word 4294967297\n", "node i32.rand\n", "41010b"),
+        ("word 18446744073709551615\n", "node i64.rand\n", "427f0b"),
+        ("word 1065353216\n", "node f32.rand\n", "430000803f0b"),
+        (
+            "word 4607182418800017408\n",
+            "node f64.rand\n",
+            "44000000000000f03f0b",
+        ),
+        ("", "node i64.const.10\nnode i64.unfold 0\n", "4200420a7c0b"),
+        (
+            "word 1\n",
+            "node i32.const.-2147483648\nnode i32.unfold 0\n",
+            "410141ffffffff076a0b",
+        ),
+        ("word 3\nglobal i32\n", "", "41070b"),
+    ];
+    for (words, nodes, bytes) in cases {
+        draws(&rt, alloc, words, nodes, bytes)?;
+    }
+    Ok(())
+}
+
+#[test]
+fn unwritable_nodes(rt: HostRuntime) {
+    let alloc = rt.alloc();
+    answers(
+        &rt,
+        alloc,
+        b"node i32.const.1\nnode i32.load.0.64.0 0",
+        b"line 2: Unwritable\n",
+        false,
+    );
+    answers(
+        &rt,
+        alloc,
+        b"node i32.const.1\nnode v128.load8_lane.0.64.0.1 0 0",
+        b"line 2: Unwritable\n",
+        false,
+    );
+    answers(
+        &rt,
+        alloc,
+        b"node i32.const.1\nnode i32.load.0.64.0 1",
+        b"line 2: BadChild\n",
+        false,
+    );
+    answers(
+        &rt,
+        alloc,
+        b"node i32.load.0.64.0",
+        b"line 1: ExpectedOneChild\n",
+        false,
+    );
+    says(&rt, alloc, "node i32.const.1\nnode i32.load.0.63.0 0", "");
+}
+
+#[test]
 fn blocks(rt: HostRuntime) {
     let alloc = rt.alloc();
     says(
@@ -428,6 +561,11 @@ fn faulty_declarations(rt: HostRuntime) {
         "preserve",
         "preserve on",
         "preserve yes no",
+        "word",
+        "word x",
+        "word -1",
+        "word 1 2",
+        "word 18446744073709551616",
         "show 1",
         "write 1",
     ];

@@ -4,18 +4,26 @@ ghost use Rattle.std.specs.Prelude.{◌≡◌, ◌⊎◌, ◌<◌, map, length, 
 ghost use Rattle.mutate_base.specs.declared.error.Error.TheVariants.{Memory};
 ghost use Rattle.peephole_lang.specs.Node.{node_of, head_of, children_of};
 ghost use Rattle.peephole_lang.specs.Term.{term_of};
-ghost use Rattle.peephole_terms.specs.Written.{written_block, shapes_in};
+ghost use Rattle.peephole_terms.specs.Written.{shapes_in};
 ghost use Rattle.peephole_run.specs.declared.graphs.Refusal.TheVariants.{Refused};
-ghost use Rattle.peephole_run.specs.Graphs.{module_in, IsPlace, IsGraphAt, Tells};
-ghost use Rattle.peephole_run.specs.Writing.{written_as, written};
+ghost use Rattle.peephole_run.specs.Graphs.{module_in, setting_in, IsPlace, IsGraphAt, Tells};
+ghost use Rattle.peephole_run.specs.State.{AreWritable};
+ghost use Rattle.peephole_run.specs.Writing.{output, in_order_alone, with_term, written};
 
 use crate::graphs::{Refusal, graph_of};
 use crate::place::Place;
 use mutate_base::{Error, WasmMutate, Words};
 use peephole_lang::{Lang, RecExpr};
-use peephole_terms::{Encoder, MiniDFG};
+use peephole_terms::{Encoder, MiniDFG, ResourceRequest};
 use std::alloc::Global;
 use wasm_code::Function;
+
+/// A body that is written, and the globals that it asks for.
+#[derive(Drop)]
+pub struct Written {
+    pub body: Function,
+    pub requests: Vec<ResourceRequest>,
+}
 
 // The body with the term of an expression in place of the tree of the operator at the point.
 fn build(
@@ -24,18 +32,20 @@ fn build(
     place: &Place,
     expr: &RecExpr<Lang>,
     graph: &MiniDFG,
-) -> Result<Function, Error>
+) -> Result<Written, Error>
     requires set_up { IsTrue (is_some config.old.info) }
+    requires generator { IsTrue (is_some config.old.generator) }
     requires place { IsPlace place.now }
     requires some { 0 < length expr.now }
+    requires writable { AreWritable expr.now }
     requires graph { IsGraphAt config.old place.now graph.now }
-    ensures { let info = module_in config.old.info in
+    ensures { let s = setting_in config.old in
         let body = place.now.body.now in
-        let said = written_as config.old.preserving body place.now.block (shapes_in info body.operators place.now.block)
-        (written_block info body.operators place.now.block place.now.point (term_of head_of children_of expr.now)) in
-        MatchResult result (λ sink. said ≡ Ok sink) (λ e. (e ≡ Memory) ⊎ (said ≡ Err (Refused e))) }
+        let said = in_order_alone config.old.preserving (shapes_in s.info body.operators place.now.block)
+        (with_term s body place.now.point place.now.block (term_of head_of children_of expr.now)) in
+        MatchResult result (λ w. said ≡ Ok (output w.body w.requests.items)) (λ e. (e ≡ Memory) ⊎ (said ≡ Err (Refused e))) }
 {
-    let mut sink = Function::new(alloc);
+    let mut body = Function::new(alloc);
     match Encoder::build_function(
         alloc,
         config,
@@ -43,11 +53,11 @@ fn build(
         expr,
         place.body.operators(),
         &place.block,
-        &mut sink,
+        &mut body,
         graph,
         place.body.bytes(),
     ) {
-        Ok(_) => Ok(sink),
+        Ok(requests) => Ok(Written { body, requests }),
         Err(refusal) => Err(refusal),
     }
 }
@@ -59,13 +69,15 @@ fn build_with(
     place: &Place,
     nodes: &RecExpr<Lang>,
     graph: &MiniDFG,
-) -> Result<Function, Error>
+) -> Result<Written, Error>
     requires set_up { IsTrue (is_some config.old.info) }
+    requires generator { IsTrue (is_some config.old.generator) }
     requires place { IsPlace place.now }
+    requires writable { AreWritable nodes.now }
     requires graph { IsGraphAt config.old place.now graph.now }
-    ensures { let said = written (module_in config.old.info) config.old.preserving
+    ensures { let said = written (setting_in config.old) config.old.preserving
         place.now.body.now place.now.point place.now.block (map node_of nodes.now) in
-        MatchResult result (λ sink. said ≡ Ok sink) (λ e. (e ≡ Memory) ⊎ (said ≡ Err (Refused e))) }
+        MatchResult result (λ w. said ≡ Ok (output w.body w.requests.items)) (λ e. (e ≡ Memory) ⊎ (said ≡ Err (Refused e))) }
 {
     if nodes.len() > 0 {
         return build(alloc, config, place, nodes, graph);
@@ -77,19 +89,21 @@ fn build_with(
 }
 
 /// The body with the term in place of the tree of the operator at the point; without nodes the body with its own trees.
-/// Condition: the configuration is set up.
+/// Conditions: the configuration is set up, and the nodes are writable.
 pub fn write_body(
     alloc: Global,
     config: &mut WasmMutate<'_, Words>,
     place: &Place,
     nodes: &RecExpr<Lang>,
-) -> Result<Function, Refusal>
+) -> Result<Written, Refusal>
     requires set_up { IsTrue (is_some config.old.info) }
+    requires generator { IsTrue (is_some config.old.generator) }
     requires place { IsPlace place.now }
-    ensures { Tells (λ sink. sink) (written (module_in config.old.info) config.old.preserving
+    requires writable { AreWritable nodes.now }
+    ensures { Tells (λ w. output w.body w.requests.items) (written (setting_in config.old) config.old.preserving
         place.now.body.now place.now.point place.now.block (map node_of nodes.now)) result }
 {
     let graph = graph_of(alloc, config, place)?;
-    let sink = build_with(alloc, config, place, nodes, &graph)?;
-    Ok(sink)
+    let written = build_with(alloc, config, place, nodes, &graph)?;
+    Ok(written)
 }

@@ -1,14 +1,15 @@
 -- The roots of a graph, as the encoder goes over them, are the trees of the block's forest.
-use Rattle.std.proofs.Common.{◌≡◌, ℕ, ◌+◌, ◌-◌, ◌<◌, ◌≤◌, ◌⊎◌, inl, inr, List, [], ◌∷◌, ◌++◌, length, take, get_or, refl, sym, ap, ap₂, subst, ◌∙◌, arith, append_assoc, append-nil, Bool, true, false, cond, map, Option, Some, None, IsTrue}
-use Rattle.std.specs.Prelude.{reverse, All, ◌==◌, ◌||◌, ◌↔◌, option_map, slice_range, is_some, IfSome, not, Result, Ok, Err}
-use Rattle.mutate_base.specs.declared.error.Error.{Error}
-use Rattle.mutate_base.specs.declared.error.Error.TheVariants.{Memory, NoMutationsApplicable}
-use Rattle.std.proofs.lemmas.Bool.{cond-true, cond-false, eq-eqb, ne_eqb}
-use Rattle.std.proofs.lemmas.List.{reverse-append, length-map, map-append, take_more, length-take}
+use Rattle.std.proofs.Common.{◌≡◌, ℕ, ◌+◌, ◌-◌, ◌<◌, ◌≤◌, ◌⊎◌, inl, inr, List, [], ◌∷◌, ◌++◌, length, take, get_or, refl, sym, ap, ap₂, subst, ◌∙◌, arith, append_assoc, append-nil, Bool, true, false, cond, map, Option, Some, None, IsTrue, suc, drop, Result, Ok, Err}
+use Rattle.std.specs.Prelude.{reverse, All, ◌==◌, ◌||◌, option_map, is_some, IfSome, ◌↔◌, not}
+use Rattle.std.proofs.lemmas.Bool.{cond-true, cond-false, eq-eqb, eqb-true, ne_eqb}
+use Rattle.std.proofs.lemmas.List.{reverse-append, length-map, map-append, take_more, length-take, take-append-drop}
+use Rattle.rand_core.specs.Stream.{Stream}
 use Rattle.std.proofs.lemmas.List.Elements.{All-nil, All-cons, All-head, All-tail}
 use Rattle.wasm_code.specs.Instruction.{Instruction}
 use Rattle.wasm_code.specs.Code.{codes}
 use Rattle.wasm_code.specs.declared.operator.Operator.{Operator}
+use Rattle.mutate_base.specs.declared.error.Error.{Error}
+use Rattle.mutate_base.specs.declared.error.Error.TheVariants.{Memory, CannotUnfold, GlobalIndex, NoMutationsApplicable}
 use Rattle.mutate_base.specs.Module.{Module}
 use Rattle.peephole_lang.specs.declared.lang.Head.{Head}
 use Rattle.peephole_lang.specs.declared.lang.Lang.{Lang}
@@ -19,22 +20,25 @@ use Rattle.peephole_terms.specs.declared.dfg.StackEntry.{StackEntry}
 use Rattle.peephole_terms.specs.declared.shape.Shape.{Shape}
 use Rattle.peephole_terms.specs.Shape.{block_of}
 use Rattle.peephole_terms.specs.Tree.{Tree, Trees, entry, node, no_trees, ◌▸◌, join, instructions_of, instructions}
-use Rattle.peephole_terms.specs.Forest.{has, forest, trees, tree_of, is_operand, without, IsInOrder}
 use Rattle.peephole_terms.specs.Order.{AreInOrder}
+use Rattle.peephole_terms.specs.Forest.{IsInOrder, has, forest, trees, is_operand, without}
 use Rattle.peephole_terms.specs.Graph.{Entry, pick, tree_at, tree_of_entry, undefs, item, undef}
 use Rattle.peephole_terms.proofs.Stands.{entry_at}
 use Rattle.peephole_terms.specs.Entries.{Seen, seen, entry_of, nodes_of, roots_of, shape_of}
 use Rattle.peephole_terms.specs.GraphOf.{IsGraphOf}
 use Rattle.peephole_terms.proofs.Represents.{IsOwnOrUndef}
 use Rattle.peephole_terms.proofs.GraphOfLemmas.{represents}
-use Rattle.peephole_terms.specs.Expansion.{expansion_of, expansion, listed}
-use Rattle.peephole_terms.specs.EncoderSteps.{operator_at, entry_nodes, root_code, roots_code, IsWalkable}
-use Rattle.peephole_terms.specs.Block.{BlockRange}
-use Rattle.peephole_terms.specs.Written.{replaced, before_block, after_block, written_body, written_block}
+use Rattle.peephole_terms.specs.declared.encoder.request.ResourceRequest.{ResourceRequest}
+use Rattle.peephole_terms.specs.Kind.{NumberType}
+use Rattle.peephole_terms.specs.Expansion.{Refuses, followed, joined, expansion_of, expansion, requests_of, requests, request, draws_of, draws, drawn}
+use Rattle.peephole_terms.specs.EncoderSteps.{operator_at, entry_nodes, root_term, root_terms, IsWalkable, Step, Writing, steps_of, steps, take_steps, after, IsRefusal}
+use Rattle.peephole_terms.specs.Written.{replaced, is_root}
 use Rattle.peephole_terms.proofs.DfgLemmas.{get_item}
 use Rattle.peephole_terms.proofs.GraphLemmas.{parents_length, roots_root, roots_child}
 use Rattle.peephole_terms.proofs.BuilderLemmas.{shape_instr}
-use Rattle.peephole_terms.proofs.WalkLemmas.{codes-append}
+use Rattle.peephole_terms.proofs.WalkLemmas.{take_steps-append, refused_after}
+use Rattle.peephole_terms.proofs.ExpansionLemmas.{finished, all_from_start, refused}
+use Rattle.peephole_terms.proofs.PlainLemmas.{listed, plain_of, plain, IsItself, is_itself, as_node, trees_plain, with_term}
 
 -- ---- lists the other way round
 
@@ -73,34 +77,31 @@ before_last_behind n i = grind arith
 
 -- ---- an entry's tree and its node's term
 
--- an entry as the theory has it, and its node
+-- an entry as the theory has it
 abbrev as_entry : Module → ℕ → StackEntry → Entry
 as_entry info first e = entry_of info first (seen e)
 
-abbrev as_node : StackEntry → term.Node Head
-as_node e = record { head = head_of e.operator; children = children_of e.operator }
-
-picked : (at : ℕ → Tree) (terms : ℕ → term.Term Head) (is : List ℕ) → ((k : ℕ) → instructions_of (at k) ≡ expansion_of (terms k)) → instructions (pick at is) ≡ expansion (term.pick terms is)
+picked : (at : ℕ → Tree) (terms : ℕ → term.Term Head) (is : List ℕ) → ((k : ℕ) → instructions_of (at k) ≡ plain_of (terms k)) → instructions (pick at is) ≡ plain (term.pick terms is)
 picked at terms [] same = refl
 picked at terms (k ∷ is) same = ap₂ (λ x y. x ++ y) (same k) (picked at terms is same)
 
 own_is : (info : Module) (e : StackEntry) (i : Option Instruction) → IsOwnOrUndef e → i ≡ instr_of e.operator → (number missing : ℕ) (at : ℕ → Tree) (terms : ℕ → term.Term Head) →
-    ((k : ℕ) → instructions_of (at k) ≡ expansion_of (terms k)) →
-    instructions_of (tree_of_entry (option_map (shape_of info) i) (children_of e.operator) number missing at) ≡ expansion_of (term.node (head_of e.operator) (term.pick terms (children_of e.operator)))
+    ((k : ℕ) → instructions_of (at k) ≡ plain_of (terms k)) →
+    instructions_of (tree_of_entry (option_map (shape_of info) i) (children_of e.operator) number missing at) ≡ plain_of (term.node (head_of e.operator) (term.pick terms (children_of e.operator)))
 unfolding place_of payload_of ids_of
 own_is info e (Some j) own is number missing at terms same =
     ap₂ (λ x y. x ++ y) (picked at terms (children_of e.operator) same) (ap (λ x. x ∷ []) (shape_instr info j) ∙ ap listed is)
 own_is info e None own is number missing at terms same =
-    sym (ap (λ (l : Lang). expansion (term.pick terms (children_of l)) ++ listed (instr_of l)) (own (sym is)))
+    sym (ap (λ (l : Lang). plain (term.pick terms (children_of l)) ++ listed (instr_of l)) (own (sym is)))
 
-chosen_same : (b c : Bool) (x y : Tree) (s t : term.Term Head) → b ≡ c → instructions_of x ≡ expansion_of s → instructions_of y ≡ expansion_of t → instructions_of (cond b x y) ≡ expansion_of (cond c s t)
+chosen_same : (b c : Bool) (x y : Tree) (s t : term.Term Head) → b ≡ c → instructions_of x ≡ plain_of s → instructions_of y ≡ plain_of t → instructions_of (cond b x y) ≡ plain_of (cond c s t)
 chosen_same true true x y s t e p q = p
 chosen_same true false x y s t e p q = absurd cc
 chosen_same false true x y s t e p q = absurd cc
 chosen_same false false x y s t e p q = q
 
 trees_are : (info : Module) (first : ℕ) (es : List StackEntry) → All IsOwnOrUndef es → (i : ℕ) →
-    instructions_of (tree_at (map (as_entry info first) es) i) ≡ expansion_of (term.tree_at (map as_node es) i)
+    instructions_of (tree_at (map (as_entry info first) es) i) ≡ plain_of (term.tree_at (map as_node es) i)
 trees_are info first [] all i = refl
 trees_are info first (e ∷ earlier) all i =
     let ih = trees_are info first earlier (All-tail IsOwnOrUndef e earlier all) in
@@ -108,6 +109,12 @@ trees_are info first (e ∷ earlier) all i =
     (ap (λ n. n == i) (length-map earlier (as_entry info first) ∙ sym (length-map earlier as_node)))
     (own_is info e (instr_of e.operator) (All-head IsOwnOrUndef e earlier all) refl (e.operator_idx - first) (undefs (map (as_entry info first) earlier)) (tree_at (map (as_entry info first) earlier)) (term.tree_at (map as_node earlier)) ih)
     (ih i)
+
+-- so the entry's term expands to its tree's instructions
+trees_themselves : (info : Module) (first : ℕ) (es : List StackEntry) → All IsOwnOrUndef es → (i : ℕ) →
+    IsItself (term.tree_at (map as_node es) i) (instructions_of (tree_at (map (as_entry info first) es) i))
+trees_themselves info first es all i =
+    subst (λ (code : List Instruction). IsItself (term.tree_at (map as_node es) i) code) (sym (trees_are info first es all i)) (is_itself (term.tree_at (map as_node es) i) (trees_plain es all i))
 
 -- ---- a root's number
 
@@ -146,42 +153,144 @@ numbers_are info first (e ∷ earlier) all i n =
     (own_number first (e.operator_idx - first) (undefs (map (as_entry info first) earlier)) e.operator_idx (option_map (shape_of info) (instr_of e.operator)) (children_of e.operator) (tree_at (map (as_entry info first) earlier)) (All-head (IsLater first) e earlier all) refl)
     (numbers_are info first earlier (All-tail (IsLater first) e earlier all) i) n
 
--- ---- a forest has no entry operands at its roots
+-- ---- a forest's roots are operators, ascending
 
-nodes_joined : (ts us : Trees) → AreNodes ts → AreNodes us → AreNodes (join ts us)
-nodes_joined no_trees us p q = q
-nodes_joined (t ▸ ts) us p q = (p.0, nodes_joined ts us p.1 q)
+-- the trees are operators' from `low` on, ascending, below `high`
+abbrev AreRising : ℕ → ℕ → Trees → Type 0
+AreRising low high no_trees = low ≤ high
+AreRising low high (entry m ▸ ts) = ⊥
+AreRising low high (node i s kids ▸ ts) = (low ≤ i) × AreRising (suc i) high ts
 
-nodes_of_block : (block : List Shape) → AreNodes (trees block)
-nodes_of_block [] = tt
-nodes_of_block (s ∷ earlier) = nodes_joined (trees earlier) (tree_of s earlier ▸ no_trees) (nodes_of_block earlier) (tt, tt)
+rising_lower : (ts : Trees) (low less high : ℕ) → less ≤ low → AreRising low high ts → AreRising less high ts
+rising_lower no_trees low less high l h = omega arith
+rising_lower (entry m ▸ ts) low less high l h = h
+rising_lower (node i s kids ▸ ts) low less high l h = let more : low ≤ i = h.0 in (omega arith, h.1)
 
-nodes_without : (test : ℕ → Bool) (ts : Trees) → AreNodes ts → AreNodes (without test ts)
-nodes_without test no_trees p = tt
-nodes_without test (entry m ▸ ts) p = absurd p.0
-nodes_without test (node i s kids ▸ ts) p = left (test i) (nodes_without test ts p.1)
+rising_joined : (ts : Trees) (low high : ℕ) (s : Shape) (kids : Trees) → AreRising low high ts → AreRising low (suc high) (join ts (node high s kids ▸ no_trees))
+rising_joined no_trees low high s kids h = (h, omega arith)
+rising_joined (entry m ▸ ts) low high s kids h = absurd h
+rising_joined (node i r below ▸ ts) low high s kids h = (h.0, rising_joined ts (suc i) high s kids h.1)
+
+rising_block : (block : List Shape) → AreRising 0 (length block) (trees block)
+rising_block [] = omega arith
+rising_block (s ∷ earlier) = rising_joined (trees earlier) 0 (length earlier) s _ (rising_block earlier)
+
+rising_without : (test : ℕ → Bool) (ts : Trees) (low high : ℕ) → AreRising low high ts → AreRising low high (without test ts)
+rising_without test no_trees low high h = h
+rising_without test (entry m ▸ ts) low high h = absurd h
+rising_without test (node i s kids ▸ ts) low high h = left (test i) (rising_without test ts (suc i) high h.1)
   where
-    left : (b : Bool) → AreNodes (without test ts) → AreNodes (cond b (without test ts) (node i s kids ▸ without test ts))
-    left true q = q
-    left false q = (tt, q)
+    left : (b : Bool) → AreRising (suc i) high (without test ts) → AreRising low high (cond b (without test ts) (node i s kids ▸ without test ts))
+    left true q = let l : low ≤ i = h.0 in rising_lower (without test ts) (suc i) low high (omega arith) q
+    left false q = (h.0, q)
 
-nodes_of_forest : (block : List Shape) → AreNodes (forest block)
-nodes_of_forest block = nodes_without (λ j. is_operand j (trees block)) (trees block) (nodes_of_block block)
+rising_forest : (block : List Shape) → AreRising 0 (length block) (forest block)
+rising_forest block = rising_without (λ j. is_operand j (trees block)) (trees block) 0 (length block) (rising_block block)
 
--- ---- the roots are the forest
+-- no root has a smaller number
+no_root : (first at : ℕ) (ts : Trees) (low high : ℕ) → AreRising low high ts → at < first + low → is_root first at ts ≡ false
+no_root first at no_trees low high h l = refl
+no_root first at (entry m ▸ ts) low high h l = absurd h
+no_root first at (node i s kids ▸ ts) low high h l =
+    let more : low ≤ i = h.0 in
+    ap (λ (b : Bool). b || is_root first at ts) (ne_eqb (first + i) at (omega arith)) ∙ no_root first at ts (suc i) high h.1 (omega arith)
 
-replaced_node : (first at : ℕ) (code : List Instruction) (t : Tree) (ts : Trees) → IsNode t →
-    replaced first at code (t ▸ ts) ≡ cond (first + number_of t == at) code (instructions_of t) ++ replaced first at code ts
-replaced_node first at code (entry m) ts n = absurd n
-replaced_node first at code (node i s kids) ts n = refl
+-- ---- the roots' terms are the forest, in which one term stands for a tree
 
-roots_are : (first at : ℕ) (code : List Instruction) (entries : List StackEntry) (tree : ℕ → Tree) (is : List ℕ) → AreNodes (pick tree is) →
-    ((i : ℕ) → IsNode (tree i) → first + number_of (tree i) ≡ operator_at entries i) → ((i : ℕ) → instructions_of (tree i) ≡ expansion_of (term.tree_at (entry_nodes entries) i)) →
-    roots_code at code entries is ≡ replaced first at code (pick tree is)
-roots_are first at code entries tree [] n numbers own = refl
-roots_are first at code entries tree (i ∷ is) n numbers own =
-    sym (replaced_node first at code (tree i) (pick tree is) n.0
-    ∙ ap₂ (λ (x y : List Instruction). x ++ y) (ap₂ (λ (k : ℕ) (x : List Instruction). cond (k == at) code x) (numbers i n.0) (own i)) (sym (roots_are first at code entries tree is n.1 numbers own)))
+-- where no root is the insertion point, nothing is replaced
+replaced_none : (first at : ℕ) (code other : List Instruction) (ts : Trees) → is_root first at ts ≡ false → replaced first at code ts ≡ replaced first at other ts
+replaced_none first at code other no_trees f = refl
+replaced_none first at code other (entry m ▸ ts) f = replaced_none first at code other ts f
+replaced_none first at code other (node i s kids ▸ ts) f = go (first + i == at) f (replaced_none first at code other ts)
+  where
+    go : (b : Bool) → (b || is_root first at ts) ≡ false → (is_root first at ts ≡ false → replaced first at code ts ≡ replaced first at other ts) →
+        cond b code (instructions_of (node i s kids)) ++ replaced first at code ts ≡ cond b other (instructions_of (node i s kids)) ++ replaced first at other ts
+    go true e h = absurd cc
+    go false e h = ap (λ x. instructions_of (node i s kids) ++ x) (h e)
+
+-- What terms are written as that stand for trees, of which one is replaced by a term where `b` says so.
+pub record IsPart (first at : ℕ) (t : term.Term Head) (ts : Trees) (us : term.Terms Head) (b : Bool) : Type 0 where
+  code : (n : ℕ) (words : List ℕ) → expansion n words us ≡ followed (cond b (expansion_of n words t) (Ok [])) (λ code. Ok (replaced first at code ts))
+  asked : requests us ≡ cond b (requests_of t) []
+  drawn_types : draws us ≡ cond b (draws_of t) []
+
+abbrev ok : List Instruction → Result (List Instruction) Error
+ok code = Ok code
+
+-- the same of the first tree and the others, where `b` tells whether it is the insertion point's
+abbrev IsStep : (first at : ℕ) (t own : term.Term Head) (code : List Instruction) (ts : Trees) (us : term.Terms Head) → Bool → Type 0
+IsStep first at t own code ts us b =
+    ((n : ℕ) (words : List ℕ) → expansion n words (with_term (cond b t own) us)
+    ≡ followed (cond (b || is_root first at ts) (expansion_of n words t) (Ok [])) (λ more. ok (cond b more code ++ replaced first at more ts)))
+    × (requests_of (cond b t own) ++ requests us ≡ cond (b || is_root first at ts) (requests_of t) [])
+    × (draws_of (cond b t own) ++ draws us ≡ cond (b || is_root first at ts) (draws_of t) [])
+
+term_first : (first at : ℕ) (ts : Trees) (e : Result (List Instruction) Error) → is_root first at ts ≡ false →
+    joined e (Ok (replaced first at [] ts)) ≡ followed e (λ code. Ok (code ++ replaced first at code ts))
+term_first first at ts (Err d) f = refl
+term_first first at ts (Ok is) f = ap (λ (x : List Instruction). ok (is ++ x)) (replaced_none first at [] is ts f)
+
+own_first : (first at : ℕ) (ts : Trees) (own : List Instruction) (x : Result (List Instruction) Error) →
+    joined (Ok own) (followed x (λ code. Ok (replaced first at code ts))) ≡ followed x (λ code. Ok (own ++ replaced first at code ts))
+own_first first at ts own (Err d) = refl
+own_first first at ts own (Ok is) = refl
+
+add_none : (n : ℕ) → n + 0 ≡ n
+add_none n = omega arith
+
+step_term : (first at : ℕ) (t own : term.Term Head) (code : List Instruction) (ts : Trees) (us : term.Terms Head) → is_root first at ts ≡ false → IsPart first at t ts us (is_root first at ts) →
+    IsStep first at t own code ts us true
+step_term first at t own code ts us f ih =
+    let k = subst (IsPart first at t ts us) f ih in (
+      λ n words. ap (λ (x : Result (List Instruction) Error). joined (expansion_of n words t) x) (k.code (n + length (requests_of t)) (drop (length (draws_of t)) words))
+          ∙ term_first first at ts (expansion_of n words t) f,
+      ap (λ (x : List NumberType). requests_of t ++ x) k.asked ∙ append-nil (requests_of t),
+      ap (λ (x : List NumberType). draws_of t ++ x) k.drawn_types ∙ append-nil (draws_of t),
+    )
+
+step_own : (first at : ℕ) (t own : term.Term Head) (code : List Instruction) (ts : Trees) (us : term.Terms Head) → IsItself own code → IsPart first at t ts us (is_root first at ts) →
+    IsStep first at t own code ts us false
+step_own first at t own code ts us i k = (
+  λ n words.
+      let next : n + length (requests_of own) ≡ n = ap (λ (x : List NumberType). n + length x) i.asks ∙ add_none n in
+      let left : drop (length (draws_of own)) words ≡ words = ap (λ (x : List NumberType). drop (length x) words) i.takes in
+      ap₂ joined (i.expands n words) (ap₂ (λ m ws. expansion m ws us) next left ∙ k.code n words)
+      ∙ own_first first at ts code (cond (is_root first at ts) (expansion_of n words t) (Ok [])),
+  ap₂ (λ (x y : List NumberType). x ++ y) i.asks k.asked,
+  ap₂ (λ (x y : List NumberType). x ++ y) i.takes k.drawn_types,
+)
+
+-- an operator's tree first
+node_part : (first at : ℕ) (t own : term.Term Head) (i high : ℕ) (s : Shape) (kids ts : Trees) (us : term.Terms Head) → AreRising (suc i) high ts → IsItself own (instructions_of (node i s kids)) →
+    IsPart first at t ts us (is_root first at ts) →
+    IsPart first at t (node i s kids ▸ ts) (with_term (cond (first + i == at) t own) us) (is_root first at (node i s kids ▸ ts))
+node_part first at t own i high s kids ts us rising itself k =
+    let step = go (first + i == at) refl in
+    record { code = step.0; asked = step.1; drawn_types = step.2 }
+  where
+    go : (b : Bool) → (first + i == at) ≡ b → IsStep first at t own (instructions_of (node i s kids)) ts us b
+    go true e =
+        let here : first + i ≡ at = eqb-true (first + i) at e in
+        step_term first at t own (instructions_of (node i s kids)) ts us (no_root first at ts (suc i) high rising (omega arith)) k
+    go false e = step_own first at t own (instructions_of (node i s kids)) ts us itself k
+
+-- the first tree, which is an operator's
+tree_part : (first at : ℕ) (t own : term.Term Head) (low high number : ℕ) (x : Tree) (ts : Trees) (us : term.Terms Head) → AreRising low high (x ▸ ts) → (IsNode x → first + number_of x ≡ number) →
+    IsItself own (instructions_of x) → ((next : ℕ) → AreRising next high ts → IsPart first at t ts us (is_root first at ts)) →
+    IsPart first at t (x ▸ ts) (with_term (cond (number == at) t own) us) (is_root first at (x ▸ ts))
+tree_part first at t own low high number (entry m) ts us rising n itself k = absurd rising
+tree_part first at t own low high number (node i s kids) ts us rising n itself k =
+    subst (λ (m : ℕ). IsPart first at t (node i s kids ▸ ts) (with_term (cond (m == at) t own) us) (is_root first at (node i s kids ▸ ts))) (n tt)
+    (node_part first at t own i high s kids ts us rising.1 itself (k (suc i) rising.1))
+
+roots_part : (first at : ℕ) (t : term.Term Head) (entries : List StackEntry) (tree : ℕ → Tree) (is : List ℕ) (low high : ℕ) → AreRising low high (pick tree is) →
+    ((i : ℕ) → IsNode (tree i) → first + number_of (tree i) ≡ operator_at entries i) →
+    ((i : ℕ) → IsItself (term.tree_at (entry_nodes entries) i) (instructions_of (tree i))) →
+    IsPart first at t (pick tree is) (root_terms at t entries is) (is_root first at (pick tree is))
+roots_part first at t entries tree [] low high rising numbers own = record { code = λ n words. refl; asked = refl; drawn_types = refl }
+roots_part first at t entries tree (i ∷ is) low high rising numbers own =
+    tree_part first at t (term.tree_at (entry_nodes entries) i) low high (operator_at entries i) (tree i) (pick tree is) (root_terms at t entries is) rising (numbers i) (own i)
+    (λ next more. roots_part first at t entries tree is next high more numbers own)
 
 -- the same lists, seen from the last entry on
 entries_back : (info : Module) (first : ℕ) (entries : List StackEntry) → nodes_of info first entries ≡ map (as_entry info first) (reverse entries)
@@ -192,18 +301,22 @@ operator_back entries i =
     get_item 0 (map (λ (e : StackEntry). e.operator_idx) entries) i ∙ ap (λ (x : List ℕ). item 0 x i) (sym (map-reverse (λ (e : StackEntry). e.operator_idx) entries))
 
 -- what the encoder writes for the roots is what the block is written as
-pub roots_written : (info : Module) (keeping : Bool) (first : ℕ) (operators : List (Operator × ℕ)) (entries : List StackEntry) (parents : List (Option ℕ)) (look : ℕ → Option ℕ) (at : ℕ) (code : List Instruction) →
-    IsGraphOf info keeping first operators entries parents look → roots_code at code entries (roots_of parents) ≡ replaced first at code (forest (block_of info operators))
-roots_written info keeping first operators entries parents look at code h =
+pub roots_written : (info : Module) (keeping : Bool) (first : ℕ) (operators : List (Operator × ℕ)) (entries : List StackEntry) (parents : List (Option ℕ)) (look : ℕ → Option ℕ) (at : ℕ) (t : term.Term Head) →
+    IsGraphOf info keeping first operators entries parents look →
+    IsPart first at t (forest (block_of info operators)) (root_terms at t entries (roots_of parents)) (is_root first at (forest (block_of info operators)))
+roots_written info keeping first operators entries parents look at t h =
     let back = reverse entries in
-    let same = entries_back info first entries in
-    let later : All (IsLater first) back = All-reverse (IsLater first) entries (All-unmap (λ (x : Seen). first ≤ x.operator) seen entries (represents info keeping first operators entries parents look h).later) in
-    let own : All IsOwnOrUndef back = All-reverse IsOwnOrUndef entries (represents info keeping first operators entries parents look h).missing in
-    let stands : pick (tree_at (map (as_entry info first) back)) (roots_of parents) ≡ forest (block_of info operators) = ap (λ (x : List Entry). pick (tree_at x) (roots_of parents)) (sym same) ∙ (represents info keeping first operators entries parents look h).stands.trees in
-    roots_are first at code entries (tree_at (map (as_entry info first) back)) (roots_of parents) (subst AreNodes (sym stands) (nodes_of_forest (block_of info operators)))
+    let block = block_of info operators in
+    let r = represents info keeping first operators entries parents look h in
+    let later : All (IsLater first) back = All-reverse (IsLater first) entries (All-unmap (λ (x : Seen). first ≤ x.operator) seen entries r.later) in
+    let own : All IsOwnOrUndef back = All-reverse IsOwnOrUndef entries r.missing in
+    let tree : ℕ → Tree = tree_at (map (as_entry info first) back) in
+    let nodes : entry_nodes entries ≡ map as_node back = sym (map-reverse as_node entries) in
+    let stands : pick tree (roots_of parents) ≡ forest block = ap (λ (x : List Entry). pick (tree_at x) (roots_of parents)) (sym (entries_back info first entries)) ∙ r.stands.trees in
+    subst (λ (x : Trees). IsPart first at t x (root_terms at t entries (roots_of parents)) (is_root first at x)) stands
+    (roots_part first at t entries tree (roots_of parents) 0 (length block) (subst (λ (x : Trees). AreRising 0 (length block) x) (sym stands) (rising_forest block))
     (λ i n. numbers_are info first back later i n ∙ sym (operator_back entries i))
-    (λ i. trees_are info first back own i ∙ ap (λ (x : List (term.Node Head)). expansion_of (term.tree_at x i)) (map-reverse as_node entries))
-    ∙ ap (λ (x : Trees). replaced first at code x) stands
+    (λ i. subst (λ (x : List (term.Node Head)). IsItself (term.tree_at x i) (instructions_of (tree i))) (sym nodes) (trees_themselves info first back own i)))
 
 -- ---- the roots are walked over
 
@@ -249,29 +362,81 @@ walkable info keeping first operators entries parents look h =
 
 -- ---- the loop over the parents
 
-roots_code-append : (at : ℕ) (code : List Instruction) (entries : List StackEntry) (is js : List ℕ) → roots_code at code entries (is ++ js) ≡ roots_code at code entries is ++ roots_code at code entries js
-roots_code-append at code entries [] js = refl
-roots_code-append at code entries (i ∷ is) js = ap (λ x. root_code at code entries i ++ x) (roots_code-append at code entries is js) ∙ sym (append_assoc (root_code at code entries i) (roots_code at code entries is) (roots_code at code entries js))
+root_terms-append : (at : ℕ) (t : term.Term Head) (entries : List StackEntry) (is js : List ℕ) →
+    steps (root_terms at t entries (is ++ js)) ≡ steps (root_terms at t entries is) ++ steps (root_terms at t entries js)
+root_terms-append at t entries [] js = refl
+root_terms-append at t entries (i ∷ is) js =
+    ap (λ x. steps_of (root_term at t entries i) ++ x) (root_terms-append at t entries is js)
+    ∙ sym (append_assoc (steps_of (root_term at t entries i)) (steps (root_terms at t entries is)) (steps (root_terms at t entries js)))
 
--- one more root is written, or one more entry is none
-pub root_step : (old bytes more : List ℕ) (at : ℕ) (code : List Instruction) (entries : List StackEntry) (parents : List (Option ℕ)) (i : ℕ) → i < length parents → get_or parents i None ≡ None →
-    bytes ≡ old ++ codes (roots_code at code entries (roots_of (take i parents))) → more ≡ bytes ++ codes (root_code at code entries i) →
-    more ≡ old ++ codes (roots_code at code entries (roots_of (take (i + 1) parents)))
-root_step old bytes more at code entries parents i l none e m =
+-- the roots of the first parents are the first roots
+roots_behind : (ps : List (Option ℕ)) (back front : List (Option ℕ)) → back ≡ reverse ps → (more : List ℕ) × (roots_of (front ++ ps) ≡ roots_of front ++ more)
+roots_behind [] back front e = ([], ap roots_of (append-nil front) ∙ sym (append-nil (roots_of front)))
+roots_behind (p ∷ ps) back front e =
+    let later = roots_behind ps (reverse ps) (front ++ p ∷ []) refl in
+    let one = one_more p in (
+      one.0 ++ later.0,
+      ap roots_of (sym (append_assoc front (p ∷ []) ps)) ∙ (later.1 ∙ (ap (λ (x : List ℕ). x ++ later.0) one.1 ∙ append_assoc (roots_of front) one.0 later.0)),
+    )
+  where
+    one_more : (p : Option ℕ) → (more : List ℕ) × (roots_of (front ++ p ∷ []) ≡ roots_of front ++ more)
+    one_more None = (length front ∷ [], roots_root front)
+    one_more (Some q) = ([], roots_child front q ∙ sym (append-nil (roots_of front)))
+
+abbrev all_steps : ℕ → term.Term Head → List StackEntry → List (Option ℕ) → List Step
+all_steps at t entries parents = steps (root_terms at t entries (roots_of parents))
+
+-- at a root, the steps go on with those of its term
+next_root : (at : ℕ) (t : term.Term Head) (entries : List StackEntry) (parents : List (Option ℕ)) (i : ℕ) → i < length parents → get_or parents i None ≡ None →
+    all_steps at t entries (take (i + 1) parents) ≡ all_steps at t entries (take i parents) ++ steps_of (root_term at t entries i)
+next_root at t entries parents i l none =
     let front = take i parents in
     let n : length front ≡ i = omega (arith, length-take i parents) in
     let taken : take (i + 1) parents ≡ front ++ None ∷ [] = take_more parents i None l ∙ ap (λ (q : Option ℕ). front ++ q ∷ []) none in
     let roots : roots_of (take (i + 1) parents) ≡ roots_of front ++ i ∷ [] = ap roots_of taken ∙ (roots_root front ∙ ap (λ k. roots_of front ++ k ∷ []) n) in
-    let own : roots_code at code entries (roots_of (take (i + 1) parents)) ≡ roots_code at code entries (roots_of front) ++ root_code at code entries i =
-    ap (roots_code at code entries) roots ∙ (roots_code-append at code entries (roots_of front) (i ∷ []) ∙ ap (λ (x : List Instruction). roots_code at code entries (roots_of front) ++ x) (append-nil (root_code at code entries i))) in
-    m ∙ (ap (λ (x : List ℕ). x ++ codes (root_code at code entries i)) e ∙ (append_assoc old (codes (roots_code at code entries (roots_of front))) (codes (root_code at code entries i))
-    ∙ ap (λ (x : List ℕ). old ++ x) (sym (codes-append (roots_code at code entries (roots_of front)) (root_code at code entries i)) ∙ ap codes (sym own))))
+    ap (λ (x : List ℕ). steps (root_terms at t entries x)) roots
+    ∙ (root_terms-append at t entries (roots_of front) (i ∷ []) ∙ ap (λ (x : List Step). all_steps at t entries front ++ x) (append-nil (steps_of (root_term at t entries i))))
 
-pub child_step : (old bytes : List ℕ) (at : ℕ) (code : List Instruction) (entries : List StackEntry) (parents : List (Option ℕ)) (i p : ℕ) → i < length parents → get_or parents i None ≡ Some p →
-    bytes ≡ old ++ codes (roots_code at code entries (roots_of (take i parents))) → bytes ≡ old ++ codes (roots_code at code entries (roots_of (take (i + 1) parents)))
-child_step old bytes at code entries parents i p l some e =
+-- one more root is written
+pub root_step : (count at : ℕ) (t : term.Term Head) (entries : List StackEntry) (parents : List (Option ℕ)) (i : ℕ) (start w v : Writing) → i < length parents → get_or parents i None ≡ None →
+    take_steps count (all_steps at t entries (take i parents)) start ≡ Ok w → take_steps count (steps_of (root_term at t entries i)) w ≡ Ok v →
+    take_steps count (all_steps at t entries (take (i + 1) parents)) start ≡ Ok v
+root_step count at t entries parents i start w v l none before own =
+    let front = all_steps at t entries (take i parents) in
+    let here = steps_of (root_term at t entries i) in
+    ap (λ (x : List Step). take_steps count x start) (next_root at t entries parents i l none)
+    ∙ (take_steps-append count front here start ∙ (ap (λ (x : Result Writing Error). after x (take_steps count here)) before ∙ own))
+
+-- or its term refuses, and so does the whole
+pub root_refused : (count at : ℕ) (t : term.Term Head) (entries : List StackEntry) (parents : List (Option ℕ)) (i : ℕ) (start w : Writing) (d : Error) → i < length parents → get_or parents i None ≡ None →
+    take_steps count (all_steps at t entries (take i parents)) start ≡ Ok w → IsRefusal d (take_steps count (steps_of (root_term at t entries i)) w) →
+    IsRefusal d (take_steps count (all_steps at t entries parents) start)
+root_refused count at t entries parents i start w d l none before own =
+    let front = all_steps at t entries (take i parents) in
+    let here = steps_of (root_term at t entries i) in
+    let more = roots_behind (drop (i + 1) parents) (reverse (drop (i + 1) parents)) (take (i + 1) parents) refl in
+    let roots : roots_of parents ≡ roots_of (take (i + 1) parents) ++ more.0 = ap roots_of (sym (take-append-drop (i + 1) parents)) ∙ more.1 in
+    let rest = steps (root_terms at t entries more.0) in
+    let whole : all_steps at t entries parents ≡ (front ++ here) ++ rest =
+    ap (λ (x : List ℕ). steps (root_terms at t entries x)) roots
+    ∙ (root_terms-append at t entries (roots_of (take (i + 1) parents)) more.0 ∙ ap (λ (x : List Step). x ++ rest) (next_root at t entries parents i l none)) in
+    let begun : take_steps count (front ++ here) start ≡ take_steps count here w =
+    take_steps-append count front here start ∙ ap (λ (x : Result Writing Error). after x (take_steps count here)) before in
+    refused_after d (take_steps count here w) (take_steps count (all_steps at t entries parents) start) (take_steps count rest)
+    (ap (λ (x : Result Writing Error). after x (take_steps count rest)) (sym begun)
+    ∙ (sym (take_steps-append count (front ++ here) rest start) ∙ ap (λ (x : List Step). take_steps count x start) (sym whole))) own
+
+-- one more entry is none
+pub child_step : (count at : ℕ) (t : term.Term Head) (entries : List StackEntry) (parents : List (Option ℕ)) (i p : ℕ) (start w : Writing) → i < length parents → get_or parents i None ≡ Some p →
+    take_steps count (all_steps at t entries (take i parents)) start ≡ Ok w → take_steps count (all_steps at t entries (take (i + 1) parents)) start ≡ Ok w
+child_step count at t entries parents i p start w l some e =
     let taken : take (i + 1) parents ≡ take i parents ++ Some p ∷ [] = take_more parents i None l ∙ ap (λ (q : Option ℕ). take i parents ++ q ∷ []) some in
-    e ∙ ap (λ (x : List ℕ). old ++ codes (roots_code at code entries x)) (sym (ap roots_of taken ∙ roots_child (take i parents) p))
+    ap (λ (x : List ℕ). take_steps count (steps (root_terms at t entries x)) start) (ap roots_of taken ∙ roots_child (take i parents) p) ∙ e
+
+-- what a branch leaves is what it wrote
+pub same_writing : (a b : List ℕ) (r q : List ResourceRequest) (s t : Stream) → b ≡ a → q ≡ r → t ≡ s →
+    ◌≡◌ {A = Result Writing Error} (Ok (record { bytes = a; requests = r; stream = s })) (Ok (record { bytes = b; requests = q; stream = t }))
+same_writing a b r q s t e f g = cc
 
 pub no_parent : (q : Option ℕ) (b : Bool) → is_some q ≡ not b → b ≡ true → q ≡ None
 no_parent None b e t = refl
@@ -294,19 +459,70 @@ pub walkable_under : (under : Option Module) (keeping : Bool) (first : ℕ) (ope
 walkable_under None keeping first operators entries parents look s h = absurd cc
 walkable_under (Some info) keeping first operators entries parents look s h = walkable info keeping first operators entries parents look h
 
-pub written_under : (under : Option Module) (keeping : Bool) (input : List ℕ) (operators : List (Operator × ℕ)) (block : BlockRange) (entries es : List StackEntry) (parents ps : List (Option ℕ)) (look : ℕ → Option ℕ)
-    (at : ℕ) (expr nodes : List Lang) (front back old new : List ℕ) → IfSome under (λ info. IsGraphOf info keeping block.start (slice_range operators block.start block.end) entries parents look) →
-    es ≡ entries → ps ≡ parents → nodes ≡ expr → front ≡ before_block input operators block → back ≡ after_block input operators block →
-    new ≡ old ++ (front ++ (codes (roots_code at (expansion_of (term.term_of head_of children_of nodes)) es (roots_of ps)) ++ back)) →
-    IfSome under (λ info. new ≡ old ++ written_body input operators block (written_block info operators block at (term.term_of head_of children_of expr)))
-written_under None keeping input operators block entries es parents ps look at expr nodes front back old new h a b c d f e = tt
-written_under (Some info) keeping input operators block entries es parents ps look at expr nodes front back old new h a b c d f e =
-    let code = expansion_of (term.term_of head_of children_of expr) in
-    let roots : roots_code at (expansion_of (term.term_of head_of children_of nodes)) es (roots_of ps) ≡ roots_code at code entries (roots_of parents) =
-    ap (λ (x : List Lang). roots_code at (expansion_of (term.term_of head_of children_of x)) es (roots_of ps)) c ∙ ap₂ (λ (x : List StackEntry) (y : List (Option ℕ)). roots_code at code x (roots_of y)) a b in
-    let block_code = roots_written info keeping block.start (slice_range operators block.start block.end) entries parents look at code h in
-    e ∙ (ap₂ (λ (x y : List ℕ). old ++ (x ++ (codes (roots_code at (expansion_of (term.term_of head_of children_of nodes)) es (roots_of ps)) ++ y))) d f
-    ∙ ap (λ (x : List Instruction). old ++ written_body input operators block x) (roots ∙ block_code))
+-- What is there after success.
+pub record IsBlockWritten (first at : ℕ) (t : term.Term Head) (ts : Trees) (count : ℕ) (w v : Writing) : Type 0 where
+  pub code : List Instruction
+  pub expands : cond (is_root first at ts) (expansion_of count (drawn (draws_of t) w.stream).0 t) (Ok []) ≡ Ok code
+  pub bytes : v.bytes ≡ w.bytes ++ codes (replaced first at code ts)
+  pub requests : v.requests ≡ cond (is_root first at ts) (map request (requests_of t)) []
+  pub stream : v.stream ≡ cond (is_root first at ts) (drawn (draws_of t) w.stream).1 w.stream
+
+words_are : (count : ℕ) (t : term.Term Head) (stream : Stream) (b : Bool) (ds : List NumberType) → ds ≡ cond b (draws_of t) [] →
+    cond b (expansion_of count (drawn ds stream).0 t) (Ok []) ≡ cond b (expansion_of count (drawn (draws_of t) stream).0 t) (Ok [])
+words_are count t stream true ds e = ap (λ (x : List NumberType). expansion_of count (drawn x stream).0 t) e
+words_are count t stream false ds e = refl
+
+asked_are : (b : Bool) (ts : List NumberType) → map request (cond b ts []) ≡ cond b (map request ts) []
+asked_are true ts = refl
+asked_are false ts = refl
+
+behind_is : (b : Bool) (ts : List NumberType) (stream : Stream) → (drawn (cond b ts []) stream).1 ≡ cond b (drawn ts stream).1 stream
+behind_is true ts stream = refl
+behind_is false ts stream = refl
+
+followed_ok : (e : Result (List Instruction) Error) (f : List Instruction → List Instruction) (is : List Instruction) → followed e (λ code. Ok (f code)) ≡ Ok is →
+    (code : List Instruction) × (e ≡ Ok code) × (is ≡ f code)
+followed_ok (Ok code) f is e = (code, refl, cc)
+followed_ok (Err d) f is e = absurd cc
+
+followed_err : (e : Result (List Instruction) Error) (f : List Instruction → List Instruction) (d : Error) → Refuses (followed e (λ code. Ok (f code))) d → Refuses e d
+followed_err (Ok code) f Memory r = tt
+followed_err (Ok code) f CannotUnfold r = absurd cc
+followed_err (Ok code) f GlobalIndex r = absurd cc
+followed_err (Ok code) f _ r = r
+followed_err (Err c) f d r = r
+
+-- the code of the whole, by the term's
+code_is : (first at : ℕ) (t : term.Term Head) (ts : Trees) (us : term.Terms Head) (count : ℕ) (stream : Stream) → IsPart first at t ts us (is_root first at ts) →
+    expansion count (drawn (draws us) stream).0 us
+    ≡ followed (cond (is_root first at ts) (expansion_of count (drawn (draws_of t) stream).0 t) (Ok [])) (λ code. Ok (replaced first at code ts))
+code_is first at t ts us count stream p =
+    p.code count (drawn (draws us) stream).0
+    ∙ ap (λ (x : Result (List Instruction) Error). followed x (λ code. Ok (replaced first at code ts))) (words_are count t stream (is_root first at ts) (draws us) p.drawn_types)
+
+pub block_written : (first at : ℕ) (t : term.Term Head) (ts : Trees) (us : term.Terms Head) (count : ℕ) (w v : Writing) → IsPart first at t ts us (is_root first at ts) → w.requests ≡ [] →
+    take_steps count (steps us) w ≡ Ok v → IsBlockWritten first at t ts count w v
+block_written first at t ts us count w v p none e =
+    let h = finished w v (requests us) (draws us) (expansion count (drawn (draws us) w.stream).0 us) (sym (all_from_start us count w none) ∙ e) in
+    let f = followed_ok (cond (is_root first at ts) (expansion_of count (drawn (draws_of t) w.stream).0 t) (Ok [])) (λ code. replaced first at code ts) h.instructions
+    (sym (code_is first at t ts us count w.stream p) ∙ h.expands) in
+    record {
+      code = f.0;
+      expands = f.1;
+      bytes = h.bytes ∙ ap (λ (x : List Instruction). w.bytes ++ codes x) f.2;
+      requests = h.requests ∙ (ap (λ (x : List ResourceRequest). x ++ map request (requests us)) none ∙ (ap (λ (x : List NumberType). map request x) p.asked ∙ asked_are (is_root first at ts) (requests_of t)));
+      stream = h.stream ∙ (ap (λ (x : List NumberType). (drawn x w.stream).1) p.drawn_types ∙ behind_is (is_root first at ts) (draws_of t) w.stream);
+    }
+
+pub block_refused : (first at : ℕ) (t : term.Term Head) (ts : Trees) (us : term.Terms Head) (count : ℕ) (w : Writing) (d : Error) → IsPart first at t ts us (is_root first at ts) → w.requests ≡ [] →
+    IsRefusal d (take_steps count (steps us) w) → Refuses (cond (is_root first at ts) (expansion_of count (drawn (draws_of t) w.stream).0 t) (Ok [])) d
+block_refused first at t ts us count w d p none r =
+    let all = expansion count (drawn (draws us) w.stream).0 us in
+    followed_err (cond (is_root first at ts) (expansion_of count (drawn (draws_of t) w.stream).0 t) (Ok [])) (λ code. replaced first at code ts) d
+    (subst (λ (x : Result (List Instruction) Error). Refuses x d) (code_is first at t ts us count w.stream p)
+    (refused d w (requests us) (draws us) all (take_steps count (steps us) w) (all_from_start us count w none) r))
+
+-- ---- the order
 
 -- a call that writes answers no refusal for the order's sake, and the block is in order where that is to be preserved
 pub order_kept : {T : Type 0} (under : Option Module) (keeping : Bool) (first : ℕ) (operators : List (Operator × ℕ)) (entries : List StackEntry) (parents : List (Option ℕ)) (look : ℕ → Option ℕ) (r : Result T Error) →
@@ -318,11 +534,6 @@ order_kept (Some info) keeping first operators entries parents look r h lies oth
 pub wrote : {T : Type 0} (x : T) → Ok x ≡ Err NoMutationsApplicable → ⊥
 wrote x e = cc
 
-pub no_memory : {T : Type 0} (e : Error) → e ≡ Memory → ◌≡◌ {A = Result T Error} (Err e) (Err NoMutationsApplicable) → ⊥
-no_memory {T} e m w = let same : e ≡ NoMutationsApplicable = other e w in never (sym m ∙ same)
-  where
-    other : (e : Error) → ◌≡◌ {A = Result T Error} (Err e) (Err NoMutationsApplicable) → e ≡ NoMutationsApplicable
-    other e w = cc
-
-    never : Memory ≡ NoMutationsApplicable → ⊥
-    never e = cc
+-- writing is refused for other causes
+pub not_for_order : {T : Type 0} (d : Error) (r : Result Writing Error) → IsRefusal d r → ◌≡◌ {A = Result T Error} (Err d) (Err NoMutationsApplicable) → ⊥
+not_for_order {T} d r q e = let same : d ≡ NoMutationsApplicable = cc in subst (λ (x : Error). IsRefusal x r) same q

@@ -24,9 +24,13 @@ pub mod GraphOfLemmas
 pub mod GrownLemmas
 pub mod GraphLemmas
 pub mod PlaceLemmas
+pub mod RowLemmas
 pub mod WalkLemmas
+pub mod ExpansionLemmas
 pub mod BodyLemmas
+pub mod PlainLemmas
 pub mod EncoderLemmas
+pub mod SettingLemmas
 pub mod LayoutLemmas
 pub mod LayoutWalk
 pub mod LayoutForest

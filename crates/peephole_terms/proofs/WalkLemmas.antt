@@ -1,70 +1,58 @@
 -- The walk over a tree of nodes: what is left to be written of it. Lists of nodes have the last one first.
-use Rattle.std.proofs.Common.{◌≡◌, ℕ, zero, suc, ◌+◌, ◌-◌, ◌*◌, ◌<◌, ◌≤◌, List, [], ◌∷◌, ◌++◌, length, drop, take, get_or, refl, sym, ap, ap₂, subst, ◌∙◌, arith, append_assoc, append-nil, add-one, drop-cons, length-append, Some}
+use Rattle.std.proofs.Common.{◌≡◌, ℕ, zero, suc, ◌+◌, ◌-◌, ◌*◌, ◌<◌, ◌≤◌, List, [], ◌∷◌, ◌++◌, length, drop, take, get_or, refl, sym, ap, ap₂, subst, ◌∙◌, arith, append_assoc, append-nil, add-one, drop-cons, length-append, Some, None, Bool, true, false, cond, Result, Ok, Err}
 use Rattle.std.specs.Prelude.{All, map}
 use Rattle.std.proofs.lemmas.Grind.{common_steps}
 use Rattle.std.proofs.lemmas.List.{drop_all, length-take, length-map, length-reverse}
 use Rattle.std.proofs.lemmas.List.Elements.{All-nil, All-cons, All-append, All-get_or, All-pop, All-weaker, All-head, All-tail}
-use Rattle.wasm_code.specs.Code.{code, codes}
-use Rattle.wasm_code.specs.Instruction.{Instruction}
+use Rattle.mutate_base.specs.declared.error.Error.{Error}
+use Rattle.mutate_base.specs.declared.error.Error.TheVariants.{Memory, CannotUnfold, GlobalIndex}
 use Rattle.peephole_lang.specs.declared.lang.Head.{Head}
 use Rattle.peephole_lang.specs.declared.id.Id.{Id}
 use Rattle.peephole_lang.specs.declared.lang.Lang.{Lang}
-use Rattle.peephole_lang.specs.Lang.{ids_of}
+use Rattle.peephole_lang.specs.Lang.{ids_of, payload_of}
 use Rattle.peephole_lang.specs.Node.{head_of, children_of}
 use Rattle.peephole_lang.specs.Term.{numbers_of, Term, Terms, absent, node, no_terms, ◌▸◌, Node, AreBelow, pick, tree_at}
-use Rattle.peephole_terms.specs.Expansion.{own_instructions, expansion_of, expansion, nodes_in}
 use Rattle.peephole_terms.specs.declared.frames.Frame.{Frame}
+use Rattle.peephole_terms.specs.Kind.{IntegerType, kind_of, is_unfold}
+use Rattle.peephole_terms.specs.Expansion.{constant_in, constant_of}
+use Rattle.peephole_terms.specs.EncoderSteps.{Step, Writing, own_step, opened, steps_of, steps, take_step, take_steps, after, IsRefusal, nodes_in}
 use Rattle.peephole_terms.proofs.PlaceLemmas.{IsAt, tree_is, children_in, at_place, view, some_at}
 
--- ---- the heads of a term in postfix, and what they add
+-- ---- steps one after another
 
-abbrev mutual
-  pub heads_of : Term Head → List Head
-  heads_of absent = []
-  heads_of (node h kids) = heads kids ++ h ∷ []
+pub take_steps-append : (count : ℕ) (xs ys : List Step) (w : Writing) → take_steps count (xs ++ ys) w ≡ after (take_steps count xs w) (take_steps count ys)
+take_steps-append count [] ys w = refl
+take_steps-append count (x ∷ xs) ys w = go (take_step count x w) (λ v. take_steps-append count xs ys v)
+  where
+    go : (r : Result Writing Error) → ((v : Writing) → take_steps count (xs ++ ys) v ≡ after (take_steps count xs v) (take_steps count ys)) →
+        after r (take_steps count (xs ++ ys)) ≡ after (after r (take_steps count xs)) (take_steps count ys)
+    go (Ok v) more = more v
+    go (Err e) more = refl
 
-  pub heads : Terms Head → List Head
-  heads no_terms = []
-  heads (t ▸ ts) = heads_of t ++ heads ts
-
-abbrev pub own_all : List Head → List Instruction
-own_all [] = []
-own_all (h ∷ hs) = own_instructions h ++ own_all hs
-
-own_all-append : (hs gs : List Head) → own_all (hs ++ gs) ≡ own_all hs ++ own_all gs
-own_all-append [] gs = refl
-own_all-append (h ∷ hs) gs = ap (λ x. own_instructions h ++ x) (own_all-append hs gs) ∙ sym (append_assoc (own_instructions h) (own_all hs) (own_all gs))
-
-mutual
-  expansion_is : (t : Term Head) → own_all (heads_of t) ≡ expansion_of t
-  expansion_is absent = refl
-  expansion_is (node h kids) = own_all-append (heads kids) (h ∷ []) ∙ ap₂ (λ x y. x ++ y) (expansions_are kids) (append-nil (own_instructions h))
-
-  expansions_are : (ts : Terms Head) → own_all (heads ts) ≡ expansion ts
-  expansions_are no_terms = refl
-  expansions_are (t ▸ ts) = own_all-append (heads_of t) (heads ts) ∙ ap₂ (λ x y. x ++ y) (expansion_is t) (expansions_are ts)
-
-pub codes-append : (is js : List Instruction) → codes (is ++ js) ≡ codes is ++ codes js
-codes-append [] js = refl
-codes-append (i ∷ is) js = ap (λ x. code i ++ x) (codes-append is js) ∙ sym (append_assoc (code i) (codes is) (codes js))
+-- what comes behind a refusal doesn't count
+pub refused_after : (d : Error) (r whole : Result Writing Error) (more : Writing → Result Writing Error) → after r more ≡ whole → IsRefusal d r → IsRefusal d whole
+refused_after Memory r whole more e q = tt
+refused_after CannotUnfold r whole more e q = sym e ∙ ap (λ (x : Result Writing Error). after x more) q
+refused_after GlobalIndex r whole more e q = sym e ∙ ap (λ (x : Result Writing Error). after x more) q
+refused_after _ r whole more e q = q
 
 -- ---- what is left
 
 -- a term's children without the first ones
-abbrev pub skip : ℕ → Terms Head → Terms Head
-skip zero ts = ts
-skip (suc k) no_terms = no_terms
-skip (suc k) (t ▸ ts) = skip k ts
+abbrev skipped : ℕ → Terms Head → Terms Head
+skipped zero ts = ts
+skipped (suc k) no_terms = no_terms
+skipped (suc k) (t ▸ ts) = skipped k ts
 
--- the children from one on, and then the node
-abbrev pub heads_left : Term Head → ℕ → List Head
-heads_left absent k = []
-heads_left (node h kids) k = heads (skip k kids) ++ h ∷ []
+-- the written children from one on, and then the node
+abbrev steps_left : Term Head → ℕ → List Step
+steps_left absent k = []
+steps_left (node h kids) k = steps (skipped k (cond (is_unfold (kind_of h)) no_terms kids)) ++ own_step (kind_of h) kids ∷ []
 
 -- the last frame comes first
-abbrev pub todo : List (Node Head) → List Frame → List Head
+abbrev todo : List (Node Head) → List Frame → List Step
 todo ns [] = []
-todo ns (f ∷ fs) = todo ns fs ++ heads_left (tree_at ns f.node) f.next
+todo ns (f ∷ fs) = todo ns fs ++ steps_left (tree_at ns f.node) f.next
 
 abbrev pub start_of : ℕ → Frame
 start_of i = record { node = i; next = 0 }
@@ -72,105 +60,132 @@ start_of i = record { node = i; next = 0 }
 abbrev pub moved : Frame → Frame
 moved f = record { node = f.node; next = f.next + 1 }
 
-whole_left : (t : Term Head) → heads_left t 0 ≡ heads_of t
+whole_left : (t : Term Head) → steps_left t 0 ≡ steps_of t
 whole_left absent = refl
-whole_left (node h kids) = refl
+whole_left (node h kids) = go (is_unfold (kind_of h))
+  where
+    go : (b : Bool) → steps (skipped 0 (cond b no_terms kids)) ++ own_step (kind_of h) kids ∷ [] ≡ cond b [] (steps kids) ++ own_step (kind_of h) kids ∷ []
+    go true = refl
+    go false = refl
 
-skip-pick : (at : ℕ → Term Head) (k : ℕ) (is : List ℕ) → skip k (pick at is) ≡ pick at (drop k is)
-skip-pick at zero is = refl
-skip-pick at (suc k) [] = refl
-skip-pick at (suc k) (i ∷ is) = skip-pick at k is
+skipped-pick : (at : ℕ → Term Head) (k : ℕ) (is : List ℕ) → skipped k (pick at is) ≡ pick at (drop k is)
+skipped-pick at zero is = refl
+skipped-pick at (suc k) [] = refl
+skipped-pick at (suc k) (i ∷ is) = skipped-pick at k is
+
+skipped-opened : (at : ℕ → Term Head) (k : ℕ) (b : Bool) (is : List ℕ) → skipped k (cond b no_terms (pick at is)) ≡ pick at (drop k (cond b [] is))
+skipped-opened at k true is = skipped-pick at k []
+skipped-opened at k false is = skipped-pick at k is
+
+-- the places of a node's written children, and its own step
+abbrev opened_of : Node Head → List ℕ
+opened_of n = opened (kind_of n.head) n.children
+
+abbrev own_at : List (Node Head) → Node Head → Step
+own_at ns n = own_step (kind_of n.head) (pick (tree_at ns) n.children)
 
 -- at a node's frame
-left_at : (ns : List (Node Head)) (n : Node Head) (i k : ℕ) → IsAt n ns i → AreBelow ns → heads_left (tree_at ns i) k ≡ heads (pick (tree_at ns) (drop k n.children)) ++ n.head ∷ []
-left_at ns n i k at b = ap (λ t. heads_left t k) (tree_is at b) ∙ ap (λ ts. heads ts ++ n.head ∷ []) (skip-pick (tree_at ns) k n.children)
+left_at : (ns : List (Node Head)) (n : Node Head) (i k : ℕ) → IsAt n ns i → AreBelow ns → steps_left (tree_at ns i) k ≡ steps (pick (tree_at ns) (drop k (opened_of n))) ++ own_at ns n ∷ []
+left_at ns n i k at b = ap (λ t. steps_left t k) (tree_is at b) ∙ ap (λ ts. steps ts ++ own_at ns n ∷ []) (skipped-opened (tree_at ns) k (is_unfold (kind_of n.head)) n.children)
 
-left_down : (ns : List (Node Head)) (n : Node Head) (i k : ℕ) → IsAt n ns i → AreBelow ns → k < length n.children →
-    heads_left (tree_at ns i) k ≡ heads_left (tree_at ns (get_or n.children k 0)) 0 ++ heads_left (tree_at ns i) (k + 1)
+left_down : (ns : List (Node Head)) (n : Node Head) (i k : ℕ) → IsAt n ns i → AreBelow ns → k < length (opened_of n) →
+    steps_left (tree_at ns i) k ≡ steps_left (tree_at ns (get_or (opened_of n) k 0)) 0 ++ steps_left (tree_at ns i) (k + 1)
 left_down ns n i k at b l =
-    let child = get_or n.children k 0 in
-    let e : drop k n.children ≡ child ∷ drop (k + 1) n.children = rw add-one (drop-cons n.children k 0 l) in
-    left_at ns n i k at b ∙ (ap (λ (x : List ℕ). heads (pick (tree_at ns) x) ++ n.head ∷ []) e ∙ (append_assoc (heads_of (tree_at ns child)) (heads (pick (tree_at ns) (drop (k + 1) n.children))) (n.head ∷ [])
-    ∙ ap₂ (λ (x y : List Head). x ++ y) (sym (whole_left (tree_at ns child))) (sym (left_at ns n i (k + 1) at b))))
+    let child = get_or (opened_of n) k 0 in
+    let e : drop k (opened_of n) ≡ child ∷ drop (k + 1) (opened_of n) = rw add-one (drop-cons (opened_of n) k 0 l) in
+    left_at ns n i k at b ∙ (ap (λ (x : List ℕ). steps (pick (tree_at ns) x) ++ own_at ns n ∷ []) e
+    ∙ (append_assoc (steps_of (tree_at ns child)) (steps (pick (tree_at ns) (drop (k + 1) (opened_of n)))) (own_at ns n ∷ [])
+    ∙ ap₂ (λ (x y : List Step). x ++ y) (sym (whole_left (tree_at ns child))) (sym (left_at ns n i (k + 1) at b))))
 
-left_own : (ns : List (Node Head)) (n : Node Head) (i k : ℕ) → IsAt n ns i → AreBelow ns → length n.children ≤ k → heads_left (tree_at ns i) k ≡ n.head ∷ []
-left_own ns n i k at b l = left_at ns n i k at b ∙ ap (λ (x : List ℕ). heads (pick (tree_at ns) x) ++ n.head ∷ []) (drop_all k n.children l)
+left_own : (ns : List (Node Head)) (n : Node Head) (i k : ℕ) → IsAt n ns i → AreBelow ns → length (opened_of n) ≤ k → steps_left (tree_at ns i) k ≡ own_at ns n ∷ []
+left_own ns n i k at b l = left_at ns n i k at b ∙ ap (λ (x : List ℕ). steps (pick (tree_at ns) x) ++ own_at ns n ∷ []) (drop_all k (opened_of n) l)
 
 todo-append : (ns : List (Node Head)) (xs ys : List Frame) → todo ns (xs ++ ys) ≡ todo ns ys ++ todo ns xs
 todo-append ns [] ys = sym (append-nil (todo ns ys))
-todo-append ns (x ∷ xs) ys = ap (λ z. z ++ heads_left (tree_at ns x.node) x.next) (todo-append ns xs ys) ∙ append_assoc (todo ns ys) (todo ns xs) (heads_left (tree_at ns x.node) x.next)
+todo-append ns (x ∷ xs) ys = ap (λ z. z ++ steps_left (tree_at ns x.node) x.next) (todo-append ns xs ys) ∙ append_assoc (todo ns ys) (todo ns xs) (steps_left (tree_at ns x.node) x.next)
 
-todo_top : (ns : List (Node Head)) (frames rest : List Frame) (f : Frame) → frames ≡ rest ++ f ∷ [] → todo ns frames ≡ heads_left (tree_at ns f.node) f.next ++ todo ns rest
+todo_top : (ns : List (Node Head)) (frames rest : List Frame) (f : Frame) → frames ≡ rest ++ f ∷ [] → todo ns frames ≡ steps_left (tree_at ns f.node) f.next ++ todo ns rest
 todo_top ns frames rest f top = ap (todo ns) top ∙ todo-append ns rest (f ∷ [])
 
 -- ---- the invariant
 
--- What is written and what is left are together the whole, and every frame stands at a node.
-pub record IsWalk (ns : List (Node Head)) (whole : List ℕ) (frames : List Frame) (bytes : List ℕ) : Type 0 where
+-- What is left, done from here, is what the whole gives, and every frame stands at a node.
+pub record IsWalk (ns : List (Node Head)) (count : ℕ) (whole : Result Writing Error) (frames : List Frame) (w : Writing) : Type 0 where
   pub below : AreBelow ns
-  pub same : bytes ++ codes (own_all (todo ns frames)) ≡ whole
+  pub same : take_steps count (todo ns frames) w ≡ whole
   pub inside : All (λ (f : Frame). f.node < length ns) frames
 
 abbrev Inside : List (Node Head) → Frame → Type 0
 Inside ns f = f.node < length ns
 
-pub walk_start : (ns : List (Node Head)) (i : ℕ) (bytes : List ℕ) → AreBelow ns → i < length ns → IsWalk ns (bytes ++ codes (expansion_of (tree_at ns i))) (start_of i ∷ []) bytes
-walk_start ns i bytes b l = record {
+walk_start : (ns : List (Node Head)) (count i : ℕ) (w : Writing) → AreBelow ns → i < length ns → IsWalk ns count (take_steps count (steps_of (tree_at ns i)) w) (start_of i ∷ []) w
+walk_start ns count i w b l = record {
   below = b;
-  same = ap (λ (x : List Head). bytes ++ codes (own_all x)) (whole_left (tree_at ns i)) ∙ ap (λ x. bytes ++ codes x) (expansion_is (tree_at ns i));
+  same = ap (λ (x : List Step). take_steps count x w) (whole_left (tree_at ns i));
   inside = All-cons (Inside ns) (start_of i) [] l (All-nil (Inside ns));
 }
 
--- ---- the measure: each head is a step, and each frame holds one of them
+-- ---- the measure: each node is a step, and each frame holds one of them
 
 enough : (ns : List (Node Head)) (fs : List Frame) → AreBelow ns → All (Inside ns) fs → length fs ≤ length (todo ns fs)
 enough ns [] b all = omega arith
 enough ns (f ∷ fs) b all =
     let at = some_at ns f.node (All-head (Inside ns) f fs all) in
-    let kids = heads (pick (tree_at ns) (drop f.next at.0.children)) in
-    let e : length (heads_left (tree_at ns f.node) f.next) ≡ length (kids ++ at.0.head ∷ []) = ap (λ (x : List Head). length x) (left_at ns at.0 f.node f.next at.1 b) in
-    omega (arith, enough ns fs b (All-tail (Inside ns) f fs all), length-append (todo ns fs) (heads_left (tree_at ns f.node) f.next), length-append kids (at.0.head ∷ []))
+    let kids = steps (pick (tree_at ns) (drop f.next (opened_of at.0))) in
+    let e : length (steps_left (tree_at ns f.node) f.next) ≡ length (kids ++ own_at ns at.0 ∷ []) = ap (λ (x : List Step). length x) (left_at ns at.0 f.node f.next at.1 b) in
+    omega (arith, enough ns fs b (All-tail (Inside ns) f fs all), length-append (todo ns fs) (steps_left (tree_at ns f.node) f.next), length-append kids (own_at ns at.0 ∷ []))
 
 abbrev pub measure : List (Node Head) → List Frame → ℕ
 measure ns frames = 2 * length (todo ns frames) - length frames
 
 -- What the code knows of the frame that it took.
-pub record IsTaken (ns : List (Node Head)) (frames rest : List Frame) (f : Frame) (n : Node Head) : Type 0 where
-  pub top : frames ≡ rest ++ f ∷ []
-  pub at : IsAt n ns f.node
+record IsTaken (ns : List (Node Head)) (frames rest : List Frame) (f : Frame) (n : Node Head) : Type 0 where
+  top : frames ≡ rest ++ f ∷ []
+  at : IsAt n ns f.node
 
-pub walk_down : (ns : List (Node Head)) (whole : List ℕ) (frames rest later : List Frame) (f : Frame) (n : Node Head) (bytes : List ℕ) → IsTaken ns frames rest f n →
-    f.next < length n.children → later ≡ rest ++ moved f ∷ start_of (get_or n.children f.next 0) ∷ [] →
-    IsWalk ns whole frames bytes → IsWalk ns whole later bytes × (measure ns later < measure ns frames)
-walk_down ns whole frames rest later f n bytes t l e h =
-    let child = get_or n.children f.next 0 in
+opened_in : (b : Bool) (kids : List ℕ) (P : ℕ → Type 0) → All P kids → All P (cond b [] kids)
+opened_in true kids P all = All-nil P
+opened_in false kids P all = all
+
+walk_down : (ns : List (Node Head)) (count : ℕ) (whole : Result Writing Error) (frames rest later : List Frame) (f : Frame) (n : Node Head) (w : Writing) → IsTaken ns frames rest f n →
+    f.next < length (opened_of n) → later ≡ rest ++ moved f ∷ start_of (get_or (opened_of n) f.next 0) ∷ [] →
+    IsWalk ns count whole frames w → IsWalk ns count whole later w × (measure ns later < measure ns frames)
+walk_down ns count whole frames rest later f n w t l e h =
+    let child = get_or (opened_of n) f.next 0 in
     let P : ℕ → Type 0 = λ k. k < length ns in
     let in_rest = All-pop (Inside ns) frames rest (Some f) t.top h.inside in
     let wider : (k : ℕ) → k < f.node → k < length ns = λ k g. let f_in : f.node < length ns = in_rest.1 in omega arith in
-    let child_in : child < length ns = All-get_or P n.children f.next 0 l (All-weaker (λ k. k < f.node) P wider n.children (children_in t.at h.below)) in
-    let left : todo ns later ≡ todo ns frames = ap (todo ns) e ∙ (todo-append ns rest (moved f ∷ start_of child ∷ []) ∙ (ap (λ (x : List Head). x ++ todo ns rest) (sym (left_down ns n f.node f.next t.at h.below l))
+    let child_in : child < length ns =
+    All-get_or P (opened_of n) f.next 0 l (opened_in (is_unfold (kind_of n.head)) n.children P (All-weaker (λ k. k < f.node) P wider n.children (children_in t.at h.below))) in
+    let left : todo ns later ≡ todo ns frames = ap (todo ns) e ∙ (todo-append ns rest (moved f ∷ start_of child ∷ []) ∙ (ap (λ (x : List Step). x ++ todo ns rest) (sym (left_down ns n f.node f.next t.at h.below l))
     ∙ sym (todo_top ns frames rest f t.top))) in
     let all : All (Inside ns) later = subst (All (Inside ns)) (sym e) (All-append (Inside ns) rest (moved f ∷ start_of child ∷ []) in_rest.0
     (All-cons (Inside ns) (moved f) (start_of child ∷ []) in_rest.1 (All-cons (Inside ns) (start_of child) [] child_in (All-nil (Inside ns))))) in
-    let m : length (todo ns later) ≡ length (todo ns frames) = ap (λ (x : List Head). length x) left in
+    let m : length (todo ns later) ≡ length (todo ns frames) = ap (λ (x : List Step). length x) left in
     let c : length later ≡ length (rest ++ moved f ∷ start_of child ∷ []) = ap (λ (x : List Frame). length x) e in
     let d : length frames ≡ length (rest ++ f ∷ []) = ap (λ (x : List Frame). length x) t.top in (
-      record { below = h.below; same = ap (λ (x : List Head). bytes ++ codes (own_all x)) left ∙ h.same; inside = all },
+      record { below = h.below; same = ap (λ (x : List Step). take_steps count x w) left ∙ h.same; inside = all },
       omega (arith, enough ns later h.below all, length-append rest (moved f ∷ start_of child ∷ []), length-append rest (f ∷ [])),
     )
 
-pub walk_own : (ns : List (Node Head)) (whole : List ℕ) (frames rest : List Frame) (f : Frame) (n : Node Head) (bytes more : List ℕ) → IsTaken ns frames rest f n →
-    length n.children ≤ f.next → more ≡ bytes ++ codes (own_instructions n.head) →
-    IsWalk ns whole frames bytes → IsWalk ns whole rest more × (measure ns rest < measure ns frames)
-walk_own ns whole frames rest f n bytes more t l e h =
+-- the frame's node is the next step
+next_step : (ns : List (Node Head)) (count : ℕ) (whole : Result Writing Error) (frames rest : List Frame) (f : Frame) (n : Node Head) (w : Writing) → IsTaken ns frames rest f n →
+    length (opened_of n) ≤ f.next → IsWalk ns count whole frames w → after (take_step count (own_at ns n) w) (take_steps count (todo ns rest)) ≡ whole
+next_step ns count whole frames rest f n w t l h =
+    ap (λ (x : List Step). take_steps count x w)
+    (sym (todo_top ns frames rest f t.top ∙ ap (λ (x : List Step). x ++ todo ns rest) (left_own ns n f.node f.next t.at h.below l))) ∙ h.same
+
+walk_own : (ns : List (Node Head)) (count : ℕ) (whole : Result Writing Error) (frames rest : List Frame) (f : Frame) (n : Node Head) (w v : Writing) → IsTaken ns frames rest f n →
+    length (opened_of n) ≤ f.next → take_step count (own_at ns n) w ≡ Ok v →
+    IsWalk ns count whole frames w → IsWalk ns count whole rest v × (measure ns rest < measure ns frames)
+walk_own ns count whole frames rest f n w v t l e h =
     let in_rest = All-pop (Inside ns) frames rest (Some f) t.top h.inside in
-    let left : todo ns frames ≡ n.head ∷ todo ns rest = todo_top ns frames rest f t.top ∙ ap (λ (x : List Head). x ++ todo ns rest) (left_own ns n f.node f.next t.at h.below l) in
-    let m : length (todo ns frames) ≡ suc (length (todo ns rest)) = ap (λ (x : List Head). length x) left in
+    let left : todo ns frames ≡ own_at ns n ∷ todo ns rest = todo_top ns frames rest f t.top ∙ ap (λ (x : List Step). x ++ todo ns rest) (left_own ns n f.node f.next t.at h.below l) in
+    let m : length (todo ns frames) ≡ suc (length (todo ns rest)) = ap (λ (x : List Step). length x) left in
     let d : length frames ≡ length (rest ++ f ∷ []) = ap (λ (x : List Frame). length x) t.top in (
       record {
         below = h.below;
-        same = ap (λ (x : List ℕ). x ++ codes (own_all (todo ns rest))) e ∙ (append_assoc bytes (codes (own_instructions n.head)) (codes (own_all (todo ns rest)))
-            ∙ (ap (λ (x : List ℕ). bytes ++ x) (sym (codes-append (own_instructions n.head) (own_all (todo ns rest)))) ∙ (ap (λ (x : List Head). bytes ++ codes (own_all x)) (sym left) ∙ h.same)));
+        same = ap (λ (r : Result Writing Error). after r (take_steps count (todo ns rest))) (sym e) ∙ next_step ns count whole frames rest f n w t l h;
         inside = in_rest.0;
       },
       omega (arith, enough ns rest h.below in_rest.0, enough ns frames h.below h.inside, length-append rest (f ∷ [])),
@@ -178,55 +193,90 @@ walk_own ns whole frames rest f n bytes more t l e h =
 
 -- ---- the same, by what the code looks up
 
--- What the code knows of the frame that it took, of what it read there, of the node in it and of that node's children.
+-- What the code knows of the frame that it took, of what it read there, of the node in it and of that node's written children.
 pub record IsRead {A : Type 0} (held : A → Lang) (items : List A) (frames rest : List Frame) (f : Frame) (x : A) (l : Lang) (ids : List Id) : Type 0 where
   pub top : frames ≡ rest ++ f ∷ []
   pub is : x ≡ get_or items f.node x
   pub held_is : l ≡ held x
-  pub ids_are : ids ≡ ids_of l
+  pub ids_are : numbers_of ids ≡ opened (kind_of (head_of l)) (children_of l)
 
-length-nodes_in : {A : Type 0} (held : A → Lang) (items : List A) → length (nodes_in held items) ≡ length items
+pub length-nodes_in : {A : Type 0} (held : A → Lang) (items : List A) → length (nodes_in held items) ≡ length items
 length-nodes_in held items = length-reverse (map (view (λ x. head_of (held x)) (λ x. children_of (held x))) items) ∙ length-map items (view (λ x. head_of (held x)) (λ x. children_of (held x)))
 
-pub inside_of : {A : Type 0} (held : A → Lang) (items : List A) (whole : List ℕ) (frames rest : List Frame) (f : Frame) (bytes : List ℕ) → frames ≡ rest ++ f ∷ [] →
-    IsWalk (nodes_in held items) whole frames bytes → f.node < length items
-inside_of held items whole frames rest f bytes top h =
+pub inside_of : {A : Type 0} (held : A → Lang) (items : List A) (count : ℕ) (whole : Result Writing Error) (frames rest : List Frame) (f : Frame) (w : Writing) → frames ≡ rest ++ f ∷ [] →
+    IsWalk (nodes_in held items) count whole frames w → f.node < length items
+inside_of held items count whole frames rest f w top h =
     let i : f.node < length (nodes_in held items) = (All-pop (Inside (nodes_in held items)) frames rest (Some f) top h.inside).1 in
     let n = length-nodes_in held items in
     omega arith
 
-taken : {A : Type 0} (held : A → Lang) (items : List A) (whole : List ℕ) (frames rest : List Frame) (f : Frame) (x : A) (l : Lang) (ids : List Id) (bytes : List ℕ) → IsRead held items frames rest f x l ids →
-    IsWalk (nodes_in held items) whole frames bytes → IsTaken (nodes_in held items) frames rest f (view (λ x. head_of (held x)) (λ x. children_of (held x)) x)
-taken held items whole frames rest f x l ids bytes r h = record {
+-- the node of a place
+abbrev node_in : {A : Type 0} → (A → Lang) → A → Node Head
+node_in held x = view (λ x. head_of (held x)) (λ x. children_of (held x)) x
+
+taken : {A : Type 0} (held : A → Lang) (items : List A) (count : ℕ) (whole : Result Writing Error) (frames rest : List Frame) (f : Frame) (x : A) (l : Lang) (ids : List Id) (w : Writing) →
+    IsRead held items frames rest f x l ids → IsWalk (nodes_in held items) count whole frames w → IsTaken (nodes_in held items) frames rest f (node_in held x)
+taken held items count whole frames rest f x l ids w r h = record {
   top = r.top;
-  at = at_place (λ x. head_of (held x)) (λ x. children_of (held x)) items f.node x (inside_of held items whole frames rest f bytes r.top h) r.is;
+  at = at_place (λ x. head_of (held x)) (λ x. children_of (held x)) items f.node x (inside_of held items count whole frames rest f w r.top h) r.is;
 }
 
-pub start : {A : Type 0} (held : A → Lang) (items : List A) (root : ℕ) (bytes : List ℕ) (frames : List Frame) → AreBelow (nodes_in held items) → root < length items → frames ≡ start_of root ∷ [] →
-    IsWalk (nodes_in held items) (bytes ++ codes (expansion_of (tree_at (nodes_in held items) root))) frames bytes
-start held items root bytes frames b l e =
+pub start : {A : Type 0} (held : A → Lang) (items : List A) (count root : ℕ) (w : Writing) (frames : List Frame) → AreBelow (nodes_in held items) → root < length items → frames ≡ start_of root ∷ [] →
+    IsWalk (nodes_in held items) count (take_steps count (steps_of (tree_at (nodes_in held items) root)) w) frames w
+start held items count root w frames b l e =
     let n = length-nodes_in held items in
-    subst (λ (x : List Frame). IsWalk (nodes_in held items) (bytes ++ codes (expansion_of (tree_at (nodes_in held items) root))) x bytes) (sym e) (walk_start (nodes_in held items) root bytes b (omega arith))
+    let ns = nodes_in held items in
+    subst (λ (x : List Frame). IsWalk ns count (take_steps count (steps_of (tree_at ns root)) w) x w) (sym e) (walk_start ns count root w b (omega arith))
 
-pub down : {A : Type 0} (held : A → Lang) (items : List A) (whole : List ℕ) (frames rest later : List Frame) (f : Frame) (x : A) (l : Lang) (ids : List Id) (bytes : List ℕ) → IsRead held items frames rest f x l ids →
-    f.next < length ids → later ≡ rest ++ moved f ∷ start_of (get_or (numbers_of ids) f.next 0) ∷ [] → IsWalk (nodes_in held items) whole frames bytes →
-    IsWalk (nodes_in held items) whole later bytes × (measure (nodes_in held items) later < measure (nodes_in held items) frames)
-down held items whole frames rest later f x l ids bytes r more e h =
-    let kids : numbers_of ids ≡ children_of (held x) = ap numbers_of (r.ids_are ∙ ap ids_of r.held_is) in
-    let n : length (children_of (held x)) ≡ length ids = ap (λ (k : List ℕ). length k) (sym kids) ∙ length-map ids (λ id. id.0) in
-    let m : f.next < length (children_of (held x)) = omega arith in
-    walk_down (nodes_in held items) whole frames rest later f (view (λ x. head_of (held x)) (λ x. children_of (held x)) x) bytes (taken held items whole frames rest f x l ids bytes r h) m
+opened_read : {A : Type 0} (held : A → Lang) (items : List A) (frames rest : List Frame) (f : Frame) (x : A) (l : Lang) (ids : List Id) → IsRead held items frames rest f x l ids →
+    numbers_of ids ≡ opened_of (node_in held x)
+opened_read held items frames rest f x l ids r = r.ids_are ∙ ap (λ (k : Lang). opened (kind_of (head_of k)) (children_of k)) r.held_is
+
+pub down : {A : Type 0} (held : A → Lang) (items : List A) (count : ℕ) (whole : Result Writing Error) (frames rest later : List Frame) (f : Frame) (x : A) (l : Lang) (ids : List Id) (w : Writing) →
+    IsRead held items frames rest f x l ids → f.next < length ids → later ≡ rest ++ moved f ∷ start_of (get_or (numbers_of ids) f.next 0) ∷ [] → IsWalk (nodes_in held items) count whole frames w →
+    IsWalk (nodes_in held items) count whole later w × (measure (nodes_in held items) later < measure (nodes_in held items) frames)
+down held items count whole frames rest later f x l ids w r more e h =
+    let kids : numbers_of ids ≡ opened_of (node_in held x) = opened_read held items frames rest f x l ids r in
+    let n : length (opened_of (node_in held x)) ≡ length ids = ap (λ (k : List ℕ). length k) (sym kids) ∙ length-map ids (λ id. id.0) in
+    let m : f.next < length (opened_of (node_in held x)) = omega arith in
+    walk_down (nodes_in held items) count whole frames rest later f (node_in held x) w (taken held items count whole frames rest f x l ids w r h) m
     (e ∙ ap (λ (k : List ℕ). rest ++ moved f ∷ start_of (get_or k f.next 0) ∷ []) kids) h
 
-pub own_done : {A : Type 0} (held : A → Lang) (items : List A) (whole : List ℕ) (frames rest : List Frame) (f : Frame) (x : A) (l : Lang) (ids : List Id) (bytes more : List ℕ) → IsRead held items frames rest f x l ids →
-    length ids ≤ f.next → more ≡ bytes ++ codes (own_instructions (head_of l)) → IsWalk (nodes_in held items) whole frames bytes →
-    IsWalk (nodes_in held items) whole rest more × (measure (nodes_in held items) rest < measure (nodes_in held items) frames)
-own_done held items whole frames rest f x l ids bytes more r done e h =
-    let kids : numbers_of ids ≡ children_of (held x) = ap numbers_of (r.ids_are ∙ ap ids_of r.held_is) in
-    let n : length (children_of (held x)) ≡ length ids = ap (λ (k : List ℕ). length k) (sym kids) ∙ length-map ids (λ id. id.0) in
-    let m : length (children_of (held x)) ≤ f.next = omega arith in
-    walk_own (nodes_in held items) whole frames rest f (view (λ x. head_of (held x)) (λ x. children_of (held x)) x) bytes more (taken held items whole frames rest f x l ids bytes r h) m
-    (e ∙ ap (λ (k : Lang). bytes ++ codes (own_instructions (head_of k))) r.held_is) h
+-- the step of the node that is read
+abbrev own_read : {A : Type 0} → (A → Lang) → List A → Lang → Step
+own_read held items l = own_step (kind_of (head_of l)) (pick (tree_at (nodes_in held items)) (children_of l))
+
+read_through : {A : Type 0} (held : A → Lang) (items : List A) (frames rest : List Frame) (f : Frame) (x : A) (l : Lang) (ids : List Id) → IsRead held items frames rest f x l ids → length ids ≤ f.next →
+    (length (opened_of (node_in held x)) ≤ f.next) × (own_read held items l ≡ own_at (nodes_in held items) (node_in held x))
+read_through held items frames rest f x l ids r done =
+    let kids : numbers_of ids ≡ opened_of (node_in held x) = opened_read held items frames rest f x l ids r in
+    let n : length (opened_of (node_in held x)) ≡ length ids = ap (λ (k : List ℕ). length k) (sym kids) ∙ length-map ids (λ id. id.0) in
+    (omega arith, ap (own_read held items) r.held_is)
+
+pub own_done : {A : Type 0} (held : A → Lang) (items : List A) (count : ℕ) (whole : Result Writing Error) (frames rest : List Frame) (f : Frame) (x : A) (l : Lang) (ids : List Id) (w v : Writing) →
+    IsRead held items frames rest f x l ids → length ids ≤ f.next → take_step count (own_read held items l) w ≡ Ok v → IsWalk (nodes_in held items) count whole frames w →
+    IsWalk (nodes_in held items) count whole rest v × (measure (nodes_in held items) rest < measure (nodes_in held items) frames)
+own_done held items count whole frames rest f x l ids w v r done e h =
+    let through = read_through held items frames rest f x l ids r done in
+    walk_own (nodes_in held items) count whole frames rest f (node_in held x) w v (taken held items count whole frames rest f x l ids w r h) through.0
+    (ap (λ (s : Step). take_step count s w) (sym through.1) ∙ e) h
+
+pub own_refused : {A : Type 0} (held : A → Lang) (items : List A) (count : ℕ) (whole : Result Writing Error) (frames rest : List Frame) (f : Frame) (x : A) (l : Lang) (ids : List Id) (w : Writing) (d : Error) →
+    IsRead held items frames rest f x l ids → length ids ≤ f.next → IsRefusal d (take_step count (own_read held items l) w) → IsWalk (nodes_in held items) count whole frames w → IsRefusal d whole
+own_refused held items count whole frames rest f x l ids w d r done q h =
+    let ns = nodes_in held items in
+    let through = read_through held items frames rest f x l ids r done in
+    refused_after d (take_step count (own_at ns (node_in held x)) w) whole (take_steps count (todo ns rest))
+    (next_step ns count whole frames rest f (node_in held x) w (taken held items count whole frames rest f x l ids w r h) through.0 h)
+    (subst (λ (s : Step). IsRefusal d (take_step count s w)) through.1 q)
+
+-- the children of the node that is read are there
+pub kids_in : {A : Type 0} (held : A → Lang) (items : List A) (i : ℕ) (x : A) (l : Lang) → AreBelow (nodes_in held items) → i < length items → x ≡ get_or items i x → l ≡ held x →
+    All (λ k. k < length items) (children_of l)
+kids_in held items i x l b inside is held_is =
+    let all : All (λ k. k < i) (children_of (held x)) = children_in (at_place (λ x. head_of (held x)) (λ x. children_of (held x)) items i x inside is) b in
+    let wider : (k : ℕ) → k < i → k < length items = λ k g. omega arith in
+    subst (λ (k : Lang). All (λ c. c < length items) (children_of k)) (sym held_is) (All-weaker (λ k. k < i) (λ k. k < length items) wider (children_of (held x)) all)
 
 -- what begins with what begins with a list begins with the list
 pub kept_more : (a b c : List ℕ) → take (length a) b ≡ a → take (length b) c ≡ b → take (length a) c ≡ a
@@ -237,3 +287,36 @@ kept_more a b c h k =
   where
     take_shorter : (n m : ℕ) (xs : List ℕ) → n ≤ m → take n (take m xs) ≡ take n xs
     take_shorter n m xs l = grind (arith, common_steps)
+
+-- what is appended to a list leaves the list
+pub kept_before : (a more b : List ℕ) → b ≡ a ++ more → take (length a) b ≡ a
+kept_before a more b e = ap (take (length a)) e ∙ first a more
+  where
+    first : (a more : List ℕ) → take (length a) (a ++ more) ≡ a
+    first a more = grind (arith, common_steps)
+
+-- ---- an unfold's constant
+
+-- that of the one child, where there is one
+pub unfold_is : {A : Type 0} (held : A → Lang) (items : List A) (t : IntegerType) (l kid : Lang) (ids : List Id) (d : Id) (x : A) → ids ≡ ids_of l → 1 ≤ length ids → length ids < 2 →
+    AreBelow (nodes_in held items) → All (λ k. k < length items) (children_of l) → x ≡ get_or items (get_or ids 0 d).0 x → kid ≡ held x →
+    constant_in t (pick (tree_at (nodes_in held items)) (children_of l)) ≡ constant_of t (payload_of kid)
+unfold_is held items t l kid [] d x e some one b all is k = absurd (omega arith)
+unfold_is held items t l kid (i ∷ j ∷ ids) d x e some one b all is k = absurd (omega arith)
+unfold_is held items t l kid (i ∷ []) d x e some one b all is k =
+    let P : ℕ → Type 0 = λ k. k < length items in
+    let kids : children_of l ≡ i.0 ∷ [] = ap numbers_of (sym e) in
+    let inside : i.0 < length items = All-head P i.0 [] (subst (All P) kids all) in
+    let ns = nodes_in held items in
+    let there = tree_is (at_place (λ x. head_of (held x)) (λ x. children_of (held x)) items i.0 x inside is) b in
+    ap (λ (c : List ℕ). constant_in t (pick (tree_at ns) c)) kids
+    ∙ (ap (λ (y : Term Head). constant_in t (y ▸ no_terms)) there ∙ ap (λ (y : Lang). constant_of t (payload_of y)) (sym k))
+
+two_children : (t : IntegerType) (x y : Term Head) (more : Terms Head) → constant_in t (x ▸ y ▸ more) ≡ None
+two_children t absent y more = refl
+two_children t (node h kids) y more = refl
+
+pub unfold_none : (at : ℕ → Term Head) (t : IntegerType) (l : Lang) (ids : List Id) → ids ≡ ids_of l → 2 ≤ length ids → constant_in t (pick at (children_of l)) ≡ None
+unfold_none at t l [] e two = absurd (omega arith)
+unfold_none at t l (i ∷ []) e two = absurd (omega arith)
+unfold_none at t l (i ∷ j ∷ ids) e two = ap (λ (k : List Id). constant_in t (pick at (numbers_of k))) (sym e) ∙ two_children t (at i.0) (at j.0) (pick at (numbers_of ids))

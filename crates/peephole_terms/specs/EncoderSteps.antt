@@ -1,36 +1,138 @@
--- What the encoder's own functions go by: a graph's forest root by root, by the nodes of the entries, and the bounds of the bytes outside a block. This project's rule.
-use Rattle.std.specs.Prelude.{ℕ, ◌-◌, ◌<◌, ◌≤◌, ◌==◌, ◌≡◌, List, [], ◌∷◌, ◌++◌, length, map, if◌then◌else◌, slice_index, Option}
+-- What the encoder's own functions go by: the steps of a term in postfix, and what each of them does; a graph's roots one by one, by the nodes of the
+-- entries; and the bounds of the bytes outside a block. This project's rule.
+use Rattle.std.specs.Prelude.{ℕ, ℤ, ◌+◌, ◌-◌, ◌<◌, ◌≤◌, ◌==◌, ◌≡◌, List, [], ◌∷◌, ◌++◌, length, map, nat_le, if◌then◌else◌, slice_index, Option, Some, None, Result, Ok, Err, ⊤}
+use Rattle.rand_core.specs.Stream.{Stream}
+use Rattle.wasm_code.specs.Code.{code}
 use Rattle.wasm_code.specs.Instruction.{Instruction}
 use Rattle.wasm_code.specs.declared.operator.Operator.{Operator}
+use Rattle.mutate_base.specs.declared.error.Error.{Error}
+use Rattle.mutate_base.specs.declared.error.Error.TheVariants.{Memory, CannotUnfold, GlobalIndex}
 use Rattle.peephole_lang.specs.declared.lang.Head.{Head}
-use Rattle.peephole_lang.specs.Term.{Node, AreBelow, tree_at}
+use Rattle.peephole_lang.specs.declared.lang.Lang.{Lang}
+use Rattle.peephole_lang.specs.Node.{head_of, children_of}
+use Rattle.peephole_lang.specs.Term.{Term, Terms, absent, node, no_terms, ◌▸◌, Node, AreBelow, tree_at, nodes_of}
 use Rattle.peephole_terms.specs.declared.dfg.StackEntry.{StackEntry}
+use Rattle.peephole_terms.specs.declared.encoder.request.ResourceRequest.{ResourceRequest}
+use Rattle.peephole_terms.specs.declared.encoder.kind.Kind.TheVariants as kind
 use Rattle.peephole_terms.specs.Block.{BlockRange}
-use Rattle.peephole_terms.specs.Expansion.{expansion_of, nodes_in}
+use Rattle.peephole_terms.specs.Kind.{NumberType, IntegerType, Kind, kind_of, is_unfold, number_of}
+use Rattle.peephole_terms.specs.Expansion.{next_word, constant, rest_of, add_of, set_global, get_global, constant_in, request}
 use Rattle.peephole_terms.specs.Written.{offset_of}
 
--- the body's index of an entry's operator
-abbrev pub operator_at : List StackEntry → ℕ → ℕ
-operator_at entries i = slice_index (map (λ (e : StackEntry). e.operator_idx) entries) i
+-- ---- steps
+
+pub data Step : Type 0 where
+  emit : Instruction → Step
+  draw : NumberType → Step
+  split : IntegerType → Option ℤ → Step
+  store : NumberType → Step
+  nothing : Step
+
+-- what a node does behind its children
+abbrev pub own_step : Kind → Terms Head → Step
+own_step (kind.Own i) kids = emit i
+own_step (kind.Random t) kids = draw t
+own_step (kind.Unfold t) kids = split t (constant_in t kids)
+own_step (kind.UseGlobal t) kids = store t
+own_step kind.Nothing kids = nothing
+
+-- the children that are written
+abbrev pub opened : {A : Type 0} → Kind → List A → List A
+opened k children = if is_unfold k then [] else children
+
+-- in postfix, and not below an unfold
+abbrev mutual
+  pub steps_of : Term Head → List Step
+  steps_of absent = []
+  steps_of (node h kids) = opened (kind_of h) (steps kids) ++ own_step (kind_of h) kids ∷ []
+
+  pub steps : Terms Head → List Step
+  steps no_terms = []
+  steps (t ▸ ts) = steps_of t ++ steps ts
+
+-- what is written so far, what is requested, and what the generator will give
+pub record Writing : Type 0 where
+  pub bytes : List ℕ
+  pub requests : List ResourceRequest
+  pub stream : Stream
+
+-- with another instruction
+abbrev pub written : Instruction → Writing → Writing
+written i w = record { bytes = w.bytes ++ code i; requests = w.requests; stream = w.stream }
+
+-- with a drawn word
+abbrev pub drawn_one : NumberType → Writing → Writing
+drawn_one t w = record { bytes = w.bytes; requests = w.requests; stream = (next_word t w.stream).1 }
+
+-- with a requested global
+abbrev pub requested : NumberType → Writing → Writing
+requested t w = record { bytes = w.bytes; requests = w.requests ++ request t ∷ []; stream = w.stream }
+
+-- a constant of the next word
+abbrev pub written_word : NumberType → Writing → Writing
+written_word t w = written (constant t (next_word t w.stream).0) (drawn_one t w)
+
+-- the sum of the next word and the rest
+abbrev pub written_sum : IntegerType → ℤ → Writing → Writing
+written_sum t z w = written (add_of t) (written (rest_of t (next_word (number_of t) w.stream).0 z) (written_word (number_of t) w))
+
+-- `count` is the number of the module's globals
+abbrev pub take_step : ℕ → Step → Writing → Result Writing Error
+take_step count (emit i) w = Ok (written i w)
+take_step count (draw t) w = Ok (written_word t w)
+take_step count (split t None) w = Err CannotUnfold
+take_step count (split t (Some z)) w = Ok (written_sum t z w)
+take_step count (store t) w =
+    let g = count + length w.requests in
+    if nat_le g 4294967295 then Ok (written (get_global g) (written (set_global g) (requested t w))) else Err GlobalIndex
+take_step count nothing w = Ok w
+
+-- and then the others
+abbrev pub after : Result Writing Error → (Writing → Result Writing Error) → Result Writing Error
+after (Ok w) more = more w
+after (Err e) more = Err e
+
+abbrev pub take_steps : ℕ → List Step → Writing → Result Writing Error
+take_steps count [] w = Ok w
+take_steps count (s ∷ ss) w = after (take_step count s w) (take_steps count ss)
+
+-- memory aside, a refusal is the one that is named
+abbrev pub IsRefusal : Error → Result Writing Error → Type 0
+IsRefusal Memory r = ⊤
+IsRefusal CannotUnfold r = r ≡ Err CannotUnfold
+IsRefusal GlobalIndex r = r ≡ Err GlobalIndex
+IsRefusal _ r = ⊥
+
+-- ---- roots
+
+-- the nodes that the items of a list hold, the last one first
+abbrev pub nodes_in : {A : Type 0} → (A → Lang) → List A → List (Node Head)
+nodes_in held items = nodes_of (λ item. head_of (held item)) (λ item. children_of (held item)) items
 
 -- the entries' nodes, the last one first
 abbrev pub entry_nodes : List StackEntry → List (Node Head)
 entry_nodes entries = nodes_in (λ (e : StackEntry). e.operator) entries
 
--- a root's instructions: the given ones at the insertion point, otherwise those of its own tree
-abbrev pub root_code : ℕ → List Instruction → List StackEntry → ℕ → List Instruction
-root_code at code entries i = if operator_at entries i == at then code else expansion_of (tree_at (entry_nodes entries) i)
+-- the body's index of an entry's operator
+abbrev pub operator_at : List StackEntry → ℕ → ℕ
+operator_at entries i = slice_index (map (λ (e : StackEntry). e.operator_idx) entries) i
 
-abbrev pub roots_code : ℕ → List Instruction → List StackEntry → List ℕ → List Instruction
-roots_code at code entries [] = []
-roots_code at code entries (i ∷ is) = root_code at code entries i ++ roots_code at code entries is
+-- what is written for a root: the term at the insertion point, otherwise its own tree
+abbrev pub root_term : ℕ → Term Head → List StackEntry → ℕ → Term Head
+root_term at term entries i = if operator_at entries i == at then term else tree_at (entry_nodes entries) i
+
+abbrev pub root_terms : ℕ → Term Head → List StackEntry → List ℕ → Terms Head
+root_terms at term entries [] = no_terms
+root_terms at term entries (i ∷ is) = root_term at term entries i ▸ root_terms at term entries is
 
 -- Each entry has its children before it, and there is a parent or none for each.
 pub record IsWalkable (entries : List StackEntry) (parents : List (Option ℕ)) : Type 0 where
   pub below : AreBelow (entry_nodes entries)
   pub parent_each : length parents ≡ length entries
 
--- The bytes outside the block are in the input.
+-- ---- the bytes outside the block
+
+-- They are in the input.
 pub record IsInside (input : List ℕ) (operators : List (Operator × ℕ)) (block : BlockRange) : Type 0 where
   pub start_there : block.start < length operators
   pub end_there : block.end < length operators

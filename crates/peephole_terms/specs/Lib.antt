@@ -16,6 +16,7 @@ pub mod Growing
 pub mod Building
 pub mod Layout
 pub mod Asking
+pub mod Kind
 pub mod Expansion
 pub mod Written
 pub mod EncoderSteps

@@ -1,18 +1,20 @@
 -- The written body: the bytes outside a block as they stood, and between them the code of the block's forest in postfix, in which a term stands for the
 -- tree of the operator at the insertion point. This project's rule.
-use Rattle.std.specs.Prelude.{ℕ, ◌+◌, ◌-◌, ◌<◌, ◌≤◌, ◌==◌, List, [], ◌++◌, length, map, if◌then◌else◌, slice_index, slice_range}
+use Rattle.std.specs.Prelude.{ℕ, ◌+◌, ◌-◌, ◌<◌, ◌≤◌, ◌==◌, ◌||◌, Bool, false, List, [], ◌++◌, length, map, Result, Ok, if◌then◌else◌, slice_index, slice_range}
 use Rattle.wasm_code.specs.Instruction.{Instruction}
 use Rattle.wasm_code.specs.Code.{codes}
 use Rattle.wasm_code.specs.Body.{SpellsBody}
 use Rattle.wasm_code.specs.declared.operator.Operator.{Operator}
 use Rattle.mutate_base.specs.Module.{Module}
+use Rattle.mutate_base.specs.declared.error.Error.{Error}
 use Rattle.peephole_lang.specs.declared.lang.Head.{Head}
 use Rattle.peephole_lang.specs.Term.{Term}
 use Rattle.peephole_terms.specs.Block.{BlockRange, IsBlockOf}
 use Rattle.peephole_terms.specs.Shape.{Shape, block_of}
 use Rattle.peephole_terms.specs.Tree.{Trees, no_trees, entry, node, ◌▸◌, instructions_of}
 use Rattle.peephole_terms.specs.Forest.{forest}
-use Rattle.peephole_terms.specs.Expansion.{expansion_of}
+use Rattle.peephole_terms.specs.declared.encoder.request.ResourceRequest.{ResourceRequest}
+use Rattle.peephole_terms.specs.Expansion.{Setting, expanded, after_term, requests_of, request}
 
 -- The instructions of the trees in postfix, those of the insertion point's tree replaced. The trees number operators from the block's first one on,
 -- whose index in the body is `first`.
@@ -25,9 +27,31 @@ replaced first at code (node i s kids ▸ ts) = (if first + i == at then code el
 abbrev pub shapes_in : Module → List (Operator × ℕ) → BlockRange → List Shape
 shapes_in info operators block = block_of info (slice_range operators block.start block.end)
 
--- what the block is written as
-abbrev pub written_block : Module → List (Operator × ℕ) → BlockRange → ℕ → Term Head → List Instruction
-written_block info operators block at term = replaced block.start at (expansion_of term) (forest (shapes_in info operators block))
+-- what the block is written as, with these instructions in the place of the insertion point's tree
+abbrev pub written_block : Module → List (Operator × ℕ) → BlockRange → ℕ → List Instruction → List Instruction
+written_block info operators block at code = replaced block.start at code (forest (shapes_in info operators block))
+
+-- one of the trees is that of the operator with the body's index `at`
+abbrev pub is_root : (first at : ℕ) → Trees → Bool
+is_root first at no_trees = false
+is_root first at (entry m ▸ ts) = is_root first at ts
+is_root first at (node i s kids ▸ ts) = (first + i == at) || is_root first at ts
+
+-- whether a term is written: only where the insertion point's tree stands for itself
+abbrev pub is_written : Module → List (Operator × ℕ) → BlockRange → ℕ → Bool
+is_written info operators block at = is_root block.start at (forest (shapes_in info operators block))
+
+-- the term's instructions, or none where it isn't written
+abbrev pub term_code : Setting → List (Operator × ℕ) → BlockRange → ℕ → Term Head → Result (List Instruction) Error
+term_code s operators block at term = if is_written s.info operators block at then expanded s term else Ok []
+
+-- the globals that it asks for
+abbrev pub term_requests : Module → List (Operator × ℕ) → BlockRange → ℕ → Term Head → List ResourceRequest
+term_requests info operators block at term = if is_written info operators block at then map request (requests_of term) else []
+
+-- what is left to be drawn
+abbrev pub after_block_term : Setting → List (Operator × ℕ) → BlockRange → ℕ → Term Head → Setting
+after_block_term s operators block at term = if is_written s.info operators block at then after_term s term else s
 
 -- where an operator starts in the input
 abbrev pub offset_of : List (Operator × ℕ) → ℕ → ℕ

@@ -1,41 +1,35 @@
 //! The body that is written with a term in the place of one of a block's trees.
 
-ghost use Rattle.std.specs.Prelude.{◌≡◌, ◌≢◌, ◌<◌, ◌++◌, ◌↔◌, [], true, length, take, slice_range, IfOk, IfErr, OnOk, OnErr, IfSome, IsTrue, is_some, Err};
-ghost use Rattle.wasm_code.specs.Code.{codes};
+ghost use Rattle.std.specs.Prelude.{◌≡◌, ◌≢◌, ◌<◌, ◌++◌, ◌↔◌, List, ℕ, Ok, Some, All, true, length, take, slice_range, IfOk, IfErr, OnOk, OnErr, IfSome, IsTrue, is_some, Err};
+ghost use Rattle.wasm_code.specs.Instruction.{Instruction};
+ghost use Rattle.peephole_lang.specs.Lang.{payload_of};
 ghost use Rattle.peephole_lang.specs.Node.{head_of, children_of};
+ghost use Rattle.peephole_lang.specs.Payload.{is_writable};
 ghost use Rattle.peephole_lang.specs.Term.{AreBelow, nodes_of, term_of};
 ghost use Rattle.peephole_terms.specs.Dfg.{entries_of, parents_of, look_of};
 ghost use Rattle.peephole_terms.specs.Entries.{roots_of};
-ghost use Rattle.peephole_terms.specs.Expansion.{expansion_of};
+ghost use Rattle.peephole_terms.specs.Expansion.{Refuses, setting_of};
 ghost use Rattle.peephole_terms.specs.Forest.{IsInOrder};
 ghost use Rattle.peephole_terms.specs.GraphOf.{IsGraphOf};
-ghost use Rattle.peephole_terms.specs.EncoderSteps.{root_code, roots_code, entry_nodes, IsWalkable, IsInside};
-ghost use Rattle.peephole_terms.specs.Written.{IsBodyIn, IsBlockIn, offset_of, before_block, after_block, written_body, written_block, shapes_in};
+ghost use Rattle.peephole_terms.specs.EncoderSteps.{IsRefusal, IsWalkable, IsInside, entry_nodes, root_term, root_terms, steps_of, steps, take_steps};
+ghost use Rattle.peephole_terms.specs.Written.{IsBodyIn, IsBlockIn, offset_of, before_block, after_block, written_body, written_block, term_code, term_requests, after_block_term, shapes_in};
 
 pub mod expr2wasm;
+mod kind;
+mod node;
+mod own;
+pub mod request;
 mod walk;
 
+use self::request::ResourceRequest;
 use self::walk::write_tree;
 use crate::block::BBlock;
 use crate::dfg::{MiniDFG, StackEntry};
-use mutate_base::{Error, PrimitiveTypeInfo, WasmMutate};
+use mutate_base::{Error, WasmMutate};
 use peephole_lang::{Lang, RecExpr};
+use rand_core::Rng;
 use std::alloc::Global;
 use wasm_code::{Function, OperatorAndByteOffset};
-
-/// What written instructions need from outside the function.
-#[derive(Clone, Debug, Drop)]
-pub enum ResourceRequest {
-    /// A new global.
-    Global {
-        /// The type of its value.
-        tpe: PrimitiveTypeInfo,
-        /// Whether it can be set.
-        mutable: bool,
-        /// Whether threads share it.
-        shared: bool,
-    },
-}
 
 // Where an operator starts in the input.
 fn offset_at(operators: &[OperatorAndByteOffset], index: usize) -> usize
@@ -64,50 +58,74 @@ fn outside<'a>(
 }
 
 // Writes a root's own tree, or the term where the root is the insertion point.
-fn write_root(
+fn write_root<R: Rng>(
     alloc: Global,
+    globals: usize,
     insertion_point: usize,
     expr: &[Lang],
     entries: &[StackEntry],
     root: usize,
+    rng: &mut R,
     newfunc: &mut Function,
+    requests: &mut Vec<ResourceRequest>,
 ) -> Result<(), Error>
     requires some { 0 < length expr.now }
     requires expr_below { AreBelow (nodes_of head_of children_of expr.now) }
     requires entries_below { AreBelow (entry_nodes entries.now) }
     requires root { root < length entries.now }
-    ensures ok { OnOk result (newfunc.new ≡ newfunc.old
-        ++ codes (root_code insertion_point (expansion_of (term_of head_of children_of expr.now)) entries.now root)) }
+    ensures ok { OnOk result (
+        take_steps globals (steps_of (root_term insertion_point (term_of head_of children_of expr.now) entries.now root))
+        (record { bytes = newfunc.old; requests = requests.old.items; stream = R.stream rng.old })
+        ≡ Ok (record { bytes = newfunc.new; requests = requests.new.items; stream = R.stream rng.new })) }
+    ensures err { IfErr result (λ e. IsRefusal e (
+        take_steps globals (steps_of (root_term insertion_point (term_of head_of children_of expr.now) entries.now root))
+        (record { bytes = newfunc.old; requests = requests.old.items; stream = R.stream rng.old }))) }
     ensures kept { take (length newfunc.old) newfunc.new ≡ newfunc.old }
-    ensures err { IfErr result (λ e. e ≡ Error.Memory) }
 {
     if entries[root].operator_idx == insertion_point {
-        write_tree(alloc, expr, expr.len() - 1, newfunc)
+        write_tree(alloc, globals, expr, expr.len() - 1, rng, newfunc, requests)
     } else {
-        write_tree(alloc, entries, root, newfunc)
+        write_tree(alloc, globals, entries, root, rng, newfunc, requests)
     }
 }
 
 // Writes the roots' trees in ascending order, the term in the place of the insertion point's.
-fn write_roots(
+fn write_roots<R: Rng>(
     alloc: Global,
+    globals: usize,
     insertion_point: usize,
     expr: &[Lang],
     entries: &[StackEntry],
     parents: &[Option<usize>],
+    rng: &mut R,
     newfunc: &mut Function,
+    requests: &mut Vec<ResourceRequest>,
 ) -> Result<(), Error>
     requires some { 0 < length expr.now }
     requires expr_below { AreBelow (nodes_of head_of children_of expr.now) }
     requires walkable { IsWalkable entries.now parents.now }
-    ensures ok { OnOk result (newfunc.new ≡ newfunc.old
-        ++ codes (roots_code insertion_point (expansion_of (term_of head_of children_of expr.now)) entries.now (roots_of parents.now))) }
+    ensures ok { OnOk result (
+        take_steps globals (steps (root_terms insertion_point (term_of head_of children_of expr.now) entries.now (roots_of parents.now)))
+        (record { bytes = newfunc.old; requests = requests.old.items; stream = R.stream rng.old })
+        ≡ Ok (record { bytes = newfunc.new; requests = requests.new.items; stream = R.stream rng.new })) }
+    ensures err { IfErr result (λ e. IsRefusal e (
+        take_steps globals (steps (root_terms insertion_point (term_of head_of children_of expr.now) entries.now (roots_of parents.now)))
+        (record { bytes = newfunc.old; requests = requests.old.items; stream = R.stream rng.old }))) }
     ensures kept { take (length newfunc.old) newfunc.new ≡ newfunc.old }
-    ensures err { IfErr result (λ e. e ≡ Error.Memory) }
 {
     for index in 0..parents.len() {
         if parents[index].is_none() {
-            match write_root(alloc, insertion_point, expr, entries, index, newfunc) {
+            match write_root(
+                alloc,
+                globals,
+                insertion_point,
+                expr,
+                entries,
+                index,
+                rng,
+                newfunc,
+                requests,
+            ) {
                 Ok(()) => {}
                 Err(refusal) => return Err(refusal),
             }
@@ -117,26 +135,45 @@ fn write_roots(
 }
 
 // Writes the bytes before the block, the roots' trees and the bytes after it.
-fn write_body(
+fn write_body<R: Rng>(
     alloc: Global,
+    globals: usize,
     insertion_point: usize,
     expr: &[Lang],
-    entries: &[StackEntry],
-    parents: &[Option<usize>],
+    dfg: &MiniDFG,
     before: &[u8],
     after: &[u8],
+    rng: &mut R,
     newfunc: &mut Function,
+    requests: &mut Vec<ResourceRequest>,
 ) -> Result<(), Error>
     requires some { 0 < length expr.now }
     requires expr_below { AreBelow (nodes_of head_of children_of expr.now) }
-    requires walkable { IsWalkable entries.now parents.now }
-    ensures ok { OnOk result (newfunc.new ≡ newfunc.old ++ (before.now
-        ++ (codes (roots_code insertion_point (expansion_of (term_of head_of children_of expr.now)) entries.now (roots_of parents.now)) ++ after.now))) }
+    requires walkable { IsWalkable (entries_of dfg.now) (parents_of dfg.now) }
+    ensures ok { OnOk result ((middle : List ℕ) × (newfunc.new ≡ middle ++ after.now) × (
+        take_steps globals (steps (root_terms insertion_point (term_of head_of children_of expr.now) (entries_of dfg.now) (roots_of (parents_of dfg.now))))
+        (record { bytes = newfunc.old ++ before.now; requests = requests.old.items; stream = R.stream rng.old })
+        ≡ Ok (record { bytes = middle; requests = requests.new.items; stream = R.stream rng.new }))) }
+    ensures err { IfErr result (λ e. IsRefusal e (
+        take_steps globals (steps (root_terms insertion_point (term_of head_of children_of expr.now) (entries_of dfg.now) (roots_of (parents_of dfg.now))))
+        (record { bytes = newfunc.old ++ before.now; requests = requests.old.items; stream = R.stream rng.old }))) }
     ensures kept { take (length newfunc.old) newfunc.new ≡ newfunc.old }
-    ensures err { IfErr result (λ e. e ≡ Error.Memory) }
 {
     newfunc.raw(before)?;
-    write_roots(alloc, insertion_point, expr, entries, parents, newfunc)?;
+    match write_roots(
+        alloc,
+        globals,
+        insertion_point,
+        expr,
+        dfg.entries(),
+        dfg.parents(),
+        rng,
+        newfunc,
+        requests,
+    ) {
+        Ok(()) => {}
+        Err(refusal) => return Err(refusal),
+    }
     newfunc.raw(after)?;
     Ok(())
 }
@@ -147,15 +184,17 @@ pub struct Encoder;
 impl Encoder {
     /// Writes a body behind what the sink holds: the bytes of `input_wasm` before the block and after it as they stood,
     /// and between them the trees of the block's graph, the roots in ascending order, each tree in postfix. The term of
-    /// `expr` stands for the tree of the operator at `insertion_point`; where that operator is no root, no tree is replaced.
+    /// `expr` stands for the tree of the operator at `insertion_point`; where that operator is no root, no tree is replaced,
+    /// nothing is drawn and no global asked for. The term is written as by `expr2wasm`.
     ///
     /// `operators` with their offsets are those of a body in `input_wasm`, as `read_body` gives them, `basicblock` is the
     /// block of one of them, and `dfg` its graph under the configuration's module and mode. The configuration is set up,
-    /// and `expr` isn't empty. Answers what the written instructions need from outside the function.
+    /// and `expr` isn't empty, its nodes writable. Answers what the written instructions need from outside the function.
     ///
     /// `NoMutationsApplicable`, before anything else, exactly where the meaning is to be preserved and the block's
-    /// operators would not keep their order; `Memory` where an allocation was refused. The sink then holds its old bytes.
-    pub fn build_function<R: Drop>(
+    /// operators would not keep their order; `CannotUnfold` and `GlobalIndex` as by `expr2wasm`, where the term is written;
+    /// `Memory` where an allocation was refused. The sink then holds its old bytes.
+    pub fn build_function<R: Rng + Drop>(
         alloc: Global,
         config: &mut WasmMutate<'_, R>,
         insertion_point: usize,
@@ -168,40 +207,54 @@ impl Encoder {
     ) -> Result<Vec<ResourceRequest>, Error>
         requires set_up { IsTrue (is_some config.old.info) }
         requires some { 0 < length expr.now }
+        requires writable { All (λ l. IsTrue (is_writable (payload_of l))) expr.now }
         requires body { IsBodyIn input_wasm.now operators.now }
         requires block { IsBlockIn operators.now basicblock.now }
         requires graph { IfSome config.old.info (λ info. IsGraphOf info config.old.preserving basicblock.now.start
             (slice_range operators.now basicblock.now.start basicblock.now.end) (entries_of dfg.now) (parents_of dfg.now) (look_of dfg.now)) }
         // The bytes outside the block, and between them its forest with the term.
-        ensures written { IfOk result (λ _. IfSome config.old.info (λ info. newfunc.new ≡ newfunc.old ++ written_body input_wasm.now operators.now basicblock.now
-            (written_block info operators.now basicblock.now insertion_point (term_of head_of children_of expr.now)))) }
-        // Nothing is asked for.
-        ensures requests { IfOk result (λ requests. requests.items ≡ []) }
+        ensures written { IfOk result (λ _. IfSome (setting_of R.stream config.old) (λ setting. (code : List Instruction)
+            × (term_code setting operators.now basicblock.now insertion_point (term_of head_of children_of expr.now) ≡ Ok code)
+            × (newfunc.new ≡ newfunc.old ++ written_body input_wasm.now operators.now basicblock.now
+            (written_block setting.info operators.now basicblock.now insertion_point code)))) }
+        // What the term asks for, where it is written.
+        ensures requests { IfOk result (λ requests. IfSome config.old.info (λ info.
+            requests.items ≡ term_requests info operators.now basicblock.now insertion_point (term_of head_of children_of expr.now))) }
+        // The generator stands behind the term's last word, where the term is written, and otherwise where it stood.
+        ensures generator { IfOk result (λ _. IfSome (setting_of R.stream config.old) (λ setting. setting_of R.stream config.new
+            ≡ Some (after_block_term setting operators.now basicblock.now insertion_point (term_of head_of children_of expr.now)))) }
         // While preserving, a block out of order is refused.
         ensures order { IfSome config.old.info (λ info. (result ≡ Err Error.NoMutationsApplicable)
             ↔ ((config.old.preserving ≡ true) × ¬ (IsInOrder (shapes_in info operators.now basicblock.now)))) }
-        // Otherwise only memory refuses.
-        ensures refusal { IfErr result (λ e. e ≢ Error.NoMutationsApplicable → e ≡ Error.Memory) }
+        // Otherwise the term's expansion refuses, or memory does.
+        ensures refusal { IfErr result (λ e. e ≢ Error.NoMutationsApplicable → IfSome (setting_of R.stream config.old) (λ setting.
+            Refuses (term_code setting operators.now basicblock.now insertion_point (term_of head_of children_of expr.now)) e)) }
         // After a refusal the sink holds its old bytes.
         ensures restored { OnErr result (newfunc.new ≡ newfunc.old) }
-        ensures unchanged { config.new ≡ config.old }
+        // Of the configuration the generator alone changes.
+        ensures unchanged { (config.new.preserving ≡ config.old.preserving) × (config.new.info ≡ config.old.info) }
     {
         if config.preserves_semantics() && !dfg.keeps_order() {
             return Err(Error::NoMutationsApplicable);
         }
+        let globals = config.info().get_global_count();
         let (before, after) = outside(input_wasm, operators, basicblock);
         let old_len = newfunc.len();
+        let mut requests = Vec::new(alloc);
+        let rng = config.rng();
         match write_body(
             alloc,
+            globals,
             insertion_point,
             expr.as_ref(),
-            dfg.entries(),
-            dfg.parents(),
+            dfg,
             before,
             after,
+            rng,
             newfunc,
+            &mut requests,
         ) {
-            Ok(()) => Ok(Vec::new(alloc)),
+            Ok(()) => Ok(requests),
             Err(refusal) => {
                 newfunc.truncate(old_len);
                 Err(refusal)

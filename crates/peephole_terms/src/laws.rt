@@ -1,5 +1,6 @@
 //! What holds of the forest of every block. A function here does nothing: its contract is the laws.
 
+ghost use Rattle.peephole_terms.specs.Expansion.{HaveTheirOpcodes};
 ghost use Rattle.peephole_terms.specs.Layout.{KeepsTheTerm};
 ghost use Rattle.peephole_terms.specs.Shown.{ShowsTheForest, ShowsTheColour};
 ghost use Rattle.peephole_terms.specs.Laws.{HasSameTrees, IsWrittenInOrder, StaysWhenWrittenAgain, OrderIsTogether, OrderedIsPostfix};
@@ -25,4 +26,9 @@ pub fn layout_keeps_the_term()
 pub fn graph_shows_the_forest()
     ensures text { ShowsTheForest }
     ensures colour { ShowsTheColour }
+{}
+
+/// The instructions that are written for nodes without a row are those of the opcodes that belong to their names.
+pub fn written_instructions()
+    ensures { HaveTheirOpcodes }
 {}

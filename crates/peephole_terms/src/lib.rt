@@ -18,8 +18,9 @@ pub use asking::build_expr;
 pub use block::BBlock;
 pub use builder::DFGBuilder;
 pub use dfg::{MiniDFG, StackEntry};
+pub use encoder::Encoder;
 pub use encoder::expr2wasm::expr2wasm;
-pub use encoder::{Encoder, ResourceRequest};
+pub use encoder::request::ResourceRequest;
 pub use mutate_base::{
     ElementType, Error, F32, F64, FuncInfo, MemArg, MemArgLane, MemoryCopy, MemoryInit, MemoryType,
     ModuleInfo, PrimitiveTypeInfo, RefType, Shuffle, TableCopy, TableInit, TableType, TermError,

@@ -10,6 +10,8 @@ pub use uses::{all_first, read_again, set_first, tree_of};
 #[cfg(test)]
 mod deep;
 #[cfg(test)]
+mod expansions;
+#[cfg(test)]
 mod graphs;
 #[cfg(test)]
 mod languages;

@@ -1,15 +1,18 @@
 //! Bodies that are written with a term.
 
+use crate::expansions::assert_writable;
 use peephole_terms::{
-    DFGBuilder, Encoder, Error, Function, Id, Lang, ModuleInfo, Numeric, RecExpr, WasmMutate,
-    Words, expr2wasm, read_body,
+    DFGBuilder, Encoder, Error, Function, Id, Lang, ModuleInfo, Numeric, PrimitiveTypeInfo,
+    RecExpr, WasmMutate, Words, read_body,
 };
+use rand_core::Rng;
 use std::alloc::Global;
 use std::process::Abort;
 use std::test::Fail;
 
 /// Writes the block of `last` in a body, behind the bytes AA BB: with the term for the tree of `point`, or with the own
-/// tree of `point` where the term has no nodes.
+/// tree of `point` where the term has no nodes. The words are 3 and 5, the module has two globals; after success the next
+/// word is `left`.
 fn is_written(
     rt: &impl Abort,
     alloc: Global,
@@ -19,12 +22,16 @@ fn is_written(
     preserving: bool,
     term: RecExpr<Lang>,
     wanted: Result<&[u8], Error>,
+    left: u64,
 ) -> Result<(), Fail> {
     let operators = read_body(alloc, bytes, 0, bytes.len())?;
     assert!(rt; last < operators.len());
     let mut config: WasmMutate<Words> = WasmMutate::new();
     config.preserve_semantics(preserving);
-    config.set_up(ModuleInfo::new(alloc, bytes), Words::new(Vec::new(alloc)));
+    let mut info = ModuleInfo::new(alloc, bytes);
+    info.global_types.push(PrimitiveTypeInfo::I32)?;
+    info.global_types.push(PrimitiveTypeInfo::I32)?;
+    config.set_up(info, Words::new(Vec::from_slice(alloc, &[3, 5])?));
     let mut builder = DFGBuilder::new(&config);
     let Some(block) = builder.get_bb_from_operator(last, &operators) else {
         assert!(rt; false, "no block");
@@ -40,6 +47,7 @@ fn is_written(
         assert!(rt; graph.map().contains_key(&point));
         graph.get_expr(alloc, point)?
     };
+    assert_writable(rt, &term);
     let mut sink = Function::new(alloc);
     sink.raw(&[0xaa, 0xbb])?;
     let result = Encoder::build_function(
@@ -55,9 +63,9 @@ fn is_written(
     );
     assert!(rt; sink.bytes().starts_with(&[0xaa, 0xbb]));
     match (result, wanted) {
-        (Ok(requests), Ok(wanted)) => {
-            assert!(rt; requests.is_empty());
+        (Ok(_), Ok(wanted)) => {
             assert_eq!(rt; &sink.bytes()[2..], wanted);
+            assert_eq!(rt; config.rng().next_u64(), left);
         }
         (Err(error), Err(wanted)) => {
             assert_eq!(rt; error, wanted);
@@ -91,6 +99,7 @@ fn terms(rt: HostRuntime) -> Result<(), Fail> {
         false,
         sum,
         Ok(&[0x41, 0x01, 0x41, 0x2a, 0x6a, 0x0b]),
+        3,
     )?;
     let mut shared = RecExpr::new(alloc);
     let ten = shared.add(Lang::I32(10))?;
@@ -104,11 +113,78 @@ fn terms(rt: HostRuntime) -> Result<(), Fail> {
         false,
         shared,
         Ok(&[0x41, 0x0a, 0x41, 0x0a, 0x6a, 0x0b]),
+        3,
     )?;
     // Operator 0 is no root: the term isn't written.
     let mut constant = RecExpr::new(alloc);
     constant.add(Lang::I32(7))?;
-    is_written(&rt, alloc, &bytes, 2, 0, false, constant, Ok(&bytes))
+    is_written(&rt, alloc, &bytes, 2, 0, false, constant, Ok(&bytes), 3)
+}
+
+#[test]
+#[tactic(auto, unfolding(peephole_lang::specs::Lang::ids_of, peephole_lang::specs::Numeric::numeric_ids_of))]
+fn drawn_words(rt: HostRuntime) -> Result<(), Fail> {
+    let alloc = rt.alloc();
+    let bytes = [0x41, 0x07, 0x41, 0x08, 0x6a, 0x0b];
+    let mut difference = RecExpr::new(alloc);
+    let first = difference.add(Lang::RandI32)?;
+    let second = difference.add(Lang::RandI32)?;
+    difference.add(Numeric::I32Sub([first, second]).into())?;
+    is_written(
+        &rt,
+        alloc,
+        &bytes,
+        2,
+        2,
+        false,
+        difference,
+        Ok(&[0x41, 0x03, 0x41, 0x05, 0x6b, 0x0b]),
+        0,
+    )?;
+    // Operator 1 is no root: nothing is drawn.
+    let mut random = RecExpr::new(alloc);
+    random.add(Lang::RandI32)?;
+    is_written(&rt, alloc, &bytes, 2, 1, false, random, Ok(&bytes), 3)
+}
+
+#[test]
+#[tactic(auto, unfolding(peephole_lang::specs::Lang::ids_of, peephole_lang::specs::Numeric::numeric_ids_of))]
+fn new_globals(rt: HostRuntime) -> Result<(), Fail> {
+    let alloc = rt.alloc();
+    let bytes = [0x41, 0x07, 0x41, 0x08, 0x6a, 0x0b];
+    let mut sum = RecExpr::new(alloc);
+    let seven = sum.add(Lang::I32(7))?;
+    let first = sum.add(Lang::I32UseGlobal(seven))?;
+    let eight = sum.add(Lang::I32(8))?;
+    let second = sum.add(Lang::I32UseGlobal(eight))?;
+    sum.add(Numeric::I32Add([first, second]).into())?;
+    is_written(
+        &rt,
+        alloc,
+        &bytes,
+        2,
+        2,
+        false,
+        sum,
+        Ok(&[
+            0x41, 0x07, 0x24, 0x02, 0x23, 0x02, 0x41, 0x08, 0x24, 0x03, 0x23, 0x03, 0x6a, 0x0b,
+        ]),
+        3,
+    )?;
+    let mut refused = RecExpr::new(alloc);
+    let local = refused.add(Lang::LocalGet(0))?;
+    refused.add(Lang::UnfoldI32(local))?;
+    is_written(
+        &rt,
+        alloc,
+        &bytes,
+        2,
+        2,
+        false,
+        refused,
+        Err(Error::CannotUnfold),
+        3,
+    )
 }
 
 #[test]
@@ -124,6 +200,7 @@ fn own_trees(rt: HostRuntime) -> Result<(), Fail> {
         false,
         no_term(alloc),
         Ok(&missing),
+        3,
     )?;
     let moved = [0x20, 0x00, 0x41, 0x01, 0x21, 0x00, 0x21, 0x01, 0x0b];
     let written = [0x41, 0x01, 0x21, 0x00, 0x20, 0x00, 0x21, 0x01, 0x0b];
@@ -136,6 +213,7 @@ fn own_trees(rt: HostRuntime) -> Result<(), Fail> {
         false,
         no_term(alloc),
         Ok(&written),
+        3,
     )?;
     is_written(
         &rt,
@@ -146,32 +224,12 @@ fn own_trees(rt: HostRuntime) -> Result<(), Fail> {
         true,
         no_term(alloc),
         Err(Error::NoMutationsApplicable),
+        3,
     )?;
     // A long number is kept outside the block and shortened inside.
     let long = [
         0x20, 0x80, 0x00, 0x1a, 0x0b, 0x41, 0x81, 0x80, 0x00, 0x1a, 0x0b,
     ];
     let short = [0x20, 0x80, 0x00, 0x1a, 0x0b, 0x41, 0x01, 0x1a, 0x0b];
-    is_written(&rt, alloc, &long, 4, 4, true, no_term(alloc), Ok(&short))
-}
-
-#[test]
-#[tactic(auto, unfolding(peephole_lang::specs::Lang::ids_of, peephole_lang::specs::Numeric::numeric_ids_of))]
-fn terms_alone(rt: HostRuntime) -> Result<(), Fail> {
-    let alloc = rt.alloc();
-    let mut config: WasmMutate<Words> = WasmMutate::new();
-    config.set_up(ModuleInfo::new(alloc, &[]), Words::new(Vec::new(alloc)));
-    let mut term = RecExpr::new(alloc);
-    let missing = term.add(Lang::Undef)?;
-    let local = term.add(Lang::LocalGet(300))?;
-    let sum = term.add(Numeric::I32Add([missing, local]).into())?;
-    term.add(Lang::LocalSet(1, sum))?;
-    let mut sink = Function::new(alloc);
-    let requests = expr2wasm(alloc, &mut config, &term, &mut sink)?;
-    assert!(&rt; requests.is_empty());
-    assert_eq!(rt;
-        sink.bytes(),
-        [0x20, 0xac, 0x02, 0x6a, 0x21, 0x01].as_slice()
-    );
-    Ok(())
+    is_written(&rt, alloc, &long, 4, 4, true, no_term(alloc), Ok(&short), 3)
 }

@@ -1,24 +1,34 @@
 //! Terms as instructions.
 
-ghost use Rattle.std.specs.Prelude.{◌≡◌, ◌++◌, ◌<◌, [], length, IfOk, IfErr, OnErr, IsTrue, is_some};
+ghost use Rattle.std.specs.Prelude.{◌≡◌, ◌++◌, ◌∷◌, [], ◌<◌, List, Ok, Some, All, IfOk, IfErr, IfSome, OnErr, IsTrue, length, map, is_some};
 ghost use Rattle.wasm_code.specs.Code.{codes};
+ghost use Rattle.wasm_code.specs.Instruction.{Instruction};
+ghost use Rattle.peephole_lang.specs.Lang.{payload_of};
 ghost use Rattle.peephole_lang.specs.Node.{head_of, children_of};
+ghost use Rattle.peephole_lang.specs.Payload.{is_writable};
 ghost use Rattle.peephole_lang.specs.Term.{term_of};
-ghost use Rattle.peephole_terms.specs.Expansion.{expansion_of};
+ghost use Rattle.peephole_terms.specs.Expansion.{Refuses, setting_of, expanded, after_term, request, requests_of};
 
-use super::ResourceRequest;
+use super::request::ResourceRequest;
 use super::walk::write_tree;
 use mutate_base::{Error, WasmMutate};
 use peephole_lang::{Lang, RecExpr};
+use rand_core::Rng;
 use std::alloc::Global;
 use wasm_code::Function;
 
 /// Writes the term of an expression, that of its last node, behind what the sink holds.
 ///
-/// A node that several others name is written once for each of them. Answers what the written
-/// instructions need from outside the function, in the order of writing. Refuses with `Memory`
-/// alone; the sink then holds its old bytes.
-pub fn expr2wasm<R: Drop>(
+/// A node that several others name is written once for each of them. Random nodes and unfolds
+/// take their words from the configuration's generator; the first requested global comes behind
+/// the module's. Answers what the written instructions need from outside the function, in the
+/// order of writing.
+///
+/// Conditions: the configuration is set up, the expression isn't empty, and its nodes are
+/// writable. Refuses with `CannotUnfold` or `GlobalIndex`, the first of them in the order of
+/// writing, where an unfold's child is no constant of its type or a global's index would pass 32
+/// bits, and with `Memory`; the sink then holds its old bytes.
+pub fn expr2wasm<R: Rng + Drop>(
     alloc: Global,
     config: &mut WasmMutate<'_, R>,
     expr: &RecExpr<Lang>,
@@ -26,20 +36,38 @@ pub fn expr2wasm<R: Drop>(
 ) -> Result<Vec<ResourceRequest>, Error>
     requires set_up { IsTrue (is_some config.old.info) }
     requires some { 0 < length expr.now }
-    // What is written is the term's expansion.
-    ensures written { IfOk result (λ _. newfunc.new ≡ newfunc.old ++ codes (expansion_of (term_of head_of children_of expr.now))) }
-    // Nothing is asked for.
-    ensures requests { IfOk result (λ requests. requests.items ≡ []) }
-    // Only memory refuses.
-    ensures refusal { IfErr result (λ e. e ≡ Error.Memory) }
+    requires writable { All (λ l. IsTrue (is_writable (payload_of l))) expr.now }
+    // What is written is the term's expansion, with the words that are drawn.
+    ensures written { IfOk result (λ _. IfSome (setting_of R.stream config.old) (λ setting. (code : List Instruction)
+        × (expanded setting (term_of head_of children_of expr.now) ≡ Ok code) × (newfunc.new ≡ newfunc.old ++ codes code))) }
+    // A global is asked for by each node that uses one.
+    ensures requests { IfOk result (λ requests. requests.items ≡ map request (requests_of (term_of head_of children_of expr.now))) }
+    // The generator stands behind the last word that was drawn.
+    ensures generator { IfOk result (λ _. IfSome (setting_of R.stream config.old) (λ setting.
+        setting_of R.stream config.new ≡ Some (after_term setting (term_of head_of children_of expr.now)))) }
+    // The expansion refuses, or memory does.
+    ensures refusal { IfErr result (λ e. IfSome (setting_of R.stream config.old) (λ setting.
+        Refuses (expanded setting (term_of head_of children_of expr.now)) e)) }
     // After a refusal the sink holds its old bytes.
     ensures restored { OnErr result (newfunc.new ≡ newfunc.old) }
-    ensures unchanged { config.new ≡ config.old }
+    // Of the configuration the generator alone changes.
+    ensures unchanged { (config.new.preserving ≡ config.old.preserving) × (config.new.info ≡ config.old.info) }
 {
+    let globals = config.info().get_global_count();
     let old_len = newfunc.len();
     let nodes = expr.as_ref();
-    match write_tree(alloc, nodes, nodes.len() - 1, newfunc) {
-        Ok(()) => Ok(Vec::new(alloc)),
+    let mut requests = Vec::new(alloc);
+    let rng = config.rng();
+    match write_tree(
+        alloc,
+        globals,
+        nodes,
+        nodes.len() - 1,
+        rng,
+        newfunc,
+        &mut requests,
+    ) {
+        Ok(()) => Ok(requests),
         Err(refusal) => {
             newfunc.truncate(old_len);
             Err(refusal)

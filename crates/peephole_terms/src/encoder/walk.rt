@@ -1,67 +1,51 @@
 //! The walk over a tree of nodes, which writes it.
 
-ghost use Rattle.std.specs.Prelude.{◌≡◌, ◌<◌, ◌+◌, ◌++◌, ◌∷◌, [], List, length, take, slice_index, OnOk, IfErr};
-ghost use Rattle.wasm_code.specs.Code.{codes};
-ghost use Rattle.peephole_lang.specs.declared.lang.Lang.{Lang};
-ghost use Rattle.peephole_lang.specs.Node.{head_of};
+ghost use Rattle.std.specs.Prelude.{◌≡◌, ◌<◌, ◌++◌, Ok, length, take, OnOk, IfErr};
+ghost use Rattle.peephole_lang.specs.Node.{head_of, children_of};
 ghost use Rattle.peephole_lang.specs.Term.{AreBelow, numbers_of, tree_at};
-ghost use Rattle.peephole_terms.specs.Expansion.{expansion_of, nodes_in, own_instructions};
+ghost use Rattle.peephole_terms.specs.Kind.{kind_of, is_unfold};
+ghost use Rattle.peephole_terms.specs.EncoderSteps.{IsRefusal, nodes_in, opened, steps_of, take_steps};
 
-use crate::dfg::StackEntry;
+use super::node::AsNode;
+use super::own::write_own;
+use super::request::ResourceRequest;
 use crate::frames::{Frame, descend, push_frame};
 use mutate_base::Error;
-use peephole_lang::Lang;
+use peephole_lang::{Id, Lang};
+use rand_core::Rng;
 use std::alloc::Global;
 use wasm_code::Function;
 
-// What stands at a place of a list of nodes: the node itself, or what holds it.
-pub(crate) trait AsNode {
-    ghost node: { Self → Lang };
-
-    fn as_node(&self) -> &Lang
-        ensures { result.now ≡ node self.now };
-}
-
-impl AsNode for Lang {
-    ghost node = { λ l. l };
-
-    fn as_node(&self) -> &Lang {
-        self
-    }
-}
-
-impl AsNode for StackEntry {
-    ghost node = { λ e. e.operator };
-
-    fn as_node(&self) -> &Lang {
-        &self.operator
-    }
-}
-
-// Writes what a node itself adds.
-fn write_own(node: &Lang, newfunc: &mut Function) -> Result<(), Error>
-    ensures ok { OnOk result (newfunc.new ≡ newfunc.old ++ codes (own_instructions (head_of node.now))) }
-    ensures kept { take (length newfunc.old) newfunc.new ≡ newfunc.old }
-    ensures err { IfErr result (λ e. e ≡ Error.Memory) }
+// The children that are written: not those of an unfold.
+fn opened(node: &Lang) -> &[Id]
+    ensures { numbers_of result.now ≡ opened (kind_of (head_of node.now)) (children_of node.now) }
 {
-    if let Some(instr) = node.instr() {
-        newfunc.instruction(&instr)?;
+    match node.place() {
+        5 | 6 => &[],
+        _ => node.children(),
     }
-    Ok(())
 }
 
 // Writes the tree of a node, with no recursion: the frames are the way down to where it is.
-pub(crate) fn write_tree<N: AsNode>(
+pub(crate) fn write_tree<R: Rng, N: AsNode>(
     alloc: Global,
+    globals: usize,
     nodes: &[N],
     root: usize,
+    rng: &mut R,
     newfunc: &mut Function,
+    requests: &mut Vec<ResourceRequest>,
 ) -> Result<(), Error>
     requires root { root < length nodes.now }
     requires below { AreBelow (nodes_in N.node nodes.now) }
-    ensures ok { OnOk result (newfunc.new ≡ newfunc.old ++ codes (expansion_of (tree_at (nodes_in N.node nodes.now) root))) }
+    ensures ok { OnOk result (
+        take_steps globals (steps_of (tree_at (nodes_in N.node nodes.now) root))
+        (record { bytes = newfunc.old; requests = requests.old.items; stream = R.stream rng.old })
+        ≡ Ok (record { bytes = newfunc.new; requests = requests.new.items; stream = R.stream rng.new })) }
+    ensures err { IfErr result (λ e. IsRefusal e (
+        take_steps globals (steps_of (tree_at (nodes_in N.node nodes.now) root))
+        (record { bytes = newfunc.old; requests = requests.old.items; stream = R.stream rng.old }))) }
     ensures kept { take (length newfunc.old) newfunc.new ≡ newfunc.old }
-    ensures err { IfErr result (λ e. e ≡ Error.Memory) }
 {
     let mut frames = Vec::new(alloc);
     push_frame(
@@ -73,14 +57,14 @@ pub(crate) fn write_tree<N: AsNode>(
     )?;
     while let Some(frame) = frames.pop() {
         let node = nodes[frame.node].as_node();
-        let children = node.children();
+        let children = opened(node);
         if frame.next < children.len() {
             match descend(&mut frames, frame, children) {
                 Ok(()) => {}
                 Err(_) => return Err(Error::Memory),
             }
         } else {
-            match write_own(node, newfunc) {
+            match write_own(globals, nodes, node, rng, newfunc, requests) {
                 Ok(()) => {}
                 Err(refusal) => return Err(refusal),
             }

@@ -1,14 +1,14 @@
-use Rattle.std.proofs.Common.{◌≡◌, ◌++◌, length, take}
-use Rattle.wasm_code.specs.Code.{codes}
+use Rattle.std.proofs.Common.{◌≡◌, length, take, Ok}
 use Rattle.peephole_lang.specs.Node.{head_of, children_of}
 use Rattle.peephole_lang.specs.Term.{term_of}
 use Rattle.peephole_terms.specs.Entries.{roots_of}
-use Rattle.peephole_terms.specs.Expansion.{expansion_of}
-use Rattle.peephole_terms.specs.EncoderSteps.{roots_code}
+use Rattle.peephole_terms.specs.EncoderSteps.{root_terms, steps, take_steps}
 use Rattle.peephole_terms.proofs.encoder.write_roots.Given as goal
 
 abbrev pub invariant-loop-index : goal.invariant-loop-index
-invariant-loop-index l = record {
-  written : l.newfunc ≡ l.fn.newfunc ++ codes (roots_code l.insertion_point (expansion_of (term_of head_of children_of l.expr)) l.entries (roots_of (take l.index l.parents)));
+invariant-loop-index g l = record {
+  written : take_steps l.globals (steps (root_terms l.insertion_point (term_of head_of children_of l.expr) l.entries (roots_of (take l.index l.parents))))
+      (record { bytes = l.fn.newfunc; requests = l.fn.requests.items; stream = g.R.Rng.stream l.fn.rng })
+      ≡ Ok (record { bytes = l.newfunc; requests = l.requests.items; stream = g.R.Rng.stream l.rng });
   kept : take (length l.fn.newfunc) l.newfunc ≡ l.fn.newfunc;
 }

@@ -1,10 +1,11 @@
-use Rattle.std.proofs.Common.{List, ℕ, sym, subst, Option, Ok, Err, ◌∙◌}
+use Rattle.std.proofs.Common.{ap, refl, sym, Ok, Err, ◌∙◌, Some}
 use Rattle.std.proofs.lemmas.Bool.{false≢true}
-use Rattle.peephole_terms.specs.declared.dfg.StackEntry.{StackEntry}
+use Rattle.peephole_lang.specs.Node.{head_of, children_of}
+use Rattle.peephole_lang.specs.Term.{term_of}
 use Rattle.peephole_terms.specs.Dfg.{entries_of, parents_of, look_of}
-use Rattle.peephole_terms.specs.EncoderSteps.{IsWalkable}
 use Rattle.peephole_terms.proofs.BodyLemmas.{inside}
-use Rattle.peephole_terms.proofs.EncoderLemmas.{walkable_under, written_under, order_kept, wrote, no_memory}
+use Rattle.peephole_terms.proofs.EncoderLemmas.{walkable_under, order_kept, wrote, not_for_order}
+use Rattle.peephole_terms.proofs.SettingLemmas.{body_written, body_asked, body_leaves, body_refused}
 use Rattle.peephole_terms.proofs.encoder.Encoder.build_function.Goals.{else-preserves_semantics-via-then-preserves_semantics+else-not-keeps_order, else-preserves_semantics-via-else-preserves_semantics}
 use Rattle.peephole_terms.proofs.encoder.Encoder.build_function.Goals as goal
 
@@ -13,24 +14,39 @@ outside-requires g c = inside _ _ _ c.requires.body c.requires.block
 
 pub write_body-requires-clause-walkable : goal.write_body-requires-clause-walkable
 write_body-requires-clause-walkable g c =
-    subst (λ (x : List StackEntry). IsWalkable x c.parents.result.now) (sym c.entries.ensures)
-    (subst (λ (x : List (Option ℕ)). IsWalkable (entries_of c.args.dfg.now) x) (sym c.parents.ensures.value)
-    (walkable_under c.args.config.now.info _ _ _ (entries_of c.args.dfg.now) (parents_of c.args.dfg.now) (look_of c.args.dfg.now) c.requires.set_up c.requires.graph))
+    walkable_under c.args.config.now.info _ _ _ (entries_of c.args.dfg.now) (parents_of c.args.dfg.now) (look_of c.args.dfg.now) c.requires.set_up c.requires.graph
 
 pub returns-in-Ok-clause-written : goal.returns-in-Ok-clause-written
 returns-in-Ok-clause-written g c =
-    written_under c.args.config.now.info _ c.args.input_wasm.now c.args.operators.now c.args.basicblock.now (entries_of c.args.dfg.now) c.entries.result.now (parents_of c.args.dfg.now) c.parents.result.now (look_of c.args.dfg.now)
-    c.args.insertion_point c.args.expr.now c.as_ref.result.now c.outside.result.0.now c.outside.result.1.now _ _ c.requires.graph
-    c.entries.ensures c.parents.ensures.value c.as_ref.ensures.nodes c.outside.ensures.before c.outside.ensures.after c.in-Ok.ensures.ok
+    let w = c.in-Ok.ensures.ok in
+    body_written g.R.Rng.stream c.args.config.now c.info.result.now c.rng-rng.result.now c.get_global_count-globals.result c.args.input_wasm.now c.args.operators.now c.args.basicblock.now c.args.insertion_point (entries_of c.args.dfg.now) (entries_of c.args.dfg.now) (parents_of c.args.dfg.now) (parents_of c.args.dfg.now) (look_of c.args.dfg.now) (term_of head_of children_of c.args.expr.now) (term_of head_of children_of c.as_ref.result.now) _ _ _ w.0 _ _ _ _
+    (record { info_is = c.info.ensures; generator_is = c.rng-rng.ensures.value; count_is = c.get_global_count-globals.ensures }) (record { graph = c.requires.graph; entries_are = refl; parents_are = refl; term_is = ap (term_of head_of children_of) c.as_ref.ensures.nodes }) c.new-requests.ensures.items c.outside.ensures.before c.outside.ensures.after w.1 w.2
+
+pub returns-in-Ok-clause-requests : goal.returns-in-Ok-clause-requests
+returns-in-Ok-clause-requests g c =
+    let w = c.in-Ok.ensures.ok in
+    body_asked g.R.Rng.stream c.args.config.now c.info.result.now c.rng-rng.result.now c.get_global_count-globals.result c.args.operators.now c.args.basicblock.now c.args.insertion_point (entries_of c.args.dfg.now) (entries_of c.args.dfg.now) (parents_of c.args.dfg.now) (parents_of c.args.dfg.now) (look_of c.args.dfg.now) (term_of head_of children_of c.args.expr.now) (term_of head_of children_of c.as_ref.result.now) _ w.0 _ _ _
+    (record { info_is = c.info.ensures; generator_is = c.rng-rng.ensures.value; count_is = c.get_global_count-globals.ensures }) (record { graph = c.requires.graph; entries_are = refl; parents_are = refl; term_is = ap (term_of head_of children_of) c.as_ref.ensures.nodes }) c.new-requests.ensures.items w.2
+
+pub returns-in-Ok-clause-generator : goal.returns-in-Ok-clause-generator
+returns-in-Ok-clause-generator g c =
+    let w = c.in-Ok.ensures.ok in
+    body_leaves g.R.Rng.stream c.args.config.now (record { preserving = c.args.config.now.preserving; info = c.args.config.now.info; generator = Some c.write_body.new.rng }) c.info.result.now c.rng-rng.result.now c.write_body.new.rng c.get_global_count-globals.result c.args.operators.now c.args.basicblock.now c.args.insertion_point (entries_of c.args.dfg.now) (entries_of c.args.dfg.now) (parents_of c.args.dfg.now) (parents_of c.args.dfg.now) (look_of c.args.dfg.now) (term_of head_of children_of c.args.expr.now) (term_of head_of children_of c.as_ref.result.now) _ w.0 _ _
+    (record { info_is = c.info.ensures; generator_is = c.rng-rng.ensures.value; count_is = c.get_global_count-globals.ensures }) refl refl (record { graph = c.requires.graph; entries_are = refl; parents_are = refl; term_is = ap (term_of head_of children_of) c.as_ref.ensures.nodes }) c.new-requests.ensures.items w.2
+
+pub returns-in-Err-clause-refusal : goal.returns-in-Err-clause-refusal
+returns-in-Err-clause-refusal g c other =
+    body_refused g.R.Rng.stream c.args.config.now c.info.result.now c.rng-rng.result.now c.get_global_count-globals.result c.args.operators.now c.args.basicblock.now c.args.insertion_point (entries_of c.args.dfg.now) (entries_of c.args.dfg.now) (parents_of c.args.dfg.now) (parents_of c.args.dfg.now) (look_of c.args.dfg.now) (term_of head_of children_of c.args.expr.now) (term_of head_of children_of c.as_ref.result.now) _ _ c.in-Err.refusal
+    (record { info_is = c.info.ensures; generator_is = c.rng-rng.ensures.value; count_is = c.get_global_count-globals.ensures }) (record { graph = c.requires.graph; entries_are = refl; parents_are = refl; term_is = ap (term_of head_of children_of) c.as_ref.ensures.nodes }) c.new-requests.ensures.items c.in-Err.ensures.err
 
 pub returns-in-Ok-clause-order : goal.returns-in-Ok-clause-order
 returns-in-Ok-clause-order g c =
-    order_kept c.args.config.now.info _ _ _ (entries_of c.args.dfg.now) (parents_of c.args.dfg.now) (look_of c.args.dfg.now) (Ok c.new.result) c.requires.graph
+    order_kept c.args.config.now.info _ _ _ (entries_of c.args.dfg.now) (parents_of c.args.dfg.now) (look_of c.args.dfg.now) (Ok c.write_body.new.requests) c.requires.graph
     (λ keeping. elim c.else-preserves_semantics.branch [
       | else-preserves_semantics-via-then-preserves_semantics+else-not-keeps_order w ↦ w.keeps_order.ensures.0 w.if-not-keeps_order.false
       | else-preserves_semantics-via-else-preserves_semantics w ↦ absurd (false≢true (sym w.if-preserves_semantics.false ∙ (c.preserves_semantics.ensures ∙ keeping)))
     ])
-    (wrote c.new.result)
+    (wrote c.write_body.new.requests)
 
 pub returns-in-Err-clause-order : goal.returns-in-Err-clause-order
 returns-in-Err-clause-order g c =
@@ -39,4 +55,4 @@ returns-in-Err-clause-order g c =
       | else-preserves_semantics-via-then-preserves_semantics+else-not-keeps_order w ↦ w.keeps_order.ensures.0 w.if-not-keeps_order.false
       | else-preserves_semantics-via-else-preserves_semantics w ↦ absurd (false≢true (sym w.if-preserves_semantics.false ∙ (c.preserves_semantics.ensures ∙ keeping)))
     ])
-    (no_memory c.in-Err.refusal c.in-Err.ensures.err)
+    (not_for_order c.in-Err.refusal _ c.in-Err.ensures.err)

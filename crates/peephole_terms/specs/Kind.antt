@@ -1,0 +1,59 @@
+-- What a node is to the writer: the instruction that it adds, or one of the nodes without a row, by its place. This project's rule.
+use Rattle.std.specs.Prelude.{Bool, true, false, List, [], ◌∷◌, Option, Some, None, slice_get}
+use Rattle.wasm_code.specs.Instruction.{Instruction}
+use Rattle.mutate_base.specs.declared.types.PrimitiveTypeInfo.{PrimitiveTypeInfo}
+use Rattle.mutate_base.specs.declared.types.PrimitiveTypeInfo.TheVariants as primitive
+use Rattle.peephole_lang.specs.declared.lang.Head.{Head}
+use Rattle.peephole_lang.specs.Node.{instr_of_head}
+-- the types of numbers, those of whole numbers, and the kinds `Own`, `Random`, `Unfold`, `UseGlobal` and `Nothing`
+pub use Rattle.peephole_terms.specs.declared.encoder.kind.NumberType.{NumberType}
+pub use Rattle.peephole_terms.specs.declared.encoder.kind.IntegerType.{IntegerType}
+pub use Rattle.peephole_terms.specs.declared.encoder.kind.Kind.{Kind}
+use Rattle.peephole_terms.specs.declared.encoder.kind.NumberType.TheVariants as number
+use Rattle.peephole_terms.specs.declared.encoder.kind.IntegerType.TheVariants as integer
+use Rattle.peephole_terms.specs.declared.encoder.kind.Kind.TheVariants as kind
+
+-- the nodes without a row, by place
+abbrev pub rowless : List Kind
+rowless =
+    kind.Random number.I32  -- i32.rand
+    ∷ kind.Random number.I64  -- i64.rand
+    ∷ kind.Random number.F32  -- f32.rand
+    ∷ kind.Random number.F64  -- f64.rand
+    ∷ kind.Nothing  -- undef
+    ∷ kind.Unfold integer.I32  -- i32.unfold
+    ∷ kind.Unfold integer.I64  -- i64.unfold
+    ∷ kind.UseGlobal number.I32  -- i32.use_of_global
+    ∷ kind.UseGlobal number.I64  -- i64.use_of_global
+    ∷ kind.UseGlobal number.F32  -- f32.use_of_global
+    ∷ kind.UseGlobal number.F64  -- f64.use_of_global
+    ∷ kind.Nothing  -- container
+    ∷ []
+
+abbrev pub of_instruction : Option Instruction → Kind
+of_instruction None = kind.Nothing
+of_instruction (Some i) = kind.Own i
+
+abbrev pub kind_found : Option Kind → Option Instruction → Kind
+kind_found (Some k) i = k
+kind_found None i = of_instruction i
+
+-- what a node is; one that isn't writable is none of these, and stands for nothing here
+abbrev pub kind_of : Head → Kind
+kind_of h = kind_found (slice_get rowless h.place) (instr_of_head h)
+
+abbrev pub is_unfold : Kind → Bool
+is_unfold (kind.Unfold t) = true
+is_unfold _ = false
+
+-- among the types of values
+abbrev pub primitive_of : NumberType → PrimitiveTypeInfo
+primitive_of number.I32 = primitive.I32
+primitive_of number.I64 = primitive.I64
+primitive_of number.F32 = primitive.F32
+primitive_of number.F64 = primitive.F64
+
+-- among the types of numbers
+abbrev pub number_of : IntegerType → NumberType
+number_of integer.I32 = number.I32
+number_of integer.I64 = number.I64

@@ -1,0 +1,81 @@
+//! What a node is to the writer.
+
+ghost use Rattle.std.specs.Prelude.{◌≡◌};
+ghost use Rattle.peephole_lang.specs.Node.{head_of};
+
+use mutate_base::PrimitiveTypeInfo;
+use peephole_lang::Lang;
+use wasm_code::Instr;
+
+/// A type of numbers.
+#[derive(Clone, Copy)]
+pub(crate) enum NumberType {
+    I32,
+    I64,
+    F32,
+    F64,
+}
+
+/// A type of whole numbers.
+#[derive(Clone, Copy)]
+pub(crate) enum IntegerType {
+    I32,
+    I64,
+}
+
+/// What a node is to the writer.
+#[derive(Clone, Copy)]
+pub(crate) enum Kind {
+    /// An instruction, behind its operands.
+    Own(Instr),
+    /// A constant of a drawn word.
+    Random(NumberType),
+    /// A constant as a sum.
+    Unfold(IntegerType),
+    /// A value that is put into a requested global and read from it again.
+    UseGlobal(NumberType),
+    /// Nothing but its children.
+    Nothing,
+}
+
+impl NumberType {
+    ghost use Rattle.peephole_terms.specs.Kind.{primitive_of};
+
+    /// The type among those of values.
+    pub fn primitive(self) -> PrimitiveTypeInfo
+        ensures { result ≡ primitive_of self }
+    {
+        match self {
+            NumberType::I32 => PrimitiveTypeInfo::I32,
+            NumberType::I64 => PrimitiveTypeInfo::I64,
+            NumberType::F32 => PrimitiveTypeInfo::F32,
+            NumberType::F64 => PrimitiveTypeInfo::F64,
+        }
+    }
+}
+
+impl Kind {
+    ghost use Rattle.peephole_terms.specs.Kind.{kind_of};
+
+    /// The kind of a node. The nodes without a row have the first twelve places, in the order of `Lang`'s variants.
+    pub fn of(node: &Lang) -> Kind
+        ensures { result ≡ kind_of (head_of node.now) }
+    {
+        match node.place() {
+            0 => Kind::Random(NumberType::I32),
+            1 => Kind::Random(NumberType::I64),
+            2 => Kind::Random(NumberType::F32),
+            3 => Kind::Random(NumberType::F64),
+            5 => Kind::Unfold(IntegerType::I32),
+            6 => Kind::Unfold(IntegerType::I64),
+            7 => Kind::UseGlobal(NumberType::I32),
+            8 => Kind::UseGlobal(NumberType::I64),
+            9 => Kind::UseGlobal(NumberType::F32),
+            10 => Kind::UseGlobal(NumberType::F64),
+            _ => match node.instr() {
+                Some(instr) => Kind::Own(instr),
+                None => Kind::Nothing,
+            },
+        }
+    }
+}
