@@ -28,6 +28,8 @@ pub mod RowLemmas
 pub mod WalkLemmas
 pub mod ExpansionLemmas
 pub mod BodyLemmas
+pub mod SpellingLemmas
+pub mod ReadAgainLemmas
 pub mod PlainLemmas
 pub mod EncoderLemmas
 pub mod SettingLemmas

@@ -19,6 +19,7 @@ pub mod Asking
 pub mod Kind
 pub mod Expansion
 pub mod Written
+pub mod ReadAgain
 pub mod EncoderSteps
 pub mod ForestText
 pub mod ForestSteps
