@@ -4,7 +4,7 @@ use Rattle.std.specs.Prelude.{reverse, All, ◌==◌, ◌||◌, option_map, is_s
 use Rattle.std.proofs.lemmas.Bool.{cond-true, cond-false, eq-eqb, eqb-true, ne_eqb}
 use Rattle.std.proofs.lemmas.List.{reverse-append, length-map, map-append, take_more, length-take, take-append-drop}
 use Rattle.rand_core.specs.Stream.{Stream}
-use Rattle.std.proofs.lemmas.List.Elements.{All-nil, All-cons, All-head, All-tail}
+use Rattle.std.proofs.lemmas.List.Elements.{All-nil, All-cons, All-append, All-head, All-tail}
 use Rattle.wasm_code.specs.Instruction.{Instruction}
 use Rattle.wasm_code.specs.Code.{codes}
 use Rattle.wasm_code.specs.declared.operator.Operator.{Operator}
@@ -31,7 +31,7 @@ use Rattle.peephole_terms.proofs.GraphOfLemmas.{represents}
 use Rattle.peephole_terms.specs.declared.encoder.request.ResourceRequest.{ResourceRequest}
 use Rattle.peephole_terms.specs.Kind.{NumberType}
 use Rattle.peephole_terms.specs.Expansion.{Refuses, followed, joined, expansion_of, expansion, requests_of, requests, request, draws_of, draws, drawn}
-use Rattle.peephole_terms.specs.EncoderSteps.{operator_at, entry_nodes, root_term, root_terms, IsWalkable, Step, Writing, steps_of, steps, take_steps, after, IsRefusal}
+use Rattle.peephole_terms.specs.EncoderSteps.{operator_at, entry_nodes, root_term, root_terms, IsWalkable, IsInRange, Step, Writing, steps_of, steps, take_steps, after, IsRefusal}
 use Rattle.peephole_terms.specs.Written.{replaced, is_root}
 use Rattle.peephole_terms.proofs.DfgLemmas.{get_item}
 use Rattle.peephole_terms.proofs.GraphLemmas.{parents_length, roots_root, roots_child}
@@ -210,7 +210,7 @@ replaced_none first at code other (node i s kids ▸ ts) f = go (first + i == at
 
 -- What terms are written as that stand for trees, of which one is replaced by a term where `b` says so.
 pub record IsPart (first at : ℕ) (t : term.Term Head) (ts : Trees) (us : term.Terms Head) (b : Bool) : Type 0 where
-  code : (n : ℕ) (words : List ℕ) → expansion n words us ≡ followed (cond b (expansion_of n words t) (Ok [])) (λ code. Ok (replaced first at code ts))
+  pub code : (n : ℕ) (words : List ℕ) → expansion n words us ≡ followed (cond b (expansion_of n words t) (Ok [])) (λ code. Ok (replaced first at code ts))
   asked : requests us ≡ cond b (requests_of t) []
   drawn_types : draws us ≡ cond b (draws_of t) []
 
@@ -426,12 +426,26 @@ root_refused count at t entries parents i start w d l none before own =
     (ap (λ (x : Result Writing Error). after x (take_steps count rest)) (sym begun)
     ∙ (sym (take_steps-append count (front ++ here) rest start) ∙ ap (λ (x : List Step). take_steps count x start) (sym whole))) own
 
+-- their instructions are in range
+pub root_in_range : (at : ℕ) (t : term.Term Head) (entries : List StackEntry) (parents : List (Option ℕ)) (i : ℕ) → i < length parents → get_or parents i None ≡ None →
+    All IsInRange (all_steps at t entries (take i parents)) → All IsInRange (steps_of (root_term at t entries i)) → All IsInRange (all_steps at t entries (take (i + 1) parents))
+root_in_range at t entries parents i l none before own =
+    subst (All IsInRange) (sym (next_root at t entries parents i l none)) (All-append IsInRange (all_steps at t entries (take i parents)) (steps_of (root_term at t entries i)) before own)
+
 -- one more entry is none
+child_same : (at : ℕ) (t : term.Term Head) (entries : List StackEntry) (parents : List (Option ℕ)) (i p : ℕ) → i < length parents → get_or parents i None ≡ Some p →
+    all_steps at t entries (take (i + 1) parents) ≡ all_steps at t entries (take i parents)
+child_same at t entries parents i p l some =
+    let taken : take (i + 1) parents ≡ take i parents ++ Some p ∷ [] = take_more parents i None l ∙ ap (λ (q : Option ℕ). take i parents ++ q ∷ []) some in
+    ap (λ (x : List ℕ). steps (root_terms at t entries x)) (ap roots_of taken ∙ roots_child (take i parents) p)
+
+pub child_in_range : (at : ℕ) (t : term.Term Head) (entries : List StackEntry) (parents : List (Option ℕ)) (i p : ℕ) → i < length parents → get_or parents i None ≡ Some p →
+    All IsInRange (all_steps at t entries (take i parents)) → All IsInRange (all_steps at t entries (take (i + 1) parents))
+child_in_range at t entries parents i p l some before = subst (All IsInRange) (sym (child_same at t entries parents i p l some)) before
+
 pub child_step : (count at : ℕ) (t : term.Term Head) (entries : List StackEntry) (parents : List (Option ℕ)) (i p : ℕ) (start w : Writing) → i < length parents → get_or parents i None ≡ Some p →
     take_steps count (all_steps at t entries (take i parents)) start ≡ Ok w → take_steps count (all_steps at t entries (take (i + 1) parents)) start ≡ Ok w
-child_step count at t entries parents i p start w l some e =
-    let taken : take (i + 1) parents ≡ take i parents ++ Some p ∷ [] = take_more parents i None l ∙ ap (λ (q : Option ℕ). take i parents ++ q ∷ []) some in
-    ap (λ (x : List ℕ). take_steps count (steps (root_terms at t entries x)) start) (ap roots_of taken ∙ roots_child (take i parents) p) ∙ e
+child_step count at t entries parents i p start w l some e = ap (λ (x : List Step). take_steps count x start) (child_same at t entries parents i p l some) ∙ e
 
 -- what a branch leaves is what it wrote
 pub same_writing : (a b : List ℕ) (r q : List ResourceRequest) (s t : Stream) → b ≡ a → q ≡ r → t ≡ s →

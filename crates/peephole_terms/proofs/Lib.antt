@@ -33,6 +33,8 @@ pub mod ReadAgainLemmas
 pub mod PlainLemmas
 pub mod EncoderLemmas
 pub mod SettingLemmas
+pub mod RangeLemmas
+pub mod AgainLemmas
 pub mod LayoutLemmas
 pub mod LayoutWalk
 pub mod LayoutForest

@@ -29,10 +29,10 @@ pub record IsUnder {R : Type 0} (config : Config R) (info : Module) (generator :
   pub generator_is : config.generator ≡ Some generator
   pub count_is : count ≡ length info.globals
 
-abbrev setting : Module → Stream → Setting
+abbrev pub setting : Module → Stream → Setting
 setting info stream = record { info = info; stream = stream }
 
-setting_is : {R : Type 0} (stream : R → Stream) (config : Config R) (info : Module) (generator : R) → config.info ≡ Some info → config.generator ≡ Some generator →
+pub setting_is : {R : Type 0} (stream : R → Stream) (config : Config R) (info : Module) (generator : R) → config.info ≡ Some info → config.generator ≡ Some generator →
     setting_of stream config ≡ Some (setting info (stream generator))
 setting_is {R} stream config info generator i g =
     ap₂ (λ (x : Option Module) (y : Option R). option_and_then (λ info. option_map (λ generator. setting info (stream generator)) y) x) i g
@@ -108,7 +108,7 @@ row_same under keeping operators block entries es parents ps look t read count a
     ap (λ (x : Term Head). row_steps count at x es ps w) r.term_is
     ∙ ap₂ (λ (x : List StackEntry) (y : List (Option ℕ)). row_steps count at t x y w) r.entries_are r.parents_are
 
-row_part : (under : Option Module) (keeping : Bool) (operators : List (Operator × ℕ)) (block : BlockRange) (entries es : List StackEntry) (parents ps : List (Option ℕ)) (look : ℕ → Option ℕ) (t read : Term Head)
+pub row_part : (under : Option Module) (keeping : Bool) (operators : List (Operator × ℕ)) (block : BlockRange) (entries es : List StackEntry) (parents ps : List (Option ℕ)) (look : ℕ → Option ℕ) (t read : Term Head)
     (info : Module) (at : ℕ) → IsRow under keeping operators block entries es parents ps look t read → under ≡ Some info →
     IsPart block.start at t (forest (block_of info (slice_range operators block.start block.end))) (root_terms at t entries (roots_of parents)) (is_written info operators block at)
 row_part under keeping operators block entries es parents ps look t read info at r is =
@@ -116,7 +116,7 @@ row_part under keeping operators block entries es parents ps look t read info at
     (subst (λ (x : Option Module). IfSome x (λ info. IsGraphOf info keeping block.start (slice_range operators block.start block.end) entries parents look)) is r.graph)
 
 -- a body is written
-abbrev AppendsBody : List ℕ → List (Operator × ℕ) → BlockRange → ℕ → Term Head → List ℕ → List ℕ → Setting → Type 0
+abbrev pub AppendsBody : List ℕ → List (Operator × ℕ) → BlockRange → ℕ → Term Head → List ℕ → List ℕ → Setting → Type 0
 AppendsBody input operators block at t old new s =
     (code : List Instruction) × (term_code s operators block at t ≡ Ok code) × (new ≡ old ++ written_body input operators block (written_block s.info operators block at code))
 

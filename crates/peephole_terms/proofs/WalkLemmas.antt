@@ -15,7 +15,7 @@ use Rattle.peephole_lang.specs.Term.{numbers_of, Term, Terms, absent, node, no_t
 use Rattle.peephole_terms.specs.declared.frames.Frame.{Frame}
 use Rattle.peephole_terms.specs.Kind.{IntegerType, kind_of, is_unfold}
 use Rattle.peephole_terms.specs.Expansion.{constant_in, constant_of}
-use Rattle.peephole_terms.specs.EncoderSteps.{Step, Writing, own_step, opened, steps_of, steps, take_step, take_steps, after, IsRefusal, nodes_in}
+use Rattle.peephole_terms.specs.EncoderSteps.{Step, Writing, IsInRange, own_step, opened, steps_of, steps, take_step, take_steps, after, IsRefusal, nodes_in}
 use Rattle.peephole_terms.proofs.PlaceLemmas.{IsAt, tree_is, children_in, at_place, view, some_at}
 
 -- ---- steps one after another
@@ -109,19 +109,21 @@ todo_top ns frames rest f top = ap (todo ns) top ∙ todo-append ns rest (f ∷ 
 
 -- ---- the invariant
 
--- What is left, done from here, is what the whole gives, and every frame stands at a node.
-pub record IsWalk (ns : List (Node Head)) (count : ℕ) (whole : Result Writing Error) (frames : List Frame) (w : Writing) : Type 0 where
+-- What is left, done from here, is what the whole gives; where its instructions are in range, those of all steps are; and every frame stands at a node.
+pub record IsWalk (ns : List (Node Head)) (count : ℕ) (every : List Step) (whole : Result Writing Error) (frames : List Frame) (w : Writing) : Type 0 where
   pub below : AreBelow ns
   pub same : take_steps count (todo ns frames) w ≡ whole
+  pub in_range : All IsInRange (todo ns frames) → All IsInRange every
   pub inside : All (λ (f : Frame). f.node < length ns) frames
 
 abbrev Inside : List (Node Head) → Frame → Type 0
 Inside ns f = f.node < length ns
 
-walk_start : (ns : List (Node Head)) (count i : ℕ) (w : Writing) → AreBelow ns → i < length ns → IsWalk ns count (take_steps count (steps_of (tree_at ns i)) w) (start_of i ∷ []) w
+walk_start : (ns : List (Node Head)) (count i : ℕ) (w : Writing) → AreBelow ns → i < length ns → IsWalk ns count (steps_of (tree_at ns i)) (take_steps count (steps_of (tree_at ns i)) w) (start_of i ∷ []) w
 walk_start ns count i w b l = record {
   below = b;
   same = ap (λ (x : List Step). take_steps count x w) (whole_left (tree_at ns i));
+  in_range = λ r. subst (All IsInRange) (whole_left (tree_at ns i)) r;
   inside = All-cons (Inside ns) (start_of i) [] l (All-nil (Inside ns));
 }
 
@@ -147,10 +149,10 @@ opened_in : (b : Bool) (kids : List ℕ) (P : ℕ → Type 0) → All P kids →
 opened_in true kids P all = All-nil P
 opened_in false kids P all = all
 
-walk_down : (ns : List (Node Head)) (count : ℕ) (whole : Result Writing Error) (frames rest later : List Frame) (f : Frame) (n : Node Head) (w : Writing) → IsTaken ns frames rest f n →
+walk_down : (ns : List (Node Head)) (count : ℕ) (every : List Step) (whole : Result Writing Error) (frames rest later : List Frame) (f : Frame) (n : Node Head) (w : Writing) → IsTaken ns frames rest f n →
     f.next < length (opened_of n) → later ≡ rest ++ moved f ∷ start_of (get_or (opened_of n) f.next 0) ∷ [] →
-    IsWalk ns count whole frames w → IsWalk ns count whole later w × (measure ns later < measure ns frames)
-walk_down ns count whole frames rest later f n w t l e h =
+    IsWalk ns count every whole frames w → IsWalk ns count every whole later w × (measure ns later < measure ns frames)
+walk_down ns count every whole frames rest later f n w t l e h =
     let child = get_or (opened_of n) f.next 0 in
     let P : ℕ → Type 0 = λ k. k < length ns in
     let in_rest = All-pop (Inside ns) frames rest (Some f) t.top h.inside in
@@ -164,28 +166,29 @@ walk_down ns count whole frames rest later f n w t l e h =
     let m : length (todo ns later) ≡ length (todo ns frames) = ap (λ (x : List Step). length x) left in
     let c : length later ≡ length (rest ++ moved f ∷ start_of child ∷ []) = ap (λ (x : List Frame). length x) e in
     let d : length frames ≡ length (rest ++ f ∷ []) = ap (λ (x : List Frame). length x) t.top in (
-      record { below = h.below; same = ap (λ (x : List Step). take_steps count x w) left ∙ h.same; inside = all },
+      record { below = h.below; same = ap (λ (x : List Step). take_steps count x w) left ∙ h.same; in_range = λ r. h.in_range (subst (All IsInRange) left r); inside = all },
       omega (arith, enough ns later h.below all, length-append rest (moved f ∷ start_of child ∷ []), length-append rest (f ∷ [])),
     )
 
 -- the frame's node is the next step
-next_step : (ns : List (Node Head)) (count : ℕ) (whole : Result Writing Error) (frames rest : List Frame) (f : Frame) (n : Node Head) (w : Writing) → IsTaken ns frames rest f n →
-    length (opened_of n) ≤ f.next → IsWalk ns count whole frames w → after (take_step count (own_at ns n) w) (take_steps count (todo ns rest)) ≡ whole
-next_step ns count whole frames rest f n w t l h =
+next_step : (ns : List (Node Head)) (count : ℕ) (every : List Step) (whole : Result Writing Error) (frames rest : List Frame) (f : Frame) (n : Node Head) (w : Writing) → IsTaken ns frames rest f n →
+    length (opened_of n) ≤ f.next → IsWalk ns count every whole frames w → after (take_step count (own_at ns n) w) (take_steps count (todo ns rest)) ≡ whole
+next_step ns count every whole frames rest f n w t l h =
     ap (λ (x : List Step). take_steps count x w)
     (sym (todo_top ns frames rest f t.top ∙ ap (λ (x : List Step). x ++ todo ns rest) (left_own ns n f.node f.next t.at h.below l))) ∙ h.same
 
-walk_own : (ns : List (Node Head)) (count : ℕ) (whole : Result Writing Error) (frames rest : List Frame) (f : Frame) (n : Node Head) (w v : Writing) → IsTaken ns frames rest f n →
-    length (opened_of n) ≤ f.next → take_step count (own_at ns n) w ≡ Ok v →
-    IsWalk ns count whole frames w → IsWalk ns count whole rest v × (measure ns rest < measure ns frames)
-walk_own ns count whole frames rest f n w v t l e h =
+walk_own : (ns : List (Node Head)) (count : ℕ) (every : List Step) (whole : Result Writing Error) (frames rest : List Frame) (f : Frame) (n : Node Head) (w v : Writing) → IsTaken ns frames rest f n →
+    length (opened_of n) ≤ f.next → take_step count (own_at ns n) w ≡ Ok v → IsInRange (own_at ns n) →
+    IsWalk ns count every whole frames w → IsWalk ns count every whole rest v × (measure ns rest < measure ns frames)
+walk_own ns count every whole frames rest f n w v t l e i h =
     let in_rest = All-pop (Inside ns) frames rest (Some f) t.top h.inside in
     let left : todo ns frames ≡ own_at ns n ∷ todo ns rest = todo_top ns frames rest f t.top ∙ ap (λ (x : List Step). x ++ todo ns rest) (left_own ns n f.node f.next t.at h.below l) in
     let m : length (todo ns frames) ≡ suc (length (todo ns rest)) = ap (λ (x : List Step). length x) left in
     let d : length frames ≡ length (rest ++ f ∷ []) = ap (λ (x : List Frame). length x) t.top in (
       record {
         below = h.below;
-        same = ap (λ (r : Result Writing Error). after r (take_steps count (todo ns rest))) (sym e) ∙ next_step ns count whole frames rest f n w t l h;
+        same = ap (λ (r : Result Writing Error). after r (take_steps count (todo ns rest))) (sym e) ∙ next_step ns count every whole frames rest f n w t l h;
+        in_range = λ r. h.in_range (subst (All IsInRange) (sym left) (All-cons IsInRange (own_at ns n) (todo ns rest) i r));
         inside = in_rest.0;
       },
       omega (arith, enough ns rest h.below in_rest.0, enough ns frames h.below h.inside, length-append rest (f ∷ [])),
@@ -203,9 +206,9 @@ pub record IsRead {A : Type 0} (held : A → Lang) (items : List A) (frames rest
 pub length-nodes_in : {A : Type 0} (held : A → Lang) (items : List A) → length (nodes_in held items) ≡ length items
 length-nodes_in held items = length-reverse (map (view (λ x. head_of (held x)) (λ x. children_of (held x))) items) ∙ length-map items (view (λ x. head_of (held x)) (λ x. children_of (held x)))
 
-pub inside_of : {A : Type 0} (held : A → Lang) (items : List A) (count : ℕ) (whole : Result Writing Error) (frames rest : List Frame) (f : Frame) (w : Writing) → frames ≡ rest ++ f ∷ [] →
-    IsWalk (nodes_in held items) count whole frames w → f.node < length items
-inside_of held items count whole frames rest f w top h =
+pub inside_of : {A : Type 0} (held : A → Lang) (items : List A) (count : ℕ) (every : List Step) (whole : Result Writing Error) (frames rest : List Frame) (f : Frame) (w : Writing) → frames ≡ rest ++ f ∷ [] →
+    IsWalk (nodes_in held items) count every whole frames w → f.node < length items
+inside_of held items count every whole frames rest f w top h =
     let i : f.node < length (nodes_in held items) = (All-pop (Inside (nodes_in held items)) frames rest (Some f) top h.inside).1 in
     let n = length-nodes_in held items in
     omega arith
@@ -214,32 +217,32 @@ inside_of held items count whole frames rest f w top h =
 abbrev node_in : {A : Type 0} → (A → Lang) → A → Node Head
 node_in held x = view (λ x. head_of (held x)) (λ x. children_of (held x)) x
 
-taken : {A : Type 0} (held : A → Lang) (items : List A) (count : ℕ) (whole : Result Writing Error) (frames rest : List Frame) (f : Frame) (x : A) (l : Lang) (ids : List Id) (w : Writing) →
-    IsRead held items frames rest f x l ids → IsWalk (nodes_in held items) count whole frames w → IsTaken (nodes_in held items) frames rest f (node_in held x)
-taken held items count whole frames rest f x l ids w r h = record {
+taken : {A : Type 0} (held : A → Lang) (items : List A) (count : ℕ) (every : List Step) (whole : Result Writing Error) (frames rest : List Frame) (f : Frame) (x : A) (l : Lang) (ids : List Id) (w : Writing) →
+    IsRead held items frames rest f x l ids → IsWalk (nodes_in held items) count every whole frames w → IsTaken (nodes_in held items) frames rest f (node_in held x)
+taken held items count every whole frames rest f x l ids w r h = record {
   top = r.top;
-  at = at_place (λ x. head_of (held x)) (λ x. children_of (held x)) items f.node x (inside_of held items count whole frames rest f w r.top h) r.is;
+  at = at_place (λ x. head_of (held x)) (λ x. children_of (held x)) items f.node x (inside_of held items count every whole frames rest f w r.top h) r.is;
 }
 
 pub start : {A : Type 0} (held : A → Lang) (items : List A) (count root : ℕ) (w : Writing) (frames : List Frame) → AreBelow (nodes_in held items) → root < length items → frames ≡ start_of root ∷ [] →
-    IsWalk (nodes_in held items) count (take_steps count (steps_of (tree_at (nodes_in held items) root)) w) frames w
+    IsWalk (nodes_in held items) count (steps_of (tree_at (nodes_in held items) root)) (take_steps count (steps_of (tree_at (nodes_in held items) root)) w) frames w
 start held items count root w frames b l e =
     let n = length-nodes_in held items in
     let ns = nodes_in held items in
-    subst (λ (x : List Frame). IsWalk ns count (take_steps count (steps_of (tree_at ns root)) w) x w) (sym e) (walk_start ns count root w b (omega arith))
+    subst (λ (x : List Frame). IsWalk ns count (steps_of (tree_at ns root)) (take_steps count (steps_of (tree_at ns root)) w) x w) (sym e) (walk_start ns count root w b (omega arith))
 
 opened_read : {A : Type 0} (held : A → Lang) (items : List A) (frames rest : List Frame) (f : Frame) (x : A) (l : Lang) (ids : List Id) → IsRead held items frames rest f x l ids →
     numbers_of ids ≡ opened_of (node_in held x)
 opened_read held items frames rest f x l ids r = r.ids_are ∙ ap (λ (k : Lang). opened (kind_of (head_of k)) (children_of k)) r.held_is
 
-pub down : {A : Type 0} (held : A → Lang) (items : List A) (count : ℕ) (whole : Result Writing Error) (frames rest later : List Frame) (f : Frame) (x : A) (l : Lang) (ids : List Id) (w : Writing) →
-    IsRead held items frames rest f x l ids → f.next < length ids → later ≡ rest ++ moved f ∷ start_of (get_or (numbers_of ids) f.next 0) ∷ [] → IsWalk (nodes_in held items) count whole frames w →
-    IsWalk (nodes_in held items) count whole later w × (measure (nodes_in held items) later < measure (nodes_in held items) frames)
-down held items count whole frames rest later f x l ids w r more e h =
+pub down : {A : Type 0} (held : A → Lang) (items : List A) (count : ℕ) (every : List Step) (whole : Result Writing Error) (frames rest later : List Frame) (f : Frame) (x : A) (l : Lang) (ids : List Id) (w : Writing) →
+    IsRead held items frames rest f x l ids → f.next < length ids → later ≡ rest ++ moved f ∷ start_of (get_or (numbers_of ids) f.next 0) ∷ [] → IsWalk (nodes_in held items) count every whole frames w →
+    IsWalk (nodes_in held items) count every whole later w × (measure (nodes_in held items) later < measure (nodes_in held items) frames)
+down held items count every whole frames rest later f x l ids w r more e h =
     let kids : numbers_of ids ≡ opened_of (node_in held x) = opened_read held items frames rest f x l ids r in
     let n : length (opened_of (node_in held x)) ≡ length ids = ap (λ (k : List ℕ). length k) (sym kids) ∙ length-map ids (λ id. id.0) in
     let m : f.next < length (opened_of (node_in held x)) = omega arith in
-    walk_down (nodes_in held items) count whole frames rest later f (node_in held x) w (taken held items count whole frames rest f x l ids w r h) m
+    walk_down (nodes_in held items) count every whole frames rest later f (node_in held x) w (taken held items count every whole frames rest f x l ids w r h) m
     (e ∙ ap (λ (k : List ℕ). rest ++ moved f ∷ start_of (get_or k f.next 0) ∷ []) kids) h
 
 -- the step of the node that is read
@@ -253,21 +256,21 @@ read_through held items frames rest f x l ids r done =
     let n : length (opened_of (node_in held x)) ≡ length ids = ap (λ (k : List ℕ). length k) (sym kids) ∙ length-map ids (λ id. id.0) in
     (omega arith, ap (own_read held items) r.held_is)
 
-pub own_done : {A : Type 0} (held : A → Lang) (items : List A) (count : ℕ) (whole : Result Writing Error) (frames rest : List Frame) (f : Frame) (x : A) (l : Lang) (ids : List Id) (w v : Writing) →
-    IsRead held items frames rest f x l ids → length ids ≤ f.next → take_step count (own_read held items l) w ≡ Ok v → IsWalk (nodes_in held items) count whole frames w →
-    IsWalk (nodes_in held items) count whole rest v × (measure (nodes_in held items) rest < measure (nodes_in held items) frames)
-own_done held items count whole frames rest f x l ids w v r done e h =
+pub own_done : {A : Type 0} (held : A → Lang) (items : List A) (count : ℕ) (every : List Step) (whole : Result Writing Error) (frames rest : List Frame) (f : Frame) (x : A) (l : Lang) (ids : List Id) (w v : Writing) →
+    IsRead held items frames rest f x l ids → length ids ≤ f.next → take_step count (own_read held items l) w ≡ Ok v → IsInRange (own_read held items l) →
+    IsWalk (nodes_in held items) count every whole frames w → IsWalk (nodes_in held items) count every whole rest v × (measure (nodes_in held items) rest < measure (nodes_in held items) frames)
+own_done held items count every whole frames rest f x l ids w v r done e i h =
     let through = read_through held items frames rest f x l ids r done in
-    walk_own (nodes_in held items) count whole frames rest f (node_in held x) w v (taken held items count whole frames rest f x l ids w r h) through.0
-    (ap (λ (s : Step). take_step count s w) (sym through.1) ∙ e) h
+    walk_own (nodes_in held items) count every whole frames rest f (node_in held x) w v (taken held items count every whole frames rest f x l ids w r h) through.0
+    (ap (λ (s : Step). take_step count s w) (sym through.1) ∙ e) (subst IsInRange through.1 i) h
 
-pub own_refused : {A : Type 0} (held : A → Lang) (items : List A) (count : ℕ) (whole : Result Writing Error) (frames rest : List Frame) (f : Frame) (x : A) (l : Lang) (ids : List Id) (w : Writing) (d : Error) →
-    IsRead held items frames rest f x l ids → length ids ≤ f.next → IsRefusal d (take_step count (own_read held items l) w) → IsWalk (nodes_in held items) count whole frames w → IsRefusal d whole
-own_refused held items count whole frames rest f x l ids w d r done q h =
+pub own_refused : {A : Type 0} (held : A → Lang) (items : List A) (count : ℕ) (every : List Step) (whole : Result Writing Error) (frames rest : List Frame) (f : Frame) (x : A) (l : Lang) (ids : List Id) (w : Writing) (d : Error) →
+    IsRead held items frames rest f x l ids → length ids ≤ f.next → IsRefusal d (take_step count (own_read held items l) w) → IsWalk (nodes_in held items) count every whole frames w → IsRefusal d whole
+own_refused held items count every whole frames rest f x l ids w d r done q h =
     let ns = nodes_in held items in
     let through = read_through held items frames rest f x l ids r done in
     refused_after d (take_step count (own_at ns (node_in held x)) w) whole (take_steps count (todo ns rest))
-    (next_step ns count whole frames rest f (node_in held x) w (taken held items count whole frames rest f x l ids w r h) through.0 h)
+    (next_step ns count every whole frames rest f (node_in held x) w (taken held items count every whole frames rest f x l ids w r h) through.0 h)
     (subst (λ (s : Step). IsRefusal d (take_step count s w)) through.1 q)
 
 -- the children of the node that is read are there

@@ -3,7 +3,7 @@
 use Rattle.std.specs.Prelude.{ℕ, ℤ, ◌+◌, ◌-◌, ◌<◌, ◌≤◌, ◌==◌, ◌≡◌, List, [], ◌∷◌, ◌++◌, length, map, nat_le, if◌then◌else◌, slice_index, Option, Some, None, Result, Ok, Err, ⊤}
 use Rattle.rand_core.specs.Stream.{Stream}
 use Rattle.wasm_code.specs.Code.{code}
-use Rattle.wasm_code.specs.Instruction.{Instruction}
+use Rattle.wasm_code.specs.Instruction.{Instruction, IsInstruction}
 use Rattle.wasm_code.specs.declared.operator.Operator.{Operator}
 use Rattle.mutate_base.specs.declared.error.Error.{Error}
 use Rattle.mutate_base.specs.declared.error.Error.TheVariants.{Memory, CannotUnfold, GlobalIndex}
@@ -27,6 +27,11 @@ pub data Step : Type 0 where
   split : IntegerType → Option ℤ → Step
   store : NumberType → Step
   nothing : Step
+
+-- an instruction that is added as it stands is one of the table, its numbers in range
+abbrev pub IsInRange : Step → Type 0
+IsInRange (emit i) = IsInstruction i
+IsInRange _ = ⊤
 
 -- what a node does behind its children
 abbrev pub own_step : Kind → Terms Head → Step

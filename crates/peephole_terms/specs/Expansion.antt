@@ -1,5 +1,5 @@
 -- The expansion of a term: the instructions that it is written as, the words that are drawn for them, and the globals that they ask for. This project's rule.
-use Rattle.std.specs.Prelude.{◌≡◌, ℕ, ℤ, ◌+◌, nat_le, List, [], ◌∷◌, ◌++◌, length, drop, Option, Some, None, option_map, option_and_then, Result, Ok, Err, true, false, if◌then◌else◌, ⊤}
+use Rattle.std.specs.Prelude.{◌≡◌, ℕ, ℤ, ◌+◌, ◌%◌, ◌^◌, nat_le, List, [], ◌∷◌, ◌++◌, length, drop, Option, Some, None, option_map, option_and_then, Result, Ok, Err, true, false, if◌then◌else◌, ⊤}
 use Rattle.std.specs.Int.{w32, w64, cast_signed, int_wrapping_sub}
 use Rattle.rand_core.specs.Stream.{Stream, next_u32, next_u64}
 use Rattle.wasm_code.specs.Instruction.{Instruction}
@@ -77,12 +77,12 @@ drawn (t ∷ ts) s = ((next_word t s).0 ∷ (drawn ts (next_word t s).1).0, (dra
 
 -- ---- the instructions of nodes without a row, by the rows of the table
 
--- `i32.const`, `i64.const`, `f32.const` and `f64.const` of a drawn word
+-- `i32.const`, `i64.const`, `f32.const` and `f64.const` of a drawn word, floats by their bits
 abbrev pub constant : NumberType → ℕ → Instruction
 constant number.I32 word = record { row = 36; imm = imm.I32 (cast_signed w32 word) }
 constant number.I64 word = record { row = 37; imm = imm.I64 (cast_signed w64 word) }
-constant number.F32 word = record { row = 38; imm = imm.F32 word }
-constant number.F64 word = record { row = 39; imm = imm.F64 word }
+constant number.F32 word = record { row = 38; imm = imm.F32 (word % 2 ^ 32) }
+constant number.F64 word = record { row = 39; imm = imm.F64 (word % 2 ^ 64) }
 
 -- the number less the word, wrapped
 abbrev pub rest_of : IntegerType → ℕ → ℤ → Instruction

@@ -11,7 +11,8 @@ ghost use Rattle.peephole_terms.specs.Entries.{roots_of};
 ghost use Rattle.peephole_terms.specs.Expansion.{Refuses, setting_of};
 ghost use Rattle.peephole_terms.specs.Forest.{IsInOrder};
 ghost use Rattle.peephole_terms.specs.GraphOf.{IsGraphOf};
-ghost use Rattle.peephole_terms.specs.EncoderSteps.{IsRefusal, IsWalkable, IsInside, entry_nodes, root_term, root_terms, steps_of, steps, take_steps};
+ghost use Rattle.peephole_terms.specs.EncoderSteps.{IsRefusal, IsInRange, IsWalkable, IsInside, entry_nodes, root_term, root_terms, steps_of, steps, take_steps};
+ghost use Rattle.peephole_terms.specs.ReadAgain.{ReadsAgain};
 ghost use Rattle.peephole_terms.specs.Written.{IsBodyIn, IsBlockIn, offset_of, before_block, after_block, written_body, written_block, term_code, term_requests, after_block_term, shapes_in};
 
 pub mod expr2wasm;
@@ -80,6 +81,7 @@ fn write_root<R: Rng>(
     ensures err { IfErr result (λ e. IsRefusal e (
         take_steps globals (steps_of (root_term insertion_point (term_of head_of children_of expr.now) entries.now root))
         (record { bytes = newfunc.old; requests = requests.old.items; stream = R.stream rng.old }))) }
+    ensures in_range { OnOk result (All IsInRange (steps_of (root_term insertion_point (term_of head_of children_of expr.now) entries.now root))) }
     ensures kept { take (length newfunc.old) newfunc.new ≡ newfunc.old }
 {
     if entries[root].operator_idx == insertion_point {
@@ -111,6 +113,7 @@ fn write_roots<R: Rng>(
     ensures err { IfErr result (λ e. IsRefusal e (
         take_steps globals (steps (root_terms insertion_point (term_of head_of children_of expr.now) entries.now (roots_of parents.now)))
         (record { bytes = newfunc.old; requests = requests.old.items; stream = R.stream rng.old }))) }
+    ensures in_range { OnOk result (All IsInRange (steps (root_terms insertion_point (term_of head_of children_of expr.now) entries.now (roots_of parents.now)))) }
     ensures kept { take (length newfunc.old) newfunc.new ≡ newfunc.old }
 {
     for index in 0..parents.len() {
@@ -157,6 +160,7 @@ fn write_body<R: Rng>(
     ensures err { IfErr result (λ e. IsRefusal e (
         take_steps globals (steps (root_terms insertion_point (term_of head_of children_of expr.now) (entries_of dfg.now) (roots_of (parents_of dfg.now))))
         (record { bytes = newfunc.old ++ before.now; requests = requests.old.items; stream = R.stream rng.old }))) }
+    ensures in_range { OnOk result (All IsInRange (steps (root_terms insertion_point (term_of head_of children_of expr.now) (entries_of dfg.now) (roots_of (parents_of dfg.now))))) }
     ensures kept { take (length newfunc.old) newfunc.new ≡ newfunc.old }
 {
     newfunc.raw(before)?;
@@ -217,6 +221,11 @@ impl Encoder {
             × (term_code setting operators.now basicblock.now insertion_point (term_of head_of children_of expr.now) ≡ Ok code)
             × (newfunc.new ≡ newfunc.old ++ written_body input_wasm.now operators.now basicblock.now
             (written_block setting.info operators.now basicblock.now insertion_point code)))) }
+        // Read again, the appended bytes are the operators before the block, the written instructions and the operators behind it.
+        ensures reads_again { IfOk result (λ _. IfSome (setting_of R.stream config.old) (λ setting. (code : List Instruction) × (text : List ℕ)
+            × (term_code setting operators.now basicblock.now insertion_point (term_of head_of children_of expr.now) ≡ Ok code)
+            × (newfunc.new ≡ newfunc.old ++ text)
+            × ReadsAgain operators.now basicblock.now (written_block setting.info operators.now basicblock.now insertion_point code) text)) }
         // What the term asks for, where it is written.
         ensures requests { IfOk result (λ requests. IfSome config.old.info (λ info.
             requests.items ≡ term_requests info operators.now basicblock.now insertion_point (term_of head_of children_of expr.now))) }

@@ -10,7 +10,7 @@ ghost use Rattle.peephole_lang.specs.Node.{head_of, children_of};
 ghost use Rattle.peephole_lang.specs.Term.{AreBelow, tree_at, pick};
 ghost use Rattle.peephole_terms.specs.Kind.{kind_of};
 ghost use Rattle.peephole_terms.specs.Expansion.{constant, constant_in, constant_of, next_word};
-ghost use Rattle.peephole_terms.specs.EncoderSteps.{Writing, IsRefusal, nodes_in, own_step, split, store, take_step};
+ghost use Rattle.peephole_terms.specs.EncoderSteps.{Writing, IsRefusal, IsInRange, nodes_in, own_step, split, store, take_step};
 
 use super::kind::{IntegerType, Kind, NumberType};
 use super::node::AsNode;
@@ -189,6 +189,7 @@ pub(crate) fn write_own<R: Rng, N: AsNode>(
     ensures err { IfErr result (λ e. IsRefusal e (
         take_step globals (own_step (kind_of (head_of node.now)) (pick (tree_at (nodes_in N.node nodes.now)) (children_of node.now)))
         (record { bytes = newfunc.old; requests = requests.old.items; stream = R.stream rng.old }))) }
+    ensures in_range { OnOk result (IsInRange (own_step (kind_of (head_of node.now)) (pick (tree_at (nodes_in N.node nodes.now)) (children_of node.now)))) }
     ensures kept { take (length newfunc.old) newfunc.new ≡ newfunc.old }
 {
     match Kind::of(node) {

@@ -1,10 +1,10 @@
 //! The walk over a tree of nodes, which writes it.
 
-ghost use Rattle.std.specs.Prelude.{◌≡◌, ◌<◌, ◌++◌, Ok, length, take, OnOk, IfErr};
+ghost use Rattle.std.specs.Prelude.{◌≡◌, ◌<◌, ◌++◌, Ok, All, length, take, OnOk, IfErr};
 ghost use Rattle.peephole_lang.specs.Node.{head_of, children_of};
 ghost use Rattle.peephole_lang.specs.Term.{AreBelow, numbers_of, tree_at};
 ghost use Rattle.peephole_terms.specs.Kind.{kind_of, is_unfold};
-ghost use Rattle.peephole_terms.specs.EncoderSteps.{IsRefusal, nodes_in, opened, steps_of, take_steps};
+ghost use Rattle.peephole_terms.specs.EncoderSteps.{IsRefusal, IsInRange, nodes_in, opened, steps_of, take_steps};
 
 use super::node::AsNode;
 use super::own::write_own;
@@ -45,6 +45,7 @@ pub(crate) fn write_tree<R: Rng, N: AsNode>(
     ensures err { IfErr result (λ e. IsRefusal e (
         take_steps globals (steps_of (tree_at (nodes_in N.node nodes.now) root))
         (record { bytes = newfunc.old; requests = requests.old.items; stream = R.stream rng.old }))) }
+    ensures in_range { OnOk result (All IsInRange (steps_of (tree_at (nodes_in N.node nodes.now) root))) }
     ensures kept { take (length newfunc.old) newfunc.new ≡ newfunc.old }
 {
     let mut frames = Vec::new(alloc);

@@ -11,43 +11,43 @@ loop-frame-init g c = record {
 }
 
 pub bounds-nodes-frame : goal.bounds-nodes-frame
-bounds-nodes-frame g c = inside_of g.N.AsNode.node c.args.nodes.now _ _ _ _ _ _ c.in-Some.ensures.items c.loop-frame.invariant.walk
+bounds-nodes-frame g c = inside_of g.N.AsNode.node c.args.nodes.now _ _ _ _ _ _ _ c.in-Some.ensures.items c.loop-frame.invariant.walk
 
 pub offset_bounds-nodes-frame : goal.offset_bounds-nodes-frame
 offset_bounds-nodes-frame g c =
-    let h = inside_of g.N.AsNode.node c.args.nodes.now _ _ _ _ c.in-Some.frame _ c.in-Some.ensures.items c.loop-frame.invariant.walk in
+    let h = inside_of g.N.AsNode.node c.args.nodes.now _ _ _ _ _ c.in-Some.frame _ c.in-Some.ensures.items c.loop-frame.invariant.walk in
     omega arith
 
 pub write_own-requires-clause-below : goal.write_own-requires-clause-below
 write_own-requires-clause-below g c =
     kids_in g.N.AsNode.node c.args.nodes.now c.in-Some.frame.node c.index-nodes-frame.result c.as_node-node.result.now c.requires.below
-    (inside_of g.N.AsNode.node c.args.nodes.now _ _ _ _ _ _ c.in-Some.ensures.items c.loop-frame.invariant.walk) c.index-nodes-frame.is c.as_node-node.ensures
+    (inside_of g.N.AsNode.node c.args.nodes.now _ _ _ _ _ _ _ c.in-Some.ensures.items c.loop-frame.invariant.walk) c.index-nodes-frame.is c.as_node-node.ensures
 
 pub loop-frame-preserved-in-Ok : goal.loop-frame-preserved-in-Ok
 loop-frame-preserved-in-Ok g c = record {
-  walk = (down g.N.AsNode.node c.args.nodes.now _ _ c.loop-frame.frames.items c.pop.new.self.items c.descend.new.frames.items c.in-Some.frame c.index-nodes-frame.result c.as_node-node.result.now c.opened-children.result.now _
+  walk = (down g.N.AsNode.node c.args.nodes.now _ _ _ c.loop-frame.frames.items c.pop.new.self.items c.descend.new.frames.items c.in-Some.frame c.index-nodes-frame.result c.as_node-node.result.now c.opened-children.result.now _
       (record { top = c.in-Some.ensures.items; is = c.index-nodes-frame.is; held_is = c.as_node-node.ensures; ids_are = c.opened-children.ensures }) c.if-frame-children.true c.in-Ok.ensures c.loop-frame.invariant.walk).0;
   kept = c.loop-frame.invariant.kept;
 }
 
 pub loop-frame-smaller-in-Ok : goal.loop-frame-smaller-in-Ok
 loop-frame-smaller-in-Ok g c =
-    (down g.N.AsNode.node c.args.nodes.now _ _ c.loop-frame.frames.items c.pop.new.self.items c.descend.new.frames.items c.in-Some.frame c.index-nodes-frame.result c.as_node-node.result.now c.opened-children.result.now _
+    (down g.N.AsNode.node c.args.nodes.now _ _ _ c.loop-frame.frames.items c.pop.new.self.items c.descend.new.frames.items c.in-Some.frame c.index-nodes-frame.result c.as_node-node.result.now c.opened-children.result.now _
     (record { top = c.in-Some.ensures.items; is = c.index-nodes-frame.is; held_is = c.as_node-node.ensures; ids_are = c.opened-children.ensures }) c.if-frame-children.true c.in-Ok.ensures c.loop-frame.invariant.walk).1
 
 pub loop-frame-preserved : goal.loop-frame-preserved
 loop-frame-preserved g c = record {
-  walk = (own_done g.N.AsNode.node c.args.nodes.now _ _ c.loop-frame.frames.items c.pop.new.self.items c.in-Some.frame c.index-nodes-frame.result c.as_node-node.result.now c.opened-children.result.now _ _
-      (record { top = c.in-Some.ensures.items; is = c.index-nodes-frame.is; held_is = c.as_node-node.ensures; ids_are = c.opened-children.ensures }) c.if-frame-children.false c.in-Ok-write_own.ensures.ok c.loop-frame.invariant.walk).0;
+  walk = (own_done g.N.AsNode.node c.args.nodes.now _ _ _ c.loop-frame.frames.items c.pop.new.self.items c.in-Some.frame c.index-nodes-frame.result c.as_node-node.result.now c.opened-children.result.now _ _
+      (record { top = c.in-Some.ensures.items; is = c.index-nodes-frame.is; held_is = c.as_node-node.ensures; ids_are = c.opened-children.ensures }) c.if-frame-children.false c.in-Ok-write_own.ensures.ok c.in-Ok-write_own.ensures.in_range c.loop-frame.invariant.walk).0;
   kept = kept_more _ _ _ c.loop-frame.invariant.kept c.in-Ok-write_own.ensures.kept;
 }
 
 pub loop-frame-smaller : goal.loop-frame-smaller
 loop-frame-smaller g c =
-    (own_done g.N.AsNode.node c.args.nodes.now _ _ c.loop-frame.frames.items c.pop.new.self.items c.in-Some.frame c.index-nodes-frame.result c.as_node-node.result.now c.opened-children.result.now _ _
-    (record { top = c.in-Some.ensures.items; is = c.index-nodes-frame.is; held_is = c.as_node-node.ensures; ids_are = c.opened-children.ensures }) c.if-frame-children.false c.in-Ok-write_own.ensures.ok c.loop-frame.invariant.walk).1
+    (own_done g.N.AsNode.node c.args.nodes.now _ _ _ c.loop-frame.frames.items c.pop.new.self.items c.in-Some.frame c.index-nodes-frame.result c.as_node-node.result.now c.opened-children.result.now _ _
+    (record { top = c.in-Some.ensures.items; is = c.index-nodes-frame.is; held_is = c.as_node-node.ensures; ids_are = c.opened-children.ensures }) c.if-frame-children.false c.in-Ok-write_own.ensures.ok c.in-Ok-write_own.ensures.in_range c.loop-frame.invariant.walk).1
 
 pub returns-in-Err-write_own-clause-err : goal.returns-in-Err-write_own-clause-err
 returns-in-Err-write_own-clause-err g c =
-    own_refused g.N.AsNode.node c.args.nodes.now _ _ c.loop-frame.frames.items c.pop.new.self.items c.in-Some.frame c.index-nodes-frame.result c.as_node-node.result.now c.opened-children.result.now _ _
+    own_refused g.N.AsNode.node c.args.nodes.now _ _ _ c.loop-frame.frames.items c.pop.new.self.items c.in-Some.frame c.index-nodes-frame.result c.as_node-node.result.now c.opened-children.result.now _ _
     (record { top = c.in-Some.ensures.items; is = c.index-nodes-frame.is; held_is = c.as_node-node.ensures; ids_are = c.opened-children.ensures }) c.if-frame-children.false c.in-Err-write_own.ensures.err c.loop-frame.invariant.walk

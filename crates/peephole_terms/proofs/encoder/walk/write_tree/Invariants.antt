@@ -6,7 +6,7 @@ use Rattle.peephole_terms.proofs.encoder.walk.write_tree.Given as goal
 
 abbrev pub invariant-loop-frame : goal.invariant-loop-frame
 invariant-loop-frame g l = record {
-  walk : IsWalk (nodes_in g.N.AsNode.node l.nodes) l.globals
+  walk : IsWalk (nodes_in g.N.AsNode.node l.nodes) l.globals (steps_of (tree_at (nodes_in g.N.AsNode.node l.nodes) l.root))
       (take_steps l.globals (steps_of (tree_at (nodes_in g.N.AsNode.node l.nodes) l.root))
       (record { bytes = l.fn.newfunc; requests = l.fn.requests.items; stream = g.R.Rng.stream l.fn.rng }))
       l.frames.items (record { bytes = l.newfunc; requests = l.requests.items; stream = g.R.Rng.stream l.rng });
