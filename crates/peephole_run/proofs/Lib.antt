@@ -8,5 +8,4 @@ pub mod Refusals
 pub mod Writings
 pub mod Shows
 pub mod Readings
-pub mod OwnTrees
 pub mod OwnNodes

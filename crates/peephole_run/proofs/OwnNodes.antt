@@ -1,4 +1,4 @@
--- The nodes of an operator's own tree: each is an instruction or a missing operand, and can be written.
+-- The nodes of an operator's own tree can be written.
 use Rattle.std.proofs.Common.{◌≡◌, ℕ, ◌+◌, ◌-◌, Bool, true, false, cond, List, [], ◌∷◌, length, map, Option, Some, None, refl, sym, ap, subst, ◌∙◌}
 use Rattle.std.specs.Prelude.{reverse, ◌==◌, nat_lt, IsSome, IfSome, IsTrue}
 use Rattle.std.specs.List.{All}
@@ -16,20 +16,11 @@ use Rattle.peephole_terms.specs.declared.dfg.StackEntry.{StackEntry}
 use Rattle.peephole_terms.specs.GraphOf.{IsGraphOf}
 use Rattle.peephole_terms.specs.Layout.{entry_nodes, laid, laid_all, size_of, places}
 use Rattle.peephole_terms.proofs.GraphOfLemmas.{represents}
-use Rattle.peephole_terms.proofs.LayoutTrees.{All_turned, map_turned}
-use Rattle.peephole_terms.proofs.PlainLemmas.{IsPlain, as_node, trees_plain}
+use Rattle.peephole_terms.proofs.LayoutTrees.{All_turned}
+use Rattle.peephole_terms.proofs.OwnTrees.{entries_turned}
+use Rattle.peephole_terms.proofs.PlainLemmas.{as_node}
 use Rattle.peephole_terms.proofs.Represents.{IsOwnOrUndef}
 use Rattle.peephole_run.specs.State.{AreWritable}
-
-entries_turned : (entries : List StackEntry) → entry_nodes entries ≡ map as_node (reverse entries)
-entries_turned entries = map_turned as_node entries
-
--- the tree is plain
-pub own_plain : (info : Module) (keeping : Bool) (first : ℕ) (operators : List (Operator × ℕ)) (entries : List StackEntry) (parents : List (Option ℕ)) (look : ℕ → Option ℕ) (i : ℕ) (t : Term Head) →
-    IsGraphOf info keeping first operators entries parents look → t ≡ tree_at (entry_nodes entries) i → IsPlain t
-own_plain info keeping first operators entries parents look i t g e =
-    let own = All_turned entries (represents info keeping first operators entries parents look g).missing in
-    subst IsPlain (sym (e ∙ ap (λ (ns : List (Node Head)). tree_at ns i) (entries_turned entries))) (trees_plain (reverse entries) own i)
 
 -- ---- its nodes can be written
 

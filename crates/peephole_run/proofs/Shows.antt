@@ -25,7 +25,7 @@ use Rattle.peephole_run.specs.declared.place.Place.{Place}
 use Rattle.peephole_run.specs.Graphs.{of_graph, operators_in, IsPlace}
 use Rattle.peephole_run.specs.Writing.{is_in_order}
 use Rattle.peephole_run.specs.Show.{verdicts, is_consistent, shown_block, shown}
-use Rattle.peephole_run.proofs.OwnTrees.{length_range}
+use Rattle.peephole_terms.proofs.OwnTrees.{length_range}
 use Rattle.peephole_run.proofs.Refusals.{graphed_fit}
 
 -- a block that isn't empty has entries

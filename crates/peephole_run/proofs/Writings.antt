@@ -25,15 +25,14 @@ use Rattle.peephole_terms.specs.GraphOf.{IsGraphOf}
 use Rattle.peephole_terms.specs.Layout.{entry_nodes}
 use Rattle.peephole_terms.specs.Tree.{Trees, no_trees, entry, node, ◌▸◌, instructions_of, instructions, numbers, range_from}
 use Rattle.peephole_terms.specs.Written.{replaced, is_root, is_written, term_code, term_requests, shapes_in, written_block, written_body}
-use Rattle.peephole_terms.proofs.LayoutExpansion.{expr_expands}
+use Rattle.peephole_terms.proofs.LayoutExpansion.{term_expands}
 use Rattle.peephole_terms.proofs.PlainLemmas.{IsItself, plain_of, is_itself}
 use Rattle.peephole_run.specs.declared.graphs.Refusal.{Refusal}
 use Rattle.peephole_run.specs.declared.graphs.Refusal.TheVariants as refusal
 use Rattle.peephole_run.specs.Body.{Contents}
 use Rattle.peephole_run.specs.Graphs.{of_graph, operators_in, module_in, words_in}
 use Rattle.peephole_run.specs.Writing.{is_in_order, in_order_alone, Output, output, with_code, with_term, with_nodes, written}
-use Rattle.peephole_run.proofs.OwnNodes.{own_plain}
-use Rattle.peephole_run.proofs.OwnTrees.{own_replaced}
+use Rattle.peephole_terms.proofs.OwnTrees.{own_plain, own_replaced, not_replaced}
 use Rattle.peephole_run.proofs.Refusals.{graphed_fit}
 
 -- ---- the test of the order
@@ -154,23 +153,6 @@ some_nodes s keeping body point range nodes entries parents look g n =
     with_graph s keeping body point range (map node_of nodes) entries parents look g
     ∙ ap (in_order_alone keeping (shapes_in s.info body.operators range)) (term_of_nodes s body point range nodes n)
 
--- an operator that is no root is not replaced
-first_false : (a b : Bool) → (a || b) ≡ false → a ≡ false
-first_false true b h = h
-first_false false b h = refl
-
-second_false : (a b : Bool) → (a || b) ≡ false → b ≡ false
-second_false true b h = cc
-second_false false b h = h
-
-not_replaced : (first at : ℕ) (code : List Instruction) (ts : Trees) → is_root first at ts ≡ false → replaced first at code ts ≡ instructions ts
-not_replaced first at code no_trees h = refl
-not_replaced first at code (entry m ▸ ts) h = not_replaced first at code ts h
-not_replaced first at code (node i s kids ▸ ts) h =
-    ap₂ (λ (x y : List Instruction). x ++ y)
-    (ap (λ (b : Bool). cond b code (instructions_of (node i s kids))) (first_false (first + i == at) (is_root first at ts) h))
-    (not_replaced first at code ts (second_false (first + i == at) (is_root first at ts) h))
-
 -- a term that is its operator's own tree changes nothing
 own_term : (s : Setting) (body : Contents) (point : ℕ) (range : BlockRange) (t : Term Head) (code : List Instruction) → IsItself t code →
     replaced range.start point code (forest (shapes_in s.info body.operators range)) ≡ instructions (forest (shapes_in s.info body.operators range)) →
@@ -208,7 +190,7 @@ no_nodes s keeping body point range [] own entries parents look g n some is =
     let os = operators_in body range in
     let t = term_of head_of children_of own in
     let at = own_entry (look point) entries own some is in
-    let same : plain_of t ≡ instructions_of (entry_tree s.info range.start entries at.0) = expr_expands s.info keeping range.start os entries parents look point at.0 own g at.1 at.2 in
+    let same : plain_of t ≡ instructions_of (entry_tree s.info range.start entries at.0) = term_expands s.info keeping range.start os entries parents look point at.0 t g at.1 at.2 in
     let itself : IsItself t (plain_of t) = is_itself t (own_plain s.info keeping range.start os entries parents look at.0 t g at.2) in
     with_graph s keeping body point range [] entries parents look g
     ∙ ap (in_order_alone keeping (shapes_in s.info body.operators range))

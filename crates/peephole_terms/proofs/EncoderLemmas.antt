@@ -54,7 +54,7 @@ All-push : {A : Type 0} (P : A → Type 0) (ys : List A) (y : A) → All P ys �
 All-push P [] y all p = All-cons P y [] p (All-nil P)
 All-push P (z ∷ ys) y all p = All-cons P z (ys ++ y ∷ []) (All-head P z ys all) (All-push P ys y (All-tail P z ys all) p)
 
-All-reverse : {A : Type 0} (P : A → Type 0) (xs : List A) → All P xs → All P (reverse xs)
+pub All-reverse : {A : Type 0} (P : A → Type 0) (xs : List A) → All P xs → All P (reverse xs)
 All-reverse P [] all = All-nil P
 All-reverse P (x ∷ xs) all = subst (All P) (sym (reverse-append (x ∷ []) xs)) (All-push P (reverse xs) x (All-reverse P xs (All-tail P x xs all)) (All-head P x xs all))
 

@@ -10,9 +10,8 @@ use Rattle.wasm_code.specs.Instruction.{Instruction}
 use Rattle.mutate_base.specs.Module.{Module}
 use Rattle.peephole_lang.specs.Lang.{ids_of}
 use Rattle.peephole_lang.specs.declared.lang.Head.{Head}
-use Rattle.peephole_lang.specs.declared.lang.Lang.{Lang}
 use Rattle.peephole_lang.specs.Node.{instr_of, head_of, children_of}
-use Rattle.peephole_lang.specs.Term.{Term, Node, AreBelow, pick, tree_at, term_of}
+use Rattle.peephole_lang.specs.Term.{Term, Node, AreBelow, pick, tree_at}
 use Rattle.peephole_terms.specs.declared.dfg.StackEntry.{StackEntry}
 use Rattle.peephole_terms.specs.Shape.{Shape}
 use Rattle.peephole_terms.specs.Tree.{Tree, instructions_of, instructions}
@@ -82,10 +81,9 @@ entry_expands info first entries b m i l =
     ∙ (same_expansion info first rs (subst AreBelow own_nodes b) (All_turned entries m) i (omega arith)
     ∙ sym (ap (λ (x : List Entry). instructions_of (graph.tree_at x i)) graph_nodes))
 
--- so does the expression that is laid out for an operator of a block's graph
-pub expr_expands : (info : Module) (keeping : Bool) (first : ℕ) (operators : List (Operator × ℕ)) (entries : List StackEntry) (parents : List (Option ℕ)) (look : ℕ → Option ℕ) (at i : ℕ) (expr : List Lang) →
-    IsGraphOf info keeping first operators entries parents look → look at ≡ Some i → term_of head_of children_of expr ≡ tree_at (entry_nodes entries) i →
-    plain_of (term_of head_of children_of expr) ≡ instructions_of (entry_tree info first entries i)
-expr_expands info keeping first operators entries parents look at i expr h l e =
+-- so does the term of an operator of a block's graph
+pub term_expands : (info : Module) (keeping : Bool) (first : ℕ) (operators : List (Operator × ℕ)) (entries : List StackEntry) (parents : List (Option ℕ)) (look : ℕ → Option ℕ) (at i : ℕ) (t : Term Head) →
+    IsGraphOf info keeping first operators entries parents look → look at ≡ Some i → t ≡ tree_at (entry_nodes entries) i → plain_of t ≡ instructions_of (entry_tree info first entries i)
+term_expands info keeping first operators entries parents look at i t h l e =
     let trees = has_trees info keeping first operators entries parents look h in
     ap plain_of e ∙ entry_expands info first entries (entries_below entries trees.below) (represents info keeping first operators entries parents look h).missing i (trees.found at i l)

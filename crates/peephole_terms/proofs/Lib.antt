@@ -34,6 +34,8 @@ pub mod PlainLemmas
 pub mod EncoderLemmas
 pub mod SettingLemmas
 pub mod RangeLemmas
+pub mod OwnTrees
+pub mod RereadLemmas
 pub mod AgainLemmas
 pub mod LayoutLemmas
 pub mod LayoutWalk

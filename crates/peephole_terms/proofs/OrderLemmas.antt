@@ -183,7 +183,7 @@ count_parts (t ▸ ts) (suc k) = go (is_open t) refl (count_parts ts k) (count_p
         let r = behind ts in
         omega arith
 
-count_all : (block : List Shape) → length (numbers (rev (stacked block))) ≡ length block
+pub count_all : (block : List Shape) → length (numbers (rev (stacked block))) ≡ length block
 count_all [] = refl
 count_all (s ∷ earlier) =
     let older = count_all earlier in

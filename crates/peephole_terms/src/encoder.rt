@@ -12,7 +12,7 @@ ghost use Rattle.peephole_terms.specs.Expansion.{Refuses, setting_of};
 ghost use Rattle.peephole_terms.specs.Forest.{IsInOrder};
 ghost use Rattle.peephole_terms.specs.GraphOf.{IsGraphOf};
 ghost use Rattle.peephole_terms.specs.EncoderSteps.{IsRefusal, IsInRange, IsWalkable, IsInside, entry_nodes, root_term, root_terms, steps_of, steps, take_steps};
-ghost use Rattle.peephole_terms.specs.ReadAgain.{ReadsAgain};
+ghost use Rattle.peephole_terms.specs.ReadAgain.{ReadsAgain, KeepsTheTrees, IsReread};
 ghost use Rattle.peephole_terms.specs.Written.{IsBodyIn, IsBlockIn, offset_of, before_block, after_block, written_body, written_block, term_code, term_requests, after_block_term, shapes_in};
 
 pub mod expr2wasm;
@@ -226,6 +226,10 @@ impl Encoder {
             × (term_code setting operators.now basicblock.now insertion_point (term_of head_of children_of expr.now) ≡ Ok code)
             × (newfunc.new ≡ newfunc.old ++ text)
             × ReadsAgain operators.now basicblock.now (written_block setting.info operators.now basicblock.now insertion_point code) text)) }
+        // Where the term changes no tree, the block is read again with the same trees, is in order, and is written again the same.
+        ensures reread { IfOk result (λ _. IfSome config.old.info (λ info.
+            KeepsTheTrees info operators.now basicblock.now insertion_point (entries_of dfg.now) (look_of dfg.now) (term_of head_of children_of expr.now)
+            → (text : List ℕ) × (newfunc.new ≡ newfunc.old ++ text) × IsReread info operators.now basicblock.now text)) }
         // What the term asks for, where it is written.
         ensures requests { IfOk result (λ requests. IfSome config.old.info (λ info.
             requests.items ≡ term_requests info operators.now basicblock.now insertion_point (term_of head_of children_of expr.now))) }

@@ -3,7 +3,7 @@ use Rattle.std.specs.Prelude.{IsSome}
 use Rattle.peephole_terms.specs.Dfg.{entries_of, parents_of, look_of}
 use Rattle.peephole_run.specs.Graphs.{setting_in, operators_in}
 use Rattle.peephole_run.proofs.OwnNodes.{own_writable}
-use Rattle.peephole_run.proofs.OwnTrees.{has_entry}
+use Rattle.peephole_terms.proofs.OwnTrees.{has_entry}
 use Rattle.peephole_run.proofs.Writings.{some_nodes, no_nodes}
 use Rattle.peephole_run.proofs.writing.build_with.Goals as goal
 

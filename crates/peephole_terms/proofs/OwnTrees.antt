@@ -1,6 +1,6 @@
--- Where an operator's own tree stands for itself, the block's trees are unchanged.
-use Rattle.std.proofs.Common.{◌≡◌, ℕ, zero, suc, ◌+◌, ◌-◌, ◌<◌, ◌≤◌, inl, inr, List, [], ◌∷◌, ◌++◌, length, get_or, Bool, true, refl, sym, ap, subst, ◌∙◌, arith, Option, Some, None}
-use Rattle.std.specs.Prelude.{reverse, slice_get, slice_range, option_map, IsSome, is_some}
+-- Where an operator's own tree stands for itself, or nothing stands for a tree, the block's trees are unchanged.
+use Rattle.std.proofs.Common.{◌≡◌, ℕ, zero, suc, ◌+◌, ◌-◌, ◌<◌, ◌≤◌, inl, inr, List, [], ◌∷◌, ◌++◌, length, get_or, map, Bool, true, false, cond, refl, sym, ap, ap₂, subst, ◌∙◌, arith, Option, Some, None, Result, Ok}
+use Rattle.std.specs.Prelude.{reverse, ◌||◌, ◌==◌, slice_get, slice_range, option_map, IsSome, is_some}
 use Rattle.std.proofs.lemmas.Bool.{cond-true, cond-false}
 use Rattle.std.proofs.lemmas.Bool.Decides.{eqb_tells}
 use Rattle.std.proofs.lemmas.Grind.{common_steps}
@@ -12,7 +12,7 @@ use Rattle.mutate_base.specs.Module.{Module}
 use Rattle.peephole_terms.specs.declared.shape.Shape.{Shape}
 use Rattle.peephole_terms.specs.declared.dfg.StackEntry.{StackEntry}
 use Rattle.peephole_terms.specs.Shape.{block_of}
-use Rattle.peephole_terms.specs.Tree.{Tree, Trees, entry, node, ◌▸◌, instructions_of, instructions}
+use Rattle.peephole_terms.specs.Tree.{Tree, Trees, entry, node, no_trees, ◌▸◌, instructions_of, instructions}
 use Rattle.peephole_terms.specs.Graph.{Entry, pick, tree_at, tree_of_entry, undefs, roots}
 use Rattle.peephole_terms.proofs.Stands.{entry_at, is_operator}
 use Rattle.peephole_terms.specs.Forest.{forest}
@@ -22,7 +22,19 @@ use Rattle.peephole_terms.proofs.GraphOfLemmas.{represents}
 use Rattle.peephole_lang.specs.Node.{instr_of}
 use Rattle.peephole_terms.proofs.DfgLemmas.{nodes_length, entry_seen}
 use Rattle.peephole_terms.proofs.GraphLemmas.{entry_later}
-use Rattle.peephole_terms.specs.Written.{replaced}
+use Rattle.peephole_terms.specs.Written.{replaced, is_root, is_written, term_code, written_block, shapes_in}
+use Rattle.peephole_terms.specs.Block.{BlockRange}
+use Rattle.peephole_terms.specs.Expansion.{draws_of, drawn, expansion_of}
+use Rattle.peephole_terms.specs.Layout.{entry_nodes}
+use Rattle.peephole_terms.specs.ReadAgain.{KeepsTheTrees}
+use Rattle.peephole_terms.proofs.LayoutExpansion.{term_expands}
+use Rattle.peephole_terms.proofs.LayoutTrees.{All_turned, map_turned}
+use Rattle.peephole_terms.proofs.PlainLemmas.{IsPlain, IsItself, as_node, plain_of, is_itself, trees_plain}
+use Rattle.peephole_lang.specs.declared.lang.Head.{Head}
+use Rattle.peephole_lang.specs.Term.{Term, Node}
+use Rattle.peephole_lang.specs.Term as term
+use Rattle.mutate_base.specs.declared.error.Error.{Error}
+use Rattle.rand_core.specs.Stream.{Stream}
 
 -- ---- lists
 
@@ -125,6 +137,59 @@ own_replaced info keeping first operators entries parents look at i code h k e =
     let less : Each (λ r. r < length nodes) (reverse (roots (reverse parents))) = subst (λ m. Each (λ r. r < m) (reverse (roots (reverse parents)))) (represents info keeping first operators entries parents look h).stands.same_length (each_reverse (λ r. r < length (reverse parents)) (roots (reverse parents)) (roots_less (reverse parents))) in
     subst (λ (ts : Trees). replaced first at code ts ≡ instructions ts) (represents info keeping first operators entries parents look h).stands.trees
     (own_all nodes first at i code (reverse (roots (reverse parents))) e (λ r l o n. only_entry info keeping first operators entries parents look h at i r k l o n) less)
+
+-- so it is where no tree is that operator's
+first_false : (a b : Bool) → (a || b) ≡ false → a ≡ false
+first_false true b h = h
+first_false false b h = refl
+
+second_false : (a b : Bool) → (a || b) ≡ false → b ≡ false
+second_false true b h = cc
+second_false false b h = h
+
+pub not_replaced : (first at : ℕ) (code : List Instruction) (ts : Trees) → is_root first at ts ≡ false → replaced first at code ts ≡ instructions ts
+not_replaced first at code no_trees h = refl
+not_replaced first at code (entry m ▸ ts) h = not_replaced first at code ts h
+not_replaced first at code (node i s kids ▸ ts) h =
+    ap₂ (λ (x y : List Instruction). x ++ y)
+    (ap (λ (b : Bool). cond b code (instructions_of (node i s kids))) (first_false (first + i == at) (is_root first at ts) h))
+    (not_replaced first at code ts (second_false (first + i == at) (is_root first at ts) h))
+
+-- ---- the tree's nodes are instructions and missing operands
+
+pub entries_turned : (entries : List StackEntry) → entry_nodes entries ≡ map as_node (reverse entries)
+entries_turned entries = map_turned as_node entries
+
+pub own_plain : (info : Module) (keeping : Bool) (first : ℕ) (operators : List (Operator × ℕ)) (entries : List StackEntry) (parents : List (Option ℕ)) (look : ℕ → Option ℕ) (i : ℕ) (t : Term Head) →
+    IsGraphOf info keeping first operators entries parents look → t ≡ term.tree_at (entry_nodes entries) i → IsPlain t
+own_plain info keeping first operators entries parents look i t g e =
+    let own = All_turned entries (represents info keeping first operators entries parents look g).missing in
+    subst IsPlain (sym (e ∙ ap (λ (ns : List (Node Head)). term.tree_at ns i) (entries_turned entries))) (trees_plain (reverse entries) own i)
+
+-- so the tree, written as a term, changes nothing
+pub own_written : (info : Module) (keeping : Bool) (operators : List (Operator × ℕ)) (block : BlockRange) (entries : List StackEntry) (parents : List (Option ℕ)) (look : ℕ → Option ℕ) (stream : Stream) (at : ℕ) (t : Term Head) (code : List Instruction) →
+    IsGraphOf info keeping block.start (slice_range operators block.start block.end) entries parents look → KeepsTheTrees info operators block at entries look t →
+    term_code (record { info = info; stream = stream }) operators block at t ≡ Ok code → written_block info operators block at code ≡ instructions (forest (shapes_in info operators block))
+own_written info keeping operators block entries parents look stream at t code g (inl unwritten) e = not_replaced block.start at code (forest (shapes_in info operators block)) unwritten
+own_written info keeping operators block entries parents look stream at t code g (inr own) e = go (is_written info operators block at) refl e
+  where
+    words : List ℕ
+    words = (drawn (draws_of t) stream).0
+
+    itself : IsItself t (plain_of t)
+    itself = is_itself t (own_plain info keeping block.start (slice_range operators block.start block.end) entries parents look own.0 t g own.2)
+
+    same : plain_of t ≡ instructions_of (entry_tree info block.start entries own.0)
+    same = term_expands info keeping block.start (slice_range operators block.start block.end) entries parents look at own.0 t g own.1 own.2
+
+    ok : (is js : List Instruction) → ◌≡◌ {A = Result (List Instruction) Error} (Ok js) (Ok is) → is ≡ js
+    ok is js e = cc
+
+    go : (b : Bool) → is_written info operators block at ≡ b → cond b (expansion_of (length info.globals) words t) (Ok []) ≡ Ok code → written_block info operators block at code ≡ instructions (forest (shapes_in info operators block))
+    go true w f =
+        let mine : code ≡ plain_of t = ok code (plain_of t) (sym (itself.expands (length info.globals) words) ∙ f) in
+        own_replaced info keeping block.start (slice_range operators block.start block.end) entries parents look at own.0 code g own.1 (mine ∙ same)
+    go false w f = not_replaced block.start at code (forest (shapes_in info operators block)) w
 
 -- ---- the block's operators have entries
 
