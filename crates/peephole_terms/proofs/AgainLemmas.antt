@@ -16,7 +16,7 @@ use Rattle.peephole_terms.specs.Forest.{forest}
 use Rattle.peephole_terms.specs.Tree.{instructions}
 use Rattle.peephole_terms.specs.GraphOf.{IsGraphOf}
 use Rattle.peephole_terms.specs.Expansion.{Setting, setting_of, draws_of, drawn}
-use Rattle.peephole_terms.specs.EncoderSteps.{Step, IsInRange, root_terms, steps}
+use Rattle.peephole_terms.specs.EncoderSteps.{IsInRange, root_terms, steps}
 use Rattle.peephole_terms.specs.Written.{shapes_in, is_written, term_code, written_body, written_block, IsBodyIn, IsBlockIn}
 use Rattle.peephole_terms.specs.ReadAgain.{ReadsAgain, KeepsTheTrees, IsReread}
 use Rattle.peephole_terms.proofs.SettingLemmas.{IsUnder, IsRow, AppendsBody, setting, setting_is, row_part}

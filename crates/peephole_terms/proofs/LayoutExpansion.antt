@@ -10,7 +10,7 @@ use Rattle.wasm_code.specs.Instruction.{Instruction}
 use Rattle.mutate_base.specs.Module.{Module}
 use Rattle.peephole_lang.specs.Lang.{ids_of}
 use Rattle.peephole_lang.specs.declared.lang.Head.{Head}
-use Rattle.peephole_lang.specs.Node.{instr_of, head_of, children_of}
+use Rattle.peephole_lang.specs.Node.{instr_of, children_of}
 use Rattle.peephole_lang.specs.Term.{Term, Node, AreBelow, pick, tree_at}
 use Rattle.peephole_terms.specs.declared.dfg.StackEntry.{StackEntry}
 use Rattle.peephole_terms.specs.Shape.{Shape}

@@ -1,8 +1,8 @@
 -- The bytes of a written body are read again.
-use Rattle.std.proofs.Common.{◌≡◌, ℕ, zero, suc, ◌+◌, ◌-◌, ◌<◌, ◌≤◌, List, [], ◌∷◌, ◌++◌, length, take, drop, map, Bool, true, false, refl, sym, ap, ap₂, subst, ◌∙◌, append_assoc, arith, IsTrue}
+use Rattle.std.proofs.Common.{◌≡◌, ℕ, zero, suc, ◌+◌, ◌-◌, ◌<◌, ◌≤◌, List, [], ◌∷◌, ◌++◌, length, take, drop, map, refl, sym, ap, ap₂, subst, ◌∙◌, append_assoc, arith, IsTrue}
 use Rattle.std.specs.Prelude.{slice_range}
 use Rattle.std.specs.List.{All}
-use Rattle.std.proofs.lemmas.List.{length-append, length-map, length-take, length-drop, map-append, take-map, take-append-drop, take_all}
+use Rattle.std.proofs.lemmas.List.{length-map, length-drop, map-append, take-map, take-append-drop, take_all}
 use Rattle.wasm_code.specs.Instruction.{Instruction, IsInstruction}
 use Rattle.wasm_code.specs.Code.{codes}
 use Rattle.wasm_code.specs.Body.{AreSpelled, joined, placed, SpellsAll, SpellsBody}
@@ -13,7 +13,7 @@ use Rattle.peephole_terms.specs.Block.{BlockRange}
 use Rattle.peephole_terms.specs.Written.{offset_of, before_block, after_block, written_body, IsBodyIn, IsBlockIn}
 use Rattle.peephole_terms.specs.ReadAgain.{alone, ReadsAgain}
 use Rattle.peephole_terms.proofs.BodyLemmas.{inside}
-use Rattle.peephole_terms.proofs.SpellingLemmas.{Spelling, spelled, spellings_of, spelled_append, spelled_take, spelled_drop, joined-append, joined_parts, named_placed, length-placed, offset_placed, coded, coded_spelled, joined_coded, spelled_coded}
+use Rattle.peephole_terms.proofs.SpellingLemmas.{Spelling, spelled, spellings_of, spelled_append, spelled_take, spelled_drop, joined-append, named_placed, length-placed, offset_placed, coded, coded_spelled, joined_coded, spelled_coded}
 use Rattle.peephole_terms.proofs.SpellingLemmas.{ends_with, ends_named, ends_behind, last_size, StandsIn, stands_in, front_in, back_in}
 
 pub drop-map : {A B : Type 0} (f : A → B) (n : ℕ) (xs : List A) → drop n (map f xs) ≡ map f (drop n xs)
