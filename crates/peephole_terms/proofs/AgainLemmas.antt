@@ -76,9 +76,9 @@ body_reread stream config info generator count input operators block at entries 
     let own : AppendsBody input operators block at t old new (setting info (stream generator)) = subst (λ (x : Option Setting). IfSome x (AppendsBody input operators block at t old new)) is w in
     let all = code_in_range config info (stream generator) operators block at entries es parents ps look t read own.0 r u.info_is h own.1 in
     subst (λ (x : Option Module). IfSome x (RereadsBody operators block at entries look t old new)) (sym u.info_is) (λ keeps.
-        let same = own_written info config.preserving operators block entries parents look (stream generator) at t own.0 graph keeps own.1 in
-        let code = instructions (forest (shapes_in info operators block)) in (
-          written_body input operators block code,
-          own.2 ∙ ap (λ (is : List Instruction). old ++ written_body input operators block is) same,
-          reread info input operators block b k graph.fit (subst (All IsInstruction) same all),
-        ))
+    let same = own_written info config.preserving operators block entries parents look (stream generator) at t own.0 graph keeps own.1 in
+    let code = instructions (forest (shapes_in info operators block)) in (
+      written_body input operators block code,
+      own.2 ∙ ap (λ (is : List Instruction). old ++ written_body input operators block is) same,
+      reread info input operators block b k graph.fit (subst (All IsInstruction) same all),
+    ))
