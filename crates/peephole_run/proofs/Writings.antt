@@ -1,6 +1,6 @@
 -- What `write` answers, by what its calls answer.
-use Rattle.std.proofs.Common.{◌≡◌, ◌≢◌, ℕ, ◌+◌, ◌<◌, ◌⊎◌, inl, inr, List, [], ◌∷◌, ◌++◌, length, map, Bool, true, false, refl, sym, ap, ap₂, ◌∙◌, arith, cond}
-use Rattle.std.specs.Prelude.{slice_range, ◌↔◌, ◌&&◌, ◌||◌, ◌==◌, not, is_some, option_map, option_and_then, Option, Some, None, Result, Ok, Err, IfSome, IsSome}
+use Rattle.std.proofs.Common.{◌≡◌, ◌≢◌, ℕ, ◌<◌, ◌⊎◌, inl, inr, List, [], ◌∷◌, ◌++◌, length, map, Bool, true, false, refl, sym, ap, ap₂, ◌∙◌, arith, cond}
+use Rattle.std.specs.Prelude.{slice_range, ◌↔◌, ◌&&◌, not, is_some, option_map, option_and_then, Option, Some, None, Result, Ok, Err, IfSome, IsSome}
 use Rattle.std.specs.Result.{result_map_both}
 use Rattle.std.proofs.lemmas.List.{length-map}
 use Rattle.std.proofs.lemmas.Slice.Eq.{bytes_eq-Decides}
@@ -23,8 +23,8 @@ use Rattle.peephole_terms.specs.Expansion.{Setting, Refuses, requests_of, reques
 use Rattle.peephole_terms.specs.Forest.{forest, IsInOrder}
 use Rattle.peephole_terms.specs.GraphOf.{IsGraphOf}
 use Rattle.peephole_terms.specs.Layout.{entry_nodes}
-use Rattle.peephole_terms.specs.Tree.{Trees, no_trees, entry, node, ◌▸◌, instructions_of, instructions, numbers, range_from}
-use Rattle.peephole_terms.specs.Written.{replaced, is_root, is_written, term_code, term_requests, shapes_in, written_block, written_body}
+use Rattle.peephole_terms.specs.Tree.{Trees, instructions_of, instructions, numbers, range_from}
+use Rattle.peephole_terms.specs.Written.{replaced, is_written, term_code, term_requests, shapes_in, written_block, written_body}
 use Rattle.peephole_terms.proofs.LayoutExpansion.{term_expands}
 use Rattle.peephole_terms.proofs.PlainLemmas.{IsItself, plain_of, is_itself}
 use Rattle.peephole_run.specs.declared.graphs.Refusal.{Refusal}
