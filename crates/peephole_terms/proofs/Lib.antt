@@ -47,3 +47,5 @@ pub mod Copies
 pub mod Answering
 pub mod TreeTextLemmas
 pub mod TreeColourLemmas
+pub mod Lowering
+pub mod SpanLemmas

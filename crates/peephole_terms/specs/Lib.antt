@@ -25,3 +25,4 @@ pub mod ForestText
 pub mod ForestSteps
 pub mod TreeText
 pub mod Shown
+pub mod Span

@@ -11,6 +11,7 @@ ghost use Rattle.peephole_terms.specs.Layout.{HasTrees, Lang-set};
 
 use crate::forest_text::{operator_text, print_forest};
 use crate::layout::lay_out;
+use crate::span::{copy_span, is_span};
 use mutate_base::Error;
 use peephole_lang::{Id, Lang, RecExpr};
 use std::alloc::{AllocError, Global};
@@ -57,8 +58,8 @@ fn color_at(entries: &[StackEntry], i: usize) -> u32
     }
 }
 
-// The size at an index, or 0 past the end.
-fn size_at(sizes: &[usize], i: usize) -> usize
+/// The size at an index, or 0 past the end.
+pub(crate) fn size_at(sizes: &[usize], i: usize) -> usize
     ensures { result ≡ slice_index sizes.now i }
 {
     if i < sizes.len() { sizes[i] } else { 0 }
@@ -192,8 +193,23 @@ impl MiniDFG {
         ensures refused { IfErr result (λ e. e ≡ Error.Memory) }
     {
         match self.map.get(&at) {
-            Some(root) => lay_out(alloc, &self.entries, *root),
+            Some(root) => self.lay_out_at(alloc, *root),
             None => unreachable!(),
+        }
+    }
+
+    // The tree of the entry at an index, laid out: copied where its entries stand so already.
+    fn lay_out_at(&self, alloc: Global, root: usize) -> Result<RecExpr<Lang>, Error>
+        requires { root < length (entries_of self.now) }
+        ensures laid { IfOk result (λ expr. map node_of expr ≡ laid 0 (tree_at (entry_nodes (entries_of self.now)) root)) }
+        ensures refused { IfErr result (λ e. e ≡ Error.Memory) }
+    {
+        let end = root + 1;
+        let start = end.saturating_sub(self.sizes[root]);
+        if is_span(&self.entries, &self.sizes, start, end) {
+            copy_span(alloc, &self.entries[start..end], start)
+        } else {
+            lay_out(alloc, &self.entries, root)
         }
     }
 

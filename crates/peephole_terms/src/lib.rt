@@ -13,6 +13,7 @@ mod growing;
 pub mod laws;
 mod layout;
 mod shape;
+mod span;
 
 pub use asking::build_expr;
 pub use block::BBlock;

@@ -1,0 +1,53 @@
+-- Ids made smaller one by one.
+use Rattle.std.proofs.Common.{◌≡◌, ℕ, zero, suc, ◌+◌, ◌-◌, ◌<◌, ◌≤◌, List, [], ◌∷◌, ◌++◌, length, get_or, take, drop, set, map, refl, ap, ◌∙◌, arith}
+use Rattle.std.specs.List.{All}
+use Rattle.std.proofs.lemmas.List.{take_all, drop_all, length-append, length-map, length-take, length-drop, get_or_default}
+use Rattle.std.proofs.lemmas.List.Edits.{map_over_more}
+use Rattle.std.proofs.lemmas.List.Elements.{All-head, All-tail}
+use Rattle.peephole_lang.specs.declared.id.Id.{Id}
+use Rattle.peephole_lang.specs.Term.{numbers_of}
+
+abbrev pub lower_id : ℕ → Id → Id
+lower_id by id = record { 0 = id.0 - by }
+
+lowered_numbers : (by : ℕ) (ids : List Id) → numbers_of (map (lower_id by) ids) ≡ map (λ i. i - by) (numbers_of ids)
+lowered_numbers by [] = refl
+lowered_numbers by (id ∷ ids) = ap (λ x. (id.0 - by) ∷ x) (lowered_numbers by ids)
+
+all_ids : (by : ℕ) (ids : List Id) → All (λ i. by ≤ i) (numbers_of ids) → (i : ℕ) → i < length ids → (d : Id) → by ≤ (get_or ids i d).0
+all_ids by [] a i l d = absurd (omega arith)
+all_ids by (id ∷ ids) a zero l d = All-head (λ i. by ≤ i) id.0 (numbers_of ids) a
+all_ids by (id ∷ ids) a (suc i) l d = all_ids by ids (All-tail (λ i. by ≤ i) id.0 (numbers_of ids) a) i (omega arith) d
+
+-- the next one is as it was
+next_is : (f : Id → Id) (xs : List Id) (i : ℕ) → i < length xs → (d : Id) → get_or (map f (take i xs) ++ drop i xs) i d ≡ get_or xs i d
+next_is f [] i l d = absurd (omega arith)
+next_is f (x ∷ xs) zero l d = refl
+next_is f (x ∷ xs) (suc i) l d = next_is f xs i (omega arith) d
+
+pub next_large : (by : ℕ) (xs ys : List Id) (i : ℕ) (d : Id) → All (λ i. by ≤ i) (numbers_of xs) → i < length xs → ys ≡ map (lower_id by) (take i xs) ++ drop i xs → by ≤ (get_or ys i d).0
+next_large by xs ys i d a l e =
+    let n = ap (λ (z : Id). z.0) (ap (λ (z : List Id). get_or z i d) e ∙ next_is (lower_id by) xs i l d) in
+    let large = all_ids by xs a i l d in
+    omega arith
+
+count_is : (by : ℕ) (xs ys : List Id) (i : ℕ) → i < length xs → ys ≡ map (lower_id by) (take i xs) ++ drop i xs → length ys ≡ length xs
+count_is by xs ys i l e =
+    ap (λ (z : List Id). length z) e
+    ∙ omega (arith, length-append (map (lower_id by) (take i xs)) (drop i xs), length-map (take i xs) (lower_id by), length-take i xs, length-drop i xs)
+
+pub lowered_more : (by : ℕ) (xs ys : List Id) (i : ℕ) (d : Id) → i < length xs → ys ≡ map (lower_id by) (take i xs) ++ drop i xs →
+    set ys i (lower_id by (get_or ys i d)) ≡ map (lower_id by) (take (i + 1) xs) ++ drop (i + 1) xs
+lowered_more by xs ys i d l e =
+    let x = get_or ys i d in
+    let n = count_is by xs ys i l e in
+    map_over_more (lower_id by) xs ys i x l e (get_or_default ys i d x (omega arith))
+
+append_none : (xs : List Id) → xs ++ [] ≡ xs
+append_none [] = refl
+append_none (x ∷ xs) = ap (λ z. x ∷ z) (append_none xs)
+
+pub lowered_all : (by : ℕ) (xs ys : List Id) (i : ℕ) → length xs ≤ i → ys ≡ map (lower_id by) (take i xs) ++ drop i xs → numbers_of ys ≡ map (λ i. i - by) (numbers_of xs)
+lowered_all by xs ys i l e =
+    ap numbers_of (e ∙ (ap (λ z. map (lower_id by) (take i xs) ++ z) (drop_all i xs l) ∙ (append_none (map (lower_id by) (take i xs)) ∙ ap (map (lower_id by)) (take_all i xs l))))
+    ∙ lowered_numbers by xs
