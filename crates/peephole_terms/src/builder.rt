@@ -9,11 +9,10 @@ ghost use Rattle.peephole_terms.specs.Building.{HasGrown};
 
 use crate::block::BBlock;
 use crate::dfg::MiniDFG;
-use crate::growing::{Growing, add_operator};
+use crate::growing::{Growing, add_operator, start_graph};
 use crate::shape::{Judged, judge_operator};
 use mutate_base::{Error, ModuleInfo, WasmMutate};
 use std::alloc::Global;
-use std::collections::HashMap;
 use std::marker::Model;
 use wasm_code::OperatorAndByteOffset;
 
@@ -62,15 +61,7 @@ fn build(
         (λ o. MatchOption o (HasNoGraph info.now preserving operators.now) (λ g. HasGrown info.now preserving first operators.now g))
         (λ e. IsRefused info.now preserving operators.now e) }
 {
-    let mut growing = Growing {
-        map: HashMap::new(alloc),
-        entries: Vec::new(alloc),
-        parents: Vec::new(alloc),
-        sizes: Vec::new(alloc),
-        same: Vec::new(alloc),
-        stack: Vec::new(alloc),
-        color: 0,
-    };
+    let mut growing = start_graph(alloc, operators.len())?;
     for (number, operator) in operators.iter().enumerate() {
         match judge_operator(info, &operator.0) {
             Judged::Fits(shape) => add_operator(

@@ -7,7 +7,7 @@ ghost use Rattle.peephole_lang.specs.Node.{instr_of, children_of, takes_children
 ghost use Rattle.peephole_lang.specs.Term.{numbers_of};
 ghost use Rattle.peephole_terms.specs.Downwards.{total, are_alike};
 ghost use Rattle.peephole_terms.specs.Entries.{colours};
-ghost use Rattle.peephole_terms.specs.Growing.{undef_entry, set_each, lacks, own_index, Added};
+ghost use Rattle.peephole_terms.specs.Growing.{undef_entry, set_each, lacks, own_index, taken_of, Added};
 ghost use Rattle.peephole_terms.specs.Step.{down};
 
 use crate::dfg::StackEntry;
@@ -30,6 +30,27 @@ pub struct Growing {
     pub color: u64,
 }
 
+/// A graph without entries, with room for `count` of them.
+pub fn start_graph(alloc: Global, count: usize) -> Result<Growing, AllocError>
+    ensures map { IfOk result (λ g. (k : ℕ) → hash.get nat_eq g.map k ≡ None) }
+    ensures entries { IfOk result (λ g. g.entries.items ≡ []) }
+    ensures parents { IfOk result (λ g. g.parents.items ≡ []) }
+    ensures sizes { IfOk result (λ g. g.sizes.items ≡ []) }
+    ensures same { IfOk result (λ g. g.same.items ≡ []) }
+    ensures stack { IfOk result (λ g. g.stack.items ≡ []) }
+    ensures color { IfOk result (λ g. g.color ≡ 0) }
+{
+    Ok(Growing {
+        map: HashMap::with_capacity(alloc, count)?,
+        entries: Vec::with_capacity(alloc, count)?,
+        parents: Vec::with_capacity(alloc, count)?,
+        sizes: Vec::with_capacity(alloc, count)?,
+        same: Vec::with_capacity(alloc, count)?,
+        stack: Vec::new(alloc),
+        color: 0,
+    })
+}
+
 // Writes the parent of each of the entries.
 fn mark(parents: &mut [Option<usize>], ids: &[u32], parent: usize)
     requires { All (λ i. i < length parents.old) ids.now }
@@ -40,12 +61,12 @@ fn mark(parents: &mut [Option<usize>], ids: &[u32], parent: usize)
     }
 }
 
-// The missing operands' indexes, the first one made last.
-fn missing_ids(alloc: Global, base: u32, missing: u32) -> Result<Vec<Id>, AllocError>
+// The missing operands' indexes, the first one made last, with room for `more` indexes behind them.
+fn missing_ids(alloc: Global, base: u32, missing: u32, more: usize) -> Result<Vec<Id>, AllocError>
     requires { base + missing < 2 ^ 32 }
     ensures { IfOk result (λ v. numbers_of v.items ≡ down base missing) }
 {
-    let mut ids = Vec::new(alloc);
+    let mut ids = Vec::with_capacity(alloc, more.saturating_add(missing as usize))?;
     let mut left = missing;
     while left > 0 {
         left -= 1;
@@ -76,7 +97,7 @@ fn own_node(
     ensures node { IfOk result (λ l. (instr_of l ≡ Some instr) × (children_of l ≡ down base missing ++ taken.now)) }
     ensures refused { IfErr result (λ e. e ≡ Error.Memory) }
 {
-    let mut ids = missing_ids(alloc, base, missing)?;
+    let mut ids = missing_ids(alloc, base, missing, taken.len())?;
     push_ids(&mut ids, taken)?;
     match Lang::of_instr(&instr, ids) {
         Some(node) => Ok(node),
@@ -85,14 +106,10 @@ fn own_node(
 }
 
 // The last `count` indexes, or all.
-fn take_operands(alloc: Global, stack: &mut Vec<u32>, count: usize) -> Result<Vec<u32>, AllocError>
-    ensures taken { IfOk result (λ v. v.items ≡ drop (length stack.old.items - count) stack.old.items) }
-    ensures left { OnOk result (stack.new.items ≡ take (length stack.old.items - count) stack.old.items) }
+fn last_operands(stack: &[u32], count: usize) -> &[u32]
+    ensures { result.now ≡ drop (length stack.now - count) stack.now }
 {
-    let at = stack.len().saturating_sub(count);
-    let taken = Vec::from_slice(alloc, &stack[at..])?;
-    stack.truncate(at);
-    Ok(taken)
+    &stack[stack.len().saturating_sub(count)..]
 }
 
 // The entries of the missing operands.
@@ -163,14 +180,15 @@ fn taken_alike(same: &[bool], entries: &[StackEntry], taken: &[u32], color: u32)
 }
 
 // How many entries there are from an operator's entry downwards, and whether all have its colour.
-fn measure(growing: &Growing, taken: &[u32], missing: u32, color: u32) -> (usize, bool)
-    requires below { All (λ i. i < length growing.now.entries.items) taken.now }
+fn measure(growing: &Growing, operands: usize, missing: u32, color: u32) -> (usize, bool)
+    requires below { All (λ i. i < length growing.now.entries.items) (taken_of operands growing.now) }
     requires sizes { length growing.now.sizes.items ≡ length growing.now.entries.items }
     requires same { length growing.now.same.items ≡ length growing.now.entries.items }
-    requires room { total (λ i. slice_index growing.now.sizes.items i) taken.now < 2 ^ 33 }
-    ensures size { result.0 ≡ suc (missing + total (λ i. slice_index growing.now.sizes.items i) taken.now) }
-    ensures same { result.1 ≡ ((missing == 0) && are_alike (λ i. slice_index_or growing.now.same.items i false) (λ i. slice_index (colours growing.now.entries.items) i) color taken.now) }
+    requires room { total (λ i. slice_index growing.now.sizes.items i) (taken_of operands growing.now) < 2 ^ 33 }
+    ensures size { result.0 ≡ suc (missing + total (λ i. slice_index growing.now.sizes.items i) (taken_of operands growing.now)) }
+    ensures same { result.1 ≡ ((missing == 0) && are_alike (λ i. slice_index_or growing.now.same.items i false) (λ i. slice_index (colours growing.now.entries.items) i) color (taken_of operands growing.now)) }
 {
+    let taken = last_operands(&growing.stack, operands);
     let size = taken_size(&growing.sizes, taken);
     let alike = taken_alike(&growing.same, &growing.entries, taken, color);
     (1 + missing as usize + size, missing == 0 && alike)
@@ -239,10 +257,12 @@ pub fn add_operator(
     let (own, missing) = find_place(growing, operands)?;
     let color = growing.color;
     let base = own - missing;
-    let taken = take_operands(alloc, &mut growing.stack, operands)?;
-    let (size, same) = measure(growing, &taken, missing, color as u32);
-    let operator = own_node(alloc, instr, base, missing, &taken)?;
-    mark(&mut growing.parents, &taken, own as usize);
+    let (size, same) = measure(growing, operands, missing, color as u32);
+    let taken = last_operands(&growing.stack, operands);
+    let operator = own_node(alloc, instr, base, missing, taken)?;
+    mark(&mut growing.parents, taken, own as usize);
+    let left = growing.stack.len().saturating_sub(operands);
+    growing.stack.truncate(left);
     add_missing(growing, missing, own as usize, operator_idx)?;
     let entry = StackEntry {
         operator,

@@ -52,5 +52,5 @@ returns c = kept_all _ _ _ _ c.loop-number.number _ c.loop-number-test.false c.l
 
 pub returns-in_err-add_operator-in-Fits : goal.returns-in_err-add_operator-in-Fits
 returns-in_err-add_operator-in-Fits c =
-    let p = err_from_is_err_and c.from_residual.result c.from_residual.ensures.1 in
+    let p = err_from_is_err_and c.from_residual-in_err-add_operator-in-Fits.result c.from_residual-in_err-add_operator-in-Fits.ensures.1 in
     rw (p.1, p.2) (refused _ _ _ _ c.loop-number.number c.index-operators-number.result c.in-Fits.shape c.loop-number.growing _ c.loop-number-test.true c.loop-number.invariant (judged c.args.info.now c.args.operators.now c.loop-number.number _ _ c.index-operators-number.is c.in-Fits.ensures) c.in_err-add_operator-in-Fits.ensures.refused)
