@@ -4,6 +4,7 @@ use Rattle.std.specs.Cmp.{unsigned_Decides, signed_Decides, first_so, second_so}
 use Rattle.std.specs.List.{AllByRecursion}
 use Rattle.std.specs.Option.{is_some}
 use Rattle.std.proofs.Common.{true≢false, suc, ap, subst, sym, lit≤, arith}
+use Rattle.std.proofs.lemmas.Option.{none-some}
 use Rattle.std.proofs.lemmas.Slice.Eq.{bytes_eq-Decides}
 use Rattle.wasm_code.specs.Instruction.{InRange, is_of_kind}
 use Rattle.wasm_code.specs.contracts.immediate.ValTypePartialEq.TheImpl as val_type_eq
@@ -152,7 +153,7 @@ of_imm_back kind.MemoryInit (imm.Pair a b) p e = stands kind.MemoryInit _ _ p e 
 of_imm_back kind.MemoryCopy (imm.Pair a b) p e = stands kind.MemoryCopy _ _ p e refl refl
 of_imm_back kind.TableInit (imm.Pair a b) p e = stands kind.TableInit _ _ p e refl refl
 of_imm_back kind.TableCopy (imm.Pair a b) p e = stands kind.TableCopy _ _ p e refl refl
-of_imm_back _ _ p e = absurd cc
+of_imm_back _ _ p e = absurd (none-some p e)
 
 -- a payload's immediate fits an instruction where an instruction can say the payload
 pub imm_fits : (k : PayloadKind) (p : Payload) → is_of k p ≡ true → is_of_kind (imm_kind k) (imm_of p) ≡ is_writable p

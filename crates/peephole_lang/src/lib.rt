@@ -43,6 +43,3 @@ pub use mutate_base::{
 pub use numeric::Numeric;
 pub use payload::Payload;
 pub use simd::Simd;
-
-#[cfg(test)]
-mod tests;

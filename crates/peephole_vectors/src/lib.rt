@@ -20,6 +20,8 @@ mod memory;
 #[cfg(test)]
 mod names;
 #[cfg(test)]
+mod nodes;
+#[cfg(test)]
 mod reading;
 #[cfg(test)]
 mod writing;

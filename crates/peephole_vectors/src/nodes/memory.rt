@@ -1,7 +1,7 @@
 //! Memory that runs out. `rt try --test --fail-alloc N` refuses each test its allocation N: 1, 2 and 3 meet them all.
 
 use super::first_ids;
-use crate::{Id, Lang, Language, RecExpr};
+use peephole_lang::{Id, Lang, Language, RecExpr};
 use mutate_base::Error;
 use std::alloc::Global;
 use std::process::Abort;
@@ -79,7 +79,7 @@ fn texts(rt: HostRuntime) {
 
 /// The expression has one more constant, or else memory was refused, and then it has as many as before. Whether it was
 /// refused.
-#[tactic(auto, unfolding(crate::specs::Lang::ids_of, crate::specs::Numeric::numeric_ids_of))]
+#[tactic(auto, unfolding(peephole_lang::specs::Lang::ids_of, peephole_lang::specs::Numeric::numeric_ids_of))]
 fn lacks_room(rt: &impl Abort, expr: &mut RecExpr<Lang>, constant: i32) -> bool {
     let before = expr.len();
     match expr.add(Lang::I32(constant)) {

@@ -1,7 +1,7 @@
 //! Nodes that match, nodes that are equal, their order, their hashes, and their copies.
 
 use super::first_ids;
-use crate::{F32, Id, Lang, Language, MemArg, Numeric, RefType, Simd};
+use peephole_lang::{F32, Id, Lang, Language, MemArg, Numeric, RefType, Simd};
 use std::alloc::Global;
 use std::cmp::Ordering;
 use std::hash::{DefaultHasher, Hash, Hasher};

@@ -1,4 +1,4 @@
-//! Tests, of what no clause says: texts and names from outside, examples of comparisons, and memory that runs out.
+//! The nodes: texts and names from outside, examples of comparisons, and memory that runs out.
 
 mod children;
 mod comparisons;
@@ -7,7 +7,7 @@ mod names;
 mod texts;
 mod variants;
 
-use crate::Id;
+use peephole_lang::Id;
 use std::alloc::{AllocError, Global};
 
 /// The ids 0, 1 and so on.

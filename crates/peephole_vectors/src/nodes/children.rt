@@ -1,7 +1,7 @@
 //! Children, read and written, of a node of each form.
 
 use super::first_ids;
-use crate::{Id, Lang, MemArg, Numeric, Simd};
+use peephole_lang::{Id, Lang, MemArg, Numeric, Simd};
 use std::alloc::Global;
 use std::process::Abort;
 use std::test::Fail;

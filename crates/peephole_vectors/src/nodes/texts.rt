@@ -1,7 +1,7 @@
 //! Texts that are read, and texts that are refused.
 
 use super::first_ids;
-use crate::{Id, Lang, Numeric, Simd, TermError};
+use peephole_lang::{Id, Lang, Numeric, Simd, TermError};
 use std::alloc::Global;
 use std::process::Abort;
 use std::test::Fail;

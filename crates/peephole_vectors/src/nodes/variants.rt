@@ -2,7 +2,7 @@
 
 use super::first_ids;
 use super::names::name_of;
-use crate::{Id, Lang, TermError};
+use peephole_lang::{Id, Lang, TermError};
 use std::alloc::Global;
 use std::cmp::Ordering;
 use std::process::Abort;
@@ -615,7 +615,7 @@ fn variant_at(rt: &impl Abort, alloc: Global, place: usize, line: &str) -> Resul
     let ids = first_ids(alloc, taken(children))?;
     let node = Lang::from_op_str(text.as_str(), ids.clone()?)?;
     assert!(rt;
-        node.place() as usize == place && name_of(&node) == *name,
+        node.place() as usize == place && name_of(&node) == Some(*name),
         "{line}"
     );
     is_node(rt, alloc, &node, text.as_str(), ids.as_slice())?;
