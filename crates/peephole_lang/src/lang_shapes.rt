@@ -17,15 +17,15 @@ pub fn plain_leaf(place: u16) -> Option<Lang>
     ensures count { IfSome result (λ l. count_of l ≡ 0) }
     ensures complete { is_some result ≡ is_plain_leaf place }
 {
-    Some(match place {
-        0 => Lang::RandI32,
-        1 => Lang::RandI64,
-        2 => Lang::RandF32,
-        3 => Lang::RandF64,
-        4 => Lang::Undef,
-        12 => Lang::Nop,
-        _ => return None,
-    })
+    match place {
+        0 => Some(Lang::RandI32),
+        1 => Some(Lang::RandI64),
+        2 => Some(Lang::RandF32),
+        3 => Some(Lang::RandF64),
+        4 => Some(Lang::Undef),
+        12 => Some(Lang::Nop),
+        _ => None,
+    }
 }
 
 #[tactic(auto, unfolding(crate::specs::LangShapes::is_plain_one, crate::specs::Lang::place_of, crate::specs::Lang::payload_of, crate::specs::Lang::ids_of, crate::specs::Lang::count_of))]
@@ -36,17 +36,17 @@ pub fn plain_one(place: u16, child: Id) -> Option<Lang>
     ensures count { IfSome result (λ l. count_of l ≡ 1) }
     ensures complete { is_some result ≡ is_plain_one place }
 {
-    Some(match place {
-        5 => Lang::UnfoldI32(child),
-        6 => Lang::UnfoldI64(child),
-        7 => Lang::I32UseGlobal(child),
-        8 => Lang::I64UseGlobal(child),
-        9 => Lang::F32UseGlobal(child),
-        10 => Lang::F64UseGlobal(child),
-        14 => Lang::Drop([child]),
-        181 => Lang::RefIsNull(child),
-        _ => return None,
-    })
+    match place {
+        5 => Some(Lang::UnfoldI32(child)),
+        6 => Some(Lang::UnfoldI64(child)),
+        7 => Some(Lang::I32UseGlobal(child)),
+        8 => Some(Lang::I64UseGlobal(child)),
+        9 => Some(Lang::F32UseGlobal(child)),
+        10 => Some(Lang::F64UseGlobal(child)),
+        14 => Some(Lang::Drop([child])),
+        181 => Some(Lang::RefIsNull(child)),
+        _ => None,
+    }
 }
 
 #[tactic(auto, unfolding(crate::specs::LangShapes::is_plain_three, crate::specs::Lang::place_of, crate::specs::Lang::payload_of, crate::specs::Lang::ids_of, crate::specs::Lang::count_of))]
@@ -57,10 +57,10 @@ pub fn plain_three(place: u16, first: Id, second: Id, third: Id) -> Option<Lang>
     ensures count { IfSome result (λ l. count_of l ≡ 3) }
     ensures complete { is_some result ≡ is_plain_three place }
 {
-    Some(match place {
-        15 => Lang::Select([first, second, third]),
-        _ => return None,
-    })
+    match place {
+        15 => Some(Lang::Select([first, second, third])),
+        _ => None,
+    }
 }
 
 #[tactic(auto, unfolding(crate::specs::LangShapes::is_index_leaf, crate::specs::Lang::place_of, crate::specs::Lang::payload_of, crate::specs::Lang::ids_of, crate::specs::Lang::count_of))]
@@ -71,16 +71,16 @@ pub fn index_leaf(place: u16, payload: u32) -> Option<Lang>
     ensures count { IfSome result (λ l. count_of l ≡ 0) }
     ensures complete { is_some result ≡ is_index_leaf place }
 {
-    Some(match place {
-        16 => Lang::LocalGet(payload),
-        19 => Lang::GlobalGet(payload),
-        46 => Lang::MemorySize(payload),
-        182 => Lang::RefFunc(payload),
-        192 => Lang::DataDrop(payload),
-        196 => Lang::ElemDrop(payload),
-        199 => Lang::TableSize(payload),
-        _ => return None,
-    })
+    match place {
+        16 => Some(Lang::LocalGet(payload)),
+        19 => Some(Lang::GlobalGet(payload)),
+        46 => Some(Lang::MemorySize(payload)),
+        182 => Some(Lang::RefFunc(payload)),
+        192 => Some(Lang::DataDrop(payload)),
+        196 => Some(Lang::ElemDrop(payload)),
+        199 => Some(Lang::TableSize(payload)),
+        _ => None,
+    }
 }
 
 #[tactic(auto, unfolding(crate::specs::LangShapes::is_index_one, crate::specs::Lang::place_of, crate::specs::Lang::payload_of, crate::specs::Lang::ids_of, crate::specs::Lang::count_of))]
@@ -91,14 +91,14 @@ pub fn index_one(place: u16, payload: u32, child: Id) -> Option<Lang>
     ensures count { IfSome result (λ l. count_of l ≡ 1) }
     ensures complete { is_some result ≡ is_index_one place }
 {
-    Some(match place {
-        17 => Lang::LocalSet(payload, child),
-        18 => Lang::LocalTee(payload, child),
-        20 => Lang::GlobalSet(payload, child),
-        21 => Lang::TableGet(payload, child),
-        47 => Lang::MemoryGrow(payload, child),
-        _ => return None,
-    })
+    match place {
+        17 => Some(Lang::LocalSet(payload, child)),
+        18 => Some(Lang::LocalTee(payload, child)),
+        20 => Some(Lang::GlobalSet(payload, child)),
+        21 => Some(Lang::TableGet(payload, child)),
+        47 => Some(Lang::MemoryGrow(payload, child)),
+        _ => None,
+    }
 }
 
 #[tactic(auto, unfolding(crate::specs::LangShapes::is_index_two, crate::specs::Lang::place_of, crate::specs::Lang::payload_of, crate::specs::Lang::ids_of, crate::specs::Lang::count_of))]
@@ -109,11 +109,11 @@ pub fn index_two(place: u16, payload: u32, first: Id, second: Id) -> Option<Lang
     ensures count { IfSome result (λ l. count_of l ≡ 2) }
     ensures complete { is_some result ≡ is_index_two place }
 {
-    Some(match place {
-        22 => Lang::TableSet(payload, [first, second]),
-        198 => Lang::TableGrow(payload, [first, second]),
-        _ => return None,
-    })
+    match place {
+        22 => Some(Lang::TableSet(payload, [first, second])),
+        198 => Some(Lang::TableGrow(payload, [first, second])),
+        _ => None,
+    }
 }
 
 #[tactic(auto, unfolding(crate::specs::LangShapes::is_index_three, crate::specs::Lang::place_of, crate::specs::Lang::payload_of, crate::specs::Lang::ids_of, crate::specs::Lang::count_of))]
@@ -124,11 +124,11 @@ pub fn index_three(place: u16, payload: u32, first: Id, second: Id, third: Id) -
     ensures count { IfSome result (λ l. count_of l ≡ 3) }
     ensures complete { is_some result ≡ is_index_three place }
 {
-    Some(match place {
-        194 => Lang::MemoryFill(payload, [first, second, third]),
-        200 => Lang::TableFill(payload, [first, second, third]),
-        _ => return None,
-    })
+    match place {
+        194 => Some(Lang::MemoryFill(payload, [first, second, third])),
+        200 => Some(Lang::TableFill(payload, [first, second, third])),
+        _ => None,
+    }
 }
 
 #[tactic(auto, unfolding(crate::specs::LangShapes::is_memory_one, crate::specs::Lang::place_of, crate::specs::Lang::payload_of, crate::specs::Lang::ids_of, crate::specs::Lang::count_of))]
@@ -139,23 +139,23 @@ pub fn memory_one(place: u16, payload: MemArg, child: Id) -> Option<Lang>
     ensures count { IfSome result (λ l. count_of l ≡ 1) }
     ensures complete { is_some result ≡ is_memory_one place }
 {
-    Some(match place {
-        23 => Lang::I32Load(payload, child),
-        24 => Lang::I64Load(payload, child),
-        25 => Lang::F32Load(payload, child),
-        26 => Lang::F64Load(payload, child),
-        27 => Lang::I32Load8S(payload, child),
-        28 => Lang::I32Load8U(payload, child),
-        29 => Lang::I32Load16S(payload, child),
-        30 => Lang::I32Load16U(payload, child),
-        31 => Lang::I64Load8S(payload, child),
-        32 => Lang::I64Load8U(payload, child),
-        33 => Lang::I64Load16S(payload, child),
-        34 => Lang::I64Load16U(payload, child),
-        35 => Lang::I64Load32S(payload, child),
-        36 => Lang::I64Load32U(payload, child),
-        _ => return None,
-    })
+    match place {
+        23 => Some(Lang::I32Load(payload, child)),
+        24 => Some(Lang::I64Load(payload, child)),
+        25 => Some(Lang::F32Load(payload, child)),
+        26 => Some(Lang::F64Load(payload, child)),
+        27 => Some(Lang::I32Load8S(payload, child)),
+        28 => Some(Lang::I32Load8U(payload, child)),
+        29 => Some(Lang::I32Load16S(payload, child)),
+        30 => Some(Lang::I32Load16U(payload, child)),
+        31 => Some(Lang::I64Load8S(payload, child)),
+        32 => Some(Lang::I64Load8U(payload, child)),
+        33 => Some(Lang::I64Load16S(payload, child)),
+        34 => Some(Lang::I64Load16U(payload, child)),
+        35 => Some(Lang::I64Load32S(payload, child)),
+        36 => Some(Lang::I64Load32U(payload, child)),
+        _ => None,
+    }
 }
 
 #[tactic(auto, unfolding(crate::specs::LangShapes::is_memory_two, crate::specs::Lang::place_of, crate::specs::Lang::payload_of, crate::specs::Lang::ids_of, crate::specs::Lang::count_of))]
@@ -166,18 +166,18 @@ pub fn memory_two(place: u16, payload: MemArg, first: Id, second: Id) -> Option<
     ensures count { IfSome result (λ l. count_of l ≡ 2) }
     ensures complete { is_some result ≡ is_memory_two place }
 {
-    Some(match place {
-        37 => Lang::I32Store(payload, [first, second]),
-        38 => Lang::I64Store(payload, [first, second]),
-        39 => Lang::F32Store(payload, [first, second]),
-        40 => Lang::F64Store(payload, [first, second]),
-        41 => Lang::I32Store8(payload, [first, second]),
-        42 => Lang::I32Store16(payload, [first, second]),
-        43 => Lang::I64Store8(payload, [first, second]),
-        44 => Lang::I64Store16(payload, [first, second]),
-        45 => Lang::I64Store32(payload, [first, second]),
-        _ => return None,
-    })
+    match place {
+        37 => Some(Lang::I32Store(payload, [first, second])),
+        38 => Some(Lang::I64Store(payload, [first, second])),
+        39 => Some(Lang::F32Store(payload, [first, second])),
+        40 => Some(Lang::F64Store(payload, [first, second])),
+        41 => Some(Lang::I32Store8(payload, [first, second])),
+        42 => Some(Lang::I32Store16(payload, [first, second])),
+        43 => Some(Lang::I64Store8(payload, [first, second])),
+        44 => Some(Lang::I64Store16(payload, [first, second])),
+        45 => Some(Lang::I64Store32(payload, [first, second])),
+        _ => None,
+    }
 }
 
 #[tactic(auto, unfolding(crate::specs::LangShapes::is_i32_leaf, crate::specs::Lang::place_of, crate::specs::Lang::payload_of, crate::specs::Lang::ids_of, crate::specs::Lang::count_of))]
@@ -188,10 +188,10 @@ pub fn i32_leaf(place: u16, payload: i32) -> Option<Lang>
     ensures count { IfSome result (λ l. count_of l ≡ 0) }
     ensures complete { is_some result ≡ is_i32_leaf place }
 {
-    Some(match place {
-        48 => Lang::I32(payload),
-        _ => return None,
-    })
+    match place {
+        48 => Some(Lang::I32(payload)),
+        _ => None,
+    }
 }
 
 #[tactic(auto, unfolding(crate::specs::LangShapes::is_i64_leaf, crate::specs::Lang::place_of, crate::specs::Lang::payload_of, crate::specs::Lang::ids_of, crate::specs::Lang::count_of))]
@@ -202,10 +202,10 @@ pub fn i64_leaf(place: u16, payload: i64) -> Option<Lang>
     ensures count { IfSome result (λ l. count_of l ≡ 0) }
     ensures complete { is_some result ≡ is_i64_leaf place }
 {
-    Some(match place {
-        49 => Lang::I64(payload),
-        _ => return None,
-    })
+    match place {
+        49 => Some(Lang::I64(payload)),
+        _ => None,
+    }
 }
 
 #[tactic(auto, unfolding(crate::specs::LangShapes::is_f32_leaf, crate::specs::Lang::place_of, crate::specs::Lang::payload_of, crate::specs::Lang::ids_of, crate::specs::Lang::count_of))]
@@ -216,10 +216,10 @@ pub fn f32_leaf(place: u16, payload: F32) -> Option<Lang>
     ensures count { IfSome result (λ l. count_of l ≡ 0) }
     ensures complete { is_some result ≡ is_f32_leaf place }
 {
-    Some(match place {
-        50 => Lang::F32(payload),
-        _ => return None,
-    })
+    match place {
+        50 => Some(Lang::F32(payload)),
+        _ => None,
+    }
 }
 
 #[tactic(auto, unfolding(crate::specs::LangShapes::is_f64_leaf, crate::specs::Lang::place_of, crate::specs::Lang::payload_of, crate::specs::Lang::ids_of, crate::specs::Lang::count_of))]
@@ -230,10 +230,10 @@ pub fn f64_leaf(place: u16, payload: F64) -> Option<Lang>
     ensures count { IfSome result (λ l. count_of l ≡ 0) }
     ensures complete { is_some result ≡ is_f64_leaf place }
 {
-    Some(match place {
-        51 => Lang::F64(payload),
-        _ => return None,
-    })
+    match place {
+        51 => Some(Lang::F64(payload)),
+        _ => None,
+    }
 }
 
 #[tactic(auto, unfolding(crate::specs::LangShapes::is_ref_leaf, crate::specs::Lang::place_of, crate::specs::Lang::payload_of, crate::specs::Lang::ids_of, crate::specs::Lang::count_of))]
@@ -244,10 +244,10 @@ pub fn ref_leaf(place: u16, payload: RefType) -> Option<Lang>
     ensures count { IfSome result (λ l. count_of l ≡ 0) }
     ensures complete { is_some result ≡ is_ref_leaf place }
 {
-    Some(match place {
-        180 => Lang::RefNull(payload),
-        _ => return None,
-    })
+    match place {
+        180 => Some(Lang::RefNull(payload)),
+        _ => None,
+    }
 }
 
 #[tactic(auto, unfolding(crate::specs::LangShapes::is_memory_init_three, crate::specs::Lang::place_of, crate::specs::Lang::payload_of, crate::specs::Lang::ids_of, crate::specs::Lang::count_of))]
@@ -264,10 +264,10 @@ pub fn memory_init_three(
     ensures count { IfSome result (λ l. count_of l ≡ 3) }
     ensures complete { is_some result ≡ is_memory_init_three place }
 {
-    Some(match place {
-        191 => Lang::MemoryInit(payload, [first, second, third]),
-        _ => return None,
-    })
+    match place {
+        191 => Some(Lang::MemoryInit(payload, [first, second, third])),
+        _ => None,
+    }
 }
 
 #[tactic(auto, unfolding(crate::specs::LangShapes::is_memory_copy_three, crate::specs::Lang::place_of, crate::specs::Lang::payload_of, crate::specs::Lang::ids_of, crate::specs::Lang::count_of))]
@@ -284,10 +284,10 @@ pub fn memory_copy_three(
     ensures count { IfSome result (λ l. count_of l ≡ 3) }
     ensures complete { is_some result ≡ is_memory_copy_three place }
 {
-    Some(match place {
-        193 => Lang::MemoryCopy(payload, [first, second, third]),
-        _ => return None,
-    })
+    match place {
+        193 => Some(Lang::MemoryCopy(payload, [first, second, third])),
+        _ => None,
+    }
 }
 
 #[tactic(auto, unfolding(crate::specs::LangShapes::is_table_init_three, crate::specs::Lang::place_of, crate::specs::Lang::payload_of, crate::specs::Lang::ids_of, crate::specs::Lang::count_of))]
@@ -304,10 +304,10 @@ pub fn table_init_three(
     ensures count { IfSome result (λ l. count_of l ≡ 3) }
     ensures complete { is_some result ≡ is_table_init_three place }
 {
-    Some(match place {
-        195 => Lang::TableInit(payload, [first, second, third]),
-        _ => return None,
-    })
+    match place {
+        195 => Some(Lang::TableInit(payload, [first, second, third])),
+        _ => None,
+    }
 }
 
 #[tactic(auto, unfolding(crate::specs::LangShapes::is_table_copy_three, crate::specs::Lang::place_of, crate::specs::Lang::payload_of, crate::specs::Lang::ids_of, crate::specs::Lang::count_of))]
@@ -324,10 +324,10 @@ pub fn table_copy_three(
     ensures count { IfSome result (λ l. count_of l ≡ 3) }
     ensures complete { is_some result ≡ is_table_copy_three place }
 {
-    Some(match place {
-        197 => Lang::TableCopy(payload, [first, second, third]),
-        _ => return None,
-    })
+    match place {
+        197 => Some(Lang::TableCopy(payload, [first, second, third])),
+        _ => None,
+    }
 }
 
 #[tactic(auto, unfolding(crate::specs::LangShapes::is_value_three, crate::specs::Lang::place_of, crate::specs::Lang::payload_of, crate::specs::Lang::ids_of, crate::specs::Lang::count_of))]
@@ -338,8 +338,8 @@ pub fn value_three(place: u16, payload: ValType, first: Id, second: Id, third: I
     ensures count { IfSome result (λ l. count_of l ≡ 3) }
     ensures complete { is_some result ≡ is_value_three place }
 {
-    Some(match place {
-        457 => Lang::TypedSelect(payload, [first, second, third]),
-        _ => return None,
-    })
+    match place {
+        457 => Some(Lang::TypedSelect(payload, [first, second, third])),
+        _ => None,
+    }
 }

@@ -1,5 +1,5 @@
 //! No ids, lent out of a node that has none.
-ghost use Rattle.std.specs.Prelude.{◌≡◌, ◌≤◌, []};
+ghost use Rattle.std.specs.Prelude.{◌≡◌, ◌≤◌, [], ◌∷◌, slice_index_or};
 ghost use Rattle.std.specs.Align.{type_align};
 ghost use Rattle.std.specs.Borrow.{sem, Lends, Array};
 ghost use Rattle.peephole_lang.specs.contracts.id.Id as id;
@@ -16,4 +16,12 @@ pub fn no_children<T>(node: &mut T) -> &mut [Id]
     ensures value { result.now ≡ [] }
 {
     unsafe { from_raw_parts_mut(node as *mut T as *mut Id, 0) }
+}
+
+/// The id, lent as a list of it alone.
+pub fn only_child(child: &mut Id) -> &mut [Id]
+    ensures* writes_back { sem 𝓛 (Lends id.the_row (Array id.the_row 0) child.entry result (λ ids. slice_index_or ids 0 child.old)) }
+    ensures value { result.now ≡ child.old ∷ [] }
+{
+    std::slice::from_mut(child)
 }

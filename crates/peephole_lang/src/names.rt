@@ -53,7 +53,10 @@ pub(crate) fn front_at(place: u16) -> &'static str
 fn entry_in(entries: &[Entry], place: u16) -> Option<Entry>
     ensures { result ≡ slice_get entries.now place }
 {
-    entries.get(place as usize).copied()
+    match entries.get(place as usize) {
+        Some(entry) => Some(*entry),
+        None => None,
+    }
 }
 
 // The variant with that place.
