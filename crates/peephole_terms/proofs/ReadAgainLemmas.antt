@@ -11,7 +11,7 @@ use Rattle.wasm_code.specs.declared.operator.Operator.TheVariants.{Instr}
 use Rattle.wasm_code.proofs.JoinLemmas.{all_joined}
 use Rattle.peephole_terms.specs.Block.{BlockRange}
 use Rattle.peephole_terms.specs.Written.{offset_of, before_block, after_block, written_body, IsBodyIn, IsBlockIn}
-use Rattle.peephole_terms.specs.ReadAgain.{alone, ReadsAgain}
+use Rattle.peephole_terms.specs.ReadAgain.{without_offsets, ReadsAgain}
 use Rattle.peephole_terms.proofs.BodyLemmas.{inside}
 use Rattle.peephole_terms.proofs.SpellingLemmas.{Spelling, spelled, spellings_of, spelled_append, spelled_take, spelled_drop, joined-append, named_placed, length-placed, offset_placed, coded, coded_spelled, joined_coded, spelled_coded}
 use Rattle.peephole_terms.proofs.SpellingLemmas.{ends_with, ends_named, ends_behind, last_size, StandsIn, stands_in, front_in, back_in}
@@ -31,8 +31,8 @@ pub record IsBodyOf (input : List ℕ) (from to : ℕ) (ps : List Spelling) (ope
   pub ordered : from ≤ to
   pub last : IsTrue (ends_with (spelled ps))
 
-pub alone_are : (input : List ℕ) (from to : ℕ) (ps : List Spelling) (operators : List (Operator × ℕ)) → IsBodyOf input from to ps operators → alone operators ≡ spelled ps
-alone_are input from to ps operators h = ap alone (sym h.read) ∙ named_placed from ps
+pub alone_are : (input : List ℕ) (from to : ℕ) (ps : List Spelling) (operators : List (Operator × ℕ)) → IsBodyOf input from to ps operators → without_offsets operators ≡ spelled ps
+alone_are input from to ps operators h = ap without_offsets (sym h.read) ∙ named_placed from ps
 
 pub count_is : (input : List ℕ) (from to : ℕ) (ps : List Spelling) (operators : List (Operator × ℕ)) → IsBodyOf input from to ps operators → length operators ≡ length ps
 count_is input from to ps operators h = ap (λ (xs : List (Operator × ℕ)). length xs) (sym h.read) ∙ length-placed from ps
@@ -134,7 +134,7 @@ spelled_in input operators block b k =
         read = h.read;
         stands = stands_in input b.from b.to h.spellings b.ordered b.inside (sym h.whole);
         ordered = b.ordered;
-        last = sym (ends_named operators ∙ ap ends_with (ap alone (sym h.read) ∙ named_placed b.from h.spellings)) ∙ b.spells.last;
+        last = sym (ends_named operators ∙ ap ends_with (ap without_offsets (sym h.read) ∙ named_placed b.from h.spellings)) ∙ b.spells.last;
       };
       start_there = omega arith;
       end_there = omega arith;

@@ -23,7 +23,7 @@ use Rattle.peephole_terms.specs.Shape.{Shape, Judged, Fits, IsFit, AreFit, judge
 use Rattle.peephole_terms.specs.Tree.{Tree, Trees, entry, node, no_trees, ◌▸◌, join, numbers_of, numbers, shapes_of, shapes, instructions_of, instructions, renumbered}
 use Rattle.peephole_terms.specs.Forest.{low, from_place, at_place, tree_of, trees, is_operand, without, forest, IsInOrder}
 use Rattle.peephole_terms.specs.Written.{shapes_in, written_body, IsBodyIn, IsBlockIn}
-use Rattle.peephole_terms.specs.ReadAgain.{alone, IsReread}
+use Rattle.peephole_terms.specs.ReadAgain.{without_offsets, IsReread}
 use Rattle.peephole_terms.proofs.EncoderLemmas.{All-reverse}
 use Rattle.peephole_terms.proofs.ForestLemmas.{forest_is}
 use Rattle.peephole_terms.proofs.Rereading.{same_trees}
@@ -165,14 +165,14 @@ own_shapes info (o ∷ os) fit =
     go _ e f all n = absurd f
 
 -- operators that are the instructions of such shapes have these shapes
-judged_again : (info : Module) (ss : List Shape) (xs : List (Operator × ℕ)) → All (HasOwnShape info) ss → alone xs ≡ map (λ (i : Instruction). Instr i) (instr_of ss) →
+judged_again : (info : Module) (ss : List Shape) (xs : List (Operator × ℕ)) → All (HasOwnShape info) ss → without_offsets xs ≡ map (λ (i : Instruction). Instr i) (instr_of ss) →
     (operator_shapes info xs ≡ ss) × AreFit info xs
 judged_again info [] [] all e = (refl, All-nil (λ (x : Operator × ℕ). IsFit (judge info x.0)))
 judged_again info [] (x ∷ xs) all e = absurd cc
 judged_again info (s ∷ ss) [] all e = absurd cc
 judged_again info (s ∷ ss) (x ∷ xs) all e =
     let here : x.0 ≡ Instr s.instr = cc in
-    let later : alone xs ≡ map (λ (i : Instruction). Instr i) (instr_of ss) = cc in
+    let later : without_offsets xs ≡ map (λ (i : Instruction). Instr i) (instr_of ss) = cc in
     let rest = judged_again info ss xs (All-tail (HasOwnShape info) s ss all) later in
     let own : judge info x.0 ≡ Fits s = ap (judge info) here ∙ All-head (HasOwnShape info) s ss all in (
       ap₂ and_shape own rest.0,
@@ -186,10 +186,10 @@ get_map f [] k = refl
 get_map f (x ∷ xs) zero = refl
 get_map f (x ∷ xs) (suc k) = get_map f xs k
 
-get_alone : (xs : List (Operator × ℕ)) (k : ℕ) (o : Operator × ℕ) → slice_get xs k ≡ Some o → slice_get (alone xs) k ≡ Some o.0
+get_alone : (xs : List (Operator × ℕ)) (k : ℕ) (o : Operator × ℕ) → slice_get xs k ≡ Some o → slice_get (without_offsets xs) k ≡ Some o.0
 get_alone xs k o e = get_map (λ (o : Operator × ℕ). o.0) xs k ∙ ap (option_map (λ (o : Operator × ℕ). o.0)) e
 
-from_alone : (xs : List (Operator × ℕ)) (k : ℕ) (p : Operator) → slice_get (alone xs) k ≡ Some p → (o : Operator × ℕ) × (slice_get xs k ≡ Some o) × (o.0 ≡ p)
+from_alone : (xs : List (Operator × ℕ)) (k : ℕ) (p : Operator) → slice_get (without_offsets xs) k ≡ Some p → (o : Operator × ℕ) × (slice_get xs k ≡ Some o) × (o.0 ≡ p)
 from_alone [] k p e = absurd cc
 from_alone (x ∷ xs) zero p e = (x, refl, cc)
 from_alone (x ∷ xs) (suc k) p e = from_alone xs k p e
@@ -220,7 +220,7 @@ none_delimits (i ∷ is) (suc k) p e = none_delimits is k p e
 
 -- The operators of a body, with instructions in the place of a block.
 record IsAgain (operators again : List (Operator × ℕ)) (block : BlockRange) (code : List Instruction) : Type 0 where
-  are : alone again ≡ take block.start (alone operators) ++ (map (λ (i : Instruction). Instr i) code ++ drop block.end (alone operators))
+  are : without_offsets again ≡ take block.start (without_offsets operators) ++ (map (λ (i : Instruction). Instr i) code ++ drop block.end (without_offsets operators))
   ordered : block.start ≤ block.end
   inside : block.end < length operators
   count : length code ≡ block.end - block.start
@@ -228,17 +228,17 @@ record IsAgain (operators again : List (Operator × ℕ)) (block : BlockRange) (
 abbrev middle : List Instruction → List Operator
 middle code = map (λ (i : Instruction). Instr i) code
 
-length_front : (operators again : List (Operator × ℕ)) (block : BlockRange) (code : List Instruction) → IsAgain operators again block code → length (take block.start (alone operators)) ≡ block.start
+length_front : (operators again : List (Operator × ℕ)) (block : BlockRange) (code : List Instruction) → IsAgain operators again block code → length (take block.start (without_offsets operators)) ≡ block.start
 length_front operators again block code h =
     let l = h.ordered in
     let m = h.inside in
-    omega (arith, length-take block.start (alone operators), length-map operators (λ (o : Operator × ℕ). o.0))
+    omega (arith, length-take block.start (without_offsets operators), length-map operators (λ (o : Operator × ℕ). o.0))
 
 -- the block's range has these instructions
-range_again : (operators again : List (Operator × ℕ)) (block : BlockRange) (code : List Instruction) → IsAgain operators again block code → alone (slice_range again block.start block.end) ≡ middle code
+range_again : (operators again : List (Operator × ℕ)) (block : BlockRange) (code : List Instruction) → IsAgain operators again block code → without_offsets (slice_range again block.start block.end) ≡ middle code
 range_again operators again block code h =
-    let front = take block.start (alone operators) in
-    let back = drop block.end (alone operators) in
+    let front = take block.start (without_offsets operators) in
+    let back = drop block.end (without_offsets operators) in
     let n : length (middle code) ≡ block.end - block.start = length-map code (λ (i : Instruction). Instr i) ∙ h.count in
     sym (take-map (λ (o : Operator × ℕ). o.0) (block.end - block.start) (drop block.start again))
     ∙ (ap (take (block.end - block.start)) (sym (drop-map (λ (o : Operator × ℕ). o.0) block.start again) ∙ (ap (drop block.start) h.are ∙ drop_at front (middle code ++ back) block.start (length_front operators again block code h)))
@@ -247,8 +247,8 @@ range_again operators again block code h =
 -- it is a block again
 block_again : (operators again : List (Operator × ℕ)) (block : BlockRange) (code : List Instruction) → IsAgain operators again block code → length again ≡ length operators → IsBlockIn operators block → IsBlockIn again block
 block_again operators again block code h n b =
-    let front = take block.start (alone operators) in
-    let back = drop block.end (alone operators) in
+    let front = take block.start (without_offsets operators) in
+    let back = drop block.end (without_offsets operators) in
     let f = length_front operators again block code h in
     let count : length (middle code) ≡ block.end - block.start = length-map code (λ (i : Instruction). Instr i) ∙ h.count in
     let inside : b.index < length operators = b.inside in
@@ -260,7 +260,7 @@ block_again operators again block code h n b =
         some = b.is.some;
         none = λ k o low high e.
             let at : k ≡ block.start + (k - block.start) = omega arith in
-            let there : slice_get (alone again) k ≡ slice_get (middle code) (k - block.start) =
+            let there : slice_get (without_offsets again) k ≡ slice_get (middle code) (k - block.start) =
             ap (λ (xs : List Operator). slice_get xs k) h.are ∙ (get_behind front (middle code ++ back) block.start k (k - block.start) f at ∙ get_front (middle code) back (k - block.start) (omega arith)) in
             none_delimits code (k - block.start) o.0 (sym there ∙ get_alone again k o e);
         longest = λ from all. b.is.longest from (λ k o low high e. as_before f from all k o low high e (before_or_in k));
@@ -270,13 +270,13 @@ block_again operators again block code h n b =
     before_or_in : (k : ℕ) → (k < block.start) ⊎ (block.start ≤ k)
     before_or_in k = grind arith
 
-    as_before : length (take block.start (alone operators)) ≡ block.start → (from : ℕ) → HasNoDelimiter again from block.end → (k : ℕ) (o : Operator × ℕ) → from ≤ k → k < block.end → slice_get operators k ≡ Some o →
+    as_before : length (take block.start (without_offsets operators)) ≡ block.start → (from : ℕ) → HasNoDelimiter again from block.end → (k : ℕ) (o : Operator × ℕ) → from ≤ k → k < block.end → slice_get operators k ≡ Some o →
         (k < block.start) ⊎ (block.start ≤ k) → is_delimiter o.0 ≡ false
     as_before f from all k o low high e (inr behind) = b.is.none k o behind high e
     as_before f from all k o low high e (inl before) =
-        let there : slice_get (alone again) k ≡ Some o.0 =
+        let there : slice_get (without_offsets again) k ≡ Some o.0 =
         ap (λ (xs : List Operator). slice_get xs k) h.are
-        ∙ (get_front (take block.start (alone operators)) (middle code ++ drop block.end (alone operators)) k (omega arith) ∙ (get_taken block.start (alone operators) k before ∙ get_alone operators k o e)) in
+        ∙ (get_front (take block.start (without_offsets operators)) (middle code ++ drop block.end (without_offsets operators)) k (omega arith) ∙ (get_taken block.start (without_offsets operators) k before ∙ get_alone operators k o e)) in
         let found = from_alone again k o.0 there in
         ap is_delimiter (sym found.2) ∙ all k found.0 low high found.1
 
@@ -333,7 +333,7 @@ reread info input operators block b k fit all =
       count = size;
     } in
     let same_length : length qs ≡ length h.ps = length_with h.ps block code ordered end_in size in
-    let ranged : alone (slice_range again block.start block.end) ≡ map (λ (i : Instruction). Instr i) (instr_of (shapes (forest shaped))) =
+    let ranged : without_offsets (slice_range again block.start block.end) ≡ map (λ (i : Instruction). Instr i) (instr_of (shapes (forest shaped))) =
     range_again operators again block code is_again ∙ ap (map (λ (i : Instruction). Instr i)) (instructions_are (forest shaped)) in
     let owned : All (HasOwnShape info) (shapes (forest shaped)) = forest_holds (HasOwnShape info) shaped (All-reverse (HasOwnShape info) (operator_shapes info os) own.0) in
     let judged = judged_again info (shapes (forest shaped)) (slice_range again block.start block.end) owned ranged in

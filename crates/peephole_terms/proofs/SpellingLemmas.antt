@@ -15,17 +15,15 @@ use Rattle.wasm_code.specs.Body.{SpellsAll, AreSpelled, joined, placed, is_end, 
 use Rattle.wasm_code.specs.declared.operator.Operator.{Operator}
 use Rattle.wasm_code.specs.declared.operator.Operator.TheVariants as op
 use Rattle.wasm_code.proofs.CodeLemmas.{code_spells}
+use Rattle.peephole_terms.specs.ReadAgain.{without_offsets}
 
 -- an operator with its spelling
 abbrev pub Spelling : Type 0
 Spelling = Operator × List ℕ
 
--- the operators alone, without what stands beside them
+-- the operators alone
 abbrev pub spelled : List Spelling → List Operator
 spelled ps = map (λ (p : Operator × List ℕ). p.0) ps
-
-abbrev pub named : List (Operator × ℕ) → List Operator
-named xs = map (λ (o : Operator × ℕ). o.0) xs
 
 -- Spellings whose joined bytes are read as these operators.
 pub record AreSpellings (xs : List (Operator × ℕ)) (start : ℕ) (text : List ℕ) : Type 0 where
@@ -69,7 +67,7 @@ joined-append (p ∷ ps) qs = ap (λ (t : List ℕ). p.1 ++ t) (joined-append ps
 pub joined_parts : (n : ℕ) (ps : List Spelling) → joined ps ≡ joined (take n ps) ++ joined (drop n ps)
 joined_parts n ps = ap joined (sym (take-append-drop n ps)) ∙ joined-append (take n ps) (drop n ps)
 
-pub named_placed : (start : ℕ) (ps : List Spelling) → named (placed start ps) ≡ spelled ps
+pub named_placed : (start : ℕ) (ps : List Spelling) → without_offsets (placed start ps) ≡ spelled ps
 named_placed start [] = refl
 named_placed start (p ∷ ps) = ap (λ (os : List Operator). p.0 ∷ os) (named_placed (start + length p.1) ps)
 
@@ -109,7 +107,7 @@ ends_with [] = false
 ends_with (o ∷ []) = is_end o
 ends_with (o ∷ p ∷ os) = ends_with (p ∷ os)
 
-pub ends_named : (xs : List (Operator × ℕ)) → ends xs ≡ ends_with (named xs)
+pub ends_named : (xs : List (Operator × ℕ)) → ends xs ≡ ends_with (without_offsets xs)
 ends_named [] = refl
 ends_named (x ∷ []) = refl
 ends_named (x ∷ y ∷ xs) = ends_named (y ∷ xs)

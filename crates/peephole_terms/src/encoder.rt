@@ -195,6 +195,9 @@ impl Encoder {
     /// block of one of them, and `dfg` its graph under the configuration's module and mode. The configuration is set up,
     /// and `expr` isn't empty, its nodes writable. Answers what the written instructions need from outside the function.
     ///
+    /// What is written reads as a body again: the operators before the block, the written instructions, the operators behind
+    /// the block. With a tree's own term, as `get_expr` lays it out, the block has the same trees again and is in order.
+    ///
     /// `NoMutationsApplicable`, before anything else, exactly where the meaning is to be preserved and the block's
     /// operators would not keep their order; `CannotUnfold` and `GlobalIndex` as by `expr2wasm`, where the term is written;
     /// `Memory` where an allocation was refused. The sink then holds its old bytes.
