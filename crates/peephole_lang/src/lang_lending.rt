@@ -90,6 +90,7 @@ impl Lang {
     }
 }
 
+// No ids, lent out of a node that has none: the node stays as it was.
 fn lend_none(node: &mut Lang) -> &mut [Id]
     ensures* lends { sem 𝓛 (Lends the_row (Array id.the_row 0) node.entry result (λ _. node.old)) }
     ensures value { result.now ≡ [] }

@@ -1,4 +1,4 @@
-//! No ids, lent out of a node that has none.
+//! No ids, lent out of a node that has none, and one id, lent as a list.
 ghost use Rattle.std.specs.Prelude.{◌≡◌, ◌≤◌, [], ◌∷◌, slice_index_or};
 ghost use Rattle.std.specs.Align.{type_align};
 ghost use Rattle.std.specs.Borrow.{sem, Lends, Array};

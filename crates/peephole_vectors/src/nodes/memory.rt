@@ -1,8 +1,8 @@
 //! Memory that runs out. `rt try --test --fail-alloc N` refuses each test its allocation N: 1, 2 and 3 meet them all.
 
 use super::first_ids;
-use peephole_lang::{Id, Lang, Language, RecExpr};
 use mutate_base::Error;
+use peephole_lang::{Id, Lang, Language, RecExpr};
 use std::alloc::Global;
 use std::process::Abort;
 
