@@ -9,6 +9,8 @@ mod fault;
 mod graphs;
 mod input;
 mod place;
+#[cfg(test)]
+mod refused_memory;
 mod reply;
 mod run;
 mod session;

@@ -383,6 +383,81 @@ fn requested_globals(rt: HostRuntime) {
     );
 }
 
+#[test]
+fn terms(rt: HostRuntime) {
+    let alloc = rt.alloc();
+    says(
+        &rt,
+        alloc,
+        "body 41e40041c8013600d8040b\nat 2\nnode i32.const.100\nnode i32.const.200\n\
+         node i32.const.600\nnode i32.add 1 2\nnode i32.store.0.0.0 0 3\nwrite",
+        "block 0..3\nbytes 41e40041c80141d8046a3600000b\n",
+    );
+    says(
+        &rt,
+        alloc,
+        "body 410a1a0b\nat 0\nnode i32.const.10\nnode i32.or 0 0\nwrite",
+        "block 0..1\nbytes 410a410a721a0b\n",
+    );
+}
+
+/// Long numbers are kept outside the block and shortened inside, and so is the index of memory 0.
+#[test]
+fn shorter_numbers(rt: HostRuntime) {
+    let alloc = rt.alloc();
+    says(
+        &rt,
+        alloc,
+        "body 2080001a02400b418180001a0b\nat 5\nwrite",
+        "block 4..6\nbytes 2080001a02400b41011a0b\n",
+    );
+    says(
+        &rt,
+        alloc,
+        "body 4100284201041a0b\nat 2\nwrite\nbody 4100284200041a0b\nat 2\nwrite",
+        "block 0..3\nbytes 4100284201041a0b\nblock 0..3\nbytes 41002802041a0b\n",
+    );
+}
+
+/// What is written is read again and written the same, in order whether or not it was so before.
+#[test]
+fn written_again(rt: HostRuntime) {
+    let alloc = rt.alloc();
+    says(
+        &rt,
+        alloc,
+        "body 6a016a0b\nat 2\nshow\nwrite\nbody 016a6a0b\nat 2\nshow\nwrite",
+        "block 0..3\n\
+         DFG forest\n\
+         (0)(at 1) nop\n\
+         (0)(at 2) i32.add\n\
+         ├──(4294967295)(at 2) undef\n\
+         └──(0)(at 0) i32.add\n    \
+         ├──(4294967295)(at 0) undef\n    \
+         └──(4294967295)(at 0) undef\n\
+         in order no\n\
+         consistent no\n\
+         bytes 016a6a0b\n\
+         block 0..3\n\
+         DFG forest\n\
+         (0)(at 0) nop\n\
+         (0)(at 2) i32.add\n\
+         ├──(4294967295)(at 2) undef\n\
+         └──(0)(at 1) i32.add\n    \
+         ├──(4294967295)(at 1) undef\n    \
+         └──(4294967295)(at 1) undef\n\
+         in order yes\n\
+         consistent no\n\
+         bytes 016a6a0b\n",
+    );
+    says(
+        &rt,
+        alloc,
+        "body 2000012101 6b0b\nat 3\nwrite\nbody 0120002101 6b0b\nat 3\nwrite",
+        "block 0..4\nbytes 01200021016b0b\nblock 0..4\nbytes 01200021016b0b\n",
+    );
+}
+
 /// What is written at operator 0 of `41 07 0B` for some nodes, after some lines.
 fn draws(
     rt: &impl Abort,

@@ -7,7 +7,7 @@ use Rattle.std.specs.Cmp.Lexicographic.{pointwise}
 use Rattle.std.specs.Fmt.{signed_decimal}
 use Rattle.std.specs.Option.{ok_or}
 use Rattle.std.specs.Vec.{with_items}
-use Rattle.std.proofs.Common.{true≢false, ap, sym, ◌∙◌, lit≤}
+use Rattle.std.proofs.Common.{true≢false, ap, sym, lit≤}
 use Rattle.mutate_base.specs.declared.term_error.TermError.{TermError}
 use Rattle.mutate_base.specs.declared.term_error.TermError.TheVariants.{InvalidToken, ExpectedZeroChildren, ExpectedChildren, BadInteger}
 use Rattle.peephole_lang.specs.declared.id.Id.{Id}

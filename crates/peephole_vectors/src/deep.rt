@@ -1,6 +1,7 @@
-//! Blocks of many operators, each of which is an operand of the next.
+//! Blocks of many operators, each of which is an operand of the next, and terms of many uses of a node.
 
 use crate::graphs::{graph_of, order_and_color};
+use crate::writing::{at, is_written};
 use peephole_terms::{Id, MiniDFG};
 use std::alloc::Global;
 use std::process::Abort;
@@ -39,7 +40,7 @@ fn is_one_tree(
     Ok(())
 }
 
-/// i32.eqz of i32.eqz, 100,000 times.
+/// i32.eqz of i32.eqz, 100,000 times, which is written back as it was.
 #[test]
 fn chain(rt: HostRuntime) -> Result<(), Fail> {
     let alloc = rt.alloc();
@@ -48,6 +49,7 @@ fn chain(rt: HostRuntime) -> Result<(), Fail> {
         let graph = graph_of(&rt, alloc, &bytes, 100_000, preserving)?;
         is_one_tree(&rt, alloc, &graph, 100_000, &[Id(99_999)])?;
     }
+    is_written(&rt, alloc, &at(&bytes, 100_000), &[], &[], Ok(&bytes))?;
     Ok(())
 }
 
@@ -61,5 +63,47 @@ fn selects(rt: HostRuntime) -> Result<(), Fail> {
         let children = [Id(299_997), Id(299_998), Id(299_999)];
         is_one_tree(&rt, alloc, &graph, 300_000, &children)?;
     }
+    Ok(())
+}
+
+/// i32.const 1, then sixteen times the disjunction of the node before with itself: each doubles what is written.
+#[test]
+fn doubled_nodes(rt: HostRuntime) -> Result<(), Fail> {
+    let alloc = rt.alloc();
+    let mut written = Vec::from_slice(alloc, &[0x41, 0x01])?;
+    for _ in 0..16 {
+        let mut twice = Vec::from_slice(alloc, &written)?;
+        twice.extend_from_slice(&written)?;
+        twice.push(0x72)?;
+        written = twice;
+    }
+    written.push(0x0b)?;
+    assert!(&rt; written.len() == 196_608);
+    is_written(
+        &rt,
+        alloc,
+        &at(&[0x41, 0x01, 0x0b], 0),
+        &[],
+        &[
+            "i32.const.1",
+            "i32.or 0 0",
+            "i32.or 1 1",
+            "i32.or 2 2",
+            "i32.or 3 3",
+            "i32.or 4 4",
+            "i32.or 5 5",
+            "i32.or 6 6",
+            "i32.or 7 7",
+            "i32.or 8 8",
+            "i32.or 9 9",
+            "i32.or 10 10",
+            "i32.or 11 11",
+            "i32.or 12 12",
+            "i32.or 13 13",
+            "i32.or 14 14",
+            "i32.or 15 15",
+        ],
+        Ok(&written),
+    )?;
     Ok(())
 }

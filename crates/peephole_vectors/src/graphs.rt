@@ -108,7 +108,12 @@ pub fn order_and_color(rt: &impl Abort, graph: &MiniDFG) -> (bool, bool) {
 
 /// The graph has these entries, each told by its text, its children, its operator, its colour and its parent, and finds
 /// the entries of its operators.
-fn is_graph(rt: &impl Abort, alloc: Global, graph: &MiniDFG, lines: &[&str]) -> Result<(), Fail> {
+pub fn is_graph(
+    rt: &impl Abort,
+    alloc: Global,
+    graph: &MiniDFG,
+    lines: &[&str],
+) -> Result<(), Fail> {
     assert!(rt; graph.entries().len() == lines.len());
     assert!(rt; graph.parents().len() == lines.len());
     for (index, line) in lines.iter().enumerate() {

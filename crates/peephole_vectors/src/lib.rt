@@ -24,4 +24,8 @@ mod nodes;
 #[cfg(test)]
 mod reading;
 #[cfg(test)]
+mod rereading;
+#[cfg(test)]
+mod terms;
+#[cfg(test)]
 mod writing;

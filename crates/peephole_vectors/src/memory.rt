@@ -3,7 +3,10 @@
 ghost use Rattle.std.specs.Prelude.{◌≡◌, ◌<◌, length, IfOk};
 
 use crate::arith::Arith;
+use crate::expansions::is_expanded;
+use crate::terms::Outcome;
 use crate::uses::tree_of;
+use crate::writing::{at, is_written};
 use peephole_terms::{
     DFGBuilder, Error, Id, Language, MiniDFG, ModuleInfo, OperatorAndByteOffset, RecExpr,
     WasmMutate, Words, read_body,
@@ -201,4 +204,136 @@ fn trees(rt: HostRuntime) {
         }
     }
     panic!(&rt; "memory was refused twice")
+}
+
+/// Whether a term was written; else memory was refused.
+fn was_written(rt: &impl Abort, answer: Result<Outcome, Error>) -> bool {
+    match answer {
+        Ok(_) => true,
+        Err(error) => {
+            assert!(rt; error == Error::Memory);
+            false
+        }
+    }
+}
+
+/// A term that is written in the place of `last`, or the own tree, at the second try where memory was refused.
+fn is_body(
+    rt: &impl Abort,
+    alloc: Global,
+    bytes: &[u8],
+    last: usize,
+    lines: &[&str],
+    wanted: Result<&[u8], Error>,
+) {
+    for _ in 0..2 {
+        let answer = is_written(rt, alloc, &at(bytes, last), &[1731343737], lines, wanted);
+        if was_written(rt, answer) {
+            return;
+        }
+    }
+    panic!(rt; "memory was refused twice")
+}
+
+#[test]
+fn written_terms(rt: HostRuntime) {
+    let alloc = rt.alloc();
+    is_body(
+        &rt,
+        alloc,
+        &[0x41, 0x2a, 0x41, 0x01, 0x6a, 0x0b],
+        2,
+        &["i32.const.1", "i32.const.42", "i32.add 0 1"],
+        Ok(&[0x41, 0x01, 0x41, 0x2a, 0x6a, 0x0b]),
+    );
+    is_body(
+        &rt,
+        alloc,
+        &[0x41, 0x0a, 0x1a, 0x0b],
+        0,
+        &["i32.const.10", "i32.or 0 0"],
+        Ok(&[0x41, 0x0a, 0x41, 0x0a, 0x72, 0x1a, 0x0b]),
+    );
+}
+
+#[test]
+fn written_words(rt: HostRuntime) {
+    is_body(
+        &rt,
+        rt.alloc(),
+        &[0x41, 0x38, 0x0b],
+        0,
+        &["i32.const.56", "i32.unfold 0"],
+        Ok(&[
+            0x41, 0xf9, 0xea, 0xc8, 0xb9, 0x06, 0x41, 0xbf, 0x95, 0xb7, 0xc6, 0x79, 0x6a, 0x0b,
+        ]),
+    );
+}
+
+#[test]
+fn written_globals(rt: HostRuntime) {
+    is_body(
+        &rt,
+        rt.alloc(),
+        &[0x41, 0x07, 0x41, 0x08, 0x6a, 0x0b],
+        2,
+        &[
+            "i32.const.7",
+            "i32.use_of_global 0",
+            "i32.const.8",
+            "i32.use_of_global 2",
+            "i32.add 1 3",
+        ],
+        Ok(&[
+            0x41, 0x07, 0x24, 0x02, 0x23, 0x02, 0x41, 0x08, 0x24, 0x03, 0x23, 0x03, 0x6a, 0x0b,
+        ]),
+    );
+}
+
+#[test]
+fn written_own_trees(rt: HostRuntime) {
+    let bytes = [0x20, 0x00, 0x02, 0x40, 0x0b, 0x41, 0x01, 0x6a, 0x0b];
+    is_body(&rt, rt.alloc(), &bytes, 4, &[], Ok(&bytes));
+}
+
+#[test]
+fn refused_terms(rt: HostRuntime) {
+    is_body(
+        &rt,
+        rt.alloc(),
+        &[0x41, 0x2a, 0x41, 0x01, 0x6a, 0x0b],
+        2,
+        &["i32.const.5", "local.get.0", "i32.unfold 1", "i32.add 0 2"],
+        Err(Error::CannotUnfold),
+    );
+}
+
+/// A term that is written alone, at the second try where memory was refused.
+fn is_term(rt: &impl Abort, alloc: Global, lines: &[&str], wanted: Result<&[u8], Error>) {
+    for _ in 0..2 {
+        let answer = is_expanded(rt, alloc, &[3], lines, wanted);
+        if was_written(rt, answer) {
+            return;
+        }
+    }
+    panic!(rt; "memory was refused twice")
+}
+
+#[test]
+fn terms_alone(rt: HostRuntime) {
+    let alloc = rt.alloc();
+    is_term(
+        &rt,
+        alloc,
+        &["i32.rand", "i32.use_of_global 0", "i32.or 1 1"],
+        Ok(&[
+            0x41, 0x03, 0x24, 0x02, 0x23, 0x02, 0x41, 0x00, 0x24, 0x03, 0x23, 0x03, 0x72,
+        ]),
+    );
+    is_term(
+        &rt,
+        alloc,
+        &["i32.rand", "i32.unfold 0", "i32.add 0 1"],
+        Err(Error::CannotUnfold),
+    );
 }
