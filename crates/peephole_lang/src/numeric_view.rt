@@ -158,142 +158,142 @@ impl Numeric {
         ensures count { length result.now ≡ numeric_count_of self.now }
     {
         match self {
-            Numeric::I32Eqz(children) => children,
-            Numeric::I32Eq(children) => children,
-            Numeric::I32Ne(children) => children,
-            Numeric::I32LtS(children) => children,
-            Numeric::I32LtU(children) => children,
-            Numeric::I32GtS(children) => children,
-            Numeric::I32GtU(children) => children,
-            Numeric::I32LeS(children) => children,
-            Numeric::I32LeU(children) => children,
-            Numeric::I32GeS(children) => children,
-            Numeric::I32GeU(children) => children,
-            Numeric::I64Eqz(children) => children,
-            Numeric::I64Eq(children) => children,
-            Numeric::I64Ne(children) => children,
-            Numeric::I64LtS(children) => children,
-            Numeric::I64LtU(children) => children,
-            Numeric::I64GtS(children) => children,
-            Numeric::I64GtU(children) => children,
-            Numeric::I64LeS(children) => children,
-            Numeric::I64LeU(children) => children,
-            Numeric::I64GeS(children) => children,
-            Numeric::I64GeU(children) => children,
-            Numeric::F32Eq(children) => children,
-            Numeric::F32Ne(children) => children,
-            Numeric::F32Lt(children) => children,
-            Numeric::F32Gt(children) => children,
-            Numeric::F32Le(children) => children,
-            Numeric::F32Ge(children) => children,
-            Numeric::F64Eq(children) => children,
-            Numeric::F64Ne(children) => children,
-            Numeric::F64Lt(children) => children,
-            Numeric::F64Gt(children) => children,
-            Numeric::F64Le(children) => children,
-            Numeric::F64Ge(children) => children,
-            Numeric::I32Clz(children) => children,
-            Numeric::I32Ctz(children) => children,
-            Numeric::I32Popcnt(children) => children,
-            Numeric::I32Add(children) => children,
-            Numeric::I32Sub(children) => children,
-            Numeric::I32Mul(children) => children,
-            Numeric::I32DivS(children) => children,
-            Numeric::I32DivU(children) => children,
-            Numeric::I32RemS(children) => children,
-            Numeric::I32RemU(children) => children,
-            Numeric::I32And(children) => children,
-            Numeric::I32Or(children) => children,
-            Numeric::I32Xor(children) => children,
-            Numeric::I32Shl(children) => children,
-            Numeric::I32ShrS(children) => children,
-            Numeric::I32ShrU(children) => children,
-            Numeric::I32RotL(children) => children,
-            Numeric::I32RotR(children) => children,
-            Numeric::I64Clz(children) => children,
-            Numeric::I64Ctz(children) => children,
-            Numeric::I64Popcnt(children) => children,
-            Numeric::I64Add(children) => children,
-            Numeric::I64Sub(children) => children,
-            Numeric::I64Mul(children) => children,
-            Numeric::I64DivS(children) => children,
-            Numeric::I64DivU(children) => children,
-            Numeric::I64RemS(children) => children,
-            Numeric::I64RemU(children) => children,
-            Numeric::I64And(children) => children,
-            Numeric::I64Or(children) => children,
-            Numeric::I64Xor(children) => children,
-            Numeric::I64Shl(children) => children,
-            Numeric::I64ShrS(children) => children,
-            Numeric::I64ShrU(children) => children,
-            Numeric::I64RotL(children) => children,
-            Numeric::I64RotR(children) => children,
-            Numeric::F32Abs(children) => children,
-            Numeric::F32Neg(children) => children,
-            Numeric::F32Ceil(children) => children,
-            Numeric::F32Floor(children) => children,
-            Numeric::F32Trunc(children) => children,
-            Numeric::F32Nearest(children) => children,
-            Numeric::F32Sqrt(children) => children,
-            Numeric::F32Add(children) => children,
-            Numeric::F32Sub(children) => children,
-            Numeric::F32Mul(children) => children,
-            Numeric::F32Div(children) => children,
-            Numeric::F32Min(children) => children,
-            Numeric::F32Max(children) => children,
-            Numeric::F32Copysign(children) => children,
-            Numeric::F64Abs(children) => children,
-            Numeric::F64Neg(children) => children,
-            Numeric::F64Ceil(children) => children,
-            Numeric::F64Floor(children) => children,
-            Numeric::F64Trunc(children) => children,
-            Numeric::F64Nearest(children) => children,
-            Numeric::F64Sqrt(children) => children,
-            Numeric::F64Add(children) => children,
-            Numeric::F64Sub(children) => children,
-            Numeric::F64Mul(children) => children,
-            Numeric::F64Div(children) => children,
-            Numeric::F64Min(children) => children,
-            Numeric::F64Max(children) => children,
-            Numeric::F64Copysign(children) => children,
-            Numeric::Wrap(children) => children,
-            Numeric::I32TruncF32S(children) => children,
-            Numeric::I32TruncF32U(children) => children,
-            Numeric::I32TruncF64S(children) => children,
-            Numeric::I32TruncF64U(children) => children,
-            Numeric::I64ExtendI32S(children) => children,
-            Numeric::I64ExtendI32U(children) => children,
-            Numeric::I64TruncF32S(children) => children,
-            Numeric::I64TruncF32U(children) => children,
-            Numeric::I64TruncF64S(children) => children,
-            Numeric::I64TruncF64U(children) => children,
-            Numeric::F32ConvertI32S(children) => children,
-            Numeric::F32ConvertI32U(children) => children,
-            Numeric::F32ConvertI64S(children) => children,
-            Numeric::F32ConvertI64U(children) => children,
-            Numeric::F32DemoteF64(children) => children,
-            Numeric::F64ConvertI32S(children) => children,
-            Numeric::F64ConvertI32U(children) => children,
-            Numeric::F64ConvertI64S(children) => children,
-            Numeric::F64ConvertI64U(children) => children,
-            Numeric::F64PromoteF32(children) => children,
-            Numeric::I32ReinterpretF32(children) => children,
-            Numeric::I64ReinterpretF64(children) => children,
-            Numeric::F32ReinterpretI32(children) => children,
-            Numeric::F64ReinterpretI64(children) => children,
-            Numeric::I32Extend8S(children) => children,
-            Numeric::I32Extend16S(children) => children,
-            Numeric::I64Extend8S(children) => children,
-            Numeric::I64Extend16S(children) => children,
-            Numeric::I64Extend32S(children) => children,
-            Numeric::I32TruncSatF32S(children) => children,
-            Numeric::I32TruncSatF32U(children) => children,
-            Numeric::I32TruncSatF64S(children) => children,
-            Numeric::I32TruncSatF64U(children) => children,
-            Numeric::I64TruncSatF32S(children) => children,
-            Numeric::I64TruncSatF32U(children) => children,
-            Numeric::I64TruncSatF64S(children) => children,
-            Numeric::I64TruncSatF64U(children) => children,
+            Numeric::I32Eqz(children)
+            | Numeric::I64Eqz(children)
+            | Numeric::I32Clz(children)
+            | Numeric::I32Ctz(children)
+            | Numeric::I32Popcnt(children)
+            | Numeric::I64Clz(children)
+            | Numeric::I64Ctz(children)
+            | Numeric::I64Popcnt(children)
+            | Numeric::F32Abs(children)
+            | Numeric::F32Neg(children)
+            | Numeric::F32Ceil(children)
+            | Numeric::F32Floor(children)
+            | Numeric::F32Trunc(children)
+            | Numeric::F32Nearest(children)
+            | Numeric::F32Sqrt(children)
+            | Numeric::F64Abs(children)
+            | Numeric::F64Neg(children)
+            | Numeric::F64Ceil(children)
+            | Numeric::F64Floor(children)
+            | Numeric::F64Trunc(children)
+            | Numeric::F64Nearest(children)
+            | Numeric::F64Sqrt(children)
+            | Numeric::Wrap(children)
+            | Numeric::I32TruncF32S(children)
+            | Numeric::I32TruncF32U(children)
+            | Numeric::I32TruncF64S(children)
+            | Numeric::I32TruncF64U(children)
+            | Numeric::I64ExtendI32S(children)
+            | Numeric::I64ExtendI32U(children)
+            | Numeric::I64TruncF32S(children)
+            | Numeric::I64TruncF32U(children)
+            | Numeric::I64TruncF64S(children)
+            | Numeric::I64TruncF64U(children)
+            | Numeric::F32ConvertI32S(children)
+            | Numeric::F32ConvertI32U(children)
+            | Numeric::F32ConvertI64S(children)
+            | Numeric::F32ConvertI64U(children)
+            | Numeric::F32DemoteF64(children)
+            | Numeric::F64ConvertI32S(children)
+            | Numeric::F64ConvertI32U(children)
+            | Numeric::F64ConvertI64S(children)
+            | Numeric::F64ConvertI64U(children)
+            | Numeric::F64PromoteF32(children)
+            | Numeric::I32ReinterpretF32(children)
+            | Numeric::I64ReinterpretF64(children)
+            | Numeric::F32ReinterpretI32(children)
+            | Numeric::F64ReinterpretI64(children)
+            | Numeric::I32Extend8S(children)
+            | Numeric::I32Extend16S(children)
+            | Numeric::I64Extend8S(children)
+            | Numeric::I64Extend16S(children)
+            | Numeric::I64Extend32S(children)
+            | Numeric::I32TruncSatF32S(children)
+            | Numeric::I32TruncSatF32U(children)
+            | Numeric::I32TruncSatF64S(children)
+            | Numeric::I32TruncSatF64U(children)
+            | Numeric::I64TruncSatF32S(children)
+            | Numeric::I64TruncSatF32U(children)
+            | Numeric::I64TruncSatF64S(children)
+            | Numeric::I64TruncSatF64U(children) => children,
+            Numeric::I32Eq(children)
+            | Numeric::I32Ne(children)
+            | Numeric::I32LtS(children)
+            | Numeric::I32LtU(children)
+            | Numeric::I32GtS(children)
+            | Numeric::I32GtU(children)
+            | Numeric::I32LeS(children)
+            | Numeric::I32LeU(children)
+            | Numeric::I32GeS(children)
+            | Numeric::I32GeU(children)
+            | Numeric::I64Eq(children)
+            | Numeric::I64Ne(children)
+            | Numeric::I64LtS(children)
+            | Numeric::I64LtU(children)
+            | Numeric::I64GtS(children)
+            | Numeric::I64GtU(children)
+            | Numeric::I64LeS(children)
+            | Numeric::I64LeU(children)
+            | Numeric::I64GeS(children)
+            | Numeric::I64GeU(children)
+            | Numeric::F32Eq(children)
+            | Numeric::F32Ne(children)
+            | Numeric::F32Lt(children)
+            | Numeric::F32Gt(children)
+            | Numeric::F32Le(children)
+            | Numeric::F32Ge(children)
+            | Numeric::F64Eq(children)
+            | Numeric::F64Ne(children)
+            | Numeric::F64Lt(children)
+            | Numeric::F64Gt(children)
+            | Numeric::F64Le(children)
+            | Numeric::F64Ge(children)
+            | Numeric::I32Add(children)
+            | Numeric::I32Sub(children)
+            | Numeric::I32Mul(children)
+            | Numeric::I32DivS(children)
+            | Numeric::I32DivU(children)
+            | Numeric::I32RemS(children)
+            | Numeric::I32RemU(children)
+            | Numeric::I32And(children)
+            | Numeric::I32Or(children)
+            | Numeric::I32Xor(children)
+            | Numeric::I32Shl(children)
+            | Numeric::I32ShrS(children)
+            | Numeric::I32ShrU(children)
+            | Numeric::I32RotL(children)
+            | Numeric::I32RotR(children)
+            | Numeric::I64Add(children)
+            | Numeric::I64Sub(children)
+            | Numeric::I64Mul(children)
+            | Numeric::I64DivS(children)
+            | Numeric::I64DivU(children)
+            | Numeric::I64RemS(children)
+            | Numeric::I64RemU(children)
+            | Numeric::I64And(children)
+            | Numeric::I64Or(children)
+            | Numeric::I64Xor(children)
+            | Numeric::I64Shl(children)
+            | Numeric::I64ShrS(children)
+            | Numeric::I64ShrU(children)
+            | Numeric::I64RotL(children)
+            | Numeric::I64RotR(children)
+            | Numeric::F32Add(children)
+            | Numeric::F32Sub(children)
+            | Numeric::F32Mul(children)
+            | Numeric::F32Div(children)
+            | Numeric::F32Min(children)
+            | Numeric::F32Max(children)
+            | Numeric::F32Copysign(children)
+            | Numeric::F64Add(children)
+            | Numeric::F64Sub(children)
+            | Numeric::F64Mul(children)
+            | Numeric::F64Div(children)
+            | Numeric::F64Min(children)
+            | Numeric::F64Max(children)
+            | Numeric::F64Copysign(children) => children,
         }
     }
 }

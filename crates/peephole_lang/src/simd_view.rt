@@ -545,262 +545,262 @@ impl Simd {
         ensures count { length result.now ≡ simd_count_of self.now }
     {
         match self {
-            Simd::V128Load(_, child) => std::slice::from_ref(child),
-            Simd::V128Load8x8S(_, child) => std::slice::from_ref(child),
-            Simd::V128Load8x8U(_, child) => std::slice::from_ref(child),
-            Simd::V128Load16x4S(_, child) => std::slice::from_ref(child),
-            Simd::V128Load16x4U(_, child) => std::slice::from_ref(child),
-            Simd::V128Load32x2S(_, child) => std::slice::from_ref(child),
-            Simd::V128Load32x2U(_, child) => std::slice::from_ref(child),
-            Simd::V128Load8Splat(_, child) => std::slice::from_ref(child),
-            Simd::V128Load16Splat(_, child) => std::slice::from_ref(child),
-            Simd::V128Load32Splat(_, child) => std::slice::from_ref(child),
-            Simd::V128Load64Splat(_, child) => std::slice::from_ref(child),
-            Simd::V128Store(_, children) => children,
+            Simd::V128Load(_, child)
+            | Simd::V128Load8x8S(_, child)
+            | Simd::V128Load8x8U(_, child)
+            | Simd::V128Load16x4S(_, child)
+            | Simd::V128Load16x4U(_, child)
+            | Simd::V128Load32x2S(_, child)
+            | Simd::V128Load32x2U(_, child)
+            | Simd::V128Load8Splat(_, child)
+            | Simd::V128Load16Splat(_, child)
+            | Simd::V128Load32Splat(_, child)
+            | Simd::V128Load64Splat(_, child)
+            | Simd::I8x16ExtractLaneS(_, child)
+            | Simd::I8x16ExtractLaneU(_, child)
+            | Simd::I16x8ExtractLaneS(_, child)
+            | Simd::I16x8ExtractLaneU(_, child)
+            | Simd::I32x4ExtractLane(_, child)
+            | Simd::I64x2ExtractLane(_, child)
+            | Simd::F32x4ExtractLane(_, child)
+            | Simd::F64x2ExtractLane(_, child)
+            | Simd::V128Load32Zero(_, child)
+            | Simd::V128Load64Zero(_, child) => std::slice::from_ref(child),
+            Simd::V128Store(_, children)
+            | Simd::I8x16Shuffle(_, children)
+            | Simd::I8x16Swizzle(children)
+            | Simd::I8x16ReplaceLane(_, children)
+            | Simd::I16x8ReplaceLane(_, children)
+            | Simd::I32x4ReplaceLane(_, children)
+            | Simd::I64x2ReplaceLane(_, children)
+            | Simd::F32x4ReplaceLane(_, children)
+            | Simd::F64x2ReplaceLane(_, children)
+            | Simd::I8x16Eq(children)
+            | Simd::I8x16Ne(children)
+            | Simd::I8x16LtS(children)
+            | Simd::I8x16LtU(children)
+            | Simd::I8x16GtS(children)
+            | Simd::I8x16GtU(children)
+            | Simd::I8x16LeS(children)
+            | Simd::I8x16LeU(children)
+            | Simd::I8x16GeS(children)
+            | Simd::I8x16GeU(children)
+            | Simd::I16x8Eq(children)
+            | Simd::I16x8Ne(children)
+            | Simd::I16x8LtS(children)
+            | Simd::I16x8LtU(children)
+            | Simd::I16x8GtS(children)
+            | Simd::I16x8GtU(children)
+            | Simd::I16x8LeS(children)
+            | Simd::I16x8LeU(children)
+            | Simd::I16x8GeS(children)
+            | Simd::I16x8GeU(children)
+            | Simd::I32x4Eq(children)
+            | Simd::I32x4Ne(children)
+            | Simd::I32x4LtS(children)
+            | Simd::I32x4LtU(children)
+            | Simd::I32x4GtS(children)
+            | Simd::I32x4GtU(children)
+            | Simd::I32x4LeS(children)
+            | Simd::I32x4LeU(children)
+            | Simd::I32x4GeS(children)
+            | Simd::I32x4GeU(children)
+            | Simd::F32x4Eq(children)
+            | Simd::F32x4Ne(children)
+            | Simd::F32x4Lt(children)
+            | Simd::F32x4Gt(children)
+            | Simd::F32x4Le(children)
+            | Simd::F32x4Ge(children)
+            | Simd::F64x2Eq(children)
+            | Simd::F64x2Ne(children)
+            | Simd::F64x2Lt(children)
+            | Simd::F64x2Gt(children)
+            | Simd::F64x2Le(children)
+            | Simd::F64x2Ge(children)
+            | Simd::V128And(children)
+            | Simd::V128AndNot(children)
+            | Simd::V128Or(children)
+            | Simd::V128Xor(children)
+            | Simd::V128Load8Lane(_, children)
+            | Simd::V128Load16Lane(_, children)
+            | Simd::V128Load32Lane(_, children)
+            | Simd::V128Load64Lane(_, children)
+            | Simd::V128Store8Lane(_, children)
+            | Simd::V128Store16Lane(_, children)
+            | Simd::V128Store32Lane(_, children)
+            | Simd::V128Store64Lane(_, children)
+            | Simd::I8x16NarrowI16x8S(children)
+            | Simd::I8x16NarrowI16x8U(children)
+            | Simd::I8x16Shl(children)
+            | Simd::I8x16ShrS(children)
+            | Simd::I8x16ShrU(children)
+            | Simd::I8x16Add(children)
+            | Simd::I8x16AddSatS(children)
+            | Simd::I8x16AddSatU(children)
+            | Simd::I8x16Sub(children)
+            | Simd::I8x16SubSatS(children)
+            | Simd::I8x16SubSatU(children)
+            | Simd::I8x16MinS(children)
+            | Simd::I8x16MinU(children)
+            | Simd::I8x16MaxS(children)
+            | Simd::I8x16MaxU(children)
+            | Simd::I8x16AvgrU(children)
+            | Simd::I16x8Q15MulrSatS(children)
+            | Simd::I16x8NarrowI32x4S(children)
+            | Simd::I16x8NarrowI32x4U(children)
+            | Simd::I16x8Shl(children)
+            | Simd::I16x8ShrS(children)
+            | Simd::I16x8ShrU(children)
+            | Simd::I16x8Add(children)
+            | Simd::I16x8AddSatS(children)
+            | Simd::I16x8AddSatU(children)
+            | Simd::I16x8Sub(children)
+            | Simd::I16x8SubSatS(children)
+            | Simd::I16x8SubSatU(children)
+            | Simd::I16x8Mul(children)
+            | Simd::I16x8MinS(children)
+            | Simd::I16x8MinU(children)
+            | Simd::I16x8MaxS(children)
+            | Simd::I16x8MaxU(children)
+            | Simd::I16x8AvgrU(children)
+            | Simd::I16x8ExtMulLowI8x16S(children)
+            | Simd::I16x8ExtMulHighI8x16S(children)
+            | Simd::I16x8ExtMulLowI8x16U(children)
+            | Simd::I16x8ExtMulHighI8x16U(children)
+            | Simd::I32x4Shl(children)
+            | Simd::I32x4ShrS(children)
+            | Simd::I32x4ShrU(children)
+            | Simd::I32x4Add(children)
+            | Simd::I32x4Sub(children)
+            | Simd::I32x4Mul(children)
+            | Simd::I32x4MinS(children)
+            | Simd::I32x4MinU(children)
+            | Simd::I32x4MaxS(children)
+            | Simd::I32x4MaxU(children)
+            | Simd::I32x4DotI16x8S(children)
+            | Simd::I32x4ExtMulLowI16x8S(children)
+            | Simd::I32x4ExtMulHighI16x8S(children)
+            | Simd::I32x4ExtMulLowI16x8U(children)
+            | Simd::I32x4ExtMulHighI16x8U(children)
+            | Simd::I64x2Shl(children)
+            | Simd::I64x2ShrS(children)
+            | Simd::I64x2ShrU(children)
+            | Simd::I64x2Add(children)
+            | Simd::I64x2Sub(children)
+            | Simd::I64x2Mul(children)
+            | Simd::I64x2Eq(children)
+            | Simd::I64x2Ne(children)
+            | Simd::I64x2LtS(children)
+            | Simd::I64x2GtS(children)
+            | Simd::I64x2LeS(children)
+            | Simd::I64x2GeS(children)
+            | Simd::I64x2ExtMulLowI32x4S(children)
+            | Simd::I64x2ExtMulHighI32x4S(children)
+            | Simd::I64x2ExtMulLowI32x4U(children)
+            | Simd::I64x2ExtMulHighI32x4U(children)
+            | Simd::F32x4Add(children)
+            | Simd::F32x4Sub(children)
+            | Simd::F32x4Mul(children)
+            | Simd::F32x4Div(children)
+            | Simd::F32x4Min(children)
+            | Simd::F32x4Max(children)
+            | Simd::F32x4PMin(children)
+            | Simd::F32x4PMax(children)
+            | Simd::F64x2Add(children)
+            | Simd::F64x2Sub(children)
+            | Simd::F64x2Mul(children)
+            | Simd::F64x2Div(children)
+            | Simd::F64x2Min(children)
+            | Simd::F64x2Max(children)
+            | Simd::F64x2PMin(children)
+            | Simd::F64x2PMax(children)
+            | Simd::I8x16RelaxedSwizzle(children)
+            | Simd::F32x4RelaxedMin(children)
+            | Simd::F32x4RelaxedMax(children)
+            | Simd::F64x2RelaxedMin(children)
+            | Simd::F64x2RelaxedMax(children)
+            | Simd::I16x8RelaxedQ15mulrS(children)
+            | Simd::I16x8RelaxedDotI8x16I7x16S(children) => children,
             Simd::V128(..) => &[],
-            Simd::I8x16Shuffle(_, children) => children,
-            Simd::I8x16Swizzle(children) => children,
-            Simd::I8x16Splat(children) => children,
-            Simd::I16x8Splat(children) => children,
-            Simd::I32x4Splat(children) => children,
-            Simd::I64x2Splat(children) => children,
-            Simd::F32x4Splat(children) => children,
-            Simd::F64x2Splat(children) => children,
-            Simd::I8x16ExtractLaneS(_, child) => std::slice::from_ref(child),
-            Simd::I8x16ExtractLaneU(_, child) => std::slice::from_ref(child),
-            Simd::I8x16ReplaceLane(_, children) => children,
-            Simd::I16x8ExtractLaneS(_, child) => std::slice::from_ref(child),
-            Simd::I16x8ExtractLaneU(_, child) => std::slice::from_ref(child),
-            Simd::I16x8ReplaceLane(_, children) => children,
-            Simd::I32x4ExtractLane(_, child) => std::slice::from_ref(child),
-            Simd::I32x4ReplaceLane(_, children) => children,
-            Simd::I64x2ExtractLane(_, child) => std::slice::from_ref(child),
-            Simd::I64x2ReplaceLane(_, children) => children,
-            Simd::F32x4ExtractLane(_, child) => std::slice::from_ref(child),
-            Simd::F32x4ReplaceLane(_, children) => children,
-            Simd::F64x2ExtractLane(_, child) => std::slice::from_ref(child),
-            Simd::F64x2ReplaceLane(_, children) => children,
-            Simd::I8x16Eq(children) => children,
-            Simd::I8x16Ne(children) => children,
-            Simd::I8x16LtS(children) => children,
-            Simd::I8x16LtU(children) => children,
-            Simd::I8x16GtS(children) => children,
-            Simd::I8x16GtU(children) => children,
-            Simd::I8x16LeS(children) => children,
-            Simd::I8x16LeU(children) => children,
-            Simd::I8x16GeS(children) => children,
-            Simd::I8x16GeU(children) => children,
-            Simd::I16x8Eq(children) => children,
-            Simd::I16x8Ne(children) => children,
-            Simd::I16x8LtS(children) => children,
-            Simd::I16x8LtU(children) => children,
-            Simd::I16x8GtS(children) => children,
-            Simd::I16x8GtU(children) => children,
-            Simd::I16x8LeS(children) => children,
-            Simd::I16x8LeU(children) => children,
-            Simd::I16x8GeS(children) => children,
-            Simd::I16x8GeU(children) => children,
-            Simd::I32x4Eq(children) => children,
-            Simd::I32x4Ne(children) => children,
-            Simd::I32x4LtS(children) => children,
-            Simd::I32x4LtU(children) => children,
-            Simd::I32x4GtS(children) => children,
-            Simd::I32x4GtU(children) => children,
-            Simd::I32x4LeS(children) => children,
-            Simd::I32x4LeU(children) => children,
-            Simd::I32x4GeS(children) => children,
-            Simd::I32x4GeU(children) => children,
-            Simd::F32x4Eq(children) => children,
-            Simd::F32x4Ne(children) => children,
-            Simd::F32x4Lt(children) => children,
-            Simd::F32x4Gt(children) => children,
-            Simd::F32x4Le(children) => children,
-            Simd::F32x4Ge(children) => children,
-            Simd::F64x2Eq(children) => children,
-            Simd::F64x2Ne(children) => children,
-            Simd::F64x2Lt(children) => children,
-            Simd::F64x2Gt(children) => children,
-            Simd::F64x2Le(children) => children,
-            Simd::F64x2Ge(children) => children,
-            Simd::V128Not(children) => children,
-            Simd::V128And(children) => children,
-            Simd::V128AndNot(children) => children,
-            Simd::V128Or(children) => children,
-            Simd::V128Xor(children) => children,
-            Simd::V128Bitselect(children) => children,
-            Simd::V128AnyTrue(children) => children,
-            Simd::V128Load8Lane(_, children) => children,
-            Simd::V128Load16Lane(_, children) => children,
-            Simd::V128Load32Lane(_, children) => children,
-            Simd::V128Load64Lane(_, children) => children,
-            Simd::V128Store8Lane(_, children) => children,
-            Simd::V128Store16Lane(_, children) => children,
-            Simd::V128Store32Lane(_, children) => children,
-            Simd::V128Store64Lane(_, children) => children,
-            Simd::V128Load32Zero(_, child) => std::slice::from_ref(child),
-            Simd::V128Load64Zero(_, child) => std::slice::from_ref(child),
-            Simd::F32x4DemoteF64x2Zero(children) => children,
-            Simd::F64x2PromoteLowF32x4(children) => children,
-            Simd::I8x16Abs(children) => children,
-            Simd::I8x16Neg(children) => children,
-            Simd::I8x16Popcnt(children) => children,
-            Simd::I8x16AllTrue(children) => children,
-            Simd::I8x16Bitmask(children) => children,
-            Simd::I8x16NarrowI16x8S(children) => children,
-            Simd::I8x16NarrowI16x8U(children) => children,
-            Simd::F32x4Ceil(children) => children,
-            Simd::F32x4Floor(children) => children,
-            Simd::F32x4Trunc(children) => children,
-            Simd::F32x4Nearest(children) => children,
-            Simd::I8x16Shl(children) => children,
-            Simd::I8x16ShrS(children) => children,
-            Simd::I8x16ShrU(children) => children,
-            Simd::I8x16Add(children) => children,
-            Simd::I8x16AddSatS(children) => children,
-            Simd::I8x16AddSatU(children) => children,
-            Simd::I8x16Sub(children) => children,
-            Simd::I8x16SubSatS(children) => children,
-            Simd::I8x16SubSatU(children) => children,
-            Simd::F64x2Ceil(children) => children,
-            Simd::F64x2Floor(children) => children,
-            Simd::I8x16MinS(children) => children,
-            Simd::I8x16MinU(children) => children,
-            Simd::I8x16MaxS(children) => children,
-            Simd::I8x16MaxU(children) => children,
-            Simd::F64x2Trunc(children) => children,
-            Simd::I8x16AvgrU(children) => children,
-            Simd::I16x8ExtAddPairwiseI8x16S(children) => children,
-            Simd::I16x8ExtAddPairwiseI8x16U(children) => children,
-            Simd::I32x4ExtAddPairwiseI16x8S(children) => children,
-            Simd::I32x4ExtAddPairwiseI16x8U(children) => children,
-            Simd::I16x8Abs(children) => children,
-            Simd::I16x8Neg(children) => children,
-            Simd::I16x8Q15MulrSatS(children) => children,
-            Simd::I16x8AllTrue(children) => children,
-            Simd::I16x8Bitmask(children) => children,
-            Simd::I16x8NarrowI32x4S(children) => children,
-            Simd::I16x8NarrowI32x4U(children) => children,
-            Simd::I16x8ExtendLowI8x16S(children) => children,
-            Simd::I16x8ExtendHighI8x16S(children) => children,
-            Simd::I16x8ExtendLowI8x16U(children) => children,
-            Simd::I16x8ExtendHighI8x16U(children) => children,
-            Simd::I16x8Shl(children) => children,
-            Simd::I16x8ShrS(children) => children,
-            Simd::I16x8ShrU(children) => children,
-            Simd::I16x8Add(children) => children,
-            Simd::I16x8AddSatS(children) => children,
-            Simd::I16x8AddSatU(children) => children,
-            Simd::I16x8Sub(children) => children,
-            Simd::I16x8SubSatS(children) => children,
-            Simd::I16x8SubSatU(children) => children,
-            Simd::F64x2Nearest(children) => children,
-            Simd::I16x8Mul(children) => children,
-            Simd::I16x8MinS(children) => children,
-            Simd::I16x8MinU(children) => children,
-            Simd::I16x8MaxS(children) => children,
-            Simd::I16x8MaxU(children) => children,
-            Simd::I16x8AvgrU(children) => children,
-            Simd::I16x8ExtMulLowI8x16S(children) => children,
-            Simd::I16x8ExtMulHighI8x16S(children) => children,
-            Simd::I16x8ExtMulLowI8x16U(children) => children,
-            Simd::I16x8ExtMulHighI8x16U(children) => children,
-            Simd::I32x4Abs(children) => children,
-            Simd::I32x4Neg(children) => children,
-            Simd::I32x4AllTrue(children) => children,
-            Simd::I32x4Bitmask(children) => children,
-            Simd::I32x4ExtendLowI16x8S(children) => children,
-            Simd::I32x4ExtendHighI16x8S(children) => children,
-            Simd::I32x4ExtendLowI16x8U(children) => children,
-            Simd::I32x4ExtendHighI16x8U(children) => children,
-            Simd::I32x4Shl(children) => children,
-            Simd::I32x4ShrS(children) => children,
-            Simd::I32x4ShrU(children) => children,
-            Simd::I32x4Add(children) => children,
-            Simd::I32x4Sub(children) => children,
-            Simd::I32x4Mul(children) => children,
-            Simd::I32x4MinS(children) => children,
-            Simd::I32x4MinU(children) => children,
-            Simd::I32x4MaxS(children) => children,
-            Simd::I32x4MaxU(children) => children,
-            Simd::I32x4DotI16x8S(children) => children,
-            Simd::I32x4ExtMulLowI16x8S(children) => children,
-            Simd::I32x4ExtMulHighI16x8S(children) => children,
-            Simd::I32x4ExtMulLowI16x8U(children) => children,
-            Simd::I32x4ExtMulHighI16x8U(children) => children,
-            Simd::I64x2Abs(children) => children,
-            Simd::I64x2Neg(children) => children,
-            Simd::I64x2AllTrue(children) => children,
-            Simd::I64x2Bitmask(children) => children,
-            Simd::I64x2ExtendLowI32x4S(children) => children,
-            Simd::I64x2ExtendHighI32x4S(children) => children,
-            Simd::I64x2ExtendLowI32x4U(children) => children,
-            Simd::I64x2ExtendHighI32x4U(children) => children,
-            Simd::I64x2Shl(children) => children,
-            Simd::I64x2ShrS(children) => children,
-            Simd::I64x2ShrU(children) => children,
-            Simd::I64x2Add(children) => children,
-            Simd::I64x2Sub(children) => children,
-            Simd::I64x2Mul(children) => children,
-            Simd::I64x2Eq(children) => children,
-            Simd::I64x2Ne(children) => children,
-            Simd::I64x2LtS(children) => children,
-            Simd::I64x2GtS(children) => children,
-            Simd::I64x2LeS(children) => children,
-            Simd::I64x2GeS(children) => children,
-            Simd::I64x2ExtMulLowI32x4S(children) => children,
-            Simd::I64x2ExtMulHighI32x4S(children) => children,
-            Simd::I64x2ExtMulLowI32x4U(children) => children,
-            Simd::I64x2ExtMulHighI32x4U(children) => children,
-            Simd::F32x4Abs(children) => children,
-            Simd::F32x4Neg(children) => children,
-            Simd::F32x4Sqrt(children) => children,
-            Simd::F32x4Add(children) => children,
-            Simd::F32x4Sub(children) => children,
-            Simd::F32x4Mul(children) => children,
-            Simd::F32x4Div(children) => children,
-            Simd::F32x4Min(children) => children,
-            Simd::F32x4Max(children) => children,
-            Simd::F32x4PMin(children) => children,
-            Simd::F32x4PMax(children) => children,
-            Simd::F64x2Abs(children) => children,
-            Simd::F64x2Neg(children) => children,
-            Simd::F64x2Sqrt(children) => children,
-            Simd::F64x2Add(children) => children,
-            Simd::F64x2Sub(children) => children,
-            Simd::F64x2Mul(children) => children,
-            Simd::F64x2Div(children) => children,
-            Simd::F64x2Min(children) => children,
-            Simd::F64x2Max(children) => children,
-            Simd::F64x2PMin(children) => children,
-            Simd::F64x2PMax(children) => children,
-            Simd::I32x4TruncSatF32x4S(children) => children,
-            Simd::I32x4TruncSatF32x4U(children) => children,
-            Simd::F32x4ConvertI32x4S(children) => children,
-            Simd::F32x4ConvertI32x4U(children) => children,
-            Simd::I32x4TruncSatF64x2SZero(children) => children,
-            Simd::I32x4TruncSatF64x2UZero(children) => children,
-            Simd::F64x2ConvertLowI32x4S(children) => children,
-            Simd::F64x2ConvertLowI32x4U(children) => children,
-            Simd::I8x16RelaxedSwizzle(children) => children,
-            Simd::I32x4RelaxedTruncF32x4S(children) => children,
-            Simd::I32x4RelaxedTruncF32x4U(children) => children,
-            Simd::I32x4RelaxedTruncF64x2SZero(children) => children,
-            Simd::I32x4RelaxedTruncF64x2UZero(children) => children,
-            Simd::F32x4RelaxedMadd(children) => children,
-            Simd::F32x4RelaxedNmadd(children) => children,
-            Simd::F64x2RelaxedMadd(children) => children,
-            Simd::F64x2RelaxedNmadd(children) => children,
-            Simd::I8x16RelaxedLaneselect(children) => children,
-            Simd::I16x8RelaxedLaneselect(children) => children,
-            Simd::I32x4RelaxedLaneselect(children) => children,
-            Simd::I64x2RelaxedLaneselect(children) => children,
-            Simd::F32x4RelaxedMin(children) => children,
-            Simd::F32x4RelaxedMax(children) => children,
-            Simd::F64x2RelaxedMin(children) => children,
-            Simd::F64x2RelaxedMax(children) => children,
-            Simd::I16x8RelaxedQ15mulrS(children) => children,
-            Simd::I16x8RelaxedDotI8x16I7x16S(children) => children,
-            Simd::I32x4RelaxedDotI8x16I7x16AddS(children) => children,
+            Simd::I8x16Splat(children)
+            | Simd::I16x8Splat(children)
+            | Simd::I32x4Splat(children)
+            | Simd::I64x2Splat(children)
+            | Simd::F32x4Splat(children)
+            | Simd::F64x2Splat(children)
+            | Simd::V128Not(children)
+            | Simd::V128AnyTrue(children)
+            | Simd::F32x4DemoteF64x2Zero(children)
+            | Simd::F64x2PromoteLowF32x4(children)
+            | Simd::I8x16Abs(children)
+            | Simd::I8x16Neg(children)
+            | Simd::I8x16Popcnt(children)
+            | Simd::I8x16AllTrue(children)
+            | Simd::I8x16Bitmask(children)
+            | Simd::F32x4Ceil(children)
+            | Simd::F32x4Floor(children)
+            | Simd::F32x4Trunc(children)
+            | Simd::F32x4Nearest(children)
+            | Simd::F64x2Ceil(children)
+            | Simd::F64x2Floor(children)
+            | Simd::F64x2Trunc(children)
+            | Simd::I16x8ExtAddPairwiseI8x16S(children)
+            | Simd::I16x8ExtAddPairwiseI8x16U(children)
+            | Simd::I32x4ExtAddPairwiseI16x8S(children)
+            | Simd::I32x4ExtAddPairwiseI16x8U(children)
+            | Simd::I16x8Abs(children)
+            | Simd::I16x8Neg(children)
+            | Simd::I16x8AllTrue(children)
+            | Simd::I16x8Bitmask(children)
+            | Simd::I16x8ExtendLowI8x16S(children)
+            | Simd::I16x8ExtendHighI8x16S(children)
+            | Simd::I16x8ExtendLowI8x16U(children)
+            | Simd::I16x8ExtendHighI8x16U(children)
+            | Simd::F64x2Nearest(children)
+            | Simd::I32x4Abs(children)
+            | Simd::I32x4Neg(children)
+            | Simd::I32x4AllTrue(children)
+            | Simd::I32x4Bitmask(children)
+            | Simd::I32x4ExtendLowI16x8S(children)
+            | Simd::I32x4ExtendHighI16x8S(children)
+            | Simd::I32x4ExtendLowI16x8U(children)
+            | Simd::I32x4ExtendHighI16x8U(children)
+            | Simd::I64x2Abs(children)
+            | Simd::I64x2Neg(children)
+            | Simd::I64x2AllTrue(children)
+            | Simd::I64x2Bitmask(children)
+            | Simd::I64x2ExtendLowI32x4S(children)
+            | Simd::I64x2ExtendHighI32x4S(children)
+            | Simd::I64x2ExtendLowI32x4U(children)
+            | Simd::I64x2ExtendHighI32x4U(children)
+            | Simd::F32x4Abs(children)
+            | Simd::F32x4Neg(children)
+            | Simd::F32x4Sqrt(children)
+            | Simd::F64x2Abs(children)
+            | Simd::F64x2Neg(children)
+            | Simd::F64x2Sqrt(children)
+            | Simd::I32x4TruncSatF32x4S(children)
+            | Simd::I32x4TruncSatF32x4U(children)
+            | Simd::F32x4ConvertI32x4S(children)
+            | Simd::F32x4ConvertI32x4U(children)
+            | Simd::I32x4TruncSatF64x2SZero(children)
+            | Simd::I32x4TruncSatF64x2UZero(children)
+            | Simd::F64x2ConvertLowI32x4S(children)
+            | Simd::F64x2ConvertLowI32x4U(children)
+            | Simd::I32x4RelaxedTruncF32x4S(children)
+            | Simd::I32x4RelaxedTruncF32x4U(children)
+            | Simd::I32x4RelaxedTruncF64x2SZero(children)
+            | Simd::I32x4RelaxedTruncF64x2UZero(children) => children,
+            Simd::V128Bitselect(children)
+            | Simd::F32x4RelaxedMadd(children)
+            | Simd::F32x4RelaxedNmadd(children)
+            | Simd::F64x2RelaxedMadd(children)
+            | Simd::F64x2RelaxedNmadd(children)
+            | Simd::I8x16RelaxedLaneselect(children)
+            | Simd::I16x8RelaxedLaneselect(children)
+            | Simd::I32x4RelaxedLaneselect(children)
+            | Simd::I64x2RelaxedLaneselect(children)
+            | Simd::I32x4RelaxedDotI8x16I7x16AddS(children) => children,
         }
     }
 }

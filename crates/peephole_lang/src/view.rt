@@ -168,72 +168,71 @@ impl Lang {
         ensures count { length result.now ≡ count_of self.now }
     {
         match self {
-            Lang::RandI32 => &[],
-            Lang::RandI64 => &[],
-            Lang::RandF32 => &[],
-            Lang::RandF64 => &[],
-            Lang::Undef => &[],
-            Lang::UnfoldI32(child) => std::slice::from_ref(child),
-            Lang::UnfoldI64(child) => std::slice::from_ref(child),
-            Lang::I32UseGlobal(child) => std::slice::from_ref(child),
-            Lang::I64UseGlobal(child) => std::slice::from_ref(child),
-            Lang::F32UseGlobal(child) => std::slice::from_ref(child),
-            Lang::F64UseGlobal(child) => std::slice::from_ref(child),
-            Lang::Container(children) => children.as_slice(),
-            Lang::Nop => &[],
-            Lang::Call(_, children) => children.as_slice(),
+            Lang::RandI32
+            | Lang::RandI64
+            | Lang::RandF32
+            | Lang::RandF64
+            | Lang::Undef
+            | Lang::Nop
+            | Lang::LocalGet(..)
+            | Lang::GlobalGet(..)
+            | Lang::MemorySize(..)
+            | Lang::I32(..)
+            | Lang::I64(..)
+            | Lang::F32(..)
+            | Lang::F64(..)
+            | Lang::RefNull(..)
+            | Lang::RefFunc(..)
+            | Lang::DataDrop(..)
+            | Lang::ElemDrop(..)
+            | Lang::TableSize(..) => &[],
+            Lang::UnfoldI32(child)
+            | Lang::UnfoldI64(child)
+            | Lang::I32UseGlobal(child)
+            | Lang::I64UseGlobal(child)
+            | Lang::F32UseGlobal(child)
+            | Lang::F64UseGlobal(child)
+            | Lang::LocalSet(_, child)
+            | Lang::LocalTee(_, child)
+            | Lang::GlobalSet(_, child)
+            | Lang::TableGet(_, child)
+            | Lang::I32Load(_, child)
+            | Lang::I64Load(_, child)
+            | Lang::F32Load(_, child)
+            | Lang::F64Load(_, child)
+            | Lang::I32Load8S(_, child)
+            | Lang::I32Load8U(_, child)
+            | Lang::I32Load16S(_, child)
+            | Lang::I32Load16U(_, child)
+            | Lang::I64Load8S(_, child)
+            | Lang::I64Load8U(_, child)
+            | Lang::I64Load16S(_, child)
+            | Lang::I64Load16U(_, child)
+            | Lang::I64Load32S(_, child)
+            | Lang::I64Load32U(_, child)
+            | Lang::MemoryGrow(_, child)
+            | Lang::RefIsNull(child) => std::slice::from_ref(child),
+            Lang::Container(children) | Lang::Call(_, children) => children.as_slice(),
             Lang::Drop(children) => children,
-            Lang::Select(children) => children,
-            Lang::LocalGet(..) => &[],
-            Lang::LocalSet(_, child) => std::slice::from_ref(child),
-            Lang::LocalTee(_, child) => std::slice::from_ref(child),
-            Lang::GlobalGet(..) => &[],
-            Lang::GlobalSet(_, child) => std::slice::from_ref(child),
-            Lang::TableGet(_, child) => std::slice::from_ref(child),
-            Lang::TableSet(_, children) => children,
-            Lang::I32Load(_, child) => std::slice::from_ref(child),
-            Lang::I64Load(_, child) => std::slice::from_ref(child),
-            Lang::F32Load(_, child) => std::slice::from_ref(child),
-            Lang::F64Load(_, child) => std::slice::from_ref(child),
-            Lang::I32Load8S(_, child) => std::slice::from_ref(child),
-            Lang::I32Load8U(_, child) => std::slice::from_ref(child),
-            Lang::I32Load16S(_, child) => std::slice::from_ref(child),
-            Lang::I32Load16U(_, child) => std::slice::from_ref(child),
-            Lang::I64Load8S(_, child) => std::slice::from_ref(child),
-            Lang::I64Load8U(_, child) => std::slice::from_ref(child),
-            Lang::I64Load16S(_, child) => std::slice::from_ref(child),
-            Lang::I64Load16U(_, child) => std::slice::from_ref(child),
-            Lang::I64Load32S(_, child) => std::slice::from_ref(child),
-            Lang::I64Load32U(_, child) => std::slice::from_ref(child),
-            Lang::I32Store(_, children) => children,
-            Lang::I64Store(_, children) => children,
-            Lang::F32Store(_, children) => children,
-            Lang::F64Store(_, children) => children,
-            Lang::I32Store8(_, children) => children,
-            Lang::I32Store16(_, children) => children,
-            Lang::I64Store8(_, children) => children,
-            Lang::I64Store16(_, children) => children,
-            Lang::I64Store32(_, children) => children,
-            Lang::MemorySize(..) => &[],
-            Lang::MemoryGrow(_, child) => std::slice::from_ref(child),
-            Lang::I32(..) => &[],
-            Lang::I64(..) => &[],
-            Lang::F32(..) => &[],
-            Lang::F64(..) => &[],
-            Lang::RefNull(..) => &[],
-            Lang::RefIsNull(child) => std::slice::from_ref(child),
-            Lang::RefFunc(..) => &[],
-            Lang::MemoryInit(_, children) => children,
-            Lang::DataDrop(..) => &[],
-            Lang::MemoryCopy(_, children) => children,
-            Lang::MemoryFill(_, children) => children,
-            Lang::TableInit(_, children) => children,
-            Lang::ElemDrop(..) => &[],
-            Lang::TableCopy(_, children) => children,
-            Lang::TableGrow(_, children) => children,
-            Lang::TableSize(..) => &[],
-            Lang::TableFill(_, children) => children,
-            Lang::TypedSelect(_, children) => children,
+            Lang::Select(children)
+            | Lang::MemoryInit(_, children)
+            | Lang::MemoryCopy(_, children)
+            | Lang::MemoryFill(_, children)
+            | Lang::TableInit(_, children)
+            | Lang::TableCopy(_, children)
+            | Lang::TableFill(_, children)
+            | Lang::TypedSelect(_, children) => children,
+            Lang::TableSet(_, children)
+            | Lang::I32Store(_, children)
+            | Lang::I64Store(_, children)
+            | Lang::F32Store(_, children)
+            | Lang::F64Store(_, children)
+            | Lang::I32Store8(_, children)
+            | Lang::I32Store16(_, children)
+            | Lang::I64Store8(_, children)
+            | Lang::I64Store16(_, children)
+            | Lang::I64Store32(_, children)
+            | Lang::TableGrow(_, children) => children,
             Lang::Numeric(node) => node.children(),
             Lang::Simd(node) => node.children(),
         }
