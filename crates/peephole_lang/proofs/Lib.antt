@@ -1,3 +1,4 @@
+pub mod Relends
 pub mod RowLemmas
 pub mod InstrLemmas
 pub mod SearchLemmas

@@ -5,8 +5,8 @@ use Rattle.std.specs.Prelude.{Option, slice_get, not, is_some}
 use Rattle.std.specs.Option.{unwrap_or}
 use Rattle.std.proofs.lemmas.Bool.{eqb-true}
 use Rattle.std.proofs.lemmas.Option.{same_Some, slice_get-map}
-use Rattle.peephole_nodes.specs.declared.payload.PayloadKind.{PayloadKind}
-use Rattle.peephole_nodes.specs.declared.payload.PayloadKind.TheVariants as kind
+use Rattle.peephole_lang.specs.declared.payload.PayloadKind.{PayloadKind}
+use Rattle.peephole_lang.specs.declared.payload.PayloadKind.TheVariants as kind
 use Rattle.peephole_lang.specs.declared.variants.TheConstants.{VARIANTS, FRONTS}
 use Rattle.peephole_lang.specs.declared.names.TheConstants.{BY_FRONT}
 use Rattle.peephole_lang.specs.Variants.{Variant, variants, variant_at}
