@@ -1,10 +1,9 @@
 -- The code's tables are the variants, and the order of the fronts: by computation over the rows.
 use Rattle.std.proofs.Common.{◌≡◌, ℕ, zero, suc, ◌+◌, ◌<◌, Bool, true, false, cond, eqb, List, [], ◌∷◌}
 use Rattle.std.proofs.Common.{length, get_or, map, Some, refl, sym, ap, ◌∙◌, subst, add-one, arith}
-use Rattle.std.specs.Prelude.{Option, slice_get, not, is_some}
-use Rattle.std.specs.Option.{unwrap_or}
+use Rattle.std.specs.Prelude.{slice_get, not, is_some}
 use Rattle.std.proofs.lemmas.Bool.{eqb-true}
-use Rattle.std.proofs.lemmas.Option.{same_Some, slice_get-map}
+use Rattle.std.proofs.lemmas.Option.{same_Some}
 use Rattle.peephole_lang.specs.declared.payload.PayloadKind.{PayloadKind}
 use Rattle.peephole_lang.specs.declared.payload.PayloadKind.TheVariants as kind
 use Rattle.peephole_lang.specs.declared.variants.TheConstants.{VARIANTS, FRONTS}
@@ -27,11 +26,6 @@ same_entries = refl
 pub same_fronts : map (λ front. front.now) FRONTS ≡ map front_of variants
 unfolding variants
 same_fronts = refl
-
-pub front_in_table : (place : ℕ) → unwrap_or (slice_get (map (λ front. front.now) FRONTS) place) [] ≡ front_at place
-front_in_table place =
-    ap (λ (fronts : List (List ℕ)). unwrap_or (slice_get fronts place) []) same_fronts
-    ∙ ap (λ (front : Option (List ℕ)). unwrap_or front []) (slice_get-map front_of variants place)
 
 -- ---- a variant's place is where it stands
 

@@ -1,6 +1,14 @@
-use Rattle.std.proofs.Common.{◌∙◌}
-use Rattle.peephole_lang.specs.TableLemmas.{front_in_table}
+use Rattle.std.proofs.Common.{List, ℕ, [], Option, ap, ◌∙◌}
+use Rattle.std.specs.Prelude.{slice_get}
+use Rattle.std.specs.Option.{unwrap_or}
+use Rattle.std.proofs.lemmas.Option.{slice_get-map}
+use Rattle.peephole_lang.specs.Variants.{variants}
+use Rattle.peephole_lang.specs.Fronts.{front_of}
+use Rattle.peephole_lang.specs.TableLemmas.{same_fronts}
 use Rattle.peephole_lang.proofs.names.front_at.Goals as goal
 
 pub returns : goal.returns
-returns c = c.front_in.ensures ∙ front_in_table c.args.place
+returns c =
+    c.front_in.ensures
+    ∙ ap (λ (fronts : List (List ℕ)). unwrap_or (slice_get fronts c.args.place) []) same_fronts
+    ∙ ap (λ (front : Option (List ℕ)). unwrap_or front []) (slice_get-map front_of variants c.args.place)
