@@ -8,7 +8,7 @@ use Rattle.wasm_code.specs.declared.table.Row.{Row}
 use Rattle.wasm_code.specs.Instruction.{Instruction, IsInstruction, is_of_kind, fits_row}
 use Rattle.wasm_code.specs.Table.{table, row_at, info_in, info_of}
 use Rattle.peephole_lang.specs.declared.lang.Lang.{Lang}
-use Rattle.peephole_lang.specs.declared.payload.Payload.{Payload}
+use Rattle.peephole_nodes.specs.declared.payload.Payload.{Payload}
 use Rattle.peephole_lang.specs.declared.variants.Entry.{Entry}
 use Rattle.peephole_lang.specs.Entries.{entry_of}
 use Rattle.peephole_lang.specs.Fits.{fits_own}
@@ -16,9 +16,9 @@ use Rattle.peephole_lang.specs.Lang.{place_of, payload_of, count_of}
 use Rattle.peephole_lang.specs.MadeLemmas.{has_variant, fits_made}
 use Rattle.peephole_lang.specs.Making.{is_made}
 use Rattle.peephole_lang.specs.Node.{instr_of, takes, takes_children, is_right, is_node_of, fits}
-use Rattle.peephole_lang.specs.Payload.{imm_of, payload_of_imm, is_of, is_writable}
-use Rattle.peephole_lang.specs.PayloadKind.{imm_kind}
-use Rattle.peephole_lang.specs.PayloadLemmas.{imm_fits, of_imm_back, of_imm_some}
+use Rattle.peephole_nodes.specs.Payload.{imm_of, payload_of_imm, is_of, is_writable}
+use Rattle.peephole_nodes.specs.PayloadKind.{imm_kind}
+use Rattle.peephole_nodes.specs.PayloadLemmas.{imm_fits, of_imm_back, of_imm_some}
 use Rattle.peephole_lang.specs.TableLemmas.{place_is}
 use Rattle.peephole_lang.specs.Variants.{Variant, variant_at}
 use Rattle.std.specs.Option.{option_map}

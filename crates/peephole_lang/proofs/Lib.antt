@@ -1,4 +1,3 @@
-pub mod Relends
 pub mod RowLemmas
 pub mod InstrLemmas
 pub mod SearchLemmas

@@ -5,9 +5,9 @@ use Rattle.std.specs.Prelude.{◌==◌, List}
 use Rattle.std.specs.Cmp.{unsigned_Decides}
 use Rattle.std.specs.Cmp.Lexicographic.{pointwise}
 use Rattle.std.proofs.lemmas.Slice.Eq.{slice_eq-Decides}
-use Rattle.peephole_lang.specs.contracts.id.IdPartialEq.TheImpl as id_eq
-use Rattle.peephole_lang.specs.contracts.payload.PayloadPartialEq.TheImpl as payload_eq
-use Rattle.peephole_lang.specs.declared.id.Id.{Id}
+use Rattle.peephole_nodes.specs.contracts.id.IdPartialEq.TheImpl as id_eq
+use Rattle.peephole_nodes.specs.contracts.payload.PayloadPartialEq.TheImpl as payload_eq
+use Rattle.peephole_nodes.specs.declared.id.Id.{Id}
 use Rattle.peephole_lang.specs.declared.lang.Lang.{Lang}
 use Rattle.peephole_lang.specs.declared.lang.Head.{Head}
 use Rattle.peephole_lang.specs.Lang.{place_of, payload_of, ids_of}
@@ -15,9 +15,9 @@ use Rattle.peephole_lang.specs.Compared.{lang_eq}
 use Rattle.peephole_lang.specs.Language.{IsSame}
 use Rattle.peephole_lang.specs.Node.{IsNode, head_of, fits}
 use Rattle.peephole_lang.specs.NodeLemmas.{both, joined, same_head}
-use Rattle.peephole_lang.specs.PayloadLemmas.{same_payload, payload_itself}
+use Rattle.peephole_nodes.specs.PayloadLemmas.{same_payload, payload_itself}
 use Rattle.peephole_lang.specs.Fits.{fits_own}
-use Rattle.peephole_lang.specs.declared.payload.Payload.{Payload}
+use Rattle.peephole_nodes.specs.declared.payload.Payload.{Payload}
 
 same_id : (a b : Id) → Decides (id_eq.ghosts.eq a b) (a ≡ b)
 same_id a b = (λ e. let same : a.0 ≡ b.0 = (unsigned_Decides a.0 b.0).0 e in ap (λ (k : ℕ). record { 0 = k }) same, λ e. (unsigned_Decides a.0 b.0).1 (ap (λ (x : Id). x.0) e))

@@ -9,7 +9,7 @@ use Rattle.wasm_code.specs.Table.{table, row_at}
 use Rattle.peephole_lang.specs.declared.variants.Arity.{Arity}
 use Rattle.peephole_lang.specs.declared.variants.Arity.TheVariants as arity
 use Rattle.peephole_lang.specs.Node.{is_right, is_count}
-use Rattle.peephole_lang.specs.PayloadKind.{imm_kind}
+use Rattle.peephole_nodes.specs.PayloadKind.{imm_kind}
 use Rattle.peephole_lang.specs.Variants.{Variant, variants, variant_at}
 
 -- the number of operands of a row whose node has so many children

@@ -6,18 +6,18 @@ use Rattle.std.specs.Ordering.{nat_cmp, on, then_cmp, eq_of_both, as_partial_cmp
 use Rattle.std.specs.Cmp.{IsEquivalence, IsPartialEquivalence, IsTotalOrder, IsPartialOrder, and_equiv, on_equiv, nat_eq_equiv, on_total, then_total, nat_cmp_total, both_tied, unsigned_ties, unsigned_Decides, partial_equiv_from_equiv, partial_order_from_agreeing_total}
 use Rattle.std.specs.Cmp.Lexicographic.{slice_cmp, pointwise, lists_equiv, lists_total, lists_ties}
 use Rattle.std.specs.declared.cmp.Ordering.{Ordering}
-use Rattle.peephole_lang.specs.contracts.id.IdPartialEq.TheImpl as id_eq
-use Rattle.peephole_lang.specs.contracts.id.IdOrd.TheImpl as id_ord
-use Rattle.peephole_lang.specs.contracts.id.IdHash.TheImpl as id_hash
-use Rattle.peephole_lang.specs.contracts.id.IdEq.TheImpl.Laws.{laws-law as id_equiv}
-use Rattle.peephole_lang.specs.contracts.id.IdOrd.TheImpl.Laws.{total-law as id_total, matches_eq-law as id_ties}
-use Rattle.peephole_lang.specs.contracts.id.IdHash.TheImpl.Laws.{respects_eq-law as id_alike}
-use Rattle.peephole_lang.specs.contracts.payload.PayloadPartialEq.TheImpl as payload_eq
-use Rattle.peephole_lang.specs.contracts.payload.PayloadOrd.TheImpl as payload_ord
-use Rattle.peephole_lang.specs.contracts.payload.PayloadHash.TheImpl as payload_hash
-use Rattle.peephole_lang.specs.contracts.payload.PayloadEq.TheImpl.Laws.{laws-law as payload_equiv}
-use Rattle.peephole_lang.specs.contracts.payload.PayloadOrd.TheImpl.Laws.{total-law as payload_total, matches_eq-law as payload_ties}
-use Rattle.peephole_lang.specs.contracts.payload.PayloadHash.TheImpl.Laws.{respects_eq-law as payload_alike}
+use Rattle.peephole_nodes.specs.contracts.id.IdPartialEq.TheImpl as id_eq
+use Rattle.peephole_nodes.specs.contracts.id.IdOrd.TheImpl as id_ord
+use Rattle.peephole_nodes.specs.contracts.id.IdHash.TheImpl as id_hash
+use Rattle.peephole_nodes.specs.contracts.id.IdEq.TheImpl.Laws.{laws-law as id_equiv}
+use Rattle.peephole_nodes.specs.contracts.id.IdOrd.TheImpl.Laws.{total-law as id_total, matches_eq-law as id_ties}
+use Rattle.peephole_nodes.specs.contracts.id.IdHash.TheImpl.Laws.{respects_eq-law as id_alike}
+use Rattle.peephole_nodes.specs.contracts.payload.PayloadPartialEq.TheImpl as payload_eq
+use Rattle.peephole_nodes.specs.contracts.payload.PayloadOrd.TheImpl as payload_ord
+use Rattle.peephole_nodes.specs.contracts.payload.PayloadHash.TheImpl as payload_hash
+use Rattle.peephole_nodes.specs.contracts.payload.PayloadEq.TheImpl.Laws.{laws-law as payload_equiv}
+use Rattle.peephole_nodes.specs.contracts.payload.PayloadOrd.TheImpl.Laws.{total-law as payload_total, matches_eq-law as payload_ties}
+use Rattle.peephole_nodes.specs.contracts.payload.PayloadHash.TheImpl.Laws.{respects_eq-law as payload_alike}
 use Rattle.peephole_lang.specs.declared.lang.Lang.{Lang}
 use Rattle.peephole_lang.specs.Lang.{place_of, payload_of, ids_of}
 

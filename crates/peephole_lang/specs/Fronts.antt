@@ -6,8 +6,8 @@ use Rattle.std.specs.Cmp.Lexicographic.{slice_cmp}
 use Rattle.std.specs.Ordering.{nat_cmp}
 use Rattle.std.specs.declared.cmp.Ordering.{Ordering}
 use Rattle.std.specs.declared.cmp.Ordering.TheVariants.{Equal}
-use Rattle.peephole_lang.specs.declared.payload.PayloadKind.{PayloadKind}
-use Rattle.peephole_lang.specs.declared.payload.PayloadKind.TheVariants as kind
+use Rattle.peephole_nodes.specs.declared.payload.PayloadKind.{PayloadKind}
+use Rattle.peephole_nodes.specs.declared.payload.PayloadKind.TheVariants as kind
 use Rattle.peephole_lang.specs.Variants.{Variant, variant_at}
 
 abbrev pub dot_of : PayloadKind → List ℕ

@@ -1,14 +1,14 @@
 -- A node seen as place, payload and children (this project: a node's place is 12 more than the row of its instruction,
 -- and below 12 for a node without one).
 use Rattle.std.specs.Prelude.{ℕ, List, [], ◌∷◌, length}
-use Rattle.peephole_lang.specs.declared.id.Id.{Id}
-use Rattle.peephole_lang.specs.declared.payload.Payload.{Payload}
-use Rattle.peephole_lang.specs.declared.payload.Payload.TheVariants as payload
+use Rattle.peephole_nodes.specs.declared.id.Id.{Id}
+use Rattle.peephole_nodes.specs.declared.payload.Payload.{Payload}
+use Rattle.peephole_nodes.specs.declared.payload.Payload.TheVariants as payload
 use Rattle.peephole_lang.specs.declared.lang.Lang.{Lang}
 use Rattle.peephole_lang.specs.declared.lang.Lang.TheVariants.{RandI32, RandI64, RandF32, RandF64, Undef, UnfoldI32, UnfoldI64, I32UseGlobal, I64UseGlobal, F32UseGlobal, F64UseGlobal, Container, Nop, Call, Drop, Select, LocalGet, LocalSet, LocalTee, GlobalGet, GlobalSet, TableGet, TableSet, I32Load, I64Load, F32Load, F64Load, I32Load8S, I32Load8U, I32Load16S, I32Load16U, I64Load8S, I64Load8U, I64Load16S, I64Load16U, I64Load32S, I64Load32U, I32Store, I64Store, F32Store, F64Store, I32Store8, I32Store16, I64Store8, I64Store16, I64Store32, MemorySize, MemoryGrow, I32, I64, F32, F64, RefNull, RefIsNull, RefFunc, MemoryInit, DataDrop, MemoryCopy, MemoryFill, TableInit, ElemDrop, TableCopy, TableGrow, TableSize, TableFill, TypedSelect, Numeric, Simd}
-use Rattle.peephole_lang.specs.Numeric.{numeric_place_of, numeric_ids_of, numeric_count_of}
-use Rattle.peephole_lang.specs.Simd.{simd_place_of, simd_payload_of}
-use Rattle.peephole_lang.specs.SimdChildren.{simd_ids_of, simd_count_of}
+use Rattle.peephole_nodes.specs.Numeric.{numeric_place_of, numeric_ids_of, numeric_count_of}
+use Rattle.peephole_nodes.specs.Simd.{simd_place_of, simd_payload_of}
+use Rattle.peephole_nodes.specs.SimdChildren.{simd_ids_of, simd_count_of}
 
 -- the place of its variant in the order of nodes
 unfoldable pub place_of : Lang → ℕ

@@ -2,9 +2,9 @@
 -- written last.
 use Rattle.std.specs.Prelude.{List}
 use Rattle.std.specs.Borrow.{Lends, MutBor, Fml, Array}
-use Rattle.peephole_lang.specs.contracts.id.Id as id
+use Rattle.peephole_nodes.specs.contracts.id.Id as id
 use Rattle.peephole_lang.specs.contracts.lang.Lang.{the_row}
-use Rattle.peephole_lang.specs.declared.id.Id.{Id}
+use Rattle.peephole_nodes.specs.declared.id.Id.{Id}
 use Rattle.peephole_lang.specs.declared.lang.Lang.{Lang}
 use Rattle.peephole_lang.specs.WithIds.{with_ids}
 

@@ -5,16 +5,16 @@ use Rattle.std.specs.Option.{option_map}
 use Rattle.std.proofs.lemmas.Bool.{cases_eq, ne_eqb, eqb-true}
 use Rattle.wasm_code.specs.declared.immediate.ValType.TheVariants as types
 use Rattle.mutate_base.specs.declared.payload.RefType.TheVariants as ref
-use Rattle.peephole_lang.specs.declared.payload.Payload.{Payload}
-use Rattle.peephole_lang.specs.declared.payload.Payload.TheVariants as payload
-use Rattle.peephole_lang.specs.declared.payload.PayloadKind.{PayloadKind}
-use Rattle.peephole_lang.specs.declared.payload.PayloadKind.TheVariants as kind
+use Rattle.peephole_nodes.specs.declared.payload.Payload.{Payload}
+use Rattle.peephole_nodes.specs.declared.payload.Payload.TheVariants as payload
+use Rattle.peephole_nodes.specs.declared.payload.PayloadKind.{PayloadKind}
+use Rattle.peephole_nodes.specs.declared.payload.PayloadKind.TheVariants as kind
 use Rattle.peephole_lang.specs.declared.variants.Arity.{Arity}
 use Rattle.peephole_lang.specs.declared.variants.Arity.TheVariants as arity
 use Rattle.peephole_lang.specs.LangShapes.{is_plain_leaf, is_plain_one, is_plain_three, is_index_leaf, is_index_one, is_index_two, is_index_three, is_memory_one, is_memory_two, is_i32_leaf, is_i64_leaf, is_f32_leaf, is_f64_leaf, is_ref_leaf, is_memory_init_three, is_memory_copy_three, is_table_init_three, is_table_copy_three, is_value_three}
-use Rattle.peephole_lang.specs.NumericShapes.{is_numeric_plain_one_a, is_numeric_plain_one_b, is_numeric_plain_two_a, is_numeric_plain_two_b}
-use Rattle.peephole_lang.specs.SimdShapes.{is_simd_memory_one, is_simd_memory_two, is_simd_v128_leaf, is_simd_shuffle_two, is_simd_plain_one_a, is_simd_plain_one_b, is_simd_plain_two_a, is_simd_plain_two_b, is_simd_plain_two_c, is_simd_plain_two_d, is_simd_plain_three, is_simd_lane_one, is_simd_lane_two, is_simd_memory_lane_two}
-use Rattle.peephole_lang.specs.Payload.{is_of}
+use Rattle.peephole_nodes.specs.NumericShapes.{is_numeric_plain_one_a, is_numeric_plain_one_b, is_numeric_plain_two_a, is_numeric_plain_two_b}
+use Rattle.peephole_nodes.specs.SimdShapes.{is_simd_memory_one, is_simd_memory_two, is_simd_v128_leaf, is_simd_shuffle_two, is_simd_plain_one_a, is_simd_plain_one_b, is_simd_plain_two_a, is_simd_plain_two_b, is_simd_plain_two_c, is_simd_plain_two_d, is_simd_plain_three, is_simd_lane_one, is_simd_lane_two, is_simd_memory_lane_two}
+use Rattle.peephole_nodes.specs.Payload.{is_of}
 use Rattle.peephole_lang.specs.Making.{is_made}
 use Rattle.peephole_lang.specs.Node.{is_right, is_node_of, fits}
 use Rattle.peephole_lang.specs.TableLemmas.{place_is}

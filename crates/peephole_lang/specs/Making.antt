@@ -1,10 +1,10 @@
 -- Which nodes are made of a place, a payload and a number of children: the cases of `make` (this project).
 use Rattle.std.specs.Prelude.{ℕ, ◌==◌, ◌||◌, Bool, true, false, if◌then◌else◌}
-use Rattle.peephole_lang.specs.declared.payload.Payload.{Payload}
-use Rattle.peephole_lang.specs.declared.payload.Payload.TheVariants as payload
+use Rattle.peephole_nodes.specs.declared.payload.Payload.{Payload}
+use Rattle.peephole_nodes.specs.declared.payload.Payload.TheVariants as payload
 use Rattle.peephole_lang.specs.LangShapes as lang
-use Rattle.peephole_lang.specs.NumericShapes as numeric
-use Rattle.peephole_lang.specs.SimdShapes as simd
+use Rattle.peephole_nodes.specs.NumericShapes as numeric
+use Rattle.peephole_nodes.specs.SimdShapes as simd
 
 abbrev pub is_numeric : ℕ → ℕ → Bool
 is_numeric place count =

@@ -1,7 +1,7 @@
 -- Which variant a text is of, and the text of its payload (this project).
 use Rattle.std.specs.Prelude.{ℕ, ◌==◌, List, [], ◌∷◌, Option, Some, None, codes, if◌then◌else◌}
-use Rattle.peephole_lang.specs.declared.payload.PayloadKind.{PayloadKind}
-use Rattle.peephole_lang.specs.declared.payload.PayloadKind.TheVariants as kind
+use Rattle.peephole_nodes.specs.declared.payload.PayloadKind.{PayloadKind}
+use Rattle.peephole_nodes.specs.declared.payload.PayloadKind.TheVariants as kind
 use Rattle.peephole_lang.specs.Variants.{Variant}
 
 -- what stands behind `front` in the text, if the text begins with it

@@ -6,11 +6,11 @@ use Rattle.wasm_code.specs.Table.{info_of}
 use Rattle.wasm_code.specs.declared.table.RowInfo.{RowInfo}
 use Rattle.peephole_lang.specs.declared.lang.Head.{Head}
 use Rattle.peephole_lang.specs.declared.lang.Lang.{Lang}
-use Rattle.peephole_lang.specs.declared.payload.Payload.{Payload}
+use Rattle.peephole_nodes.specs.declared.payload.Payload.{Payload}
 use Rattle.peephole_lang.specs.declared.variants.Arity.{Arity}
 use Rattle.peephole_lang.specs.declared.variants.Arity.TheVariants as arity
 use Rattle.peephole_lang.specs.Lang.{place_of, payload_of, ids_of, count_of}
-use Rattle.peephole_lang.specs.Payload.{imm_of, is_of, is_writable}
+use Rattle.peephole_nodes.specs.Payload.{imm_of, is_of, is_writable}
 use Rattle.peephole_lang.specs.Term.{Node, numbers_of}
 use Rattle.peephole_lang.specs.Variants.{Variant, variant_at}
 

@@ -3,16 +3,16 @@ use Rattle.std.specs.Prelude.{◌≡◌, ℕ, ◌==◌, ◌&&◌, ◌++◌, Bool
 use Rattle.std.specs.Bool.{Decides}
 use Rattle.std.specs.Cmp.{IsEquivalence, unsigned_Decides}
 use Rattle.std.proofs.Common.{ap, ap₂}
-use Rattle.peephole_lang.specs.contracts.payload.PayloadPartialEq.TheImpl as payload_eq
+use Rattle.peephole_nodes.specs.contracts.payload.PayloadPartialEq.TheImpl as payload_eq
 use Rattle.peephole_lang.specs.declared.lang.Head.{Head}
 use Rattle.peephole_lang.specs.declared.lang.Lang.{Lang}
-use Rattle.peephole_lang.specs.declared.payload.Payload.{Payload}
+use Rattle.peephole_nodes.specs.declared.payload.Payload.{Payload}
 use Rattle.peephole_lang.specs.Compared.{lang_matches, given_of}
 use Rattle.peephole_lang.specs.Lang.{place_of, payload_of, ids_of}
 use Rattle.peephole_lang.specs.Language.{IsAlike, alike_equivalence}
 use Rattle.peephole_lang.specs.Node.{head_of}
-use Rattle.peephole_lang.specs.PayloadLemmas.{same_payload, payload_itself}
-use Rattle.peephole_lang.specs.PayloadText.{payload_text}
+use Rattle.peephole_nodes.specs.PayloadLemmas.{same_payload, payload_itself}
+use Rattle.peephole_nodes.specs.PayloadText.{payload_text}
 use Rattle.peephole_lang.specs.Text.{name_in, text_of}
 use Rattle.peephole_lang.specs.Variants.{variant_at}
 

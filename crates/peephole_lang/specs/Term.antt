@@ -1,7 +1,7 @@
 -- The term of an expression (this project): the tree of its last node, a shared node at each of its uses.
 -- Terms are over any heads. Lists `ns` of nodes have the last one first.
 use Rattle.std.specs.Prelude.{ℕ, ◌-◌, ◌<◌, ◌==◌, List, [], ◌∷◌, length, reverse, map, if◌then◌else◌, ⊤, All}
-use Rattle.peephole_lang.specs.declared.id.Id.{Id}
+use Rattle.peephole_nodes.specs.declared.id.Id.{Id}
 
 infixr 50 ◌▸◌
 mutual

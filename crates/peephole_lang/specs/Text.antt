@@ -3,16 +3,16 @@
 use Rattle.std.specs.Prelude.{◌≡◌, ℕ, ◌==◌, List, [], ◌++◌, length, Option, Some, None, Result, Ok, Err, if◌then◌else◌}
 use Rattle.mutate_base.specs.declared.term_error.TermError.{TermError}
 use Rattle.mutate_base.specs.declared.term_error.TermError.TheVariants.{InvalidToken, ExpectedZeroChildren, ExpectedOneChild, ExpectedChildren}
-use Rattle.peephole_lang.specs.declared.id.Id.{Id}
+use Rattle.peephole_nodes.specs.declared.id.Id.{Id}
 use Rattle.peephole_lang.specs.declared.lang.Head.{Head}
 use Rattle.peephole_lang.specs.declared.lang.Lang.{Lang}
-use Rattle.peephole_lang.specs.declared.payload.Payload.{Payload}
+use Rattle.peephole_nodes.specs.declared.payload.Payload.{Payload}
 use Rattle.peephole_lang.specs.declared.variants.Arity.{Arity}
 use Rattle.peephole_lang.specs.declared.variants.Arity.TheVariants as arity
 use Rattle.peephole_lang.specs.Lang.{place_of, payload_of, ids_of}
 use Rattle.peephole_lang.specs.Names.{find_in}
 use Rattle.peephole_lang.specs.Node.{head_of}
-use Rattle.peephole_lang.specs.PayloadText.{payload_text, read_payload}
+use Rattle.peephole_nodes.specs.PayloadText.{payload_text, read_payload}
 use Rattle.peephole_lang.specs.Variants.{Variant, variants, variant_at}
 
 -- ---- writing

@@ -5,10 +5,10 @@ use Rattle.std.proofs.Common.{sym, ap, ap₂, ◌∙◌}
 use Rattle.std.proofs.lemmas.Bool.{eqb-true, eq-eqb, cond-true, true≢false}
 use Rattle.std.proofs.lemmas.List.{append_assoc}
 use Rattle.peephole_lang.specs.declared.lang.Lang.{Lang}
-use Rattle.peephole_lang.specs.declared.payload.Payload.{Payload}
-use Rattle.peephole_lang.specs.declared.payload.Payload.TheVariants as payload
-use Rattle.peephole_lang.specs.declared.payload.PayloadKind.{PayloadKind}
-use Rattle.peephole_lang.specs.declared.payload.PayloadKind.TheVariants as kind
+use Rattle.peephole_nodes.specs.declared.payload.Payload.{Payload}
+use Rattle.peephole_nodes.specs.declared.payload.Payload.TheVariants as payload
+use Rattle.peephole_nodes.specs.declared.payload.PayloadKind.{PayloadKind}
+use Rattle.peephole_nodes.specs.declared.payload.PayloadKind.TheVariants as kind
 use Rattle.peephole_lang.specs.declared.variants.Arity.{Arity}
 use Rattle.peephole_lang.specs.declared.variants.Arity.TheVariants as arity
 use Rattle.peephole_lang.specs.Fits.{fits_own}
@@ -17,9 +17,9 @@ use Rattle.peephole_lang.specs.Lang.{place_of, payload_of, ids_of, count_of}
 use Rattle.peephole_lang.specs.MadeLemmas.{has_variant}
 use Rattle.peephole_lang.specs.Names.{after, behind_name}
 use Rattle.peephole_lang.specs.Node.{head_of, IsNode, is_right}
-use Rattle.peephole_lang.specs.Payload.{is_of}
-use Rattle.peephole_lang.specs.PayloadLemmas.{payload_back}
-use Rattle.peephole_lang.specs.PayloadText.{inner_text, payload_text, read_payload}
+use Rattle.peephole_nodes.specs.Payload.{is_of}
+use Rattle.peephole_nodes.specs.PayloadLemmas.{payload_back}
+use Rattle.peephole_nodes.specs.PayloadText.{inner_text, payload_text, read_payload}
 use Rattle.peephole_lang.specs.Text.{name_in, text_of, wrong_count, judged, with_place, read_found, reads}
 use Rattle.peephole_lang.specs.TableLemmas.{place_is}
 use Rattle.peephole_lang.specs.VariantLemmas.{found_at}

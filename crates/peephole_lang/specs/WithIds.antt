@@ -1,11 +1,11 @@
 -- Nodes whose children have been written (this project).
 use Rattle.std.specs.Prelude.{List, slice_index_or}
 use Rattle.std.specs.Vec.{with_items}
-use Rattle.peephole_lang.specs.declared.id.Id.{Id}
+use Rattle.peephole_nodes.specs.declared.id.Id.{Id}
 use Rattle.peephole_lang.specs.declared.lang.Lang.{Lang}
 use Rattle.peephole_lang.specs.declared.lang.Lang.TheVariants.{RandI32, RandI64, RandF32, RandF64, Undef, UnfoldI32, UnfoldI64, I32UseGlobal, I64UseGlobal, F32UseGlobal, F64UseGlobal, Container, Nop, Call, Drop, Select, LocalGet, LocalSet, LocalTee, GlobalGet, GlobalSet, TableGet, TableSet, I32Load, I64Load, F32Load, F64Load, I32Load8S, I32Load8U, I32Load16S, I32Load16U, I64Load8S, I64Load8U, I64Load16S, I64Load16U, I64Load32S, I64Load32U, I32Store, I64Store, F32Store, F64Store, I32Store8, I32Store16, I64Store8, I64Store16, I64Store32, MemorySize, MemoryGrow, I32, I64, F32, F64, RefNull, RefIsNull, RefFunc, MemoryInit, DataDrop, MemoryCopy, MemoryFill, TableInit, ElemDrop, TableCopy, TableGrow, TableSize, TableFill, TypedSelect, Numeric, Simd}
-use Rattle.peephole_lang.specs.NumericWithIds.{numeric_with_ids}
-use Rattle.peephole_lang.specs.SimdWithIds.{simd_with_ids}
+use Rattle.peephole_nodes.specs.NumericWithIds.{numeric_with_ids}
+use Rattle.peephole_nodes.specs.SimdWithIds.{simd_with_ids}
 
 -- the node with these children in the place of its own
 unfoldable pub with_ids : Lang → List Id → Lang

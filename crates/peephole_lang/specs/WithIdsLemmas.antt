@@ -1,16 +1,16 @@
 -- A node whose children have been written says what it said, and has the children that were written.
 use Rattle.std.specs.Prelude.{◌≡◌, ℕ, List, length, refl}
 use Rattle.std.proofs.Common.{ap₂}
-use Rattle.peephole_lang.specs.declared.payload.Payload.{Payload}
-use Rattle.peephole_lang.specs.declared.id.Id.{Id}
+use Rattle.peephole_nodes.specs.declared.payload.Payload.{Payload}
+use Rattle.peephole_nodes.specs.declared.id.Id.{Id}
 use Rattle.peephole_lang.specs.declared.lang.Lang.{Lang}
 use Rattle.peephole_lang.specs.declared.lang.Lang.TheVariants.{RandI32, RandI64, RandF32, RandF64, Undef, UnfoldI32, UnfoldI64, I32UseGlobal, I64UseGlobal, F32UseGlobal, F64UseGlobal, Container, Nop, Call, Drop, Select, LocalGet, LocalSet, LocalTee, GlobalGet, GlobalSet, TableGet, TableSet, I32Load, I64Load, F32Load, F64Load, I32Load8S, I32Load8U, I32Load16S, I32Load16U, I64Load8S, I64Load8U, I64Load16S, I64Load16U, I64Load32S, I64Load32U, I32Store, I64Store, F32Store, F64Store, I32Store8, I32Store16, I64Store8, I64Store16, I64Store32, MemorySize, MemoryGrow, I32, I64, F32, F64, RefNull, RefIsNull, RefFunc, MemoryInit, DataDrop, MemoryCopy, MemoryFill, TableInit, ElemDrop, TableCopy, TableGrow, TableSize, TableFill, TypedSelect, Numeric, Simd}
 use Rattle.peephole_lang.specs.Lang.{place_of, payload_of, ids_of}
 use Rattle.peephole_lang.specs.WithIds.{with_ids}
-use Rattle.peephole_lang.specs.NumericWithIdsLemmas.{numeric_keeps_place, numeric_has_written}
-use Rattle.peephole_lang.specs.SimdWithIdsLemmas.{simd_keeps_place, simd_keeps_payload, simd_has_written}
+use Rattle.peephole_nodes.specs.NumericWithIdsLemmas.{numeric_keeps_place, numeric_has_written}
+use Rattle.peephole_nodes.specs.SimdWithIdsLemmas.{simd_keeps_place, simd_keeps_payload, simd_has_written}
 use Rattle.peephole_lang.specs.Node.{head_of}
-use Rattle.peephole_lang.specs.Written.{none_written, one_written, any_written}
+use Rattle.peephole_nodes.specs.Written.{none_written, one_written, any_written}
 
 pub keeps_place : (l : Lang) (w : List Id) → place_of (with_ids l w) ≡ place_of l
 unfolding with_ids place_of

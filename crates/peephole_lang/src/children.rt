@@ -3,15 +3,15 @@ ghost use Rattle.std.specs.Prelude.{◌≡◌, ℕ, List, length, Option, None, 
 ghost use Rattle.std.specs.Borrow.{sem, Lends, Array};
 ghost use Rattle.std.specs.Vec.{with_items};
 ghost use Rattle.mutate_base.specs.declared.term_error.TermError.{TermError};
-ghost use Rattle.peephole_lang.specs.contracts.id.Id as id_row;
-ghost use Rattle.peephole_lang.specs.declared.id.Id.{Id};
+ghost use Rattle.peephole_nodes.specs.contracts.id.Id as id_row;
+ghost use Rattle.peephole_nodes.specs.declared.id.Id.{Id};
 ghost use Rattle.peephole_lang.specs.declared.variants.Arity.TheVariants as arity;
 ghost use Rattle.peephole_lang.specs.Text.{wrong_count};
-ghost use Rattle.peephole_lang.specs.Written.{any_written};
+ghost use Rattle.peephole_nodes.specs.Written.{any_written};
 ghost use Rattle.peephole_lang.specs.Children.{IsMadeOf, only, with_only, only_one, only_written};
 
-use crate::id::Id;
 use mutate_base::TermError;
+use peephole_nodes::Id;
 
 /// The children of a node: an `Id` where it has one, `[Id; N]` where it has N, `Vec<Id>` where it may have any number.
 pub trait Children: Drop {

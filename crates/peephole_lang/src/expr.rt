@@ -1,7 +1,7 @@
 //! Expressions: nodes in a list, of which the last is the root.
-use crate::id::Id;
 use crate::language::Language;
 use mutate_base::Error;
+use peephole_nodes::Id;
 use std::alloc::Global;
 use std::marker::Model;
 

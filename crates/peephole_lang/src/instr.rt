@@ -2,12 +2,12 @@
 ghost use Rattle.std.specs.Prelude.{◌≡◌, IfSome, Some, is_some, length};
 ghost use Rattle.peephole_lang.specs.Lang.{payload_of, ids_of};
 ghost use Rattle.peephole_lang.specs.Node.{instr_of, takes_children};
-ghost use Rattle.peephole_lang.specs.Payload.{is_writable};
+ghost use Rattle.peephole_nodes.specs.Payload.{is_writable};
 
-use crate::id::Id;
 use crate::lang::Lang;
 use crate::making::make;
 use crate::names::entry_at;
+use peephole_nodes::Id;
 use wasm_code::Instr;
 
 impl Lang {

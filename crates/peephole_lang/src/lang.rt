@@ -1,9 +1,6 @@
 //! The nodes of peephole terms.
-use crate::id::Id;
-use crate::numeric::Numeric;
-use crate::payload::Payload;
-use crate::simd::Simd;
 use mutate_base::{F32, F64, MemArg, MemoryCopy, MemoryInit, RefType, TableCopy, TableInit};
+use peephole_nodes::{Id, Numeric, Payload, Simd};
 use wasm_code::ValType;
 
 /// What a node is, apart from its children.

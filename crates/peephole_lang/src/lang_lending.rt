@@ -1,14 +1,13 @@
 //! The children of a node, lent to be written.
 ghost use Rattle.std.specs.Prelude.{◌≡◌, []};
 ghost use Rattle.std.specs.Borrow.{sem, Lends, Array};
-ghost use Rattle.peephole_lang.specs.contracts.id.Id as id;
+ghost use Rattle.peephole_nodes.specs.contracts.id.Id as id;
 ghost use Rattle.peephole_lang.specs.contracts.lang.Lang.{the_row};
 ghost use Rattle.peephole_lang.specs.Lang.{ids_of};
 ghost use Rattle.peephole_lang.specs.Lending.{LendsIds};
 
-use crate::id::Id;
 use crate::lang::Lang;
-use crate::lending::{no_children, only_child};
+use peephole_nodes::{Id, no_children, only_child};
 
 impl Lang {
     /// The ids of the children, the first operand first, to be written.

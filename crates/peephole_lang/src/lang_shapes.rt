@@ -2,11 +2,11 @@
 ghost use Rattle.std.specs.Prelude.{◌≡◌, IfSome, is_some, [], ◌∷◌};
 ghost use Rattle.peephole_lang.specs.Lang.{place_of, payload_of, ids_of, count_of};
 ghost use Rattle.peephole_lang.specs.LangShapes.{is_plain_leaf, is_plain_one, is_plain_three, is_index_leaf, is_index_one, is_index_two, is_index_three, is_memory_one, is_memory_two, is_i32_leaf, is_i64_leaf, is_f32_leaf, is_f64_leaf, is_ref_leaf, is_memory_init_three, is_memory_copy_three, is_table_init_three, is_table_copy_three, is_value_three};
-ghost use Rattle.peephole_lang.specs.declared.payload.Payload.TheVariants as P;
+ghost use Rattle.peephole_nodes.specs.declared.payload.Payload.TheVariants as P;
 
-use crate::id::Id;
 use crate::lang::Lang;
 use mutate_base::{F32, F64, MemArg, MemoryCopy, MemoryInit, RefType, TableCopy, TableInit};
+use peephole_nodes::Id;
 use wasm_code::ValType;
 
 #[tactic(auto, unfolding(crate::specs::LangShapes::is_plain_leaf, crate::specs::Lang::place_of, crate::specs::Lang::payload_of, crate::specs::Lang::ids_of, crate::specs::Lang::count_of))]

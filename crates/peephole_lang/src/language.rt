@@ -4,13 +4,13 @@ ghost use Rattle.std.specs.Bool.{Decides};
 ghost use Rattle.std.specs.Borrow.{sem, Lends, Array};
 ghost use Rattle.std.specs.Cmp.{IsEquivalence};
 ghost use Rattle.mutate_base.specs.declared.term_error.TermError.{TermError};
-ghost use Rattle.peephole_lang.specs.contracts.id.Id as id_row;
-ghost use Rattle.peephole_lang.specs.declared.id.Id.{Id};
+ghost use Rattle.peephole_nodes.specs.contracts.id.Id as id_row;
+ghost use Rattle.peephole_nodes.specs.declared.id.Id.{Id};
 ghost use Rattle.peephole_lang.specs.Term.{numbers_of};
 ghost use Rattle.peephole_lang.specs.Language.{IsSame, IsAlike, ReadsInto};
 
-use crate::id::Id;
 use mutate_base::{Error, TermError};
+use peephole_nodes::Id;
 use std::fmt::Display;
 
 /// A kind of nodes, each of which names its children, and displays as a text that says all but these.

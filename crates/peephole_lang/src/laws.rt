@@ -2,13 +2,13 @@
 ghost use Rattle.std.specs.Prelude.{◌≡◌, ℕ, List, Bool, true, Some, IsSome, Ok, length};
 ghost use Rattle.std.specs.List.{Contains};
 ghost use Rattle.wasm_code.specs.Instruction.{Instruction};
-ghost use Rattle.peephole_lang.specs.contracts.payload.PayloadPartialEq.TheImpl as payload_eq;
-ghost use Rattle.peephole_lang.specs.declared.payload.Payload.{Payload};
+ghost use Rattle.peephole_nodes.specs.contracts.payload.PayloadPartialEq.TheImpl as payload_eq;
+ghost use Rattle.peephole_nodes.specs.declared.payload.Payload.{Payload};
 ghost use Rattle.peephole_lang.specs.Names.{after, behind_name};
 ghost use Rattle.peephole_lang.specs.Variants.{Variant, variants};
 ghost use Rattle.std.specs.Bool.{Decides};
 ghost use Rattle.peephole_lang.specs.Lang.{place_of, payload_of, ids_of};
-ghost use Rattle.peephole_lang.specs.declared.id.Id.{Id};
+ghost use Rattle.peephole_nodes.specs.declared.id.Id.{Id};
 ghost use Rattle.peephole_lang.specs.declared.lang.Lang.{Lang};
 ghost use Rattle.peephole_lang.specs.Compared.{lang_eq};
 ghost use Rattle.peephole_lang.specs.Language.{IsSame};

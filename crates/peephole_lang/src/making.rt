@@ -2,19 +2,16 @@
 ghost use Rattle.std.specs.Prelude.{◌≡◌, ◌||◌, IfSome, is_some, length, [], ◌∷◌};
 ghost use Rattle.peephole_lang.specs.Lang.{place_of, payload_of, ids_of, count_of};
 ghost use Rattle.peephole_lang.specs.Making.{is_numeric, is_simd_plain, is_simd, is_few, is_plain, is_index, is_memory, is_single, is_made};
-ghost use Rattle.peephole_lang.specs.Numeric.{numeric_place_of, numeric_ids_of, numeric_count_of};
-ghost use Rattle.peephole_lang.specs.Simd.{simd_place_of, simd_payload_of};
-ghost use Rattle.peephole_lang.specs.SimdChildren.{simd_ids_of, simd_count_of};
-ghost use Rattle.peephole_lang.specs.SimdShapes.{is_simd_plain_two_a, is_simd_plain_two_b, is_simd_plain_two_c, is_simd_plain_two_d};
-ghost use Rattle.peephole_lang.specs.declared.payload.Payload.TheVariants as P;
+ghost use Rattle.peephole_nodes.specs.Numeric.{numeric_place_of, numeric_ids_of, numeric_count_of};
+ghost use Rattle.peephole_nodes.specs.Simd.{simd_place_of, simd_payload_of};
+ghost use Rattle.peephole_nodes.specs.SimdChildren.{simd_ids_of, simd_count_of};
+ghost use Rattle.peephole_nodes.specs.SimdShapes.{is_simd_plain_two_a, is_simd_plain_two_b, is_simd_plain_two_c, is_simd_plain_two_d};
+ghost use Rattle.peephole_nodes.specs.declared.payload.Payload.TheVariants as P;
 
-use crate::id::Id;
 use crate::lang::Lang;
-use crate::numeric::Numeric;
-use crate::payload::Payload;
-use crate::simd::Simd;
-use crate::{lang_shapes as lang, numeric_shapes as numeric, simd_shapes as simd};
+use crate::lang_shapes as lang;
 use mutate_base::MemArg;
+use peephole_nodes::{Id, Numeric, Payload, Simd, numeric_shapes as numeric, simd_shapes as simd};
 
 /// The node with this place, payload and children, or None where no variant of the place has that kind of payload and
 /// that many children.

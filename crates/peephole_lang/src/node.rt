@@ -9,10 +9,10 @@ ghost use Rattle.peephole_lang.specs.Node.{IsNode, head_of, children_of};
 ghost use Rattle.peephole_lang.specs.NodeLemmas.{matches_exactly, matches_equivalence, says};
 ghost use Rattle.peephole_lang.specs.TextLemmas.{reads_back};
 
-use crate::id::Id;
 use crate::lang::{Head, Lang};
 use crate::language::Language;
 use mutate_base::{Error, TermError};
+use peephole_nodes::Id;
 
 impl Lang {
     /// Whether both are the same variant with the same payload and as many children, whichever these are.

@@ -1,16 +1,14 @@
 //! The texts of nodes, written and read.
 ghost use Rattle.std.specs.Prelude.{◌≡◌, Some};
-ghost use Rattle.peephole_lang.specs.PayloadText.{read_payload};
+ghost use Rattle.peephole_nodes.specs.PayloadText.{read_payload};
 ghost use Rattle.peephole_lang.specs.Text.{text_of, wrong_count, judged, ReadsAs};
 
-use crate::id::Id;
 use crate::lang::Lang;
 use crate::making::make;
 use crate::names::{find, front_at};
-use crate::payload::Payload;
-use crate::payload_text::PayloadText;
 use crate::variants::{Arity, Entry};
 use mutate_base::TermError;
+use peephole_nodes::{Id, Payload, PayloadText};
 use std::fmt;
 
 impl Lang {

@@ -1,8 +1,8 @@
 //! The variants of nodes, by place: what begins their texts, kind of payload, number of children.
 
-use crate::payload::PayloadKind;
-
 /// The children that a variant takes: none, one, this many, or any number of them.
+use peephole_nodes::PayloadKind;
+
 #[derive(Clone, Copy)]
 pub enum Arity {
     Zero,

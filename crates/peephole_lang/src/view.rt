@@ -2,9 +2,8 @@
 ghost use Rattle.std.specs.Prelude.{◌≡◌, length};
 ghost use Rattle.peephole_lang.specs.Lang.{place_of, payload_of, ids_of, count_of};
 
-use crate::id::Id;
 use crate::lang::Lang;
-use crate::payload::Payload;
+use peephole_nodes::{Id, Payload};
 
 impl Lang {
     /// The place of its variant in the order of nodes.

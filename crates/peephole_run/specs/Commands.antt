@@ -10,7 +10,7 @@ use Rattle.mutate_base.specs.Error.{error_name}
 use Rattle.mutate_base.specs.Types.{type_name}
 use Rattle.mutate_base.specs.Words.{word_stream}
 use Rattle.peephole_lang.specs.declared.lang.Head.{Head}
-use Rattle.peephole_lang.specs.Payload.{is_writable}
+use Rattle.peephole_nodes.specs.Payload.{is_writable}
 use Rattle.peephole_lang.specs.Term.{Node}
 use Rattle.peephole_lang.specs.Text.{reads}
 use Rattle.peephole_terms.specs.Block.{BlockRange}

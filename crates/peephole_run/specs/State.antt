@@ -3,7 +3,7 @@ use Rattle.std.specs.Prelude.{ℕ, ◌<◌, Bool, false, List, [], length, All, 
 use Rattle.mutate_base.specs.Module.{Module, module_of}
 use Rattle.mutate_base.specs.declared.types.PrimitiveTypeInfo.{PrimitiveTypeInfo}
 use Rattle.peephole_lang.specs.Lang.{payload_of}
-use Rattle.peephole_lang.specs.Payload.{is_writable}
+use Rattle.peephole_nodes.specs.Payload.{is_writable}
 use Rattle.peephole_lang.specs.Term.{Node}
 use Rattle.peephole_lang.specs.declared.lang.Head.{Head}
 use Rattle.peephole_lang.specs.declared.lang.Lang.{Lang}

@@ -7,7 +7,7 @@ use Rattle.std.proofs.lemmas.Grind.{common_steps}
 use Rattle.std.proofs.lemmas.List.{get_or_default}
 use Rattle.mutate_base.specs.declared.error.Error.{Error}
 use Rattle.mutate_base.specs.declared.error.Error.TheVariants.{Memory, TooLarge}
-use Rattle.peephole_lang.specs.declared.id.Id.{Id}
+use Rattle.peephole_nodes.specs.declared.id.Id.{Id}
 use Rattle.peephole_lang.specs.Term.{Node, AreBelow, tree_at, term_of}
 use Rattle.peephole_terms.specs.Layout.{node_by, laid}
 use Rattle.peephole_terms.specs.Asking.{AreAnswers, asked_nodes, IsLaidOut, IsTooLong}

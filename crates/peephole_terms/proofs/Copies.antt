@@ -5,7 +5,7 @@ use Rattle.std.specs.List.{All, AllZip}
 use Rattle.std.specs.List.Sorted.{IsStrictlyIncreasing}
 use Rattle.std.specs.Map.{lookup}
 use Rattle.std.proofs.lemmas.List.Elements.{AllZip-get_or, length_all_zip, same_from_all_zip}
-use Rattle.peephole_lang.specs.declared.id.Id.{Id}
+use Rattle.peephole_nodes.specs.declared.id.Id.{Id}
 use Rattle.peephole_lang.specs.declared.lang.Head.{Head}
 use Rattle.peephole_lang.specs.Node.{node_of, children_of, instr_of, instr_of_head}
 use Rattle.peephole_lang.specs.Term.{Node, numbers_of, tree_at}

@@ -11,7 +11,7 @@ use Rattle.std.proofs.lemmas.List.{map-append, take-append-drop, take_more, leng
 use Rattle.std.proofs.lemmas.List.Elements.{All-nil, All-cons, All-head, All-tail, All-append, All-pop, All-weaker}
 use Rattle.mutate_base.specs.declared.error.Error.{Error}
 use Rattle.mutate_base.specs.declared.error.Error.TheVariants.{Memory}
-use Rattle.peephole_lang.specs.declared.id.Id.{Id}
+use Rattle.peephole_nodes.specs.declared.id.Id.{Id}
 use Rattle.peephole_lang.specs.Lang.{ids_of}
 use Rattle.peephole_lang.specs.declared.lang.Head.{Head}
 use Rattle.peephole_lang.specs.Node.{node_of, children_of}

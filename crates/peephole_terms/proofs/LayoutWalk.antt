@@ -6,7 +6,7 @@ use Rattle.std.proofs.lemmas.Bool.Decides.{eqb_tells}
 use Rattle.std.proofs.lemmas.Grind.{common_steps}
 use Rattle.std.proofs.lemmas.List.{drop_all, length-reverse, length-map, reverse-append, get_or-map}
 use Rattle.std.proofs.lemmas.List.Elements.{All-nil, All-cons, All-head, All-tail, All-weaker, All-append, All-get_or, All-pop, All-take}
-use Rattle.peephole_lang.specs.declared.id.Id.{Id}
+use Rattle.peephole_nodes.specs.declared.id.Id.{Id}
 use Rattle.peephole_lang.specs.Term.{numbers_of}
 use Rattle.peephole_lang.specs.Term.{Term, Terms, absent, node, no_terms, ◌▸◌, Node, AreBelow, pick, tree_at}
 use Rattle.peephole_terms.specs.Layout.{held_nodes, size_of, size, places, laid, laid_all, IsWhole, AreWhole}

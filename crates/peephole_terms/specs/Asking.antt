@@ -1,7 +1,7 @@
 -- Nodes that a closure answers for ids, and their tree. This project's rule.
 use denote.Ref.{Bor}
 use Rattle.std.specs.Prelude.{ℕ, ◌≡◌, ◌<◌, ◌^◌, List, length, map, slice_index_or}
-use Rattle.peephole_lang.specs.declared.id.Id.{Id}
+use Rattle.peephole_nodes.specs.declared.id.Id.{Id}
 use Rattle.peephole_lang.specs.Term.{Node, tree_at, term_of}
 use Rattle.peephole_terms.specs.Layout.{node_by, held_nodes, laid, size_of}
 

@@ -1,6 +1,6 @@
 -- What the functions that write a forest's text go by: the levels of the way down, each with the children that are still to come. This project's rule.
 use Rattle.std.specs.Prelude.{ℕ, Bool, true, false, List, [], ◌∷◌, ◌++◌}
-use Rattle.peephole_lang.specs.declared.id.Id.{Id}
+use Rattle.peephole_nodes.specs.declared.id.Id.{Id}
 use Rattle.peephole_lang.specs.Term.{Terms, pick, numbers_of}
 use Rattle.peephole_terms.specs.declared.dfg.StackEntry.{StackEntry}
 use Rattle.peephole_terms.specs.ForestText.{Line, edge, child_lines, tree_of}

@@ -3,9 +3,9 @@
 use Rattle.std.specs.Prelude.{ℕ, ◌+◌, Bool, true, false, List, [], ◌++◌, codes, Option, Some, None}
 use Rattle.wasm_code.specs.Instruction.{Instruction}
 use Rattle.wasm_code.specs.declared.immediate.Imm.{Imm}
-use Rattle.peephole_lang.specs.declared.payload.Payload.{Payload}
-use Rattle.peephole_lang.specs.Payload.{payload_of_imm}
-use Rattle.peephole_lang.specs.PayloadText.{payload_text}
+use Rattle.peephole_nodes.specs.declared.payload.Payload.{Payload}
+use Rattle.peephole_nodes.specs.Payload.{payload_of_imm}
+use Rattle.peephole_nodes.specs.PayloadText.{payload_text}
 use Rattle.peephole_lang.specs.Variants.{Variant, variant_at}
 use Rattle.peephole_terms.specs.Shape.{Shape}
 use Rattle.peephole_terms.specs.Tree.{Tree, Trees, entry, node, no_trees, ◌▸◌}

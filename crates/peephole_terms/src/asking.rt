@@ -2,7 +2,7 @@
 
 ghost use Rattle.std.specs.Prelude.{◌≡◌, ◌+◌, ◌<◌, ◌≤◌, ◌⊎◌, List, IfOk, IfErr};
 ghost use Rattle.std.specs.List.{All};
-ghost use Rattle.peephole_lang.specs.declared.id.Id.{Id};
+ghost use Rattle.peephole_nodes.specs.declared.id.Id.{Id};
 ghost use Rattle.peephole_terms.specs.Asking.{AreAnswers, IsLaidOut, IsTooLong};
 
 use crate::layout::lay_out;

@@ -4,7 +4,7 @@ ghost use Rattle.std.specs.Prelude.{◌≡◌, ◌≢◌, ◌<◌, ◌++◌, ◌
 ghost use Rattle.wasm_code.specs.Instruction.{Instruction};
 ghost use Rattle.peephole_lang.specs.Lang.{payload_of};
 ghost use Rattle.peephole_lang.specs.Node.{head_of, children_of};
-ghost use Rattle.peephole_lang.specs.Payload.{is_writable};
+ghost use Rattle.peephole_nodes.specs.Payload.{is_writable};
 ghost use Rattle.peephole_lang.specs.Term.{AreBelow, nodes_of, term_of};
 ghost use Rattle.peephole_terms.specs.Dfg.{entries_of, parents_of, look_of};
 ghost use Rattle.peephole_terms.specs.Entries.{roots_of};

@@ -7,7 +7,7 @@ use Rattle.std.proofs.lemmas.Bool.{cond-false, ne_eqb}
 use Rattle.std.proofs.lemmas.List.{ext_get_or, get_or-map, get_or-take, length-map, length-reverse, length-append, length-take-le, map-append, reverse-append, take-append-drop}
 use Rattle.mutate_base.specs.declared.error.Error.{Error}
 use Rattle.mutate_base.specs.declared.error.Error.TheVariants.{Memory, TooLarge}
-use Rattle.peephole_lang.specs.declared.id.Id.{Id}
+use Rattle.peephole_nodes.specs.declared.id.Id.{Id}
 use Rattle.peephole_lang.specs.Term.{Node, AreBelow, nodes_of, tree_at, term_of}
 use Rattle.peephole_terms.specs.Asking.{AreAnswers, asked_nodes, IsLaidOut, IsTooLong}
 use Rattle.peephole_terms.specs.Layout.{node_by, laid, size_of}

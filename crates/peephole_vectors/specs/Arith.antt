@@ -10,13 +10,13 @@ use Rattle.std.specs.Vec.{with_items}
 use Rattle.std.proofs.Common.{true≢false, ap, sym, lit≤}
 use Rattle.mutate_base.specs.declared.term_error.TermError.{TermError}
 use Rattle.mutate_base.specs.declared.term_error.TermError.TheVariants.{InvalidToken, ExpectedZeroChildren, ExpectedChildren, BadInteger}
-use Rattle.peephole_lang.specs.declared.id.Id.{Id}
+use Rattle.peephole_nodes.specs.declared.id.Id.{Id}
 use Rattle.peephole_lang.specs.Language.{IsAlike, alike_equivalence}
 use Rattle.mutate_base.specs.Number.{read_signed}
 use Rattle.mutate_base.proofs.NumberBack.{signed_in_range_back}
 use Rattle.peephole_lang.specs.Term.{numbers_of}
 use Rattle.peephole_lang.specs.Names.{after}
-use Rattle.peephole_lang.specs.Written.{none_written, any_written}
+use Rattle.peephole_nodes.specs.Written.{none_written, any_written}
 use Rattle.peephole_vectors.specs.declared.arith.Arith.{Arith}
 use Rattle.peephole_vectors.specs.declared.arith.Arith.TheVariants.{Num, Neg, Add, Sum}
 use Rattle.peephole_vectors.specs.declared.arith.ArithHead.{ArithHead}

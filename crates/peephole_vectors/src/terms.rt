@@ -2,7 +2,7 @@
 
 ghost use Rattle.std.specs.Prelude.{◌≡◌, ◌<◌, All, IfOk, IsTrue, is_some, length};
 ghost use Rattle.peephole_lang.specs.Lang.{payload_of};
-ghost use Rattle.peephole_lang.specs.Payload.{is_writable};
+ghost use Rattle.peephole_nodes.specs.Payload.{is_writable};
 ghost use Rattle.peephole_lang.specs.Term.{numbers_of};
 
 use peephole_terms::{

@@ -2,7 +2,7 @@
 ghost use Rattle.std.specs.Prelude.{◌≡◌, ◌<◌, ◌^◌, ◌⊎◌, true, map, length, slice_index_or, IsSome, IfSome, IfOk, IfErr};
 ghost use Rattle.peephole_lang.specs.Language.{IsSame};
 ghost use Rattle.peephole_lang.specs.Term.{nodes_of, tree_at, term_of};
-ghost use Rattle.peephole_lang.specs.declared.id.Id.{Id};
+ghost use Rattle.peephole_nodes.specs.declared.id.Id.{Id};
 ghost use Rattle.peephole_terms.specs.Layout.{node_by, laid, size_of};
 
 use mutate_base::Error;

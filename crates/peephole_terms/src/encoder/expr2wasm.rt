@@ -5,7 +5,7 @@ ghost use Rattle.wasm_code.specs.Code.{codes};
 ghost use Rattle.wasm_code.specs.Instruction.{Instruction};
 ghost use Rattle.peephole_lang.specs.Lang.{payload_of};
 ghost use Rattle.peephole_lang.specs.Node.{head_of, children_of};
-ghost use Rattle.peephole_lang.specs.Payload.{is_writable};
+ghost use Rattle.peephole_nodes.specs.Payload.{is_writable};
 ghost use Rattle.peephole_lang.specs.Term.{term_of};
 ghost use Rattle.peephole_terms.specs.Expansion.{Refuses, setting_of, expanded, after_term, request, requests_of};
 

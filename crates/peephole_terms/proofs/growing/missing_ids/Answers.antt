@@ -3,7 +3,7 @@ use Rattle.std.proofs.Common.{◌≡◌, ℕ, zero, suc, ◌+◌, ◌-◌, ◌<�
 use Rattle.std.proofs.lemmas.List.{map_push}
 use Rattle.peephole_terms.specs.Step.{down}
 use Rattle.peephole_lang.specs.Term.{numbers_of}
-use Rattle.peephole_lang.specs.declared.id.Id.{Id}
+use Rattle.peephole_nodes.specs.declared.id.Id.{Id}
 use Rattle.peephole_terms.proofs.growing.missing_ids.Goals as goal
 
 down_step : (b l : ℕ) → 0 < l → down b l ≡ (b + (l - 1)) ∷ down b (l - 1)

@@ -4,7 +4,7 @@ use Rattle.std.proofs.lemmas.Bool.{false≢true}
 use Rattle.std.proofs.lemmas.List.{length-append, length-map}
 use Rattle.peephole_lang.specs.Node.{takes_children}
 use Rattle.peephole_lang.specs.Term.{numbers_of}
-use Rattle.peephole_lang.specs.declared.id.Id.{Id}
+use Rattle.peephole_nodes.specs.declared.id.Id.{Id}
 use Rattle.peephole_terms.specs.Step.{down}
 use Rattle.peephole_terms.proofs.growing.own_node.Goals as goal
 

@@ -2,7 +2,7 @@ use Rattle.std.proofs.Common.{◌≡◌, ℕ, ◌-◌, ◌<◌, List, [], ◌∷
 use Rattle.std.specs.Prelude.{All}
 use Rattle.std.proofs.lemmas.List.{drop-map, take-map, map-append}
 use Rattle.std.proofs.lemmas.List.Elements.{All-drop}
-use Rattle.peephole_lang.specs.declared.id.Id.{Id}
+use Rattle.peephole_nodes.specs.declared.id.Id.{Id}
 use Rattle.peephole_lang.specs.Term.{numbers_of}
 use Rattle.peephole_terms.specs.Layout.{node_by}
 use Rattle.peephole_terms.proofs.layout.add_own.Goals as goal

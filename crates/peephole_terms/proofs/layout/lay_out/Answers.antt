@@ -1,7 +1,7 @@
 use Rattle.std.proofs.Common.{◌<◌, ◌++◌, ◌∷◌, [], List, ap, ap₂, ◌∙◌, sym, subst, inl, inr, arith, length, map}
 use Rattle.std.specs.Prelude.{All}
 use Rattle.std.proofs.lemmas.List.{length-map}
-use Rattle.peephole_lang.specs.declared.id.Id.{Id}
+use Rattle.peephole_nodes.specs.declared.id.Id.{Id}
 use Rattle.peephole_lang.specs.Term.{numbers_of}
 use Rattle.peephole_terms.specs.Layout.{node_by}
 use Rattle.peephole_terms.specs.declared.frames.Frame.{Frame}

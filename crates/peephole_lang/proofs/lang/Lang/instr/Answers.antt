@@ -1,5 +1,5 @@
 use Rattle.std.proofs.Common.{◌∙◌, ap}
-use Rattle.peephole_lang.specs.Payload.{imm_of}
+use Rattle.peephole_nodes.specs.Payload.{imm_of}
 use Rattle.peephole_lang.proofs.InstrLemmas.{new_of_node}
 use Rattle.peephole_lang.proofs.lang.Lang.instr.Goals as goal
 

@@ -1,5 +1,5 @@
 use Rattle.std.proofs.Common.{◌∙◌, ap, length, arith}
-use Rattle.peephole_lang.specs.Payload.{payload_of_imm}
+use Rattle.peephole_nodes.specs.Payload.{payload_of_imm}
 use Rattle.peephole_lang.proofs.InstrLemmas.{row_small, has_entry, payload_there, node_found, says_found, takes_found}
 use Rattle.peephole_lang.proofs.lang.Lang.of_instr.Goals as goal
 

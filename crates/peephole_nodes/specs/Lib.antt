@@ -1,0 +1,16 @@
+pub mod Payload
+pub mod PayloadKind
+pub mod PayloadText
+pub mod PayloadLemmas
+pub mod Simd
+pub mod SimdChildren
+pub mod Numeric
+pub mod Written
+pub mod SimdWithIds
+pub mod NumericWithIds
+pub mod SimdWithIdsLemmas
+pub mod NumericWithIdsLemmas
+pub mod SimdLending
+pub mod NumericLending
+pub mod NumericShapes
+pub mod SimdShapes

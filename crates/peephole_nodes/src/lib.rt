@@ -1,0 +1,22 @@
+//! The nodes of instructions without lists of children, and what a node says besides its variant.
+#![tactic(auto)]
+
+mod id;
+mod lending;
+mod numeric;
+mod numeric_lending;
+pub mod numeric_shapes;
+mod numeric_view;
+mod payload;
+mod payload_text;
+mod simd;
+mod simd_lending;
+pub mod simd_shapes;
+mod simd_view;
+
+pub use id::Id;
+pub use lending::{no_children, only_child};
+pub use numeric::Numeric;
+pub use payload::{Payload, PayloadKind};
+pub use payload_text::PayloadText;
+pub use simd::Simd;
