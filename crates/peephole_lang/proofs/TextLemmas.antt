@@ -24,18 +24,6 @@ use Rattle.peephole_lang.specs.Variants.{Variant, variants}
 abbrev pub entry_reads : Entry → List ℕ → ℕ → Result Payload TermError
 entry_reads entry rest count = judged entry.children (wrong_count entry.children count) (read_payload entry.payload rest)
 
--- what is read by the entry that was found is what the text reads as
-pub reads_found : (o : Option (Variant × List ℕ)) (entry : Entry) (rest : List ℕ) (count : ℕ) → Some (entry, rest) ≡ found o
-    → read_found o count ≡ with_place entry.place (entry_reads entry rest count)
-reads_found None entry rest count e = absurd cc
-reads_found (Some x) entry rest count e =
-    let same : (entry_of x.0, x.1) ≡ (entry, rest) = same_Some _ _ (sym e) in
-    ap (λ (y : Entry × List ℕ). with_place y.0.place (entry_reads y.0 y.1 count)) same
-
-pub reads_none : (o : Option (Variant × List ℕ)) (count : ℕ) → None ≡ found o → read_found o count ≡ Err InvalidToken
-reads_none None count e = refl
-reads_none (Some x) count e = absurd cc
-
 judged_ok : (a : Arity) (wrong : Option TermError) (read : Result Payload TermError) (p : Payload) → Ok p ≡ judged a wrong read → (wrong ≡ None) × (read ≡ Ok p)
 judged_ok arity.Zero None (Ok q) p e = (refl, sym e)
 judged_ok arity.Zero None (Err x) p e = absurd cc

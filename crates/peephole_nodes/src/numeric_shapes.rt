@@ -6,6 +6,7 @@ ghost use Rattle.peephole_nodes.specs.NumericShapes.{is_numeric_plain_one_a, is_
 use crate::id::Id;
 use crate::numeric::Numeric;
 
+/// The numeric node of a place up to 171, with one child; none at a place without one.
 #[tactic(auto, unfolding(crate::specs::NumericShapes::is_numeric_plain_one_a, crate::specs::Numeric::numeric_place_of, crate::specs::Numeric::numeric_ids_of, crate::specs::Numeric::numeric_count_of))]
 pub fn numeric_plain_one_a(place: u16, child: Id) -> Option<Numeric>
     ensures place { IfSome result (λ l. numeric_place_of l ≡ place) }
@@ -62,6 +63,7 @@ pub fn numeric_plain_one_a(place: u16, child: Id) -> Option<Numeric>
     }
 }
 
+/// The numeric node of a place from 172 on, with one child; none at a place without one.
 #[tactic(auto, unfolding(crate::specs::NumericShapes::is_numeric_plain_one_b, crate::specs::Numeric::numeric_place_of, crate::specs::Numeric::numeric_ids_of, crate::specs::Numeric::numeric_count_of))]
 pub fn numeric_plain_one_b(place: u16, child: Id) -> Option<Numeric>
     ensures place { IfSome result (λ l. numeric_place_of l ≡ place) }
@@ -90,6 +92,7 @@ pub fn numeric_plain_one_b(place: u16, child: Id) -> Option<Numeric>
     }
 }
 
+/// The numeric node of a place up to 100, with two children; none at a place without one.
 #[tactic(auto, unfolding(crate::specs::NumericShapes::is_numeric_plain_two_a, crate::specs::Numeric::numeric_place_of, crate::specs::Numeric::numeric_ids_of, crate::specs::Numeric::numeric_count_of))]
 pub fn numeric_plain_two_a(place: u16, first: Id, second: Id) -> Option<Numeric>
     ensures place { IfSome result (λ l. numeric_place_of l ≡ place) }
@@ -146,6 +149,7 @@ pub fn numeric_plain_two_a(place: u16, first: Id, second: Id) -> Option<Numeric>
     }
 }
 
+/// The numeric node of a place from 101 on, with two children; none at a place without one.
 #[tactic(auto, unfolding(crate::specs::NumericShapes::is_numeric_plain_two_b, crate::specs::Numeric::numeric_place_of, crate::specs::Numeric::numeric_ids_of, crate::specs::Numeric::numeric_count_of))]
 pub fn numeric_plain_two_b(place: u16, first: Id, second: Id) -> Option<Numeric>
     ensures place { IfSome result (λ l. numeric_place_of l ≡ place) }

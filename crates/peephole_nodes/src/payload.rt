@@ -70,7 +70,7 @@ pub enum PayloadKind {
 }
 
 impl Payload {
-    // The immediate that stands for the payload in an instruction.
+    /// The immediate that stands for the payload in an instruction.
     pub fn imm(self) -> Imm
         ensures value { result ≡ imm_of self }
         ensures in_range { InRange result }
@@ -99,7 +99,7 @@ impl Payload {
         }
     }
 
-    // Whether the exponent of its alignment, where it has one, is below 64.
+    /// Whether the exponent of its alignment, where it has one, is below 64.
     pub fn is_writable(self) -> bool
         ensures { result ≡ is_writable self }
     {
@@ -112,7 +112,7 @@ impl Payload {
 }
 
 impl PayloadKind {
-    // The payload of this kind that stands for an immediate, or None where none does.
+    /// The payload of this kind that stands for an immediate, or None where none does.
     pub fn of_imm(self, imm: Imm) -> Option<Payload>
         ensures { result ≡ payload_of_imm self imm }
     {

@@ -13,30 +13,6 @@ use Rattle.peephole_terms.specs.Layout.{node_by, laid}
 use Rattle.peephole_terms.specs.Asking.{AreAnswers, asked_nodes, IsLaidOut, IsTooLong}
 use Rattle.peephole_terms.proofs.LayoutWalk.{length-held, some_item, node_at_is, below_all}
 
-at_front : {A : Type 0} (xs : List A) (x d : A) (i : ℕ) → i < length xs → get_or xs i d ≡ get_or (xs ++ x ∷ []) i d
-at_front xs x d i h = grind (arith, common_steps)
-
-at_end : {A : Type 0} (xs : List A) (x d : A) (i : ℕ) → length xs ≡ i → x ≡ get_or (xs ++ x ∷ []) i d
-at_end xs x d i h = grind (arith, common_steps)
-
-pub answered_more : {L : Type 0} (answers : Id → Bor L → Type 0) (n : ℕ) (xs ys : List (Bor L)) (x : Bor L) → AreAnswers answers n xs → ys ≡ xs ++
-    x ∷ [] → answers (record { 0 = n }) x → AreAnswers answers (n + 1) ys
-answered_more {L} answers n xs ys x h e own =
-    let count = h.0 in
-    let longer = length-append xs (x ∷ []) in
-    subst (AreAnswers answers (n + 1)) (sym e) (
-      omega arith,
-      λ i d l. elim (eqb_tells n i) [
-        | inl w ↦
-            let same : n ≡ i = w.1 in
-            subst (λ y. answers (record { 0 = i }) y) (at_end xs x d i (omega arith)) (subst (λ k. answers (record { 0 = k }) x) same own)
-        | inr w ↦
-            let other = w.1 in
-            let before : i < n = omega arith in
-            subst (λ y. answers (record { 0 = i }) y) (at_front xs x d i (omega arith)) (h.1 i d before)
-      ],
-    )
-
 -- nodes whose children's ids are below their own
 pub answers_below : {L H : Type 0} (head : L → H) (children : L → List ℕ) (answers : Id → Bor L → Type 0) (n : ℕ) (xs : List (Bor L)) →
     AreAnswers answers (n + 1) xs →

@@ -122,10 +122,6 @@ abbrev IsNode : Tree → Type 0
 IsNode (entry m) = ⊥
 IsNode (node i s kids) = Unit {0}
 
-abbrev AreNodes : Trees → Type 0
-AreNodes no_trees = Unit {0}
-AreNodes (t ▸ ts) = IsNode t × AreNodes ts
-
 abbrev number_of : Tree → ℕ
 number_of (entry m) = 0
 number_of (node i s kids) = i

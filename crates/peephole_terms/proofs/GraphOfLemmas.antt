@@ -43,10 +43,6 @@ some_same x y e = cc
 some_none : {A P : Type 0} (x : A) → ◌≡◌ {A = Option A} (Some x) None → P
 some_none x e = cc
 
-shape_past : (xs : List Shape) (i : ℕ) → length xs ≤ i → shape_at xs i ≡ None
-shape_past [] i l = refl
-shape_past (x ∷ xs) i l = cond-false _ _ _ (ne_eqb (length xs) i (λ w. omega arith)) ∙ shape_past xs i (omega arith)
-
 shape_first : (x : Shape) (ys : List Shape) → shape_at (ys ++ x ∷ []) 0 ≡ Some x
 shape_first x [] = refl
 shape_first x (y ∷ ys) = cond-false _ _ _ (ne_eqb (length (ys ++ x ∷ [])) 0 (λ w. let e = length-append ys (x ∷ []) in omega arith)) ∙ shape_first x ys

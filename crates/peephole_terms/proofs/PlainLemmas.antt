@@ -55,9 +55,6 @@ record AreThemselves (ts : Terms Head) : Type 0 where
   asks : requests ts ≡ []
   takes : draws ts ≡ []
 
-abbrev ok : List Instruction → Result (List Instruction) Error
-ok code = Ok code
-
 node_itself : (k : Kind) (i : Option Instruction) (kids : Terms Head) → k ≡ of_instruction i → AreThemselves kids →
     ((n : ℕ) (words : List ℕ) → with_own_code n words k kids (expansion n words kids) ≡ Ok (plain kids ++ listed i))
     × (with_own_requests k (requests kids) ≡ []) × (with_own_draws k (draws kids) ≡ [])
