@@ -2,7 +2,7 @@
 use Rattle.std.proofs.Common.{◌≡◌, ℕ, ◌+◌, ◌-◌, ◌<◌, ◌≤◌, ◌⊎◌, inl, inr, List, [], ◌∷◌, ◌++◌, length, take, get_or, refl, sym, ap, ap₂, subst, ◌∙◌, arith, append_assoc, append-nil, Bool, true, false, cond, map, Option, Some, None, IsTrue, suc, drop, Result, Ok, Err}
 use Rattle.std.specs.Prelude.{reverse, All, ◌==◌, ◌||◌, option_map, is_some, IfSome, ◌↔◌, not}
 use Rattle.std.proofs.lemmas.Bool.{cond-true, cond-false, eq-eqb, eqb-true, ne_eqb}
-use Rattle.std.proofs.lemmas.List.{reverse-append, length-map, map-append, take_more, length-take, take-append-drop}
+use Rattle.std.proofs.lemmas.List.{reverse-append, length-map, map-append, get_or-map, take_more, length-take, take-append-drop}
 use Rattle.rand_core.specs.Stream.{Stream}
 use Rattle.std.proofs.lemmas.List.Elements.{All-nil, All-cons, All-append, All-head, All-tail}
 use Rattle.wasm_code.specs.Instruction.{Instruction}
@@ -313,6 +313,15 @@ roots_written info keeping first operators entries parents look at t h =
     (roots_part first at t entries tree (roots_of parents) 0 (length block) (subst (λ (x : Trees). AreRising 0 (length block) x) (sym stands) (rising_forest block))
     (λ i n. numbers_are info first back later i n ∙ sym (operator_back entries i))
     (λ i. subst (λ (x : List (term.Node Head)). IsItself (term.tree_at x i) (instructions_of (tree i))) (sym nodes) (trees_themselves info first back own i)))
+
+-- ---- what is written for a root
+
+pub term_there : (at : ℕ) (t : term.Term Head) (entries : List StackEntry) (i : ℕ) (d : StackEntry) → i < length entries → (get_or entries i d).operator_idx ≡ at → root_term at t entries i ≡ t
+term_there at t entries i d l there = cond-true _ _ _ (eq-eqb (operator_at entries i) at (get_or-map (λ (e : StackEntry). e.operator_idx) entries i d 0 l ∙ there))
+
+pub tree_there : (at : ℕ) (t : term.Term Head) (entries : List StackEntry) (i : ℕ) (d : StackEntry) → i < length entries → ((get_or entries i d).operator_idx ≡ at → ⊥) →
+    root_term at t entries i ≡ term.tree_at (entry_nodes entries) i
+tree_there at t entries i d l elsewhere = cond-false _ _ _ (ne_eqb (operator_at entries i) at (λ there. elsewhere (sym (get_or-map (λ (e : StackEntry). e.operator_idx) entries i d 0 l) ∙ there)))
 
 -- ---- the roots are walked over
 

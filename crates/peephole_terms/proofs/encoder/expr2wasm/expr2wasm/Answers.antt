@@ -1,4 +1,4 @@
-use Rattle.std.proofs.Common.{ap, refl, Some}
+use Rattle.std.proofs.Common.{ap, refl, Some, ◌∙◌, ℕ, take}
 use Rattle.peephole_lang.specs.Node.{head_of, children_of}
 use Rattle.peephole_lang.specs.Term.{term_of}
 use Rattle.peephole_terms.proofs.SettingLemmas.{term_written, term_asked, term_leaves, term_refused}
@@ -22,3 +22,6 @@ pub returns-in-Err-clause-refusal : goal.returns-in-Err-clause-refusal
 returns-in-Err-clause-refusal g c =
     term_refused g.R.Rng.stream c.args.config.now c.info.result.now c.rng-rng.result.now c.get_global_count-globals.result (term_of head_of children_of c.args.expr.now) (term_of head_of children_of c.as_ref-nodes.result.now) _ _ c.in-Err.refusal
     (record { info_is = c.info.ensures; generator_is = c.rng-rng.ensures.value; count_is = c.get_global_count-globals.ensures }) (ap (term_of head_of children_of) c.as_ref-nodes.ensures.nodes) c.new-requests.ensures.items c.in-Err.ensures.err
+
+pub returns-in-Err-clause-restored : goal.returns-in-Err-clause-restored
+returns-in-Err-clause-restored g c = c.truncate.ensures ∙ (ap (λ (n : ℕ). take n c.write_tree.new.newfunc) c.len-old_len.ensures ∙ c.write_tree.ensures.kept)
