@@ -1,2 +1,1 @@
 pub mod ArithLemmas
-pub mod Trees

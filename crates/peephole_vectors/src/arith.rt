@@ -55,9 +55,9 @@ impl fmt::Display for Arith {
     fn fmt<W: fmt::Write>(&self, f: &mut fmt::Formatter<W>) -> fmt::Result {
         match self {
             Arith::Num(number) => write!(f, "num.{number}"),
-            Arith::Neg(_) => write!(f, "neg"),
-            Arith::Add(_) => write!(f, "add"),
-            Arith::Sum(_) => write!(f, "sum"),
+            Arith::Neg(_) => f.write_str("neg"),
+            Arith::Add(_) => f.write_str("add"),
+            Arith::Sum(_) => f.write_str("sum"),
         }
     }
 }

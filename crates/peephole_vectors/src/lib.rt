@@ -5,27 +5,13 @@ mod arith;
 mod uses;
 
 pub use arith::{Arith, ArithHead};
-pub use uses::{all_first, read_again, set_first, tree_of};
+pub use uses::{all_first, read_again, set_first};
 
 #[cfg(test)]
-mod deep;
+mod base;
 #[cfg(test)]
-mod expansions;
-#[cfg(test)]
-mod graphs;
+mod code;
 #[cfg(test)]
 mod languages;
 #[cfg(test)]
-mod memory;
-#[cfg(test)]
-mod names;
-#[cfg(test)]
 mod nodes;
-#[cfg(test)]
-mod reading;
-#[cfg(test)]
-mod rereading;
-#[cfg(test)]
-mod terms;
-#[cfg(test)]
-mod writing;

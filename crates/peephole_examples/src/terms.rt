@@ -6,9 +6,10 @@ ghost use Rattle.peephole_nodes.specs.Payload.{is_writable};
 ghost use Rattle.peephole_lang.specs.Term.{numbers_of};
 
 use peephole_terms::{
-    Error, Function, Id, Lang, ModuleInfo, PrimitiveTypeInfo, RecExpr, ResourceRequest, WasmMutate,
-    Words,
+    Error, Function, Id, Lang, ModuleInfo, PrimitiveTypeInfo, RecExpr, ResourceRequest, SinkError,
+    WasmMutate, Words,
 };
+use rand_core::Rng;
 use std::alloc::{AllocError, Global};
 use std::process::Abort;
 
@@ -87,6 +88,13 @@ pub fn config_of<'a>(
     Ok(config)
 }
 
+/// A sink that holds AA BB.
+pub fn begun_sink(alloc: Global) -> Result<Function, SinkError> {
+    let mut sink = Function::new(alloc);
+    sink.raw(&[0xaa, 0xbb])?;
+    Ok(sink)
+}
+
 /// What comes of writing a term, beside the bytes.
 #[derive(Drop)]
 pub struct Outcome {
@@ -98,7 +106,7 @@ pub struct Outcome {
 
 /// The answer of a call that wrote behind the bytes AA BB: `wanted` stands behind them, or they stand alone after the
 /// refusal that was wanted. Answers the requests; `Memory` where an allocation was refused, and they stand alone too.
-pub fn is_answer(
+fn is_answer(
     rt: &impl Abort,
     alloc: Global,
     answer: Result<Vec<ResourceRequest>, Error>,
@@ -122,8 +130,37 @@ pub fn is_answer(
     }
 }
 
-/// The requests are for globals of these types, which can be set and are not shared.
-pub fn are_globals(rt: &impl Abort, requests: &[ResourceRequest], types: &[PrimitiveTypeInfo]) {
+/// The same, with the word that the generator gives next.
+pub fn outcome_of(
+    rt: &impl Abort,
+    alloc: Global,
+    config: &mut WasmMutate<Words>,
+    answer: Result<Vec<ResourceRequest>, Error>,
+    sink: &Function,
+    wanted: Result<&[u8], Error>,
+) -> Result<Outcome, Error>
+    requires { IsTrue (is_some config.old.info) }
+{
+    let requests = is_answer(rt, alloc, answer, sink, wanted)?;
+    let next_word = config.rng().next_u64();
+    Ok(Outcome {
+        requests,
+        next_word,
+    })
+}
+
+/// The outcome has this next word, and requests for globals of these types, which can be set and are not shared.
+pub fn is_outcome(
+    rt: &impl Abort,
+    outcome: &Outcome,
+    next_word: u64,
+    types: &[PrimitiveTypeInfo],
+) {
+    assert!(rt; outcome.next_word == next_word);
+    are_globals(rt, &outcome.requests, types);
+}
+
+fn are_globals(rt: &impl Abort, requests: &[ResourceRequest], types: &[PrimitiveTypeInfo]) {
     assert!(rt; requests.len() == types.len());
     for (request, wanted) in requests.iter().zip(types) {
         let ResourceRequest::Global {

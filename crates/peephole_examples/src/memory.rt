@@ -2,8 +2,8 @@
 
 ghost use Rattle.std.specs.Prelude.{◌≡◌, ◌<◌, length, IfOk};
 
-use crate::arith::Arith;
 use crate::expansions::is_expanded;
+use crate::graphs::block_of;
 use crate::terms::Outcome;
 use crate::uses::tree_of;
 use crate::writing::{at, is_written};
@@ -11,6 +11,7 @@ use peephole_terms::{
     DFGBuilder, Error, Id, Language, MiniDFG, ModuleInfo, OperatorAndByteOffset, RecExpr,
     WasmMutate, Words, read_body,
 };
+use peephole_vectors::Arith;
 use std::alloc::{AllocError, Global};
 use std::process::Abort;
 
@@ -19,27 +20,24 @@ const BYTES: [u8; 5] = [0x1a, 0x20, 0x00, 0x6a, 0x0b];
 
 /// The operators, at the second try where memory was refused.
 fn operators(rt: &impl Abort, alloc: Global) -> Vec<OperatorAndByteOffset> {
-    for _ in 0..2 {
-        if let Ok(operators) = read_body(alloc, &BYTES, 0, BYTES.len()) {
-            return operators;
-        }
+    let first = read_body(alloc, &BYTES, 0, BYTES.len());
+    match first.or_else(|_| read_body(alloc, &BYTES, 0, BYTES.len())) {
+        Ok(operators) => operators,
+        Err(_) => panic!(rt; "no operators"),
     }
-    panic!(rt; "no operators")
 }
 
-/// What the builder makes of the block of the sum, or none where memory was refused.
+/// The graph of the block of the sum, or none where memory was refused.
 fn try_graph(
     rt: &impl Abort,
     alloc: Global,
-    builder: &mut DFGBuilder,
-    info: &ModuleInfo,
     operators: &[OperatorAndByteOffset],
 ) -> Option<MiniDFG> {
-    assert!(rt; operators.len() == 4);
-    let Some(block) = builder.get_bb_from_operator(2, operators) else {
-        panic!(rt; "no block");
-    };
-    match builder.get_dfg(alloc, info, operators, &block) {
+    let config: WasmMutate<Words> = WasmMutate::new();
+    let mut builder = DFGBuilder::new(&config);
+    let info = ModuleInfo::new(alloc, &BYTES);
+    let block = block_of(rt, &builder, operators, 2);
+    match builder.get_dfg(alloc, &info, operators, &block) {
         Ok(Some(graph)) => Some(graph),
         Ok(None) => panic!(rt; "no graph"),
         Err(error) => {
@@ -52,28 +50,27 @@ fn try_graph(
 /// The graph, at the second try where memory was refused.
 fn graph(rt: &impl Abort, alloc: Global) -> MiniDFG {
     let operators = operators(rt, alloc);
-    let config: WasmMutate<Words> = WasmMutate::new();
-    let mut builder = DFGBuilder::new(&config);
-    let info = ModuleInfo::new(alloc, &BYTES);
-    for _ in 0..2 {
-        if let Some(graph) = try_graph(rt, alloc, &mut builder, &info, &operators) {
-            return graph;
-        }
+    let first = try_graph(rt, alloc, &operators);
+    match first.or_else(|| try_graph(rt, alloc, &operators)) {
+        Some(graph) => graph,
+        None => panic!(rt; "memory was refused twice"),
     }
-    panic!(rt; "memory was refused twice")
 }
 
 /// The graph is that of the block of the sum: two operators lack an operand.
 fn is_whole(rt: &impl Abort, graph: &MiniDFG) {
-    let entries = graph.entries();
-    assert!(rt; entries.len() == 5);
-    assert!(rt; entries[0].operator.children().is_empty());
-    assert!(rt; entries[1].operator.children() == [Id(0)].as_slice());
-    assert!(rt; entries[2].operator.children().is_empty());
-    assert!(rt; entries[3].operator.children().is_empty());
-    assert!(rt; entries[4].operator.children() == [Id(3), Id(2)].as_slice());
-    let parents = [Some(1), None, Some(4), Some(4), None];
-    assert!(rt; graph.parents() == parents.as_slice());
+    let wanted: [(&[Id], Option<usize>); 5] = [
+        (&[], Some(1)),
+        (&[Id(0)], None),
+        (&[], Some(4)),
+        (&[], Some(4)),
+        (&[Id(3), Id(2)], None),
+    ];
+    assert!(rt; graph.entries().len() == 5 && graph.parents().len() == 5);
+    for (index, (children, parent)) in wanted.iter().enumerate() {
+        assert!(rt; graph.entries()[index].operator.children() == *children);
+        assert!(rt; graph.parents()[index] == *parent);
+    }
     for (operator, entry) in [(0, 1), (1, 2), (2, 4)] {
         assert!(rt; graph.map().get(&operator) == Some(&entry));
     }
@@ -84,26 +81,25 @@ fn graphs(rt: HostRuntime) {
     is_whole(&rt, &graph(&rt, rt.alloc()));
 }
 
-/// A copy, or none where memory was refused; the graph is as it was.
-fn try_clone(rt: &impl Abort, graph: &MiniDFG) -> Option<MiniDFG> {
+/// Whether the graph was copied; else memory was refused. The graph is as it was.
+fn is_copied(rt: &impl Abort, graph: &MiniDFG) -> bool {
     let copy: Result<MiniDFG, AllocError> = graph.clone();
     is_whole(rt, graph);
     match copy {
-        Ok(copy) => Some(copy),
-        Err(_) => None,
+        Ok(copy) => {
+            is_whole(rt, &copy);
+            true
+        }
+        Err(_) => false,
     }
 }
 
 #[test]
 fn clones(rt: HostRuntime) {
     let graph = graph(&rt, rt.alloc());
-    for _ in 0..2 {
-        if let Some(copy) = try_clone(&rt, &graph) {
-            is_whole(&rt, &copy);
-            return;
-        }
-    }
-    panic!(&rt; "memory was refused twice")
+    let first = is_copied(&rt, &graph);
+    let second = is_copied(&rt, &graph);
+    assert!(rt; first || second);
 }
 
 /// Whether the tree of the sum was laid out; else memory was refused. The graph is as it was.
@@ -113,11 +109,11 @@ fn is_laid_out(rt: &impl Abort, alloc: Global, graph: &MiniDFG) -> bool {
     is_whole(rt, graph);
     match answer {
         Ok(expr) => {
+            let wanted: [&[Id]; 3] = [&[], &[], &[Id(0), Id(1)]];
             assert!(rt; expr.len() == 3);
-            let nodes = expr.as_ref();
-            assert!(rt; nodes[0].children().is_empty());
-            assert!(rt; nodes[1].children().is_empty());
-            assert!(rt; nodes[2].children() == [Id(0), Id(1)].as_slice());
+            for (node, children) in expr.as_ref().iter().zip(wanted) {
+                assert!(rt; node.children() == children);
+            }
             true
         }
         Err(error) => {

@@ -7,7 +7,21 @@ use std::alloc::Global;
 use std::process::Abort;
 use std::test::Fail;
 
-/// The block of `last` is in order or isn't, and is written as `written`, which is then in order and written the same.
+/// The block of `last` is in order or isn't, and is written as `written`.
+fn is_own(
+    rt: &impl Abort,
+    alloc: Global,
+    place: &Place,
+    in_order: bool,
+    written: &[u8],
+) -> Result<(), Fail> {
+    let graph = graph_of(rt, alloc, place.bytes, place.last, place.preserving)?;
+    assert!(rt; graph.keeps_order() == in_order);
+    is_written(rt, alloc, place, &[], &[], Ok(written))?;
+    Ok(())
+}
+
+/// The same, and what is written is then in order and written the same.
 fn is_written_again(
     rt: &impl Abort,
     alloc: Global,
@@ -16,20 +30,9 @@ fn is_written_again(
     in_order: bool,
     written: &[u8],
 ) -> Result<(), Fail> {
-    let graph = graph_of(rt, alloc, bytes, last, false)?;
-    assert!(rt; graph.keeps_order() == in_order);
-    is_written(rt, alloc, &own(bytes, last, false), &[], &[], Ok(written))?;
+    is_own(rt, alloc, &own(bytes, last, false), in_order, written)?;
     for preserving in [false, true] {
-        let graph = graph_of(rt, alloc, written, last, preserving)?;
-        assert!(rt; graph.keeps_order());
-        is_written(
-            rt,
-            alloc,
-            &own(written, last, preserving),
-            &[],
-            &[],
-            Ok(written),
-        )?;
+        is_own(rt, alloc, &own(written, last, preserving), true, written)?;
     }
     Ok(())
 }

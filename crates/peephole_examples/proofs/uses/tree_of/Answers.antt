@@ -1,7 +1,7 @@
 -- The closure reads the expression, whose nodes have their children before them.
 use Rattle.std.proofs.Common.{◌<◌, ◌∙◌, ap, refl, length, slice_index_or, arith}
-use Rattle.peephole_vectors.proofs.Trees.{children_below, tree_laid, tree_term, tree_refused}
-use Rattle.peephole_vectors.proofs.uses.tree_of.Goals as goal
+use Rattle.peephole_examples.proofs.Trees.{children_below, tree_laid, tree_term, tree_refused}
+use Rattle.peephole_examples.proofs.uses.tree_of.Goals as goal
 
 pub build_expr-requires : goal.build_expr-requires
 build_expr-requires g c κs =

@@ -1,8 +1,8 @@
 //! Blocks of many operators, each of which is an operand of the next, and terms of many uses of a node.
 
-use crate::graphs::{graph_of, order_and_color};
+use crate::graphs::graph_of;
 use crate::writing::{at, is_written};
-use peephole_terms::{Id, MiniDFG};
+use peephole_terms::{Error, Id, MiniDFG};
 use std::alloc::Global;
 use std::process::Abort;
 use std::test::Fail;
@@ -18,18 +18,23 @@ fn deep_body(alloc: Global, repeated: &[u8]) -> Result<Vec<u8>, Fail> {
     Ok(bytes)
 }
 
-/// The tree of the operator at `at` is the whole graph, and its last node has these children.
-fn is_one_tree(
+/// The graph is one tree, in order and of one colour.
+fn is_one_tree(rt: &impl Abort, graph: &MiniDFG, count: usize) {
+    assert!(rt; count > 0 && graph.entries().len() == count);
+    assert!(rt; graph.subtree_len(count - 1) == count);
+    assert!(rt; graph.keeps_order());
+    assert!(rt; graph.is_subtree_consistent_from_root());
+}
+
+/// The tree of the operator at `at` has so many nodes, of which the last one has these children.
+fn is_laid_out(
     rt: &impl Abort,
     alloc: Global,
     graph: &MiniDFG,
     at: usize,
+    count: usize,
     children: &[Id],
-) -> Result<(), Fail> {
-    let count = graph.entries().len();
-    assert!(rt; at < count && count - at == 1);
-    assert!(rt; graph.subtree_len(at) == count);
-    assert!(rt; order_and_color(rt, graph) == (true, true));
+) -> Result<(), Error> {
     assert!(rt; graph.map().contains_key(&at));
     let expr = graph.get_expr(alloc, at)?;
     assert!(rt; expr.len() == count);
@@ -40,15 +45,29 @@ fn is_one_tree(
     Ok(())
 }
 
+/// In both modes the body's graph is one tree of so many nodes, of which the last one has these children.
+fn is_deep(
+    rt: &impl Abort,
+    alloc: Global,
+    bytes: &[u8],
+    at: usize,
+    count: usize,
+    children: &[Id],
+) -> Result<(), Fail> {
+    for preserving in [false, true] {
+        let graph = graph_of(rt, alloc, bytes, at, preserving)?;
+        is_one_tree(rt, &graph, count);
+        is_laid_out(rt, alloc, &graph, at, count, children)?;
+    }
+    Ok(())
+}
+
 /// i32.eqz of i32.eqz, 100,000 times, which is written back as it was.
 #[test]
 fn chain(rt: HostRuntime) -> Result<(), Fail> {
     let alloc = rt.alloc();
     let bytes = deep_body(alloc, &[0x45])?;
-    for preserving in [false, true] {
-        let graph = graph_of(&rt, alloc, &bytes, 100_000, preserving)?;
-        is_one_tree(&rt, alloc, &graph, 100_000, &[Id(99_999)])?;
-    }
+    is_deep(&rt, alloc, &bytes, 100_000, 100_001, &[Id(99_999)])?;
     is_written(&rt, alloc, &at(&bytes, 100_000), &[], &[], Ok(&bytes))?;
     Ok(())
 }
@@ -58,12 +77,8 @@ fn chain(rt: HostRuntime) -> Result<(), Fail> {
 fn selects(rt: HostRuntime) -> Result<(), Fail> {
     let alloc = rt.alloc();
     let bytes = deep_body(alloc, &[0x41, 0x01, 0x41, 0x01, 0x1b])?;
-    for preserving in [false, true] {
-        let graph = graph_of(&rt, alloc, &bytes, 300_000, preserving)?;
-        let children = [Id(299_997), Id(299_998), Id(299_999)];
-        is_one_tree(&rt, alloc, &graph, 300_000, &children)?;
-    }
-    Ok(())
+    let children = [Id(299_997), Id(299_998), Id(299_999)];
+    is_deep(&rt, alloc, &bytes, 300_000, 300_001, &children)
 }
 
 /// i32.const 1, then sixteen times the disjunction of the node before with itself: each doubles what is written.
