@@ -10,8 +10,6 @@ pub mod number;
 mod payload;
 mod payload_text;
 mod term_error;
-#[cfg(test)]
-mod tests;
 mod types;
 mod words;
 

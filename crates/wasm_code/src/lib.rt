@@ -14,8 +14,6 @@ mod reading;
 mod rows;
 mod sink;
 mod table;
-#[cfg(test)]
-mod tests;
 mod writing;
 
 pub use body::{OperatorAndByteOffset, read_body};
