@@ -1,6 +1,5 @@
 -- What is read is a body in the bytes that it was read from.
 use Rattle.std.proofs.Common.{length, arith}
-use Rattle.peephole_terms.specs.Written.{IsBodyIn}
 use Rattle.peephole_examples.proofs.writing.operators_of.Goals as goal
 
 pub returns-in-Ok : goal.returns-in-Ok
