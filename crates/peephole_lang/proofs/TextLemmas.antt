@@ -3,7 +3,6 @@ use Rattle.std.proofs.Common.{◌≡◌, ℕ, true, List, Option, Some, None, Re
 use Rattle.std.proofs.lemmas.Bool.{ne_eqb, cases_eq, eq-eqb}
 use Rattle.std.proofs.lemmas.Option.{same_Some}
 use Rattle.mutate_base.specs.declared.term_error.TermError.{TermError}
-use Rattle.mutate_base.specs.declared.term_error.TermError.TheVariants.{InvalidToken}
 use Rattle.peephole_nodes.specs.declared.payload.Payload.{Payload}
 use Rattle.peephole_lang.specs.declared.variants.Arity.{Arity}
 use Rattle.peephole_lang.specs.declared.variants.Arity.TheVariants as arity
@@ -16,7 +15,7 @@ use Rattle.peephole_lang.specs.Node.{is_right}
 use Rattle.peephole_nodes.specs.PayloadLemmas.{read_is_of}
 use Rattle.peephole_nodes.specs.PayloadText.{read_payload}
 use Rattle.peephole_lang.specs.TableLemmas.{place_is}
-use Rattle.peephole_lang.specs.Text.{wrong_count, judged, with_place, read_found}
+use Rattle.peephole_lang.specs.Text.{wrong_count, judged}
 use Rattle.peephole_lang.specs.VariantLemmas.{found_is}
 use Rattle.peephole_lang.specs.Variants.{Variant, variants}
 

@@ -1,6 +1,6 @@
 -- What single commands do where nothing is wrong with their words.
-use Rattle.std.proofs.Common.{◌≡◌, ℕ, true, false, List, [], ◌∷◌, ◌++◌, length, get_or, refl, sym, ap, arith, Some, None, Ok, Err, Bor, inl, ◌<◌, ◌≤◌, Bool}
-use Rattle.std.specs.Prelude.{MatchResult, Option, Result, Vec, nat_lt}
+use Rattle.std.proofs.Common.{◌≡◌, ℕ, true, List, [], ◌∷◌, ◌++◌, length, get_or, refl, arith, Some, None, Ok, Err, Bor, inl, ◌<◌, ◌≤◌, Bool}
+use Rattle.std.specs.Prelude.{MatchResult, Result, Vec, nat_lt}
 use Rattle.std.proofs.lemmas.Bool.Decides.{nat_tests}
 use Rattle.std.specs.List.{concat}
 use Rattle.hex.specs.Hex.{decode_of}
@@ -10,7 +10,7 @@ use Rattle.peephole_run.specs.declared.fault.Fault.TheVariants as fault
 use Rattle.peephole_run.specs.Text.{number_of}
 use Rattle.peephole_run.specs.Arguments.{type_of, is_yes}
 use Rattle.peephole_run.specs.Body.{Contents, body_of, block_at}
-use Rattle.peephole_run.specs.State.{State, Reply}
+use Rattle.peephole_run.specs.State.{State}
 use Rattle.peephole_run.specs.Commands.{quiet, Steps, local_step, preserve_step, word_step, body_step, at_step, block_line}
 use Rattle.peephole_run.proofs.Values.{texts}
 

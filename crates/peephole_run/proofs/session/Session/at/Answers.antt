@@ -1,4 +1,4 @@
-use Rattle.std.proofs.Common.{◌≡◌, ◌<◌, length, arith, ap, sym, ◌∙◌, Some}
+use Rattle.std.proofs.Common.{◌≡◌, ◌<◌, length, arith, Some}
 use Rattle.peephole_run.proofs.Steps.{point_is, prints}
 use Rattle.peephole_run.proofs.session.Session.at.Goals as goal
 

@@ -1,4 +1,3 @@
-use Rattle.std.proofs.Common.{Ok}
 use Rattle.peephole_run.proofs.Steps.{body_is}
 use Rattle.peephole_run.proofs.Values.{texts}
 use Rattle.peephole_run.proofs.session.Session.body.Goals as goal
