@@ -62,13 +62,7 @@ fn are_expanded(rt: &impl Abort, alloc: Global, expansions: &[Expansion]) -> Res
 }
 
 const RANDOM: [Expansion; 4] = [
-    (
-        &[4294967297, 9],
-        &["i32.rand"],
-        Ok(&[0x41, 0x01]),
-        9,
-        &[],
-    ),
+    (&[4294967297, 9], &["i32.rand"], Ok(&[0x41, 0x01]), 9, &[]),
     (
         &[18446744073709551615, 9],
         &["i64.rand"],

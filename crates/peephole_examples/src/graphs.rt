@@ -347,7 +347,9 @@ const EXAMPLES: [Example; 14] = [
     },
     // table.size, ref.null, i32.const 1, table.grow, i32.add: so does growing a table.
     Example {
-        bytes: &[0xfc, 0x10, 0x00, 0xd0, 0x70, 0x41, 0x01, 0xfc, 0x0f, 0x00, 0x6a, 0x0b],
+        bytes: &[
+            0xfc, 0x10, 0x00, 0xd0, 0x70, 0x41, 0x01, 0xfc, 0x0f, 0x00, 0x6a, 0x0b,
+        ],
         at: 4,
         preserving: true,
         start: 0,
@@ -395,7 +397,10 @@ const EXAMPLES: [Example; 14] = [
     },
     // Two comparisons of loads, of which the second takes the first one's result and leaves a load on the stack.
     Example {
-        bytes: &[0x41, 0x20, 0x28, 0x02, 0x00, 0x41, 0xe4, 0x00, 0x28, 0x02, 0x00, 0x41, 0x01, 0x4a, 0x41, 0x01, 0x4b, 0x1a, 0x0b],
+        bytes: &[
+            0x41, 0x20, 0x28, 0x02, 0x00, 0x41, 0xe4, 0x00, 0x28, 0x02, 0x00, 0x41, 0x01, 0x4a,
+            0x41, 0x01, 0x4b, 0x1a, 0x0b,
+        ],
         at: 7,
         preserving: false,
         start: 0,
@@ -409,7 +414,16 @@ const EXAMPLES: [Example; 14] = [
             "i32.const.1 [] at 6, colour 0, parent Some(7)",
             "i32.gt_u [Id(5), Id(6)] at 7, colour 0, parent None",
         ],
-        subtrees: &[(1, true), (2, true), (1, true), (2, true), (1, true), (4, true), (1, true), (6, true)],
+        subtrees: &[
+            (1, true),
+            (2, true),
+            (1, true),
+            (2, true),
+            (1, true),
+            (4, true),
+            (1, true),
+            (6, true),
+        ],
         in_order: true,
         one_color: true,
     },
@@ -419,9 +433,7 @@ const EXAMPLES: [Example; 14] = [
         at: 0,
         preserving: false,
         start: 0,
-        lines: &[
-            "i32.const.32 [] at 0, colour 0, parent None",
-        ],
+        lines: &["i32.const.32 [] at 0, colour 0, parent None"],
         subtrees: &[(1, true)],
         in_order: true,
         one_color: true,

@@ -150,12 +150,7 @@ pub fn outcome_of(
 }
 
 /// The outcome has this next word, and requests for globals of these types, which can be set and are not shared.
-pub fn is_outcome(
-    rt: &impl Abort,
-    outcome: &Outcome,
-    next_word: u64,
-    types: &[PrimitiveTypeInfo],
-) {
+pub fn is_outcome(rt: &impl Abort, outcome: &Outcome, next_word: u64, types: &[PrimitiveTypeInfo]) {
     assert!(rt; outcome.next_word == next_word);
     are_globals(rt, &outcome.requests, types);
 }

@@ -186,7 +186,16 @@ fn terms(rt: HostRuntime) -> Result<(), Fail> {
         ),
     ];
     for (bytes, point, lines, written) in terms {
-        is_drawn(&rt, rt.alloc(), &at(bytes, point), &[], lines, written, 0, &[])?;
+        is_drawn(
+            &rt,
+            rt.alloc(),
+            &at(bytes, point),
+            &[],
+            lines,
+            written,
+            0,
+            &[],
+        )?;
     }
     Ok(())
 }
@@ -264,7 +273,16 @@ fn drawn_words(rt: HostRuntime) -> Result<(), Fail> {
     ];
     for (words, lines, written, next_word) in drawn {
         let place = at(&[0x41, 0x07, 0x0b], 0);
-        is_drawn(&rt, rt.alloc(), &place, words, lines, written, next_word, &[])?;
+        is_drawn(
+            &rt,
+            rt.alloc(),
+            &place,
+            words,
+            lines,
+            written,
+            next_word,
+            &[],
+        )?;
     }
     Ok(())
 }
