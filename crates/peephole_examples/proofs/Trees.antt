@@ -9,10 +9,10 @@ use Rattle.mutate_base.specs.declared.error.Error.{Error}
 use Rattle.mutate_base.specs.declared.error.Error.TheVariants.{Memory, TooLarge}
 use Rattle.peephole_nodes.specs.declared.id.Id.{Id}
 use Rattle.peephole_lang.specs.Term.{Node, AreBelow, nodes_of, tree_at, term_of}
-use Rattle.peephole_terms.specs.Asking.{AreAnswers, asked_nodes, IsLaidOut, IsTooLong}
-use Rattle.peephole_terms.specs.Layout.{node_by, laid, size_of}
-use Rattle.peephole_terms.proofs.LayoutWalk.{some_item}
-use Rattle.peephole_terms.proofs.PlaceLemmas.{at_place, children_in}
+use Rattle.peephole_graphs.specs.Asking.{AreAnswers, asked_nodes, IsLaidOut, IsTooLong}
+use Rattle.peephole_graphs.specs.Layout.{node_by, laid, size_of}
+use Rattle.peephole_graphs.proofs.LayoutWalk.{some_item}
+use Rattle.peephole_graphs.proofs.PlaceLemmas.{at_place, children_in}
 
 -- a closure that answers what stands at the id
 abbrev pub Reads : {L : Type 0} → List L → Id → Bor L → Type 0

@@ -1,7 +1,7 @@
 //! Blocks, and the graphs of blocks, entry by entry.
 
 ghost use Rattle.std.specs.Prelude.{◌<◌, length};
-ghost use Rattle.peephole_terms.specs.Block.{IsBlockOf};
+ghost use Rattle.peephole_graphs.specs.Block.{IsBlockOf};
 
 use peephole_terms::{
     BBlock, DFGBuilder, Error, FuncInfo, MiniDFG, ModuleInfo, OperatorAndByteOffset,

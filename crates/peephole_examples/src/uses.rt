@@ -2,7 +2,7 @@
 ghost use Rattle.std.specs.Prelude.{◌≡◌, ◌<◌, ◌^◌, ◌⊎◌, map, length, slice_index_or, IfOk, IfErr};
 ghost use Rattle.peephole_lang.specs.Term.{nodes_of, tree_at, term_of};
 ghost use Rattle.peephole_nodes.specs.declared.id.Id.{Id};
-ghost use Rattle.peephole_terms.specs.Layout.{node_by, laid, size_of};
+ghost use Rattle.peephole_graphs.specs.Layout.{node_by, laid, size_of};
 
 use peephole_terms::{Error, Id, Language, RecExpr, build_expr};
 use std::alloc::Global;

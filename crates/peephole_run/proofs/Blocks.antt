@@ -4,7 +4,7 @@ use Rattle.std.specs.Prelude.{slice_get, IfSome, IfNone}
 use Rattle.std.proofs.lemmas.Bool.Decides.{eqb_tells}
 use Rattle.wasm_code.specs.Operator.{is_delimiter}
 use Rattle.wasm_code.specs.declared.operator.Operator.{Operator}
-use Rattle.peephole_terms.specs.Block.{BlockRange, HasNoDelimiter, IsDelimiterAt, IsBlockOf}
+use Rattle.peephole_graphs.specs.Block.{BlockRange, HasNoDelimiter, IsDelimiterAt, IsBlockOf}
 use Rattle.peephole_run.specs.Body.{delimits, is_delimiter_of, block_start, block_at}
 
 abbrev Operators : Type 0

@@ -12,14 +12,14 @@ use Rattle.peephole_lang.specs.Lang.{place_of, payload_of}
 use Rattle.peephole_lang.specs.Node.{node_of, head_of, children_of, instr_of}
 use Rattle.peephole_nodes.specs.Payload.{imm_of, is_writable}
 use Rattle.peephole_lang.specs.Term.{Term, Terms, absent, node, no_terms, ◌▸◌, Node, pick, tree_at}
-use Rattle.peephole_terms.specs.declared.dfg.StackEntry.{StackEntry}
-use Rattle.peephole_terms.specs.GraphOf.{IsGraphOf}
-use Rattle.peephole_terms.specs.Layout.{entry_nodes, laid, laid_all, size_of, places}
-use Rattle.peephole_terms.proofs.GraphOfLemmas.{represents}
-use Rattle.peephole_terms.proofs.LayoutTrees.{All_turned}
+use Rattle.peephole_graphs.specs.declared.dfg.StackEntry.{StackEntry}
+use Rattle.peephole_graphs.specs.GraphOf.{IsGraphOf}
+use Rattle.peephole_graphs.specs.Layout.{entry_nodes, laid, laid_all, size_of, places}
+use Rattle.peephole_graphs.proofs.GraphOfLemmas.{represents}
+use Rattle.peephole_graphs.proofs.LayoutTrees.{All_turned}
 use Rattle.peephole_terms.proofs.OwnTrees.{entries_turned}
 use Rattle.peephole_terms.proofs.PlainLemmas.{as_node}
-use Rattle.peephole_terms.proofs.Represents.{IsOwnOrUndef}
+use Rattle.peephole_graphs.proofs.Represents.{IsOwnOrUndef}
 use Rattle.peephole_run.specs.State.{AreWritable}
 
 -- ---- its nodes can be written

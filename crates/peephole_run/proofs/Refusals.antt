@@ -8,17 +8,17 @@ use Rattle.wasm_code.specs.declared.operator.Operator.{Operator}
 use Rattle.mutate_base.specs.Module.{Module}
 use Rattle.mutate_base.specs.declared.error.Error.{Error}
 use Rattle.mutate_base.specs.declared.error.Error.TheVariants as error
-use Rattle.peephole_terms.specs.declared.dfg.StackEntry.{StackEntry}
-use Rattle.peephole_terms.specs.declared.shape.Shape.{Shape}
-use Rattle.peephole_terms.specs.declared.shape.Judged.{Judged}
-use Rattle.peephole_terms.specs.declared.shape.Judged.TheVariants.{Fits, Unfit, Unknown}
-use Rattle.peephole_terms.specs.Block.{BlockRange}
-use Rattle.peephole_terms.specs.Colour.{colour_after}
-use Rattle.peephole_terms.specs.Shape.{judge, IsFit, AreFit, block_of}
-use Rattle.peephole_terms.specs.Tree.{full_size}
-use Rattle.peephole_terms.specs.Forest.{forest}
-use Rattle.peephole_terms.specs.GraphOf.{IsSmall, FirstFault, IsLarge, HasNoGraph, IsTooLarge, IsRefused, IsGraphOf}
-use Rattle.peephole_terms.proofs.BuilderLemmas.{block_push}
+use Rattle.peephole_graphs.specs.declared.dfg.StackEntry.{StackEntry}
+use Rattle.peephole_graphs.specs.declared.shape.Shape.{Shape}
+use Rattle.peephole_graphs.specs.declared.shape.Judged.{Judged}
+use Rattle.peephole_graphs.specs.declared.shape.Judged.TheVariants.{Fits, Unfit, Unknown}
+use Rattle.peephole_graphs.specs.Block.{BlockRange}
+use Rattle.peephole_graphs.specs.Colour.{colour_after}
+use Rattle.peephole_graphs.specs.Shape.{judge, IsFit, AreFit, block_of}
+use Rattle.peephole_graphs.specs.Tree.{full_size}
+use Rattle.peephole_graphs.specs.Forest.{forest}
+use Rattle.peephole_graphs.specs.GraphOf.{IsSmall, FirstFault, IsLarge, HasNoGraph, IsTooLarge, IsRefused, IsGraphOf}
+use Rattle.peephole_graphs.proofs.BuilderLemmas.{block_push}
 use Rattle.peephole_run.specs.declared.graphs.Refusal.{Refusal}
 use Rattle.peephole_run.specs.declared.graphs.Refusal.TheVariants as refusal
 use Rattle.peephole_run.specs.Graphs.{has_room, refusal_behind, or_else, refusal_of, unless, graphed, module_in}

@@ -6,19 +6,19 @@ use Rattle.std.proofs.lemmas.Option.{slice_get_within}
 use Rattle.std.proofs.lemmas.Slice.Eq.{bytes_eq-Decides}
 use Rattle.wasm_code.specs.declared.operator.Operator.{Operator}
 use Rattle.mutate_base.specs.Module.{Module}
-use Rattle.peephole_terms.specs.declared.dfg.StackEntry.{StackEntry}
-use Rattle.peephole_terms.specs.declared.shape.Shape.{Shape}
-use Rattle.peephole_terms.specs.Block.{BlockRange}
-use Rattle.peephole_terms.specs.Downwards.{HasOneColour}
-use Rattle.peephole_terms.specs.Entries.{kins_of}
-use Rattle.peephole_terms.specs.Forest.{forest, IsInOrder}
-use Rattle.peephole_terms.specs.ForestText.{default_text}
-use Rattle.peephole_terms.specs.GraphOf.{IsGraphOf}
-use Rattle.peephole_terms.specs.Order.{AreInOrder}
-use Rattle.peephole_terms.specs.Shape.{block_of}
-use Rattle.peephole_terms.specs.Shown.{ShowsTheForest, ShowsTheColour}
-use Rattle.peephole_terms.specs.Tree.{numbers, range_from}
-use Rattle.peephole_terms.specs.TreeText.{block_text}
+use Rattle.peephole_graphs.specs.declared.dfg.StackEntry.{StackEntry}
+use Rattle.peephole_graphs.specs.declared.shape.Shape.{Shape}
+use Rattle.peephole_graphs.specs.Block.{BlockRange}
+use Rattle.peephole_graphs.specs.Downwards.{HasOneColour}
+use Rattle.peephole_graphs.specs.Entries.{kins_of}
+use Rattle.peephole_graphs.specs.Forest.{forest, IsInOrder}
+use Rattle.peephole_graphs.specs.ForestText.{default_text}
+use Rattle.peephole_graphs.specs.GraphOf.{IsGraphOf}
+use Rattle.peephole_graphs.specs.Order.{AreInOrder}
+use Rattle.peephole_graphs.specs.Shape.{block_of}
+use Rattle.peephole_graphs.specs.Shown.{ShowsTheForest, ShowsTheColour}
+use Rattle.peephole_graphs.specs.Tree.{numbers, range_from}
+use Rattle.peephole_graphs.specs.TreeText.{block_text}
 use Rattle.peephole_run.specs.declared.graphs.Refusal.{Refusal}
 use Rattle.peephole_run.specs.Body.{Contents}
 use Rattle.peephole_run.specs.declared.place.Place.{Place}

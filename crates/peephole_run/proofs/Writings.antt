@@ -14,16 +14,16 @@ use Rattle.peephole_lang.specs.declared.lang.Head.{Head}
 use Rattle.peephole_lang.specs.declared.lang.Lang.{Lang}
 use Rattle.peephole_lang.specs.Node.{node_of, head_of, children_of}
 use Rattle.peephole_lang.specs.Term.{Node, Term, term_of, tree_at}
-use Rattle.peephole_terms.specs.declared.shape.Shape.{Shape}
-use Rattle.peephole_terms.specs.declared.dfg.StackEntry.{StackEntry}
+use Rattle.peephole_graphs.specs.declared.shape.Shape.{Shape}
+use Rattle.peephole_graphs.specs.declared.dfg.StackEntry.{StackEntry}
 use Rattle.peephole_terms.specs.declared.encoder.request.ResourceRequest.{ResourceRequest}
-use Rattle.peephole_terms.specs.Block.{BlockRange}
-use Rattle.peephole_terms.specs.Entries.{entry_tree}
+use Rattle.peephole_graphs.specs.Block.{BlockRange}
+use Rattle.peephole_graphs.specs.Entries.{entry_tree}
 use Rattle.peephole_terms.specs.Expansion.{Setting, Refuses, requests_of, request, expanded, draws_of, drawn}
-use Rattle.peephole_terms.specs.Forest.{forest, IsInOrder}
-use Rattle.peephole_terms.specs.GraphOf.{IsGraphOf}
-use Rattle.peephole_terms.specs.Layout.{entry_nodes}
-use Rattle.peephole_terms.specs.Tree.{Trees, instructions_of, instructions, numbers, range_from}
+use Rattle.peephole_graphs.specs.Forest.{forest, IsInOrder}
+use Rattle.peephole_graphs.specs.GraphOf.{IsGraphOf}
+use Rattle.peephole_graphs.specs.Layout.{entry_nodes}
+use Rattle.peephole_graphs.specs.Tree.{Trees, instructions_of, instructions, numbers, range_from}
 use Rattle.peephole_terms.specs.Written.{replaced, is_written, term_code, term_requests, shapes_in, written_block, written_body}
 use Rattle.peephole_terms.proofs.LayoutExpansion.{term_expands}
 use Rattle.peephole_terms.proofs.PlainLemmas.{IsItself, plain_of, is_itself}

@@ -4,7 +4,7 @@ use Rattle.wasm_code.specs.declared.operator.Operator.{Operator}
 use Rattle.wasm_code.specs.declared.fault.ReadKind.{ReadKind}
 use Rattle.wasm_code.specs.Operator.{is_delimiter}
 use Rattle.wasm_code.specs.Reader.{body_at}
-use Rattle.peephole_terms.specs.Block.{BlockRange}
+use Rattle.peephole_graphs.specs.Block.{BlockRange}
 
 -- a body's bytes, and the operators that they spell, each with its offset
 pub record Contents : Type 0 where

@@ -13,7 +13,7 @@ use Rattle.peephole_lang.specs.declared.lang.Head.{Head}
 use Rattle.peephole_nodes.specs.Payload.{is_writable}
 use Rattle.peephole_lang.specs.Term.{Node}
 use Rattle.peephole_lang.specs.Text.{reads}
-use Rattle.peephole_terms.specs.Block.{BlockRange}
+use Rattle.peephole_graphs.specs.Block.{BlockRange}
 use Rattle.peephole_terms.specs.declared.encoder.request.ResourceRequest.{ResourceRequest}
 use Rattle.peephole_terms.specs.declared.encoder.request.ResourceRequest.TheVariants.{Global}
 use Rattle.peephole_terms.specs.Expansion.{Setting}

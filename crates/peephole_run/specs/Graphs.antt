@@ -5,18 +5,18 @@ use Rattle.mutate_base.specs.declared.error.Error.TheVariants.{Memory, TooLarge,
 use Rattle.mutate_base.specs.Config.{Config}
 use Rattle.mutate_base.specs.Module.{Module, module_of}
 use Rattle.mutate_base.specs.Words.{word_stream}
-use Rattle.peephole_terms.specs.Block.{BlockRange, IsBlockOf}
-use Rattle.peephole_terms.specs.declared.shape.Shape.{Shape}
-use Rattle.peephole_terms.specs.declared.shape.Judged.{Judged}
-use Rattle.peephole_terms.specs.declared.shape.Judged.TheVariants.{Fits, Unfit, Unknown}
-use Rattle.peephole_terms.specs.declared.dfg.MiniDFG.{MiniDFG}
-use Rattle.peephole_terms.specs.Shape.{judge, block_of}
-use Rattle.peephole_terms.specs.Colour.{colour_after}
-use Rattle.peephole_terms.specs.Tree.{full_size}
+use Rattle.peephole_graphs.specs.Block.{BlockRange, IsBlockOf}
+use Rattle.peephole_graphs.specs.declared.shape.Shape.{Shape}
+use Rattle.peephole_graphs.specs.declared.shape.Judged.{Judged}
+use Rattle.peephole_graphs.specs.declared.shape.Judged.TheVariants.{Fits, Unfit, Unknown}
+use Rattle.peephole_graphs.specs.declared.dfg.MiniDFG.{MiniDFG}
+use Rattle.peephole_graphs.specs.Shape.{judge, block_of}
+use Rattle.peephole_graphs.specs.Colour.{colour_after}
+use Rattle.peephole_graphs.specs.Tree.{full_size}
 use Rattle.peephole_terms.specs.Expansion.{Setting}
-use Rattle.peephole_terms.specs.Forest.{forest}
-use Rattle.peephole_terms.specs.Dfg.{entries_of, parents_of, look_of}
-use Rattle.peephole_terms.specs.GraphOf.{IsGraphOf}
+use Rattle.peephole_graphs.specs.Forest.{forest}
+use Rattle.peephole_graphs.specs.Dfg.{entries_of, parents_of, look_of}
+use Rattle.peephole_graphs.specs.GraphOf.{IsGraphOf}
 use Rattle.peephole_run.specs.declared.graphs.Refusal.{Refusal}
 use Rattle.peephole_run.specs.declared.graphs.Refusal.TheVariants as refusal
 use Rattle.peephole_run.specs.declared.place.Place.{Place}

@@ -1,13 +1,13 @@
 -- What the command `show` tells of a block (this project's rules).
 use Rattle.std.specs.Prelude.{ℕ, Bool, true, false, List, ◌++◌, codes, Result, Ok}
 use Rattle.mutate_base.specs.Module.{Module}
-use Rattle.peephole_terms.specs.Block.{BlockRange}
-use Rattle.peephole_terms.specs.declared.shape.Shape.{Shape}
-use Rattle.peephole_terms.specs.Colour.{colour_at}
-use Rattle.peephole_terms.specs.Forest.{forest}
-use Rattle.peephole_terms.specs.Shown.{has_one_colour, last_of}
-use Rattle.peephole_terms.specs.Tree.{entry}
-use Rattle.peephole_terms.specs.TreeText.{block_text}
+use Rattle.peephole_graphs.specs.Block.{BlockRange}
+use Rattle.peephole_graphs.specs.declared.shape.Shape.{Shape}
+use Rattle.peephole_graphs.specs.Colour.{colour_at}
+use Rattle.peephole_graphs.specs.Forest.{forest}
+use Rattle.peephole_graphs.specs.Shown.{has_one_colour, last_of}
+use Rattle.peephole_graphs.specs.Tree.{entry}
+use Rattle.peephole_graphs.specs.TreeText.{block_text}
 use Rattle.peephole_run.specs.declared.graphs.Refusal.{Refusal}
 use Rattle.peephole_run.specs.Body.{Contents}
 use Rattle.peephole_run.specs.Graphs.{graphed, of_graph, operators_in}

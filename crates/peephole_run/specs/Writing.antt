@@ -6,12 +6,12 @@ use Rattle.wasm_code.specs.Instruction.{Instruction}
 use Rattle.mutate_base.specs.declared.error.Error.TheVariants.{NoMutationsApplicable}
 use Rattle.peephole_lang.specs.Term.{Term, Node, tree_at}
 use Rattle.peephole_lang.specs.declared.lang.Head.{Head}
-use Rattle.peephole_terms.specs.Block.{BlockRange}
+use Rattle.peephole_graphs.specs.Block.{BlockRange}
 use Rattle.peephole_terms.specs.declared.encoder.request.ResourceRequest.{ResourceRequest}
-use Rattle.peephole_terms.specs.declared.shape.Shape.{Shape}
+use Rattle.peephole_graphs.specs.declared.shape.Shape.{Shape}
 use Rattle.peephole_terms.specs.Expansion.{Setting}
-use Rattle.peephole_terms.specs.Forest.{forest}
-use Rattle.peephole_terms.specs.Tree.{instructions, numbers, range_from}
+use Rattle.peephole_graphs.specs.Forest.{forest}
+use Rattle.peephole_graphs.specs.Tree.{instructions, numbers, range_from}
 use Rattle.peephole_terms.specs.Written.{shapes_in, term_code, term_requests, written_block, written_body}
 use Rattle.peephole_run.specs.declared.graphs.Refusal.{Refusal}
 use Rattle.peephole_run.specs.declared.graphs.Refusal.TheVariants as refusal

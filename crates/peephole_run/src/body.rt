@@ -1,7 +1,7 @@
 //! A body, read.
 
 ghost use Rattle.std.specs.Prelude.{◌≡◌, ◌<◌, ◌⊎◌, length, Ok, Err, IfSome, MatchResult};
-ghost use Rattle.peephole_terms.specs.Block.{IsBlockOf};
+ghost use Rattle.peephole_graphs.specs.Block.{IsBlockOf};
 ghost use Rattle.peephole_terms.specs.Written.{IsBodyIn};
 ghost use Rattle.wasm_code.specs.declared.fault.ReadKind.TheVariants.{Memory};
 ghost use Rattle.peephole_run.specs.Body.{body_of, block_at};

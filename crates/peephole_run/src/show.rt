@@ -2,8 +2,8 @@
 
 ghost use Rattle.std.specs.Prelude.{◌≡◌, ◌++◌, is_some, IsTrue, IfOk, MatchResult, string_bytes};
 ghost use Rattle.mutate_base.specs.declared.error.Error.TheVariants.{Memory};
-ghost use Rattle.peephole_terms.specs.Dfg.{entries_of, parents_of};
-ghost use Rattle.peephole_terms.specs.ForestText.{default_text};
+ghost use Rattle.peephole_graphs.specs.Dfg.{entries_of, parents_of};
+ghost use Rattle.peephole_graphs.specs.ForestText.{default_text};
 ghost use Rattle.peephole_run.specs.Graphs.{module_in, IsPlace, Tells};
 ghost use Rattle.peephole_run.specs.Show.{yes_or_no, verdicts, shown};
 

@@ -9,12 +9,12 @@ use Rattle.mutate_base.specs.Config.{Config}
 use Rattle.mutate_base.specs.Module.{Module}
 use Rattle.peephole_lang.specs.declared.lang.Head.{Head}
 use Rattle.peephole_lang.specs.Term.{Term}
-use Rattle.peephole_terms.specs.declared.dfg.StackEntry.{StackEntry}
-use Rattle.peephole_terms.specs.Block.{BlockRange}
-use Rattle.peephole_terms.specs.Entries.{roots_of}
-use Rattle.peephole_terms.specs.Forest.{forest}
-use Rattle.peephole_terms.specs.Tree.{instructions}
-use Rattle.peephole_terms.specs.GraphOf.{IsGraphOf}
+use Rattle.peephole_graphs.specs.declared.dfg.StackEntry.{StackEntry}
+use Rattle.peephole_graphs.specs.Block.{BlockRange}
+use Rattle.peephole_graphs.specs.Entries.{roots_of}
+use Rattle.peephole_graphs.specs.Forest.{forest}
+use Rattle.peephole_graphs.specs.Tree.{instructions}
+use Rattle.peephole_graphs.specs.GraphOf.{IsGraphOf}
 use Rattle.peephole_terms.specs.Expansion.{Setting, setting_of, draws_of, drawn}
 use Rattle.peephole_terms.specs.EncoderSteps.{IsInRange, root_terms, steps}
 use Rattle.peephole_terms.specs.Written.{shapes_in, is_written, term_code, written_body, written_block, IsBodyIn, IsBlockIn}

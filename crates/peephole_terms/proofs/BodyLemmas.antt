@@ -7,7 +7,7 @@ use Rattle.wasm_code.specs.Operator.{is_delimiter, Spells}
 use Rattle.wasm_code.specs.Body.{SpellsAll, is_end, ends}
 use Rattle.wasm_code.specs.declared.operator.Operator.{Operator}
 use Rattle.wasm_code.specs.declared.operator.Operator.TheVariants.{Instr, Block, Loop, If, Else, End, Br, BrIf, BrTable, Return, Unreachable, CallIndirect, TypedSelect}
-use Rattle.peephole_terms.specs.Block.{BlockRange}
+use Rattle.peephole_graphs.specs.Block.{BlockRange}
 use Rattle.peephole_terms.specs.Written.{offset_of, IsBodyIn, IsBlockIn}
 use Rattle.peephole_terms.specs.EncoderSteps.{IsInside}
 

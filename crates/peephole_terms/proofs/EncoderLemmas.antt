@@ -16,26 +16,26 @@ use Rattle.peephole_lang.specs.declared.lang.Lang.{Lang}
 use Rattle.peephole_lang.specs.Lang.{place_of, payload_of, ids_of}
 use Rattle.peephole_lang.specs.Node.{head_of, children_of, instr_of}
 use Rattle.peephole_lang.specs.Term as term
-use Rattle.peephole_terms.specs.declared.dfg.StackEntry.{StackEntry}
-use Rattle.peephole_terms.specs.declared.shape.Shape.{Shape}
-use Rattle.peephole_terms.specs.Shape.{block_of}
-use Rattle.peephole_terms.specs.Tree.{Tree, Trees, entry, node, no_trees, ◌▸◌, join, instructions_of, instructions}
-use Rattle.peephole_terms.specs.Order.{AreInOrder}
-use Rattle.peephole_terms.specs.Forest.{IsInOrder, has, forest, trees, is_operand, without}
-use Rattle.peephole_terms.specs.Graph.{Entry, pick, tree_at, tree_of_entry, undefs, item, undef}
-use Rattle.peephole_terms.proofs.Stands.{entry_at}
-use Rattle.peephole_terms.specs.Entries.{Seen, seen, entry_of, nodes_of, roots_of, shape_of}
-use Rattle.peephole_terms.specs.GraphOf.{IsGraphOf}
-use Rattle.peephole_terms.proofs.Represents.{IsOwnOrUndef}
-use Rattle.peephole_terms.proofs.GraphOfLemmas.{represents}
+use Rattle.peephole_graphs.specs.declared.dfg.StackEntry.{StackEntry}
+use Rattle.peephole_graphs.specs.declared.shape.Shape.{Shape}
+use Rattle.peephole_graphs.specs.Shape.{block_of}
+use Rattle.peephole_graphs.specs.Tree.{Tree, Trees, entry, node, no_trees, ◌▸◌, join, instructions_of, instructions}
+use Rattle.peephole_graphs.specs.Order.{AreInOrder}
+use Rattle.peephole_graphs.specs.Forest.{IsInOrder, has, forest, trees, is_operand, without}
+use Rattle.peephole_graphs.specs.Graph.{Entry, pick, tree_at, tree_of_entry, undefs, item, undef}
+use Rattle.peephole_graphs.proofs.Stands.{entry_at}
+use Rattle.peephole_graphs.specs.Entries.{Seen, seen, entry_of, nodes_of, roots_of, shape_of}
+use Rattle.peephole_graphs.specs.GraphOf.{IsGraphOf}
+use Rattle.peephole_graphs.proofs.Represents.{IsOwnOrUndef}
+use Rattle.peephole_graphs.proofs.GraphOfLemmas.{represents}
 use Rattle.peephole_terms.specs.declared.encoder.request.ResourceRequest.{ResourceRequest}
 use Rattle.peephole_terms.specs.Kind.{NumberType}
 use Rattle.peephole_terms.specs.Expansion.{Refuses, followed, joined, expansion_of, expansion, requests_of, requests, request, draws_of, draws, drawn}
 use Rattle.peephole_terms.specs.EncoderSteps.{operator_at, entry_nodes, root_term, root_terms, IsWalkable, IsInRange, Step, Writing, steps_of, steps, take_steps, after, IsRefusal}
 use Rattle.peephole_terms.specs.Written.{replaced, is_root}
-use Rattle.peephole_terms.proofs.DfgLemmas.{get_item}
-use Rattle.peephole_terms.proofs.GraphLemmas.{parents_length, roots_root, roots_child}
-use Rattle.peephole_terms.proofs.BuilderLemmas.{shape_instr}
+use Rattle.peephole_graphs.proofs.DfgLemmas.{get_item}
+use Rattle.peephole_graphs.proofs.GraphLemmas.{parents_length, roots_root, roots_child}
+use Rattle.peephole_graphs.proofs.BuilderLemmas.{shape_instr}
 use Rattle.peephole_terms.proofs.WalkLemmas.{take_steps-append, refused_after}
 use Rattle.peephole_terms.proofs.ExpansionLemmas.{finished, all_from_start, refused}
 use Rattle.peephole_terms.proofs.PlainLemmas.{listed, plain_of, plain, IsItself, is_itself, as_node, trees_plain, with_term}
@@ -456,20 +456,6 @@ child_step count at t entries parents i p start w l some e = ap (λ (x : List St
 pub same_writing : (a b : List ℕ) (r q : List ResourceRequest) (s t : Stream) → b ≡ a → q ≡ r → t ≡ s →
     ◌≡◌ {A = Result Writing Error} (Ok (record { bytes = a; requests = r; stream = s })) (Ok (record { bytes = b; requests = q; stream = t }))
 same_writing a b r q s t e f g = cc
-
-pub no_parent : (q : Option ℕ) (b : Bool) → is_some q ≡ not b → b ≡ true → q ≡ None
-no_parent None b e t = refl
-no_parent (Some p) b e t = absurd (differ (e ∙ ap not t))
-  where
-    differ : true ≡ false → ⊥
-    differ e = cc
-
-pub some_parent : (q : Option ℕ) (b : Bool) → is_some q ≡ not b → b ≡ false → (p : ℕ) × (q ≡ Some p)
-some_parent (Some p) b e t = (p, refl)
-some_parent None b e t = absurd (differ (e ∙ ap not t))
-  where
-    differ : false ≡ true → ⊥
-    differ e = cc
 
 -- ---- under a configuration that is set up
 

@@ -12,19 +12,19 @@ use Rattle.peephole_lang.specs.Lang.{ids_of}
 use Rattle.peephole_lang.specs.declared.lang.Head.{Head}
 use Rattle.peephole_lang.specs.Node.{instr_of, children_of}
 use Rattle.peephole_lang.specs.Term.{Term, Node, AreBelow, pick, tree_at}
-use Rattle.peephole_terms.specs.declared.dfg.StackEntry.{StackEntry}
-use Rattle.peephole_terms.specs.Shape.{Shape}
-use Rattle.peephole_terms.specs.Tree.{Tree, instructions_of, instructions}
-use Rattle.peephole_terms.specs.Graph as graph
-use Rattle.peephole_terms.specs.Graph.{Entry, tree_of_entry}
-use Rattle.peephole_terms.specs.Entries.{shape_of, entry_of, nodes_of, entry_tree}
-use Rattle.peephole_terms.specs.GraphOf.{IsGraphOf}
-use Rattle.peephole_terms.proofs.Represents.{IsOwnOrUndef}
-use Rattle.peephole_terms.proofs.GraphOfLemmas.{represents}
+use Rattle.peephole_graphs.specs.declared.dfg.StackEntry.{StackEntry}
+use Rattle.peephole_graphs.specs.Shape.{Shape}
+use Rattle.peephole_graphs.specs.Tree.{Tree, instructions_of, instructions}
+use Rattle.peephole_graphs.specs.Graph as graph
+use Rattle.peephole_graphs.specs.Graph.{Entry, tree_of_entry}
+use Rattle.peephole_graphs.specs.Entries.{shape_of, entry_of, nodes_of, entry_tree}
+use Rattle.peephole_graphs.specs.GraphOf.{IsGraphOf}
+use Rattle.peephole_graphs.proofs.Represents.{IsOwnOrUndef}
+use Rattle.peephole_graphs.proofs.GraphOfLemmas.{represents}
 use Rattle.peephole_terms.proofs.PlainLemmas.{listed, plain_of, plain}
-use Rattle.peephole_terms.specs.Layout.{entry_nodes}
-use Rattle.peephole_terms.proofs.BuilderLemmas.{shape_instr}
-use Rattle.peephole_terms.proofs.LayoutTrees.{node_of_entry, entries_below, view, Ordered, map_turned, map_twice, All_turned, last_or_before, has_trees}
+use Rattle.peephole_graphs.specs.Layout.{entry_nodes}
+use Rattle.peephole_graphs.proofs.BuilderLemmas.{shape_instr}
+use Rattle.peephole_graphs.proofs.LayoutTrees.{node_of_entry, entries_below, view, Ordered, map_turned, map_twice, All_turned, last_or_before, has_trees}
 
 kids_same : (f : ℕ → Term Head) (g : ℕ → Tree) (n : ℕ) → ((k : ℕ) → k < n → plain_of (f k) ≡ instructions_of (g k)) → (is : List ℕ) → All (λ k. k < n) is → plain (pick f is) ≡ instructions (graph.pick g is)
 kids_same f g n same [] all = refl

@@ -9,26 +9,26 @@ use Rattle.std.proofs.lemmas.Option.{slice_get-get_or}
 use Rattle.wasm_code.specs.declared.operator.Operator.{Operator}
 use Rattle.wasm_code.specs.Instruction.{Instruction}
 use Rattle.mutate_base.specs.Module.{Module}
-use Rattle.peephole_terms.specs.declared.shape.Shape.{Shape}
-use Rattle.peephole_terms.specs.declared.dfg.StackEntry.{StackEntry}
-use Rattle.peephole_terms.specs.Shape.{block_of}
-use Rattle.peephole_terms.specs.Tree.{Tree, Trees, entry, node, no_trees, ◌▸◌, instructions_of, instructions}
-use Rattle.peephole_terms.specs.Graph.{Entry, pick, tree_at, tree_of_entry, undefs, roots}
-use Rattle.peephole_terms.proofs.Stands.{entry_at, is_operator}
-use Rattle.peephole_terms.specs.Forest.{forest}
-use Rattle.peephole_terms.specs.Entries.{seen, shape_of, entry_of, nodes_of, entry_tree}
-use Rattle.peephole_terms.specs.GraphOf.{IsGraphOf}
-use Rattle.peephole_terms.proofs.GraphOfLemmas.{represents}
+use Rattle.peephole_graphs.specs.declared.shape.Shape.{Shape}
+use Rattle.peephole_graphs.specs.declared.dfg.StackEntry.{StackEntry}
+use Rattle.peephole_graphs.specs.Shape.{block_of}
+use Rattle.peephole_graphs.specs.Tree.{Tree, Trees, entry, node, no_trees, ◌▸◌, instructions_of, instructions}
+use Rattle.peephole_graphs.specs.Graph.{Entry, pick, tree_at, tree_of_entry, undefs, roots}
+use Rattle.peephole_graphs.proofs.Stands.{entry_at, is_operator}
+use Rattle.peephole_graphs.specs.Forest.{forest}
+use Rattle.peephole_graphs.specs.Entries.{seen, shape_of, entry_of, nodes_of, entry_tree}
+use Rattle.peephole_graphs.specs.GraphOf.{IsGraphOf}
+use Rattle.peephole_graphs.proofs.GraphOfLemmas.{represents}
 use Rattle.peephole_lang.specs.Node.{instr_of}
-use Rattle.peephole_terms.proofs.DfgLemmas.{nodes_length, entry_seen}
-use Rattle.peephole_terms.proofs.GraphLemmas.{entry_later}
+use Rattle.peephole_graphs.proofs.DfgLemmas.{nodes_length, entry_seen}
+use Rattle.peephole_graphs.proofs.GraphLemmas.{entry_later}
 use Rattle.peephole_terms.specs.Written.{replaced, is_root, is_written, term_code, written_block, shapes_in}
-use Rattle.peephole_terms.specs.Block.{BlockRange}
+use Rattle.peephole_graphs.specs.Block.{BlockRange}
 use Rattle.peephole_terms.specs.Expansion.{draws_of, drawn, expansion_of}
-use Rattle.peephole_terms.specs.Layout.{entry_nodes}
+use Rattle.peephole_graphs.specs.Layout.{entry_nodes}
 use Rattle.peephole_terms.specs.ReadAgain.{KeepsTheTrees}
 use Rattle.peephole_terms.proofs.LayoutExpansion.{term_expands}
-use Rattle.peephole_terms.proofs.LayoutTrees.{All_turned, map_turned}
+use Rattle.peephole_graphs.proofs.LayoutTrees.{All_turned, map_turned}
 use Rattle.peephole_terms.proofs.PlainLemmas.{IsPlain, IsItself, as_node, plain_of, is_itself, trees_plain}
 use Rattle.peephole_lang.specs.declared.lang.Head.{Head}
 use Rattle.peephole_lang.specs.Term.{Term, Node}

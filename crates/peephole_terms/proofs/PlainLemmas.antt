@@ -11,10 +11,10 @@ use Rattle.peephole_lang.specs.declared.lang.Head.{Head}
 use Rattle.peephole_lang.specs.Lang.{place_of, payload_of}
 use Rattle.peephole_lang.specs.Node.{head_of, children_of, instr_of, instr_of_head}
 use Rattle.peephole_lang.specs.Term.{Term, Terms, absent, node, no_terms, ◌▸◌, Node, pick, tree_at}
-use Rattle.peephole_terms.specs.declared.dfg.StackEntry.{StackEntry}
+use Rattle.peephole_graphs.specs.declared.dfg.StackEntry.{StackEntry}
 use Rattle.peephole_terms.specs.Kind.{Kind, NumberType, rowless, kind_found, kind_of, of_instruction}
 use Rattle.peephole_terms.specs.Expansion.{with_own_requests, requests_of, requests, with_own_draws, draws_of, draws, joined, with_own_code, expansion_of, expansion}
-use Rattle.peephole_terms.proofs.Represents.{IsOwnOrUndef}
+use Rattle.peephole_graphs.proofs.Represents.{IsOwnOrUndef}
 
 abbrev pub listed : Option Instruction → List Instruction
 listed None = []

@@ -15,7 +15,7 @@ use Rattle.peephole_terms.specs.declared.encoder.kind.NumberType.TheVariants as 
 use Rattle.peephole_terms.specs.declared.encoder.kind.IntegerType.TheVariants as integer
 use Rattle.peephole_terms.specs.declared.encoder.kind.Kind.TheVariants.{Own, Random, Unfold, UseGlobal, Nothing}
 use Rattle.peephole_terms.specs.Kind.{NumberType, IntegerType, Kind, kind_of, number_of}
-use Rattle.peephole_terms.specs.Tree.{Trees}
+use Rattle.peephole_graphs.specs.Tree.{Trees}
 use Rattle.peephole_terms.specs.Expansion.{constant, rest_of, add_of, sum, set_global, get_global, constant_in, sum_of, through_global, followed, joined, first_word, own_code, with_own_code, requests_of, requests, draws_of, draws, expansion_of, expansion}
 use Rattle.peephole_terms.specs.EncoderSteps.{Step, IsInRange, own_step, opened, steps_of, steps}
 use Rattle.peephole_terms.specs.Written.{replaced}

@@ -9,7 +9,7 @@ use Rattle.wasm_code.specs.Body.{AreSpelled, joined, placed, SpellsAll, SpellsBo
 use Rattle.wasm_code.specs.declared.operator.Operator.{Operator}
 use Rattle.wasm_code.specs.declared.operator.Operator.TheVariants.{Instr}
 use Rattle.wasm_code.proofs.JoinLemmas.{all_joined}
-use Rattle.peephole_terms.specs.Block.{BlockRange}
+use Rattle.peephole_graphs.specs.Block.{BlockRange}
 use Rattle.peephole_terms.specs.Written.{offset_of, before_block, after_block, written_body, IsBodyIn, IsBlockIn}
 use Rattle.peephole_terms.specs.ReadAgain.{without_offsets, ReadsAgain}
 use Rattle.peephole_terms.proofs.BodyLemmas.{inside}

@@ -18,17 +18,17 @@ use Rattle.mutate_base.specs.Module.{Module, function_type}
 use Rattle.mutate_base.specs.declared.types.PrimitiveTypeInfo.{PrimitiveTypeInfo}
 use Rattle.mutate_base.specs.declared.types.TypeInfo.{TypeInfo}
 use Rattle.mutate_base.specs.declared.types.TypeInfo.TheVariants.{Func}
-use Rattle.peephole_terms.specs.Block.{BlockRange, HasNoDelimiter}
-use Rattle.peephole_terms.specs.Shape.{Shape, Judged, Fits, IsFit, AreFit, judge, judge_instruction, judge_found, judge_row, judge_call, judge_callee, call_shape, and_shape, operator_shapes}
-use Rattle.peephole_terms.specs.Tree.{Tree, Trees, entry, node, no_trees, ◌▸◌, join, numbers_of, numbers, shapes_of, shapes, instructions_of, instructions, renumbered}
-use Rattle.peephole_terms.specs.Forest.{low, from_place, at_place, tree_of, trees, is_operand, without, forest, IsInOrder}
+use Rattle.peephole_graphs.specs.Block.{BlockRange, HasNoDelimiter}
+use Rattle.peephole_graphs.specs.Shape.{Shape, Judged, Fits, IsFit, AreFit, judge, judge_instruction, judge_found, judge_row, judge_call, judge_callee, call_shape, and_shape, operator_shapes}
+use Rattle.peephole_graphs.specs.Tree.{Tree, Trees, entry, node, no_trees, ◌▸◌, join, numbers_of, numbers, shapes_of, shapes, instructions_of, instructions, renumbered}
+use Rattle.peephole_graphs.specs.Forest.{low, from_place, at_place, tree_of, trees, is_operand, without, forest, IsInOrder}
 use Rattle.peephole_terms.specs.Written.{shapes_in, written_body, IsBodyIn, IsBlockIn}
 use Rattle.peephole_terms.specs.ReadAgain.{without_offsets, IsReread}
 use Rattle.peephole_terms.proofs.EncoderLemmas.{All-reverse}
-use Rattle.peephole_terms.proofs.ForestLemmas.{forest_is}
-use Rattle.peephole_terms.proofs.Rereading.{same_trees}
-use Rattle.peephole_terms.proofs.Order.{written_in_order, shapes-renumbered}
-use Rattle.peephole_terms.proofs.OrderLemmas.{count_all}
+use Rattle.peephole_graphs.proofs.ForestLemmas.{forest_is}
+use Rattle.peephole_graphs.proofs.Rereading.{same_trees}
+use Rattle.peephole_graphs.proofs.Order.{written_in_order, shapes-renumbered}
+use Rattle.peephole_graphs.proofs.OrderLemmas.{count_all}
 use Rattle.peephole_terms.proofs.SpellingLemmas.{Spelling, named_placed, length-placed, coded}
 use Rattle.peephole_terms.proofs.ReadAgainLemmas.{drop-map, alone_are, with_code, spelled_with, written_is, again_of, spells_again, spelled_in}
 

@@ -10,13 +10,13 @@ use Rattle.mutate_base.specs.Module.{Module}
 use Rattle.mutate_base.specs.declared.error.Error.{Error}
 use Rattle.peephole_lang.specs.declared.lang.Head.{Head}
 use Rattle.peephole_lang.specs.Term.{Term}
-use Rattle.peephole_terms.specs.declared.dfg.StackEntry.{StackEntry}
+use Rattle.peephole_graphs.specs.declared.dfg.StackEntry.{StackEntry}
 use Rattle.peephole_terms.specs.declared.encoder.request.ResourceRequest.{ResourceRequest}
-use Rattle.peephole_terms.specs.Block.{BlockRange}
-use Rattle.peephole_terms.specs.Shape.{block_of}
-use Rattle.peephole_terms.specs.Forest.{forest}
-use Rattle.peephole_terms.specs.Entries.{roots_of}
-use Rattle.peephole_terms.specs.GraphOf.{IsGraphOf}
+use Rattle.peephole_graphs.specs.Block.{BlockRange}
+use Rattle.peephole_graphs.specs.Shape.{block_of}
+use Rattle.peephole_graphs.specs.Forest.{forest}
+use Rattle.peephole_graphs.specs.Entries.{roots_of}
+use Rattle.peephole_graphs.specs.GraphOf.{IsGraphOf}
 use Rattle.peephole_terms.specs.Expansion.{Setting, setting_of, expanded, after_term, Refuses, expansion_of, requests_of, request, draws_of, drawn}
 use Rattle.peephole_terms.specs.EncoderSteps.{root_terms, Writing, steps_of, steps, take_steps, IsRefusal}
 use Rattle.peephole_terms.specs.Written.{is_written, term_code, term_requests, after_block_term, before_block, after_block, written_body, written_block}

@@ -12,11 +12,11 @@ use Rattle.peephole_lang.specs.declared.lang.Lang.{Lang}
 use Rattle.peephole_lang.specs.Lang.{ids_of, payload_of}
 use Rattle.peephole_lang.specs.Node.{head_of, children_of}
 use Rattle.peephole_lang.specs.Term.{numbers_of, Term, Terms, absent, node, no_terms, ◌▸◌, Node, AreBelow, pick, tree_at}
-use Rattle.peephole_terms.specs.declared.frames.Frame.{Frame}
+use Rattle.peephole_graphs.specs.declared.frames.Frame.{Frame}
 use Rattle.peephole_terms.specs.Kind.{IntegerType, kind_of, is_unfold}
 use Rattle.peephole_terms.specs.Expansion.{constant_in, constant_of}
 use Rattle.peephole_terms.specs.EncoderSteps.{Step, Writing, IsInRange, own_step, opened, steps_of, steps, take_step, take_steps, after, IsRefusal, nodes_in}
-use Rattle.peephole_terms.proofs.PlaceLemmas.{IsAt, tree_is, children_in, at_place, view, some_at}
+use Rattle.peephole_graphs.proofs.PlaceLemmas.{IsAt, tree_is, children_in, at_place, view, some_at}
 
 -- ---- steps one after another
 

@@ -7,12 +7,12 @@ use Rattle.wasm_code.specs.declared.operator.Operator.TheVariants.{Instr}
 use Rattle.mutate_base.specs.Module.{Module}
 use Rattle.peephole_lang.specs.declared.lang.Head.{Head}
 use Rattle.peephole_lang.specs.Term.{Term, tree_at}
-use Rattle.peephole_terms.specs.declared.dfg.StackEntry.{StackEntry}
-use Rattle.peephole_terms.specs.Block.{BlockRange}
-use Rattle.peephole_terms.specs.Shape.{AreFit}
-use Rattle.peephole_terms.specs.Tree.{instructions, renumbered}
-use Rattle.peephole_terms.specs.Forest.{forest, IsInOrder}
-use Rattle.peephole_terms.specs.Layout.{entry_nodes}
+use Rattle.peephole_graphs.specs.declared.dfg.StackEntry.{StackEntry}
+use Rattle.peephole_graphs.specs.Block.{BlockRange}
+use Rattle.peephole_graphs.specs.Shape.{AreFit}
+use Rattle.peephole_graphs.specs.Tree.{instructions, renumbered}
+use Rattle.peephole_graphs.specs.Forest.{forest, IsInOrder}
+use Rattle.peephole_graphs.specs.Layout.{entry_nodes}
 use Rattle.peephole_terms.specs.Written.{shapes_in, is_written, written_body, IsBlockIn}
 
 -- the operators alone

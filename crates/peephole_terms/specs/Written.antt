@@ -9,10 +9,10 @@ use Rattle.mutate_base.specs.Module.{Module}
 use Rattle.mutate_base.specs.declared.error.Error.{Error}
 use Rattle.peephole_lang.specs.declared.lang.Head.{Head}
 use Rattle.peephole_lang.specs.Term.{Term}
-use Rattle.peephole_terms.specs.Block.{BlockRange, IsBlockOf}
-use Rattle.peephole_terms.specs.Shape.{Shape, block_of}
-use Rattle.peephole_terms.specs.Tree.{Trees, no_trees, entry, node, ◌▸◌, instructions_of}
-use Rattle.peephole_terms.specs.Forest.{forest}
+use Rattle.peephole_graphs.specs.Block.{BlockRange, IsBlockOf}
+use Rattle.peephole_graphs.specs.Shape.{Shape, block_of}
+use Rattle.peephole_graphs.specs.Tree.{Trees, no_trees, entry, node, ◌▸◌, instructions_of}
+use Rattle.peephole_graphs.specs.Forest.{forest}
 use Rattle.peephole_terms.specs.declared.encoder.request.ResourceRequest.{ResourceRequest}
 use Rattle.peephole_terms.specs.Expansion.{Setting, expanded, after_term, requests_of, request}
 

@@ -3,7 +3,7 @@
 ghost use Rattle.std.specs.Prelude.{◌≡◌};
 ghost use Rattle.peephole_lang.specs.declared.lang.Lang.{Lang};
 
-use crate::dfg::StackEntry;
+use peephole_graphs::StackEntry;
 use peephole_lang::Lang;
 
 /// What stands at a place of a list of nodes: the node itself, or what holds it.

@@ -9,8 +9,8 @@ ghost use Rattle.peephole_terms.specs.EncoderSteps.{IsRefusal, IsInRange, nodes_
 use super::node::AsNode;
 use super::own::write_own;
 use super::request::ResourceRequest;
-use crate::frames::{Frame, descend, push_frame};
 use mutate_base::Error;
+use peephole_graphs::frames::{Frame, descend, push_frame};
 use peephole_lang::{Id, Lang};
 use rand_core::Rng;
 use std::alloc::Global;

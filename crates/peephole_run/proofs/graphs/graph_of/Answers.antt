@@ -1,5 +1,5 @@
 use Rattle.std.proofs.Common.{inr}
-use Rattle.peephole_terms.specs.Dfg.{entries_of, parents_of, look_of}
+use Rattle.peephole_graphs.specs.Dfg.{entries_of, parents_of, look_of}
 use Rattle.peephole_run.proofs.Refusals.{graph_here, none_here, refused_here}
 use Rattle.peephole_run.proofs.graphs.graph_of.Goals as goal
 

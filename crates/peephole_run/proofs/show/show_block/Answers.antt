@@ -1,6 +1,6 @@
 use Rattle.std.proofs.Common.{◌-◌, sym, ap, ◌∙◌, Ok, List, ℕ}
 use Rattle.std.specs.Prelude.{Result}
-use Rattle.peephole_terms.specs.Dfg.{entries_of, parents_of, look_of}
+use Rattle.peephole_graphs.specs.Dfg.{entries_of, parents_of, look_of}
 use Rattle.peephole_run.specs.declared.graphs.Refusal.{Refusal}
 use Rattle.peephole_run.specs.Graphs.{module_in, operators_in}
 use Rattle.peephole_run.proofs.Shows.{some_entries, place_length, shown_is}

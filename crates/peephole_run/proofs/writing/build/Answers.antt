@@ -1,6 +1,6 @@
 use Rattle.peephole_lang.specs.Node.{head_of, children_of}
 use Rattle.peephole_lang.specs.Term.{term_of}
-use Rattle.peephole_terms.specs.Dfg.{entries_of, parents_of, look_of}
+use Rattle.peephole_graphs.specs.Dfg.{entries_of, parents_of, look_of}
 use Rattle.peephole_run.proofs.Writings.{graph_under, build_ok, build_err}
 use Rattle.peephole_run.proofs.writing.build.Goals as goal
 

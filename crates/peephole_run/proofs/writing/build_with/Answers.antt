@@ -1,6 +1,6 @@
 use Rattle.std.proofs.Common.{◌≡◌, ◌<◌, length, arith}
 use Rattle.std.specs.Prelude.{IsSome}
-use Rattle.peephole_terms.specs.Dfg.{entries_of, parents_of, look_of}
+use Rattle.peephole_graphs.specs.Dfg.{entries_of, parents_of, look_of}
 use Rattle.peephole_run.specs.Graphs.{setting_in, operators_in}
 use Rattle.peephole_run.proofs.OwnNodes.{own_writable}
 use Rattle.peephole_terms.proofs.OwnTrees.{has_entry}

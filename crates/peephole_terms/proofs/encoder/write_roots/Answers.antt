@@ -4,7 +4,8 @@ use Rattle.peephole_lang.specs.Node.{head_of, children_of}
 use Rattle.peephole_lang.specs.Term.{term_of}
 use Rattle.peephole_terms.specs.declared.encoder.request.ResourceRequest.{ResourceRequest}
 use Rattle.peephole_terms.proofs.WalkLemmas.{kept_more}
-use Rattle.peephole_terms.proofs.EncoderLemmas.{root_step, root_in_range, root_refused, child_step, child_in_range, same_writing, no_parent, some_parent}
+use Rattle.peephole_terms.proofs.EncoderLemmas.{root_step, root_in_range, root_refused, child_step, child_in_range, same_writing}
+use Rattle.peephole_graphs.proofs.Parents.{no_parent, some_parent}
 use Rattle.peephole_terms.proofs.encoder.write_roots.Goals.{then-is_none+in-Ok, else-is_none}
 use Rattle.peephole_terms.proofs.encoder.write_roots.Goals as goal
 

@@ -2,7 +2,7 @@ use Rattle.std.proofs.Common.{◌≡◌, length, take, Ok}
 use Rattle.std.specs.Prelude.{All}
 use Rattle.peephole_lang.specs.Node.{head_of, children_of}
 use Rattle.peephole_lang.specs.Term.{term_of}
-use Rattle.peephole_terms.specs.Entries.{roots_of}
+use Rattle.peephole_graphs.specs.Entries.{roots_of}
 use Rattle.peephole_terms.specs.EncoderSteps.{IsInRange, root_terms, steps, take_steps}
 use Rattle.peephole_terms.proofs.encoder.write_roots.Given as goal
 

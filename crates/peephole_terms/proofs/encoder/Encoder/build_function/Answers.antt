@@ -2,7 +2,7 @@ use Rattle.std.proofs.Common.{ap, refl, sym, Ok, Err, ◌∙◌, Some}
 use Rattle.std.proofs.lemmas.Bool.{false≢true}
 use Rattle.peephole_lang.specs.Node.{head_of, children_of}
 use Rattle.peephole_lang.specs.Term.{term_of}
-use Rattle.peephole_terms.specs.Dfg.{entries_of, parents_of, look_of}
+use Rattle.peephole_graphs.specs.Dfg.{entries_of, parents_of, look_of}
 use Rattle.peephole_terms.proofs.BodyLemmas.{inside}
 use Rattle.peephole_terms.proofs.EncoderLemmas.{walkable_under, order_kept, wrote, not_for_order}
 use Rattle.peephole_terms.proofs.SettingLemmas.{body_written, body_asked, body_leaves, body_refused}

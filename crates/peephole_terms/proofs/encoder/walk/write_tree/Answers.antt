@@ -1,6 +1,6 @@
 use Rattle.std.proofs.Common.{◌++◌, ◌∷◌, [], List, ap, ◌∙◌, arith}
 use Rattle.std.proofs.lemmas.Grind.{common_steps}
-use Rattle.peephole_terms.specs.declared.frames.Frame.{Frame}
+use Rattle.peephole_graphs.specs.declared.frames.Frame.{Frame}
 use Rattle.peephole_terms.proofs.WalkLemmas.{start_of, start, down, own_done, own_refused, inside_of, kids_in, kept_more}
 use Rattle.peephole_terms.proofs.encoder.walk.write_tree.Goals as goal
 

@@ -1,0 +1,47 @@
+-- What a graph that is built says of its block, in the theory's lists, which have the last item first.
+use Rattle.std.specs.Prelude.{ℕ, suc, ◌+◌, ◌-◌, ◌<◌, ◌≤◌, ◌≡◌, ◌==◌, Bool, false, true, List, [], ◌∷◌, length, reverse, Option, None, Some, if◌then◌else◌}
+use Rattle.peephole_graphs.specs.Shape.{Shape}
+use Rattle.peephole_graphs.specs.Forest.{has, forest}
+use Rattle.peephole_graphs.specs.Colour.{colour_at}
+use Rattle.peephole_graphs.specs.Graph.{Entry, pick, tree_at, roots, undef, item}
+
+abbrev pub entry_at : List Entry → ℕ → Entry
+entry_at nodes i = item (undef 0) nodes i
+
+abbrev pub parent_at : List (Option ℕ) → ℕ → Option ℕ
+parent_at parents i = item None parents i
+
+-- how many values of the block's own stand after it, and how many operands were missing in it
+abbrev pub standing : List Shape → ℕ
+standing [] = 0
+standing (s ∷ earlier) = if s.has_result then suc (standing earlier - s.operands) else standing earlier - s.operands
+
+abbrev pub lacking : List Shape → ℕ
+lacking [] = 0
+lacking (s ∷ earlier) = lacking earlier + (s.operands - standing earlier)
+
+-- an operator's shape
+abbrev pub shape_at : List Shape → ℕ → Option Shape
+shape_at [] n = None
+shape_at (s ∷ earlier) n = if length earlier == n then Some s else shape_at earlier n
+
+-- An entry is an operator of the block with its shape and colour, or a missing operand of one.
+abbrev pub IsOperator : Bool → List Shape → Option Shape → Entry → Type 0
+IsOperator keeping block None e = (e.children ≡ []) × (e.colour ≡ 4294967295)
+IsOperator keeping block (Some s) e = (shape_at block e.number ≡ Some s) × (e.colour ≡ colour_at keeping block e.number)
+
+abbrev pub IsEntryOf : Bool → List Shape → Entry → Type 0
+IsEntryOf keeping block e = (e.number < length block) × IsOperator keeping block e.shape e
+
+abbrev pub is_operator : Option Shape → Bool
+is_operator None = false
+is_operator (Some s) = true
+
+pub record Stands (keeping : Bool) (block : List Shape) (nodes : List Entry) (parents : List (Option ℕ)) : Type 0 where
+  pub same_length : length parents ≡ length nodes
+  pub trees : pick (tree_at nodes) (reverse (roots parents)) ≡ forest block
+  pub entries : (i : ℕ) → i < length nodes → IsEntryOf keeping block (entry_at nodes i)
+  pub parent : (p i : ℕ) → has i (entry_at nodes p).children ≡ true → (parent_at parents i ≡ Some p) × (i < p)
+  pub child : (p i : ℕ) → parent_at parents i ≡ Some p → (p < length nodes) × (has i (entry_at nodes p).children ≡ true)
+  pub taker : (p i : ℕ) → has i (entry_at nodes p).children ≡ true → (entry_at nodes i).shape ≡ None → (entry_at nodes i).number ≡ (entry_at nodes p).number
+  pub order : (i j : ℕ) → i ≤ j → j < length nodes → (entry_at nodes i).number ≤ (entry_at nodes j).number

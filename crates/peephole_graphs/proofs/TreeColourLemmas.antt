@@ -1,0 +1,198 @@
+-- Whether all entries of a tree of a graph have one colour, told by the tree.
+use Rattle.std.proofs.Common.{◌≡◌, ℕ, zero, suc, ◌+◌, ◌-◌, ◌<◌, inl, inr, Bool, true, false, List, [], ◌∷◌, ◌++◌, length, get_or, map, refl, sym, ap, ap₂, subst, ◌∙◌, arith, Option, Some, None}
+use Rattle.std.specs.Prelude.{◌&&◌, ◌==◌, reverse, slice_get, is_some}
+use Rattle.std.specs.List.{All}
+use Rattle.std.proofs.lemmas.Bool.{cond-true, cond-false, eq-eqb, ne_eqb}
+use Rattle.std.proofs.lemmas.List.{length-reverse, length-map}
+use Rattle.std.proofs.lemmas.List.Elements.{All-head, All-tail}
+use Rattle.std.proofs.lemmas.Option.{slice_get_within, slice_get-get_or}
+use Rattle.wasm_code.specs.Instruction.{Instruction}
+use Rattle.mutate_base.specs.Module.{Module}
+use Rattle.peephole_lang.specs.Node.{instr_of, children_of}
+use Rattle.peephole_lang.specs.Term.{AreBelow}
+use Rattle.peephole_graphs.specs.declared.dfg.StackEntry.{StackEntry}
+use Rattle.peephole_graphs.specs.Shape.{block_of}
+use Rattle.peephole_graphs.specs.Tree as tree
+use Rattle.peephole_graphs.specs.Tree.{Tree, Trees, no_trees, ◌▸◌}
+use Rattle.peephole_graphs.specs.Forest.{forest}
+use Rattle.peephole_graphs.specs.Colour.{colour_at}
+use Rattle.peephole_graphs.specs.Downwards.{Kin, gather, downwards, kin_at, are_coloured}
+use Rattle.peephole_graphs.specs.Graph as graph
+use Rattle.peephole_graphs.specs.Graph.{Entry, roots, tree_of_entry}
+use Rattle.peephole_graphs.proofs.Stands.{IsEntryOf}
+use Rattle.peephole_graphs.proofs.GraphOfLemmas.{represents}
+use Rattle.peephole_graphs.specs.Growing.{undef_entry}
+use Rattle.peephole_graphs.specs.Entries.{kin, kins_of, shape_of, nodes_of, roots_of}
+use Rattle.peephole_graphs.specs.Layout.{entry_nodes}
+use Rattle.peephole_graphs.specs.Shown as test
+use Rattle.peephole_graphs.specs.Shown.{is_coloured, has_one_colour, last_of, ShowsTheColour}
+use Rattle.peephole_graphs.proofs.DfgLemmas.{nodes_length, get_item, coloured_all, all_coloured}
+use Rattle.peephole_graphs.proofs.Forwards.{colour_small}
+use Rattle.peephole_graphs.proofs.GraphLemmas.{parents_length, roots_root}
+use Rattle.peephole_graphs.proofs.LayoutTrees.{node_of_entry, entries_below, view, Ordered, map_turned, map_twice, last_or_before, has_trees}
+use Rattle.peephole_graphs.proofs.Sizes.{coloured_append, coloured_same, kin_older, All_gather, down_below, and_true}
+use Rattle.peephole_graphs.proofs.TreeTextLemmas.{IsShown, shape_for, stack_at, stack_top, stack_older, entries_all, entry_is}
+
+-- ---- entry by entry
+
+and_false : (b : Bool) → (b && false) ≡ false
+and_false true = refl
+and_false false = refl
+
+kids_coloured : (xs : List Kin) (colour : ℕ → ℕ) (c n : ℕ) (g : ℕ → Tree) → ((k : ℕ) → k < n → are_coloured xs c (downwards xs k) ≡ is_coloured colour c (g k)) →
+    (is : List ℕ) → All (λ k. k < n) is → are_coloured xs c (gather (downwards xs) is) ≡ test.are_coloured colour c (graph.pick g is)
+kids_coloured xs colour c n g h [] l = refl
+kids_coloured xs colour c n g h (i ∷ is) l =
+    coloured_append xs c (downwards xs i) (gather (downwards xs) is)
+    ∙ ap₂ (λ a b. a && b) (h i (All-head (λ k. k < n) i is l)) (kids_coloured xs colour c n g h is (All-tail (λ k. k < n) i is l))
+
+own_coloured : (info : Module) (colour : ℕ → ℕ) (first c : ℕ) (e : StackEntry) (g : ℕ → Tree) (a : Bool) (o : Option Instruction) → instr_of e.operator ≡ o → IsShown colour first e → c < 4294967295 →
+    a ≡ test.are_coloured colour c (graph.pick g (children_of e.operator)) → (missing : ℕ) →
+    (a && ((e.color == c) && true)) ≡ is_coloured colour c (tree_of_entry (view info first e).shape (children_of e.operator) (view info first e).number missing g)
+own_coloured info colour first c e g a None is h l k missing =
+    let none : (view info first e).shape ≡ None = ap (shape_for info first) is in
+    let painted = h.missing is in
+    let other : (e.color == c) ≡ false = ne_eqb e.color c (λ w. omega arith) in
+    ap (λ b. a && (b && true)) other ∙ (and_false a ∙ sym (ap (λ x. is_coloured colour c (tree_of_entry x (children_of e.operator) (view info first e).number missing g)) none))
+own_coloured info colour first c e g a (Some i) is h l k missing =
+    let some : (view info first e).shape ≡ Some (shape_of info i) = ap (shape_for info first) is in
+    ap (λ b. a && b) (and_true (e.color == c)) ∙ (ap₂ (λ b n. b && (n == c)) k (h.painted i is)
+    ∙ sym (ap (λ x. is_coloured colour c (tree_of_entry x (children_of e.operator) (view info first e).number missing g)) some))
+
+entries_coloured : (info : Module) (colour : ℕ → ℕ) (first c : ℕ) → c < 4294967295 → (rs : List StackEntry) → Ordered rs → All (IsShown colour first) rs → (i : ℕ) → i < length rs →
+    are_coloured (map kin rs) c (downwards (map kin rs) i) ≡ is_coloured colour c (graph.tree_at (map (view info first) rs) i)
+entries_coloured info colour first c s [] b m i l = absurd (omega arith)
+entries_coloured info colour first c s (e ∷ earlier) b m i l =
+    let xs = map kin earlier in
+    let g = graph.tree_at (map (view info first) earlier) in
+    let n = length-map earlier kin in
+    let p = length-map earlier (view info first) in
+    let q = length-map earlier node_of_entry in
+    let kids = children_of e.operator in
+    let older = entries_coloured info colour first c s earlier b.1 (All-tail (IsShown colour first) e earlier m) in
+    let below : All (λ c. c < length earlier) kids = subst (λ (k : ℕ). All (λ c. c < k) kids) q b.0 in
+    elim (last_or_before (length earlier) i l) [
+      | inl h ↦
+          let all = gather (downwards xs) kids in
+          let inside : All (λ j. j < length xs) all = All_gather (downwards xs) (length xs) kids (down_below xs) in
+          let a : are_coloured (kin e ∷ xs) c all ≡ test.are_coloured colour c (graph.pick g kids) =
+          coloured_same (kin e ∷ xs) xs c (length xs) all inside (kin_older (kin e) xs) ∙ kids_coloured xs colour c (length earlier) g older kids below in
+          let top : kin_at (kin e ∷ xs) (length xs) ≡ kin e = cond-true _ _ _ (eq-eqb (length xs) (length xs) refl) in
+          ap (are_coloured (kin e ∷ xs) c) (cond-true _ _ _ (eq-eqb (length xs) i (n ∙ h)))
+          ∙ (coloured_append (kin e ∷ xs) c all (length xs ∷ [])
+          ∙ (ap (λ (x : Kin). are_coloured (kin e ∷ xs) c all && ((x.colour == c) && true)) top
+          ∙ (own_coloured info colour first c e g (are_coloured (kin e ∷ xs) c all) (instr_of e.operator) refl (All-head (IsShown colour first) e earlier m) s a (graph.undefs (map (view info first) earlier))
+          ∙ sym (ap (is_coloured colour c) (cond-true _ _ _ (eq-eqb (length (map (view info first) earlier)) i (p ∙ h)))))))
+      | inr h ↦
+          ap (are_coloured (kin e ∷ xs) c) (cond-false _ _ _ (ne_eqb (length xs) i (omega arith)))
+          ∙ (coloured_same (kin e ∷ xs) xs c (length xs) (downwards xs i) (down_below xs i) (kin_older (kin e) xs)
+          ∙ (older i h ∙ sym (ap (is_coloured colour c) (cond-false _ _ _ (ne_eqb (length (map (view info first) earlier)) i (omega arith))))))
+    ]
+
+-- ---- an operator's own tree
+
+own_tree : (info : Module) (first : ℕ) (rs : List StackEntry) (i : ℕ) → i < length rs → (x : Instruction) → instr_of (stack_at rs i).operator ≡ Some x →
+    (kids : Trees) × (graph.tree_at (map (view info first) rs) i ≡ tree.node ((stack_at rs i).operator_idx - first) (shape_of info x) kids)
+own_tree info first [] i l x is = absurd (omega arith)
+own_tree info first (e ∷ earlier) i l x is =
+    let p = length-map earlier (view info first) in
+    let g = graph.tree_at (map (view info first) earlier) in
+    elim (last_or_before (length earlier) i l) [
+      | inl h ↦
+          let top = stack_top e earlier i h in
+          let own : instr_of e.operator ≡ Some x = ap (λ (y : StackEntry). instr_of y.operator) (sym top) ∙ is in
+          let some : (view info first e).shape ≡ Some (shape_of info x) = ap (shape_for info first) own in (
+            graph.pick g (children_of e.operator),
+            cond-true _ _ _ (eq-eqb (length (map (view info first) earlier)) i (p ∙ h))
+                ∙ (ap (λ y. tree_of_entry y (children_of e.operator) (view info first e).number (graph.undefs (map (view info first) earlier)) g) some
+                ∙ ap (λ (y : StackEntry). tree.node (y.operator_idx - first) (shape_of info x) (graph.pick g (children_of e.operator))) (sym top)),
+          )
+      | inr h ↦
+          let down = stack_older e earlier i h in
+          let older = own_tree info first earlier i h x (ap (λ (y : StackEntry). instr_of y.operator) (sym down) ∙ is) in (
+            older.0,
+            cond-false _ _ _ (ne_eqb (length (map (view info first) earlier)) i (omega arith))
+                ∙ (older.1 ∙ ap (λ (y : StackEntry). tree.node (y.operator_idx - first) (shape_of info x) older.0) (sym down)),
+          )
+    ]
+
+own_instr : (o : Option Instruction) → is_some o ≡ true → (x : Instruction) × (o ≡ Some x)
+own_instr None h = absurd (cc)
+own_instr (Some x) h = (x, refl)
+
+kin_is : (rs : List StackEntry) (i : ℕ) → i < length rs → (kin_at (map kin rs) i).colour ≡ (stack_at rs i).color
+kin_is [] i l = absurd (omega arith)
+kin_is (e ∷ earlier) i l =
+    let n = length-map earlier kin in
+    elim (last_or_before (length earlier) i l) [
+      | inl h ↦ ap (λ (k : Kin). k.colour) (cond-true _ _ _ (eq-eqb (length (map kin earlier)) i (n ∙ h))) ∙ sym (ap (λ (y : StackEntry). y.color) (stack_top e earlier i h))
+      | inr h ↦
+          ap (λ (k : Kin). k.colour) (cond-false _ _ _ (ne_eqb (length (map kin earlier)) i (omega arith)))
+          ∙ (kin_is earlier i h ∙ sym (ap (λ (y : StackEntry). y.color) (stack_older e earlier i h)))
+    ]
+
+-- ---- the last tree
+
+last_split : {A : Type 0} (xs : List A) (m : ℕ) (x : A) → length xs ≡ suc m → slice_get xs m ≡ Some x → (ys : List A) × (xs ≡ ys ++ x ∷ []) × (length ys ≡ m)
+last_split [] m x n h = absurd (omega arith)
+last_split {A} (y ∷ []) zero x n h = let e : y ≡ x = cc in ([], ap (λ (z : A). z ∷ []) e, refl)
+last_split (y ∷ z ∷ zs) zero x n h = absurd (omega arith)
+last_split (y ∷ ys) (suc m) x n h = let r = last_split ys m x (omega arith) h in (y ∷ r.0, ap (λ z. y ∷ z) r.1, ap suc r.2)
+
+last_pick : (g : ℕ → Tree) (t : Tree) (is : List ℕ) (i : ℕ) → last_of t (graph.pick g (is ++ i ∷ [])) ≡ g i
+last_pick g t [] i = refl
+last_pick g t (j ∷ is) i = last_pick g (g j) is i
+
+pub shows_the_colour : ShowsTheColour
+shows_the_colour info keeping first operators entries parents look h n e =
+    let rs = reverse entries in
+    let m = length entries - 1 in
+    let block = block_of info operators in
+    let colour = colour_at keeping block in
+    let nodes = nodes_of info first entries in
+    let count : length nodes ≡ length entries = nodes_length info first entries in
+    let length_rs : length rs ≡ length entries = length-reverse entries in
+    let nodes_are : nodes ≡ map (view info first) rs = ap reverse (map_twice info first entries) ∙ map_turned (view info first) entries in
+    let own_nodes : entry_nodes entries ≡ map node_of_entry rs = map_turned node_of_entry entries in
+    let kins_are : kins_of entries ≡ map kin rs = map_turned kin entries in
+    let ordered : Ordered rs = subst AreBelow own_nodes (entries_below entries (has_trees info keeping first operators entries parents look h).below) in
+    let last = h.last n e in
+    let own = (h.finds (first + n) m).0 last.0 in
+    let there : m < length entries = slice_get_within entries m own.0 own.1 in
+    let own_is : own.0 ≡ stack_at rs m = sym (slice_get-get_or_at entries m own.0 own.1) ∙ get_item (undef_entry 0) entries m in
+    let found = own_instr (instr_of own.0.operator) own.3 in
+    let instr : instr_of (stack_at rs m).operator ≡ Some found.0 = ap (λ (y : StackEntry). instr_of y.operator) (sym own_is) ∙ found.1 in
+    let own_tree_is = own_tree info first rs m (omega arith) found.0 instr in
+    let number = (stack_at rs m).operator_idx - first in
+    let entry_m = subst (IsEntryOf keeping block) (entry_is info first entries m there) ((represents info keeping first operators entries parents look h).stands.entries m (omega arith)) in
+    let all = entries_all info keeping first operators entries parents look h in
+    let shown = all_at (IsShown colour first) rs all m (omega arith) in
+    let c = colour number in
+    let painted : (stack_at rs m).color ≡ c = shown.painted found.0 instr in
+    let small : c < 4294967295 = colour_small keeping block number h.small entry_m.0 in
+    let split = last_split parents m None (parents_length info keeping first operators entries parents look h ∙ omega arith) last.1 in
+    let roots_are : roots_of parents ≡ roots_of split.0 ++ m ∷ [] = ap roots_of split.1 ∙ (roots_root split.0 ∙ ap (λ k. roots_of split.0 ++ k ∷ []) split.2) in
+    let g = graph.tree_at nodes in
+    let tree_is : last_of (tree.entry 0) (forest block) ≡ tree.node number (shape_of info found.0) own_tree_is.0 =
+    ap (last_of (tree.entry 0)) (sym (represents info keeping first operators entries parents look h).stands.trees ∙ ap (graph.pick g) roots_are) ∙ (last_pick g (tree.entry 0) (roots_of split.0) m ∙ (ap (λ (x : List Entry). graph.tree_at x m) nodes_are ∙ own_tree_is.1)) in
+    let coloured : are_coloured (kins_of entries) c (downwards (kins_of entries) m) ≡ has_one_colour colour (last_of (tree.entry 0) (forest block)) =
+    ap (λ (x : List Kin). are_coloured x c (downwards x m)) kins_are
+    ∙ (entries_coloured info colour first c small rs ordered all m (omega arith)
+    ∙ (ap (is_coloured colour c) own_tree_is.1 ∙ ap (has_one_colour colour) (sym tree_is))) in
+    let kin_c : (kin_at (kins_of entries) m).colour ≡ c = ap (λ (x : List Kin). (kin_at x m).colour) kins_are ∙ (kin_is rs m (omega arith) ∙ painted) in
+    let P : ℕ → Type 0 = λ d. All (λ j. (kin_at (kins_of entries) j).colour ≡ d) (downwards (kins_of entries) m) in (
+      λ w. subst P (sym kin_c) (coloured_all (kins_of entries) c (downwards (kins_of entries) m) (coloured ∙ w)),
+      λ a. sym coloured ∙ all_coloured (kins_of entries) c (downwards (kins_of entries) m) (subst P kin_c a),
+    )
+  where
+    slice_get-get_or_at : (xs : List StackEntry) (i : ℕ) (x : StackEntry) → slice_get xs i ≡ Some x → get_or xs i (undef_entry 0) ≡ x
+    slice_get-get_or_at xs i x h =
+        let k : slice_get xs i ≡ Some (get_or xs i (undef_entry 0)) = slice_get-get_or xs i (undef_entry 0) (slice_get_within xs i x h) in
+        cc
+
+    all_at : (P : StackEntry → Type 0) (rs : List StackEntry) → All P rs → (i : ℕ) → i < length rs → P (stack_at rs i)
+    all_at P [] h i l = absurd (omega arith)
+    all_at P (e ∷ earlier) h i l = elim (last_or_before (length earlier) i l) [
+      | inl w ↦ subst P (sym (stack_top e earlier i w)) (All-head P e earlier h)
+      | inr w ↦ subst P (sym (stack_older e earlier i w)) (all_at P earlier (All-tail P e earlier h) i w)
+    ]

@@ -1,0 +1,23 @@
+-- What the functions that write a forest's text go by: the levels of the way down, each with the children that are still to come. This project's rule.
+use Rattle.std.specs.Prelude.{ℕ, Bool, true, false, List, [], ◌∷◌, ◌++◌}
+use Rattle.peephole_nodes.specs.declared.id.Id.{Id}
+use Rattle.peephole_lang.specs.Term.{Terms, pick, numbers_of}
+use Rattle.peephole_graphs.specs.declared.dfg.StackEntry.{StackEntry}
+use Rattle.peephole_graphs.specs.ForestText.{Line, edge, child_lines, tree_of}
+
+abbrev pub has_some : List Id → Bool
+has_some [] = false
+has_some (i ∷ is) = true
+
+-- the inner prefix below the levels
+abbrev pub edges : List (List Id) → List ℕ
+edges [] = []
+edges (ids ∷ levels) = edge (has_some ids) ++ edges levels
+
+abbrev pub trees_of : List StackEntry → List Id → Terms StackEntry
+trees_of entries ids = pick (tree_of entries) (numbers_of ids)
+
+-- the lines that are still to come
+abbrev pub level_lines : List StackEntry → List ℕ → List (List Id) → List Line
+level_lines entries inner [] = []
+level_lines entries inner (ids ∷ levels) = level_lines entries (inner ++ edge (has_some ids)) levels ++ child_lines inner (trees_of entries ids)

@@ -1,0 +1,73 @@
+-- A term laid out in postfix: the layouts of its children one after another, and then its own node.
+-- A node names each child by the place of that child's own node. This project.
+use Rattle.std.specs.Prelude.{ℕ, suc, ◌+◌, ◌-◌, ◌≡◌, List, [], ◌∷◌, ◌++◌, ◌<◌, ◌≤◌, ◌^◌, length, map, reverse, slice_index_or, Option, Some, ⊤}
+use Rattle.std.specs.Coded.{Coded-set}
+use Rattle.std.specs.List.{All}
+use Rattle.peephole_lang.specs.declared.lang.Head.{Head}
+use Rattle.peephole_lang.specs.declared.lang.Lang.{Lang}
+use Rattle.peephole_lang.specs.contracts.lang.Lang.{the_row}
+use Rattle.peephole_lang.specs.Node.{node_of, children_of}
+use Rattle.peephole_lang.specs.Term.{Term, Terms, absent, node, no_terms, ◌▸◌, Node, tree_at}
+use Rattle.peephole_graphs.specs.declared.dfg.StackEntry.{StackEntry}
+
+-- what a node is, and the places of its children, by the parts of its language
+abbrev pub node_by : {L H : Type 0} → (L → H) → (L → List ℕ) → L → Node H
+node_by head children l = record { head = head l; children = children l }
+
+-- the nodes that items hold, the last one first
+abbrev pub held_nodes : {A H : Type 0} → (A → Node H) → List A → List (Node H)
+held_nodes held items = reverse (map held items)
+
+-- how many nodes there are, a shared one counted as often as it is named
+abbrev mutual
+  pub size_of : {H : Type 0} → Term H → ℕ
+  size_of absent = 0
+  size_of (node h kids) = suc (size kids)
+
+  pub size : {H : Type 0} → Terms H → ℕ
+  size no_terms = 0
+  size (t ▸ ts) = size_of t + size ts
+
+-- where the terms' own nodes stand when the terms are laid out from `first` on: each is the last one of its term
+abbrev pub places : {H : Type 0} → ℕ → Terms H → List ℕ
+places first no_terms = []
+places first (t ▸ ts) = (first + size_of t - 1) ∷ places (first + size_of t) ts
+
+-- the nodes from the place `first` on
+abbrev mutual
+  pub laid : {H : Type 0} → ℕ → Term H → List (Node H)
+  laid first absent = []
+  laid first (node h kids) = laid_all first kids ++ record { head = h; children = places first kids } ∷ []
+
+  pub laid_all : {H : Type 0} → ℕ → Terms H → List (Node H)
+  laid_all first no_terms = []
+  laid_all first (t ▸ ts) = laid first t ++ laid_all (first + size_of t) ts
+
+-- every node is there
+abbrev mutual
+  pub IsWhole : {H : Type 0} → Term H → Type 0
+  IsWhole absent = ⊥
+  IsWhole (node h kids) = AreWhole kids
+
+  pub AreWhole : {H : Type 0} → Terms H → Type 0
+  AreWhole no_terms = ⊤
+  AreWhole (t ▸ ts) = IsWhole t × AreWhole ts
+
+-- The term of what is laid out is the term.
+abbrev pub KeepsTheTerm : Type 0
+KeepsTheTerm = (t : Term Head) → IsWhole t → tree_at (reverse (laid 0 t)) (length (laid 0 t) - 1) ≡ t
+
+-- the nodes of a graph's entries, the last one first
+abbrev pub entry_nodes : List StackEntry → List (Node Head)
+entry_nodes entries = held_nodes (λ (e : StackEntry). node_of e.operator) entries
+
+-- What holds of the entries of every graph: each child stands below its parent, `look` finds entries, and each entry's
+-- tree has at most 2^32 nodes.
+pub record HasTrees (entries : List StackEntry) (look : ℕ → Option ℕ) : Type 0 where
+  pub below : (i : ℕ) (d : StackEntry) → i < length entries → All (λ c. c < i) (children_of (slice_index_or entries i d).operator)
+  pub found : (k i : ℕ) → look k ≡ Some i → i < length entries
+  pub small : (i : ℕ) → i < length entries → size_of (tree_at (entry_nodes entries) i) ≤ 2 ^ 32
+
+-- an equation of nodes has one proof at most
+pub Lang-set : IsSet Lang
+Lang-set = Coded-set the_row.coded

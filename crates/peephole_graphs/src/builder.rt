@@ -1,0 +1,156 @@
+//! Blocks and their graphs.
+
+ghost use Rattle.std.specs.Prelude.{◌≡◌, ◌+◌, ◌^◌, ◌<◌, ◌≤◌, ℕ, length, slice_range, nat_eq, IfOk, IfSome, IfNone, IfErr, MatchOption, MatchResult};
+ghost use Rattle.std.specs.HashMap as hash;
+ghost use Rattle.peephole_graphs.specs.Block.{HasNoDelimiter, IsDelimiterAt, IsBlockOf};
+ghost use Rattle.peephole_graphs.specs.Dfg.{entries_of, parents_of, look_of};
+ghost use Rattle.peephole_graphs.specs.GraphOf.{IsGraphOf, HasNoGraph, IsRefused};
+ghost use Rattle.peephole_graphs.specs.Building.{HasGrown};
+
+use crate::block::BBlock;
+use crate::dfg::MiniDFG;
+use crate::growing::{Growing, add_operator, start_graph};
+use crate::shape::{Judged, judge_operator};
+use mutate_base::{Error, ModuleInfo, WasmMutate};
+use std::alloc::Global;
+use std::marker::Model;
+use wasm_code::OperatorAndByteOffset;
+
+/// What finds blocks and makes their graphs. It keeps the mode alone: whether the order of effects is to be preserved.
+#[derive(Drop)]
+pub struct DFGBuilder {
+    preserving: bool,
+}
+
+impl Model for DFGBuilder {
+    ghost use Rattle.peephole_graphs.specs.GraphOf.{Mode};
+
+    ghost Value = { Mode };
+
+    ghost view = { λ b. record { preserving = b.preserving } };
+}
+
+// The first operator of the block that ends with the one at the index; behind it where that is a delimiter.
+fn block_start(index: usize, operators: &[OperatorAndByteOffset]) -> usize
+    requires { index < length operators.now }
+    ensures within { result ≤ index + 1 }
+    ensures none { HasNoDelimiter operators.now result (index + 1) }
+    ensures longest { (from : ℕ) → HasNoDelimiter operators.now from (index + 1) → result ≤ from }
+{
+    let mut start = index + 1;
+    while start > 0 {
+        if operators[start - 1].0.is_delimiter() {
+            return start;
+        }
+        start -= 1;
+    }
+    start
+}
+
+// The graph of the operators of a block whose first one has the index `first`; none at an operator that no graph holds,
+// and refused at a call of a function that isn't known.
+fn build(
+    alloc: Global,
+    info: &ModuleInfo,
+    operators: &[OperatorAndByteOffset],
+    first: usize,
+    preserving: bool,
+) -> Result<Option<Growing>, Error>
+    requires { first + length operators.now < 2 ^ 64 }
+    ensures { MatchResult result
+        (λ o. MatchOption o (HasNoGraph info.now preserving operators.now) (λ g. HasGrown info.now preserving first operators.now g))
+        (λ e. IsRefused info.now preserving operators.now e) }
+{
+    let mut growing = start_graph(alloc, operators.len())?;
+    for (number, operator) in operators.iter().enumerate() {
+        match judge_operator(info, &operator.0) {
+            Judged::Fits(shape) => add_operator(
+                alloc,
+                &mut growing,
+                shape,
+                first + number,
+                preserving,
+            )?,
+            Judged::Unfit => return Ok(None),
+            Judged::Unknown(function) => return Err(Error::UnknownFunction(function)),
+        }
+    }
+    Ok(Some(growing))
+}
+
+impl DFGBuilder {
+    /// A builder in the configuration's mode.
+    pub fn new<R: Drop>(config: &WasmMutate<R>) -> DFGBuilder
+        ensures { result.preserving ≡ config.now.preserving }
+    {
+        DFGBuilder {
+            preserving: config.preserves_semantics(),
+        }
+    }
+
+    /// The block of the operator at `index`: the longest range of operators that ends with it and holds no delimiter. None exactly where the operator is a delimiter. Condition: the operator is there.
+    pub fn get_bb_from_operator(
+        &self,
+        index: usize,
+        operators: &[OperatorAndByteOffset],
+    ) -> Option<BBlock>
+        requires { index < length operators.now }
+        ensures block { IfSome result (λ b. IsBlockOf operators.now index b.start b.end) }
+        ensures none { IfNone result (IsDelimiterAt operators.now index) }
+    {
+        let start = block_start(index, operators);
+        if start > index {
+            return None;
+        }
+        Some(BBlock::of_range(start, index + 1))
+    }
+
+    /// The graph of a block of `operators`, made anew at each call. An operator `call` takes as many operands as its function
+    /// in `info` has parameters, and has a result where the function has one. The builder stays as it was.
+    /// While preserving, the operators of a tree whose entries have one colour follow one another in the body.
+    ///
+    /// The first operator at fault decides. None where no graph holds it: a `call` of a function with more than one result,
+    /// `call_indirect`, a `select` that is no instruction, or a delimiter where the block was cut from another list.
+    /// `UnknownFunction` with the function's index where it is a `call` and `info` doesn't have the function or its type.
+    /// `TooLarge` where the index of its entry would pass 32 bits, or its colour would be 4294967295 or more. Else `Memory`,
+    /// where an allocation was refused.
+    ///
+    /// Condition: the block's range lies in `operators`.
+    pub fn get_dfg(
+        &mut self,
+        alloc: Global,
+        info: &ModuleInfo,
+        operators: &[OperatorAndByteOffset],
+        block: &BBlock,
+    ) -> Result<Option<MiniDFG>, Error>
+        requires within { block.now.end ≤ length operators.now }
+        ensures graph { let inside = slice_range operators.now block.now.start block.now.end in
+            IfOk result (λ o. IfSome o (λ g. IsGraphOf info.now self.old.preserving block.now.start inside (entries_of g) (parents_of g) (look_of g))) }
+        ensures none { IfOk result (λ o. IfNone o (HasNoGraph info.now self.old.preserving (slice_range operators.now block.now.start block.now.end))) }
+        ensures refused { IfErr result (λ e. IsRefused info.now self.old.preserving (slice_range operators.now block.now.start block.now.end) e) }
+        ensures same { self.new ≡ self.old }
+    {
+        let range = block.range();
+        let growing = build(
+            alloc,
+            info,
+            &operators[range.start..range.end],
+            range.start,
+            self.preserving,
+        )?;
+        match growing {
+            None => Ok(None),
+            Some(growing) => {
+                let Growing {
+                    map,
+                    entries,
+                    parents,
+                    sizes,
+                    same,
+                    ..
+                } = growing;
+                Ok(Some(MiniDFG::of_parts(map, entries, parents, sizes, same)))
+            }
+        }
+    }
+}

@@ -1,0 +1,317 @@
+//! The graph of a block.
+
+ghost use Rattle.std.specs.Prelude.{◌≡◌, ◌<◌, ◌-◌, ◌↔◌, ℕ, IsTrue, length, reverse, slice_index, nat_eq};
+ghost use Rattle.std.specs.HashMap as hash;
+ghost use Rattle.std.proofs.Props.{props};
+ghost use Rattle.peephole_lang.specs.Term.{numbers_of};
+ghost use Rattle.peephole_graphs.specs.Downwards.{downwards, sizes_of, flags_of, forward, forwards, HasOneColour};
+ghost use Rattle.peephole_graphs.specs.Entries.{kins_of, colours, Measured, IsForest};
+ghost use Rattle.peephole_graphs.specs.Order.{AreInOrder};
+ghost use Rattle.peephole_graphs.specs.Layout.{HasTrees, Lang-set};
+
+use crate::forest_text::{operator_text, print_forest};
+use crate::layout::lay_out;
+use crate::span::{copy_span, is_span};
+use mutate_base::Error;
+use peephole_lang::{Id, Lang, RecExpr};
+use std::alloc::{AllocError, Global};
+use std::collections::HashMap;
+use std::fmt;
+
+/// An entry of a graph: an operator of the block, or a missing operand.
+#[derive(Debug, Drop)]
+pub struct StackEntry {
+    /// The node, whose children are the indexes of entries; `Undef` of a missing operand.
+    pub operator: Lang,
+    /// The colour; 4294967295 of a missing operand.
+    pub color: u32,
+    /// The index, in the body, of the operator that it is or that took it.
+    pub operator_idx: usize,
+}
+
+/// The graph of a block: its entries, each with the indexes of its operands' entries as children. What it says of the block is said at `DFGBuilder::get_dfg`.
+#[derive(Drop)]
+pub struct MiniDFG {
+    map: HashMap<usize, usize>,
+    entries: Vec<StackEntry>,
+    parents: Vec<Option<usize>>,
+    // How many entries there are from each one downwards.
+    sizes: Vec<usize>,
+    // Whether these have one colour.
+    same: Vec<bool>,
+    ghost sizes_are: { reverse sizes.items ≡ sizes_of (kins_of entries.items) } by { Prim.hlevel props },
+    ghost flags_are: { reverse same.items ≡ flags_of (kins_of entries.items) } by { Prim.hlevel props },
+    ghost trees: { HasTrees entries.items (hash.get nat_eq map) } by { Prim.hlevel (props, Lang-set) },
+    ghost forest: { IsForest entries.items parents.items } by { Prim.hlevel props },
+    // Whether the trees lie one after another is seen from the entries' sizes alone.
+    ghost lies: { IsTrue (forwards (kins_of entries.items)) ↔ AreInOrder entries.items parents.items } by { Prim.hlevel props },
+}
+
+// The colour of an entry, or 0 past the end.
+fn color_at(entries: &[StackEntry], i: usize) -> u32
+    ensures { result ≡ slice_index (colours entries.now) i }
+{
+    if i < entries.len() {
+        entries[i].color
+    } else {
+        0
+    }
+}
+
+/// The size at an index, or 0 past the end.
+pub(crate) fn size_at(sizes: &[usize], i: usize) -> usize
+    ensures { result ≡ slice_index sizes.now i }
+{
+    if i < sizes.len() { sizes[i] } else { 0 }
+}
+
+// Whether the children that are no missing operands lie, by their sizes, one behind another from an index on.
+fn lie_forward(entries: &[StackEntry], sizes: &[usize], children: &[Id], from: usize) -> bool
+    ensures { result ≡ forward (λ i. slice_index sizes.now i) (λ i. slice_index (colours entries.now) i) from (numbers_of children.now) }
+{
+    let mut at = from;
+    for child in children {
+        let i = child.0 as usize;
+        if color_at(entries, i) != u32::MAX {
+            let size = size_at(sizes, i);
+            if size > i + 1 || i + 1 - size != at {
+                return false;
+            }
+            at = i + 1;
+        }
+    }
+    true
+}
+
+impl Clone for StackEntry {
+    ghost use Rattle.peephole_graphs.specs.Dfg.{IsSameEntry};
+
+    ghost is_clone = { IsSameEntry };
+
+    fn clone(&self) -> Result<StackEntry, AllocError> {
+        Ok(StackEntry {
+            operator: self.operator.clone()?,
+            color: self.color,
+            operator_idx: self.operator_idx,
+        })
+    }
+}
+
+impl Clone for MiniDFG {
+    ghost use Rattle.peephole_graphs.specs.Dfg.{IsSameGraph};
+
+    ghost is_clone = { IsSameGraph };
+
+    fn clone(&self) -> Result<MiniDFG, AllocError> {
+        let map = self.map.clone()?;
+        let entries = self.entries.clone()?;
+        let parents = Vec::from_slice(*self.parents.allocator(), &self.parents)?;
+        let sizes = self.sizes.clone()?;
+        let same = self.same.clone()?;
+        Ok(MiniDFG::of_parts(map, entries, parents, sizes, same))
+    }
+}
+
+impl MiniDFG {
+    ghost use Rattle.std.specs.Prelude.{map, [], None, List, Result, IfOk, IfErr, IfSome, IsSome, MatchResult, string_bytes};
+    ghost use Rattle.mutate_base.specs.declared.error.Error.{Error};
+    ghost use Rattle.peephole_lang.specs.Node.{node_of, head_of, children_of};
+    ghost use Rattle.peephole_lang.specs.Term.{tree_at, term_of};
+    ghost use Rattle.peephole_graphs.specs.Layout.{entry_nodes, laid};
+    ghost use Rattle.peephole_graphs.specs.Dfg.{entries_of, parents_of, look_of};
+    ghost use Rattle.peephole_graphs.specs.ForestText.{forest_text, default_text, IsText, Tells};
+
+    // The graph of these parts.
+    pub(crate) fn of_parts(
+        map: HashMap<usize, usize>,
+        entries: Vec<StackEntry>,
+        parents: Vec<Option<usize>>,
+        sizes: Vec<usize>,
+        same: Vec<bool>,
+    ) -> MiniDFG
+        requires measured { Measured entries.items sizes.items same.items }
+        requires trees { HasTrees entries.items (hash.get nat_eq map) }
+        requires forest { IsForest entries.items parents.items }
+        requires lies { IsTrue (forwards (kins_of entries.items)) ↔ AreInOrder entries.items parents.items }
+        ensures map { (k : ℕ) → look_of result k ≡ hash.get nat_eq map k }
+        ensures entries { entries_of result ≡ entries.items }
+        ensures parents { parents_of result ≡ parents.items }
+    {
+        MiniDFG {
+            map,
+            entries,
+            parents,
+            sizes,
+            same,
+        }
+    }
+
+    /// A graph without entries.
+    pub fn empty(alloc: Global) -> MiniDFG
+        ensures map { (k : ℕ) → look_of result k ≡ None }
+        ensures entries { entries_of result ≡ [] }
+        ensures parents { parents_of result ≡ [] }
+    {
+        MiniDFG::of_parts(
+            HashMap::new(alloc),
+            Vec::new(alloc),
+            Vec::new(alloc),
+            Vec::new(alloc),
+            Vec::new(alloc),
+        )
+    }
+
+    /// The index of the own entry of each of the block's operators, by the operator's index in the body.
+    pub fn map(&self) -> &HashMap<usize, usize>
+        ensures { (k : ℕ) → hash.get nat_eq result.now k ≡ look_of self.now k }
+    {
+        &self.map
+    }
+
+    /// The entries. Children stand before their parents, and operators in the block's order.
+    pub fn entries(&self) -> &[StackEntry]
+        ensures { result.now ≡ entries_of self.now }
+    {
+        self.entries.as_slice()
+    }
+
+    /// The index of each entry's parent, none of a root. Entries and parents make a forest: an entry is the child of its
+    /// parent and of no other entry, and stands before it.
+    pub fn parents(&self) -> &[Option<usize>]
+        ensures value { result.now ≡ parents_of self.now }
+        ensures forest { IsForest (entries_of self.now) (parents_of self.now) }
+    {
+        self.parents.as_slice()
+    }
+
+    /// The tree of the operator with the index `at` in the body, laid out in postfix: its operands' trees one after another, then its own node, the last one. Each node names its children by their places; a missing operand is `Undef`. Refused for want of memory alone (`Memory`). Condition: `at` is a key of `map()`.
+    pub fn get_expr(&self, alloc: Global, at: usize) -> Result<RecExpr<Lang>, Error>
+        requires { IsSome (look_of self.now at) }
+        ensures laid { IfOk result (λ expr. IfSome (look_of self.now at) (λ i. map node_of expr ≡ laid 0 (tree_at (entry_nodes (entries_of self.now)) i))) }
+        ensures term { IfOk result (λ expr. IfSome (look_of self.now at) (λ i. term_of head_of children_of expr ≡ tree_at (entry_nodes (entries_of self.now)) i)) }
+        ensures some { IfOk result (λ expr. 0 < length expr) }
+        ensures refused { IfErr result (λ e. e ≡ Error.Memory) }
+    {
+        match self.map.get(&at) {
+            Some(root) => self.lay_out_at(alloc, *root),
+            None => unreachable!(),
+        }
+    }
+
+    // The tree of the entry at an index, laid out: copied where its entries stand so already.
+    fn lay_out_at(&self, alloc: Global, root: usize) -> Result<RecExpr<Lang>, Error>
+        requires { root < length (entries_of self.now) }
+        ensures laid { IfOk result (λ expr. map node_of expr ≡ laid 0 (tree_at (entry_nodes (entries_of self.now)) root)) }
+        ensures refused { IfErr result (λ e. e ≡ Error.Memory) }
+    {
+        let end = root + 1;
+        let start = end.saturating_sub(self.sizes[root]);
+        if is_span(&self.entries, &self.sizes, start, end) {
+            copy_span(alloc, &self.entries[start..end], start)
+        } else {
+            lay_out(alloc, &self.entries, root)
+        }
+    }
+
+    /// How many entries there are from the one at index `i` downwards, with itself. Condition: the entry is there.
+    pub fn subtree_len(&self, i: usize) -> usize
+        requires { i < length (entries_of self.now) }
+        ensures { result ≡ length (downwards (kins_of (entries_of self.now)) i) }
+    {
+        self.sizes[i]
+    }
+
+    /// Whether all entries from the one at index `i` downwards have one colour. Condition: the entry is there.
+    pub fn is_subtree_consistent(&self, i: usize) -> bool
+        requires { i < length (entries_of self.now) }
+        ensures { IsTrue result ↔ HasOneColour (kins_of (entries_of self.now)) i }
+    {
+        self.same[i]
+    }
+
+    /// The same of the last entry, which is the block's last operator's. Condition: there is an entry.
+    pub fn is_subtree_consistent_from_root(&self) -> bool
+        requires { 0 < length (entries_of self.now) }
+        ensures { IsTrue result ↔ HasOneColour (kins_of (entries_of self.now)) (length (entries_of self.now) - 1) }
+    {
+        self.is_subtree_consistent(self.entries.len() - 1)
+    }
+
+    // Whether the children of every entry lie one behind another, and end right before it.
+    fn lies_forward(&self) -> bool
+        ensures { result ≡ forwards (kins_of (entries_of self.now)) }
+    {
+        for i in 0..self.entries.len() {
+            let from = (i + 1).saturating_sub(self.sizes[i]);
+            if !lie_forward(
+                &self.entries[..i],
+                &self.sizes[..i],
+                self.entries[i].operator.children(),
+                from,
+            ) {
+                return false;
+            }
+        }
+        true
+    }
+
+    /// Whether the trees lie one after another: whether the operators of the roots' trees, the roots ascending and each tree
+    /// in postfix, ascend. True of no entries.
+    pub fn keeps_order(&self) -> bool
+        ensures { IsTrue result ↔ AreInOrder (entries_of self.now) (parents_of self.now) }
+    {
+        self.lies_forward()
+    }
+
+    /// The text of the forest: the line `DFG forest`, and then the roots in ascending order, each with its tree. An entry's
+    /// line is a prefix that draws the tree, `(colour)(at operator_idx) `, and the text that `f` answers of it.
+    ///
+    /// Refused where `f` refuses, with the first refusal in the order of the lines, and for want of memory (`Memory`).
+    pub fn pretty_print<F: Fn(&StackEntry) -> Result<String, Error>>(
+        &self,
+        alloc: Global,
+        f: F,
+    ) -> Result<String, Error>
+        requires { F.IsAlwaysCallable f }
+        ensures { (said : StackEntry → Result (List ℕ) Error) → Tells F.Fn f said
+            → IsText (forest_text said (entries_of self.now) (parents_of self.now)) result }
+    {
+        print_forest(alloc, &self.entries, &self.parents, &f)
+    }
+
+    /// The same with the texts of the entries' operators. Refused for want of memory alone (`Memory`).
+    pub fn pretty_print_default(&self, alloc: Global) -> Result<String, Error>
+        ensures { MatchResult result
+            (λ text. string_bytes text ≡ default_text (entries_of self.now) (parents_of self.now))
+            (λ e. e ≡ Error.Memory) }
+    {
+        self.pretty_print(alloc, |entry| operator_text(alloc, entry))
+    }
+}
+
+impl fmt::Display for MiniDFG {
+    ghost use Rattle.std.specs.Prelude.{Some};
+    ghost use Rattle.peephole_graphs.specs.Dfg.{entries_of, parents_of};
+    ghost use Rattle.peephole_graphs.specs.ForestText.{default_text};
+
+    ghost output = { λ g. Some (default_text (entries_of g) (parents_of g)) };
+
+    fn fmt<W: fmt::Write>(&self, f: &mut fmt::Formatter<W>) -> fmt::Result {
+        match self.pretty_print_default(*self.entries.allocator()) {
+            Ok(text) => f.write_str(text.as_str()),
+            Err(_) => Err(fmt::Error),
+        }
+    }
+}
+
+impl fmt::Debug for MiniDFG {
+    ghost use Rattle.std.specs.Prelude.{Some};
+    ghost use Rattle.peephole_graphs.specs.Dfg.{entries_of, parents_of};
+    ghost use Rattle.peephole_graphs.specs.ForestText.{default_text};
+
+    ghost debug_output = { λ g. Some (default_text (entries_of g) (parents_of g)) };
+
+    fn fmt<W: fmt::Write>(&self, f: &mut fmt::Formatter<W>) -> fmt::Result {
+        fmt::Display::fmt(self, f)
+    }
+}

@@ -1,0 +1,278 @@
+//! A graph as it grows by one operator after another.
+
+ghost use Rattle.std.specs.Prelude.{◌≡◌, ◌+◌, ◌-◌, ◌^◌, ◌<◌, ◌≤◌, ◌++◌, ◌∷◌, [], ◌⊎◌, if◌then◌else◌, true, false, slice_index, slice_index_or, nat_eq, ◌==◌, ◌&&◌, suc, ℕ, length, take, drop, replicate, IfOk, OnOk, IfErr};
+ghost use Rattle.std.specs.List.{All};
+ghost use Rattle.std.specs.HashMap as hash;
+ghost use Rattle.peephole_lang.specs.Node.{instr_of, children_of, takes_children};
+ghost use Rattle.peephole_lang.specs.Term.{numbers_of};
+ghost use Rattle.peephole_graphs.specs.Downwards.{total, are_alike};
+ghost use Rattle.peephole_graphs.specs.Entries.{colours};
+ghost use Rattle.peephole_graphs.specs.Growing.{undef_entry, set_each, lacks, own_index, taken_of, Added};
+ghost use Rattle.peephole_graphs.specs.Step.{down};
+
+use crate::dfg::StackEntry;
+use crate::shape::Shape;
+use mutate_base::Error;
+use peephole_lang::{Id, Lang};
+use std::alloc::{AllocError, Global};
+use std::collections::HashMap;
+use wasm_code::Instr;
+
+/// A graph with the entries whose results no operator has taken yet, and the colour of the next operator.
+#[derive(Drop)]
+pub struct Growing {
+    pub map: HashMap<usize, usize>,
+    pub entries: Vec<StackEntry>,
+    pub parents: Vec<Option<usize>>,
+    pub sizes: Vec<usize>,
+    pub same: Vec<bool>,
+    pub stack: Vec<u32>,
+    pub color: u64,
+}
+
+/// A graph without entries, with room for `count` of them.
+pub fn start_graph(alloc: Global, count: usize) -> Result<Growing, AllocError>
+    ensures map { IfOk result (λ g. (k : ℕ) → hash.get nat_eq g.map k ≡ None) }
+    ensures entries { IfOk result (λ g. g.entries.items ≡ []) }
+    ensures parents { IfOk result (λ g. g.parents.items ≡ []) }
+    ensures sizes { IfOk result (λ g. g.sizes.items ≡ []) }
+    ensures same { IfOk result (λ g. g.same.items ≡ []) }
+    ensures stack { IfOk result (λ g. g.stack.items ≡ []) }
+    ensures color { IfOk result (λ g. g.color ≡ 0) }
+{
+    Ok(Growing {
+        map: HashMap::with_capacity(alloc, count)?,
+        entries: Vec::with_capacity(alloc, count)?,
+        parents: Vec::with_capacity(alloc, count)?,
+        sizes: Vec::with_capacity(alloc, count)?,
+        same: Vec::with_capacity(alloc, count)?,
+        stack: Vec::new(alloc),
+        color: 0,
+    })
+}
+
+// Writes the parent of each of the entries.
+fn mark(parents: &mut [Option<usize>], ids: &[u32], parent: usize)
+    requires { All (λ i. i < length parents.old) ids.now }
+    ensures { parents.new ≡ set_each parent ids.now parents.old }
+{
+    for i in ids {
+        parents[*i as usize] = Some(parent);
+    }
+}
+
+// The missing operands' indexes, the first one made last, with room for `more` indexes behind them.
+fn missing_ids(alloc: Global, base: u32, missing: u32, more: usize) -> Result<Vec<Id>, AllocError>
+    requires { base + missing < 2 ^ 32 }
+    ensures { IfOk result (λ v. numbers_of v.items ≡ down base missing) }
+{
+    let mut ids = Vec::with_capacity(alloc, more.saturating_add(missing as usize))?;
+    let mut left = missing;
+    while left > 0 {
+        left -= 1;
+        ids.push(Id(base + left))?;
+    }
+    Ok(ids)
+}
+
+fn push_ids(ids: &mut Vec<Id>, taken: &[u32]) -> Result<(), AllocError>
+    ensures { OnOk result (numbers_of ids.new.items ≡ numbers_of ids.old.items ++ taken.now) }
+{
+    for i in taken {
+        ids.push(Id(*i))?;
+    }
+    Ok(())
+}
+
+// The node of an instruction on its missing operands and then those taken.
+fn own_node(
+    alloc: Global,
+    instr: Instr,
+    base: u32,
+    missing: u32,
+    taken: &[u32],
+) -> Result<Lang, Error>
+    requires room { base + missing < 2 ^ 32 }
+    requires fits { takes_children instr.row (missing + length taken.now) ≡ true }
+    ensures node { IfOk result (λ l. (instr_of l ≡ Some instr) × (children_of l ≡ down base missing ++ taken.now)) }
+    ensures refused { IfErr result (λ e. e ≡ Error.Memory) }
+{
+    let mut ids = missing_ids(alloc, base, missing, taken.len())?;
+    push_ids(&mut ids, taken)?;
+    match Lang::of_instr(&instr, ids) {
+        Some(node) => Ok(node),
+        None => unreachable!(),
+    }
+}
+
+// The last `count` indexes, or all.
+fn last_operands(stack: &[u32], count: usize) -> &[u32]
+    ensures { result.now ≡ drop (length stack.now - count) stack.now }
+{
+    &stack[stack.len().saturating_sub(count)..]
+}
+
+// The entries of the missing operands.
+fn add_missing(
+    growing: &mut Growing,
+    missing: u32,
+    parent: usize,
+    operator_idx: usize,
+) -> Result<(), AllocError>
+    ensures entries { OnOk result (growing.new.entries.items ≡ growing.old.entries.items ++ replicate missing (undef_entry operator_idx)) }
+    ensures parents { OnOk result (growing.new.parents.items ≡ growing.old.parents.items ++ replicate missing (Some parent)) }
+    ensures sizes { OnOk result (growing.new.sizes.items ≡ growing.old.sizes.items ++ replicate missing 1) }
+    ensures same { OnOk result (growing.new.same.items ≡ growing.old.same.items ++ replicate missing true) }
+    ensures others { OnOk result ((growing.new.map ≡ growing.old.map) × (growing.new.stack ≡ growing.old.stack) × (growing.new.color ≡ growing.old.color)) }
+{
+    for made in 0..missing {
+        growing.entries.push(StackEntry {
+            operator: Lang::Undef,
+            color: u32::MAX,
+            operator_idx,
+        })?;
+        growing.parents.push(Some(parent))?;
+        growing.sizes.push(1)?;
+        growing.same.push(true)?;
+    }
+    Ok(())
+}
+
+// The index of the own entry, and how many operands are missing.
+fn find_place(growing: &Growing, operands: usize) -> Result<(u32, u32), Error>
+    ensures place { IfOk result (λ p. (p.0 ≡ own_index operands growing.now) × (p.1 ≡ lacks operands growing.now) × (growing.now.color < 4294967295)) }
+    ensures refused { IfErr result (λ e. (e ≡ Error.TooLarge) × ((2 ^ 32 ≤ own_index operands growing.now) ⊎ (4294967295 ≤ growing.now.color))) }
+{
+    const LIMIT: usize = 4294967295;
+    let base = growing.entries.len();
+    let missing = operands.saturating_sub(growing.stack.len());
+    if base > LIMIT || missing > LIMIT - base || growing.color >= 4294967295 {
+        return Err(Error::TooLarge);
+    }
+    Ok(((base + missing) as u32, missing as u32))
+}
+
+// How many entries there are from the taken ones downwards.
+fn taken_size(sizes: &[usize], taken: &[u32]) -> usize
+    requires below { All (λ i. i < length sizes.now) taken.now }
+    requires room { total (λ i. slice_index sizes.now i) taken.now < 2 ^ 64 }
+    ensures { result ≡ total (λ i. slice_index sizes.now i) taken.now }
+{
+    let mut size = 0;
+    for i in taken {
+        size += sizes[*i as usize];
+    }
+    size
+}
+
+// Whether all entries from the taken ones downwards have the colour.
+fn taken_alike(same: &[bool], entries: &[StackEntry], taken: &[u32], color: u32) -> bool
+    requires below_same { All (λ i. i < length same.now) taken.now }
+    requires below_entries { All (λ i. i < length entries.now) taken.now }
+    ensures { result ≡ are_alike (λ i. slice_index_or same.now i false) (λ i. slice_index (colours entries.now) i) color taken.now }
+{
+    for i in taken {
+        if !same[*i as usize] || entries[*i as usize].color != color {
+            return false;
+        }
+    }
+    true
+}
+
+// How many entries there are from an operator's entry downwards, and whether all have its colour.
+fn measure(growing: &Growing, operands: usize, missing: u32, color: u32) -> (usize, bool)
+    requires below { All (λ i. i < length growing.now.entries.items) (taken_of operands growing.now) }
+    requires sizes { length growing.now.sizes.items ≡ length growing.now.entries.items }
+    requires same { length growing.now.same.items ≡ length growing.now.entries.items }
+    requires room { total (λ i. slice_index growing.now.sizes.items i) (taken_of operands growing.now) < 2 ^ 33 }
+    ensures size { result.0 ≡ suc (missing + total (λ i. slice_index growing.now.sizes.items i) (taken_of operands growing.now)) }
+    ensures same { result.1 ≡ ((missing == 0) && are_alike (λ i. slice_index_or growing.now.same.items i false) (λ i. slice_index (colours growing.now.entries.items) i) color (taken_of operands growing.now)) }
+{
+    let taken = last_operands(&growing.stack, operands);
+    let size = taken_size(&growing.sizes, taken);
+    let alike = taken_alike(&growing.same, &growing.entries, taken, color);
+    (1 + missing as usize + size, missing == 0 && alike)
+}
+
+// An operator's own entry.
+fn add_own(
+    growing: &mut Growing,
+    entry: StackEntry,
+    own: usize,
+    size: usize,
+    same: bool,
+) -> Result<(), AllocError>
+    ensures entries { OnOk result (growing.new.entries.items ≡ growing.old.entries.items ++ entry ∷ []) }
+    ensures parents { OnOk result (growing.new.parents.items ≡ growing.old.parents.items ++ None ∷ []) }
+    ensures sizes { OnOk result (growing.new.sizes.items ≡ growing.old.sizes.items ++ size ∷ []) }
+    ensures same { OnOk result (growing.new.same.items ≡ growing.old.same.items ++ same ∷ []) }
+    ensures named { OnOk result ((k : ℕ) → hash.get nat_eq growing.new.map k ≡ (if entry.operator_idx == k then Some own else hash.get nat_eq growing.old.map k)) }
+    ensures others { OnOk result ((growing.new.stack ≡ growing.old.stack) × (growing.new.color ≡ growing.old.color)) }
+{
+    let operator_idx = entry.operator_idx;
+    growing.entries.push(entry)?;
+    growing.parents.push(None)?;
+    growing.sizes.push(size)?;
+    growing.same.push(same)?;
+    growing.map.insert(operator_idx, own)?;
+    Ok(())
+}
+
+// The colour behind an operator.
+fn next_color(preserving: bool, color: u64, change: u8) -> u64
+    requires { color < 2 ^ 32 }
+    ensures { result ≡ (if preserving then color + change else color) }
+{
+    if preserving {
+        color + u64::from(change)
+    } else {
+        color
+    }
+}
+
+/// Takes an operator's operands and puts its entry behind the others. Conditions: the instruction takes so many operands, and the lists are those of a graph.
+pub fn add_operator(
+    alloc: Global,
+    growing: &mut Growing,
+    shape: Shape,
+    operator_idx: usize,
+    preserving: bool,
+) -> Result<(), Error>
+    requires fits { takes_children shape.instr.row shape.operands ≡ true }
+    requires below { All (λ i. i < length growing.old.entries.items) growing.old.stack.items }
+    requires parents { length growing.old.parents.items ≡ length growing.old.entries.items }
+    requires sizes { length growing.old.sizes.items ≡ length growing.old.entries.items }
+    requires same { length growing.old.same.items ≡ length growing.old.entries.items }
+    requires room { total (λ i. slice_index growing.old.sizes.items i) growing.old.stack.items ≤ length growing.old.entries.items }
+    ensures added { OnOk result (Added shape operator_idx growing.old growing.new) }
+    ensures small { OnOk result ((own_index shape.operands growing.old < 2 ^ 32) × (growing.old.color < 4294967295) × (growing.new.color ≡ (if preserving then growing.old.color + shape.change else growing.old.color))) }
+    ensures refused { IfErr result (λ e. (e ≡ Error.Memory) ⊎ ((e ≡ Error.TooLarge) × ((2 ^ 32 ≤ own_index shape.operands growing.old) ⊎ (4294967295 ≤ growing.old.color)))) }
+{
+    let Shape {
+        instr,
+        operands,
+        has_result,
+        change,
+    } = shape;
+    let (own, missing) = find_place(growing, operands)?;
+    let color = growing.color;
+    let base = own - missing;
+    let (size, same) = measure(growing, operands, missing, color as u32);
+    let taken = last_operands(&growing.stack, operands);
+    let operator = own_node(alloc, instr, base, missing, taken)?;
+    mark(&mut growing.parents, taken, own as usize);
+    let left = growing.stack.len().saturating_sub(operands);
+    growing.stack.truncate(left);
+    add_missing(growing, missing, own as usize, operator_idx)?;
+    let entry = StackEntry {
+        operator,
+        color: color as u32,
+        operator_idx,
+    };
+    add_own(growing, entry, own as usize, size, same)?;
+    if has_result {
+        growing.stack.push(own)?;
+    }
+    growing.color = next_color(preserving, color, change);
+    Ok(())
+}

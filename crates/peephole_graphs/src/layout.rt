@@ -1,0 +1,116 @@
+// Lays a tree out as an expression.
+ghost use Rattle.std.specs.Prelude.{◌≡◌, ℕ, ◌<◌, ◌≤◌, ◌-◌, ◌^◌, ◌++◌, ◌∷◌, [], ◌⊎◌, length, take, drop, map, IfOk, OnOk, IfErr};
+ghost use Rattle.std.specs.List.{All};
+ghost use Rattle.peephole_lang.specs.Term.{AreBelow, numbers_of, tree_at, term_of};
+ghost use Rattle.peephole_graphs.specs.Layout.{node_by, held_nodes, laid, size_of};
+
+use crate::dfg::StackEntry;
+use crate::frames::{Frame, descend, push_frame};
+use mutate_base::Error;
+use peephole_lang::{Id, Lang, Language, RecExpr};
+use std::alloc::Global;
+
+// What stands at a place of a list of nodes: a node of the language, or what holds one.
+pub(crate) trait Holds<L: Language> {
+    ghost held: { Self → L };
+
+    fn as_node(&self) -> &L
+        ensures { result.now ≡ held self.now };
+}
+
+impl Holds<Lang> for StackEntry {
+    ghost held = { λ e. e.operator };
+
+    fn as_node(&self) -> &Lang {
+        &self.operator
+    }
+}
+
+impl<'a, L: Language> Holds<L> for &'a L {
+    ghost held = { λ node. node.now };
+
+    fn as_node(&self) -> &L {
+        *self
+    }
+}
+
+// The same node over other children, which are as many.
+fn over<L: Language>(node: &L, ids: &[Id]) -> Result<L, Error>
+    requires { length ids.now ≡ length (L.ids node.now) }
+    ensures head { IfOk result (λ l. L.head l ≡ L.head node.now) }
+    ensures ids { IfOk result (λ l. L.ids l ≡ ids.now) }
+    ensures refused { IfErr result (λ e. e ≡ Error.Memory) }
+{
+    let mut copy = node.clone_node()?;
+    copy.children_mut().copy_from_slice(ids);
+    Ok(copy)
+}
+
+// Puts a node behind those laid out, over the finished ones that are its children, and finishes it.
+fn add_own<L: Language>(
+    expr: &mut RecExpr<L>,
+    finished: &mut Vec<Id>,
+    node: &L,
+) -> Result<(), Error>
+    requires enough { length (L.ids node.now) ≤ length finished.old.items }
+    requires below { All (λ (k : ℕ). k < length expr.old) (numbers_of finished.old.items) }
+    ensures added { OnOk result (map (node_by L.head L.children) expr.new ≡ map (node_by L.head L.children) expr.old ++ record {
+      head = L.head node.now;
+      children = drop (length finished.old.items - length (L.ids node.now)) (numbers_of finished.old.items);
+    } ∷ []) }
+    ensures finished { OnOk result (numbers_of finished.new.items
+        ≡ take (length finished.old.items - length (L.ids node.now)) (numbers_of finished.old.items) ++ length expr.old ∷ []) }
+    ensures refused { IfErr result (λ e. (e ≡ Error.Memory) ⊎ ((e ≡ Error.TooLarge) × (2 ^ 32 ≤ length expr.old))) }
+{
+    let count = node.children().len();
+    let ids = finished.split_off(finished.len() - count)?;
+    let own = expr.add(over(node, &ids)?)?;
+    finished.push(own)?;
+    Ok(())
+}
+
+/// The tree of the node at `root`, laid out in postfix: the children's trees one after another, then the node itself,
+/// which names each child by its place.
+///
+/// Memory is the result's and the tree's depth. `Memory` where an allocation was refused, `TooLarge` where the tree has more
+/// than 2^32 nodes.
+pub(crate) fn lay_out<L: Language, N: Holds<L>>(
+    alloc: Global,
+    nodes: &[N],
+    root: usize,
+) -> Result<RecExpr<L>, Error>
+    requires root { root < length nodes.now }
+    requires below { AreBelow (held_nodes (λ n. node_by L.head L.children (N.held n)) nodes.now) }
+    ensures laid { IfOk result (λ expr. map (node_by L.head L.children) expr ≡ laid 0 (tree_at (held_nodes (λ n. node_by L.head L.children (N.held n)) nodes.now) root)) }
+    ensures term { IfOk result (λ expr. term_of L.head L.children expr ≡ tree_at (held_nodes (λ n. node_by L.head L.children (N.held n)) nodes.now) root) }
+    ensures some { IfOk result (λ expr. 0 < length expr) }
+    ensures refused { IfErr result (λ e. (e ≡ Error.Memory)
+        ⊎ ((e ≡ Error.TooLarge) × (2 ^ 32 < size_of (tree_at (held_nodes (λ n. node_by L.head L.children (N.held n)) nodes.now) root)))) }
+{
+    let mut expr = RecExpr::new(alloc);
+    let mut finished = Vec::new(alloc);
+    let mut frames = Vec::new(alloc);
+    push_frame(
+        &mut frames,
+        Frame {
+            node: root,
+            next: 0,
+        },
+    )?;
+    while let Some(frame) = frames.pop() {
+        let node = nodes[frame.node].as_node();
+        let below = node.children();
+        if frame.next < below.len() {
+            match descend(&mut frames, frame, below) {
+                Ok(()) => {}
+                Err(_) => return Err(Error::Memory),
+            }
+        } else {
+            match add_own(&mut expr, &mut finished, node) {
+                Ok(()) => {}
+                Err(refusal) => return Err(refusal),
+            }
+        }
+    }
+    Ok(expr)
+}

@@ -1,0 +1,88 @@
+// The tree of an entry as a copy of the entries that it consists of, where these stand one behind another in postfix.
+ghost use Rattle.std.specs.Prelude.{◌≡◌, ◌+◌, ◌-◌, ◌<◌, ◌≤◌, ◌^◌, ℕ, IsTrue, ◌↔◌, length, map, slice_index, IfOk, IfErr};
+ghost use Rattle.std.specs.List.{All};
+ghost use Rattle.mutate_base.specs.declared.error.Error.{Error};
+ghost use Rattle.peephole_lang.specs.Node.{node_of};
+ghost use Rattle.peephole_lang.specs.Term.{numbers_of};
+ghost use Rattle.peephole_graphs.specs.Span.{lie_behind, lowered, IsSpan, HoldsItsChildren};
+
+use crate::dfg::{StackEntry, size_at};
+use mutate_base::Error;
+use peephole_lang::{Id, Lang, Language, RecExpr};
+use std::alloc::Global;
+
+// Whether the entries from each child downwards, by their number, end at the child and begin behind those of the child
+// before it, the first at `from`.
+fn lie_one_behind_another(sizes: &[usize], children: &[Id], from: usize) -> bool
+    ensures { result ≡ lie_behind (λ i. slice_index sizes.now i) from (numbers_of children.now) }
+{
+    let mut at = from;
+    for child in children {
+        let i = child.0 as usize;
+        let size = size_at(sizes, i);
+        if size > i + 1 || i + 1 - size != at {
+            return false;
+        }
+        at = i + 1;
+    }
+    true
+}
+
+/// Whether the entries from `start` to before `end` are trees in postfix: whether the entries from each of them downwards
+/// are those right before it, and none of them stands before `start`. `sizes` are the numbers of entries downwards.
+pub(crate) fn is_span(entries: &[StackEntry], sizes: &[usize], start: usize, end: usize) -> bool
+    requires within { end ≤ length entries.now }
+    requires sizes { length sizes.now ≡ length entries.now }
+    ensures { IsTrue result ↔ IsSpan entries.now sizes.now start end }
+{
+    for i in start..end {
+        let size = sizes[i];
+        if size > i + 1 - start {
+            return false;
+        }
+        if !lie_one_behind_another(sizes, entries[i].operator.children(), i + 1 - size) {
+            return false;
+        }
+    }
+    true
+}
+
+// Makes each id smaller.
+fn lower(ids: &mut [Id], by: usize)
+    requires { All (λ i. by ≤ i) (numbers_of ids.old) }
+    ensures { numbers_of ids.new ≡ map (λ i. i - by) (numbers_of ids.old) }
+{
+    for id in ids.iter_mut() {
+        id.0 = (id.0 as usize - by) as u32;
+    }
+}
+
+// The same node, its children's ids made smaller.
+fn copy_lowered<L: Language>(node: &L, by: usize) -> Result<L, Error>
+    requires { All (λ i. by ≤ i) (L.children node.now) }
+    ensures head { IfOk result (λ l. L.head l ≡ L.head node.now) }
+    ensures children { IfOk result (λ l. L.children l ≡ map (λ i. i - by) (L.children node.now)) }
+    ensures refused { IfErr result (λ e. e ≡ Error.Memory) }
+{
+    let mut copy = node.clone_node()?;
+    lower(copy.children_mut(), by);
+    Ok(copy)
+}
+
+/// The nodes of the entries, each with its children counted from the first entry on, whose index in the graph is `start`.
+pub(crate) fn copy_span(
+    alloc: Global,
+    entries: &[StackEntry],
+    start: usize,
+) -> Result<RecExpr<Lang>, Error>
+    requires inside { HoldsItsChildren start entries.now }
+    requires small { length entries.now ≤ 2 ^ 32 }
+    ensures nodes { IfOk result (λ expr. map node_of expr ≡ map (λ (e : StackEntry). lowered start (node_of e.operator)) entries.now) }
+    ensures refused { IfErr result (λ e. e ≡ Error.Memory) }
+{
+    let mut expr = RecExpr::new(alloc);
+    for entry in entries {
+        expr.add(copy_lowered(&entry.operator, start)?)?;
+    }
+    Ok(expr)
+}

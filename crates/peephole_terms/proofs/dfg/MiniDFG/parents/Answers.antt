@@ -1,4 +1,0 @@
-use Rattle.peephole_terms.proofs.dfg.MiniDFG.parents.Goals as goal
-
-pub returns-clause-value : goal.returns-clause-value
-returns-clause-value c = c.as_slice.ensures.value

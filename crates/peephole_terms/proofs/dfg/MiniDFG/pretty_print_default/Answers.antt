@@ -1,9 +1,0 @@
-use Rattle.std.proofs.Common.{rules}
-use Rattle.peephole_terms.specs.Dfg.{entries_of, parents_of}
-use Rattle.peephole_terms.proofs.ForestWalk.{by_operator, default_told, told}
-use Rattle.peephole_terms.proofs.dfg.MiniDFG.pretty_print_default.Goals as goal
-
-pub returns : goal.returns
-returns c =
-    default_told (entries_of c.args.self.now) (parents_of c.args.self.now) c.pretty_print.result
-    (c.pretty_print.ensures by_operator (λ e r h. told e h.shown.now r h.shows (search (rules, h.says.met))))

@@ -1,7 +1,0 @@
-use Rattle.std.proofs.Common.{◌≡◌, ◌++◌, take, string_bytes}
-use Rattle.peephole_terms.specs.ForestSteps.{edges}
-use Rattle.peephole_terms.proofs.ForestWalk.{shown}
-use Rattle.peephole_terms.proofs.forest_text.write_edges.Given as goal
-
-abbrev pub invariant-loop-ids : goal.invariant-loop-ids
-invariant-loop-ids l = string_bytes l.text ≡ string_bytes l.fn.text ++ edges (shown (take l.ids-index l.levels))

@@ -1,9 +1,0 @@
-use Rattle.peephole_terms.proofs.TreeTextLemmas.{shows_the_forest}
-use Rattle.peephole_terms.proofs.TreeColourLemmas.{shows_the_colour}
-use Rattle.peephole_terms.proofs.laws.graph_shows_the_forest.Goals as goal
-
-pub returns-clause-text : goal.returns-clause-text
-returns-clause-text c = shows_the_forest
-
-pub returns-clause-colour : goal.returns-clause-colour
-returns-clause-colour c = shows_the_colour

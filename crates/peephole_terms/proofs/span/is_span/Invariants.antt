@@ -1,5 +1,0 @@
-use Rattle.peephole_terms.specs.Span.{IsSpan}
-use Rattle.peephole_terms.proofs.span.is_span.Given as goal
-
-abbrev pub invariant-loop-i : goal.invariant-loop-i
-invariant-loop-i l = IsSpan l.entries l.sizes l.start l.i

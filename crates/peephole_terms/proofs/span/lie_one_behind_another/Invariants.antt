@@ -1,8 +1,0 @@
-use Rattle.std.proofs.Common.{◌≡◌, drop, get_or}
-use Rattle.peephole_lang.specs.Term.{numbers_of}
-use Rattle.peephole_terms.specs.Span.{lie_behind}
-use Rattle.peephole_terms.proofs.span.lie_one_behind_another.Given as goal
-
-abbrev pub invariant-loop-child : goal.invariant-loop-child
-invariant-loop-child l =
-    lie_behind (λ i. get_or l.sizes i 0) l.at (numbers_of (drop l.child-index l.children)) ≡ lie_behind (λ i. get_or l.sizes i 0) l.from (numbers_of l.children)

@@ -1,6 +1,0 @@
-use Rattle.std.proofs.Common.{◌≡◌, ◌++◌, map, take, drop}
-use Rattle.peephole_terms.proofs.Lowering.{lower_id}
-use Rattle.peephole_terms.proofs.span.lower.Given as goal
-
-abbrev pub invariant-loop-id : goal.invariant-loop-id
-invariant-loop-id l = l.ids ≡ map (lower_id l.by) (take l.id-index l.initial.ids) ++ drop l.id-index l.initial.ids
