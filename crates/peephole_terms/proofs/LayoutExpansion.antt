@@ -13,7 +13,7 @@ use Rattle.peephole_lang.specs.declared.lang.Head.{Head}
 use Rattle.peephole_lang.specs.Node.{instr_of, children_of}
 use Rattle.peephole_lang.specs.Term.{Term, Node, AreBelow, pick, tree_at}
 use Rattle.peephole_graphs.specs.declared.dfg.StackEntry.{StackEntry}
-use Rattle.peephole_graphs.specs.Shape.{Shape}
+use Rattle.peephole_graphs.specs.declared.shape.Shape.{Shape}
 use Rattle.peephole_graphs.specs.Tree.{Tree, instructions_of, instructions}
 use Rattle.peephole_graphs.specs.Graph as graph
 use Rattle.peephole_graphs.specs.Graph.{Entry, tree_of_entry}

@@ -19,7 +19,10 @@ use Rattle.mutate_base.specs.declared.types.PrimitiveTypeInfo.{PrimitiveTypeInfo
 use Rattle.mutate_base.specs.declared.types.TypeInfo.{TypeInfo}
 use Rattle.mutate_base.specs.declared.types.TypeInfo.TheVariants.{Func}
 use Rattle.peephole_graphs.specs.Block.{BlockRange, HasNoDelimiter}
-use Rattle.peephole_graphs.specs.Shape.{Shape, Judged, Fits, IsFit, AreFit, judge, judge_instruction, judge_found, judge_row, judge_call, judge_callee, call_shape, and_shape, operator_shapes}
+use Rattle.peephole_graphs.specs.declared.shape.Shape.{Shape}
+use Rattle.peephole_graphs.specs.declared.shape.Judged.{Judged}
+use Rattle.peephole_graphs.specs.declared.shape.Judged.TheVariants.{Fits}
+use Rattle.peephole_graphs.specs.Shape.{IsFit, AreFit, judge, judge_instruction, judge_found, judge_row, judge_call, judge_callee, call_shape, and_shape, operator_shapes}
 use Rattle.peephole_graphs.specs.Tree.{Tree, Trees, entry, node, no_trees, ◌▸◌, join, numbers_of, numbers, shapes_of, shapes, instructions_of, instructions, renumbered}
 use Rattle.peephole_graphs.specs.Forest.{low, from_place, at_place, tree_of, trees, is_operand, without, forest, IsInOrder}
 use Rattle.peephole_terms.specs.Written.{shapes_in, written_body, IsBodyIn, IsBlockIn}

@@ -10,7 +10,8 @@ use Rattle.mutate_base.specs.declared.error.Error.{Error}
 use Rattle.peephole_lang.specs.declared.lang.Head.{Head}
 use Rattle.peephole_lang.specs.Term.{Term}
 use Rattle.peephole_graphs.specs.Block.{BlockRange, IsBlockOf}
-use Rattle.peephole_graphs.specs.Shape.{Shape, block_of}
+use Rattle.peephole_graphs.specs.declared.shape.Shape.{Shape}
+use Rattle.peephole_graphs.specs.Shape.{block_of}
 use Rattle.peephole_graphs.specs.Tree.{Trees, no_trees, entry, node, ◌▸◌, instructions_of}
 use Rattle.peephole_graphs.specs.Forest.{forest}
 use Rattle.peephole_terms.specs.declared.encoder.request.ResourceRequest.{ResourceRequest}
