@@ -1,6 +1,6 @@
 -- The roots of a graph, as the encoder goes over them, are the trees of the block's forest.
 use Rattle.std.proofs.Common.{◌≡◌, ℕ, ◌+◌, ◌-◌, ◌<◌, ◌≤◌, ◌⊎◌, inl, inr, List, [], ◌∷◌, ◌++◌, length, take, get_or, refl, sym, ap, ap₂, subst, ◌∙◌, arith, append_assoc, append-nil, Bool, true, false, cond, map, Option, Some, None, IsTrue, suc, drop, Result, Ok, Err}
-use Rattle.std.specs.Prelude.{reverse, All, ◌==◌, ◌||◌, option_map, is_some, IfSome, ◌↔◌, not}
+use Rattle.std.specs.Prelude.{reverse, All, ◌==◌, ◌||◌, option_map, is_some, IfSome, ◌↔◌}
 use Rattle.std.proofs.lemmas.Bool.{cond-true, cond-false, eq-eqb, eqb-true, ne_eqb}
 use Rattle.std.proofs.lemmas.List.{reverse-append, length-map, map-append, get_or-map, take_more, length-take, take-append-drop}
 use Rattle.rand_core.specs.Stream.{Stream}
