@@ -6,7 +6,8 @@ use Rattle.std.proofs.lemmas.Bool.{eqb-true}
 use Rattle.std.proofs.lemmas.Option.{same_Some}
 use Rattle.peephole_nodes.specs.declared.payload.PayloadKind.{PayloadKind}
 use Rattle.peephole_nodes.specs.declared.payload.PayloadKind.TheVariants as kind
-use Rattle.peephole_lang.specs.declared.variants.TheConstants.{VARIANTS, FRONTS}
+use Rattle.peephole_lang.specs.declared.fronts.TheConstants.{FRONTS}
+use Rattle.peephole_lang.specs.declared.variants.TheConstants.{VARIANTS}
 use Rattle.peephole_lang.specs.declared.names.TheConstants.{BY_FRONT}
 use Rattle.peephole_lang.specs.Variants.{Variant, variants, variant_at}
 use Rattle.peephole_lang.specs.Entries.{entry_of}

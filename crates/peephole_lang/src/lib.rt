@@ -5,6 +5,7 @@ mod children;
 mod clone;
 mod compared;
 mod expr;
+mod fronts;
 mod instr;
 mod lang;
 mod lang_lending;

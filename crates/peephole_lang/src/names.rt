@@ -6,7 +6,8 @@ ghost use Rattle.peephole_lang.specs.Names.{find_in};
 ghost use Rattle.peephole_lang.specs.Entries.{entry_of, given, found, place_found};
 ghost use Rattle.peephole_lang.specs.Fronts.{front_at, standing};
 
-use crate::variants::{Entry, FRONTS, VARIANTS};
+use crate::fronts::FRONTS;
+use crate::variants::{Entry, VARIANTS};
 use std::cmp::Ordering;
 
 // The places of the variants, their fronts ascending.

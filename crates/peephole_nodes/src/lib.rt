@@ -11,6 +11,7 @@ mod payload;
 mod payload_text;
 mod simd;
 mod simd_lending;
+mod simd_payload;
 pub mod simd_shapes;
 mod simd_view;
 
