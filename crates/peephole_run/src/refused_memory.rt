@@ -1,8 +1,6 @@
 //! Memory that runs out in the middle of a run. `rt try --test --fail-alloc N` refuses each test its allocation N.
 
-use crate::fault::RunError;
-use crate::run::run;
-use crate::tally::Tally;
+use peephole_commands::{RunError, Tally, run};
 use std::alloc::Global;
 use std::io;
 use std::io::Write;

@@ -1,8 +1,6 @@
 //! The worked runs, and devices that fail.
 
-use crate::fault::RunError;
-use crate::run::run;
-use crate::tally::Tally;
+use peephole_commands::{RunError, Tally, run};
 use std::alloc::Global;
 use std::io;
 use std::io::{Read, Write};
@@ -55,8 +53,8 @@ fn answers(rt: &impl Abort, alloc: Global, text: &[u8], written: &[u8], ok: bool
     let mut output = Tally::new(Vec::new(alloc));
     let result = run(alloc, &mut input, &mut output);
     assert!(rt; result == Ok(ok));
-    assert!(rt; !input.failed());
-    assert!(rt; !output.failed());
+    assert!(rt; !input.failed);
+    assert!(rt; !output.failed);
     let bytes = output.into_inner();
     assert_eq!(rt; bytes.as_slice(), written);
 }
@@ -138,8 +136,8 @@ fn failing_devices(rt: HostRuntime) {
     let mut output = Tally::new(Vec::new(alloc));
     let result = run(alloc, &mut input, &mut output);
     assert!(&rt; result == Err(RunError::Input));
-    assert!(&rt; input.failed());
-    assert!(&rt; !output.failed());
+    assert!(&rt; input.failed);
+    assert!(&rt; !output.failed);
     let bytes = output.into_inner();
     assert!(&rt; bytes.is_empty());
     for takes_none in [false, true] {
@@ -150,7 +148,7 @@ fn failing_devices(rt: HostRuntime) {
         });
         let result = run(alloc, &mut input, &mut output);
         assert!(&rt; result == Err(RunError::Output));
-        assert!(&rt; output.failed());
+        assert!(&rt; output.failed);
         let _ = output.into_inner();
     }
 }
@@ -165,7 +163,7 @@ fn long_inputs(rt: HostRuntime) -> Result<(), Fail> {
     let mut output = Tally::new(Vec::new(alloc));
     let result = run(alloc, &mut input, &mut output);
     assert!(&rt; result == Err(RunError::TooLong));
-    assert!(&rt; !output.failed());
+    assert!(&rt; !output.failed);
     let bytes = output.into_inner();
     assert!(&rt; bytes.is_empty());
     Ok(())

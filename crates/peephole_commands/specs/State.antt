@@ -1,0 +1,45 @@
+-- What the program keeps between two lines (this project's).
+use Rattle.std.specs.Prelude.{ℕ, ◌<◌, Bool, false, List, [], length, All, IsTrue, Option, Some, None, IfSome}
+use Rattle.mutate_base.specs.Module.{Module, module_of}
+use Rattle.mutate_base.specs.declared.types.PrimitiveTypeInfo.{PrimitiveTypeInfo}
+use Rattle.peephole_lang.specs.Lang.{payload_of}
+use Rattle.peephole_nodes.specs.Payload.{is_writable}
+use Rattle.peephole_lang.specs.Term.{Node}
+use Rattle.peephole_lang.specs.declared.lang.Head.{Head}
+use Rattle.peephole_lang.specs.declared.lang.Lang.{Lang}
+use Rattle.peephole_commands.specs.Body.{Contents}
+
+pub record State : Type 0 where
+  -- what was said of the module, without its bytes
+  pub info : Module
+  -- the types of the function's locals
+  pub locals : List PrimitiveTypeInfo
+  -- whether the order of effects is to be preserved
+  pub preserving : Bool
+  -- the words to be drawn, the first one first; each `write` begins with the first
+  pub words : List ℕ
+  pub body : Option Contents
+  pub point : Option ℕ
+  -- the term's nodes, the first one first
+  pub nodes : List (Node Head)
+
+abbrev pub start : State
+start = record { info = module_of []; locals = []; preserving = false; words = []; body = None; point = None; nodes = [] }
+
+-- the module, with a body's bytes as its own
+abbrev pub module_with : Module → Contents → Module
+module_with info body = record info { input = body.bytes }
+
+-- what a line that isn't faulty writes, and the state after it
+pub record Reply : Type 0 where
+  pub text : List ℕ
+  pub next : State
+
+-- the point, if there is one, is an operator of the body
+abbrev pub PointsInto : Option Contents → Option ℕ → Type 0
+PointsInto None point = Unit {0}
+PointsInto (Some body) point = IfSome point (λ at. at < length body.operators)
+
+-- each of the nodes can be written
+abbrev pub AreWritable : List Lang → Type 0
+AreWritable nodes = All (λ l. IsTrue (is_writable (payload_of l))) nodes

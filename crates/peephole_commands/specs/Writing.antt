@@ -1,0 +1,56 @@
+-- What the command `write` makes of a body (this project's rules).
+use Rattle.std.specs.Prelude.{ℕ, ◌-◌, Bool, ◌&&◌, not, List, [], ◌∷◌, length, reverse, Result, Ok, Err, if◌then◌else◌}
+use Rattle.std.specs.Result.{result_map_both}
+use Rattle.std.specs.Str.{bytes_eq}
+use Rattle.wasm_code.specs.Instruction.{Instruction}
+use Rattle.mutate_base.specs.declared.error.Error.TheVariants.{NoMutationsApplicable}
+use Rattle.peephole_lang.specs.Term.{Term, Node, tree_at}
+use Rattle.peephole_lang.specs.declared.lang.Head.{Head}
+use Rattle.peephole_graphs.specs.Block.{BlockRange}
+use Rattle.peephole_terms.specs.declared.encoder.request.ResourceRequest.{ResourceRequest}
+use Rattle.peephole_graphs.specs.declared.shape.Shape.{Shape}
+use Rattle.peephole_terms.specs.Expansion.{Setting}
+use Rattle.peephole_graphs.specs.Forest.{forest}
+use Rattle.peephole_graphs.specs.Tree.{instructions, numbers, range_from}
+use Rattle.peephole_terms.specs.Written.{shapes_in, term_code, term_requests, written_block, written_body}
+use Rattle.peephole_commands.specs.declared.graphs.Refusal.{Refusal}
+use Rattle.peephole_commands.specs.declared.graphs.Refusal.TheVariants as refusal
+use Rattle.peephole_commands.specs.Body.{Contents}
+use Rattle.peephole_commands.specs.Graphs.{graphed, of_graph, operators_in}
+
+-- whether the block's trees lie one after another: their operators in postfix are the block's, ascending
+abbrev pub is_in_order : List Shape → Bool
+is_in_order block = bytes_eq (numbers (forest block)) (range_from 0 (length block))
+
+-- while preserving, a block out of order is refused
+abbrev pub in_order_alone : {A : Type 0} → Bool → List Shape → Result A Refusal → Result A Refusal
+in_order_alone keeping block answer = if keeping && not (is_in_order block) then Err (refusal.Refused NoMutationsApplicable) else answer
+
+-- a body that is written, and the globals that it asks for
+pub record Output : Type 0 where
+  pub bytes : List ℕ
+  pub requests : List ResourceRequest
+
+abbrev pub output : List ℕ → List ResourceRequest → Output
+output bytes requests = record { bytes = bytes; requests = requests }
+
+-- the body with the block written as these instructions
+abbrev pub with_code : Contents → BlockRange → List ResourceRequest → List Instruction → Output
+with_code body range requests code = output (written_body body.bytes body.operators range code) requests
+
+-- the body with the term in the place of the tree of the operator `point`, or the refusal of the term's expansion
+abbrev pub with_term : Setting → Contents → ℕ → BlockRange → Term Head → Result Output Refusal
+with_term s body point range t =
+    let requests = term_requests s.info body.operators range point t in
+    result_map_both (λ code. with_code body range requests (written_block s.info body.operators range point code)) refusal.Refused
+    (term_code s body.operators range point t)
+
+-- the same with the term of the last node; without nodes with the block's own trees, which ask for nothing
+abbrev pub with_nodes : Setting → Contents → ℕ → BlockRange → List (Node Head) → Result Output Refusal
+with_nodes s body point range [] = Ok (with_code body range [] (instructions (forest (shapes_in s.info body.operators range))))
+with_nodes s body point range (node ∷ nodes) = with_term s body point range (tree_at (reverse (node ∷ nodes)) (length (node ∷ nodes) - 1))
+
+-- the body with the nodes' term in the place of the tree of the operator `point`, under a module and what is drawn, and in a mode
+abbrev pub written : Setting → Bool → Contents → ℕ → BlockRange → List (Node Head) → Result Output Refusal
+written s keeping body point range nodes =
+    of_graph (graphed s.info keeping (operators_in body range)) (λ block. in_order_alone keeping block (with_nodes s body point range nodes))

@@ -1,0 +1,78 @@
+//! A body, read.
+
+ghost use Rattle.std.specs.Prelude.{◌≡◌, ◌<◌, ◌⊎◌, length, Ok, Err, IfSome, MatchResult};
+ghost use Rattle.peephole_graphs.specs.Block.{IsBlockOf};
+ghost use Rattle.peephole_terms.specs.Written.{IsBodyIn};
+ghost use Rattle.wasm_code.specs.declared.fault.ReadKind.TheVariants.{Memory};
+ghost use Rattle.peephole_commands.specs.Body.{body_of, block_at};
+
+use mutate_base::{WasmMutate, Words};
+use peephole_terms::{BBlock, DFGBuilder};
+use std::alloc::Global;
+use std::marker::Model;
+use wasm_code::laws::body_at_reads;
+use wasm_code::{OperatorAndByteOffset, ReadKind, read_body};
+
+/// A body's bytes, and the operators that they spell.
+#[derive(Drop)]
+pub struct Body {
+    bytes: Vec<u8>,
+    operators: Vec<OperatorAndByteOffset>,
+}
+
+impl Model for Body {
+    ghost use Rattle.peephole_terms.specs.Written.{IsBodyIn};
+    ghost use Rattle.peephole_commands.specs.Body.{Contents};
+
+    ghost Value = { Contents };
+
+    ghost view = { λ b. record { bytes = b.bytes.items; operators = b.operators.items } };
+
+    ghost invariant = { λ b. IsBodyIn b.bytes.items b.operators.items };
+}
+
+impl Body {
+    /// The body of these bytes. Refused where they spell none, for the first fault, or for want of memory.
+    pub fn read(alloc: Global, bytes: Vec<u8>) -> Result<Body, ReadKind>
+        ensures { MatchResult result (λ body. body_of bytes.items ≡ Ok body) (λ kind. (kind ≡ Memory) ⊎ (body_of bytes.items ≡ Err kind)) }
+    {
+        body_at_reads();
+        match read_body(alloc, bytes.as_slice(), 0, bytes.len()) {
+            Ok(operators) => Ok(Body { bytes, operators }),
+            Err(error) => Err(error.kind),
+        }
+    }
+
+    /// The bytes.
+    pub fn bytes(&self) -> &[u8]
+        ensures { result.now ≡ self.now.bytes }
+    {
+        self.bytes.as_slice()
+    }
+
+    /// The operators that they spell, each with its offset.
+    pub fn operators(&self) -> &[OperatorAndByteOffset]
+        ensures value { result.now ≡ self.now.operators }
+        ensures body { IsBodyIn self.now.bytes self.now.operators }
+    {
+        self.operators.as_slice()
+    }
+
+    /// The number of operators.
+    pub fn len(&self) -> usize
+        ensures { result ≡ length self.now.operators }
+    {
+        self.operators.len()
+    }
+
+    /// The block of an operator, if there is one.
+    pub fn block_at(&self, point: usize) -> Option<BBlock>
+        requires { point < length self.now.operators }
+        ensures function { result ≡ block_at self.now.operators point }
+        ensures relation { IfSome result (λ block. IsBlockOf self.now.operators point block.start block.end) }
+    {
+        let config: WasmMutate<Words> = WasmMutate::new();
+        let builder = DFGBuilder::new(&config);
+        builder.get_bb_from_operator(point, self.operators.as_slice())
+    }
+}

@@ -1,0 +1,95 @@
+//! The lines that commands print.
+
+ghost use Rattle.std.specs.Prelude.{◌≡◌, ◌≢◌, MatchResult};
+ghost use Rattle.mutate_base.specs.declared.error.Error.TheVariants.{Memory};
+ghost use Rattle.peephole_commands.specs.declared.graphs.Refusal.TheVariants.{Refused};
+ghost use Rattle.peephole_commands.specs.Commands.{block_line, bytes_line, global_line, output_lines, refusal_line};
+ghost use Rattle.peephole_commands.specs.Writing.{output};
+
+use crate::fault::Fault;
+use crate::graphs::Refusal;
+use mutate_base::Error;
+use peephole_terms::{BBlock, ResourceRequest};
+use std::alloc::Global;
+use wasm_code::Function;
+
+/// The line that `at` prints of the point's block. `Memory` where an allocation was refused.
+pub fn block_line(alloc: Global, block: &Option<BBlock>) -> Result<Vec<u8>, Fault>
+    ensures { MatchResult result (λ line. line.items ≡ block_line block.now) (λ fault. fault ≡ Fault.Memory) }
+{
+    let text = match block {
+        Some(block) => {
+            let range = block.range();
+            format!(in alloc; "block {}..{}\n", range.start, range.end)
+        }
+        None => format!(in alloc; "no block\n"),
+    };
+    Ok(text?.into_bytes())
+}
+
+// The line that `write` prints of a body.
+fn bytes_line(alloc: Global, sink: &Function) -> Result<Vec<u8>, Fault>
+    ensures { MatchResult result (λ line. line.items ≡ bytes_line sink.now) (λ fault. fault ≡ Fault.Memory) }
+{
+    let Ok(digits) = hex::encode(alloc, sink.bytes()) else {
+        return Err(Fault::Memory);
+    };
+    let text = format!(in alloc; "bytes {digits}\n")?;
+    Ok(text.into_bytes())
+}
+
+// The line that `write` prints of a requested global.
+fn global_line(alloc: Global, request: &ResourceRequest) -> Result<Vec<u8>, Fault>
+    ensures { MatchResult result (λ line. line.items ≡ global_line request.now) (λ fault. fault ≡ Fault.Memory) }
+{
+    match request {
+        ResourceRequest::Global { tpe, .. } => {
+            let name = tpe.name();
+            let text = format!(in alloc; "global {name}\n")?;
+            Ok(text.into_bytes())
+        }
+    }
+}
+
+/// The lines that `write` prints of a body, and of the globals that it asks for. `Memory` where an allocation was refused.
+pub fn output_lines(
+    alloc: Global,
+    sink: &Function,
+    requests: &[ResourceRequest],
+) -> Result<Vec<u8>, Fault>
+    ensures { MatchResult result (λ lines. lines.items ≡ output_lines (output sink.now requests.now)) (λ fault. fault ≡ Fault.Memory) }
+{
+    let mut lines = bytes_line(alloc, sink)?;
+    for request in requests {
+        let line = global_line(alloc, request)?;
+        lines.extend_from_slice(line.as_slice())?;
+    }
+    Ok(lines)
+}
+
+// The line of a call that refused for another cause than memory.
+fn refused_line(alloc: Global, error: Error) -> Result<Vec<u8>, Fault>
+    ensures { MatchResult result (λ line. (error ≢ Memory) × (line.items ≡ refusal_line (Refused error))) (λ fault. fault ≡ Fault.Memory) }
+{
+    match error {
+        Error::Memory => Err(Fault::Memory),
+        _ => {
+            let name = error.name();
+            let text = format!(in alloc; "refused {name}\n")?;
+            Ok(text.into_bytes())
+        }
+    }
+}
+
+/// The line that a command prints where it has no answer, but for want of memory. `Memory` where an allocation was refused.
+pub fn refusal_line(alloc: Global, refusal: Refusal) -> Result<Vec<u8>, Fault>
+    ensures { MatchResult result (λ line. (refusal ≢ Refused Memory) × (line.items ≡ refusal_line refusal)) (λ fault. fault ≡ Fault.Memory) }
+{
+    match refusal {
+        Refusal::NoGraph => {
+            let text = format!(in alloc; "no graph\n")?;
+            Ok(text.into_bytes())
+        }
+        Refusal::Refused(error) => refused_line(alloc, error),
+    }
+}

@@ -1,0 +1,66 @@
+//! The forest of the point's block, as text.
+
+ghost use Rattle.std.specs.Prelude.{◌≡◌, ◌++◌, is_some, IsTrue, IfOk, MatchResult, string_bytes};
+ghost use Rattle.mutate_base.specs.declared.error.Error.TheVariants.{Memory};
+ghost use Rattle.peephole_graphs.specs.Dfg.{entries_of, parents_of};
+ghost use Rattle.peephole_graphs.specs.ForestText.{default_text};
+ghost use Rattle.peephole_commands.specs.Graphs.{module_in, IsPlace, Tells};
+ghost use Rattle.peephole_commands.specs.Show.{yes_or_no, verdicts, shown};
+
+use crate::graphs::{Refusal, graph_of};
+use crate::place::Place;
+use mutate_base::{Error, WasmMutate, Words};
+use peephole_terms::MiniDFG;
+use peephole_terms::laws::graph_shows_the_forest;
+use std::alloc::{AllocError, Global};
+
+fn yes_or_no(answer: bool) -> &'static str
+    ensures { result.now ≡ yes_or_no answer }
+{
+    if answer { "yes" } else { "no" }
+}
+
+// The two verdicts behind a forest.
+fn verdicts(alloc: Global, in_order: bool, consistent: bool) -> Result<String, AllocError>
+    ensures { IfOk result (λ text. string_bytes text ≡ verdicts in_order consistent) }
+{
+    let in_order = yes_or_no(in_order);
+    let consistent = yes_or_no(consistent);
+    format!(in alloc; "in order {in_order}\nconsistent {consistent}\n")
+}
+
+// The text of a graph, and the two verdicts behind it.
+fn with_verdicts(
+    alloc: Global,
+    graph: &MiniDFG,
+    in_order: bool,
+    consistent: bool,
+) -> Result<String, Error>
+    ensures { MatchResult result
+        (λ text. string_bytes text ≡ default_text (entries_of graph.now) (parents_of graph.now) ++ verdicts in_order consistent)
+        (λ e. e ≡ Memory) }
+{
+    let mut text = graph.pretty_print_default(alloc)?;
+    let verdicts = verdicts(alloc, in_order, consistent)?;
+    text.push_str(verdicts.as_str())?;
+    Ok(text)
+}
+
+/// The forest of the place's block, then whether the block is in order, and whether the tree of the operator at the point
+/// has one colour. Condition: the configuration is set up.
+pub fn show_block(
+    alloc: Global,
+    config: &WasmMutate<'_, Words>,
+    place: &Place,
+) -> Result<String, Refusal>
+    requires set_up { IsTrue (is_some config.now.info) }
+    requires place { IsPlace place.now }
+    ensures { Tells string_bytes (shown (module_in config.now.info) config.now.preserving place.now.body.now place.now.block) result }
+{
+    let graph = graph_of(alloc, config, place)?;
+    graph_shows_the_forest();
+    let in_order = graph.keeps_order();
+    let consistent = graph.is_subtree_consistent_from_root();
+    let text = with_verdicts(alloc, &graph, in_order, consistent)?;
+    Ok(text)
+}

@@ -1,7 +1,0 @@
-use Rattle.peephole_run.proofs.Steps.{word_added}
-use Rattle.peephole_run.proofs.session.Session.word.Goals as goal
-
-pub returns : goal.returns
-returns c =
-    rw (word_added c.args.self.now c.args.arguments.now _ c.in-Some.number c.in-len1.len_at_least c.in-len1.len_below c.in-Some.ensures)
-    (rw (← c.self.view_is, c.in_ok-push.ensures.items, c.new.ensures.items))
