@@ -1,9 +1,9 @@
 -- How the answer to the lines so far grows by a line.
 use Rattle.std.proofs.Common.{◌≡◌, ℕ, suc, zero, ◌+◌, ◌<◌, ◌⊎◌, true, false, List, [], ◌∷◌, ◌++◌, length, take, drop, refl, ap, sym, ◌∙◌, arith, append_assoc, inl, inr, Ok, Err}
 use Rattle.std.specs.Prelude.{Result}
-use Rattle.peephole_commands.specs.declared.fault.Fault.{Fault}
-use Rattle.peephole_commands.specs.declared.fault.Fault.TheVariants as fault
-use Rattle.peephole_commands.specs.Text.{lines_of}
+use Rattle.peephole_script.specs.declared.fault.Fault.{Fault}
+use Rattle.peephole_script.specs.declared.fault.Fault.TheVariants as fault
+use Rattle.peephole_script.specs.Text.{lines_of}
 use Rattle.peephole_commands.specs.State.{State, Reply, start}
 use Rattle.peephole_commands.specs.Commands.{step_line}
 use Rattle.peephole_commands.specs.Answer.{Answer, prepend, answer_line, answer_from, answer_lines, fault_line, IsCutShort, IsAnswer}

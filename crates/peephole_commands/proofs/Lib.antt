@@ -1,9 +1,7 @@
 pub mod Devices
-pub mod Lines
 pub mod Answer
 pub mod Values
 pub mod Steps
-pub mod Names
 pub mod Blocks
 pub mod Refusals
 pub mod Writings

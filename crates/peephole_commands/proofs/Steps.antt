@@ -5,14 +5,14 @@ use Rattle.std.proofs.lemmas.Bool.Decides.{nat_tests}
 use Rattle.std.specs.List.{concat}
 use Rattle.hex.specs.Hex.{decode_of}
 use Rattle.mutate_base.specs.declared.types.PrimitiveTypeInfo.{PrimitiveTypeInfo}
-use Rattle.peephole_commands.specs.declared.fault.Fault.{Fault}
-use Rattle.peephole_commands.specs.declared.fault.Fault.TheVariants as fault
-use Rattle.peephole_commands.specs.Text.{number_of}
-use Rattle.peephole_commands.specs.Arguments.{type_of, is_yes}
+use Rattle.peephole_script.specs.declared.fault.Fault.{Fault}
+use Rattle.peephole_script.specs.declared.fault.Fault.TheVariants as fault
+use Rattle.peephole_script.specs.Text.{number_of}
+use Rattle.peephole_script.specs.Arguments.{type_of, is_yes}
 use Rattle.peephole_commands.specs.Body.{Contents, body_of, block_at}
 use Rattle.peephole_commands.specs.State.{State}
 use Rattle.peephole_commands.specs.Commands.{quiet, Steps, local_step, preserve_step, word_step, body_step, at_step, block_line}
-use Rattle.peephole_commands.proofs.Values.{texts}
+use Rattle.peephole_script.proofs.Values.{texts}
 
 -- the words of a slice of one word
 one_word : (words : List (Bor (List ℕ))) (d : Bor (List ℕ)) → 1 ≤ length words → length words < 2 → texts words ≡ (get_or words 0 d).now ∷ []

@@ -1,10 +1,10 @@
 -- What the program writes and answers for an input (this project's rules).
 use Rattle.std.specs.Prelude.{◌≡◌, ◌⊎◌, ℕ, ◌+◌, ◌<◌, Bool, true, false, List, [], ◌∷◌, ◌++◌, length, take, codes, decimal, Option, Result, Ok, Err}
 use Rattle.std.specs.Io.KnownBytes.{Appends}
-use Rattle.peephole_commands.specs.declared.fault.Fault.{Fault}
-use Rattle.peephole_commands.specs.declared.fault.Fault.TheVariants as fault
-use Rattle.peephole_commands.specs.Faults.{fault_name}
-use Rattle.peephole_commands.specs.Text.{lines_of}
+use Rattle.peephole_script.specs.declared.fault.Fault.{Fault}
+use Rattle.peephole_script.specs.declared.fault.Fault.TheVariants as fault
+use Rattle.peephole_script.specs.Faults.{fault_name}
+use Rattle.peephole_script.specs.Text.{lines_of}
 use Rattle.peephole_commands.specs.State.{State, Reply, start}
 use Rattle.peephole_commands.specs.Commands.{step_line}
 

@@ -1,7 +1,6 @@
 -- What each command does (this project's rules).
 use Rattle.std.specs.Prelude.{◌≡◌, ◌⊎◌, ◌^◌, MatchResult, Vec, ℕ, not, List, [], ◌∷◌, ◌++◌, length, map, codes, decimal, nat_lt, Option, Some, None, Result, Ok, Err, if◌then◌else◌}
 use Rattle.std.specs.List.{list_all, concat}
-use Rattle.std.specs.Str.{bytes_eq}
 use Rattle.std.specs.Result.{result_ok}
 use Rattle.hex.specs.Hex.{decode_of, encode_lower}
 use Rattle.wasm_code.specs.declared.fault.ReadKind.{ReadKind}
@@ -17,19 +16,19 @@ use Rattle.peephole_graphs.specs.Block.{BlockRange}
 use Rattle.peephole_terms.specs.declared.encoder.request.ResourceRequest.{ResourceRequest}
 use Rattle.peephole_terms.specs.declared.encoder.request.ResourceRequest.TheVariants.{Global}
 use Rattle.peephole_terms.specs.Expansion.{Setting}
-use Rattle.peephole_commands.specs.declared.command.Command.{Command}
-use Rattle.peephole_commands.specs.declared.command.Command.TheVariants as name
-use Rattle.peephole_commands.specs.declared.fault.Fault.{Fault}
-use Rattle.peephole_commands.specs.declared.fault.Fault.TheVariants as fault
-use Rattle.peephole_commands.specs.declared.declarations.Declaration.{Declaration}
-use Rattle.peephole_commands.specs.declared.declarations.Declaration.TheVariants as declare
+use Rattle.peephole_script.specs.declared.command.Command.{Command}
+use Rattle.peephole_script.specs.declared.command.Command.TheVariants as name
+use Rattle.peephole_script.specs.declared.fault.Fault.{Fault}
+use Rattle.peephole_script.specs.declared.fault.Fault.TheVariants as fault
+use Rattle.peephole_script.specs.declared.declarations.Declaration.{Declaration}
 use Rattle.peephole_commands.specs.declared.graphs.Refusal.{Refusal}
 use Rattle.peephole_commands.specs.declared.graphs.Refusal.TheVariants as refusal
 use Rattle.peephole_commands.specs.declared.place.Place.{Place}
-use Rattle.peephole_commands.specs.Text.{is_text, words_of, number_of}
-use Rattle.peephole_commands.specs.Arguments.{all_of, type_of, is_yes}
+use Rattle.peephole_script.specs.Text.{is_text, words_of, number_of}
+use Rattle.peephole_script.specs.Arguments.{all_of, type_of, is_yes}
+use Rattle.peephole_script.specs.Command.{command_of}
 use Rattle.peephole_commands.specs.Body.{Contents, body_of, block_at}
-use Rattle.peephole_commands.specs.Declarations.{declared}
+use Rattle.peephole_script.specs.Declarations.{declared}
 use Rattle.peephole_commands.specs.State.{State, Reply, module_with}
 use Rattle.peephole_commands.specs.Writing.{Output, written}
 use Rattle.peephole_commands.specs.Show.{shown}
@@ -166,24 +165,6 @@ command_step name.Local = local_step
 command_step name.Preserve = preserve_step
 command_step name.Word = word_step
 command_step (name.Declare declaration) = declare_step declaration
-
--- the command of a name
-abbrev pub command_of : List ℕ → Option Command
-command_of word =
-    if bytes_eq word (codes "body") then Some name.Body
-    else if bytes_eq word (codes "at") then Some name.At
-    else if bytes_eq word (codes "node") then Some name.Node
-    else if bytes_eq word (codes "write") then Some name.Write
-    else if bytes_eq word (codes "show") then Some name.Show
-    else if bytes_eq word (codes "global") then Some (name.Declare declare.Global)
-    else if bytes_eq word (codes "memory") then Some (name.Declare declare.Memory)
-    else if bytes_eq word (codes "table") then Some (name.Declare declare.Table)
-    else if bytes_eq word (codes "type") then Some (name.Declare declare.Type)
-    else if bytes_eq word (codes "func") then Some (name.Declare declare.Function)
-    else if bytes_eq word (codes "local") then Some name.Local
-    else if bytes_eq word (codes "preserve") then Some name.Preserve
-    else if bytes_eq word (codes "word") then Some name.Word
-    else None
 
 abbrev pub run_command : State → Option Command → List (List ℕ) → Result Reply Fault
 run_command s None arguments = Err fault.UnknownCommand

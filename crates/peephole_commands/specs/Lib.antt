@@ -1,8 +1,4 @@
-pub mod Faults
-pub mod Text
-pub mod Arguments
 pub mod Body
-pub mod Declarations
 pub mod State
 pub mod Graphs
 pub mod Writing

@@ -6,9 +6,9 @@ ghost use Rattle.peephole_commands.specs.declared.graphs.Refusal.TheVariants.{Re
 ghost use Rattle.peephole_commands.specs.Commands.{block_line, bytes_line, global_line, output_lines, refusal_line};
 ghost use Rattle.peephole_commands.specs.Writing.{output};
 
-use crate::fault::Fault;
 use crate::graphs::Refusal;
 use mutate_base::Error;
+use peephole_script::Fault;
 use peephole_terms::{BBlock, ResourceRequest};
 use std::alloc::Global;
 use wasm_code::Function;

@@ -2,15 +2,12 @@
 
 ghost use Rattle.std.specs.Prelude.{◌≡◌, ◌≢◌, ◌≤◌, false, IfOk, OnOk, OnErr, IsErrOf, IfSome, IsTrue, length, Ok, Err};
 ghost use Rattle.std.specs.Io.KnownBytes.{Appends, Keeps, IsAtEnd};
-ghost use Rattle.peephole_commands.specs.Faults.{ConsumesMore};
+ghost use Rattle.peephole_script.specs.Faults.{ConsumesMore};
 ghost use Rattle.peephole_commands.specs.Answer.{Answers, fault_line};
 
-use crate::fault::{Fault, RunError};
-use crate::input::{LIMIT, read_input};
 use crate::session::Session;
-use crate::tally::Tally;
-use crate::text::cut_line;
 use itoa::Buffer;
+use peephole_script::{Fault, LIMIT, RunError, Tally, cut_line, read_input};
 use std::alloc::Global;
 use std::io::{Read, Write};
 

@@ -8,19 +8,19 @@ ghost use Rattle.peephole_commands.specs.State.{State, Reply, PointsInto, AreWri
 ghost use Rattle.peephole_commands.specs.Graphs.{IsPlace};
 ghost use Rattle.peephole_commands.specs.Commands.{step_line, step, command_step, declare_step, local_step, preserve_step, word_step, body_step, at_step, node_step, node_read, node_words, place_of, show_step, write_step, Steps, Finds};
 
-use crate::arguments::{all_below, ids_of, is_yes, joined, numbers_of, type_of};
 use crate::body::Body;
-use crate::command::{Command, command_of};
-use crate::declarations::{Declaration, declare};
-use crate::fault::Fault;
 use crate::graphs::configured;
+use crate::ids::ids_of;
 use crate::place::Place;
 use crate::reply::{block_line, output_lines, refusal_line};
 use crate::show::show_block;
-use crate::text::{is_text, number_of, words_of};
 use crate::writing::write_body;
 use mutate_base::{Error, ModuleInfo, PrimitiveTypeInfo};
 use peephole_lang::{Lang, RecExpr};
+use peephole_script::{
+    Command, Declaration, Fault, all_below, command_of, declare, is_text, is_yes, joined,
+    number_of, numbers_of, type_of, words_of,
+};
 use std::alloc::Global;
 use std::marker::Model;
 use wasm_code::ReadKind;

@@ -1,9 +1,9 @@
 use Rattle.std.proofs.Common.{◌<◌, length, arith, refl, ◌++◌, ◌+◌}
 use Rattle.std.proofs.lemmas.Bool.Decides.{nat_tests}
-use Rattle.peephole_commands.specs.Text.{lines_of}
+use Rattle.peephole_script.specs.Text.{lines_of}
 use Rattle.peephole_commands.specs.Answer.{fault_line}
 use Rattle.peephole_commands.proofs.Devices.{appends_nothing, appends_more}
-use Rattle.peephole_commands.proofs.Lines.{lines_of-cut_line, length-after_line}
+use Rattle.peephole_script.proofs.Lines.{lines_of-cut_line, length-after_line}
 use Rattle.peephole_commands.proofs.Answer.{front, reached_none, front_none, reached_more, front_more, answered_end, answered_fault}
 use Rattle.peephole_commands.proofs.runner.answer_input.Goals as goal
 

@@ -1,6 +1,6 @@
 use Rattle.std.proofs.Common.{◌≡◌, ◌+◌, ◌≤◌, false, length}
 use Rattle.std.specs.Io.KnownBytes.{Appends}
-use Rattle.peephole_commands.specs.Text.{lines_of}
+use Rattle.peephole_script.specs.Text.{lines_of}
 use Rattle.peephole_commands.proofs.Answer.{Reached, front}
 use Rattle.peephole_commands.proofs.runner.answer_input.Given as goal
 

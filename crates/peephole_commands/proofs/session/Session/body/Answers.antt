@@ -1,5 +1,5 @@
 use Rattle.peephole_commands.proofs.Steps.{body_is}
-use Rattle.peephole_commands.proofs.Values.{texts}
+use Rattle.peephole_script.proofs.Values.{texts}
 use Rattle.peephole_commands.proofs.session.Session.body.Goals as goal
 
 pub returns-in-Ok-read : goal.returns-in-Ok-read

@@ -1,5 +1,6 @@
 use Rattle.std.proofs.Common.{inr}
-use Rattle.peephole_commands.proofs.Values.{texts, node_words-bad, node_words-good}
+use Rattle.peephole_script.proofs.Values.{texts}
+use Rattle.peephole_commands.proofs.Values.{node_words-bad, node_words-good}
 use Rattle.peephole_commands.proofs.session.Session.node_of_words.Goals as goal
 
 pub returns-then-not-has_nodes : goal.returns-then-not-has_nodes

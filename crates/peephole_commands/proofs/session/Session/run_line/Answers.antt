@@ -1,5 +1,5 @@
 use Rattle.std.proofs.Common.{sym}
-use Rattle.peephole_commands.proofs.Lines.{text_is_utf8}
+use Rattle.peephole_script.proofs.Lines.{text_is_utf8}
 use Rattle.peephole_commands.proofs.session.Session.run_line.Goals as goal
 
 pub returns-in_default : goal.returns-in_default

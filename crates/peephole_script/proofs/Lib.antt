@@ -1,0 +1,4 @@
+pub mod Devices
+pub mod Lines
+pub mod Values
+pub mod Names

@@ -1,0 +1,40 @@
+-- When a call on a device failed, and the names of the faults (this project's).
+use Rattle.std.specs.Prelude.{ℕ, Bool, true, ◌&&◌, ◌==◌, nat_lt, ◌<◌, Ok, Err, List, length, Option, codes}
+use Rattle.wasm_code.specs.Fault.{kind_name}
+use Rattle.mutate_base.specs.TermError.{term_error_name}
+use Rattle.peephole_script.specs.declared.fault.Fault.{Fault}
+use Rattle.peephole_script.specs.declared.fault.Fault.TheVariants as fault
+use Rattle.peephole_script.specs.declared.fault.RunError.{RunError}
+use Rattle.peephole_script.specs.declared.fault.RunError.TheVariants as run
+use Rattle.std.specs.Io.KnownBytes.{Consumes}
+use Rattle.std.specs.declared.result.Result.{Result}
+
+-- an error, or none of some bytes taken
+abbrev pub write_failed : {E : Type 0} → Result ℕ E → ℕ → Bool
+write_failed (Ok n) offered = (n == 0) && nat_lt 0 offered
+write_failed (Err e) offered = true
+
+-- known bytes begin with more than `most` bytes, and lose them
+abbrev pub ConsumesMore : Option (List ℕ) → Option (List ℕ) → ℕ → Type 0
+ConsumesMore old new most = (bytes : List ℕ) × Consumes old new bytes × (most < length bytes)
+
+abbrev pub run_error_name : RunError → List ℕ
+run_error_name run.Memory = codes "Memory"
+run_error_name run.Input = codes "Input"
+run_error_name run.TooLong = codes "TooLong"
+run_error_name run.Output = codes "Output"
+
+-- the name that the report of a faulty line gives
+abbrev pub fault_name : Fault → List ℕ
+fault_name fault.Text = codes "Text"
+fault_name fault.UnknownCommand = codes "UnknownCommand"
+fault_name fault.BadArgument = codes "BadArgument"
+fault_name fault.NoBody = codes "NoBody"
+fault_name fault.OutOfRange = codes "OutOfRange"
+fault_name fault.NoBlock = codes "NoBlock"
+fault_name (fault.Read kind) = kind_name kind
+fault_name fault.BadChild = codes "BadChild"
+fault_name (fault.Term e) = term_error_name e
+fault_name fault.Unwritable = codes "Unwritable"
+fault_name fault.TooLarge = codes "TooLarge"
+fault_name fault.Memory = codes "Memory"

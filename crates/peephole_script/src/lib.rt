@@ -1,0 +1,19 @@
+//! What a script says: its lines, words and numbers, what they declare of a module, why a line is faulty, and the devices that
+//! the script comes from and the answers go to.
+#![tactic(auto)]
+
+mod arguments;
+mod command;
+mod declarations;
+mod fault;
+mod input;
+mod tally;
+mod text;
+
+pub use arguments::{all_below, is_yes, joined, numbers_of, type_of};
+pub use command::{Command, command_of};
+pub use declarations::{Declaration, declare};
+pub use fault::{Fault, RunError};
+pub use input::{LIMIT, read_input};
+pub use tally::Tally;
+pub use text::{cut_line, is_text, number_of, words_of};

@@ -1,0 +1,61 @@
+//! Lines, words and numbers of the input.
+
+ghost use Rattle.std.specs.Prelude.{◌≡◌, map, position, IfOk};
+ghost use Rattle.std.specs.List.{before_first, after_first, list_all};
+ghost use Rattle.std.specs.Char.{is_ascii_digit};
+ghost use Rattle.peephole_script.specs.Text.{is_byte, is_text, words_of, number_of};
+
+use std::alloc::{AllocError, Global};
+
+/// Where the first line feed stands.
+fn line_end(bytes: &[u8]) -> Option<usize>
+    ensures { result ≡ position (is_byte 10) bytes.now }
+{
+    bytes.iter().position(|b| *b == b'\n')
+}
+
+/// The bytes before the first line feed, and those after it; all of them and none where there is none.
+#[tactic(auto, using(crate::proofs::Lines::places))]
+pub fn cut_line(bytes: &[u8]) -> (&[u8], &[u8])
+    ensures line { result.0.now ≡ before_first (is_byte 10) bytes.now }
+    ensures rest { result.1.now ≡ after_first (is_byte 10) bytes.now }
+{
+    match line_end(bytes) {
+        Some(at) => (&bytes[..at], &bytes[at + 1..]),
+        None => (bytes, &[]),
+    }
+}
+
+/// Whether a line has printable characters of ASCII and spaces alone.
+pub fn is_text(line: &[u8]) -> bool
+    ensures { result ≡ is_text line.now }
+{
+    line.iter().all(|b| 0x20 <= *b && *b <= 0x7e)
+}
+
+/// The words of a line, which spaces separate; an error for want of memory alone.
+pub fn words_of<'a>(alloc: Global, line: &'a str) -> Result<Vec<&'a str>, AllocError>
+    ensures { IfOk result (λ words. map (λ word. word.now) words.items ≡ words_of line.now) }
+{
+    line.split(' ')
+        .filter(|word| !word.is_empty())
+        .collect(alloc)
+}
+
+/// Whether a word has decimal digits alone.
+fn is_digits(word: &str) -> bool
+    ensures { result ≡ list_all is_ascii_digit word.now }
+{
+    word.as_bytes().iter().all(|b| b.is_ascii_digit())
+}
+
+/// The number that a word writes in decimal digits, below 2^64; none where it writes no such number.
+pub fn number_of(word: &str) -> Option<u64>
+    ensures { result ≡ number_of word.now }
+{
+    if is_digits(word) {
+        word.parse::<u64>().ok()
+    } else {
+        None
+    }
+}
