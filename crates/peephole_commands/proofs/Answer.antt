@@ -1,5 +1,5 @@
 -- How the answer to the lines so far grows by a line.
-use Rattle.std.proofs.Common.{◌≡◌, ℕ, suc, zero, ◌+◌, ◌<◌, ◌⊎◌, true, false, List, [], ◌∷◌, ◌++◌, length, take, drop, refl, ap, sym, ◌∙◌, arith, append_assoc, inl, inr, Ok, Err}
+use Rattle.std.proofs.Common.{◌≡◌, ℕ, suc, zero, ◌+◌, ◌<◌, ◌⊎◌, true, false, List, [], ◌∷◌, ◌++◌, length, take, drop, refl, ap, sym, ◌∙◌, arith, append_assoc, append-nil, inl, inr, Ok, Err}
 use Rattle.std.specs.Prelude.{Result}
 use Rattle.peephole_script.specs.declared.fault.Fault.{Fault}
 use Rattle.peephole_script.specs.declared.fault.Fault.TheVariants as fault
@@ -89,10 +89,6 @@ front_none all = refl
 pub reached_end : (all : List (List ℕ)) (n : ℕ) (s : State) → Reached all n [] s → answer_lines all ≡ record { written = front all n; ok = true }
 reached_end all n s h = ap answer_lines (sym (take_all all n h.rest)) ∙ sound_is (answer_lines (take n all)) h.sound
 
-append_nil : (xs : List ℕ) → xs ++ [] ≡ xs
-append_nil [] = refl
-append_nil (x ∷ xs) = ap (λ t. x ∷ t) (append_nil xs)
-
 at_line : (all : List (List ℕ)) (n : ℕ) (line : List ℕ) (left : List (List ℕ)) (s : State) (ys : List (List ℕ)) → Reached all n (line ∷ left) s → answer_lines (take n all ++ line ∷ ys) ≡ prepend (front all n) (answer_line (n + 1) (λ next. answer_from next (n + 1 + 1) ys) (step_line s line))
 unfolding answer_from
 at_line all n line left s ys h =
@@ -124,7 +120,7 @@ quiet_end next n = refl
 line_taken : (all : List (List ℕ)) (n : ℕ) (line : List ℕ) (left : List (List ℕ)) (s : State) (r : Reply) → Reached all n (line ∷ left) s → step_line s line ≡ Ok r → answer_lines (take (n + 1) all) ≡ record { written = front all n ++ r.text; ok = true }
 line_taken all n line left s r h k =
     let more = one_more all n line left h.rest in
-    let e : answer_line (n + 1) (λ next. answer_from next (n + 1 + 1) []) (Ok r) ≡ record { written = r.text; ok = true } = ap (prepend r.text) (quiet_end r.next (n + 1 + 1)) ∙ ap (λ t. let a : Answer = record { written = t; ok = true } in a) (append_nil r.text) in
+    let e : answer_line (n + 1) (λ next. answer_from next (n + 1 + 1) []) (Ok r) ≡ record { written = r.text; ok = true } = ap (prepend r.text) (quiet_end r.next (n + 1 + 1)) ∙ ap (λ t. let a : Answer = record { written = t; ok = true } in a) (append-nil r.text) in
     ap answer_lines more.taken ∙ (at_line all n line left s [] h ∙ ap (prepend (front all n)) (ap (answer_line (n + 1) (λ next. answer_from next (n + 1 + 1) [])) k ∙ e))
 
 pub reached_more : (all : List (List ℕ)) (n : ℕ) (line : List ℕ) (left : List (List ℕ)) (s : State) (r : Reply) → Reached all n (line ∷ left) s → step_line s line ≡ Ok r → Reached all (n + 1) left r.next
