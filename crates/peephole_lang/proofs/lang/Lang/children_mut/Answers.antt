@@ -1,0 +1,277 @@
+-- What is lent in each arm, said outright, so that no search is needed: the variant is what was matched, and so are its ids and what it becomes.
+use Rattle.std.proofs.Common.{refl, sym, ap, ◌∙◌, rules}
+use Rattle.peephole_lang.specs.Lang.{ids_of}
+use Rattle.peephole_lang.specs.WithIds.{with_ids}
+use Rattle.peephole_lang.proofs.lang.Lang.children_mut.Goals as goal
+
+pub returns-in-RandI32 : goal.returns-in-RandI32
+unfolding with_ids ids_of
+returns-in-RandI32 c = ((refl, λ w. c.in-RandI32.is ∙ sym (ap (λ l. with_ids l w) c.in-RandI32.is)), record { lends = tt; value = c.lend_none.ensures.value ∙ sym (ap ids_of c.in-RandI32.is) })
+
+pub returns-in-RandI64 : goal.returns-in-RandI64
+unfolding with_ids ids_of
+returns-in-RandI64 c = ((refl, λ w. c.in-RandI64.is ∙ sym (ap (λ l. with_ids l w) c.in-RandI64.is)), record { lends = tt; value = c.lend_none-in-RandI64.ensures.value ∙ sym (ap ids_of c.in-RandI64.is) })
+
+pub returns-in-RandF32 : goal.returns-in-RandF32
+unfolding with_ids ids_of
+returns-in-RandF32 c = ((refl, λ w. c.in-RandF32.is ∙ sym (ap (λ l. with_ids l w) c.in-RandF32.is)), record { lends = tt; value = c.lend_none-in-RandF32.ensures.value ∙ sym (ap ids_of c.in-RandF32.is) })
+
+pub returns-in-RandF64 : goal.returns-in-RandF64
+unfolding with_ids ids_of
+returns-in-RandF64 c = ((refl, λ w. c.in-RandF64.is ∙ sym (ap (λ l. with_ids l w) c.in-RandF64.is)), record { lends = tt; value = c.lend_none-in-RandF64.ensures.value ∙ sym (ap ids_of c.in-RandF64.is) })
+
+pub returns-in-Undef : goal.returns-in-Undef
+unfolding with_ids ids_of
+returns-in-Undef c = ((refl, λ w. c.in-Undef.is ∙ sym (ap (λ l. with_ids l w) c.in-Undef.is)), record { lends = tt; value = c.lend_none-in-Undef.ensures.value ∙ sym (ap ids_of c.in-Undef.is) })
+
+pub returns-in-UnfoldI32 : goal.returns-in-UnfoldI32
+unfolding with_ids ids_of
+returns-in-UnfoldI32 c = ((refl, λ w. rw c.in-UnfoldI32.is refl), record { lends = tt; value = search rules })
+
+pub returns-in-UnfoldI64 : goal.returns-in-UnfoldI64
+unfolding with_ids ids_of
+returns-in-UnfoldI64 c = ((refl, λ w. rw c.in-UnfoldI64.is refl), record { lends = tt; value = search rules })
+
+pub returns-in-I32UseGlobal : goal.returns-in-I32UseGlobal
+unfolding with_ids ids_of
+returns-in-I32UseGlobal c = ((refl, λ w. rw c.in-I32UseGlobal.is refl), record { lends = tt; value = search rules })
+
+pub returns-in-I64UseGlobal : goal.returns-in-I64UseGlobal
+unfolding with_ids ids_of
+returns-in-I64UseGlobal c = ((refl, λ w. rw c.in-I64UseGlobal.is refl), record { lends = tt; value = search rules })
+
+pub returns-in-F32UseGlobal : goal.returns-in-F32UseGlobal
+unfolding with_ids ids_of
+returns-in-F32UseGlobal c = ((refl, λ w. rw c.in-F32UseGlobal.is refl), record { lends = tt; value = search rules })
+
+pub returns-in-F64UseGlobal : goal.returns-in-F64UseGlobal
+unfolding with_ids ids_of
+returns-in-F64UseGlobal c = ((refl, λ w. rw c.in-F64UseGlobal.is refl), record { lends = tt; value = search rules })
+
+pub returns-in-Container : goal.returns-in-Container
+unfolding with_ids ids_of
+returns-in-Container c = ((refl, λ w. rw c.in-Container.is refl), record { lends = tt; value = search rules })
+
+pub returns-in-Nop : goal.returns-in-Nop
+unfolding with_ids ids_of
+returns-in-Nop c = ((refl, λ w. c.in-Nop.is ∙ sym (ap (λ l. with_ids l w) c.in-Nop.is)), record { lends = tt; value = c.lend_none-in-Nop.ensures.value ∙ sym (ap ids_of c.in-Nop.is) })
+
+pub returns-in-Call : goal.returns-in-Call
+unfolding with_ids ids_of
+returns-in-Call c = ((refl, λ w. rw c.in-Call.is refl), record { lends = tt; value = search rules })
+
+pub returns-in-Drop : goal.returns-in-Drop
+unfolding with_ids ids_of
+returns-in-Drop c = ((refl, λ w. rw c.in-Drop.is refl), record { lends = tt; value = search rules })
+
+pub returns-in-Select : goal.returns-in-Select
+unfolding with_ids ids_of
+returns-in-Select c = ((refl, λ w. rw c.in-Select.is refl), record { lends = tt; value = search rules })
+
+pub returns-in-LocalGet : goal.returns-in-LocalGet
+unfolding with_ids ids_of
+returns-in-LocalGet c = ((refl, λ w. c.in-LocalGet.is ∙ sym (ap (λ l. with_ids l w) c.in-LocalGet.is)), record { lends = tt; value = c.lend_none-in-LocalGet.ensures.value ∙ sym (ap ids_of c.in-LocalGet.is) })
+
+pub returns-in-LocalSet : goal.returns-in-LocalSet
+unfolding with_ids ids_of
+returns-in-LocalSet c = ((refl, λ w. rw c.in-LocalSet.is refl), record { lends = tt; value = search rules })
+
+pub returns-in-LocalTee : goal.returns-in-LocalTee
+unfolding with_ids ids_of
+returns-in-LocalTee c = ((refl, λ w. rw c.in-LocalTee.is refl), record { lends = tt; value = search rules })
+
+pub returns-in-GlobalGet : goal.returns-in-GlobalGet
+unfolding with_ids ids_of
+returns-in-GlobalGet c = ((refl, λ w. c.in-GlobalGet.is ∙ sym (ap (λ l. with_ids l w) c.in-GlobalGet.is)), record { lends = tt; value = c.lend_none-in-GlobalGet.ensures.value ∙ sym (ap ids_of c.in-GlobalGet.is) })
+
+pub returns-in-GlobalSet : goal.returns-in-GlobalSet
+unfolding with_ids ids_of
+returns-in-GlobalSet c = ((refl, λ w. rw c.in-GlobalSet.is refl), record { lends = tt; value = search rules })
+
+pub returns-in-TableGet : goal.returns-in-TableGet
+unfolding with_ids ids_of
+returns-in-TableGet c = ((refl, λ w. rw c.in-TableGet.is refl), record { lends = tt; value = search rules })
+
+pub returns-in-TableSet : goal.returns-in-TableSet
+unfolding with_ids ids_of
+returns-in-TableSet c = ((refl, λ w. rw c.in-TableSet.is refl), record { lends = tt; value = search rules })
+
+pub returns-in-I32Load : goal.returns-in-I32Load
+unfolding with_ids ids_of
+returns-in-I32Load c = ((refl, λ w. rw c.in-I32Load.is refl), record { lends = tt; value = search rules })
+
+pub returns-in-I64Load : goal.returns-in-I64Load
+unfolding with_ids ids_of
+returns-in-I64Load c = ((refl, λ w. rw c.in-I64Load.is refl), record { lends = tt; value = search rules })
+
+pub returns-in-F32Load : goal.returns-in-F32Load
+unfolding with_ids ids_of
+returns-in-F32Load c = ((refl, λ w. rw c.in-F32Load.is refl), record { lends = tt; value = search rules })
+
+pub returns-in-F64Load : goal.returns-in-F64Load
+unfolding with_ids ids_of
+returns-in-F64Load c = ((refl, λ w. rw c.in-F64Load.is refl), record { lends = tt; value = search rules })
+
+pub returns-in-I32Load8S : goal.returns-in-I32Load8S
+unfolding with_ids ids_of
+returns-in-I32Load8S c = ((refl, λ w. rw c.in-I32Load8S.is refl), record { lends = tt; value = search rules })
+
+pub returns-in-I32Load8U : goal.returns-in-I32Load8U
+unfolding with_ids ids_of
+returns-in-I32Load8U c = ((refl, λ w. rw c.in-I32Load8U.is refl), record { lends = tt; value = search rules })
+
+pub returns-in-I32Load16S : goal.returns-in-I32Load16S
+unfolding with_ids ids_of
+returns-in-I32Load16S c = ((refl, λ w. rw c.in-I32Load16S.is refl), record { lends = tt; value = search rules })
+
+pub returns-in-I32Load16U : goal.returns-in-I32Load16U
+unfolding with_ids ids_of
+returns-in-I32Load16U c = ((refl, λ w. rw c.in-I32Load16U.is refl), record { lends = tt; value = search rules })
+
+pub returns-in-I64Load8S : goal.returns-in-I64Load8S
+unfolding with_ids ids_of
+returns-in-I64Load8S c = ((refl, λ w. rw c.in-I64Load8S.is refl), record { lends = tt; value = search rules })
+
+pub returns-in-I64Load8U : goal.returns-in-I64Load8U
+unfolding with_ids ids_of
+returns-in-I64Load8U c = ((refl, λ w. rw c.in-I64Load8U.is refl), record { lends = tt; value = search rules })
+
+pub returns-in-I64Load16S : goal.returns-in-I64Load16S
+unfolding with_ids ids_of
+returns-in-I64Load16S c = ((refl, λ w. rw c.in-I64Load16S.is refl), record { lends = tt; value = search rules })
+
+pub returns-in-I64Load16U : goal.returns-in-I64Load16U
+unfolding with_ids ids_of
+returns-in-I64Load16U c = ((refl, λ w. rw c.in-I64Load16U.is refl), record { lends = tt; value = search rules })
+
+pub returns-in-I64Load32S : goal.returns-in-I64Load32S
+unfolding with_ids ids_of
+returns-in-I64Load32S c = ((refl, λ w. rw c.in-I64Load32S.is refl), record { lends = tt; value = search rules })
+
+pub returns-in-I64Load32U : goal.returns-in-I64Load32U
+unfolding with_ids ids_of
+returns-in-I64Load32U c = ((refl, λ w. rw c.in-I64Load32U.is refl), record { lends = tt; value = search rules })
+
+pub returns-in-I32Store : goal.returns-in-I32Store
+unfolding with_ids ids_of
+returns-in-I32Store c = ((refl, λ w. rw c.in-I32Store.is refl), record { lends = tt; value = search rules })
+
+pub returns-in-I64Store : goal.returns-in-I64Store
+unfolding with_ids ids_of
+returns-in-I64Store c = ((refl, λ w. rw c.in-I64Store.is refl), record { lends = tt; value = search rules })
+
+pub returns-in-F32Store : goal.returns-in-F32Store
+unfolding with_ids ids_of
+returns-in-F32Store c = ((refl, λ w. rw c.in-F32Store.is refl), record { lends = tt; value = search rules })
+
+pub returns-in-F64Store : goal.returns-in-F64Store
+unfolding with_ids ids_of
+returns-in-F64Store c = ((refl, λ w. rw c.in-F64Store.is refl), record { lends = tt; value = search rules })
+
+pub returns-in-I32Store8 : goal.returns-in-I32Store8
+unfolding with_ids ids_of
+returns-in-I32Store8 c = ((refl, λ w. rw c.in-I32Store8.is refl), record { lends = tt; value = search rules })
+
+pub returns-in-I32Store16 : goal.returns-in-I32Store16
+unfolding with_ids ids_of
+returns-in-I32Store16 c = ((refl, λ w. rw c.in-I32Store16.is refl), record { lends = tt; value = search rules })
+
+pub returns-in-I64Store8 : goal.returns-in-I64Store8
+unfolding with_ids ids_of
+returns-in-I64Store8 c = ((refl, λ w. rw c.in-I64Store8.is refl), record { lends = tt; value = search rules })
+
+pub returns-in-I64Store16 : goal.returns-in-I64Store16
+unfolding with_ids ids_of
+returns-in-I64Store16 c = ((refl, λ w. rw c.in-I64Store16.is refl), record { lends = tt; value = search rules })
+
+pub returns-in-I64Store32 : goal.returns-in-I64Store32
+unfolding with_ids ids_of
+returns-in-I64Store32 c = ((refl, λ w. rw c.in-I64Store32.is refl), record { lends = tt; value = search rules })
+
+pub returns-in-MemorySize : goal.returns-in-MemorySize
+unfolding with_ids ids_of
+returns-in-MemorySize c = ((refl, λ w. c.in-MemorySize.is ∙ sym (ap (λ l. with_ids l w) c.in-MemorySize.is)), record { lends = tt; value = c.lend_none-in-MemorySize.ensures.value ∙ sym (ap ids_of c.in-MemorySize.is) })
+
+pub returns-in-MemoryGrow : goal.returns-in-MemoryGrow
+unfolding with_ids ids_of
+returns-in-MemoryGrow c = ((refl, λ w. rw c.in-MemoryGrow.is refl), record { lends = tt; value = search rules })
+
+pub returns-in-I32 : goal.returns-in-I32
+unfolding with_ids ids_of
+returns-in-I32 c = ((refl, λ w. c.in-I32.is ∙ sym (ap (λ l. with_ids l w) c.in-I32.is)), record { lends = tt; value = c.lend_none-in-I32.ensures.value ∙ sym (ap ids_of c.in-I32.is) })
+
+pub returns-in-I64 : goal.returns-in-I64
+unfolding with_ids ids_of
+returns-in-I64 c = ((refl, λ w. c.in-I64.is ∙ sym (ap (λ l. with_ids l w) c.in-I64.is)), record { lends = tt; value = c.lend_none-in-I64.ensures.value ∙ sym (ap ids_of c.in-I64.is) })
+
+pub returns-in-F32 : goal.returns-in-F32
+unfolding with_ids ids_of
+returns-in-F32 c = ((refl, λ w. c.in-F32.is ∙ sym (ap (λ l. with_ids l w) c.in-F32.is)), record { lends = tt; value = c.lend_none-in-F32.ensures.value ∙ sym (ap ids_of c.in-F32.is) })
+
+pub returns-in-F64 : goal.returns-in-F64
+unfolding with_ids ids_of
+returns-in-F64 c = ((refl, λ w. c.in-F64.is ∙ sym (ap (λ l. with_ids l w) c.in-F64.is)), record { lends = tt; value = c.lend_none-in-F64.ensures.value ∙ sym (ap ids_of c.in-F64.is) })
+
+pub returns-in-RefNull : goal.returns-in-RefNull
+unfolding with_ids ids_of
+returns-in-RefNull c = ((refl, λ w. c.in-RefNull.is ∙ sym (ap (λ l. with_ids l w) c.in-RefNull.is)), record { lends = tt; value = c.lend_none-in-RefNull.ensures.value ∙ sym (ap ids_of c.in-RefNull.is) })
+
+pub returns-in-RefIsNull : goal.returns-in-RefIsNull
+unfolding with_ids ids_of
+returns-in-RefIsNull c = ((refl, λ w. rw c.in-RefIsNull.is refl), record { lends = tt; value = search rules })
+
+pub returns-in-RefFunc : goal.returns-in-RefFunc
+unfolding with_ids ids_of
+returns-in-RefFunc c = ((refl, λ w. c.in-RefFunc.is ∙ sym (ap (λ l. with_ids l w) c.in-RefFunc.is)), record { lends = tt; value = c.lend_none-in-RefFunc.ensures.value ∙ sym (ap ids_of c.in-RefFunc.is) })
+
+pub returns-in-MemoryInit : goal.returns-in-MemoryInit
+unfolding with_ids ids_of
+returns-in-MemoryInit c = ((refl, λ w. rw c.in-MemoryInit.is refl), record { lends = tt; value = search rules })
+
+pub returns-in-DataDrop : goal.returns-in-DataDrop
+unfolding with_ids ids_of
+returns-in-DataDrop c = ((refl, λ w. c.in-DataDrop.is ∙ sym (ap (λ l. with_ids l w) c.in-DataDrop.is)), record { lends = tt; value = c.lend_none-in-DataDrop.ensures.value ∙ sym (ap ids_of c.in-DataDrop.is) })
+
+pub returns-in-MemoryCopy : goal.returns-in-MemoryCopy
+unfolding with_ids ids_of
+returns-in-MemoryCopy c = ((refl, λ w. rw c.in-MemoryCopy.is refl), record { lends = tt; value = search rules })
+
+pub returns-in-MemoryFill : goal.returns-in-MemoryFill
+unfolding with_ids ids_of
+returns-in-MemoryFill c = ((refl, λ w. rw c.in-MemoryFill.is refl), record { lends = tt; value = search rules })
+
+pub returns-in-TableInit : goal.returns-in-TableInit
+unfolding with_ids ids_of
+returns-in-TableInit c = ((refl, λ w. rw c.in-TableInit.is refl), record { lends = tt; value = search rules })
+
+pub returns-in-ElemDrop : goal.returns-in-ElemDrop
+unfolding with_ids ids_of
+returns-in-ElemDrop c = ((refl, λ w. c.in-ElemDrop.is ∙ sym (ap (λ l. with_ids l w) c.in-ElemDrop.is)), record { lends = tt; value = c.lend_none-in-ElemDrop.ensures.value ∙ sym (ap ids_of c.in-ElemDrop.is) })
+
+pub returns-in-TableCopy : goal.returns-in-TableCopy
+unfolding with_ids ids_of
+returns-in-TableCopy c = ((refl, λ w. rw c.in-TableCopy.is refl), record { lends = tt; value = search rules })
+
+pub returns-in-TableGrow : goal.returns-in-TableGrow
+unfolding with_ids ids_of
+returns-in-TableGrow c = ((refl, λ w. rw c.in-TableGrow.is refl), record { lends = tt; value = search rules })
+
+pub returns-in-TableSize : goal.returns-in-TableSize
+unfolding with_ids ids_of
+returns-in-TableSize c = ((refl, λ w. c.in-TableSize.is ∙ sym (ap (λ l. with_ids l w) c.in-TableSize.is)), record { lends = tt; value = c.lend_none-in-TableSize.ensures.value ∙ sym (ap ids_of c.in-TableSize.is) })
+
+pub returns-in-TableFill : goal.returns-in-TableFill
+unfolding with_ids ids_of
+returns-in-TableFill c = ((refl, λ w. rw c.in-TableFill.is refl), record { lends = tt; value = search rules })
+
+pub returns-in-TypedSelect : goal.returns-in-TypedSelect
+unfolding with_ids ids_of
+returns-in-TypedSelect c = ((refl, λ w. rw c.in-TypedSelect.is refl), record { lends = tt; value = search rules })
+
+pub returns-in-Numeric : goal.returns-in-Numeric
+unfolding with_ids ids_of
+returns-in-Numeric c = ((refl, λ w. rw c.in-Numeric.is refl), record { lends = tt; value = search rules })
+
+pub returns-in-Simd : goal.returns-in-Simd
+unfolding with_ids ids_of
+returns-in-Simd c = ((refl, λ w. rw c.in-Simd.is refl), record { lends = tt; value = search rules })
