@@ -10,7 +10,7 @@ use Rattle.mutate_base.specs.declared.error.Error.TheVariants.{Memory, CannotUnf
 use Rattle.peephole_lang.specs.declared.lang.Head.{Head}
 use Rattle.peephole_lang.specs.Term.{Term, Terms, absent, node, no_terms, ◌▸◌}
 use Rattle.peephole_terms.specs.declared.encoder.request.ResourceRequest.{ResourceRequest}
-use Rattle.peephole_terms.specs.declared.encoder.kind.Kind.TheVariants.{Own, Random, Unfold, UseGlobal, Nothing}
+use Rattle.peephole_terms.specs.declared.encoder.kind.Kind.TheVariants.{Own, Random, Unfold, UseGlobal, Container, Nothing}
 use Rattle.peephole_terms.specs.Kind.{NumberType, IntegerType, Kind, kind_of, number_of}
 use Rattle.peephole_terms.specs.EncoderSteps.{Step, Writing, own_step, opened, split, steps_of, steps, take_steps, after, written, requested, IsRefusal}
 use Rattle.peephole_terms.specs.Expansion.{own_requests, with_own_requests, requests_of, requests, request, own_draws, with_own_draws, draws_of, draws, next_word, drawn, constant_in, set_global, get_global}
@@ -100,6 +100,9 @@ own_draw t kids count w rest = writing_same _ _ _ _ _ _ (one_code w.bytes _) (sy
 own_store : (t : NumberType) (kids : Terms Head) → IsOwnStep (UseGlobal t) kids
 own_store t kids count w rest = store_is w t (count + length w.requests) (nat_le (count + length w.requests) 4294967295)
 
+own_container : (kids : Terms Head) → IsOwnStep Container kids
+own_container kids count w rest = nothing_is w
+
 own_nothing : (kids : Terms Head) → IsOwnStep Nothing kids
 own_nothing kids count w rest = nothing_is w
 
@@ -142,6 +145,7 @@ node_written (Unfold t) kids all count w rest = split_is count t w (constant_in 
 node_written (Own i) kids all count w rest = behind (Own i) kids all (own_emit i kids) count w rest
 node_written (Random t) kids all count w rest = behind (Random t) kids all (own_draw t kids) count w rest
 node_written (UseGlobal t) kids all count w rest = behind (UseGlobal t) kids all (own_store t kids) count w rest
+node_written Container kids all count w rest = behind Container kids all (own_container kids) count w rest
 node_written Nothing kids all count w rest = behind Nothing kids all (own_nothing kids) count w rest
 
 mutual

@@ -1,5 +1,5 @@
 -- The instructions that a term expands to are in range where those of its steps are.
-use Rattle.std.proofs.Common.{◌≡◌, ℕ, ℤ, pos, neg_ℤ, ◌≤ℤ◌, ◌<ℤ◌, ◌+◌, ◌≤◌, ◌^◌, List, [], ◌∷◌, ◌++◌, length, drop, refl, subst, ◌∙◌, arith, Bool, true, false, cond, Result, Ok, Err, Option, Some, None}
+use Rattle.std.proofs.Common.{◌≡◌, ℕ, ℤ, pos, neg_ℤ, ◌≤ℤ◌, ◌<ℤ◌, ◌+◌, ◌≤◌, ◌%◌, ◌^◌, List, [], ◌∷◌, ◌++◌, length, drop, refl, subst, ◌∙◌, arith, Bool, true, false, cond, Result, Ok, Err, Option, Some, None}
 use Rattle.std.specs.Prelude.{nat_le}
 use Rattle.std.proofs.lemmas.Bool.{leb-true}
 use Rattle.std.specs.Int.{w32, w64, cast_signed, int_wrapping_sub}
@@ -13,7 +13,7 @@ use Rattle.peephole_lang.specs.declared.lang.Head.{Head}
 use Rattle.peephole_lang.specs.Term.{Term, Terms, absent, node, no_terms, ◌▸◌}
 use Rattle.peephole_terms.specs.declared.encoder.kind.NumberType.TheVariants as number
 use Rattle.peephole_terms.specs.declared.encoder.kind.IntegerType.TheVariants as integer
-use Rattle.peephole_terms.specs.declared.encoder.kind.Kind.TheVariants.{Own, Random, Unfold, UseGlobal, Nothing}
+use Rattle.peephole_terms.specs.declared.encoder.kind.Kind.TheVariants.{Own, Random, Unfold, UseGlobal, Container, Nothing}
 use Rattle.peephole_terms.specs.Kind.{NumberType, IntegerType, Kind, kind_of, number_of}
 use Rattle.peephole_graphs.specs.Tree.{Trees}
 use Rattle.peephole_terms.specs.Expansion.{constant, rest_of, add_of, sum, set_global, get_global, constant_in, sum_of, through_global, followed, joined, first_word, own_code, with_own_code, requests_of, requests, draws_of, draws, expansion_of, expansion}
@@ -34,14 +34,14 @@ signed_64 : (n : ℕ) → (neg_ℤ (pos (2 ^ 63)) ≤ℤ cast_signed w64 n) × (
 signed_64 n = (omega (arith, ints), omega (arith, ints))
 
 constant_is : (t : NumberType) (word : ℕ) → IsInstruction (constant t word)
-constant_is number.I32 word = record { kind = i32_const_row (cast_signed w32 word); in_range = signed_32 word }
-constant_is number.I64 word = record { kind = i64_const_row (cast_signed w64 word); in_range = signed_64 word }
+constant_is number.I32 word = record { kind = i32_const_row (cast_signed w32 (word % 2 ^ 32)); in_range = signed_32 (word % 2 ^ 32) }
+constant_is number.I64 word = record { kind = i64_const_row (cast_signed w64 (word % 2 ^ 64)); in_range = signed_64 (word % 2 ^ 64) }
 constant_is number.F32 word = record { kind = f32_const_row _; in_range = omega arith }
 constant_is number.F64 word = record { kind = f64_const_row _; in_range = omega arith }
 
 rest_is : (t : IntegerType) (word : ℕ) (z : ℤ) → IsInstruction (rest_of t word z)
-rest_is integer.I32 word z = record { kind = i32_const_row (int_wrapping_sub w32 z (cast_signed w32 word)); in_range = signed_32 _ }
-rest_is integer.I64 word z = record { kind = i64_const_row (int_wrapping_sub w64 z (cast_signed w64 word)); in_range = signed_64 _ }
+rest_is integer.I32 word z = record { kind = i32_const_row (int_wrapping_sub w32 z (cast_signed w32 (word % 2 ^ 32))); in_range = signed_32 _ }
+rest_is integer.I64 word z = record { kind = i64_const_row (int_wrapping_sub w64 z (cast_signed w64 (word % 2 ^ 64))); in_range = signed_64 _ }
 
 add_is : (t : IntegerType) → IsInstruction (add_of t)
 add_is integer.I32 = record { kind = i32_add_row; in_range = tt }
@@ -79,6 +79,7 @@ own_is next words (Own i) kids is r e = are_these is (i ∷ []) e (one_is i r)
 own_is next words (Random t) kids is r e = are_these is (constant t (first_word words) ∷ []) e (one_is (constant t (first_word words)) (constant_is t (first_word words)))
 own_is next words (UseGlobal t) kids is r e = through_is next is e
 own_is next words (Unfold t) kids is r e = are_these is [] e (All-nil IsInstruction)
+own_is next words Container kids is r e = are_these is [] e (All-nil IsInstruction)
 own_is next words Nothing kids is r e = are_these is [] e (All-nil IsInstruction)
 
 -- ---- terms
@@ -115,6 +116,7 @@ node_is (Unfold t) kids n words is good r e = sum_is t (first_word words) (const
 node_is (Own i) kids n words is good r e = behind (Own i) kids n words is good r e
 node_is (Random t) kids n words is good r e = behind (Random t) kids n words is good r e
 node_is (UseGlobal t) kids n words is good r e = behind (UseGlobal t) kids n words is good r e
+node_is Container kids n words is good r e = behind Container kids n words is good r e
 node_is Nothing kids n words is good r e = behind Nothing kids n words is good r e
 
 mutual

@@ -39,6 +39,7 @@ own_step (kind.Own i) kids = emit i
 own_step (kind.Random t) kids = draw t
 own_step (kind.Unfold t) kids = split t (constant_in t kids)
 own_step (kind.UseGlobal t) kids = store t
+own_step kind.Container kids = nothing
 own_step kind.Nothing kids = nothing
 
 -- the children that are written

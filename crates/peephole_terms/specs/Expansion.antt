@@ -77,17 +77,17 @@ drawn (t ∷ ts) s = ((next_word t s).0 ∷ (drawn ts (next_word t s).1).0, (dra
 
 -- ---- the instructions of nodes without a row, by the rows of the table
 
--- `i32.const`, `i64.const`, `f32.const` and `f64.const` of a drawn word, floats by their bits
+-- `i32.const`, `i64.const`, `f32.const` and `f64.const` of a drawn word's low bits, floats by their bits
 abbrev pub constant : NumberType → ℕ → Instruction
-constant number.I32 word = record { row = 36; imm = imm.I32 (cast_signed w32 word) }
-constant number.I64 word = record { row = 37; imm = imm.I64 (cast_signed w64 word) }
+constant number.I32 word = record { row = 36; imm = imm.I32 (cast_signed w32 (word % 2 ^ 32)) }
+constant number.I64 word = record { row = 37; imm = imm.I64 (cast_signed w64 (word % 2 ^ 64)) }
 constant number.F32 word = record { row = 38; imm = imm.F32 (word % 2 ^ 32) }
 constant number.F64 word = record { row = 39; imm = imm.F64 (word % 2 ^ 64) }
 
--- the number less the word, wrapped
+-- the number less the word's low bits, wrapped
 abbrev pub rest_of : IntegerType → ℕ → ℤ → Instruction
-rest_of integer.I32 word z = record { row = 36; imm = imm.I32 (int_wrapping_sub w32 z (cast_signed w32 word)) }
-rest_of integer.I64 word z = record { row = 37; imm = imm.I64 (int_wrapping_sub w64 z (cast_signed w64 word)) }
+rest_of integer.I32 word z = record { row = 36; imm = imm.I32 (int_wrapping_sub w32 z (cast_signed w32 (word % 2 ^ 32))) }
+rest_of integer.I64 word z = record { row = 37; imm = imm.I64 (int_wrapping_sub w64 z (cast_signed w64 (word % 2 ^ 64))) }
 
 -- `i32.add` and `i64.add`
 abbrev pub add_of : IntegerType → Instruction

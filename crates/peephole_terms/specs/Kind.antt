@@ -5,7 +5,7 @@ use Rattle.mutate_base.specs.declared.types.PrimitiveTypeInfo.{PrimitiveTypeInfo
 use Rattle.mutate_base.specs.declared.types.PrimitiveTypeInfo.TheVariants as primitive
 use Rattle.peephole_lang.specs.declared.lang.Head.{Head}
 use Rattle.peephole_lang.specs.Node.{instr_of_head}
--- the types of numbers, those of whole numbers, and the kinds `Own`, `Random`, `Unfold`, `UseGlobal` and `Nothing`
+-- the types of numbers, those of whole numbers, and the kinds `Own`, `Random`, `Unfold`, `UseGlobal`, `Container` and `Nothing`
 pub use Rattle.peephole_terms.specs.declared.encoder.kind.NumberType.{NumberType}
 pub use Rattle.peephole_terms.specs.declared.encoder.kind.IntegerType.{IntegerType}
 pub use Rattle.peephole_terms.specs.declared.encoder.kind.Kind.{Kind}
@@ -27,7 +27,7 @@ rowless =
     ∷ kind.UseGlobal number.I64  -- i64.use_of_global
     ∷ kind.UseGlobal number.F32  -- f32.use_of_global
     ∷ kind.UseGlobal number.F64  -- f64.use_of_global
-    ∷ kind.Nothing  -- container
+    ∷ kind.Container  -- container
     ∷ []
 
 abbrev pub of_instruction : Option Instruction → Kind

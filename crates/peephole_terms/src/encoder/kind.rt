@@ -35,6 +35,8 @@ pub(crate) enum Kind {
     /// A value that is put into a requested global and read from it again.
     UseGlobal(NumberType),
     /// Nothing but its children.
+    Container,
+    /// Nothing but its children, in the place of a value that isn't known or of a node that isn't writable.
     Nothing,
 }
 
@@ -72,6 +74,7 @@ impl Kind {
             8 => Kind::UseGlobal(NumberType::I64),
             9 => Kind::UseGlobal(NumberType::F32),
             10 => Kind::UseGlobal(NumberType::F64),
+            11 => Kind::Container,
             _ => match node.instr() {
                 Some(instr) => Kind::Own(instr),
                 None => Kind::Nothing,

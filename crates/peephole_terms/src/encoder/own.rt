@@ -203,6 +203,7 @@ pub(crate) fn write_own<R: Rng, N: AsNode>(
             Ok(()) => {}
             Err(refusal) => return Err(refusal),
         },
+        Kind::Container => {}
         Kind::Nothing => {}
     }
     Ok(())
