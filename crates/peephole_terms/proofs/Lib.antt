@@ -12,3 +12,7 @@ pub mod OwnTrees
 pub mod RereadLemmas
 pub mod AgainLemmas
 pub mod LayoutExpansion
+pub mod MeaningRows
+pub mod MeaningLemmas
+pub mod StackCodeLemmas
+pub mod SameRunLemmas

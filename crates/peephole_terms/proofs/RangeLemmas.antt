@@ -12,7 +12,7 @@ use Rattle.mutate_base.specs.declared.error.Error.TheVariants.{GlobalIndex}
 use Rattle.peephole_lang.specs.declared.lang.Head.{Head}
 use Rattle.peephole_lang.specs.Term.{Term, Terms, absent, node, no_terms, ◌▸◌}
 use Rattle.peephole_terms.specs.declared.encoder.kind.NumberType.TheVariants as number
-use Rattle.peephole_terms.specs.declared.encoder.kind.IntegerType.TheVariants as integer
+use Rattle.peephole_machine.specs.declared.integer.IntegerType.TheVariants as integer
 use Rattle.peephole_terms.specs.declared.encoder.kind.Kind.TheVariants.{Own, Random, Unfold, UseGlobal, Container, Nothing}
 use Rattle.peephole_terms.specs.Kind.{NumberType, IntegerType, Kind, kind_of, number_of}
 use Rattle.peephole_graphs.specs.Tree.{Trees}

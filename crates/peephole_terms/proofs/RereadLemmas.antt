@@ -106,7 +106,7 @@ count_forest block = count (forest block) ∙ (ap (λ (ts : Trees). length (numb
 
 -- ---- the instructions are those of the shapes
 
-abbrev instr_of : List Shape → List Instruction
+abbrev pub instr_of : List Shape → List Instruction
 instr_of ss = map (λ (s : Shape). s.instr) ss
 
 instr-append : (ss us : List Shape) → instr_of (ss ++ us) ≡ instr_of ss ++ instr_of us
@@ -118,7 +118,7 @@ mutual
   instructions_of_are (entry m) = refl
   instructions_of_are (node i s kids) = ap (λ (is : List Instruction). is ++ s.instr ∷ []) (instructions_are kids) ∙ sym (instr-append (shapes kids) (s ∷ []))
 
-  instructions_are : (ts : Trees) → instructions ts ≡ instr_of (shapes ts)
+  pub instructions_are : (ts : Trees) → instructions ts ≡ instr_of (shapes ts)
   instructions_are no_trees = refl
   instructions_are (t ▸ ts) = ap₂ (λ (x y : List Instruction). x ++ y) (instructions_of_are t) (instructions_are ts) ∙ sym (instr-append (shapes_of t) (shapes ts))
 
@@ -144,7 +144,7 @@ row_is : (info : Module) (i : Instruction) (row : RowInfo) (operands : Option �
 row_is info i row None s e = call_is info i i.imm s e
 row_is info i row (Some operands) s e = ap (λ (x : Shape). x.instr) (sym (fits_same _ s e))
 
-found_is : (info : Module) (i : Instruction) (row : Option RowInfo) (s : Shape) → judge_found info i row ≡ Fits s → s.instr ≡ i
+pub found_is : (info : Module) (i : Instruction) (row : Option RowInfo) (s : Shape) → judge_found info i row ≡ Fits s → s.instr ≡ i
 found_is info i None s e = absurd cc
 found_is info i (Some row) s e = row_is info i row row.operands s e
 

@@ -44,7 +44,7 @@ begun bytes requests stream = record { bytes = bytes; requests = requests; strea
 -- ---- a term
 
 -- a term is written
-abbrev Appends : List ℕ → List ℕ → Term Head → Setting → Type 0
+abbrev pub Appends : List ℕ → List ℕ → Term Head → Setting → Type 0
 Appends old new t s = (code : List Instruction) × (expanded s t ≡ Ok code) × (new ≡ old ++ codes code)
 
 pub term_written : {R : Type 0} (stream : R → Stream) (config : Config R) (info : Module) (generator : R) (count : ℕ) (t read : Term Head) (old new : List ℕ) (none asked : List ResourceRequest) (later : Stream) →

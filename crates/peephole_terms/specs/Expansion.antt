@@ -1,6 +1,6 @@
 -- The expansion of a term: the instructions that it is written as, the words that are drawn for them, and the globals that they ask for. This project's rule.
-use Rattle.std.specs.Prelude.{◌≡◌, ℕ, ℤ, ◌+◌, ◌%◌, ◌^◌, nat_le, List, [], ◌∷◌, ◌++◌, length, drop, Option, Some, None, option_map, option_and_then, Result, Ok, Err, true, false, if◌then◌else◌, ⊤}
-use Rattle.std.specs.Int.{w32, w64, cast_signed, int_wrapping_sub}
+use Rattle.std.specs.Prelude.{◌≡◌, ℕ, ℤ, ◌+◌, ◌%◌, ◌^◌, nat_le, List, [], ◌∷◌, ◌++◌, length, drop, Option, Some, None, option_map, option_and_then, Result, Ok, Err, true, false, if◌then◌else◌, ⊤, FitsSigned}
+use Rattle.std.specs.Int.{w32, w64, cast_signed, int_wrapping_add, int_wrapping_sub}
 use Rattle.rand_core.specs.Stream.{Stream, next_u32, next_u64}
 use Rattle.wasm_code.specs.Instruction.{Instruction}
 use Rattle.wasm_code.specs.Table.{HasOpcode}
@@ -17,7 +17,7 @@ use Rattle.peephole_lang.specs.Term.{Term, Terms, absent, node, no_terms, ◌▸
 use Rattle.peephole_terms.specs.declared.encoder.request.ResourceRequest.{ResourceRequest}
 use Rattle.peephole_terms.specs.declared.encoder.request.ResourceRequest.TheVariants.{Global}
 use Rattle.peephole_terms.specs.declared.encoder.kind.NumberType.TheVariants as number
-use Rattle.peephole_terms.specs.declared.encoder.kind.IntegerType.TheVariants as integer
+use Rattle.peephole_machine.specs.declared.integer.IntegerType.TheVariants as integer
 use Rattle.peephole_terms.specs.declared.encoder.kind.Kind.TheVariants as kind
 use Rattle.peephole_terms.specs.Kind.{NumberType, IntegerType, Kind, kind_of, primitive_of, number_of}
 
@@ -112,6 +112,13 @@ pub record HaveTheirOpcodes : Type 0 where
   pub f64_const : (word : ℕ) → HasOpcode (constant number.F64 word).row (Byte 0x44)
   pub adds : HasOpcode (add_of integer.I32).row (Byte 0x6a) × HasOpcode (add_of integer.I64).row (Byte 0x7c)
   pub globals : (g : ℕ) → HasOpcode (set_global g).row (Byte 0x24) × HasOpcode (get_global g).row (Byte 0x23)
+
+-- The wrapping sum of an unfold's two constants is the unfolded number, whatever word is drawn.
+pub record UnfoldsAddUp : Type 0 where
+  pub i32 : (word : ℕ) (z a b : ℤ) → FitsSigned w32 z → (constant number.I32 word).imm ≡ imm.I32 a →
+      (rest_of integer.I32 word z).imm ≡ imm.I32 b → int_wrapping_add w32 a b ≡ z
+  pub i64 : (word : ℕ) (z a b : ℤ) → FitsSigned w64 z → (constant number.I64 word).imm ≡ imm.I64 a →
+      (rest_of integer.I64 word z).imm ≡ imm.I64 b → int_wrapping_add w64 a b ≡ z
 
 -- ---- the expansion
 

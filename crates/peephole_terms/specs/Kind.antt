@@ -7,10 +7,10 @@ use Rattle.peephole_lang.specs.declared.lang.Head.{Head}
 use Rattle.peephole_lang.specs.Node.{instr_of_head}
 -- the types of numbers, those of whole numbers, and the kinds `Own`, `Random`, `Unfold`, `UseGlobal`, `Container` and `Nothing`
 pub use Rattle.peephole_terms.specs.declared.encoder.kind.NumberType.{NumberType}
-pub use Rattle.peephole_terms.specs.declared.encoder.kind.IntegerType.{IntegerType}
+pub use Rattle.peephole_machine.specs.declared.integer.IntegerType.{IntegerType}
 pub use Rattle.peephole_terms.specs.declared.encoder.kind.Kind.{Kind}
 use Rattle.peephole_terms.specs.declared.encoder.kind.NumberType.TheVariants as number
-use Rattle.peephole_terms.specs.declared.encoder.kind.IntegerType.TheVariants as integer
+use Rattle.peephole_machine.specs.declared.integer.IntegerType.TheVariants as integer
 use Rattle.peephole_terms.specs.declared.encoder.kind.Kind.TheVariants as kind
 
 -- the nodes without a row, by place

@@ -1,5 +1,9 @@
 pub mod Kind
 pub mod Expansion
+pub mod Typing
+pub mod Meaning
+pub mod StackCode
 pub mod Written
 pub mod ReadAgain
+pub mod SameRun
 pub mod EncoderSteps

@@ -13,6 +13,7 @@ ghost use Rattle.peephole_graphs.specs.Forest.{IsInOrder};
 ghost use Rattle.peephole_graphs.specs.GraphOf.{IsGraphOf};
 ghost use Rattle.peephole_terms.specs.EncoderSteps.{IsRefusal, IsInRange, IsWalkable, IsInside, entry_nodes, root_term, root_terms, steps_of, steps, take_steps};
 ghost use Rattle.peephole_terms.specs.ReadAgain.{ReadsAgain, KeepsTheTrees, IsReread};
+ghost use Rattle.peephole_terms.specs.SameRun.{AppendsSameRun};
 ghost use Rattle.peephole_terms.specs.Written.{IsBodyIn, IsBlockIn, offset_of, before_block, after_block, written_body, written_block, term_code, term_requests, after_block_term, shapes_in};
 
 pub mod expr2wasm;
@@ -196,6 +197,8 @@ impl Encoder {
     ///
     /// What is written reads as a body again: the operators before the block, the written instructions, the operators behind
     /// the block. With a tree's own term, as `get_expr` lays it out, the block has the same trees again and is in order.
+    /// Where the block is of integer instructions and in order, and the term evaluates as the whole tree, then wherever the
+    /// block's own run ends or traps the written one does the same, apart from requested globals.
     ///
     /// `NoMutationsApplicable`, before anything else, exactly where the meaning is to be preserved and the block's
     /// operators would not keep their order; `CannotUnfold` and `GlobalIndex` as by `expr2wasm`, where the term is written;
@@ -232,6 +235,10 @@ impl Encoder {
         ensures reread { IfOk result (λ _. IfSome config.old.info (λ info.
             KeepsTheTrees info operators.now basicblock.now insertion_point (entries_of dfg.now) (look_of dfg.now) (term_of head_of children_of expr.now)
             → (text : List ℕ) × (newfunc.new ≡ newfunc.old ++ text) × IsReread info operators.now basicblock.now text)) }
+        // Where the term evaluates as the whole tree that it replaces, a block of integer rows that is in order runs as before.
+        ensures same_run { IfOk result (λ _. IfSome (setting_of R.stream config.old) (λ setting.
+            AppendsSameRun setting input_wasm.now operators.now basicblock.now insertion_point
+            (entries_of dfg.now) (look_of dfg.now) (term_of head_of children_of expr.now) newfunc.old newfunc.new)) }
         // What the term asks for, where it is written.
         ensures requests { IfOk result (λ requests. IfSome config.old.info (λ info.
             requests.items ≡ term_requests info operators.now basicblock.now insertion_point (term_of head_of children_of expr.now))) }

@@ -8,6 +8,7 @@ ghost use Rattle.peephole_lang.specs.Node.{head_of, children_of};
 ghost use Rattle.peephole_nodes.specs.Payload.{is_writable};
 ghost use Rattle.peephole_lang.specs.Term.{term_of};
 ghost use Rattle.peephole_terms.specs.Expansion.{Refuses, setting_of, expanded, after_term, request, requests_of};
+ghost use Rattle.peephole_terms.specs.StackCode.{AppendsStackCode};
 
 use super::request::ResourceRequest;
 use super::walk::write_tree;
@@ -22,7 +23,8 @@ use wasm_code::Function;
 /// A node that several others name is written once for each of them. Random nodes and unfolds
 /// take their words from the configuration's generator; the first requested global comes behind
 /// the module's. Answers what the written instructions need from outside the function, in the
-/// order of writing.
+/// order of writing. Where the term is of integer instructions and has types, what is written runs as
+/// the term means, apart from requested globals.
 ///
 /// Conditions: the configuration is set up, the expression isn't empty, and its nodes are
 /// writable. Refuses with `CannotUnfold` or `GlobalIndex`, the first of them in the order of
@@ -40,6 +42,9 @@ pub fn expr2wasm<R: Rng + Drop>(
     // What is written is the term's expansion, with the words that are drawn.
     ensures written { IfOk result (λ _. IfSome (setting_of R.stream config.old) (λ setting. (code : List Instruction)
         × (expanded setting (term_of head_of children_of expr.now) ≡ Ok code) × (newfunc.new ≡ newfunc.old ++ codes code))) }
+    // A typed term's code, run, leaves the term's values and state, and traps exactly where the term does.
+    ensures stack_code { IfOk result (λ _. IfSome (setting_of R.stream config.old) (λ setting.
+        AppendsStackCode setting (term_of head_of children_of expr.now) newfunc.old newfunc.new)) }
     // A global is asked for by each node that uses one.
     ensures requests { IfOk result (λ requests. requests.items ≡ map request (requests_of (term_of head_of children_of expr.now))) }
     // The generator stands behind the last word that was drawn.

@@ -5,6 +5,7 @@ ghost use Rattle.peephole_lang.specs.Node.{head_of};
 
 use mutate_base::PrimitiveTypeInfo;
 use peephole_lang::Lang;
+use peephole_machine::IntegerType;
 use wasm_code::Instr;
 
 /// A type of numbers.
@@ -14,13 +15,6 @@ pub(crate) enum NumberType {
     I64,
     F32,
     F64,
-}
-
-/// A type of whole numbers.
-#[derive(Clone, Copy)]
-pub(crate) enum IntegerType {
-    I32,
-    I64,
 }
 
 /// What a node is to the writer.
@@ -34,9 +28,9 @@ pub(crate) enum Kind {
     Unfold(IntegerType),
     /// A value that is put into a requested global and read from it again.
     UseGlobal(NumberType),
-    /// Nothing but its children.
+    /// Its children, one after another, and their values.
     Container,
-    /// Nothing but its children, in the place of a value that isn't known or of a node that isn't writable.
+    /// Its children, and no meaning: a missing operand, or a node that can't be written.
     Nothing,
 }
 

@@ -12,11 +12,12 @@ ghost use Rattle.peephole_terms.specs.Kind.{kind_of};
 ghost use Rattle.peephole_terms.specs.Expansion.{constant, constant_in, constant_of, next_word};
 ghost use Rattle.peephole_terms.specs.EncoderSteps.{Writing, IsRefusal, IsInRange, nodes_in, own_step, split, store, take_step};
 
-use super::kind::{IntegerType, Kind, NumberType};
+use super::kind::{Kind, NumberType};
 use super::node::AsNode;
 use super::request::ResourceRequest;
 use mutate_base::Error;
 use peephole_lang::{Lang, Payload};
+use peephole_machine::IntegerType;
 use rand_core::Rng;
 use wasm_code::{Function, Imm, Instr};
 

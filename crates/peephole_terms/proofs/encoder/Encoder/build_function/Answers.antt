@@ -7,6 +7,7 @@ use Rattle.peephole_terms.proofs.BodyLemmas.{inside}
 use Rattle.peephole_terms.proofs.EncoderLemmas.{walkable_under, order_kept, wrote, not_for_order}
 use Rattle.peephole_terms.proofs.SettingLemmas.{body_written, body_asked, body_leaves, body_refused}
 use Rattle.peephole_terms.proofs.AgainLemmas.{body_again, body_reread}
+use Rattle.peephole_terms.proofs.SameRunLemmas.{body_runs}
 use Rattle.peephole_terms.proofs.encoder.Encoder.build_function.Goals.{else-preserves_semantics-via-then-preserves_semantics+else-not-keeps_order, else-preserves_semantics-via-else-preserves_semantics}
 use Rattle.peephole_terms.proofs.encoder.Encoder.build_function.Goals as goal
 
@@ -33,6 +34,12 @@ pub returns-in-Ok-clause-reread : goal.returns-in-Ok-clause-reread
 returns-in-Ok-clause-reread g c =
     body_reread g.R.Rng.stream c.args.config.now c.info.result.now c.rng-rng.result.now c.get_global_count-globals.result c.args.input_wasm.now c.args.operators.now c.args.basicblock.now c.args.insertion_point (entries_of c.args.dfg.now) (entries_of c.args.dfg.now) (parents_of c.args.dfg.now) (parents_of c.args.dfg.now) (look_of c.args.dfg.now) (term_of head_of children_of c.args.expr.now) (term_of head_of children_of c.as_ref.result.now) _ _
     (record { info_is = c.info.ensures; generator_is = c.rng-rng.ensures.value; count_is = c.get_global_count-globals.ensures }) (record { graph = c.requires.graph; entries_are = refl; parents_are = refl; term_is = ap (term_of head_of children_of) c.as_ref.ensures.nodes }) c.in-Ok.ensures.in_range c.requires.body c.requires.block
+    (returns-in-Ok-clause-written g c)
+
+pub returns-in-Ok-clause-same_run : goal.returns-in-Ok-clause-same_run
+returns-in-Ok-clause-same_run g c =
+    body_runs g.R.Rng.stream c.args.config.now c.info.result.now c.rng-rng.result.now c.get_global_count-globals.result c.args.input_wasm.now c.args.operators.now c.args.basicblock.now c.args.insertion_point (entries_of c.args.dfg.now) (entries_of c.args.dfg.now) (parents_of c.args.dfg.now) (parents_of c.args.dfg.now) (look_of c.args.dfg.now) (term_of head_of children_of c.args.expr.now) (term_of head_of children_of c.as_ref.result.now) _ _
+    (record { info_is = c.info.ensures; generator_is = c.rng-rng.ensures.value; count_is = c.get_global_count-globals.ensures }) (record { graph = c.requires.graph; entries_are = refl; parents_are = refl; term_is = ap (term_of head_of children_of) c.as_ref.ensures.nodes })
     (returns-in-Ok-clause-written g c)
 
 pub returns-in-Ok-clause-requests : goal.returns-in-Ok-clause-requests

@@ -1,0 +1,107 @@
+-- The integer rows of the instructions that nodes without a row add, and what these instructions leave.
+use Rattle.std.proofs.Common.{◌≡◌, ℕ, ℤ, ◌+◌, ◌-◌, ◌%◌, ◌^◌, ◌<◌, List, [], ◌∷◌, ◌++◌, Some, refl, sym, ap, ap₂, ◌∙◌, arith}
+use Rattle.std.specs.Prelude.{slice_get, FitsSigned}
+use Rattle.std.specs.Int.{Width, w32, w64, cast_signed, cast_unsigned, int_wrapping_add, int_wrapping_sub}
+use Rattle.std.proofs.lemmas.Int.{of_z-to_z, to_z-of_z}
+use Rattle.std.proofs.Math.Nat.{mod-lt, mod-mod, mod-eq_of_lt}
+use mir.Val.{bits}
+use mir.ValLaws.{of_z_fits}
+use Rattle.wasm_code.specs.Table.{row_at, table}
+use Rattle.peephole_machine.specs.declared.integer.IntegerType.TheVariants as integer
+use Rattle.peephole_machine.specs.Values.{type_of, width_of, Value, whole, types, State, global, write, Ends}
+use Rattle.peephole_machine.specs.Integer.{binary, add}
+use Rattle.peephole_machine.specs.IntegerRow as rows
+use Rattle.peephole_machine.specs.IntegerRow.{integer_row}
+use Rattle.peephole_machine.specs.Machine.{run}
+use Rattle.peephole_machine.proofs.OutcomeLemmas.{run_one}
+use Rattle.peephole_machine.proofs.RangeLemmas.{sum_split, run_op, run_sum, run_through}
+use Rattle.peephole_terms.specs.declared.encoder.kind.NumberType.TheVariants as number
+use Rattle.peephole_terms.specs.Kind.{NumberType, IntegerType, number_of}
+use Rattle.peephole_terms.specs.Expansion.{constant, rest_of, add_of, sum, set_global, get_global, UnfoldsAddUp}
+use Rattle.peephole_terms.specs.Typing.{integer_type}
+
+-- ---- rows
+
+small : (w : Width) (n : ℕ) → 0 < 2 ^ bits w → cast_unsigned w (cast_signed w (n % 2 ^ bits w)) ≡ n % 2 ^ bits w
+small w n l = of_z-to_z w (n % 2 ^ bits w) (mod-lt n l)
+
+left_over : (w : Width) (z : ℤ) (word : ℕ) → 0 < 2 ^ bits w →
+    cast_unsigned w (int_wrapping_sub w z (cast_signed w (word % 2 ^ bits w))) ≡
+    (cast_unsigned w z + (2 ^ bits w - word % 2 ^ bits w)) % 2 ^ bits w
+left_over w z word l =
+    small w (cast_unsigned w z + (2 ^ bits w - cast_unsigned w (cast_signed w (word % 2 ^ bits w)))) l ∙
+    ap (λ (n : ℕ). (cast_unsigned w z + (2 ^ bits w - n)) % 2 ^ bits w) (small w word l)
+
+-- a word and what is left of a number without it add up to the number
+add_up : (w : Width) (word : ℕ) (z : ℤ) → 0 < 2 ^ bits w → FitsSigned w z →
+    int_wrapping_add w (cast_signed w (word % 2 ^ bits w)) (int_wrapping_sub w z (cast_signed w (word % 2 ^ bits w))) ≡ z
+add_up w word z l f =
+    ap₂ (λ (m n : ℕ). cast_signed w ((m + n) % 2 ^ bits w)) (small w word l) (left_over w z word l) ∙
+    (ap (cast_signed w) (sum_split (2 ^ bits w) (cast_unsigned w z) word l ∙ mod-eq_of_lt (of_z_fits w z f).fits) ∙ to_z-of_z w z f)
+
+pub unfolds_add_up : UnfoldsAddUp
+unfolds_add_up = record {
+  i32 = λ word z a b f p q.
+      let first : cast_signed w32 (word % 2 ^ 32) ≡ a = cc in
+      let second : int_wrapping_sub w32 z (cast_signed w32 (word % 2 ^ 32)) ≡ b = cc in
+      sym (ap₂ (int_wrapping_add w32) first second) ∙ add_up w32 word z (omega arith) f;
+  i64 = λ word z a b f p q.
+      let first : cast_signed w64 (word % 2 ^ 64) ≡ a = cc in
+      let second : int_wrapping_sub w64 z (cast_signed w64 (word % 2 ^ 64)) ≡ b = cc in
+      sym (ap₂ (int_wrapping_add w64) first second) ∙ add_up w64 word z (omega arith) f;
+}
+
+pub constant_row : (t : IntegerType) (word : ℕ) → integer_row (constant (number_of t) word) ≡ rows.constant t (word % 2 ^ bits (width_of t))
+unfolding integer_row row_at table
+constant_row integer.I32 word = ap (rows.constant integer.I32) (small w32 word (omega arith))
+constant_row integer.I64 word = ap (rows.constant integer.I64) (small w64 word (omega arith))
+
+pub rest_row : (t : IntegerType) (word : ℕ) (z : ℤ) →
+    integer_row (rest_of t word z) ≡
+    rows.constant t ((cast_unsigned (width_of t) z + (2 ^ bits (width_of t) - word % 2 ^ bits (width_of t))) % 2 ^ bits (width_of t))
+unfolding integer_row row_at table
+rest_row integer.I32 word z = ap (rows.constant integer.I32) (left_over w32 z word (omega arith))
+rest_row integer.I64 word z = ap (rows.constant integer.I64) (left_over w64 z word (omega arith))
+
+pub add_row : (t : IntegerType) → integer_row (add_of t) ≡ rows.operation (binary t add)
+unfolding integer_row row_at table
+add_row integer.I32 = refl
+add_row integer.I64 = refl
+
+pub set_row : (g : ℕ) → integer_row (set_global g) ≡ rows.set (global g)
+unfolding integer_row row_at table
+set_row g = refl
+
+pub get_row : (g : ℕ) → integer_row (get_global g) ≡ rows.get (global g)
+unfolding integer_row row_at table
+get_row g = refl
+
+-- ---- runs
+
+number_type : (t : NumberType) (u : IntegerType) → integer_type t ≡ Some u → t ≡ number_of u
+number_type number.I32 u e = let k : integer.I32 ≡ u = cc in ap number_of k
+number_type number.I64 u e = let k : integer.I64 ≡ u = cc in ap number_of k
+number_type number.F32 u e = absurd cc
+number_type number.F64 u e = absurd cc
+
+-- the constant of a word
+pub run_word : (t : NumberType) (u : IntegerType) (word : ℕ) (stack : List Value) (s : State) → integer_type t ≡ Some u →
+    run (constant t word ∷ []) stack s ≡ Ends (stack ++ whole u word ∷ []) s
+run_word t u word stack s e =
+    let size = 2 ^ bits (width_of u) in
+    ap (λ (x : NumberType). run (constant x word ∷ []) stack s) (number_type t u e) ∙
+    (run_one (constant (number_of u) word) (rows.constant u (word % size)) stack s (constant_row u word) ∙
+    (run_op u (word % size) stack s ∙ ap (λ (n : ℕ). Ends (stack ++ record { type = type_of u; number = n } ∷ []) s) (mod-mod word size)))
+
+-- a number as the sum of a word and the rest
+pub run_sum_of : (t : IntegerType) (word : ℕ) (z : ℤ) (stack : List Value) (s : State) →
+    run (sum t word z) stack s ≡ Ends (stack ++ whole t (cast_unsigned (width_of t) z) ∷ []) s
+run_sum_of t word z stack s =
+    run_sum t (cast_unsigned (width_of t) z) word (constant (number_of t) word) (rest_of t word z) (add_of t) stack s (constant_row t word)
+    (rest_row t word z) (add_row t)
+
+-- a value that is put into a global and read from it again
+pub run_through_global : (t : IntegerType) (g : ℕ) (v : Value) (stack : List Value) (s : State) → v.type ≡ type_of t →
+    slice_get (types s.globals) g ≡ Some (type_of t) →
+    run (set_global g ∷ get_global g ∷ []) (stack ++ v ∷ []) s ≡ Ends (stack ++ v ∷ []) (write (global g) v s)
+run_through_global t g v stack s hv hg = run_through t g v (set_global g) (get_global g) stack s (set_row g) (get_row g) hv hg

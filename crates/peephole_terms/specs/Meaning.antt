@@ -1,0 +1,46 @@
+-- The meaning of a typed term in a state of the variables: the values that it leaves and the state after it, or a trap
+-- (this project, over the integer operators of the WebAssembly Core Specification 3.0, Execution, Numerics).
+-- The words are what is drawn from the term's first node on. A term without types may come out stuck, and means nothing then.
+use Rattle.std.specs.Prelude.{ℕ, ℤ, List, [], ◌∷◌, length, drop, Option, Some, None}
+use Rattle.std.specs.Int.{cast_unsigned}
+use Rattle.peephole_lang.specs.declared.lang.Head.{Head}
+use Rattle.peephole_lang.specs.Term.{Term, Terms, absent, node, no_terms, ◌▸◌}
+use Rattle.peephole_machine.specs.Values.{Value, width_of, whole, State, Outcome, Ends, Stuck, and_then, above}
+use Rattle.peephole_machine.specs.IntegerRow.{integer_row}
+use Rattle.peephole_machine.specs.Machine.{act}
+use Rattle.peephole_terms.specs.declared.encoder.kind.Kind.TheVariants as kind
+use Rattle.peephole_terms.specs.Kind.{IntegerType, Kind, kind_of}
+use Rattle.peephole_terms.specs.Expansion.{constant_in, draws_of, draws, first_word}
+use Rattle.peephole_terms.specs.Typing.{integer_type}
+
+-- the word, by its low bits
+abbrev pub word_meaning : Option IntegerType → ℕ → State → Outcome
+word_meaning (Some t) word s = Ends (whole t word ∷ []) s
+word_meaning None word s = Stuck
+
+-- the constant that is unfolded
+abbrev pub number_meaning : IntegerType → Option ℤ → State → Outcome
+number_meaning t (Some z) s = Ends (whole t (cast_unsigned (width_of t) z) ∷ []) s
+number_meaning t None s = Stuck
+
+-- what a node does behind its children, with their values
+abbrev pub own_meaning : List ℕ → Kind → List Value → State → Outcome
+own_meaning words (kind.Own i) vs s = act (integer_row i) vs s
+own_meaning words (kind.Random t) vs s = word_meaning (integer_type t) (first_word words) s
+own_meaning words (kind.UseGlobal t) vs s = Ends vs s
+own_meaning words kind.Container vs s = Ends vs s
+own_meaning words _ vs s = Stuck
+
+-- an unfold means its constant; any other node comes behind its children
+abbrev pub with_own_meaning : List ℕ → Kind → Terms Head → Outcome → State → Outcome
+with_own_meaning words (kind.Unfold t) kids below s = number_meaning t (constant_in t kids) s
+with_own_meaning words k kids below s = and_then below (own_meaning (drop (length (draws kids)) words) k)
+
+abbrev mutual
+  pub meaning_of : List ℕ → Term Head → State → Outcome
+  meaning_of words absent s = Stuck
+  meaning_of words (node h kids) s = with_own_meaning words (kind_of h) kids (meaning words kids s) s
+
+  pub meaning : List ℕ → Terms Head → State → Outcome
+  meaning words no_terms s = Ends [] s
+  meaning words (t ▸ ts) s = and_then (meaning_of words t s) (λ vs after. above vs (meaning (drop (length (draws_of t)) words) ts after))
