@@ -2,9 +2,11 @@
 #![tactic(auto)]
 
 mod arith;
+mod machine;
 mod uses;
 
 pub use arith::{Arith, ArithHead};
+pub use machine::{Machine, Stop, Value};
 pub use uses::{all_first, read_again, set_first};
 
 #[cfg(test)]
