@@ -1,8 +1,11 @@
-//! Examples of blocks, graphs, terms and written bodies, as tests, and a caller that lays out a tree of any kind of nodes.
+//! The whole way from a body to the body with a term in it, and a tree of any kind of nodes laid out, as callers write them; and
+//! examples of blocks, graphs, terms and written bodies, as tests.
 #![tactic(auto)]
 
+mod replacing;
 mod uses;
 
+pub use replacing::{ReplaceError, Replaced, replace};
 pub use uses::tree_of;
 
 #[cfg(test)]
@@ -16,7 +19,11 @@ mod layouts;
 #[cfg(test)]
 mod memory;
 #[cfg(test)]
+mod replacements;
+#[cfg(test)]
 mod rereading;
+#[cfg(test)]
+mod running;
 #[cfg(test)]
 mod terms;
 #[cfg(test)]

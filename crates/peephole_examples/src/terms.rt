@@ -155,7 +155,8 @@ pub fn is_outcome(rt: &impl Abort, outcome: &Outcome, next_word: u64, types: &[P
     are_globals(rt, &outcome.requests, types);
 }
 
-fn are_globals(rt: &impl Abort, requests: &[ResourceRequest], types: &[PrimitiveTypeInfo]) {
+/// Requests for globals of these types, which can be set and are not shared.
+pub fn are_globals(rt: &impl Abort, requests: &[ResourceRequest], types: &[PrimitiveTypeInfo]) {
     assert!(rt; requests.len() == types.len());
     for (request, wanted) in requests.iter().zip(types) {
         let ResourceRequest::Global {

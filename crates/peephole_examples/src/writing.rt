@@ -39,7 +39,7 @@ pub fn at(bytes: &[u8], point: usize) -> Place<'_> {
 }
 
 /// The operators of a body; `Memory` where they aren't read.
-fn operators_of(alloc: Global, bytes: &[u8]) -> Result<Vec<OperatorAndByteOffset>, Error>
+pub fn operators_of(alloc: Global, bytes: &[u8]) -> Result<Vec<OperatorAndByteOffset>, Error>
     ensures { IfOk result (λ operators. IsBodyIn bytes.now operators.items) }
 {
     match read_body(alloc, bytes, 0, bytes.len()) {
@@ -71,7 +71,7 @@ fn term_at(
 
 /// Writes a block behind the bytes AA BB: with the term of some nodes, or with the own tree of the insertion point where
 /// there are no nodes. `wanted` is what stands behind them, or the refusal, after which they stand alone.
-fn is_block(
+pub fn is_block(
     rt: &impl Abort,
     alloc: Global,
     place: &Place,

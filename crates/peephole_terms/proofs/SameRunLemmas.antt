@@ -36,7 +36,7 @@ use Rattle.peephole_machine.proofs.TypeLemmas.{Keeps, run_keeps}
 use Rattle.peephole_machine.proofs.RangeLemmas.{AreValues, Leaves, run_leaves}
 use Rattle.peephole_terms.specs.Kind.{primitive_of}
 use Rattle.peephole_terms.specs.Expansion.{Setting, setting_of, requests_of, expansion_of}
-use Rattle.peephole_terms.specs.Written.{replaced, is_root, shapes_in, is_written, term_code, written_block, written_body}
+use Rattle.peephole_terms.specs.Written.{replaced, is_root, shapes_in, is_written, term_code, written_block}
 use Rattle.peephole_terms.specs.Meaning.{meaning_of}
 use Rattle.peephole_terms.specs.StackCode.{words_for}
 use Rattle.peephole_terms.specs.SameRun.{EvaluatesAs, IsIntegerOperator, and_instruction, instructions_in, RunsAsBefore, AppendsSameRun}

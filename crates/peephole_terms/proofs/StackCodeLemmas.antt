@@ -5,7 +5,6 @@ use Rattle.std.specs.Int.{cast_unsigned}
 use Rattle.std.proofs.lemmas.List.{drop_at, drop-drop, length-map, map-append, take-set-le, take_all, take_at}
 use Rattle.rand_core.specs.Stream.{Stream}
 use Rattle.wasm_code.specs.Instruction.{Instruction}
-use Rattle.wasm_code.specs.Code.{codes}
 use Rattle.mutate_base.specs.declared.types.PrimitiveTypeInfo.{PrimitiveTypeInfo}
 use Rattle.mutate_base.specs.Config.{Config}
 use Rattle.mutate_base.specs.declared.error.Error.{Error}
@@ -24,10 +23,10 @@ use Rattle.peephole_machine.proofs.TypeLemmas.{Fine, Keeps, run_keeps}
 use Rattle.peephole_terms.specs.declared.encoder.kind.NumberType.TheVariants as number
 use Rattle.peephole_terms.specs.declared.encoder.kind.Kind.TheVariants.{Own, Random, Unfold, UseGlobal, Container, Nothing}
 use Rattle.peephole_terms.specs.Kind.{NumberType, IntegerType, Kind, kind_of, primitive_of}
-use Rattle.peephole_terms.specs.Expansion.{constant, sum, set_global, get_global, constant_in, sum_of, through_global, followed, joined, first_word, own_code, with_own_code, own_requests, with_own_requests, requests_of, requests, draws_of, draws, expansion_of, expansion, Setting, setting_of, expanded}
+use Rattle.peephole_terms.specs.Expansion.{constant, sum, set_global, get_global, constant_in, sum_of, through_global, followed, joined, first_word, own_code, with_own_code, own_requests, with_own_requests, requests_of, requests, draws_of, draws, expansion_of, expansion, Setting, setting_of}
 use Rattle.peephole_terms.specs.Typing.{integer_type, number_types, own_types, with_own_types, types_of, types_in}
 use Rattle.peephole_terms.specs.Meaning.{word_meaning, number_meaning, own_meaning, with_own_meaning, meaning_of, meaning}
-use Rattle.peephole_terms.specs.StackCode.{AppendsStackCode, RunsAsItMeans, words_for, IsStackCode}
+use Rattle.peephole_terms.specs.StackCode.{AppendsStackCode, words_for, IsStackCode}
 use Rattle.peephole_terms.proofs.SettingLemmas.{Appends}
 use Rattle.peephole_terms.proofs.MeaningRows.{run_word, run_sum_of, run_through_global}
 use Rattle.peephole_terms.proofs.MeaningLemmas.{parts_of_types, that_type, fine_of, fine_in}

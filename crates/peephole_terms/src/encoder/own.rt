@@ -18,6 +18,7 @@ use super::request::ResourceRequest;
 use mutate_base::Error;
 use peephole_lang::{Lang, Payload};
 use peephole_machine::IntegerType;
+use rand::RngExt;
 use rand_core::Rng;
 use wasm_code::{Function, Imm, Instr};
 
@@ -62,19 +63,19 @@ fn write_random<R: Rng>(tpe: NumberType, rng: &mut R, newfunc: &mut Function) ->
 {
     match tpe {
         NumberType::I32 => {
-            let word = rng.next_u32().cast_signed();
+            let word = rng.random::<u32>().cast_signed();
             put(I32_CONST, Imm::I32(word), newfunc)
         }
         NumberType::I64 => {
-            let word = rng.next_u64().cast_signed();
+            let word = rng.random::<u64>().cast_signed();
             put(I64_CONST, Imm::I64(word), newfunc)
         }
         NumberType::F32 => {
-            let word = rng.next_u32();
+            let word = rng.random::<u32>();
             put(F32_CONST, Imm::F32(word), newfunc)
         }
         NumberType::F64 => {
-            let word = rng.next_u64();
+            let word = rng.random::<u64>();
             put(F64_CONST, Imm::F64(word), newfunc)
         }
     }
@@ -97,14 +98,14 @@ fn write_sum<R: Rng>(
 {
     match (tpe, constant) {
         (IntegerType::I32, Payload::I32(number)) => {
-            let word = rng.next_u32().cast_signed();
+            let word = rng.random::<u32>().cast_signed();
             put(I32_CONST, Imm::I32(word), newfunc)?;
             put(I32_CONST, Imm::I32(number.wrapping_sub(word)), newfunc)?;
             put(I32_ADD, Imm::Nothing, newfunc)?;
             Ok(())
         }
         (IntegerType::I64, Payload::I64(number)) => {
-            let word = rng.next_u64().cast_signed();
+            let word = rng.random::<u64>().cast_signed();
             put(I64_CONST, Imm::I64(word), newfunc)?;
             put(I64_CONST, Imm::I64(number.wrapping_sub(word)), newfunc)?;
             put(I64_ADD, Imm::Nothing, newfunc)?;

@@ -1,0 +1,46 @@
+-- A body in which a term stands for the tree of an operator, the whole way from bytes to bytes (this project).
+use Rattle.std.specs.Prelude.{◌≡◌, ◌≤◌, ◌⊎◌, ℕ, List, length, slice_range, Bool, Option, Ok, IfSome}
+use Rattle.wasm_code.specs.Instruction.{Instruction}
+use Rattle.wasm_code.specs.Body.{SpellsBody}
+use Rattle.wasm_code.specs.declared.operator.Operator.{Operator}
+use Rattle.mutate_base.specs.Module.{Module}
+use Rattle.peephole_lang.specs.declared.lang.Head.{Head}
+use Rattle.peephole_lang.specs.Term.{Term}
+use Rattle.peephole_graphs.specs.declared.dfg.StackEntry.{StackEntry}
+use Rattle.peephole_graphs.specs.Block.{BlockRange, IsBlockOf, IsDelimiterAt}
+use Rattle.peephole_graphs.specs.GraphOf.{IsGraphOf, HasNoGraph}
+use Rattle.peephole_terms.specs.declared.encoder.request.ResourceRequest.{ResourceRequest}
+use Rattle.peephole_terms.specs.Expansion.{Setting}
+use Rattle.peephole_terms.specs.Written.{term_code, term_requests, written_block, written_body}
+use Rattle.peephole_terms.specs.SameRun.{RunsAsBefore}
+
+-- The block of the operator at the point, in the body that the bytes spell.
+pub record IsPoint (bytes : List ℕ) (point : ℕ) (operators : List (Operator × ℕ)) (block : BlockRange) : Type 0 where
+  pub spelled : SpellsBody 0 bytes operators
+  pub block_is : IsBlockOf operators point block.start block.end
+
+-- The new body is the old one with the term in the place of the operator's tree, and its block runs as before where the term evaluates as that tree.
+pub record IsReplaced (s : Setting) (preserving : Bool) (bytes : List ℕ) (point : ℕ) (t : Term Head) (body : List ℕ)
+    (requests : List ResourceRequest) : Type 0 where
+  pub operators : List (Operator × ℕ)
+  pub block : BlockRange
+  pub at : IsPoint bytes point operators block
+  pub code : List Instruction
+  pub expands : term_code s operators block point t ≡ Ok code
+  pub written : body ≡ written_body bytes operators block (written_block s.info operators block point code)
+  pub asks : requests ≡ term_requests s.info operators block point t
+  -- the block's graph
+  pub entries : List StackEntry
+  pub parents : List (Option ℕ)
+  pub look : ℕ → Option ℕ
+  pub graph : IsGraphOf s.info preserving block.start (slice_range operators block.start block.end) entries parents look
+  pub runs : RunsAsBefore s operators block point entries look t (written_block s.info operators block point code)
+
+-- Nothing is there to be replaced: no operator has the number, or a delimiter has it, or its block has no graph.
+pub record HasNothingToReplace (info : Option Module) (preserving : Bool) (bytes : List ℕ) (point : ℕ) : Type 0 where
+  pub operators : List (Operator × ℕ)
+  pub spelled : SpellsBody 0 bytes operators
+  pub why :
+      (length operators ≤ point) ⊎ (IsDelimiterAt operators point ⊎ (
+      (block : BlockRange) × IsBlockOf operators point block.start block.end
+      × IfSome info (λ info. HasNoGraph info preserving (slice_range operators block.start block.end))))
