@@ -1,9 +1,3 @@
 pub mod WordsLemmas
-pub mod NumberLemmas
-pub mod HexLemmas
-pub mod PartsLemmas
 pub mod PayloadLemmas
 pub mod ShuffleLemmas
-pub mod ReadBackLemmas
-pub mod LawLemmas
-pub mod NumberBack

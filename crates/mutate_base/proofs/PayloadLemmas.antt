@@ -1,19 +1,19 @@
 -- What the reading of payloads comes to, step by step.
-use Rattle.std.proofs.Common.{◌≡◌, ◌≢◌, ℕ, ◌+◌, ◌-◌, ◌<◌, ◌≤◌, true, false, List, [], ◌∷◌, ◌++◌, length, get_or, take, drop, Option, Some, None, Ok, Err, refl, sym, ap, subst, ◌∙◌, length-append, lit<, arith}
+use Rattle.std.proofs.Common.{◌≡◌, ◌≢◌, ℕ, ◌+◌, ◌<◌, ◌≤◌, true, false, List, [], ◌∷◌, ◌++◌, length, get_or, take, drop, Option, Some, None, Ok, Err, refl, sym, ap, subst, ◌∙◌, lit<}
 use Rattle.std.specs.Prelude.{MatchOption}
 use Rattle.std.specs.Str.{bytes_eq}
 use Rattle.std.specs.Str.Pattern.{RFindsChar}
 use Rattle.std.proofs.lemmas.List.{take-append-drop}
 use Rattle.std.proofs.lemmas.Slice.Eq.{bytes_eq-Decides}
 use Rattle.std.proofs.lemmas.Str.Pattern.{IsSplitOnceResult, split_parts, drop_at_char, NoCharPasses-char}
-use Rattle.std.proofs.Math.Seq.{get_or-append_seam, take-append_seam}
 use denote.Ref.{Bor}
 use Rattle.wasm_code.specs.declared.immediate.ValType.{ValType}
 use Rattle.wasm_code.specs.declared.immediate.ValType.TheVariants as val
 use Rattle.wasm_code.specs.ValType.{val_type_name}
 use Rattle.mutate_base.specs.PayloadText.{dot_parts, read_lane_parts, read_lane_behind, read_mem_arg_lane, read_val_type}
 use Rattle.mutate_base.specs.declared.term_error.TermError.TheVariants.{BadValType}
-use Rattle.mutate_base.proofs.PartsLemmas.{HasNoDot, one_part, front_part, last_part}
+use Rattle.mutate_base.specs.PartsLemmas.{HasNoDot, one_part, front_part, last_part, lanes_is}
+use Rattle.mutate_base.specs.LawLemmas.{val_type_back}
 
 -- ---- parts
 
@@ -43,11 +43,6 @@ no_last_cut text h = one_part text (λ i low. NoCharPasses-char 46 text i h (lit
 
 -- ---- a memory argument and a lane
 
-pub lanes_is : (ps : List (List ℕ)) (x : List ℕ) → read_lane_parts (ps ++ (x ∷ [])) ≡ read_lane_behind ps x
-lanes_is ps x =
-    let k : length (ps ++ (x ∷ [])) - 1 ≡ length ps = omega (arith, length-append ps (x ∷ [])) in
-    λ i. read_lane_behind ((ap (λ n. take n (ps ++ (x ∷ []))) k ∙ take-append_seam ps (x ∷ [])) i) ((ap (λ n. get_or (ps ++ (x ∷ [])) n []) k ∙ get_or-append_seam ps x [] []) i)
-
 pub lane_reads : (text front last : List ℕ) → dot_parts text ≡ dot_parts front ++ (last ∷ []) → read_mem_arg_lane text ≡ read_lane_behind (dot_parts front) last
 lane_reads text front last e = ap read_lane_parts e ∙ lanes_is (dot_parts front) last
 
@@ -56,20 +51,11 @@ lane_alone text e = ap read_lane_parts e ∙ lanes_is [] text
 
 -- ---- names
 
-pub differs : (xs ys : List ℕ) → xs ≢ ys → bytes_eq xs ys ≡ false
+differs : (xs ys : List ℕ) → xs ≢ ys → bytes_eq xs ys ≡ false
 differs xs ys other = elim (bytes_eq xs ys) as (λ b. ((b ≡ true) → xs ≡ ys) → b ≡ false) [ true ↦ (λ h. absurd (other (h refl))) | false ↦ (λ _. refl) ] (bytes_eq-Decides xs ys).0
 
-pub same_type : (t : ValType) → Ok t ≡ read_val_type (val_type_name t)
-same_type val.I32 = refl
-same_type val.I64 = refl
-same_type val.F32 = refl
-same_type val.F64 = refl
-same_type val.V128 = refl
-same_type val.FuncRef = refl
-same_type val.ExternRef = refl
-
 pub val_type_named : (t : ValType) (text : List ℕ) → val_type_name t ≡ text → Ok t ≡ read_val_type text
-val_type_named t text e = same_type t ∙ ap read_val_type e
+val_type_named t text e = sym (val_type_back t) ∙ ap read_val_type e
 
 pub val_type_unnamed : (text : List ℕ) → ((t : ValType) → val_type_name t ≢ text) → Err BadValType ≡ read_val_type text
 val_type_unnamed text none =

@@ -9,3 +9,10 @@ pub mod Number
 pub mod Payload
 pub mod PayloadText
 pub mod Parts
+pub mod NumberLemmas
+pub mod NumberBack
+pub mod HexLemmas
+pub mod PartsLemmas
+pub mod ReadBackLemmas
+pub mod LawLemmas
+pub mod Equality

@@ -10,8 +10,6 @@ use Rattle.wasm_code.specs.declared.immediate.ValType.{ValType}
 use Rattle.wasm_code.specs.declared.immediate.ValType.TheVariants as val
 use Rattle.wasm_code.specs.ValType.{val_type_name}
 use Rattle.mutate_base.specs.Number.{read_unsigned}
-use Rattle.mutate_base.specs.declared.float.F32.{F32}
-use Rattle.mutate_base.specs.declared.float.F64.{F64}
 use Rattle.mutate_base.specs.declared.payload.RefType.{RefType}
 use Rattle.mutate_base.specs.declared.payload.RefType.TheVariants.{Func, Extern}
 use Rattle.mutate_base.specs.declared.payload.MemArg.{MemArg}
@@ -30,11 +28,12 @@ use Rattle.mutate_base.specs.declared.term_error.TermError.TheVariants.{MissingI
 abbrev pub hex_text : ℕ → ℕ → List ℕ
 hex_text count n = replicate (count - length (digits 16 false n)) 48 ++ digits 16 false n
 
-abbrev pub f32_text : F32 → List ℕ
-f32_text x = hex_text 8 x.bits
+-- of the bits of a float
+abbrev pub f32_text : ℕ → List ℕ
+f32_text bits = hex_text 8 bits
 
-abbrev pub f64_text : F64 → List ℕ
-f64_text x = hex_text 16 x.bits
+abbrev pub f64_text : ℕ → List ℕ
+f64_text bits = hex_text 16 bits
 
 abbrev pub ref_type_text : RefType → List ℕ
 ref_type_text Func = codes "func"
@@ -77,11 +76,12 @@ and_then (Err e) f = Err e
 abbrev pub read_hex : ℕ → List ℕ → Option ℕ
 read_hex count text = if (length text == count) && list_all (λ c. is_digit c 16) text then Some (digits_value 16 text) else None
 
-abbrev pub read_f32 : List ℕ → Result F32 TermError
-read_f32 text = and_then (ok_or (read_hex 8 text) BadBits) (λ n. Ok (record { bits = n }))
+-- the bits of a float of that type
+abbrev pub read_f32 : List ℕ → Result ℕ TermError
+read_f32 text = ok_or (read_hex 8 text) BadBits
 
-abbrev pub read_f64 : List ℕ → Result F64 TermError
-read_f64 text = and_then (ok_or (read_hex 16 text) BadBits) (λ n. Ok (record { bits = n }))
+abbrev pub read_f64 : List ℕ → Result ℕ TermError
+read_f64 text = ok_or (read_hex 16 text) BadBits
 
 abbrev pub read_ref_type : List ℕ → Result RefType TermError
 read_ref_type text = if bytes_eq text (codes "func") then Ok Func else (if bytes_eq text (codes "extern") then Ok Extern else Err BadRefType)

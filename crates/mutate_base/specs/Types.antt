@@ -1,4 +1,5 @@
--- The value types' names, those of the standard and `empty` for no value, and a function's type as two lists (this project).
+-- The value types' names (WebAssembly Core Specification 3.0, Text Format, Types), `empty` for no value, and a function's
+-- type as two lists (this project).
 use Rattle.std.specs.Prelude.{ℕ, List, codes}
 use Rattle.mutate_base.specs.declared.types.PrimitiveTypeInfo.{PrimitiveTypeInfo}
 use Rattle.mutate_base.specs.declared.types.PrimitiveTypeInfo.TheVariants.{I32, I64, F32, F64, V128, FuncRef, ExternRef, Empty}

@@ -4,6 +4,7 @@ ghost use Rattle.mutate_base.specs.PayloadText.{read_hex};
 
 use crate::term_error::TermError;
 use std::fmt;
+use std::marker::Model;
 use std::str::FromStr;
 
 /// The bits of a constant of type f32, ordered by the bits. Its text is 8 hexadecimal digits.
@@ -12,23 +13,43 @@ pub struct F32 {
     bits: u32,
 }
 
+impl Model for F32 {
+    ghost use Rattle.std.specs.Prelude.{ℕ};
+
+    ghost Value = { ℕ };
+
+    ghost view = { λ x. x.bits };
+
+    ghost inverse = { λ bits. record { bits = bits } };
+}
+
 /// The bits of a constant of type f64, ordered by the bits. Its text is 16 hexadecimal digits.
 #[derive(Clone, Copy, Debug, PartialEq, Eq, PartialOrd, Ord, Hash)]
 pub struct F64 {
     bits: u64,
 }
 
+impl Model for F64 {
+    ghost use Rattle.std.specs.Prelude.{ℕ};
+
+    ghost Value = { ℕ };
+
+    ghost view = { λ x. x.bits };
+
+    ghost inverse = { λ bits. record { bits = bits } };
+}
+
 impl F32 {
     /// The constant with these bits.
     pub fn from_bits(bits: u32) -> F32
-        ensures { result ≡ record { bits = bits } }
+        ensures { result ≡ bits }
     {
         F32 { bits }
     }
 
     /// Its bits.
     pub fn to_bits(self) -> u32
-        ensures { result ≡ self.bits }
+        ensures { result ≡ self }
     {
         self.bits
     }
@@ -37,14 +58,14 @@ impl F32 {
 impl F64 {
     /// The constant with these bits.
     pub fn from_bits(bits: u64) -> F64
-        ensures { result ≡ record { bits = bits } }
+        ensures { result ≡ bits }
     {
         F64 { bits }
     }
 
     /// Its bits.
     pub fn to_bits(self) -> u64
-        ensures { result ≡ self.bits }
+        ensures { result ≡ self }
     {
         self.bits
     }

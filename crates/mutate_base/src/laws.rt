@@ -1,6 +1,7 @@
 //! What holds of payloads and their texts, and of words, for every caller.
 ghost use Rattle.std.specs.Prelude.{◌≡◌, ◌<◌, ◌≤◌, ◌^◌, ◌-◌, ◌+◌, ◌/◌, ◌%◌, List, drop, ℕ, ℤ, pos, neg_ℤ, ◌≤ℤ◌, ◌<ℤ◌, Some, Ok, length};
 ghost use Rattle.std.specs.Fmt.{decimal, signed_decimal};
+ghost use Rattle.std.specs.Bool.{Decides};
 ghost use Rattle.std.specs.List.{AllByRecursion};
 ghost use Rattle.wasm_code.specs.declared.immediate.ValType.{ValType};
 ghost use Rattle.wasm_code.specs.ValType.{val_type_name};
@@ -9,8 +10,16 @@ ghost use Rattle.rand_core.specs.Steps.{fill_via_u64};
 ghost use Rattle.mutate_base.specs.Number.{read_unsigned, read_signed};
 ghost use Rattle.mutate_base.specs.Words.{word_step, word_stream};
 ghost use Rattle.mutate_base.specs.PayloadText as text;
-ghost use Rattle.mutate_base.specs.declared.float.F32.{F32};
-ghost use Rattle.mutate_base.specs.declared.float.F64.{F64};
+ghost use Rattle.mutate_base.specs.contracts.float.F32PartialEq.TheImpl as f32_eq;
+ghost use Rattle.mutate_base.specs.contracts.float.F64PartialEq.TheImpl as f64_eq;
+ghost use Rattle.mutate_base.specs.contracts.payload.RefTypePartialEq.TheImpl as ref_type_eq;
+ghost use Rattle.mutate_base.specs.contracts.payload.MemArgPartialEq.TheImpl as mem_arg_eq;
+ghost use Rattle.mutate_base.specs.contracts.payload.MemArgLanePartialEq.TheImpl as mem_arg_lane_eq;
+ghost use Rattle.mutate_base.specs.contracts.payload.ShufflePartialEq.TheImpl as shuffle_eq;
+ghost use Rattle.mutate_base.specs.contracts.payload.TableCopyPartialEq.TheImpl as table_copy_eq;
+ghost use Rattle.mutate_base.specs.contracts.payload.MemoryCopyPartialEq.TheImpl as memory_copy_eq;
+ghost use Rattle.mutate_base.specs.contracts.payload.TableInitPartialEq.TheImpl as table_init_eq;
+ghost use Rattle.mutate_base.specs.contracts.payload.MemoryInitPartialEq.TheImpl as memory_init_eq;
 ghost use Rattle.mutate_base.specs.declared.payload.RefType.{RefType};
 ghost use Rattle.mutate_base.specs.declared.payload.MemArg.{MemArg};
 ghost use Rattle.mutate_base.specs.declared.payload.MemArgLane.{MemArgLane};
@@ -24,8 +33,8 @@ ghost use Rattle.mutate_base.specs.declared.payload.MemoryInit.{MemoryInit};
 pub fn payload_texts_read_back()
     ensures unsigned { (bits n : ℕ) → n < 2 ^ bits → n < 2 ^ 64 → read_unsigned bits (decimal n) ≡ Some n }
     ensures signed { (bits : ℕ) (z : ℤ) → bits ≤ 128 → neg_ℤ (pos (2 ^ (bits - 1))) ≤ℤ z → z <ℤ pos (2 ^ (bits - 1)) → read_signed bits (signed_decimal z) ≡ Some z }
-    ensures f32 { (x : F32) → x.bits < 2 ^ 32 → text.read_f32 (text.f32_text x) ≡ Ok x }
-    ensures f64 { (x : F64) → x.bits < 2 ^ 64 → text.read_f64 (text.f64_text x) ≡ Ok x }
+    ensures f32 { (bits : ℕ) → bits < 2 ^ 32 → text.read_f32 (text.f32_text bits) ≡ Ok bits }
+    ensures f64 { (bits : ℕ) → bits < 2 ^ 64 → text.read_f64 (text.f64_text bits) ≡ Ok bits }
     ensures ref_type { (x : RefType) → text.read_ref_type (text.ref_type_text x) ≡ Ok x }
     ensures val_type { (x : ValType) → text.read_val_type (val_type_name x) ≡ Ok x }
     ensures mem_arg { (x : MemArg) → x.static_offset < 2 ^ 64 → x.align < 2 ^ 8 → x.mem < 2 ^ 32 → text.read_mem_arg (text.mem_arg_text x) ≡ Ok x }
@@ -36,6 +45,20 @@ pub fn payload_texts_read_back()
     ensures memory_copy { (x : MemoryCopy) → x.src < 2 ^ 32 → x.dst < 2 ^ 32 → text.read_memory_copy (text.memory_copy_text x) ≡ Ok x }
     ensures table_init { (x : TableInit) → x.table < 2 ^ 32 → x.segment < 2 ^ 32 → text.read_table_init (text.table_init_text x) ≡ Ok x }
     ensures memory_init { (x : MemoryInit) → x.memory < 2 ^ 32 → x.segment < 2 ^ 32 → text.read_memory_init (text.memory_init_text x) ≡ Ok x }
+{}
+
+/// Two payloads compare equal, by `==`, exactly where they are the same; of floats the bits decide.
+pub fn equal_payload_parts()
+    ensures f32 { (x y : ℕ) → Decides (f32_eq.ghosts.eq x y) (x ≡ y) }
+    ensures f64 { (x y : ℕ) → Decides (f64_eq.ghosts.eq x y) (x ≡ y) }
+    ensures ref_type { (x y : RefType) → Decides (ref_type_eq.ghosts.eq x y) (x ≡ y) }
+    ensures mem_arg { (x y : MemArg) → Decides (mem_arg_eq.ghosts.eq x y) (x ≡ y) }
+    ensures mem_arg_lane { (x y : MemArgLane) → Decides (mem_arg_lane_eq.ghosts.eq x y) (x ≡ y) }
+    ensures shuffle { (x y : Shuffle) → Decides (shuffle_eq.ghosts.eq x y) (x ≡ y) }
+    ensures table_copy { (x y : TableCopy) → Decides (table_copy_eq.ghosts.eq x y) (x ≡ y) }
+    ensures memory_copy { (x y : MemoryCopy) → Decides (memory_copy_eq.ghosts.eq x y) (x ≡ y) }
+    ensures table_init { (x y : TableInit) → Decides (table_init_eq.ghosts.eq x y) (x ≡ y) }
+    ensures memory_init { (x y : MemoryInit) → Decides (memory_init_eq.ghosts.eq x y) (x ≡ y) }
 {}
 
 /// What is drawn from given words, and the words that are left: 32 bits are the low half of the next word, 64 bits the next

@@ -1,90 +1,10 @@
--- The block that a relation describes is the one that the function gives.
-use Rattle.std.proofs.Common.{◌≡◌, ℕ, zero, suc, ◌+◌, ◌<◌, ◌≤◌, inl, inr, List, [], ◌∷◌, length, Option, Some, None, true, false, refl, ap, ap₂, ◌∙◌, subst, arith, cond}
-use Rattle.std.specs.Prelude.{slice_get, IfSome, IfNone}
-use Rattle.std.proofs.lemmas.Bool.Decides.{eqb_tells}
-use Rattle.wasm_code.specs.Operator.{is_delimiter}
+-- What a look-up of the block found.
+use Rattle.std.proofs.Common.{◌≡◌, ℕ, ◌<◌, List, length, Option, Some, None, sym}
+use Rattle.std.specs.Prelude.{IfSome, IfNone}
 use Rattle.wasm_code.specs.declared.operator.Operator.{Operator}
-use Rattle.peephole_graphs.specs.Block.{BlockRange, HasNoDelimiter, IsDelimiterAt, IsBlockOf}
-use Rattle.peephole_commands.specs.Body.{delimits, is_delimiter_of, block_start, block_at}
+use Rattle.peephole_graphs.specs.Block.{BlockRange, IsBlockOf, IsDelimiterAt, FindsTheBlock, FindsNoBlock, block_at}
 
-abbrev Operators : Type 0
-Operators = List (Operator × ℕ)
-
--- what stands at a place that delimits
-some_of : (found : Option (Operator × ℕ)) → is_delimiter_of found ≡ true → (o : Operator × ℕ) × (found ≡ Some o) × (is_delimiter o.0 ≡ true)
-some_of None h = cc
-some_of (Some o) h = (o, refl, h)
-
-not_delimiter : (found : Option (Operator × ℕ)) (o : Operator × ℕ) → is_delimiter_of found ≡ false → found ≡ Some o → is_delimiter o.0 ≡ false
-not_delimiter found o h e = let k : is_delimiter_of found ≡ is_delimiter o.0 = ap is_delimiter_of e in cc
-
--- no delimiter from the start on
-start_none : (os : Operators) (n k : ℕ) (o : Operator × ℕ) → block_start os n ≤ k → k < n → slice_get os k ≡ Some o → is_delimiter o.0 ≡ false
-start_none os zero k o a b e = absurd (omega arith)
-start_none os (suc n) k o a b e =
-    (elim (delimits os n) as (λ d. delimits os n ≡ d → cond d (suc n) (block_start os n) ≤ k → is_delimiter o.0 ≡ false) [
-      | true ↦ λ _ l. absurd (omega arith)
-      | false ↦ λ h l. elim (eqb_tells k n) [
-        | inl same ↦ not_delimiter (slice_get os n) o h (subst (λ (j : ℕ). slice_get os j ≡ Some o) same.1 e)
-        | inr other ↦ let apart = other.1 in start_none os n k o l (omega arith) e
-      ]
-    ]) refl a
-
-start_within : (os : Operators) (n : ℕ) → block_start os n ≤ n
-start_within os zero = omega arith
-start_within os (suc n) =
-    elim (delimits os n) as (λ d. cond d (suc n) (block_start os n) ≤ suc n) [
-      | true ↦ omega arith
-      | false ↦ omega (arith, start_within os n)
-    ]
-
--- and no earlier start has none
-start_least : (os : Operators) (n from : ℕ) → from ≤ n → HasNoDelimiter os from n → block_start os n ≤ from
-start_least os zero from l h = omega arith
-start_least os (suc n) from l h =
-    elim (eqb_tells from (suc n)) [
-      | inl same ↦ let e = same.1 in omega (arith, start_within os (suc n))
-      | inr other ↦ let apart = other.1 in let below : from ≤ n = omega arith in
-          (elim (delimits os n) as (λ d. delimits os n ≡ d → cond d (suc n) (block_start os n) ≤ from) [
-            | true ↦ λ t. let found = some_of (slice_get os n) t in let no : is_delimiter found.0.0 ≡ false = h n found.0 below (omega arith) found.1 in let yes_ : is_delimiter found.0.0 ≡ true = found.2 in absurd (cc)
-            | false ↦ λ _. start_least os n from below (λ k o a b. h k o a (omega arith))
-          ]) refl
-    ]
-
-get_some : (os : Operators) (n : ℕ) → n < length os → (o : Operator × ℕ) × (slice_get os n ≡ Some o)
-get_some [] n l = absurd (omega arith)
-get_some (o ∷ os) zero l = (o, refl)
-get_some (o ∷ os) (suc n) l = get_some os n (omega arith)
-
-free : (os : Operators) (n : ℕ) → ((o : Operator × ℕ) → slice_get os n ≡ Some o → is_delimiter o.0 ≡ false) → delimits os n ≡ false
-free os n h =
-    (elim (slice_get os n) as (λ found. slice_get os n ≡ found → is_delimiter_of found ≡ false) [
-      | None ↦ λ _. refl
-      | Some o ↦ λ e. h o e
-    ]) refl
-
-same_start : (os : Operators) (n : ℕ) → delimits os n ≡ false → block_start os (suc n) ≡ block_start os n
-same_start os n h = rw h
-
-block_is : (os : Operators) (n : ℕ) (b : BlockRange) → IsBlockOf os n b.start b.end → Some b ≡ block_at os n
-block_is os n b h =
-    let last = h.last in
-    let some = h.some in
-    let d : delimits os n ≡ false = free os n (λ o k. h.none n o some (omega arith) k) in
-    let w : n + 1 ≡ suc n = omega arith in
-    let same : block_start os (suc n) ≡ block_start os n = same_start os n d in
-    let least : block_start os n ≤ b.start = start_least os n b.start some (λ k o a g. h.none k o a (omega arith)) in
-    let most : b.start ≤ block_start os n = h.longest (block_start os n) (λ k o a g. start_none os (suc n) k o (omega arith) (omega arith)) in
-    let start : b.start ≡ block_start os n = omega arith in
-    rw d (ap₂ (λ (s e : ℕ). let r : BlockRange = record { start = s; end = e } in Some r) start last)
-
-block_none : (os : Operators) (n : ℕ) → n < length os → IsDelimiterAt os n → None ≡ block_at os n
-block_none os n l h =
-    let found = get_some os n l in
-    let d : delimits os n ≡ true = ap is_delimiter_of found.1 ∙ h found.0 found.1 in
-    rw d
-
--- what a look-up of the block found
-pub block_found : (os : Operators) (n : ℕ) (found : Option BlockRange) → n < length os → IfSome found (λ b. IsBlockOf os n b.start b.end) → IfNone found (IsDelimiterAt os n) → found ≡ block_at os n
-block_found os n None l h k = block_none os n l k
-block_found os n (Some b) l h k = block_is os n b h
+pub block_found : (os : List (Operator × ℕ)) (n : ℕ) (found : Option BlockRange) → n < length os → FindsTheBlock → FindsNoBlock →
+    IfSome found (λ b. IsBlockOf os n b.start b.end) → IfNone found (IsDelimiterAt os n) → found ≡ block_at os n
+block_found os n None l block none h k = sym ((none os n l).1 k)
+block_found os n (Some b) l block none h k = sym ((block os n b).1 h)

@@ -6,5 +6,6 @@ pub mod Blocks
 pub mod Refusals
 pub mod Writings
 pub mod Shows
+pub mod Typings
+pub mod MemoryLemmas
 pub mod Readings
-pub mod OwnNodes

@@ -9,7 +9,8 @@ use Rattle.peephole_script.specs.declared.fault.Fault.{Fault}
 use Rattle.peephole_script.specs.declared.fault.Fault.TheVariants as fault
 use Rattle.peephole_script.specs.Text.{number_of}
 use Rattle.peephole_script.specs.Arguments.{type_of, is_yes}
-use Rattle.peephole_commands.specs.Body.{Contents, body_of, block_at}
+use Rattle.peephole_graphs.specs.Block.{block_at}
+use Rattle.peephole_commands.specs.Body.{Contents, body_of}
 use Rattle.peephole_commands.specs.State.{State}
 use Rattle.peephole_commands.specs.Commands.{quiet, Steps, local_step, preserve_step, word_step, body_step, at_step, block_line}
 use Rattle.peephole_script.proofs.Values.{texts}

@@ -1,9 +1,8 @@
 -- What `write` answers, by what its calls answer.
-use Rattle.std.proofs.Common.{◌≡◌, ◌≢◌, ℕ, ◌<◌, ◌⊎◌, inl, inr, List, [], ◌∷◌, ◌++◌, length, map, Bool, true, false, refl, sym, ap, ap₂, ◌∙◌, arith, cond}
-use Rattle.std.specs.Prelude.{slice_range, ◌↔◌, ◌&&◌, not, is_some, option_map, option_and_then, Option, Some, None, Result, Ok, Err, IfSome, IsSome}
+use Rattle.std.proofs.Common.{◌≡◌, ◌≢◌, ℕ, ◌<◌, ◌⊎◌, inl, inr, List, [], ◌∷◌, length, map, Bool, true, false, refl, sym, ap, ap₂, ◌∙◌, arith, cond}
+use Rattle.std.specs.Prelude.{slice_range, ◌&&◌, not, is_some, option_map, option_and_then, Option, Some, None, Result, Ok, Err, IfSome, IsSome}
 use Rattle.std.specs.Result.{result_map_both}
 use Rattle.std.proofs.lemmas.List.{length-map}
-use Rattle.std.proofs.lemmas.Slice.Eq.{bytes_eq-Decides}
 use Rattle.mutate_base.specs.Words.{word_stream}
 use Rattle.wasm_code.specs.Instruction.{Instruction}
 use Rattle.wasm_code.specs.declared.operator.Operator.{Operator}
@@ -18,45 +17,41 @@ use Rattle.peephole_graphs.specs.declared.shape.Shape.{Shape}
 use Rattle.peephole_graphs.specs.declared.dfg.StackEntry.{StackEntry}
 use Rattle.peephole_terms.specs.declared.encoder.request.ResourceRequest.{ResourceRequest}
 use Rattle.peephole_graphs.specs.Block.{BlockRange}
-use Rattle.peephole_graphs.specs.Entries.{entry_tree}
-use Rattle.peephole_terms.specs.Expansion.{Setting, Refuses, requests_of, request, expanded, draws_of, drawn}
-use Rattle.peephole_graphs.specs.Forest.{forest, IsInOrder}
+use Rattle.peephole_terms.specs.Expansion.{Setting, Refuses}
+use Rattle.peephole_graphs.specs.Faults.{HasNoFault}
+use Rattle.peephole_graphs.specs.Forest.{forest, IsInOrder, is_in_order, DecidesTheOrder}
 use Rattle.peephole_graphs.specs.GraphOf.{IsGraphOf}
 use Rattle.peephole_graphs.specs.Layout.{entry_nodes}
-use Rattle.peephole_graphs.specs.Tree.{Trees, instructions_of, instructions, numbers, range_from}
-use Rattle.peephole_terms.specs.Written.{replaced, is_written, term_code, term_requests, shapes_in, written_block, written_body}
-use Rattle.peephole_terms.proofs.LayoutExpansion.{term_expands}
-use Rattle.peephole_terms.proofs.PlainLemmas.{IsItself, plain_of, is_itself}
+use Rattle.peephole_graphs.specs.Tree.{instructions}
+use Rattle.peephole_terms.specs.Laws.{OwnTreesAreKept, WritesItsOwnTrees}
+use Rattle.peephole_terms.specs.ReadAgain.{KeepsTheTrees}
+use Rattle.peephole_terms.specs.Written.{AppendsBody, KeepsOrder, term_code, term_requests, shapes_in, written_block}
 use Rattle.peephole_commands.specs.declared.graphs.Refusal.{Refusal}
 use Rattle.peephole_commands.specs.declared.graphs.Refusal.TheVariants as refusal
 use Rattle.peephole_commands.specs.Body.{Contents}
 use Rattle.peephole_commands.specs.Graphs.{of_graph, operators_in, module_in, words_in}
-use Rattle.peephole_commands.specs.Writing.{is_in_order, in_order_alone, Output, output, with_code, with_term, with_nodes, written}
-use Rattle.peephole_terms.proofs.OwnTrees.{own_plain, own_replaced, not_replaced}
-use Rattle.peephole_commands.proofs.Refusals.{graphed_fit}
+use Rattle.peephole_commands.specs.Writing.{in_order_alone, Output, output, with_code, with_term, with_nodes, written}
+use Rattle.peephole_commands.proofs.Refusals.{shapes_found}
 
 -- ---- the test of the order
 
-in_order : (block : List Shape) → is_in_order block ≡ true → IsInOrder block
-in_order block h = (bytes_eq-Decides (numbers (forest block)) (range_from 0 (length block))).0 h
+out_of_order : DecidesTheOrder → (block : List Shape) → is_in_order block ≡ false → ¬ (IsInOrder block)
+out_of_order law block h o = let k : is_in_order block ≡ true = (law block).1 o in absurd (cc)
 
-out_of_order : (block : List Shape) → is_in_order block ≡ false → ¬ (IsInOrder block)
-out_of_order block h o = let k : is_in_order block ≡ true = (bytes_eq-Decides (numbers (forest block)) (range_from 0 (length block))).1 o in absurd (cc)
-
-passes : (keeping : Bool) (block : List Shape) → ((keeping ≡ true) × ¬ (IsInOrder block) → ⊥) → (keeping && not (is_in_order block)) ≡ false
-passes false block h = refl
-passes true block h = go (is_in_order block) refl
+passes : DecidesTheOrder → (keeping : Bool) (block : List Shape) → ((keeping ≡ true) × ¬ (IsInOrder block) → ⊥) → (keeping && not (is_in_order block)) ≡ false
+passes law false block h = refl
+passes law true block h = go (is_in_order block) refl
   where
     go : (b : Bool) → is_in_order block ≡ b → not b ≡ false
     go true e = refl
-    go false e = absurd (h (refl, out_of_order block e))
+    go false e = absurd (h (refl, out_of_order law block e))
 
-stops : (keeping : Bool) (block : List Shape) → (keeping ≡ true) × ¬ (IsInOrder block) → (keeping && not (is_in_order block)) ≡ true
-stops false block h = let k = h.0 in cc
-stops true block h = go (is_in_order block) refl
+stops : DecidesTheOrder → (keeping : Bool) (block : List Shape) → (keeping ≡ true) × ¬ (IsInOrder block) → (keeping && not (is_in_order block)) ≡ true
+stops law false block h = let k = h.0 in cc
+stops law true block h = go (is_in_order block) refl
   where
     go : (b : Bool) → is_in_order block ≡ b → not b ≡ true
-    go true e = absurd (h.1 (in_order block e))
+    go true e = absurd (h.1 ((law block).0 e))
     go false e = refl
 
 abbrev chosen : Bool → Result Output Refusal → Result Output Refusal
@@ -72,7 +67,7 @@ abbrev found : Option Module → Option (List ℕ) → Option Setting
 found info words = option_and_then (λ info. option_map (λ words. let s : Setting = record { info = info; stream = word_stream words } in s) words) info
 
 abbrev IsForOrder : {A : Type 0} → Option Module → Bool → List (Operator × ℕ) → BlockRange → Result A Error → Type 0
-IsForOrder info keeping os range r = IfSome info (λ info. (r ≡ Err error.NoMutationsApplicable) ↔ ((keeping ≡ true) × ¬ (IsInOrder (shapes_in info os range))))
+IsForOrder info keeping os range r = IfSome info (λ info. KeepsOrder keeping (shapes_in info os range) r)
 
 -- the expansion makes the body, or is why it isn't made
 abbrev made : Setting → Contents → ℕ → BlockRange → Term Head → Result (List Instruction) Error → Result Output Refusal
@@ -83,20 +78,20 @@ made s body point range t r =
 abbrev pub said_of : Setting → Bool → Contents → ℕ → BlockRange → Term Head → Result Output Refusal
 said_of s keeping body point range t = in_order_alone keeping (shapes_in s.info body.operators range) (with_term s body point range t)
 
-pub build_ok : (A : Type 0) (info : Option Module) (words : Option (List ℕ)) (keeping : Bool) (body : Contents) (input : List ℕ) (os : List (Operator × ℕ)) (point : ℕ) (range : BlockRange) (t : Term Head)
+pub build_ok : DecidesTheOrder → (A : Type 0) (info : Option Module) (words : Option (List ℕ)) (keeping : Bool) (body : Contents) (input : List ℕ) (os : List (Operator × ℕ)) (point : ℕ) (range : BlockRange) (t : Term Head)
     (old new : List ℕ) (requests : List ResourceRequest) (x : A) →
     is_some info ≡ true → is_some words ≡ true → input ≡ body.bytes → os ≡ body.operators → old ≡ [] →
-    IfSome (found info words) (λ s. (code : List Instruction) × (term_code s os range point t ≡ Ok code) × (new ≡ old ++ written_body input os range (written_block s.info os range point code))) →
+    IfSome (found info words) (λ s. AppendsBody s input os range point t old new) →
     IfSome info (λ info. requests ≡ term_requests info os range point t) → IsForOrder info keeping os range (Ok x) →
     said_of (under info words) keeping body point range t ≡ Ok (output new requests)
-build_ok A None words keeping body input os point range t old new requests x u v i e none w a o = cc
-build_ok A (Some info) None keeping body input os point range t old new requests x u v i e none w a o = cc
-build_ok A (Some info) (Some words) keeping body input os point range t old new requests x u v i e none w a o =
+build_ok law A None words keeping body input os point range t old new requests x u v i e none w a o = cc
+build_ok law A (Some info) None keeping body input os point range t old new requests x u v i e none w a o = cc
+build_ok law A (Some info) (Some words) keeping body input os point range t old new requests x u v i e none w a o =
     let s = under (Some info) (Some words) in
     let said = rw (i, e, none) at w in
     let asked = rw e at a in
     let order = rw e at o in
-    let pass = passes keeping (shapes_in info body.operators range) (λ h. let k : ◌≡◌ {A = Result A Error} (Ok x) (Err error.NoMutationsApplicable) = order.1 h in absurd (cc)) in
+    let pass = passes law keeping (shapes_in info body.operators range) (λ h. let k : ◌≡◌ {A = Result A Error} (Ok x) (Err error.NoMutationsApplicable) = order.refused.1 h in absurd (cc)) in
     ap (λ (b : Bool). chosen b (with_term s body point range t)) pass
     ∙ (ap (made s body point range t) said.1
     ∙ ap₂ (λ (bytes : List ℕ) (requests : List ResourceRequest). let r : Result Output Refusal = Ok (output bytes requests) in r) (sym said.2) (sym asked))
@@ -106,13 +101,13 @@ refuses : (s : Setting) (keeping : Bool) (body : Contents) (point : ℕ) (range 
     said_of s keeping body point range t ≡ Err (refusal.Refused e)
 refuses s keeping body point range t e pass r = ap (λ (b : Bool). chosen b (with_term s body point range t)) pass ∙ ap (made s body point range t) r
 
-pub build_err : (A : Type 0) (info : Option Module) (words : Option (List ℕ)) (keeping : Bool) (body : Contents) (os : List (Operator × ℕ)) (point : ℕ) (range : BlockRange) (t : Term Head) (e : Error) →
+pub build_err : DecidesTheOrder → (A : Type 0) (info : Option Module) (words : Option (List ℕ)) (keeping : Bool) (body : Contents) (os : List (Operator × ℕ)) (point : ℕ) (range : BlockRange) (t : Term Head) (e : Error) →
     is_some info ≡ true → is_some words ≡ true → os ≡ body.operators → IsForOrder {A = A} info keeping os range (Err e) →
     (e ≢ error.NoMutationsApplicable → IfSome (found info words) (λ s. Refuses (term_code s os range point t) e)) →
     (e ≡ error.Memory) ⊎ (said_of (under info words) keeping body point range t ≡ Err (refusal.Refused e))
-build_err A None words keeping body os point range t e u v s o r = cc
-build_err A (Some info) None keeping body os point range t e u v s o r = cc
-build_err A (Some info) (Some words) keeping body os point range t e u v same o r = go e (rw same at o) (rw same at r)
+build_err law A None words keeping body os point range t e u v s o r = cc
+build_err law A (Some info) None keeping body os point range t e u v s o r = cc
+build_err law A (Some info) (Some words) keeping body os point range t e u v same o r = go e (rw same at o) (rw same at r)
   where
     s : Setting
     s = under (Some info) (Some words)
@@ -121,11 +116,11 @@ build_err A (Some info) (Some words) keeping body os point range t e u v same o 
     block = shapes_in info body.operators range
 
     pass : (e : Error) → (◌≡◌ {A = Result A Error} (Err e) (Err error.NoMutationsApplicable) → ⊥) → IsForOrder {A = A} (Some info) keeping body.operators range (Err e) → (keeping && not (is_in_order block)) ≡ false
-    pass e other o = passes keeping block (λ h. other (o.1 h))
+    pass e other o = passes law keeping block (λ h. other (o.refused.1 h))
 
     go : (e : Error) → IsForOrder {A = A} (Some info) keeping body.operators range (Err e) → (e ≢ error.NoMutationsApplicable → Refuses (term_code s body.operators range point t) e) →
         (e ≡ error.Memory) ⊎ (said_of s keeping body point range t ≡ Err (refusal.Refused e))
-    go error.NoMutationsApplicable o r = inr (ap (λ (b : Bool). chosen b (with_term s body point range t)) (stops keeping block (o.0 refl)))
+    go error.NoMutationsApplicable o r = inr (ap (λ (b : Bool). chosen b (with_term s body point range t)) (stops law keeping block (o.refused.0 refl)))
     go error.Memory o r = inl refl
     go error.CannotUnfold o r = inr (refuses s keeping body point range t error.CannotUnfold (pass error.CannotUnfold (λ h. cc) o) (r (λ h. cc)))
     go error.GlobalIndex o r = inr (refuses s keeping body point range t error.GlobalIndex (pass error.GlobalIndex (λ h. cc) o) (r (λ h. cc)))
@@ -133,12 +128,12 @@ build_err A (Some info) (Some words) keeping body os point range t e u v same o 
 
 -- ---- with the nodes or without
 
-with_graph : (s : Setting) (keeping : Bool) (body : Contents) (point : ℕ) (range : BlockRange) (nodes : List (Node Head)) (entries : List StackEntry) (parents : List (Option ℕ)) (look : ℕ → Option ℕ) →
+with_graph : HasNoFault → (s : Setting) (keeping : Bool) (body : Contents) (point : ℕ) (range : BlockRange) (nodes : List (Node Head)) (entries : List StackEntry) (parents : List (Option ℕ)) (look : ℕ → Option ℕ) →
     IsGraphOf s.info keeping range.start (operators_in body range) entries parents look →
     written s keeping body point range nodes ≡ in_order_alone keeping (shapes_in s.info body.operators range) (with_nodes s body point range nodes)
-with_graph s keeping body point range nodes entries parents look g =
+with_graph fits s keeping body point range nodes entries parents look g =
     ap (λ (r : Result (List Shape) Refusal). of_graph r (λ block. in_order_alone keeping block (with_nodes s body point range nodes)))
-    (graphed_fit s.info keeping (operators_in body range) g.fit g.small)
+    (shapes_found fits s.info keeping (operators_in body range) g.fit g.small)
 
 -- the term that nodes are
 term_of_nodes : (s : Setting) (body : Contents) (point : ℕ) (range : BlockRange) (nodes : List Lang) → 0 < length nodes →
@@ -146,34 +141,19 @@ term_of_nodes : (s : Setting) (body : Contents) (point : ℕ) (range : BlockRang
 term_of_nodes s body point range [] h = absurd (omega arith)
 term_of_nodes s body point range (l ∷ ls) h = rw (length-map (l ∷ ls) node_of)
 
-pub some_nodes : (s : Setting) (keeping : Bool) (body : Contents) (point : ℕ) (range : BlockRange) (nodes : List Lang) (entries : List StackEntry) (parents : List (Option ℕ)) (look : ℕ → Option ℕ) →
+pub some_nodes : HasNoFault → (s : Setting) (keeping : Bool) (body : Contents) (point : ℕ) (range : BlockRange) (nodes : List Lang) (entries : List StackEntry) (parents : List (Option ℕ)) (look : ℕ → Option ℕ) →
     IsGraphOf s.info keeping range.start (operators_in body range) entries parents look → 0 < length nodes →
     written s keeping body point range (map node_of nodes) ≡ said_of s keeping body point range (term_of head_of children_of nodes)
-some_nodes s keeping body point range nodes entries parents look g n =
-    with_graph s keeping body point range (map node_of nodes) entries parents look g
+some_nodes fits s keeping body point range nodes entries parents look g n =
+    with_graph fits s keeping body point range (map node_of nodes) entries parents look g
     ∙ ap (in_order_alone keeping (shapes_in s.info body.operators range)) (term_of_nodes s body point range nodes n)
 
--- a term that is its operator's own tree changes nothing
-own_term : (s : Setting) (body : Contents) (point : ℕ) (range : BlockRange) (t : Term Head) (code : List Instruction) → IsItself t code →
-    replaced range.start point code (forest (shapes_in s.info body.operators range)) ≡ instructions (forest (shapes_in s.info body.operators range)) →
+-- a term that changes no tree leaves the block's own trees, and asks for nothing
+own_term : (s : Setting) (body : Contents) (point : ℕ) (range : BlockRange) (t : Term Head) → WritesItsOwnTrees s body.operators range point t →
     with_term s body point range t ≡ Ok (with_code body range [] (instructions (forest (shapes_in s.info body.operators range))))
-own_term s body point range t code h e = go (is_written s.info body.operators range point) refl
-  where
-    block : Trees
-    block = forest (shapes_in s.info body.operators range)
-
-    answer : List ResourceRequest → List Instruction → Result Output Refusal
-    answer requests code = Ok (with_code body range requests code)
-
-    go : (b : Bool) → is_written s.info body.operators range point ≡ b → with_term s body point range t ≡ Ok (with_code body range [] (instructions block))
-    go true w =
-        let expands : term_code s body.operators range point t ≡ Ok code = ap (λ (b : Bool). cond b (expanded s t) (Ok [])) w ∙ h.expands (length s.info.globals) (drawn (draws_of t) s.stream).0 in
-        let asks : term_requests s.info body.operators range point t ≡ [] = ap (λ (b : Bool). cond b (map request (requests_of t)) []) w ∙ ap (map request) h.asks in
-        ap (made s body point range t) expands ∙ ap₂ answer asks e
-    go false w =
-        let expands : term_code s body.operators range point t ≡ Ok [] = ap (λ (b : Bool). cond b (expanded s t) (Ok [])) w in
-        let asks : term_requests s.info body.operators range point t ≡ [] = ap (λ (b : Bool). cond b (map request (requests_of t)) []) w in
-        ap (made s body point range t) expands ∙ ap₂ answer asks (not_replaced range.start point [] block w)
+own_term s body point range t own =
+    let answer : List ResourceRequest → List Instruction → Result Output Refusal = λ requests code. Ok (with_code body range requests code) in
+    ap (made s body point range t) own.expands ∙ ap₂ answer own.asks own.trees
 
 own_entry : (looked : Option ℕ) (entries : List StackEntry) (own : List Lang) → IsSome looked → IfSome looked (λ i. term_of head_of children_of own ≡ tree_at (entry_nodes entries) i) →
     (i : ℕ) × (looked ≡ Some i) × (term_of head_of children_of own ≡ tree_at (entry_nodes entries) i)
@@ -181,20 +161,17 @@ own_entry None entries own s h = absurd (cc s)
 own_entry (Some i) entries own s h = (i, refl, h)
 
 -- without nodes: `own` is the operator's own tree
-pub no_nodes : (s : Setting) (keeping : Bool) (body : Contents) (point : ℕ) (range : BlockRange) (nodes own : List Lang) (entries : List StackEntry) (parents : List (Option ℕ)) (look : ℕ → Option ℕ) →
+pub no_nodes : HasNoFault → OwnTreesAreKept → (s : Setting) (keeping : Bool) (body : Contents) (point : ℕ) (range : BlockRange) (nodes own : List Lang) (entries : List StackEntry) (parents : List (Option ℕ)) (look : ℕ → Option ℕ) →
     IsGraphOf s.info keeping range.start (operators_in body range) entries parents look → length nodes ≡ 0 →
     IsSome (look point) → IfSome (look point) (λ i. term_of head_of children_of own ≡ tree_at (entry_nodes entries) i) →
     written s keeping body point range (map node_of nodes) ≡ said_of s keeping body point range (term_of head_of children_of own)
-no_nodes s keeping body point range (x ∷ nodes) own entries parents look g n some is = absurd (omega arith)
-no_nodes s keeping body point range [] own entries parents look g n some is =
-    let os = operators_in body range in
+no_nodes fits kept s keeping body point range (x ∷ nodes) own entries parents look g n some is = absurd (omega arith)
+no_nodes fits kept s keeping body point range [] own entries parents look g n some is =
     let t = term_of head_of children_of own in
-    let at = own_entry (look point) entries own some is in
-    let same : plain_of t ≡ instructions_of (entry_tree s.info range.start entries at.0) = term_expands s.info keeping range.start os entries parents look point at.0 t g at.1 at.2 in
-    let itself : IsItself t (plain_of t) = is_itself t (own_plain s.info keeping range.start os entries parents look at.0 t g at.2) in
-    with_graph s keeping body point range [] entries parents look g
+    let keeps : KeepsTheTrees s.info body.operators range point entries look t = inr (own_entry (look point) entries own some is) in
+    with_graph fits s keeping body point range [] entries parents look g
     ∙ ap (in_order_alone keeping (shapes_in s.info body.operators range))
-    (sym (own_term s body point range t (plain_of t) itself (own_replaced s.info keeping range.start os entries parents look point at.0 (plain_of t) g at.1 same)))
+    (sym (own_term s body point range t (kept s keeping body.operators range entries parents look point t g keeps)))
 
 -- a graph under the configuration's module is one under its module's name
 pub graph_under : (under : Option Module) (keeping : Bool) (all os : List (Operator × ℕ)) (range : BlockRange) (entries : List StackEntry) (parents : List (Option ℕ)) (look : ℕ → Option ℕ) →

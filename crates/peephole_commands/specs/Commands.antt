@@ -7,12 +7,14 @@ use Rattle.wasm_code.specs.declared.fault.ReadKind.{ReadKind}
 use Rattle.mutate_base.specs.declared.term_error.TermError.{TermError}
 use Rattle.mutate_base.specs.Error.{error_name}
 use Rattle.mutate_base.specs.Types.{type_name}
+use Rattle.mutate_base.specs.declared.types.PrimitiveTypeInfo.{PrimitiveTypeInfo}
 use Rattle.mutate_base.specs.Words.{word_stream}
 use Rattle.peephole_lang.specs.declared.lang.Head.{Head}
 use Rattle.peephole_nodes.specs.Payload.{is_writable}
 use Rattle.peephole_lang.specs.Term.{Node}
 use Rattle.peephole_lang.specs.Text.{reads}
-use Rattle.peephole_graphs.specs.Block.{BlockRange}
+use Rattle.peephole_analysis.specs.Analysis.{Analysis}
+use Rattle.peephole_graphs.specs.Block.{BlockRange, block_at}
 use Rattle.peephole_terms.specs.declared.encoder.request.ResourceRequest.{ResourceRequest}
 use Rattle.peephole_terms.specs.declared.encoder.request.ResourceRequest.TheVariants.{Global}
 use Rattle.peephole_terms.specs.Expansion.{Setting}
@@ -27,11 +29,12 @@ use Rattle.peephole_commands.specs.declared.place.Place.{Place}
 use Rattle.peephole_script.specs.Text.{is_text, words_of, number_of}
 use Rattle.peephole_script.specs.Arguments.{all_of, type_of, is_yes}
 use Rattle.peephole_script.specs.Command.{command_of}
-use Rattle.peephole_commands.specs.Body.{Contents, body_of, block_at}
+use Rattle.peephole_commands.specs.Body.{Contents, body_of}
 use Rattle.peephole_script.specs.Declarations.{declared}
 use Rattle.peephole_commands.specs.State.{State, Reply, module_with}
 use Rattle.peephole_commands.specs.Writing.{Output, written}
 use Rattle.peephole_commands.specs.Show.{shown}
+use Rattle.peephole_commands.specs.Results.{typed}
 
 -- a line that writes nothing
 abbrev pub quiet : State → Result Reply Fault
@@ -104,7 +107,7 @@ abbrev pub node_step : State → List (List ℕ) → Result Reply Fault
 node_step s [] = Err fault.BadArgument
 node_step s (text ∷ words) = node_words s text words
 
--- where `show` and `write` work, which take no words: the body, the point and its block
+-- where `show`, `result` and `write` work, which take no words: the body, the point and its block
 abbrev pub place_at : Contents → ℕ → Option BlockRange → Result (Contents × ℕ × BlockRange) Fault
 place_at body point None = Err fault.NoBlock
 place_at body point (Some block) = Ok (body, point, block)
@@ -136,6 +139,18 @@ abbrev pub show_step : State → List (List ℕ) → Result Reply Fault
 show_step s words = at_place s (place_of s words) (λ body point block.
     answer_text (λ text. text) (shown (module_with s.info body) s.preserving body block))
 
+-- `result`: the type of the result of the operator at the point
+abbrev pub type_line : PrimitiveTypeInfo → List ℕ
+type_line t = codes "result " ++ (type_name t ++ codes "\n")
+
+-- what types are read from
+abbrev pub analysis_with : State → Contents → Analysis
+analysis_with s body = record { info = module_with s.info body; locals = s.locals }
+
+abbrev pub result_step : State → List (List ℕ) → Result Reply Fault
+result_step s words = at_place s (place_of s words) (λ body point block.
+    answer_text type_line (typed (analysis_with s body) s.preserving body block))
+
 -- `write`: the body with the term, then the globals that it asks for
 abbrev pub bytes_line : List ℕ → List ℕ
 bytes_line bytes = codes "bytes " ++ (encode_lower bytes ++ codes "\n")
@@ -161,6 +176,7 @@ command_step name.At = at_step
 command_step name.Node = node_step
 command_step name.Write = write_step
 command_step name.Show = show_step
+command_step name.Result = result_step
 command_step name.Local = local_step
 command_step name.Preserve = preserve_step
 command_step name.Word = word_step

@@ -3,5 +3,7 @@ pub mod State
 pub mod Graphs
 pub mod Writing
 pub mod Show
+pub mod Results
 pub mod Commands
 pub mod Answer
+pub mod Laws

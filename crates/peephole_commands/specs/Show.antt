@@ -4,14 +4,13 @@ use Rattle.mutate_base.specs.Module.{Module}
 use Rattle.peephole_graphs.specs.Block.{BlockRange}
 use Rattle.peephole_graphs.specs.declared.shape.Shape.{Shape}
 use Rattle.peephole_graphs.specs.Colour.{colour_at}
-use Rattle.peephole_graphs.specs.Forest.{forest}
+use Rattle.peephole_graphs.specs.Forest.{forest, is_in_order}
 use Rattle.peephole_graphs.specs.Shown.{has_one_colour, last_of}
 use Rattle.peephole_graphs.specs.Tree.{entry}
 use Rattle.peephole_graphs.specs.TreeText.{block_text}
 use Rattle.peephole_commands.specs.declared.graphs.Refusal.{Refusal}
 use Rattle.peephole_commands.specs.Body.{Contents}
-use Rattle.peephole_commands.specs.Graphs.{graphed, of_graph, operators_in}
-use Rattle.peephole_commands.specs.Writing.{is_in_order}
+use Rattle.peephole_commands.specs.Graphs.{shapes_or_refusal, of_graph, operators_in}
 
 abbrev pub yes_or_no : Bool → List ℕ
 yes_or_no true = codes "yes"
@@ -31,4 +30,4 @@ shown_block keeping first block = block_text keeping first block ++ verdicts (is
 
 -- the same of a block of a body, in a module and a mode
 abbrev pub shown : Module → Bool → Contents → BlockRange → Result (List ℕ) Refusal
-shown info keeping body range = of_graph (graphed info keeping (operators_in body range)) (λ block. Ok (shown_block keeping range.start block))
+shown info keeping body range = of_graph (shapes_or_refusal info keeping (operators_in body range)) (λ block. Ok (shown_block keeping range.start block))

@@ -1,12 +1,9 @@
 -- What the program keeps between two lines (this project's).
-use Rattle.std.specs.Prelude.{ℕ, ◌<◌, Bool, false, List, [], length, All, IsTrue, Option, Some, None, IfSome}
+use Rattle.std.specs.Prelude.{ℕ, ◌<◌, Bool, false, List, [], length, Option, Some, None, IfSome}
 use Rattle.mutate_base.specs.Module.{Module, module_of}
 use Rattle.mutate_base.specs.declared.types.PrimitiveTypeInfo.{PrimitiveTypeInfo}
-use Rattle.peephole_lang.specs.Lang.{payload_of}
-use Rattle.peephole_nodes.specs.Payload.{is_writable}
 use Rattle.peephole_lang.specs.Term.{Node}
 use Rattle.peephole_lang.specs.declared.lang.Head.{Head}
-use Rattle.peephole_lang.specs.declared.lang.Lang.{Lang}
 use Rattle.peephole_commands.specs.Body.{Contents}
 
 pub record State : Type 0 where
@@ -39,7 +36,3 @@ pub record Reply : Type 0 where
 abbrev pub PointsInto : Option Contents → Option ℕ → Type 0
 PointsInto None point = Unit {0}
 PointsInto (Some body) point = IfSome point (λ at. at < length body.operators)
-
--- each of the nodes can be written
-abbrev pub AreWritable : List Lang → Type 0
-AreWritable nodes = All (λ l. IsTrue (is_writable (payload_of l))) nodes

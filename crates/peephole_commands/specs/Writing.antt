@@ -1,7 +1,6 @@
 -- What the command `write` makes of a body (this project's rules).
 use Rattle.std.specs.Prelude.{ℕ, ◌-◌, Bool, ◌&&◌, not, List, [], ◌∷◌, length, reverse, Result, Ok, Err, if◌then◌else◌}
 use Rattle.std.specs.Result.{result_map_both}
-use Rattle.std.specs.Str.{bytes_eq}
 use Rattle.wasm_code.specs.Instruction.{Instruction}
 use Rattle.mutate_base.specs.declared.error.Error.TheVariants.{NoMutationsApplicable}
 use Rattle.peephole_lang.specs.Term.{Term, Node, tree_at}
@@ -10,17 +9,13 @@ use Rattle.peephole_graphs.specs.Block.{BlockRange}
 use Rattle.peephole_terms.specs.declared.encoder.request.ResourceRequest.{ResourceRequest}
 use Rattle.peephole_graphs.specs.declared.shape.Shape.{Shape}
 use Rattle.peephole_terms.specs.Expansion.{Setting}
-use Rattle.peephole_graphs.specs.Forest.{forest}
-use Rattle.peephole_graphs.specs.Tree.{instructions, numbers, range_from}
+use Rattle.peephole_graphs.specs.Forest.{forest, is_in_order}
+use Rattle.peephole_graphs.specs.Tree.{instructions}
 use Rattle.peephole_terms.specs.Written.{shapes_in, term_code, term_requests, written_block, written_body}
 use Rattle.peephole_commands.specs.declared.graphs.Refusal.{Refusal}
 use Rattle.peephole_commands.specs.declared.graphs.Refusal.TheVariants as refusal
 use Rattle.peephole_commands.specs.Body.{Contents}
-use Rattle.peephole_commands.specs.Graphs.{graphed, of_graph, operators_in}
-
--- whether the block's trees lie one after another: their operators in postfix are the block's, ascending
-abbrev pub is_in_order : List Shape → Bool
-is_in_order block = bytes_eq (numbers (forest block)) (range_from 0 (length block))
+use Rattle.peephole_commands.specs.Graphs.{shapes_or_refusal, of_graph, operators_in}
 
 -- while preserving, a block out of order is refused
 abbrev pub in_order_alone : {A : Type 0} → Bool → List Shape → Result A Refusal → Result A Refusal
@@ -53,4 +48,4 @@ with_nodes s body point range (node ∷ nodes) = with_term s body point range (t
 -- the body with the nodes' term in the place of the tree of the operator `point`, under a module and what is drawn, and in a mode
 abbrev pub written : Setting → Bool → Contents → ℕ → BlockRange → List (Node Head) → Result Output Refusal
 written s keeping body point range nodes =
-    of_graph (graphed s.info keeping (operators_in body range)) (λ block. in_order_alone keeping block (with_nodes s body point range nodes))
+    of_graph (shapes_or_refusal s.info keeping (operators_in body range)) (λ block. in_order_alone keeping block (with_nodes s body point range nodes))

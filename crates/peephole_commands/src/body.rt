@@ -1,12 +1,13 @@
 //! A body, read.
 
 ghost use Rattle.std.specs.Prelude.{◌≡◌, ◌<◌, ◌⊎◌, length, Ok, Err, IfSome, MatchResult};
-ghost use Rattle.peephole_graphs.specs.Block.{IsBlockOf};
+ghost use Rattle.peephole_graphs.specs.Block.{IsBlockOf, block_at};
 ghost use Rattle.peephole_terms.specs.Written.{IsBodyIn};
 ghost use Rattle.wasm_code.specs.declared.fault.ReadKind.TheVariants.{Memory};
-ghost use Rattle.peephole_commands.specs.Body.{body_of, block_at};
+ghost use Rattle.peephole_commands.specs.Body.{body_of};
 
 use mutate_base::{WasmMutate, Words};
+use peephole_terms::laws::blocks_are_found;
 use peephole_terms::{BBlock, DFGBuilder};
 use std::alloc::Global;
 use std::marker::Model;
@@ -71,6 +72,7 @@ impl Body {
         ensures function { result ≡ block_at self.now.operators point }
         ensures relation { IfSome result (λ block. IsBlockOf self.now.operators point block.start block.end) }
     {
+        blocks_are_found();
         let config: WasmMutate<Words> = WasmMutate::new();
         let builder = DFGBuilder::new(&config);
         builder.get_bb_from_operator(point, self.operators.as_slice())

@@ -4,11 +4,12 @@ ghost use Rattle.std.specs.Prelude.{◌≡◌, ◌⊎◌, is_some, IsTrue, Some,
 ghost use Rattle.peephole_commands.specs.State.{module_with};
 ghost use Rattle.mutate_base.specs.declared.error.Error.TheVariants.{Memory};
 ghost use Rattle.peephole_commands.specs.declared.graphs.Refusal.TheVariants.{Refused};
-ghost use Rattle.peephole_commands.specs.Graphs.{graphed, operators_in, module_in, IsPlace, IsGraphAt};
+ghost use Rattle.peephole_commands.specs.Graphs.{shapes_or_refusal, operators_in, module_in, IsPlace, IsGraphAt};
 
 use crate::body::Body;
 use crate::place::Place;
 use mutate_base::{Error, ModuleInfo, WasmMutate, Words};
+use peephole_terms::laws::faults_are_found;
 use peephole_terms::{DFGBuilder, MiniDFG};
 use std::alloc::{AllocError, Global};
 
@@ -63,8 +64,9 @@ pub fn graph_of(
     requires place { IsPlace place.now }
     ensures graph { IfOk result (λ graph. IsGraphAt config.now place.now graph) }
     ensures refused { IfErr result (λ r. (r ≡ Refused Memory)
-        ⊎ (graphed (module_in config.now.info) config.now.preserving (operators_in place.now.body.now place.now.block) ≡ Err r)) }
+        ⊎ (shapes_or_refusal (module_in config.now.info) config.now.preserving (operators_in place.now.body.now place.now.block) ≡ Err r)) }
 {
+    faults_are_found();
     let mut builder = DFGBuilder::new(config);
     match builder.get_dfg(alloc, config.info(), place.body.operators(), &place.block) {
         Ok(Some(graph)) => Ok(graph),

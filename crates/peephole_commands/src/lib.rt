@@ -4,8 +4,10 @@
 mod body;
 mod graphs;
 mod ids;
+pub mod laws;
 mod place;
 mod reply;
+mod results;
 mod runner;
 mod session;
 mod show;

@@ -3,11 +3,11 @@
 ghost use Rattle.std.specs.Prelude.{◌≡◌, ◌≢◌, MatchResult};
 ghost use Rattle.mutate_base.specs.declared.error.Error.TheVariants.{Memory};
 ghost use Rattle.peephole_commands.specs.declared.graphs.Refusal.TheVariants.{Refused};
-ghost use Rattle.peephole_commands.specs.Commands.{block_line, bytes_line, global_line, output_lines, refusal_line};
+ghost use Rattle.peephole_commands.specs.Commands.{block_line, bytes_line, global_line, output_lines, refusal_line, type_line};
 ghost use Rattle.peephole_commands.specs.Writing.{output};
 
 use crate::graphs::Refusal;
-use mutate_base::Error;
+use mutate_base::{Error, PrimitiveTypeInfo};
 use peephole_script::Fault;
 use peephole_terms::{BBlock, ResourceRequest};
 use std::alloc::Global;
@@ -25,6 +25,15 @@ pub fn block_line(alloc: Global, block: &Option<BBlock>) -> Result<Vec<u8>, Faul
         None => format!(in alloc; "no block\n"),
     };
     Ok(text?.into_bytes())
+}
+
+/// The line that `result` prints of a type. `Memory` where an allocation was refused.
+pub fn type_line(alloc: Global, ty: PrimitiveTypeInfo) -> Result<Vec<u8>, Fault>
+    ensures { MatchResult result (λ line. line.items ≡ type_line ty) (λ fault. fault ≡ Fault.Memory) }
+{
+    let name = ty.name();
+    let text = format!(in alloc; "result {name}\n")?;
+    Ok(text.into_bytes())
 }
 
 // The line that `write` prints of a body.

@@ -4,15 +4,17 @@ ghost use Rattle.std.specs.Prelude.{◌≡◌, ◌⊎◌, ◌<◌, ◌≤◌, �
 ghost use Rattle.std.specs.List.{list_all};
 ghost use Rattle.peephole_lang.specs.Node.{node_of};
 ghost use Rattle.peephole_lang.specs.Text.{reads};
-ghost use Rattle.peephole_commands.specs.State.{State, Reply, PointsInto, AreWritable, start, module_with};
+ghost use Rattle.peephole_graphs.specs.Layout.{AreWritable};
+ghost use Rattle.peephole_commands.specs.State.{State, Reply, PointsInto, start, module_with};
 ghost use Rattle.peephole_commands.specs.Graphs.{IsPlace};
-ghost use Rattle.peephole_commands.specs.Commands.{step_line, step, command_step, declare_step, local_step, preserve_step, word_step, body_step, at_step, node_step, node_read, node_words, place_of, show_step, write_step, Steps, Finds};
+ghost use Rattle.peephole_commands.specs.Commands.{step_line, step, command_step, declare_step, local_step, preserve_step, word_step, body_step, at_step, node_step, node_read, node_words, place_of, show_step, result_step, write_step, Steps, Finds};
 
 use crate::body::Body;
 use crate::graphs::configured;
 use crate::ids::ids_of;
 use crate::place::Place;
-use crate::reply::{block_line, output_lines, refusal_line};
+use crate::reply::{block_line, output_lines, refusal_line, type_line};
+use crate::results::point_type;
 use crate::show::show_block;
 use crate::writing::write_body;
 use mutate_base::{Error, ModuleInfo, PrimitiveTypeInfo};
@@ -109,6 +111,7 @@ impl Session {
             Command::Node => self.node(arguments),
             Command::Write => self.write(arguments),
             Command::Show => self.show(arguments),
+            Command::Result => self.tell_result(arguments),
             Command::Local => self.local(arguments),
             Command::Preserve => self.preserve(arguments),
             Command::Word => self.word(arguments),
@@ -283,6 +286,23 @@ impl Session {
         )?;
         match show_block(self.alloc, &config, &place) {
             Ok(text) => Ok(text.into_bytes()),
+            Err(refusal) => refusal_line(self.alloc, refusal),
+        }
+    }
+
+    fn tell_result(&self, arguments: &[&str]) -> Result<Vec<u8>, Fault>
+        ensures { Steps (result_step self.now (map (λ word. word.now) arguments.now)) self.now result }
+    {
+        let place = self.place(arguments)?;
+        let config = configured(
+            self.alloc,
+            &self.info,
+            self.preserving,
+            self.words.as_slice(),
+            place.body,
+        )?;
+        match point_type(self.alloc, &config, self.locals.as_slice(), &place) {
+            Ok(ty) => type_line(self.alloc, ty),
             Err(refusal) => refusal_line(self.alloc, refusal),
         }
     }

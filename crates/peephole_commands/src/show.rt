@@ -11,7 +11,7 @@ use crate::graphs::{Refusal, graph_of};
 use crate::place::Place;
 use mutate_base::{Error, WasmMutate, Words};
 use peephole_terms::MiniDFG;
-use peephole_terms::laws::graph_shows_the_forest;
+use peephole_terms::laws::{faults_are_found, graph_shows_the_forest, order_is_decided};
 use std::alloc::{AllocError, Global};
 
 fn yes_or_no(answer: bool) -> &'static str
@@ -58,6 +58,8 @@ pub fn show_block(
     ensures { Tells string_bytes (shown (module_in config.now.info) config.now.preserving place.now.body.now place.now.block) result }
 {
     let graph = graph_of(alloc, config, place)?;
+    faults_are_found();
+    order_is_decided();
     graph_shows_the_forest();
     let in_order = graph.keeps_order();
     let consistent = graph.is_subtree_consistent_from_root();

@@ -7,13 +7,14 @@ ghost use Rattle.peephole_lang.specs.Term.{term_of};
 ghost use Rattle.peephole_terms.specs.Written.{shapes_in};
 ghost use Rattle.peephole_commands.specs.declared.graphs.Refusal.TheVariants.{Refused};
 ghost use Rattle.peephole_commands.specs.Graphs.{module_in, setting_in, IsPlace, IsGraphAt, Tells};
-ghost use Rattle.peephole_commands.specs.State.{AreWritable};
+ghost use Rattle.peephole_graphs.specs.Layout.{AreWritable};
 ghost use Rattle.peephole_commands.specs.Writing.{output, in_order_alone, with_term, written};
 
 use crate::graphs::{Refusal, graph_of};
 use crate::place::Place;
 use mutate_base::{Error, WasmMutate, Words};
 use peephole_lang::{Lang, RecExpr};
+use peephole_terms::laws::{faults_are_found, order_is_decided, own_trees_are_kept};
 use peephole_terms::{Encoder, MiniDFG, ResourceRequest};
 use std::alloc::Global;
 use wasm_code::Function;
@@ -45,6 +46,7 @@ fn build(
         (with_term s body place.now.point place.now.block (term_of head_of children_of expr.now)) in
         MatchResult result (λ w. said ≡ Ok (output w.body w.requests.items)) (λ e. (e ≡ Memory) ⊎ (said ≡ Err (Refused e))) }
 {
+    order_is_decided();
     let mut body = Function::new(alloc);
     match Encoder::build_function(
         alloc,
@@ -79,6 +81,8 @@ fn build_with(
         place.now.body.now place.now.point place.now.block (map node_of nodes.now) in
         MatchResult result (λ w. said ≡ Ok (output w.body w.requests.items)) (λ e. (e ≡ Memory) ⊎ (said ≡ Err (Refused e))) }
 {
+    faults_are_found();
+    own_trees_are_kept();
     if nodes.len() > 0 {
         return build(alloc, config, place, nodes, graph);
     }

@@ -204,7 +204,7 @@ struct Example {
     one_color: bool,
 }
 
-const EXAMPLES: [Example; 14] = [
+const EXAMPLES: [Example; 17] = [
     // drop, local.get 0, i32.add: two operators lack an operand.
     Example {
         bytes: &[0x1a, 0x20, 0x00, 0x6a, 0x0b],
@@ -438,6 +438,56 @@ const EXAMPLES: [Example; 14] = [
         in_order: true,
         one_color: true,
     },
+    // A signalling NaN, drop.
+    Example {
+        bytes: &[0x43, 0x01, 0x00, 0xa0, 0x7f, 0x1a, 0x0b],
+        at: 1,
+        preserving: false,
+        start: 0,
+        lines: &[
+            "f32.const.7fa00001 [] at 0, colour 0, parent Some(1)",
+            "drop [Id(0)] at 1, colour 0, parent None",
+        ],
+        subtrees: &[(1, true), (2, true)],
+        in_order: true,
+        one_color: true,
+    },
+    // local.get 0, local.get 1, local.get 2, f32x4.relaxed_madd, drop
+    Example {
+        bytes: &[
+            0x20, 0x00, 0x20, 0x01, 0x20, 0x02, 0xfd, 0x85, 0x02, 0x1a, 0x0b,
+        ],
+        at: 4,
+        preserving: false,
+        start: 0,
+        lines: &[
+            "local.get.0 [] at 0, colour 0, parent Some(3)",
+            "local.get.1 [] at 1, colour 0, parent Some(3)",
+            "local.get.2 [] at 2, colour 0, parent Some(3)",
+            "f32x4.relaxed_madd [Id(0), Id(1), Id(2)] at 3, colour 0, parent Some(4)",
+            "drop [Id(3)] at 4, colour 0, parent None",
+        ],
+        subtrees: &[(1, true), (1, true), (1, true), (4, true), (5, true)],
+        in_order: true,
+        one_color: true,
+    },
+    // local.get 0, local.get 1, v128.load8_lane of offset 4 and lane 15
+    Example {
+        bytes: &[
+            0x20, 0x00, 0x20, 0x01, 0xfd, 0x54, 0x00, 0x04, 0x0f, 0x1a, 0x0b,
+        ],
+        at: 2,
+        preserving: false,
+        start: 0,
+        lines: &[
+            "local.get.0 [] at 0, colour 0, parent Some(2)",
+            "local.get.1 [] at 1, colour 0, parent Some(2)",
+            "v128.load8_lane.4.0.0.15 [Id(0), Id(1)] at 2, colour 0, parent None",
+        ],
+        subtrees: &[(1, true), (1, true), (3, true)],
+        in_order: true,
+        one_color: true,
+    },
 ];
 
 fn is_example(rt: &impl Abort, alloc: Global, example: &Example) -> Result<(), Fail> {
@@ -458,6 +508,19 @@ fn is_example(rt: &impl Abort, alloc: Global, example: &Example) -> Result<(), F
 fn examples(rt: HostRuntime) -> Result<(), Fail> {
     for example in &EXAMPLES {
         is_example(&rt, rt.alloc(), example)?;
+    }
+    Ok(())
+}
+
+/// drop, local.get 0, i32.add: each entry is copied, the missing operands too.
+#[test]
+fn copies_of_entries(rt: HostRuntime) -> Result<(), Fail> {
+    let graph = graph_of(&rt, rt.alloc(), &[0x1a, 0x20, 0x00, 0x6a, 0x0b], 2, false)?;
+    assert!(rt; graph.entries().len() == 5);
+    for entry in graph.entries() {
+        let copy = entry.clone()?;
+        assert!(rt; copy.operator == entry.operator);
+        assert!(rt; copy.operator_idx == entry.operator_idx && copy.color == entry.color);
     }
     Ok(())
 }

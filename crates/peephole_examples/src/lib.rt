@@ -19,12 +19,18 @@ mod layouts;
 #[cfg(test)]
 mod memory;
 #[cfg(test)]
+mod refused;
+#[cfg(test)]
 mod replacements;
 #[cfg(test)]
 mod rereading;
 #[cfg(test)]
 mod running;
 #[cfg(test)]
+mod samples;
+#[cfg(test)]
 mod terms;
+#[cfg(test)]
+mod types;
 #[cfg(test)]
 mod writing;

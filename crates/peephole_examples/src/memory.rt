@@ -4,6 +4,7 @@ ghost use Rattle.std.specs.Prelude.{◌≡◌, ◌<◌, length, IfOk};
 
 use crate::expansions::is_expanded;
 use crate::graphs::block_of;
+use crate::refused;
 use crate::terms::Outcome;
 use crate::uses::tree_of;
 use crate::writing::{at, is_written};
@@ -76,11 +77,6 @@ fn is_whole(rt: &impl Abort, graph: &MiniDFG) {
     }
 }
 
-#[test]
-fn graphs(rt: HostRuntime) {
-    is_whole(&rt, &graph(&rt, rt.alloc()));
-}
-
 /// Whether the graph was copied; else memory was refused. The graph is as it was.
 fn is_copied(rt: &impl Abort, graph: &MiniDFG) -> bool {
     let copy: Result<MiniDFG, AllocError> = graph.clone();
@@ -99,64 +95,6 @@ fn clones(rt: HostRuntime) {
     let graph = graph(&rt, rt.alloc());
     let first = is_copied(&rt, &graph);
     let second = is_copied(&rt, &graph);
-    assert!(rt; first || second);
-}
-
-/// Whether the tree of the sum was laid out; else memory was refused. The graph is as it was.
-fn is_laid_out(rt: &impl Abort, alloc: Global, graph: &MiniDFG) -> bool {
-    assert!(rt; graph.map().contains_key(&2));
-    let answer = graph.get_expr(alloc, 2);
-    is_whole(rt, graph);
-    match answer {
-        Ok(expr) => {
-            let wanted: [&[Id]; 3] = [&[], &[], &[Id(0), Id(1)]];
-            assert!(rt; expr.len() == 3);
-            for (node, children) in expr.as_ref().iter().zip(wanted) {
-                assert!(rt; node.children() == children);
-            }
-            true
-        }
-        Err(error) => {
-            assert!(rt; error == Error::Memory);
-            false
-        }
-    }
-}
-
-#[test]
-fn layouts(rt: HostRuntime) {
-    let graph = graph(&rt, rt.alloc());
-    let first = is_laid_out(&rt, rt.alloc(), &graph);
-    let second = is_laid_out(&rt, rt.alloc(), &graph);
-    assert!(rt; first || second);
-}
-
-/// Whether the forest was drawn; else memory was refused. The graph is as it was.
-fn is_drawn(rt: &impl Abort, alloc: Global, graph: &MiniDFG) -> bool {
-    let answer = graph.pretty_print(alloc, |entry| {
-        let operator = &entry.operator;
-        Ok(format!(in alloc; "{operator}")?)
-    });
-    is_whole(rt, graph);
-    match answer {
-        Ok(text) => {
-            let wanted = "DFG forest\n(0)(at 0) drop\n└──(4294967295)(at 0) undef\n\
-                (0)(at 2) i32.add\n├──(4294967295)(at 2) undef\n└──(0)(at 1) local.get.0\n";
-            assert!(rt; text.as_str() == wanted);
-            true
-        }
-        Err(error) => {
-            assert!(rt; error == Error::Memory);
-            false
-        }
-    }
-}
-
-#[test]
-fn texts(rt: HostRuntime) {
-    let graph = graph(&rt, rt.alloc());
-    let first = is_drawn(&rt, rt.alloc(), &graph);
-    let second = is_drawn(&rt, rt.alloc(), &graph);
     assert!(rt; first || second);
 }
 
@@ -232,67 +170,6 @@ fn is_body(
 }
 
 #[test]
-fn written_terms(rt: HostRuntime) {
-    let alloc = rt.alloc();
-    is_body(
-        &rt,
-        alloc,
-        &[0x41, 0x2a, 0x41, 0x01, 0x6a, 0x0b],
-        2,
-        &["i32.const.1", "i32.const.42", "i32.add 0 1"],
-        Ok(&[0x41, 0x01, 0x41, 0x2a, 0x6a, 0x0b]),
-    );
-    is_body(
-        &rt,
-        alloc,
-        &[0x41, 0x0a, 0x1a, 0x0b],
-        0,
-        &["i32.const.10", "i32.or 0 0"],
-        Ok(&[0x41, 0x0a, 0x41, 0x0a, 0x72, 0x1a, 0x0b]),
-    );
-}
-
-#[test]
-fn written_words(rt: HostRuntime) {
-    is_body(
-        &rt,
-        rt.alloc(),
-        &[0x41, 0x38, 0x0b],
-        0,
-        &["i32.const.56", "i32.unfold 0"],
-        Ok(&[
-            0x41, 0xf9, 0xea, 0xc8, 0xb9, 0x06, 0x41, 0xbf, 0x95, 0xb7, 0xc6, 0x79, 0x6a, 0x0b,
-        ]),
-    );
-}
-
-#[test]
-fn written_globals(rt: HostRuntime) {
-    is_body(
-        &rt,
-        rt.alloc(),
-        &[0x41, 0x07, 0x41, 0x08, 0x6a, 0x0b],
-        2,
-        &[
-            "i32.const.7",
-            "i32.use_of_global 0",
-            "i32.const.8",
-            "i32.use_of_global 2",
-            "i32.add 1 3",
-        ],
-        Ok(&[
-            0x41, 0x07, 0x24, 0x02, 0x23, 0x02, 0x41, 0x08, 0x24, 0x03, 0x23, 0x03, 0x6a, 0x0b,
-        ]),
-    );
-}
-
-#[test]
-fn written_own_trees(rt: HostRuntime) {
-    let bytes = [0x20, 0x00, 0x02, 0x40, 0x0b, 0x41, 0x01, 0x6a, 0x0b];
-    is_body(&rt, rt.alloc(), &bytes, 4, &[], Ok(&bytes));
-}
-
-#[test]
 fn refused_terms(rt: HostRuntime) {
     is_body(
         &rt,
@@ -332,4 +209,46 @@ fn terms_alone(rt: HostRuntime) {
         &["i32.rand", "i32.unfold 0", "i32.add 0 1"],
         Err(Error::CannotUnfold),
     );
+}
+
+// Each call that takes memory, over the samples.
+
+#[test]
+fn reading(rt: HostRuntime) {
+    refused::reading(&rt, rt.alloc());
+}
+
+#[test]
+fn graphs(rt: HostRuntime) {
+    refused::graphs(&rt, rt.alloc());
+}
+
+#[test]
+fn own_trees(rt: HostRuntime) {
+    refused::own_trees(&rt, rt.alloc());
+}
+
+#[test]
+fn layouts(rt: HostRuntime) {
+    refused::layouts(&rt, rt.alloc());
+}
+
+#[test]
+fn nodes(rt: HostRuntime) {
+    refused::nodes(&rt, rt.alloc());
+}
+
+#[test]
+fn texts(rt: HostRuntime) {
+    refused::texts(&rt, rt.alloc());
+}
+
+#[test]
+fn codes(rt: HostRuntime) {
+    refused::codes(&rt, rt.alloc());
+}
+
+#[test]
+fn bodies(rt: HostRuntime) {
+    refused::bodies(&rt, rt.alloc());
 }

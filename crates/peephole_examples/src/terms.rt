@@ -14,7 +14,7 @@ use std::alloc::{AllocError, Global};
 use std::process::Abort;
 
 /// The node of a line: its text, and then the places of its children.
-fn node_of(rt: &impl Abort, alloc: Global, line: &str) -> Result<Lang, AllocError> {
+pub fn node_of(rt: &impl Abort, alloc: Global, line: &str) -> Result<Lang, AllocError> {
     let mut words = line.split(' ');
     let Some(text) = words.next() else {
         panic!(rt; "no node");
@@ -40,7 +40,7 @@ fn assert_ids_below(rt: &impl Abort, ids: &[Id], place: usize)
 }
 
 /// The same, said of the places that the children name.
-fn assert_below(rt: &impl Abort, children: &[Id], place: usize)
+pub fn assert_below(rt: &impl Abort, children: &[Id], place: usize)
     ensures { All (λ child. child < place) (numbers_of children.now) }
 {
     assert_ids_below(rt, children, place);

@@ -49,7 +49,7 @@ pub fn operators_of(alloc: Global, bytes: &[u8]) -> Result<Vec<OperatorAndByteOf
 }
 
 /// The term of some nodes, or the own tree of an operator where there are no nodes.
-fn term_at(
+pub fn term_at(
     rt: &impl Abort,
     alloc: Global,
     graph: &MiniDFG,
@@ -141,7 +141,7 @@ const SUM: [u8; 6] = [0x41, 0x2a, 0x41, 0x01, 0x6a, 0x0b];
 
 #[test]
 fn terms(rt: HostRuntime) -> Result<(), Fail> {
-    let terms: [(&[u8], usize, &[&str], &[u8]); 5] = [
+    let terms: [(&[u8], usize, &[&str], &[u8]); 6] = [
         (
             &SUM,
             2,
@@ -169,6 +169,17 @@ fn terms(rt: HostRuntime) -> Result<(), Fail> {
             ],
             &[
                 0x41, 0xe4, 0x00, 0x41, 0xc8, 0x01, 0x41, 0xd8, 0x04, 0x6a, 0x36, 0x00, 0x00, 0x0b,
+            ],
+        ),
+        // f32.const 1, f32.const 2, f32.add, drop: the operands are swapped.
+        (
+            &[
+                0x43, 0x00, 0x00, 0x80, 0x3f, 0x43, 0x00, 0x00, 0x00, 0x40, 0x92, 0x1a, 0x0b,
+            ],
+            2,
+            &["f32.const.40000000", "f32.const.3f800000", "f32.add 0 1"],
+            &[
+                0x43, 0x00, 0x00, 0x00, 0x40, 0x43, 0x00, 0x00, 0x80, 0x3f, 0x92, 0x1a, 0x0b,
             ],
         ),
         // A shared node, and nodes without a result.
@@ -327,7 +338,7 @@ fn refused_unfolds(rt: HostRuntime) -> Result<(), Fail> {
 
 #[test]
 fn own_trees(rt: HostRuntime) -> Result<(), Fail> {
-    let trees: [(&[u8], usize, &[u8]); 2] = [
+    let trees: [(&[u8], usize, &[u8]); 6] = [
         // drop, local.get 0, i32.add: two operators lack an operand.
         (
             &[0x1a, 0x20, 0x00, 0x6a, 0x0b],
@@ -342,6 +353,38 @@ fn own_trees(rt: HostRuntime) -> Result<(), Fail> {
             5,
             &[
                 0x20, 0x80, 0x00, 0x1a, 0x02, 0x40, 0x0b, 0x41, 0x01, 0x1a, 0x0b,
+            ],
+        ),
+        // The bits of a signalling NaN stay as they are.
+        (
+            &[0x43, 0x01, 0x00, 0xa0, 0x7f, 0x1a, 0x0b],
+            1,
+            &[0x43, 0x01, 0x00, 0xa0, 0x7f, 0x1a, 0x0b],
+        ),
+        // local.get 0, local.get 1, i16x8.add, drop: an opcode of three bytes is shortened.
+        (
+            &[0x20, 0x00, 0x20, 0x01, 0xfd, 0x8e, 0x81, 0x00, 0x1a, 0x0b],
+            3,
+            &[0x20, 0x00, 0x20, 0x01, 0xfd, 0x8e, 0x01, 0x1a, 0x0b],
+        ),
+        // local.get 0, local.get 1, local.get 2, f32x4.relaxed_madd, drop
+        (
+            &[
+                0x20, 0x00, 0x20, 0x01, 0x20, 0x02, 0xfd, 0x85, 0x02, 0x1a, 0x0b,
+            ],
+            4,
+            &[
+                0x20, 0x00, 0x20, 0x01, 0x20, 0x02, 0xfd, 0x85, 0x02, 0x1a, 0x0b,
+            ],
+        ),
+        // Twice local.get 0, i32.const 1, select, drop: the count of the select's types is shortened.
+        (
+            &[
+                0x20, 0x00, 0x20, 0x00, 0x41, 0x01, 0x1c, 0x81, 0x00, 0x7f, 0x1a, 0x0b,
+            ],
+            4,
+            &[
+                0x20, 0x00, 0x20, 0x00, 0x41, 0x01, 0x1c, 0x01, 0x7f, 0x1a, 0x0b,
             ],
         ),
     ];

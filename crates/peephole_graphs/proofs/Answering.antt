@@ -1,53 +1,226 @@
--- Nodes that are asked for, one after another.
+-- Nodes that are asked for: what was asked already, and what is still to be asked, make parts of the tree.
 use denote.Ref.{Bor}
-use Rattle.std.proofs.Common.{◌≡◌, ℕ, ◌+◌, ◌<◌, ◌≤◌, List, length, get_or, sym, subst, arith, inl, inr, map, Result, Ok, Err, IfOk, IfErr, ◌⊎◌}
-use Rattle.std.specs.List.{All}
-use Rattle.std.proofs.lemmas.List.{get_or_default}
-use Rattle.mutate_base.specs.declared.error.Error.{Error}
-use Rattle.mutate_base.specs.declared.error.Error.TheVariants.{Memory, TooLarge}
+use Rattle.std.proofs.Common.{◌≡◌, ℕ, ◌^◌, ◌≤◌, List, [], ◌∷◌, ◌++◌, length, refl, sym, ap, subst, ◌∙◌, arith, length-append, map, Some}
+use Rattle.std.specs.Prelude.{reverse}
+use Rattle.std.specs.List.{All, Contains}
+use Rattle.std.proofs.lemmas.Grind.{common_steps}
+use Rattle.std.proofs.lemmas.List.{reverse-append, map-append, length-reverse, length-map}
+use Rattle.std.proofs.lemmas.List.Elements.{All-nil, All-cons, All-append, All-pop, All-weaker, All-contains_itself}
 use Rattle.peephole_nodes.specs.declared.id.Id.{Id}
-use Rattle.peephole_lang.specs.Term.{Node, AreBelow, tree_at, term_of}
-use Rattle.peephole_graphs.specs.Layout.{node_by, laid}
-use Rattle.peephole_graphs.specs.Asking.{AreAnswers, asked_nodes, IsLaidOut, IsTooLong}
-use Rattle.peephole_graphs.proofs.LayoutWalk.{length-held, some_item, node_at_is, below_all}
+use Rattle.peephole_lang.specs.Term.{Term, Terms, absent, node, no_terms, ◌▸◌, Node, numbers_of}
+use Rattle.peephole_graphs.specs.Layout.{size_of, size, IsWhole, AreWhole}
+use Rattle.peephole_graphs.specs.Asking.{answered, IsReached, IsPart, AreParts, IsTree, IsTooLong, Piece, count_of, in_postfix, all_in_postfix, AreAsked, piece_by}
+use Rattle.peephole_graphs.specs.Asking.IsReached.{the_root, a_child}
 
--- nodes whose children's ids are below their own
-pub answers_below : {L H : Type 0} (head : L → H) (children : L → List ℕ) (answers : Id → Bor L → Type 0) (n : ℕ) (xs : List (Bor L)) →
-    AreAnswers answers (n + 1) xs →
-    ((id : Id) (node : Bor L) → id.0 ≤ n → answers id node → All (λ child. child < id.0) (children node.now)) → AreBelow (asked_nodes head children xs)
-answers_below {L} {H} head children answers n xs h below =
-    let count = h.0 in
-    let first = some_item xs 0 (omega arith) in
-    let missing = head first.now in
-    let many = length-held (λ (x : Bor L). node_by head children x.now) xs in
-    below_all missing (asked_nodes head children xs) (λ p l.
-    let inside : p < length xs = omega arith in
-    let x = get_or xs p first in
-    let is = node_at_is missing (λ (x : Bor L). node_by head children x.now) xs p x inside (get_or_default xs p first x inside) in
-    subst (λ (y : Node H). All (λ k. k < p) y.children) (sym is) (below (record { 0 = p }) x (omega arith) (h.1 p first (omega arith))))
+-- ---- terms one after another
 
--- what was laid out of the nodes is the tree of those that were answered
-pub answered_laid : {L H E : Type 0} (head : L → H) (children : L → List ℕ) (answers : Id → Bor L →
-    Type 0) (n root : ℕ) (xs ys : List (Bor L)) (r : Result (List L) E) → ys ≡ xs → AreAnswers answers n xs →
-    IfOk r (λ expr. map (node_by head children) expr ≡ laid 0 (tree_at (asked_nodes head children ys) root)) →
-    IfOk r (λ expr. term_of head children expr ≡ tree_at (asked_nodes head children ys) root) →
-    IfOk r (λ expr. (zs : List (Bor L)) × AreAnswers answers n zs × IsLaidOut head children zs root expr)
-answered_laid head children answers n root xs ys (Ok expr) e a l t = (
-  xs,
-  a,
-  record {
-    nodes_are = subst (λ zs. map (node_by head children) expr ≡ laid 0 (tree_at (asked_nodes head children zs) root)) e l;
-    term_is = subst (λ zs. term_of head children expr ≡ tree_at (asked_nodes head children zs) root) e t;
-  },
-)
-answered_laid head children answers n root xs ys (Err refusal) e a l t = tt
+abbrev join : {H : Type 0} → Terms H → Terms H → Terms H
+join no_terms ts = ts
+join (t ▸ ts) us = t ▸ join ts us
 
-pub answered_refused : {L H : Type 0} (head : L → H) (children : L → List ℕ) (answers : Id → Bor L → Type 0) (n root : ℕ) (xs ys : List (Bor L))
-    (r : Result (List L) Error) → ys ≡ xs → AreAnswers answers n xs →
-    IfErr r (λ e. (e ≡ Memory) ⊎ ((e ≡ TooLarge) × IsTooLong head children ys root)) →
-    IfErr r (λ e. (e ≡ Memory) ⊎ ((e ≡ TooLarge) × ((zs : List (Bor L)) × AreAnswers answers n zs × IsTooLong head children zs root)))
-answered_refused head children answers n root xs ys (Ok expr) e a h = tt
-answered_refused head children answers n root xs ys (Err refusal) e a h = elim h [
-  | inl w ↦ inl w
-  | inr w ↦ inr (w.0, (xs, a, subst (λ zs. IsTooLong head children zs root) e w.1))
-]
+abbrev absents : {H : Type 0} → List ℕ → Terms H
+absents [] = no_terms
+absents (i ∷ is) = absent ▸ absents is
+
+postfix_join : {H : Type 0} (ts us : Terms H) → all_in_postfix (join ts us) ≡ all_in_postfix ts ++ all_in_postfix us
+postfix_join no_terms us = refl
+postfix_join (t ▸ ts) us = ap (λ x. in_postfix t ++ x) (postfix_join ts us) ∙ assoc (in_postfix t) (all_in_postfix ts) (all_in_postfix us)
+  where
+    assoc : {A : Type 0} (xs ys zs : List A) → xs ++ (ys ++ zs) ≡ (xs ++ ys) ++ zs
+    assoc xs ys zs = grind (arith, common_steps)
+
+postfix_absents : {H : Type 0} (is : List ℕ) → all_in_postfix {H = H} (absents is) ≡ []
+postfix_absents [] = refl
+postfix_absents (i ∷ is) = postfix_absents is
+
+whole_join : {H : Type 0} (ts us : Terms H) → AreWhole ts → AreWhole us → AreWhole (join ts us)
+whole_join no_terms us w v = v
+whole_join (t ▸ ts) us w v = (w.0, whole_join ts us w.1 v)
+
+whole_parts : {H : Type 0} (ts us : Terms H) → AreWhole (join ts us) → AreWhole ts × AreWhole us
+whole_parts no_terms us w = (tt, w)
+whole_parts (t ▸ ts) us w = let more = whole_parts ts us w.1 in ((w.0, more.0), more.1)
+
+mutual
+  length_postfix : {H : Type 0} (t : Term H) → length (in_postfix t) ≡ size_of t
+  length_postfix absent = refl
+  length_postfix (node h kids) =
+      let e = length_all_postfix kids in
+      omega (arith, e, length-append (all_in_postfix kids) (record { head = h; count = count_of kids } ∷ []))
+
+  length_all_postfix : {H : Type 0} (ts : Terms H) → length (all_in_postfix ts) ≡ size ts
+  length_all_postfix no_terms = refl
+  length_all_postfix (t ▸ ts) =
+      let e = length_postfix t in
+      let f = length_all_postfix ts in
+      omega (arith, e, f, length-append (in_postfix t) (all_in_postfix ts))
+
+-- ---- parts of trees of ids
+
+module _ {H : Type 0} (Answers : ℕ → Node H → Type 0) where
+  parts_count : (is : List ℕ) (ts : Terms H) → AreParts Answers is ts → count_of ts ≡ length is
+  parts_count [] no_terms p = refl
+  parts_count [] (t ▸ ts) p = absurd p
+  parts_count (i ∷ is) no_terms p = absurd p
+  parts_count (i ∷ is) (t ▸ ts) p = let e = parts_count is ts p.1 in omega arith
+
+  absent_parts : (is : List ℕ) → AreParts Answers is (absents is)
+  absent_parts [] = tt
+  absent_parts (i ∷ is) = (tt, absent_parts is)
+
+  parts_join : (is js : List ℕ) (ts us : Terms H) → AreParts Answers is ts → AreParts Answers js us → AreParts Answers (is ++ js) (join ts us)
+  parts_join [] js no_terms us p q = q
+  parts_join [] js (t ▸ ts) us p q = absurd p
+  parts_join (i ∷ is) js no_terms us p q = absurd p
+  parts_join (i ∷ is) js (t ▸ ts) us p q = (p.0, parts_join is js ts us p.1 q)
+
+  -- the terms of some ids, and those of more ids behind them
+  record IsSplit (is js : List ℕ) (ts : Terms H) : Type 0 where
+    front : Terms H
+    back : Terms H
+    of_front : AreParts Answers is front
+    of_back : AreParts Answers js back
+    joined : join front back ≡ ts
+
+  split : (is js : List ℕ) (ts : Terms H) → AreParts Answers (is ++ js) ts → IsSplit is js ts
+  split [] js ts p = record { front = no_terms; back = ts; of_front = tt; of_back = p; joined = refl }
+  split (i ∷ is) js no_terms p = absurd p
+  split (i ∷ is) js (t ▸ ts) p =
+      let more = split is js ts p.1 in
+      record { front = t ▸ more.front; back = more.back; of_front = (p.0, more.of_front); of_back = more.of_back; joined = ap (λ x. t ▸ x) more.joined }
+
+  -- What was asked, and trees of the ids that are left, are a tree of the root; the ids are reached.
+  pub record IsAsking (root : ℕ) (ids : List ℕ) (asked : List (Piece H)) : Type 0 where
+    pub reached : All (IsReached Answers root) ids
+    pub grows : (ts : Terms H) → AreParts Answers ids ts →
+        (t : Term H) × IsPart Answers root t × (AreWhole ts → IsWhole t) × (in_postfix t ≡ all_in_postfix ts ++ asked)
+
+  start : (root : ℕ) → IsAsking root (root ∷ []) []
+  start root = record {
+    reached = All-cons (IsReached Answers root) root [] the_root (All-nil (IsReached Answers root));
+    grows = first;
+  }
+    where
+      first : (ts : Terms H) → AreParts Answers (root ∷ []) ts →
+          (t : Term H) × IsPart Answers root t × (AreWhole ts → IsWhole t) × (in_postfix t ≡ all_in_postfix ts ++ [])
+      first no_terms p = absurd p
+      first (t ▸ no_terms) p = (t, p.0, λ w. w.0, ends (in_postfix t))
+        where
+          ends : {A : Type 0} (xs : List A) → xs ≡ (xs ++ []) ++ []
+          ends xs = grind (arith, common_steps)
+      first (t ▸ (u ▸ ts)) p = absurd p.1
+
+  children_reached : (root id : ℕ) (n : Node H) → IsReached Answers root id → Answers id n → All (IsReached Answers root) n.children
+  children_reached root id n r a =
+      All-weaker (Contains n.children) (IsReached Answers root) (λ child c. a_child id child n r a c) n.children (All-contains_itself n.children)
+
+  abbrev own_piece : Node H → Piece H
+  own_piece n = record { head = n.head; count = length n.children }
+
+  -- a tree of the id that was taken, over trees of its children
+  over_id : (rest : List ℕ) (id : ℕ) (n : Node H) (us kids : Terms H) → Answers id n → AreParts Answers rest us → AreParts Answers n.children kids →
+      AreParts Answers (rest ++ id ∷ []) (join us (node n.head kids ▸ no_terms))
+  over_id rest id n us kids a p q = parts_join rest (id ∷ []) us (node n.head kids ▸ no_terms) p ((n.children, a, q), tt)
+
+  own_first : (us kids : Terms H) (n : Node H) (asked : List (Piece H)) → count_of kids ≡ length n.children →
+      all_in_postfix (join us (node n.head kids ▸ no_terms)) ++ asked ≡ all_in_postfix (join us kids) ++ own_piece n ∷ asked
+  own_first us kids n asked e =
+      ap (λ x. x ++ asked) (postfix_join us (node n.head kids ▸ no_terms))
+      ∙ (ap (λ c. (all_in_postfix us ++ ((all_in_postfix kids ++ piece c ∷ []) ++ [])) ++ asked) e
+      ∙ (moved (all_in_postfix us) (all_in_postfix kids) (own_piece n) asked ∙ ap (λ x. x ++ own_piece n ∷ asked) (sym (postfix_join us kids))))
+    where
+      piece : ℕ → Piece H
+      piece c = record { head = n.head; count = c }
+
+      moved : {A : Type 0} (xs ys : List A) (p : A) (zs : List A) → (xs ++ ((ys ++ p ∷ []) ++ [])) ++ zs ≡ (xs ++ ys) ++ p ∷ zs
+      moved xs ys p zs = grind (arith, common_steps)
+
+  -- a node was asked for, and its children are left in its place
+  step : (root : ℕ) (rest : List ℕ) (id : ℕ) (n : Node H) (asked : List (Piece H)) → Answers id n → IsAsking root (rest ++ id ∷ []) asked →
+      IsAsking root (rest ++ n.children) (own_piece n ∷ asked)
+  step root rest id n asked a h =
+      let reached = All-pop (IsReached Answers root) (rest ++ id ∷ []) rest (Some id) refl h.reached in
+      record {
+        reached = All-append (IsReached Answers root) rest n.children reached.0 (children_reached root id n reached.1 a);
+        grows = λ ts p. grown ts (split rest n.children ts p);
+      }
+    where
+      grown : (ts : Terms H) → IsSplit rest n.children ts →
+          (t : Term H) × IsPart Answers root t × (AreWhole ts → IsWhole t) × (in_postfix t ≡ all_in_postfix ts ++ own_piece n ∷ asked)
+      grown ts s =
+          let us = s.front in
+          let kids = s.back in
+          let of = h.grows (join us (node n.head kids ▸ no_terms)) (over_id rest id n us kids a s.of_front s.of_back) in (
+            of.0,
+            of.1,
+            λ w. let both = whole_parts us kids (subst (λ x. AreWhole x) (sym s.joined) w) in of.2 (whole_join us (node n.head kids ▸ no_terms) both.0 (both.1, tt)),
+            of.3
+                ∙ (own_first us kids n asked (parts_count n.children kids s.of_back) ∙ ap (λ x. all_in_postfix x ++ own_piece n ∷ asked) s.joined),
+          )
+
+  -- none is left
+  end : (root : ℕ) (asked : List (Piece H)) → IsAsking root [] asked → (t : Term H) × IsTree Answers root t × (asked ≡ in_postfix t)
+  end root asked h = let of = h.grows no_terms tt in (of.0, (of.1, of.2 tt), sym of.3)
+
+  -- with the node that was asked for last there are too many
+  long : (root : ℕ) (rest : List ℕ) (id : ℕ) (n : Node H) (asked : List (Piece H)) → Answers id n → 2 ^ 32 ≤ length asked →
+      IsAsking root (rest ++ id ∷ []) asked → IsTooLong Answers root
+  long root rest id n asked a l h =
+      let us = absents rest in
+      let kids = absents n.children in
+      let of = h.grows (join us (node n.head kids ▸ no_terms)) (over_id rest id n us kids a (absent_parts rest) (absent_parts n.children)) in
+      let same = of.3 ∙ own_first us kids n asked (parts_count n.children kids (absent_parts n.children)) in
+      let many : length (in_postfix of.0) ≡ length (all_in_postfix (join us kids) ++ own_piece n ∷ asked) = ap (λ x. length x) same in
+      (of.0, of.1, omega (arith, many, length_postfix of.0, length-append (all_in_postfix (join us kids)) (own_piece n ∷ asked)))
+
+-- ---- by the lists of the code
+
+abbrev pub pieces_of : {L H : Type 0} → (L → H) → (L → List ℕ) → List (Bor L) → List (Piece H)
+pieces_of {L} head children nodes = reverse (map (λ (n : Bor L). piece_by head children n.now) nodes)
+
+pub length_pieces : {L H : Type 0} (head : L → H) (children : L → List ℕ) (nodes : List (Bor L)) → length (pieces_of head children nodes) ≡ length nodes
+length_pieces {L} head children nodes =
+    length-reverse (map (λ (n : Bor L). piece_by head children n.now) nodes) ∙ length-map nodes (λ (n : Bor L). piece_by head children n.now)
+
+pub one_more : {L H : Type 0} (head : L → H) (children : L → List ℕ) (nodes : List (Bor L)) (n : Bor L) →
+    pieces_of head children (nodes ++ n ∷ []) ≡ piece_by head children n.now ∷ pieces_of head children nodes
+one_more {L} head children nodes n =
+    let own : Bor L → Piece _ = λ x. piece_by head children x.now in
+    ap (λ x. reverse x) (map-append own nodes (n ∷ [])) ∙ reverse-append (map own nodes) (own n ∷ [])
+
+numbers_append : (xs ys : List Id) → numbers_of (xs ++ ys) ≡ numbers_of xs ++ numbers_of ys
+numbers_append xs ys = map-append (λ (id : Id). id.0) xs ys
+
+module _ {L H : Type 0} (head : L → H) (children : L → List ℕ) (post : Id → Bor L → Type 0) where
+  pub asking_starts : (root : Id) (ids : List Id) (nodes : List (Bor L)) → ids ≡ root ∷ [] → nodes ≡ [] →
+      IsAsking (answered head children post) root.0 (numbers_of ids) (pieces_of head children nodes)
+  asking_starts root ids nodes e n =
+      subst (λ x. IsAsking (answered head children post) root.0 (numbers_of x) (pieces_of head children nodes)) (sym e)
+      (subst (λ x. IsAsking (answered head children post) root.0 (root.0 ∷ []) (pieces_of head children x)) (sym n) (start (answered head children post) root.0))
+
+  pub asking_goes_on : (root id : Id) (ids rest ids' kids : List Id) (nodes nodes' : List (Bor L)) (n : Bor L) →
+      ids ≡ rest ++ id ∷ [] → post id n → nodes' ≡ nodes ++ n ∷ [] → ids' ≡ rest ++ kids → numbers_of kids ≡ children n.now →
+      IsAsking (answered head children post) root.0 (numbers_of ids) (pieces_of head children nodes) →
+      IsAsking (answered head children post) root.0 (numbers_of ids') (pieces_of head children nodes')
+  asking_goes_on root id ids rest ids' kids nodes nodes' n top a more left are h =
+      let Asking : List ℕ → List (Piece H) → Type 0 = λ x y. IsAsking (answered head children post) root.0 x y in
+      let own : Node H = record { head = head n.now; children = children n.now } in
+      let before = subst (λ x. Asking x (pieces_of head children nodes)) (ap numbers_of top ∙ numbers_append rest (id ∷ [])) h in
+      let after = step (answered head children post) root.0 (numbers_of rest) id.0 own (pieces_of head children nodes) (n, a, refl) before in
+      subst (λ x. Asking x (pieces_of head children nodes')) (sym (ap numbers_of left ∙ (numbers_append rest kids ∙ ap (λ x. numbers_of rest ++ x) are)))
+      (subst (λ x. Asking (numbers_of rest ++ children n.now) x) (sym (ap (pieces_of head children) more ∙ one_more head children nodes n)) after)
+
+  pub asking_ends : (root count : ℕ) (ids : List Id) (nodes : List (Bor L)) → count ≡ length ids → count ≡ 0 →
+      IsAsking (answered head children post) root (numbers_of ids) (pieces_of head children nodes) →
+      (t : Term H) × IsTree (answered head children post) root t × AreAsked head children nodes t
+  asking_ends root count [] nodes e z h = end (answered head children post) root (pieces_of head children nodes) h
+  asking_ends root count (id ∷ ids) nodes e z h = absurd (omega arith)
+
+  pub asking_too_long : (root id : Id) (ids rest : List Id) (nodes : List (Bor L)) (n : Bor L) →
+      ids ≡ rest ++ id ∷ [] → post id n → 2 ^ 32 ≤ length nodes →
+      IsAsking (answered head children post) root.0 (numbers_of ids) (pieces_of head children nodes) → IsTooLong (answered head children post) root.0
+  asking_too_long root id ids rest nodes n top a l h =
+      let own : Node H = record { head = head n.now; children = children n.now } in
+      let many = length_pieces head children nodes in
+      long (answered head children post) root.0 (numbers_of rest) id.0 own (pieces_of head children nodes) (n, a, refl) (omega arith)
+      (subst (λ x. IsAsking (answered head children post) root.0 x (pieces_of head children nodes)) (ap numbers_of top ∙ numbers_append rest (id ∷ [])) h)

@@ -1,13 +1,14 @@
 -- A copy of a graph's entries is measured and laid out as they are.
 use Rattle.std.proofs.Common.{◌≡◌, ℕ, ◌<◌, Bool, List, [], ◌∷◌, length, map, Option, refl, sym, ap, ap₂, ◌∙◌, subst, arith}
 use Rattle.std.specs.Prelude.{◌↔◌, IsTrue, false, filter, is_some, reverse, slice_get, slice_index, slice_index_or}
-use Rattle.std.specs.List.{All, AllZip}
+use Rattle.std.specs.Bool.{nat_eq}
+use Rattle.std.specs.List.{All, AllZip, IsDistinct}
 use Rattle.std.specs.List.Sorted.{IsStrictlyIncreasing}
 use Rattle.std.specs.Map.{lookup}
 use Rattle.std.proofs.lemmas.List.Elements.{AllZip-get_or, length_all_zip, same_from_all_zip}
 use Rattle.peephole_nodes.specs.declared.id.Id.{Id}
 use Rattle.peephole_lang.specs.declared.lang.Head.{Head}
-use Rattle.peephole_lang.specs.Node.{node_of, children_of, instr_of, instr_of_head}
+use Rattle.peephole_lang.specs.Node.{node_of, head_of, children_of, instr_of, instr_of_head}
 use Rattle.peephole_lang.specs.Term.{Node, numbers_of, tree_at}
 use Rattle.peephole_graphs.specs.declared.dfg.StackEntry.{StackEntry}
 use Rattle.peephole_graphs.specs.Dfg.{IsSameEntry}
@@ -16,7 +17,8 @@ use Rattle.peephole_graphs.specs.Downwards.{Kin, gather, downwards, forwards, si
 use Rattle.peephole_graphs.specs.Contiguous.{operators_of}
 use Rattle.peephole_graphs.specs.Order.{is_operator_at, forest_operators, AreInOrder}
 use Rattle.peephole_graphs.specs.Entries.{kin, kins_of, roots_of, children_at, IsForest, Measured}
-use Rattle.peephole_graphs.specs.Layout.{entry_nodes, size_of, HasTrees}
+use Rattle.peephole_graphs.specs.Layout.{entry_nodes, size_of, AreWritable, HasTrees}
+use Rattle.peephole_graphs.proofs.WritableLemmas.{CanBeWritten, heads_writable, from_heads}
 
 kin_same : (e f : StackEntry) → IsSameEntry e f → kin f ≡ kin e
 kin_same e f h = ap₂ (λ (x : List Id) (y : ℕ). kin_by x y) h.0.1 h.1
@@ -64,6 +66,12 @@ copied_measured es fs sizes sizes' same same' h a b m f =
       flags_are = ap reverse (each same same' b) ∙ (f ∙ ap flags_of (sym kins));
     }
 
+heads_same : (es fs : List StackEntry) → AllZip IsSameEntry es fs → map (λ (e : StackEntry). head_of e.operator) fs ≡ map (λ (e : StackEntry). head_of e.operator) es
+heads_same es fs h = map_same (λ (e : StackEntry). head_of e.operator) (λ e f s. s.0.0) es fs h
+
+copied_writable : (es fs : List StackEntry) → AllZip IsSameEntry es fs → AreWritable (map (λ (e : StackEntry). e.operator) es) → AreWritable (map (λ (e : StackEntry). e.operator) fs)
+copied_writable es fs h w = from_heads fs (subst (All CanBeWritten) (sym (heads_same es fs h)) (heads_writable es w))
+
 pub copied_trees : (es fs : List StackEntry) (look look' : ℕ → Option ℕ) → AllZip IsSameEntry es fs → ((k : ℕ) → look' k ≡ look k) →
     HasTrees es look → HasTrees fs look'
 copied_trees es fs look look' h same t =
@@ -79,6 +87,7 @@ copied_trees es fs look look' h same t =
           let size : size_of (tree_at (entry_nodes fs) i) ≡ size_of (tree_at (entry_nodes es) i) = ap (λ (ns : List (Node Head)). size_of
           (tree_at ns i)) nodes in
           omega arith;
+      writable = copied_writable es fs h t.writable;
     }
 
 child_same : (e f : StackEntry) → IsSameEntry e f → children_of f.operator ≡ children_of e.operator
@@ -94,6 +103,7 @@ copied_forest es fs parents parents' h e f =
     record {
       paired = let l = f.paired in omega arith;
       parent = λ p i w. let q = f.parent p i (sym (ap (has i) (kids_same es fs h p)) ∙ w) in (ap (λ (x : List (Option ℕ)). slice_get x i) e ∙ q.0, q.1);
+      once = λ p. subst (IsDistinct nat_eq) (sym (kids_same es fs h p)) (f.once p);
       child = λ p i w. ap (has i) (kids_same es fs h p) ∙ f.child p i (sym (ap (λ (x : List (Option ℕ)). slice_get x i) e) ∙ w);
     }
 

@@ -24,7 +24,7 @@ use Rattle.peephole_graphs.specs.ForestText.{with_text, with_entry, and_then, wi
 use Rattle.peephole_graphs.specs.ForestSteps.{has_some, edges, trees_of, level_lines}
 use Rattle.peephole_graphs.proofs.LayoutTrees.{entries_below}
 use Rattle.peephole_graphs.proofs.GraphLemmas.{roots_root, roots_child}
-use Rattle.peephole_graphs.proofs.PlaceLemmas.{IsAt, tree_is, children_in, at_place}
+use Rattle.peephole_lang.specs.PlaceLemmas.{IsAt, tree_is, children_in, at_place}
 
 -- ---- an entry's own text
 

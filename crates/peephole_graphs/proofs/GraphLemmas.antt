@@ -33,7 +33,7 @@ pub roots_child : (ps : List (Option ℕ)) (p : ℕ) → roots_of (ps ++ Some p 
 roots_child ps p = ap (λ x. reverse (roots x)) (reverse_push ps (Some p))
 
 -- children stand below
-all_has : (P : ℕ → Type 0) (cs : List ℕ) → ((c : ℕ) → has c cs ≡ true → P c) → All P cs
+pub all_has : (P : ℕ → Type 0) (cs : List ℕ) → ((c : ℕ) → has c cs ≡ true → P c) → All P cs
 all_has P [] h = All-nil P
 all_has P (c ∷ cs) h = All-cons P c cs (h c (or_left (c == c) (has c cs) (eq-eqb c c refl))) (all_has P cs (λ x w. h x (or_right (c == x) (has x cs) w)))
 

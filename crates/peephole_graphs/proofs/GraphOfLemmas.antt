@@ -1,7 +1,8 @@
 -- That a graph is a block's says what it is in the theory's lists, and the other way round.
 use Rattle.std.proofs.Common.{◌≡◌, ℕ, zero, suc, ◌-◌, ◌<◌, ◌≤◌, Bool, true, false, List, [], ◌∷◌, ◌++◌, length, map, get_or, Option, None, Some, refl, sym, ap, ◌∙◌, subst, arith, inl, inr}
 use Rattle.std.specs.Prelude.{◌⊎◌, reverse, slice_get, option_map}
-use Rattle.std.specs.List.{All}
+use Rattle.std.specs.Bool.{nat_eq}
+use Rattle.std.specs.List.{All, IsDistinct}
 use Rattle.std.proofs.lemmas.Bool.{cond-true, cond-false, eq-eqb, ne_eqb, cases_eq, cases_lt}
 use Rattle.std.proofs.lemmas.List.{length-append, length-reverse, length-map, reverse-append, get_or-map}
 use Rattle.std.proofs.lemmas.List.Elements.{All-head, All-tail, All-get_or}
@@ -121,7 +122,7 @@ with_children es p i h = elim (cases_lt p (length es)) [
     never : false ≡ true → ⊥
     never e = cc
 
-children_here : (es : List StackEntry) (p : ℕ) (e : StackEntry) → slice_get es p ≡ Some e → children_at es p ≡ children_of e.operator
+pub children_here : (es : List StackEntry) (p : ℕ) (e : StackEntry) → slice_get es p ≡ Some e → children_at es p ≡ children_of e.operator
 children_here es p e s =
     get_or-map (λ (x : StackEntry). children_of x.operator) es p e [] (slice_get_within es p e s) ∙ ap (λ (x : StackEntry). children_of x.operator) (get_or_from_slice_get es p e e s)
 
@@ -133,16 +134,16 @@ parent_read parents i p e = reads_some parents i p (get_item None parents i ∙ 
 
 -- ---- entries
 
-undef_instr : instr_of Undef ≡ None
+pub undef_instr : instr_of Undef ≡ None
 unfolding place_of
 undef_instr = refl
 
-undef_children : children_of Undef ≡ []
+pub undef_children : children_of Undef ≡ []
 unfolding ids_of
 undef_children = refl
 
 -- an entry as the theory sees it
-entry_here : (info : Module) (first : ℕ) (es : List StackEntry) (i : ℕ) (e : StackEntry) → slice_get es i ≡ Some e → entry_at (nodes_of info first es) i ≡ entry_of info first (seen e)
+pub entry_here : (info : Module) (first : ℕ) (es : List StackEntry) (i : ℕ) (e : StackEntry) → slice_get es i ≡ Some e → entry_at (nodes_of info first es) i ≡ entry_of info first (seen e)
 entry_here info first es i e s = entry_seen info first es i e (slice_get_within es i e s) ∙ ap (λ (x : StackEntry). entry_of info first (seen x)) (get_or_from_slice_get es i e e s)
 
 entry_into : (info : Module) (keeping : Bool) (first : ℕ) (operators : List (Operator × ℕ)) (e : StackEntry) → AreFit info operators →
@@ -210,6 +211,7 @@ represents info keeping first operators entries parents look h = record {
         let l = with_children entries p i q in
         let n = count in
         (omega arith, ap (has i) (children_seen info first entries p) ∙ q);
+    once = λ p. subst (IsDistinct nat_eq) (sym (children_seen info first entries p)) (h.forest_is.once p);
     taker = λ p i w none.
         let q = sym (ap (has i) (children_seen info first entries p)) ∙ w in
         let l = with_children entries p i q in
@@ -277,6 +279,7 @@ graph_of info keeping first operators entries parents look h = record {
     paired = sym (length-reverse parents) ∙ (h.stands.same_length ∙ count);
     parent = λ p i w. let q = h.stands.parent p i (ap (has i) (children_seen info first entries p) ∙ w) in (parent_read parents i p q.0, q.1);
     child = λ p i w. sym (ap (has i) (children_seen info first entries p)) ∙ (h.stands.child p i (parent_there parents i p w)).1;
+    once = λ p. subst (IsDistinct nat_eq) (children_seen info first entries p) (h.stands.once p);
   };
   trees = h.stands.trees;
   entry = λ i e s. entry_from info keeping first operators e h.fit (later i e s) (missing i e s) (at i e s);

@@ -30,6 +30,7 @@ use Rattle.peephole_graphs.specs.Layout.{size_of, size, entry_nodes, HasTrees}
 use Rattle.peephole_graphs.proofs.LayoutWalk as walk
 use Rattle.peephole_graphs.proofs.Standing.{has_reversed}
 use Rattle.peephole_graphs.proofs.GraphLemmas.{children_below}
+use Rattle.peephole_graphs.proofs.WritableLemmas.{entries_writable}
 use Rattle.peephole_graphs.proofs.LayoutForest.{wholes-forest, one_of, block_small}
 
 -- ---- the nodes of entries
@@ -237,4 +238,5 @@ has_trees info keeping first operators entries parents look h =
           let same : size_of (tree_at (entry_nodes entries) i) ≡ size_of (tree_at (map node_of_entry rs) i) = ap (λ (x : List (Node Head)). size_of (tree_at x i)) own_nodes in
           let bound = block_small keeping block h.small in
           omega arith;
+      writable = entries_writable entries (represents info keeping first operators entries parents look h).missing;
     }

@@ -56,20 +56,20 @@ module _ {H : Type 0} (missing : H) where
   pick_same f g (i ∷ is) n all same = ap₂ (λ x y. x ▸ y) (same i (All-head (λ k. k < n) i is all)) (pick_same f g is n (All-tail
       (λ k. k < n) i is all) same)
 
-  last_or_before : (n i : ℕ) → i < suc n → (n ≡ i) ⊎ (i < n)
+  pub last_or_before : (n i : ℕ) → i < suc n → (n ≡ i) ⊎ (i < n)
   last_or_before n i l = elim (eqb_tells n i) [ inl h ↦ inl h.1 | inr h ↦ let e = h.1 in inr (omega arith) ]
 
-  tree_before : (e : Node H) (earlier : List (Node H)) (k : ℕ) → k < length earlier → tree_at (e ∷ earlier) k ≡ tree_at earlier k
+  pub tree_before : (e : Node H) (earlier : List (Node H)) (k : ℕ) → k < length earlier → tree_at (e ∷ earlier) k ≡ tree_at earlier k
   tree_before e earlier k l = cond-false _ _ _ (ne_eqb (length earlier) k (omega arith))
 
-  tree_last : (e : Node H) (earlier : List (Node H)) (k : ℕ) → length earlier ≡ k → tree_at (e ∷ earlier) k ≡ node e.head (pick
+  pub tree_last : (e : Node H) (earlier : List (Node H)) (k : ℕ) → length earlier ≡ k → tree_at (e ∷ earlier) k ≡ node e.head (pick
       (tree_at earlier) e.children)
   tree_last e earlier k l = cond-true _ _ _ (eq-eqb (length earlier) k l)
 
-  node_before : (e : Node H) (earlier : List (Node H)) (k : ℕ) → k < length earlier → node_at (e ∷ earlier) k ≡ node_at earlier k
+  pub node_before : (e : Node H) (earlier : List (Node H)) (k : ℕ) → k < length earlier → node_at (e ∷ earlier) k ≡ node_at earlier k
   node_before e earlier k l = cond-false _ _ _ (ne_eqb (length earlier) k (omega arith))
 
-  node_last : (e : Node H) (earlier : List (Node H)) (k : ℕ) → length earlier ≡ k → node_at (e ∷ earlier) k ≡ e
+  pub node_last : (e : Node H) (earlier : List (Node H)) (k : ℕ) → length earlier ≡ k → node_at (e ∷ earlier) k ≡ e
   node_last e earlier k l = cond-true _ _ _ (eq-eqb (length earlier) k l)
 
   pub children_in : (ns : List (Node H)) (i : ℕ) → AreBelow ns → i < length ns → All (λ k. k < length ns) (node_at ns i).children
@@ -381,24 +381,27 @@ module _ {H : Type 0} (missing : H) where
   next_step ns whole frames rest f w top l h =
       ap (λ x. make_all (x ++ todo ns rest) w) (sym (finish ns f l)) ∙ (ap (λ x. make_all x w) (sym (todo_top ns rest f) ∙ ap (todo ns) (sym top)) ∙ h.same)
 
-  walk_own : (ns : List (Node H)) (whole : Laying) (frames rest : List Frame) (f : Frame) (w : Laying) →
-      frames ≡ rest ++ f ∷ [] → length (node_at ns f.node).children ≤ f.next →
-      IsWalk ns whole frames w → IsWalk ns whole rest (put (own_at ns f.node) w)
-  walk_own ns whole frames rest f w top l h =
-      let s = own_at ns f.node in
+  -- the finished places stay below the nodes laid out
+  pub put_below : (s : Making) (w : Laying) → All (λ (k : ℕ). k < length w.nodes) w.done → All (λ (k : ℕ). k < length (put s w).nodes) (put s w).done
+  put_below s w below =
       let v = put s w in
       let P : ℕ → Type 0 = λ k. k < length w.nodes in
       let Q : ℕ → Type 0 = λ k. k < length v.nodes in
       let n = length-append w.nodes (record { head = s.head; children = drop (length w.done - s.count) w.done } ∷ []) in
       let wider : (k : ℕ) → k < length w.nodes → k < length v.nodes = λ k h. omega arith in
-      let kept : All P (take (length w.done - s.count) w.done) = All-take P (length w.done - s.count) w.done h.below in
+      let kept : All P (take (length w.done - s.count) w.done) = All-take P (length w.done - s.count) w.done below in
       let last : length w.nodes < length v.nodes = omega arith in
-      record {
-        same = made_rest s (todo ns rest) w whole (next_step ns whole frames rest f w top l h);
-        inside = (All-pop (Inside ns) frames rest (Some f) top h.inside).0;
-        below = All-append Q (take (length w.done - s.count) w.done) (length w.nodes ∷ [])
-            (All-weaker P Q wider (take (length w.done - s.count) w.done) kept) (All-cons Q (length w.nodes) [] last (All-nil Q));
-      }
+      All-append Q (take (length w.done - s.count) w.done) (length w.nodes ∷ [])
+      (All-weaker P Q wider (take (length w.done - s.count) w.done) kept) (All-cons Q (length w.nodes) [] last (All-nil Q))
+
+  walk_own : (ns : List (Node H)) (whole : Laying) (frames rest : List Frame) (f : Frame) (w : Laying) →
+      frames ≡ rest ++ f ∷ [] → length (node_at ns f.node).children ≤ f.next →
+      IsWalk ns whole frames w → IsWalk ns whole rest (put (own_at ns f.node) w)
+  walk_own ns whole frames rest f w top l h = record {
+    same = made_rest (own_at ns f.node) (todo ns rest) w whole (next_step ns whole frames rest f w top l h);
+    inside = (All-pop (Inside ns) frames rest (Some f) top h.inside).0;
+    below = put_below (own_at ns f.node) w h.below;
+  }
 
   -- ---- the measure: each node is a step, and each frame holds one of them
 
@@ -454,7 +457,7 @@ module _ {H : Type 0} (missing : H) where
 
   -- ---- the steps by what the code looks up
 
-  node_at-reverse : (ns : List (Node H)) (i : ℕ) (d : Node H) → i < length ns → node_at ns i ≡ get_or (reverse ns) i d
+  pub node_at-reverse : (ns : List (Node H)) (i : ℕ) (d : Node H) → i < length ns → node_at ns i ≡ get_or (reverse ns) i d
   node_at-reverse [] i d l = absurd (omega arith)
   node_at-reverse (e ∷ earlier) i d l =
       let front = reverse earlier in
@@ -544,7 +547,7 @@ module _ {H : Type 0} (missing : H) where
         let enough = found_children own (todo ns rest) w whole (next_step ns whole frames rest f w t.top (omega arith) h) in
         omega (arith, enough, length-map finished (λ (y : Id). y.0))
 
-    put_is : (own : Making) (n : Node H) (ids : List Id) (finished : List Id) (nodes nodes' : List (Node H)) (done' : List ℕ) →
+    pub put_is : (own : Making) (n : Node H) (ids : List Id) (finished : List Id) (nodes nodes' : List (Node H)) (done' : List ℕ) →
         own ≡ record { head = n.head; count = length n.children } →
         n.children ≡ numbers_of ids →
         nodes' ≡ nodes ++ record { head = n.head; children = drop (length finished - length ids) (numbers_of finished) } ∷ [] →

@@ -12,6 +12,7 @@ use Rattle.peephole_graphs.specs.Graph.{undef, Entry, undefs, tree_at, tree_of_e
 use Rattle.peephole_graphs.proofs.Stands.{entry_at, parent_at, standing, lacking, IsOperator, IsEntryOf, is_operator, Stands}
 use Rattle.peephole_graphs.specs.Step.{down, mark, State, grown}
 use Rattle.peephole_graphs.proofs.Stacked.{is_open, opens, kept, stacked, opens_open, opens_done, kept_open, kept_done}
+use Rattle.peephole_graphs.proofs.Once.{children_once}
 use Rattle.peephole_graphs.proofs.StackGraph.{graph, IsGraph, is_graph, graph_forest, open_at, stack_length, length-mark}
 
 -- the own entry of an operator
@@ -419,6 +420,7 @@ stands keeping block =
       entries = f.entries;
       parent = f.parent;
       child = f.child;
+      once = children_once keeping block;
       taker = f.taker;
       order = f.order;
     }

@@ -1,5 +1,5 @@
 -- Whether all entries of a tree of a graph have one colour, told by the tree.
-use Rattle.std.proofs.Common.{◌≡◌, ℕ, zero, suc, ◌+◌, ◌-◌, ◌<◌, inl, inr, Bool, true, false, List, [], ◌∷◌, ◌++◌, length, get_or, map, refl, sym, ap, ap₂, subst, ◌∙◌, arith, Option, Some, None}
+use Rattle.std.proofs.Common.{◌≡◌, ℕ, ◌+◌, ◌-◌, ◌<◌, inl, inr, Bool, true, false, List, [], ◌∷◌, length, get_or, map, refl, sym, ap, ap₂, subst, ◌∙◌, arith, Option, Some, None}
 use Rattle.std.specs.Prelude.{◌&&◌, ◌==◌, reverse, slice_get, is_some}
 use Rattle.std.specs.List.{All}
 use Rattle.std.proofs.lemmas.Bool.{cond-true, cond-false, eq-eqb, ne_eqb}
@@ -22,13 +22,13 @@ use Rattle.peephole_graphs.specs.Graph.{Entry, roots, tree_of_entry}
 use Rattle.peephole_graphs.proofs.Stands.{IsEntryOf}
 use Rattle.peephole_graphs.proofs.GraphOfLemmas.{represents}
 use Rattle.peephole_graphs.specs.Growing.{undef_entry}
-use Rattle.peephole_graphs.specs.Entries.{kin, kins_of, shape_of, nodes_of, roots_of}
+use Rattle.peephole_graphs.specs.Entries.{kin, kins_of, shape_of, nodes_of, entry_tree}
 use Rattle.peephole_graphs.specs.Layout.{entry_nodes}
 use Rattle.peephole_graphs.specs.Shown as test
 use Rattle.peephole_graphs.specs.Shown.{is_coloured, has_one_colour, last_of, ShowsTheColour}
 use Rattle.peephole_graphs.proofs.DfgLemmas.{nodes_length, get_item, coloured_all, all_coloured}
+use Rattle.peephole_graphs.proofs.EntryTreeLemmas.{own_tree, last_tree}
 use Rattle.peephole_graphs.proofs.Forwards.{colour_small}
-use Rattle.peephole_graphs.proofs.GraphLemmas.{parents_length, roots_root}
 use Rattle.peephole_graphs.proofs.LayoutTrees.{node_of_entry, entries_below, view, Ordered, map_turned, map_twice, last_or_before, has_trees}
 use Rattle.peephole_graphs.proofs.Sizes.{coloured_append, coloured_same, kin_older, All_gather, down_below, and_true}
 use Rattle.peephole_graphs.proofs.TreeTextLemmas.{IsShown, shape_for, stack_at, stack_top, stack_older, entries_all, entry_is}
@@ -89,32 +89,7 @@ entries_coloured info colour first c s (e ∷ earlier) b m i l =
           ∙ (older i h ∙ sym (ap (is_coloured colour c) (cond-false _ _ _ (ne_eqb (length (map (view info first) earlier)) i (omega arith))))))
     ]
 
--- ---- an operator's own tree
-
-own_tree : (info : Module) (first : ℕ) (rs : List StackEntry) (i : ℕ) → i < length rs → (x : Instruction) → instr_of (stack_at rs i).operator ≡ Some x →
-    (kids : Trees) × (graph.tree_at (map (view info first) rs) i ≡ tree.node ((stack_at rs i).operator_idx - first) (shape_of info x) kids)
-own_tree info first [] i l x is = absurd (omega arith)
-own_tree info first (e ∷ earlier) i l x is =
-    let p = length-map earlier (view info first) in
-    let g = graph.tree_at (map (view info first) earlier) in
-    elim (last_or_before (length earlier) i l) [
-      | inl h ↦
-          let top = stack_top e earlier i h in
-          let own : instr_of e.operator ≡ Some x = ap (λ (y : StackEntry). instr_of y.operator) (sym top) ∙ is in
-          let some : (view info first e).shape ≡ Some (shape_of info x) = ap (shape_for info first) own in (
-            graph.pick g (children_of e.operator),
-            cond-true _ _ _ (eq-eqb (length (map (view info first) earlier)) i (p ∙ h))
-                ∙ (ap (λ y. tree_of_entry y (children_of e.operator) (view info first e).number (graph.undefs (map (view info first) earlier)) g) some
-                ∙ ap (λ (y : StackEntry). tree.node (y.operator_idx - first) (shape_of info x) (graph.pick g (children_of e.operator))) (sym top)),
-          )
-      | inr h ↦
-          let down = stack_older e earlier i h in
-          let older = own_tree info first earlier i h x (ap (λ (y : StackEntry). instr_of y.operator) (sym down) ∙ is) in (
-            older.0,
-            cond-false _ _ _ (ne_eqb (length (map (view info first) earlier)) i (omega arith))
-                ∙ (older.1 ∙ ap (λ (y : StackEntry). tree.node (y.operator_idx - first) (shape_of info x) older.0) (sym down)),
-          )
-    ]
+-- ---- the colour of an entry
 
 own_instr : (o : Option Instruction) → is_some o ≡ true → (x : Instruction) × (o ≡ Some x)
 own_instr None h = absurd (cc)
@@ -132,16 +107,6 @@ kin_is (e ∷ earlier) i l =
     ]
 
 -- ---- the last tree
-
-last_split : {A : Type 0} (xs : List A) (m : ℕ) (x : A) → length xs ≡ suc m → slice_get xs m ≡ Some x → (ys : List A) × (xs ≡ ys ++ x ∷ []) × (length ys ≡ m)
-last_split [] m x n h = absurd (omega arith)
-last_split {A} (y ∷ []) zero x n h = let e : y ≡ x = cc in ([], ap (λ (z : A). z ∷ []) e, refl)
-last_split (y ∷ z ∷ zs) zero x n h = absurd (omega arith)
-last_split (y ∷ ys) (suc m) x n h = let r = last_split ys m x (omega arith) h in (y ∷ r.0, ap (λ z. y ∷ z) r.1, ap suc r.2)
-
-last_pick : (g : ℕ → Tree) (t : Tree) (is : List ℕ) (i : ℕ) → last_of t (graph.pick g (is ++ i ∷ [])) ≡ g i
-last_pick g t [] i = refl
-last_pick g t (j ∷ is) i = last_pick g (g j) is i
 
 pub shows_the_colour : ShowsTheColour
 shows_the_colour info keeping first operators entries parents look h n e =
@@ -162,23 +127,21 @@ shows_the_colour info keeping first operators entries parents look h n e =
     let own_is : own.0 ≡ stack_at rs m = sym (slice_get-get_or_at entries m own.0 own.1) ∙ get_item (undef_entry 0) entries m in
     let found = own_instr (instr_of own.0.operator) own.3 in
     let instr : instr_of (stack_at rs m).operator ≡ Some found.0 = ap (λ (y : StackEntry). instr_of y.operator) (sym own_is) ∙ found.1 in
-    let own_tree_is = own_tree info first rs m (omega arith) found.0 instr in
     let number = (stack_at rs m).operator_idx - first in
+    let kids = graph.pick (entry_tree info first entries) (children_of own.0.operator) in
+    let own_tree_is : entry_tree info first entries m ≡ tree.node number (shape_of info found.0) kids =
+    own_tree info first entries parents h.forest_is m own.0 found.0 own.1 found.1 ∙ ap (λ (y : StackEntry). tree.node (y.operator_idx - first) (shape_of info found.0) kids) own_is in
     let entry_m = subst (IsEntryOf keeping block) (entry_is info first entries m there) ((represents info keeping first operators entries parents look h).stands.entries m (omega arith)) in
     let all = entries_all info keeping first operators entries parents look h in
     let shown = all_at (IsShown colour first) rs all m (omega arith) in
     let c = colour number in
     let painted : (stack_at rs m).color ≡ c = shown.painted found.0 instr in
     let small : c < 4294967295 = colour_small keeping block number h.small entry_m.0 in
-    let split = last_split parents m None (parents_length info keeping first operators entries parents look h ∙ omega arith) last.1 in
-    let roots_are : roots_of parents ≡ roots_of split.0 ++ m ∷ [] = ap roots_of split.1 ∙ (roots_root split.0 ∙ ap (λ k. roots_of split.0 ++ k ∷ []) split.2) in
-    let g = graph.tree_at nodes in
-    let tree_is : last_of (tree.entry 0) (forest block) ≡ tree.node number (shape_of info found.0) own_tree_is.0 =
-    ap (last_of (tree.entry 0)) (sym (represents info keeping first operators entries parents look h).stands.trees ∙ ap (graph.pick g) roots_are) ∙ (last_pick g (tree.entry 0) (roots_of split.0) m ∙ (ap (λ (x : List Entry). graph.tree_at x m) nodes_are ∙ own_tree_is.1)) in
+    let tree_is : last_of (tree.entry 0) (forest block) ≡ tree.node number (shape_of info found.0) kids = last_tree info keeping first operators entries parents look h n e ∙ own_tree_is in
     let coloured : are_coloured (kins_of entries) c (downwards (kins_of entries) m) ≡ has_one_colour colour (last_of (tree.entry 0) (forest block)) =
     ap (λ (x : List Kin). are_coloured x c (downwards x m)) kins_are
     ∙ (entries_coloured info colour first c small rs ordered all m (omega arith)
-    ∙ (ap (is_coloured colour c) own_tree_is.1 ∙ ap (has_one_colour colour) (sym tree_is))) in
+    ∙ (ap (λ (x : List Entry). is_coloured colour c (graph.tree_at x m)) (sym nodes_are) ∙ (ap (is_coloured colour c) own_tree_is ∙ ap (has_one_colour colour) (sym tree_is)))) in
     let kin_c : (kin_at (kins_of entries) m).colour ≡ c = ap (λ (x : List Kin). (kin_at x m).colour) kins_are ∙ (kin_is rs m (omega arith) ∙ painted) in
     let P : ℕ → Type 0 = λ d. All (λ j. (kin_at (kins_of entries) j).colour ≡ d) (downwards (kins_of entries) m) in (
       λ w. subst P (sym kin_c) (coloured_all (kins_of entries) c (downwards (kins_of entries) m) (coloured ∙ w)),

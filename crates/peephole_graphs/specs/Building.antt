@@ -1,4 +1,4 @@
--- What the builder answers before its lists become a graph. For the builder alone.
+-- What the builder answers before its lists become a graph. This project's rule, for the builder alone.
 use Rattle.std.specs.Prelude.{ℕ, ◌↔◌, IsTrue, Bool, List}
 use Rattle.std.specs.Bool.{nat_eq}
 use Rattle.std.specs.HashMap as hash

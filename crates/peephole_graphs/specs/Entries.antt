@@ -1,5 +1,7 @@
 -- The entries of a graph, as what they stand for. The code's lists ascend; those of the theory have the last entry first. This project's rule.
 use Rattle.std.specs.Prelude.{ℕ, ◌-◌, ◌<◌, ◌≡◌, Bool, true, false, List, [], length, map, reverse, slice_get, slice_index_or, Option, Some, option_map}
+use Rattle.std.specs.Bool.{nat_eq}
+use Rattle.std.specs.List.{IsDistinct}
 use Rattle.wasm_code.specs.Instruction.{Instruction}
 use Rattle.mutate_base.specs.Module.{Module}
 use Rattle.peephole_lang.specs.Node.{instr_of, children_of}
@@ -58,11 +60,13 @@ forest_of info first entries parents = pick (entry_tree info first entries) (roo
 abbrev pub children_at : List StackEntry → ℕ → List ℕ
 children_at entries p = slice_index_or (map (λ (e : StackEntry). children_of e.operator) entries) p []
 
--- The entries are a forest: an entry is the child of its parent and of no other entry, and stands before it.
+-- The entries are a forest: an entry is the child of its parent and of no other entry, stands among its parent's children
+-- once, and stands before it.
 pub record IsForest (entries : List StackEntry) (parents : List (Option ℕ)) : Type 0 where
   pub paired : length parents ≡ length entries
   pub parent : (p i : ℕ) → has i (children_at entries p) ≡ true → (slice_get parents i ≡ Some (Some p)) × (i < p)
   pub child : (p i : ℕ) → slice_get parents i ≡ Some (Some p) → has i (children_at entries p) ≡ true
+  pub once : (p : ℕ) → IsDistinct nat_eq (children_at entries p)
 
 abbrev pub colours : List StackEntry → List ℕ
 colours entries = map (λ (e : StackEntry). e.color) entries

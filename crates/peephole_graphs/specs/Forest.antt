@@ -1,5 +1,8 @@
--- The forest of a block, by heights: which operator takes which results. Lists of operators have the last one first. This project's rule, on the stack discipline of the Core Specification, section 4.4.
+-- The forest of a block, by heights: which operator takes which results. Lists of operators have the last one first. This
+-- project's rule, on the stack discipline of the WebAssembly Core Specification, "Execution, Instructions".
 use Rattle.std.specs.Prelude.{ℕ, zero, suc, ◌<◌, ◌≡◌, Bool, false, ◌&&◌, ◌||◌, ◌==◌, IsTrue, ℤ, List, [], ◌∷◌, length, if◌then◌else◌, ⊤}
+use Rattle.std.specs.Bool.{Decides, nat_eq}
+use Rattle.std.specs.Cmp.Lexicographic.{pointwise}
 use lib.IntN.{pos, negsuc, ◌+ℤ◌, ◌-ℤ◌}
 use Rattle.std.specs.Ordering.{int_eq}
 use Rattle.peephole_graphs.specs.Shape.{Shape}
@@ -79,3 +82,12 @@ abbrev pub AreTogether : List Shape → Type 0
 AreTogether [] = ⊤
 AreTogether (s ∷ earlier) =
     AreTogether earlier × ((j : ℕ) → j < length earlier → IsTrue (has j (numbers_of (tree_of s earlier))) → IsTrue (has (suc j) (numbers_of (tree_of s earlier))))
+
+-- ---- the order as a test
+
+abbrev pub is_in_order : List Shape → Bool
+is_in_order block = pointwise nat_eq (numbers (forest block)) (range_from 0 (length block))
+
+-- the test decides whether the trees lie one after another
+abbrev pub DecidesTheOrder : Type 0
+DecidesTheOrder = (block : List Shape) → Decides (is_in_order block) (IsInOrder block)

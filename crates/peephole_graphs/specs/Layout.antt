@@ -1,11 +1,13 @@
 -- A term laid out in postfix: the layouts of its children one after another, and then its own node.
 -- A node names each child by the place of that child's own node. This project.
-use Rattle.std.specs.Prelude.{ℕ, suc, ◌+◌, ◌-◌, ◌≡◌, List, [], ◌∷◌, ◌++◌, ◌<◌, ◌≤◌, ◌^◌, length, map, reverse, slice_index_or, Option, Some, ⊤}
+use Rattle.std.specs.Prelude.{ℕ, suc, ◌+◌, ◌-◌, ◌≡◌, List, [], ◌∷◌, ◌++◌, ◌<◌, ◌≤◌, ◌^◌, length, map, reverse, slice_index_or, Option, Some, ⊤, IsTrue}
 use Rattle.std.specs.Coded.{Coded-set}
 use Rattle.std.specs.List.{All}
 use Rattle.peephole_lang.specs.declared.lang.Head.{Head}
 use Rattle.peephole_lang.specs.declared.lang.Lang.{Lang}
 use Rattle.peephole_lang.specs.contracts.lang.Lang.{the_row}
+use Rattle.peephole_nodes.specs.Payload.{is_writable}
+use Rattle.peephole_lang.specs.Lang.{payload_of}
 use Rattle.peephole_lang.specs.Node.{node_of, children_of}
 use Rattle.peephole_lang.specs.Term.{Term, Terms, absent, node, no_terms, ◌▸◌, Node, tree_at}
 use Rattle.peephole_graphs.specs.declared.dfg.StackEntry.{StackEntry}
@@ -61,12 +63,17 @@ KeepsTheTerm = (t : Term Head) → IsWhole t → tree_at (reverse (laid 0 t)) (l
 abbrev pub entry_nodes : List StackEntry → List (Node Head)
 entry_nodes entries = held_nodes (λ (e : StackEntry). node_of e.operator) entries
 
--- What holds of the entries of every graph: each child stands below its parent, `look` finds entries, and each entry's
--- tree has at most 2^32 nodes.
+-- each of the nodes can be written: an instruction says its payload
+abbrev pub AreWritable : List Lang → Type 0
+AreWritable nodes = All (λ l. IsTrue (is_writable (payload_of l))) nodes
+
+-- What holds of the entries of every graph: each child stands below its parent, `look` finds entries, each entry's tree has
+-- at most 2^32 nodes, and each entry's node can be written.
 pub record HasTrees (entries : List StackEntry) (look : ℕ → Option ℕ) : Type 0 where
   pub below : (i : ℕ) (d : StackEntry) → i < length entries → All (λ c. c < i) (children_of (slice_index_or entries i d).operator)
   pub found : (k i : ℕ) → look k ≡ Some i → i < length entries
   pub small : (i : ℕ) → i < length entries → size_of (tree_at (entry_nodes entries) i) ≤ 2 ^ 32
+  pub writable : AreWritable (map (λ (e : StackEntry). e.operator) entries)
 
 -- an equation of nodes has one proof at most
 pub Lang-set : IsSet Lang

@@ -10,6 +10,7 @@ pub mod Entries
 pub mod Contiguous
 pub mod Order
 pub mod GraphOf
+pub mod Faults
 pub mod Block
 pub mod Dfg
 pub mod Growing
@@ -20,4 +21,6 @@ pub mod ForestText
 pub mod ForestSteps
 pub mod TreeText
 pub mod Shown
+pub mod EntryTrees
+pub mod TermOf
 pub mod Span

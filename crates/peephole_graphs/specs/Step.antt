@@ -1,4 +1,5 @@
--- A step of the graph as it is built: an operator takes the last indexes of a stack, and entries of missing operands where there are too few. For the builder alone. Lists have the last one first.
+-- A step of the graph as it is built: an operator takes the last indexes of a stack, and entries of missing operands where
+-- there are too few. Lists have the last one first. This project's rule, for the builder alone.
 use Rattle.std.specs.Prelude.{ℕ, zero, suc, ◌+◌, ◌-◌, ◌++◌, take, drop, reverse, replicate, List, [], ◌∷◌, length, Option, None, Some, if◌then◌else◌}
 use Rattle.peephole_graphs.specs.Shape.{Shape}
 use Rattle.peephole_graphs.specs.Forest.{has}

@@ -3,6 +3,7 @@
 ghost use Rattle.std.specs.Prelude.{◌≡◌, ◌<◌, ◌-◌, ◌↔◌, ℕ, IsTrue, length, reverse, slice_index, nat_eq};
 ghost use Rattle.std.specs.HashMap as hash;
 ghost use Rattle.std.proofs.Props.{props};
+ghost use Rattle.std.proofs.lemmas.Map.Keys.{IsDistinct-prop};
 ghost use Rattle.peephole_lang.specs.Term.{numbers_of};
 ghost use Rattle.peephole_graphs.specs.Downwards.{downwards, sizes_of, flags_of, forward, forwards, HasOneColour};
 ghost use Rattle.peephole_graphs.specs.Entries.{kins_of, colours, Measured, IsForest};
@@ -42,7 +43,7 @@ pub struct MiniDFG {
     ghost sizes_are: { reverse sizes.items ≡ sizes_of (kins_of entries.items) } by { Prim.hlevel props },
     ghost flags_are: { reverse same.items ≡ flags_of (kins_of entries.items) } by { Prim.hlevel props },
     ghost trees: { HasTrees entries.items (hash.get nat_eq map) } by { Prim.hlevel (props, Lang-set) },
-    ghost forest: { IsForest entries.items parents.items } by { Prim.hlevel props },
+    ghost forest: { IsForest entries.items parents.items } by { Prim.hlevel (props, IsDistinct-prop) },
     // Whether the trees lie one after another is seen from the entries' sizes alone.
     ghost lies: { IsTrue (forwards (kins_of entries.items)) ↔ AreInOrder entries.items parents.items } by { Prim.hlevel props },
 }
@@ -117,7 +118,7 @@ impl MiniDFG {
     ghost use Rattle.mutate_base.specs.declared.error.Error.{Error};
     ghost use Rattle.peephole_lang.specs.Node.{node_of, head_of, children_of};
     ghost use Rattle.peephole_lang.specs.Term.{tree_at, term_of};
-    ghost use Rattle.peephole_graphs.specs.Layout.{entry_nodes, laid};
+    ghost use Rattle.peephole_graphs.specs.Layout.{entry_nodes, laid, AreWritable};
     ghost use Rattle.peephole_graphs.specs.Dfg.{entries_of, parents_of, look_of};
     ghost use Rattle.peephole_graphs.specs.ForestText.{forest_text, default_text, IsText, Tells};
 
@@ -176,7 +177,7 @@ impl MiniDFG {
     }
 
     /// The index of each entry's parent, none of a root. Entries and parents make a forest: an entry is the child of its
-    /// parent and of no other entry, and stands before it.
+    /// parent and of no other entry, stands among its parent's children once, and stands before it.
     pub fn parents(&self) -> &[Option<usize>]
         ensures value { result.now ≡ parents_of self.now }
         ensures forest { IsForest (entries_of self.now) (parents_of self.now) }
@@ -184,12 +185,13 @@ impl MiniDFG {
         self.parents.as_slice()
     }
 
-    /// The tree of the operator with the index `at` in the body, laid out in postfix: its operands' trees one after another, then its own node, the last one. Each node names its children by their places; a missing operand is `Undef`. Refused for want of memory alone (`Memory`). Condition: `at` is a key of `map()`.
+    /// The tree of the operator with the index `at` in the body, laid out in postfix: its operands' trees one after another, then its own node, the last one. Each node names its children by their places, and can be written; a missing operand is `Undef`. Refused for want of memory alone (`Memory`). Condition: `at` is a key of `map()`.
     pub fn get_expr(&self, alloc: Global, at: usize) -> Result<RecExpr<Lang>, Error>
         requires { IsSome (look_of self.now at) }
         ensures laid { IfOk result (λ expr. IfSome (look_of self.now at) (λ i. map node_of expr ≡ laid 0 (tree_at (entry_nodes (entries_of self.now)) i))) }
         ensures term { IfOk result (λ expr. IfSome (look_of self.now at) (λ i. term_of head_of children_of expr ≡ tree_at (entry_nodes (entries_of self.now)) i)) }
         ensures some { IfOk result (λ expr. 0 < length expr) }
+        ensures writable { IfOk result (λ expr. AreWritable expr) }
         ensures refused { IfErr result (λ e. e ≡ Error.Memory) }
     {
         match self.map.get(&at) {

@@ -47,7 +47,7 @@ fn over<L: Language>(node: &L, ids: &[Id]) -> Result<L, Error>
 }
 
 // Puts a node behind those laid out, over the finished ones that are its children, and finishes it.
-fn add_own<L: Language>(
+pub(crate) fn add_own<L: Language>(
     expr: &mut RecExpr<L>,
     finished: &mut Vec<Id>,
     node: &L,

@@ -1,23 +1,12 @@
 -- How two nodes compare (this project): by place, then payload, then children. Two nodes match where they are equal
 -- but for the ids of their children.
-use Rattle.std.specs.Prelude.{◌≡◌, ◌==◌, ◌++◌, ℕ, Bool, Some, length, refl}
-use Rattle.std.specs.Hash.{HashWrites, Alike, and-Alike, on_Alike, same_Alike, items_Alike, u16 as fed_u16, slice as fed_slice}
-use Rattle.std.specs.Ordering.{nat_cmp, on, then_cmp, eq_of_both, as_partial_cmp, eq_by_cmp}
-use Rattle.std.specs.Cmp.{IsEquivalence, IsPartialEquivalence, IsTotalOrder, IsPartialOrder, and_equiv, on_equiv, nat_eq_equiv, on_total, then_total, nat_cmp_total, both_tied, unsigned_ties, unsigned_Decides, partial_equiv_from_equiv, partial_order_from_agreeing_total}
-use Rattle.std.specs.Cmp.Lexicographic.{slice_cmp, pointwise, lists_equiv, lists_total, lists_ties}
+use Rattle.std.specs.Prelude.{◌≡◌, ◌==◌, ℕ, Bool, Some, length}
+use Rattle.std.specs.Hash.{HashWrites, Alike}
+use Rattle.std.specs.Ordering.{on, eq_of_both, as_partial_cmp, eq_by_cmp}
+use Rattle.std.specs.Cmp.{IsEquivalence, IsPartialEquivalence, IsTotalOrder, IsPartialOrder}
 use Rattle.std.specs.declared.cmp.Ordering.{Ordering}
-use Rattle.peephole_nodes.specs.contracts.id.IdPartialEq.TheImpl as id_eq
-use Rattle.peephole_nodes.specs.contracts.id.IdOrd.TheImpl as id_ord
-use Rattle.peephole_nodes.specs.contracts.id.IdHash.TheImpl as id_hash
-use Rattle.peephole_nodes.specs.contracts.id.IdEq.TheImpl.Laws.{laws-law as id_equiv}
-use Rattle.peephole_nodes.specs.contracts.id.IdOrd.TheImpl.Laws.{total-law as id_total, matches_eq-law as id_ties}
-use Rattle.peephole_nodes.specs.contracts.id.IdHash.TheImpl.Laws.{respects_eq-law as id_alike}
+use Rattle.peephole_nodes.specs.Compared.{node_eq, node_cmp, node_hash, node_equiv, node_partial_equiv, node_total, node_ties, node_agrees, node_order, node_alike}
 use Rattle.peephole_nodes.specs.contracts.payload.PayloadPartialEq.TheImpl as payload_eq
-use Rattle.peephole_nodes.specs.contracts.payload.PayloadOrd.TheImpl as payload_ord
-use Rattle.peephole_nodes.specs.contracts.payload.PayloadHash.TheImpl as payload_hash
-use Rattle.peephole_nodes.specs.contracts.payload.PayloadEq.TheImpl.Laws.{laws-law as payload_equiv}
-use Rattle.peephole_nodes.specs.contracts.payload.PayloadOrd.TheImpl.Laws.{total-law as payload_total, matches_eq-law as payload_ties}
-use Rattle.peephole_nodes.specs.contracts.payload.PayloadHash.TheImpl.Laws.{respects_eq-law as payload_alike}
 use Rattle.peephole_lang.specs.declared.lang.Lang.{Lang}
 use Rattle.peephole_lang.specs.Lang.{place_of, payload_of, ids_of}
 
@@ -30,39 +19,34 @@ abbrev pub lang_matches : Lang → Lang → Bool
 lang_matches = eq_of_both (on place_of ◌==◌) (eq_of_both (on payload_of payload_eq.ghosts.eq) (on given_of ◌==◌))
 
 abbrev pub lang_eq : Lang → Lang → Bool
-lang_eq = eq_of_both (on place_of ◌==◌) (eq_of_both (on payload_of payload_eq.ghosts.eq) (on ids_of (pointwise id_eq.ghosts.eq)))
+lang_eq = node_eq place_of payload_of ids_of
 
 abbrev pub lang_cmp : Lang → Lang → Ordering
-lang_cmp = then_cmp (on place_of nat_cmp) (then_cmp (on payload_of payload_ord.ghosts.cmp) (on ids_of (slice_cmp id_ord.ghosts.cmp)))
+lang_cmp = node_cmp place_of payload_of ids_of
 
 -- what `hash` feeds of a node
 abbrev pub lang_hash : Lang → HashWrites
-lang_hash x = fed_u16 (place_of x) ++ (payload_hash.ghosts.hash_input (payload_of x) ++ fed_slice id_hash.ghosts.hash_input (ids_of x))
+lang_hash = node_hash place_of payload_of ids_of
 
--- ---- the laws of these, from those of their parts
+-- ---- the laws of these
 
 pub lang_equiv : IsEquivalence lang_eq
-lang_equiv = and_equiv (on_equiv place_of nat_eq_equiv) (and_equiv (on_equiv payload_of payload_equiv) (on_equiv ids_of (lists_equiv id_equiv)))
+lang_equiv = node_equiv place_of payload_of ids_of
 
 pub lang_partial_equiv : IsPartialEquivalence lang_eq
-lang_partial_equiv = partial_equiv_from_equiv lang_equiv
+lang_partial_equiv = node_partial_equiv place_of payload_of ids_of
 
 pub lang_total : IsTotalOrder lang_cmp
-lang_total = then_total (on_total place_of nat_cmp_total) (then_total (on_total payload_of payload_total) (on_total ids_of (lists_total id_total)))
+lang_total = node_total place_of payload_of ids_of
 
 pub lang_ties : (x y : Lang) → lang_eq x y ≡ eq_by_cmp lang_cmp x y
-lang_ties x y =
-    both_tied _ _ (nat_cmp (place_of x) (place_of y)) _ (unsigned_ties (place_of x) (place_of y))
-    (both_tied _ _ (payload_ord.ghosts.cmp (payload_of x) (payload_of y)) _ (payload_ties (payload_of x) (payload_of y))
-    (lists_ties id_ord.ghosts.cmp id_ties (ids_of x) (ids_of y)))
+lang_ties = node_ties place_of payload_of ids_of
 
 pub lang_agrees : (x y : Lang) → as_partial_cmp lang_cmp x y ≡ Some (lang_cmp x y)
-lang_agrees x y = refl
+lang_agrees = node_agrees place_of payload_of ids_of
 
 pub lang_order : IsPartialOrder lang_eq (as_partial_cmp lang_cmp)
-lang_order = partial_order_from_agreeing_total lang_cmp lang_total lang_agrees lang_ties
+lang_order = node_order place_of payload_of ids_of
 
 pub lang_alike : Alike lang_eq lang_hash
-lang_alike =
-    and-Alike (on_Alike place_of (same_Alike fed_u16 unsigned_Decides))
-    (and-Alike (on_Alike payload_of (record { fed = payload_alike })) (on_Alike ids_of (items_Alike (record { fed = id_alike }))))
+lang_alike = node_alike place_of payload_of ids_of

@@ -1,4 +1,5 @@
--- Each node is of a variant of the table: its place, its kind of payload and its number of children are the variant's.
+-- Each node is of a variant of the table: its place, its kind of payload and its number of children are the variant's
+-- (this project).
 use Rattle.std.specs.Prelude.{◌≡◌, true, refl}
 use Rattle.peephole_lang.specs.declared.lang.Lang.{Lang}
 use Rattle.peephole_lang.specs.declared.lang.Lang.TheVariants.{RandI32, RandI64, RandF32, RandF64, Undef, UnfoldI32, UnfoldI64, I32UseGlobal, I64UseGlobal, F32UseGlobal, F64UseGlobal, Container, Nop, Call, Drop, Select, LocalGet, LocalSet, LocalTee, GlobalGet, GlobalSet, TableGet, TableSet, I32Load, I64Load, F32Load, F64Load, I32Load8S, I32Load8U, I32Load16S, I32Load16U, I64Load8S, I64Load8U, I64Load16S, I64Load16U, I64Load32S, I64Load32U, I32Store, I64Store, F32Store, F64Store, I32Store8, I32Store16, I64Store8, I64Store16, I64Store32, MemorySize, MemoryGrow, I32, I64, F32, F64, RefNull, RefIsNull, RefFunc, MemoryInit, DataDrop, MemoryCopy, MemoryFill, TableInit, ElemDrop, TableCopy, TableGrow, TableSize, TableFill, TypedSelect, Numeric, Simd}

@@ -1,4 +1,5 @@
 pub mod Term
+pub mod PlaceLemmas
 pub mod Lang
 pub mod Variants
 pub mod Names

@@ -45,8 +45,8 @@ example kind.Index = payload.Index 0
 example kind.Lane = payload.Lane 0
 example kind.I32 = payload.I32 (pos 0)
 example kind.I64 = payload.I64 (pos 0)
-example kind.F32 = payload.F32 (record { bits = 0 })
-example kind.F64 = payload.F64 (record { bits = 0 })
+example kind.F32 = payload.F32 0
+example kind.F64 = payload.F64 0
 example kind.V128 = payload.V128 (pos 0)
 example kind.Memory = payload.Memory (record { static_offset = 0; align = 0; mem = 0 })
 example kind.MemoryLane = payload.MemoryLane (record { memarg = record { static_offset = 0; align = 0; mem = 0 }; lane = 0 })

@@ -3,28 +3,8 @@ use Rattle.std.specs.Prelude.{ℕ, ◌==◌, ◌||◌, Bool, true, false, if◌t
 use Rattle.peephole_nodes.specs.declared.payload.Payload.{Payload}
 use Rattle.peephole_nodes.specs.declared.payload.Payload.TheVariants as payload
 use Rattle.peephole_lang.specs.LangShapes as lang
-use Rattle.peephole_nodes.specs.NumericShapes as numeric
-use Rattle.peephole_nodes.specs.SimdShapes as simd
-
-abbrev pub is_numeric : ℕ → ℕ → Bool
-is_numeric place count =
-    if count == 2 then numeric.is_numeric_plain_two_a place || numeric.is_numeric_plain_two_b place else
-    if count == 1 then numeric.is_numeric_plain_one_a place || numeric.is_numeric_plain_one_b place else false
-
-abbrev pub is_simd_plain : ℕ → ℕ → Bool
-is_simd_plain place count =
-    if count == 3 then simd.is_simd_plain_three place else
-    if count == 2 then simd.is_simd_plain_two_a place || simd.is_simd_plain_two_b place || simd.is_simd_plain_two_c place || simd.is_simd_plain_two_d place else
-    if count == 1 then simd.is_simd_plain_one_a place || simd.is_simd_plain_one_b place else false
-
--- with a payload
-abbrev pub is_simd : ℕ → Payload → ℕ → Bool
-is_simd place (payload.Lane _) count = if count == 2 then simd.is_simd_lane_two place else if count == 1 then simd.is_simd_lane_one place else false
-is_simd place (payload.V128 _) count = if count == 0 then simd.is_simd_v128_leaf place else false
-is_simd place (payload.Memory _) count = if count == 2 then simd.is_simd_memory_two place else if count == 1 then simd.is_simd_memory_one place else false
-is_simd place (payload.MemoryLane _) count = if count == 2 then simd.is_simd_memory_lane_two place else false
-is_simd place (payload.Shuffle _) count = if count == 2 then simd.is_simd_shuffle_two place else false
-is_simd _ _ _ = false
+use Rattle.peephole_nodes.specs.NumericShapes.{is_numeric}
+use Rattle.peephole_nodes.specs.SimdShapes.{is_simd, is_simd_plain}
 
 abbrev pub is_few : ℕ → ℕ → Bool
 is_few place count =

@@ -1,4 +1,5 @@
--- Each node is of a variant of the table: its place, its kind of payload and its number of children are the variant's.
+-- Each node is of a variant of the table: its place, its kind of payload and its number of children are the variant's
+-- (this project).
 use Rattle.std.specs.Prelude.{◌≡◌, true, refl}
 use Rattle.peephole_nodes.specs.declared.payload.Payload.TheVariants as payload
 use Rattle.peephole_nodes.specs.declared.numeric.Numeric.{Numeric}

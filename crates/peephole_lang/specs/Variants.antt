@@ -1,5 +1,5 @@
 -- The variants of nodes: place, name, kind of payload, number of children (this project; the names of instructions are
--- those of the WebAssembly Core Specification 3.0, section 6.5, Instructions, but for a few that are named as upstream does).
+-- those of the WebAssembly Core Specification 3.0, Text Format, Instructions, but for a few that are named as upstream does).
 use Rattle.std.specs.Prelude.{ℕ, List, [], ◌∷◌, codes, Option, slice_get}
 use Rattle.peephole_nodes.specs.declared.payload.PayloadKind.{PayloadKind}
 use Rattle.peephole_nodes.specs.declared.payload.PayloadKind.TheVariants as kind

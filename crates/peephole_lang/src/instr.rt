@@ -12,7 +12,7 @@ use wasm_code::Instr;
 
 impl Lang {
     /// False exactly where the node has a memory argument whose `align` is 64 or more: such a node has no bytes (WebAssembly
-    /// Core Specification 3.0, section 5.4, Instructions).
+    /// Core Specification 3.0, Binary Format, Instructions).
     pub fn is_writable(&self) -> bool
         ensures { result ≡ is_writable (payload_of self.now) }
     {

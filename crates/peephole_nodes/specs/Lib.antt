@@ -14,3 +14,5 @@ pub mod SimdLending
 pub mod NumericLending
 pub mod NumericShapes
 pub mod SimdShapes
+pub mod Made
+pub mod Compared

@@ -1,5 +1,5 @@
 -- The immediate that stands for a payload, and the payload that stands for an immediate (this project; the order of two
--- indexes: WebAssembly Core Specification 3.0, section 5.4, Instructions: segment, then memory or table, and destination,
+-- indexes: WebAssembly Core Specification 3.0, Binary Format, Instructions: segment, then memory or table, and destination,
 -- then source).
 use Rattle.std.specs.Prelude.{nat_lt, Bool, true, false, Option, Some, None}
 use Rattle.wasm_code.specs.declared.immediate.AbstractHeapType.TheVariants as ty
@@ -21,8 +21,8 @@ imm_of (payload.Index index) = imm.Index index
 imm_of (payload.Lane lane) = imm.Lane lane
 imm_of (payload.I32 number) = imm.I32 number
 imm_of (payload.I64 number) = imm.I64 number
-imm_of (payload.F32 number) = imm.F32 number.bits
-imm_of (payload.F64 number) = imm.F64 number.bits
+imm_of (payload.F32 bits) = imm.F32 bits
+imm_of (payload.F64 bits) = imm.F64 bits
 imm_of (payload.V128 number) = imm.V128 number
 imm_of (payload.Memory m) = imm.Mem (mem_arg_of_payload m)
 imm_of (payload.MemoryLane m) = imm.MemLane (mem_arg_of_payload m.memarg) m.lane
@@ -72,8 +72,8 @@ payload_of_imm kind.Index (imm.Index index) = Some (payload.Index index)
 payload_of_imm kind.Lane (imm.Lane lane) = Some (payload.Lane lane)
 payload_of_imm kind.I32 (imm.I32 number) = Some (payload.I32 number)
 payload_of_imm kind.I64 (imm.I64 number) = Some (payload.I64 number)
-payload_of_imm kind.F32 (imm.F32 bits) = Some (payload.F32 (record { bits = bits }))
-payload_of_imm kind.F64 (imm.F64 bits) = Some (payload.F64 (record { bits = bits }))
+payload_of_imm kind.F32 (imm.F32 bits) = Some (payload.F32 bits)
+payload_of_imm kind.F64 (imm.F64 bits) = Some (payload.F64 bits)
 payload_of_imm kind.V128 (imm.V128 number) = Some (payload.V128 number)
 payload_of_imm kind.Memory (imm.Mem m) = Some (payload.Memory (payload_of_mem_arg m))
 payload_of_imm kind.MemoryLane (imm.MemLane m lane) = Some (payload.MemoryLane (record { memarg = payload_of_mem_arg m; lane = lane }))

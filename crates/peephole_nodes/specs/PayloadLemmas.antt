@@ -1,27 +1,21 @@
--- What holds of payloads of every kind: of their equality, of the immediates that they stand for, and of their texts.
-use Rattle.std.specs.Prelude.{◌≡◌, ◌<◌, ◌==◌, ◌&&◌, ℕ, List, [], ◌∷◌, All, Bool, true, Some, Result, Ok, Err, refl}
-use Rattle.std.specs.Cmp.{unsigned_Decides, signed_Decides, first_so, second_so}
+-- What holds of payloads of every kind: of their equality, of the immediates that they stand for, and of their texts
+-- (this project).
+use Rattle.std.specs.Prelude.{◌≡◌, ◌<◌, ℕ, List, [], ◌∷◌, All, true, Some, Result, Ok, Err, refl}
+use Rattle.std.specs.Cmp.{unsigned_Decides, signed_Decides}
 use Rattle.std.specs.List.{AllByRecursion}
 use Rattle.std.specs.Option.{is_some}
 use Rattle.std.proofs.Common.{true≢false, suc, ap, subst, sym, lit≤, arith}
 use Rattle.std.proofs.lemmas.Option.{none-some}
-use Rattle.std.proofs.lemmas.Slice.Eq.{bytes_eq-Decides}
 use Rattle.wasm_code.specs.Instruction.{InRange, is_of_kind}
-use Rattle.wasm_code.specs.contracts.immediate.ValTypePartialEq.TheImpl as val_type_eq
+use Rattle.wasm_code.specs.ValTypeEquality.{same_val_type}
 use Rattle.wasm_code.specs.declared.immediate.AbstractHeapType.TheVariants as ty
 use Rattle.wasm_code.specs.declared.immediate.HeapType.TheVariants.{Abstract}
 use Rattle.wasm_code.specs.declared.immediate.Imm.{Imm}
 use Rattle.wasm_code.specs.declared.immediate.Imm.TheVariants as imm
-use Rattle.wasm_code.specs.declared.immediate.ValType.{ValType}
-use Rattle.wasm_code.specs.declared.immediate.ValType.TheVariants as val
-use Rattle.mutate_base.proofs.LawLemmas as law
-use Rattle.mutate_base.proofs.NumberBack.{signed_in_range_back}
-use Rattle.mutate_base.proofs.PayloadLemmas.{same_type}
-use Rattle.mutate_base.proofs.ReadBackLemmas.{unsigned_back}
-use Rattle.mutate_base.specs.contracts.payload.MemArgPartialEq.TheImpl as mem_arg_eq
-use Rattle.mutate_base.specs.contracts.payload.RefTypePartialEq.TheImpl as ref_type_eq
-use Rattle.mutate_base.specs.declared.payload.MemArg.{MemArg}
-use Rattle.mutate_base.specs.declared.payload.RefType.{RefType}
+use Rattle.mutate_base.specs.Equality as equal
+use Rattle.mutate_base.specs.LawLemmas as law
+use Rattle.mutate_base.specs.NumberBack.{signed_in_range_back}
+use Rattle.mutate_base.specs.ReadBackLemmas.{unsigned_back}
 use Rattle.mutate_base.specs.declared.payload.RefType.TheVariants as ref
 use Rattle.mutate_base.specs.declared.term_error.TermError.{TermError}
 use Rattle.peephole_nodes.specs.contracts.payload.PayloadPartialEq.TheImpl as payload_eq
@@ -36,67 +30,25 @@ use Rattle.peephole_nodes.specs.PayloadText.{inner_text, with_payload, read_payl
 
 -- ---- equality
 
-same_number : (n m : ℕ) → (n == m) ≡ true → n ≡ m
-same_number n m = (unsigned_Decides n m).0
-
-same_pair : (make : ℕ → ℕ → Payload) (a b c d : ℕ) → ((a == c) && (b == d)) ≡ true → make a b ≡ make c d
-same_pair make a b c d e = λ i. make (same_number a c (first_so (a == c) (b == d) e) i) (same_number b d (second_so (a == c) (b == d) e) i)
-
-same_mem_arg : (m n : MemArg) → mem_arg_eq.ghosts.eq m n ≡ true → m ≡ n
-same_mem_arg m n e =
-    let offset : Bool = m.static_offset == n.static_offset in
-    let align : Bool = m.align == n.align in
-    let memory : Bool = m.mem == n.mem in
-    let behind = second_so offset (align && memory) e in
-    λ i. record {
-      static_offset = same_number m.static_offset n.static_offset (first_so offset (align && memory) e) i;
-      align = same_number m.align n.align (first_so align memory behind) i;
-      mem = same_number m.mem n.mem (second_so align memory behind) i;
-    }
-
-same_ref_type : (t u : RefType) → ref_type_eq.ghosts.eq t u ≡ true → t ≡ u
-same_ref_type ref.Func ref.Func e = refl
-same_ref_type ref.Extern ref.Extern e = refl
-same_ref_type _ _ e = absurd (true≢false (sym e))
-
-same_val_type : (t u : ValType) → val_type_eq.ghosts.eq t u ≡ true → t ≡ u
-same_val_type val.I32 val.I32 e = refl
-same_val_type val.I64 val.I64 e = refl
-same_val_type val.F32 val.F32 e = refl
-same_val_type val.F64 val.F64 e = refl
-same_val_type val.V128 val.V128 e = refl
-same_val_type val.FuncRef val.FuncRef e = refl
-same_val_type val.ExternRef val.ExternRef e = refl
-same_val_type _ _ e = absurd (true≢false (sym e))
-
 -- payloads that compare equal are the same
 pub same_payload : (p q : Payload) → payload_eq.ghosts.eq p q ≡ true → p ≡ q
 same_payload payload.Nothing payload.Nothing e = refl
-same_payload (payload.Index n) (payload.Index m) e = ap (λ k. payload.Index k) (same_number n m e)
-same_payload (payload.Lane n) (payload.Lane m) e = ap (λ k. payload.Lane k) (same_number n m e)
+same_payload (payload.Index n) (payload.Index m) e = ap (λ k. payload.Index k) ((unsigned_Decides n m).0 e)
+same_payload (payload.Lane n) (payload.Lane m) e = ap (λ k. payload.Lane k) ((unsigned_Decides n m).0 e)
 same_payload (payload.I32 n) (payload.I32 m) e = ap (λ k. payload.I32 k) ((signed_Decides n m).0 e)
 same_payload (payload.I64 n) (payload.I64 m) e = ap (λ k. payload.I64 k) ((signed_Decides n m).0 e)
-same_payload (payload.F32 x) (payload.F32 y) e = ap (λ k. payload.F32 (record { bits = k })) (same_number x.bits y.bits e)
-same_payload (payload.F64 x) (payload.F64 y) e = ap (λ k. payload.F64 (record { bits = k })) (same_number x.bits y.bits e)
+same_payload (payload.F32 n) (payload.F32 m) e = ap (λ k. payload.F32 k) ((unsigned_Decides n m).0 e)
+same_payload (payload.F64 n) (payload.F64 m) e = ap (λ k. payload.F64 k) ((unsigned_Decides n m).0 e)
 same_payload (payload.V128 n) (payload.V128 m) e = ap (λ k. payload.V128 k) ((signed_Decides n m).0 e)
-same_payload (payload.Memory m) (payload.Memory n) e = ap (λ k. payload.Memory k) (same_mem_arg m n e)
-same_payload (payload.MemoryLane m) (payload.MemoryLane n) e =
-    let place : Bool = mem_arg_eq.ghosts.eq m.memarg n.memarg in
-    λ i. payload.MemoryLane (record {
-      memarg = same_mem_arg m.memarg n.memarg (first_so place (m.lane == n.lane) e) i;
-      lane = same_number m.lane n.lane (second_so place (m.lane == n.lane) e) i;
-    })
-same_payload (payload.Shuffle s) (payload.Shuffle t) e = ap (λ k. payload.Shuffle (record { indices = k })) ((bytes_eq-Decides s.indices t.indices).0 e)
-same_payload (payload.Ref t) (payload.Ref u) e = ap (λ k. payload.Ref k) (same_ref_type t u e)
+same_payload (payload.Memory m) (payload.Memory n) e = ap (λ k. payload.Memory k) (equal.same_mem_arg m n e)
+same_payload (payload.MemoryLane m) (payload.MemoryLane n) e = ap (λ k. payload.MemoryLane k) (equal.same_mem_arg_lane m n e)
+same_payload (payload.Shuffle s) (payload.Shuffle t) e = ap (λ k. payload.Shuffle k) (equal.same_shuffle s t e)
+same_payload (payload.Ref t) (payload.Ref u) e = ap (λ k. payload.Ref k) (equal.same_ref_type t u e)
 same_payload (payload.Value t) (payload.Value u) e = ap (λ k. payload.Value k) (same_val_type t u e)
-same_payload (payload.MemoryInit x) (payload.MemoryInit y) e =
-    same_pair (λ a b. payload.MemoryInit (record { memory = a; segment = b })) x.memory x.segment y.memory y.segment e
-same_payload (payload.MemoryCopy x) (payload.MemoryCopy y) e =
-    same_pair (λ a b. payload.MemoryCopy (record { src = a; dst = b })) x.src x.dst y.src y.dst e
-same_payload (payload.TableInit x) (payload.TableInit y) e =
-    same_pair (λ a b. payload.TableInit (record { table = a; segment = b })) x.table x.segment y.table y.segment e
-same_payload (payload.TableCopy x) (payload.TableCopy y) e =
-    same_pair (λ a b. payload.TableCopy (record { src = a; dst = b })) x.src x.dst y.src y.dst e
+same_payload (payload.MemoryInit x) (payload.MemoryInit y) e = ap (λ k. payload.MemoryInit k) (equal.same_memory_init x y e)
+same_payload (payload.MemoryCopy x) (payload.MemoryCopy y) e = ap (λ k. payload.MemoryCopy k) (equal.same_memory_copy x y e)
+same_payload (payload.TableInit x) (payload.TableInit y) e = ap (λ k. payload.TableInit k) (equal.same_table_init x y e)
+same_payload (payload.TableCopy x) (payload.TableCopy y) e = ap (λ k. payload.TableCopy k) (equal.same_table_copy x y e)
 same_payload _ _ e = absurd (true≢false (sym e))
 
 -- and the same compare equal
@@ -218,7 +170,7 @@ payload_back kind.MemoryLane (payload.MemoryLane m) of fits =
     ap (with_payload (λ y. payload.MemoryLane y)) (law.mem_lane_back m fits.0.1 fits.0.2 fits.0.0 fits.1)
 payload_back kind.Shuffle (payload.Shuffle s) of fits = ap (with_payload (λ y. payload.Shuffle y)) (law.shuffle_back s fits.0 (by_recursion s.indices fits.1))
 payload_back kind.Ref (payload.Ref t) of fits = ap (with_payload (λ y. payload.Ref y)) (law.ref_type_back t)
-payload_back kind.Value (payload.Value t) of fits = ap (with_payload (λ y. payload.Value y)) (sym (same_type t))
+payload_back kind.Value (payload.Value t) of fits = ap (with_payload (λ y. payload.Value y)) (law.val_type_back t)
 payload_back kind.MemoryInit (payload.MemoryInit x) of fits = ap (with_payload (λ y. payload.MemoryInit y)) (law.memory_init_back x fits.1 fits.0)
 payload_back kind.MemoryCopy (payload.MemoryCopy x) of fits = ap (with_payload (λ y. payload.MemoryCopy y)) (law.memory_copy_back x fits.1 fits.0)
 payload_back kind.TableInit (payload.TableInit x) of fits = ap (with_payload (λ y. payload.TableInit y)) (law.table_init_back x fits.1 fits.0)
@@ -234,9 +186,10 @@ read_as make k (Err error) p all e = absurd cc
 
 -- what is read as a payload of the kind is of the kind
 pub read_is_of : (k : PayloadKind) (text : List ℕ) (p : Payload) → read_payload k text ≡ Ok p → is_of k p ≡ true
-read_is_of kind.Nothing text p e =
+read_is_of kind.Nothing [] p e =
     let is : payload.Nothing ≡ p = cc in
     subst (λ (q : Payload). is_of kind.Nothing q ≡ true) is refl
+read_is_of kind.Nothing (c ∷ text) p e = absurd cc
 read_is_of kind.Index text p e = read_as (λ n. payload.Index n) kind.Index _ p (λ _. refl) e
 read_is_of kind.Lane text p e = read_as (λ n. payload.Lane n) kind.Lane _ p (λ _. refl) e
 read_is_of kind.I32 text p e = read_as (λ z. payload.I32 z) kind.I32 _ p (λ _. refl) e

@@ -9,7 +9,7 @@ use Rattle.mutate_base.specs.PayloadText.{memory_init_text, memory_copy_text, ta
 use Rattle.mutate_base.specs.PayloadText.{read_f32, read_f64, read_mem_arg, read_mem_arg_lane, read_shuffle, read_ref_type, read_val_type}
 use Rattle.mutate_base.specs.PayloadText.{read_memory_init, read_memory_copy, read_table_init, read_table_copy}
 use Rattle.mutate_base.specs.declared.term_error.TermError.{TermError}
-use Rattle.mutate_base.specs.declared.term_error.TermError.TheVariants.{BadInteger}
+use Rattle.mutate_base.specs.declared.term_error.TermError.TheVariants.{BadInteger, InvalidToken}
 use Rattle.peephole_nodes.specs.declared.payload.Payload.{Payload}
 use Rattle.peephole_nodes.specs.declared.payload.Payload.TheVariants as payload
 use Rattle.peephole_nodes.specs.declared.payload.PayloadKind.{PayloadKind}
@@ -24,8 +24,8 @@ inner_text (payload.Index index) = decimal index
 inner_text (payload.Lane lane) = decimal lane
 inner_text (payload.I32 number) = signed_decimal number
 inner_text (payload.I64 number) = signed_decimal number
-inner_text (payload.F32 number) = f32_text number
-inner_text (payload.F64 number) = f64_text number
+inner_text (payload.F32 bits) = f32_text bits
+inner_text (payload.F64 bits) = f64_text bits
 inner_text (payload.V128 number) = signed_decimal number
 inner_text (payload.Memory m) = mem_arg_text m
 inner_text (payload.MemoryLane m) = mem_arg_lane_text m
@@ -49,15 +49,16 @@ abbrev pub with_payload : {A : Type 0} → (A → Payload) → Result A TermErro
 with_payload make (Ok x) = Ok (make x)
 with_payload make (Err e) = Err e
 
--- the payload of that kind that the text writes, or the refusal
+-- the payload of that kind that the text writes, or the refusal; a kind without payload has the empty text alone
 abbrev pub read_payload : PayloadKind → List ℕ → Result Payload TermError
-read_payload kind.Nothing text = Ok payload.Nothing
+read_payload kind.Nothing [] = Ok payload.Nothing
+read_payload kind.Nothing (c ∷ text) = Err InvalidToken
 read_payload kind.Index text = with_payload (λ n. payload.Index n) (ok_or (read_unsigned 32 text) BadInteger)
 read_payload kind.Lane text = with_payload (λ n. payload.Lane n) (ok_or (read_unsigned 8 text) BadInteger)
 read_payload kind.I32 text = with_payload (λ z. payload.I32 z) (ok_or (read_signed 32 text) BadInteger)
 read_payload kind.I64 text = with_payload (λ z. payload.I64 z) (ok_or (read_signed 64 text) BadInteger)
-read_payload kind.F32 text = with_payload (λ x. payload.F32 x) (read_f32 text)
-read_payload kind.F64 text = with_payload (λ x. payload.F64 x) (read_f64 text)
+read_payload kind.F32 text = with_payload (λ bits. payload.F32 bits) (read_f32 text)
+read_payload kind.F64 text = with_payload (λ bits. payload.F64 bits) (read_f64 text)
 read_payload kind.V128 text = with_payload (λ z. payload.V128 z) (ok_or (read_signed 128 text) BadInteger)
 read_payload kind.Memory text = with_payload (λ m. payload.Memory m) (read_mem_arg text)
 read_payload kind.MemoryLane text = with_payload (λ m. payload.MemoryLane m) (read_mem_arg_lane text)

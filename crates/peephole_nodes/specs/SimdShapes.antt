@@ -1,5 +1,7 @@
 -- Which places have a vector node with a given kind of payload and number of children (this project).
-use Rattle.std.specs.Prelude.{ℕ, ◌==◌, ◌||◌, Bool}
+use Rattle.std.specs.Prelude.{ℕ, ◌==◌, ◌||◌, Bool, false, if◌then◌else◌}
+use Rattle.peephole_nodes.specs.declared.payload.Payload.{Payload}
+use Rattle.peephole_nodes.specs.declared.payload.Payload.TheVariants as payload
 
 unfoldable pub is_simd_memory_one : ℕ → Bool
 is_simd_memory_one place = place == 201 || place == 202 || place == 203 || place == 204 || place == 205 || place == 206 || place == 207 || place == 208 || place == 209 || place == 210 || place == 211 || place == 293 || place == 294
@@ -42,3 +44,20 @@ is_simd_lane_two place = place == 224 || place == 227 || place == 229 || place =
 
 unfoldable pub is_simd_memory_lane_two : ℕ → Bool
 is_simd_memory_lane_two place = place == 285 || place == 286 || place == 287 || place == 288 || place == 289 || place == 290 || place == 291 || place == 292
+
+-- the place has a vector node without payload and with that many children
+abbrev pub is_simd_plain : ℕ → ℕ → Bool
+is_simd_plain place count =
+    if count == 3 then is_simd_plain_three place else
+    if count == 2 then is_simd_plain_two_a place || is_simd_plain_two_b place || is_simd_plain_two_c place || is_simd_plain_two_d place else
+    if count == 1 then is_simd_plain_one_a place || is_simd_plain_one_b place else false
+
+-- the place has a vector node with that kind of payload and that many children
+abbrev pub is_simd : ℕ → Payload → ℕ → Bool
+is_simd place payload.Nothing count = is_simd_plain place count
+is_simd place (payload.Lane _) count = if count == 2 then is_simd_lane_two place else if count == 1 then is_simd_lane_one place else false
+is_simd place (payload.V128 _) count = if count == 0 then is_simd_v128_leaf place else false
+is_simd place (payload.Memory _) count = if count == 2 then is_simd_memory_two place else if count == 1 then is_simd_memory_one place else false
+is_simd place (payload.MemoryLane _) count = if count == 2 then is_simd_memory_lane_two place else false
+is_simd place (payload.Shuffle _) count = if count == 2 then is_simd_shuffle_two place else false
+is_simd _ _ _ = false

@@ -1,18 +1,20 @@
 //! The nodes of instructions without lists of children, and what a node says besides its variant.
 #![tactic(auto)]
 
+mod compared;
 mod id;
 mod lending;
+mod making;
 mod numeric;
 mod numeric_lending;
-pub mod numeric_shapes;
+mod numeric_shapes;
 mod numeric_view;
 mod payload;
 mod payload_text;
 mod simd;
 mod simd_lending;
 mod simd_payload;
-pub mod simd_shapes;
+mod simd_shapes;
 mod simd_view;
 
 pub use id::Id;

@@ -1,7 +1,7 @@
 //! The nodes of the numeric instructions with operands.
 use crate::id::Id;
 
-/// A node of a numeric instruction with operands (WebAssembly Core Specification 3.0, section 2.4, Instructions): one
+/// A node of a numeric instruction with operands (WebAssembly Core Specification 3.0, Structure, Instructions): one
 /// of the opcodes 45 to C4, or of FC and 0 to 7.
 #[derive(Clone, Copy)]
 pub enum Numeric {

@@ -6,9 +6,9 @@ ghost use Rattle.peephole_nodes.specs.NumericShapes.{is_numeric_plain_one_a, is_
 use crate::id::Id;
 use crate::numeric::Numeric;
 
-/// The numeric node of a place up to 171, with one child; none at a place without one.
+// The numeric node of a place up to 171, with one child; none at a place without one.
 #[tactic(auto, unfolding(crate::specs::NumericShapes::is_numeric_plain_one_a, crate::specs::Numeric::numeric_place_of, crate::specs::Numeric::numeric_ids_of, crate::specs::Numeric::numeric_count_of))]
-pub fn numeric_plain_one_a(place: u16, child: Id) -> Option<Numeric>
+pub(crate) fn numeric_plain_one_a(place: u16, child: Id) -> Option<Numeric>
     ensures place { IfSome result (λ l. numeric_place_of l ≡ place) }
     ensures children { IfSome result (λ l. numeric_ids_of l ≡ child ∷ []) }
     ensures count { IfSome result (λ l. numeric_count_of l ≡ 1) }
@@ -63,9 +63,9 @@ pub fn numeric_plain_one_a(place: u16, child: Id) -> Option<Numeric>
     }
 }
 
-/// The numeric node of a place from 172 on, with one child; none at a place without one.
+// The numeric node of a place from 172 on, with one child; none at a place without one.
 #[tactic(auto, unfolding(crate::specs::NumericShapes::is_numeric_plain_one_b, crate::specs::Numeric::numeric_place_of, crate::specs::Numeric::numeric_ids_of, crate::specs::Numeric::numeric_count_of))]
-pub fn numeric_plain_one_b(place: u16, child: Id) -> Option<Numeric>
+pub(crate) fn numeric_plain_one_b(place: u16, child: Id) -> Option<Numeric>
     ensures place { IfSome result (λ l. numeric_place_of l ≡ place) }
     ensures children { IfSome result (λ l. numeric_ids_of l ≡ child ∷ []) }
     ensures count { IfSome result (λ l. numeric_count_of l ≡ 1) }
@@ -92,9 +92,9 @@ pub fn numeric_plain_one_b(place: u16, child: Id) -> Option<Numeric>
     }
 }
 
-/// The numeric node of a place up to 100, with two children; none at a place without one.
+// The numeric node of a place up to 100, with two children; none at a place without one.
 #[tactic(auto, unfolding(crate::specs::NumericShapes::is_numeric_plain_two_a, crate::specs::Numeric::numeric_place_of, crate::specs::Numeric::numeric_ids_of, crate::specs::Numeric::numeric_count_of))]
-pub fn numeric_plain_two_a(place: u16, first: Id, second: Id) -> Option<Numeric>
+pub(crate) fn numeric_plain_two_a(place: u16, first: Id, second: Id) -> Option<Numeric>
     ensures place { IfSome result (λ l. numeric_place_of l ≡ place) }
     ensures children { IfSome result (λ l. numeric_ids_of l ≡ first ∷ second ∷ []) }
     ensures count { IfSome result (λ l. numeric_count_of l ≡ 2) }
@@ -149,9 +149,9 @@ pub fn numeric_plain_two_a(place: u16, first: Id, second: Id) -> Option<Numeric>
     }
 }
 
-/// The numeric node of a place from 101 on, with two children; none at a place without one.
+// The numeric node of a place from 101 on, with two children; none at a place without one.
 #[tactic(auto, unfolding(crate::specs::NumericShapes::is_numeric_plain_two_b, crate::specs::Numeric::numeric_place_of, crate::specs::Numeric::numeric_ids_of, crate::specs::Numeric::numeric_count_of))]
-pub fn numeric_plain_two_b(place: u16, first: Id, second: Id) -> Option<Numeric>
+pub(crate) fn numeric_plain_two_b(place: u16, first: Id, second: Id) -> Option<Numeric>
     ensures place { IfSome result (λ l. numeric_place_of l ≡ place) }
     ensures children { IfSome result (λ l. numeric_ids_of l ≡ first ∷ second ∷ []) }
     ensures count { IfSome result (λ l. numeric_count_of l ≡ 2) }

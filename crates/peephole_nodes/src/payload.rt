@@ -1,6 +1,7 @@
 //! What a node says besides its variant and its children.
 ghost use Rattle.std.specs.Prelude.{◌≡◌};
 ghost use Rattle.wasm_code.specs.Instruction.{InRange};
+ghost use Rattle.wasm_code.specs.declared.immediate.Imm.TheVariants as imm;
 ghost use Rattle.peephole_nodes.specs.Payload.{imm_of, payload_of_imm, is_writable};
 
 use mutate_base::{
@@ -69,6 +70,14 @@ pub enum PayloadKind {
     TableCopy,
 }
 
+// The immediate of a shuffle's lanes.
+fn shuffle_imm(shuffle: Shuffle) -> Imm
+    ensures value { result ≡ imm.Shuffle shuffle.indices }
+    ensures in_range { InRange result }
+{
+    Imm::Shuffle(shuffle.indices)
+}
+
 impl Payload {
     /// The immediate that stands for the payload in an instruction.
     pub fn imm(self) -> Imm
@@ -81,15 +90,15 @@ impl Payload {
             Payload::Lane(lane) => Imm::Lane(lane),
             Payload::I32(number) => Imm::I32(number),
             Payload::I64(number) => Imm::I64(number),
-            Payload::F32(number) => Imm::F32(number.to_bits()),
-            Payload::F64(number) => Imm::F64(number.to_bits()),
+            Payload::F32(ref number) => Imm::F32(number.to_bits()),
+            Payload::F64(ref number) => Imm::F64(number.to_bits()),
             Payload::V128(number) => Imm::V128(number),
             Payload::Memory(memarg) => Imm::Mem((&memarg).into()),
             Payload::MemoryLane(MemArgLane { memarg, lane }) => Imm::MemLane(
                 (&memarg).into(),
                 lane,
             ),
-            Payload::Shuffle(shuffle) => Imm::Shuffle(shuffle.indices),
+            Payload::Shuffle(shuffle) => shuffle_imm(shuffle),
             Payload::Ref(ty) => Imm::Heap(ty.into()),
             Payload::Value(ty) => Imm::Val(ty),
             Payload::MemoryInit(init) => Imm::Pair(init.segment, init.memory),

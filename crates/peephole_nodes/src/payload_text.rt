@@ -1,6 +1,7 @@
 //! The texts of payloads, written and read.
 ghost use Rattle.std.specs.Prelude.{◌≡◌, Some};
 ghost use Rattle.peephole_nodes.specs.PayloadText.{inner_text, read_payload};
+ghost use Rattle.peephole_nodes.specs.declared.payload.PayloadKind.TheVariants as kind;
 
 use crate::payload::{Payload, PayloadKind};
 use mutate_base::number::{read_i32, read_i64, read_i128, read_u8, read_u32};
@@ -40,13 +41,25 @@ impl fmt::Display for PayloadText {
     }
 }
 
+// No payload, of the empty text.
+fn read_nothing(text: &str) -> Result<Payload, TermError>
+    ensures { result ≡ read_payload kind.Nothing text.now }
+{
+    if text.is_empty() {
+        Ok(Payload::Nothing)
+    } else {
+        Err(TermError::InvalidToken)
+    }
+}
+
 impl PayloadKind {
-    /// The payload of this kind that the text writes; else the first refusal in the order of reading.
+    /// The payload of this kind that the text writes; else the first refusal in the order of reading. `InvalidToken`
+    /// where the kind has no payload and the text isn't empty.
     pub fn read(self, text: &str) -> Result<Payload, TermError>
         ensures { result ≡ read_payload self text.now }
     {
         match self {
-            PayloadKind::Nothing => Ok(Payload::Nothing),
+            PayloadKind::Nothing => read_nothing(text),
             PayloadKind::Index => Ok(Payload::Index(read_u32(text)?)),
             PayloadKind::Lane => Ok(Payload::Lane(read_u8(text)?)),
             PayloadKind::I32 => Ok(Payload::I32(read_i32(text)?)),

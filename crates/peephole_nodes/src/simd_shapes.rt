@@ -9,9 +9,9 @@ use crate::id::Id;
 use crate::simd::Simd;
 use mutate_base::{MemArg, MemArgLane, Shuffle};
 
-/// The vector node of a place, with a memory argument and one child; none at a place without one.
+// The vector node of a place, with a memory argument and one child; none at a place without one.
 #[tactic(auto, unfolding(crate::specs::SimdShapes::is_simd_memory_one, crate::specs::Simd::simd_place_of, crate::specs::Simd::simd_payload_of, crate::specs::SimdChildren::simd_ids_of, crate::specs::SimdChildren::simd_count_of))]
-pub fn simd_memory_one(place: u16, payload: MemArg, child: Id) -> Option<Simd>
+pub(crate) fn simd_memory_one(place: u16, payload: MemArg, child: Id) -> Option<Simd>
     ensures place { IfSome result (λ l. simd_place_of l ≡ place) }
     ensures payload { IfSome result (λ l. simd_payload_of l ≡ P.Memory payload) }
     ensures children { IfSome result (λ l. simd_ids_of l ≡ child ∷ []) }
@@ -36,9 +36,9 @@ pub fn simd_memory_one(place: u16, payload: MemArg, child: Id) -> Option<Simd>
     }
 }
 
-/// The vector node of a place, with a memory argument and two children; none at a place without one.
+// The vector node of a place, with a memory argument and two children; none at a place without one.
 #[tactic(auto, unfolding(crate::specs::SimdShapes::is_simd_memory_two, crate::specs::Simd::simd_place_of, crate::specs::Simd::simd_payload_of, crate::specs::SimdChildren::simd_ids_of, crate::specs::SimdChildren::simd_count_of))]
-pub fn simd_memory_two(place: u16, payload: MemArg, first: Id, second: Id) -> Option<Simd>
+pub(crate) fn simd_memory_two(place: u16, payload: MemArg, first: Id, second: Id) -> Option<Simd>
     ensures place { IfSome result (λ l. simd_place_of l ≡ place) }
     ensures payload { IfSome result (λ l. simd_payload_of l ≡ P.Memory payload) }
     ensures children { IfSome result (λ l. simd_ids_of l ≡ first ∷ second ∷ []) }
@@ -51,9 +51,9 @@ pub fn simd_memory_two(place: u16, payload: MemArg, first: Id, second: Id) -> Op
     }
 }
 
-/// The vector constant, at its place; none at every other.
+// The vector constant, at its place; none at every other.
 #[tactic(auto, unfolding(crate::specs::SimdShapes::is_simd_v128_leaf, crate::specs::Simd::simd_place_of, crate::specs::Simd::simd_payload_of, crate::specs::SimdChildren::simd_ids_of, crate::specs::SimdChildren::simd_count_of))]
-pub fn simd_v128_leaf(place: u16, payload: i128) -> Option<Simd>
+pub(crate) fn simd_v128_leaf(place: u16, payload: i128) -> Option<Simd>
     ensures place { IfSome result (λ l. simd_place_of l ≡ place) }
     ensures payload { IfSome result (λ l. simd_payload_of l ≡ P.V128 payload) }
     ensures children { IfSome result (λ l. simd_ids_of l ≡ []) }
@@ -66,9 +66,9 @@ pub fn simd_v128_leaf(place: u16, payload: i128) -> Option<Simd>
     }
 }
 
-/// The shuffle, at its place; none at every other.
+// The shuffle, at its place; none at every other.
 #[tactic(auto, unfolding(crate::specs::SimdShapes::is_simd_shuffle_two, crate::specs::Simd::simd_place_of, crate::specs::Simd::simd_payload_of, crate::specs::SimdChildren::simd_ids_of, crate::specs::SimdChildren::simd_count_of))]
-pub fn simd_shuffle_two(place: u16, payload: Shuffle, first: Id, second: Id) -> Option<Simd>
+pub(crate) fn simd_shuffle_two(place: u16, payload: Shuffle, first: Id, second: Id) -> Option<Simd>
     ensures place { IfSome result (λ l. simd_place_of l ≡ place) }
     ensures payload { IfSome result (λ l. simd_payload_of l ≡ P.Shuffle payload) }
     ensures children { IfSome result (λ l. simd_ids_of l ≡ first ∷ second ∷ []) }
@@ -81,9 +81,9 @@ pub fn simd_shuffle_two(place: u16, payload: Shuffle, first: Id, second: Id) -> 
     }
 }
 
-/// The vector node of a place up to 383, with one child and no payload; none at a place without one.
+// The vector node of a place up to 383, with one child and no payload; none at a place without one.
 #[tactic(auto, unfolding(crate::specs::SimdShapes::is_simd_plain_one_a, crate::specs::Simd::simd_place_of, crate::specs::Simd::simd_payload_of, crate::specs::SimdChildren::simd_ids_of, crate::specs::SimdChildren::simd_count_of))]
-pub fn simd_plain_one_a(place: u16, child: Id) -> Option<Simd>
+pub(crate) fn simd_plain_one_a(place: u16, child: Id) -> Option<Simd>
     ensures place { IfSome result (λ l. simd_place_of l ≡ place) }
     ensures payload { IfSome result (λ l. simd_payload_of l ≡ P.Nothing) }
     ensures children { IfSome result (λ l. simd_ids_of l ≡ child ∷ []) }
@@ -139,9 +139,9 @@ pub fn simd_plain_one_a(place: u16, child: Id) -> Option<Simd>
     }
 }
 
-/// The vector node of a place from 384 on, with one child and no payload; none at a place without one.
+// The vector node of a place from 384 on, with one child and no payload; none at a place without one.
 #[tactic(auto, unfolding(crate::specs::SimdShapes::is_simd_plain_one_b, crate::specs::Simd::simd_place_of, crate::specs::Simd::simd_payload_of, crate::specs::SimdChildren::simd_ids_of, crate::specs::SimdChildren::simd_count_of))]
-pub fn simd_plain_one_b(place: u16, child: Id) -> Option<Simd>
+pub(crate) fn simd_plain_one_b(place: u16, child: Id) -> Option<Simd>
     ensures place { IfSome result (λ l. simd_place_of l ≡ place) }
     ensures payload { IfSome result (λ l. simd_payload_of l ≡ P.Nothing) }
     ensures children { IfSome result (λ l. simd_ids_of l ≡ child ∷ []) }
@@ -178,9 +178,9 @@ pub fn simd_plain_one_b(place: u16, child: Id) -> Option<Simd>
     }
 }
 
-/// The vector node of a place up to 279, with two children and no payload; none at a place without one.
+// The vector node of a place up to 279, with two children and no payload; none at a place without one.
 #[tactic(auto, unfolding(crate::specs::SimdShapes::is_simd_plain_two_a, crate::specs::Simd::simd_place_of, crate::specs::Simd::simd_payload_of, crate::specs::SimdChildren::simd_ids_of, crate::specs::SimdChildren::simd_count_of))]
-pub fn simd_plain_two_a(place: u16, first: Id, second: Id) -> Option<Simd>
+pub(crate) fn simd_plain_two_a(place: u16, first: Id, second: Id) -> Option<Simd>
     ensures place { IfSome result (λ l. simd_place_of l ≡ place) }
     ensures payload { IfSome result (λ l. simd_payload_of l ≡ P.Nothing) }
     ensures children { IfSome result (λ l. simd_ids_of l ≡ first ∷ second ∷ []) }
@@ -236,9 +236,9 @@ pub fn simd_plain_two_a(place: u16, first: Id, second: Id) -> Option<Simd>
     }
 }
 
-/// The vector node of a place from 280 to 370, with two children and no payload; none at a place without one.
+// The vector node of a place from 280 to 370, with two children and no payload; none at a place without one.
 #[tactic(auto, unfolding(crate::specs::SimdShapes::is_simd_plain_two_b, crate::specs::Simd::simd_place_of, crate::specs::Simd::simd_payload_of, crate::specs::SimdChildren::simd_ids_of, crate::specs::SimdChildren::simd_count_of))]
-pub fn simd_plain_two_b(place: u16, first: Id, second: Id) -> Option<Simd>
+pub(crate) fn simd_plain_two_b(place: u16, first: Id, second: Id) -> Option<Simd>
     ensures place { IfSome result (λ l. simd_place_of l ≡ place) }
     ensures payload { IfSome result (λ l. simd_payload_of l ≡ P.Nothing) }
     ensures children { IfSome result (λ l. simd_ids_of l ≡ first ∷ second ∷ []) }
@@ -294,9 +294,9 @@ pub fn simd_plain_two_b(place: u16, first: Id, second: Id) -> Option<Simd>
     }
 }
 
-/// The vector node of a place from 371 to 428, with two children and no payload; none at a place without one.
+// The vector node of a place from 371 to 428, with two children and no payload; none at a place without one.
 #[tactic(auto, unfolding(crate::specs::SimdShapes::is_simd_plain_two_c, crate::specs::Simd::simd_place_of, crate::specs::Simd::simd_payload_of, crate::specs::SimdChildren::simd_ids_of, crate::specs::SimdChildren::simd_count_of))]
-pub fn simd_plain_two_c(place: u16, first: Id, second: Id) -> Option<Simd>
+pub(crate) fn simd_plain_two_c(place: u16, first: Id, second: Id) -> Option<Simd>
     ensures place { IfSome result (λ l. simd_place_of l ≡ place) }
     ensures payload { IfSome result (λ l. simd_payload_of l ≡ P.Nothing) }
     ensures children { IfSome result (λ l. simd_ids_of l ≡ first ∷ second ∷ []) }
@@ -352,9 +352,9 @@ pub fn simd_plain_two_c(place: u16, first: Id, second: Id) -> Option<Simd>
     }
 }
 
-/// The vector node of a place from 429 on, with two children and no payload; none at a place without one.
+// The vector node of a place from 429 on, with two children and no payload; none at a place without one.
 #[tactic(auto, unfolding(crate::specs::SimdShapes::is_simd_plain_two_d, crate::specs::Simd::simd_place_of, crate::specs::Simd::simd_payload_of, crate::specs::SimdChildren::simd_ids_of, crate::specs::SimdChildren::simd_count_of))]
-pub fn simd_plain_two_d(place: u16, first: Id, second: Id) -> Option<Simd>
+pub(crate) fn simd_plain_two_d(place: u16, first: Id, second: Id) -> Option<Simd>
     ensures place { IfSome result (λ l. simd_place_of l ≡ place) }
     ensures payload { IfSome result (λ l. simd_payload_of l ≡ P.Nothing) }
     ensures children { IfSome result (λ l. simd_ids_of l ≡ first ∷ second ∷ []) }
@@ -373,9 +373,9 @@ pub fn simd_plain_two_d(place: u16, first: Id, second: Id) -> Option<Simd>
     }
 }
 
-/// The vector node of a place, with three children; none at a place without one.
+// The vector node of a place, with three children; none at a place without one.
 #[tactic(auto, unfolding(crate::specs::SimdShapes::is_simd_plain_three, crate::specs::Simd::simd_place_of, crate::specs::Simd::simd_payload_of, crate::specs::SimdChildren::simd_ids_of, crate::specs::SimdChildren::simd_count_of))]
-pub fn simd_plain_three(place: u16, first: Id, second: Id, third: Id) -> Option<Simd>
+pub(crate) fn simd_plain_three(place: u16, first: Id, second: Id, third: Id) -> Option<Simd>
     ensures place { IfSome result (λ l. simd_place_of l ≡ place) }
     ensures payload { IfSome result (λ l. simd_payload_of l ≡ P.Nothing) }
     ensures children { IfSome result (λ l. simd_ids_of l ≡ first ∷ second ∷ third ∷ []) }
@@ -397,9 +397,9 @@ pub fn simd_plain_three(place: u16, first: Id, second: Id, third: Id) -> Option<
     }
 }
 
-/// The vector node of a place, with a lane and one child; none at a place without one.
+// The vector node of a place, with a lane and one child; none at a place without one.
 #[tactic(auto, unfolding(crate::specs::SimdShapes::is_simd_lane_one, crate::specs::Simd::simd_place_of, crate::specs::Simd::simd_payload_of, crate::specs::SimdChildren::simd_ids_of, crate::specs::SimdChildren::simd_count_of))]
-pub fn simd_lane_one(place: u16, payload: u8, child: Id) -> Option<Simd>
+pub(crate) fn simd_lane_one(place: u16, payload: u8, child: Id) -> Option<Simd>
     ensures place { IfSome result (λ l. simd_place_of l ≡ place) }
     ensures payload { IfSome result (λ l. simd_payload_of l ≡ P.Lane payload) }
     ensures children { IfSome result (λ l. simd_ids_of l ≡ child ∷ []) }
@@ -419,9 +419,9 @@ pub fn simd_lane_one(place: u16, payload: u8, child: Id) -> Option<Simd>
     }
 }
 
-/// The vector node of a place, with a lane and two children; none at a place without one.
+// The vector node of a place, with a lane and two children; none at a place without one.
 #[tactic(auto, unfolding(crate::specs::SimdShapes::is_simd_lane_two, crate::specs::Simd::simd_place_of, crate::specs::Simd::simd_payload_of, crate::specs::SimdChildren::simd_ids_of, crate::specs::SimdChildren::simd_count_of))]
-pub fn simd_lane_two(place: u16, payload: u8, first: Id, second: Id) -> Option<Simd>
+pub(crate) fn simd_lane_two(place: u16, payload: u8, first: Id, second: Id) -> Option<Simd>
     ensures place { IfSome result (λ l. simd_place_of l ≡ place) }
     ensures payload { IfSome result (λ l. simd_payload_of l ≡ P.Lane payload) }
     ensures children { IfSome result (λ l. simd_ids_of l ≡ first ∷ second ∷ []) }
@@ -439,9 +439,14 @@ pub fn simd_lane_two(place: u16, payload: u8, first: Id, second: Id) -> Option<S
     }
 }
 
-/// The vector node of a place, with a memory argument, a lane and two children; none at a place without one.
+// The vector node of a place, with a memory argument, a lane and two children; none at a place without one.
 #[tactic(auto, unfolding(crate::specs::SimdShapes::is_simd_memory_lane_two, crate::specs::Simd::simd_place_of, crate::specs::Simd::simd_payload_of, crate::specs::SimdChildren::simd_ids_of, crate::specs::SimdChildren::simd_count_of))]
-pub fn simd_memory_lane_two(place: u16, payload: MemArgLane, first: Id, second: Id) -> Option<Simd>
+pub(crate) fn simd_memory_lane_two(
+    place: u16,
+    payload: MemArgLane,
+    first: Id,
+    second: Id,
+) -> Option<Simd>
     ensures place { IfSome result (λ l. simd_place_of l ≡ place) }
     ensures payload { IfSome result (λ l. simd_payload_of l ≡ P.MemoryLane payload) }
     ensures children { IfSome result (λ l. simd_ids_of l ≡ first ∷ second ∷ []) }

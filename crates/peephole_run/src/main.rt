@@ -4,6 +4,8 @@
 #[cfg(test)]
 mod refused_memory;
 #[cfg(test)]
+mod results;
+#[cfg(test)]
 mod tests;
 
 use peephole_commands::{Tally, run};

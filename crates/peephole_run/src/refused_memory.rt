@@ -1,4 +1,4 @@
-//! Memory that runs out in the middle of a run. `rt try --test --fail-alloc N` refuses each test its allocation N.
+//! Memory that runs out in the middle of a run: `tests/refused_memory.sh` refuses each request for memory in turn.
 
 use peephole_commands::{RunError, Tally, run};
 use std::alloc::Global;
@@ -61,14 +61,79 @@ fn cut_at(lines: &[(&str, &str)], number: usize) -> Page {
         }
     }
     page.add(b"line ");
+    if number > 9 {
+        page.add(&[b'0' + (number / 10 % 10) as u8]);
+    }
     page.add(&[b'0' + (number % 10) as u8]);
     page.add(b": Memory\n");
     page
 }
 
-/// Runs some lines, of which each prints something or nothing. Either all is printed, or memory was refused: while the
-/// input was read, and nothing is printed, or at one of the lines.
-fn is_run(rt: &impl Abort, alloc: Global, lines: &[(&str, &str)]) {
+/// The lines of an input, each with what it prints.
+type Lines = &'static [(&'static str, &'static str)];
+
+const RUNS: [Lines; 6] = [
+    &[
+        ("body 412a41016a0b", ""),
+        ("at 2", "block 0..3\n"),
+        ("node i32.const.1", ""),
+        ("node i32.const.42", ""),
+        ("node i32.add 0 1", ""),
+        ("write", "bytes 4101412a6a0b\n"),
+    ],
+    &[
+        ("word 1731343737", ""),
+        ("body 41380b", ""),
+        ("at 0", "block 0..1\n"),
+        ("node i32.const.56", ""),
+        ("node i32.unfold 0", ""),
+        ("write", "bytes 41f9eac8b90641bf95b7c6796a0b\n"),
+    ],
+    &[
+        ("body 200002400b41016a0b", ""),
+        ("at 4", "block 3..5\n"),
+        ("write", "bytes 200002400b41016a0b\n"),
+    ],
+    &[
+        ("global i32", ""),
+        ("global i32", ""),
+        ("body 410741086a0b", ""),
+        ("at 2", "block 0..3\n"),
+        ("node i32.const.7", ""),
+        ("node i32.use_of_global 0", ""),
+        ("node i32.const.8", ""),
+        ("node i32.use_of_global 2", ""),
+        ("node i32.add 1 3", ""),
+        (
+            "write",
+            "bytes 4107240223024108240323036a0b\nglobal i32\nglobal i32\n",
+        ),
+    ],
+    &[
+        ("body 410a1a0b", ""),
+        ("at 0", "block 0..1\n"),
+        ("node i32.const.10", ""),
+        ("node i32.or 0 0", ""),
+        ("write", "bytes 410a410a721a0b\n"),
+    ],
+    &[
+        ("body 200002400b41016a0b", ""),
+        ("at 4", "block 3..5\n"),
+        (
+            "show",
+            "DFG forest\n\
+             (0)(at 4) i32.add\n\
+             ├──(4294967295)(at 4) undef\n\
+             └──(0)(at 3) i32.const.1\n\
+             in order yes\n\
+             consistent no\n",
+        ),
+    ],
+];
+
+/// Whether memory was refused to the run of some lines: while the input was read, and then nothing is printed, or at one of the
+/// lines. Else all is printed.
+fn lacks_memory(rt: &impl Abort, alloc: Global, lines: &[(&str, &str)]) -> bool {
     let mut text = Page::new();
     let mut whole = Page::new();
     for (line, printed) in lines {
@@ -79,86 +144,39 @@ fn is_run(rt: &impl Abort, alloc: Global, lines: &[(&str, &str)]) {
     let mut input = Tally::new(text.text());
     let mut output = Tally::new(Page::new());
     let result = run(alloc, &mut input, &mut output);
+    assert!(rt; !input.failed() && !output.failed());
     let written = output.into_inner();
     match result {
-        Ok(true) => assert!(rt; written.text() == whole.text()),
-        Ok(false) => assert!(rt;
-            (1..=lines.len()).any(|number| written.text() == cut_at(lines, number).text())
-        ),
-        Err(error) => assert!(rt; error == RunError::Memory && written.len == 0),
+        Ok(true) => {
+            assert!(rt; written.text() == whole.text());
+            false
+        }
+        Ok(false) => {
+            assert!(rt;
+                (1..=lines.len()).any(|number| written.text() == cut_at(lines, number).text())
+            );
+            true
+        }
+        Err(error) => {
+            assert!(rt; error == RunError::Memory && written.len == 0);
+            true
+        }
     }
 }
 
-#[test]
-fn runs_of_terms(rt: HostRuntime) {
-    is_run(
-        &rt,
-        rt.alloc(),
-        &[
-            ("body 412a41016a0b", ""),
-            ("at 2", "block 0..3\n"),
-            ("node i32.const.1", ""),
-            ("node i32.const.42", ""),
-            ("node i32.add 0 1", ""),
-            ("write", "bytes 4101412a6a0b\n"),
-        ],
-    );
+/// Whether memory was refused to one of the runs: one request at most.
+pub fn runs(rt: &impl Abort, alloc: Global) -> bool {
+    let mut lacks = false;
+    for lines in RUNS {
+        if lacks_memory(rt, alloc, lines) {
+            assert!(rt; !lacks);
+            lacks = true;
+        }
+    }
+    lacks
 }
 
 #[test]
-fn runs_of_words(rt: HostRuntime) {
-    is_run(
-        &rt,
-        rt.alloc(),
-        &[
-            ("word 1731343737", ""),
-            ("body 41380b", ""),
-            ("at 0", "block 0..1\n"),
-            ("node i32.const.56", ""),
-            ("node i32.unfold 0", ""),
-            ("write", "bytes 41f9eac8b90641bf95b7c6796a0b\n"),
-        ],
-    );
-}
-
-#[test]
-fn runs_of_globals(rt: HostRuntime) {
-    is_run(
-        &rt,
-        rt.alloc(),
-        &[
-            ("global i32", ""),
-            ("body 41070b", ""),
-            ("at 0", "block 0..1\n"),
-            ("node i32.const.7", ""),
-            ("node i32.use_of_global 0", ""),
-            ("node i32.or 1 1", ""),
-            (
-                "write",
-                "bytes 410724012301410724022302720b\nglobal i32\nglobal i32\n",
-            ),
-        ],
-    );
-}
-
-#[test]
-fn runs_of_forests(rt: HostRuntime) {
-    is_run(
-        &rt,
-        rt.alloc(),
-        &[
-            ("body 200002400b41016a0b", ""),
-            ("at 4", "block 3..5\n"),
-            (
-                "show",
-                "DFG forest\n\
-                 (0)(at 4) i32.add\n\
-                 ├──(4294967295)(at 4) undef\n\
-                 └──(0)(at 3) i32.const.1\n\
-                 in order yes\n\
-                 consistent no\n",
-            ),
-            ("write", "bytes 200002400b41016a0b\n"),
-        ],
-    );
+fn runs_of_samples(rt: HostRuntime) {
+    runs(&rt, rt.alloc());
 }

@@ -48,13 +48,13 @@ impl Write for FailingWriter {
     }
 }
 
-fn answers(rt: &impl Abort, alloc: Global, text: &[u8], written: &[u8], ok: bool) {
+pub(crate) fn answers(rt: &impl Abort, alloc: Global, text: &[u8], written: &[u8], ok: bool) {
     let mut input = Tally::new(text);
     let mut output = Tally::new(Vec::new(alloc));
     let result = run(alloc, &mut input, &mut output);
     assert!(rt; result == Ok(ok));
-    assert!(rt; !input.failed);
-    assert!(rt; !output.failed);
+    assert!(rt; !input.failed());
+    assert!(rt; !output.failed());
     let bytes = output.into_inner();
     assert_eq!(rt; bytes.as_slice(), written);
 }
@@ -100,7 +100,7 @@ fn worked_runs(rt: HostRuntime) {
     answers(
         &rt,
         alloc,
-        b"body 1a0b\nat 0\nresult\nwrite",
+        b"body 1a0b\nat 0\nresults\nwrite",
         b"block 0..1\nline 3: UnknownCommand\n",
         false,
     );
@@ -112,6 +112,13 @@ fn faulty_lines(rt: HostRuntime) {
     answers(&rt, alloc, b"body 41", b"line 1: Truncated\n", false);
     answers(&rt, alloc, b"body 06", b"line 1: UnknownOpcode\n", false);
     answers(&rt, alloc, b"body 02410b", b"line 1: BadImmediate\n", false);
+    answers(
+        &rt,
+        alloc,
+        b"body 28 80 01",
+        b"line 1: BadImmediate\n",
+        false,
+    );
     answers(&rt, alloc, b"body 4", b"line 1: BadArgument\n", false);
     answers(&rt, alloc, b"at +7", b"line 1: BadArgument\n", false);
     answers(&rt, alloc, b"at 7", b"line 1: NoBody\n", false);
@@ -136,8 +143,8 @@ fn failing_devices(rt: HostRuntime) {
     let mut output = Tally::new(Vec::new(alloc));
     let result = run(alloc, &mut input, &mut output);
     assert!(&rt; result == Err(RunError::Input));
-    assert!(&rt; input.failed);
-    assert!(&rt; !output.failed);
+    assert!(&rt; input.failed());
+    assert!(&rt; !output.failed());
     let bytes = output.into_inner();
     assert!(&rt; bytes.is_empty());
     for takes_none in [false, true] {
@@ -148,7 +155,7 @@ fn failing_devices(rt: HostRuntime) {
         });
         let result = run(alloc, &mut input, &mut output);
         assert!(&rt; result == Err(RunError::Output));
-        assert!(&rt; output.failed);
+        assert!(&rt; output.failed());
         let _ = output.into_inner();
     }
 }
@@ -163,7 +170,7 @@ fn long_inputs(rt: HostRuntime) -> Result<(), Fail> {
     let mut output = Tally::new(Vec::new(alloc));
     let result = run(alloc, &mut input, &mut output);
     assert!(&rt; result == Err(RunError::TooLong));
-    assert!(&rt; !output.failed);
+    assert!(&rt; !output.failed());
     let bytes = output.into_inner();
     assert!(&rt; bytes.is_empty());
     Ok(())
@@ -599,6 +606,25 @@ fn calls(rt: HostRuntime) {
         alloc,
         "body 410a410a410a10000b\nat 3\nshow\nwrite",
         "block 0..4\nrefused UnknownFunction\nrefused UnknownFunction\n",
+    );
+}
+
+/// Selects of no type and of two types are in blocks without a graph; 40 is no value's type.
+#[test]
+fn typed_selects(rt: HostRuntime) {
+    let alloc = rt.alloc();
+    says(
+        &rt,
+        alloc,
+        "body 1c000b\nat 0\nshow\nbody 1c027f7f0b\nat 0\nshow",
+        "block 0..1\nno graph\nblock 0..1\nno graph\n",
+    );
+    answers(
+        &rt,
+        alloc,
+        b"body 1c01400b",
+        b"line 1: BadImmediate\n",
+        false,
     );
 }
 

@@ -1,18 +1,22 @@
 -- Types by their names, and the words on both sides of an arrow.
-use Rattle.std.proofs.Common.{◌≡◌, ◌≢◌, ℕ, ◌+◌, ◌-◌, ◌<◌, ◌≤◌, Bool, not, cond, List, [], ◌∷◌, length, take, drop, refl, ap, ◌∙◌, arith, Some, None, Bor}
+use Rattle.std.proofs.Common.{◌≡◌, ◌≢◌, ℕ, ◌+◌, ◌-◌, ◌<◌, ◌≤◌, Bool, false, not, cond, List, [], ◌∷◌, length, take, drop, refl, ap, ◌∙◌, arith, Some, None, Bor}
 use Rattle.std.specs.Prelude.{position, codes}
 use Rattle.std.specs.List.{position_or_len}
-use Rattle.std.proofs.lemmas.Bool.Decides.{nat_tests}
+use Rattle.std.specs.Str.{bytes_eq}
+use Rattle.std.proofs.lemmas.Slice.Eq.{bytes_eq-Decides}
+use Rattle.std.proofs.lemmas.Bool.Decides.{nat_tests, same_from_decides}
 use Rattle.std.proofs.lemmas.Grind.{common_steps}
 use Rattle.std.proofs.lemmas.List.{take-map, drop-map}
 use Rattle.mutate_base.specs.Types.{type_name}
 use Rattle.mutate_base.specs.declared.types.PrimitiveTypeInfo.{PrimitiveTypeInfo}
 use Rattle.mutate_base.specs.declared.types.PrimitiveTypeInfo.TheVariants as type
-use Rattle.mutate_base.proofs.PayloadLemmas.{differs}
 use Rattle.peephole_script.specs.Arguments.{type_of, is_arrow, parts_of}
 use Rattle.peephole_script.proofs.Values.{texts}
 
 -- ---- types
+
+differs : (xs ys : List ℕ) → xs ≢ ys → bytes_eq xs ys ≡ false
+differs xs ys other = same_from_decides (bytes_eq xs ys) false (bytes_eq-Decides xs ys) (λ e. absurd cc, λ e. absurd (other e))
 
 -- no type has the name
 pub type_none : (word : List ℕ) → ((t : PrimitiveTypeInfo) → word ≢ type_name t) → None ≡ type_of word

@@ -13,6 +13,7 @@ command_of word =
     else if bytes_eq word (codes "node") then Some name.Node
     else if bytes_eq word (codes "write") then Some name.Write
     else if bytes_eq word (codes "show") then Some name.Show
+    else if bytes_eq word (codes "result") then Some name.Result
     else if bytes_eq word (codes "global") then Some (name.Declare declare.Global)
     else if bytes_eq word (codes "memory") then Some (name.Declare declare.Memory)
     else if bytes_eq word (codes "table") then Some (name.Declare declare.Table)

@@ -1,5 +1,5 @@
--- When a call on a device failed, and the names of the faults (this project's).
-use Rattle.std.specs.Prelude.{ℕ, Bool, true, ◌&&◌, ◌==◌, nat_lt, ◌<◌, Ok, Err, List, length, Option, codes}
+-- The names of the faults, and how much was read of a long input (this project's).
+use Rattle.std.specs.Prelude.{ℕ, ◌<◌, List, length, Option, codes}
 use Rattle.wasm_code.specs.Fault.{kind_name}
 use Rattle.mutate_base.specs.TermError.{term_error_name}
 use Rattle.peephole_script.specs.declared.fault.Fault.{Fault}
@@ -7,12 +7,6 @@ use Rattle.peephole_script.specs.declared.fault.Fault.TheVariants as fault
 use Rattle.peephole_script.specs.declared.fault.RunError.{RunError}
 use Rattle.peephole_script.specs.declared.fault.RunError.TheVariants as run
 use Rattle.std.specs.Io.KnownBytes.{Consumes}
-use Rattle.std.specs.declared.result.Result.{Result}
-
--- an error, or none of some bytes taken
-abbrev pub write_failed : {E : Type 0} → Result ℕ E → ℕ → Bool
-write_failed (Ok n) offered = (n == 0) && nat_lt 0 offered
-write_failed (Err e) offered = true
 
 -- known bytes begin with more than `most` bytes, and lose them
 abbrev pub ConsumesMore : Option (List ℕ) → Option (List ℕ) → ℕ → Type 0

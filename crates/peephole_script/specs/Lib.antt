@@ -1,3 +1,4 @@
+pub mod Tally
 pub mod Faults
 pub mod Text
 pub mod Arguments

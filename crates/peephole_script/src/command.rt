@@ -18,6 +18,8 @@ pub enum Command {
     Write,
     /// Shows the forest of the point's block.
     Show,
+    /// Tells the type of the point's result.
+    Result,
     /// Adds a local.
     Local,
     /// Sets the mode.
@@ -42,6 +44,8 @@ pub fn command_of(word: &str) -> Option<Command>
         Some(Command::Write)
     } else if word == "show" {
         Some(Command::Show)
+    } else if word == "result" {
+        Some(Command::Result)
     } else if word == "global" {
         Some(Command::Declare(Declaration::Global))
     } else if word == "memory" {

@@ -3,29 +3,44 @@
 ghost use Rattle.std.specs.Prelude.{◌≡◌, ℕ, List, length, Bool, true, false, ◌||◌, is_err, OnOk, IfOk, IfErr};
 ghost use Rattle.std.specs.Io.{ReadsAtMost, WritesAtMost};
 ghost use Rattle.std.specs.Io.KnownBytes.{Keeps, Appends, Consumes, ReadConsumes, WriteAppends};
-ghost use Rattle.peephole_script.specs.Faults.{write_failed};
+ghost use Rattle.peephole_script.specs.Tally.{write_failed};
 
 use std::io;
 use std::io::{Read, Write};
+use std::marker::Model;
 
-/// Passes reads and writes on to its device, and remembers whether one failed.
+/// Passes reads and writes on to its device, and remembers whether one failed. A contract sees the device and whether a
+/// call on it has failed.
 #[derive(Drop)]
 pub struct Tally<D> {
-    pub device: D,
-    /// Whether a call gave an error, or a write took none of some bytes.
-    pub failed: bool,
+    device: D,
+    failed: bool,
+}
+
+impl<D> Model for Tally<D> {
+    ghost use Rattle.peephole_script.specs.Tally.{Watched};
+
+    ghost Value = { Watched D };
+
+    ghost view = { λ t. record { device = t.device; failed = t.failed } };
 }
 
 impl<D> Tally<D> {
     /// A tally of no call yet.
     pub fn new(device: D) -> Self
-        ensures device { result.device ≡ device }
-        ensures failed { result.failed ≡ false }
+        ensures { result ≡ record { device = device; failed = false } }
     {
         Tally {
             device,
             failed: false,
         }
+    }
+
+    /// Whether a call gave an error, or a write took none of some bytes.
+    pub fn failed(&self) -> bool
+        ensures { result ≡ self.now.failed }
+    {
+        self.failed
     }
 
     /// The device.

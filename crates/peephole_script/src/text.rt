@@ -37,9 +37,13 @@ pub fn is_text(line: &[u8]) -> bool
 pub fn words_of<'a>(alloc: Global, line: &'a str) -> Result<Vec<&'a str>, AllocError>
     ensures { IfOk result (λ words. map (λ word. word.now) words.items ≡ words_of line.now) }
 {
-    line.split(' ')
-        .filter(|word| !word.is_empty())
-        .collect(alloc)
+    let mut words = Vec::new(alloc);
+    for word in line.split(' ') {
+        if !word.is_empty() {
+            words.push(word)?;
+        }
+    }
+    Ok(words)
 }
 
 /// Whether a word has decimal digits alone.

@@ -24,6 +24,7 @@ use Rattle.peephole_terms.proofs.RangeLemmas.{block_in_range}
 use Rattle.peephole_terms.proofs.ReadAgainLemmas.{reads_again}
 use Rattle.peephole_terms.proofs.OwnTrees.{own_written}
 use Rattle.peephole_terms.proofs.RereadLemmas.{reread}
+use Rattle.peephole_terms.proofs.SpellingLemmas.{CodesSpell}
 
 -- the steps of the roots that the code goes over
 abbrev pub AreInRange : ℕ → Term Head → List StackEntry → List (Option ℕ) → Type 0
@@ -47,17 +48,17 @@ abbrev ReadsBody : List (Operator × ℕ) → BlockRange → ℕ → Term Head �
 ReadsBody operators block at t old new s =
     (code : List Instruction) × (text : List ℕ) × (term_code s operators block at t ≡ Ok code) × (new ≡ old ++ text) × ReadsAgain operators block (written_block s.info operators block at code) text
 
-pub body_again : {R : Type 0} (stream : R → Stream) (config : Config R) (info : Module) (generator : R) (count : ℕ) (input : List ℕ) (operators : List (Operator × ℕ)) (block : BlockRange) (at : ℕ)
+pub body_again : {R : Type 0} → CodesSpell → (stream : R → Stream) (config : Config R) (info : Module) (generator : R) (count : ℕ) (input : List ℕ) (operators : List (Operator × ℕ)) (block : BlockRange) (at : ℕ)
     (entries es : List StackEntry) (parents ps : List (Option ℕ)) (look : ℕ → Option ℕ) (t read : Term Head) (old new : List ℕ) →
     IsUnder config info generator count → IsRow config.info config.preserving operators block entries es parents ps look t read → AreInRange at read es ps → IsBodyIn input operators → IsBlockIn operators block →
     IfSome (setting_of stream config) (AppendsBody input operators block at t old new) → IfSome (setting_of stream config) (ReadsBody operators block at t old new)
-body_again stream config info generator count input operators block at entries es parents ps look t read old new u r h b k w =
+body_again spell stream config info generator count input operators block at entries es parents ps look t read old new u r h b k w =
     let is = setting_is stream config info generator u.info_is u.generator_is in
     let own : AppendsBody input operators block at t old new (setting info (stream generator)) = subst (λ (x : Option Setting). IfSome x (AppendsBody input operators block at t old new)) is w in
     let code = written_block info operators block at own.0 in
     let all = code_in_range config info (stream generator) operators block at entries es parents ps look t read own.0 r u.info_is h own.1 in
     subst (λ (x : Option Setting). IfSome x (ReadsBody operators block at t old new)) (sym is)
-    (own.0, written_body input operators block code, own.1, own.2, reads_again input operators block code b k all)
+    (own.0, written_body input operators block code, own.1, own.2, reads_again spell input operators block code b k all)
 
 -- ---- with its own trees
 
@@ -65,11 +66,11 @@ body_again stream config info generator count input operators block at entries e
 abbrev RereadsBody : List (Operator × ℕ) → BlockRange → ℕ → List StackEntry → (ℕ → Option ℕ) → Term Head → List ℕ → List ℕ → Module → Type 0
 RereadsBody operators block at entries look t old new info = KeepsTheTrees info operators block at entries look t → (text : List ℕ) × (new ≡ old ++ text) × IsReread info operators block text
 
-pub body_reread : {R : Type 0} (stream : R → Stream) (config : Config R) (info : Module) (generator : R) (count : ℕ) (input : List ℕ) (operators : List (Operator × ℕ)) (block : BlockRange) (at : ℕ)
+pub body_reread : {R : Type 0} → CodesSpell → (stream : R → Stream) (config : Config R) (info : Module) (generator : R) (count : ℕ) (input : List ℕ) (operators : List (Operator × ℕ)) (block : BlockRange) (at : ℕ)
     (entries es : List StackEntry) (parents ps : List (Option ℕ)) (look : ℕ → Option ℕ) (t read : Term Head) (old new : List ℕ) →
     IsUnder config info generator count → IsRow config.info config.preserving operators block entries es parents ps look t read → AreInRange at read es ps → IsBodyIn input operators → IsBlockIn operators block →
     IfSome (setting_of stream config) (AppendsBody input operators block at t old new) → IfSome config.info (RereadsBody operators block at entries look t old new)
-body_reread stream config info generator count input operators block at entries es parents ps look t read old new u r h b k w =
+body_reread spell stream config info generator count input operators block at entries es parents ps look t read old new u r h b k w =
     let is = setting_is stream config info generator u.info_is u.generator_is in
     let graph : IsGraphOf info config.preserving block.start (slice_range operators block.start block.end) entries parents look =
     subst (λ (x : Option Module). IfSome x (λ info. IsGraphOf info config.preserving block.start (slice_range operators block.start block.end) entries parents look)) u.info_is r.graph in
@@ -80,5 +81,5 @@ body_reread stream config info generator count input operators block at entries 
     let code = instructions (forest (shapes_in info operators block)) in (
       written_body input operators block code,
       own.2 ∙ ap (λ (is : List Instruction). old ++ written_body input operators block is) same,
-      reread info input operators block b k graph.fit (subst (All IsInstruction) same all),
+      reread spell info input operators block b k graph.fit (subst (All IsInstruction) same all),
     ))

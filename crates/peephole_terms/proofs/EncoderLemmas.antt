@@ -1,6 +1,6 @@
 -- The roots of a graph, as the encoder goes over them, are the trees of the block's forest.
 use Rattle.std.proofs.Common.{◌≡◌, ℕ, ◌+◌, ◌-◌, ◌<◌, ◌≤◌, ◌⊎◌, inl, inr, List, [], ◌∷◌, ◌++◌, length, take, get_or, refl, sym, ap, ap₂, subst, ◌∙◌, arith, append_assoc, append-nil, Bool, true, false, cond, map, Option, Some, None, IsTrue, suc, drop, Result, Ok, Err}
-use Rattle.std.specs.Prelude.{reverse, All, ◌==◌, ◌||◌, option_map, is_some, IfSome, ◌↔◌}
+use Rattle.std.specs.Prelude.{reverse, All, ◌==◌, ◌||◌, option_map, is_some, IfOk, IfSome}
 use Rattle.std.proofs.lemmas.Bool.{cond-true, cond-false, eq-eqb, eqb-true, ne_eqb}
 use Rattle.std.proofs.lemmas.List.{reverse-append, length-map, map-append, get_or-map, take_more, length-take, take-append-drop}
 use Rattle.rand_core.specs.Stream.{Stream}
@@ -32,7 +32,7 @@ use Rattle.peephole_terms.specs.declared.encoder.request.ResourceRequest.{Resour
 use Rattle.peephole_terms.specs.Kind.{NumberType}
 use Rattle.peephole_terms.specs.Expansion.{Refuses, followed, joined, expansion_of, expansion, requests_of, requests, request, draws_of, draws, drawn}
 use Rattle.peephole_terms.specs.EncoderSteps.{operator_at, entry_nodes, root_term, root_terms, IsWalkable, IsInRange, Step, Writing, steps_of, steps, take_steps, after, IsRefusal}
-use Rattle.peephole_terms.specs.Written.{replaced, is_root}
+use Rattle.peephole_terms.specs.Written.{replaced, is_root, KeepsOrder}
 use Rattle.peephole_graphs.proofs.DfgLemmas.{get_item}
 use Rattle.peephole_graphs.proofs.GraphLemmas.{parents_length, roots_root, roots_child}
 use Rattle.peephole_graphs.proofs.BuilderLemmas.{shape_instr}
@@ -529,12 +529,19 @@ block_refused first at t ts us count w d p none r =
 
 -- ---- the order
 
--- a call that writes answers no refusal for the order's sake, and the block is in order where that is to be preserved
+where_written : {T : Type 0} (P : Type 0) (r : Result T Error) → P → IfOk r (λ _. P)
+where_written P (Ok x) h = h
+where_written P (Err e) h = tt
+
+-- where the order is to be preserved, a call that isn't refused for its sake has a block in order
 pub order_kept : {T : Type 0} (under : Option Module) (keeping : Bool) (first : ℕ) (operators : List (Operator × ℕ)) (entries : List StackEntry) (parents : List (Option ℕ)) (look : ℕ → Option ℕ) (r : Result T Error) →
     IfSome under (λ info. IsGraphOf info keeping first operators entries parents look) → (keeping ≡ true → AreInOrder entries parents) → (r ≡ Err NoMutationsApplicable → ⊥) →
-    IfSome under (λ info. (r ≡ Err NoMutationsApplicable) ↔ ((keeping ≡ true) × ((IsInOrder (block_of info operators)) → ⊥)))
+    IfSome under (λ info. KeepsOrder keeping (block_of info operators) r)
 order_kept None keeping first operators entries parents look r h lies other = tt
-order_kept (Some info) keeping first operators entries parents look r h lies other = (λ e. absurd (other e), λ k. absurd (k.1 (h.ordered.0 (lies k.0))))
+order_kept (Some info) keeping first operators entries parents look r h lies other = record {
+  refused = (λ e. absurd (other e), λ k. absurd (k.1 (h.ordered.0 (lies k.0))));
+  in_order = where_written (keeping ≡ true → IsInOrder (block_of info operators)) r (λ keeps. h.ordered.0 (lies keeps));
+}
 
 pub wrote : {T : Type 0} (x : T) → Ok x ≡ Err NoMutationsApplicable → ⊥
 wrote x e = cc

@@ -16,3 +16,7 @@ pub mod MeaningRows
 pub mod MeaningLemmas
 pub mod StackCodeLemmas
 pub mod SameRunLemmas
+pub mod TermOfLemmas
+pub mod KeptTrees
+pub mod SameAnswersLemmas
+pub mod RefusalLemmas

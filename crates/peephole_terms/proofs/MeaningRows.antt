@@ -1,7 +1,8 @@
 -- The integer rows of the instructions that nodes without a row add, and what these instructions leave.
-use Rattle.std.proofs.Common.{◌≡◌, ℕ, ℤ, ◌+◌, ◌-◌, ◌%◌, ◌^◌, ◌<◌, List, [], ◌∷◌, ◌++◌, Some, refl, sym, ap, ap₂, ◌∙◌, arith}
+use Rattle.std.proofs.Common.{◌≡◌, ℕ, ℤ, ◌+◌, ◌-◌, ◌%◌, ◌^◌, ◌<◌, List, [], ◌∷◌, ◌++◌, Some, refl, ap, ap₂, ◌∙◌, arith}
 use Rattle.std.specs.Prelude.{slice_get, FitsSigned}
 use Rattle.std.specs.Int.{Width, w32, w64, cast_signed, cast_unsigned, int_wrapping_add, int_wrapping_sub}
+use Rattle.std.proofs.Math.Facts.{sfits_to_z}
 use Rattle.std.proofs.lemmas.Int.{of_z-to_z, to_z-of_z}
 use Rattle.std.proofs.Math.Nat.{mod-lt, mod-mod, mod-eq_of_lt}
 use mir.Val.{bits}
@@ -17,7 +18,8 @@ use Rattle.peephole_machine.proofs.OutcomeLemmas.{run_one}
 use Rattle.peephole_machine.proofs.RangeLemmas.{sum_split, run_op, run_sum, run_through}
 use Rattle.peephole_terms.specs.declared.encoder.kind.NumberType.TheVariants as number
 use Rattle.peephole_terms.specs.Kind.{NumberType, IntegerType, number_of}
-use Rattle.peephole_terms.specs.Expansion.{constant, rest_of, add_of, sum, set_global, get_global, UnfoldsAddUp}
+use Rattle.peephole_terms.specs.Expansion.{constant, rest_of, add_of, sum, set_global, get_global}
+use Rattle.peephole_terms.specs.Laws.{UnfoldsAddUp}
 use Rattle.peephole_terms.specs.Typing.{integer_type}
 
 -- ---- rows
@@ -39,16 +41,29 @@ add_up w word z l f =
     ap₂ (λ (m n : ℕ). cast_signed w ((m + n) % 2 ^ bits w)) (small w word l) (left_over w z word l) ∙
     (ap (cast_signed w) (sum_split (2 ^ bits w) (cast_unsigned w z) word l ∙ mod-eq_of_lt (of_z_fits w z f).fits) ∙ to_z-of_z w z f)
 
+low_fits : (w : Width) (n : ℕ) → 0 < 2 ^ bits w → FitsSigned w (cast_signed w (n % 2 ^ bits w))
+low_fits w n l = sfits_to_z (record { fits = mod-lt n l })
+
 pub unfolds_add_up : UnfoldsAddUp
 unfolds_add_up = record {
-  i32 = λ word z a b f p q.
-      let first : cast_signed w32 (word % 2 ^ 32) ≡ a = cc in
-      let second : int_wrapping_sub w32 z (cast_signed w32 (word % 2 ^ 32)) ≡ b = cc in
-      sym (ap₂ (int_wrapping_add w32) first second) ∙ add_up w32 word z (omega arith) f;
-  i64 = λ word z a b f p q.
-      let first : cast_signed w64 (word % 2 ^ 64) ≡ a = cc in
-      let second : int_wrapping_sub w64 z (cast_signed w64 (word % 2 ^ 64)) ≡ b = cc in
-      sym (ap₂ (int_wrapping_add w64) first second) ∙ add_up w64 word z (omega arith) f;
+  i32 = λ word z f. record {
+    a = cast_signed w32 (word % 2 ^ 32);
+    b = int_wrapping_sub w32 z (cast_signed w32 (word % 2 ^ 32));
+    one_is = refl;
+    other_is = refl;
+    a_fits = low_fits w32 word (omega arith);
+    b_fits = low_fits w32 _ (omega arith);
+    sum = add_up w32 word z (omega arith) f;
+  };
+  i64 = λ word z f. record {
+    a = cast_signed w64 (word % 2 ^ 64);
+    b = int_wrapping_sub w64 z (cast_signed w64 (word % 2 ^ 64));
+    one_is = refl;
+    other_is = refl;
+    a_fits = low_fits w64 word (omega arith);
+    b_fits = low_fits w64 _ (omega arith);
+    sum = add_up w64 word z (omega arith) f;
+  };
 }
 
 pub constant_row : (t : IntegerType) (word : ℕ) → integer_row (constant (number_of t) word) ≡ rows.constant t (word % 2 ^ bits (width_of t))

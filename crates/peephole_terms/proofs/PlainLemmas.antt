@@ -93,7 +93,7 @@ mutual
 past_rowless : (p : ℕ) → nat_lt p 12 ≡ false → slice_get rowless p ≡ None
 past_rowless p e = slice_get_past rowless p (ltb-false p 12 e)
 
-row_kind : (h : Head) (i : Instruction) → instr_of_head h ≡ Some i → kind_of h ≡ of_instruction (instr_of_head h)
+pub row_kind : (h : Head) (i : Instruction) → instr_of_head h ≡ Some i → kind_of h ≡ of_instruction (instr_of_head h)
 row_kind h i e = ap (λ (k : Option Kind). kind_found k (instr_of_head h)) (past_rowless h.place (later (nat_lt h.place 12) _ e))
   where
     later : (b : Bool) (more : Option Instruction) → cond b None more ≡ Some i → b ≡ false

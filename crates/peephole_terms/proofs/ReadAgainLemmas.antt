@@ -8,12 +8,11 @@ use Rattle.wasm_code.specs.Code.{codes}
 use Rattle.wasm_code.specs.Body.{AreSpelled, joined, placed, SpellsAll, SpellsBody}
 use Rattle.wasm_code.specs.declared.operator.Operator.{Operator}
 use Rattle.wasm_code.specs.declared.operator.Operator.TheVariants.{Instr}
-use Rattle.wasm_code.proofs.JoinLemmas.{all_joined}
 use Rattle.peephole_graphs.specs.Block.{BlockRange}
 use Rattle.peephole_terms.specs.Written.{offset_of, before_block, after_block, written_body, IsBodyIn, IsBlockIn}
 use Rattle.peephole_terms.specs.ReadAgain.{without_offsets, ReadsAgain}
 use Rattle.peephole_terms.proofs.BodyLemmas.{inside}
-use Rattle.peephole_terms.proofs.SpellingLemmas.{Spelling, spelled, spellings_of, spelled_append, spelled_take, spelled_drop, joined-append, named_placed, length-placed, offset_placed, coded, coded_spelled, joined_coded, spelled_coded}
+use Rattle.peephole_terms.proofs.SpellingLemmas.{Spelling, CodesSpell, spelled, spellings_of, spelled_append, spelled_take, spelled_drop, joined-append, named_placed, length-placed, offset_placed, coded, coded_spelled, joined_coded, spelled_coded}
 use Rattle.peephole_terms.proofs.SpellingLemmas.{ends_with, ends_named, ends_behind, last_size, StandsIn, stands_in, front_in, back_in}
 
 pub drop-map : {A B : Type 0} (f : A → B) (n : ℕ) (xs : List A) → drop n (map f xs) ≡ map f (drop n xs)
@@ -88,18 +87,23 @@ last_with ps block code l =
     ∙ sym (ap ends_with (sym (take-append-drop block.end (spelled ps))) ∙ ends_behind (take block.end (spelled ps)) back some))
 
 -- what is written is a body by itself
-pub again_of : (ps : List Spelling) (block : BlockRange) (code : List Instruction) → AreSpelled ps → IsTrue (ends_with (spelled ps)) → block.end < length ps → All IsInstruction code →
+pub again_of : CodesSpell → (ps : List Spelling) (block : BlockRange) (code : List Instruction) → AreSpelled ps → IsTrue (ends_with (spelled ps)) → block.end < length ps → All IsInstruction code →
     IsBodyOf (joined (with_code ps block code)) 0 (length (joined (with_code ps block code))) (with_code ps block code) (placed 0 (with_code ps block code))
-again_of ps block code each last l all =
+again_of spell ps block code each last l all =
     let qs = with_code ps block code in
     let whole : slice_range (joined qs) 0 (length (joined qs)) ≡ joined qs = take_all (length (joined qs) - 0) (joined qs) (omega arith) in
     record {
-      each = spelled_append (take block.start ps) (coded code ++ drop block.end ps) (spelled_take block.start ps each) (spelled_append (coded code) (drop block.end ps) (coded_spelled code all) (spelled_drop block.end ps each));
+      each = spelled_append (take block.start ps) (coded code ++ drop block.end ps) (spelled_take block.start ps each) (spelled_append (coded code) (drop block.end ps) (coded_spelled spell code all) (spelled_drop block.end ps each));
       read = refl;
       stands = stands_in (joined qs) 0 (length (joined qs)) qs (omega arith) (omega arith) whole;
       ordered = omega arith;
       last = last_with ps block code l ∙ last;
     }
+
+-- joined spellings are read as their operators
+all_joined : (start : ℕ) (ps : List Spelling) → AreSpelled ps → SpellsAll (placed start ps) start (joined ps)
+all_joined start [] s = refl
+all_joined start (p ∷ ps) s = record { front = p.1; back = joined ps; parts = refl; offset = refl; spells = s.0; rest = all_joined (start + length p.1) ps s.1 }
 
 pub spells_again : (text : List ℕ) (to : ℕ) (ps : List Spelling) (operators : List (Operator × ℕ)) → IsBodyOf text 0 to ps operators → text ≡ joined ps → SpellsBody 0 text operators
 spells_again text to ps operators h e = record {
@@ -141,12 +145,12 @@ spelled_in input operators block b k =
     }
 
 -- the clause
-pub reads_again : (input : List ℕ) (operators : List (Operator × ℕ)) (block : BlockRange) (code : List Instruction) → IsBodyIn input operators → IsBlockIn operators block → All IsInstruction code →
+pub reads_again : CodesSpell → (input : List ℕ) (operators : List (Operator × ℕ)) (block : BlockRange) (code : List Instruction) → IsBodyIn input operators → IsBlockIn operators block → All IsInstruction code →
     ReadsAgain operators block code (written_body input operators block code)
-reads_again input operators block code b k all =
+reads_again spell input operators block code b k all =
     let h = spelled_in input operators block b k in
     let qs = with_code h.ps block code in
-    let again = again_of h.ps block code h.is.each h.is.last h.end_there all in
+    let again = again_of spell h.ps block code h.is.each h.is.last h.end_there all in
     let text : written_body input operators block code ≡ joined qs = written_is input h.from h.to h.ps operators block code h.is h.start_there h.end_there in
     let names = alone_are input h.from h.to h.ps operators h.is in
     record {

@@ -32,7 +32,7 @@ use Rattle.peephole_graphs.proofs.ForestLemmas.{forest_is}
 use Rattle.peephole_graphs.proofs.Rereading.{same_trees}
 use Rattle.peephole_graphs.proofs.Order.{written_in_order, shapes-renumbered}
 use Rattle.peephole_graphs.proofs.OrderLemmas.{count_all}
-use Rattle.peephole_terms.proofs.SpellingLemmas.{Spelling, named_placed, length-placed, coded}
+use Rattle.peephole_terms.proofs.SpellingLemmas.{CodesSpell, Spelling, named_placed, length-placed, coded}
 use Rattle.peephole_terms.proofs.ReadAgainLemmas.{drop-map, alone_are, with_code, spelled_with, written_is, again_of, spells_again, spelled_in}
 
 -- ---- the shapes of a forest are its block's
@@ -309,10 +309,10 @@ length_with ps block code l m n =
 block_size : (operators : List (Operator × ℕ)) (block : BlockRange) → block.start ≤ block.end → block.end < length operators → length (slice_range operators block.start block.end) ≡ block.end - block.start
 block_size operators block l m = omega (arith, length-take (block.end - block.start) (drop block.start operators), length-drop block.start operators)
 
-pub reread : (info : Module) (input : List ℕ) (operators : List (Operator × ℕ)) (block : BlockRange) → IsBodyIn input operators → IsBlockIn operators block → AreFit info (slice_range operators block.start block.end) →
+pub reread : CodesSpell → (info : Module) (input : List ℕ) (operators : List (Operator × ℕ)) (block : BlockRange) → IsBodyIn input operators → IsBlockIn operators block → AreFit info (slice_range operators block.start block.end) →
     All IsInstruction (instructions (forest (shapes_in info operators block))) →
     IsReread info operators block (written_body input operators block (instructions (forest (shapes_in info operators block))))
-reread info input operators block b k fit all =
+reread spell info input operators block b k fit all =
     let h = spelled_in input operators block b k in
     let os = slice_range operators block.start block.end in
     let shaped = shapes_in info operators block in
@@ -326,7 +326,7 @@ reread info input operators block b k fit all =
     let size : length code ≡ block.end - block.start =
     ap (λ (is : List Instruction). length is) (instructions_are (forest shaped)) ∙ (length-map (shapes (forest shaped)) (λ (s : Shape). s.instr)
     ∙ (count_forest shaped ∙ (length-reverse (operator_shapes info os) ∙ (own.1 ∙ block_size operators block ordered (omega arith))))) in
-    let body = again_of h.ps block code h.is.each h.is.last h.end_there all in
+    let body = again_of spell h.ps block code h.is.each h.is.last h.end_there all in
     let text : written_body input operators block code ≡ joined qs = written_is input h.from h.to h.ps operators block code h.is h.start_there h.end_there in
     let names = alone_are input h.from h.to h.ps operators h.is in
     let is_again : IsAgain operators again block code = record {

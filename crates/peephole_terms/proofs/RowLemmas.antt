@@ -3,7 +3,7 @@ use Rattle.std.specs.Prelude.{ℕ, ℤ, IsTrue, refl}
 use Rattle.wasm_code.specs.Instruction.{fits_row}
 use Rattle.wasm_code.specs.Table.{row_at, table, HasOpcode}
 use Rattle.wasm_code.specs.declared.immediate.Imm.TheVariants as imm
-use Rattle.peephole_terms.specs.Expansion.{HaveTheirOpcodes}
+use Rattle.peephole_terms.specs.Laws.{HaveTheirOpcodes}
 
 pub global_get_row : (g : ℕ) → IsTrue (fits_row (row_at 7) (imm.Index g))
 unfolding row_at table

@@ -2,7 +2,6 @@
 use Rattle.std.proofs.Common.{◌≡◌, ℕ, Bool, true, false, cond, List, [], ◌++◌, length, map, Option, Some, Result, Ok, sym, ap, ap₂, subst, ◌∙◌, append_assoc}
 use Rattle.std.specs.Prelude.{IfSome, option_map, option_and_then, slice_range}
 use Rattle.rand_core.specs.Stream.{Stream}
-use Rattle.wasm_code.specs.Instruction.{Instruction}
 use Rattle.wasm_code.specs.Code.{codes}
 use Rattle.wasm_code.specs.declared.operator.Operator.{Operator}
 use Rattle.mutate_base.specs.Config.{Config}
@@ -17,8 +16,9 @@ use Rattle.peephole_graphs.specs.Shape.{block_of}
 use Rattle.peephole_graphs.specs.Forest.{forest}
 use Rattle.peephole_graphs.specs.Entries.{roots_of}
 use Rattle.peephole_graphs.specs.GraphOf.{IsGraphOf}
-use Rattle.peephole_terms.specs.Expansion.{Setting, setting_of, expanded, after_term, Refuses, expansion_of, requests_of, request, draws_of, drawn}
+use Rattle.peephole_terms.specs.Expansion.{Setting, AppendsCode, setting_of, expanded, after_term, Refuses, expansion_of, requests_of, request, draws_of, drawn}
 use Rattle.peephole_terms.specs.EncoderSteps.{root_terms, Writing, steps_of, steps, take_steps, IsRefusal}
+use Rattle.peephole_terms.specs.Written as body
 use Rattle.peephole_terms.specs.Written.{is_written, term_code, term_requests, after_block_term, before_block, after_block, written_body, written_block}
 use Rattle.peephole_terms.proofs.ExpansionLemmas.{finished, from_start, refused}
 use Rattle.peephole_terms.proofs.EncoderLemmas.{IsPart, roots_written, block_written, block_refused}
@@ -45,7 +45,7 @@ begun bytes requests stream = record { bytes = bytes; requests = requests; strea
 
 -- a term is written
 abbrev pub Appends : List ℕ → List ℕ → Term Head → Setting → Type 0
-Appends old new t s = (code : List Instruction) × (expanded s t ≡ Ok code) × (new ≡ old ++ codes code)
+Appends old new t s = AppendsCode s t old new
 
 pub term_written : {R : Type 0} (stream : R → Stream) (config : Config R) (info : Module) (generator : R) (count : ℕ) (t read : Term Head) (old new : List ℕ) (none asked : List ResourceRequest) (later : Stream) →
     IsUnder config info generator count → read ≡ t → none ≡ [] → take_steps count (steps_of read) (begun old none (stream generator)) ≡ Ok (begun new asked later) →
@@ -117,8 +117,7 @@ row_part under keeping operators block entries es parents ps look t read info at
 
 -- a body is written
 abbrev pub AppendsBody : List ℕ → List (Operator × ℕ) → BlockRange → ℕ → Term Head → List ℕ → List ℕ → Setting → Type 0
-AppendsBody input operators block at t old new s =
-    (code : List Instruction) × (term_code s operators block at t ≡ Ok code) × (new ≡ old ++ written_body input operators block (written_block s.info operators block at code))
+AppendsBody input operators block at t old new s = body.AppendsBody s input operators block at t old new
 
 pub body_written : {R : Type 0} (stream : R → Stream) (config : Config R) (info : Module) (generator : R) (count : ℕ) (input : List ℕ) (operators : List (Operator × ℕ)) (block : BlockRange) (at : ℕ)
     (entries es : List StackEntry) (parents ps : List (Option ℕ)) (look : ℕ → Option ℕ) (t read : Term Head) (front back old middle new : List ℕ) (none asked : List ResourceRequest) (later : Stream) →

@@ -14,7 +14,6 @@ use Rattle.wasm_code.specs.Code.{code, codes}
 use Rattle.wasm_code.specs.Body.{SpellsAll, AreSpelled, joined, placed, is_end, ends}
 use Rattle.wasm_code.specs.declared.operator.Operator.{Operator}
 use Rattle.wasm_code.specs.declared.operator.Operator.TheVariants as op
-use Rattle.wasm_code.proofs.CodeLemmas.{code_spells}
 use Rattle.peephole_terms.specs.ReadAgain.{without_offsets}
 
 -- an operator with its spelling
@@ -88,9 +87,13 @@ offset_placed start (p ∷ ps) (suc i) l =
 abbrev pub coded : List Instruction → List Spelling
 coded is = map (λ (i : Instruction). (op.Instr i, code i)) is
 
-pub coded_spelled : (is : List Instruction) → All IsInstruction is → AreSpelled (coded is)
-coded_spelled [] all = tt
-coded_spelled (i ∷ is) all = (code_spells i (All-head IsInstruction i is all), coded_spelled is (All-tail IsInstruction i is all))
+-- the code of every instruction spells it, as the law `code_spells` says
+abbrev pub CodesSpell : Type 0
+CodesSpell = (i : Instruction) → IsInstruction i → Spells (code i) (op.Instr i)
+
+pub coded_spelled : CodesSpell → (is : List Instruction) → All IsInstruction is → AreSpelled (coded is)
+coded_spelled spell [] all = tt
+coded_spelled spell (i ∷ is) all = (spell i (All-head IsInstruction i is all), coded_spelled spell is (All-tail IsInstruction i is all))
 
 pub joined_coded : (is : List Instruction) → joined (coded is) ≡ codes is
 joined_coded [] = refl

@@ -16,7 +16,7 @@ use Rattle.peephole_graphs.specs.declared.frames.Frame.{Frame}
 use Rattle.peephole_terms.specs.Kind.{IntegerType, kind_of, is_unfold}
 use Rattle.peephole_terms.specs.Expansion.{constant_in, constant_of}
 use Rattle.peephole_terms.specs.EncoderSteps.{Step, Writing, IsInRange, own_step, opened, steps_of, steps, take_step, take_steps, after, IsRefusal, nodes_in}
-use Rattle.peephole_graphs.proofs.PlaceLemmas.{IsAt, tree_is, children_in, at_place, view, some_at}
+use Rattle.peephole_lang.specs.PlaceLemmas.{IsAt, tree_is, children_in, at_place, view, some_at}
 
 -- ---- steps one after another
 

@@ -1,10 +1,9 @@
 -- The expansion of a term: the instructions that it is written as, the words that are drawn for them, and the globals that they ask for. This project's rule.
-use Rattle.std.specs.Prelude.{◌≡◌, ℕ, ℤ, ◌+◌, ◌%◌, ◌^◌, nat_le, List, [], ◌∷◌, ◌++◌, length, drop, Option, Some, None, option_map, option_and_then, Result, Ok, Err, true, false, if◌then◌else◌, ⊤, FitsSigned}
-use Rattle.std.specs.Int.{w32, w64, cast_signed, int_wrapping_add, int_wrapping_sub}
+use Rattle.std.specs.Prelude.{◌≡◌, ℕ, ℤ, ◌+◌, ◌%◌, ◌^◌, nat_le, List, [], ◌∷◌, ◌++◌, length, drop, Option, Some, None, option_map, option_and_then, Result, Ok, Err, true, false, if◌then◌else◌, ⊤}
+use Rattle.std.specs.Int.{w32, w64, cast_signed, int_wrapping_sub}
 use Rattle.rand_core.specs.Stream.{Stream, next_u32, next_u64}
 use Rattle.wasm_code.specs.Instruction.{Instruction}
-use Rattle.wasm_code.specs.Table.{HasOpcode}
-use Rattle.wasm_code.specs.declared.table.Opcode.TheVariants.{Byte}
+use Rattle.wasm_code.specs.Code.{codes}
 use Rattle.wasm_code.specs.declared.immediate.Imm.TheVariants as imm
 use Rattle.mutate_base.specs.Config.{Config}
 use Rattle.mutate_base.specs.Module.{Module}
@@ -104,22 +103,6 @@ set_global g = record { row = 8; imm = imm.Index g }
 abbrev pub get_global : ℕ → Instruction
 get_global g = record { row = 7; imm = imm.Index g }
 
--- These rows are those of the named instructions, by their opcodes (WebAssembly Core Specification 3.0, section 5.4, Instructions).
-pub record HaveTheirOpcodes : Type 0 where
-  pub i32_const : (word : ℕ) (z : ℤ) → HasOpcode (constant number.I32 word).row (Byte 0x41) × HasOpcode (rest_of integer.I32 word z).row (Byte 0x41)
-  pub i64_const : (word : ℕ) (z : ℤ) → HasOpcode (constant number.I64 word).row (Byte 0x42) × HasOpcode (rest_of integer.I64 word z).row (Byte 0x42)
-  pub f32_const : (word : ℕ) → HasOpcode (constant number.F32 word).row (Byte 0x43)
-  pub f64_const : (word : ℕ) → HasOpcode (constant number.F64 word).row (Byte 0x44)
-  pub adds : HasOpcode (add_of integer.I32).row (Byte 0x6a) × HasOpcode (add_of integer.I64).row (Byte 0x7c)
-  pub globals : (g : ℕ) → HasOpcode (set_global g).row (Byte 0x24) × HasOpcode (get_global g).row (Byte 0x23)
-
--- The wrapping sum of an unfold's two constants is the unfolded number, whatever word is drawn.
-pub record UnfoldsAddUp : Type 0 where
-  pub i32 : (word : ℕ) (z a b : ℤ) → FitsSigned w32 z → (constant number.I32 word).imm ≡ imm.I32 a →
-      (rest_of integer.I32 word z).imm ≡ imm.I32 b → int_wrapping_add w32 a b ≡ z
-  pub i64 : (word : ℕ) (z a b : ℤ) → FitsSigned w64 z → (constant number.I64 word).imm ≡ imm.I64 a →
-      (rest_of integer.I64 word z).imm ≡ imm.I64 b → int_wrapping_add w64 a b ≡ z
-
 -- ---- the expansion
 
 -- the number that a constant of the type holds; no other node has such a payload
@@ -200,3 +183,7 @@ Refuses expands Memory = ⊤
 Refuses expands CannotUnfold = expands ≡ Err CannotUnfold
 Refuses expands GlobalIndex = expands ≡ Err GlobalIndex
 Refuses expands _ = ⊥
+
+-- The sink has grown by the code of the term's expansion.
+abbrev pub AppendsCode : Setting → Term Head → (old new : List ℕ) → Type 0
+AppendsCode s t old new = (code : List Instruction) × (expanded s t ≡ Ok code) × (new ≡ old ++ codes code)

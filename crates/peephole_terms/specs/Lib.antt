@@ -6,4 +6,6 @@ pub mod StackCode
 pub mod Written
 pub mod ReadAgain
 pub mod SameRun
+pub mod SameAnswers
+pub mod Laws
 pub mod EncoderSteps

@@ -1,19 +1,20 @@
 -- The written body: the bytes outside a block as they stood, and between them the code of the block's forest in postfix, in which a term stands for the
 -- tree of the operator at the insertion point. This project's rule.
-use Rattle.std.specs.Prelude.{ℕ, ◌+◌, ◌-◌, ◌<◌, ◌≤◌, ◌==◌, ◌||◌, Bool, false, List, [], ◌++◌, length, map, Result, Ok, if◌then◌else◌, slice_index, slice_range}
+use Rattle.std.specs.Prelude.{◌≡◌, ℕ, ◌+◌, ◌-◌, ◌<◌, ◌≤◌, ◌==◌, ◌||◌, ◌↔◌, Bool, true, false, List, [], ◌++◌, length, map, Result, Ok, Err, IfOk, if◌then◌else◌, slice_index, slice_range}
 use Rattle.wasm_code.specs.Instruction.{Instruction}
 use Rattle.wasm_code.specs.Code.{codes}
 use Rattle.wasm_code.specs.Body.{SpellsBody}
 use Rattle.wasm_code.specs.declared.operator.Operator.{Operator}
 use Rattle.mutate_base.specs.Module.{Module}
 use Rattle.mutate_base.specs.declared.error.Error.{Error}
+use Rattle.mutate_base.specs.declared.error.Error.TheVariants.{NoMutationsApplicable}
 use Rattle.peephole_lang.specs.declared.lang.Head.{Head}
 use Rattle.peephole_lang.specs.Term.{Term}
 use Rattle.peephole_graphs.specs.Block.{BlockRange, IsBlockOf}
 use Rattle.peephole_graphs.specs.declared.shape.Shape.{Shape}
 use Rattle.peephole_graphs.specs.Shape.{block_of}
 use Rattle.peephole_graphs.specs.Tree.{Trees, no_trees, entry, node, ◌▸◌, instructions_of}
-use Rattle.peephole_graphs.specs.Forest.{forest}
+use Rattle.peephole_graphs.specs.Forest.{forest, IsInOrder}
 use Rattle.peephole_terms.specs.declared.encoder.request.ResourceRequest.{ResourceRequest}
 use Rattle.peephole_terms.specs.Expansion.{Setting, expanded, after_term, requests_of, request}
 
@@ -69,6 +70,17 @@ after_block input operators block = slice_range input (offset_of operators block
 -- the body with the block written as these instructions
 abbrev pub written_body : List ℕ → List (Operator × ℕ) → BlockRange → List Instruction → List ℕ
 written_body input operators block code = before_block input operators block ++ (codes code ++ after_block input operators block)
+
+-- The sink has grown by the body with the term.
+abbrev pub AppendsBody : Setting → (input : List ℕ) → List (Operator × ℕ) → BlockRange → (at : ℕ) → Term Head → (old new : List ℕ) → Type 0
+AppendsBody s input operators block at t old new =
+    (code : List Instruction) × (term_code s operators block at t ≡ Ok code)
+    × (new ≡ old ++ written_body input operators block (written_block s.info operators block at code))
+
+-- Where the order is to be preserved, a block is refused exactly where it is out of order, and one that is written is in order.
+pub record KeepsOrder {A : Type 0} (preserving : Bool) (block : List Shape) (answer : Result A Error) : Type 0 where
+  pub refused : (answer ≡ Err NoMutationsApplicable) ↔ ((preserving ≡ true) × ¬ (IsInOrder block))
+  pub in_order : IfOk answer (λ _. preserving ≡ true → IsInOrder block)
 
 -- The operators are those of a body in the input, with their offsets.
 pub record IsBodyIn (input : List ℕ) (operators : List (Operator × ℕ)) : Type 0 where

@@ -9,18 +9,17 @@ ghost use Rattle.peephole_lang.specs.Term.{AreBelow, nodes_of, term_of};
 ghost use Rattle.peephole_graphs.specs.Dfg.{entries_of, parents_of, look_of};
 ghost use Rattle.peephole_graphs.specs.Entries.{roots_of};
 ghost use Rattle.peephole_terms.specs.Expansion.{Refuses, setting_of};
-ghost use Rattle.peephole_graphs.specs.Forest.{IsInOrder};
 ghost use Rattle.peephole_graphs.specs.GraphOf.{IsGraphOf};
 ghost use Rattle.peephole_terms.specs.EncoderSteps.{IsRefusal, IsInRange, IsWalkable, IsInside, entry_nodes, root_term, root_terms, steps_of, steps, take_steps};
 ghost use Rattle.peephole_terms.specs.ReadAgain.{ReadsAgain, KeepsTheTrees, IsReread};
 ghost use Rattle.peephole_terms.specs.SameRun.{AppendsSameRun};
-ghost use Rattle.peephole_terms.specs.Written.{IsBodyIn, IsBlockIn, offset_of, before_block, after_block, written_body, written_block, term_code, term_requests, after_block_term, shapes_in};
+ghost use Rattle.peephole_terms.specs.Written.{AppendsBody, IsBodyIn, IsBlockIn, KeepsOrder, offset_of, before_block, after_block, written_block, term_code, term_requests, after_block_term, shapes_in};
 
-pub mod expr2wasm;
+pub(crate) mod expr2wasm;
 mod kind;
 mod node;
 mod own;
-pub mod request;
+pub(crate) mod request;
 mod walk;
 
 use self::request::ResourceRequest;
@@ -30,6 +29,7 @@ use peephole_graphs::{BBlock, MiniDFG, StackEntry};
 use peephole_lang::{Lang, RecExpr};
 use rand_core::Rng;
 use std::alloc::Global;
+use wasm_code::laws::code_spells;
 use wasm_code::{Function, OperatorAndByteOffset};
 
 // Where an operator starts in the input.
@@ -201,8 +201,9 @@ impl Encoder {
     /// block's own run ends or traps the written one does the same, apart from requested globals.
     ///
     /// `NoMutationsApplicable`, before anything else, exactly where the meaning is to be preserved and the block's
-    /// operators would not keep their order; `CannotUnfold` and `GlobalIndex` as by `expr2wasm`, where the term is written;
-    /// `Memory` where an allocation was refused. The sink then holds its old bytes.
+    /// operators would not keep their order: what is written then is of a block in order. `CannotUnfold` and `GlobalIndex`
+    /// as by `expr2wasm`, where the term is written; `Memory` where an allocation was refused. The sink then holds its old
+    /// bytes.
     pub fn build_function<R: Rng + Drop>(
         alloc: Global,
         config: &mut WasmMutate<'_, R>,
@@ -222,10 +223,9 @@ impl Encoder {
         requires graph { IfSome config.old.info (λ info. IsGraphOf info config.old.preserving basicblock.now.start
             (slice_range operators.now basicblock.now.start basicblock.now.end) (entries_of dfg.now) (parents_of dfg.now) (look_of dfg.now)) }
         // The bytes outside the block, and between them its forest with the term.
-        ensures written { IfOk result (λ _. IfSome (setting_of R.stream config.old) (λ setting. (code : List Instruction)
-            × (term_code setting operators.now basicblock.now insertion_point (term_of head_of children_of expr.now) ≡ Ok code)
-            × (newfunc.new ≡ newfunc.old ++ written_body input_wasm.now operators.now basicblock.now
-            (written_block setting.info operators.now basicblock.now insertion_point code)))) }
+        ensures written { IfOk result (λ _. IfSome (setting_of R.stream config.old) (λ setting.
+            AppendsBody setting input_wasm.now operators.now basicblock.now insertion_point
+            (term_of head_of children_of expr.now) newfunc.old newfunc.new)) }
         // Read again, the appended bytes are the operators before the block, the written instructions and the operators behind it.
         ensures reads_again { IfOk result (λ _. IfSome (setting_of R.stream config.old) (λ setting. (code : List Instruction) × (text : List ℕ)
             × (term_code setting operators.now basicblock.now insertion_point (term_of head_of children_of expr.now) ≡ Ok code)
@@ -245,9 +245,9 @@ impl Encoder {
         // The generator stands behind the term's last word, where the term is written, and otherwise where it stood.
         ensures generator { IfOk result (λ _. IfSome (setting_of R.stream config.old) (λ setting. setting_of R.stream config.new
             ≡ Some (after_block_term setting operators.now basicblock.now insertion_point (term_of head_of children_of expr.now)))) }
-        // While preserving, a block out of order is refused.
-        ensures order { IfSome config.old.info (λ info. (result ≡ Err Error.NoMutationsApplicable)
-            ↔ ((config.old.preserving ≡ true) × ¬ (IsInOrder (shapes_in info operators.now basicblock.now)))) }
+        // While preserving, a block out of order is refused, and one that is written is in order.
+        ensures order { IfSome config.old.info (λ info.
+            KeepsOrder config.old.preserving (shapes_in info operators.now basicblock.now) result) }
         // Otherwise the term's expansion refuses, or memory does.
         ensures refusal { IfErr result (λ e. e ≢ Error.NoMutationsApplicable → IfSome (setting_of R.stream config.old) (λ setting.
             Refuses (term_code setting operators.now basicblock.now insertion_point (term_of head_of children_of expr.now)) e)) }
@@ -259,6 +259,7 @@ impl Encoder {
         if config.preserves_semantics() && !dfg.keeps_order() {
             return Err(Error::NoMutationsApplicable);
         }
+        code_spells();
         let globals = config.info().get_global_count();
         let (before, after) = outside(input_wasm, operators, basicblock);
         let old_len = newfunc.len();

@@ -1,9 +1,13 @@
 //! What holds of written bodies, of runs, and of the forest of every block. A function here does nothing: its contract is the laws.
 
-ghost use Rattle.peephole_terms.specs.Expansion.{HaveTheirOpcodes, UnfoldsAddUp};
+ghost use Rattle.peephole_terms.specs.Laws.{HaveTheirOpcodes, UnfoldsAddUp, RefusesByName, TreesAreWrittenAsTheyAre, OwnTreesAreKept, OperatorsHaveEntries};
+ghost use Rattle.peephole_terms.specs.SameAnswers.{TermAnswersAreTheSame, BodyAnswersAreTheSame};
 ghost use Rattle.peephole_terms.specs.StackCode.{IsStackCode};
 
-pub use peephole_graphs::laws::{graph_shows_the_forest, laws_of_forests, layout_keeps_the_term};
+pub use peephole_graphs::laws::{
+    blocks_are_found, entries_have_trees, faults_are_found, graph_shows_the_forest,
+    laws_of_forests, layout_keeps_the_term, order_is_decided, terms_stand_for_trees,
+};
 pub use peephole_machine::laws::following_code_keeps_runs_the_same;
 
 /// The instructions that are written for nodes without a row are those of the opcodes that belong to their names.
@@ -11,7 +15,12 @@ pub fn written_instructions()
     ensures { HaveTheirOpcodes }
 {}
 
-/// The two constants of an unfold add up to its number, whatever word is drawn.
+/// A term's expansion is refused where an unfold lacks its constant or a global's index doesn't fit, and for nothing else.
+pub fn expansions_refuse_by_name()
+    ensures { RefusesByName }
+{}
+
+/// The wrapping sum of an unfold's two constants is its number, whatever word is drawn, at 32 bits and at 64.
 pub fn unfolds_add_up()
     ensures { UnfoldsAddUp }
 {}
@@ -19,4 +28,23 @@ pub fn unfolds_add_up()
 /// A typed term's instructions do what the term means, whatever words are drawn.
 pub fn terms_are_stack_code()
     ensures { IsStackCode }
+{}
+
+/// Two calls of `expr2wasm` (`terms`), or of `build_function` (`bodies`), with equal arguments, under one module and with
+/// the same words drawn, append the same bytes and answer the same requests, wherever both succeed.
+pub fn equal_calls_answer_the_same()
+    ensures terms { TermAnswersAreTheSame }
+    ensures bodies { BodyAnswersAreTheSame }
+{}
+
+/// A term that stands for a tree is written as the tree's instructions, draws nothing and asks for nothing.
+pub fn trees_are_written_as_they_are()
+    ensures { TreesAreWrittenAsTheyAre }
+{}
+
+/// A block that is written with its operator's own tree, or with a term that isn't written, is its own trees in postfix
+/// (`kept`); and every operator of a block has its own entry, and so its own tree, in the block's graph (`entries`).
+pub fn own_trees_are_kept()
+    ensures kept { OwnTreesAreKept }
+    ensures entries { OperatorsHaveEntries }
 {}

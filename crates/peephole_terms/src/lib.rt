@@ -1,23 +1,29 @@
 //! Bodies written with a term in the place of a tree; and all that the crates below show, under one roof.
 #![tactic(auto)]
 
-pub mod encoder;
+mod encoder;
 pub mod laws;
 
 pub use encoder::Encoder;
 pub use encoder::expr2wasm::expr2wasm;
 pub use encoder::request::ResourceRequest;
+pub use mutate_base;
 pub use mutate_base::{
     ElementType, Error, F32, F64, FuncInfo, MemArg, MemArgLane, MemoryCopy, MemoryInit, MemoryType,
     ModuleInfo, PrimitiveTypeInfo, RefType, Shuffle, TableCopy, TableInit, TableType, TermError,
     TypeInfo, WasmMutate, Words, read_val_type,
 };
+pub use peephole_analysis;
+pub use peephole_analysis::{ClassData, OperandTypes, PeepholeMutationAnalysis};
+pub use peephole_graphs;
 pub use peephole_graphs::{BBlock, DFGBuilder, MiniDFG, StackEntry, build_expr};
+pub use peephole_lang;
 pub use peephole_lang::{
     Children, Head, Id, Lang, Language, Numeric, Payload, RecExpr, Simd, no_children,
 };
+pub use wasm_code;
 pub use wasm_code::{
-    AbstractHeapType, BlockType, Function, HeapType, Imm, Instr, Opcode, Operator,
-    OperatorAndByteOffset, ReadError, ReadKind, ResultKind, RowInfo, SinkError, ValType, read_body,
-    row_info, row_of,
+    AbstractHeapType, BlockType, Function, HeapType, Imm, Instr, MemArg as MemoryArgument, Opcode,
+    Operator, OperatorAndByteOffset, ReadError, ReadKind, ResultKind, RowInfo, SinkError, ValType,
+    read_body, row_info, row_of,
 };

@@ -13,7 +13,7 @@ use Rattle.mutate_base.specs.declared.term_error.TermError.TheVariants.{InvalidT
 use Rattle.peephole_nodes.specs.declared.id.Id.{Id}
 use Rattle.peephole_lang.specs.Language.{IsAlike, alike_equivalence}
 use Rattle.mutate_base.specs.Number.{read_signed}
-use Rattle.mutate_base.proofs.NumberBack.{signed_in_range_back}
+use Rattle.mutate_base.specs.NumberBack.{signed_in_range_back}
 use Rattle.peephole_lang.specs.Term.{numbers_of}
 use Rattle.peephole_lang.specs.Names.{after}
 use Rattle.peephole_nodes.specs.Written.{none_written, any_written}

@@ -17,3 +17,5 @@ mod code;
 mod languages;
 #[cfg(test)]
 mod nodes;
+#[cfg(test)]
+mod script;

@@ -1,5 +1,5 @@
 -- Bodies: whole operators, one after another, the last one `end`; and the first fault of bytes that are none
--- (WebAssembly Core Specification 3.0, section 5.4, Expressions; the order of the faults is this project's own).
+-- (WebAssembly Core Specification 3.0, Binary Format, Instructions, Expressions; the order of the faults is this project's own).
 use Rattle.std.specs.Prelude.{◌≡◌, ℕ, ◌+◌, List, [], ◌∷◌, ◌++◌, length, Bool, true, false, IsTrue}
 use Rattle.wasm_code.specs.declared.fault.ReadKind.{ReadKind}
 use Rattle.wasm_code.specs.declared.fault.ReadKind.TheVariants as kinds

@@ -1,5 +1,5 @@
 -- Immediates as bytes: what stands behind an opcode
--- (WebAssembly Core Specification 3.0, sections 5.3, Types, and 5.4, Instructions).
+-- (WebAssembly Core Specification 3.0, Binary Format, Types and Instructions).
 use Rattle.std.specs.Prelude.{◌≡◌, nat_lt, ℕ, zero, suc, pos, negsuc, ◌+◌, ◌-◌, List, [], ◌∷◌, ◌++◌, Option, Some, None}
 use Rattle.std.specs.Int.{w32, w64, w128, from_le_bytes, cast_signed}
 use Rattle.wasm_code.specs.declared.fault.Cause.{Cause}

@@ -1,5 +1,5 @@
 -- Instructions: a row of the table and an immediate of the row's kind, its numbers of their types
--- (WebAssembly Core Specification 3.0, section 2.4, Instructions).
+-- (WebAssembly Core Specification 3.0, Structure, Instructions).
 use Rattle.std.specs.Prelude.{◌≡◌, ℕ, pos, neg_ℤ, ◌≤ℤ◌, ◌<ℤ◌, ◌^◌, ◌<◌, nat_lt, length, All, Bool, true, false, IsTrue, Option, Some, None}
 use Rattle.wasm_code.specs.declared.table.Kind.{Kind}
 use Rattle.wasm_code.specs.declared.table.Kind.TheVariants as kind

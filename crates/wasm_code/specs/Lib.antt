@@ -1,5 +1,6 @@
 pub mod Fault
 pub mod ValType
+pub mod ValTypeEquality
 pub mod Table
 pub mod Finding
 pub mod Dense

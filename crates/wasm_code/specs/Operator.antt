@@ -1,4 +1,5 @@
--- Operators as bytes (WebAssembly Core Specification 3.0, section 5.4, Instructions).
+-- Operators as bytes (WebAssembly Core Specification 3.0, Binary Format, Instructions), and which of them end a basic block
+-- (this project).
 use Rattle.std.specs.Prelude.{◌≡◌, ◌≢◌, ◌⊎◌, ℕ, ◌==◌, List, [], ◌∷◌, Bool, true, false, Some}
 use Rattle.wasm_code.specs.declared.fault.Cause.{Cause}
 use Rattle.wasm_code.specs.declared.fault.Cause.TheVariants.{UnknownOpcode}
@@ -15,10 +16,17 @@ use Rattle.wasm_code.specs.Instruction.{Instruction}
 
 -- an operator that ends a basic block
 abbrev pub is_delimiter : Operator → Bool
-is_delimiter (op.Instr i) = false
-is_delimiter (op.CallIndirect type table) = false
-is_delimiter (op.TypedSelect count first) = false
-is_delimiter _ = true
+is_delimiter (op.If t) = true
+is_delimiter op.Else = true
+is_delimiter op.End = true
+is_delimiter (op.Block t) = true
+is_delimiter (op.Loop t) = true
+is_delimiter (op.Br label) = true
+is_delimiter (op.BrIf label) = true
+is_delimiter op.Return = true
+is_delimiter op.Unreachable = true
+is_delimiter (op.BrTable count) = true
+is_delimiter _ = false
 
 -- ---- opcodes
 

@@ -1,5 +1,5 @@
 -- The instruction table: the rows that this project reads and writes, and what it says of each
--- (opcodes, immediates, operands and results: WebAssembly Core Specification 3.0, sections 5.4 and 3.4, Instructions;
+-- (opcodes, immediates, operands and results: WebAssembly Core Specification 3.0, Binary Format and Validation, Instructions;
 -- the numbers of the rows and the rise of the colour are this project's own).
 use Rattle.std.specs.Prelude.{◌≡◌, ℕ, zero, suc, List, [], ◌∷◌, ◌++◌, Option, Some, None, slice_get}
 use Rattle.wasm_code.specs.declared.immediate.ValType.TheVariants as types

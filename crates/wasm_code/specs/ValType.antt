@@ -1,4 +1,4 @@
--- The names of the value types (WebAssembly Core Specification 3.0, section 6.4, Types).
+-- The names of the value types (WebAssembly Core Specification 3.0, Text Format, Types).
 use Rattle.std.specs.Prelude.{ℕ, List, codes}
 use Rattle.wasm_code.specs.declared.immediate.ValType.{ValType}
 use Rattle.wasm_code.specs.declared.immediate.ValType.TheVariants.{I32, I64, F32, F64, V128, FuncRef, ExternRef}

@@ -78,7 +78,7 @@ fn operators_of(
 /// Reads the operators of the body `bytes[from..to]`, each with its offset from the start of `bytes`.
 ///
 /// It accepts exactly the bytes that spell whole operators, one after another, of which the last is `end`
-/// (WebAssembly Core Specification 3.0, section 5.4, Instructions). Operators are the instructions of the table and
+/// (WebAssembly Core Specification 3.0, Binary Format, Instructions). Operators are the instructions of the table and
 /// the control operators of `Operator`: those of tail calls, exceptions, threads, typed references and garbage
 /// collection are no operators here. Nesting and types aren't checked.
 ///

@@ -1,4 +1,4 @@
-//! Laws on spellings: functions that do nothing, and whose contracts hold for all values.
+//! Laws on spellings and on value types: functions that do nothing, and whose contracts hold for all values.
 ghost use Rattle.std.specs.Prelude.{◌≡◌, ◌≢◌, ◌<◌, ◌≤◌, ◌+◌, ◌-◌, ◌^◌, ◌≤ℤ◌, ◌<ℤ◌, ◌++◌, ℕ, ℤ, pos, neg_ℤ, List, length, Ok, Err};
 ghost use Rattle.wasm_code.specs.Instruction.{Instruction, IsInstruction};
 ghost use Rattle.wasm_code.specs.Operator.{Spells};
@@ -6,6 +6,9 @@ ghost use Rattle.wasm_code.specs.Number.{SpellsUnsigned, SpellsSigned};
 ghost use Rattle.wasm_code.specs.Code.{shortest, shortest_signed, code};
 ghost use Rattle.wasm_code.specs.Body.{SpellsBody, IsFault, SpellsAll, AreSpelled, joined, placed, shifted, IsCut};
 ghost use Rattle.wasm_code.specs.Reader.{body_at};
+ghost use Rattle.std.specs.Bool.{Decides};
+ghost use Rattle.wasm_code.specs.contracts.immediate.ValTypePartialEq.TheImpl as val_type_eq;
+ghost use Rattle.wasm_code.specs.declared.immediate.ValType.{ValType};
 ghost use Rattle.wasm_code.specs.declared.fault.ReadKind.{ReadKind};
 ghost use Rattle.wasm_code.specs.declared.fault.ReadKind.TheVariants.{Memory};
 ghost use Rattle.wasm_code.specs.declared.operator.Operator.{Operator};
@@ -62,4 +65,9 @@ pub fn shortest_is_a_spelling()
 pub fn shortest_is_least()
     ensures unsigned { (bits n : ℕ) (text : List ℕ) → bits ≤ 64 → SpellsUnsigned bits text n → length (shortest n) ≤ length text }
     ensures signed { (bits : ℕ) (z : ℤ) (text : List ℕ) → bits ≤ 64 → SpellsSigned bits text z → length (shortest_signed z) ≤ length text }
+{}
+
+/// Two value types compare equal, by `==`, exactly where they are the same.
+pub fn equal_val_types()
+    ensures { (t u : ValType) → Decides (val_type_eq.ghosts.eq t u) (t ≡ u) }
 {}

@@ -40,7 +40,8 @@ impl Function {
     }
 
     /// Appends the code of the instruction: the opcode of its row and its immediate, with shortest numbers and no index
-    /// for memory 0 (WebAssembly Core Specification 3.0, sections 5.2.2, Integers, and 5.4, Instructions).
+    /// for memory 0 (WebAssembly Core Specification 3.0, Binary Format, Values, Integers, and Binary Format,
+    /// Instructions).
     /// `SinkError::Memory` where no memory was left: the sink is then as it was.
     pub fn instruction(&mut self, i: &Instr) -> Result<(), SinkError>
         ensures ok { OnOk result (self.new ≡ self.old ++ code i.now) }

@@ -144,7 +144,7 @@ pub fn row_by_opcode(op: Opcode) -> Option<(u16, Row)>
 /// What the table says of the row numbered `row`, or none where the table has no such row.
 ///
 /// Rows are numbered from 0: one-byte opcodes ascending, then those behind FC, then those behind FD (WebAssembly Core
-/// Specification 3.0, section 5.4, Instructions). Row 445 is the select with one value type.
+/// Specification 3.0, Binary Format, Instructions). Row 445 is the select with one value type.
 #[tactic(auto, unfolding(crate::specs::Table::info_of))]
 pub fn row_info(row: u16) -> Option<RowInfo>
     ensures { result ≡ info_of row }

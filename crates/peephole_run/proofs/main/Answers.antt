@@ -1,4 +1,5 @@
+use Rattle.std.proofs.Common.{ap}
 use Rattle.peephole_run.proofs.main.Goals as goal
 
 pub run-requires-clause-output_sound : goal.run-requires-clause-output_sound
-run-requires-clause-output_sound c = c.new-output.ensures.failed
+run-requires-clause-output_sound c = ap (λ t. t.failed) c.new-output.ensures

@@ -1,13 +1,11 @@
 //! Terms as instructions.
 
-ghost use Rattle.std.specs.Prelude.{◌≡◌, ◌++◌, ◌∷◌, [], ◌<◌, List, Ok, Some, All, IfOk, IfErr, IfSome, OnErr, IsTrue, length, map, is_some};
-ghost use Rattle.wasm_code.specs.Code.{codes};
-ghost use Rattle.wasm_code.specs.Instruction.{Instruction};
+ghost use Rattle.std.specs.Prelude.{◌≡◌, ◌<◌, Some, All, IfOk, IfErr, IfSome, OnErr, IsTrue, length, map, is_some};
 ghost use Rattle.peephole_lang.specs.Lang.{payload_of};
 ghost use Rattle.peephole_lang.specs.Node.{head_of, children_of};
 ghost use Rattle.peephole_nodes.specs.Payload.{is_writable};
 ghost use Rattle.peephole_lang.specs.Term.{term_of};
-ghost use Rattle.peephole_terms.specs.Expansion.{Refuses, setting_of, expanded, after_term, request, requests_of};
+ghost use Rattle.peephole_terms.specs.Expansion.{AppendsCode, Refuses, setting_of, expanded, after_term, request, requests_of};
 ghost use Rattle.peephole_terms.specs.StackCode.{AppendsStackCode};
 
 use super::request::ResourceRequest;
@@ -40,8 +38,8 @@ pub fn expr2wasm<R: Rng + Drop>(
     requires some { 0 < length expr.now }
     requires writable { All (λ l. IsTrue (is_writable (payload_of l))) expr.now }
     // What is written is the term's expansion, with the words that are drawn.
-    ensures written { IfOk result (λ _. IfSome (setting_of R.stream config.old) (λ setting. (code : List Instruction)
-        × (expanded setting (term_of head_of children_of expr.now) ≡ Ok code) × (newfunc.new ≡ newfunc.old ++ codes code))) }
+    ensures written { IfOk result (λ _. IfSome (setting_of R.stream config.old) (λ setting.
+        AppendsCode setting (term_of head_of children_of expr.now) newfunc.old newfunc.new)) }
     // A typed term's code, run, leaves the term's values and state, and traps exactly where the term does.
     ensures stack_code { IfOk result (λ _. IfSome (setting_of R.stream config.old) (λ setting.
         AppendsStackCode setting (term_of head_of children_of expr.now) newfunc.old newfunc.new)) }

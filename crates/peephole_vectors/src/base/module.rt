@@ -5,6 +5,7 @@ use mutate_base::{
     WasmMutate, Words,
 };
 use rand_core::Rng;
+use std::process::Abort;
 use std::test::Fail;
 
 #[test]
@@ -41,6 +42,31 @@ fn modules(rt: HostRuntime) -> Result<(), Fail> {
     }
     assert!(rt; copy.get_functype_idx(1).is_none());
     assert!(rt; copy.get_functype_idx(2).is_none());
+    Ok(())
+}
+
+/// The function takes an i64 and a reference, and returns an f32.
+fn is_function(rt: &impl Abort, function: &FuncInfo) {
+    let params = [PrimitiveTypeInfo::I64, PrimitiveTypeInfo::FuncRef];
+    assert!(rt; function.params.as_slice() == params.as_slice());
+    assert!(rt; function.returns.as_slice() == [PrimitiveTypeInfo::F32].as_slice());
+}
+
+#[test]
+fn copies_of_types(rt: HostRuntime) -> Result<(), Fail> {
+    let alloc = rt.alloc();
+    let function = FuncInfo {
+        params: vec![in alloc; PrimitiveTypeInfo::I64, PrimitiveTypeInfo::FuncRef]?,
+        returns: vec![in alloc; PrimitiveTypeInfo::F32]?,
+    };
+    let copy = function.clone()?;
+    is_function(&rt, &function);
+    is_function(&rt, &copy);
+    let declared = TypeInfo::Func(function);
+    let TypeInfo::Func(again) = declared.clone()?;
+    is_function(&rt, &again);
+    let TypeInfo::Func(function) = declared;
+    is_function(&rt, &function);
     Ok(())
 }
 

@@ -66,8 +66,9 @@ fn bodies(rt: HostRuntime) {
 
 #[test]
 fn hostile_bytes(rt: HostRuntime) {
-    let bad: [(&[u8], ReadKind, usize); 16] = [
+    let bad: [(&[u8], ReadKind, usize); 18] = [
         (&[], ReadKind::NoEnd, 0),
+        (&[0x01], ReadKind::NoEnd, 1),
         (&[0x1a], ReadKind::NoEnd, 1),
         (&[0x0b, 0x1a], ReadKind::NoEnd, 2),
         (&[0x41], ReadKind::Truncated, 0),
@@ -101,6 +102,7 @@ fn hostile_bytes(rt: HostRuntime) {
         (&[0x06], ReadKind::UnknownOpcode, 0),
         (&[0x41, 0x00, 0x06, 0x0b], ReadKind::UnknownOpcode, 2),
         (&[0xfc, 0x12, 0x0b], ReadKind::UnknownOpcode, 0),
+        (&[0xfd, 0x9a, 0x01, 0x0b], ReadKind::UnknownOpcode, 0),
         (&[0xfd, 0x94, 0x02, 0x0b], ReadKind::UnknownOpcode, 0),
         (&[0x01, 0x02, 0x41, 0x0b], ReadKind::BadImmediate, 1),
     ];

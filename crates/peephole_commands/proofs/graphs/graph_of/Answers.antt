@@ -11,10 +11,10 @@ returns-in-Ok-Some-clause-graph c =
 
 pub returns-in-Ok-None-clause-refused : goal.returns-in-Ok-None-clause-refused
 returns-in-Ok-None-clause-refused c =
-    inr (none_here c.args.config.now.info c.info.result.now c.args.config.now.preserving c.new-builder.result.preserving c.args.place.now.body.now.operators c.operators.result.now c.args.place.now.block
+    inr (none_here c.faults_are_found.ensures.no_graph c.args.config.now.info c.info.result.now c.args.config.now.preserving c.new-builder.result.preserving c.args.place.now.body.now.operators c.operators.result.now c.args.place.now.block
     c.info.ensures c.new-builder.ensures c.operators.ensures.value (rw c.in-Ok-None.field-0-is at c.in-Ok-None.ensures.none))
 
 pub returns-in-Err-clause-refused : goal.returns-in-Err-clause-refused
 returns-in-Err-clause-refused c =
-    refused_here c.args.config.now.info c.info.result.now c.args.config.now.preserving c.new-builder.result.preserving c.args.place.now.body.now.operators c.operators.result.now c.args.place.now.block
+    refused_here c.faults_are_found.ensures.unknown c.faults_are_found.ensures.too_large c.args.config.now.info c.info.result.now c.args.config.now.preserving c.new-builder.result.preserving c.args.place.now.body.now.operators c.operators.result.now c.args.place.now.block
     c.in-Err.error c.info.ensures c.new-builder.ensures c.operators.ensures.value c.in-Err.ensures.refused

@@ -17,7 +17,7 @@ pub returns : goal.returns
 returns c =
     let place = c.args.place.now in
     let graph = c.in_ok-graph.graph in
-    shown_is (module_in c.args.config.now.info) c.args.config.now.preserving place.body.now place.block (entries_of graph) (parents_of graph) (look_of graph)
+    shown_is c.faults_are_found.ensures.none c.order_is_decided.ensures (module_in c.args.config.now.info) c.args.config.now.preserving place.body.now place.block (entries_of graph) (parents_of graph) (look_of graph)
     c.keeps_order-in_order.result c.is_subtree_consistent_from_root-consistent.result (place.point - place.block.start) c.in_ok-graph.ensures.graph (place_length place c.requires.place)
     c.keeps_order-in_order.ensures c.is_subtree_consistent_from_root-consistent.ensures c.graph_shows_the_forest.ensures.text c.graph_shows_the_forest.ensures.colour
     ∙ ap (λ (t : List ℕ). let r : Result (List ℕ) Refusal = Ok t in r) (sym c.in_ok-text.ensures)

@@ -11,11 +11,11 @@ build_function-requires-clause-graph c =
 
 pub returns-in-Ok : goal.returns-in-Ok
 returns-in-Ok c =
-    build_ok _ c.args.config.now.info c.args.config.now.generator c.args.config.now.preserving c.args.place.now.body.now c.bytes.result.now c.operators.result.now c.args.place.now.point c.args.place.now.block
+    build_ok c.order_is_decided.ensures _ c.args.config.now.info c.args.config.now.generator c.args.config.now.preserving c.args.place.now.body.now c.bytes.result.now c.operators.result.now c.args.place.now.point c.args.place.now.block
     (term_of head_of children_of c.args.expr.now) c.new-body.result c.build_function.new.newfunc c.in-Ok.requests.items _
     c.requires.set_up c.requires.generator c.bytes.ensures c.operators.ensures.value c.new-body.ensures c.in-Ok.ensures.written c.in-Ok.ensures.requests c.in-Ok.ensures.order
 
 pub returns-in-Err : goal.returns-in-Err
 returns-in-Err c =
-    build_err _ c.args.config.now.info c.args.config.now.generator c.args.config.now.preserving c.args.place.now.body.now c.operators.result.now c.args.place.now.point c.args.place.now.block
+    build_err c.order_is_decided.ensures _ c.args.config.now.info c.args.config.now.generator c.args.config.now.preserving c.args.place.now.body.now c.operators.result.now c.args.place.now.point c.args.place.now.block
     (term_of head_of children_of c.args.expr.now) c.in-Err.refusal c.requires.set_up c.requires.generator c.operators.ensures.value c.in-Err.ensures.order c.in-Err.ensures.refusal

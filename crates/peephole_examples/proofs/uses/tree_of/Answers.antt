@@ -1,32 +1,31 @@
 -- The closure reads the expression, whose nodes have their children before them.
-use Rattle.std.proofs.Common.{◌<◌, ◌∙◌, ap, refl, length, slice_index_or, arith}
-use Rattle.peephole_examples.proofs.Trees.{children_below, tree_laid, tree_term, tree_refused}
+use Rattle.std.proofs.Common.{ap, map, refl, length, arith}
+use Rattle.peephole_graphs.specs.Layout.{node_by}
+use Rattle.peephole_examples.proofs.Trees.{reached_inside, told, tree_laid, tree_term}
 use Rattle.peephole_examples.proofs.uses.tree_of.Goals as goal
 
 pub build_expr-requires : goal.build_expr-requires
 build_expr-requires g c κs =
-    let many = ap (λ xs. length xs) c.as_ref-nodes.ensures.nodes in
-    let there : c.args.root.0 < length c.args.expr.now = c.requires in (
+    let many = ap (λ xs. length xs) c.as_ref-nodes.ensures.nodes in (
       (refl, tt),
-      (
-        λ id l. omega arith,
-        λ id node l p.
-            children_below g.L.Language.head g.L.Language.children c.args.expr.now id.0 node.now c.as_ref-nodes.ensures.below (omega arith)
-            (p.1 node.now ∙ ap (λ xs. slice_index_or xs id.0 node.now) c.as_ref-nodes.ensures.nodes),
-      ),
+      λ id r.
+          let l = reached_inside g.L.Language.head g.L.Language.children c.as_ref-nodes.result.now c.args.expr.now c.args.root.0
+          c.as_ref-nodes.ensures.nodes c.as_ref-nodes.ensures.below c.requires id.0 r in
+          omega arith,
     )
 
 pub returns-clause-laid : goal.returns-clause-laid
 returns-clause-laid g c =
-    tree_laid g.L.Language.head g.L.Language.children c.as_ref-nodes.result.now c.args.expr.now c.args.root.0 c.build_expr.result
-    c.as_ref-nodes.ensures.nodes c.requires c.build_expr.ensures.laid
+    tree_laid g.L.Language.head g.L.Language.children c.as_ref-nodes.result.now c.args.expr.now c.args.root.0 c.as_ref-nodes.ensures.nodes
+    c.as_ref-nodes.ensures.below c.requires c.build_expr.result c.build_expr.ensures.told
 
 pub returns-clause-term : goal.returns-clause-term
 returns-clause-term g c =
-    tree_term g.L.Language.head g.L.Language.children c.as_ref-nodes.result.now c.args.expr.now c.args.root.0 c.build_expr.result
-    c.as_ref-nodes.ensures.nodes c.requires c.build_expr.ensures.laid
+    tree_term g.L.Language.head g.L.Language.children c.as_ref-nodes.result.now c.args.expr.now c.args.root.0 c.as_ref-nodes.ensures.nodes
+    c.as_ref-nodes.ensures.below c.requires c.build_expr.result c.build_expr.ensures.told
 
 pub returns-clause-refused : goal.returns-clause-refused
 returns-clause-refused g c =
-    tree_refused g.L.Language.head g.L.Language.children c.as_ref-nodes.result.now c.args.expr.now c.args.root.0 c.build_expr.result
-    c.as_ref-nodes.ensures.nodes c.requires c.build_expr.ensures.refused
+    c.build_expr.ensures.too_large (map (node_by g.L.Language.head g.L.Language.children) c.args.expr.now)
+    (told g.L.Language.head g.L.Language.children c.as_ref-nodes.result.now c.args.expr.now c.args.root.0 c.as_ref-nodes.ensures.nodes
+    c.as_ref-nodes.ensures.below c.requires)

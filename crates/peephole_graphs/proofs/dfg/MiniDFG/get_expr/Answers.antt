@@ -8,6 +8,7 @@ use Rattle.peephole_graphs.specs.Dfg.{look_of}
 use Rattle.peephole_graphs.specs.Layout.{entry_nodes, laid}
 use Rattle.peephole_graphs.proofs.LayoutLemmas.{term_is, some_expr}
 use Rattle.peephole_graphs.proofs.SpanLemmas.{Below, entry_whole}
+use Rattle.peephole_graphs.proofs.WritableLemmas.{laid_out_writable}
 use Rattle.peephole_graphs.proofs.dfg.MiniDFG.get_expr.Goals as goal
 
 -- what holds at the root's index holds at the one that was looked up
@@ -37,6 +38,9 @@ returns-clause-term c =
     at_root (λ i expr. term_of head_of children_of expr ≡ tree_at (entry_nodes c.args.self.now.entries.items) i) c.lay_out_at.result
     (look_of c.args.self.now c.args.at) c.in-Some.root.now (sym c.in-Some.ensures.value)
     (laid_term c.args.self.now.entries.items c.in-Some.root.now c.args.self.now.trees.below (c.args.self.now.trees.found c.args.at c.in-Some.root.now (sym c.in-Some.ensures.value)) c.lay_out_at.result c.lay_out_at.ensures.laid)
+
+pub returns-clause-writable : goal.returns-clause-writable
+returns-clause-writable c = laid_out_writable c.args.self.now.entries.items c.in-Some.root.now c.args.self.now.trees.writable c.lay_out_at.result c.lay_out_at.ensures.laid
 
 pub returns-clause-some : goal.returns-clause-some
 returns-clause-some c =

@@ -26,13 +26,13 @@ returns-in-Ok-clause-written g c =
 
 pub returns-in-Ok-clause-reads_again : goal.returns-in-Ok-clause-reads_again
 returns-in-Ok-clause-reads_again g c =
-    body_again g.R.Rng.stream c.args.config.now c.info.result.now c.rng-rng.result.now c.get_global_count-globals.result c.args.input_wasm.now c.args.operators.now c.args.basicblock.now c.args.insertion_point (entries_of c.args.dfg.now) (entries_of c.args.dfg.now) (parents_of c.args.dfg.now) (parents_of c.args.dfg.now) (look_of c.args.dfg.now) (term_of head_of children_of c.args.expr.now) (term_of head_of children_of c.as_ref.result.now) _ _
+    body_again c.code_spells.ensures g.R.Rng.stream c.args.config.now c.info.result.now c.rng-rng.result.now c.get_global_count-globals.result c.args.input_wasm.now c.args.operators.now c.args.basicblock.now c.args.insertion_point (entries_of c.args.dfg.now) (entries_of c.args.dfg.now) (parents_of c.args.dfg.now) (parents_of c.args.dfg.now) (look_of c.args.dfg.now) (term_of head_of children_of c.args.expr.now) (term_of head_of children_of c.as_ref.result.now) _ _
     (record { info_is = c.info.ensures; generator_is = c.rng-rng.ensures.value; count_is = c.get_global_count-globals.ensures }) (record { graph = c.requires.graph; entries_are = refl; parents_are = refl; term_is = ap (term_of head_of children_of) c.as_ref.ensures.nodes }) c.in-Ok.ensures.in_range c.requires.body c.requires.block
     (returns-in-Ok-clause-written g c)
 
 pub returns-in-Ok-clause-reread : goal.returns-in-Ok-clause-reread
 returns-in-Ok-clause-reread g c =
-    body_reread g.R.Rng.stream c.args.config.now c.info.result.now c.rng-rng.result.now c.get_global_count-globals.result c.args.input_wasm.now c.args.operators.now c.args.basicblock.now c.args.insertion_point (entries_of c.args.dfg.now) (entries_of c.args.dfg.now) (parents_of c.args.dfg.now) (parents_of c.args.dfg.now) (look_of c.args.dfg.now) (term_of head_of children_of c.args.expr.now) (term_of head_of children_of c.as_ref.result.now) _ _
+    body_reread c.code_spells.ensures g.R.Rng.stream c.args.config.now c.info.result.now c.rng-rng.result.now c.get_global_count-globals.result c.args.input_wasm.now c.args.operators.now c.args.basicblock.now c.args.insertion_point (entries_of c.args.dfg.now) (entries_of c.args.dfg.now) (parents_of c.args.dfg.now) (parents_of c.args.dfg.now) (look_of c.args.dfg.now) (term_of head_of children_of c.args.expr.now) (term_of head_of children_of c.as_ref.result.now) _ _
     (record { info_is = c.info.ensures; generator_is = c.rng-rng.ensures.value; count_is = c.get_global_count-globals.ensures }) (record { graph = c.requires.graph; entries_are = refl; parents_are = refl; term_is = ap (term_of head_of children_of) c.as_ref.ensures.nodes }) c.in-Ok.ensures.in_range c.requires.body c.requires.block
     (returns-in-Ok-clause-written g c)
 

@@ -1,0 +1,3 @@
+pub mod Analysis
+pub mod Deciding
+pub mod TermTypes

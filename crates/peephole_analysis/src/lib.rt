@@ -1,0 +1,7 @@
+//! The types of results: of a node, by the types of its operands, and of a term.
+#![tactic(auto)]
+
+mod analysis;
+mod term_types;
+
+pub use analysis::{ClassData, OperandTypes, PeepholeMutationAnalysis};

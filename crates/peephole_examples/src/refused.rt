@@ -1,0 +1,372 @@
+//! Each call that takes memory, over the samples, where a request for memory may be refused: then the call answers `Memory`,
+//! and what was lent to it is as it was. `tests/refused_memory.sh` refuses each request in turn.
+
+ghost use Rattle.std.specs.Prelude.{IsTrue, is_some};
+ghost use Rattle.peephole_terms.specs.Written.{IsBodyIn};
+
+use crate::graphs::block_of;
+use crate::samples::{SAMPLES, Sample};
+use crate::terms::{
+    are_globals, assert_below, assert_writable, begun_sink, config_of, node_of, term_of,
+};
+use crate::uses::tree_of;
+use crate::writing::{operators_of, term_at};
+use peephole_terms::{
+    DFGBuilder, Encoder, Error, Function, Id, Lang, Language, MiniDFG, ModuleInfo,
+    OperatorAndByteOffset, ReadKind, RecExpr, ResourceRequest, WasmMutate, Words, expr2wasm,
+    read_body,
+};
+use std::alloc::Global;
+use std::process::Abort;
+
+/// What the refused request for memory was for.
+#[derive(Clone, Copy, PartialEq, Eq)]
+pub enum Refused {
+    /// None was refused.
+    Nothing,
+    /// What the test makes before the call.
+    Preparation,
+    /// The call, which answered `Memory`.
+    Call,
+}
+
+/// What was refused up to here: one request at most. `answer` is whether the last call answered `Memory`, or `Memory` where
+/// the test couldn't make that call.
+fn joined(rt: &impl Abort, before: Refused, answer: Result<bool, Error>) -> Refused {
+    let now = match answer {
+        Ok(false) => return before,
+        Ok(true) => Refused::Call,
+        Err(error) => {
+            assert!(rt; error == Error::Memory);
+            Refused::Preparation
+        }
+    };
+    assert!(rt; before == Refused::Nothing);
+    now
+}
+
+/// Ends the test where a call refuses for something else than memory.
+fn is_memory(rt: &impl Abort, error: Error) -> bool {
+    assert!(rt; error == Error::Memory);
+    true
+}
+
+/// Whether the body is refused for memory; else its operators are those of the sample.
+fn lacks_reading(rt: &impl Abort, alloc: Global, sample: &Sample) -> Result<bool, Error> {
+    match read_body(alloc, sample.bytes, 0, sample.bytes.len()) {
+        Ok(operators) => {
+            assert!(rt; operators.len() == sample.offsets.len());
+            for ((_, offset), wanted) in operators.iter().zip(sample.offsets) {
+                assert!(rt; *offset == *wanted);
+            }
+            Ok(false)
+        }
+        Err(error) => {
+            assert!(rt; error.kind == ReadKind::Memory);
+            Ok(true)
+        }
+    }
+}
+
+/// `read_body`
+pub fn reading(rt: &impl Abort, alloc: Global) -> Refused {
+    let mut found = Refused::Nothing;
+    for sample in &SAMPLES {
+        found = joined(rt, found, lacks_reading(rt, alloc, sample));
+    }
+    found
+}
+
+/// Ends the test where the graph isn't that of the sample.
+fn is_graph(rt: &impl Abort, graph: &MiniDFG, sample: &Sample) {
+    assert!(rt; graph.entries().len() == sample.entries.len());
+    for (entry, wanted) in graph.entries().iter().zip(sample.entries) {
+        assert!(rt; entry.operator_idx == *wanted);
+    }
+    assert!(rt; graph.map().contains_key(&sample.point));
+}
+
+/// The graph that a builder answers of the sample's block.
+fn graph_by(
+    rt: &impl Abort,
+    alloc: Global,
+    builder: &mut DFGBuilder,
+    info: &ModuleInfo,
+    operators: &[OperatorAndByteOffset],
+    sample: &Sample,
+) -> Result<MiniDFG, Error> {
+    let block = block_of(rt, builder, operators, sample.point);
+    match builder.get_dfg(alloc, info, operators, &block)? {
+        Some(graph) => {
+            is_graph(rt, &graph, sample);
+            Ok(graph)
+        }
+        None => panic!(rt; "no graph"),
+    }
+}
+
+/// Whether the block's graph is refused for memory. The builder then makes it at its next call.
+fn lacks_graph(rt: &impl Abort, alloc: Global, sample: &Sample) -> Result<bool, Error> {
+    let operators = operators_of(alloc, sample.bytes)?;
+    let config: WasmMutate<Words> = WasmMutate::new();
+    let mut builder = DFGBuilder::new(&config);
+    let info = ModuleInfo::new(alloc, sample.bytes);
+    match graph_by(rt, alloc, &mut builder, &info, &operators, sample) {
+        Ok(_) => Ok(false),
+        Err(error) => {
+            let again = graph_by(rt, alloc, &mut builder, &info, &operators, sample);
+            assert!(rt; again.is_ok());
+            Ok(is_memory(rt, error))
+        }
+    }
+}
+
+/// `DFGBuilder::get_dfg`
+pub fn graphs(rt: &impl Abort, alloc: Global) -> Refused {
+    let mut found = Refused::Nothing;
+    for sample in &SAMPLES {
+        found = joined(rt, found, lacks_graph(rt, alloc, sample));
+    }
+    found
+}
+
+/// The graph of the sample's block.
+fn graph_of(rt: &impl Abort, alloc: Global, sample: &Sample) -> Result<MiniDFG, Error> {
+    let operators = operators_of(alloc, sample.bytes)?;
+    let config: WasmMutate<Words> = WasmMutate::new();
+    let mut builder = DFGBuilder::new(&config);
+    let info = ModuleInfo::new(alloc, sample.bytes);
+    graph_by(rt, alloc, &mut builder, &info, &operators, sample)
+}
+
+/// Ends the test where the expression has other nodes.
+fn are_nodes(rt: &impl Abort, expr: &RecExpr<Lang>, wanted: &RecExpr<Lang>) {
+    assert!(rt; expr.len() == wanted.len());
+    for (node, other) in expr.as_ref().iter().zip(wanted.as_ref()) {
+        assert!(rt; *node == *other);
+    }
+}
+
+/// Whether an expression is refused for memory; else it has these nodes.
+fn lacks_nodes(
+    rt: &impl Abort,
+    answer: Result<RecExpr<Lang>, Error>,
+    wanted: &RecExpr<Lang>,
+) -> bool {
+    match answer {
+        Ok(expr) => {
+            are_nodes(rt, &expr, wanted);
+            false
+        }
+        Err(error) => is_memory(rt, error),
+    }
+}
+
+/// Whether the point's own tree is refused for memory. The graph is as it was.
+fn lacks_own_tree(rt: &impl Abort, alloc: Global, sample: &Sample) -> Result<bool, Error> {
+    let graph = graph_of(rt, alloc, sample)?;
+    let wanted = term_of(rt, alloc, sample.own)?;
+    assert!(rt; graph.map().contains_key(&sample.point));
+    let answer = graph.get_expr(alloc, sample.point);
+    is_graph(rt, &graph, sample);
+    Ok(lacks_nodes(rt, answer, &wanted))
+}
+
+/// `MiniDFG::get_expr`
+pub fn own_trees(rt: &impl Abort, alloc: Global) -> Refused {
+    let mut found = Refused::Nothing;
+    for sample in &SAMPLES {
+        found = joined(rt, found, lacks_own_tree(rt, alloc, sample));
+    }
+    found
+}
+
+/// Whether the term's tree is refused for memory. The term is as it was.
+fn lacks_layout(rt: &impl Abort, alloc: Global, sample: &Sample) -> Result<bool, Error> {
+    let term = term_of(rt, alloc, sample.term())?;
+    let same = term_of(rt, alloc, sample.term())?;
+    let wanted = term_of(rt, alloc, sample.laid)?;
+    let count = term.len();
+    assert!(rt; count > 0 && count < 10);
+    let root = Id((count - 1) as u32);
+    assert!(rt; (root.0 as usize) < count);
+    let answer = tree_of(alloc, &term, root);
+    are_nodes(rt, &term, &same);
+    Ok(lacks_nodes(rt, answer, &wanted))
+}
+
+/// `build_expr`
+pub fn layouts(rt: &impl Abort, alloc: Global) -> Refused {
+    let mut found = Refused::Nothing;
+    for sample in &SAMPLES {
+        found = joined(rt, found, lacks_layout(rt, alloc, sample));
+    }
+    found
+}
+
+/// The expression has so many nodes, which are the first of the wanted ones.
+fn begins(rt: &impl Abort, expr: &RecExpr<Lang>, wanted: &RecExpr<Lang>, count: usize) {
+    assert!(rt; expr.len() == count && count <= wanted.len());
+    for (node, other) in expr.as_ref().iter().zip(wanted.as_ref()) {
+        assert!(rt; *node == *other);
+    }
+}
+
+/// Whether a node of the term is refused for memory. The expression then has the nodes before it.
+fn lacks_a_node(rt: &impl Abort, alloc: Global, sample: &Sample) -> Result<bool, Error> {
+    let wanted = term_of(rt, alloc, sample.term())?;
+    let mut expr = RecExpr::new(alloc);
+    for (place, line) in sample.term().iter().enumerate() {
+        let node = node_of(rt, alloc, line)?;
+        assert_below(rt, node.children(), expr.len());
+        match expr.add(node) {
+            Ok(id) => assert!(rt; id.0 as usize == place),
+            Err(error) => {
+                begins(rt, &expr, &wanted, place);
+                return Ok(is_memory(rt, error));
+            }
+        }
+    }
+    are_nodes(rt, &expr, &wanted);
+    Ok(false)
+}
+
+/// `RecExpr::add`
+pub fn nodes(rt: &impl Abort, alloc: Global) -> Refused {
+    let mut found = Refused::Nothing;
+    for sample in &SAMPLES {
+        found = joined(rt, found, lacks_a_node(rt, alloc, sample));
+    }
+    found
+}
+
+/// Whether the forest's text is refused for memory. The graph is as it was.
+fn lacks_text(rt: &impl Abort, alloc: Global, sample: &Sample) -> Result<bool, Error> {
+    let graph = graph_of(rt, alloc, sample)?;
+    let answer = graph.pretty_print(alloc, |entry| {
+        let operator = &entry.operator;
+        Ok(format!(in alloc; "{operator}")?)
+    });
+    is_graph(rt, &graph, sample);
+    match answer {
+        Ok(text) => {
+            assert!(rt; text.as_str() == sample.drawn);
+            Ok(false)
+        }
+        Err(error) => Ok(is_memory(rt, error)),
+    }
+}
+
+/// `MiniDFG::pretty_print`
+pub fn texts(rt: &impl Abort, alloc: Global) -> Refused {
+    let mut found = Refused::Nothing;
+    for sample in &SAMPLES {
+        found = joined(rt, found, lacks_text(rt, alloc, sample));
+    }
+    found
+}
+
+/// Whether writing is refused for memory, and the sink holds AA BB; else these bytes stand behind them, and the sample's
+/// globals are asked for.
+fn lacks_writing(
+    rt: &impl Abort,
+    answer: Result<Vec<ResourceRequest>, Error>,
+    sink: &Function,
+    wanted: &[u8],
+    sample: &Sample,
+) -> bool {
+    assert!(rt; sink.bytes().starts_with(&[0xaa, 0xbb]));
+    match answer {
+        Ok(requests) => {
+            assert!(rt; &sink.bytes()[2..] == wanted);
+            are_globals(rt, &requests, sample.globals);
+            false
+        }
+        Err(error) => {
+            assert!(rt; sink.len() == 2);
+            is_memory(rt, error)
+        }
+    }
+}
+
+/// Ends the test where the configuration isn't that of a module with two globals of type i32.
+fn is_config(rt: &impl Abort, config: &WasmMutate<Words>, bytes: &[u8])
+    requires { IsTrue (is_some config.now.info) }
+{
+    assert!(rt; !config.preserves_semantics());
+    assert!(rt; config.info().get_global_count() == 2 && config.info().input_wasm == bytes);
+}
+
+/// Whether the term alone is refused for memory. But for the generator, what was lent is as it was.
+fn lacks_code(rt: &impl Abort, alloc: Global, sample: &Sample) -> Result<bool, Error> {
+    let term = term_of(rt, alloc, sample.term())?;
+    assert_writable(rt, &term);
+    let same = term_of(rt, alloc, sample.term())?;
+    let mut config = config_of(alloc, sample.bytes, sample.words)?;
+    let mut sink = begun_sink(alloc)?;
+    let answer = expr2wasm(alloc, &mut config, &term, &mut sink);
+    is_config(rt, &config, sample.bytes);
+    are_nodes(rt, &term, &same);
+    Ok(lacks_writing(rt, answer, &sink, sample.code, sample))
+}
+
+/// `expr2wasm`
+pub fn codes(rt: &impl Abort, alloc: Global) -> Refused {
+    let mut found = Refused::Nothing;
+    for sample in &SAMPLES {
+        found = joined(rt, found, lacks_code(rt, alloc, sample));
+    }
+    found
+}
+
+/// Whether the body with the term is refused for memory. But for the generator, what was lent is as it was.
+fn lacks_body(
+    rt: &impl Abort,
+    alloc: Global,
+    sample: &Sample,
+    operators: &[OperatorAndByteOffset],
+    config: &mut WasmMutate<Words>,
+) -> Result<bool, Error>
+    requires set_up { IsTrue (is_some config.old.info) }
+    requires body { IsBodyIn sample.now.bytes.now operators.now }
+{
+    let mut builder = DFGBuilder::new(config);
+    let block = block_of(rt, &builder, operators, sample.point);
+    let Some(graph) = builder.get_dfg(alloc, config.info(), operators, &block)? else {
+        panic!(rt; "no graph");
+    };
+    let term = term_at(rt, alloc, &graph, sample.point, sample.lines)?;
+    let same = term_of(rt, alloc, sample.term())?;
+    let mut sink = begun_sink(alloc)?;
+    let answer = Encoder::build_function(
+        alloc,
+        config,
+        sample.point,
+        &term,
+        operators,
+        &block,
+        &mut sink,
+        &graph,
+        sample.bytes,
+    );
+    is_config(rt, config, sample.bytes);
+    are_nodes(rt, &term, &same);
+    is_graph(rt, &graph, sample);
+    Ok(lacks_writing(rt, answer, &sink, sample.written, sample))
+}
+
+/// The same with a configuration of its own.
+fn lacks_new_body(rt: &impl Abort, alloc: Global, sample: &Sample) -> Result<bool, Error> {
+    let operators = operators_of(alloc, sample.bytes)?;
+    let mut config = config_of(alloc, sample.bytes, sample.words)?;
+    lacks_body(rt, alloc, sample, &operators, &mut config)
+}
+
+/// `Encoder::build_function`
+pub fn bodies(rt: &impl Abort, alloc: Global) -> Refused {
+    let mut found = Refused::Nothing;
+    for sample in &SAMPLES {
+        found = joined(rt, found, lacks_new_body(rt, alloc, sample));
+    }
+    found
+}

@@ -1,0 +1,5 @@
+use Rattle.peephole_graphs.proofs.OrderTest.{decides_the_order}
+use Rattle.peephole_graphs.proofs.laws.order_is_decided.Goals as goal
+
+pub returns : goal.returns
+returns c = decides_the_order

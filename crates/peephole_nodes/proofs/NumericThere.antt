@@ -1,0 +1,152 @@
+-- The places of numeric nodes and their numbers of children are those that are told.
+use Rattle.std.proofs.Common.{◌≡◌, ℕ, true, true≢false, refl, sym, ap₂, ◌∙◌}
+use Rattle.std.specs.Prelude.{Option, Some, None, is_some, IfNone}
+use Rattle.peephole_nodes.specs.declared.numeric.Numeric.{Numeric}
+use Rattle.peephole_nodes.specs.declared.numeric.Numeric.TheVariants.{I32Eqz, I32Eq, I32Ne, I32LtS, I32LtU, I32GtS, I32GtU, I32LeS, I32LeU, I32GeS, I32GeU, I64Eqz, I64Eq, I64Ne, I64LtS, I64LtU, I64GtS, I64GtU, I64LeS, I64LeU, I64GeS, I64GeU, F32Eq, F32Ne, F32Lt, F32Gt, F32Le, F32Ge, F64Eq, F64Ne, F64Lt, F64Gt, F64Le, F64Ge, I32Clz, I32Ctz, I32Popcnt, I32Add, I32Sub, I32Mul, I32DivS, I32DivU, I32RemS, I32RemU, I32And, I32Or, I32Xor, I32Shl, I32ShrS, I32ShrU, I32RotL, I32RotR, I64Clz, I64Ctz, I64Popcnt, I64Add, I64Sub, I64Mul, I64DivS, I64DivU, I64RemS, I64RemU, I64And, I64Or, I64Xor, I64Shl, I64ShrS, I64ShrU, I64RotL, I64RotR, F32Abs, F32Neg, F32Ceil, F32Floor, F32Trunc, F32Nearest, F32Sqrt, F32Add, F32Sub, F32Mul, F32Div, F32Min, F32Max, F32Copysign, F64Abs, F64Neg, F64Ceil, F64Floor, F64Trunc, F64Nearest, F64Sqrt, F64Add, F64Sub, F64Mul, F64Div, F64Min, F64Max, F64Copysign, Wrap, I32TruncF32S, I32TruncF32U, I32TruncF64S, I32TruncF64U, I64ExtendI32S, I64ExtendI32U, I64TruncF32S, I64TruncF32U, I64TruncF64S, I64TruncF64U, F32ConvertI32S, F32ConvertI32U, F32ConvertI64S, F32ConvertI64U, F32DemoteF64, F64ConvertI32S, F64ConvertI32U, F64ConvertI64S, F64ConvertI64U, F64PromoteF32, I32ReinterpretF32, I64ReinterpretF64, F32ReinterpretI32, F64ReinterpretI64, I32Extend8S, I32Extend16S, I64Extend8S, I64Extend16S, I64Extend32S, I32TruncSatF32S, I32TruncSatF32U, I32TruncSatF64S, I32TruncSatF64U, I64TruncSatF32S, I64TruncSatF32U, I64TruncSatF64S, I64TruncSatF64U}
+use Rattle.peephole_nodes.specs.Made.{LacksNumeric}
+use Rattle.peephole_nodes.specs.Numeric.{numeric_place_of, numeric_count_of}
+use Rattle.peephole_nodes.specs.NumericShapes.{is_numeric, is_numeric_plain_one_a, is_numeric_plain_one_b, is_numeric_plain_two_a, is_numeric_plain_two_b}
+
+numeric_there : (n : Numeric) → is_numeric (numeric_place_of n) (numeric_count_of n) ≡ true
+unfolding numeric_place_of numeric_count_of is_numeric_plain_one_a is_numeric_plain_one_b is_numeric_plain_two_a is_numeric_plain_two_b
+numeric_there (I32Eqz _) = refl
+numeric_there (I32Eq _) = refl
+numeric_there (I32Ne _) = refl
+numeric_there (I32LtS _) = refl
+numeric_there (I32LtU _) = refl
+numeric_there (I32GtS _) = refl
+numeric_there (I32GtU _) = refl
+numeric_there (I32LeS _) = refl
+numeric_there (I32LeU _) = refl
+numeric_there (I32GeS _) = refl
+numeric_there (I32GeU _) = refl
+numeric_there (I64Eqz _) = refl
+numeric_there (I64Eq _) = refl
+numeric_there (I64Ne _) = refl
+numeric_there (I64LtS _) = refl
+numeric_there (I64LtU _) = refl
+numeric_there (I64GtS _) = refl
+numeric_there (I64GtU _) = refl
+numeric_there (I64LeS _) = refl
+numeric_there (I64LeU _) = refl
+numeric_there (I64GeS _) = refl
+numeric_there (I64GeU _) = refl
+numeric_there (F32Eq _) = refl
+numeric_there (F32Ne _) = refl
+numeric_there (F32Lt _) = refl
+numeric_there (F32Gt _) = refl
+numeric_there (F32Le _) = refl
+numeric_there (F32Ge _) = refl
+numeric_there (F64Eq _) = refl
+numeric_there (F64Ne _) = refl
+numeric_there (F64Lt _) = refl
+numeric_there (F64Gt _) = refl
+numeric_there (F64Le _) = refl
+numeric_there (F64Ge _) = refl
+numeric_there (I32Clz _) = refl
+numeric_there (I32Ctz _) = refl
+numeric_there (I32Popcnt _) = refl
+numeric_there (I32Add _) = refl
+numeric_there (I32Sub _) = refl
+numeric_there (I32Mul _) = refl
+numeric_there (I32DivS _) = refl
+numeric_there (I32DivU _) = refl
+numeric_there (I32RemS _) = refl
+numeric_there (I32RemU _) = refl
+numeric_there (I32And _) = refl
+numeric_there (I32Or _) = refl
+numeric_there (I32Xor _) = refl
+numeric_there (I32Shl _) = refl
+numeric_there (I32ShrS _) = refl
+numeric_there (I32ShrU _) = refl
+numeric_there (I32RotL _) = refl
+numeric_there (I32RotR _) = refl
+numeric_there (I64Clz _) = refl
+numeric_there (I64Ctz _) = refl
+numeric_there (I64Popcnt _) = refl
+numeric_there (I64Add _) = refl
+numeric_there (I64Sub _) = refl
+numeric_there (I64Mul _) = refl
+numeric_there (I64DivS _) = refl
+numeric_there (I64DivU _) = refl
+numeric_there (I64RemS _) = refl
+numeric_there (I64RemU _) = refl
+numeric_there (I64And _) = refl
+numeric_there (I64Or _) = refl
+numeric_there (I64Xor _) = refl
+numeric_there (I64Shl _) = refl
+numeric_there (I64ShrS _) = refl
+numeric_there (I64ShrU _) = refl
+numeric_there (I64RotL _) = refl
+numeric_there (I64RotR _) = refl
+numeric_there (F32Abs _) = refl
+numeric_there (F32Neg _) = refl
+numeric_there (F32Ceil _) = refl
+numeric_there (F32Floor _) = refl
+numeric_there (F32Trunc _) = refl
+numeric_there (F32Nearest _) = refl
+numeric_there (F32Sqrt _) = refl
+numeric_there (F32Add _) = refl
+numeric_there (F32Sub _) = refl
+numeric_there (F32Mul _) = refl
+numeric_there (F32Div _) = refl
+numeric_there (F32Min _) = refl
+numeric_there (F32Max _) = refl
+numeric_there (F32Copysign _) = refl
+numeric_there (F64Abs _) = refl
+numeric_there (F64Neg _) = refl
+numeric_there (F64Ceil _) = refl
+numeric_there (F64Floor _) = refl
+numeric_there (F64Trunc _) = refl
+numeric_there (F64Nearest _) = refl
+numeric_there (F64Sqrt _) = refl
+numeric_there (F64Add _) = refl
+numeric_there (F64Sub _) = refl
+numeric_there (F64Mul _) = refl
+numeric_there (F64Div _) = refl
+numeric_there (F64Min _) = refl
+numeric_there (F64Max _) = refl
+numeric_there (F64Copysign _) = refl
+numeric_there (Wrap _) = refl
+numeric_there (I32TruncF32S _) = refl
+numeric_there (I32TruncF32U _) = refl
+numeric_there (I32TruncF64S _) = refl
+numeric_there (I32TruncF64U _) = refl
+numeric_there (I64ExtendI32S _) = refl
+numeric_there (I64ExtendI32U _) = refl
+numeric_there (I64TruncF32S _) = refl
+numeric_there (I64TruncF32U _) = refl
+numeric_there (I64TruncF64S _) = refl
+numeric_there (I64TruncF64U _) = refl
+numeric_there (F32ConvertI32S _) = refl
+numeric_there (F32ConvertI32U _) = refl
+numeric_there (F32ConvertI64S _) = refl
+numeric_there (F32ConvertI64U _) = refl
+numeric_there (F32DemoteF64 _) = refl
+numeric_there (F64ConvertI32S _) = refl
+numeric_there (F64ConvertI32U _) = refl
+numeric_there (F64ConvertI64S _) = refl
+numeric_there (F64ConvertI64U _) = refl
+numeric_there (F64PromoteF32 _) = refl
+numeric_there (I32ReinterpretF32 _) = refl
+numeric_there (I64ReinterpretF64 _) = refl
+numeric_there (F32ReinterpretI32 _) = refl
+numeric_there (F64ReinterpretI64 _) = refl
+numeric_there (I32Extend8S _) = refl
+numeric_there (I32Extend16S _) = refl
+numeric_there (I64Extend8S _) = refl
+numeric_there (I64Extend16S _) = refl
+numeric_there (I64Extend32S _) = refl
+numeric_there (I32TruncSatF32S _) = refl
+numeric_there (I32TruncSatF32U _) = refl
+numeric_there (I32TruncSatF64S _) = refl
+numeric_there (I32TruncSatF64U _) = refl
+numeric_there (I64TruncSatF32S _) = refl
+numeric_there (I64TruncSatF32U _) = refl
+numeric_there (I64TruncSatF64S _) = refl
+numeric_there (I64TruncSatF64U _) = refl
+
+-- where none is told, there is none
+pub numeric_none : (made : Option Numeric) (place count : ℕ) → is_some made ≡ is_numeric place count → IfNone made (LacksNumeric place count)
+numeric_none (Some n) place count e = tt
+numeric_none None place count e = λ n p c. true≢false (sym (numeric_there n) ∙ (ap₂ is_numeric p c ∙ sym e))

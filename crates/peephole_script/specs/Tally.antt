@@ -1,0 +1,12 @@
+-- A device that is watched, and when a call on it failed (this project's).
+use Rattle.std.specs.Prelude.{ℕ, Bool, true, ◌&&◌, ◌==◌, nat_lt, Result, Ok, Err}
+
+pub record Watched (D : Type 0) : Type 0 where
+  pub device : D
+  -- whether a call on it has failed
+  pub failed : Bool
+
+-- an error, or none of some bytes taken
+abbrev pub write_failed : {E : Type 0} → Result ℕ E → ℕ → Bool
+write_failed (Ok n) offered = (n == 0) && nat_lt 0 offered
+write_failed (Err e) offered = true

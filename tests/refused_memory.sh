@@ -1,0 +1,88 @@
+#!/usr/bin/env bash
+# Refuses to each call that takes memory each of its requests in turn, and prints a line for each call: how many requests were
+# refused, one a run, and how many of them to the call itself. Fails where an answer is none of those allowed: a test in
+# peephole_examples (src/refused.rt) or peephole_run (src/refused_memory.rt) says which, and stops at any other.
+#
+# The program in tests/refused_memory makes a call of those tests over all its samples. It is built twice: without a refusal,
+# which counts the requests of each call, and with request number `at` refused, before which it asks for memory and gives it
+# back so often that the refused request is the call's first, second and so on, up to one run that meets no refusal.
+set -euo pipefail
+cd "$(dirname "$0")/.."
+
+calls="read_body get_dfg get_expr build_expr add expr2wasm build_function pretty_print run"
+never=1000000
+
+work=$(mktemp -d)
+trap 'rm -rf "$work"' EXIT
+
+# A repository of copies, in which the program stands beside the crates.
+for crate in crates/*/; do
+    mkdir -p "$work/$crate"
+    for folder in src specs proofs; do
+        if [ -d "$crate$folder" ]; then cp -r "$crate$folder" "$work/$crate"; fi
+    done
+done
+program=$work/crates/refused_memory
+mkdir -p "$program/src" "$work/counted" "$work/cases"
+cp tests/refused_memory/main.rt.in "$program/src/main.rt"
+cp crates/peephole_examples/src/{graphs,refused,samples,terms,uses,writing}.rt "$program/src"
+cp crates/peephole_run/src/refused_memory.rt "$program/src"
+libraries=$(grep '^peephole_examples:' crates.txt | cut -d: -f2)
+{ cat crates.txt; echo "refused_memory:$libraries peephole_commands"; } > "$work/crates.txt"
+
+# A line for each case, from what `rt try` prints of it: the case, how it ended, the requests for memory, what it printed.
+tried() {
+    (cd "$program" && rt try "$@" 2>&1 || true) > "$work/log"
+    awk '
+        /^== / { said = ""; requests = "-"; next }
+        /^allocations: / { requests = $NF; next }
+        /^case=/ { print substr($1, 6), $2 "," $3, requests, said ? said : "-"; next }
+        { said = said ? said "," $0 : $0 }
+    ' "$work/log"
+}
+
+for call in $calls; do echo "$call 0" > "$work/counted/$call"; done
+tried --fail-alloc "$never" --cases "$work/counted" > "$work/requests"
+at=1
+while read -r call end requests said; do
+    if [ "$end $said" != "run=ended,status=0 nothing" ]; then
+        cat "$work/log"
+        echo "$call fails where no request is refused"
+        exit 1
+    fi
+    if [ "$requests" -ge "$at" ]; then at=$((requests + 1)); fi
+done < "$work/requests"
+
+while read -r call _ requests _; do
+    for n in $(seq 1 $((requests + 1))); do
+        echo "$call $((at - n))" > "$work/cases/$call-$n"
+    done
+done < "$work/requests"
+# The interpreter, which counts the requests, takes a second a case: few steps stop it, and the compiled program answers.
+tried --steps 1000 --fail-alloc "$at" --cases "$work/cases" > "$work/answers"
+
+status=0
+for call in $calls; do
+    highest=0
+    in_call=0
+    requests=$(awk -v call="$call" '$1 == call { print $3 }' "$work/requests")
+    for n in $(seq 1 $((requests + 1))); do
+        read -r end said < <(awk -v name="$call-$n" '$1 == name { print $2, $4 }' "$work/answers") || end=none
+        case "$end $said" in
+            "run=ended,status=0 nothing") met=no ;;
+            "run=ended,status=0 call") met=yes; in_call=$((in_call + 1)) ;;
+            "run=ended,status=0 preparation") met=yes ;;
+            *) met=failed ;;
+        esac
+        if [ "$met" = yes ] && [ "$n" -le "$requests" ]; then
+            highest=$n
+        elif [ "$met" != no ] || [ "$n" -le "$requests" ]; then
+            echo "$call: request $n refused: $end, ${said:-nothing printed}"
+            status=1
+        fi
+    done
+    echo "$call: $highest requests refused, $in_call of them to the call"
+    if [ "$highest" -ne "$requests" ] || [ "$in_call" -eq 0 ]; then status=1; fi
+done
+if [ "$status" -ne 0 ]; then cat "$work/log"; fi
+exit "$status"
