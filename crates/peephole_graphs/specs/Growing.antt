@@ -1,4 +1,4 @@
--- How the builder's lists change by one operator. For the builder alone.
+-- How the builder's lists change by one operator. This project's rule, for the builder alone.
 use Rattle.std.specs.Prelude.{ℕ, suc, ◌+◌, ◌-◌, ◌≡◌, ◌==◌, ◌&&◌, true, false, List, [], ◌∷◌, ◌++◌, length, take, drop, replicate, slice_set, slice_index, slice_index_or, Option, None, Some, if◌then◌else◌}
 use Rattle.std.specs.HashMap as hash
 use Rattle.std.specs.Bool.{nat_eq}
