@@ -24,3 +24,5 @@ pub mod MadeLemmas
 pub mod TextLemmas
 pub mod NodeLemmas
 pub mod Children
+pub mod Equal
+pub mod Again

@@ -1,5 +1,5 @@
 -- What the comparisons of nodes say of them, and that a node's text is its head's.
-use Rattle.std.specs.Prelude.{◌≡◌, ℕ, ◌==◌, ◌&&◌, ◌++◌, Bool, true, false, refl}
+use Rattle.std.specs.Prelude.{◌≡◌, ℕ, ◌==◌, ◌++◌, true}
 use Rattle.std.specs.Bool.{Decides}
 use Rattle.std.specs.Cmp.{IsEquivalence, unsigned_Decides}
 use Rattle.std.proofs.Common.{ap, ap₂}
@@ -7,6 +7,7 @@ use Rattle.peephole_nodes.specs.contracts.payload.PayloadPartialEq.TheImpl as pa
 use Rattle.peephole_lang.specs.declared.lang.Head.{Head}
 use Rattle.peephole_lang.specs.declared.lang.Lang.{Lang}
 use Rattle.peephole_nodes.specs.declared.payload.Payload.{Payload}
+use Rattle.peephole_nodes.specs.ComparedLemmas.{both, joined}
 use Rattle.peephole_lang.specs.Compared.{lang_matches, given_of}
 use Rattle.peephole_lang.specs.Lang.{place_of, payload_of, ids_of}
 use Rattle.peephole_lang.specs.Language.{IsAlike, alike_equivalence}
@@ -15,15 +16,6 @@ use Rattle.peephole_nodes.specs.PayloadLemmas.{same_payload, payload_itself}
 use Rattle.peephole_nodes.specs.PayloadText.{payload_text}
 use Rattle.peephole_lang.specs.Text.{name_in, text_of}
 use Rattle.peephole_lang.specs.Variants.{variant_at}
-
-pub both : (a b c : Bool) → (a && (b && c)) ≡ true → (a ≡ true) × ((b ≡ true) × (c ≡ true))
-both true true true e = (refl, (refl, refl))
-both true true false e = absurd cc
-both true false c e = absurd cc
-both false b c e = absurd cc
-
-pub joined : (a b c : Bool) → a ≡ true → b ≡ true → c ≡ true → (a && (b && c)) ≡ true
-joined a b c p q r = rw (p, q, r) refl
 
 pub same_head : (place place' : ℕ) (p p' : Payload) → place ≡ place' → p ≡ p' → ◌≡◌ {A = Head} (record { place = place; payload = p }) (record { place = place'; payload = p' })
 same_head place place' p p' e f = ap₂ (λ (k : ℕ) (q : Payload). record { place = k; payload = q }) e f

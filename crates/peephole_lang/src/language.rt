@@ -38,6 +38,9 @@ pub trait Language: Display + Drop {
     // the node with these children in the place of its own
     ghost with_ids: { Self → List Id → Self };
 
+    // equal, but for how much memory a list keeps for more
+    ghost IsEqual: { Self → Self → Type 0 };
+
     // its numbers are of their types, and it has as many children as it should
     ghost IsNode: { Self → Type 0 };
 
@@ -78,6 +81,9 @@ pub trait Language: Display + Drop {
     ghost matches_exactly: { (l m : Self) → Decides (matches l m) (IsAlike head ids l m) };
 
     ghost matches_equivalence: { IsEquivalence matches };
+
+    // what a node is and its children decide the node
+    ghost determined: { (l m : Self) → head l ≡ head m → ids l ≡ ids m → IsEqual l m };
 
     // a node with other children says the same
     ghost keeps_head: { (l : Self) (w : List Id) → head (with_ids l w) ≡ head l };

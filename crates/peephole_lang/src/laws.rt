@@ -11,6 +11,7 @@ ghost use Rattle.peephole_lang.specs.Lang.{place_of, payload_of, ids_of};
 ghost use Rattle.peephole_nodes.specs.declared.id.Id.{Id};
 ghost use Rattle.peephole_lang.specs.declared.lang.Lang.{Lang};
 ghost use Rattle.peephole_lang.specs.Compared.{lang_eq};
+ghost use Rattle.peephole_lang.specs.Equal.{IsEqual};
 ghost use Rattle.peephole_lang.specs.Language.{IsSame};
 ghost use Rattle.peephole_lang.specs.Node.{IsNode, head_of, instr_of, takes_children, fits};
 ghost use Rattle.peephole_lang.specs.Text.{text_of, reads};
@@ -50,6 +51,11 @@ pub fn equal_exactly()
     ensures { (l m : Lang) → Decides (lang_eq l m) (IsSame head_of ids_of l m) }
 {}
 
+/// The test for equal nodes is true exactly where they are equal, but for how much memory a list of children keeps for more.
+pub fn equal_nodes_are_equal()
+    ensures { (l m : Lang) → Decides (lang_eq l m) (IsEqual l m) }
+{}
+
 /// Nodes that match have as many children, in every language.
 pub fn matching_have_as_many<L: Language>()
     ensures { (l m : L) → L.matches l m ≡ true → length (L.ids l) ≡ length (L.ids m) }
@@ -58,6 +64,11 @@ pub fn matching_have_as_many<L: Language>()
 /// Nodes that match and have equal children are the same, in every language.
 pub fn matching_are_same<L: Language>()
     ensures { (l m : L) → L.matches l m ≡ true → L.ids l ≡ L.ids m → IsSame L.head L.ids m l }
+{}
+
+/// Nodes that match and have equal children are equal, in every language.
+pub fn matching_are_equal<L: Language>()
+    ensures { (l m : L) → L.matches l m ≡ true → L.ids l ≡ L.ids m → L.IsEqual l m }
 {}
 
 /// A node whose children were written through `children_mut` matches what it was before, in every language.

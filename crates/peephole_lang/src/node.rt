@@ -1,5 +1,7 @@
 //! The nodes of `Lang` as a kind of nodes.
 ghost use Rattle.std.specs.Prelude.{◌≡◌, refl};
+ghost use Rattle.peephole_lang.specs.Again.{determined};
+ghost use Rattle.peephole_lang.specs.Equal.{IsEqual};
 ghost use Rattle.peephole_lang.specs.Lang.{ids_of};
 ghost use Rattle.peephole_lang.specs.Text.{text_of, reads};
 ghost use Rattle.peephole_lang.specs.Compared.{lang_matches};
@@ -42,6 +44,8 @@ impl Language for Lang {
 
     ghost with_ids = { with_ids };
 
+    ghost IsEqual = { IsEqual };
+
     ghost IsNode = { IsNode };
 
     fn children(&self) -> &[Id] {
@@ -78,6 +82,8 @@ impl Language for Lang {
     ghost matches_exactly = { matches_exactly };
 
     ghost matches_equivalence = { matches_equivalence };
+
+    ghost determined = { determined };
 
     ghost keeps_head = { keeps_head };
 

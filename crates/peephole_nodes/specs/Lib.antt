@@ -16,3 +16,7 @@ pub mod NumericShapes
 pub mod SimdShapes
 pub mod Made
 pub mod Compared
+pub mod ComparedLemmas
+pub mod Again
+pub mod NumericAgain
+pub mod SimdAgain

@@ -3,6 +3,7 @@
 
 mod compared;
 mod id;
+pub mod laws;
 mod lending;
 mod making;
 mod numeric;

@@ -43,6 +43,11 @@ with_ids (Neg _) w = Neg w
 with_ids (Add _) w = Add w
 with_ids (Sum children) w = Sum (with_items children w)
 
+-- equal, but for how much memory a list of children keeps for more
+abbrev pub IsEqual : Arith → Arith → Type 0
+IsEqual (Sum a) (Sum b) = a.items ≡ b.items
+IsEqual a b = a ≡ b
+
 abbrev pub IsNode : Arith → Type 0
 IsNode (Num z) = (neg_ℤ (pos (2 ^ 31)) ≤ℤ z) × (z <ℤ pos (2 ^ 31))
 IsNode (Neg children) = length children ≡ 1
@@ -101,6 +106,14 @@ reads_back (Num z) fits = rw (signed_in_range_back 32 z (lit≤ tt) fits.0 fits.
 reads_back (Neg _) given = rw given refl
 reads_back (Add _) given = rw given refl
 reads_back (Sum _) fits = refl
+
+-- what a node is and its children decide the node
+pub determined : (a b : Arith) → head_of a ≡ head_of b → ids_of a ≡ ids_of b → IsEqual a b
+determined (Num z) (Num y) says same = cc
+determined (Neg a) (Neg b) says same = ap (λ (w : List Id). Neg w) same
+determined (Add a) (Add b) says same = ap (λ (w : List Id). Add w) same
+determined (Sum a) (Sum b) says same = same
+determined _ _ says same = absurd cc
 
 -- ---- children that are written
 

@@ -3,7 +3,7 @@ ghost use Rattle.std.specs.Prelude.{◌≡◌, [], Some, codes, refl};
 ghost use Rattle.std.specs.Option.{option_copied};
 ghost use Rattle.peephole_lang.specs.Language.{ReadsInto};
 ghost use Rattle.peephole_lang.specs.Names.{after};
-ghost use Rattle.peephole_vectors.specs.Arith.{head_of, ids_of, children_of, with_ids, IsNode, arith_matches, text_of, read_number, reads, says, reads_back, keeps_head, has_written, matches_exactly, matches_equivalence};
+ghost use Rattle.peephole_vectors.specs.Arith.{head_of, ids_of, children_of, with_ids, IsEqual, IsNode, arith_matches, text_of, read_number, reads, says, reads_back, determined, keeps_head, has_written, matches_exactly, matches_equivalence};
 
 use mutate_base::number::read_i32;
 use mutate_base::{Error, TermError};
@@ -79,6 +79,8 @@ impl Language for Arith {
 
     ghost with_ids = { with_ids };
 
+    ghost IsEqual = { IsEqual };
+
     ghost IsNode = { IsNode };
 
     fn children(&self) -> &[Id] {
@@ -149,6 +151,8 @@ impl Language for Arith {
     ghost matches_exactly = { matches_exactly };
 
     ghost matches_equivalence = { matches_equivalence };
+
+    ghost determined = { determined };
 
     ghost keeps_head = { keeps_head };
 
