@@ -8,7 +8,7 @@ use Rattle.std.specs.Global.{Global}
 use denote.Param.Members.{Shared}
 use Rattle.std.proofs.lemmas.Fn.{says_at}
 use Rattle.std.proofs.lemmas.List.{map-append, take-append-drop, take_more, length-take, length-map, reverse-append, get_or_default}
-use Rattle.std.proofs.lemmas.List.Elements.{All-nil, All-cons, All-head, All-tail, All-append, All-pop, All-weaker}
+use Rattle.std.proofs.lemmas.List.Elements.{All-nil, All-cons, All-head, All-tail, All-append, All-get_or, All-pop, All-weaker}
 use Rattle.mutate_base.specs.declared.error.Error.{Error}
 use Rattle.mutate_base.specs.declared.error.Error.TheVariants.{Memory}
 use Rattle.peephole_nodes.specs.declared.id.Id.{Id}
@@ -30,17 +30,21 @@ use Rattle.peephole_lang.specs.PlaceLemmas.{IsAt, tree_is, children_in, at_place
 
 module _ {F : Type 0} (g : Shared F (Bor StackEntry × Unit {0}) (Result (String Global) Error)) (f : F) (said : StackEntry → Result (List ℕ) Error) where
   pub refused : (y : Bor StackEntry) (r : Result (String Global) Error) (x : Error) (before now : List ℕ) (out : Result (Unit {0}) Error) →
-      Tells g f said → g.post f (y, tt) r → r ≡ Err x → out ≡ Err x → IsWritten (with_entry said before y.now) out now
+      Tells g f said y.now → g.post f (y, tt) r → r ≡ Err x → out ≡ Err x → IsWritten (with_entry said before y.now) out now
   refused y r x before now out t p e o =
-      let h : IsText (said y.now) (Err x) = t y.now (Err x) (says_at g p e) in
+      let h : IsText (said y.now) (Err x) = t (Err x) (says_at g p e) in
       subst (λ (w : Result (Unit {0}) Error). IsWritten (with_entry said before y.now) w now) (sym o)
       (elim h [ inl a ↦ inl (ap (with_text before y.now) a) | inr b ↦ inr b ])
 
   pub answered : (y : Bor StackEntry) (r : Result (String Global) Error) (s : String Global) (before : List ℕ) →
-      Tells g f said → g.post f (y, tt) r → r ≡ Ok s → with_entry said before y.now ≡ Ok (before ++ entry_text y.now (string_bytes s))
+      Tells g f said y.now → g.post f (y, tt) r → r ≡ Ok s → with_entry said before y.now ≡ Ok (before ++ entry_text y.now (string_bytes s))
   answered y r s before t p e =
-      let h : IsText (said y.now) (Ok s) = t y.now (Ok s) (says_at g p e) in
+      let h : IsText (said y.now) (Ok s) = t (Ok s) (says_at g p e) in
       ap (with_text before y.now) h
+
+-- what holds of each of the entries holds of one that the code looked up
+pub at_entry_of : (P : StackEntry → Type 0) (entries : List StackEntry) (i : ℕ) (e : StackEntry) → i < length entries → e ≡ get_or entries i e → All P entries → P e
+at_entry_of P entries i e l is all = subst P (sym is) (All-get_or P entries i e l all)
 
 -- ---- lines one behind another
 
@@ -182,6 +186,11 @@ pub child_inside : (entries : List StackEntry) (levels rest : List Ids) (k : Ids
 child_inside entries levels rest k child later top ids h =
     let own : Inside entries k.now = (All-pop (λ (x : Ids). Inside entries x.now) levels rest (Some k) top h).1 in
     All-head (λ (n : ℕ). n < length entries) child.0 (numbers_of later) (subst (Inside entries) ids own)
+
+pub at_child_of : (P : StackEntry → Type 0) (entries : List StackEntry) (levels rest : List Ids) (k : Ids) (child : Id) (later : List Id) (e : StackEntry) →
+    IsTaken entries levels rest k child later e → IsInside entries levels → All P entries → P e
+at_child_of P entries levels rest k child later e t h all =
+    at_entry_of P entries child.0 e (child_inside entries levels rest k child later t.top t.ids h) t.is all
 
 next_lines : (entries : List StackEntry) (levels rest : List Ids) (k : Ids) (child : Id) (later : List Id) (e : StackEntry) →
     IsTaken entries levels rest k child later e → IsInside entries levels →

@@ -38,8 +38,12 @@ use Rattle.peephole_graphs.proofs.LayoutForest.{wholes-forest, one_of, block_sma
 abbrev pub node_of_entry : StackEntry → Node Head
 node_of_entry e = node_of e.operator
 
+-- what stands in the place of a head past the last entry
+abbrev pub missing : Head
+missing = head_of Undef
+
 abbrev node_at : List (Node Head) → ℕ → Node Head
-node_at ns i = walk.node_at (head_of Undef) ns i
+node_at ns i = walk.node_at missing ns i
 
 tree_is : (ns : List (Node Head)) (i : ℕ) → AreBelow ns → i < length ns → tree_at ns i ≡ node (node_at ns i).head (pick (tree_at ns) (node_at ns i).children)
 tree_is ns i b l = walk.tree_is (head_of Undef) ns i b l

@@ -109,9 +109,13 @@ abbrev pub IsText : Result (List ℕ) Error → Result (String Global) Error →
 IsText said (Ok text) = said ≡ Ok (string_bytes text)
 IsText said (Err e) = (said ≡ Err e) ⊎ (e ≡ Memory)
 
--- `f` answers of each entry what `said` tells.
-abbrev pub Tells : {F : Type 0} → Shared F (Bor StackEntry × Unit {0}) (Result (String Global) Error) → F → (StackEntry → Result (List ℕ) Error) → Type 0
-Tells g f said = (e : StackEntry) (r : Result (String Global) Error) → FnReturnsAt g f e r → IsText (said e) r
+-- `f` may be called on the entry.
+abbrev pub CanTell : {F : Type 0} → Shared F (Bor StackEntry × Unit {0}) (Result (String Global) Error) → F → StackEntry → Type 0
+CanTell g f e = (shown : Bor StackEntry) → shown.now ≡ e → g.pre f (shown, tt)
+
+-- `f` answers of the entry what `said` tells.
+abbrev pub Tells : {F : Type 0} → Shared F (Bor StackEntry × Unit {0}) (Result (String Global) Error) → F → (StackEntry → Result (List ℕ) Error) → StackEntry → Type 0
+Tells g f said e = (r : Result (String Global) Error) → FnReturnsAt g f e r → IsText (said e) r
 
 -- The whole stands there now, or it is the refusal, or memory was refused.
 abbrev pub IsWritten : Result (List ℕ) Error → Result (Unit {0}) Error → List ℕ → Type 0

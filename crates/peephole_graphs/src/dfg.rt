@@ -114,13 +114,13 @@ impl Clone for MiniDFG {
 }
 
 impl MiniDFG {
-    ghost use Rattle.std.specs.Prelude.{map, [], None, List, Result, IfOk, IfErr, IfSome, IsSome, MatchResult, string_bytes};
+    ghost use Rattle.std.specs.Prelude.{All, map, [], None, List, Result, IfOk, IfErr, IfSome, IsSome, MatchResult, string_bytes};
     ghost use Rattle.mutate_base.specs.declared.error.Error.{Error};
     ghost use Rattle.peephole_lang.specs.Node.{node_of, head_of, children_of};
     ghost use Rattle.peephole_lang.specs.Term.{tree_at, term_of};
     ghost use Rattle.peephole_graphs.specs.Layout.{entry_nodes, laid, AreWritable};
     ghost use Rattle.peephole_graphs.specs.Dfg.{entries_of, parents_of, look_of};
-    ghost use Rattle.peephole_graphs.specs.ForestText.{forest_text, default_text, IsText, Tells};
+    ghost use Rattle.peephole_graphs.specs.ForestText.{forest_text, default_text, IsText, CanTell, Tells};
 
     // The graph of these parts.
     pub(crate) fn of_parts(
@@ -269,13 +269,15 @@ impl MiniDFG {
     /// line is a prefix that draws the tree, `(colour)(at operator_idx) `, and the text that `f` answers of it.
     ///
     /// Refused where `f` refuses, with the first refusal in the order of the lines, and for want of memory (`Memory`).
+    /// Condition: `f` may be called on each of the entries.
     pub fn pretty_print<F: Fn(&StackEntry) -> Result<String, Error>>(
         &self,
         alloc: Global,
         f: F,
     ) -> Result<String, Error>
-        requires { F.IsAlwaysCallable f }
-        ensures { (said : StackEntry → Result (List ℕ) Error) → Tells F.Fn f said
+        requires { All (CanTell F.Fn f) (entries_of self.now) }
+        ensures { (said : StackEntry → Result (List ℕ) Error)
+            → All (Tells F.Fn f said) (entries_of self.now)
             → IsText (forest_text said (entries_of self.now) (parents_of self.now)) result }
     {
         print_forest(alloc, &self.entries, &self.parents, &f)

@@ -6,7 +6,7 @@ ghost use Rattle.mutate_base.specs.declared.error.Error.{Error};
 ghost use Rattle.peephole_lang.specs.Term.{AreBelow};
 ghost use Rattle.peephole_lang.specs.Text.{text_of};
 ghost use Rattle.peephole_graphs.specs.declared.dfg.StackEntry.{StackEntry};
-ghost use Rattle.peephole_graphs.specs.ForestText.{branch, edge, linked, tree_of, tree_lines, forest_lines, with_entry, with_lines, forest_text, IsText, IsWritten, Tells};
+ghost use Rattle.peephole_graphs.specs.ForestText.{branch, edge, linked, tree_of, tree_lines, forest_lines, with_entry, with_lines, forest_text, IsText, IsWritten, CanTell, Tells};
 ghost use Rattle.peephole_graphs.specs.ForestSteps.{has_some, edges};
 
 use crate::dfg::StackEntry;
@@ -30,7 +30,8 @@ fn edge(later: &[Id]) -> &'static str
 
 // Writes the inner prefix below the levels, each of which has the children that are still to come.
 fn write_edges(text: &mut String, levels: &[&[Id]]) -> Result<(), AllocError>
-    ensures { OnOk result (string_bytes text.new ≡ string_bytes text.old ++ edges (map (λ ids. ids.now) levels.now)) }
+    ensures { OnOk result (string_bytes text.new
+        ≡ string_bytes text.old ++ edges (map (λ ids. ids.now) levels.now)) }
 {
     for ids in levels {
         text.push_str(edge(ids))?;
@@ -44,9 +45,10 @@ fn write_entry<F: Fn(&StackEntry) -> Result<String, Error>>(
     entry: &StackEntry,
     f: &F,
 ) -> Result<(), Error>
-    requires { F.IsAlwaysCallable f.now }
-    ensures { (said : StackEntry → Result (List ℕ) Error) → Tells F.Fn f.now said
-        → IsWritten (with_entry said (string_bytes text.old) entry.now) result (string_bytes text.new) }
+    requires { CanTell F.Fn f.now entry.now }
+    ensures { (said : StackEntry → Result (List ℕ) Error) → Tells F.Fn f.now said entry.now
+        → IsWritten (with_entry said (string_bytes text.old) entry.now)
+        result (string_bytes text.new) }
 {
     let own = f(entry)?;
     let color = entry.color;
@@ -63,9 +65,10 @@ fn write_child<F: Fn(&StackEntry) -> Result<String, Error>>(
     entry: &StackEntry,
     f: &F,
 ) -> Result<(), Error>
-    requires { F.IsAlwaysCallable f.now }
-    ensures { (said : StackEntry → Result (List ℕ) Error) → Tells F.Fn f.now said
-        → IsWritten (with_entry said (string_bytes text.old ++ (edges (map (λ ids. ids.now) levels.now) ++ branch (has_some later.now))) entry.now)
+    requires { CanTell F.Fn f.now entry.now }
+    ensures { (said : StackEntry → Result (List ℕ) Error) → Tells F.Fn f.now said entry.now
+        → IsWritten (with_entry said (string_bytes text.old
+            ++ (edges (map (λ ids. ids.now) levels.now) ++ branch (has_some later.now))) entry.now)
         result (string_bytes text.new) }
 {
     write_edges(text, levels)?;
@@ -81,11 +84,13 @@ fn write_tree<F: Fn(&StackEntry) -> Result<String, Error>>(
     root: usize,
     f: &F,
 ) -> Result<(), Error>
-    requires callable { F.IsAlwaysCallable f.now }
+    requires callable { All (CanTell F.Fn f.now) entries.now }
     requires root { root < length entries.now }
     requires below { AreBelow (linked entries.now) }
-    ensures { (said : StackEntry → Result (List ℕ) Error) → Tells F.Fn f.now said
-        → IsWritten (with_lines said (string_bytes text.old) (tree_lines [] [] (tree_of entries.now root))) result (string_bytes text.new) }
+    ensures { (said : StackEntry → Result (List ℕ) Error) → All (Tells F.Fn f.now said) entries.now
+        → IsWritten (with_lines said (string_bytes text.old)
+            (tree_lines [] [] (tree_of entries.now root)))
+        result (string_bytes text.new) }
 {
     let top = &entries[root];
     write_entry(text, top, f)?;
@@ -110,11 +115,12 @@ fn write_roots<F: Fn(&StackEntry) -> Result<String, Error>>(
     parents: &[Option<usize>],
     f: &F,
 ) -> Result<(), Error>
-    requires callable { F.IsAlwaysCallable f.now }
+    requires callable { All (CanTell F.Fn f.now) entries.now }
     requires below { AreBelow (linked entries.now) }
     requires paired { length parents.now ≡ length entries.now }
-    ensures { (said : StackEntry → Result (List ℕ) Error) → Tells F.Fn f.now said
-        → IsWritten (with_lines said (string_bytes text.old) (forest_lines entries.now parents.now)) result (string_bytes text.new) }
+    ensures { (said : StackEntry → Result (List ℕ) Error) → All (Tells F.Fn f.now said) entries.now
+        → IsWritten (with_lines said (string_bytes text.old) (forest_lines entries.now parents.now))
+        result (string_bytes text.new) }
 {
     for index in 0..parents.len() {
         if parents[index].is_none() {
@@ -132,10 +138,11 @@ pub(crate) fn print_forest<F: Fn(&StackEntry) -> Result<String, Error>>(
     parents: &[Option<usize>],
     f: &F,
 ) -> Result<String, Error>
-    requires callable { F.IsAlwaysCallable f.now }
+    requires callable { All (CanTell F.Fn f.now) entries.now }
     requires below { AreBelow (linked entries.now) }
     requires paired { length parents.now ≡ length entries.now }
-    ensures { (said : StackEntry → Result (List ℕ) Error) → Tells F.Fn f.now said → IsText (forest_text said entries.now parents.now) result }
+    ensures { (said : StackEntry → Result (List ℕ) Error) → All (Tells F.Fn f.now said) entries.now
+        → IsText (forest_text said entries.now parents.now) result }
 {
     let mut text = String::from_str(alloc, "DFG forest\n")?;
     write_roots(alloc, &mut text, entries, parents, f)?;

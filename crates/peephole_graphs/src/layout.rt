@@ -1,38 +1,15 @@
 // Lays a tree out as an expression.
 ghost use Rattle.std.specs.Prelude.{◌≡◌, ℕ, ◌<◌, ◌≤◌, ◌-◌, ◌^◌, ◌++◌, ◌∷◌, [], ◌⊎◌, length, take, drop, map, IfOk, OnOk, IfErr};
 ghost use Rattle.std.specs.List.{All};
+ghost use Rattle.peephole_lang.specs.Node.{node_of, head_of, children_of};
 ghost use Rattle.peephole_lang.specs.Term.{AreBelow, numbers_of, tree_at, term_of};
-ghost use Rattle.peephole_graphs.specs.Layout.{node_by, held_nodes, laid, size_of};
+ghost use Rattle.peephole_graphs.specs.Layout.{node_by, entry_nodes, laid, size_of};
 
 use crate::dfg::StackEntry;
 use crate::frames::{Frame, descend, push_frame};
 use mutate_base::Error;
 use peephole_lang::{Id, Lang, Language, RecExpr};
 use std::alloc::Global;
-
-// What stands at a place of a list of nodes: a node of the language, or what holds one.
-pub(crate) trait Holds<L: Language> {
-    ghost held: { Self → L };
-
-    fn as_node(&self) -> &L
-        ensures { result.now ≡ held self.now };
-}
-
-impl Holds<Lang> for StackEntry {
-    ghost held = { λ e. e.operator };
-
-    fn as_node(&self) -> &Lang {
-        &self.operator
-    }
-}
-
-impl<'a, L: Language> Holds<L> for &'a L {
-    ghost held = { λ node. node.now };
-
-    fn as_node(&self) -> &L {
-        *self
-    }
-}
 
 // The same node over other children, which are as many.
 fn over<L: Language>(node: &L, ids: &[Id]) -> Result<L, Error>
@@ -69,23 +46,25 @@ pub(crate) fn add_own<L: Language>(
     Ok(())
 }
 
-/// The tree of the node at `root`, laid out in postfix: the children's trees one after another, then the node itself,
+/// The tree of the entry at `root`, laid out in postfix: the children's trees one after another, then the entry's own node,
 /// which names each child by its place.
 ///
 /// Memory is the result's and the tree's depth. `Memory` where an allocation was refused, `TooLarge` where the tree has more
 /// than 2^32 nodes.
-pub(crate) fn lay_out<L: Language, N: Holds<L>>(
+pub(crate) fn lay_out(
     alloc: Global,
-    nodes: &[N],
+    entries: &[StackEntry],
     root: usize,
-) -> Result<RecExpr<L>, Error>
-    requires root { root < length nodes.now }
-    requires below { AreBelow (held_nodes (λ n. node_by L.head L.children (N.held n)) nodes.now) }
-    ensures laid { IfOk result (λ expr. map (node_by L.head L.children) expr ≡ laid 0 (tree_at (held_nodes (λ n. node_by L.head L.children (N.held n)) nodes.now) root)) }
-    ensures term { IfOk result (λ expr. term_of L.head L.children expr ≡ tree_at (held_nodes (λ n. node_by L.head L.children (N.held n)) nodes.now) root) }
+) -> Result<RecExpr<Lang>, Error>
+    requires root { root < length entries.now }
+    requires below { AreBelow (entry_nodes entries.now) }
+    ensures laid { IfOk result (λ expr. map node_of expr
+        ≡ laid 0 (tree_at (entry_nodes entries.now) root)) }
+    ensures term { IfOk result (λ expr. term_of head_of children_of expr
+        ≡ tree_at (entry_nodes entries.now) root) }
     ensures some { IfOk result (λ expr. 0 < length expr) }
     ensures refused { IfErr result (λ e. (e ≡ Error.Memory)
-        ⊎ ((e ≡ Error.TooLarge) × (2 ^ 32 < size_of (tree_at (held_nodes (λ n. node_by L.head L.children (N.held n)) nodes.now) root)))) }
+        ⊎ ((e ≡ Error.TooLarge) × (2 ^ 32 < size_of (tree_at (entry_nodes entries.now) root)))) }
 {
     let mut expr = RecExpr::new(alloc);
     let mut finished = Vec::new(alloc);
@@ -98,15 +77,15 @@ pub(crate) fn lay_out<L: Language, N: Holds<L>>(
         },
     )?;
     while let Some(frame) = frames.pop() {
-        let node = nodes[frame.node].as_node();
-        let below = node.children();
+        let entry = &entries[frame.node];
+        let below = entry.operator.children();
         if frame.next < below.len() {
             match descend(&mut frames, frame, below) {
                 Ok(()) => {}
                 Err(_) => return Err(Error::Memory),
             }
         } else {
-            match add_own(&mut expr, &mut finished, node) {
+            match add_own(&mut expr, &mut finished, &entry.operator) {
                 Ok(()) => {}
                 Err(refusal) => return Err(refusal),
             }

@@ -6,7 +6,7 @@ mod block;
 mod builder;
 mod dfg;
 mod forest_text;
-pub mod frames;
+mod frames;
 mod growing;
 pub mod laws;
 mod layout;
