@@ -68,7 +68,7 @@ fn write_child<F: Fn(&StackEntry) -> Result<String, Error>>(
     requires { CanTell F.Fn f.now entry.now }
     ensures { (said : StackEntry → Result (List ℕ) Error) → Tells F.Fn f.now said entry.now
         → IsWritten (with_entry said (string_bytes text.old
-            ++ (edges (map (λ ids. ids.now) levels.now) ++ branch (has_some later.now))) entry.now)
+        ++ (edges (map (λ ids. ids.now) levels.now) ++ branch (has_some later.now))) entry.now)
         result (string_bytes text.new) }
 {
     write_edges(text, levels)?;
@@ -89,7 +89,7 @@ fn write_tree<F: Fn(&StackEntry) -> Result<String, Error>>(
     requires below { AreBelow (linked entries.now) }
     ensures { (said : StackEntry → Result (List ℕ) Error) → All (Tells F.Fn f.now said) entries.now
         → IsWritten (with_lines said (string_bytes text.old)
-            (tree_lines [] [] (tree_of entries.now root)))
+        (tree_lines [] [] (tree_of entries.now root)))
         result (string_bytes text.new) }
 {
     let top = &entries[root];

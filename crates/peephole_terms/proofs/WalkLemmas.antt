@@ -1,8 +1,8 @@
 -- The walk over a tree of nodes: what is left to be written of it. Lists of nodes have the last one first.
-use Rattle.std.proofs.Common.{◌≡◌, ℕ, zero, suc, ◌+◌, ◌-◌, ◌*◌, ◌<◌, ◌≤◌, List, [], ◌∷◌, ◌++◌, length, drop, take, get_or, refl, sym, ap, ap₂, subst, ◌∙◌, arith, append_assoc, append-nil, add-one, drop-cons, length-append, Some, None, Bool, true, false, cond, Result, Ok, Err}
+use Rattle.std.proofs.Common.{◌≡◌, ℕ, zero, suc, ◌+◌, ◌-◌, ◌*◌, ◌<◌, ◌≤◌, List, [], ◌∷◌, ◌++◌, length, drop, take, get_or, refl, sym, ap, ap₂, subst, ◌∙◌, arith, append_assoc, append-nil, add-one, drop-cons, length-append, Some, None, Bool, true, false, cond, Result, Ok, Err, IfErr}
 use Rattle.std.specs.Prelude.{All, map}
 use Rattle.std.proofs.lemmas.Grind.{common_steps}
-use Rattle.std.proofs.lemmas.List.{drop_all, length-take, length-map, length-reverse}
+use Rattle.std.proofs.lemmas.List.{drop_all, get_or-map, length-take, length-map, length-reverse}
 use Rattle.std.proofs.lemmas.List.Elements.{All-nil, All-cons, All-append, All-get_or, All-pop, All-weaker, All-head, All-tail}
 use Rattle.mutate_base.specs.declared.error.Error.{Error}
 use Rattle.mutate_base.specs.declared.error.Error.TheVariants.{Memory, CannotUnfold, GlobalIndex}
@@ -12,7 +12,7 @@ use Rattle.peephole_lang.specs.declared.lang.Lang.{Lang}
 use Rattle.peephole_lang.specs.Lang.{ids_of, payload_of}
 use Rattle.peephole_lang.specs.Node.{head_of, children_of}
 use Rattle.peephole_lang.specs.Term.{numbers_of, Term, Terms, absent, node, no_terms, ◌▸◌, Node, AreBelow, pick, tree_at}
-use Rattle.peephole_graphs.specs.declared.frames.Frame.{Frame}
+use Rattle.peephole_terms.specs.declared.encoder.walk.Frame.{Frame}
 use Rattle.peephole_terms.specs.Kind.{IntegerType, kind_of, is_unfold}
 use Rattle.peephole_terms.specs.Expansion.{constant_in, constant_of}
 use Rattle.peephole_terms.specs.EncoderSteps.{Step, Writing, IsInRange, own_step, opened, steps_of, steps, take_step, take_steps, after, IsRefusal, nodes_in}
@@ -245,6 +245,15 @@ down held items count every whole frames rest later f x l ids w r more e h =
     walk_down (nodes_in held items) count every whole frames rest later f (node_in held x) w (taken held items count every whole frames rest f x l ids w r h) m
     (e ∙ ap (λ (k : List ℕ). rest ++ moved f ∷ start_of (get_or k f.next 0) ∷ []) kids) h
 
+-- what two frames that are pushed leave: the node's next child stands above it
+pub pushed : (rest later newest : List Frame) (f : Frame) (ids : List Id) (d : Id) → f.next < length ids →
+    later ≡ rest ++ moved f ∷ [] → newest ≡ later ++ start_of (get_or ids f.next d).0 ∷ [] →
+    newest ≡ rest ++ moved f ∷ start_of (get_or (numbers_of ids) f.next 0) ∷ []
+pushed rest later newest f ids d l a b =
+    let child = (get_or ids f.next d).0 in
+    b ∙ (ap (λ (x : List Frame). x ++ start_of child ∷ []) a ∙ (append_assoc rest (moved f ∷ []) (start_of child ∷ [])
+    ∙ ap (λ (k : ℕ). rest ++ moved f ∷ start_of k ∷ []) (sym (get_or-map (λ (i : Id). i.0) ids f.next d 0 l))))
+
 -- the step of the node that is read
 abbrev own_read : {A : Type 0} → (A → Lang) → List A → Lang → Step
 own_read held items l = own_step (kind_of (head_of l)) (pick (tree_at (nodes_in held items)) (children_of l))
@@ -272,6 +281,10 @@ own_refused held items count every whole frames rest f x l ids w d r done q h =
     refused_after d (take_step count (own_at ns (node_in held x)) w) whole (take_steps count (todo ns rest))
     (next_step ns count every whole frames rest f (node_in held x) w (taken held items count every whole frames rest f x l ids w r h) through.0 h)
     (subst (λ (s : Step). IsRefusal d (take_step count s w)) through.1 q)
+
+-- a refusal that is passed on
+pub passed_on : (whole : Result Writing Error) (out : Result (Unit {0}) Error) (d : Error) → out ≡ Err d → IsRefusal d whole → IfErr out (λ e. IsRefusal e whole)
+passed_on whole out d e q = subst (λ (r : Result (Unit {0}) Error). IfErr r (λ x. IsRefusal x whole)) (sym e) q
 
 -- the children of the node that is read are there
 pub kids_in : {A : Type 0} (held : A → Lang) (items : List A) (i : ℕ) (x : A) (l : Lang) → AreBelow (nodes_in held items) → i < length items → x ≡ get_or items i x → l ≡ held x →

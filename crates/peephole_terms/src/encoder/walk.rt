@@ -10,11 +10,17 @@ use super::node::AsNode;
 use super::own::write_own;
 use super::request::ResourceRequest;
 use mutate_base::Error;
-use peephole_graphs::frames::{Frame, descend, push_frame};
 use peephole_lang::{Id, Lang};
 use rand_core::Rng;
 use std::alloc::Global;
 use wasm_code::Function;
+
+// A node whose written children from the next one on are still to come, and then the node itself.
+#[derive(Clone, Copy)]
+struct Frame {
+    node: usize,
+    next: usize,
+}
 
 // The children that are written: not those of an unfold.
 fn opened(node: &Lang) -> &[Id]
@@ -49,26 +55,24 @@ pub(crate) fn write_tree<R: Rng, N: AsNode>(
     ensures kept { take (length newfunc.old) newfunc.new ≡ newfunc.old }
 {
     let mut frames = Vec::new(alloc);
-    push_frame(
-        &mut frames,
-        Frame {
-            node: root,
-            next: 0,
-        },
-    )?;
+    frames.push(Frame {
+        node: root,
+        next: 0,
+    })?;
     while let Some(frame) = frames.pop() {
         let node = nodes[frame.node].as_node();
         let children = opened(node);
         if frame.next < children.len() {
-            match descend(&mut frames, frame, children) {
-                Ok(()) => {}
-                Err(_) => return Err(Error::Memory),
-            }
+            frames.push(Frame {
+                node: frame.node,
+                next: frame.next + 1,
+            })?;
+            frames.push(Frame {
+                node: children[frame.next].0 as usize,
+                next: 0,
+            })?;
         } else {
-            match write_own(globals, nodes, node, rng, newfunc, requests) {
-                Ok(()) => {}
-                Err(refusal) => return Err(refusal),
-            }
+            write_own(globals, nodes, node, rng, newfunc, requests)?;
         }
     }
     Ok(())

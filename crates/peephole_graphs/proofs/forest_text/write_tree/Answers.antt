@@ -52,9 +52,9 @@ returns-in_err-write_child g c said t =
     c.loop-ids.invariant.inside (c.loop-ids.invariant.rest said t) c.as_slice.ensures.value
     (c.in_err-write_child.ensures said
     (at_child_of (Tells g.F.Fn c.args.f.now said) c.args.entries.now c.loop-ids.levels.items c.pop.new.self.items c.in-Some.ids
-          c.in-Some-split_first.child.now c.in-Some-split_first.later.now c.index-entries-child.result
-          (record { below = c.requires.below; top = c.in-Some.ensures.items; ids = c.in-Some-split_first.ensures.cases.0; is = c.index-entries-child.is })
-          c.loop-ids.invariant.inside t)))
+    c.in-Some-split_first.child.now c.in-Some-split_first.later.now c.index-entries-child.result
+    (record { below = c.requires.below; top = c.in-Some.ensures.items; ids = c.in-Some-split_first.ensures.cases.0; is = c.index-entries-child.is })
+    c.loop-ids.invariant.inside t)))
 
 pub loop-ids-smaller-in-Continue-branch-5 : goal.loop-ids-smaller-in-Continue-branch-5
 loop-ids-smaller-in-Continue-branch-5 g c =
