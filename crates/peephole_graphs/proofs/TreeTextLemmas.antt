@@ -11,14 +11,15 @@ use Rattle.wasm_code.specs.Instruction.{Instruction}
 use Rattle.mutate_base.specs.Module.{Module}
 use Rattle.peephole_lang.specs.Fits.{fits_own}
 use Rattle.peephole_lang.specs.Lang.{place_of, payload_of, ids_of, count_of}
-use Rattle.peephole_lang.specs.MadeLemmas.{has_variant}
+use Rattle.peephole_nodes.specs.VariantLemmas.{has_variant}
 use Rattle.peephole_lang.specs.Node.{head_of, instr_of, instr_of_head, children_of}
 use Rattle.peephole_nodes.specs.Payload.{imm_of, is_writable}
 use Rattle.peephole_nodes.specs.PayloadLemmas.{imm_back}
 use Rattle.peephole_nodes.specs.PayloadText.{payload_text}
-use Rattle.peephole_lang.specs.Text.{name_in, text_of}
+use Rattle.peephole_lang.specs.Text.{text_of}
+use Rattle.peephole_nodes.specs.Text.{name_in}
 use Rattle.peephole_lang.specs.Term.{Term, Node, node, pick, tree_at}
-use Rattle.peephole_lang.specs.Variants.{variants, variant_at}
+use Rattle.peephole_nodes.specs.Variants.{variants, variant_at}
 use Rattle.peephole_lang.specs.declared.lang.Head.{Head}
 use Rattle.peephole_lang.specs.declared.lang.Lang.{Lang}
 use Rattle.peephole_lang.specs.declared.lang.Lang.TheVariants.{Undef}

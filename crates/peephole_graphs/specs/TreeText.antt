@@ -6,7 +6,7 @@ use Rattle.wasm_code.specs.declared.immediate.Imm.{Imm}
 use Rattle.peephole_nodes.specs.declared.payload.Payload.{Payload}
 use Rattle.peephole_nodes.specs.Payload.{payload_of_imm}
 use Rattle.peephole_nodes.specs.PayloadText.{payload_text}
-use Rattle.peephole_lang.specs.Variants.{Variant, variant_at}
+use Rattle.peephole_nodes.specs.Variants.{Variant, variant_at}
 use Rattle.peephole_graphs.specs.Shape.{Shape}
 use Rattle.peephole_graphs.specs.Tree.{Tree, Trees, entry, node, no_trees, ◌▸◌}
 use Rattle.peephole_graphs.specs.Forest.{forest}

@@ -11,11 +11,11 @@ use Rattle.peephole_nodes.specs.declared.payload.Payload.{Payload}
 use Rattle.peephole_lang.specs.Fits.{fits_own}
 use Rattle.peephole_lang.specs.Lang.{place_of, payload_of, ids_of, count_of}
 use Rattle.peephole_lang.specs.Language.{IsSame}
-use Rattle.peephole_lang.specs.MadeLemmas.{HasVariant, has_variant}
+use Rattle.peephole_nodes.specs.VariantLemmas.{HasVariant, has_variant}
 use Rattle.peephole_lang.specs.Node.{IsNode, head_of, instr_of, instr_of_head, takes, takes_children}
 use Rattle.peephole_nodes.specs.Payload.{imm_of, payload_of_imm, is_of, is_writable}
 use Rattle.peephole_nodes.specs.PayloadLemmas.{imm_back}
-use Rattle.peephole_lang.specs.Variants.{Variant, variant_at}
+use Rattle.peephole_nodes.specs.Variants.{Variant, variant_at}
 use Rattle.peephole_lang.proofs.RowLemmas.{has_row}
 
 -- a place and a payload whose instruction is `i`

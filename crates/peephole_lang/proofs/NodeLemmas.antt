@@ -17,7 +17,8 @@ use Rattle.peephole_lang.specs.Equal.{IsContainer, IsCall, IsEqual}
 use Rattle.peephole_lang.specs.Fits.{fits_own}
 use Rattle.peephole_lang.specs.Lang.{place_of, payload_of, ids_of}
 use Rattle.peephole_lang.specs.Language.{IsSame}
-use Rattle.peephole_lang.specs.Node.{IsNode, head_of, fits}
+use Rattle.peephole_lang.specs.Node.{IsNode, head_of}
+use Rattle.peephole_nodes.specs.Variants.{fits}
 use Rattle.peephole_lang.specs.NodeLemmas.{same_head}
 
 equal_says : (l m : Lang) → lang_eq l m ≡ true → IsSame head_of ids_of l m

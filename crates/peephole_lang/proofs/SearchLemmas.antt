@@ -13,10 +13,11 @@ use Rattle.std.proofs.lemmas.Bool.{cases_lt}
 use Rattle.std.proofs.lemmas.Option.{same_Some, MatchOption-at_some}
 use Rattle.peephole_lang.specs.declared.names.TheConstants.{BY_FRONT}
 use Rattle.peephole_lang.specs.declared.variants.Entry.{Entry}
-use Rattle.peephole_lang.specs.Variants.{Variant, variants, variant_at}
+use Rattle.peephole_nodes.specs.Variants.{Variant, variants, variant_at}
 use Rattle.peephole_lang.specs.Names.{after, find_in}
 use Rattle.peephole_lang.specs.Entries.{entry_of, found, place_found}
-use Rattle.peephole_lang.specs.Fronts.{front_of, front_at, standing}
+use Rattle.peephole_lang.specs.Fronts.{standing}
+use Rattle.peephole_nodes.specs.Fronts.{front_of, front_at}
 use Rattle.peephole_lang.specs.TableLemmas.{place_is, is_known}
 use Rattle.peephole_lang.specs.FrontLemmas.{after_is, after_none}
 use Rattle.peephole_lang.specs.VariantLemmas.{fit, fits_where_equal, standings_rise, standing_at, stands_equal, found_at, found_is, not_found, behind_front}

@@ -4,20 +4,20 @@ use Rattle.std.proofs.lemmas.Bool.{ne_eqb, cases_eq, eq-eqb}
 use Rattle.std.proofs.lemmas.Option.{same_Some}
 use Rattle.mutate_base.specs.declared.term_error.TermError.{TermError}
 use Rattle.peephole_nodes.specs.declared.payload.Payload.{Payload}
-use Rattle.peephole_lang.specs.declared.variants.Arity.{Arity}
-use Rattle.peephole_lang.specs.declared.variants.Arity.TheVariants as arity
+use Rattle.peephole_nodes.specs.declared.arity.Arity.{Arity}
+use Rattle.peephole_nodes.specs.declared.arity.Arity.TheVariants as arity
 use Rattle.peephole_lang.specs.declared.variants.Entry.{Entry}
 use Rattle.peephole_lang.specs.Entries.{entry_of, found}
 use Rattle.peephole_lang.specs.MadeLemmas.{fits_variant, fits_made}
 use Rattle.peephole_lang.specs.Making.{is_made}
 use Rattle.peephole_lang.specs.Names.{find_in}
-use Rattle.peephole_lang.specs.Node.{is_right}
+use Rattle.peephole_nodes.specs.Variants.{is_right}
 use Rattle.peephole_nodes.specs.PayloadLemmas.{read_is_of}
 use Rattle.peephole_nodes.specs.PayloadText.{read_payload}
 use Rattle.peephole_lang.specs.TableLemmas.{place_is}
 use Rattle.peephole_lang.specs.Text.{wrong_count, judged}
 use Rattle.peephole_lang.specs.VariantLemmas.{found_is}
-use Rattle.peephole_lang.specs.Variants.{Variant, variants}
+use Rattle.peephole_nodes.specs.Variants.{Variant, variants}
 
 -- what an entry of the table reads
 abbrev pub entry_reads : Entry → List ℕ → ℕ → Result Payload TermError

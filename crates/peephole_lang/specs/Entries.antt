@@ -1,7 +1,7 @@
 -- What the code's table says of a variant (this project).
 use Rattle.std.specs.Prelude.{ℕ, List, Option, Some, None}
 use denote.Ref.{Bor}
-use Rattle.peephole_lang.specs.Variants.{Variant}
+use Rattle.peephole_nodes.specs.Variants.{Variant}
 use Rattle.peephole_lang.specs.declared.variants.Entry.{Entry}
 
 -- the variant without its name

@@ -1,7 +1,6 @@
 pub mod Term
 pub mod PlaceLemmas
 pub mod Lang
-pub mod Variants
 pub mod Names
 pub mod Entries
 pub mod Fronts
@@ -17,8 +16,6 @@ pub mod WithIdsLemmas
 pub mod Lending
 pub mod LangShapes
 pub mod Making
-pub mod NumericFits
-pub mod SimdFits
 pub mod Fits
 pub mod MadeLemmas
 pub mod TextLemmas

@@ -1,24 +1,25 @@
 -- A node is made of each place, payload and number of children that fit a variant: by computation over the table.
-use Rattle.std.specs.Prelude.{◌≡◌, ℕ, zero, suc, ◌==◌, ◌&&◌, ◌||◌, ◌⊎◌, Bool, true, false, List, [], ◌∷◌, Option, Some, None, pos, refl, slice_get}
+use Rattle.std.specs.Prelude.{◌≡◌, ℕ, zero, suc, ◌==◌, ◌&&◌, ◌||◌, ◌⊎◌, Bool, true, List, [], ◌∷◌, Some, pos, refl, slice_get}
 use Rattle.std.proofs.Common.{sym, ap, ap₂, ◌∙◌, inl, inr}
 use Rattle.std.specs.Option.{option_map}
-use Rattle.std.proofs.lemmas.Bool.{cases_eq, ne_eqb, eqb-true}
+use Rattle.std.proofs.lemmas.Bool.{and_parts, and_from, cases_eq, ne_eqb, eqb-true}
 use Rattle.wasm_code.specs.declared.immediate.ValType.TheVariants as types
 use Rattle.mutate_base.specs.declared.payload.RefType.TheVariants as ref
 use Rattle.peephole_nodes.specs.declared.payload.Payload.{Payload}
 use Rattle.peephole_nodes.specs.declared.payload.Payload.TheVariants as payload
 use Rattle.peephole_nodes.specs.declared.payload.PayloadKind.{PayloadKind}
 use Rattle.peephole_nodes.specs.declared.payload.PayloadKind.TheVariants as kind
-use Rattle.peephole_lang.specs.declared.variants.Arity.{Arity}
-use Rattle.peephole_lang.specs.declared.variants.Arity.TheVariants as arity
+use Rattle.peephole_nodes.specs.declared.arity.Arity.{Arity}
+use Rattle.peephole_nodes.specs.declared.arity.Arity.TheVariants as arity
 use Rattle.peephole_lang.specs.LangShapes.{is_plain_leaf, is_plain_one, is_plain_three, is_index_leaf, is_index_one, is_index_two, is_index_three, is_memory_one, is_memory_two, is_i32_leaf, is_i64_leaf, is_f32_leaf, is_f64_leaf, is_ref_leaf, is_memory_init_three, is_memory_copy_three, is_table_init_three, is_table_copy_three, is_value_three}
 use Rattle.peephole_nodes.specs.NumericShapes.{is_numeric_plain_one_a, is_numeric_plain_one_b, is_numeric_plain_two_a, is_numeric_plain_two_b}
 use Rattle.peephole_nodes.specs.SimdShapes.{is_simd_memory_one, is_simd_memory_two, is_simd_v128_leaf, is_simd_shuffle_two, is_simd_plain_one_a, is_simd_plain_one_b, is_simd_plain_two_a, is_simd_plain_two_b, is_simd_plain_two_c, is_simd_plain_two_d, is_simd_plain_three, is_simd_lane_one, is_simd_lane_two, is_simd_memory_lane_two}
 use Rattle.peephole_nodes.specs.Payload.{is_of}
 use Rattle.peephole_lang.specs.Making.{is_made}
-use Rattle.peephole_lang.specs.Node.{is_right, is_node_of, fits}
+use Rattle.peephole_nodes.specs.Variants.{is_right, is_node_of, fits}
 use Rattle.peephole_lang.specs.TableLemmas.{place_is}
-use Rattle.peephole_lang.specs.Variants.{Variant, variants, variant_at}
+use Rattle.peephole_nodes.specs.VariantLemmas.{HasVariant, has_variant}
+use Rattle.peephole_nodes.specs.Variants.{Variant, variants, variant_at}
 
 -- ---- what a test says of each row of a list, it says of one
 
@@ -26,16 +27,11 @@ pub all_of : (Variant → Bool) → List Variant → Bool
 all_of f [] = true
 all_of f (v ∷ vs) = f v && all_of f vs
 
-both : (a b : Bool) → (a && b) ≡ true → (a ≡ true) × (b ≡ true)
-both true true e = (refl, refl)
-both true false e = absurd cc
-both false b e = absurd cc
-
 pub one_of : (f : Variant → Bool) (vs : List Variant) (i : ℕ) (v : Variant) → all_of f vs ≡ true → slice_get vs i ≡ Some v → f v ≡ true
 unfolding all_of
 one_of f [] i v all at = absurd cc
-one_of f (w ∷ vs) zero v all at = let same : w ≡ v = cc in rw (← same) (both (f w) (all_of f vs) all).0
-one_of f (w ∷ vs) (suc i) v all at = one_of f vs i v (both (f w) (all_of f vs) all).1 at
+one_of f (w ∷ vs) zero v all at = let same : w ≡ v = cc in rw (← same) (and_parts (f w) (all_of f vs) all).0
+one_of f (w ∷ vs) (suc i) v all at = one_of f vs i v (and_parts (f w) (all_of f vs) all).1 at
 
 -- ---- the payload and the number of children that a variant takes
 
@@ -74,27 +70,8 @@ variants_made = refl
 
 -- ---- what fits a variant
 
--- the variant with that place, whose kind of payload and number of children these are
-pub record HasVariant (place : ℕ) (p : Payload) (given : ℕ) : Type 0 where
-  pub variant : Variant
-  pub at : variant_at place ≡ Some variant
-  pub kind : is_of variant.payload p ≡ true
-  pub right : is_right variant.children given ≡ true
-
-variant_of : (o : Option Variant) (p : Payload) (given : ℕ) → is_node_of o p given ≡ true → (v : Variant) × ((o ≡ Some v) × ((is_of v.payload p ≡ true) × (is_right v.children given ≡ true)))
-variant_of None p given e = absurd cc
-variant_of (Some v) p given e = (v, (refl, both (is_of v.payload p) (is_right v.children given) e))
-
-pub has_variant : (place : ℕ) (p : Payload) (given : ℕ) → fits place p given ≡ true → HasVariant place p given
-has_variant place p given e =
-    let h = variant_of (variant_at place) p given e in
-    record { variant = h.0; at = h.1.0; kind = h.1.1.0; right = h.1.1.1 }
-
-both_hold : (a b : Bool) → a ≡ true → b ≡ true → (a && b) ≡ true
-both_hold a b e f = rw (e, f) refl
-
 pub fits_variant : (place : ℕ) (p : Payload) (given : ℕ) → HasVariant place p given → fits place p given ≡ true
-fits_variant place p given h = ap (λ o. is_node_of o p given) h.at ∙ both_hold (is_of h.variant.payload p) (is_right h.variant.children given) h.kind h.right
+fits_variant place p given h = ap (λ o. is_node_of o p given) h.at ∙ and_from (is_of h.variant.payload p) (is_right h.variant.children given) h.kind h.right
 
 -- ---- whether a node is made goes by the kind of payload alone
 
@@ -154,7 +131,7 @@ any_at place given v e (inr is) = ap (λ n. is_made n (example v.payload) given)
 
 made_of : (place given : ℕ) (v : Variant) → variant_at place ≡ Some v → v.place ≡ place → is_right v.children given ≡ true → is_made place (example v.payload) given ≡ true
 made_of place given v at same right =
-    let known = both (is_made v.place (example v.payload) (count_in v.children)) (any_made v.children v.place) (one_of _ variants place v variants_made at) in
+    let known = and_parts (is_made v.place (example v.payload) (count_in v.children)) (any_made v.children v.place) (one_of _ variants place v variants_made at) in
     elim (counted v.children given right) [
       | inl any ↦ any_at place given v at (any_place place (ap₂ any_made (sym any) (sym same) ∙ known.1))
       | inr is ↦ ap₂ (λ m n. is_made m (example v.payload) n) (sym same) is ∙ known.0

@@ -2,7 +2,7 @@
 use Rattle.std.specs.Prelude.{ℕ, ◌==◌, List, [], ◌∷◌, Option, Some, None, codes, if◌then◌else◌}
 use Rattle.peephole_nodes.specs.declared.payload.PayloadKind.{PayloadKind}
 use Rattle.peephole_nodes.specs.declared.payload.PayloadKind.TheVariants as kind
-use Rattle.peephole_lang.specs.Variants.{Variant}
+use Rattle.peephole_nodes.specs.Variants.{Variant}
 
 -- what stands behind `front` in the text, if the text begins with it
 abbrev pub after : List ℕ → List ℕ → Option (List ℕ)

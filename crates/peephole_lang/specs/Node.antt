@@ -1,18 +1,14 @@
 -- What a node is: its place, its payload and its children; and its instruction (this project: a node's place is 12 more
 -- than the row of its instruction, and below 12 for a node without one).
-use Rattle.std.specs.Prelude.{◌≡◌, ℕ, ◌-◌, ◌&&◌, ◌==◌, nat_lt, length, Bool, true, false, List, Option, Some, None, if◌then◌else◌}
+use Rattle.std.specs.Prelude.{◌≡◌, ℕ, ◌-◌, ◌==◌, nat_lt, length, Bool, true, false, List, Option, Some, None, if◌then◌else◌}
 use Rattle.wasm_code.specs.Instruction.{Instruction, InRange}
 use Rattle.wasm_code.specs.Table.{info_of}
 use Rattle.wasm_code.specs.declared.table.RowInfo.{RowInfo}
 use Rattle.peephole_lang.specs.declared.lang.Head.{Head}
 use Rattle.peephole_lang.specs.declared.lang.Lang.{Lang}
-use Rattle.peephole_nodes.specs.declared.payload.Payload.{Payload}
-use Rattle.peephole_lang.specs.declared.variants.Arity.{Arity}
-use Rattle.peephole_lang.specs.declared.variants.Arity.TheVariants as arity
 use Rattle.peephole_lang.specs.Lang.{place_of, payload_of, ids_of, count_of}
-use Rattle.peephole_nodes.specs.Payload.{imm_of, is_of, is_writable}
+use Rattle.peephole_nodes.specs.Payload.{imm_of, is_writable}
 use Rattle.peephole_lang.specs.Term.{Node, numbers_of}
-use Rattle.peephole_lang.specs.Variants.{Variant, variant_at}
 
 abbrev pub head_of : Lang → Head
 head_of l = record { place = place_of l; payload = payload_of l }
@@ -56,20 +52,3 @@ takes (Some info) count = is_count info.operands count
 -- the row takes that many children
 abbrev pub takes_children : ℕ → ℕ → Bool
 takes_children row count = takes (info_of row) count
-
--- ---- what nodes there are
-
--- that many children are right for the variant
-abbrev pub is_right : Arity → ℕ → Bool
-is_right arity.Zero count = 0 == count
-is_right arity.One count = 1 == count
-is_right (arity.Several n) count = n == count
-is_right arity.Any count = true
-
-abbrev pub is_node_of : Option Variant → Payload → ℕ → Bool
-is_node_of None p count = false
-is_node_of (Some v) p count = is_of v.payload p && is_right v.children count
-
--- there is a variant with that place, that kind of payload and that many children
-abbrev pub fits : ℕ → Payload → ℕ → Bool
-fits place p count = is_node_of (variant_at place) p count

@@ -1,4 +1,4 @@
--- The code's tables are the variants, and the order of the fronts: by computation over the rows.
+-- The code's table is the variants, and the order of the fronts: by computation over the rows.
 use Rattle.std.proofs.Common.{◌≡◌, ℕ, zero, suc, ◌+◌, ◌<◌, Bool, true, false, cond, eqb, List, [], ◌∷◌}
 use Rattle.std.proofs.Common.{length, get_or, map, Some, refl, sym, ap, ◌∙◌, subst, add-one, arith}
 use Rattle.std.specs.Prelude.{slice_get, not, is_some}
@@ -6,27 +6,22 @@ use Rattle.std.proofs.lemmas.Bool.{eqb-true}
 use Rattle.std.proofs.lemmas.Option.{same_Some}
 use Rattle.peephole_nodes.specs.declared.payload.PayloadKind.{PayloadKind}
 use Rattle.peephole_nodes.specs.declared.payload.PayloadKind.TheVariants as kind
-use Rattle.peephole_lang.specs.declared.fronts.TheConstants.{FRONTS}
 use Rattle.peephole_lang.specs.declared.variants.TheConstants.{VARIANTS}
 use Rattle.peephole_lang.specs.declared.names.TheConstants.{BY_FRONT}
-use Rattle.peephole_lang.specs.Variants.{Variant, variants, variant_at}
+use Rattle.peephole_nodes.specs.Variants.{Variant, variants, variant_at}
 use Rattle.peephole_lang.specs.Entries.{entry_of}
-use Rattle.peephole_lang.specs.Fronts.{front_of, front_at}
+use Rattle.peephole_nodes.specs.Fronts.{front_of, front_at}
 use Rattle.peephole_lang.specs.FrontLemmas.{last_byte, is_below}
 
 both : {a b : Bool} → cond a b false ≡ true → (a ≡ true) × (b ≡ true)
 both {a = true} {b} e = (refl, e)
 both {a = false} {b} e = absurd cc
 
--- ---- the code's tables
+-- ---- the code's table
 
 pub same_entries : VARIANTS ≡ map entry_of variants
 unfolding variants
 same_entries = refl
-
-pub same_fronts : map (λ front. front.now) FRONTS ≡ map front_of variants
-unfolding variants
-same_fronts = refl
 
 -- ---- a variant's place is where it stands
 

@@ -1,32 +1,25 @@
 -- The text of a node, and which node a text reads as (this project): the name of its variant, and where it has a payload
 -- a dot and the payload.
-use Rattle.std.specs.Prelude.{◌≡◌, ℕ, ◌==◌, List, [], ◌++◌, length, Option, Some, None, Result, Ok, Err, if◌then◌else◌}
+use Rattle.std.specs.Prelude.{◌≡◌, ℕ, ◌==◌, List, length, Option, Some, None, Result, Ok, Err, if◌then◌else◌}
 use Rattle.mutate_base.specs.declared.term_error.TermError.{TermError}
 use Rattle.mutate_base.specs.declared.term_error.TermError.TheVariants.{InvalidToken, ExpectedZeroChildren, ExpectedOneChild, ExpectedChildren}
 use Rattle.peephole_nodes.specs.declared.id.Id.{Id}
 use Rattle.peephole_lang.specs.declared.lang.Head.{Head}
 use Rattle.peephole_lang.specs.declared.lang.Lang.{Lang}
 use Rattle.peephole_nodes.specs.declared.payload.Payload.{Payload}
-use Rattle.peephole_lang.specs.declared.variants.Arity.{Arity}
-use Rattle.peephole_lang.specs.declared.variants.Arity.TheVariants as arity
+use Rattle.peephole_nodes.specs.declared.arity.Arity.{Arity}
+use Rattle.peephole_nodes.specs.declared.arity.Arity.TheVariants as arity
 use Rattle.peephole_lang.specs.Lang.{place_of, payload_of, ids_of}
 use Rattle.peephole_lang.specs.Names.{find_in}
 use Rattle.peephole_lang.specs.Node.{head_of}
-use Rattle.peephole_nodes.specs.PayloadText.{payload_text, read_payload}
-use Rattle.peephole_lang.specs.Variants.{Variant, variants, variant_at}
+use Rattle.peephole_nodes.specs.PayloadText.{read_payload}
+use Rattle.peephole_nodes.specs.Text.{text_at}
+use Rattle.peephole_nodes.specs.Variants.{Variant, variants}
 
 -- ---- writing
 
-abbrev pub name_in : Option Variant → List ℕ
-name_in None = []
-name_in (Some v) = v.name
-
--- the name of the variant with the node's place
-abbrev pub name_of : Lang → List ℕ
-name_of l = name_in (variant_at (place_of l))
-
 abbrev pub text_of : Lang → List ℕ
-text_of l = name_of l ++ payload_text (payload_of l)
+text_of l = text_at (place_of l) (payload_of l)
 
 -- ---- reading
 

@@ -1,45 +1,35 @@
 -- A node's text is what begins its variant's texts, and its payload's text; and with its children it reads as that node.
-use Rattle.std.specs.Option.{option_map, unwrap_or}
 use Rattle.std.specs.Prelude.{◌≡◌, ℕ, List, [], ◌∷◌, ◌++◌, length, true, Some, None, Ok, refl}
 use Rattle.std.proofs.Common.{sym, ap, ap₂, ◌∙◌}
 use Rattle.std.proofs.lemmas.Bool.{eqb-true, eq-eqb, cond-true, true≢false}
-use Rattle.std.proofs.lemmas.List.{append_assoc}
 use Rattle.peephole_lang.specs.declared.lang.Lang.{Lang}
 use Rattle.peephole_nodes.specs.declared.payload.Payload.{Payload}
 use Rattle.peephole_nodes.specs.declared.payload.Payload.TheVariants as payload
 use Rattle.peephole_nodes.specs.declared.payload.PayloadKind.{PayloadKind}
 use Rattle.peephole_nodes.specs.declared.payload.PayloadKind.TheVariants as kind
-use Rattle.peephole_lang.specs.declared.variants.Arity.{Arity}
-use Rattle.peephole_lang.specs.declared.variants.Arity.TheVariants as arity
+use Rattle.peephole_nodes.specs.declared.arity.Arity.{Arity}
+use Rattle.peephole_nodes.specs.declared.arity.Arity.TheVariants as arity
 use Rattle.peephole_lang.specs.Fits.{fits_own}
-use Rattle.peephole_lang.specs.Fronts.{dot_of, front_of, front_at}
+use Rattle.peephole_nodes.specs.Fronts.{front_at}
 use Rattle.peephole_lang.specs.Lang.{place_of, payload_of, ids_of, count_of}
-use Rattle.peephole_lang.specs.MadeLemmas.{has_variant}
+use Rattle.peephole_nodes.specs.VariantLemmas.{has_variant, fitting_text}
 use Rattle.peephole_lang.specs.Names.{after, behind_name}
-use Rattle.peephole_lang.specs.Node.{head_of, IsNode, is_right}
+use Rattle.peephole_lang.specs.Node.{head_of, IsNode}
+use Rattle.peephole_nodes.specs.Variants.{is_right}
 use Rattle.peephole_nodes.specs.Payload.{is_of}
 use Rattle.peephole_nodes.specs.PayloadLemmas.{payload_back}
 use Rattle.peephole_nodes.specs.PayloadText.{inner_text, payload_text, read_payload}
-use Rattle.peephole_lang.specs.Text.{name_in, text_of, wrong_count, judged, with_place, read_found, reads}
+use Rattle.peephole_lang.specs.Text.{text_of, wrong_count, judged, with_place, read_found, reads}
+use Rattle.peephole_nodes.specs.Text.{name_in}
 use Rattle.peephole_lang.specs.TableLemmas.{place_is}
 use Rattle.peephole_lang.specs.VariantLemmas.{found_at}
-use Rattle.peephole_lang.specs.Variants.{Variant}
+use Rattle.peephole_nodes.specs.Variants.{Variant}
 
 -- ---- writing
 
-dot_and_payload : (k : PayloadKind) (p : Payload) → is_of k p ≡ true → payload_text p ≡ dot_of k ++ inner_text p
-dot_and_payload kind.Nothing payload.Nothing is = refl
-dot_and_payload kind.Nothing _ is = absurd (true≢false (sym is))
-dot_and_payload _ payload.Nothing is = absurd (true≢false (sym is))
-dot_and_payload _ _ is = refl
-
 -- a node's text is what begins its variant's texts, and its payload's text
 pub text_is : (l : Lang) → text_of l ≡ front_at (place_of l) ++ inner_text (payload_of l)
-text_is l =
-    let own = has_variant (place_of l) (payload_of l) (count_of l) (fits_own l) in
-    let v = own.variant in
-    ap₂ (λ a b. a ++ b) (ap name_in own.at) (dot_and_payload v.payload (payload_of l) own.kind)
-    ∙ (sym (append_assoc v.name (dot_of v.payload) (inner_text (payload_of l))) ∙ ap (λ o. unwrap_or (option_map front_of o) [] ++ inner_text (payload_of l)) (sym own.at))
+text_is l = fitting_text (place_of l) (payload_of l) (count_of l) (fits_own l)
 
 -- ---- reading
 

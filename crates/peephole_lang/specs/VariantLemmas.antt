@@ -14,9 +14,10 @@ use Rattle.std.proofs.lemmas.List.Sorted.{IsNonDecreasingBy-from_all_adjacent}
 use Rattle.peephole_nodes.specs.declared.payload.PayloadKind.{PayloadKind}
 use Rattle.peephole_nodes.specs.declared.payload.PayloadKind.TheVariants as kind
 use Rattle.peephole_lang.specs.declared.names.TheConstants.{BY_FRONT}
-use Rattle.peephole_lang.specs.Variants.{Variant, variants, variant_at}
+use Rattle.peephole_nodes.specs.Variants.{Variant, variants, variant_at}
 use Rattle.peephole_lang.specs.Names.{after, behind_name, found_or, find_in}
-use Rattle.peephole_lang.specs.Fronts.{dot_of, front_of, front_at, standing}
+use Rattle.peephole_lang.specs.Fronts.{standing}
+use Rattle.peephole_nodes.specs.Fronts.{dot_of, front_of, front_at}
 use Rattle.peephole_lang.specs.FrontLemmas.{standing_is, may_follow, equal_is, above}
 use Rattle.peephole_lang.specs.TableLemmas.{place_is, has_payload, dot_with_payload, StandsAt, is_listed, rises}
 

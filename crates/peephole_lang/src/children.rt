@@ -5,7 +5,7 @@ ghost use Rattle.std.specs.Vec.{with_items};
 ghost use Rattle.mutate_base.specs.declared.term_error.TermError.{TermError};
 ghost use Rattle.peephole_nodes.specs.contracts.id.Id as id_row;
 ghost use Rattle.peephole_nodes.specs.declared.id.Id.{Id};
-ghost use Rattle.peephole_lang.specs.declared.variants.Arity.TheVariants as arity;
+ghost use Rattle.peephole_nodes.specs.declared.arity.Arity.TheVariants as arity;
 ghost use Rattle.peephole_lang.specs.Text.{wrong_count};
 ghost use Rattle.peephole_nodes.specs.Written.{any_written};
 ghost use Rattle.peephole_lang.specs.Children.{IsMadeOf, only, with_only, only_one, only_written};

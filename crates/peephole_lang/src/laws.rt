@@ -5,15 +5,20 @@ ghost use Rattle.wasm_code.specs.Instruction.{Instruction};
 ghost use Rattle.peephole_nodes.specs.contracts.payload.PayloadPartialEq.TheImpl as payload_eq;
 ghost use Rattle.peephole_nodes.specs.declared.payload.Payload.{Payload};
 ghost use Rattle.peephole_lang.specs.Names.{after, behind_name};
-ghost use Rattle.peephole_lang.specs.Variants.{Variant, variants};
+ghost use Rattle.peephole_nodes.specs.Variants.{Variant, variants};
 ghost use Rattle.std.specs.Bool.{Decides};
 ghost use Rattle.peephole_lang.specs.Lang.{place_of, payload_of, ids_of};
 ghost use Rattle.peephole_nodes.specs.declared.id.Id.{Id};
+ghost use Rattle.peephole_nodes.specs.declared.numeric.Numeric.{Numeric};
+ghost use Rattle.peephole_nodes.specs.declared.simd.Simd.{Simd};
+ghost use Rattle.peephole_nodes.specs.Text.{numeric_text, simd_text};
 ghost use Rattle.peephole_lang.specs.declared.lang.Lang.{Lang};
+ghost use Rattle.peephole_lang.specs.declared.lang.Lang.TheVariants as variant;
 ghost use Rattle.peephole_lang.specs.Compared.{lang_eq};
 ghost use Rattle.peephole_lang.specs.Equal.{IsEqual};
 ghost use Rattle.peephole_lang.specs.Language.{IsSame};
-ghost use Rattle.peephole_lang.specs.Node.{IsNode, head_of, instr_of, takes_children, fits};
+ghost use Rattle.peephole_lang.specs.Node.{IsNode, head_of, instr_of, takes_children};
+ghost use Rattle.peephole_nodes.specs.Variants.{fits};
 ghost use Rattle.peephole_lang.specs.Text.{text_of, reads};
 
 use crate::language::Language;
@@ -21,6 +26,12 @@ use crate::language::Language;
 /// What a node's text reads as, with its children, is that node.
 pub fn text_reads_back()
     ensures { (l : Lang) → IsNode l → reads (text_of l) (length (ids_of l)) ≡ Ok (head_of l) }
+{}
+
+/// A node that is held in one has its text.
+pub fn held_has_its_text()
+    ensures numeric { (n : Numeric) → text_of (variant.Numeric n) ≡ numeric_text n }
+    ensures simd { (s : Simd) → text_of (variant.Simd s) ≡ simd_text s }
 {}
 
 /// Each node is of a variant of the table: with that place, that kind of payload, and that many children.

@@ -5,7 +5,6 @@ mod children;
 mod clone;
 mod compared;
 mod expr;
-mod fronts;
 mod instr;
 mod lang;
 mod lang_lending;

@@ -1,13 +1,14 @@
-//! The variant that a text is of, and what begins the texts of a variant.
-ghost use Rattle.std.specs.Prelude.{◌≡◌, [], map, slice_get};
-ghost use Rattle.std.specs.Option.{option_map, unwrap_or};
-ghost use Rattle.peephole_lang.specs.Variants.{variants, variant_at};
+//! The variant that a text is of.
+ghost use Rattle.std.specs.Prelude.{◌≡◌, slice_get};
+ghost use Rattle.std.specs.Option.{option_map};
+ghost use Rattle.peephole_nodes.specs.Variants.{variants, variant_at};
 ghost use Rattle.peephole_lang.specs.Names.{find_in};
 ghost use Rattle.peephole_lang.specs.Entries.{entry_of, given, found, place_found};
-ghost use Rattle.peephole_lang.specs.Fronts.{front_at, standing};
+ghost use Rattle.peephole_lang.specs.Fronts.{standing};
+ghost use Rattle.peephole_nodes.specs.Fronts.{front_at};
 
-use crate::fronts::FRONTS;
 use crate::variants::{Entry, VARIANTS};
+use peephole_nodes::front_at;
 use std::cmp::Ordering;
 
 // The places of the variants, their fronts ascending.
@@ -37,19 +38,6 @@ const BY_FRONT: [u16; 458] = [
     210, 293, 206, 207, 288, 211, 294, 285, 208, 202, 203, 278, 281, 212, 290, 291, 292, 289, 282,
     150,
 ];
-
-fn front_in(fronts: &[&'static str], place: u16) -> &'static str
-    ensures { result.now ≡ unwrap_or (slice_get (map (λ front. front.now) fronts.now) place) [] }
-{
-    fronts.get(place as usize).copied().unwrap_or("")
-}
-
-// What begins the texts of the variant with that place; nothing where there is none.
-pub(crate) fn front_at(place: u16) -> &'static str
-    ensures { result.now ≡ front_at place }
-{
-    front_in(&FRONTS, place)
-}
 
 fn entry_in(entries: &[Entry], place: u16) -> Option<Entry>
     ensures { result ≡ slice_get entries.now place }

@@ -5,10 +5,10 @@ ghost use Rattle.peephole_lang.specs.Text.{text_of, wrong_count, judged, ReadsAs
 
 use crate::lang::Lang;
 use crate::making::make;
-use crate::names::{find, front_at};
-use crate::variants::{Arity, Entry};
+use crate::names::find;
+use crate::variants::Entry;
 use mutate_base::TermError;
-use peephole_nodes::{Id, Payload, PayloadText};
+use peephole_nodes::{Arity, Id, Payload, PayloadText, front_at};
 use std::fmt;
 
 impl Lang {
@@ -51,17 +51,15 @@ impl fmt::Debug for Lang {
     }
 }
 
-impl Arity {
-    // What is wrong with this many children.
-    fn wrong_count(self, count: usize) -> Option<TermError>
-        ensures { result ≡ wrong_count self count }
-    {
-        match self {
-            Arity::Zero if count != 0 => Some(TermError::ExpectedZeroChildren),
-            Arity::One if count != 1 => Some(TermError::ExpectedOneChild(count)),
-            Arity::Several(wanted) if count != wanted => Some(TermError::ExpectedChildren(wanted)),
-            _ => None,
-        }
+// What is wrong with this many children.
+fn wrong_children(arity: Arity, count: usize) -> Option<TermError>
+    ensures { result ≡ wrong_count arity count }
+{
+    match arity {
+        Arity::Zero if count != 0 => Some(TermError::ExpectedZeroChildren),
+        Arity::One if count != 1 => Some(TermError::ExpectedOneChild(count)),
+        Arity::Several(wanted) if count != wanted => Some(TermError::ExpectedChildren(wanted)),
+        _ => None,
     }
 }
 
@@ -70,7 +68,7 @@ impl Entry {
     fn read(&self, payload_text: &str, count: usize) -> Result<Payload, TermError>
         ensures { result ≡ judged self.now.children (wrong_count self.now.children count) (read_payload self.now.payload payload_text.now) }
     {
-        let wrong = self.children.wrong_count(count);
+        let wrong = wrong_children(self.children, count);
         match (self.children, wrong) {
             (Arity::Zero, Some(error)) => Err(error),
             _ => {

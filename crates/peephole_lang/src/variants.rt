@@ -1,15 +1,6 @@
 //! The variants of nodes, by place: kind of payload, number of children.
 
-use peephole_nodes::PayloadKind;
-
-/// The children that a variant takes: none, one, this many, or any number of them.
-#[derive(Clone, Copy)]
-pub enum Arity {
-    Zero,
-    One,
-    Several(usize),
-    Any,
-}
+use peephole_nodes::{Arity, PayloadKind};
 
 /// What the reading of a variant's texts goes by.
 #[derive(Clone, Copy)]

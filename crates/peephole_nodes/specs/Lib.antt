@@ -20,3 +20,9 @@ pub mod ComparedLemmas
 pub mod Again
 pub mod NumericAgain
 pub mod SimdAgain
+pub mod Variants
+pub mod Fronts
+pub mod Text
+pub mod NumericFits
+pub mod SimdFits
+pub mod VariantLemmas

@@ -1,7 +1,9 @@
 //! The nodes of instructions without lists of children, and what a node says besides its variant.
 #![tactic(auto)]
 
+mod arity;
 mod compared;
+mod fronts;
 mod id;
 pub mod laws;
 mod lending;
@@ -17,7 +19,10 @@ mod simd_lending;
 mod simd_payload;
 mod simd_shapes;
 mod simd_view;
+mod text;
 
+pub use arity::Arity;
+pub use fronts::front_at;
 pub use id::Id;
 pub use lending::{no_children, only_child};
 pub use numeric::Numeric;

@@ -1,7 +1,7 @@
 use Rattle.std.proofs.Common.{ap, ◌∙◌}
 use Rattle.std.specs.Prelude.{slice_get}
 use Rattle.std.proofs.lemmas.Option.{slice_get-map}
-use Rattle.peephole_lang.specs.Variants.{variants}
+use Rattle.peephole_nodes.specs.Variants.{variants}
 use Rattle.peephole_lang.specs.Entries.{entry_of}
 use Rattle.peephole_lang.specs.TableLemmas.{same_entries}
 use Rattle.peephole_lang.proofs.names.entry_at.Goals as goal

@@ -1,6 +1,7 @@
 use Rattle.std.proofs.Common.{sym, ◌∙◌, rules}
 use Rattle.std.proofs.lemmas.Fn.{always_returns_same}
-use Rattle.peephole_lang.specs.Fronts.{front_at, standing}
+use Rattle.peephole_lang.specs.Fronts.{standing}
+use Rattle.peephole_nodes.specs.Fronts.{front_at}
 use Rattle.peephole_lang.proofs.SearchLemmas.{searched_none, searched_some}
 use Rattle.peephole_lang.proofs.names.place_of.Goals as goal
 

@@ -1,7 +1,7 @@
 use Rattle.std.proofs.Common.{◌≡◌, ◌∙◌, ap, refl, length, arith}
 use Rattle.peephole_lang.specs.Making.{is_made}
 use Rattle.peephole_lang.specs.Names.{find_in}
-use Rattle.peephole_lang.specs.Variants.{variants}
+use Rattle.peephole_nodes.specs.Variants.{variants}
 use Rattle.peephole_lang.proofs.TextLemmas.{is_a_node}
 use Rattle.peephole_lang.proofs.lang.Lang.from_op_str.Goals as goal
 

@@ -1,10 +1,12 @@
 -- The variants of nodes: place, name, kind of payload, number of children (this project; the names of instructions are
 -- those of the WebAssembly Core Specification 3.0, Text Format, Instructions, but for a few that are named as upstream does).
-use Rattle.std.specs.Prelude.{ℕ, List, [], ◌∷◌, codes, Option, slice_get}
+use Rattle.std.specs.Prelude.{ℕ, ◌==◌, ◌&&◌, Bool, true, false, List, [], ◌∷◌, codes, Option, Some, None, slice_get}
+use Rattle.peephole_nodes.specs.declared.payload.Payload.{Payload}
 use Rattle.peephole_nodes.specs.declared.payload.PayloadKind.{PayloadKind}
 use Rattle.peephole_nodes.specs.declared.payload.PayloadKind.TheVariants as kind
-use Rattle.peephole_lang.specs.declared.variants.Arity.{Arity}
-use Rattle.peephole_lang.specs.declared.variants.Arity.TheVariants as arity
+use Rattle.peephole_nodes.specs.declared.arity.Arity.{Arity}
+use Rattle.peephole_nodes.specs.declared.arity.Arity.TheVariants as arity
+use Rattle.peephole_nodes.specs.Payload.{is_of}
 
 pub record Variant : Type 0 where
   pub place : ℕ
@@ -480,3 +482,20 @@ variants =
 
 abbrev pub variant_at : ℕ → Option Variant
 variant_at place = slice_get variants place
+
+-- ---- what nodes there are
+
+-- that many children are right for the variant
+abbrev pub is_right : Arity → ℕ → Bool
+is_right arity.Zero count = 0 == count
+is_right arity.One count = 1 == count
+is_right (arity.Several n) count = n == count
+is_right arity.Any count = true
+
+abbrev pub is_node_of : Option Variant → Payload → ℕ → Bool
+is_node_of None p count = false
+is_node_of (Some v) p count = is_of v.payload p && is_right v.children count
+
+-- there is a variant with that place, that kind of payload and that many children
+abbrev pub fits : ℕ → Payload → ℕ → Bool
+fits place p count = is_node_of (variant_at place) p count

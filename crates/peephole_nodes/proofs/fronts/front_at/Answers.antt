@@ -2,10 +2,10 @@ use Rattle.std.proofs.Common.{List, ℕ, [], Option, ap, ◌∙◌}
 use Rattle.std.specs.Prelude.{slice_get}
 use Rattle.std.specs.Option.{unwrap_or}
 use Rattle.std.proofs.lemmas.Option.{slice_get-map}
-use Rattle.peephole_lang.specs.Variants.{variants}
-use Rattle.peephole_lang.specs.Fronts.{front_of}
-use Rattle.peephole_lang.specs.TableLemmas.{same_fronts}
-use Rattle.peephole_lang.proofs.names.front_at.Goals as goal
+use Rattle.peephole_nodes.specs.Variants.{variants}
+use Rattle.peephole_nodes.specs.Fronts.{front_of}
+use Rattle.peephole_nodes.proofs.FrontLemmas.{same_fronts}
+use Rattle.peephole_nodes.proofs.fronts.front_at.Goals as goal
 
 pub returns : goal.returns
 returns c =
