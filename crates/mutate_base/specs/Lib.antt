@@ -3,6 +3,7 @@ pub mod TermError
 pub mod Types
 pub mod Module
 pub mod Config
+pub mod ConfigLemmas
 pub mod Lending
 pub mod Words
 pub mod Number

@@ -7,35 +7,49 @@ use std::marker::Model;
 
 /// What a mutation goes by: whether the meaning is preserved, and, once it is set up, the module and the generator
 /// that random constants are drawn from.
+pub type WasmMutate<'a, R> = Config<ModuleInfo<'a>, R>;
+
+/// The same over any kind of information on the module.
 #[derive(Drop)]
-pub struct WasmMutate<'a, R> {
+pub struct Config<M, R> {
     preserving: bool,
-    info: Option<ModuleInfo<'a>>,
-    generator: Option<R>,
+    setup: Option<Setup<M, R>>,
 }
 
-impl<'a, R> Model for WasmMutate<'a, R> {
-    ghost use Rattle.std.specs.Prelude.{◌≡◌, is_some};
+impl<M, R> Model for Config<M, R> {
     ghost use Rattle.mutate_base.specs.Config.{Config};
 
-    ghost Value = { Config R };
+    ghost Value = { Config M R };
 
-    ghost view = { λ c. record { preserving = c.preserving; info = c.info; generator = c.generator } };
-
-    ghost invariant = { λ c. is_some c.generator ≡ is_some c.info };
+    ghost view = { λ c. record { preserving = c.preserving; setup = c.setup } };
 }
 
-impl<'a, R: Drop> WasmMutate<'a, R> {
+// The module and the generator, which are there or not together.
+#[derive(Drop)]
+struct Setup<M, R> {
+    info: M,
+    generator: R,
+}
+
+impl<M, R> Model for Setup<M, R> {
+    ghost use Rattle.mutate_base.specs.Config.{Setup};
+
+    ghost Value = { Setup M R };
+
+    ghost view = { λ s. record { info = s.info; generator = s.generator } };
+}
+
+impl<M: Drop, R: Drop> Config<M, R> {
+    ghost use Rattle.mutate_base.specs.Config.{info_of, generator_of};
     ghost use Rattle.mutate_base.specs.Lending.{LendsGenerator};
 
     /// A configuration that doesn't preserve the meaning, and isn't set up.
-    pub fn new() -> WasmMutate<'a, R>
-        ensures { result ≡ record { preserving = false; info = None; generator = None } }
+    pub fn new() -> Config<M, R>
+        ensures { result ≡ record { preserving = false; setup = None } }
     {
-        WasmMutate {
+        Config {
             preserving: false,
-            info: None,
-            generator: None,
+            setup: None,
         }
     }
 
@@ -54,35 +68,37 @@ impl<'a, R: Drop> WasmMutate<'a, R> {
     }
 
     /// Takes the module and the generator, in place of those before.
-    pub fn set_up(&mut self, info: ModuleInfo<'a>, generator: R)
-        ensures { self.new ≡ record self.old { info = Some info.entry; generator = Some generator } }
+    pub fn set_up(&mut self, info: M, generator: R)
+        ensures { self.new ≡ record self.old { setup = Some (record { info = info; generator = generator }) } }
     {
-        self.info = Some(info);
-        self.generator = Some(generator);
+        self.setup = Some(Setup { info, generator });
     }
 
     /// Whether the module and the generator are there.
     pub fn is_set_up(&self) -> bool
-        ensures { result ≡ is_some self.now.info }
+        ensures { result ≡ is_some self.now.setup }
     {
-        self.info.is_some()
+        self.setup.is_some()
     }
 
     /// The module. Condition: set up.
-    pub fn info(&self) -> &ModuleInfo<'a>
-        requires { IsTrue (is_some self.now.info) }
-        ensures { self.now.info ≡ Some result.now }
+    pub fn info(&self) -> &M
+        requires { IsTrue (is_some self.now.setup) }
+        ensures { info_of self.now ≡ Some result.now }
     {
-        self.info.as_ref().unwrap()
+        match &self.setup {
+            Some(setup) => &setup.info,
+            None => unreachable!(),
+        }
     }
 
     /// The generator, to draw from. Nothing else of the configuration changes. Condition: set up.
     pub fn rng(&mut self) -> &mut R
-        requires { IsTrue (is_some self.old.info) }
-        ensures* lends { sem 𝓛 (LendsGenerator R.row self.entry result) }
-        ensures value { self.old.generator ≡ Some result.now }
+        requires { IsTrue (is_some self.old.setup) }
+        ensures* lends { sem 𝓛 (LendsGenerator M.row R.row self.entry result) }
+        ensures value { generator_of self.old ≡ Some result.now }
     {
-        content_mut(&mut self.generator)
+        &mut content_mut(&mut self.setup).generator
     }
 }
 

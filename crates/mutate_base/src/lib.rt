@@ -13,7 +13,7 @@ mod term_error;
 mod types;
 mod words;
 
-pub use config::WasmMutate;
+pub use config::{Config, WasmMutate};
 pub use error::Error;
 pub use float::{F32, F64};
 pub use module::ModuleInfo;

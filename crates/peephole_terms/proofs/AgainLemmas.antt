@@ -5,7 +5,7 @@ use Rattle.std.specs.List.{All}
 use Rattle.rand_core.specs.Stream.{Stream}
 use Rattle.wasm_code.specs.Instruction.{Instruction, IsInstruction}
 use Rattle.wasm_code.specs.declared.operator.Operator.{Operator}
-use Rattle.mutate_base.specs.Config.{Config}
+use Rattle.mutate_base.specs.Config.{Config, info_of}
 use Rattle.mutate_base.specs.Module.{Module}
 use Rattle.peephole_lang.specs.declared.lang.Head.{Head}
 use Rattle.peephole_lang.specs.Term.{Term}
@@ -35,12 +35,12 @@ range_same at t read entries es parents ps a b c h =
     subst (AreInRange at t entries) c (subst (λ (x : List StackEntry). AreInRange at t x ps) b (subst (λ (x : Term Head). AreInRange at x es ps) a h))
 
 -- so what is written for the block is in range
-pub code_in_range : {R : Type 0} (config : Config R) (info : Module) (stream : Stream) (operators : List (Operator × ℕ)) (block : BlockRange) (at : ℕ) (entries es : List StackEntry) (parents ps : List (Option ℕ))
-    (look : ℕ → Option ℕ) (t read : Term Head) (code : List Instruction) → IsRow config.info config.preserving operators block entries es parents ps look t read → config.info ≡ Some info → AreInRange at read es ps →
+pub code_in_range : {R : Type 0} (config : Config Module R) (info : Module) (stream : Stream) (operators : List (Operator × ℕ)) (block : BlockRange) (at : ℕ) (entries es : List StackEntry) (parents ps : List (Option ℕ))
+    (look : ℕ → Option ℕ) (t read : Term Head) (code : List Instruction) → IsRow (info_of config) config.preserving operators block entries es parents ps look t read → info_of config ≡ Some info → AreInRange at read es ps →
     term_code (setting info stream) operators block at t ≡ Ok code → All IsInstruction (written_block info operators block at code)
 code_in_range config info stream operators block at entries es parents ps look t read code r is h e =
     block_in_range block.start at t (forest (shapes_in info operators block)) (root_terms at t entries (roots_of parents)) (is_written info operators block at) (length info.globals) (drawn (draws_of t) stream).0 code
-    (row_part config.info config.preserving operators block entries es parents ps look t read info at r is)
+    (row_part (info_of config) config.preserving operators block entries es parents ps look t read info at r is)
     (range_same at t read entries es parents ps r.term_is r.entries_are r.parents_are h) e
 
 -- the bytes are read again
@@ -48,9 +48,9 @@ abbrev ReadsBody : List (Operator × ℕ) → BlockRange → ℕ → Term Head �
 ReadsBody operators block at t old new s =
     (code : List Instruction) × (text : List ℕ) × (term_code s operators block at t ≡ Ok code) × (new ≡ old ++ text) × ReadsAgain operators block (written_block s.info operators block at code) text
 
-pub body_again : {R : Type 0} → CodesSpell → (stream : R → Stream) (config : Config R) (info : Module) (generator : R) (count : ℕ) (input : List ℕ) (operators : List (Operator × ℕ)) (block : BlockRange) (at : ℕ)
+pub body_again : {R : Type 0} → CodesSpell → (stream : R → Stream) (config : Config Module R) (info : Module) (generator : R) (count : ℕ) (input : List ℕ) (operators : List (Operator × ℕ)) (block : BlockRange) (at : ℕ)
     (entries es : List StackEntry) (parents ps : List (Option ℕ)) (look : ℕ → Option ℕ) (t read : Term Head) (old new : List ℕ) →
-    IsUnder config info generator count → IsRow config.info config.preserving operators block entries es parents ps look t read → AreInRange at read es ps → IsBodyIn input operators → IsBlockIn operators block →
+    IsUnder config info generator count → IsRow (info_of config) config.preserving operators block entries es parents ps look t read → AreInRange at read es ps → IsBodyIn input operators → IsBlockIn operators block →
     IfSome (setting_of stream config) (AppendsBody input operators block at t old new) → IfSome (setting_of stream config) (ReadsBody operators block at t old new)
 body_again spell stream config info generator count input operators block at entries es parents ps look t read old new u r h b k w =
     let is = setting_is stream config info generator u.info_is u.generator_is in
@@ -66,10 +66,10 @@ body_again spell stream config info generator count input operators block at ent
 abbrev RereadsBody : List (Operator × ℕ) → BlockRange → ℕ → List StackEntry → (ℕ → Option ℕ) → Term Head → List ℕ → List ℕ → Module → Type 0
 RereadsBody operators block at entries look t old new info = KeepsTheTrees info operators block at entries look t → (text : List ℕ) × (new ≡ old ++ text) × IsReread info operators block text
 
-pub body_reread : {R : Type 0} → CodesSpell → (stream : R → Stream) (config : Config R) (info : Module) (generator : R) (count : ℕ) (input : List ℕ) (operators : List (Operator × ℕ)) (block : BlockRange) (at : ℕ)
+pub body_reread : {R : Type 0} → CodesSpell → (stream : R → Stream) (config : Config Module R) (info : Module) (generator : R) (count : ℕ) (input : List ℕ) (operators : List (Operator × ℕ)) (block : BlockRange) (at : ℕ)
     (entries es : List StackEntry) (parents ps : List (Option ℕ)) (look : ℕ → Option ℕ) (t read : Term Head) (old new : List ℕ) →
-    IsUnder config info generator count → IsRow config.info config.preserving operators block entries es parents ps look t read → AreInRange at read es ps → IsBodyIn input operators → IsBlockIn operators block →
-    IfSome (setting_of stream config) (AppendsBody input operators block at t old new) → IfSome config.info (RereadsBody operators block at entries look t old new)
+    IsUnder config info generator count → IsRow (info_of config) config.preserving operators block entries es parents ps look t read → AreInRange at read es ps → IsBodyIn input operators → IsBlockIn operators block →
+    IfSome (setting_of stream config) (AppendsBody input operators block at t old new) → IfSome (info_of config) (RereadsBody operators block at entries look t old new)
 body_reread spell stream config info generator count input operators block at entries es parents ps look t read old new u r h b k w =
     let is = setting_is stream config info generator u.info_is u.generator_is in
     let graph : IsGraphOf info config.preserving block.start (slice_range operators block.start block.end) entries parents look =

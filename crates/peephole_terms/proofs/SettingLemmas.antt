@@ -4,7 +4,7 @@ use Rattle.std.specs.Prelude.{IfSome, option_map, option_and_then, slice_range}
 use Rattle.rand_core.specs.Stream.{Stream}
 use Rattle.wasm_code.specs.Code.{codes}
 use Rattle.wasm_code.specs.declared.operator.Operator.{Operator}
-use Rattle.mutate_base.specs.Config.{Config}
+use Rattle.mutate_base.specs.Config.{Setup, Config, info_of, generator_of}
 use Rattle.mutate_base.specs.Module.{Module}
 use Rattle.mutate_base.specs.declared.error.Error.{Error}
 use Rattle.peephole_lang.specs.declared.lang.Head.{Head}
@@ -24,18 +24,22 @@ use Rattle.peephole_terms.proofs.ExpansionLemmas.{finished, from_start, refused}
 use Rattle.peephole_terms.proofs.EncoderLemmas.{IsPart, roots_written, block_written, block_refused}
 
 -- A configuration that is set up, with its number of globals.
-pub record IsUnder {R : Type 0} (config : Config R) (info : Module) (generator : R) (count : ℕ) : Type 0 where
-  pub info_is : config.info ≡ Some info
-  pub generator_is : config.generator ≡ Some generator
+pub record IsUnder {R : Type 0} (config : Config Module R) (info : Module) (generator : R) (count : ℕ) : Type 0 where
+  pub info_is : info_of config ≡ Some info
+  pub generator_is : generator_of config ≡ Some generator
   pub count_is : count ≡ length info.globals
 
 abbrev pub setting : Module → Stream → Setting
 setting info stream = record { info = info; stream = stream }
 
-pub setting_is : {R : Type 0} (stream : R → Stream) (config : Config R) (info : Module) (generator : R) → config.info ≡ Some info → config.generator ≡ Some generator →
+pub setting_is : {R : Type 0} (stream : R → Stream) (config : Config Module R) (info : Module) (generator : R) → info_of config ≡ Some info → generator_of config ≡ Some generator →
     setting_of stream config ≡ Some (setting info (stream generator))
-setting_is {R} stream config info generator i g =
-    ap₂ (λ (x : Option Module) (y : Option R). option_and_then (λ info. option_map (λ generator. setting info (stream generator)) y) x) i g
+setting_is {R} stream config info generator i g = go config.setup i g
+  where
+    go : (o : Option (Setup Module R)) → option_map (λ s. s.info) o ≡ Some info → option_map (λ s. s.generator) o ≡ Some generator →
+        option_map (λ s. setting s.info (stream s.generator)) o ≡ Some (setting info (stream generator))
+    go None i g = cc
+    go (Some s) i g = let same : s.info ≡ info = cc in let drawn : s.generator ≡ generator = cc in rw (same, drawn) refl
 
 -- a start with nothing requested
 abbrev begun : List ℕ → List ResourceRequest → Stream → Writing
@@ -47,7 +51,7 @@ begun bytes requests stream = record { bytes = bytes; requests = requests; strea
 abbrev pub Appends : List ℕ → List ℕ → Term Head → Setting → Type 0
 Appends old new t s = AppendsCode s t old new
 
-pub term_written : {R : Type 0} (stream : R → Stream) (config : Config R) (info : Module) (generator : R) (count : ℕ) (t read : Term Head) (old new : List ℕ) (none asked : List ResourceRequest) (later : Stream) →
+pub term_written : {R : Type 0} (stream : R → Stream) (config : Config Module R) (info : Module) (generator : R) (count : ℕ) (t read : Term Head) (old new : List ℕ) (none asked : List ResourceRequest) (later : Stream) →
     IsUnder config info generator count → read ≡ t → none ≡ [] → take_steps count (steps_of read) (begun old none (stream generator)) ≡ Ok (begun new asked later) →
     IfSome (setting_of stream config) (Appends old new t)
 term_written stream config info generator count t read old new none asked later u same empty e =
@@ -66,8 +70,8 @@ term_asked count t read old new none asked stream later same empty e =
     let h = finished w (begun new asked later) (requests_of t) (draws_of t) (expansion_of count (drawn (draws_of t) stream).0 t) (sym (from_start t count w empty) ∙ e') in
     h.requests ∙ ap (λ (x : List ResourceRequest). x ++ map request (requests_of t)) empty
 
-pub term_leaves : {R : Type 0} (stream : R → Stream) (config left : Config R) (info : Module) (generator rest : R) (count : ℕ) (t read : Term Head) (old new : List ℕ) (none asked : List ResourceRequest) →
-    IsUnder config info generator count → left.info ≡ config.info → left.generator ≡ Some rest → read ≡ t → none ≡ [] →
+pub term_leaves : {R : Type 0} (stream : R → Stream) (config left : Config Module R) (info : Module) (generator rest : R) (count : ℕ) (t read : Term Head) (old new : List ℕ) (none asked : List ResourceRequest) →
+    IsUnder config info generator count → info_of left ≡ info_of config → generator_of left ≡ Some rest → read ≡ t → none ≡ [] →
     take_steps count (steps_of read) (begun old none (stream generator)) ≡ Ok (begun new asked (stream rest)) →
     IfSome (setting_of stream config) (λ s. setting_of stream left ≡ Some (after_term s t))
 term_leaves stream config left info generator rest count t read old new none asked u i g same empty e =
@@ -78,7 +82,7 @@ term_leaves stream config left info generator rest count t read old new none ask
     subst (λ (x : Option Setting). IfSome x (λ s. setting_of stream left ≡ Some (after_term s t))) (sym (setting_is stream config info generator u.info_is u.generator_is))
     (setting_is stream left info rest (i ∙ u.info_is) g ∙ ap (λ (x : Stream). Some (setting info x)) h.stream)
 
-pub term_refused : {R : Type 0} (stream : R → Stream) (config : Config R) (info : Module) (generator : R) (count : ℕ) (t read : Term Head) (old : List ℕ) (none : List ResourceRequest) (d : Error) →
+pub term_refused : {R : Type 0} (stream : R → Stream) (config : Config Module R) (info : Module) (generator : R) (count : ℕ) (t read : Term Head) (old : List ℕ) (none : List ResourceRequest) (d : Error) →
     IsUnder config info generator count → read ≡ t → none ≡ [] → IsRefusal d (take_steps count (steps_of read) (begun old none (stream generator))) →
     IfSome (setting_of stream config) (λ s. Refuses (expanded s t) d)
 term_refused stream config info generator count t read old none d u same empty r =
@@ -119,16 +123,16 @@ row_part under keeping operators block entries es parents ps look t read info at
 abbrev pub AppendsBody : List ℕ → List (Operator × ℕ) → BlockRange → ℕ → Term Head → List ℕ → List ℕ → Setting → Type 0
 AppendsBody input operators block at t old new s = body.AppendsBody s input operators block at t old new
 
-pub body_written : {R : Type 0} (stream : R → Stream) (config : Config R) (info : Module) (generator : R) (count : ℕ) (input : List ℕ) (operators : List (Operator × ℕ)) (block : BlockRange) (at : ℕ)
+pub body_written : {R : Type 0} (stream : R → Stream) (config : Config Module R) (info : Module) (generator : R) (count : ℕ) (input : List ℕ) (operators : List (Operator × ℕ)) (block : BlockRange) (at : ℕ)
     (entries es : List StackEntry) (parents ps : List (Option ℕ)) (look : ℕ → Option ℕ) (t read : Term Head) (front back old middle new : List ℕ) (none asked : List ResourceRequest) (later : Stream) →
-    IsUnder config info generator count → IsRow config.info config.preserving operators block entries es parents ps look t read → none ≡ [] →
+    IsUnder config info generator count → IsRow (info_of config) config.preserving operators block entries es parents ps look t read → none ≡ [] →
     front ≡ before_block input operators block → back ≡ after_block input operators block → new ≡ middle ++ back →
     row_steps count at read es ps (begun (old ++ front) none (stream generator)) ≡ Ok (begun middle asked later) →
     IfSome (setting_of stream config) (AppendsBody input operators block at t old new)
 body_written stream config info generator count input operators block at entries es parents ps look t read front back old middle new none asked later u r empty f b n e =
     let w = begun (old ++ front) none (stream generator) in
-    let part = row_part config.info config.preserving operators block entries es parents ps look t read info at r u.info_is in
-    let h = block_written block.start at t (forest (block_of info (slice_range operators block.start block.end))) (root_terms at t entries (roots_of parents)) count w (begun middle asked later) part empty (sym (row_same config.info config.preserving operators block entries es parents ps look t read count at w r) ∙ e) in
+    let part = row_part (info_of config) config.preserving operators block entries es parents ps look t read info at r u.info_is in
+    let h = block_written block.start at t (forest (block_of info (slice_range operators block.start block.end))) (root_terms at t entries (roots_of parents)) count w (begun middle asked later) part empty (sym (row_same (info_of config) config.preserving operators block entries es parents ps look t read count at w r) ∙ e) in
     let block_codes = codes (written_block info operators block at h.code) in
     subst (λ (x : Option Setting). IfSome x (AppendsBody input operators block at t old new)) (sym (setting_is stream config info generator u.info_is u.generator_is)) (
       h.code,
@@ -137,43 +141,43 @@ body_written stream config info generator count input operators block at entries
           ∙ ap₂ (λ (x y : List ℕ). old ++ (x ++ (block_codes ++ y))) f b))),
     )
 
-pub body_asked : {R : Type 0} (stream : R → Stream) (config : Config R) (info : Module) (generator : R) (count : ℕ) (operators : List (Operator × ℕ)) (block : BlockRange) (at : ℕ)
+pub body_asked : {R : Type 0} (stream : R → Stream) (config : Config Module R) (info : Module) (generator : R) (count : ℕ) (operators : List (Operator × ℕ)) (block : BlockRange) (at : ℕ)
     (entries es : List StackEntry) (parents ps : List (Option ℕ)) (look : ℕ → Option ℕ) (t read : Term Head) (bytes middle : List ℕ) (none asked : List ResourceRequest) (later : Stream) →
-    IsUnder config info generator count → IsRow config.info config.preserving operators block entries es parents ps look t read → none ≡ [] →
+    IsUnder config info generator count → IsRow (info_of config) config.preserving operators block entries es parents ps look t read → none ≡ [] →
     row_steps count at read es ps (begun bytes none (stream generator)) ≡ Ok (begun middle asked later) →
-    IfSome config.info (λ info. asked ≡ term_requests info operators block at t)
+    IfSome (info_of config) (λ info. asked ≡ term_requests info operators block at t)
 body_asked stream config info generator count operators block at entries es parents ps look t read bytes middle none asked later u r empty e =
     let w = begun bytes none (stream generator) in
-    let part = row_part config.info config.preserving operators block entries es parents ps look t read info at r u.info_is in
-    let h = block_written block.start at t (forest (block_of info (slice_range operators block.start block.end))) (root_terms at t entries (roots_of parents)) count w (begun middle asked later) part empty (sym (row_same config.info config.preserving operators block entries es parents ps look t read count at w r) ∙ e) in
+    let part = row_part (info_of config) config.preserving operators block entries es parents ps look t read info at r u.info_is in
+    let h = block_written block.start at t (forest (block_of info (slice_range operators block.start block.end))) (root_terms at t entries (roots_of parents)) count w (begun middle asked later) part empty (sym (row_same (info_of config) config.preserving operators block entries es parents ps look t read count at w r) ∙ e) in
     subst (λ (x : Option Module). IfSome x (λ info. asked ≡ term_requests info operators block at t)) (sym u.info_is) h.requests
 
 chosen_setting : (b : Bool) (info : Module) (s left rest : Stream) → left ≡ cond b rest s → setting info left ≡ cond b (setting info rest) (setting info s)
 chosen_setting true info s left rest e = ap (setting info) e
 chosen_setting false info s left rest e = ap (setting info) e
 
-pub body_leaves : {R : Type 0} (stream : R → Stream) (config left : Config R) (info : Module) (generator rest : R) (count : ℕ) (operators : List (Operator × ℕ)) (block : BlockRange) (at : ℕ)
+pub body_leaves : {R : Type 0} (stream : R → Stream) (config left : Config Module R) (info : Module) (generator rest : R) (count : ℕ) (operators : List (Operator × ℕ)) (block : BlockRange) (at : ℕ)
     (entries es : List StackEntry) (parents ps : List (Option ℕ)) (look : ℕ → Option ℕ) (t read : Term Head) (bytes middle : List ℕ) (none asked : List ResourceRequest) →
-    IsUnder config info generator count → left.info ≡ config.info → left.generator ≡ Some rest → IsRow config.info config.preserving operators block entries es parents ps look t read → none ≡ [] →
+    IsUnder config info generator count → info_of left ≡ info_of config → generator_of left ≡ Some rest → IsRow (info_of config) config.preserving operators block entries es parents ps look t read → none ≡ [] →
     row_steps count at read es ps (begun bytes none (stream generator)) ≡ Ok (begun middle asked (stream rest)) →
     IfSome (setting_of stream config) (λ s. setting_of stream left ≡ Some (after_block_term s operators block at t))
 body_leaves stream config left info generator rest count operators block at entries es parents ps look t read bytes middle none asked u i g r empty e =
     let w = begun bytes none (stream generator) in
-    let part = row_part config.info config.preserving operators block entries es parents ps look t read info at r u.info_is in
-    let h = block_written block.start at t (forest (block_of info (slice_range operators block.start block.end))) (root_terms at t entries (roots_of parents)) count w (begun middle asked (stream rest)) part empty (sym (row_same config.info config.preserving operators block entries es parents ps look t read count at w r) ∙ e) in
+    let part = row_part (info_of config) config.preserving operators block entries es parents ps look t read info at r u.info_is in
+    let h = block_written block.start at t (forest (block_of info (slice_range operators block.start block.end))) (root_terms at t entries (roots_of parents)) count w (begun middle asked (stream rest)) part empty (sym (row_same (info_of config) config.preserving operators block entries es parents ps look t read count at w r) ∙ e) in
     subst (λ (x : Option Setting). IfSome x (λ s. setting_of stream left ≡ Some (after_block_term s operators block at t))) (sym (setting_is stream config info generator u.info_is u.generator_is))
     (setting_is stream left info rest (i ∙ u.info_is) g
     ∙ ap (λ (x : Setting). Some x) (chosen_setting (is_written info operators block at) info (stream generator) (stream rest) (drawn (draws_of t) (stream generator)).1 h.stream))
 
-pub body_refused : {R : Type 0} (stream : R → Stream) (config : Config R) (info : Module) (generator : R) (count : ℕ) (operators : List (Operator × ℕ)) (block : BlockRange) (at : ℕ)
+pub body_refused : {R : Type 0} (stream : R → Stream) (config : Config Module R) (info : Module) (generator : R) (count : ℕ) (operators : List (Operator × ℕ)) (block : BlockRange) (at : ℕ)
     (entries es : List StackEntry) (parents ps : List (Option ℕ)) (look : ℕ → Option ℕ) (t read : Term Head) (bytes : List ℕ) (none : List ResourceRequest) (d : Error) →
-    IsUnder config info generator count → IsRow config.info config.preserving operators block entries es parents ps look t read → none ≡ [] →
+    IsUnder config info generator count → IsRow (info_of config) config.preserving operators block entries es parents ps look t read → none ≡ [] →
     IsRefusal d (row_steps count at read es ps (begun bytes none (stream generator))) →
     IfSome (setting_of stream config) (λ s. Refuses (term_code s operators block at t) d)
 body_refused stream config info generator count operators block at entries es parents ps look t read bytes none d u r empty q =
     let w = begun bytes none (stream generator) in
-    let part = row_part config.info config.preserving operators block entries es parents ps look t read info at r u.info_is in
+    let part = row_part (info_of config) config.preserving operators block entries es parents ps look t read info at r u.info_is in
     let own = block_refused block.start at t (forest (block_of info (slice_range operators block.start block.end))) (root_terms at t entries (roots_of parents)) count w d part empty
-    (subst (IsRefusal d) (row_same config.info config.preserving operators block entries es parents ps look t read count at w r) q) in
+    (subst (IsRefusal d) (row_same (info_of config) config.preserving operators block entries es parents ps look t read count at w r) q) in
     subst (λ (x : Option Setting). IfSome x (λ s. Refuses (term_code s operators block at t) d)) (sym (setting_is stream config info generator u.info_is u.generator_is))
     (subst (λ (k : ℕ). Refuses (cond (is_written info operators block at) (expansion_of k (drawn (draws_of t) (stream generator)).0 t) (Ok [])) d) u.count_is own)

@@ -342,7 +342,7 @@ under (Some x) P Q h f = f x h
 abbrev Runs : List ℕ → List ℕ → Term Head → Setting → Type 0
 Runs old new t s = AppendsStackCode s t old new
 
-pub term_runs : {R : Type 0} (stream : R → Stream) (config : Config R) (t : Term Head) (old new : List ℕ) →
+pub term_runs : {R : Type 0} (stream : R → Stream) (config : Config Module R) (t : Term Head) (old new : List ℕ) →
     IfSome (setting_of stream config) (Appends old new t) → IfSome (setting_of stream config) (Runs old new t)
 term_runs {R} stream config t old new w =
     under (setting_of stream config) (Appends old new t) (Runs old new t) w

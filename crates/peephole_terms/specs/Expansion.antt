@@ -166,8 +166,8 @@ pub record Setting : Type 0 where
   pub stream : Stream
 
 -- `stream` tells what a generator will give
-abbrev pub setting_of : {R : Type 0} → (stream : R → Stream) → Config R → Option Setting
-setting_of stream c = option_and_then (λ info. option_map (λ generator. record { info = info; stream = stream generator }) c.generator) c.info
+abbrev pub setting_of : {R : Type 0} → (stream : R → Stream) → Config Module R → Option Setting
+setting_of stream c = option_map (λ s. record { info = s.info; stream = stream s.generator }) c.setup
 
 -- requested globals come behind the module's
 abbrev pub expanded : Setting → Term Head → Result (List Instruction) Error

@@ -215,12 +215,12 @@ impl Encoder {
         dfg: &MiniDFG,
         input_wasm: &[u8],
     ) -> Result<Vec<ResourceRequest>, Error>
-        requires set_up { IsTrue (is_some config.old.info) }
+        requires set_up { IsTrue (is_some config.old.setup) }
         requires some { 0 < length expr.now }
         requires writable { All (λ l. IsTrue (is_writable (payload_of l))) expr.now }
         requires body { IsBodyIn input_wasm.now operators.now }
         requires block { IsBlockIn operators.now basicblock.now }
-        requires graph { IfSome config.old.info (λ info. IsGraphOf info config.old.preserving basicblock.now.start
+        requires graph { IfSome (info_of config.old) (λ info. IsGraphOf info config.old.preserving basicblock.now.start
             (slice_range operators.now basicblock.now.start basicblock.now.end) (entries_of dfg.now) (parents_of dfg.now) (look_of dfg.now)) }
         // The bytes outside the block, and between them its forest with the term.
         ensures written { IfOk result (λ _. IfSome (setting_of R.stream config.old) (λ setting.
@@ -232,7 +232,7 @@ impl Encoder {
             × (newfunc.new ≡ newfunc.old ++ text)
             × ReadsAgain operators.now basicblock.now (written_block setting.info operators.now basicblock.now insertion_point code) text)) }
         // Where the term changes no tree, the block is read again with the same trees, is in order, and is written again the same.
-        ensures reread { IfOk result (λ _. IfSome config.old.info (λ info.
+        ensures reread { IfOk result (λ _. IfSome (info_of config.old) (λ info.
             KeepsTheTrees info operators.now basicblock.now insertion_point (entries_of dfg.now) (look_of dfg.now) (term_of head_of children_of expr.now)
             → (text : List ℕ) × (newfunc.new ≡ newfunc.old ++ text) × IsReread info operators.now basicblock.now text)) }
         // Where the term evaluates as the whole tree that it replaces, a block of integer rows that is in order runs as before.
@@ -240,13 +240,13 @@ impl Encoder {
             AppendsSameRun setting input_wasm.now operators.now basicblock.now insertion_point
             (entries_of dfg.now) (look_of dfg.now) (term_of head_of children_of expr.now) newfunc.old newfunc.new)) }
         // What the term asks for, where it is written.
-        ensures requests { IfOk result (λ requests. IfSome config.old.info (λ info.
+        ensures requests { IfOk result (λ requests. IfSome (info_of config.old) (λ info.
             requests.items ≡ term_requests info operators.now basicblock.now insertion_point (term_of head_of children_of expr.now))) }
         // The generator stands behind the term's last word, where the term is written, and otherwise where it stood.
         ensures generator { IfOk result (λ _. IfSome (setting_of R.stream config.old) (λ setting. setting_of R.stream config.new
             ≡ Some (after_block_term setting operators.now basicblock.now insertion_point (term_of head_of children_of expr.now)))) }
         // While preserving, a block out of order is refused, and one that is written is in order.
-        ensures order { IfSome config.old.info (λ info.
+        ensures order { IfSome (info_of config.old) (λ info.
             KeepsOrder config.old.preserving (shapes_in info operators.now basicblock.now) result) }
         // Otherwise the term's expansion refuses, or memory does.
         ensures refusal { IfErr result (λ e. e ≢ Error.NoMutationsApplicable → IfSome (setting_of R.stream config.old) (λ setting.
@@ -254,7 +254,7 @@ impl Encoder {
         // After a refusal the sink holds its old bytes.
         ensures restored { OnErr result (newfunc.new ≡ newfunc.old) }
         // Of the configuration the generator alone changes.
-        ensures unchanged { (config.new.preserving ≡ config.old.preserving) × (config.new.info ≡ config.old.info) }
+        ensures unchanged { (config.new.preserving ≡ config.old.preserving) × (info_of config.new ≡ info_of config.old) }
     {
         if config.preserves_semantics() && !dfg.keeps_order() {
             return Err(Error::NoMutationsApplicable);

@@ -34,7 +34,7 @@ pub fn expr2wasm<R: Rng + Drop>(
     expr: &RecExpr<Lang>,
     newfunc: &mut Function,
 ) -> Result<Vec<ResourceRequest>, Error>
-    requires set_up { IsTrue (is_some config.old.info) }
+    requires set_up { IsTrue (is_some config.old.setup) }
     requires some { 0 < length expr.now }
     requires writable { All (λ l. IsTrue (is_writable (payload_of l))) expr.now }
     // What is written is the term's expansion, with the words that are drawn.
@@ -54,7 +54,7 @@ pub fn expr2wasm<R: Rng + Drop>(
     // After a refusal the sink holds its old bytes.
     ensures restored { OnErr result (newfunc.new ≡ newfunc.old) }
     // Of the configuration the generator alone changes.
-    ensures unchanged { (config.new.preserving ≡ config.old.preserving) × (config.new.info ≡ config.old.info) }
+    ensures unchanged { (config.new.preserving ≡ config.old.preserving) × (info_of config.new ≡ info_of config.old) }
 {
     let globals = config.info().get_global_count();
     let old_len = newfunc.len();

@@ -16,7 +16,7 @@ outside-requires g c = inside _ _ _ c.requires.body c.requires.block
 
 pub write_body-requires-clause-walkable : goal.write_body-requires-clause-walkable
 write_body-requires-clause-walkable g c =
-    walkable_under c.args.config.now.info _ _ _ (entries_of c.args.dfg.now) (parents_of c.args.dfg.now) (look_of c.args.dfg.now) c.requires.set_up c.requires.graph
+    walkable_under (info_of c.args.config.now) _ _ _ (entries_of c.args.dfg.now) (parents_of c.args.dfg.now) (look_of c.args.dfg.now) c.requires.set_up c.requires.graph
 
 pub returns-in-Ok-clause-written : goal.returns-in-Ok-clause-written
 returns-in-Ok-clause-written g c =
@@ -51,7 +51,7 @@ returns-in-Ok-clause-requests g c =
 pub returns-in-Ok-clause-generator : goal.returns-in-Ok-clause-generator
 returns-in-Ok-clause-generator g c =
     let w = c.in-Ok.ensures.ok in
-    body_leaves g.R.Rng.stream c.args.config.now (record { preserving = c.args.config.now.preserving; info = c.args.config.now.info; generator = Some c.write_body.new.rng }) c.info.result.now c.rng-rng.result.now c.write_body.new.rng c.get_global_count-globals.result c.args.operators.now c.args.basicblock.now c.args.insertion_point (entries_of c.args.dfg.now) (entries_of c.args.dfg.now) (parents_of c.args.dfg.now) (parents_of c.args.dfg.now) (look_of c.args.dfg.now) (term_of head_of children_of c.args.expr.now) (term_of head_of children_of c.as_ref.result.now) _ w.0 _ _
+    body_leaves g.R.Rng.stream c.args.config.now (record { preserving = c.args.config.now.preserving; info = (info_of c.args.config.now); generator = Some c.write_body.new.rng }) c.info.result.now c.rng-rng.result.now c.write_body.new.rng c.get_global_count-globals.result c.args.operators.now c.args.basicblock.now c.args.insertion_point (entries_of c.args.dfg.now) (entries_of c.args.dfg.now) (parents_of c.args.dfg.now) (parents_of c.args.dfg.now) (look_of c.args.dfg.now) (term_of head_of children_of c.args.expr.now) (term_of head_of children_of c.as_ref.result.now) _ w.0 _ _
     (record { info_is = c.info.ensures; generator_is = c.rng-rng.ensures.value; count_is = c.get_global_count-globals.ensures }) refl refl (record { graph = c.requires.graph; entries_are = refl; parents_are = refl; term_is = ap (term_of head_of children_of) c.as_ref.ensures.nodes }) c.new-requests.ensures.items w.2
 
 pub returns-in-Err-clause-refusal : goal.returns-in-Err-clause-refusal
@@ -61,7 +61,7 @@ returns-in-Err-clause-refusal g c other =
 
 pub returns-in-Ok-clause-order : goal.returns-in-Ok-clause-order
 returns-in-Ok-clause-order g c =
-    order_kept c.args.config.now.info _ _ _ (entries_of c.args.dfg.now) (parents_of c.args.dfg.now) (look_of c.args.dfg.now) (Ok c.write_body.new.requests) c.requires.graph
+    order_kept (info_of c.args.config.now) _ _ _ (entries_of c.args.dfg.now) (parents_of c.args.dfg.now) (look_of c.args.dfg.now) (Ok c.write_body.new.requests) c.requires.graph
     (λ keeping. elim c.else-preserves_semantics.branch [
       | else-preserves_semantics-via-then-preserves_semantics+else-not-keeps_order w ↦ w.keeps_order.ensures.0 w.if-not-keeps_order.false
       | else-preserves_semantics-via-else-preserves_semantics w ↦ absurd (false≢true (sym w.if-preserves_semantics.false ∙ (c.preserves_semantics.ensures ∙ keeping)))
@@ -70,7 +70,7 @@ returns-in-Ok-clause-order g c =
 
 pub returns-in-Err-clause-order : goal.returns-in-Err-clause-order
 returns-in-Err-clause-order g c =
-    order_kept c.args.config.now.info _ _ _ (entries_of c.args.dfg.now) (parents_of c.args.dfg.now) (look_of c.args.dfg.now) (Err c.in-Err.refusal) c.requires.graph
+    order_kept (info_of c.args.config.now) _ _ _ (entries_of c.args.dfg.now) (parents_of c.args.dfg.now) (look_of c.args.dfg.now) (Err c.in-Err.refusal) c.requires.graph
     (λ keeping. elim c.else-preserves_semantics.branch [
       | else-preserves_semantics-via-then-preserves_semantics+else-not-keeps_order w ↦ w.keeps_order.ensures.0 w.if-not-keeps_order.false
       | else-preserves_semantics-via-else-preserves_semantics w ↦ absurd (false≢true (sym w.if-preserves_semantics.false ∙ (c.preserves_semantics.ensures ∙ keeping)))

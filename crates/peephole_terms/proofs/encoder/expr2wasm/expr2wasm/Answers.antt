@@ -20,7 +20,7 @@ returns-in-Ok-clause-requests g c =
 
 pub returns-in-Ok-clause-generator : goal.returns-in-Ok-clause-generator
 returns-in-Ok-clause-generator g c =
-    term_leaves g.R.Rng.stream c.args.config.now (record { preserving = c.args.config.now.preserving; info = c.args.config.now.info; generator = Some c.write_tree.new.rng }) c.info.result.now c.rng-rng.result.now c.write_tree.new.rng c.get_global_count-globals.result (term_of head_of children_of c.args.expr.now) (term_of head_of children_of c.as_ref-nodes.result.now) _ _ _ _
+    term_leaves g.R.Rng.stream c.args.config.now (record { preserving = c.args.config.now.preserving; info = (info_of c.args.config.now); generator = Some c.write_tree.new.rng }) c.info.result.now c.rng-rng.result.now c.write_tree.new.rng c.get_global_count-globals.result (term_of head_of children_of c.args.expr.now) (term_of head_of children_of c.as_ref-nodes.result.now) _ _ _ _
     (record { info_is = c.info.ensures; generator_is = c.rng-rng.ensures.value; count_is = c.get_global_count-globals.ensures }) refl refl (ap (term_of head_of children_of) c.as_ref-nodes.ensures.nodes) c.new-requests.ensures.items c.in-Ok.ensures.ok
 
 pub returns-in-Err-clause-refusal : goal.returns-in-Err-clause-refusal
