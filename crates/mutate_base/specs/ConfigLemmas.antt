@@ -1,5 +1,5 @@
 -- What a configuration with another generator holds (this project).
-use Rattle.std.proofs.Common.{◌≡◌, Option, Some, None, IsTrue, refl}
+use Rattle.std.proofs.Common.{◌≡◌, Option, Some, None, IsTrue, refl, sym, ap, ◌∙◌}
 use Rattle.std.proofs.lemmas.Bool.{false≢true}
 use Rattle.std.specs.Prelude.{option_map, is_some}
 use Rattle.mutate_base.specs.Config.{Setup, Config, info_of, generator_of, redrawn, with_generator}
@@ -28,3 +28,9 @@ is_some-info_of {M} {R} config = go config.setup
     go : (o : Option (Setup M R)) → is_some (option_map (λ s. s.info) o) ≡ is_some o
     go None = refl
     go (Some s) = refl
+
+-- where the module is the same, it is set up as before
+pub set_up_kept : {M R : Type 0} (old new : Config M R) →
+    info_of new ≡ info_of old → IsTrue (is_some old.setup) → IsTrue (is_some new.setup)
+set_up_kept {M} old new same h =
+    sym (is_some-info_of new) ∙ (ap (λ (o : Option M). is_some o) same ∙ (is_some-info_of old ∙ h))

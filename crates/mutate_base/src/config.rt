@@ -9,7 +9,7 @@ use std::marker::Model;
 /// that random constants are drawn from.
 pub type WasmMutate<'a, R> = Config<ModuleInfo<'a>, R>;
 
-/// The same over any kind of information on the module.
+/// A configuration over any type of what is known of a module.
 #[derive(Drop)]
 pub struct Config<M, R> {
     preserving: bool,

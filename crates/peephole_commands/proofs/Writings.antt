@@ -1,11 +1,12 @@
 -- What `write` answers, by what its calls answer.
 use Rattle.std.proofs.Common.{◌≡◌, ◌≢◌, ℕ, ◌<◌, ◌⊎◌, inl, inr, List, [], ◌∷◌, length, map, Bool, true, false, refl, sym, ap, ap₂, ◌∙◌, arith, cond}
-use Rattle.std.specs.Prelude.{slice_range, ◌&&◌, not, is_some, option_map, option_and_then, Option, Some, None, Result, Ok, Err, IfSome, IsSome}
+use Rattle.std.specs.Prelude.{slice_range, ◌&&◌, not, is_some, option_map, Option, Some, None, Result, Ok, Err, IfSome, IsSome}
 use Rattle.std.specs.Result.{result_map_both}
 use Rattle.std.proofs.lemmas.List.{length-map}
 use Rattle.mutate_base.specs.Words.{word_stream}
 use Rattle.wasm_code.specs.Instruction.{Instruction}
 use Rattle.wasm_code.specs.declared.operator.Operator.{Operator}
+use Rattle.mutate_base.specs.Config.{Setup}
 use Rattle.mutate_base.specs.Module.{Module}
 use Rattle.mutate_base.specs.declared.error.Error.{Error}
 use Rattle.mutate_base.specs.declared.error.Error.TheVariants as error
@@ -59,12 +60,19 @@ chosen stopped answer = cond stopped (Err (refusal.Refused error.NoMutationsAppl
 
 -- ---- one body
 
--- a configuration's module and generator, as the definitions read them
-abbrev under : Option Module → Option (List ℕ) → Setting
-under info words = record { info = module_in info; stream = word_stream (words_in words) }
+-- what a configuration is set up with, its words as the generator
+abbrev Drawing : Type 0
+Drawing = Setup Module (List ℕ)
 
-abbrev found : Option Module → Option (List ℕ) → Option Setting
-found info words = option_and_then (λ info. option_map (λ words. let s : Setting = record { info = info; stream = word_stream words } in s) words) info
+-- its module and its words, as the definitions read them
+abbrev info_in : Option Drawing → Option Module
+info_in setup = option_map (λ s. s.info) setup
+
+abbrev under : Option Drawing → Setting
+under setup = record { info = module_in (info_in setup); stream = word_stream (words_in (option_map (λ s. s.generator) setup)) }
+
+abbrev found : Option Drawing → Option Setting
+found setup = option_map (λ s. let t : Setting = record { info = s.info; stream = word_stream s.generator } in t) setup
 
 abbrev IsForOrder : {A : Type 0} → Option Module → Bool → List (Operator × ℕ) → BlockRange → Result A Error → Type 0
 IsForOrder info keeping os range r = IfSome info (λ info. KeepsOrder keeping (shapes_in info os range) r)
@@ -78,16 +86,16 @@ made s body point range t r =
 abbrev pub said_of : Setting → Bool → Contents → ℕ → BlockRange → Term Head → Result Output Refusal
 said_of s keeping body point range t = in_order_alone keeping (shapes_in s.info body.operators range) (with_term s body point range t)
 
-pub build_ok : DecidesTheOrder → (A : Type 0) (info : Option Module) (words : Option (List ℕ)) (keeping : Bool) (body : Contents) (input : List ℕ) (os : List (Operator × ℕ)) (point : ℕ) (range : BlockRange) (t : Term Head)
+pub build_ok : DecidesTheOrder → (A : Type 0) (setup : Option Drawing) (keeping : Bool) (body : Contents) (input : List ℕ) (os : List (Operator × ℕ)) (point : ℕ) (range : BlockRange) (t : Term Head)
     (old new : List ℕ) (requests : List ResourceRequest) (x : A) →
-    is_some info ≡ true → is_some words ≡ true → input ≡ body.bytes → os ≡ body.operators → old ≡ [] →
-    IfSome (found info words) (λ s. AppendsBody s input os range point t old new) →
-    IfSome info (λ info. requests ≡ term_requests info os range point t) → IsForOrder info keeping os range (Ok x) →
-    said_of (under info words) keeping body point range t ≡ Ok (output new requests)
-build_ok law A None words keeping body input os point range t old new requests x u v i e none w a o = cc
-build_ok law A (Some info) None keeping body input os point range t old new requests x u v i e none w a o = cc
-build_ok law A (Some info) (Some words) keeping body input os point range t old new requests x u v i e none w a o =
-    let s = under (Some info) (Some words) in
+    is_some setup ≡ true → input ≡ body.bytes → os ≡ body.operators → old ≡ [] →
+    IfSome (found setup) (λ s. AppendsBody s input os range point t old new) →
+    IfSome (info_in setup) (λ info. requests ≡ term_requests info os range point t) → IsForOrder (info_in setup) keeping os range (Ok x) →
+    said_of (under setup) keeping body point range t ≡ Ok (output new requests)
+build_ok law A None keeping body input os point range t old new requests x u i e none w a o = cc
+build_ok law A (Some own) keeping body input os point range t old new requests x u i e none w a o =
+    let info = own.info in
+    let s = under (Some own) in
     let said = rw (i, e, none) at w in
     let asked = rw e at a in
     let order = rw e at o in
@@ -101,16 +109,18 @@ refuses : (s : Setting) (keeping : Bool) (body : Contents) (point : ℕ) (range 
     said_of s keeping body point range t ≡ Err (refusal.Refused e)
 refuses s keeping body point range t e pass r = ap (λ (b : Bool). chosen b (with_term s body point range t)) pass ∙ ap (made s body point range t) r
 
-pub build_err : DecidesTheOrder → (A : Type 0) (info : Option Module) (words : Option (List ℕ)) (keeping : Bool) (body : Contents) (os : List (Operator × ℕ)) (point : ℕ) (range : BlockRange) (t : Term Head) (e : Error) →
-    is_some info ≡ true → is_some words ≡ true → os ≡ body.operators → IsForOrder {A = A} info keeping os range (Err e) →
-    (e ≢ error.NoMutationsApplicable → IfSome (found info words) (λ s. Refuses (term_code s os range point t) e)) →
-    (e ≡ error.Memory) ⊎ (said_of (under info words) keeping body point range t ≡ Err (refusal.Refused e))
-build_err law A None words keeping body os point range t e u v s o r = cc
-build_err law A (Some info) None keeping body os point range t e u v s o r = cc
-build_err law A (Some info) (Some words) keeping body os point range t e u v same o r = go e (rw same at o) (rw same at r)
+pub build_err : DecidesTheOrder → (A : Type 0) (setup : Option Drawing) (keeping : Bool) (body : Contents) (os : List (Operator × ℕ)) (point : ℕ) (range : BlockRange) (t : Term Head) (e : Error) →
+    is_some setup ≡ true → os ≡ body.operators → IsForOrder {A = A} (info_in setup) keeping os range (Err e) →
+    (e ≢ error.NoMutationsApplicable → IfSome (found setup) (λ s. Refuses (term_code s os range point t) e)) →
+    (e ≡ error.Memory) ⊎ (said_of (under setup) keeping body point range t ≡ Err (refusal.Refused e))
+build_err law A None keeping body os point range t e u s o r = cc
+build_err law A (Some own) keeping body os point range t e u same o r = go e (rw same at o) (rw same at r)
   where
     s : Setting
-    s = under (Some info) (Some words)
+    s = under (Some own)
+
+    info : Module
+    info = own.info
 
     block : List Shape
     block = shapes_in info body.operators range

@@ -3,7 +3,7 @@ use Rattle.std.specs.Prelude.{◌≡◌, ◌⊎◌, ℕ, ◌<◌, MatchResult, B
 use Rattle.std.specs.Result.{result_map_both}
 use Rattle.wasm_code.specs.declared.operator.Operator.{Operator}
 use Rattle.mutate_base.specs.declared.error.Error.TheVariants.{Memory, TooLarge, UnknownFunction}
-use Rattle.mutate_base.specs.Config.{Config}
+use Rattle.mutate_base.specs.Config.{Config, info_of, generator_of}
 use Rattle.mutate_base.specs.Module.{Module, module_of}
 use Rattle.mutate_base.specs.Words.{word_stream}
 use Rattle.peephole_graphs.specs.Block.{BlockRange, IsBlockOf}
@@ -54,13 +54,13 @@ words_in None = []
 words_in (Some words) = words
 
 -- what it writes terms by
-abbrev pub setting_in : Config (List ℕ) → Setting
-setting_in config = record { info = module_in config.info; stream = word_stream (words_in config.generator) }
+abbrev pub setting_in : Config Module (List ℕ) → Setting
+setting_in config = record { info = module_in (info_of config); stream = word_stream (words_in (generator_of config)) }
 
 -- the graph is the block's under the configuration
-abbrev pub IsGraphAt : {R : Type 0} → Config R → Place → MiniDFG → Type 0
+abbrev pub IsGraphAt : {R : Type 0} → Config Module R → Place → MiniDFG → Type 0
 IsGraphAt config p graph =
-    IsGraphOf (module_in config.info) config.preserving p.block.start (operators_in p.body.now p.block) (entries_of graph) (parents_of graph) (look_of graph)
+    IsGraphOf (module_in (info_of config)) config.preserving p.block.start (operators_in p.body.now p.block) (entries_of graph) (parents_of graph) (look_of graph)
 
 -- a call answered what is said, which `read` reads of its answer, or memory was refused
 abbrev pub Tells : {A B : Type 0} → (A → B) → Result B Refusal → Result A Refusal → Type 0

@@ -2,6 +2,7 @@
 
 ghost use Rattle.std.specs.Prelude.{◌≡◌, ◌⊎◌, is_some, IsTrue, Some, Err, IfOk, IfErr};
 ghost use Rattle.peephole_commands.specs.State.{module_with};
+ghost use Rattle.mutate_base.specs.Config.{info_of};
 ghost use Rattle.mutate_base.specs.declared.error.Error.TheVariants.{Memory};
 ghost use Rattle.peephole_commands.specs.declared.graphs.Refusal.TheVariants.{Refused};
 ghost use Rattle.peephole_commands.specs.Graphs.{shapes_or_refusal, operators_in, module_in, IsPlace, IsGraphAt};
@@ -42,8 +43,8 @@ pub fn configured<'a>(
     body: &'a Body,
 ) -> Result<WasmMutate<'a, Words>, AllocError>
     ensures mode { IfOk result (λ config. config.preserving ≡ preserving) }
-    ensures module { IfOk result (λ config. config.info ≡ Some (module_with info.now body.now)) }
-    ensures generator { IfOk result (λ config. config.generator ≡ Some words.now) }
+    ensures setup { IfOk result (λ config. config.setup
+        ≡ Some (record { info = module_with info.now body.now; generator = words.now })) }
 {
     let mut info: ModuleInfo<'a> = info.clone()?;
     info.input_wasm = body.bytes();
@@ -60,11 +61,12 @@ pub fn graph_of(
     config: &WasmMutate<'_, Words>,
     place: &Place,
 ) -> Result<MiniDFG, Refusal>
-    requires set_up { IsTrue (is_some config.now.info) }
+    requires set_up { IsTrue (is_some config.now.setup) }
     requires place { IsPlace place.now }
     ensures graph { IfOk result (λ graph. IsGraphAt config.now place.now graph) }
     ensures refused { IfErr result (λ r. (r ≡ Refused Memory)
-        ⊎ (shapes_or_refusal (module_in config.now.info) config.now.preserving (operators_in place.now.body.now place.now.block) ≡ Err r)) }
+        ⊎ (shapes_or_refusal (module_in (info_of config.now)) config.now.preserving
+            (operators_in place.now.body.now place.now.block) ≡ Err r)) }
 {
     faults_are_found();
     let mut builder = DFGBuilder::new(config);

@@ -1,6 +1,7 @@
 //! The type of the result of the operator at the point.
 
 ghost use Rattle.std.specs.Prelude.{◌≡◌, ◌⊎◌, is_some, IsSome, IsTrue, Ok, Err, IfSome, MatchResult};
+ghost use Rattle.mutate_base.specs.Config.{info_of};
 ghost use Rattle.mutate_base.specs.declared.error.Error.TheVariants.{Memory};
 ghost use Rattle.peephole_lang.specs.Term.{tree_at};
 ghost use Rattle.peephole_analysis.specs.TermTypes.{term_type};
@@ -27,10 +28,10 @@ fn own_type(
     graph: &MiniDFG,
     at: usize,
 ) -> Result<PrimitiveTypeInfo, Error>
-    requires set_up { IsTrue (is_some config.now.info) }
+    requires set_up { IsTrue (is_some config.now.setup) }
     requires there { IsSome (look_of graph.now at) }
     ensures { IfSome (look_of graph.now at) (λ i.
-        let said = term_type (record { info = module_in config.now.info; locals = locals.now })
+        let said = term_type (record { info = module_in (info_of config.now); locals = locals.now })
         (tree_at (entry_nodes (entries_of graph.now)) i) in
         MatchResult result (λ t. said ≡ Ok t) (λ e. (e ≡ Memory) ⊎ (said ≡ Err e))) }
 {
@@ -47,9 +48,10 @@ pub fn point_type(
     locals: &[PrimitiveTypeInfo],
     place: &Place,
 ) -> Result<PrimitiveTypeInfo, Refusal>
-    requires set_up { IsTrue (is_some config.now.info) }
+    requires set_up { IsTrue (is_some config.now.setup) }
     requires place { IsPlace place.now }
-    ensures { Tells (λ t. t) (typed (record { info = module_in config.now.info; locals = locals.now })
+    ensures { Tells (λ t. t)
+        (typed (record { info = module_in (info_of config.now); locals = locals.now })
         config.now.preserving place.now.body.now place.now.block) result }
 {
     faults_are_found();

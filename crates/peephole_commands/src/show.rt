@@ -1,6 +1,7 @@
 //! The forest of the point's block, as text.
 
 ghost use Rattle.std.specs.Prelude.{◌≡◌, ◌++◌, is_some, IsTrue, IfOk, MatchResult, string_bytes};
+ghost use Rattle.mutate_base.specs.Config.{info_of};
 ghost use Rattle.mutate_base.specs.declared.error.Error.TheVariants.{Memory};
 ghost use Rattle.peephole_graphs.specs.Dfg.{entries_of, parents_of};
 ghost use Rattle.peephole_graphs.specs.ForestText.{default_text};
@@ -53,9 +54,10 @@ pub fn show_block(
     config: &WasmMutate<'_, Words>,
     place: &Place,
 ) -> Result<String, Refusal>
-    requires set_up { IsTrue (is_some config.now.info) }
+    requires set_up { IsTrue (is_some config.now.setup) }
     requires place { IsPlace place.now }
-    ensures { Tells string_bytes (shown (module_in config.now.info) config.now.preserving place.now.body.now place.now.block) result }
+    ensures { Tells string_bytes (shown (module_in (info_of config.now)) config.now.preserving
+        place.now.body.now place.now.block) result }
 {
     let graph = graph_of(alloc, config, place)?;
     faults_are_found();

@@ -34,8 +34,7 @@ fn build(
     expr: &RecExpr<Lang>,
     graph: &MiniDFG,
 ) -> Result<Written, Error>
-    requires set_up { IsTrue (is_some config.old.info) }
-    requires generator { IsTrue (is_some config.old.generator) }
+    requires set_up { IsTrue (is_some config.old.setup) }
     requires place { IsPlace place.now }
     requires some { 0 < length expr.now }
     requires writable { AreWritable expr.now }
@@ -72,8 +71,7 @@ fn build_with(
     nodes: &RecExpr<Lang>,
     graph: &MiniDFG,
 ) -> Result<Written, Error>
-    requires set_up { IsTrue (is_some config.old.info) }
-    requires generator { IsTrue (is_some config.old.generator) }
+    requires set_up { IsTrue (is_some config.old.setup) }
     requires place { IsPlace place.now }
     requires writable { AreWritable nodes.now }
     requires graph { IsGraphAt config.old place.now graph.now }
@@ -100,8 +98,7 @@ pub fn write_body(
     place: &Place,
     nodes: &RecExpr<Lang>,
 ) -> Result<Written, Refusal>
-    requires set_up { IsTrue (is_some config.old.info) }
-    requires generator { IsTrue (is_some config.old.generator) }
+    requires set_up { IsTrue (is_some config.old.setup) }
     requires place { IsPlace place.now }
     requires writable { AreWritable nodes.now }
     ensures { Tells (λ w. output w.body w.requests.items) (written (setting_in config.old) config.old.preserving

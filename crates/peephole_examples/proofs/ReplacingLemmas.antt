@@ -1,10 +1,11 @@
 -- A new body is what the writer says of it, with the block and the graph that it was written from.
-use Rattle.std.specs.Prelude.{◌≡◌, ℕ, List, [], ◌++◌, length, slice_range, Bool, Option, Some, None, IfSome, option_map, option_and_then}
+use Rattle.std.specs.Prelude.{◌≡◌, ℕ, List, [], ◌++◌, length, slice_range, Bool, Option, Some, None, IfSome, option_map}
 use Rattle.std.proofs.Common.{◌∙◌, ap, subst, sym, arith}
 use Rattle.std.proofs.lemmas.Grind.{common_steps}
 use Rattle.wasm_code.specs.Body.{SpellsBody}
 use Rattle.rand_core.specs.Stream.{Stream}
 use Rattle.wasm_code.specs.declared.operator.Operator.{Operator}
+use Rattle.mutate_base.specs.Config.{Setup}
 use Rattle.mutate_base.specs.Module.{Module}
 use Rattle.peephole_lang.specs.declared.lang.Head.{Head}
 use Rattle.peephole_lang.specs.Term.{Term}
@@ -18,26 +19,28 @@ use Rattle.peephole_terms.specs.SameRun.{AppendsSameRun}
 use Rattle.peephole_examples.specs.Replacing.{IsPoint, IsReplaced}
 
 -- a configuration's module and generator, as the setting that they make
-abbrev set_up : {R : Type 0} → (R → Stream) → Option Module → Option R → Option Setting
-set_up stream info generator = option_and_then (λ info. option_map (λ generator. record { info = info; stream = stream generator }) generator) info
+abbrev set_up : {R : Type 0} → (R → Stream) → Option (Setup Module R) → Option Setting
+set_up stream setup = option_map (λ s. record { info = s.info; stream = stream s.generator }) setup
 
-pub replaced_is : {R : Type 0} (stream : R → Stream) (info : Option Module) (generator : Option R) (preserving : Bool) (bytes : List ℕ) (point : ℕ)
+abbrev info_in : {R : Type 0} → Option (Setup Module R) → Option Module
+info_in setup = option_map (λ s. s.info) setup
+
+pub replaced_is : {R : Type 0} (stream : R → Stream) (setup : Option (Setup Module R)) (preserving : Bool) (bytes : List ℕ) (point : ℕ)
     (operators : List (Operator × ℕ)) (block : BlockRange) (entries : List StackEntry) (parents : List (Option ℕ)) (look : ℕ → Option ℕ)
     (t : Term Head) (old body : List ℕ) (requests : List ResourceRequest) → old ≡ [] →
     IsPoint bytes point operators block →
-    IfSome info (λ info. IsGraphOf info preserving block.start (slice_range operators block.start block.end) entries parents look) →
-    IfSome (set_up stream info generator) (λ s. AppendsSameRun s bytes operators block point entries look t old body) →
-    IfSome info (λ info. requests ≡ term_requests info operators block point t) →
-    IfSome (set_up stream info generator) (λ s. IsReplaced s preserving bytes point t body requests)
-replaced_is stream None generator preserving bytes point operators block entries parents look t old body requests e at g w r = w
-replaced_is stream (Some info) None preserving bytes point operators block entries parents look t old body requests e at g w r = w
-replaced_is stream (Some info) (Some generator) preserving bytes point operators block entries parents look t old body requests e at g w r = record {
+    IfSome (info_in setup) (λ info. IsGraphOf info preserving block.start (slice_range operators block.start block.end) entries parents look) →
+    IfSome (set_up stream setup) (λ s. AppendsSameRun s bytes operators block point entries look t old body) →
+    IfSome (info_in setup) (λ info. requests ≡ term_requests info operators block point t) →
+    IfSome (set_up stream setup) (λ s. IsReplaced s preserving bytes point t body requests)
+replaced_is stream None preserving bytes point operators block entries parents look t old body requests e at g w r = w
+replaced_is stream (Some s) preserving bytes point operators block entries parents look t old body requests e at g w r = record {
   operators = operators;
   block = block;
   at = at;
   code = w.code;
   expands = w.expands;
-  written = w.appended ∙ ap (λ front. front ++ written_body bytes operators block (written_block info operators block point w.code)) e;
+  written = w.appended ∙ ap (λ front. front ++ written_body bytes operators block (written_block s.info operators block point w.code)) e;
   asks = r;
   entries = entries;
   parents = parents;

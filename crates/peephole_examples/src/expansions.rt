@@ -20,7 +20,7 @@ pub fn is_expansion(
     term: &RecExpr<Lang>,
     wanted: Result<&[u8], Error>,
 ) -> Result<Outcome, Error>
-    requires set_up { IsTrue (is_some config.old.info) }
+    requires set_up { IsTrue (is_some config.old.setup) }
     requires some { 0 < length term.now }
     requires writable { All (λ l. IsTrue (is_writable (payload_of l))) term.now }
 {

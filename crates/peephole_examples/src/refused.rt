@@ -291,7 +291,7 @@ fn lacks_writing(
 
 /// Ends the test where the configuration isn't that of a module with two globals of type i32.
 fn is_config(rt: &impl Abort, config: &WasmMutate<Words>, bytes: &[u8])
-    requires { IsTrue (is_some config.now.info) }
+    requires { IsTrue (is_some config.now.setup) }
 {
     assert!(rt; !config.preserves_semantics());
     assert!(rt; config.info().get_global_count() == 2 && config.info().input_wasm == bytes);
@@ -327,7 +327,7 @@ fn lacks_body(
     operators: &[OperatorAndByteOffset],
     config: &mut WasmMutate<Words>,
 ) -> Result<bool, Error>
-    requires set_up { IsTrue (is_some config.old.info) }
+    requires set_up { IsTrue (is_some config.old.setup) }
     requires body { IsBodyIn sample.now.bytes.now operators.now }
 {
     let mut builder = DFGBuilder::new(config);

@@ -1,6 +1,7 @@
 //! The whole way from a body's bytes to those of the new body: which call follows which, and how the conditions of each are met.
 
 ghost use Rattle.std.specs.Prelude.{◌≡◌, ◌<◌, All, IfOk, IfNone, IfSome, IsTrue, is_some, length};
+ghost use Rattle.mutate_base.specs.Config.{info_of};
 ghost use Rattle.peephole_lang.specs.Lang.{payload_of};
 ghost use Rattle.peephole_lang.specs.Node.{head_of, children_of};
 ghost use Rattle.peephole_lang.specs.Term.{term_of};
@@ -65,7 +66,7 @@ pub fn replace<R: Rng + Drop>(
     point: usize,
     term: &RecExpr<Lang>,
 ) -> Result<Option<Replaced>, ReplaceError>
-    requires set_up { IsTrue (is_some config.old.info) }
+    requires set_up { IsTrue (is_some config.old.setup) }
     requires some { 0 < length term.now }
     requires writable { All (λ l. IsTrue (is_writable (payload_of l))) term.now }
     // The new body is the old one with the term in it, and its block runs as before where the term evaluates as the tree.
@@ -74,9 +75,10 @@ pub fn replace<R: Rng + Drop>(
         new.body new.requests.items))) }
     // None only where nothing is there to be replaced.
     ensures none { IfOk result (λ answer. IfNone answer (
-        HasNothingToReplace config.old.info config.old.preserving bytes.now point)) }
+        HasNothingToReplace (info_of config.old) config.old.preserving bytes.now point)) }
     // Of the configuration the generator alone changes.
-    ensures unchanged { (config.new.preserving ≡ config.old.preserving) × (config.new.info ≡ config.old.info) }
+    ensures unchanged { (config.new.preserving ≡ config.old.preserving)
+        × (info_of config.new ≡ info_of config.old) }
 {
     let operators = read_body(alloc, bytes, 0, bytes.len())?;
     if point >= operators.len() {

@@ -19,7 +19,7 @@ fn config_with<'a>(
     bytes: &'a [u8],
     globals: &[PrimitiveTypeInfo],
 ) -> Result<WasmMutate<'a, Words>, AllocError>
-    ensures { IfOk result (λ config. IsTrue (is_some config.info)) }
+    ensures { IfOk result (λ config. IsTrue (is_some config.setup)) }
 {
     let mut info = ModuleInfo::new(alloc, bytes);
     info.global_types.extend_from_slice(globals)?;

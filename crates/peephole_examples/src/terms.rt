@@ -78,7 +78,7 @@ pub fn config_of<'a>(
     bytes: &'a [u8],
     words: &[u64],
 ) -> Result<WasmMutate<'a, Words>, AllocError>
-    ensures { IfOk result (λ config. IsTrue (is_some config.info)) }
+    ensures { IfOk result (λ config. IsTrue (is_some config.setup)) }
 {
     let mut info = ModuleInfo::new(alloc, bytes);
     info.global_types.push(PrimitiveTypeInfo::I32)?;
@@ -139,7 +139,7 @@ pub fn outcome_of(
     sink: &Function,
     wanted: Result<&[u8], Error>,
 ) -> Result<Outcome, Error>
-    requires { IsTrue (is_some config.old.info) }
+    requires { IsTrue (is_some config.old.setup) }
 {
     let requests = is_answer(rt, alloc, answer, sink, wanted)?;
     let next_word = config.rng().next_u64();

@@ -80,7 +80,7 @@ pub fn is_block(
     lines: &[&str],
     wanted: Result<&[u8], Error>,
 ) -> Result<Outcome, Error>
-    requires set_up { IsTrue (is_some config.old.info) }
+    requires set_up { IsTrue (is_some config.old.setup) }
     requires body { IsBodyIn place.now.bytes.now operators.now }
 {
     let mut builder = DFGBuilder::new(config);

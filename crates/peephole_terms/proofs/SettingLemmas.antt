@@ -1,6 +1,6 @@
 -- What is written under a configuration that is set up.
-use Rattle.std.proofs.Common.{◌≡◌, ℕ, Bool, true, false, cond, List, [], ◌++◌, length, map, Option, Some, Result, Ok, sym, ap, ap₂, subst, ◌∙◌, append_assoc}
-use Rattle.std.specs.Prelude.{IfSome, option_map, option_and_then, slice_range}
+use Rattle.std.proofs.Common.{◌≡◌, refl, ℕ, Bool, true, false, cond, List, [], ◌++◌, length, map, Option, Some, None, Result, Ok, sym, ap, ap₂, subst, ◌∙◌, append_assoc}
+use Rattle.std.specs.Prelude.{IfSome, option_map, slice_range}
 use Rattle.rand_core.specs.Stream.{Stream}
 use Rattle.wasm_code.specs.Code.{codes}
 use Rattle.wasm_code.specs.declared.operator.Operator.{Operator}

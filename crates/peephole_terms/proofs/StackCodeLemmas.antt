@@ -7,6 +7,7 @@ use Rattle.rand_core.specs.Stream.{Stream}
 use Rattle.wasm_code.specs.Instruction.{Instruction}
 use Rattle.mutate_base.specs.declared.types.PrimitiveTypeInfo.{PrimitiveTypeInfo}
 use Rattle.mutate_base.specs.Config.{Config}
+use Rattle.mutate_base.specs.Module.{Module}
 use Rattle.mutate_base.specs.declared.error.Error.{Error}
 use Rattle.mutate_base.specs.declared.error.Error.TheVariants.{GlobalIndex}
 use Rattle.peephole_lang.specs.declared.lang.Head.{Head}

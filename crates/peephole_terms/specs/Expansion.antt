@@ -1,5 +1,5 @@
 -- The expansion of a term: the instructions that it is written as, the words that are drawn for them, and the globals that they ask for. This project's rule.
-use Rattle.std.specs.Prelude.{◌≡◌, ℕ, ℤ, ◌+◌, ◌%◌, ◌^◌, nat_le, List, [], ◌∷◌, ◌++◌, length, drop, Option, Some, None, option_map, option_and_then, Result, Ok, Err, true, false, if◌then◌else◌, ⊤}
+use Rattle.std.specs.Prelude.{◌≡◌, ℕ, ℤ, ◌+◌, ◌%◌, ◌^◌, nat_le, List, [], ◌∷◌, ◌++◌, length, drop, Option, Some, None, option_map, Result, Ok, Err, true, false, if◌then◌else◌, ⊤}
 use Rattle.std.specs.Int.{w32, w64, cast_signed, int_wrapping_sub}
 use Rattle.rand_core.specs.Stream.{Stream, next_u32, next_u64}
 use Rattle.wasm_code.specs.Instruction.{Instruction}

@@ -2,6 +2,7 @@
 
 ghost use Rattle.std.specs.Prelude.{◌≡◌, ◌≢◌, ◌<◌, ◌++◌, ◌↔◌, List, ℕ, Ok, Some, All, true, length, take, slice_range, IfOk, IfErr, OnOk, OnErr, IfSome, IsTrue, is_some, Err};
 ghost use Rattle.wasm_code.specs.Instruction.{Instruction};
+ghost use Rattle.mutate_base.specs.Config.{info_of};
 ghost use Rattle.peephole_lang.specs.Lang.{payload_of};
 ghost use Rattle.peephole_lang.specs.Node.{head_of, children_of};
 ghost use Rattle.peephole_nodes.specs.Payload.{is_writable};
@@ -220,8 +221,10 @@ impl Encoder {
         requires writable { All (λ l. IsTrue (is_writable (payload_of l))) expr.now }
         requires body { IsBodyIn input_wasm.now operators.now }
         requires block { IsBlockIn operators.now basicblock.now }
-        requires graph { IfSome (info_of config.old) (λ info. IsGraphOf info config.old.preserving basicblock.now.start
-            (slice_range operators.now basicblock.now.start basicblock.now.end) (entries_of dfg.now) (parents_of dfg.now) (look_of dfg.now)) }
+        requires graph { IfSome (info_of config.old) (λ info.
+            IsGraphOf info config.old.preserving basicblock.now.start
+            (slice_range operators.now basicblock.now.start basicblock.now.end)
+            (entries_of dfg.now) (parents_of dfg.now) (look_of dfg.now)) }
         // The bytes outside the block, and between them its forest with the term.
         ensures written { IfOk result (λ _. IfSome (setting_of R.stream config.old) (λ setting.
             AppendsBody setting input_wasm.now operators.now basicblock.now insertion_point
@@ -233,7 +236,8 @@ impl Encoder {
             × ReadsAgain operators.now basicblock.now (written_block setting.info operators.now basicblock.now insertion_point code) text)) }
         // Where the term changes no tree, the block is read again with the same trees, is in order, and is written again the same.
         ensures reread { IfOk result (λ _. IfSome (info_of config.old) (λ info.
-            KeepsTheTrees info operators.now basicblock.now insertion_point (entries_of dfg.now) (look_of dfg.now) (term_of head_of children_of expr.now)
+            KeepsTheTrees info operators.now basicblock.now insertion_point
+            (entries_of dfg.now) (look_of dfg.now) (term_of head_of children_of expr.now)
             → (text : List ℕ) × (newfunc.new ≡ newfunc.old ++ text) × IsReread info operators.now basicblock.now text)) }
         // Where the term evaluates as the whole tree that it replaces, a block of integer rows that is in order runs as before.
         ensures same_run { IfOk result (λ _. IfSome (setting_of R.stream config.old) (λ setting.
@@ -241,7 +245,8 @@ impl Encoder {
             (entries_of dfg.now) (look_of dfg.now) (term_of head_of children_of expr.now) newfunc.old newfunc.new)) }
         // What the term asks for, where it is written.
         ensures requests { IfOk result (λ requests. IfSome (info_of config.old) (λ info.
-            requests.items ≡ term_requests info operators.now basicblock.now insertion_point (term_of head_of children_of expr.now))) }
+            requests.items ≡ term_requests info operators.now basicblock.now insertion_point
+            (term_of head_of children_of expr.now))) }
         // The generator stands behind the term's last word, where the term is written, and otherwise where it stood.
         ensures generator { IfOk result (λ _. IfSome (setting_of R.stream config.old) (λ setting. setting_of R.stream config.new
             ≡ Some (after_block_term setting operators.now basicblock.now insertion_point (term_of head_of children_of expr.now)))) }
@@ -254,7 +259,8 @@ impl Encoder {
         // After a refusal the sink holds its old bytes.
         ensures restored { OnErr result (newfunc.new ≡ newfunc.old) }
         // Of the configuration the generator alone changes.
-        ensures unchanged { (config.new.preserving ≡ config.old.preserving) × (info_of config.new ≡ info_of config.old) }
+        ensures unchanged { (config.new.preserving ≡ config.old.preserving)
+            × (info_of config.new ≡ info_of config.old) }
     {
         if config.preserves_semantics() && !dfg.keeps_order() {
             return Err(Error::NoMutationsApplicable);

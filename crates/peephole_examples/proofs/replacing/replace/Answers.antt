@@ -1,5 +1,6 @@
 -- What the writer says, with the body's operators, the block and the graph that it was given.
 use Rattle.std.proofs.Common.{◌∙◌, sym, length, arith}
+use Rattle.mutate_base.specs.Config.{info_of}
 use Rattle.peephole_lang.specs.Node.{head_of, children_of}
 use Rattle.peephole_lang.specs.Term.{term_of}
 use Rattle.peephole_graphs.specs.Dfg.{entries_of, parents_of, look_of}
@@ -12,12 +13,12 @@ build_function-requires-clause-body g c =
 
 pub returns-clause-replaced : goal.returns-clause-replaced
 returns-clause-replaced g c =
-    replaced_is g.R.Rng.stream c.args.config.now.info c.args.config.now.generator c.args.config.now.preserving c.args.bytes.now c.args.point
+    replaced_is g.R.Rng.stream c.args.config.now.setup c.args.config.now.preserving c.args.bytes.now c.args.point
     c.deref-3.result.now c.in-Some.block (entries_of c.in-Some-2.graph) (parents_of c.in-Some-2.graph) (look_of c.in-Some-2.graph)
     (term_of head_of children_of c.args.term.now) c.new-body.result c.build_function.new.newfunc c.in_ok-requests.requests.items c.new-body.ensures
     (point_is c.args.bytes.now c.args.point c.deref-3.result.now c.in_ok-operators.operators.items c.deref.result.now c.in-Some.block
     c.in_ok-operators.ensures.found c.deref-3.ensures.value c.deref.ensures.value c.in-Some.ensures.block)
-    (graph_is c.args.config.now.info c.info.result.now c.args.config.now.preserving c.new-builder.result.preserving
+    (graph_is (info_of c.args.config.now) c.info.result.now c.args.config.now.preserving c.new-builder.result.preserving
     c.deref-3.result.now c.deref-2.result.now c.in-Some.block
     (entries_of c.in-Some-2.graph) (parents_of c.in-Some-2.graph) (look_of c.in-Some-2.graph)
     c.info.ensures c.new-builder.ensures (c.deref-2.ensures.value ∙ sym c.deref-3.ensures.value) (rw c.in-Some-2.is at c.in_ok-graph.ensures.graph))

@@ -1,5 +1,7 @@
 use Rattle.std.proofs.Common.{ap, refl, sym, Ok, Err, ◌∙◌, Some}
 use Rattle.std.proofs.lemmas.Bool.{false≢true}
+use Rattle.mutate_base.specs.Config.{info_of, with_generator}
+use Rattle.mutate_base.specs.ConfigLemmas.{info_of-with_generator, generator_of-with_generator, is_some-info_of}
 use Rattle.peephole_lang.specs.Node.{head_of, children_of}
 use Rattle.peephole_lang.specs.Term.{term_of}
 use Rattle.peephole_graphs.specs.Dfg.{entries_of, parents_of, look_of}
@@ -16,7 +18,7 @@ outside-requires g c = inside _ _ _ c.requires.body c.requires.block
 
 pub write_body-requires-clause-walkable : goal.write_body-requires-clause-walkable
 write_body-requires-clause-walkable g c =
-    walkable_under (info_of c.args.config.now) _ _ _ (entries_of c.args.dfg.now) (parents_of c.args.dfg.now) (look_of c.args.dfg.now) c.requires.set_up c.requires.graph
+    walkable_under (info_of c.args.config.now) _ _ _ (entries_of c.args.dfg.now) (parents_of c.args.dfg.now) (look_of c.args.dfg.now) (is_some-info_of c.args.config.now ∙ c.requires.set_up) c.requires.graph
 
 pub returns-in-Ok-clause-written : goal.returns-in-Ok-clause-written
 returns-in-Ok-clause-written g c =
@@ -51,8 +53,8 @@ returns-in-Ok-clause-requests g c =
 pub returns-in-Ok-clause-generator : goal.returns-in-Ok-clause-generator
 returns-in-Ok-clause-generator g c =
     let w = c.in-Ok.ensures.ok in
-    body_leaves g.R.Rng.stream c.args.config.now (record { preserving = c.args.config.now.preserving; info = (info_of c.args.config.now); generator = Some c.write_body.new.rng }) c.info.result.now c.rng-rng.result.now c.write_body.new.rng c.get_global_count-globals.result c.args.operators.now c.args.basicblock.now c.args.insertion_point (entries_of c.args.dfg.now) (entries_of c.args.dfg.now) (parents_of c.args.dfg.now) (parents_of c.args.dfg.now) (look_of c.args.dfg.now) (term_of head_of children_of c.args.expr.now) (term_of head_of children_of c.as_ref.result.now) _ w.0 _ _
-    (record { info_is = c.info.ensures; generator_is = c.rng-rng.ensures.value; count_is = c.get_global_count-globals.ensures }) refl refl (record { graph = c.requires.graph; entries_are = refl; parents_are = refl; term_is = ap (term_of head_of children_of) c.as_ref.ensures.nodes }) c.new-requests.ensures.items w.2
+    body_leaves g.R.Rng.stream c.args.config.now (with_generator c.write_body.new.rng c.args.config.now) c.info.result.now c.rng-rng.result.now c.write_body.new.rng c.get_global_count-globals.result c.args.operators.now c.args.basicblock.now c.args.insertion_point (entries_of c.args.dfg.now) (entries_of c.args.dfg.now) (parents_of c.args.dfg.now) (parents_of c.args.dfg.now) (look_of c.args.dfg.now) (term_of head_of children_of c.args.expr.now) (term_of head_of children_of c.as_ref.result.now) _ w.0 _ _
+    (record { info_is = c.info.ensures; generator_is = c.rng-rng.ensures.value; count_is = c.get_global_count-globals.ensures }) (info_of-with_generator c.write_body.new.rng c.args.config.now) (generator_of-with_generator c.write_body.new.rng c.args.config.now c.requires.set_up) (record { graph = c.requires.graph; entries_are = refl; parents_are = refl; term_is = ap (term_of head_of children_of) c.as_ref.ensures.nodes }) c.new-requests.ensures.items w.2
 
 pub returns-in-Err-clause-refusal : goal.returns-in-Err-clause-refusal
 returns-in-Err-clause-refusal g c other =
@@ -76,3 +78,9 @@ returns-in-Err-clause-order g c =
       | else-preserves_semantics-via-else-preserves_semantics w ↦ absurd (false≢true (sym w.if-preserves_semantics.false ∙ (c.preserves_semantics.ensures ∙ keeping)))
     ])
     (not_for_order c.in-Err.refusal _ c.in-Err.ensures.err)
+
+pub returns-in-Ok-clause-unchanged : goal.returns-in-Ok-clause-unchanged
+returns-in-Ok-clause-unchanged g c = (refl, info_of-with_generator c.write_body.new.rng c.args.config.now)
+
+pub returns-in-Err-clause-unchanged : goal.returns-in-Err-clause-unchanged
+returns-in-Err-clause-unchanged g c = (refl, info_of-with_generator c.write_body.new.rng c.args.config.now)

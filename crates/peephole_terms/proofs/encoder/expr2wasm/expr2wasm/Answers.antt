@@ -1,4 +1,6 @@
 use Rattle.std.proofs.Common.{ap, refl, Some, ◌∙◌, ℕ, take}
+use Rattle.mutate_base.specs.Config.{with_generator}
+use Rattle.mutate_base.specs.ConfigLemmas.{info_of-with_generator, generator_of-with_generator}
 use Rattle.peephole_lang.specs.Node.{head_of, children_of}
 use Rattle.peephole_lang.specs.Term.{term_of}
 use Rattle.peephole_terms.proofs.SettingLemmas.{term_written, term_asked, term_leaves, term_refused}
@@ -20,8 +22,8 @@ returns-in-Ok-clause-requests g c =
 
 pub returns-in-Ok-clause-generator : goal.returns-in-Ok-clause-generator
 returns-in-Ok-clause-generator g c =
-    term_leaves g.R.Rng.stream c.args.config.now (record { preserving = c.args.config.now.preserving; info = (info_of c.args.config.now); generator = Some c.write_tree.new.rng }) c.info.result.now c.rng-rng.result.now c.write_tree.new.rng c.get_global_count-globals.result (term_of head_of children_of c.args.expr.now) (term_of head_of children_of c.as_ref-nodes.result.now) _ _ _ _
-    (record { info_is = c.info.ensures; generator_is = c.rng-rng.ensures.value; count_is = c.get_global_count-globals.ensures }) refl refl (ap (term_of head_of children_of) c.as_ref-nodes.ensures.nodes) c.new-requests.ensures.items c.in-Ok.ensures.ok
+    term_leaves g.R.Rng.stream c.args.config.now (with_generator c.write_tree.new.rng c.args.config.now) c.info.result.now c.rng-rng.result.now c.write_tree.new.rng c.get_global_count-globals.result (term_of head_of children_of c.args.expr.now) (term_of head_of children_of c.as_ref-nodes.result.now) _ _ _ _
+    (record { info_is = c.info.ensures; generator_is = c.rng-rng.ensures.value; count_is = c.get_global_count-globals.ensures }) (info_of-with_generator c.write_tree.new.rng c.args.config.now) (generator_of-with_generator c.write_tree.new.rng c.args.config.now c.requires.set_up) (ap (term_of head_of children_of) c.as_ref-nodes.ensures.nodes) c.new-requests.ensures.items c.in-Ok.ensures.ok
 
 pub returns-in-Err-clause-refusal : goal.returns-in-Err-clause-refusal
 returns-in-Err-clause-refusal g c =
@@ -30,3 +32,9 @@ returns-in-Err-clause-refusal g c =
 
 pub returns-in-Err-clause-restored : goal.returns-in-Err-clause-restored
 returns-in-Err-clause-restored g c = c.truncate.ensures ∙ (ap (λ (n : ℕ). take n c.write_tree.new.newfunc) c.len-old_len.ensures ∙ c.write_tree.ensures.kept)
+
+pub returns-in-Ok-clause-unchanged : goal.returns-in-Ok-clause-unchanged
+returns-in-Ok-clause-unchanged g c = (refl, info_of-with_generator c.write_tree.new.rng c.args.config.now)
+
+pub returns-in-Err-clause-unchanged : goal.returns-in-Err-clause-unchanged
+returns-in-Err-clause-unchanged g c = (refl, info_of-with_generator c.write_tree.new.rng c.args.config.now)
