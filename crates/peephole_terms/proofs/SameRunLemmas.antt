@@ -10,7 +10,7 @@ use Rattle.wasm_code.specs.Instruction.{Instruction}
 use Rattle.wasm_code.specs.Table.{info_of}
 use Rattle.wasm_code.specs.declared.operator.Operator.{Operator}
 use Rattle.wasm_code.specs.declared.operator.Operator.TheVariants.{Instr}
-use Rattle.mutate_base.specs.Config.{Config, info_of}
+use Rattle.mutate_base.specs.Config.{Config, info_of as info_in}
 use Rattle.mutate_base.specs.Module.{Module}
 use Rattle.mutate_base.specs.declared.types.PrimitiveTypeInfo.{PrimitiveTypeInfo}
 use Rattle.peephole_lang.specs.declared.lang.Head.{Head}
@@ -298,7 +298,7 @@ BodyRuns input operators block at entries look t old new s = AppendsSameRun s in
 pub body_runs : {R : Type 0} (stream : R → Stream) (config : Config Module R) (info : Module) (generator : R) (count : ℕ) (input : List ℕ)
     (operators : List (Operator × ℕ)) (block : BlockRange) (at : ℕ)
     (entries es : List StackEntry) (parents ps : List (Option ℕ)) (look : ℕ → Option ℕ) (t read : Term Head) (old new : List ℕ) →
-    IsUnder config info generator count → IsRow (info_of config) config.preserving operators block entries es parents ps look t read →
+    IsUnder config info generator count → IsRow (info_in config) config.preserving operators block entries es parents ps look t read →
     IfSome (setting_of stream config) (AppendsBody input operators block at t old new) →
     IfSome (setting_of stream config) (BodyRuns input operators block at entries look t old new)
 body_runs stream config info generator count input operators block at entries es parents ps look t read old new u r w =

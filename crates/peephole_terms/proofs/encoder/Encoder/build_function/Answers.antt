@@ -1,4 +1,4 @@
-use Rattle.std.proofs.Common.{ap, refl, sym, Ok, Err, ◌∙◌, Some}
+use Rattle.std.proofs.Common.{ap, refl, sym, Ok, Err, ◌∙◌}
 use Rattle.std.proofs.lemmas.Bool.{false≢true}
 use Rattle.mutate_base.specs.Config.{info_of, with_generator}
 use Rattle.mutate_base.specs.ConfigLemmas.{info_of-with_generator, generator_of-with_generator, is_some-info_of}
