@@ -17,12 +17,11 @@ use Rattle.peephole_lang.specs.MadeLemmas.{fits_made}
 use Rattle.peephole_nodes.specs.VariantLemmas.{has_variant}
 use Rattle.peephole_lang.specs.Making.{is_made}
 use Rattle.peephole_lang.specs.Node.{instr_of, takes, takes_children}
-use Rattle.peephole_nodes.specs.Variants.{is_right, is_node_of, fits}
 use Rattle.peephole_nodes.specs.Payload.{imm_of, payload_of_imm, is_of, is_writable}
 use Rattle.peephole_nodes.specs.PayloadKind.{imm_kind}
 use Rattle.peephole_nodes.specs.PayloadLemmas.{imm_fits, of_imm_back, of_imm_some}
 use Rattle.peephole_lang.specs.TableLemmas.{place_is}
-use Rattle.peephole_nodes.specs.Variants.{Variant, variant_at}
+use Rattle.peephole_nodes.specs.Variants.{Variant, variant_at, is_right, is_node_of, fits}
 use Rattle.std.specs.Option.{option_map}
 use Rattle.peephole_lang.proofs.RowLemmas.{IsOfRow, has_row}
 use Rattle.peephole_lang.proofs.RowLemmas.{has_variant as has_variant_of_row}

@@ -9,9 +9,8 @@ use Rattle.wasm_code.specs.Table.{table, row_at}
 use Rattle.peephole_nodes.specs.declared.arity.Arity.{Arity}
 use Rattle.peephole_nodes.specs.declared.arity.Arity.TheVariants as arity
 use Rattle.peephole_lang.specs.Node.{is_count}
-use Rattle.peephole_nodes.specs.Variants.{is_right}
 use Rattle.peephole_nodes.specs.PayloadKind.{imm_kind}
-use Rattle.peephole_nodes.specs.Variants.{Variant, variants, variant_at}
+use Rattle.peephole_nodes.specs.Variants.{Variant, variants, variant_at, is_right}
 
 -- the number of operands of a row whose node has so many children
 operands_of : Arity → Option ℕ

@@ -11,13 +11,12 @@ use Rattle.peephole_lang.specs.Entries.{entry_of, found}
 use Rattle.peephole_lang.specs.MadeLemmas.{fits_variant, fits_made}
 use Rattle.peephole_lang.specs.Making.{is_made}
 use Rattle.peephole_lang.specs.Names.{find_in}
-use Rattle.peephole_nodes.specs.Variants.{is_right}
 use Rattle.peephole_nodes.specs.PayloadLemmas.{read_is_of}
 use Rattle.peephole_nodes.specs.PayloadText.{read_payload}
 use Rattle.peephole_lang.specs.TableLemmas.{place_is}
 use Rattle.peephole_lang.specs.Text.{wrong_count, judged}
 use Rattle.peephole_lang.specs.VariantLemmas.{found_is}
-use Rattle.peephole_nodes.specs.Variants.{Variant, variants}
+use Rattle.peephole_nodes.specs.Variants.{Variant, variants, is_right}
 
 -- what an entry of the table reads
 abbrev pub entry_reads : Entry → List ℕ → ℕ → Result Payload TermError

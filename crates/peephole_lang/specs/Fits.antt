@@ -4,10 +4,9 @@ use Rattle.std.specs.Prelude.{◌≡◌, true, refl}
 use Rattle.peephole_lang.specs.declared.lang.Lang.{Lang}
 use Rattle.peephole_lang.specs.declared.lang.Lang.TheVariants.{RandI32, RandI64, RandF32, RandF64, Undef, UnfoldI32, UnfoldI64, I32UseGlobal, I64UseGlobal, F32UseGlobal, F64UseGlobal, Container, Nop, Call, Drop, Select, LocalGet, LocalSet, LocalTee, GlobalGet, GlobalSet, TableGet, TableSet, I32Load, I64Load, F32Load, F64Load, I32Load8S, I32Load8U, I32Load16S, I32Load16U, I64Load8S, I64Load8U, I64Load16S, I64Load16U, I64Load32S, I64Load32U, I32Store, I64Store, F32Store, F64Store, I32Store8, I32Store16, I64Store8, I64Store16, I64Store32, MemorySize, MemoryGrow, I32, I64, F32, F64, RefNull, RefIsNull, RefFunc, MemoryInit, DataDrop, MemoryCopy, MemoryFill, TableInit, ElemDrop, TableCopy, TableGrow, TableSize, TableFill, TypedSelect, Numeric, Simd}
 use Rattle.peephole_lang.specs.Lang.{place_of, payload_of, count_of}
-use Rattle.peephole_nodes.specs.Variants.{fits}
 use Rattle.peephole_nodes.specs.NumericFits.{numeric_fits}
 use Rattle.peephole_nodes.specs.SimdFits.{simd_fits}
-use Rattle.peephole_nodes.specs.Variants.{variants}
+use Rattle.peephole_nodes.specs.Variants.{variants, fits}
 
 pub fits_own : (l : Lang) → fits (place_of l) (payload_of l) (count_of l) ≡ true
 unfolding place_of payload_of count_of variants

@@ -16,10 +16,9 @@ use Rattle.peephole_nodes.specs.NumericShapes.{is_numeric_plain_one_a, is_numeri
 use Rattle.peephole_nodes.specs.SimdShapes.{is_simd_memory_one, is_simd_memory_two, is_simd_v128_leaf, is_simd_shuffle_two, is_simd_plain_one_a, is_simd_plain_one_b, is_simd_plain_two_a, is_simd_plain_two_b, is_simd_plain_two_c, is_simd_plain_two_d, is_simd_plain_three, is_simd_lane_one, is_simd_lane_two, is_simd_memory_lane_two}
 use Rattle.peephole_nodes.specs.Payload.{is_of}
 use Rattle.peephole_lang.specs.Making.{is_made}
-use Rattle.peephole_nodes.specs.Variants.{is_right, is_node_of, fits}
 use Rattle.peephole_lang.specs.TableLemmas.{place_is}
 use Rattle.peephole_nodes.specs.VariantLemmas.{HasVariant, has_variant}
-use Rattle.peephole_nodes.specs.Variants.{Variant, variants, variant_at}
+use Rattle.peephole_nodes.specs.Variants.{Variant, variants, variant_at, is_right, is_node_of, fits}
 
 -- ---- what a test says of each row of a list, it says of one
 

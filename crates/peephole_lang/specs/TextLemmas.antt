@@ -15,7 +15,6 @@ use Rattle.peephole_lang.specs.Lang.{place_of, payload_of, ids_of, count_of}
 use Rattle.peephole_nodes.specs.VariantLemmas.{has_variant, fitting_text}
 use Rattle.peephole_lang.specs.Names.{after, behind_name}
 use Rattle.peephole_lang.specs.Node.{head_of, IsNode}
-use Rattle.peephole_nodes.specs.Variants.{is_right}
 use Rattle.peephole_nodes.specs.Payload.{is_of}
 use Rattle.peephole_nodes.specs.PayloadLemmas.{payload_back}
 use Rattle.peephole_nodes.specs.PayloadText.{inner_text, payload_text, read_payload}
@@ -23,7 +22,7 @@ use Rattle.peephole_lang.specs.Text.{text_of, wrong_count, judged, with_place, r
 use Rattle.peephole_nodes.specs.Text.{name_in}
 use Rattle.peephole_lang.specs.TableLemmas.{place_is}
 use Rattle.peephole_lang.specs.VariantLemmas.{found_at}
-use Rattle.peephole_nodes.specs.Variants.{Variant}
+use Rattle.peephole_nodes.specs.Variants.{Variant, is_right}
 
 -- ---- writing
 

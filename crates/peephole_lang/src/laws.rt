@@ -5,7 +5,6 @@ ghost use Rattle.wasm_code.specs.Instruction.{Instruction};
 ghost use Rattle.peephole_nodes.specs.contracts.payload.PayloadPartialEq.TheImpl as payload_eq;
 ghost use Rattle.peephole_nodes.specs.declared.payload.Payload.{Payload};
 ghost use Rattle.peephole_lang.specs.Names.{after, behind_name};
-ghost use Rattle.peephole_nodes.specs.Variants.{Variant, variants};
 ghost use Rattle.std.specs.Bool.{Decides};
 ghost use Rattle.peephole_lang.specs.Lang.{place_of, payload_of, ids_of};
 ghost use Rattle.peephole_nodes.specs.declared.id.Id.{Id};
@@ -18,7 +17,7 @@ ghost use Rattle.peephole_lang.specs.Compared.{lang_eq};
 ghost use Rattle.peephole_lang.specs.Equal.{IsEqual};
 ghost use Rattle.peephole_lang.specs.Language.{IsSame};
 ghost use Rattle.peephole_lang.specs.Node.{IsNode, head_of, instr_of, takes_children};
-ghost use Rattle.peephole_nodes.specs.Variants.{fits};
+ghost use Rattle.peephole_nodes.specs.Variants.{fits, Variant, variants};
 ghost use Rattle.peephole_lang.specs.Text.{text_of, reads};
 
 use crate::language::Language;
