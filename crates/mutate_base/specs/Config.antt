@@ -1,5 +1,5 @@
 -- What a configuration holds: whether the meaning is preserved, and, once it is set up, the module and the generator (this project).
-use Rattle.std.specs.Prelude.{Bool, Option, option_map}
+use Rattle.std.specs.Prelude.{◌≡◌, Bool, Option, option_map, is_some}
 
 -- what a configuration is set up with: what is known of the module, and the generator that random constants are drawn from
 pub record Setup (M R : Type 0) : Type 0 where
@@ -25,3 +25,8 @@ redrawn w s = record s { generator = w }
 -- the configuration with this generator in the place of its own, once it is set up
 abbrev pub with_generator : {M R : Type 0} → R → Config M R → Config M R
 with_generator w config = record config { setup = option_map (redrawn w) config.setup }
+
+-- of the configuration the generator alone changes
+abbrev pub ChangesGeneratorAlone : {M R : Type 0} → (old new : Config M R) → Type 0
+ChangesGeneratorAlone old new =
+    (new.preserving ≡ old.preserving) × ((info_of new ≡ info_of old) × (is_some new.setup ≡ is_some old.setup))

@@ -1,8 +1,8 @@
 -- What a configuration with another generator holds (this project).
-use Rattle.std.proofs.Common.{◌≡◌, Option, Some, None, IsTrue, refl, sym, ap, ◌∙◌}
+use Rattle.std.proofs.Common.{◌≡◌, Option, Some, None, IsTrue, refl}
 use Rattle.std.proofs.lemmas.Bool.{false≢true}
 use Rattle.std.specs.Prelude.{option_map, is_some}
-use Rattle.mutate_base.specs.Config.{Setup, Config, info_of, generator_of, redrawn, with_generator}
+use Rattle.mutate_base.specs.Config.{Setup, Config, info_of, generator_of, redrawn, with_generator, ChangesGeneratorAlone}
 
 -- the module stays as it is
 pub info_of-with_generator : {M R : Type 0} (w : R) (config : Config M R) → info_of (with_generator w config) ≡ info_of config
@@ -29,8 +29,14 @@ is_some-info_of {M} {R} config = go config.setup
     go None = refl
     go (Some s) = refl
 
--- where the module is the same, it is set up as before
-pub set_up_kept : {M R : Type 0} (old new : Config M R) →
-    info_of new ≡ info_of old → IsTrue (is_some old.setup) → IsTrue (is_some new.setup)
-set_up_kept {M} old new same h =
-    sym (is_some-info_of new) ∙ (ap (λ (o : Option M). is_some o) same ∙ (is_some-info_of old ∙ h))
+-- it is set up as before
+pub is_set_up-with_generator : {M R : Type 0} (w : R) (config : Config M R) → is_some (with_generator w config).setup ≡ is_some config.setup
+is_set_up-with_generator {M} {R} w config = go config.setup
+  where
+    go : (o : Option (Setup M R)) → is_some (option_map (redrawn w) o) ≡ is_some o
+    go None = refl
+    go (Some s) = refl
+
+-- nothing else changes
+pub changes_generator_alone : {M R : Type 0} (w : R) (config : Config M R) → ChangesGeneratorAlone config (with_generator w config)
+changes_generator_alone w config = (refl, (info_of-with_generator w config, is_set_up-with_generator w config))

@@ -13,7 +13,6 @@ use std::process::Abort;
 use std::test::Fail;
 
 /// Writes a term behind the bytes AA BB. `wanted` is what stands behind them, or the refusal, after which they stand alone.
-#[tactic(auto, using(mutate_base::specs::ConfigLemmas::set_up_kept))]
 pub fn is_expansion(
     rt: &impl Abort,
     alloc: Global,

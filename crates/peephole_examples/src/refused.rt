@@ -298,7 +298,6 @@ fn is_config(rt: &impl Abort, config: &WasmMutate<Words>, bytes: &[u8])
 }
 
 /// Whether the term alone is refused for memory. But for the generator, what was lent is as it was.
-#[tactic(auto, using(mutate_base::specs::ConfigLemmas::set_up_kept))]
 fn lacks_code(rt: &impl Abort, alloc: Global, sample: &Sample) -> Result<bool, Error> {
     let term = term_of(rt, alloc, sample.term())?;
     assert_writable(rt, &term);
@@ -321,7 +320,6 @@ pub fn codes(rt: &impl Abort, alloc: Global) -> Refused {
 }
 
 /// Whether the body with the term is refused for memory. But for the generator, what was lent is as it was.
-#[tactic(auto, using(mutate_base::specs::ConfigLemmas::set_up_kept))]
 fn lacks_body(
     rt: &impl Abort,
     alloc: Global,

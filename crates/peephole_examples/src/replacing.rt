@@ -1,7 +1,7 @@
 //! The whole way from a body's bytes to those of the new body: which call follows which, and how the conditions of each are met.
 
 ghost use Rattle.std.specs.Prelude.{◌≡◌, ◌<◌, All, IfOk, IfNone, IfSome, IsTrue, is_some, length};
-ghost use Rattle.mutate_base.specs.Config.{info_of};
+ghost use Rattle.mutate_base.specs.Config.{info_of, ChangesGeneratorAlone};
 ghost use Rattle.peephole_lang.specs.Lang.{payload_of};
 ghost use Rattle.peephole_lang.specs.Node.{head_of, children_of};
 ghost use Rattle.peephole_lang.specs.Term.{term_of};
@@ -77,8 +77,7 @@ pub fn replace<R: Rng + Drop>(
     ensures none { IfOk result (λ answer. IfNone answer (
         HasNothingToReplace (info_of config.old) config.old.preserving bytes.now point)) }
     // Of the configuration the generator alone changes.
-    ensures unchanged { (config.new.preserving ≡ config.old.preserving)
-        × (info_of config.new ≡ info_of config.old) }
+    ensures unchanged { ChangesGeneratorAlone config.old config.new }
 {
     let operators = read_body(alloc, bytes, 0, bytes.len())?;
     if point >= operators.len() {

@@ -71,7 +71,6 @@ pub fn term_at(
 
 /// Writes a block behind the bytes AA BB: with the term of some nodes, or with the own tree of the insertion point where
 /// there are no nodes. `wanted` is what stands behind them, or the refusal, after which they stand alone.
-#[tactic(auto, using(mutate_base::specs::ConfigLemmas::set_up_kept))]
 pub fn is_block(
     rt: &impl Abort,
     alloc: Global,

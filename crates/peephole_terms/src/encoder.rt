@@ -2,7 +2,7 @@
 
 ghost use Rattle.std.specs.Prelude.{◌≡◌, ◌≢◌, ◌<◌, ◌++◌, ◌↔◌, List, ℕ, Ok, Some, All, true, length, take, slice_range, IfOk, IfErr, OnOk, OnErr, IfSome, IsTrue, is_some, Err};
 ghost use Rattle.wasm_code.specs.Instruction.{Instruction};
-ghost use Rattle.mutate_base.specs.Config.{info_of};
+ghost use Rattle.mutate_base.specs.Config.{info_of, ChangesGeneratorAlone};
 ghost use Rattle.peephole_lang.specs.Lang.{payload_of};
 ghost use Rattle.peephole_lang.specs.Node.{head_of, children_of};
 ghost use Rattle.peephole_nodes.specs.Payload.{is_writable};
@@ -259,8 +259,7 @@ impl Encoder {
         // After a refusal the sink holds its old bytes.
         ensures restored { OnErr result (newfunc.new ≡ newfunc.old) }
         // Of the configuration the generator alone changes.
-        ensures unchanged { (config.new.preserving ≡ config.old.preserving)
-            × (info_of config.new ≡ info_of config.old) }
+        ensures unchanged { ChangesGeneratorAlone config.old config.new }
     {
         if config.preserves_semantics() && !dfg.keeps_order() {
             return Err(Error::NoMutationsApplicable);

@@ -1,7 +1,7 @@
 //! Terms as instructions.
 
 ghost use Rattle.std.specs.Prelude.{◌≡◌, ◌<◌, Some, All, IfOk, IfErr, IfSome, OnErr, IsTrue, length, map, is_some};
-ghost use Rattle.mutate_base.specs.Config.{info_of};
+ghost use Rattle.mutate_base.specs.Config.{ChangesGeneratorAlone};
 ghost use Rattle.peephole_lang.specs.Lang.{payload_of};
 ghost use Rattle.peephole_lang.specs.Node.{head_of, children_of};
 ghost use Rattle.peephole_nodes.specs.Payload.{is_writable};
@@ -55,8 +55,7 @@ pub fn expr2wasm<R: Rng + Drop>(
     // After a refusal the sink holds its old bytes.
     ensures restored { OnErr result (newfunc.new ≡ newfunc.old) }
     // Of the configuration the generator alone changes.
-    ensures unchanged { (config.new.preserving ≡ config.old.preserving)
-        × (info_of config.new ≡ info_of config.old) }
+    ensures unchanged { ChangesGeneratorAlone config.old config.new }
 {
     let globals = config.info().get_global_count();
     let old_len = newfunc.len();

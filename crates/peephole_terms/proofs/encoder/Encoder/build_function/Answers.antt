@@ -1,7 +1,7 @@
 use Rattle.std.proofs.Common.{ap, refl, sym, Ok, Err, ◌∙◌}
 use Rattle.std.proofs.lemmas.Bool.{false≢true}
 use Rattle.mutate_base.specs.Config.{info_of, with_generator}
-use Rattle.mutate_base.specs.ConfigLemmas.{info_of-with_generator, generator_of-with_generator, is_some-info_of}
+use Rattle.mutate_base.specs.ConfigLemmas.{changes_generator_alone, info_of-with_generator, generator_of-with_generator, is_some-info_of}
 use Rattle.peephole_lang.specs.Node.{head_of, children_of}
 use Rattle.peephole_lang.specs.Term.{term_of}
 use Rattle.peephole_graphs.specs.Dfg.{entries_of, parents_of, look_of}
@@ -80,7 +80,7 @@ returns-in-Err-clause-order g c =
     (not_for_order c.in-Err.refusal _ c.in-Err.ensures.err)
 
 pub returns-in-Ok-clause-unchanged : goal.returns-in-Ok-clause-unchanged
-returns-in-Ok-clause-unchanged g c = (refl, info_of-with_generator c.write_body.new.rng c.args.config.now)
+returns-in-Ok-clause-unchanged g c = changes_generator_alone c.write_body.new.rng c.args.config.now
 
 pub returns-in-Err-clause-unchanged : goal.returns-in-Err-clause-unchanged
-returns-in-Err-clause-unchanged g c = (refl, info_of-with_generator c.write_body.new.rng c.args.config.now)
+returns-in-Err-clause-unchanged g c = changes_generator_alone c.write_body.new.rng c.args.config.now

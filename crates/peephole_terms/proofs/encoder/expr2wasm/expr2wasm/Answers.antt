@@ -1,6 +1,6 @@
 use Rattle.std.proofs.Common.{ap, refl, ◌∙◌, ℕ, take}
 use Rattle.mutate_base.specs.Config.{with_generator}
-use Rattle.mutate_base.specs.ConfigLemmas.{info_of-with_generator, generator_of-with_generator}
+use Rattle.mutate_base.specs.ConfigLemmas.{changes_generator_alone, info_of-with_generator, generator_of-with_generator}
 use Rattle.peephole_lang.specs.Node.{head_of, children_of}
 use Rattle.peephole_lang.specs.Term.{term_of}
 use Rattle.peephole_terms.proofs.SettingLemmas.{term_written, term_asked, term_leaves, term_refused}
@@ -34,7 +34,7 @@ pub returns-in-Err-clause-restored : goal.returns-in-Err-clause-restored
 returns-in-Err-clause-restored g c = c.truncate.ensures ∙ (ap (λ (n : ℕ). take n c.write_tree.new.newfunc) c.len-old_len.ensures ∙ c.write_tree.ensures.kept)
 
 pub returns-in-Ok-clause-unchanged : goal.returns-in-Ok-clause-unchanged
-returns-in-Ok-clause-unchanged g c = (refl, info_of-with_generator c.write_tree.new.rng c.args.config.now)
+returns-in-Ok-clause-unchanged g c = changes_generator_alone c.write_tree.new.rng c.args.config.now
 
 pub returns-in-Err-clause-unchanged : goal.returns-in-Err-clause-unchanged
-returns-in-Err-clause-unchanged g c = (refl, info_of-with_generator c.write_tree.new.rng c.args.config.now)
+returns-in-Err-clause-unchanged g c = changes_generator_alone c.write_tree.new.rng c.args.config.now
