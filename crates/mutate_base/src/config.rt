@@ -69,7 +69,9 @@ impl<M: Drop, R: Drop> Config<M, R> {
 
     /// Takes the module and the generator, in place of those before.
     pub fn set_up(&mut self, info: M, generator: R)
-        ensures { self.new ≡ record self.old { setup = Some (record { info = info; generator = generator }) } }
+        ensures { self.new ≡ record self.old {
+          setup = Some (record { info = info; generator = generator });
+        } }
     {
         self.setup = Some(Setup { info, generator });
     }

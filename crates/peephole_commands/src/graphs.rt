@@ -66,7 +66,7 @@ pub fn graph_of(
     ensures graph { IfOk result (λ graph. IsGraphAt config.now place.now graph) }
     ensures refused { IfErr result (λ r. (r ≡ Refused Memory)
         ⊎ (shapes_or_refusal (module_in (info_of config.now)) config.now.preserving
-            (operators_in place.now.body.now place.now.block) ≡ Err r)) }
+        (operators_in place.now.body.now place.now.block) ≡ Err r)) }
 {
     faults_are_found();
     let mut builder = DFGBuilder::new(config);
