@@ -1,4 +1,4 @@
-use Rattle.std.proofs.Common.{ap, refl, ◌∙◌, ℕ, take}
+use Rattle.std.proofs.Common.{ap, ◌∙◌, ℕ, take}
 use Rattle.mutate_base.specs.Config.{with_generator}
 use Rattle.mutate_base.specs.ConfigLemmas.{changes_generator_alone, info_of-with_generator, generator_of-with_generator}
 use Rattle.peephole_lang.specs.Node.{head_of, children_of}
