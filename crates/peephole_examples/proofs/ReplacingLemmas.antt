@@ -1,22 +1,27 @@
 -- A new body is what the writer says of it, with the block and the graph that it was written from.
-use Rattle.std.specs.Prelude.{◌≡◌, ℕ, List, [], ◌++◌, length, slice_range, Bool, Option, Some, None, IfSome, option_map}
-use Rattle.std.proofs.Common.{◌∙◌, ap, subst, sym, arith}
+use Rattle.std.specs.Prelude.{◌≡◌, ◌≢◌, ◌⊎◌, true, Result, Err, IfErr, ℕ, List, [], ◌++◌, length, slice_range, Bool, Option, Some, None, IfSome, option_map}
+use Rattle.std.proofs.Common.{inl, inr, refl, ◌∙◌, ap, subst, sym, arith}
 use Rattle.std.proofs.lemmas.Grind.{common_steps}
 use Rattle.wasm_code.specs.Body.{SpellsBody}
 use Rattle.rand_core.specs.Stream.{Stream}
 use Rattle.wasm_code.specs.declared.operator.Operator.{Operator}
 use Rattle.mutate_base.specs.Config.{Setup}
 use Rattle.mutate_base.specs.Module.{Module}
+use Rattle.mutate_base.specs.declared.error.Error.{Error}
+use Rattle.mutate_base.specs.declared.error.Error.TheVariants.{Memory, NoMutationsApplicable, UnknownFunction, UnknownLocal, UnknownGlobal, UnknownTable, UnknownMemory, UnknownOperand, CannotUnfold, GlobalIndex, TooLarge}
 use Rattle.peephole_lang.specs.declared.lang.Head.{Head}
 use Rattle.peephole_lang.specs.Term.{Term}
 use Rattle.peephole_graphs.specs.declared.dfg.StackEntry.{StackEntry}
 use Rattle.peephole_graphs.specs.Block.{BlockRange, IsBlockOf}
+use Rattle.peephole_graphs.specs.Forest.{IsInOrder}
 use Rattle.peephole_graphs.specs.GraphOf.{IsGraphOf}
 use Rattle.peephole_terms.specs.declared.encoder.request.ResourceRequest.{ResourceRequest}
-use Rattle.peephole_terms.specs.Expansion.{Setting}
-use Rattle.peephole_terms.specs.Written.{term_requests, written_block, written_body}
+use Rattle.peephole_terms.specs.Expansion.{Setting, Refuses}
+use Rattle.peephole_terms.specs.Written.{KeepsOrder, shapes_in, term_code, term_requests, written_block, written_body}
 use Rattle.peephole_terms.specs.SameRun.{AppendsSameRun}
-use Rattle.peephole_examples.specs.Replacing.{IsPoint, IsReplaced}
+use Rattle.peephole_examples.specs.declared.replacing.ReplaceError.{ReplaceError}
+use Rattle.peephole_examples.specs.declared.replacing.ReplaceError.TheVariants.{Write}
+use Rattle.peephole_examples.specs.Replacing.{IsPoint, IsReplaced, IsNotWritten, IsNotReplaced}
 
 -- a configuration's module and generator, as the setting that they make
 abbrev set_up : {R : Type 0} → (R → Stream) → Option (Setup Module R) → Option Setting
@@ -69,3 +74,44 @@ point_is bytes point operators read found block s o f b =
       spelled = subst (SpellsBody 0 bytes) (sym o) (subst (λ xs. SpellsBody 0 xs read) (whole bytes) s);
       block_is = subst (λ (os : List (Operator × ℕ)). IsBlockOf os point block.start block.end) (f ∙ sym o) b;
     }
+
+-- why the writer wrote nothing
+pub refused_is : {R : Type 0} (A : Type 0) (stream : R → Stream) (setup : Option (Setup Module R)) (preserving : Bool) (bytes : List ℕ) (point : ℕ)
+    (operators : List (Operator × ℕ)) (block : BlockRange) (t : Term Head) (e : Error) →
+    IsPoint bytes point operators block →
+    IfSome (info_in setup) (λ info. KeepsOrder {A = A} preserving (shapes_in info operators block) (Err e)) →
+    (e ≢ NoMutationsApplicable → IfSome (set_up stream setup) (λ s. Refuses (term_code s operators block point t) e)) →
+    IfSome (set_up stream setup) (λ s. IsNotWritten s preserving bytes point t e)
+refused_is A stream None preserving bytes point operators block t e at o r = tt
+refused_is A stream (Some s) preserving bytes point operators block t e at o r = record {
+  operators = operators;
+  block = block;
+  at = at;
+  why = inr (why e o r);
+}
+  where
+    setting : Setting
+    setting = record { info = s.info; stream = stream s.generator }
+
+    why : (e : Error) → KeepsOrder {A = A} preserving (shapes_in s.info operators block) (Err e) →
+        (e ≢ NoMutationsApplicable → Refuses (term_code setting operators block point t) e) →
+        ((e ≡ NoMutationsApplicable) × ((preserving ≡ true) × ¬ (IsInOrder (shapes_in s.info operators block)))) ⊎
+        Refuses (term_code setting operators block point t) e
+    why NoMutationsApplicable o r = inl (refl, o.refused.0 refl)
+    why Memory o r = inr tt
+    why CannotUnfold o r = inr (r (λ q. absurd cc))
+    why GlobalIndex o r = inr (r (λ q. absurd cc))
+    why TooLarge o r = inr (r (λ q. absurd cc))
+    why UnknownOperand o r = inr (r (λ q. absurd cc))
+    why (UnknownFunction f) o r = inr (r (λ q. absurd cc))
+    why (UnknownLocal f) o r = inr (r (λ q. absurd cc))
+    why (UnknownGlobal f) o r = inr (r (λ q. absurd cc))
+    why (UnknownTable f) o r = inr (r (λ q. absurd cc))
+    why (UnknownMemory f) o r = inr (r (λ q. absurd cc))
+
+-- the writer's refusal is passed on
+pub passed_on : {R A : Type 0} (stream : R → Stream) (setup : Option (Setup Module R)) (preserving : Bool) (bytes : List ℕ) (point : ℕ)
+    (t : Term Head) (e : Error) (answer : Result A ReplaceError) → answer ≡ Err (Write e) →
+    IfSome (set_up stream setup) (λ s. IsNotWritten s preserving bytes point t e) →
+    IfErr answer (λ x. IfSome (set_up stream setup) (λ s. IsNotReplaced s preserving bytes point t x))
+passed_on stream setup preserving bytes point t e answer is h = rw is h

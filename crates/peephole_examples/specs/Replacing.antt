@@ -1,18 +1,23 @@
 -- A body in which a term stands for the tree of an operator, the whole way from bytes to bytes (this project).
-use Rattle.std.specs.Prelude.{◌≡◌, ◌≤◌, ◌⊎◌, ℕ, List, length, slice_range, Bool, Option, Ok, IfSome}
+use Rattle.std.specs.Prelude.{◌≡◌, ◌≤◌, ◌⊎◌, ℕ, List, length, slice_range, Bool, true, Option, Ok, IfSome}
 use Rattle.wasm_code.specs.Instruction.{Instruction}
-use Rattle.wasm_code.specs.Body.{SpellsBody}
+use Rattle.wasm_code.specs.Body.{SpellsBody, IsFault}
 use Rattle.wasm_code.specs.declared.operator.Operator.{Operator}
 use Rattle.mutate_base.specs.Module.{Module}
+use Rattle.mutate_base.specs.declared.error.Error.{Error}
+use Rattle.mutate_base.specs.declared.error.Error.TheVariants.{NoMutationsApplicable}
 use Rattle.peephole_lang.specs.declared.lang.Head.{Head}
 use Rattle.peephole_lang.specs.Term.{Term}
 use Rattle.peephole_graphs.specs.declared.dfg.StackEntry.{StackEntry}
 use Rattle.peephole_graphs.specs.Block.{BlockRange, IsBlockOf, IsDelimiterAt}
-use Rattle.peephole_graphs.specs.GraphOf.{IsGraphOf, HasNoGraph}
+use Rattle.peephole_graphs.specs.Forest.{IsInOrder}
+use Rattle.peephole_graphs.specs.GraphOf.{IsGraphOf, HasNoGraph, IsRefused}
 use Rattle.peephole_terms.specs.declared.encoder.request.ResourceRequest.{ResourceRequest}
-use Rattle.peephole_terms.specs.Expansion.{Setting}
-use Rattle.peephole_terms.specs.Written.{term_code, term_requests, written_block, written_body}
+use Rattle.peephole_terms.specs.Expansion.{Setting, Refuses}
+use Rattle.peephole_terms.specs.Written.{shapes_in, term_code, term_requests, written_block, written_body}
 use Rattle.peephole_terms.specs.SameRun.{RunsAsBefore}
+use Rattle.peephole_examples.specs.declared.replacing.ReplaceError.{ReplaceError}
+use Rattle.peephole_examples.specs.declared.replacing.ReplaceError.TheVariants.{Read, Write}
 
 -- The block of the operator at the point, in the body that the bytes spell.
 pub record IsPoint (bytes : List ℕ) (point : ℕ) (operators : List (Operator × ℕ)) (block : BlockRange) : Type 0 where
@@ -44,3 +49,18 @@ pub record HasNothingToReplace (info : Option Module) (preserving : Bool) (bytes
       (length operators ≤ point) ⊎ (IsDelimiterAt operators point ⊎ (
       (block : BlockRange) × IsBlockOf operators point block.start block.end
       × IfSome info (λ info. HasNoGraph info preserving (slice_range operators block.start block.end))))
+
+-- Why the block at the point was not written: its graph is refused, it is out of order while preserving, or the term's expansion is refused.
+pub record IsNotWritten (s : Setting) (preserving : Bool) (bytes : List ℕ) (point : ℕ) (t : Term Head) (e : Error) : Type 0 where
+  pub operators : List (Operator × ℕ)
+  pub block : BlockRange
+  pub at : IsPoint bytes point operators block
+  pub why :
+      IsRefused s.info preserving (slice_range operators block.start block.end) e ⊎ (
+      ((e ≡ NoMutationsApplicable) × ((preserving ≡ true) × ¬ (IsInOrder (shapes_in s.info operators block)))) ⊎
+      Refuses (term_code s operators block point t) e)
+
+-- Why there is no new body: the bytes are none, with their first fault, or the block was not written.
+abbrev pub IsNotReplaced : Setting → Bool → List ℕ → (point : ℕ) → Term Head → ReplaceError → Type 0
+IsNotReplaced s preserving bytes point t (Read fault) = IsFault 0 (length bytes) bytes fault.kind fault.offset
+IsNotReplaced s preserving bytes point t (Write e) = IsNotWritten s preserving bytes point t e

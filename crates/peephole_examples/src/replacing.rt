@@ -1,13 +1,13 @@
 //! The whole way from a body's bytes to those of the new body: which call follows which, and how the conditions of each are met.
 
-ghost use Rattle.std.specs.Prelude.{◌≡◌, ◌<◌, All, IfOk, IfNone, IfSome, IsTrue, is_some, length};
+ghost use Rattle.std.specs.Prelude.{◌≡◌, ◌<◌, All, IfErr, IfOk, IfNone, IfSome, IsTrue, is_some, length};
 ghost use Rattle.mutate_base.specs.Config.{info_of, ChangesGeneratorAlone};
 ghost use Rattle.peephole_lang.specs.Lang.{payload_of};
 ghost use Rattle.peephole_lang.specs.Node.{head_of, children_of};
 ghost use Rattle.peephole_lang.specs.Term.{term_of};
 ghost use Rattle.peephole_nodes.specs.Payload.{is_writable};
 ghost use Rattle.peephole_terms.specs.Expansion.{setting_of};
-ghost use Rattle.peephole_examples.specs.Replacing.{HasNothingToReplace, IsReplaced};
+ghost use Rattle.peephole_examples.specs.Replacing.{HasNothingToReplace, IsNotReplaced, IsReplaced};
 
 use peephole_terms::{
     DFGBuilder, Encoder, Error, Function, Lang, ReadError, RecExpr, ResourceRequest, WasmMutate,
@@ -76,6 +76,10 @@ pub fn replace<R: Rng + Drop>(
     // None only where nothing is there to be replaced.
     ensures none { IfOk result (λ answer. IfNone answer (
         HasNothingToReplace (info_of config.old) config.old.preserving bytes.now point)) }
+    // Refused only for the body's first fault, or as the graph of the point's block, or its writing, is refused.
+    ensures refused { IfErr result (λ e. IfSome (setting_of R.stream config.old) (λ setting.
+        IsNotReplaced setting config.old.preserving bytes.now point
+        (term_of head_of children_of term.now) e)) }
     // Of the configuration the generator alone changes.
     ensures unchanged { ChangesGeneratorAlone config.old config.new }
 {
