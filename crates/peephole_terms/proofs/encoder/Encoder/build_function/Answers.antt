@@ -1,4 +1,4 @@
-use Rattle.std.proofs.Common.{ap, refl, sym, Ok, Err, ◌∙◌}
+use Rattle.std.proofs.Common.{ℕ, take, ap, refl, sym, Ok, Err, ◌∙◌}
 use Rattle.std.proofs.lemmas.Bool.{false≢true}
 use Rattle.mutate_base.specs.Config.{info_of, with_generator}
 use Rattle.mutate_base.specs.ConfigLemmas.{changes_generator_alone, info_of-with_generator, generator_of-with_generator, is_some-info_of}
@@ -78,6 +78,10 @@ returns-in-Err-clause-order g c =
       | else-preserves_semantics-via-else-preserves_semantics w ↦ absurd (false≢true (sym w.if-preserves_semantics.false ∙ (c.preserves_semantics.ensures ∙ keeping)))
     ])
     (not_for_order c.in-Err.refusal _ c.in-Err.ensures.err)
+
+pub returns-in-Err-clause-restored : goal.returns-in-Err-clause-restored
+returns-in-Err-clause-restored g c =
+    c.truncate.ensures ∙ (ap (λ (n : ℕ). take n c.write_body.new.newfunc) c.len-old_len.ensures ∙ c.write_body.ensures.kept)
 
 pub returns-in-Ok-clause-unchanged : goal.returns-in-Ok-clause-unchanged
 returns-in-Ok-clause-unchanged g c = changes_generator_alone c.write_body.new.rng c.args.config.now
