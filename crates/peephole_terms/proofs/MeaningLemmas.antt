@@ -6,8 +6,8 @@ use Rattle.peephole_lang.specs.declared.lang.Head.{Head}
 use Rattle.peephole_lang.specs.Term.{Term, Terms, absent, node, no_terms, ◌▸◌}
 use Rattle.peephole_machine.specs.Values.{type_of, same_types, types, State, Outcome, Ends, Traps, Stuck, and_then}
 use Rattle.peephole_machine.specs.IntegerRow.{integer_row}
-use Rattle.peephole_machine.proofs.RowLemmas.{some_if, and_then_some, map_some, same_types_is}
-use Rattle.peephole_machine.proofs.TypeLemmas.{Fine, then_act_fine, then_above_fine}
+use Rattle.peephole_machine.specs.RowLemmas.{some_if, and_then_some, map_some, same_types_is}
+use Rattle.peephole_machine.specs.TypeLemmas.{Fine, then_act_fine, then_above_fine}
 use Rattle.peephole_terms.specs.declared.encoder.kind.Kind.TheVariants.{Own, Random, Unfold, UseGlobal, Container, Nothing}
 use Rattle.peephole_terms.specs.Kind.{IntegerType, Kind, kind_of}
 use Rattle.peephole_terms.specs.Expansion.{constant_in, draws_of, draws, first_word}

@@ -14,8 +14,8 @@ use Rattle.peephole_machine.specs.Integer.{binary, add}
 use Rattle.peephole_machine.specs.IntegerRow as rows
 use Rattle.peephole_machine.specs.IntegerRow.{integer_row}
 use Rattle.peephole_machine.specs.Machine.{run}
-use Rattle.peephole_machine.proofs.OutcomeLemmas.{run_one}
-use Rattle.peephole_machine.proofs.RangeLemmas.{sum_split, run_op, run_sum, run_through}
+use Rattle.peephole_machine.specs.OutcomeLemmas.{run_one}
+use Rattle.peephole_machine.specs.RangeLemmas.{sum_split, run_op, run_sum, run_through}
 use Rattle.peephole_terms.specs.declared.encoder.kind.NumberType.TheVariants as number
 use Rattle.peephole_terms.specs.Kind.{NumberType, IntegerType, number_of}
 use Rattle.peephole_terms.specs.Expansion.{constant, rest_of, add_of, sum, set_global, get_global}

@@ -30,10 +30,10 @@ use Rattle.peephole_machine.specs.Values.{Value, IsValue, types, State, HasTypes
 use Rattle.peephole_machine.specs.Machine.{run}
 use Rattle.peephole_machine.specs.Agreement.{with_globals, SameState, SameBelow}
 use Rattle.peephole_machine.specs.Laws.{IsIntegerInstruction}
-use Rattle.peephole_machine.proofs.OutcomeLemmas.{run_three, types_append, length_types}
-use Rattle.peephole_machine.proofs.SameLemmas.{rows_name, name_left, name_right, Alike, same_from_alike, alike_from_same, alike_sym, alike_trans, above_alike, run_alike, stays_alike}
-use Rattle.peephole_machine.proofs.TypeLemmas.{Keeps, run_keeps}
-use Rattle.peephole_machine.proofs.RangeLemmas.{AreValues, Leaves, run_leaves}
+use Rattle.peephole_machine.specs.OutcomeLemmas.{run_three, types_append, length_types}
+use Rattle.peephole_machine.specs.SameLemmas.{rows_name, name_left, name_right, Alike, same_from_alike, alike_from_same, alike_sym, alike_trans, above_alike, run_alike, stays_alike}
+use Rattle.peephole_machine.specs.TypeLemmas.{Keeps, run_keeps}
+use Rattle.peephole_machine.specs.RangeLemmas.{AreValues, Leaves, run_leaves}
 use Rattle.peephole_terms.specs.Kind.{primitive_of}
 use Rattle.peephole_terms.specs.Expansion.{Setting, setting_of, requests_of, expansion_of}
 use Rattle.peephole_terms.specs.Written.{replaced, is_root, shapes_in, is_written, term_code, written_block}

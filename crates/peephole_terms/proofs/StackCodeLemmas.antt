@@ -17,10 +17,10 @@ use Rattle.peephole_machine.specs.Values.{type_of, width_of, Value, whole, types
 use Rattle.peephole_machine.specs.IntegerRow.{operand_count, row_types, integer_row}
 use Rattle.peephole_machine.specs.Machine.{act, run}
 use Rattle.peephole_machine.specs.Agreement.{with_globals, SameState, SameBelow}
-use Rattle.peephole_machine.proofs.OutcomeLemmas.{then_ends, above_above, run_append, run_one, types_append, length_types}
-use Rattle.peephole_machine.proofs.RowLemmas.{and_then_some, map_some, row_types_count, step_at}
-use Rattle.peephole_machine.proofs.SameLemmas.{typed_names, Alike, same_from_alike, act_alike, above_alike}
-use Rattle.peephole_machine.proofs.TypeLemmas.{Fine, Keeps, run_keeps}
+use Rattle.peephole_machine.specs.OutcomeLemmas.{then_ends, above_above, run_append, run_one, types_append, length_types}
+use Rattle.peephole_machine.specs.RowLemmas.{and_then_some, map_some, row_types_count, step_at}
+use Rattle.peephole_machine.specs.SameLemmas.{typed_names, Alike, same_from_alike, act_alike, above_alike}
+use Rattle.peephole_machine.specs.TypeLemmas.{Fine, Keeps, run_keeps}
 use Rattle.peephole_terms.specs.declared.encoder.kind.NumberType.TheVariants as number
 use Rattle.peephole_terms.specs.declared.encoder.kind.Kind.TheVariants.{Own, Random, Unfold, UseGlobal, Container, Nothing}
 use Rattle.peephole_terms.specs.Kind.{NumberType, IntegerType, Kind, kind_of, primitive_of}
