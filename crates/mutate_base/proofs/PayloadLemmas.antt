@@ -12,8 +12,8 @@ use Rattle.wasm_code.specs.declared.immediate.ValType.TheVariants as val
 use Rattle.wasm_code.specs.ValType.{val_type_name}
 use Rattle.mutate_base.specs.PayloadText.{dot_parts, read_lane_parts, read_lane_behind, read_mem_arg_lane, read_val_type}
 use Rattle.mutate_base.specs.declared.term_error.TermError.TheVariants.{BadValType}
-use Rattle.mutate_base.specs.PartsLemmas.{HasNoDot, one_part, front_part, last_part, lanes_is}
-use Rattle.mutate_base.specs.LawLemmas.{val_type_back}
+use Rattle.mutate_base.specs.laws.PartsLemmas.{HasNoDot, one_part, front_part, last_part, lanes_is}
+use Rattle.mutate_base.specs.laws.LawLemmas.{val_type_back}
 
 -- ---- parts
 
@@ -29,13 +29,15 @@ no_cut text h = one_part text (split_parts 46 text None h (lit< tt))
 abbrev pub IsLastSplit : ℕ → List ℕ → Option (Bor (List ℕ) × Bor (List ℕ)) → Type 0
 IsLastSplit c bs r =
     MatchOption r (RFindsChar c bs None)
-    (λ x. (i : ℕ) × (j : ℕ) × RFindsChar c bs (Some (i, j)) × (x.0.now ≡ take i bs) × (x.1.now ≡ drop j bs) × (i ≤ j) × (length x.0.now ≡ i) × (length x.1.now + j ≡ length bs))
+    (λ x. (i : ℕ) × (j : ℕ) × RFindsChar c bs (Some (i, j)) × (x.0.now ≡ take i bs) × (x.1.now ≡ drop j bs) × (i ≤ j) × (length x.0.now ≡ i)
+    × (length x.1.now + j ≡ length bs))
 
 pub cut_last : (text : List ℕ) (x : Bor (List ℕ) × Bor (List ℕ)) → IsLastSplit 46 text (Some x) → dot_parts text ≡ dot_parts x.0.now ++ (x.1.now ∷ [])
 cut_last text x h =
     let whole : text ≡ x.0.now ++ (46 ∷ x.1.now) =
     sym (take-append-drop h.0 text) ∙ (λ k. sym h.3 k ++ (drop_at_char 46 text h.0 h.1 h.2.1 (lit< tt) ∙ ap (λ l. 46 ∷ l) (sym h.4)) k) in
-    let none : HasNoDot x.1.now = λ i low e. NoCharPasses-char 46 (drop h.1 text) i h.2.0 (lit< tt) (subst (λ l. i < length l) h.4 low) (sym (ap (λ l. get_or l i 0) h.4) ∙ e) in
+    let none : HasNoDot x.1.now = λ i low e. NoCharPasses-char 46 (drop h.1 text) i h.2.0 (lit< tt) (subst (λ l. i < length l) h.4 low)
+    (sym (ap (λ l. get_or l i 0) h.4) ∙ e) in
     ap dot_parts whole ∙ last_part x.0.now x.1.now none
 
 pub no_last_cut : (text : List ℕ) → IsLastSplit 46 text None → dot_parts text ≡ text ∷ []
@@ -43,7 +45,8 @@ no_last_cut text h = one_part text (λ i low. NoCharPasses-char 46 text i h (lit
 
 -- ---- a memory argument and a lane
 
-pub lane_reads : (text front last : List ℕ) → dot_parts text ≡ dot_parts front ++ (last ∷ []) → read_mem_arg_lane text ≡ read_lane_behind (dot_parts front) last
+pub lane_reads : (text front last : List ℕ) → dot_parts text ≡ dot_parts front ++ (last ∷ []) →
+    read_mem_arg_lane text ≡ read_lane_behind (dot_parts front) last
 lane_reads text front last e = ap read_lane_parts e ∙ lanes_is (dot_parts front) last
 
 pub lane_alone : (text : List ℕ) → dot_parts text ≡ text ∷ [] → read_mem_arg_lane text ≡ read_lane_behind [] text
@@ -52,7 +55,11 @@ lane_alone text e = ap read_lane_parts e ∙ lanes_is [] text
 -- ---- names
 
 differs : (xs ys : List ℕ) → xs ≢ ys → bytes_eq xs ys ≡ false
-differs xs ys other = elim (bytes_eq xs ys) as (λ b. ((b ≡ true) → xs ≡ ys) → b ≡ false) [ true ↦ (λ h. absurd (other (h refl))) | false ↦ (λ _. refl) ] (bytes_eq-Decides xs ys).0
+differs xs ys other = elim (bytes_eq xs ys) as (λ b. ((b ≡ true) → xs ≡ ys) → b ≡ false) [
+  | true ↦ (λ h. absurd (other (h refl)))
+  | false ↦
+      (λ _. refl)
+] (bytes_eq-Decides xs ys).0
 
 pub val_type_named : (t : ValType) (text : List ℕ) → val_type_name t ≡ text → Ok t ≡ read_val_type text
 val_type_named t text e = sym (val_type_back t) ∙ ap read_val_type e

@@ -45,12 +45,14 @@ one_more done lane (Err e) = refl
 abbrev Behind : List (List ℕ) → ℕ → Result (List ℕ) TermError
 Behind more n = and_then (read_lanes more) (λ ns. Ok (n ∷ ns))
 
-moved : (text : List ℕ) (left : List (List ℕ)) (part : List ℕ) (more : List (List ℕ)) (done : List ℕ) (lane : ℕ) → read_lanes (dot_parts text) ≡ onto done (read_lanes left) → left ≡ part ∷ more
+moved : (text : List ℕ) (left : List (List ℕ)) (part : List ℕ) (more : List (List ℕ)) (done : List ℕ) (lane : ℕ) →
+    read_lanes (dot_parts text) ≡ onto done (read_lanes left) → left ≡ part ∷ more
     → Ok lane ≡ ok_or (read_unsigned 8 part) BadInteger → read_lanes (dot_parts text) ≡ onto (done ++ (lane ∷ [])) (read_lanes more)
 moved text left part more done lane h e k =
     h ∙ ap (λ ps. onto done (read_lanes ps)) e ∙ ap (λ r. onto done (and_then r (Behind more))) (sym k) ∙ one_more done lane (read_lanes more)
 
-pub keeps : (text : List ℕ) (left : List (List ℕ)) (part : List ℕ) (more : List (List ℕ)) (indices : List ℕ) (count lane : ℕ) → Reading text left indices count → left ≡ part ∷ more
+pub keeps : (text : List ℕ) (left : List (List ℕ)) (part : List ℕ) (more : List (List ℕ)) (indices : List ℕ) (count lane : ℕ) →
+    Reading text left indices count → left ≡ part ∷ more
     → Ok lane ≡ ok_or (read_unsigned 8 part) BadInteger → count < 16 → Reading text more (set indices count lane) (count + 1)
 keeps text left part more indices count lane h e k low = record {
   done = h.done ++ (lane ∷ []);
@@ -60,31 +62,38 @@ keeps text left part more indices count lane h e k low = record {
         inl (
           omega (arith, length-append h.done (lane ∷ [])),
           omega (arith, length-append h.done (lane ∷ [])),
-          ap (λ n. take n (set indices count lane)) {x = count + 1} {y = suc count} (omega arith) ∙ take-suc-set indices count lane (omega (arith, h.long)) ∙ ap (λ l. l ++ (lane ∷ [])) few.2,
+          ap (λ n. take n (set indices count lane)) {x = count + 1} {y = suc count} (omega arith)
+              ∙ take-suc-set indices count lane (omega (arith, h.long)) ∙ ap (λ l. l ++ (lane ∷ [])) few.2,
         )
     | inr many ↦ absurd (omega arith)
   ];
   long = length-set indices count lane ∙ h.long;
 }
 
-pub overflows : (text : List ℕ) (left : List (List ℕ)) (part : List ℕ) (more : List (List ℕ)) (indices : List ℕ) (count lane : ℕ) → Reading text left indices count → left ≡ part ∷ more
+pub overflows : (text : List ℕ) (left : List (List ℕ)) (part : List ℕ) (more : List (List ℕ)) (indices : List ℕ) (count lane : ℕ) →
+    Reading text left indices count → left ≡ part ∷ more
     → Ok lane ≡ ok_or (read_unsigned 8 part) BadInteger → 16 ≤ count → Reading text more indices 17
 overflows text left part more indices count lane h e k high = record {
   done = h.done ++ (lane ∷ []);
   read = moved text left part more h.done lane h.read e k;
-  kept = inr (elim h.kept [ inl few ↦ omega (arith, length-append h.done (lane ∷ [])) | inr many ↦ omega (arith, length-append h.done (lane ∷ [])) ], refl);
+  kept = inr (
+    elim h.kept [ inl few ↦ omega (arith, length-append h.done (lane ∷ [])) | inr many ↦ omega (arith, length-append h.done (lane ∷ [])) ],
+    refl,
+  );
   long = h.long;
 }
 
 abbrev Made : List ℕ → Result Shuffle TermError
 Made ns = if eqb (length ns) 16 then Ok (record { indices = ns }) else Err WrongLanes
 
-pub refused : (text : List ℕ) (left : List (List ℕ)) (part : List ℕ) (more : List (List ℕ)) (indices : List ℕ) (count : ℕ) (f : TermError) → Reading text left indices count → left ≡ part ∷ more
+pub refused : (text : List ℕ) (left : List (List ℕ)) (part : List ℕ) (more : List (List ℕ)) (indices : List ℕ) (count : ℕ) (f : TermError) →
+    Reading text left indices count → left ≡ part ∷ more
     → Err f ≡ ok_or (read_unsigned 8 part) BadInteger → Err f ≡ read_shuffle text
 refused text left part more indices count f h e k =
     sym (ap (λ r. and_then r Made) (h.read ∙ ap (λ ps. onto h.done (read_lanes ps)) e ∙ ap (λ r. onto h.done (and_then r (Behind more))) (sym k)))
 
-all_read : (text : List ℕ) (left : List (List ℕ)) (done : List ℕ) → read_lanes (dot_parts text) ≡ onto done (read_lanes left) → left ≡ [] → read_shuffle text ≡ Made done
+all_read : (text : List ℕ) (left : List (List ℕ)) (done : List ℕ) → read_lanes (dot_parts text) ≡ onto done (read_lanes left) → left ≡ [] →
+    read_shuffle text ≡ Made done
 all_read text left done h e = ap (λ r. and_then r Made) (h ∙ ap (λ ps. onto done (read_lanes ps)) e) ∙ ap Made (append-nil done)
 
 pub whole : (text : List ℕ) (left : List (List ℕ)) (indices : List ℕ) (count : ℕ) → Reading text left indices count → left ≡ [] → count ≡ 16
@@ -92,7 +101,8 @@ pub whole : (text : List ℕ) (left : List (List ℕ)) (indices : List ℕ) (cou
 whole text left indices count h e full = elim h.kept [
   | inl few ↦
       let same : indices ≡ h.done = sym (take_all count indices (omega (arith, h.long))) ∙ few.2 in
-      sym (all_read text left h.done h.read e ∙ ap Made (sym same) ∙ ap (λ b. if b then Ok (record { indices = indices }) else Err WrongLanes) (eq-eqb (length indices) 16 h.long))
+      sym (all_read text left h.done h.read e ∙ ap Made (sym same) ∙ ap (λ b. if b then Ok (record { indices = indices }) else Err WrongLanes)
+      (eq-eqb (length indices) 16 h.long))
   | inr many ↦ absurd (omega arith)
 ]
 

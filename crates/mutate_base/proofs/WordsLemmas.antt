@@ -15,7 +15,10 @@ pub next_u64-words : (words : List ℕ) → next_u64 (word_stream words) ≡ ((w
 next_u64-words words = next_u64-stream_of word_steps words
 
 -- bytes: those of the next words, as many as are needed
-pub fill_bytes-words : (n : ℕ) (words : List ℕ) → fill_bytes n (word_stream words) ≡ ((fill_via_u64 word_step n words).0, word_stream (fill_via_u64 word_step n words).1)
+pub fill_bytes-words : (n : ℕ) (words : List ℕ) → fill_bytes n (word_stream words) ≡ (
+  (fill_via_u64 word_step n words).0,
+  word_stream (fill_via_u64 word_step n words).1,
+)
 fill_bytes-words n words = fill_bytes-stream_of word_steps n words
 
 step_drop : (words : List ℕ) → (word_step words).1 ≡ drop 1 words

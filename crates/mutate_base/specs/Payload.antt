@@ -7,9 +7,9 @@ use Rattle.mutate_base.specs.declared.payload.RefType.{RefType}
 use Rattle.mutate_base.specs.declared.payload.RefType.TheVariants.{Func, Extern}
 use Rattle.mutate_base.specs.declared.payload.MemArg.{MemArg}
 
-abbrev pub heap_type_of : RefType → HeapType
-heap_type_of Func = Abstract ty.Func
-heap_type_of Extern = Abstract ty.Extern
+abbrev pub ref_heap_type : RefType → HeapType
+ref_heap_type Func = Abstract ty.Func
+ref_heap_type Extern = Abstract ty.Extern
 
 abbrev pub payload_of_mem_arg : wasm.MemArg → MemArg
 payload_of_mem_arg m = record { static_offset = m.offset; align = m.align; mem = m.memory }

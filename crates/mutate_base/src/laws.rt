@@ -29,28 +29,45 @@ ghost use Rattle.mutate_base.specs.declared.payload.MemoryCopy.{MemoryCopy};
 ghost use Rattle.mutate_base.specs.declared.payload.TableInit.{TableInit};
 ghost use Rattle.mutate_base.specs.declared.payload.MemoryInit.{MemoryInit};
 
-/// A payload's text reads as that payload, where its numbers are within their types.
-pub fn payload_texts_read_back()
-    ensures unsigned { (bits n : ℕ) → n < 2 ^ bits → n < 2 ^ 64 → read_unsigned bits (decimal n) ≡ Some n }
-    ensures signed { (bits : ℕ) (z : ℤ) → bits ≤ 128 → neg_ℤ (pos (2 ^ (bits - 1))) ≤ℤ z → z <ℤ pos (2 ^ (bits - 1)) → read_signed bits (signed_decimal z) ≡ Some z }
+/// The text of a number, of a float's bits, or of the name of a type reads as what it is the text of, where a number is within its type.
+pub fn number_texts_read_back()
+    ensures unsigned { (bits n : ℕ) → n < 2 ^ bits → n < 2 ^ 64
+        → read_unsigned bits (decimal n) ≡ Some n }
+    ensures signed { (bits : ℕ) (z : ℤ) → bits ≤ 128 → neg_ℤ (pos (2 ^ (bits - 1))) ≤ℤ z
+        → z <ℤ pos (2 ^ (bits - 1)) → read_signed bits (signed_decimal z) ≡ Some z }
     ensures f32 { (bits : ℕ) → bits < 2 ^ 32 → text.read_f32 (text.f32_text bits) ≡ Ok bits }
     ensures f64 { (bits : ℕ) → bits < 2 ^ 64 → text.read_f64 (text.f64_text bits) ≡ Ok bits }
     ensures ref_type { (x : RefType) → text.read_ref_type (text.ref_type_text x) ≡ Ok x }
     ensures val_type { (x : ValType) → text.read_val_type (val_type_name x) ≡ Ok x }
-    ensures mem_arg { (x : MemArg) → x.static_offset < 2 ^ 64 → x.align < 2 ^ 8 → x.mem < 2 ^ 32 → text.read_mem_arg (text.mem_arg_text x) ≡ Ok x }
-    ensures mem_arg_lane { (x : MemArgLane) → x.memarg.static_offset < 2 ^ 64 → x.memarg.align < 2 ^ 8 → x.memarg.mem < 2 ^ 32 → x.lane < 2 ^ 8
-        → text.read_mem_arg_lane (text.mem_arg_lane_text x) ≡ Ok x }
-    ensures shuffle { (x : Shuffle) → length x.indices ≡ 16 → AllByRecursion (λ n. n < 256) x.indices → text.read_shuffle (text.shuffle_text x) ≡ Ok x }
-    ensures table_copy { (x : TableCopy) → x.src < 2 ^ 32 → x.dst < 2 ^ 32 → text.read_table_copy (text.table_copy_text x) ≡ Ok x }
-    ensures memory_copy { (x : MemoryCopy) → x.src < 2 ^ 32 → x.dst < 2 ^ 32 → text.read_memory_copy (text.memory_copy_text x) ≡ Ok x }
-    ensures table_init { (x : TableInit) → x.table < 2 ^ 32 → x.segment < 2 ^ 32 → text.read_table_init (text.table_init_text x) ≡ Ok x }
-    ensures memory_init { (x : MemoryInit) → x.memory < 2 ^ 32 → x.segment < 2 ^ 32 → text.read_memory_init (text.memory_init_text x) ≡ Ok x }
 {}
 
-/// Two payloads compare equal, by `==`, exactly where they are the same; of floats the bits decide.
-pub fn equal_payload_parts()
+/// So does the text of a payload of several numbers, where each is within its type.
+pub fn payload_texts_read_back()
+    ensures mem_arg { (x : MemArg) → x.static_offset < 2 ^ 64 → x.align < 2 ^ 8 → x.mem < 2 ^ 32
+        → text.read_mem_arg (text.mem_arg_text x) ≡ Ok x }
+    ensures mem_arg_lane { (x : MemArgLane) → x.memarg.static_offset < 2 ^ 64
+        → x.memarg.align < 2 ^ 8 → x.memarg.mem < 2 ^ 32 → x.lane < 2 ^ 8
+        → text.read_mem_arg_lane (text.mem_arg_lane_text x) ≡ Ok x }
+    ensures shuffle { (x : Shuffle) → length x.indices ≡ 16
+        → AllByRecursion (λ n. n < 256) x.indices → text.read_shuffle (text.shuffle_text x) ≡ Ok x }
+    ensures table_copy { (x : TableCopy) → x.src < 2 ^ 32 → x.dst < 2 ^ 32
+        → text.read_table_copy (text.table_copy_text x) ≡ Ok x }
+    ensures memory_copy { (x : MemoryCopy) → x.src < 2 ^ 32 → x.dst < 2 ^ 32
+        → text.read_memory_copy (text.memory_copy_text x) ≡ Ok x }
+    ensures table_init { (x : TableInit) → x.table < 2 ^ 32 → x.segment < 2 ^ 32
+        → text.read_table_init (text.table_init_text x) ≡ Ok x }
+    ensures memory_init { (x : MemoryInit) → x.memory < 2 ^ 32 → x.segment < 2 ^ 32
+        → text.read_memory_init (text.memory_init_text x) ≡ Ok x }
+{}
+
+/// Two floats compare equal, by `==`, exactly where their bits are the same.
+pub fn equal_floats()
     ensures f32 { (x y : ℕ) → Decides (f32_eq.ghosts.eq x y) (x ≡ y) }
     ensures f64 { (x y : ℕ) → Decides (f64_eq.ghosts.eq x y) (x ≡ y) }
+{}
+
+/// Two payloads of each other type compare equal, by `==`, exactly where they are the same.
+pub fn equal_payload_parts()
     ensures ref_type { (x y : RefType) → Decides (ref_type_eq.ghosts.eq x y) (x ≡ y) }
     ensures mem_arg { (x y : MemArg) → Decides (mem_arg_eq.ghosts.eq x y) (x ≡ y) }
     ensures mem_arg_lane { (x y : MemArgLane) → Decides (mem_arg_lane_eq.ghosts.eq x y) (x ≡ y) }
@@ -64,8 +81,12 @@ pub fn equal_payload_parts()
 /// What is drawn from given words, and the words that are left: 32 bits are the low half of the next word, 64 bits the next
 /// word, and bytes take a word for each eight of them or part of eight.
 pub fn words_are_drawn()
-    ensures u32 { (words : List ℕ) → next_u32 (word_stream words) ≡ ((word_step words).0 % 2 ^ 32, word_stream (word_step words).1) }
-    ensures u64 { (words : List ℕ) → next_u64 (word_stream words) ≡ ((word_step words).0, word_stream (word_step words).1) }
-    ensures bytes { (n : ℕ) (words : List ℕ) → fill_bytes n (word_stream words) ≡ ((fill_via_u64 word_step n words).0, word_stream (fill_via_u64 word_step n words).1) }
-    ensures left { (n : ℕ) (words : List ℕ) → (fill_via_u64 word_step n words).1 ≡ drop ((n + 7) / 8) words }
+    ensures u32 { (words : List ℕ) → let taken = word_step words in
+        next_u32 (word_stream words) ≡ (taken.0 % 2 ^ 32, word_stream taken.1) }
+    ensures u64 { (words : List ℕ) → let taken = word_step words in
+        next_u64 (word_stream words) ≡ (taken.0, word_stream taken.1) }
+    ensures bytes { (n : ℕ) (words : List ℕ) → let taken = fill_via_u64 word_step n words in
+        fill_bytes n (word_stream words) ≡ (taken.0, word_stream taken.1) }
+    ensures left { (n : ℕ) (words : List ℕ)
+        → (fill_via_u64 word_step n words).1 ≡ drop ((n + 7) / 8) words }
 {}

@@ -75,9 +75,9 @@ pub struct MemoryInit {
 
 impl From<RefType> for wasm_code::HeapType {
     ghost use Rattle.std.specs.Prelude.{◌≡◌};
-    ghost use Rattle.mutate_base.specs.Payload.{heap_type_of};
+    ghost use Rattle.mutate_base.specs.Payload.{ref_heap_type};
 
-    ghost from_gives = { λ t h. h ≡ heap_type_of t };
+    ghost from_gives = { λ t h. h ≡ ref_heap_type t };
 
     fn from(t: RefType) -> wasm_code::HeapType {
         let ty = match t {

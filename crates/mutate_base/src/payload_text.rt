@@ -44,7 +44,8 @@ impl<'t> Parts<'t> {
 
     // The number in the first part.
     fn number_u8(&mut self) -> Result<u8, TermError>
-        ensures { first_number 8 (left_parts self.old.left) ≡ and_then result (λ n. Ok (n, left_parts self.new.left)) }
+        ensures { first_number 8 (left_parts self.old.left) ≡ and_then result
+            (λ n. Ok (n, left_parts self.new.left)) }
     {
         match self.part() {
             Some(part) => read_u8(part),
@@ -54,7 +55,8 @@ impl<'t> Parts<'t> {
 
     // The number in the first part.
     fn number_u32(&mut self) -> Result<u32, TermError>
-        ensures { first_number 32 (left_parts self.old.left) ≡ and_then result (λ n. Ok (n, left_parts self.new.left)) }
+        ensures { first_number 32 (left_parts self.old.left) ≡ and_then result
+            (λ n. Ok (n, left_parts self.new.left)) }
     {
         match self.part() {
             Some(part) => read_u32(part),
@@ -64,7 +66,8 @@ impl<'t> Parts<'t> {
 
     // The number in the first part.
     fn number_u64(&mut self) -> Result<u64, TermError>
-        ensures { first_number 64 (left_parts self.old.left) ≡ and_then result (λ n. Ok (n, left_parts self.new.left)) }
+        ensures { first_number 64 (left_parts self.old.left) ≡ and_then result
+            (λ n. Ok (n, left_parts self.new.left)) }
     {
         match self.part() {
             Some(part) => read_u64(part),

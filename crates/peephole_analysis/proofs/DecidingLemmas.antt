@@ -6,7 +6,7 @@ use Rattle.std.proofs.lemmas.Option.{same_Some, slice_get-get_or}
 use Rattle.std.proofs.lemmas.Bool.{cond-false, ne_eqb}
 use Rattle.std.proofs.lemmas.List.{length-reverse, length-map}
 use Rattle.std.proofs.lemmas.List.Elements.{All-head}
-use Rattle.wasm_code.specs.Table.{info_of}
+use Rattle.wasm_code.specs.Table.{row_info_of}
 use Rattle.wasm_code.specs.declared.immediate.Imm.{Imm}
 use Rattle.wasm_code.specs.declared.table.ResultKind.{ResultKind}
 use Rattle.wasm_code.specs.declared.table.ResultKind.TheVariants as by
@@ -17,13 +17,13 @@ use Rattle.peephole_nodes.specs.Payload.{imm_of}
 use Rattle.peephole_nodes.specs.declared.id.Id.{Id}
 use Rattle.peephole_lang.specs.Lang.{place_of, payload_of, ids_of}
 use Rattle.peephole_lang.specs.Node.{head_of, children_of}
-use Rattle.peephole_lang.specs.PlaceLemmas.{tree_is, at_place, children_in}
+use Rattle.peephole_lang.specs.laws.PlaceLemmas.{tree_is, at_place, children_in}
 use Rattle.peephole_lang.specs.Term.{Term, absent, node, Node, AreBelow, nodes_of, numbers_of, pick, tree_at, term_of}
 use Rattle.peephole_lang.specs.declared.lang.Head.{Head}
 use Rattle.peephole_lang.specs.declared.lang.Lang.{Lang}
 use Rattle.peephole_analysis.specs.Analysis.{Analysis, or_refusal, result_type, row_type, head_type, first_type, returning_type}
 use Rattle.peephole_analysis.specs.Deciding.{deciding_by, deciding_in, deciding_operand}
-use Rattle.peephole_analysis.specs.TermTypes.{term_type, first_term_type, type_at, known_type}
+use Rattle.peephole_analysis.specs.TermTypes.{term_type, first_term_type, type_of_node, known_type}
 
 found_or : (t : Option PrimitiveTypeInfo) (e : Error) → result_ok (or_refusal t e) ≡ t
 found_or None e = refl
@@ -79,7 +79,8 @@ first_below_row : (i : ℕ) (row : Option RowInfo) (ids : List Id) (c : ℕ) →
 first_below_row i None ids c e all = absurd (never e)
 first_below_row i (Some row) ids c e all = first_below i row.result ids c e all
 
-first_below_place : (i : ℕ) (rowless : Bool) (row : Option RowInfo) (ids : List Id) (c : ℕ) → (if rowless then None else deciding_in row ids) ≡ Some c → All (λ k. k < i) (numbers_of ids) → c < i
+first_below_place : (i : ℕ) (rowless : Bool) (row : Option RowInfo) (ids : List Id) (c : ℕ) → (if rowless then None else deciding_in row ids)
+    ≡ Some c → All (λ k. k < i) (numbers_of ids) → c < i
 first_below_place i true row ids c e all = absurd (never e)
 first_below_place i false row ids c e all = first_below_row i row ids c e all
 
@@ -89,17 +90,19 @@ at_node : (xs : List Lang) (i : ℕ) (l : Lang) → AreBelow (nodes_of head_of c
 at_node xs i l below there is = tree_is (at_place head_of children_of xs i l there is) below
 
 -- the operand that decides stands below, and its type is the node's
-pub decides : (a : Analysis) (xs : List Lang) (i : ℕ) (l : Lang) (c : ℕ) → AreBelow (nodes_of head_of children_of xs) → i < length xs → l ≡ get_or xs i l →
+pub decides : (a : Analysis) (xs : List Lang) (i : ℕ) (l : Lang) (c : ℕ) → AreBelow (nodes_of head_of children_of xs) → i < length xs →
+    l ≡ get_or xs i l →
     deciding_operand l ≡ Some c → known_type a xs c ≡ known_type a xs i
 decides a xs i l c below there is e =
     let ns = nodes_of head_of children_of xs in
     sym (ap (λ t. result_ok (term_type a t)) (at_node xs i l below there is)
-    ∙ by_place a (nat_lt (place_of l) 12) _ (imm_of (payload_of l)) (info_of (place_of l - 12)) (ids_of l) c (tree_at ns) e)
+    ∙ by_place a (nat_lt (place_of l) 12) _ (imm_of (payload_of l)) (row_info_of (place_of l - 12)) (ids_of l) c (tree_at ns) e)
 
 pub decides_below : (xs : List Lang) (i : ℕ) (l : Lang) (c : ℕ) → AreBelow (nodes_of head_of children_of xs) → i < length xs → l ≡ get_or xs i l →
     deciding_operand l ≡ Some c → c < i
 decides_below xs i l c below there is e =
-    first_below_place i (nat_lt (place_of l) 12) (info_of (place_of l - 12)) (ids_of l) c e (children_in (at_place head_of children_of xs i l there is) below)
+    first_below_place i (nat_lt (place_of l) 12) (row_info_of (place_of l - 12)) (ids_of l) c e
+    (children_in (at_place head_of children_of xs i l there is) below)
 
 -- ---- the node alone decides
 
@@ -124,27 +127,29 @@ alone_row a i (Some row) ids at e = alone_kind a i row.result ids at e
 
 alone_place : (a : Analysis) (rowless : Bool) (t : PrimitiveTypeInfo) (i : Imm) (row : Option RowInfo) (ids : List Id) (at : ℕ → Term Head) →
     (if rowless then None else deciding_in row ids) ≡ None →
-    (if rowless then Ok t else row_type a (first_term_type a (pick at (numbers_of ids))) i row) ≡ (if rowless then Ok t else row_type a (first_type (λ id. None) ids) i row)
+    (if rowless then Ok t else row_type a (first_term_type a (pick at (numbers_of ids))) i row)
+    ≡ (if rowless then Ok t else row_type a (first_type (λ id. None) ids) i row)
 alone_place a true t i row ids at e = refl
 alone_place a false t i row ids at e = alone_row a i row ids at e
 
 -- a node that no operand decides has its type whatever is known of its operands
 pub alone : (a : Analysis) (xs : List Lang) (i : ℕ) (l : Lang) → AreBelow (nodes_of head_of children_of xs) → i < length xs → l ≡ get_or xs i l →
-    deciding_operand l ≡ None → returning_type a (λ id. None) l ≡ type_at a xs i
+    deciding_operand l ≡ None → returning_type a (λ id. None) l ≡ type_of_node a xs i
 alone a xs i l below there is e =
     let ns = nodes_of head_of children_of xs in
     sym (ap (λ t. term_type a t) (at_node xs i l below there is)
-    ∙ alone_place a (nat_lt (place_of l) 12) _ (imm_of (payload_of l)) (info_of (place_of l - 12)) (ids_of l) (tree_at ns) e)
+    ∙ alone_place a (nat_lt (place_of l) 12) _ (imm_of (payload_of l)) (row_info_of (place_of l - 12)) (ids_of l) (tree_at ns) e)
 
 -- ---- the root
 
-first_known : (a : Analysis) (ids : List Id) (at : ℕ → Term Head) → first_term_type a (pick at (numbers_of ids)) ≡ first_type (λ id. result_ok (term_type a (at id))) ids
+first_known : (a : Analysis) (ids : List Id) (at : ℕ → Term Head) → first_term_type a (pick at (numbers_of ids))
+    ≡ first_type (λ id. result_ok (term_type a (at id))) ids
 first_known a [] at = refl
 first_known a (id ∷ ids) at = refl
 
 -- a node's type by those of the expression's nodes is that of its term
 pub by_types : (a : Analysis) (xs : List Lang) (i : ℕ) (l : Lang) → AreBelow (nodes_of head_of children_of xs) → i < length xs → l ≡ get_or xs i l →
-    returning_type a (known_type a xs) l ≡ type_at a xs i
+    returning_type a (known_type a xs) l ≡ type_of_node a xs i
 by_types a xs i l below there is =
     let ns = nodes_of head_of children_of xs in
     sym (ap (λ t. term_type a t) (at_node xs i l below there is)
@@ -182,11 +187,13 @@ pub told : (a : Analysis) (nodes expr : List Lang) (place from : ℕ) (l : Lang)
     IfSome (slice_get nodes place) (λ l. deciding_operand l ≡ None) → l ≡ get_or nodes place l → found ≡ returning_type a (λ id. None) l →
     result_ok found ≡ known_type a expr from
 told a nodes expr place from l found same below there known none is call =
-    ap result_ok (call ∙ alone a nodes place l (nodes_below nodes expr same below) there is (at_read (λ l. deciding_operand l ≡ None) nodes place l there is none))
+    ap result_ok (call ∙ alone a nodes place l (nodes_below nodes expr same below) there is
+    (at_read (λ l. deciding_operand l ≡ None) nodes place l there is none))
     ∙ (known ∙ ap (λ xs. known_type a xs from) same)
 
 pub of_root : (a : Analysis) (nodes expr : List Lang) (l : Lang) (found : Result PrimitiveTypeInfo Error) → nodes ≡ expr →
-    AreBelow (nodes_of head_of children_of expr) → 0 < length expr → l ≡ get_or nodes (length nodes - 1) l → found ≡ returning_type a (known_type a expr) l →
+    AreBelow (nodes_of head_of children_of expr) → 0 < length expr → l ≡ get_or nodes (length nodes - 1) l →
+    found ≡ returning_type a (known_type a expr) l →
     found ≡ term_type a (term_of head_of children_of expr)
 of_root a nodes expr l found same below some is call =
     call ∙ by_types a expr (length expr - 1) l below (omega arith) (subst (λ xs. l ≡ get_or xs (length xs - 1) l) same is)

@@ -3,7 +3,7 @@
 -- an instruction, and `empty` for no result, are this project's).
 use Rattle.std.specs.Prelude.{ℕ, ◌-◌, nat_lt, Bool, true, false, List, [], ◌∷◌, slice_get, Option, Some, None, option_map, Result, Ok, Err, if◌then◌else◌}
 use Rattle.wasm_code.specs.Instruction.{Instruction}
-use Rattle.wasm_code.specs.Table.{info_of}
+use Rattle.wasm_code.specs.Table.{row_info_of}
 use Rattle.wasm_code.specs.declared.immediate.AbstractHeapType.TheVariants as heap
 use Rattle.wasm_code.specs.declared.immediate.HeapType.{HeapType}
 use Rattle.wasm_code.specs.declared.immediate.HeapType.TheVariants.{Abstract}
@@ -112,7 +112,7 @@ row_type a first i None = Ok Empty
 row_type a first i (Some row) = result_type a first i row.result
 
 abbrev pub instruction_type : Analysis → (first : Option PrimitiveTypeInfo) → Instruction → Result PrimitiveTypeInfo Error
-instruction_type a first i = row_type a first i.imm (info_of i.row)
+instruction_type a first i = row_type a first i.imm (row_info_of i.row)
 
 -- ---- nodes
 
@@ -129,7 +129,7 @@ or_empty (Some t) = t
 abbrev pub head_type : Analysis → (first : Option PrimitiveTypeInfo) → Head → Result PrimitiveTypeInfo Error
 head_type a first h =
     if nat_lt h.place 12 then Ok (or_empty (slice_get rowless_types h.place))
-    else row_type a first (imm_of h.payload) (info_of (h.place - 12))
+    else row_type a first (imm_of h.payload) (row_info_of (h.place - 12))
 
 -- what a look-up says of the first of some operands
 abbrev pub first_type : (ℕ → Option PrimitiveTypeInfo) → List Id → Option PrimitiveTypeInfo

@@ -1,7 +1,7 @@
 -- The operand whose type is that of a node's result, where the instruction table says that the first one decides (this
 -- project). The code goes down from a node to such an operand; these words are its own.
 use Rattle.std.specs.Prelude.{ℕ, ◌-◌, nat_lt, List, [], ◌∷◌, Option, Some, None, if◌then◌else◌}
-use Rattle.wasm_code.specs.Table.{info_of}
+use Rattle.wasm_code.specs.Table.{row_info_of}
 use Rattle.wasm_code.specs.declared.table.ResultKind.{ResultKind}
 use Rattle.wasm_code.specs.declared.table.ResultKind.TheVariants.{First}
 use Rattle.wasm_code.specs.declared.table.RowInfo.{RowInfo}
@@ -23,4 +23,4 @@ deciding_in (Some row) ids = deciding_by row.result ids
 
 -- the place of that operand, or none where the operands decide nothing
 abbrev pub deciding_operand : Lang → Option ℕ
-deciding_operand l = if nat_lt (place_of l) 12 then None else deciding_in (info_of (place_of l - 12)) (ids_of l)
+deciding_operand l = if nat_lt (place_of l) 12 then None else deciding_in (row_info_of (place_of l - 12)) (ids_of l)

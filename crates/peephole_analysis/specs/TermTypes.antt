@@ -21,9 +21,9 @@ abbrev mutual
   first_term_type a (t ▸ ts) = result_ok (term_type a t)
 
 -- of the term at a place of an expression
-abbrev pub type_at : Analysis → List Lang → ℕ → Result PrimitiveTypeInfo Error
-type_at a expr i = term_type a (tree_at (nodes_of head_of children_of expr) i)
+abbrev pub type_of_node : Analysis → List Lang → ℕ → Result PrimitiveTypeInfo Error
+type_of_node a expr i = term_type a (tree_at (nodes_of head_of children_of expr) i)
 
 -- where it is known
 abbrev pub known_type : Analysis → List Lang → ℕ → Option PrimitiveTypeInfo
-known_type a expr i = result_ok (type_at a expr i)
+known_type a expr i = result_ok (type_of_node a expr i)

@@ -1,8 +1,6 @@
 pub mod Devices
 pub mod Answer
-pub mod Values
 pub mod Steps
-pub mod Blocks
 pub mod Refusals
 pub mod Writings
 pub mod Shows

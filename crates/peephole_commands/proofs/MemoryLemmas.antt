@@ -6,7 +6,7 @@ use Rattle.std.specs.Result.{result_ok, result_map_both}
 use Rattle.hex.specs.Hex.{decode_of}
 use Rattle.wasm_code.specs.Body.{IsFault}
 use Rattle.wasm_code.specs.Reader.{body_at}
-use Rattle.wasm_code.specs.Table.{info_of}
+use Rattle.wasm_code.specs.Table.{row_info_of}
 use Rattle.wasm_code.specs.declared.fault.ReadKind.{ReadKind}
 use Rattle.wasm_code.specs.declared.fault.ReadKind.TheVariants as kinds
 use Rattle.wasm_code.specs.declared.immediate.Imm.{Imm}
@@ -14,7 +14,7 @@ use Rattle.wasm_code.specs.declared.operator.Operator.{Operator}
 use Rattle.wasm_code.specs.declared.table.ResultKind.{ResultKind}
 use Rattle.wasm_code.specs.declared.table.ResultKind.TheVariants as by
 use Rattle.wasm_code.specs.declared.table.RowInfo.{RowInfo}
-use Rattle.mutate_base.specs.Module.{Module, function_type}
+use Rattle.mutate_base.specs.Module.{function_type}
 use Rattle.mutate_base.specs.declared.error.Error.{Error}
 use Rattle.mutate_base.specs.declared.error.Error.TheVariants as error
 use Rattle.mutate_base.specs.declared.term_error.TermError.{TermError}
@@ -33,7 +33,7 @@ use Rattle.peephole_graphs.specs.Tree as tree
 use Rattle.peephole_graphs.specs.Tree.{Tree, Trees}
 use Rattle.peephole_terms.specs.Expansion.{Setting, expanded}
 use Rattle.peephole_terms.specs.Laws.{RefusesByName}
-use Rattle.peephole_terms.specs.Written.{is_written, term_code, term_requests, written_block}
+use Rattle.peephole_terms.specs.Written.{Site, is_written, term_code, term_requests, written_block, block_operators}
 use Rattle.peephole_script.specs.declared.command.Command.{Command}
 use Rattle.peephole_script.specs.declared.command.Command.TheVariants as name
 use Rattle.peephole_script.specs.declared.fault.Fault.{Fault}
@@ -44,12 +44,13 @@ use Rattle.peephole_script.specs.Declarations.{declared}
 use Rattle.peephole_script.specs.Text.{is_text, words_of, number_of}
 use Rattle.peephole_commands.specs.declared.graphs.Refusal.{Refusal}
 use Rattle.peephole_commands.specs.declared.graphs.Refusal.TheVariants as refusal
+use Rattle.peephole_commands.specs.Arguments.{only, all_below}
 use Rattle.peephole_commands.specs.Body.{Contents, with_operators, body_of}
-use Rattle.peephole_commands.specs.Commands.{quiet, with_argument, local_step, preserve_step, word_step, body_read, at_body, at_step, node_added, node_read, node_step, place_at, place_in, place_of, at_place, command_step, run_command, step}
-use Rattle.peephole_commands.specs.Graphs.{refusal_of, shapes_or_refusal, of_graph, operators_in}
+use Rattle.peephole_commands.specs.Commands.{with_argument, body_read, at_body, node_read, node_with, node_step, place_at, place_in, working_place, at_working_place, command_step, run_command, words_step, step_line}
+use Rattle.peephole_commands.specs.Graphs.{refusal_of, of_graph}
 use Rattle.peephole_commands.specs.Laws.{IsOfNoMemory, NeverFaultsForMemory, NeverRefusesForMemory}
 use Rattle.peephole_commands.specs.Results.{tree_type, first_tree_type}
-use Rattle.peephole_commands.specs.State.{State, Reply}
+use Rattle.peephole_commands.specs.State.{SessionState, Reply}
 use Rattle.peephole_commands.specs.Writing.{with_code, with_nodes, with_term}
 
 -- ---- faults
@@ -58,128 +59,98 @@ abbrev fault_in : {A : Type 0} → Result A Fault → Fault
 fault_in (Ok x) = fault.Text
 fault_in (Err f) = f
 
--- the fault that a step answers
-err : (g f : Fault) → IsOfNoMemory g → ◌≡◌ {A = Result Reply Fault} (Err g) (Err f) → IsOfNoMemory f
-err g f p e = subst IsOfNoMemory (ap fault_in e) p
+-- a step's answer is no fault for want of memory
+abbrev Sound : Result Reply Fault → Type 0
+Sound (Ok reply) = Unit {0}
+Sound (Err f) = IsOfNoMemory f
 
-bad : IsOfNoMemory fault.BadArgument
-bad = (λ h. cc, λ h. cc)
+sound_is : (r : Result Reply Fault) → Sound r → (f : Fault) → r ≡ Err f → IsOfNoMemory f
+sound_is (Ok reply) h f e = absurd (cc)
+sound_is (Err g) h f e = subst IsOfNoMemory (ap fault_in e) h
 
-no_block : IsOfNoMemory fault.NoBlock
-no_block = (λ h. cc, λ h. cc)
+either : (b : Bool) (x y : Result Reply Fault) → Sound x → Sound y → Sound (if b then x else y)
+either true x y h k = h
+either false x y h k = k
 
-quiet_never : (s : State) (f : Fault) → quiet s ≡ Err f → IsOfNoMemory f
-quiet_never s f e = absurd (cc)
-
-either : (b : Bool) (x y : Result Reply Fault) (f : Fault) → (x ≡ Err f → IsOfNoMemory f) → (y ≡ Err f → IsOfNoMemory f) → (if b then x else y) ≡ Err f → IsOfNoMemory f
-either true x y f g h e = g e
-either false x y f g h e = h e
-
-with_never : {A : Type 0} (o : Option A) (k : A → Result Reply Fault) (f : Fault) → ((x : A) → k x ≡ Err f → IsOfNoMemory f) → with_argument o k ≡ Err f → IsOfNoMemory f
-with_never None k f h e = err fault.BadArgument f bad e
-with_never (Some x) k f h e = h x e
-
-local_never : (s : State) (words : List (List ℕ)) (f : Fault) → local_step s words ≡ Err f → IsOfNoMemory f
-local_never s [] f e = err fault.BadArgument f bad e
-local_never s (word ∷ []) f e = with_never (type_of word) _ f (λ t h. absurd (cc)) e
-local_never s (word ∷ other ∷ words) f e = err fault.BadArgument f bad e
-
-preserve_never : (s : State) (words : List (List ℕ)) (f : Fault) → preserve_step s words ≡ Err f → IsOfNoMemory f
-preserve_never s [] f e = err fault.BadArgument f bad e
-preserve_never s (word ∷ []) f e = with_never (is_yes word) _ f (λ t h. absurd (cc)) e
-preserve_never s (word ∷ other ∷ words) f e = err fault.BadArgument f bad e
-
-word_never : (s : State) (words : List (List ℕ)) (f : Fault) → word_step s words ≡ Err f → IsOfNoMemory f
-word_never s [] f e = err fault.BadArgument f bad e
-word_never s (word ∷ []) f e = with_never (number_of word) _ f (λ t h. absurd (cc)) e
-word_never s (word ∷ other ∷ words) f e = err fault.BadArgument f bad e
+argument_sound : {A : Type 0} (o : Option A) (k : A → Result Reply Fault) → ((x : A) → Sound (k x)) → Sound (with_argument o k)
+argument_sound None k h = (λ e. cc, λ e. cc)
+argument_sound (Some x) k h = h x
 
 abbrev HasNoMemoryFault : Type 0
-HasNoMemoryFault = (start : ℕ) (text : List ℕ) (kind : ReadKind) (offset : ℕ) → body_at start text ≡ Err (kind, offset) → IsFault start (start + length text) text kind offset × (kind ≢ kinds.Memory)
+HasNoMemoryFault = (start : ℕ) (text : List ℕ) (kind : ReadKind) (offset : ℕ) → body_at start text ≡ Err (kind, offset) →
+    IsFault start (start + length text) text kind offset × (kind ≢ kinds.Memory)
 
 abbrev read_kind : Fault → ReadKind
 read_kind (fault.Read kind) = kind
 read_kind _ = kinds.NoEnd
 
-body_never : HasNoMemoryFault → (s : State) (bytes : List ℕ) (f : Fault) → body_read s (body_of bytes) ≡ Err f → IsOfNoMemory f
-body_never law s bytes f e = go (body_at 0 bytes) refl e
+body_sound : HasNoMemoryFault → (s : SessionState) (bytes : List ℕ) → Sound (body_read s (body_of bytes))
+body_sound law s bytes = go (body_at 0 bytes) refl
   where
-    go : (r : Result (List (Operator × ℕ)) (ReadKind × ℕ)) → body_at 0 bytes ≡ r → body_read s (with_operators bytes r) ≡ Err f → IsOfNoMemory f
-    go (Ok xs) is h = absurd (cc)
-    go (Err why) is h = err (fault.Read why.0) f (λ m. cc, λ m. (law 0 bytes why.0 why.1 is).1 (ap read_kind m)) h
+    go : (r : Result (List (Operator × ℕ)) (ReadKind × ℕ)) → body_at 0 bytes ≡ r → Sound (body_read s (with_operators bytes r))
+    go (Ok xs) is = tt
+    go (Err why) is = (λ e. cc, λ e. (law 0 bytes why.0 why.1 is).1 (ap read_kind e))
 
-at_never : (s : State) (n : ℕ) (body : Option Contents) (f : Fault) → at_body s n body ≡ Err f → IsOfNoMemory f
-at_never s n None f e = err fault.NoBody f (λ h. cc, λ h. cc) e
-at_never s n (Some body) f e = either (nat_lt n (length body.operators)) _ _ f (λ h. absurd (cc)) (err fault.OutOfRange f (λ h. cc, λ h. cc)) e
+at_sound : (s : SessionState) (n : ℕ) (body : Option Contents) → Sound (at_body s n body)
+at_sound s n None = (λ e. cc, λ e. cc)
+at_sound s n (Some body) = either (nat_lt n (length body.operators)) _ (Err fault.OutOfRange) tt (λ e. cc, λ e. cc)
 
-at_step_never : (s : State) (words : List (List ℕ)) (f : Fault) → at_step s words ≡ Err f → IsOfNoMemory f
-at_step_never s [] f e = err fault.BadArgument f bad e
-at_step_never s (word ∷ []) f e = with_never (number_of word) _ f (λ n h. at_never s n s.body f h) e
-at_step_never s (word ∷ other ∷ words) f e = err fault.BadArgument f bad e
+read_sound : (s : SessionState) (children : List ℕ) (r : Result Head TermError) → Sound (node_read s children r)
+read_sound s children (Ok head) =
+    either (not (is_writable head.payload)) (Err fault.Unwritable) _ (λ e. cc, λ e. cc)
+    (either (nat_lt (length s.nodes) (2 ^ 32)) _ (Err fault.TooLarge) tt (λ e. cc, λ e. cc))
+read_sound s children (Err why) = (λ e. cc, λ e. cc)
 
-added_never : (s : State) (n : Node Head) (f : Fault) → node_added s n ≡ Err f → IsOfNoMemory f
-added_never s n f e =
-    either (not (is_writable n.head.payload)) _ _ f (err fault.Unwritable f (λ h. cc, λ h. cc))
-    (λ h. either (nat_lt (length s.nodes) (2 ^ 32)) _ _ f (λ q. absurd (cc)) (err fault.TooLarge f (λ q. cc, λ q. cc)) h) e
-
-read_never : (s : State) (children : List ℕ) (r : Result Head TermError) (f : Fault) → node_read s children r ≡ Err f → IsOfNoMemory f
-read_never s children (Ok head) f e = added_never s (record { head = head; children = children }) f e
-read_never s children (Err why) f e = err (fault.Term why) f (λ h. cc, λ h. cc) e
-
-node_never : (s : State) (words : List (List ℕ)) (f : Fault) → node_step s words ≡ Err f → IsOfNoMemory f
-node_never s [] f e = err fault.BadArgument f bad e
-node_never s (text ∷ words) f e =
-    with_never (all_of number_of words) _ f
-    (λ children h. either (list_all (λ child. nat_lt child (length s.nodes)) children) _ _ f (read_never s children (reads text (length children)) f) (err fault.BadChild f (λ q. cc, λ q. cc)) h) e
-
-abbrev Found : Type 0
-Found = Result (Contents × ℕ × BlockRange) Fault
-
-place_err : (g f : Fault) → IsOfNoMemory g → ◌≡◌ {A = Found} (Err g) (Err f) → IsOfNoMemory f
-place_err g f p e = subst IsOfNoMemory (ap fault_in e) p
-
-place_at_never : (body : Contents) (point : ℕ) (b : Option BlockRange) (f : Fault) → place_at body point b ≡ Err f → IsOfNoMemory f
-place_at_never body point None f e = place_err fault.NoBlock f no_block e
-place_at_never body point (Some b) f e = absurd (cc)
-
-place_in_never : (body : Option Contents) (point : Option ℕ) (f : Fault) → place_in body point ≡ Err f → IsOfNoMemory f
-place_in_never None point f e = place_err fault.NoBlock f no_block e
-place_in_never (Some body) None f e = place_err fault.NoBlock f no_block e
-place_in_never (Some body) (Some point) f e = place_at_never body point (block_at body.operators point) f e
-
-place_never : (s : State) (words : List (List ℕ)) (f : Fault) → place_of s words ≡ Err f → IsOfNoMemory f
-place_never s [] f e = place_in_never s.body s.point f e
-place_never s (word ∷ words) f e = place_err fault.BadArgument f bad e
-
-at_place_never : (s : State) (words : List (List ℕ)) (text : Contents → ℕ → BlockRange → List ℕ) (f : Fault) → at_place s (place_of s words) text ≡ Err f → IsOfNoMemory f
-at_place_never s words text f e = go (place_of s words) refl e
+below_sound : (count : ℕ) (o : Option (List ℕ)) (s : SessionState) (text : List ℕ) → Sound (node_with s text (all_below count o))
+below_sound count None s text = (λ e. cc, λ e. cc)
+below_sound count (Some children) s text = go (list_all (λ n. nat_lt n count) children)
   where
-    go : (r : Found) → place_of s words ≡ r → at_place s r text ≡ Err f → IsOfNoMemory f
-    go (Ok p) is h = absurd (cc)
-    go (Err g) is h = err g f (place_never s words g is) h
+    go : (b : Bool) → Sound (node_with s text (if b then Ok children else Err fault.BadChild))
+    go true = read_sound s children (reads text (length children))
+    go false = (λ e. cc, λ e. cc)
 
-command_never : HasNoMemoryFault → (c : Command) (s : State) (words : List (List ℕ)) (f : Fault) → command_step c s words ≡ Err f → IsOfNoMemory f
-command_never law name.Body s words f e = with_never (result_ok (decode_of (concat words))) _ f (λ bytes h. body_never law s bytes f h) e
-command_never law name.At s words f e = at_step_never s words f e
-command_never law name.Node s words f e = node_never s words f e
-command_never law name.Write s words f e = at_place_never s words _ f e
-command_never law name.Show s words f e = at_place_never s words _ f e
-command_never law name.Result s words f e = at_place_never s words _ f e
-command_never law name.Local s words f e = local_never s words f e
-command_never law name.Preserve s words f e = preserve_never s words f e
-command_never law name.Word s words f e = word_never s words f e
-command_never law (name.Declare declaration) s words f e = with_never (declared declaration s.info words) _ f (λ info h. absurd (cc)) e
+node_sound : (s : SessionState) (words : List (List ℕ)) → Sound (node_step s words)
+node_sound s [] = (λ e. cc, λ e. cc)
+node_sound s (text ∷ words) = below_sound (length s.nodes) (all_of number_of words) s text
 
-run_never : HasNoMemoryFault → (s : State) (c : Option Command) (words : List (List ℕ)) (f : Fault) → run_command s c words ≡ Err f → IsOfNoMemory f
-run_never law s None words f e = err fault.UnknownCommand f (λ h. cc, λ h. cc) e
-run_never law s (Some c) words f e = command_never law c s words f e
+place_sound : (s : SessionState) (body : Option Contents) (point : Option ℕ) (text : Site → List ℕ) →
+    Sound (at_working_place s (place_in body point) text)
+place_sound s None point text = (λ e. cc, λ e. cc)
+place_sound s (Some body) None text = (λ e. cc, λ e. cc)
+place_sound s (Some body) (Some point) text = go (block_at body.operators point)
+  where
+    go : (b : Option BlockRange) → Sound (at_working_place s (place_at body point b) text)
+    go None = (λ e. cc, λ e. cc)
+    go (Some block) = tt
 
-step_never : HasNoMemoryFault → (s : State) (words : List (List ℕ)) (f : Fault) → step s words ≡ Err f → IsOfNoMemory f
-step_never law s [] f e = quiet_never s f e
-step_never law s (word ∷ words) f e = run_never law s (command_of word) words f e
+working_sound : (s : SessionState) (words : List (List ℕ)) (text : Site → List ℕ) →
+    Sound (at_working_place s (working_place s words) text)
+working_sound s [] text = place_sound s s.body s.point text
+working_sound s (word ∷ words) text = (λ e. cc, λ e. cc)
+
+command_sound : HasNoMemoryFault → (c : Command) (s : SessionState) (words : List (List ℕ)) → Sound (command_step c s words)
+command_sound law name.Body s words = argument_sound (result_ok (decode_of (concat words))) _ (body_sound law s)
+command_sound law name.At s words = argument_sound (only number_of words) _ (λ n. at_sound s n s.body)
+command_sound law name.Node s words = node_sound s words
+command_sound law name.Write s words = working_sound s words _
+command_sound law name.Show s words = working_sound s words _
+command_sound law name.Result s words = working_sound s words _
+command_sound law name.Local s words = argument_sound (only type_of words) _ (λ t. tt)
+command_sound law name.Preserve s words = argument_sound (only is_yes words) _ (λ b. tt)
+command_sound law name.Word s words = argument_sound (only number_of words) _ (λ n. tt)
+command_sound law (name.Declare declaration) s words = argument_sound (declared declaration s.info words) _ (λ info. tt)
+
+words_sound : HasNoMemoryFault → (s : SessionState) (words : List (List ℕ)) → Sound (words_step s words)
+words_sound law s [] = tt
+words_sound law s (word ∷ words) = go (command_of word)
+  where
+    go : (c : Option Command) → Sound (run_command s c words)
+    go None = (λ e. cc, λ e. cc)
+    go (Some c) = command_sound law c s words
 
 pub never_faults : HasNoMemoryFault → NeverFaultsForMemory
-never_faults law s line f e = either (is_text line) _ _ f (step_never law s (words_of line) f) (err fault.Text f (λ h. cc, λ h. cc)) e
+never_faults law s line =
+    sound_is (step_line s line) (either (is_text line) _ (Err fault.Text) (words_sound law s (words_of line)) (λ e. cc, λ e. cc))
 
 -- ---- refusals
 
@@ -221,7 +192,7 @@ row_never a first i (Some row) e = type_never a first i row.result e
 
 tree_never : (a : Analysis) (t : Tree) → Refuses (tree_type a t)
 tree_never a (tree.entry m) e = cc
-tree_never a (tree.node i s kids) e = row_never a (first_tree_type a kids) s.instr.imm (info_of s.instr.row) e
+tree_never a (tree.node i s kids) e = row_never a (first_tree_type a kids) s.instr.imm (row_info_of s.instr.row) e
 
 -- ---- commands
 
@@ -249,15 +220,13 @@ shapes_never : (o : Option graph.Fault) (block : List Shape) → Tells (result_m
 shapes_never None block e = cc
 shapes_never (Some f) block e = fault_never f (ap refusal_in e)
 
-of_graph_never : {A : Type 0} (r : Result (List Shape) Refusal) (k : List Shape → Result A Refusal) → Tells r → ((block : List Shape) → Tells (k block)) → Tells (of_graph r k)
+of_graph_never : {A : Type 0} (r : Result (List Shape) Refusal) (k : List Shape → Result A Refusal) → Tells r → ((block : List Shape) → Tells (k block)) →
+    Tells (of_graph r k)
 of_graph_never (Ok block) k p q e = q block e
 of_graph_never (Err why) k p q e = p (ap (λ (r : Refusal). Err r) (ap refusal_in e))
 
-graphed_never : (info : Module) (keeping : Bool) (os : List (Operator × ℕ)) → Tells (shapes_or_refusal info keeping os)
-graphed_never info keeping os = shapes_never (graph.fault_of info keeping os) _
-
-term_never : RefusesByName → (s : Setting) (body : Contents) (point : ℕ) (range : BlockRange) (t : Term Head) → Refuses (term_code s body.operators range point t)
-term_never law s body point range t = go (is_written s.info body.operators range point)
+term_never : RefusesByName → (s : Setting) (site : Site) (t : Term Head) → Refuses (term_code s site t)
+term_never law s site t = go (is_written s.info site)
   where
     other : (error.Memory ≡ error.CannotUnfold) ⊎ (error.Memory ≡ error.GlobalIndex) → ⊥
     other (inl e) = cc
@@ -267,23 +236,25 @@ term_never law s body point range t = go (is_written s.info body.operators range
     go true e = other (law s t error.Memory e)
     go false e = cc
 
-whole_never : RefusesByName → (s : Setting) (body : Contents) (point : ℕ) (range : BlockRange) (t : Term Head) → Tells (with_term s body point range t)
-whole_never law s body point range t =
-    mapped_never (λ code. with_code body range (term_requests s.info body.operators range point t) (written_block s.info body.operators range point code))
-    (term_code s body.operators range point t) (term_never law s body point range t)
+whole_never : RefusesByName → (s : Setting) (site : Site) (t : Term Head) → Tells (with_term s site t)
+whole_never law s site t =
+    mapped_never (λ code. with_code site (term_requests s.info site t) (written_block s.info site code)) (term_code s site t) (term_never law s site t)
 
-nodes_never : RefusesByName → (s : Setting) (body : Contents) (point : ℕ) (range : BlockRange) (nodes : List (Node Head)) → Tells (with_nodes s body point range nodes)
-nodes_never law s body point range [] e = cc
-nodes_never law s body point range (n ∷ nodes) e = whole_never law s body point range (tree_at (reverse (n ∷ nodes)) (length (n ∷ nodes) - 1)) e
+nodes_never : RefusesByName → (s : Setting) (site : Site) (nodes : List (Node Head)) → Tells (with_nodes s site nodes)
+nodes_never law s site [] e = cc
+nodes_never law s site (n ∷ nodes) e = whole_never law s site (tree_at (reverse (n ∷ nodes)) (length (n ∷ nodes) - 1)) e
 
-order_never : {A : Type 0} (stopped : Bool) (answer : Result A Refusal) → Tells answer → Tells (if stopped then Err (refusal.Refused error.NoMutationsApplicable) else answer)
+order_never : {A : Type 0} (stopped : Bool) (answer : Result A Refusal) → Tells answer →
+    Tells (if stopped then Err (refusal.Refused error.NoMutationsApplicable) else answer)
 order_never true answer p e = cc
 order_never false answer p e = p e
 
 pub never_refuses : RefusesByName → NeverRefusesForMemory
 never_refuses law = record {
-  shown = λ info keeping body range. of_graph_never _ _ (graphed_never info keeping (operators_in body range)) (λ block e. cc);
-  typed = λ a keeping body range. of_graph_never _ _ (graphed_never a.info keeping (operators_in body range)) (λ block. mapped_never _ _ (tree_never a _));
-  written = λ s keeping body point range nodes.
-      of_graph_never _ _ (graphed_never s.info keeping (operators_in body range)) (λ block. order_never _ _ (nodes_never law s body point range nodes));
+  show = λ info preserving site. of_graph_never _ _ (shapes_never (graph.fault_of info preserving (block_operators site)) _) (λ block e. cc);
+  result = λ a preserving site. of_graph_never _ _ (shapes_never (graph.fault_of a.info preserving (block_operators site)) _)
+      (λ block. mapped_never _ _ (tree_never a _));
+  write = λ s preserving site nodes.
+      of_graph_never _ _ (shapes_never (graph.fault_of s.info preserving (block_operators site)) _)
+      (λ block. order_never _ _ (nodes_never law s site nodes));
 }

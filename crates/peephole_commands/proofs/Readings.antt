@@ -1,5 +1,5 @@
 -- What reading a body answers is what the function gives.
-use Rattle.std.proofs.Common.{◌≡◌, ◌≢◌, ℕ, ◌+◌, ◌⊎◌, inl, inr, List, length, Ok, Err, refl, ap, arith}
+use Rattle.std.proofs.Common.{◌≡◌, ◌≢◌, ℕ, ◌+◌, ◌⊎◌, inl, inr, List, length, Ok, Err, refl, ap, ◌∙◌, arith}
 use Rattle.std.specs.Prelude.{slice_range}
 use Rattle.std.proofs.lemmas.Grind.{common_steps}
 use Rattle.wasm_code.specs.declared.operator.Operator.{Operator}
@@ -9,28 +9,29 @@ use Rattle.wasm_code.specs.Body.{SpellsBody, IsFault}
 use Rattle.wasm_code.specs.Reader.{body_at}
 use Rattle.peephole_commands.specs.Body.{with_operators, body_of}
 
-pub whole : (bytes : List ℕ) → slice_range bytes 0 (length bytes) ≡ bytes
-whole bytes = grind (arith, common_steps)
+whole : (bytes slice : List ℕ) (n : ℕ) → slice ≡ bytes → n ≡ length slice → slice_range slice 0 n ≡ bytes
+whole bytes slice n e k = rw (k, e) (grind (arith, common_steps))
 
 -- the operators that were found
-pub found : (bytes text : List ℕ) (operators : List (Operator × ℕ)) → text ≡ bytes → ((start : ℕ) (text : List ℕ) (xs : List (Operator × ℕ)) → SpellsBody start text xs → body_at start text ≡ Ok xs) →
-    SpellsBody 0 text operators → body_of bytes ≡ Ok (record { bytes = bytes; operators = operators })
-found bytes text operators e law h = ap (with_operators bytes) (law 0 bytes operators (rw e at h))
+pub found : (bytes slice : List ℕ) (n : ℕ) (operators : List (Operator × ℕ)) → slice ≡ bytes → n ≡ length slice →
+    ((start : ℕ) (text : List ℕ) (xs : List (Operator × ℕ)) → SpellsBody start text xs → body_at start text ≡ Ok xs) →
+    SpellsBody 0 (slice_range slice 0 n) operators → body_of bytes ≡ Ok (record { bytes = bytes; operators = operators })
+found bytes slice n operators e k law h = ap (with_operators bytes) (law 0 bytes operators (rw (whole bytes slice n e k) at h))
+
+memory_or_not : (kind : ReadKind) → (kind ≡ kinds.Memory) ⊎ (kind ≢ kinds.Memory)
+memory_or_not kinds.Memory = inl refl
+memory_or_not _ = inr (λ m. cc)
 
 -- the first fault
-named_fault : (bytes text : List ℕ) (kind : ReadKind) (offset : ℕ) → text ≡ bytes →
-    ((start : ℕ) (text : List ℕ) (kind : ReadKind) (offset : ℕ) → IsFault start (start + length text) text kind offset → kind ≢ kinds.Memory → body_at start text ≡ Err (kind, offset)) →
-    IsFault 0 (length bytes) text kind offset → (kind ≡ kinds.Memory) ⊎ (body_of bytes ≡ Err kind)
-named_fault bytes text kinds.Memory offset e law h = inl refl
-named_fault bytes text kinds.Truncated offset e law h = inr (ap (with_operators bytes) (law 0 bytes kinds.Truncated offset (rw e at h) (λ m. cc)))
-named_fault bytes text kinds.UnknownOpcode offset e law h = inr (ap (with_operators bytes) (law 0 bytes kinds.UnknownOpcode offset (rw e at h) (λ m. cc)))
-named_fault bytes text kinds.BadInteger offset e law h = inr (ap (with_operators bytes) (law 0 bytes kinds.BadInteger offset (rw e at h) (λ m. cc)))
-named_fault bytes text kinds.BadImmediate offset e law h = inr (ap (with_operators bytes) (law 0 bytes kinds.BadImmediate offset (rw e at h) (λ m. cc)))
-named_fault bytes text kinds.NoEnd offset e law h =
-    let n : 0 + length bytes ≡ length bytes = omega arith in
-    inr (ap (with_operators bytes) (law 0 bytes kinds.NoEnd offset (rw n (rw e at h)) (λ m. cc)))
+pub faulty : (bytes slice : List ℕ) (n : ℕ) (kind : ReadKind) (offset : ℕ) → slice ≡ bytes → n ≡ length slice →
+    ((start : ℕ) (text : List ℕ) (kind : ReadKind) (offset : ℕ) → IsFault start (start + length text) text kind offset → kind ≢ kinds.Memory →
+    body_at start text ≡ Err (kind, offset)) →
+    IsFault 0 n (slice_range slice 0 n) kind offset → (kind ≡ kinds.Memory) ⊎ (body_of bytes ≡ Err kind)
+faulty bytes slice n kind offset e k law h = go (memory_or_not kind)
+  where
+    to : n ≡ 0 + length bytes
+    to = k ∙ (ap (λ (xs : List ℕ). length xs) e ∙ omega arith)
 
-pub faulty : (bytes text : List ℕ) (to : ℕ) (kind : ReadKind) (offset : ℕ) → text ≡ bytes → to ≡ length bytes →
-    ((start : ℕ) (text : List ℕ) (kind : ReadKind) (offset : ℕ) → IsFault start (start + length text) text kind offset → kind ≢ kinds.Memory → body_at start text ≡ Err (kind, offset)) →
-    IsFault 0 to text kind offset → (kind ≡ kinds.Memory) ⊎ (body_of bytes ≡ Err kind)
-faulty bytes text to kind offset e n law h = named_fault bytes text kind offset e law (rw n at h)
+    go : (kind ≡ kinds.Memory) ⊎ (kind ≢ kinds.Memory) → (kind ≡ kinds.Memory) ⊎ (body_of bytes ≡ Err kind)
+    go (inl m) = inl m
+    go (inr m) = inr (ap (with_operators bytes) (law 0 bytes kind offset (rw to at (rw (whole bytes slice n e k) at h)) m))

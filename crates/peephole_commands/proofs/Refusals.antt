@@ -1,55 +1,50 @@
 -- What making a graph refused is what the block's operators say, by the laws on their faults.
 use Rattle.std.proofs.Common.{◌≡◌, ℕ, ◌⊎◌, inl, inr, List, Bool, Option, Some, Ok, Err, refl, ap}
-use Rattle.std.specs.Prelude.{slice_range}
 use Rattle.std.specs.Result.{result_map_both}
 use Rattle.wasm_code.specs.declared.operator.Operator.{Operator}
 use Rattle.mutate_base.specs.Module.{Module}
 use Rattle.mutate_base.specs.declared.error.Error.{Error}
 use Rattle.mutate_base.specs.declared.error.Error.TheVariants as error
-use Rattle.peephole_graphs.specs.declared.dfg.StackEntry.{StackEntry}
-use Rattle.peephole_graphs.specs.Block.{BlockRange}
-use Rattle.peephole_graphs.specs.Shape.{AreFit, block_of}
+use Rattle.peephole_graphs.specs.declared.dfg.MiniDFG.{MiniDFG}
+use Rattle.peephole_graphs.specs.Shape.{shapes_of_block}
 use Rattle.peephole_graphs.specs.Faults.{Fault, held_by_none, calls_unknown, too_large, fault_of, unless, HasNoFault, FindsNoGraph, FindsUnknown, FindsTooLarge}
-use Rattle.peephole_graphs.specs.GraphOf.{IsSmall, HasNoGraph, IsRefused, IsGraphOf}
+use Rattle.peephole_graphs.specs.GraphOf.{HasNoGraph, IsRefused}
 use Rattle.peephole_commands.specs.declared.graphs.Refusal.TheVariants as refusal
-use Rattle.peephole_commands.specs.Graphs.{refusal_of, shapes_or_refusal, module_in}
+use Rattle.peephole_commands.specs.declared.place.Place.{Place}
+use Rattle.peephole_terms.specs.Written.{Site, source_at, block_operators, block_shapes}
+use Rattle.peephole_commands.specs.Graphs.{refusal_of, shapes_or_refusal, site_of, module_in, IsGraphIn}
 
-abbrev Operators : Type 0
-Operators = List (Operator × ℕ)
+-- a place whose block has a graph
+pub shapes_found : HasNoFault → (info : Module) (preserving : Bool) (p : Place) (graph : MiniDFG) → IsGraphIn info preserving p graph →
+    shapes_or_refusal info preserving (site_of p) ≡ Ok (block_shapes info (site_of p))
+shapes_found law info preserving p graph g =
+    let os = block_operators (site_of p) in
+    ap (λ (f : Option Fault). result_map_both (λ block. block) refusal_of (unless f (shapes_of_block info os))) ((law info preserving os).1 (g.fit, g.small))
 
--- a block that fits
-pub shapes_found : HasNoFault → (info : Module) (keeping : Bool) (os : Operators) → AreFit info os → IsSmall keeping (block_of info os) →
-    shapes_or_refusal info keeping os ≡ Ok (block_of info os)
-shapes_found law info keeping os fit small =
-    ap (λ (f : Option Fault). result_map_both (λ block. block) refusal_of (unless f (block_of info os))) ((law info keeping os).1 (fit, small))
+at_fault : (info : Module) (preserving : Bool) (site : Site) (f : Fault) → fault_of info preserving (block_operators site)
+    ≡ Some f →
+    shapes_or_refusal info preserving site ≡ Err (refusal_of f)
+at_fault info preserving site f e =
+    ap (λ (f : Option Fault). result_map_both (λ block. block) refusal_of (unless f (shapes_of_block info (block_operators site)))) e
 
-at_fault : (info : Module) (keeping : Bool) (os : Operators) (f : Fault) → fault_of info keeping os ≡ Some f → shapes_or_refusal info keeping os ≡ Err (refusal_of f)
-at_fault info keeping os f e = ap (λ (f : Option Fault). result_map_both (λ block. block) refusal_of (unless f (block_of info os))) e
+-- no graph
+pub none_for : FindsNoGraph → (info : Module) (preserving : Bool) (site : Site) →
+    HasNoGraph (source_at info preserving site) → shapes_or_refusal info preserving site ≡ Err refusal.NoGraph
+none_for law info preserving site h = at_fault info preserving site held_by_none ((law (source_at info preserving site)).1 h)
 
 -- a call that refused
-refused_for : FindsUnknown → FindsTooLarge → (info : Module) (keeping : Bool) (os : Operators) (e : Error) → IsRefused info keeping os e →
-    (refusal.Refused e ≡ refusal.Refused error.Memory) ⊎ (shapes_or_refusal info keeping os ≡ Err (refusal.Refused e))
-refused_for unknown large info keeping os error.Memory h = inl refl
-refused_for unknown large info keeping os error.TooLarge h = inr (at_fault info keeping os too_large ((large info keeping os).1 h))
-refused_for unknown large info keeping os (error.UnknownFunction function) h =
-    inr (at_fault info keeping os (calls_unknown function) ((unknown info keeping os function).1 h))
-refused_for unknown large info keeping os _ h = absurd h
+pub refused_for : FindsUnknown → FindsTooLarge → (info : Module) (preserving : Bool) (site : Site) (e : Error) →
+    IsRefused (source_at info preserving site) e →
+    (refusal.Refused e ≡ refusal.Refused error.Memory) ⊎ (shapes_or_refusal info preserving site ≡ Err (refusal.Refused e))
+refused_for unknown large info preserving site error.Memory h = inl refl
+refused_for unknown large info preserving site error.TooLarge h =
+    inr (at_fault info preserving site too_large ((large (source_at info preserving site)).1 h))
+refused_for unknown large info preserving site (error.UnknownFunction function) h =
+    inr (at_fault info preserving site (calls_unknown function) ((unknown (source_at info preserving site) function).1 h))
+refused_for unknown large info preserving site _ h = absurd h
 
--- ---- the same whatever the module, the mode and the operators are called
-
-pub graph_here : (under : Option Module) (info : Module) (keeping mode : Bool) (all os : Operators) (range : BlockRange) (entries : List StackEntry) (parents : List (Option ℕ)) (look : ℕ → Option ℕ) →
-    under ≡ Some info → mode ≡ keeping → os ≡ all → IsGraphOf info mode range.start (slice_range os range.start range.end) entries parents look →
-    IsGraphOf (module_in under) keeping range.start (slice_range all range.start range.end) entries parents look
-graph_here under info keeping mode all os range entries parents look u m e h = rw u (rw (m, e) at h)
-
-pub none_here : FindsNoGraph → (under : Option Module) (info : Module) (keeping mode : Bool) (all os : Operators) (range : BlockRange) →
-    under ≡ Some info → mode ≡ keeping → os ≡ all → HasNoGraph info mode (slice_range os range.start range.end) →
-    shapes_or_refusal (module_in under) keeping (slice_range all range.start range.end) ≡ Err refusal.NoGraph
-none_here law under info keeping mode all os range u m e h =
-    let inside = slice_range all range.start range.end in
-    rw u (at_fault info keeping inside held_by_none ((law info keeping inside).1 (rw (m, e) at h)))
-
-pub refused_here : FindsUnknown → FindsTooLarge → (under : Option Module) (info : Module) (keeping mode : Bool) (all os : Operators) (range : BlockRange) (e : Error) →
-    under ≡ Some info → mode ≡ keeping → os ≡ all → IsRefused info mode (slice_range os range.start range.end) e →
-    (refusal.Refused e ≡ refusal.Refused error.Memory) ⊎ (shapes_or_refusal (module_in under) keeping (slice_range all range.start range.end) ≡ Err (refusal.Refused e))
-refused_here unknown large under info keeping mode all os range e u m s h = rw u (refused_for unknown large info keeping (slice_range all range.start range.end) e (rw (m, s) at h))
+-- the same whatever the module, the mode and the operators are called
+pub called : (P : Module → Bool → List (Operator × ℕ) → Type 0) {under : Option Module} {info : Module} {preserving mode : Bool} {all os : List (Operator
+    × ℕ)} →
+    under ≡ Some info → mode ≡ preserving → os ≡ all → P info mode os → P (module_in under) preserving all
+called P u m e h = rw u (rw (m, e) at h)

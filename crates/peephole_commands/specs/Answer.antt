@@ -5,7 +5,7 @@ use Rattle.peephole_script.specs.declared.fault.Fault.{Fault}
 use Rattle.peephole_script.specs.declared.fault.Fault.TheVariants as fault
 use Rattle.peephole_script.specs.Faults.{fault_name}
 use Rattle.peephole_script.specs.Text.{lines_of}
-use Rattle.peephole_commands.specs.State.{State, Reply, start}
+use Rattle.peephole_commands.specs.State.{SessionState, Reply, start}
 use Rattle.peephole_commands.specs.Commands.{step_line}
 
 -- what is written, and whether no line was faulty
@@ -22,12 +22,12 @@ abbrev pub fault_line : ℕ → Fault → List ℕ
 fault_line n f = codes "line " ++ (decimal n ++ (codes ": " ++ (fault_name f ++ 10 ∷ [])))
 
 -- what the line with the number n makes of what its step answers, where `more` answers the lines after it
-abbrev pub answer_line : ℕ → (State → Answer) → Result Reply Fault → Answer
+abbrev pub answer_line : ℕ → (SessionState → Answer) → Result Reply Fault → Answer
 answer_line n more (Ok reply) = prepend reply.text (more reply.next)
 answer_line n more (Err f) = record { written = fault_line n f; ok = false }
 
 -- the answer to lines in a state, where the first of them has the number n
-unfoldable pub answer_from : State → ℕ → List (List ℕ) → Answer
+unfoldable pub answer_from : SessionState → ℕ → List (List ℕ) → Answer
 answer_from s n [] = record { written = []; ok = true }
 answer_from s n (line ∷ lines) = answer_line n (λ next. answer_from next (n + 1) lines) (step_line s line)
 

@@ -1,22 +1,21 @@
 -- Whether a block has a graph under a module and a mode, and what is refused where it has none (this project's rules).
-use Rattle.std.specs.Prelude.{◌≡◌, ◌⊎◌, ℕ, ◌<◌, MatchResult, Bool, List, [], length, slice_range, Option, Some, None, Result, Ok, Err}
+use Rattle.std.specs.Prelude.{◌≡◌, ◌⊎◌, ℕ, ◌<◌, MatchResult, Bool, List, [], length, Option, Some, None, Result, Ok, Err}
 use Rattle.std.specs.Result.{result_map_both}
-use Rattle.wasm_code.specs.declared.operator.Operator.{Operator}
 use Rattle.mutate_base.specs.declared.error.Error.TheVariants.{Memory, TooLarge, UnknownFunction}
 use Rattle.mutate_base.specs.Config.{Config, info_of, generator_of}
 use Rattle.mutate_base.specs.Module.{Module, module_of}
 use Rattle.mutate_base.specs.Words.{word_stream}
-use Rattle.peephole_graphs.specs.Block.{BlockRange, IsBlockOf}
+use Rattle.peephole_graphs.specs.Block.{IsBlockOf}
 use Rattle.peephole_graphs.specs.declared.shape.Shape.{Shape}
 use Rattle.peephole_graphs.specs.declared.dfg.MiniDFG.{MiniDFG}
 use Rattle.peephole_terms.specs.Expansion.{Setting}
-use Rattle.peephole_graphs.specs.Dfg.{entries_of, parents_of, look_of}
+use Rattle.peephole_terms.specs.Written.{Site, site_at, source_at, block_operators}
+use Rattle.peephole_graphs.specs.Dfg.{graph_of}
 use Rattle.peephole_graphs.specs.Faults.{Fault, held_by_none, calls_unknown, too_large, graphed}
 use Rattle.peephole_graphs.specs.GraphOf.{IsGraphOf}
 use Rattle.peephole_commands.specs.declared.graphs.Refusal.{Refusal}
 use Rattle.peephole_commands.specs.declared.graphs.Refusal.TheVariants as refusal
 use Rattle.peephole_commands.specs.declared.place.Place.{Place}
-use Rattle.peephole_commands.specs.Body.{Contents}
 
 -- why a command has no answer where an operator is at fault
 abbrev pub refusal_of : Fault → Refusal
@@ -25,23 +24,24 @@ refusal_of (calls_unknown function) = refusal.Refused (UnknownFunction function)
 refusal_of too_large = refusal.Refused TooLarge
 
 -- the shapes of a block's operators, the last one first, where a graph holds them
-abbrev pub shapes_or_refusal : Module → Bool → List (Operator × ℕ) → Result (List Shape) Refusal
-shapes_or_refusal info keeping operators = result_map_both (λ block. block) refusal_of (graphed info keeping operators)
+abbrev pub shapes_or_refusal : Module → Bool → Site → Result (List Shape) Refusal
+shapes_or_refusal info preserving site = result_map_both (λ block. block) refusal_of (graphed info preserving (block_operators site))
 
 -- what is said of a block by its shapes, where it has a graph
 abbrev pub of_graph : {A : Type 0} → Result (List Shape) Refusal → (List Shape → Result A Refusal) → Result A Refusal
 of_graph (Ok block) f = f block
 of_graph (Err r) f = Err r
 
-abbrev pub operators_in : Contents → BlockRange → List (Operator × ℕ)
-operators_in body range = slice_range body.operators range.start range.end
-
 -- ---- what calls are given and answer
 
 -- the point is an operator of the body, and the block is its
 pub record IsPlace (p : Place) : Type 0 where
   pub within : p.point < length p.body.now.operators
-  pub block : IsBlockOf p.body.now.operators p.point p.block.start p.block.end
+  pub block : IsBlockOf p.body.now.operators p.point p.block.now.start p.block.now.end
+
+-- what it says of a body to be written
+abbrev pub site_of : Place → Site
+site_of p = site_at p.body.now.bytes p.body.now.operators p.block.now p.point
 
 -- the module of a configuration that is set up
 abbrev pub module_in : Option Module → Module
@@ -57,11 +57,19 @@ words_in (Some words) = words
 abbrev pub setting_in : Config Module (List ℕ) → Setting
 setting_in config = record { info = module_in (info_of config); stream = word_stream (words_in (generator_of config)) }
 
--- the graph is the block's under the configuration
+-- the graph is the block's in a module and a mode
+abbrev pub IsGraphIn : Module → Bool → Place → MiniDFG → Type 0
+IsGraphIn info preserving p graph =
+    IsGraphOf (source_at info preserving (site_of p)) (graph_of graph)
+
+-- under a configuration
 abbrev pub IsGraphAt : {R : Type 0} → Config Module R → Place → MiniDFG → Type 0
-IsGraphAt config p graph =
-    IsGraphOf (module_in (info_of config)) config.preserving p.block.start (operators_in p.body.now p.block) (entries_of graph) (parents_of graph) (look_of graph)
+IsGraphAt config = IsGraphIn (module_in (info_of config)) config.preserving
+
+-- the shapes of the place's block under it
+abbrev pub shapes_at : {R : Type 0} → Config Module R → Place → Result (List Shape) Refusal
+shapes_at config p = shapes_or_refusal (module_in (info_of config)) config.preserving (site_of p)
 
 -- a call answered what is said, which `read` reads of its answer, or memory was refused
-abbrev pub Tells : {A B : Type 0} → (A → B) → Result B Refusal → Result A Refusal → Type 0
-Tells read said result = MatchResult result (λ x. said ≡ Ok (read x)) (λ r. (r ≡ refusal.Refused Memory) ⊎ (said ≡ Err r))
+abbrev pub AnswersAs : {A B : Type 0} → (A → B) → Result B Refusal → Result A Refusal → Type 0
+AnswersAs read said result = MatchResult result (λ x. said ≡ Ok (read x)) (λ r. (r ≡ refusal.Refused Memory) ⊎ (said ≡ Err r))

@@ -1,3 +1,4 @@
+pub mod Arguments
 pub mod Body
 pub mod State
 pub mod Graphs

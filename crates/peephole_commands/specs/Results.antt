@@ -5,14 +5,13 @@ use Rattle.mutate_base.specs.declared.error.Error.{Error}
 use Rattle.mutate_base.specs.declared.types.PrimitiveTypeInfo.{PrimitiveTypeInfo}
 use Rattle.mutate_base.specs.declared.types.PrimitiveTypeInfo.TheVariants.{Empty}
 use Rattle.peephole_analysis.specs.Analysis.{Analysis, instruction_type}
-use Rattle.peephole_graphs.specs.Block.{BlockRange}
 use Rattle.peephole_graphs.specs.Forest.{forest}
 use Rattle.peephole_graphs.specs.Shown.{last_of}
 use Rattle.peephole_graphs.specs.Tree.{Tree, Trees, entry, node, no_trees, ◌▸◌}
 use Rattle.peephole_commands.specs.declared.graphs.Refusal.{Refusal}
 use Rattle.peephole_commands.specs.declared.graphs.Refusal.TheVariants as refusal
-use Rattle.peephole_commands.specs.Body.{Contents}
-use Rattle.peephole_commands.specs.Graphs.{shapes_or_refusal, of_graph, operators_in}
+use Rattle.peephole_terms.specs.Written.{Site}
+use Rattle.peephole_commands.specs.Graphs.{shapes_or_refusal, of_graph}
 
 -- The type of an operator's result, by that of its first operand, which isn't known where it is refused. A missing
 -- operand's is `empty`.
@@ -26,6 +25,6 @@ abbrev mutual
   first_tree_type a (t ▸ ts) = result_ok (tree_type a t)
 
 -- of the point, which is the block's last operator: its tree is the forest's last one
-abbrev pub typed : Analysis → (keeping : Bool) → Contents → BlockRange → Result PrimitiveTypeInfo Refusal
-typed a keeping body range = of_graph (shapes_or_refusal a.info keeping (operators_in body range)) (λ block.
+abbrev pub result_output : Analysis → (preserving : Bool) → Site → Result PrimitiveTypeInfo Refusal
+result_output a preserving site = of_graph (shapes_or_refusal a.info preserving site) (λ block.
     result_map_both (λ t. t) refusal.Refused (tree_type a (last_of (entry 0) (forest block))))

@@ -1,16 +1,15 @@
 -- What the command `show` tells of a block (this project's rules).
 use Rattle.std.specs.Prelude.{ℕ, Bool, true, false, List, ◌++◌, codes, Result, Ok}
 use Rattle.mutate_base.specs.Module.{Module}
-use Rattle.peephole_graphs.specs.Block.{BlockRange}
 use Rattle.peephole_graphs.specs.declared.shape.Shape.{Shape}
-use Rattle.peephole_graphs.specs.Colour.{colour_at}
+use Rattle.peephole_graphs.specs.Color.{color_at}
 use Rattle.peephole_graphs.specs.Forest.{forest, is_in_order}
-use Rattle.peephole_graphs.specs.Shown.{has_one_colour, last_of}
+use Rattle.peephole_graphs.specs.Shown.{has_one_color, last_of}
 use Rattle.peephole_graphs.specs.Tree.{entry}
 use Rattle.peephole_graphs.specs.TreeText.{block_text}
 use Rattle.peephole_commands.specs.declared.graphs.Refusal.{Refusal}
-use Rattle.peephole_commands.specs.Body.{Contents}
-use Rattle.peephole_commands.specs.Graphs.{shapes_or_refusal, of_graph, operators_in}
+use Rattle.peephole_terms.specs.Written.{Site}
+use Rattle.peephole_commands.specs.Graphs.{shapes_or_refusal, of_graph}
 
 abbrev pub yes_or_no : Bool → List ℕ
 yes_or_no true = codes "yes"
@@ -18,7 +17,7 @@ yes_or_no false = codes "no"
 
 -- whether the tree of the point, which is the block's last operator, has one colour: it is the forest's last tree
 abbrev pub is_consistent : Bool → List Shape → Bool
-is_consistent keeping block = has_one_colour (colour_at keeping block) (last_of (entry 0) (forest block))
+is_consistent preserving block = has_one_color (color_at preserving block) (last_of (entry 0) (forest block))
 
 -- the two verdicts behind the forest
 abbrev pub verdicts : (in_order consistent : Bool) → List ℕ
@@ -26,8 +25,9 @@ verdicts in_order consistent = codes "in order " ++ (yes_or_no in_order ++ (code
 
 -- the forest's text, whether the block is in order, and whether the point's tree has one colour
 abbrev pub shown_block : Bool → (first : ℕ) → List Shape → List ℕ
-shown_block keeping first block = block_text keeping first block ++ verdicts (is_in_order block) (is_consistent keeping block)
+shown_block preserving first block = block_text preserving first block ++ verdicts (is_in_order block) (is_consistent preserving block)
 
 -- the same of a block of a body, in a module and a mode
-abbrev pub shown : Module → Bool → Contents → BlockRange → Result (List ℕ) Refusal
-shown info keeping body range = of_graph (shapes_or_refusal info keeping (operators_in body range)) (λ block. Ok (shown_block keeping range.start block))
+abbrev pub show_output : Module → Bool → Site → Result (List ℕ) Refusal
+show_output info preserving site =
+    of_graph (shapes_or_refusal info preserving site) (λ block. Ok (shown_block preserving site.block.start block))

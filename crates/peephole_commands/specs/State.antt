@@ -1,13 +1,15 @@
 -- What the program keeps between two lines (this project's).
-use Rattle.std.specs.Prelude.{ℕ, ◌<◌, Bool, false, List, [], length, Option, Some, None, IfSome}
+use Rattle.std.specs.Prelude.{ℕ, ◌≡◌, ◌<◌, Bool, false, List, [], length, Option, Some, None, IfSome}
 use Rattle.mutate_base.specs.Module.{Module, module_of}
 use Rattle.mutate_base.specs.declared.types.PrimitiveTypeInfo.{PrimitiveTypeInfo}
 use Rattle.peephole_lang.specs.Term.{Node}
 use Rattle.peephole_lang.specs.declared.lang.Head.{Head}
+use Rattle.peephole_graphs.specs.Block.{block_at}
+use Rattle.peephole_commands.specs.declared.place.Point.{Point}
 use Rattle.peephole_commands.specs.Body.{Contents}
 
-pub record State : Type 0 where
-  -- what was said of the module, without its bytes
+pub record SessionState : Type 0 where
+  -- what was said of the module
   pub info : Module
   -- the types of the function's locals
   pub locals : List PrimitiveTypeInfo
@@ -20,19 +22,20 @@ pub record State : Type 0 where
   -- the term's nodes, the first one first
   pub nodes : List (Node Head)
 
-abbrev pub start : State
+abbrev pub start : SessionState
 start = record { info = module_of []; locals = []; preserving = false; words = []; body = None; point = None; nodes = [] }
-
--- the module, with a body's bytes as its own
-abbrev pub module_with : Module → Contents → Module
-module_with info body = record info { input = body.bytes }
 
 -- what a line that isn't faulty writes, and the state after it
 pub record Reply : Type 0 where
   pub text : List ℕ
-  pub next : State
+  pub next : SessionState
 
--- the point, if there is one, is an operator of the body
-abbrev pub PointsInto : Option Contents → Option ℕ → Type 0
+-- the point is an operator of the body, and the block is its own
+pub record IsPointOf (body : Contents) (point : Point) : Type 0 where
+  pub within : point.index < length body.operators
+  pub block : point.block ≡ block_at body.operators point.index
+
+-- so it is where there are a body and a point
+abbrev pub PointsInto : Option Contents → Option Point → Type 0
 PointsInto None point = Unit {0}
-PointsInto (Some body) point = IfSome point (λ at. at < length body.operators)
+PointsInto (Some body) point = IfSome point (IsPointOf body)

@@ -1,14 +1,13 @@
 //! A body, read.
 
-ghost use Rattle.std.specs.Prelude.{◌≡◌, ◌<◌, ◌⊎◌, length, Ok, Err, IfSome, MatchResult};
-ghost use Rattle.peephole_graphs.specs.Block.{IsBlockOf, block_at};
+ghost use Rattle.std.specs.Prelude.{◌≡◌, ◌<◌, ◌⊎◌, length, Ok, Err, MatchResult};
+ghost use Rattle.peephole_graphs.specs.Block.{block_at};
 ghost use Rattle.peephole_terms.specs.Written.{IsBodyIn};
 ghost use Rattle.wasm_code.specs.declared.fault.ReadKind.TheVariants.{Memory};
 ghost use Rattle.peephole_commands.specs.Body.{body_of};
 
-use mutate_base::{WasmMutate, Words};
+use peephole_terms::BBlock;
 use peephole_terms::laws::blocks_are_found;
-use peephole_terms::{BBlock, DFGBuilder};
 use std::alloc::Global;
 use std::marker::Model;
 use wasm_code::laws::body_at_reads;
@@ -35,7 +34,8 @@ impl Model for Body {
 impl Body {
     /// The body of these bytes. Refused where they spell none, for the first fault, or for want of memory.
     pub fn read(alloc: Global, bytes: Vec<u8>) -> Result<Body, ReadKind>
-        ensures { MatchResult result (λ body. body_of bytes.items ≡ Ok body) (λ kind. (kind ≡ Memory) ⊎ (body_of bytes.items ≡ Err kind)) }
+        ensures { MatchResult result (λ body. body_of bytes.items ≡ Ok body)
+            (λ kind. (kind ≡ Memory) ⊎ (body_of bytes.items ≡ Err kind)) }
     {
         body_at_reads();
         match read_body(alloc, bytes.as_slice(), 0, bytes.len()) {
@@ -69,12 +69,9 @@ impl Body {
     /// The block of an operator, if there is one.
     pub fn block_at(&self, point: usize) -> Option<BBlock>
         requires { point < length self.now.operators }
-        ensures function { result ≡ block_at self.now.operators point }
-        ensures relation { IfSome result (λ block. IsBlockOf self.now.operators point block.start block.end) }
+        ensures { result ≡ block_at self.now.operators point }
     {
         blocks_are_found();
-        let config: WasmMutate<Words> = WasmMutate::new();
-        let builder = DFGBuilder::new(&config);
-        builder.get_bb_from_operator(point, self.operators.as_slice())
+        BBlock::of_operator(point, self.operators.as_slice())
     }
 }

@@ -1,18 +1,15 @@
 //! The graph of the point's block.
 
-ghost use Rattle.std.specs.Prelude.{◌≡◌, ◌⊎◌, is_some, IsTrue, Some, Err, IfOk, IfErr};
-ghost use Rattle.peephole_commands.specs.State.{module_with};
-ghost use Rattle.mutate_base.specs.Config.{info_of};
+ghost use Rattle.std.specs.Prelude.{◌≡◌, ◌⊎◌, is_some, IsTrue, Err, IfOk, IfErr};
 ghost use Rattle.mutate_base.specs.declared.error.Error.TheVariants.{Memory};
 ghost use Rattle.peephole_commands.specs.declared.graphs.Refusal.TheVariants.{Refused};
-ghost use Rattle.peephole_commands.specs.Graphs.{shapes_or_refusal, operators_in, module_in, IsPlace, IsGraphAt};
+ghost use Rattle.peephole_commands.specs.Graphs.{shapes_at, IsPlace, IsGraphAt};
 
-use crate::body::Body;
 use crate::place::Place;
-use mutate_base::{Error, ModuleInfo, WasmMutate, Words};
+use mutate_base::{Error, WasmMutate, Words};
 use peephole_terms::laws::faults_are_found;
 use peephole_terms::{DFGBuilder, MiniDFG};
-use std::alloc::{AllocError, Global};
+use std::alloc::Global;
 
 /// Why a command has no answer.
 #[derive(Clone, Copy, Debug, PartialEq, Eq)]
@@ -34,29 +31,8 @@ impl From<Error> for Refusal {
     }
 }
 
-/// The configuration of a module with a body in it, of a mode, and of the words to be drawn.
-pub fn configured<'a>(
-    alloc: Global,
-    info: &ModuleInfo<'static>,
-    preserving: bool,
-    words: &[u64],
-    body: &'a Body,
-) -> Result<WasmMutate<'a, Words>, AllocError>
-    ensures mode { IfOk result (λ config. config.preserving ≡ preserving) }
-    ensures setup { IfOk result (λ config. config.setup
-        ≡ Some (record { info = module_with info.now body.now; generator = words.now })) }
-{
-    let mut info: ModuleInfo<'a> = info.clone()?;
-    info.input_wasm = body.bytes();
-    let words = words.to_vec(alloc)?;
-    let mut config = WasmMutate::new();
-    config.preserve_semantics(preserving);
-    config.set_up(info, Words::new(words));
-    Ok(config)
-}
-
 /// The graph of the place's block under a configuration that is set up.
-pub fn graph_of(
+pub fn point_graph(
     alloc: Global,
     config: &WasmMutate<'_, Words>,
     place: &Place,
@@ -64,13 +40,12 @@ pub fn graph_of(
     requires set_up { IsTrue (is_some config.now.setup) }
     requires place { IsPlace place.now }
     ensures graph { IfOk result (λ graph. IsGraphAt config.now place.now graph) }
-    ensures refused { IfErr result (λ r. (r ≡ Refused Memory)
-        ⊎ (shapes_or_refusal (module_in (info_of config.now)) config.now.preserving
-        (operators_in place.now.body.now place.now.block) ≡ Err r)) }
+    ensures refused { IfErr result (λ r.
+        (r ≡ Refused Memory) ⊎ (shapes_at config.now place.now ≡ Err r)) }
 {
     faults_are_found();
     let mut builder = DFGBuilder::new(config);
-    match builder.get_dfg(alloc, config.info(), place.body.operators(), &place.block) {
+    match builder.get_dfg(alloc, config.info(), place.body.operators(), place.block) {
         Ok(Some(graph)) => Ok(graph),
         Ok(None) => Err(Refusal::NoGraph),
         Err(error) => Err(Refusal::Refused(error)),

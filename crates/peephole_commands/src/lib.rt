@@ -1,9 +1,9 @@
 //! The commands of the program: lines are read and answered one by one.
 #![tactic(auto)]
 
+mod arguments;
 mod body;
 mod graphs;
-mod ids;
 pub mod laws;
 mod place;
 mod reply;

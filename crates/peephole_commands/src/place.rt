@@ -1,12 +1,19 @@
-//! Where `show` and `write` work.
+//! The point, and where `show`, `result` and `write` work.
 
 use crate::body::Body;
 use peephole_terms::BBlock;
 
-/// A body, the number of the operator that is the point, and its block.
+/// The index of the operator that is the point, and its block, if there is one.
+#[derive(Drop)]
+pub struct Point {
+    pub index: usize,
+    pub block: Option<BBlock>,
+}
+
+/// A body, the index of the operator that is the point, and its block.
 #[derive(Drop)]
 pub struct Place<'a> {
     pub body: &'a Body,
     pub point: usize,
-    pub block: BBlock,
+    pub block: &'a BBlock,
 }

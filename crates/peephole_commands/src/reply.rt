@@ -1,9 +1,9 @@
 //! The lines that commands print.
 
-ghost use Rattle.std.specs.Prelude.{◌≡◌, ◌≢◌, MatchResult};
+ghost use Rattle.std.specs.Prelude.{◌≡◌, ◌≢◌, OnOk};
 ghost use Rattle.mutate_base.specs.declared.error.Error.TheVariants.{Memory};
 ghost use Rattle.peephole_commands.specs.declared.graphs.Refusal.TheVariants.{Refused};
-ghost use Rattle.peephole_commands.specs.Commands.{block_line, bytes_line, global_line, output_lines, refusal_line, type_line};
+ghost use Rattle.peephole_commands.specs.Commands.{block_line, bytes_line, global_line, output_lines, refusal_line, type_line, Prints};
 ghost use Rattle.peephole_commands.specs.Writing.{output};
 
 use crate::graphs::Refusal;
@@ -15,7 +15,7 @@ use wasm_code::Function;
 
 /// The line that `at` prints of the point's block. `Memory` where an allocation was refused.
 pub fn block_line(alloc: Global, block: &Option<BBlock>) -> Result<Vec<u8>, Fault>
-    ensures { MatchResult result (λ line. line.items ≡ block_line block.now) (λ fault. fault ≡ Fault.Memory) }
+    ensures { Prints (block_line block.now) result }
 {
     let text = match block {
         Some(block) => {
@@ -29,7 +29,7 @@ pub fn block_line(alloc: Global, block: &Option<BBlock>) -> Result<Vec<u8>, Faul
 
 /// The line that `result` prints of a type. `Memory` where an allocation was refused.
 pub fn type_line(alloc: Global, ty: PrimitiveTypeInfo) -> Result<Vec<u8>, Fault>
-    ensures { MatchResult result (λ line. line.items ≡ type_line ty) (λ fault. fault ≡ Fault.Memory) }
+    ensures { Prints (type_line ty) result }
 {
     let name = ty.name();
     let text = format!(in alloc; "result {name}\n")?;
@@ -38,7 +38,7 @@ pub fn type_line(alloc: Global, ty: PrimitiveTypeInfo) -> Result<Vec<u8>, Fault>
 
 // The line that `write` prints of a body.
 fn bytes_line(alloc: Global, sink: &Function) -> Result<Vec<u8>, Fault>
-    ensures { MatchResult result (λ line. line.items ≡ bytes_line sink.now) (λ fault. fault ≡ Fault.Memory) }
+    ensures { Prints (bytes_line sink.now) result }
 {
     let Ok(digits) = hex::encode(alloc, sink.bytes()) else {
         return Err(Fault::Memory);
@@ -49,7 +49,7 @@ fn bytes_line(alloc: Global, sink: &Function) -> Result<Vec<u8>, Fault>
 
 // The line that `write` prints of a requested global.
 fn global_line(alloc: Global, request: &ResourceRequest) -> Result<Vec<u8>, Fault>
-    ensures { MatchResult result (λ line. line.items ≡ global_line request.now) (λ fault. fault ≡ Fault.Memory) }
+    ensures { Prints (global_line request.now) result }
 {
     match request {
         ResourceRequest::Global { tpe, .. } => {
@@ -66,7 +66,7 @@ pub fn output_lines(
     sink: &Function,
     requests: &[ResourceRequest],
 ) -> Result<Vec<u8>, Fault>
-    ensures { MatchResult result (λ lines. lines.items ≡ output_lines (output sink.now requests.now)) (λ fault. fault ≡ Fault.Memory) }
+    ensures { Prints (output_lines (output sink.now requests.now)) result }
 {
     let mut lines = bytes_line(alloc, sink)?;
     for request in requests {
@@ -78,7 +78,8 @@ pub fn output_lines(
 
 // The line of a call that refused for another cause than memory.
 fn refused_line(alloc: Global, error: Error) -> Result<Vec<u8>, Fault>
-    ensures { MatchResult result (λ line. (error ≢ Memory) × (line.items ≡ refusal_line (Refused error))) (λ fault. fault ≡ Fault.Memory) }
+    ensures line { Prints (refusal_line (Refused error)) result }
+    ensures other { OnOk result (error ≢ Memory) }
 {
     match error {
         Error::Memory => Err(Fault::Memory),
@@ -92,7 +93,8 @@ fn refused_line(alloc: Global, error: Error) -> Result<Vec<u8>, Fault>
 
 /// The line that a command prints where it has no answer, but for want of memory. `Memory` where an allocation was refused.
 pub fn refusal_line(alloc: Global, refusal: Refusal) -> Result<Vec<u8>, Fault>
-    ensures { MatchResult result (λ line. (refusal ≢ Refused Memory) × (line.items ≡ refusal_line refusal)) (λ fault. fault ≡ Fault.Memory) }
+    ensures line { Prints (refusal_line refusal) result }
+    ensures other { OnOk result (refusal ≢ Refused Memory) }
 {
     match refusal {
         Refusal::NoGraph => {

@@ -14,7 +14,9 @@ use std::io::{Read, Write};
 /// Writes the report of a faulty line, and takes no memory.
 fn report<W: Write>(output: &mut Tally<W>, number: u64, fault: Fault) -> Result<(), RunError>
     requires { output.old.failed ≡ false }
-    ensures ok { OnOk result (Appends (W.contents output.old.device) (W.contents output.new.device) (fault_line number fault)) }
+    ensures ok { OnOk result
+        (Appends (W.contents output.old.device) (W.contents output.new.device)
+        (fault_line number fault)) }
     ensures err { OnErr result (result ≡ Err RunError.Output) }
     ensures failed { OnErr result (IsTrue output.new.failed) }
 {
@@ -29,7 +31,8 @@ fn report<W: Write>(output: &mut Tally<W>, number: u64, fault: Fault) -> Result<
 
 fn write<W: Write>(output: &mut Tally<W>, bytes: &[u8]) -> Result<(), RunError>
     requires { output.old.failed ≡ false }
-    ensures ok { OnOk result (Appends (W.contents output.old.device) (W.contents output.new.device) bytes.now) }
+    ensures ok { OnOk result
+        (Appends (W.contents output.old.device) (W.contents output.new.device) bytes.now) }
     ensures sound { OnOk result (output.new.failed ≡ false) }
     ensures err { OnErr result (result ≡ Err RunError.Output) }
     ensures failed { OnErr result (IsTrue output.new.failed) }
@@ -47,7 +50,8 @@ fn answer_input<W: Write>(
 ) -> Result<bool, RunError>
     requires short { length input.now ≤ LIMIT }
     requires sound { output.old.failed ≡ false }
-    ensures ok { IfOk result (Answers input.now (W.contents output.old.device) (W.contents output.new.device)) }
+    ensures ok { IfOk result
+        (Answers input.now (W.contents output.old.device) (W.contents output.new.device)) }
     ensures err { OnErr result (result ≡ Err RunError.Output) }
     ensures failed { OnErr result (IsTrue output.new.failed) }
 {
@@ -80,9 +84,12 @@ pub fn run<R: Read, W: Write>(
     ensures answer { IfOk result (λ ok. IfSome (R.remaining input.old.device) (λ bytes.
         Answers bytes (W.contents output.old.device) (W.contents output.new.device) ok)) }
     ensures end { OnOk result (IsAtEnd (R.remaining input.new.device)) }
-    ensures short { OnOk result (IfSome (R.remaining input.old.device) (λ bytes. length bytes ≤ LIMIT)) }
-    ensures quiet { OnErr result ((result ≢ Err RunError.Output) → Keeps (W.contents output.old.device) (W.contents output.new.device)) }
-    ensures too_long { IsErrOf result RunError.TooLong → ConsumesMore (R.remaining input.old.device) (R.remaining input.new.device) LIMIT }
+    ensures short { OnOk result
+        (IfSome (R.remaining input.old.device) (λ bytes. length bytes ≤ LIMIT)) }
+    ensures quiet { OnErr result ((result ≢ Err RunError.Output)
+        → Keeps (W.contents output.old.device) (W.contents output.new.device)) }
+    ensures too_long { IsErrOf result RunError.TooLong
+        → ConsumesMore (R.remaining input.old.device) (R.remaining input.new.device) LIMIT }
     ensures input_failed { IsErrOf result RunError.Input → IsTrue input.new.failed }
     ensures output_failed { IsErrOf result RunError.Output → IsTrue output.new.failed }
 {

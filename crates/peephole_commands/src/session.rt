@@ -1,34 +1,36 @@
 //! What the program keeps between two lines, and what each command does to it.
 
-ghost use Rattle.std.specs.Prelude.{◌≡◌, ◌⊎◌, ◌<◌, ◌≤◌, ◌^◌, List, [], map, length, nat_lt, Some, Ok, Err, IfOk, MatchResult, IsTrue};
-ghost use Rattle.std.specs.List.{list_all};
+ghost use Rattle.std.specs.Prelude.{◌≡◌, ◌<◌, ◌≤◌, ◌^◌, All, List, [], map, option_map, length, Some, Ok, Err, IfOk, MatchResult};
 ghost use Rattle.peephole_lang.specs.Node.{node_of};
+ghost use Rattle.peephole_lang.specs.Term.{numbers_of};
 ghost use Rattle.peephole_lang.specs.Text.{reads};
 ghost use Rattle.peephole_graphs.specs.Layout.{AreWritable};
-ghost use Rattle.peephole_commands.specs.State.{State, Reply, PointsInto, start, module_with};
+ghost use Rattle.peephole_script.specs.Text.{texts};
+ghost use Rattle.peephole_commands.specs.Arguments.{children_of};
+ghost use Rattle.peephole_commands.specs.State.{SessionState, Reply, PointsInto, start};
 ghost use Rattle.peephole_commands.specs.Graphs.{IsPlace};
-ghost use Rattle.peephole_commands.specs.Commands.{step_line, step, command_step, declare_step, local_step, preserve_step, word_step, body_step, at_step, node_step, node_read, node_words, place_of, show_step, result_step, write_step, Steps, Finds};
+ghost use Rattle.peephole_commands.specs.Commands.{step_line, words_step, command_step, declare_step, local_step, preserve_step, draw_step, body_step, at_step, node_step, node_with, node_read, working_place, show_step, result_step, write_step, Steps, Finds};
 
+use crate::arguments::{ids_of, only};
 use crate::body::Body;
-use crate::graphs::configured;
-use crate::ids::ids_of;
-use crate::place::Place;
+use crate::place::{Place, Point};
 use crate::reply::{block_line, output_lines, refusal_line, type_line};
 use crate::results::point_type;
 use crate::show::show_block;
-use crate::writing::write_body;
-use mutate_base::{Error, ModuleInfo, PrimitiveTypeInfo};
-use peephole_lang::{Lang, RecExpr};
+use crate::writing::write_answer;
+use mutate_base::{Error, ModuleInfo, PrimitiveTypeInfo, WasmMutate, Words};
+use peephole_lang::{Id, Lang, RecExpr};
 use peephole_script::{
-    Command, Declaration, Fault, all_below, command_of, declare, is_text, is_yes, joined,
-    number_of, numbers_of, type_of, words_of,
+    Command, Declaration, Fault, command_of, declare, is_text, is_yes, joined, number_of, type_of,
+    words_of,
 };
-use std::alloc::Global;
+use peephole_terms::laws::blocks_are_found;
+use std::alloc::{AllocError, Global};
 use std::marker::Model;
 use wasm_code::ReadKind;
 
-/// What the program keeps between two lines: the module and the mode, the words to be drawn, the body, the number of the
-/// operator that is the point, and the term.
+/// What the program keeps between two lines: the module and the mode, the words to be drawn, the body, the operator that is
+/// the point with its block, and the term.
 #[derive(Drop)]
 pub struct Session {
     alloc: Global,
@@ -37,12 +39,12 @@ pub struct Session {
     preserving: bool,
     words: Vec<u64>,
     body: Option<Body>,
-    point: Option<usize>,
+    point: Option<Point>,
     nodes: RecExpr<Lang>,
 }
 
 impl Model for Session {
-    ghost Value = { State };
+    ghost Value = { SessionState };
 
     ghost view = { λ s. record {
       info = s.info;
@@ -50,7 +52,7 @@ impl Model for Session {
       preserving = s.preserving;
       words = s.words.items;
       body = s.body;
-      point = s.point;
+      point = option_map (λ p. p.index) s.point;
       nodes = map node_of s.nodes;
     } };
 
@@ -91,7 +93,7 @@ impl Session {
     }
 
     fn run_words(&mut self, words: &[&str]) -> Result<Vec<u8>, Fault>
-        ensures { Steps (step self.old (map (λ word. word.now) words.now)) self.new result }
+        ensures { Steps (words_step self.old (texts words.now)) self.new result }
     {
         match words {
             [] => Ok(Vec::new(self.alloc)),
@@ -103,7 +105,7 @@ impl Session {
     }
 
     fn run_command(&mut self, command: Command, arguments: &[&str]) -> Result<Vec<u8>, Fault>
-        ensures { Steps (command_step command self.old (map (λ word. word.now) arguments.now)) self.new result }
+        ensures { Steps (command_step command self.old (texts arguments.now)) self.new result }
     {
         match command {
             Command::Body => self.body(arguments),
@@ -120,19 +122,16 @@ impl Session {
     }
 
     fn declare(&mut self, declaration: Declaration, arguments: &[&str]) -> Result<Vec<u8>, Fault>
-        ensures { Steps (declare_step declaration self.old (map (λ word. word.now) arguments.now)) self.new result }
+        ensures { Steps (declare_step declaration self.old (texts arguments.now)) self.new result }
     {
         declare(self.alloc, &mut self.info, declaration, arguments)?;
         Ok(Vec::new(self.alloc))
     }
 
     fn local(&mut self, arguments: &[&str]) -> Result<Vec<u8>, Fault>
-        ensures { Steps (local_step self.old (map (λ word. word.now) arguments.now)) self.new result }
+        ensures { Steps (local_step self.old (texts arguments.now)) self.new result }
     {
-        let [word] = arguments else {
-            return Err(Fault::BadArgument);
-        };
-        let Some(value) = type_of(word) else {
+        let Some(value) = type_of(only(arguments)?) else {
             return Err(Fault::BadArgument);
         };
         self.locals.push(value)?;
@@ -140,12 +139,9 @@ impl Session {
     }
 
     fn preserve(&mut self, arguments: &[&str]) -> Result<Vec<u8>, Fault>
-        ensures { Steps (preserve_step self.old (map (λ word. word.now) arguments.now)) self.new result }
+        ensures { Steps (preserve_step self.old (texts arguments.now)) self.new result }
     {
-        let [word] = arguments else {
-            return Err(Fault::BadArgument);
-        };
-        let Some(preserving) = is_yes(word) else {
+        let Some(preserving) = is_yes(only(arguments)?) else {
             return Err(Fault::BadArgument);
         };
         self.preserving = preserving;
@@ -153,12 +149,9 @@ impl Session {
     }
 
     fn word(&mut self, arguments: &[&str]) -> Result<Vec<u8>, Fault>
-        ensures { Steps (word_step self.old (map (λ word. word.now) arguments.now)) self.new result }
+        ensures { Steps (draw_step self.old (texts arguments.now)) self.new result }
     {
-        let [word] = arguments else {
-            return Err(Fault::BadArgument);
-        };
-        let Some(number) = number_of(word) else {
+        let Some(number) = number_of(only(arguments)?) else {
             return Err(Fault::BadArgument);
         };
         self.words.push(number)?;
@@ -166,7 +159,7 @@ impl Session {
     }
 
     fn body(&mut self, arguments: &[&str]) -> Result<Vec<u8>, Fault>
-        ensures { Steps (body_step self.old (map (λ word. word.now) arguments.now)) self.new result }
+        ensures { Steps (body_step self.old (texts arguments.now)) self.new result }
     {
         let Ok(text) = joined(self.alloc, arguments) else {
             return Err(Fault::Memory);
@@ -189,12 +182,9 @@ impl Session {
     }
 
     fn at(&mut self, arguments: &[&str]) -> Result<Vec<u8>, Fault>
-        ensures { Steps (at_step self.old (map (λ word. word.now) arguments.now)) self.new result }
+        ensures { Steps (at_step self.old (texts arguments.now)) self.new result }
     {
-        let [word] = arguments else {
-            return Err(Fault::BadArgument);
-        };
-        let Some(number) = number_of(word) else {
+        let Some(number) = number_of(only(arguments)?) else {
             return Err(Fault::BadArgument);
         };
         let Some(body) = &self.body else {
@@ -203,15 +193,16 @@ impl Session {
         if number >= body.len() as u64 {
             return Err(Fault::OutOfRange);
         }
-        let point = number as usize;
-        let block = body.block_at(point);
-        self.point = Some(point);
+        let index = number as usize;
+        let block = body.block_at(index);
+        let line = block_line(self.alloc, &block)?;
+        self.point = Some(Point { index, block });
         self.nodes = RecExpr::new(self.alloc);
-        block_line(self.alloc, &block)
+        Ok(line)
     }
 
     fn node(&mut self, arguments: &[&str]) -> Result<Vec<u8>, Fault>
-        ensures { Steps (node_step self.old (map (λ word. word.now) arguments.now)) self.new result }
+        ensures { Steps (node_step self.old (texts arguments.now)) self.new result }
     {
         let [text, words @ ..] = arguments else {
             return Err(Fault::BadArgument);
@@ -220,29 +211,26 @@ impl Session {
     }
 
     fn node_of_words(&mut self, text: &str, words: &[&str]) -> Result<Vec<u8>, Fault>
-        ensures { Steps (node_words self.old text.now (map (λ word. word.now) words.now)) self.new result }
+        ensures { Steps (node_with self.old text.now
+            (children_of (length self.old.nodes) (texts words.now))) self.new result }
     {
-        let children = numbers_of(self.alloc, words)?;
-        if !self.has_nodes(children.as_slice()) {
-            return Err(Fault::BadChild);
-        }
-        self.add_node(text, children.as_slice())
+        let children = ids_of(self.alloc, words, self.node_count())?;
+        self.add_node(text, children)
     }
 
-    fn has_nodes(&self, numbers: &[u64]) -> bool
-        ensures { result ≡ list_all (λ number. nat_lt number (length self.now.nodes)) numbers.now }
+    fn node_count(&self) -> u64
+        ensures count { result ≡ length self.now.nodes }
+        ensures small { result ≤ 2 ^ 32 }
     {
-        all_below(numbers, self.nodes.len() as u64)
+        self.nodes.len() as u64
     }
 
-    fn add_node(&mut self, text: &str, children: &[u64]) -> Result<Vec<u8>, Fault>
-        requires { IsTrue (list_all (λ number. nat_lt number (length self.old.nodes)) children.now) }
-        ensures { Steps (node_read self.old children.now (reads text.now (length children.now))) self.new result }
+    fn add_node(&mut self, text: &str, children: Vec<Id>) -> Result<Vec<u8>, Fault>
+        requires { All (λ child. child < length self.old.nodes) (numbers_of children.items) }
+        ensures { Steps (node_read self.old (numbers_of children.items)
+            (reads text.now (length children.items))) self.new result }
     {
-        let Ok(ids) = ids_of(self.alloc, children) else {
-            return Err(Fault::Memory);
-        };
-        let node = match Lang::from_op_str(text, ids) {
+        let node = match Lang::from_op_str(text, children) {
             Ok(node) => node,
             Err(error) => return Err(Fault::Term(error)),
         };
@@ -256,34 +244,47 @@ impl Session {
         }
     }
 
+    // The configuration of the module and the mode, and of the words from the first one on.
+    fn config(&self) -> Result<WasmMutate<'static, Words>, AllocError>
+        ensures mode { IfOk result (λ config. config.preserving ≡ self.now.preserving) }
+        ensures setup { IfOk result (λ config. config.setup
+            ≡ Some (record { info = self.now.info; generator = self.now.words })) }
+    {
+        let info = self.info.clone()?;
+        let words = self.words.clone()?;
+        let mut config = WasmMutate::new();
+        config.preserve_semantics(self.preserving);
+        config.set_up(info, Words::new(words));
+        Ok(config)
+    }
+
     // Where a command without arguments works.
     fn place(&self, arguments: &[&str]) -> Result<Place<'_>, Fault>
-        ensures place { Finds (place_of self.now (map (λ word. word.now) arguments.now)) result }
+        ensures place { Finds (working_place self.now (texts arguments.now)) result }
         ensures is { IfOk result IsPlace }
     {
+        blocks_are_found();
         if !arguments.is_empty() {
             return Err(Fault::BadArgument);
         }
-        let (Some(body), Some(point)) = (&self.body, self.point) else {
+        let (Some(body), Some(point)) = (&self.body, &self.point) else {
             return Err(Fault::NoBlock);
         };
-        match body.block_at(point) {
-            Some(block) => Ok(Place { body, point, block }),
+        match &point.block {
+            Some(block) => Ok(Place {
+                body,
+                point: point.index,
+                block,
+            }),
             None => Err(Fault::NoBlock),
         }
     }
 
     fn show(&self, arguments: &[&str]) -> Result<Vec<u8>, Fault>
-        ensures { Steps (show_step self.now (map (λ word. word.now) arguments.now)) self.now result }
+        ensures { Steps (show_step self.now (texts arguments.now)) self.now result }
     {
         let place = self.place(arguments)?;
-        let config = configured(
-            self.alloc,
-            &self.info,
-            self.preserving,
-            self.words.as_slice(),
-            place.body,
-        )?;
+        let config = self.config()?;
         match show_block(self.alloc, &config, &place) {
             Ok(text) => Ok(text.into_bytes()),
             Err(refusal) => refusal_line(self.alloc, refusal),
@@ -291,16 +292,10 @@ impl Session {
     }
 
     fn tell_result(&self, arguments: &[&str]) -> Result<Vec<u8>, Fault>
-        ensures { Steps (result_step self.now (map (λ word. word.now) arguments.now)) self.now result }
+        ensures { Steps (result_step self.now (texts arguments.now)) self.now result }
     {
         let place = self.place(arguments)?;
-        let config = configured(
-            self.alloc,
-            &self.info,
-            self.preserving,
-            self.words.as_slice(),
-            place.body,
-        )?;
+        let config = self.config()?;
         match point_type(self.alloc, &config, self.locals.as_slice(), &place) {
             Ok(ty) => type_line(self.alloc, ty),
             Err(refusal) => refusal_line(self.alloc, refusal),
@@ -308,17 +303,11 @@ impl Session {
     }
 
     fn write(&self, arguments: &[&str]) -> Result<Vec<u8>, Fault>
-        ensures { Steps (write_step self.now (map (λ word. word.now) arguments.now)) self.now result }
+        ensures { Steps (write_step self.now (texts arguments.now)) self.now result }
     {
         let place = self.place(arguments)?;
-        let mut config = configured(
-            self.alloc,
-            &self.info,
-            self.preserving,
-            self.words.as_slice(),
-            place.body,
-        )?;
-        match write_body(self.alloc, &mut config, &place, &self.nodes) {
+        let mut config = self.config()?;
+        match write_answer(self.alloc, &mut config, &place, &self.nodes) {
             Ok(written) => output_lines(self.alloc, &written.body, written.requests.as_slice()),
             Err(refusal) => refusal_line(self.alloc, refusal),
         }

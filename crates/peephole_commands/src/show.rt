@@ -3,12 +3,12 @@
 ghost use Rattle.std.specs.Prelude.{◌≡◌, ◌++◌, is_some, IsTrue, IfOk, MatchResult, string_bytes};
 ghost use Rattle.mutate_base.specs.Config.{info_of};
 ghost use Rattle.mutate_base.specs.declared.error.Error.TheVariants.{Memory};
-ghost use Rattle.peephole_graphs.specs.Dfg.{entries_of, parents_of};
+ghost use Rattle.peephole_graphs.specs.Dfg.{graph_of};
 ghost use Rattle.peephole_graphs.specs.ForestText.{default_text};
-ghost use Rattle.peephole_commands.specs.Graphs.{module_in, IsPlace, Tells};
-ghost use Rattle.peephole_commands.specs.Show.{yes_or_no, verdicts, shown};
+ghost use Rattle.peephole_commands.specs.Graphs.{module_in, site_of, IsPlace, AnswersAs};
+ghost use Rattle.peephole_commands.specs.Show.{yes_or_no, verdicts, show_output};
 
-use crate::graphs::{Refusal, graph_of};
+use crate::graphs::{Refusal, point_graph};
 use crate::place::Place;
 use mutate_base::{Error, WasmMutate, Words};
 use peephole_terms::MiniDFG;
@@ -38,7 +38,9 @@ fn with_verdicts(
     consistent: bool,
 ) -> Result<String, Error>
     ensures { MatchResult result
-        (λ text. string_bytes text ≡ default_text (entries_of graph.now) (parents_of graph.now) ++ verdicts in_order consistent)
+        (λ text. string_bytes text
+        ≡ default_text (graph_of graph.now).entries (graph_of graph.now).parents
+        ++ verdicts in_order consistent)
         (λ e. e ≡ Memory) }
 {
     let mut text = graph.pretty_print_default(alloc)?;
@@ -56,10 +58,11 @@ pub fn show_block(
 ) -> Result<String, Refusal>
     requires set_up { IsTrue (is_some config.now.setup) }
     requires place { IsPlace place.now }
-    ensures { Tells string_bytes (shown (module_in (info_of config.now)) config.now.preserving
-        place.now.body.now place.now.block) result }
+    ensures { AnswersAs string_bytes
+        (show_output (module_in (info_of config.now)) config.now.preserving
+        (site_of place.now)) result }
 {
-    let graph = graph_of(alloc, config, place)?;
+    let graph = point_graph(alloc, config, place)?;
     faults_are_found();
     order_is_decided();
     graph_shows_the_forest();

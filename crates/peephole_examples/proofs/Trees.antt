@@ -6,10 +6,10 @@ use Rattle.std.proofs.lemmas.List.{get_or-map, length-map}
 use Rattle.std.proofs.lemmas.List.Elements.{All-contains}
 use Rattle.peephole_nodes.specs.declared.id.Id.{Id}
 use Rattle.peephole_lang.specs.Term.{Node, AreBelow, nodes_of, tree_at, term_of}
-use Rattle.peephole_graphs.specs.Asking.{answered, told_tree, IsLaidOut, IsReached, IsToldBy}
-use Rattle.peephole_graphs.specs.Asking.IsReached.{the_root, a_child}
+use Rattle.peephole_graphs.specs.Rebuild.{answered, told_tree, IsLaidOut, IsReached, IsToldBy}
+use Rattle.peephole_graphs.specs.Rebuild.IsReached.{the_root, a_child}
 use Rattle.peephole_graphs.specs.Layout.{node_by, laid}
-use Rattle.peephole_lang.specs.PlaceLemmas.{at_place, children_in}
+use Rattle.peephole_lang.specs.laws.PlaceLemmas.{at_place, children_in}
 
 -- a closure that answers what stands at the id
 abbrev pub Reads : {L : Type 0} → List L → Id → Bor L → Type 0

@@ -1,12 +1,9 @@
 //! The whole way from a body's bytes to those of the new body: which call follows which, and how the conditions of each are met.
 
-ghost use Rattle.std.specs.Prelude.{◌≡◌, ◌<◌, All, IfErr, IfOk, IfNone, IfSome, IsTrue, is_some, length};
+ghost use Rattle.std.specs.Prelude.{◌≡◌, ◌<◌, IfErr, IfOk, IfNone, IfSome, IsTrue, is_some, length};
 ghost use Rattle.mutate_base.specs.Config.{info_of, ChangesGeneratorAlone};
-ghost use Rattle.peephole_lang.specs.Lang.{payload_of};
-ghost use Rattle.peephole_lang.specs.Node.{head_of, children_of};
-ghost use Rattle.peephole_lang.specs.Term.{term_of};
-ghost use Rattle.peephole_nodes.specs.Payload.{is_writable};
-ghost use Rattle.peephole_terms.specs.Expansion.{setting_of};
+ghost use Rattle.peephole_graphs.specs.Layout.{AreWritable};
+ghost use Rattle.peephole_terms.specs.Expansion.{setting_of, term_in};
 ghost use Rattle.peephole_examples.specs.Replacing.{HasNothingToReplace, IsNotReplaced, IsReplaced};
 
 use peephole_terms::{
@@ -68,18 +65,17 @@ pub fn replace<R: Rng + Drop>(
 ) -> Result<Option<Replaced>, ReplaceError>
     requires set_up { IsTrue (is_some config.old.setup) }
     requires some { 0 < length term.now }
-    requires writable { All (λ l. IsTrue (is_writable (payload_of l))) term.now }
+    requires writable { AreWritable term.now }
     // The new body is the old one with the term in it, and its block runs as before where the term evaluates as the tree.
     ensures replaced { IfOk result (λ answer. IfSome answer (λ new. IfSome (setting_of R.stream config.old) (λ setting.
-        IsReplaced setting config.old.preserving bytes.now point (term_of head_of children_of term.now)
+        IsReplaced setting config.old.preserving bytes.now point (term_in term.now)
         new.body new.requests.items))) }
     // None only where nothing is there to be replaced.
     ensures none { IfOk result (λ answer. IfNone answer (
         HasNothingToReplace (info_of config.old) config.old.preserving bytes.now point)) }
     // Refused only for the body's first fault, or as the graph of the point's block, or its writing, is refused.
     ensures refused { IfErr result (λ e. IfSome (setting_of R.stream config.old) (λ setting.
-        IsNotReplaced setting config.old.preserving bytes.now point
-        (term_of head_of children_of term.now) e)) }
+        IsNotReplaced setting config.old.preserving bytes.now point (term_in term.now) e)) }
     // Of the configuration the generator alone changes.
     ensures unchanged { ChangesGeneratorAlone config.old config.new }
 {

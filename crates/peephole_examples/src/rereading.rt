@@ -59,12 +59,12 @@ fn sum_of_entry_operands(rt: HostRuntime) -> Result<(), Fail> {
         alloc,
         &before,
         &[
-            "undef [] at 0, colour 4294967295, parent Some(2)",
-            "undef [] at 0, colour 4294967295, parent Some(2)",
-            "i32.add [Id(1), Id(0)] at 0, colour 0, parent Some(5)",
-            "nop [] at 1, colour 0, parent None",
-            "undef [] at 2, colour 4294967295, parent Some(5)",
-            "i32.add [Id(4), Id(2)] at 2, colour 0, parent None",
+            "undef [] at 0, color 4294967295, parent Some(2)",
+            "undef [] at 0, color 4294967295, parent Some(2)",
+            "i32.add [Id(1), Id(0)] at 0, color 0, parent Some(5)",
+            "nop [] at 1, color 0, parent None",
+            "undef [] at 2, color 4294967295, parent Some(5)",
+            "i32.add [Id(4), Id(2)] at 2, color 0, parent None",
         ],
     )?;
     let after = graph_of(&rt, alloc, &written, 2, false)?;
@@ -73,12 +73,12 @@ fn sum_of_entry_operands(rt: HostRuntime) -> Result<(), Fail> {
         alloc,
         &after,
         &[
-            "nop [] at 0, colour 0, parent None",
-            "undef [] at 1, colour 4294967295, parent Some(3)",
-            "undef [] at 1, colour 4294967295, parent Some(3)",
-            "i32.add [Id(2), Id(1)] at 1, colour 0, parent Some(5)",
-            "undef [] at 2, colour 4294967295, parent Some(5)",
-            "i32.add [Id(4), Id(3)] at 2, colour 0, parent None",
+            "nop [] at 0, color 0, parent None",
+            "undef [] at 1, color 4294967295, parent Some(3)",
+            "undef [] at 1, color 4294967295, parent Some(3)",
+            "i32.add [Id(2), Id(1)] at 1, color 0, parent Some(5)",
+            "undef [] at 2, color 4294967295, parent Some(5)",
+            "i32.add [Id(4), Id(3)] at 2, color 0, parent None",
         ],
     )
 }

@@ -2,7 +2,7 @@
 ghost use Rattle.std.specs.Prelude.{◌≡◌, ◌<◌, ◌^◌, ◌⊎◌, map, length, slice_index_or, IfOk, IfErr};
 ghost use Rattle.peephole_lang.specs.Term.{nodes_of, tree_at, term_of};
 ghost use Rattle.peephole_nodes.specs.declared.id.Id.{Id};
-ghost use Rattle.peephole_graphs.specs.Layout.{node_by, laid, size_of};
+ghost use Rattle.peephole_graphs.specs.Layout.{node_by, laid, node_count_of};
 
 use peephole_terms::{Error, Id, Language, RecExpr, build_expr};
 use std::alloc::Global;
@@ -15,7 +15,7 @@ pub fn tree_of<L: Language>(alloc: Global, expr: &RecExpr<L>, root: Id) -> Resul
     ensures laid { IfOk result (λ tree. map (node_by L.head L.children) tree ≡ laid 0 (tree_at (nodes_of L.head L.children expr.now) root.0)) }
     ensures term { IfOk result (λ tree. term_of L.head L.children tree ≡ tree_at (nodes_of L.head L.children expr.now) root.0) }
     ensures refused { IfErr result (λ e. (e ≡ Error.Memory)
-        ⊎ ((e ≡ Error.TooLarge) × (2 ^ 32 < size_of (tree_at (nodes_of L.head L.children expr.now) root.0)))) }
+        ⊎ ((e ≡ Error.TooLarge) × (2 ^ 32 < node_count_of (tree_at (nodes_of L.head L.children expr.now) root.0)))) }
 {
     let nodes = expr.as_ref();
     build_expr(

@@ -1,16 +1,17 @@
 -- Nodes that are asked for: what was asked already, and what is still to be asked, make parts of the tree.
 use denote.Ref.{Bor}
-use Rattle.std.proofs.Common.{◌≡◌, ℕ, ◌^◌, ◌≤◌, List, [], ◌∷◌, ◌++◌, length, refl, sym, ap, subst, ◌∙◌, arith, length-append, map, Some}
+use Rattle.std.proofs.Common.{◌≡◌, ℕ, ◌^◌, ◌≤◌, List, [], ◌∷◌, ◌++◌, length, refl, sym, ap, subst, ◌∙◌, arith, append_assoc, length-append, map, Some}
 use Rattle.std.specs.Prelude.{reverse}
 use Rattle.std.specs.List.{All, Contains}
 use Rattle.std.proofs.lemmas.Grind.{common_steps}
-use Rattle.std.proofs.lemmas.List.{reverse-append, map-append, length-reverse, length-map}
+use Rattle.std.proofs.lemmas.List.{append-nil, reverse-append, map-append, length-reverse, length-map}
 use Rattle.std.proofs.lemmas.List.Elements.{All-nil, All-cons, All-append, All-pop, All-weaker, All-contains_itself}
 use Rattle.peephole_nodes.specs.declared.id.Id.{Id}
 use Rattle.peephole_lang.specs.Term.{Term, Terms, absent, node, no_terms, ◌▸◌, Node, numbers_of}
-use Rattle.peephole_graphs.specs.Layout.{size_of, size, IsWhole, AreWhole}
-use Rattle.peephole_graphs.specs.Asking.{answered, IsReached, IsPart, AreParts, IsTree, IsTooLong, Piece, count_of, in_postfix, all_in_postfix, AreAsked, piece_by}
-use Rattle.peephole_graphs.specs.Asking.IsReached.{the_root, a_child}
+use Rattle.peephole_graphs.specs.Layout.{node_count_of, node_count, IsWhole, AreWhole}
+use Rattle.peephole_graphs.specs.Rebuild.{answered, IsReached, IsPart, AreParts, IsTree, IsTooLong, Piece}
+use Rattle.peephole_graphs.specs.Rebuild.{child_count, in_postfix, all_in_postfix, AreAsked, piece_by}
+use Rattle.peephole_graphs.specs.Rebuild.IsReached.{the_root, a_child}
 
 -- ---- terms one after another
 
@@ -24,14 +25,8 @@ absents (i ∷ is) = absent ▸ absents is
 
 postfix_join : {H : Type 0} (ts us : Terms H) → all_in_postfix (join ts us) ≡ all_in_postfix ts ++ all_in_postfix us
 postfix_join no_terms us = refl
-postfix_join (t ▸ ts) us = ap (λ x. in_postfix t ++ x) (postfix_join ts us) ∙ assoc (in_postfix t) (all_in_postfix ts) (all_in_postfix us)
-  where
-    assoc : {A : Type 0} (xs ys zs : List A) → xs ++ (ys ++ zs) ≡ (xs ++ ys) ++ zs
-    assoc xs ys zs = grind (arith, common_steps)
-
-postfix_absents : {H : Type 0} (is : List ℕ) → all_in_postfix {H = H} (absents is) ≡ []
-postfix_absents [] = refl
-postfix_absents (i ∷ is) = postfix_absents is
+postfix_join (t ▸ ts) us =
+    ap (λ x. in_postfix t ++ x) (postfix_join ts us) ∙ sym (append_assoc (in_postfix t) (all_in_postfix ts) (all_in_postfix us))
 
 whole_join : {H : Type 0} (ts us : Terms H) → AreWhole ts → AreWhole us → AreWhole (join ts us)
 whole_join no_terms us w v = v
@@ -42,13 +37,13 @@ whole_parts no_terms us w = (tt, w)
 whole_parts (t ▸ ts) us w = let more = whole_parts ts us w.1 in ((w.0, more.0), more.1)
 
 mutual
-  length_postfix : {H : Type 0} (t : Term H) → length (in_postfix t) ≡ size_of t
+  length_postfix : {H : Type 0} (t : Term H) → length (in_postfix t) ≡ node_count_of t
   length_postfix absent = refl
   length_postfix (node h kids) =
       let e = length_all_postfix kids in
-      omega (arith, e, length-append (all_in_postfix kids) (record { head = h; count = count_of kids } ∷ []))
+      omega (arith, e, length-append (all_in_postfix kids) (record { head = h; count = child_count kids } ∷ []))
 
-  length_all_postfix : {H : Type 0} (ts : Terms H) → length (all_in_postfix ts) ≡ size ts
+  length_all_postfix : {H : Type 0} (ts : Terms H) → length (all_in_postfix ts) ≡ node_count ts
   length_all_postfix no_terms = refl
   length_all_postfix (t ▸ ts) =
       let e = length_postfix t in
@@ -58,7 +53,7 @@ mutual
 -- ---- parts of trees of ids
 
 module _ {H : Type 0} (Answers : ℕ → Node H → Type 0) where
-  parts_count : (is : List ℕ) (ts : Terms H) → AreParts Answers is ts → count_of ts ≡ length is
+  parts_count : (is : List ℕ) (ts : Terms H) → AreParts Answers is ts → child_count ts ≡ length is
   parts_count [] no_terms p = refl
   parts_count [] (t ▸ ts) p = absurd p
   parts_count (i ∷ is) no_terms p = absurd p
@@ -68,7 +63,8 @@ module _ {H : Type 0} (Answers : ℕ → Node H → Type 0) where
   absent_parts [] = tt
   absent_parts (i ∷ is) = (tt, absent_parts is)
 
-  parts_join : (is js : List ℕ) (ts us : Terms H) → AreParts Answers is ts → AreParts Answers js us → AreParts Answers (is ++ js) (join ts us)
+  parts_join : (is js : List ℕ) (ts us : Terms H) → AreParts Answers is ts → AreParts Answers js us →
+      AreParts Answers (is ++ js) (join ts us)
   parts_join [] js no_terms us p q = q
   parts_join [] js (t ▸ ts) us p q = absurd p
   parts_join (i ∷ is) js no_terms us p q = absurd p
@@ -87,7 +83,14 @@ module _ {H : Type 0} (Answers : ℕ → Node H → Type 0) where
   split (i ∷ is) js no_terms p = absurd p
   split (i ∷ is) js (t ▸ ts) p =
       let more = split is js ts p.1 in
-      record { front = t ▸ more.front; back = more.back; of_front = (p.0, more.of_front); of_back = more.of_back; joined = ap (λ x. t ▸ x) more.joined }
+      record {
+        front = t ▸ more.front;
+        back = more.back;
+        of_front =
+            (p.0, more.of_front);
+        of_back = more.of_back;
+        joined = ap (λ x. t ▸ x) more.joined;
+      }
 
   -- What was asked, and trees of the ids that are left, are a tree of the root; the ids are reached.
   pub record IsAsking (root : ℕ) (ids : List ℕ) (asked : List (Piece H)) : Type 0 where
@@ -96,38 +99,35 @@ module _ {H : Type 0} (Answers : ℕ → Node H → Type 0) where
         (t : Term H) × IsPart Answers root t × (AreWhole ts → IsWhole t) × (in_postfix t ≡ all_in_postfix ts ++ asked)
 
   start : (root : ℕ) → IsAsking root (root ∷ []) []
-  start root = record {
-    reached = All-cons (IsReached Answers root) root [] the_root (All-nil (IsReached Answers root));
-    grows = first;
-  }
+  start root = record { reached = All-cons (IsReached Answers root) root [] the_root (All-nil (IsReached Answers root)); grows = first }
     where
       first : (ts : Terms H) → AreParts Answers (root ∷ []) ts →
           (t : Term H) × IsPart Answers root t × (AreWhole ts → IsWhole t) × (in_postfix t ≡ all_in_postfix ts ++ [])
       first no_terms p = absurd p
-      first (t ▸ no_terms) p = (t, p.0, λ w. w.0, ends (in_postfix t))
-        where
-          ends : {A : Type 0} (xs : List A) → xs ≡ (xs ++ []) ++ []
-          ends xs = grind (arith, common_steps)
+      first (t ▸ no_terms) p = (t, p.0, λ w. w.0, sym (append-nil (in_postfix t ++ []) ∙ append-nil (in_postfix t)))
       first (t ▸ (u ▸ ts)) p = absurd p.1
 
   children_reached : (root id : ℕ) (n : Node H) → IsReached Answers root id → Answers id n → All (IsReached Answers root) n.children
   children_reached root id n r a =
-      All-weaker (Contains n.children) (IsReached Answers root) (λ child c. a_child id child n r a c) n.children (All-contains_itself n.children)
+      All-weaker (Contains n.children) (IsReached Answers root)
+      (λ child c. a_child id child n r a c) n.children (All-contains_itself n.children)
 
   abbrev own_piece : Node H → Piece H
   own_piece n = record { head = n.head; count = length n.children }
 
   -- a tree of the id that was taken, over trees of its children
-  over_id : (rest : List ℕ) (id : ℕ) (n : Node H) (us kids : Terms H) → Answers id n → AreParts Answers rest us → AreParts Answers n.children kids →
+  over_id : (rest : List ℕ) (id : ℕ) (n : Node H) (us kids : Terms H) → Answers id n → AreParts Answers rest us →
+      AreParts Answers n.children kids →
       AreParts Answers (rest ++ id ∷ []) (join us (node n.head kids ▸ no_terms))
   over_id rest id n us kids a p q = parts_join rest (id ∷ []) us (node n.head kids ▸ no_terms) p ((n.children, a, q), tt)
 
-  own_first : (us kids : Terms H) (n : Node H) (asked : List (Piece H)) → count_of kids ≡ length n.children →
+  own_first : (us kids : Terms H) (n : Node H) (asked : List (Piece H)) → child_count kids ≡ length n.children →
       all_in_postfix (join us (node n.head kids ▸ no_terms)) ++ asked ≡ all_in_postfix (join us kids) ++ own_piece n ∷ asked
   own_first us kids n asked e =
       ap (λ x. x ++ asked) (postfix_join us (node n.head kids ▸ no_terms))
       ∙ (ap (λ c. (all_in_postfix us ++ ((all_in_postfix kids ++ piece c ∷ []) ++ [])) ++ asked) e
-      ∙ (moved (all_in_postfix us) (all_in_postfix kids) (own_piece n) asked ∙ ap (λ x. x ++ own_piece n ∷ asked) (sym (postfix_join us kids))))
+      ∙ (moved (all_in_postfix us) (all_in_postfix kids) (own_piece n) asked ∙
+      ap (λ x. x ++ own_piece n ∷ asked) (sym (postfix_join us kids))))
     where
       piece : ℕ → Piece H
       piece c = record { head = n.head; count = c }
@@ -153,9 +153,10 @@ module _ {H : Type 0} (Answers : ℕ → Node H → Type 0) where
           let of = h.grows (join us (node n.head kids ▸ no_terms)) (over_id rest id n us kids a s.of_front s.of_back) in (
             of.0,
             of.1,
-            λ w. let both = whole_parts us kids (subst (λ x. AreWhole x) (sym s.joined) w) in of.2 (whole_join us (node n.head kids ▸ no_terms) both.0 (both.1, tt)),
-            of.3
-                ∙ (own_first us kids n asked (parts_count n.children kids s.of_back) ∙ ap (λ x. all_in_postfix x ++ own_piece n ∷ asked) s.joined),
+            λ w. let both = whole_parts us kids (subst (λ x. AreWhole x) (sym s.joined) w) in
+                of.2 (whole_join us (node n.head kids ▸ no_terms) both.0 (both.1, tt)),
+            of.3 ∙ (own_first us kids n asked (parts_count n.children kids s.of_back) ∙
+                ap (λ x. all_in_postfix x ++ own_piece n ∷ asked) s.joined),
           )
 
   -- none is left
@@ -168,7 +169,8 @@ module _ {H : Type 0} (Answers : ℕ → Node H → Type 0) where
   long root rest id n asked a l h =
       let us = absents rest in
       let kids = absents n.children in
-      let of = h.grows (join us (node n.head kids ▸ no_terms)) (over_id rest id n us kids a (absent_parts rest) (absent_parts n.children)) in
+      let of = h.grows (join us (node n.head kids ▸ no_terms))
+      (over_id rest id n us kids a (absent_parts rest) (absent_parts n.children)) in
       let same = of.3 ∙ own_first us kids n asked (parts_count n.children kids (absent_parts n.children)) in
       let many : length (in_postfix of.0) ≡ length (all_in_postfix (join us kids) ++ own_piece n ∷ asked) = ap (λ x. length x) same in
       (of.0, of.1, omega (arith, many, length_postfix of.0, length-append (all_in_postfix (join us kids)) (own_piece n ∷ asked)))
@@ -178,9 +180,11 @@ module _ {H : Type 0} (Answers : ℕ → Node H → Type 0) where
 abbrev pub pieces_of : {L H : Type 0} → (L → H) → (L → List ℕ) → List (Bor L) → List (Piece H)
 pieces_of {L} head children nodes = reverse (map (λ (n : Bor L). piece_by head children n.now) nodes)
 
-pub length_pieces : {L H : Type 0} (head : L → H) (children : L → List ℕ) (nodes : List (Bor L)) → length (pieces_of head children nodes) ≡ length nodes
+pub length_pieces : {L H : Type 0} (head : L → H) (children : L → List ℕ) (nodes : List (Bor L)) →
+    length (pieces_of head children nodes) ≡ length nodes
 length_pieces {L} head children nodes =
-    length-reverse (map (λ (n : Bor L). piece_by head children n.now) nodes) ∙ length-map nodes (λ (n : Bor L). piece_by head children n.now)
+    length-reverse (map (λ (n : Bor L). piece_by head children n.now) nodes) ∙
+    length-map nodes (λ (n : Bor L). piece_by head children n.now)
 
 pub one_more : {L H : Type 0} (head : L → H) (children : L → List ℕ) (nodes : List (Bor L)) (n : Bor L) →
     pieces_of head children (nodes ++ n ∷ []) ≡ piece_by head children n.now ∷ pieces_of head children nodes
@@ -192,35 +196,41 @@ numbers_append : (xs ys : List Id) → numbers_of (xs ++ ys) ≡ numbers_of xs +
 numbers_append xs ys = map-append (λ (id : Id). id.0) xs ys
 
 module _ {L H : Type 0} (head : L → H) (children : L → List ℕ) (post : Id → Bor L → Type 0) where
-  pub asking_starts : (root : Id) (ids : List Id) (nodes : List (Bor L)) → ids ≡ root ∷ [] → nodes ≡ [] →
+  pub answering_starts : (root : Id) (ids : List Id) (nodes : List (Bor L)) → ids ≡ root ∷ [] → nodes ≡ [] →
       IsAsking (answered head children post) root.0 (numbers_of ids) (pieces_of head children nodes)
-  asking_starts root ids nodes e n =
+  answering_starts root ids nodes e n =
       subst (λ x. IsAsking (answered head children post) root.0 (numbers_of x) (pieces_of head children nodes)) (sym e)
-      (subst (λ x. IsAsking (answered head children post) root.0 (root.0 ∷ []) (pieces_of head children x)) (sym n) (start (answered head children post) root.0))
+      (subst (λ x. IsAsking (answered head children post) root.0 (root.0 ∷ []) (pieces_of head children x))
+      (sym n) (start (answered head children post) root.0))
 
-  pub asking_goes_on : (root id : Id) (ids rest ids' kids : List Id) (nodes nodes' : List (Bor L)) (n : Bor L) →
+  pub answering_goes_on : (root id : Id) (ids rest ids' kids : List Id) (nodes nodes' : List (Bor L)) (n : Bor L) →
       ids ≡ rest ++ id ∷ [] → post id n → nodes' ≡ nodes ++ n ∷ [] → ids' ≡ rest ++ kids → numbers_of kids ≡ children n.now →
       IsAsking (answered head children post) root.0 (numbers_of ids) (pieces_of head children nodes) →
       IsAsking (answered head children post) root.0 (numbers_of ids') (pieces_of head children nodes')
-  asking_goes_on root id ids rest ids' kids nodes nodes' n top a more left are h =
+  answering_goes_on root id ids rest ids' kids nodes nodes' n top a more left are h =
       let Asking : List ℕ → List (Piece H) → Type 0 = λ x y. IsAsking (answered head children post) root.0 x y in
       let own : Node H = record { head = head n.now; children = children n.now } in
       let before = subst (λ x. Asking x (pieces_of head children nodes)) (ap numbers_of top ∙ numbers_append rest (id ∷ [])) h in
-      let after = step (answered head children post) root.0 (numbers_of rest) id.0 own (pieces_of head children nodes) (n, a, refl) before in
-      subst (λ x. Asking x (pieces_of head children nodes')) (sym (ap numbers_of left ∙ (numbers_append rest kids ∙ ap (λ x. numbers_of rest ++ x) are)))
-      (subst (λ x. Asking (numbers_of rest ++ children n.now) x) (sym (ap (pieces_of head children) more ∙ one_more head children nodes n)) after)
+      let after =
+      step (answered head children post) root.0 (numbers_of rest) id.0 own (pieces_of head children nodes) (n, a, refl) before in
+      subst (λ x. Asking x (pieces_of head children nodes'))
+      (sym (ap numbers_of left ∙ (numbers_append rest kids ∙ ap (λ x. numbers_of rest ++ x) are)))
+      (subst (λ x. Asking (numbers_of rest ++ children n.now) x)
+      (sym (ap (pieces_of head children) more ∙ one_more head children nodes n)) after)
 
-  pub asking_ends : (root count : ℕ) (ids : List Id) (nodes : List (Bor L)) → count ≡ length ids → count ≡ 0 →
+  pub answering_ends : (root count : ℕ) (ids : List Id) (nodes : List (Bor L)) → count ≡ length ids → count ≡ 0 →
       IsAsking (answered head children post) root (numbers_of ids) (pieces_of head children nodes) →
       (t : Term H) × IsTree (answered head children post) root t × AreAsked head children nodes t
-  asking_ends root count [] nodes e z h = end (answered head children post) root (pieces_of head children nodes) h
-  asking_ends root count (id ∷ ids) nodes e z h = absurd (omega arith)
+  answering_ends root count [] nodes e z h = end (answered head children post) root (pieces_of head children nodes) h
+  answering_ends root count (id ∷ ids) nodes e z h = absurd (omega arith)
 
-  pub asking_too_long : (root id : Id) (ids rest : List Id) (nodes : List (Bor L)) (n : Bor L) →
+  pub answering_too_long : (root id : Id) (ids rest : List Id) (nodes : List (Bor L)) (n : Bor L) →
       ids ≡ rest ++ id ∷ [] → post id n → 2 ^ 32 ≤ length nodes →
-      IsAsking (answered head children post) root.0 (numbers_of ids) (pieces_of head children nodes) → IsTooLong (answered head children post) root.0
-  asking_too_long root id ids rest nodes n top a l h =
+      IsAsking (answered head children post) root.0 (numbers_of ids) (pieces_of head children nodes) →
+      IsTooLong (answered head children post) root.0
+  answering_too_long root id ids rest nodes n top a l h =
       let own : Node H = record { head = head n.now; children = children n.now } in
       let many = length_pieces head children nodes in
       long (answered head children post) root.0 (numbers_of rest) id.0 own (pieces_of head children nodes) (n, a, refl) (omega arith)
-      (subst (λ x. IsAsking (answered head children post) root.0 x (pieces_of head children nodes)) (ap numbers_of top ∙ numbers_append rest (id ∷ [])) h)
+      (subst (λ x. IsAsking (answered head children post) root.0 x (pieces_of head children nodes))
+      (ap numbers_of top ∙ numbers_append rest (id ∷ [])) h)

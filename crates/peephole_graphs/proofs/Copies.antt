@@ -16,21 +16,20 @@ use Rattle.peephole_graphs.specs.Forest.{has}
 use Rattle.peephole_graphs.specs.Downwards.{Kin, gather, downwards, forwards, sizes_of, flags_of}
 use Rattle.peephole_graphs.specs.Contiguous.{operators_of}
 use Rattle.peephole_graphs.specs.Order.{is_operator_at, forest_operators, AreInOrder}
-use Rattle.peephole_graphs.specs.Entries.{kin, kins_of, roots_of, children_at, IsForest, Measured}
-use Rattle.peephole_graphs.specs.Layout.{entry_nodes, size_of, AreWritable, HasTrees}
+use Rattle.peephole_graphs.specs.Entries.{kin, kins_of, roots_of, children_at, IsForest, Measured, sizes_kept, flags_kept}
+use Rattle.peephole_graphs.specs.declared.subtree.Subtree.{Subtree}
+use Rattle.peephole_graphs.specs.Layout.{entry_nodes, node_count_of, AreWritable, HasTrees}
 use Rattle.peephole_graphs.proofs.WritableLemmas.{CanBeWritten, heads_writable, from_heads}
 
 kin_same : (e f : StackEntry) → IsSameEntry e f → kin f ≡ kin e
-kin_same e f h = ap₂ (λ (x : List Id) (y : ℕ). kin_by x y) h.0.1 h.1
-  where
-    kin_by : List Id → ℕ → Kin
-    kin_by ids colour = record { children = numbers_of ids; colour = colour }
+kin_same e f h =
+    let kin_by : List Id → ℕ → Kin = λ ids color. record { children = numbers_of ids; color = color } in
+    ap₂ kin_by h.0.1 h.1
 
 node_same : (e f : StackEntry) → IsSameEntry e f → node_of f.operator ≡ node_of e.operator
-node_same e f h = ap₂ (λ (x : Head) (y : List Id). node_by x y) h.0.0 h.0.1
-  where
-    node_by : Head → List Id → Node Head
-    node_by head ids = record { head = head; children = numbers_of ids }
+node_same e f h =
+    let node_by : Head → List Id → Node Head = λ head ids. record { head = head; children = numbers_of ids } in
+    ap₂ node_by h.0.0 h.0.1
 
 map_same : {A : Type 0} (f : StackEntry → A) → ((e g : StackEntry) → IsSameEntry e g → f g ≡ f e) → (es gs : List StackEntry) →
     AllZip IsSameEntry es gs → map f gs ≡ map f es
@@ -53,23 +52,24 @@ pairs_same : {K V : Type 0} (ms ns : List (K × V)) → AllZip (λ p q. (q.0 ≡
 pairs_same ms ns h = same_from_all_zip (λ p q. (q.0 ≡ p.0) × (q.1 ≡ p.1)) ms ns h (λ p q e. λ i. (e.0 i, e.1 i))
 
 -- the same values at the same keys
-pub found_same : {K V : Type 0} (test : K → Bool) (ms ns : List (K × V)) → AllZip (λ p q. (q.0 ≡ p.0) × (q.1 ≡ p.1)) ms ns → lookup test ns ≡ lookup test ms
+pub found_same : {K V : Type 0} (test : K → Bool) (ms ns : List (K × V)) → AllZip (λ p q. (q.0 ≡ p.0) × (q.1 ≡ p.1)) ms ns →
+    lookup test ns ≡ lookup test ms
 found_same test ms ns h = ap (lookup test) (pairs_same ms ns h)
 
-pub copied_measured : (es fs : List StackEntry) (sizes sizes' : List ℕ) (same same' : List Bool) → AllZip IsSameEntry es fs →
-    AllZip (λ x y. y ≡ x) sizes sizes' → AllZip (λ x y. y ≡ x) same same' →
-    reverse sizes ≡ sizes_of (kins_of es) → reverse same ≡ flags_of (kins_of es) → Measured fs sizes' same'
-copied_measured es fs sizes sizes' same same' h a b m f =
+pub copied_measured : (es fs : List StackEntry) (subtrees subtrees' : List Subtree) → AllZip IsSameEntry es fs → subtrees' ≡ subtrees → Measured es subtrees → Measured fs subtrees'
+copied_measured es fs subtrees subtrees' h e m =
     let kins = kins_same es fs h in
     record {
-      sizes_are = ap reverse (each sizes sizes' a) ∙ (m ∙ ap sizes_of (sym kins));
-      flags_are = ap reverse (each same same' b) ∙ (f ∙ ap flags_of (sym kins));
+      sizes_are = ap (λ x. reverse (sizes_kept x)) e ∙ (m.sizes_are ∙ ap sizes_of (sym kins));
+      flags_are = ap (λ x. reverse (flags_kept x)) e ∙ (m.flags_are ∙ ap flags_of (sym kins));
     }
 
-heads_same : (es fs : List StackEntry) → AllZip IsSameEntry es fs → map (λ (e : StackEntry). head_of e.operator) fs ≡ map (λ (e : StackEntry). head_of e.operator) es
+heads_same : (es fs : List StackEntry) → AllZip IsSameEntry es fs →
+    map (λ (e : StackEntry). head_of e.operator) fs ≡ map (λ (e : StackEntry). head_of e.operator) es
 heads_same es fs h = map_same (λ (e : StackEntry). head_of e.operator) (λ e f s. s.0.0) es fs h
 
-copied_writable : (es fs : List StackEntry) → AllZip IsSameEntry es fs → AreWritable (map (λ (e : StackEntry). e.operator) es) → AreWritable (map (λ (e : StackEntry). e.operator) fs)
+copied_writable : (es fs : List StackEntry) → AllZip IsSameEntry es fs → AreWritable (map (λ (e : StackEntry). e.operator) es) →
+    AreWritable (map (λ (e : StackEntry). e.operator) fs)
 copied_writable es fs h w = from_heads fs (subst (All CanBeWritten) (sym (heads_same es fs h)) (heads_writable es w))
 
 pub copied_trees : (es fs : List StackEntry) (look look' : ℕ → Option ℕ) → AllZip IsSameEntry es fs → ((k : ℕ) → look' k ≡ look k) →
@@ -80,12 +80,13 @@ copied_trees es fs look look' h same t =
     record {
       below = λ i d l.
           let inside : i < length es = omega arith in
-          subst (λ (ids : List Id). All (λ c. c < i) (numbers_of ids)) (sym (AllZip-get_or IsSameEntry es fs i d d h inside).0.1) (t.below i d inside);
+          subst (λ (ids : List Id). All (λ c. c < i) (numbers_of ids))
+          (sym (AllZip-get_or IsSameEntry es fs i d d h inside).0.1) (t.below i d inside);
       found = λ k i e. let inside = t.found k i (sym (same k) ∙ e) in omega arith;
       small = λ i l.
           let most = t.small i (omega arith) in
-          let size : size_of (tree_at (entry_nodes fs) i) ≡ size_of (tree_at (entry_nodes es) i) = ap (λ (ns : List (Node Head)). size_of
-          (tree_at ns i)) nodes in
+          let size : node_count_of (tree_at (entry_nodes fs) i) ≡ node_count_of (tree_at (entry_nodes es) i) =
+          ap (λ (ns : List (Node Head)). node_count_of (tree_at ns i)) nodes in
           omega arith;
       writable = copied_writable es fs h t.writable;
     }
@@ -94,15 +95,18 @@ child_same : (e f : StackEntry) → IsSameEntry e f → children_of f.operator �
 child_same e f h = ap numbers_of h.0.1
 
 kids_same : (es fs : List StackEntry) → AllZip IsSameEntry es fs → (p : ℕ) → children_at fs p ≡ children_at es p
-kids_same es fs h p = ap (λ (xs : List (List ℕ)). slice_index_or xs p []) (map_same (λ (e : StackEntry). children_of e.operator) child_same es fs h)
+kids_same es fs h p =
+    ap (λ (xs : List (List ℕ)). slice_index_or xs p []) (map_same (λ (e : StackEntry). children_of e.operator) child_same es fs h)
 
-pub copied_forest : (es fs : List StackEntry) (parents parents' : List (Option ℕ)) → AllZip IsSameEntry es fs → parents' ≡ parents → IsForest es parents → IsForest fs parents'
+pub copied_forest : (es fs : List StackEntry) (parents parents' : List (Option ℕ)) → AllZip IsSameEntry es fs → parents' ≡ parents →
+    IsForest es parents → IsForest fs parents'
 copied_forest es fs parents parents' h e f =
     let n = length_all_zip IsSameEntry es fs h in
     let m = ap length e in
     record {
       paired = let l = f.paired in omega arith;
-      parent = λ p i w. let q = f.parent p i (sym (ap (has i) (kids_same es fs h p)) ∙ w) in (ap (λ (x : List (Option ℕ)). slice_get x i) e ∙ q.0, q.1);
+      parent = λ p i w. let q = f.parent p i (sym (ap (has i) (kids_same es fs h p)) ∙ w) in
+          (ap (λ (x : List (Option ℕ)). slice_get x i) e ∙ q.0, q.1);
       once = λ p. subst (IsDistinct nat_eq) (sym (kids_same es fs h p)) (f.once p);
       child = λ p i w. ap (has i) (kids_same es fs h p) ∙ f.child p i (sym (ap (λ (x : List (Option ℕ)). slice_get x i) e) ∙ w);
     }
@@ -111,11 +115,13 @@ own_same : (e f : StackEntry) → IsSameEntry e f → is_some (instr_of f.operat
 own_same e f h = ap (λ (x : Head). is_some (instr_of_head x)) h.0.0
 
 -- the operators of the forest are the same
-operators_same : (es fs : List StackEntry) (parents : List (Option ℕ)) → AllZip IsSameEntry es fs → forest_operators fs parents ≡ forest_operators es parents
+operators_same : (es fs : List StackEntry) (parents : List (Option ℕ)) → AllZip IsSameEntry es fs →
+    forest_operators fs parents ≡ forest_operators es parents
 operators_same es fs parents h =
     let kins = kins_same es fs h in
     let test : List Bool → ℕ → Bool = λ xs i. slice_index_or xs i false in
-    let tests : is_operator_at fs ≡ is_operator_at es = ap test (map_same (λ (e : StackEntry). is_some (instr_of e.operator)) own_same es fs h) in
+    let tests : is_operator_at fs ≡ is_operator_at es =
+    ap test (map_same (λ (e : StackEntry). is_some (instr_of e.operator)) own_same es fs h) in
     let numbers : operators_of fs ≡ operators_of es = map_same (λ (e : StackEntry). e.operator_idx) (λ e f s. s.2) es fs h in
     λ j. map (λ i. slice_index (numbers j) i) (filter (tests j) (gather (downwards (kins j)) (roots_of parents)))
 
@@ -123,7 +129,8 @@ pub copied_order : (es fs : List StackEntry) (parents parents' : List (Option �
     IsTrue (forwards (kins_of es)) ↔ AreInOrder es parents → IsTrue (forwards (kins_of fs)) ↔ AreInOrder fs parents'
 copied_order es fs parents parents' h e lies =
     let kins = ap forwards (kins_same es fs h) in
-    let order : forest_operators fs parents' ≡ forest_operators es parents = ap (forest_operators fs) e ∙ operators_same es fs parents h in (
+    let order : forest_operators fs parents' ≡ forest_operators es parents =
+    ap (forest_operators fs) e ∙ operators_same es fs parents h in (
       λ t. subst IsStrictlyIncreasing (sym order) (lies.0 (sym kins ∙ t)),
       λ a. kins ∙ lies.1 (subst IsStrictlyIncreasing order a),
     )

@@ -1,14 +1,14 @@
 -- The trees of a block by depth below the top, with natural numbers alone, and that they are those by heights.
-use Rattle.std.proofs.Common.{◌≡◌, ℕ, zero, suc, ◌+◌, Bool, true, false, cond, List, [], ◌∷◌, length, refl, sym, ap, ◌∙◌, arith}
+use Rattle.std.proofs.Common.{◌≡◌, ℕ, zero, suc, ◌+◌, Bool, true, false, cond, List, [], ◌∷◌, length, refl, sym, ap, ◌∙◌, arith, inl, inr}
 use Rattle.std.specs.Prelude.{◌&&◌, ℤ}
 use Rattle.std.specs.Ordering.{int_eq}
 use Rattle.std.proofs.lemmas.Int.{ints}
-use Rattle.std.proofs.lemmas.Bool.{cond-true, cond-false, and_left, and_right, and_from, false_from_ne_true}
+use Rattle.std.proofs.lemmas.Bool.{cond-true, cond-false, cases_Bool, and_left, and_right, and_from, false_from_ne_true}
 use Rattle.std.proofs.lemmas.Bool.Decides.{Decides-int_eq}
 use lib.IntN.{pos, negsuc, ◌+ℤ◌, ◌-ℤ◌}
 use Rattle.peephole_graphs.specs.Shape.{Shape}
 use Rattle.peephole_graphs.specs.Tree.{Tree, entry, node, Trees, no_trees, ◌▸◌}
-use Rattle.peephole_graphs.specs.Forest.{height, low, from_place, entry_number, at_place, tree_of}
+use Rattle.peephole_graphs.specs.Forest.{height, low, from_height, entry_number, at_height, operator_tree}
 
 -- the trees at depths count - 1 down to 0
 abbrev pub top : (ℕ → Tree) → ℕ → Trees
@@ -25,7 +25,8 @@ value (s ∷ earlier) (suc d) = cond s.has_result (value earlier (d + s.operands
 abbrev at_depth : List Shape → ℕ → ℤ
 at_depth earlier d = height earlier -ℤ pos (suc d)
 
-from_place_top : (at : ℤ → Tree) (f : ℕ → Tree) (h : ℤ) → ((d : ℕ) → at (h -ℤ pos (suc d)) ≡ f d) → (k : ℕ) → from_place at (h -ℤ pos k) k ≡ top f k
+from_place_top : (at : ℤ → Tree) (f : ℕ → Tree) (h : ℤ) → ((d : ℕ) → at (h -ℤ pos (suc d)) ≡ f d) → (k : ℕ) →
+    from_height at (h -ℤ pos k) k ≡ top f k
 from_place_top at f h e zero = refl
 from_place_top at f h e (suc k) =
     let next : (h -ℤ pos (suc k)) +ℤ pos 1 ≡ h -ℤ pos k = omega (arith, ints) in
@@ -37,49 +38,54 @@ value_zero : (p : ℕ) → entry_number (pos 0 -ℤ pos (suc p)) ≡ p
 value_zero p = let e : pos 0 -ℤ pos (suc p) ≡ negsuc p = omega (arith, ints) in rw e
 
 -- the tree at a place, by the three cases
-at_result : (s : Shape) (earlier : List Shape) (p : ℤ) → s.has_result ≡ true → p ≡ low s earlier → at_place (s ∷ earlier) p ≡ tree_of s earlier
-at_result s earlier p h e = cond-true (s.has_result && int_eq p (low s earlier)) (tree_of s earlier) (at_place earlier p) (and_from s.has_result (int_eq p (low s earlier)) h ((Decides-int_eq p (low s earlier)).1 e))
+at_result : (s : Shape) (earlier : List Shape) (p : ℤ) → s.has_result ≡ true → p ≡ low s earlier →
+    at_height (s ∷ earlier) p ≡ operator_tree s earlier
+at_result s earlier p h e =
+    cond-true (s.has_result && int_eq p (low s earlier)) (operator_tree s earlier) (at_height earlier p)
+    (and_from s.has_result (int_eq p (low s earlier)) h ((Decides-int_eq p (low s earlier)).1 e))
 
-at_other : (s : Shape) (earlier : List Shape) (p : ℤ) → (p ≡ low s earlier → ⊥) → at_place (s ∷ earlier) p ≡ at_place earlier p
-at_other s earlier p h = cond-false (s.has_result && int_eq p (low s earlier)) (tree_of s earlier) (at_place earlier p) (and_right s.has_result (int_eq p (low s earlier)) (false_from_ne_true _ (λ e. h ((Decides-int_eq p (low s earlier)).0 e))))
+at_other : (s : Shape) (earlier : List Shape) (p : ℤ) → (p ≡ low s earlier → ⊥) → at_height (s ∷ earlier) p ≡ at_height earlier p
+at_other s earlier p h =
+    cond-false (s.has_result && int_eq p (low s earlier)) (operator_tree s earlier) (at_height earlier p)
+    (and_right s.has_result (int_eq p (low s earlier)) (false_from_ne_true _ (λ e. h ((Decides-int_eq p (low s earlier)).0 e))))
 
-at_none : (s : Shape) (earlier : List Shape) (p : ℤ) → s.has_result ≡ false → at_place (s ∷ earlier) p ≡ at_place earlier p
-at_none s earlier p h = cond-false (s.has_result && int_eq p (low s earlier)) (tree_of s earlier) (at_place earlier p) (and_left s.has_result (int_eq p (low s earlier)) h)
+at_none : (s : Shape) (earlier : List Shape) (p : ℤ) → s.has_result ≡ false → at_height (s ∷ earlier) p ≡ at_height earlier p
+at_none s earlier p h =
+    cond-false (s.has_result && int_eq p (low s earlier)) (operator_tree s earlier)
+    (at_height earlier p) (and_left s.has_result (int_eq p (low s earlier)) h)
 
-tree_of_top : (s : Shape) (earlier : List Shape) → ((d : ℕ) → at_place earlier (at_depth earlier d) ≡ value earlier d) → tree_of s earlier ≡ node (length earlier) s (top (value earlier) s.operands)
-tree_of_top s earlier ih = ap (node (length earlier) s) (from_place_top (at_place earlier) (value earlier) (height earlier) ih s.operands)
+tree_of_top : (s : Shape) (earlier : List Shape) → ((d : ℕ) → at_height earlier (at_depth earlier d) ≡ value earlier d) →
+    operator_tree s earlier ≡ node (length earlier) s (top (value earlier) s.operands)
+tree_of_top s earlier ih =
+    ap (node (length earlier) s) (from_place_top (at_height earlier) (value earlier) (height earlier) ih s.operands)
 
-height_result : (s : Shape) (earlier : List Shape) → s.has_result ≡ true → height (s ∷ earlier) ≡ height earlier +ℤ (pos 1 -ℤ pos s.operands)
-height_result s earlier h = rw h
+height_is : (s : Shape) (earlier : List Shape) (b : Bool) → s.has_result ≡ b →
+    height (s ∷ earlier) ≡ height earlier +ℤ (cond b (pos 1) (pos 0) -ℤ pos s.operands)
+height_is s earlier b h = rw h refl
 
-height_none : (s : Shape) (earlier : List Shape) → s.has_result ≡ false → height (s ∷ earlier) ≡ height earlier +ℤ (pos 0 -ℤ pos s.operands)
-height_none s earlier h = rw h
-
-pub value_is : (earlier : List Shape) (d : ℕ) → at_place earlier (at_depth earlier d) ≡ value earlier d
+pub value_is : (earlier : List Shape) (d : ℕ) → at_height earlier (at_depth earlier d) ≡ value earlier d
 value_is [] d = ap entry (value_zero d)
-value_is (s ∷ earlier) zero = go s.has_result refl (value_is earlier)
-  where
-    go : (b : Bool) → s.has_result ≡ b → ((d : ℕ) → at_place earlier (at_depth earlier d) ≡ value earlier d) → at_place (s ∷ earlier) (at_depth (s ∷ earlier) zero) ≡ value (s ∷ earlier) zero
-    go true h ih =
-        let e = height_result s earlier h in
-        let p : at_depth (s ∷ earlier) zero ≡ low s earlier = omega (arith, ints) in
-        at_result s earlier _ h p ∙ (tree_of_top s earlier ih ∙ sym (cond-true _ _ _ h))
-    go false h ih =
-        let e = height_none s earlier h in
-        let p : at_depth (s ∷ earlier) zero ≡ at_depth earlier s.operands = omega (arith, ints) in
-        at_none s earlier _ h ∙ (ap (at_place earlier) p ∙ (ih s.operands ∙ sym (cond-false _ _ _ h)))
-value_is (s ∷ earlier) (suc d) = go s.has_result refl (value_is earlier)
-  where
-    go : (b : Bool) → s.has_result ≡ b → ((d : ℕ) → at_place earlier (at_depth earlier d) ≡ value earlier d) → at_place (s ∷ earlier) (at_depth (s ∷ earlier) (suc d)) ≡ value (s ∷ earlier) (suc d)
-    go true h ih =
-        let e = height_result s earlier h in
-        let p : at_depth (s ∷ earlier) (suc d) ≡ at_depth earlier (d + s.operands) = omega (arith, ints) in
-        let n : at_depth (s ∷ earlier) (suc d) ≡ low s earlier → ⊥ = λ w. omega (arith, ints) in
-        at_other s earlier _ n ∙ (ap (at_place earlier) p ∙ (ih (d + s.operands) ∙ sym (cond-true _ _ _ h)))
-    go false h ih =
-        let e = height_none s earlier h in
-        let p : at_depth (s ∷ earlier) (suc d) ≡ at_depth earlier (suc d + s.operands) = omega (arith, ints) in
-        at_none s earlier _ h ∙ (ap (at_place earlier) p ∙ (ih (suc d + s.operands) ∙ sym (cond-false _ _ _ h)))
+value_is (s ∷ earlier) zero = elim (cases_Bool s.has_result) [
+  | inl h ↦
+      let e = height_is s earlier true h in
+      let p : at_depth (s ∷ earlier) zero ≡ low s earlier = omega (arith, ints) in
+      at_result s earlier _ h p ∙ (tree_of_top s earlier (value_is earlier) ∙ sym (cond-true _ _ _ h))
+  | inr h ↦
+      let e = height_is s earlier false h in
+      let p : at_depth (s ∷ earlier) zero ≡ at_depth earlier s.operands = omega (arith, ints) in
+      at_none s earlier _ h ∙ (ap (at_height earlier) p ∙ (value_is earlier s.operands ∙ sym (cond-false _ _ _ h)))
+]
+value_is (s ∷ earlier) (suc d) = elim (cases_Bool s.has_result) [
+  | inl h ↦
+      let e = height_is s earlier true h in
+      let p : at_depth (s ∷ earlier) (suc d) ≡ at_depth earlier (d + s.operands) = omega (arith, ints) in
+      at_other s earlier _ (λ w. omega (arith, ints)) ∙
+      (ap (at_height earlier) p ∙ (value_is earlier (d + s.operands) ∙ sym (cond-true _ _ _ h)))
+  | inr h ↦
+      let e = height_is s earlier false h in
+      let p : at_depth (s ∷ earlier) (suc d) ≡ at_depth earlier (suc d + s.operands) = omega (arith, ints) in
+      at_none s earlier _ h ∙ (ap (at_height earlier) p ∙ (value_is earlier (suc d + s.operands) ∙ sym (cond-false _ _ _ h)))
+]
 
-pub tree_of_is : (s : Shape) (earlier : List Shape) → tree_of s earlier ≡ node (length earlier) s (top (value earlier) s.operands)
+pub tree_of_is : (s : Shape) (earlier : List Shape) → operator_tree s earlier ≡ node (length earlier) s (top (value earlier) s.operands)
 tree_of_is s earlier = tree_of_top s earlier (value_is earlier)

@@ -1,13 +1,14 @@
 -- The forest of a block is what the growing forest says.
-use Rattle.std.proofs.Common.{◌≡◌, ℕ, zero, suc, ◌<◌, ◌≤◌, Bool, true, false, cond, List, [], ◌∷◌, length, refl, sym, ap, ap₂, ◌∙◌, arith, ⊎_elim}
+use Rattle.std.proofs.Common.{◌≡◌, ℕ, zero, suc, ◌<◌, ◌≤◌, Bool, true, false, cond, List, [], ◌∷◌, length, refl, sym, ap, ap₂, ◌∙◌, arith, inl, inr}
 use Rattle.std.specs.Prelude.{⊤, ◌||◌, ◌==◌}
-use Rattle.std.proofs.lemmas.Bool.{cond-true, cond-false, eq-eqb, ne_eqb, or_cases, eqb-true, false_from_ne_true, false≢true}
+use Rattle.std.proofs.lemmas.Bool.{cases_Bool, cond-true, cond-false, eq-eqb, ne_eqb, eqb-true, false_from_ne_true, false≢true}
 use Rattle.peephole_graphs.specs.Shape.{Shape}
 use Rattle.peephole_graphs.specs.Tree.{Tree, entry, node, Trees, no_trees, ◌▸◌, join}
-use Rattle.peephole_graphs.specs.Forest.{tree_of, trees, is_root, is_operand, without, forest}
+use Rattle.peephole_graphs.specs.Forest.{operator_tree, trees, is_root, is_operand, without, forest}
 use Rattle.peephole_graphs.proofs.Depth.{top, value, tree_of_is}
 use Rattle.peephole_graphs.proofs.DepthLemmas.{top_same, top_first}
-use Rattle.peephole_graphs.proofs.Stacked.{is_open, forest_value, kept, pulled, stacked, missing, forest_value_top, forest_value_under, forest_value_done, kept_open, kept_done, pulled_open, pulled_done, value_stacked, operator}
+use Rattle.peephole_graphs.proofs.Stacked.{is_open, forest_value, kept, pulled, stacked, missing, forest_value_top, forest_value_under}
+use Rattle.peephole_graphs.proofs.Stacked.{forest_value_done, kept_open, kept_done, pulled_open, pulled_done, value_stacked, operator}
 
 abbrev pub rev : Trees → Trees
 rev no_trees = no_trees
@@ -18,58 +19,44 @@ join_nil no_trees = refl
 join_nil (t ▸ ts) = ap (λ x. t ▸ x) (join_nil ts)
 
 pub or_assoc : (a b c : Bool) → ((a || b) || c) ≡ (a || (b || c))
-or_assoc true b c = refl
-or_assoc false b c = refl
+or_assoc a b c = grind arith
 
-pub or_comm : (a b : Bool) → (a || b) ≡ (b || a)
-or_comm true true = refl
-or_comm true false = refl
-or_comm false true = refl
-or_comm false false = refl
+or_comm : (a b : Bool) → (a || b) ≡ (b || a)
+or_comm a b = grind arith
 
-pub or_nil : (a : Bool) → (a || false) ≡ a
-or_nil true = refl
-or_nil false = refl
+or_nil : (a : Bool) → (a || false) ≡ a
+or_nil a = grind arith
 
 is_root_join : (j : ℕ) (ts us : Trees) → is_root j (join ts us) ≡ (is_root j ts || is_root j us)
 is_root_join j no_trees us = refl
 is_root_join j (entry m ▸ ts) us = is_root_join j ts us
-is_root_join j (node i s kids ▸ ts) us = ap (λ x. (i == j) || x) (is_root_join j ts us) ∙ sym (or_assoc (i == j) (is_root j ts) (is_root j us))
+is_root_join j (node i s kids ▸ ts) us =
+    ap (λ x. (i == j) || x) (is_root_join j ts us) ∙ sym (or_assoc (i == j) (is_root j ts) (is_root j us))
 
 is_operand_join : (j : ℕ) (ts us : Trees) → is_operand j (join ts us) ≡ (is_operand j ts || is_operand j us)
 is_operand_join j no_trees us = refl
 is_operand_join j (entry m ▸ ts) us = is_operand_join j ts us
-is_operand_join j (node i s kids ▸ ts) us = ap (λ x. is_root j kids || x) (is_operand_join j ts us) ∙ sym (or_assoc (is_root j kids) (is_operand j ts) (is_operand j us))
+is_operand_join j (node i s kids ▸ ts) us =
+    ap (λ x. is_root j kids || x) (is_operand_join j ts us) ∙ sym (or_assoc (is_root j kids) (is_operand j ts) (is_operand j us))
 
 without_join : (test : ℕ → Bool) (ts us : Trees) → without test (join ts us) ≡ join (without test ts) (without test us)
 without_join test no_trees us = refl
 without_join test (entry m ▸ ts) us = ap (λ x. entry m ▸ x) (without_join test ts us)
-without_join test (node i s kids ▸ ts) us = go (test i) (without_join test ts us)
-  where
-    go : (b : Bool) → without test (join ts us) ≡ join (without test ts) (without test us) →
-        cond b (without test (join ts us)) (node i s kids ▸ without test (join ts us)) ≡ join (cond b (without test ts) (node i s kids ▸ without test ts)) (without test us)
-    go true e = e
-    go false e = ap (λ x. node i s kids ▸ x) e
+without_join test (node i s kids ▸ ts) us = grind (arith, without_join test ts us)
 
 without_rev : (test : ℕ → Bool) (ts : Trees) → without test (rev ts) ≡ rev (without test ts)
 without_rev test no_trees = refl
-without_rev test (entry m ▸ ts) = without_join test (rev ts) (entry m ▸ no_trees) ∙ ap (λ x. join x (entry m ▸ no_trees)) (without_rev test ts)
-without_rev test (node i s kids ▸ ts) = without_join test (rev ts) (node i s kids ▸ no_trees) ∙ (ap (λ x. join x (without test (node i s kids ▸ no_trees))) (without_rev test ts) ∙ go (test i))
-  where
-    go : (b : Bool) → join (rev (without test ts)) (cond b no_trees (node i s kids ▸ no_trees)) ≡ rev (cond b (without test ts) (node i s kids ▸ without test ts))
-    go true = join_nil (rev (without test ts))
-    go false = refl
+without_rev test (entry m ▸ ts) = without_join test (rev ts) (entry m ▸ no_trees) ∙
+    ap (λ x. join x (entry m ▸ no_trees)) (without_rev test ts)
+without_rev test (node i s kids ▸ ts) =
+    let own = node i s kids ▸ no_trees in
+    grind (arith, without_join test (rev ts) own, without_rev test ts, join_nil (rev (without test ts)))
 
 -- two tests, one after the other
 without_both : (p q : ℕ → Bool) (ts : Trees) → without (λ j. p j || q j) ts ≡ without q (without p ts)
 without_both p q no_trees = refl
 without_both p q (entry m ▸ ts) = ap (λ x. entry m ▸ x) (without_both p q ts)
-without_both p q (node i s kids ▸ ts) = go (p i) (q i) refl refl (without_both p q ts)
-  where
-    go : (b c : Bool) → p i ≡ b → q i ≡ c → without (λ j. p j || q j) ts ≡ without q (without p ts) → without (λ j. p j || q j) (node i s kids ▸ ts) ≡ without q (without p (node i s kids ▸ ts))
-    go true c e f h = rw (e) h
-    go false true e f h = rw (e, f) h
-    go false false e f h = rw (e, f) (ap (λ x. node i s kids ▸ x) h)
+without_both p q (node i s kids ▸ ts) = grind (arith, without_both p q ts)
 
 without_same : (p q : ℕ → Bool) → ((j : ℕ) → p j ≡ q j) → (ts : Trees) → without p ts ≡ without q ts
 without_same p q h no_trees = refl
@@ -91,11 +78,11 @@ pub Falling-kept : (ts : Trees) (n k : ℕ) → Falling ts n → Falling (kept t
 Falling-kept no_trees n k f = tt
 Falling-kept (entry m ▸ ts) n k f = absurd f
 Falling-kept (node i s kids ▸ ts) n zero f = f
-Falling-kept (node i s kids ▸ ts) n (suc k) f = go s.has_result (Falling-weaker (kept ts k) i n (omega arith) (Falling-kept ts i k f.1)) (f.0, Falling-kept ts i (suc k) f.1)
-  where
-    go : (b : Bool) → Falling (kept ts k) n → (i < n) × Falling (kept ts (suc k)) i → Falling (cond b (kept ts k) (node i s kids ▸ kept ts (suc k))) n
-    go true g h = g
-    go false g h = h
+Falling-kept (node i s kids ▸ ts) n (suc k) f =
+    elim s.has_result as (λ b. Falling (cond b (kept ts k) (node i s kids ▸ kept ts (suc k))) n) [
+      | true ↦ Falling-weaker (kept ts k) i n (let l = f.0 in omega arith) (Falling-kept ts i k f.1)
+      | false ↦ (f.0, Falling-kept ts i (suc k) f.1)
+    ]
 
 pub Falling-stacked : (block : List Shape) → Falling (stacked block) (length block)
 Falling-stacked [] = tt
@@ -105,16 +92,18 @@ pub root_below : (ts : Trees) (n k j : ℕ) → Falling ts n → is_root j (pull
 root_below no_trees n k j f h = absurd (false≢true h)
 root_below (entry m ▸ ts) n k j f h = absurd f
 root_below (node i s kids ▸ ts) n zero j f h = absurd (false≢true h)
-root_below (node i s kids ▸ ts) n (suc k) j f h = go s.has_result h (root_below ts i k j f.1) (root_below ts i (suc k) j f.1)
-  where
-    go : (b : Bool) → is_root j (cond b (node i s kids ▸ pulled ts k) (pulled ts (suc k))) ≡ true → (is_root j (pulled ts k) ≡ true → j < i) → (is_root j (pulled ts (suc k)) ≡ true → j < i) → j < n
-    go true h u v = ⊎_elim (λ e. let w = eqb-true i j e in omega arith) (λ e. let w = u e in omega arith) (or_cases (i == j) (is_root j (pulled ts k)) h)
-    go false h u v = let w = v h in omega arith
+root_below (node i s kids ▸ ts) n (suc k) j f h =
+    let own = f.0 in
+    let u = root_below ts i k j f.1 in
+    let v = root_below ts i (suc k) j f.1 in
+    let w = eqb-true i j in
+    grind arith
 
 without_below : (p q : ℕ → Bool) (ts : Trees) (n : ℕ) → Falling ts n → ((j : ℕ) → j < n → p j ≡ q j) → without p ts ≡ without q ts
 without_below p q no_trees n f h = refl
 without_below p q (entry m ▸ ts) n f h = absurd f
-without_below p q (node i s kids ▸ ts) n f h = ap₂ (λ b x. cond b x (node i s kids ▸ x)) (h i f.0) (without_below p q ts i f.1 (λ j l. h j (omega arith)))
+without_below p q (node i s kids ▸ ts) n f h =
+    ap₂ (λ b x. cond b x (node i s kids ▸ x)) (h i f.0) (without_below p q ts i f.1 (λ j l. h j (omega arith)))
 
 without_none : (ts : Trees) → without (λ j. false) ts ≡ ts
 without_none no_trees = refl
@@ -125,70 +114,85 @@ without_pulled : (ts : Trees) (n k : ℕ) → Falling ts n → without (λ j. is
 without_pulled no_trees n k f = refl
 without_pulled (entry m ▸ ts) n k f = absurd f
 without_pulled (node i s kids ▸ ts) n zero f = without_none (node i s kids ▸ ts)
-without_pulled (node i s kids ▸ ts) n (suc k) f = go s.has_result refl (without_pulled ts i k f.1) (without_pulled ts i (suc k) f.1)
-  where
-    go : (b : Bool) → s.has_result ≡ b → without (λ j. is_root j (pulled ts k)) ts ≡ kept ts k → without (λ j. is_root j (pulled ts (suc k))) ts ≡ kept ts (suc k) →
-        without (λ j. is_root j (pulled (node i s kids ▸ ts) (suc k))) (node i s kids ▸ ts) ≡ kept (node i s kids ▸ ts) (suc k)
-    go true e u v =
-        let pe = pulled_open (node i s kids) ts k e in
-        let yes : is_root i (pulled (node i s kids ▸ ts) (suc k)) ≡ true = ap (is_root i) pe ∙ ap (λ b. b || is_root i (pulled ts k)) (eq-eqb i i refl) in
-        let same : (j : ℕ) → j < i → is_root j (pulled (node i s kids ▸ ts) (suc k)) ≡ is_root j (pulled ts k) =
-        λ j l. ap (is_root j) pe ∙ ap (λ b. b || is_root j (pulled ts k)) (ne_eqb i j (λ w. omega arith)) in
-        cond-true _ _ _ yes ∙ (without_below (λ j. is_root j (pulled (node i s kids ▸ ts) (suc k))) (λ j. is_root j (pulled ts k)) ts i f.1 same ∙ (u ∙ sym (kept_open (node i s kids) ts k e)))
-    go false e u v =
-        let pe = pulled_done (node i s kids) ts (suc k) e in
-        let no : is_root i (pulled (node i s kids ▸ ts) (suc k)) ≡ false =
-        ap (is_root i) pe ∙ false_from_ne_true _ (λ w. let l = root_below ts i (suc k) i f.1 w in omega arith) in
-        cond-false _ _ _ no ∙ (ap (λ x. node i s kids ▸ x) (without_same _ (λ j. is_root j (pulled ts (suc k))) (λ j. ap (is_root j) pe) ts ∙ v) ∙ sym (kept_done (node i s kids) ts (suc k) e))
+without_pulled (node i s kids ▸ ts) n (suc k) f =
+    let t = node i s kids in
+    let now = λ (j : ℕ). is_root j (pulled (t ▸ ts) (suc k)) in
+    elim (cases_Bool s.has_result) [
+      | inl e ↦
+          let is : (j : ℕ) → now j ≡ ((i == j) || is_root j (pulled ts k)) = λ j. ap (is_root j) (pulled_open t ts k e) in
+          let yes = is i ∙ ap (λ b. b || is_root i (pulled ts k)) (eq-eqb i i refl) in
+          let same : (j : ℕ) → j < i → now j ≡ is_root j (pulled ts k) =
+          λ j l. is j ∙ ap (λ b. b || is_root j (pulled ts k)) (ne_eqb i j (λ w. omega arith)) in
+          cond-true _ _ _ yes ∙ (without_below now (λ j. is_root j (pulled ts k)) ts i f.1 same
+          ∙ (without_pulled ts i k f.1 ∙ sym (kept_open t ts k e)))
+      | inr e ↦
+          let is : (j : ℕ) → now j ≡ is_root j (pulled ts (suc k)) = λ j. ap (is_root j) (pulled_done t ts (suc k) e) in
+          let no = is i ∙ false_from_ne_true _ (λ w. let l = root_below ts i (suc k) i f.1 w in omega arith) in
+          cond-false _ _ _ no ∙
+          (ap (λ x. t ▸ x) (without_same now (λ j. is_root j (pulled ts (suc k))) is ts ∙ without_pulled ts i (suc k) f.1)
+          ∙ sym (kept_done t ts (suc k) e))
+    ]
 
 -- the operands are the pulled trees, but for entry operands
 is_root_entries : (j m k : ℕ) → is_root j (top (forest_value no_trees m) k) ≡ false
 is_root_entries j m zero = refl
 is_root_entries j m (suc k) = is_root_entries j m k
 
-is_root_under : (j : ℕ) (t : Tree) (ts : Trees) (m k : ℕ) → is_open t ≡ false → is_root j (top (forest_value ts m) k) ≡ is_root j (pulled ts k) →
+is_root_under : (j : ℕ) (t : Tree) (ts : Trees) (m k : ℕ) → is_open t ≡ false →
+    is_root j (top (forest_value ts m) k) ≡ is_root j (pulled ts k) →
     is_root j (top (forest_value (t ▸ ts) m) k) ≡ is_root j (pulled (t ▸ ts) k)
 is_root_under j t ts m k e h =
-    ap (is_root j) (top_same (forest_value (t ▸ ts) m) (forest_value ts m) (λ d. forest_value_done t ts m d e) k) ∙ (h ∙ ap (is_root j) (sym (pulled_done t ts k e)))
+    ap (is_root j) (top_same (forest_value (t ▸ ts) m) (forest_value ts m) (λ d. forest_value_done t ts m d e) k) ∙
+    (h ∙ ap (is_root j) (sym (pulled_done t ts k e)))
 
 is_root_top : (j : ℕ) (ts : Trees) (m k : ℕ) → is_root j (top (forest_value ts m) k) ≡ is_root j (pulled ts k)
 is_root_top j no_trees m k = is_root_entries j m k
 is_root_top j (entry e ▸ ts) m k = is_root_under j (entry e) ts m k refl (is_root_top j ts m k)
 is_root_top j (node i s kids ▸ ts) m zero = refl
-is_root_top j (node i s kids ▸ ts) m (suc k) = go s.has_result refl (is_root_top j ts m k) (is_root_top j ts m (suc k))
-  where
-    go : (b : Bool) → s.has_result ≡ b → is_root j (top (forest_value ts m) k) ≡ is_root j (pulled ts k) → is_root j (top (forest_value ts m) (suc k)) ≡ is_root j (pulled ts (suc k)) →
-        is_root j (top (forest_value (node i s kids ▸ ts) m) (suc k)) ≡ is_root j (pulled (node i s kids ▸ ts) (suc k))
-    go true e u v =
-        ap (is_root j) (top_first (forest_value (node i s kids ▸ ts) m) k) ∙
-        (ap₂ (λ x y. is_root j (join x (y ▸ no_trees))) (top_same (λ d. forest_value (node i s kids ▸ ts) m (suc d)) (forest_value ts m) (λ d. forest_value_under (node i s kids) ts m d e) k) (forest_value_top (node i s kids) ts m e) ∙
-        (is_root_join j (top (forest_value ts m) k) (node i s kids ▸ no_trees) ∙
-        (ap₂ (λ x y. x || y) u (or_nil (i == j)) ∙
-        (or_comm (is_root j (pulled ts k)) (i == j) ∙ ap (is_root j) (sym (pulled_open (node i s kids) ts k e))))))
-    go false e u v = is_root_under j (node i s kids) ts m (suc k) e v
+is_root_top j (node i s kids ▸ ts) m (suc k) =
+    let t = node i s kids in
+    let f = forest_value (t ▸ ts) m in
+    let g = forest_value ts m in
+    elim (cases_Bool s.has_result) [
+      | inl e ↦
+          ap (is_root j) (top_first f k)
+          ∙ (ap₂ (λ x y. is_root j (join x (y ▸ no_trees))) (top_same (λ d. f (suc d)) g (λ d. forest_value_under t ts m d e) k)
+          (forest_value_top t ts m e)
+          ∙ (is_root_join j (top g k) (t ▸ no_trees) ∙ (ap₂ (λ x y. x || y) (is_root_top j ts m k) (or_nil (i == j))
+          ∙ (or_comm (is_root j (pulled ts k)) (i == j) ∙ ap (is_root j) (sym (pulled_open t ts k e))))))
+      | inr e ↦ is_root_under j t ts m (suc k) e (is_root_top j ts m (suc k))
+    ]
 
-pub tree_of_stacked : (s : Shape) (earlier : List Shape) → tree_of s earlier ≡ operator s earlier
-tree_of_stacked s earlier = tree_of_is s earlier ∙ ap (node (length earlier) s) (top_same (value earlier) (forest_value (stacked earlier) (missing earlier)) (value_stacked earlier) s.operands)
+pub tree_of_stacked : (s : Shape) (earlier : List Shape) → operator_tree s earlier ≡ operator s earlier
+tree_of_stacked s earlier =
+    tree_of_is s earlier ∙ ap (node (length earlier) s)
+    (top_same (value earlier) (forest_value (stacked earlier) (missing earlier)) (value_stacked earlier) s.operands)
 
 -- which operators an operator takes
-taken_by : (s : Shape) (earlier : List Shape) (j : ℕ) → is_operand j (tree_of s earlier ▸ no_trees) ≡ is_root j (pulled (stacked earlier) s.operands)
-taken_by s earlier j = ap (λ t. is_operand j (t ▸ no_trees)) (tree_of_stacked s earlier) ∙ (or_nil _ ∙ is_root_top j (stacked earlier) (missing earlier) s.operands)
+taken_by : (s : Shape) (earlier : List Shape) (j : ℕ) →
+    is_operand j (operator_tree s earlier ▸ no_trees) ≡ is_root j (pulled (stacked earlier) s.operands)
+taken_by s earlier j = ap (λ t. is_operand j (t ▸ no_trees)) (tree_of_stacked s earlier) ∙
+    (or_nil _ ∙ is_root_top j (stacked earlier) (missing earlier) s.operands)
 
 -- no operator is taken before it stands
 pub not_taken : (block : List Shape) (j : ℕ) → length block ≤ suc j → is_operand j (trees block) ≡ false
 not_taken [] j h = refl
 not_taken (s ∷ earlier) j h =
-    is_operand_join j (trees earlier) (tree_of s earlier ▸ no_trees) ∙
-    (ap₂ (λ x y. x || y) (not_taken earlier j (omega arith))
-    (taken_by s earlier j ∙ false_from_ne_true _ (λ w. let l = root_below (stacked earlier) (length earlier) s.operands j (Falling-stacked earlier) w in omega arith)))
+    is_operand_join j (trees earlier) (operator_tree s earlier ▸ no_trees) ∙
+    (ap₂ (λ x y. x || y) (not_taken earlier j (omega arith)) (taken_by s earlier j ∙ false_from_ne_true _ (λ w. let l =
+    root_below (stacked earlier) (length earlier) s.operands j (Falling-stacked earlier) w in omega arith)))
 
 pub forest_is : (block : List Shape) → forest block ≡ rev (stacked block)
 forest_is [] = refl
 forest_is (s ∷ earlier) =
+    let ts = trees earlier in
+    let own = operator_tree s earlier ▸ no_trees in
     let here = λ (j : ℕ). is_operand j (trees (s ∷ earlier)) in
-    let before = λ (j : ℕ). is_operand j (trees earlier) in
+    let before = λ (j : ℕ). is_operand j ts in
     let now = λ (j : ℕ). is_root j (pulled (stacked earlier) s.operands) in
-    let split : (j : ℕ) → here j ≡ (before j || now j) = λ j. is_operand_join j (trees earlier) (tree_of s earlier ▸ no_trees) ∙ ap (λ x. before j || x) (taken_by s earlier j) in
-    let old = without_same here (λ j. before j || now j) split (trees earlier) ∙ (without_both before now (trees earlier) ∙ (ap (without now) (forest_is earlier) ∙ (without_rev now (stacked earlier) ∙ ap rev (without_pulled (stacked earlier) (length earlier) s.operands (Falling-stacked earlier))))) in
-    let new : without here (tree_of s earlier ▸ no_trees) ≡ operator s earlier ▸ no_trees = cond-false _ _ _ (not_taken (s ∷ earlier) (length earlier) (omega arith)) ∙ ap (λ x. x ▸ no_trees) (tree_of_stacked s earlier) in
-    without_join here (trees earlier) (tree_of s earlier ▸ no_trees) ∙ ap₂ join old new
+    let split : (j : ℕ) → here j ≡ (before j || now j) = λ j. is_operand_join j ts own ∙ ap (λ x. before j || x) (taken_by s earlier j) in
+    let left = without_pulled (stacked earlier) (length earlier) s.operands (Falling-stacked earlier) in
+    let old = without_same here (λ j. before j || now j) split ts ∙ (without_both before now ts
+    ∙ (ap (without now) (forest_is earlier) ∙ (without_rev now (stacked earlier) ∙ ap rev left))) in
+    let alone = not_taken (s ∷ earlier) (length earlier) (omega arith) in
+    without_join here ts own ∙ ap₂ join old (cond-false _ _ _ alone ∙ ap (λ x. x ▸ no_trees) (tree_of_stacked s earlier))

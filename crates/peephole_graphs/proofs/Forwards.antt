@@ -1,14 +1,16 @@
 -- `forwards` tells the order.
-use Rattle.std.proofs.Common.{◌≡◌, ℕ, zero, suc, ◌+◌, ◌-◌, ◌<◌, ◌≤◌, Bool, true, List, [], ◌∷◌, ◌++◌, length, take, Option, None, Some, refl, sym, ap, ap₂, ◌∙◌, subst, arith, ⊎_elim}
+use Rattle.std.proofs.Common.{◌≡◌, ℕ, zero, suc, ◌+◌, ◌-◌, ◌<◌, ◌≤◌, Bool, true, List, [], ◌∷◌, ◌++◌, length, take, Option, None}
+use Rattle.std.proofs.Common.{Some, refl, sym, ap, ap₂, ◌∙◌, subst, arith, ⊎_elim}
 use Rattle.std.specs.Prelude.{⊤, ◌&&◌, ◌==◌, ◌↔◌, IsTrue, reverse, replicate, if◌then◌else◌}
 use Rattle.std.specs.List.{All}
-use Rattle.std.proofs.lemmas.Bool.{cond-true, cond-false, eq-eqb, ne_eqb, or_left, or_right, and_parts, and_from, cases_eq, false≢true}
+use Rattle.std.proofs.lemmas.Bool.{cond-true, cond-false, eq-eqb, ne_eqb, or_left, or_right, and_parts, and_from, cases_eq}
+use Rattle.std.proofs.lemmas.Bool.{false≢true}
 use Rattle.std.proofs.lemmas.List.{reverse-append, length-map}
 use Rattle.std.proofs.lemmas.List.Elements.{All-head, All-tail, All-append, All-cons, All-nil}
 use Rattle.peephole_graphs.specs.Shape.{Shape}
 use Rattle.peephole_graphs.specs.Forest.{has, IsInOrder}
-use Rattle.peephole_graphs.specs.Colour.{colour_after, colour_at}
-use Rattle.peephole_graphs.specs.Graph.{Entry, undef, item}
+use Rattle.peephole_graphs.specs.Color.{color_after, color_at}
+use Rattle.peephole_graphs.specs.Graph.{GraphEntry, undef, item}
 use Rattle.peephole_graphs.specs.GraphOf.{IsSmall}
 use Rattle.peephole_graphs.proofs.Stands.{entry_at, is_operator, IsOperator}
 use Rattle.peephole_graphs.specs.Step.{down}
@@ -19,85 +21,103 @@ use Rattle.peephole_graphs.proofs.Sizes.{and_true, and_assoc', and_comm', sizes_
 use Rattle.peephole_graphs.proofs.Totals.{kin_of, kins, new_kin, kins_step, sizes_grown, size_of_entry, taken_below, stack_total}
 use Rattle.peephole_graphs.proofs.Chains.{chain, ChainsOk, chains_from_order, order_from_chains}
 
-forward_down : (size colour : ℕ → ℕ) (at b k : ℕ) (cs : List ℕ) → ((i : ℕ) → b ≤ i → i < b + k → colour i ≡ 4294967295) → forward size colour at (down b k ++ cs) ≡ forward size colour at cs
-forward_down size colour at b zero cs h = refl
-forward_down size colour at b (suc k) cs h = cond-true _ _ _ (eq-eqb (colour (b + k)) 4294967295 (h (b + k) (omega arith) (omega arith))) ∙ forward_down size colour at b k cs (λ i m l. h i m (omega arith))
+forward_down : (size color : ℕ → ℕ) (at b k : ℕ) (cs : List ℕ) → ((i : ℕ) → b ≤ i → i < b + k → color i ≡ 4294967295) →
+    forward size color at (down b k ++ cs) ≡ forward size color at cs
+forward_down size color at b zero cs h = refl
+forward_down size color at b (suc k) cs h = cond-true _ _ _ (eq-eqb (color (b + k)) 4294967295
+    (h (b + k) (omega arith) (omega arith))) ∙ forward_down size color at b k cs (λ i m l. h i m (omega arith))
 
 -- of operators' entries alone
-abbrev Colours : (ℕ → ℕ) → List ℕ → Type 0
-Colours colour [] = ⊤
-Colours colour (c ∷ cs) = (colour c < 4294967295) × Colours colour cs
+abbrev Colors : (ℕ → ℕ) → List ℕ → Type 0
+Colors color [] = ⊤
+Colors color (c ∷ cs) = (color c < 4294967295) × Colors color cs
 
-forward_push : (size colour : ℕ → ℕ) (at t : ℕ) (cs : List ℕ) → Colours colour cs → colour t < 4294967295 → forward size colour at (cs ++ t ∷ []) ≡ (forward size colour at cs && (suc t == (at + total size cs) + size t))
-forward_push size colour at t [] h l =
+forward_push : (size color : ℕ → ℕ) (at t : ℕ) (cs : List ℕ) → Colors color cs → color t < 4294967295 →
+    forward size color at (cs ++ t ∷ []) ≡ (forward size color at cs && (suc t == (at + total size cs) + size t))
+forward_push size color at t [] h l =
     let e : at + size t ≡ (at + 0) + size t = omega arith in
-    cond-false _ _ _ (ne_eqb (colour t) 4294967295 (λ w. omega arith)) ∙ (and_true (suc t == at + size t) ∙ ap (λ x. suc t == x) e)
-forward_push size colour at t (c ∷ cs) h l =
-    let other = ne_eqb (colour c) 4294967295 (λ w. let a = h.0 in omega arith) in
+    cond-false _ _ _ (ne_eqb (color t) 4294967295 (λ w. omega arith)) ∙ (and_true (suc t == at + size t) ∙ ap (λ x. suc t == x) e)
+forward_push size color at t (c ∷ cs) h l =
+    let other = ne_eqb (color c) 4294967295 (λ w. let a = h.0 in omega arith) in
     let e : (at + size c) + total size cs ≡ at + (size c + total size cs) = omega arith in
     cond-false _ _ _ other ∙
-    (ap (λ x. (suc c == at + size c) && x) (forward_push size colour (at + size c) t cs h.1 l) ∙
-    (sym (and_assoc' (suc c == at + size c) (forward size colour (at + size c) cs) (suc t == ((at + size c) + total size cs) + size t)) ∙
+    (ap (λ x. (suc c == at + size c) && x) (forward_push size color (at + size c) t cs h.1 l) ∙
+    (sym (and_assoc' (suc c == at + size c) (forward size color (at + size c) cs)
+    (suc t == ((at + size c) + total size cs) + size t)) ∙
     ap₂ (λ x y. x && (suc t == y + size t)) (sym (cond-false _ _ _ other)) e))
 
-Colours-reverse : (colour : ℕ → ℕ) (cs : List ℕ) → Colours colour cs → Colours colour (reverse cs)
-Colours-reverse colour [] h = tt
-Colours-reverse colour (c ∷ cs) h = subst (Colours colour) (sym (reverse-append (c ∷ []) cs)) (push (reverse cs) (Colours-reverse colour cs h.1))
+Colors-reverse : (color : ℕ → ℕ) (cs : List ℕ) → Colors color cs → Colors color (reverse cs)
+Colors-reverse color [] h = tt
+Colors-reverse color (c ∷ cs) h = subst (Colors color) (sym (reverse-append (c ∷ []) cs))
+    (push (reverse cs) (Colors-reverse color cs h.1))
   where
-    push : (ds : List ℕ) → Colours colour ds → Colours colour (ds ++ c ∷ [])
+    push : (ds : List ℕ) → Colors color ds → Colors color (ds ++ c ∷ [])
     push [] g = (h.0, tt)
     push (d ∷ ds) g = (g.0, push ds g.1)
 
-forward_chain : (size colour : ℕ → ℕ) (end : ℕ) (ts : List ℕ) → Colours colour ts → total size ts ≤ end → forward size colour (end - total size ts) (reverse ts) ≡ chain size end ts
-forward_chain size colour end [] h l = refl
-forward_chain size colour end (t ∷ ts) h l =
+forward_chain : (size color : ℕ → ℕ) (end : ℕ) (ts : List ℕ) → Colors color ts → total size ts ≤ end →
+    forward size color (end - total size ts) (reverse ts) ≡ chain size end ts
+forward_chain size color end [] h l = refl
+forward_chain size color end (t ∷ ts) h l =
     let at = end - (size t + total size ts) in
     let e : at ≡ (end - size t) - total size ts = omega arith in
     let r = total_reverse size ts in
     let f : (at + total size (reverse ts)) + size t ≡ end = omega arith in
-    ap (forward size colour at) (reverse-append (t ∷ []) ts) ∙
-    (forward_push size colour at t (reverse ts) (Colours-reverse colour ts h.1) h.0 ∙
-    (ap₂ (λ x y. x && (suc t == y)) (ap (λ a. forward size colour a (reverse ts)) e ∙ forward_chain size colour (end - size t) ts h.1 (omega arith)) f ∙
+    ap (forward size color at) (reverse-append (t ∷ []) ts) ∙
+    (forward_push size color at t (reverse ts) (Colors-reverse color ts h.1) h.0 ∙
+    (ap₂ (λ x y. x && (suc t == y)) (ap (λ a. forward size color a (reverse ts)) e ∙ forward_chain size color (end - size t) ts h.1
+    (omega arith)) f ∙
     and_comm' (chain size (end - size t) ts) (suc t == end)))
 
-forward_same : (f g h k : ℕ → ℕ) (at n : ℕ) (cs : List ℕ) → All (λ i. i < n) cs → ((i : ℕ) → i < n → f i ≡ g i) → ((i : ℕ) → i < n → h i ≡ k i) → forward f h at cs ≡ forward g k at cs
+forward_same : (f g h k : ℕ → ℕ) (at n : ℕ) (cs : List ℕ) → All (λ i. i < n) cs → ((i : ℕ) → i < n → f i ≡ g i) →
+    ((i : ℕ) → i < n → h i ≡ k i) → forward f h at cs ≡ forward g k at cs
 forward_same f g h k at n [] a p q = refl
 forward_same f g h k at n (c ∷ cs) a p q =
     let l = All-head (λ i. i < n) c cs a in
     let r = All-tail (λ i. i < n) c cs a in
-    (λ i. if q c l i == 4294967295 then forward_same f g h k at n cs r p q i else ((suc c == at + p c l i) && forward_same f g h k (at + f c) n cs r p q i)) ∙
+    (λ i. if q c l i == 4294967295 then forward_same f g h k at n cs r p q i else ((suc c == at + p c l i) && forward_same f g h k
+    (at + f c) n cs r p q i)) ∙
     ap (λ x. if k c == 4294967295 then forward g k at cs else ((suc c == at + g c) && forward g k (at + x) cs)) (p c l)
 
 forwards_replicate : (u : Kin) (k : ℕ) (xs : List Kin) → u.children ≡ [] → forwards (replicate k u ++ xs) ≡ forwards xs
 forwards_replicate u zero xs e = refl
 forwards_replicate u (suc k) xs e =
     let ys = replicate k u ++ xs in
-    ap (λ x. forwards ys && forward (λ i. item 0 (sizes_of ys) i) (λ i. (kin_at ys i).colour) (suc (length ys) - length (downwards (u ∷ ys) (length ys))) x) e ∙ (and_true (forwards ys) ∙ forwards_replicate u k xs e)
+    ap (λ x. forwards ys && forward (λ i. item 0 (sizes_of ys) i) (λ i. (kin_at ys i).color)
+    (suc (length ys) - length (downwards (u ∷ ys) (length ys))) x) e ∙ (and_true (forwards ys) ∙ forwards_replicate u k xs e)
 
 item_older : {A : Type 0} (d x : A) (ys : List A) (i : ℕ) → i < length ys → item d ys i ≡ item d (x ∷ ys) i
 item_older d x ys i l = sym (cond-false _ _ _ (ne_eqb (length ys) i (λ w. omega arith)))
 
-pub kin_entry : (nodes : List Entry) (i : ℕ) → i < length nodes → kin_at (kins nodes) i ≡ kin_of (entry_at nodes i)
+pub kin_entry : (nodes : List GraphEntry) (i : ℕ) → i < length nodes → kin_at (kins nodes) i ≡ kin_of (entry_at nodes i)
 kin_entry [] i l = absurd (omega arith)
 kin_entry (e ∷ nodes) i l = ⊎_elim
-    (λ w. cond-true _ _ _ (eq-eqb (length (kins nodes)) i (length-map nodes kin_of ∙ w)) ∙ ap kin_of (sym (cond-true _ _ _ (eq-eqb (length nodes) i w))))
-    (λ w. cond-false _ _ _ (ne_eqb (length (kins nodes)) i (λ v. w (sym (length-map nodes kin_of) ∙ v))) ∙ (kin_entry nodes i (omega arith) ∙ ap kin_of (sym (cond-false _ _ _ (ne_eqb (length nodes) i w)))))
+    (λ w. cond-true _ _ _ (eq-eqb (length (kins nodes)) i (length-map nodes kin_of ∙ w)) ∙
+    ap kin_of (sym (cond-true _ _ _ (eq-eqb (length nodes) i w))))
+    (λ w. cond-false _ _ _ (ne_eqb (length (kins nodes)) i (λ v. w (sym (length-map nodes kin_of) ∙ v))) ∙
+    (kin_entry nodes i (omega arith) ∙ ap kin_of (sym (cond-false _ _ _ (ne_eqb (length nodes) i w)))))
     (cases_eq (length nodes) i)
 
-pub colour_small : (keeping : Bool) (block : List Shape) (n : ℕ) → IsSmall keeping block → n < length block → colour_at keeping block n < 4294967295
-colour_small keeping [] n h l = absurd (omega arith)
-colour_small keeping (s ∷ earlier) n h l = ⊎_elim
+pub color_small : (preserving : Bool) (block : List Shape) (n : ℕ) → IsSmall preserving block → n < length block →
+    color_at preserving block n < 4294967295
+color_small preserving [] n h l = absurd (omega arith)
+color_small preserving (s ∷ earlier) n h l = ⊎_elim
     (λ w. subst (λ x. x < 4294967295) (sym (cond-true _ _ _ (eq-eqb (length earlier) n w))) h.2)
-    (λ w. subst (λ x. x < 4294967295) (sym (cond-false _ _ _ (ne_eqb (length earlier) n w))) (colour_small keeping earlier n h.0 (omega arith)))
+    (λ w. subst (λ x. x < 4294967295) (sym (cond-false _ _ _ (ne_eqb (length earlier) n w))) (color_small preserving earlier n h.0
+    (omega arith)))
     (cases_eq (length earlier) n)
 
-pub operator_colour : (keeping : Bool) (block : List Shape) (e : Entry) (o : Option Shape) → IsOperator keeping block o e → is_operator o ≡ true → e.colour ≡ colour_at keeping block e.number
-operator_colour keeping block e None h w = absurd (false≢true w)
-operator_colour keeping block e (Some s) h w = h.1
+pub operator_color : (preserving : Bool) (block : List Shape) (e : GraphEntry) (o : Option Shape) →
+    IsOperator preserving block o e → is_operator o ≡ true → e.color ≡ color_at preserving block e.number
+operator_color preserving block e None h w = absurd (false≢true w)
+operator_color preserving block e (Some s) h w = h.1
 
-Colours_has : (colour : ℕ → ℕ) (cs : List ℕ) → ((i : ℕ) → has i cs ≡ true → colour i < 4294967295) → Colours colour cs
-Colours_has colour [] h = tt
-Colours_has colour (c ∷ cs) h = (h c (or_left (c == c) (has c cs) (eq-eqb c c refl)), Colours_has colour cs (λ i w. h i (or_right (c == i) (has i cs) w)))
+Colors_has : (color : ℕ → ℕ) (cs : List ℕ) → ((i : ℕ) → has i cs ≡ true → color i < 4294967295) → Colors color cs
+Colors_has color [] h = tt
+Colors_has color (c ∷ cs) h = (
+  h c (or_left (c == c) (has c cs) (eq-eqb c c refl)),
+  Colors_has color cs (λ i w. h i (or_right (c == i) (has i cs) w)),
+)
 
 total_take : (f : ℕ → ℕ) (k : ℕ) (is : List ℕ) → total f (take k is) ≤ total f is
 total_take f zero is = omega arith
@@ -106,17 +126,21 @@ total_take f (suc k) (i ∷ is) = let e = total_take f k is in omega arith
 
 All_reversed : (n : ℕ) (is : List ℕ) → All (λ i. i < n) is → All (λ i. i < n) (reverse is)
 All_reversed n [] h = h
-All_reversed n (i ∷ is) h = subst (All (λ i. i < n)) (sym (reverse-append (i ∷ []) is)) (All-append (λ i. i < n) (reverse is) (i ∷ []) (All_reversed n is (All-tail (λ i. i < n) i is h)) (All-cons (λ i. i < n) i [] (All-head (λ i. i < n) i is h) (All-nil (λ i. i < n))))
+All_reversed n (i ∷ is) h = subst (All (λ i. i < n)) (sym (reverse-append (i ∷ []) is)) (All-append (λ i. i < n) (reverse is)
+    (i ∷ []) (All_reversed n is (All-tail (λ i. i < n) i is h)) (All-cons (λ i. i < n) i [] (All-head (λ i. i < n) i is h)
+    (All-nil (λ i. i < n))))
 
 head_same : (x y : ℕ) (xs ys : List ℕ) → x ∷ xs ≡ y ∷ ys → x ≡ y
 head_same x y xs ys e = cc
 
-forwards_step : (keeping : Bool) (s : Shape) (earlier : List Shape) → IsSmall keeping (s ∷ earlier) →
-    forwards (kins (graph keeping (s ∷ earlier)).nodes) ≡ (forwards (kins (graph keeping earlier).nodes) && chain (size_of_entry (graph keeping earlier)) (length (graph keeping earlier).nodes) (take s.operands (graph keeping earlier).stack))
-forwards_step keeping s earlier small =
-    let g = graph keeping earlier in
-    let ig = is_graph keeping earlier in
-    let c = colour_after keeping earlier in
+forwards_step : (preserving : Bool) (s : Shape) (earlier : List Shape) → IsSmall preserving (s ∷ earlier) →
+    forwards (kins (graph preserving (s ∷ earlier)).nodes) ≡ (forwards (kins (graph preserving earlier).nodes) &&
+    chain (size_of_entry (graph preserving earlier)) (length (graph preserving earlier).nodes)
+    (take s.operands (graph preserving earlier).stack))
+forwards_step preserving s earlier small =
+    let g = graph preserving earlier in
+    let ig = is_graph preserving earlier in
+    let c = color_after preserving earlier in
     let n = length earlier in
     let more = s.operands - length g.stack in
     let base = length g.nodes in
@@ -126,42 +150,57 @@ forwards_step keeping s earlier small =
     let ys = replicate more u ++ xs in
     let new = new_kin s g c in
     let f = size_of_entry g in
-    let none : Kin = record { children = []; colour = 0 } in
+    let none : Kin = record { children = []; color = 0 } in
     let xs_length : length xs ≡ base = length-map g.nodes kin_of in
     let ys_length = behind u more xs in
     let below = taken_below earlier g ig s.operands in
-    let sum : total f taken ≤ base = let a = total_take f s.operands g.stack in let b = stack_total keeping earlier in omega arith in
+    let sum : total f taken ≤ base = let a = total_take f s.operands g.stack in let b = stack_total preserving earlier in
+    omega arith in
     let size_is : length (downwards (new ∷ ys) (length ys)) ≡ suc (more + total f taken) =
     head_same _ _ _ _ (ap sizes_of (sym (kins_step s g n c)) ∙ sizes_grown s earlier g n c ig) in
     let start : suc (length ys) - length (downwards (new ∷ ys) (length ys)) ≡ base - total f taken = omega arith in
     let sizes_ys : sizes_of ys ≡ replicate more 1 ++ sizes_of xs = sizes_replicate u more xs refl in
     let sl = sizes_length xs in
     let size_old : (i : ℕ) → i < base → item 0 (sizes_of ys) i ≡ f i =
-    λ i l. ap (λ z. item 0 z i) sizes_ys ∙ (item_older 0 0 (replicate more 1 ++ sizes_of xs) i (let a = behind 1 more (sizes_of xs) in omega arith) ∙ at_old 0 0 1 more (sizes_of xs) i (omega arith)) in
-    let colour_old : (i : ℕ) → i < base → (kin_at ys i).colour ≡ (kin_at xs i).colour =
-    λ i l. ap (λ (z : Kin). z.colour) (item_older none new ys i (omega arith) ∙ at_old none new u more xs i (omega arith)) in
-    let colour_more : (i : ℕ) → base ≤ i → i < base + more → (kin_at ys i).colour ≡ 4294967295 =
-    λ i m l. ap (λ (z : Kin). z.colour) (item_older none new ys i (omega arith) ∙ at_more none new u more xs i (omega arith) (omega arith)) in
-    let coloured : Colours (λ i. (kin_at xs i).colour) taken = Colours_has (λ i. (kin_at xs i).colour) taken (λ i h.
+    λ i l. ap (λ z. item 0 z i) sizes_ys ∙ (item_older 0 0 (replicate more 1 ++ sizes_of xs) i
+    (let a = behind 1 more (sizes_of xs) in omega arith) ∙ at_old 0 0 1 more (sizes_of xs) i (omega arith)) in
+    let color_old : (i : ℕ) → i < base → (kin_at ys i).color ≡ (kin_at xs i).color =
+    λ i l. ap (λ (z : Kin). z.color) (item_older none new ys i (omega arith) ∙ at_old none new u more xs i (omega arith)) in
+    let color_more : (i : ℕ) → base ≤ i → i < base + more → (kin_at ys i).color ≡ 4294967295 =
+    λ i m l. ap (λ (z : Kin). z.color) (item_older none new ys i (omega arith) ∙ at_more none new u more xs i (omega arith)
+    (omega arith)) in
+    let colored : Colors (λ i. (kin_at xs i).color) taken = Colors_has (λ i. (kin_at xs i).color) taken (λ i h.
     let r = taken_root earlier g ig s.operands i h in
-    let e = (facts keeping earlier).entries i r.1 in
-    let d = operator_colour keeping earlier (entry_at g.nodes i) (entry_at g.nodes i).shape e.1 r.2 in
-    subst (λ x. x < 4294967295) (sym (ap (λ (z : Kin). z.colour) (kin_entry g.nodes i r.1) ∙ d)) (colour_small keeping earlier (entry_at g.nodes i).number small.0 e.0)) in
+    let e = (facts preserving earlier).entries i r.1 in
+    let d = operator_color preserving earlier (entry_at g.nodes i) (entry_at g.nodes i).shape e.1 r.2 in
+    subst (λ x. x < 4294967295) (sym (ap (λ (z : Kin). z.color) (kin_entry g.nodes i r.1) ∙ d)) (color_small preserving earlier
+    (entry_at g.nodes i).number small.0 e.0)) in
     ap forwards (kins_step s g n c) ∙
     ap₂ (λ a b. a && b) (forwards_replicate u more xs refl)
-    (ap (λ x. forward (λ i. item 0 (sizes_of ys) i) (λ i. (kin_at ys i).colour) x (down base more ++ reverse taken)) start ∙
-    (forward_down (λ i. item 0 (sizes_of ys) i) (λ i. (kin_at ys i).colour) (base - total f taken) base more (reverse taken) colour_more ∙
-    (forward_same (λ i. item 0 (sizes_of ys) i) f (λ i. (kin_at ys i).colour) (λ i. (kin_at xs i).colour) (base - total f taken) base (reverse taken) (All_reversed base taken below) size_old colour_old ∙
-    forward_chain f (λ i. (kin_at xs i).colour) base taken coloured sum)))
+    (ap (λ x. forward (λ i. item 0 (sizes_of ys) i) (λ i. (kin_at ys i).color) x (down base more ++ reverse taken)) start ∙
+    (forward_down (λ i. item 0 (sizes_of ys) i) (λ i. (kin_at ys i).color) (base - total f taken) base more
+    (reverse taken) color_more ∙
+    (forward_same (λ i. item 0 (sizes_of ys) i) f (λ i. (kin_at ys i).color) (λ i. (kin_at xs i).color)
+    (base - total f taken) base
+    (reverse taken) (All_reversed base taken below) size_old color_old ∙
+    forward_chain f (λ i. (kin_at xs i).color) base taken colored sum)))
 
-chains_forwards : (keeping : Bool) (block : List Shape) → IsSmall keeping block → ChainsOk keeping block → forwards (kins (graph keeping block).nodes) ≡ true
-chains_forwards keeping [] h o = refl
-chains_forwards keeping (s ∷ earlier) h o = forwards_step keeping s earlier h ∙ and_from _ _ (chains_forwards keeping earlier h.0 o.0) o.1
+chains_forwards : (preserving : Bool) (block : List Shape) → IsSmall preserving block → ChainsOk preserving block →
+    forwards (kins (graph preserving block).nodes) ≡ true
+chains_forwards preserving [] h o = refl
+chains_forwards preserving (s ∷ earlier) h o = forwards_step preserving s earlier h ∙
+    and_from _ _ (chains_forwards preserving earlier h.0 o.0) o.1
 
-forwards_chains : (keeping : Bool) (block : List Shape) → IsSmall keeping block → forwards (kins (graph keeping block).nodes) ≡ true → ChainsOk keeping block
-forwards_chains keeping [] h o = tt
-forwards_chains keeping (s ∷ earlier) h o = let p = and_parts _ _ (sym (forwards_step keeping s earlier h) ∙ o) in (forwards_chains keeping earlier h.0 p.0, p.1)
+forwards_chains : (preserving : Bool) (block : List Shape) → IsSmall preserving block →
+    forwards (kins (graph preserving block).nodes) ≡ true → ChainsOk preserving block
+forwards_chains preserving [] h o = tt
+forwards_chains preserving (s ∷ earlier) h o = let p = and_parts _ _ (sym (forwards_step preserving s earlier h) ∙ o) in
+    (forwards_chains preserving earlier h.0 p.0, p.1)
 
 -- what `keeps_order` computes is the order
-pub order_forwards : (keeping : Bool) (block : List Shape) → IsSmall keeping block → IsTrue (forwards (kins (graph keeping block).nodes)) ↔ IsInOrder block
-order_forwards keeping block h = (λ o. order_from_chains keeping block (forwards_chains keeping block h o), λ o. chains_forwards keeping block h (chains_from_order keeping block o))
+pub order_forwards : (preserving : Bool) (block : List Shape) → IsSmall preserving block →
+    IsTrue (forwards (kins (graph preserving block).nodes)) ↔ IsInOrder block
+order_forwards preserving block h = (
+  λ o. order_from_chains preserving block (forwards_chains preserving block h o),
+  λ o. chains_forwards preserving block h (chains_from_order preserving block o),
+)

@@ -1,14 +1,14 @@
 -- How many nodes the trees of a forest have: as many as its block has operators and missing operands.
-use Rattle.std.proofs.Common.{◌≡◌, ℕ, zero, suc, ◌+◌, ◌-◌, ◌≤◌, Bool, true, false, List, [], ◌∷◌, length, refl, ap, ◌∙◌, arith, inl, inr}
+use Rattle.std.proofs.Common.{◌≡◌, ℕ, zero, suc, ◌+◌, ◌-◌, ◌≤◌, Bool, true, List, [], ◌∷◌, length, refl, ap, ◌∙◌, arith, inl, inr}
 use Rattle.std.specs.Prelude.{◌==◌}
-use Rattle.std.proofs.lemmas.Bool.{or_cases, eqb-true}
+use Rattle.std.proofs.lemmas.Bool.{or_cases, eqb-true, false≢true}
 use Rattle.peephole_graphs.specs.Shape.{Shape}
 use Rattle.peephole_graphs.specs.Tree.{Tree, Trees, no_trees, ◌▸◌, join, full_size_of, full_size}
 use Rattle.peephole_graphs.specs.Forest.{forest, has}
-use Rattle.peephole_graphs.specs.Graph.{pick}
+use Rattle.peephole_graphs.specs.Graph.{trees_at}
 use Rattle.peephole_graphs.specs.GraphOf.{IsSmall}
 use Rattle.peephole_graphs.proofs.Stands.{lacking}
-use Rattle.peephole_graphs.proofs.Stacked.{is_open, opens, kept, pulled, stacked, missing, kept_open, kept_done, pulled_open, pulled_done}
+use Rattle.peephole_graphs.proofs.Stacked.{opens, kept, pulled, stacked, missing}
 use Rattle.peephole_graphs.proofs.ForestLemmas.{rev, forest_is}
 use Rattle.peephole_graphs.proofs.Readable.{entries, top_pulled}
 use Rattle.peephole_graphs.proofs.Standing.{standing_is}
@@ -28,12 +28,7 @@ wholes-entries m (suc k) = let e = wholes-entries m k in omega arith
 wholes-split : (f : Trees) (k : ℕ) → full_size (kept f k) + full_size (pulled f k) ≡ full_size f
 wholes-split no_trees k = refl
 wholes-split (t ▸ f) zero = omega arith
-wholes-split (t ▸ f) (suc k) = go (is_open t) refl (wholes-split f k) (wholes-split f (suc k))
-  where
-    go : (b : Bool) → is_open t ≡ b → full_size (kept f k) + full_size (pulled f k) ≡ full_size f → full_size (kept f (suc k)) + full_size (pulled f (suc k)) ≡ full_size f →
-        full_size (kept (t ▸ f) (suc k)) + full_size (pulled (t ▸ f) (suc k)) ≡ full_size (t ▸ f)
-    go true e u v = let p = ap full_size (kept_open t f k e) in let q = ap full_size (pulled_open t f k e) in omega arith
-    go false e u v = let p = ap full_size (kept_done t f (suc k) e) in let q = ap full_size (pulled_done t f (suc k) e) in omega arith
+wholes-split (t ▸ f) (suc k) = grind (arith, wholes-split f k, wholes-split f (suc k))
 
 wholes-stacked : (block : List Shape) → full_size (stacked block) ≡ length block + lacking block
 wholes-stacked [] = refl
@@ -52,17 +47,14 @@ pub wholes-forest : (block : List Shape) → full_size (forest block) ≡ length
 wholes-forest block = ap full_size (forest_is block) ∙ (wholes-rev (stacked block) ∙ wholes-stacked block)
 
 -- a tree is no larger than those that it is one of
-pub one_of : (at : ℕ → Tree) (i : ℕ) (is : List ℕ) → has i is ≡ true → full_size_of (at i) ≤ full_size (pick at is)
-one_of at i [] h = absurd (never h)
-  where
-    never : false ≡ true → ⊥
-    never e = cc
+pub one_of : (at : ℕ → Tree) (i : ℕ) (is : List ℕ) → has i is ≡ true → full_size_of (at i) ≤ full_size (trees_at at is)
+one_of at i [] h = absurd (false≢true h)
 one_of at i (j ∷ is) h = elim (or_cases (j == i) (has i is) h) [
-  | inl e ↦ let same : full_size_of (at j) ≡ full_size_of (at i) = ap (λ k. full_size_of (at k)) (eqb-true j i e) in omega arith
+  | inl e ↦ let same = ap (λ k. full_size_of (at k)) (eqb-true j i e) in omega arith
   | inr e ↦ let rest = one_of at i is e in omega arith
 ]
 
 -- a graph has at most 2^32 entries
-pub block_small : (keeping : Bool) (block : List Shape) → IsSmall keeping block → length block + lacking block ≤ 4294967296
-block_small keeping [] h = omega arith
-block_small keeping (s ∷ earlier) h = let l = h.1 in let e = wholes-forest (s ∷ earlier) in omega arith
+pub block_small : (preserving : Bool) (block : List Shape) → IsSmall preserving block → length block + lacking block ≤ 4294967296
+block_small preserving [] h = omega arith
+block_small preserving (s ∷ earlier) h = let l = h.1 in let e = wholes-forest (s ∷ earlier) in omega arith

@@ -33,13 +33,13 @@ pub mod TermOfLemmas
 pub mod ForestWalk
 pub mod Copies
 pub mod Answering
-pub mod LayingAsked
+pub mod RebuildLayout
 pub mod ReachedOnce
 pub mod ToldTree
-pub mod AskedResults
+pub mod RebuildResults
 pub mod TreeTextLemmas
 pub mod EntryTreeLemmas
-pub mod TreeColourLemmas
+pub mod TreeColorLemmas
 pub mod Lowering
 pub mod SpanLemmas
 pub mod Parents

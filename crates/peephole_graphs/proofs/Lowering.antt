@@ -1,7 +1,7 @@
 -- Ids made smaller one by one.
 use Rattle.std.proofs.Common.{◌≡◌, ℕ, zero, suc, ◌+◌, ◌-◌, ◌<◌, ◌≤◌, List, [], ◌∷◌, ◌++◌, length, get_or, take, drop, set, map, refl, ap, ◌∙◌, arith}
 use Rattle.std.specs.List.{All}
-use Rattle.std.proofs.lemmas.List.{take_all, drop_all, length-append, length-map, length-take, length-drop, get_or_default}
+use Rattle.std.proofs.lemmas.List.{append-nil, take_all, drop_all, length-append, length-map, length-take, length-drop, get_or_default}
 use Rattle.std.proofs.lemmas.List.Edits.{map_over_more}
 use Rattle.std.proofs.lemmas.List.Elements.{All-head, All-tail}
 use Rattle.peephole_nodes.specs.declared.id.Id.{Id}
@@ -25,7 +25,8 @@ next_is f [] i l d = absurd (omega arith)
 next_is f (x ∷ xs) zero l d = refl
 next_is f (x ∷ xs) (suc i) l d = next_is f xs i (omega arith) d
 
-pub next_large : (by : ℕ) (xs ys : List Id) (i : ℕ) (d : Id) → All (λ i. by ≤ i) (numbers_of xs) → i < length xs → ys ≡ map (lower_id by) (take i xs) ++ drop i xs → by ≤ (get_or ys i d).0
+pub next_large : (by : ℕ) (xs ys : List Id) (i : ℕ) (d : Id) → All (λ i. by ≤ i) (numbers_of xs) → i < length xs →
+    ys ≡ map (lower_id by) (take i xs) ++ drop i xs → by ≤ (get_or ys i d).0
 next_large by xs ys i d a l e =
     let n = ap (λ (z : Id). z.0) (ap (λ (z : List Id). get_or z i d) e ∙ next_is (lower_id by) xs i l d) in
     let large = all_ids by xs a i l d in
@@ -33,8 +34,13 @@ next_large by xs ys i d a l e =
 
 count_is : (by : ℕ) (xs ys : List Id) (i : ℕ) → i < length xs → ys ≡ map (lower_id by) (take i xs) ++ drop i xs → length ys ≡ length xs
 count_is by xs ys i l e =
-    ap (λ (z : List Id). length z) e
-    ∙ omega (arith, length-append (map (lower_id by) (take i xs)) (drop i xs), length-map (take i xs) (lower_id by), length-take i xs, length-drop i xs)
+    ap (λ (z : List Id). length z) e ∙ omega (
+      arith,
+      length-append (map (lower_id by) (take i xs)) (drop i xs),
+      length-map (take i xs) (lower_id by),
+      length-take i xs,
+      length-drop i xs,
+    )
 
 pub lowered_more : (by : ℕ) (xs ys : List Id) (i : ℕ) (d : Id) → i < length xs → ys ≡ map (lower_id by) (take i xs) ++ drop i xs →
     set ys i (lower_id by (get_or ys i d)) ≡ map (lower_id by) (take (i + 1) xs) ++ drop (i + 1) xs
@@ -43,11 +49,8 @@ lowered_more by xs ys i d l e =
     let n = count_is by xs ys i l e in
     map_over_more (lower_id by) xs ys i x l e (get_or_default ys i d x (omega arith))
 
-append_none : (xs : List Id) → xs ++ [] ≡ xs
-append_none [] = refl
-append_none (x ∷ xs) = ap (λ z. x ∷ z) (append_none xs)
-
-pub lowered_all : (by : ℕ) (xs ys : List Id) (i : ℕ) → length xs ≤ i → ys ≡ map (lower_id by) (take i xs) ++ drop i xs → numbers_of ys ≡ map (λ i. i - by) (numbers_of xs)
+pub lowered_all : (by : ℕ) (xs ys : List Id) (i : ℕ) → length xs ≤ i → ys ≡ map (lower_id by) (take i xs) ++ drop i xs →
+    numbers_of ys ≡ map (λ i. i - by) (numbers_of xs)
 lowered_all by xs ys i l e =
-    ap numbers_of (e ∙ (ap (λ z. map (lower_id by) (take i xs) ++ z) (drop_all i xs l) ∙ (append_none (map (lower_id by) (take i xs)) ∙ ap (map (lower_id by)) (take_all i xs l))))
-    ∙ lowered_numbers by xs
+    ap numbers_of (e ∙ (ap (λ z. map (lower_id by) (take i xs) ++ z) (drop_all i xs l) ∙
+    (append-nil (map (lower_id by) (take i xs)) ∙ ap (map (lower_id by)) (take_all i xs l)))) ∙ lowered_numbers by xs

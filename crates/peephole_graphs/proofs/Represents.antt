@@ -1,31 +1,27 @@
 -- What the graph of a block is in the theory's lists.
-use Rattle.std.specs.Prelude.{ℕ, suc, ◌+◌, ◌-◌, ◌<◌, ◌≤◌, ◌≡◌, ◌↔◌, IsTrue, Bool, true, List, length, map, reverse, Option, None, Some, is_some, slice_get}
+use Rattle.std.specs.Prelude.{ℕ, suc, ◌+◌, ◌-◌, ◌<◌, ◌≤◌, ◌≡◌, ◌↔◌, true, length, map, reverse, None, Some, is_some, slice_get}
 use Rattle.std.specs.List.{All}
-use Rattle.wasm_code.specs.declared.operator.Operator.{Operator}
-use Rattle.mutate_base.specs.Module.{Module}
 use Rattle.peephole_lang.specs.Node.{instr_of}
 use Rattle.peephole_lang.specs.declared.lang.Lang.TheVariants.{Undef}
 use Rattle.peephole_graphs.specs.declared.dfg.StackEntry.{StackEntry}
-use Rattle.peephole_graphs.specs.Shape.{AreFit, block_of}
-use Rattle.peephole_graphs.specs.Forest.{IsInOrder}
-use Rattle.peephole_graphs.specs.Entries.{Seen, seen, nodes_of}
-use Rattle.peephole_graphs.specs.Order.{AreInOrder}
-use Rattle.peephole_graphs.specs.Contiguous.{HasContiguousTrees}
+use Rattle.peephole_graphs.specs.Shape.{AreFit}
+use Rattle.peephole_graphs.specs.Entries.{Graph, EntryView, entry_view, graph_entries}
 use Rattle.peephole_graphs.specs.GraphOf.{IsSmall, IsOwnEntry}
+use Rattle.peephole_graphs.specs.Source.{Source, shapes_in}
 use Rattle.peephole_graphs.proofs.Stands.{Stands}
 
 -- an entry without an instruction is a missing operand, and its node `Undef`
 abbrev pub IsOwnOrUndef : StackEntry → Type 0
 IsOwnOrUndef e = instr_of e.operator ≡ None → e.operator ≡ Undef
 
-pub record Represents (info : Module) (keeping : Bool) (first : ℕ) (operators : List (Operator × ℕ)) (entries : List StackEntry) (parents : List (Option ℕ)) (look : ℕ → Option ℕ) : Type 0 where
-  pub fit : AreFit info operators
-  pub small : IsSmall keeping (block_of info operators)
-  pub stands : Stands keeping (block_of info operators) (nodes_of info first entries) (reverse parents)
-  pub missing : All IsOwnOrUndef entries
-  pub later : All (λ (x : Seen). first ≤ x.operator) (map seen entries)
-  pub finds : (k i : ℕ) → (look k ≡ Some i) ↔ IsOwnEntry entries k i
-  pub keys : (n : ℕ) → n < length operators → is_some (look (first + n)) ≡ true
-  pub last : (n : ℕ) → length operators ≡ suc n → (look (first + n) ≡ Some (length entries - 1)) × (slice_get parents (length entries - 1) ≡ Some None)
-  pub ordered : AreInOrder entries parents ↔ IsInOrder (block_of info operators)
-  pub contiguous : IsTrue keeping → HasContiguousTrees entries
+pub record Represents (source : Source) (given : Graph) : Type 0 where
+  pub fit : AreFit source.info source.operators
+  pub small : IsSmall source.preserving (shapes_in source)
+  pub stands : Stands source.preserving (shapes_in source) (graph_entries source.info source.first given.entries)
+      (reverse given.parents)
+  pub missing : All IsOwnOrUndef given.entries
+  pub later : All (λ (x : EntryView). source.first ≤ x.operator) (map entry_view given.entries)
+  pub finds : (k i : ℕ) → (given.own_entry k ≡ Some i) ↔ IsOwnEntry given.entries k i
+  pub keys : (n : ℕ) → n < length source.operators → is_some (given.own_entry (source.first + n)) ≡ true
+  pub last : (n : ℕ) → length source.operators ≡ suc n → (given.own_entry (source.first + n) ≡ Some (length given.entries - 1)) ×
+      (slice_get given.parents (length given.entries - 1) ≡ Some None)

@@ -1,5 +1,6 @@
 -- A block that is written with its own trees has the same trees.
-use Rattle.std.proofs.Common.{◌≡◌, ℕ, zero, suc, ◌+◌, ◌-◌, ◌<◌, Bool, true, false, cond, List, [], ◌∷◌, ◌++◌, length, refl, sym, ap, ap₂, ◌∙◌, arith, append_assoc}
+use Rattle.std.proofs.Common.{◌≡◌, ℕ, zero, suc, ◌+◌, ◌-◌, ◌<◌, cond, List, []}
+use Rattle.std.proofs.Common.{◌∷◌, ◌++◌, length, refl, sym, ap, ap₂, ◌∙◌, arith, append_assoc}
 use Rattle.std.specs.Prelude.{reverse}
 use Rattle.std.proofs.lemmas.List.{append-nil, reverse-append, length-append}
 use Rattle.peephole_graphs.specs.Shape.{Shape}
@@ -7,9 +8,10 @@ use Rattle.peephole_graphs.specs.Tree.{Tree, entry, node, Trees, no_trees, ◌�
 use Rattle.peephole_graphs.specs.Forest.{forest}
 use Rattle.peephole_graphs.proofs.Depth.{top}
 use Rattle.peephole_graphs.proofs.DepthLemmas.{top_same, top_first}
-use Rattle.peephole_graphs.proofs.Stacked.{is_open, opens, forest_value, kept, stacked, missing, kept_zero, forest_value_top, forest_value_under, forest_value_done, kept_open, kept_done, opens_open, opens_done}
+use Rattle.peephole_graphs.proofs.Stacked.{is_open, opens, forest_value, kept, stacked, missing, kept_zero, forest_value_top}
+use Rattle.peephole_graphs.proofs.Stacked.{forest_value_under, kept_open, opens_open}
 use Rattle.peephole_graphs.proofs.ForestLemmas.{rev, join_nil, forest_is}
-use Rattle.peephole_graphs.proofs.Readable.{join_assoc, count, AllOpen, entries, Reads, nothing, one_more, reads_stacked}
+use Rattle.peephole_graphs.proofs.Readable.{join_assoc, count, AllOpen, entries, Operands, Reads, nothing, one_more, reads_stacked}
 
 -- the instructions, the last first
 abbrev mutual
@@ -54,7 +56,8 @@ size_rev (t ▸ ts) = let e = size_rev ts in let f = size_join (rev ts) (t ▸ n
 renumbered_join : (n : ℕ) (ts us : Trees) → renumbered n (join ts us) ≡ join (renumbered n ts) (renumbered (n + size ts) us)
 renumbered_join n no_trees us = let e : n ≡ n + 0 = omega arith in ap (λ x. renumbered x us) e
 renumbered_join n (t ▸ ts) us = let e : (n + size_of t) + size ts ≡ n + (size_of t + size ts) = omega arith in
-    ap (λ x. renumbered_of n t ▸ x) (renumbered_join (n + size_of t) ts us ∙ ap (λ x. join (renumbered (n + size_of t) ts) (renumbered x us)) e)
+    ap (λ x. renumbered_of n t ▸ x) (renumbered_join (n + size_of t) ts us ∙
+    ap (λ x. join (renumbered (n + size_of t) ts) (renumbered x us)) e)
 
 -- the same for trees of which the last is first
 abbrev pub renumbered_back : ℕ → Trees → Trees
@@ -63,7 +66,8 @@ renumbered_back n (t ▸ ts) = renumbered_of (n + size ts) t ▸ renumbered_back
 
 renumbered_rev : (n : ℕ) (ts : Trees) → renumbered n (rev ts) ≡ rev (renumbered_back n ts)
 renumbered_rev n no_trees = refl
-renumbered_rev n (t ▸ ts) = renumbered_join n (rev ts) (t ▸ no_trees) ∙ ap₂ (λ x y. join x (renumbered_of (n + y) t ▸ no_trees)) (renumbered_rev n ts) (size_rev ts)
+renumbered_rev n (t ▸ ts) = renumbered_join n (rev ts) (t ▸ no_trees) ∙
+    ap₂ (λ x y. join x (renumbered_of (n + y) t ▸ no_trees)) (renumbered_rev n ts) (size_rev ts)
 
 is_open_renumbered : (n : ℕ) (t : Tree) → is_open (renumbered_of n t) ≡ is_open t
 is_open_renumbered n (entry m) = refl
@@ -83,11 +87,7 @@ open_renumbered n (t ▸ ts) h = (is_open_renumbered (n + size ts) t ∙ h.0, op
 
 opens_join : (ts us : Trees) → opens (join ts us) ≡ opens ts + opens us
 opens_join no_trees us = omega arith
-opens_join (t ▸ ts) us = go (is_open t) (opens_join ts us)
-  where
-    go : (b : Bool) → opens (join ts us) ≡ opens ts + opens us → cond b (suc (opens (join ts us))) (opens (join ts us)) ≡ cond b (suc (opens ts)) (opens ts) + opens us
-    go true e = omega arith
-    go false e = e
+opens_join (t ▸ ts) us = grind (arith, opens_join ts us)
 
 opens_all : (ts : Trees) → AllOpen ts → opens ts ≡ count ts
 opens_all no_trees h = refl
@@ -95,56 +95,64 @@ opens_all (t ▸ ts) h = opens_open t ts h.0 ∙ ap suc (opens_all ts h.1)
 
 kept_all : (ts forest : Trees) (j : ℕ) → AllOpen ts → kept (join ts forest) (j + count ts) ≡ kept forest j
 kept_all no_trees forest j h = let e : j + 0 ≡ j = omega arith in ap (kept forest) e
-kept_all (t ▸ ts) forest j h = let e : j + suc (count ts) ≡ suc (j + count ts) = omega arith in ap (kept (t ▸ join ts forest)) e ∙ (kept_open t (join ts forest) (j + count ts) h.0 ∙ kept_all ts forest j h.1)
+kept_all (t ▸ ts) forest j h =
+    let e : j + suc (count ts) ≡ suc (j + count ts) = omega arith in
+    ap (kept (t ▸ join ts forest)) e ∙ (kept_open t (join ts forest) (j + count ts) h.0 ∙ kept_all ts forest j h.1)
 
-top_all : (ts forest : Trees) (m j : ℕ) → AllOpen ts → top (forest_value (join ts forest) m) (j + count ts) ≡ join (top (forest_value forest m) j) (rev ts)
-top_all no_trees forest m j h = let e : j + 0 ≡ j = omega arith in ap (top (forest_value forest m)) e ∙ sym (join_nil (top (forest_value forest m) j))
+top_all : (ts forest : Trees) (m j : ℕ) → AllOpen ts →
+    top (forest_value (join ts forest) m) (j + count ts) ≡ join (top (forest_value forest m) j) (rev ts)
+top_all no_trees forest m j h =
+    let e : j + 0 ≡ j = omega arith in ap (top (forest_value forest m)) e ∙ sym (join_nil (top (forest_value forest m) j))
 top_all (t ▸ ts) forest m j h =
     let e : j + suc (count ts) ≡ suc (j + count ts) = omega arith in
     let f = forest_value (t ▸ join ts forest) m in
-    ap (top f) e ∙
-    (top_first f (j + count ts) ∙
-    (ap₂ (λ x y. join x (y ▸ no_trees)) (top_same (λ d. f (suc d)) (forest_value (join ts forest) m) (λ d. forest_value_under t (join ts forest) m d h.0) (j + count ts) ∙ top_all ts forest m j h.1) (forest_value_top t (join ts forest) m h.0) ∙
+    ap (top f) e ∙ (top_first f (j + count ts) ∙ (ap₂ (λ x y. join x (y ▸ no_trees))
+    (top_same (λ d. f (suc d)) (forest_value (join ts forest) m) (λ d. forest_value_under t (join ts forest) m d h.0) (j + count ts) ∙
+    top_all ts forest m j h.1) (forest_value_top t (join ts forest) m h.0) ∙
     join_assoc (top (forest_value forest m) j) (rev ts) (t ▸ no_trees)))
 
-pub kept_closed : (forest : Trees) (j : ℕ) → opens forest ≡ 0 → kept forest j ≡ forest
+kept_closed : (forest : Trees) (j : ℕ) → opens forest ≡ 0 → kept forest j ≡ forest
 kept_closed no_trees j h = refl
-kept_closed (t ▸ forest) j h = go (is_open t) refl (kept_closed forest j)
-  where
-    go : (b : Bool) → is_open t ≡ b → (opens forest ≡ 0 → kept forest j ≡ forest) → kept (t ▸ forest) j ≡ t ▸ forest
-    go true f u = let o = opens_open t forest f in absurd (omega arith)
-    go false f u = kept_done t forest j f ∙ ap (λ x. t ▸ x) (u (sym (opens_done t forest f) ∙ h))
+kept_closed (t ▸ forest) zero h = refl
+kept_closed (t ▸ forest) (suc j) h = let more = kept_closed forest (suc j) in grind arith
 
 forest_value_closed : (forest : Trees) (m d : ℕ) → opens forest ≡ 0 → forest_value forest m d ≡ entry (m + d)
 forest_value_closed no_trees m d h = refl
-forest_value_closed (t ▸ forest) m d h = go (is_open t) refl (forest_value_closed forest m d)
-  where
-    go : (b : Bool) → is_open t ≡ b → (opens forest ≡ 0 → forest_value forest m d ≡ entry (m + d)) → forest_value (t ▸ forest) m d ≡ entry (m + d)
-    go true f u = let o = opens_open t forest f in absurd (omega arith)
-    go false f u = forest_value_done t forest m d f ∙ u (sym (opens_done t forest f) ∙ h)
+forest_value_closed (t ▸ forest) m zero h = let more = forest_value_closed forest m zero in grind arith
+forest_value_closed (t ▸ forest) m (suc d) h = let more = forest_value_closed forest m (suc d) in grind arith
 
-rest_same : (forest : Trees) (m more : ℕ) → (0 < more → opens forest ≡ 0) → (kept forest more ≡ forest) × (top (forest_value forest m) more ≡ entries m more)
+rest_same : (forest : Trees) (m more : ℕ) → (0 < more → opens forest ≡ 0) →
+    (kept forest more ≡ forest) × (top (forest_value forest m) more ≡ entries m more)
 rest_same forest m zero z = (kept_zero forest, refl)
-rest_same forest m (suc more) z = let n = z (omega arith) in (kept_closed forest (suc more) n, top_same (forest_value forest m) (λ d. entry (m + d)) (λ d. forest_value_closed forest m d n) (suc more))
+rest_same forest m (suc more) z =
+    let n = z (omega arith) in (
+      kept_closed forest (suc more) n,
+      top_same (forest_value forest m)
+          (λ d. entry (m + d)) (λ d. forest_value_closed forest m d n) (suc more),
+    )
 
 left_over : (k more number others : ℕ) → k ≡ more + number → (0 < more → others ≡ 0) → k - (number + others) ≡ more
-left_over k zero number others c z = omega arith
-left_over k (suc more) number others c z = let n = z (omega arith) in omega arith
+left_over k more number others c z = grind arith
 
 -- an operator behind its own operands
-reread_node : (s : Shape) (block : List Shape) (operands forest : Trees) (m more : ℕ) → stacked block ≡ join operands forest → AllOpen operands → missing block ≡ m → s.operands ≡ more + count operands → (0 < more → opens forest ≡ 0) →
-    (stacked (s ∷ block) ≡ node (length block) s (join (entries m more) (rev operands)) ▸ forest) × (missing (s ∷ block) ≡ m + more)
-reread_node s block operands forest m more e ao w c z =
-    let (u, v) = rest_same forest m more z in
-    let kids = ap₂ (λ x y. top (forest_value x y) s.operands) e w ∙ (ap (top (forest_value (join operands forest) m)) c ∙ (top_all operands forest m more ao ∙ ap (λ x. join x (rev operands)) v)) in
-    let others = ap (λ x. kept x s.operands) e ∙ (ap (kept (join operands forest)) c ∙ (kept_all operands forest more ao ∙ u)) in
-    let number = ap opens e ∙ (opens_join operands forest ∙ ap (λ x. x + opens forest) (opens_all operands ao)) in
-    let more_is : s.operands - opens (stacked block) ≡ more = ap (λ x. s.operands - x) number ∙ left_over s.operands more (count operands) (opens forest) c z in
-    (ap₂ (λ x y. node (length block) s x ▸ y) kids others, ap₂ (λ x y. x + y) w more_is)
+reread_node : {s : Shape} {kids operands : Trees} {m more m' : ℕ} (block : List Shape) (forest : Trees) →
+    stacked block ≡ join operands forest →
+    missing block ≡ m → Operands (opens forest) s kids operands m more m' →
+    (stacked (s ∷ block) ≡ node (length block) s kids ▸ forest) × (missing (s ∷ block) ≡ m')
+reread_node {s} {kids} {operands} {m} {more} {m'} block forest e w o =
+    let (u, v) = rest_same forest m more o.alone in
+    let joined = join operands forest in
+    let number = ap opens e ∙ (opens_join operands forest ∙ ap (λ x. x + opens forest) (opens_all operands o.all_open)) in
+    let taken = ap₂ (λ x y. top (forest_value x y) s.operands) e w ∙ (ap (top (forest_value joined m)) o.many
+    ∙ (top_all operands forest m more o.all_open ∙ (ap (λ x. join x (rev operands)) v ∙ sym o.are))) in
+    let others = ap (λ x. kept x s.operands) e ∙ (ap (kept joined) o.many ∙ (kept_all operands forest more o.all_open ∙ u)) in
+    let more_is = ap (λ x. s.operands - x) number ∙ left_over s.operands more (count operands) (opens forest) o.many o.alone in
+    (ap₂ (λ x y. node (length block) s x ▸ y) taken others, ap₂ (λ x y. x + y) w more_is ∙ sym o.taken)
 
 renumbered_entries : (n m j : ℕ) → renumbered n (entries m j) ≡ entries m j
 renumbered_entries n m zero = refl
-renumbered_entries n m (suc j) = let e : n + 0 ≡ n = omega arith in ap (λ x. entry (m + j) ▸ x) (ap (λ x. renumbered x (entries m j)) e ∙ renumbered_entries n m j)
+renumbered_entries n m (suc j) =
+    let e : n + 0 ≡ n = omega arith in ap (λ x. entry (m + j) ▸ x) (ap (λ x. renumbered x (entries m j)) e ∙ renumbered_entries n m j)
 
 size_entries : (m j : ℕ) → size (entries m j) ≡ 0
 size_entries m zero = refl
@@ -162,28 +170,40 @@ renumbered_kids n m j ts =
 back_kids : (m j : ℕ) (ts : Trees) → back (join (entries m j) (rev ts)) ≡ back (rev ts)
 back_kids m j ts = back_join (entries m j) (rev ts) ∙ (ap (λ x. back (rev ts) ++ x) (back_entries m j) ∙ append-nil (back (rev ts)))
 
-pub reread : {stand m m' : ℕ} {ts : Trees} → Reads stand m ts m' → (before : List Shape) → opens (stacked before) ≡ stand → missing before ≡ m →
-    (stacked (back (rev ts) ++ before) ≡ join (renumbered_back (length before) ts) (stacked before)) × (missing (back (rev ts) ++ before) ≡ m')
+reread : {stand m m' : ℕ} {ts : Trees} → Reads stand m ts m' → (before : List Shape) → opens (stacked before) ≡ stand → missing before ≡ m →
+    (stacked (back (rev ts) ++ before) ≡ join (renumbered_back (length before) ts) (stacked before))
+    × (missing (back (rev ts) ++ before) ≡ m')
 reread nothing before o e = (refl, e)
-reread {stand} {m} {m'} (one_more {m0 = m0} {m1 = m1} {ts = ts} i s kids operands more r q ao e c z f) before o w =
+reread {stand} {m} {m'} (one_more {m1 = m1} {ts = ts} i s kids operands more r q o) before at w =
     let middle = back (rev ts) ++ before in
-    let (a, b) = reread r before o w in
-    let stands : opens (stacked middle) ≡ stand + opens ts = ap opens a ∙ (opens_join (renumbered_back (length before) ts) (stacked before) ∙ (ap₂ (λ x y. x + y) (opens_renumbered (length before) ts) o ∙ omega arith)) in
+    let n = length middle in
+    let k = length before + size ts in
+    let new = renumbered_back n operands in
+    let (a, b) = reread r before at w in
+    let stands : opens (stacked middle) ≡ stand + opens ts = ap opens a ∙ (opens_join (renumbered_back (length before) ts) (stacked before)
+    ∙ (ap₂ (λ x y. x + y) (opens_renumbered (length before) ts) at ∙ omega arith)) in
     let (a2, b2) = reread q middle stands b in
-    let code : back kids ≡ back (rev operands) = ap back e ∙ back_kids m1 more operands in
+    let code = ap (λ x. x ++ middle) (ap back o.are ∙ back_kids m1 more operands) in
     let block = back kids ++ middle in
-    let new = renumbered_back (length middle) operands in
-    let (a3, b3) = reread_node s block new (stacked middle) m1 more (ap (λ x. stacked (x ++ middle)) code ∙ a2) (open_renumbered (length middle) operands ao) (ap (λ x. missing (x ++ middle)) code ∙ b2)
-    (c ∙ ap (λ x. more + x) (sym (count_renumbered (length middle) operands))) (λ l. stands ∙ z l) in
-    let whole : back (rev (node i s kids ▸ ts)) ++ before ≡ s ∷ block = ap (λ x. x ++ before) (back_join (rev ts) (node i s kids ▸ no_trees)) ∙ ap (λ x. s ∷ x) (append_assoc (back kids) (back (rev ts)) before) in
-    let first : length middle ≡ length before + size ts = omega (arith, length-append (back (rev ts)) before, length-back (rev ts), size_rev ts) in
-    let last : length block ≡ (length before + size ts) + size kids = omega (arith, length-append (back kids) middle, length-back kids, first) in
-    let kids_are : join (entries m1 more) (rev new) ≡ renumbered (length before + size ts) kids = sym (renumbered_kids (length middle) m1 more operands) ∙ ap₂ renumbered first (sym e) in
-    (ap stacked whole ∙ (a3 ∙ ap₂ (λ x y. x ▸ y) (ap₂ (λ x y. node x s y) last kids_are) a), ap missing whole ∙ (b3 ∙ sym f))
+    let first : n ≡ k = omega (arith, length-append (back (rev ts)) before, length-back (rev ts), size_rev ts) in
+    let last : length block ≡ k + size kids = omega (arith, length-append (back kids) middle, length-back kids, first) in
+    let (a3, b3) = reread_node {kids = renumbered k kids} block (stacked middle) (ap stacked code ∙ a2) (ap missing code ∙ b2) (record {
+      all_open = open_renumbered n operands o.all_open;
+      are = sym (sym (renumbered_kids n m1 more operands) ∙ ap₂ renumbered first (sym o.are));
+      many = o.many ∙ ap (λ x. more + x) (sym (count_renumbered n operands));
+      alone = λ l. stands ∙ o.alone l;
+      taken = o.taken;
+    }) in
+    let whole : back (rev (node i s kids ▸ ts)) ++ before ≡ s ∷ block =
+    ap (λ x. x ++ before) (back_join (rev ts) (node i s kids ▸ no_trees)) ∙
+    ap (λ x. s ∷ x) (append_assoc (back kids) (back (rev ts)) before) in
+    (ap stacked whole ∙ (a3 ∙ ap₂ (λ x y. node x s (renumbered k kids) ▸ y) last a), ap missing whole ∙ b3)
 
 -- A block that is written with its own trees and read again has the same forest, but for the operators' numbers, which are those of the new places.
 pub same_trees : (block : List Shape) → forest (reverse (shapes (forest block))) ≡ renumbered 0 (forest block)
 same_trees block =
-    let u = (reread (reads_stacked block) [] refl refl).0 in
-    let code : back (rev (stacked block)) ++ [] ≡ reverse (shapes (forest block)) = append-nil _ ∙ (back_is (rev (stacked block)) ∙ ap (λ x. reverse (shapes x)) (sym (forest_is block))) in
-    forest_is (reverse (shapes (forest block))) ∙ (ap (λ x. rev (stacked x)) (sym code) ∙ (ap rev (u ∙ join_nil (renumbered_back 0 (stacked block))) ∙ (sym (renumbered_rev 0 (stacked block)) ∙ ap (renumbered 0) (sym (forest_is block)))))
+    let ts = stacked block in
+    let code = append-nil (back (rev ts)) ∙ (back_is (rev ts) ∙ ap (λ x. reverse (shapes x)) (sym (forest_is block))) in
+    let again = (reread (reads_stacked block) [] refl refl).0 ∙ join_nil (renumbered_back 0 ts) in
+    forest_is (reverse (shapes (forest block))) ∙ (ap (λ x. rev (stacked x)) (sym code)
+    ∙ (ap rev again ∙ (sym (renumbered_rev 0 ts) ∙ ap (renumbered 0) (sym (forest_is block)))))

@@ -1,10 +1,10 @@
 -- The forest of a block as it grows: an operator takes the last trees that stand open, or entry operands, and stands behind the others. The last tree is first.
-use Rattle.std.proofs.Common.{◌≡◌, ℕ, zero, suc, ◌+◌, ◌-◌, Bool, true, false, cond, List, [], ◌∷◌, length, refl, sym, ap, ap₂, ◌∙◌, arith}
-use Rattle.std.proofs.lemmas.Bool.{cond-true, cond-false}
+use Rattle.std.proofs.Common.{◌≡◌, ℕ, zero, suc, ◌+◌, ◌-◌, Bool, true, false, cond, List, [], ◌∷◌, length, refl, sym, ap, ap₂, ◌∙◌, arith, inl, inr}
+use Rattle.std.proofs.lemmas.Bool.{cond-true, cond-false, cases_Bool}
 use Rattle.peephole_graphs.specs.Shape.{Shape}
 use Rattle.peephole_graphs.specs.Tree.{Tree, entry, node, Trees, no_trees, ◌▸◌}
 use Rattle.peephole_graphs.proofs.Depth.{top, value}
-use Rattle.peephole_graphs.proofs.DepthLemmas.{top_same, value_result, value_under, value_none}
+use Rattle.peephole_graphs.proofs.DepthLemmas.{top_same}
 
 abbrev pub is_open : Tree → Bool
 is_open (entry m) = false
@@ -36,7 +36,8 @@ pulled (t ▸ forest) (suc count) = cond (is_open t) (t ▸ pulled forest count)
 abbrev mutual
   pub stacked : List Shape → Trees
   stacked [] = no_trees
-  stacked (s ∷ earlier) = node (length earlier) s (top (forest_value (stacked earlier) (missing earlier)) s.operands) ▸ kept (stacked earlier) s.operands
+  stacked (s ∷ earlier) =
+      node (length earlier) s (top (forest_value (stacked earlier) (missing earlier)) s.operands) ▸ kept (stacked earlier) s.operands
 
   pub missing : List Shape → ℕ
   missing [] = 0
@@ -59,7 +60,8 @@ opens_done t forest e = cond-false _ _ _ e
 pub forest_value_top : (t : Tree) (forest : Trees) (m : ℕ) → is_open t ≡ true → forest_value (t ▸ forest) m 0 ≡ t
 forest_value_top t forest m e = cond-true _ _ _ e
 
-pub forest_value_under : (t : Tree) (forest : Trees) (m d : ℕ) → is_open t ≡ true → forest_value (t ▸ forest) m (suc d) ≡ forest_value forest m d
+pub forest_value_under : (t : Tree) (forest : Trees) (m d : ℕ) → is_open t ≡ true →
+    forest_value (t ▸ forest) m (suc d) ≡ forest_value forest m d
 forest_value_under t forest m d e = cond-true _ _ _ e
 
 pub forest_value_done : (t : Tree) (forest : Trees) (m d : ℕ) → is_open t ≡ false → forest_value (t ▸ forest) m d ≡ forest_value forest m d
@@ -80,34 +82,39 @@ pub pulled_done : (t : Tree) (forest : Trees) (k : ℕ) → is_open t ≡ false 
 pulled_done t forest zero e = sym (pulled_zero forest)
 pulled_done t forest (suc k) e = cond-false _ _ _ e
 
-pub forest_value_kept : (forest : Trees) (m k d : ℕ) → forest_value (kept forest k) (m + (k - opens forest)) d ≡ forest_value forest m (d + k)
+pub forest_value_kept : (forest : Trees) (m k d : ℕ) →
+    forest_value (kept forest k) (m + (k - opens forest)) d ≡ forest_value forest m (d + k)
 forest_value_kept no_trees m k d = ap entry (omega arith)
-forest_value_kept (t ▸ forest) m zero d = let e : m + (0 - opens (t ▸ forest)) ≡ m = omega arith in let f : d ≡ d + 0 = omega arith in
-    ap (λ x. forest_value (t ▸ forest) x d) e ∙ ap (forest_value (t ▸ forest) m) f
-forest_value_kept (t ▸ forest) m (suc k) d = go (is_open t) refl (forest_value_kept forest m k d) (forest_value_kept forest m (suc k) d)
-  where
-    go : (b : Bool) → is_open t ≡ b → forest_value (kept forest k) (m + (k - opens forest)) d ≡ forest_value forest m (d + k) → forest_value (kept forest (suc k)) (m + (suc k - opens forest)) d ≡ forest_value forest m (d + suc k) →
-        forest_value (kept (t ▸ forest) (suc k)) (m + (suc k - opens (t ▸ forest))) d ≡ forest_value (t ▸ forest) m (d + suc k)
-    go true e p q =
-        let o = opens_open t forest e in
-        let f : m + (suc k - opens (t ▸ forest)) ≡ m + (k - opens forest) = omega arith in
-        let g : d + suc k ≡ suc (d + k) = omega arith in
-        ap₂ (λ r n. forest_value r n d) (kept_open t forest k e) f ∙ (p ∙ (sym (forest_value_under t forest m (d + k) e) ∙ ap (forest_value (t ▸ forest) m) (sym g)))
-    go false e p q =
-        let o = opens_done t forest e in
-        let f : m + (suc k - opens (t ▸ forest)) ≡ m + (suc k - opens forest) = omega arith in
-        ap₂ (λ r n. forest_value r n d) (kept_done t forest (suc k) e) f ∙ (forest_value_done t (kept forest (suc k)) _ d e ∙ (q ∙ sym (forest_value_done t forest m (d + suc k) e)))
+forest_value_kept (t ▸ forest) m zero d =
+    let e : m + (0 - opens (t ▸ forest)) ≡ m = omega arith in
+    let f : d ≡ d + 0 = omega arith in
+    ap₂ (forest_value (t ▸ forest)) e f
+forest_value_kept (t ▸ forest) m (suc k) d =
+    let g : suc (d + k) ≡ d + suc k = omega arith in
+    elim (cases_Bool (is_open t)) [
+      | inl e ↦
+          let f : m + (suc k - opens (t ▸ forest)) ≡ m + (k - opens forest) = let o = opens_open t forest e in omega arith in
+          ap₂ (λ r n. forest_value r n d) (kept_open t forest k e) f ∙ (forest_value_kept forest m k d
+          ∙ (sym (forest_value_under t forest m (d + k) e) ∙ ap (forest_value (t ▸ forest) m) g))
+      | inr e ↦
+          let f : m + (suc k - opens (t ▸ forest)) ≡ m + (suc k - opens forest) = let o = opens_done t forest e in omega arith in
+          ap₂ (λ r n. forest_value r n d) (kept_done t forest (suc k) e) f ∙ (forest_value_done t (kept forest (suc k)) _ d e
+          ∙ (forest_value_kept forest m (suc k) d ∙ sym (forest_value_done t forest m (d + suc k) e)))
+    ]
 
 abbrev pub operator : Shape → List Shape → Tree
 operator s earlier = node (length earlier) s (top (forest_value (stacked earlier) (missing earlier)) s.operands)
 
 pub value_stacked : (block : List Shape) (d : ℕ) → value block d ≡ forest_value (stacked block) (missing block) d
 value_stacked [] d = ap entry (omega arith)
-value_stacked (s ∷ earlier) d = go s.has_result refl d (value_stacked earlier) (forest_value_kept (stacked earlier) (missing earlier) s.operands)
-  where
-    go : (b : Bool) → s.has_result ≡ b → (d : ℕ) → ((d : ℕ) → value earlier d ≡ forest_value (stacked earlier) (missing earlier) d) →
-        ((d : ℕ) → forest_value (kept (stacked earlier) s.operands) (missing (s ∷ earlier)) d ≡ forest_value (stacked earlier) (missing earlier) (d + s.operands)) →
-        value (s ∷ earlier) d ≡ forest_value (stacked (s ∷ earlier)) (missing (s ∷ earlier)) d
-    go true e zero ih k = value_result s earlier e ∙ (ap (node (length earlier) s) (top_same (value earlier) (forest_value (stacked earlier) (missing earlier)) ih s.operands) ∙ sym (forest_value_top (operator s earlier) (kept (stacked earlier) s.operands) (missing (s ∷ earlier)) e))
-    go true e (suc d) ih k = value_under s earlier e d ∙ (ih (d + s.operands) ∙ (sym (k d) ∙ sym (forest_value_under (operator s earlier) (kept (stacked earlier) s.operands) (missing (s ∷ earlier)) d e)))
-    go false e d ih k = value_none s earlier e d ∙ (ih (d + s.operands) ∙ (sym (k d) ∙ sym (forest_value_done (operator s earlier) (kept (stacked earlier) s.operands) (missing (s ∷ earlier)) d e)))
+value_stacked (s ∷ earlier) zero =
+    let kids = top_same (value earlier) (forest_value (stacked earlier) (missing earlier)) (value_stacked earlier) s.operands in
+    let under = value_stacked earlier s.operands in
+    let below = forest_value_kept (stacked earlier) (missing earlier) s.operands 0 in
+    grind arith
+value_stacked (s ∷ earlier) (suc d) =
+    let under = λ (e : ℕ). value_stacked earlier (e + s.operands) ∙
+    sym (forest_value_kept (stacked earlier) (missing earlier) s.operands e) in
+    let u = under d in
+    let v = under (suc d) in
+    grind arith

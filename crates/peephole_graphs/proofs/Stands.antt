@@ -1,13 +1,14 @@
 -- What a graph that is built says of its block, in the theory's lists, which have the last item first.
-use Rattle.std.specs.Prelude.{ℕ, suc, ◌+◌, ◌-◌, ◌<◌, ◌≤◌, ◌≡◌, ◌==◌, Bool, false, true, List, [], ◌∷◌, length, reverse, Option, None, Some, if◌then◌else◌}
+use Rattle.std.specs.Prelude.{ℕ, suc, ◌+◌, ◌-◌, ◌<◌, ◌≤◌, ◌≡◌, ◌==◌, Bool, false, true, List, [], ◌∷◌, length, reverse, Option}
+use Rattle.std.specs.Prelude.{None, Some, if◌then◌else◌}
 use Rattle.std.specs.Bool.{nat_eq}
 use Rattle.std.specs.List.{IsDistinct}
 use Rattle.peephole_graphs.specs.Shape.{Shape}
 use Rattle.peephole_graphs.specs.Forest.{has, forest}
-use Rattle.peephole_graphs.specs.Colour.{colour_at}
-use Rattle.peephole_graphs.specs.Graph.{Entry, pick, tree_at, roots, undef, item}
+use Rattle.peephole_graphs.specs.Color.{color_at}
+use Rattle.peephole_graphs.specs.Graph.{GraphEntry, trees_at, tree_at_entry, roots, undef, item}
 
-abbrev pub entry_at : List Entry → ℕ → Entry
+abbrev pub entry_at : List GraphEntry → ℕ → GraphEntry
 entry_at nodes i = item (undef 0) nodes i
 
 abbrev pub parent_at : List (Option ℕ) → ℕ → Option ℕ
@@ -28,23 +29,24 @@ shape_at [] n = None
 shape_at (s ∷ earlier) n = if length earlier == n then Some s else shape_at earlier n
 
 -- An entry is an operator of the block with its shape and colour, or a missing operand of one.
-abbrev pub IsOperator : Bool → List Shape → Option Shape → Entry → Type 0
-IsOperator keeping block None e = (e.children ≡ []) × (e.colour ≡ 4294967295)
-IsOperator keeping block (Some s) e = (shape_at block e.number ≡ Some s) × (e.colour ≡ colour_at keeping block e.number)
+abbrev pub IsOperator : Bool → List Shape → Option Shape → GraphEntry → Type 0
+IsOperator preserving block None e = (e.children ≡ []) × (e.color ≡ 4294967295)
+IsOperator preserving block (Some s) e = (shape_at block e.number ≡ Some s) × (e.color ≡ color_at preserving block e.number)
 
-abbrev pub IsEntryOf : Bool → List Shape → Entry → Type 0
-IsEntryOf keeping block e = (e.number < length block) × IsOperator keeping block e.shape e
+abbrev pub IsEntryOf : Bool → List Shape → GraphEntry → Type 0
+IsEntryOf preserving block e = (e.number < length block) × IsOperator preserving block e.shape e
 
 abbrev pub is_operator : Option Shape → Bool
 is_operator None = false
 is_operator (Some s) = true
 
-pub record Stands (keeping : Bool) (block : List Shape) (nodes : List Entry) (parents : List (Option ℕ)) : Type 0 where
+pub record Stands (preserving : Bool) (block : List Shape) (nodes : List GraphEntry) (parents : List (Option ℕ)) : Type 0 where
   pub same_length : length parents ≡ length nodes
-  pub trees : pick (tree_at nodes) (reverse (roots parents)) ≡ forest block
-  pub entries : (i : ℕ) → i < length nodes → IsEntryOf keeping block (entry_at nodes i)
+  pub trees : trees_at (tree_at_entry nodes) (reverse (roots parents)) ≡ forest block
+  pub entries : (i : ℕ) → i < length nodes → IsEntryOf preserving block (entry_at nodes i)
   pub parent : (p i : ℕ) → has i (entry_at nodes p).children ≡ true → (parent_at parents i ≡ Some p) × (i < p)
   pub child : (p i : ℕ) → parent_at parents i ≡ Some p → (p < length nodes) × (has i (entry_at nodes p).children ≡ true)
   pub once : (p : ℕ) → IsDistinct nat_eq (entry_at nodes p).children
-  pub taker : (p i : ℕ) → has i (entry_at nodes p).children ≡ true → (entry_at nodes i).shape ≡ None → (entry_at nodes i).number ≡ (entry_at nodes p).number
+  pub taker : (p i : ℕ) → has i (entry_at nodes p).children ≡ true → (entry_at nodes i).shape ≡ None → (entry_at nodes i).number ≡
+      (entry_at nodes p).number
   pub order : (i j : ℕ) → i ≤ j → j < length nodes → (entry_at nodes i).number ≤ (entry_at nodes j).number

@@ -5,10 +5,11 @@ use Rattle.std.specs.List.{All, Contains}
 use Rattle.std.proofs.lemmas.List.{length-reverse, reverse-reverse}
 use Rattle.std.proofs.lemmas.List.Elements.{All-head, All-tail, All-weaker, All-contains_itself}
 use Rattle.peephole_lang.specs.Term.{Term, Terms, absent, node, no_terms, ◌▸◌, Node, pick, tree_at}
-use Rattle.peephole_graphs.specs.Layout.{size_of, size, IsWhole, AreWhole}
-use Rattle.peephole_graphs.specs.Asking.{IsReached, IsPart, AreParts, IsTree, IsToldBy, told_tree}
-use Rattle.peephole_graphs.specs.Asking.IsReached.{the_root, a_child}
-use Rattle.peephole_graphs.proofs.LayoutWalk.{some_item, node_at, node_at-reverse, node_before, node_last, tree_before, tree_last, last_or_before}
+use Rattle.peephole_lang.specs.laws.PlaceLemmas.{last_or_before}
+use Rattle.peephole_graphs.specs.Layout.{node_count_of, node_count, IsWhole, AreWhole}
+use Rattle.peephole_graphs.specs.Rebuild.{IsReached, IsPart, AreParts, IsTree, IsToldBy, told_tree}
+use Rattle.peephole_graphs.specs.Rebuild.IsReached.{the_root, a_child}
+use Rattle.peephole_graphs.proofs.LayoutWalk.{some_item, node_at, node_at-reverse, node_before, node_last, tree_before, tree_last}
 
 -- ---- the upper part of a term
 
@@ -25,12 +26,12 @@ abbrev mutual
   AreWithin (t ▸ ts) (u ▸ us) = IsWithin t u × AreWithin ts us
 
 mutual
-  size_within : {H : Type 0} (t u : Term H) → IsWithin t u → size_of t ≤ size_of u
+  size_within : {H : Type 0} (t u : Term H) → IsWithin t u → node_count_of t ≤ node_count_of u
   size_within absent u w = omega arith
   size_within (node h kids) absent w = absurd w
   size_within (node h kids) (node k us) w = let e = sizes_within kids us w.1 in omega arith
 
-  sizes_within : {H : Type 0} (ts us : Terms H) → AreWithin ts us → size ts ≤ size us
+  sizes_within : {H : Type 0} (ts us : Terms H) → AreWithin ts us → node_count ts ≤ node_count us
   sizes_within no_terms no_terms w = omega arith
   sizes_within no_terms (u ▸ us) w = absurd w
   sizes_within (t ▸ ts) no_terms w = absurd w
@@ -59,7 +60,8 @@ module _ {H : Type 0} (Answers : ℕ → Node H → Type 0) (root : ℕ) (missin
   abbrev Holds : List (Node H) → ℕ → Type 0
   Holds ns id = (t : Term H) → IsReached Answers root id → IsPart Answers id t → IsWithin t (tree_at ns id)
 
-  all_within : (ns : List (Node H)) (count : ℕ) (is : List ℕ) (ts : Terms H) → ((id : ℕ) → id < count → Holds ns id) → All (λ i. i < count) is →
+  all_within : (ns : List (Node H)) (count : ℕ) (is : List ℕ) (ts : Terms H) → ((id : ℕ) → id < count → Holds ns id) →
+      All (λ i. i < count) is →
       All (IsReached Answers root) is → AreParts Answers is ts → AreWithin ts (pick (tree_at ns) is)
   all_within ns count [] no_terms h l r p = tt
   all_within ns count [] (t ▸ ts) h l r p = absurd p
@@ -70,13 +72,15 @@ module _ {H : Type 0} (Answers : ℕ → Node H → Type 0) (root : ℕ) (missin
   )
 
   -- the last node's own part
-  own_within : (e : Node H) (earlier : List (Node H)) (id : ℕ) → length earlier ≡ id → Tell (e ∷ earlier) → ((k : ℕ) → k < length earlier → Holds earlier k) →
+  own_within : (e : Node H) (earlier : List (Node H)) (id : ℕ) → length earlier ≡ id → Tell (e ∷ earlier) →
+      ((k : ℕ) → k < length earlier → Holds earlier k) →
       (t : Term H) → IsReached Answers root id → IsPart Answers id t → IsWithin t (node e.head (pick (tree_at earlier) e.children))
   own_within e earlier id at tell h absent r p = tt
   own_within e earlier id at tell h (node g kids) r p =
       let n : Node H = record { head = g; children = p.0 } in
       let same : e ≡ n = sym (node_last missing e earlier id at) ∙ tell id n r p.1 (omega arith) in
-      let lower : All (λ k. k < length earlier) p.0 = All-weaker (λ k. k < id) (λ k. k < length earlier) (λ k l. omega arith) p.0 (below id n r p.1) in
+      let lower : All (λ k. k < length earlier) p.0 =
+      All-weaker (λ k. k < id) (λ k. k < length earlier) (λ k l. omega arith) p.0 (below id n r p.1) in
       let reached : All (IsReached Answers root) p.0 = All-weaker (Contains p.0) (IsReached Answers root)
       (λ k c. a_child id k n r p.1 c) p.0 (All-contains_itself p.0) in
       subst (λ (x : Node H). IsWithin (node g kids) (node x.head (pick (tree_at earlier) x.children))) (sym same)
@@ -86,7 +90,7 @@ module _ {H : Type 0} (Answers : ℕ → Node H → Type 0) (root : ℕ) (missin
   part_within [] id tell l = absurd (omega arith)
   part_within (e ∷ earlier) id tell l =
       let less : Tell earlier = λ i n r a k. sym (node_before missing e earlier i k) ∙ tell i n r a (omega arith) in
-      elim (last_or_before missing (length earlier) id l) [
+      elim (last_or_before (length earlier) id l) [
         | inl h ↦ λ t r p. subst (λ u. IsWithin t u) (sym (tree_last missing e earlier id h))
             (own_within e earlier id h tell (λ k m. part_within earlier k less m) t r p)
         | inr h ↦ λ t r p. subst (λ u. IsWithin t u) (sym (tree_before missing e earlier id h)) (part_within earlier id less h t r p)
@@ -99,11 +103,11 @@ module _ {H : Type 0} (Answers : ℕ → Node H → Type 0) (root : ℕ) (nodes 
       let many = length-reverse nodes in
       let there = told.there in
       part_within Answers root missing told.below (reverse nodes) root (λ id n r a l.
-      node_at-reverse missing (reverse nodes) id n l ∙ (ap (λ (x : List (Node H)). get_or x id n) (reverse-reverse nodes) ∙ told.same id n r a))
-      (omega arith) t the_root p
+      node_at-reverse missing (reverse nodes) id n l ∙
+      (ap (λ (x : List (Node H)). get_or x id n) (reverse-reverse nodes) ∙ told.same id n r a)) (omega arith) t the_root p
 
   pub told_whole : (t : Term H) → IsTree Answers root t → t ≡ told_tree nodes root
   told_whole t p = whole_within t (told_tree nodes root) (within_told t p.0) p.1
 
-  pub told_size : (t : Term H) → IsPart Answers root t → size_of t ≤ size_of (told_tree nodes root)
+  pub told_size : (t : Term H) → IsPart Answers root t → node_count_of t ≤ node_count_of (told_tree nodes root)
   told_size t p = size_within t (told_tree nodes root) (within_told t p)

@@ -1,5 +1,6 @@
 -- The nodes of a graph can be written, and so can those of a tree that is laid out.
-use Rattle.std.proofs.Common.{◌≡◌, ℕ, ◌+◌, ◌-◌, Bool, true, false, cond, List, [], ◌∷◌, length, map, Option, Some, None, Result, Ok, Err, IfOk, refl, sym, ap, subst}
+use Rattle.std.proofs.Common.{◌≡◌, ℕ, ◌+◌, ◌-◌, Bool, true, false, cond, List, [], ◌∷◌, length, map, Option, Some, None, Result, Ok}
+use Rattle.std.proofs.Common.{Err, IfOk, refl, sym, ap, subst}
 use Rattle.std.specs.Prelude.{reverse, ◌==◌, nat_lt, IsTrue}
 use Rattle.std.specs.List.{All}
 use Rattle.std.proofs.lemmas.List.{reverse-append}
@@ -13,7 +14,7 @@ use Rattle.peephole_lang.specs.Node.{node_of, head_of, instr_of}
 use Rattle.peephole_nodes.specs.Payload.{imm_of, is_writable}
 use Rattle.peephole_lang.specs.Term.{Term, Terms, absent, node, no_terms, ◌▸◌, Node, pick, tree_at}
 use Rattle.peephole_graphs.specs.declared.dfg.StackEntry.{StackEntry}
-use Rattle.peephole_graphs.specs.Layout.{entry_nodes, laid, laid_all, size_of, places, AreWritable}
+use Rattle.peephole_graphs.specs.Layout.{entry_nodes, laid, laid_all, node_count_of, places, AreWritable}
 use Rattle.peephole_graphs.proofs.Represents.{IsOwnOrUndef}
 
 -- ---- nodes and their heads
@@ -31,12 +32,14 @@ pub heads_writable : (es : List StackEntry) → AreWritable (operators es) → A
 heads_writable [] h = All-nil CanBeWritten
 heads_writable (e ∷ es) h =
     let P : Lang → Type 0 = λ l. IsTrue (is_writable (payload_of l)) in
-    All-cons CanBeWritten (head_of e.operator) (entry_heads es) (All-head P e.operator (operators es) h) (heads_writable es (All-tail P e.operator (operators es) h))
+    All-cons CanBeWritten (head_of e.operator) (entry_heads es) (All-head P e.operator (operators es) h)
+    (heads_writable es (All-tail P e.operator (operators es) h))
 
 pub from_heads : (es : List StackEntry) → All CanBeWritten (entry_heads es) → AreWritable (operators es)
 from_heads [] h = All-nil (λ (l : Lang). IsTrue (is_writable (payload_of l)))
 from_heads (e ∷ es) h =
-    All-cons (λ (l : Lang). IsTrue (is_writable (payload_of l))) e.operator (operators es) (All-head CanBeWritten (head_of e.operator) (entry_heads es) h)
+    All-cons (λ (l : Lang). IsTrue (is_writable (payload_of l))) e.operator (operators es)
+    (All-head CanBeWritten (head_of e.operator) (entry_heads es) h)
     (from_heads es (All-tail CanBeWritten (head_of e.operator) (entry_heads es) h))
 
 -- ---- the entries of a block's graph
@@ -53,13 +56,15 @@ entry_writable e own = go (instr_of e.operator) refl
   where
     go : (i : Option Instruction) → instr_of e.operator ≡ i → is_writable (payload_of e.operator) ≡ true
     go (Some i) is =
-        row_writable (nat_lt (place_of e.operator) 12) (is_writable (payload_of e.operator)) (record { row = place_of e.operator - 12; imm = imm_of (payload_of e.operator) }) i is
+        row_writable (nat_lt (place_of e.operator) 12) (is_writable (payload_of e.operator))
+        (record { row = place_of e.operator - 12; imm = imm_of (payload_of e.operator) }) i is
     go None is = ap (λ (l : Lang). is_writable (payload_of l)) (own is)
 
 pub entries_writable : (es : List StackEntry) → All IsOwnOrUndef es → AreWritable (operators es)
 entries_writable [] h = All-nil (λ (l : Lang). IsTrue (is_writable (payload_of l)))
 entries_writable (e ∷ es) h =
-    All-cons (λ (l : Lang). IsTrue (is_writable (payload_of l))) e.operator (operators es) (entry_writable e (All-head IsOwnOrUndef e es h))
+    All-cons (λ (l : Lang). IsTrue (is_writable (payload_of l))) e.operator (operators es)
+    (entry_writable e (All-head IsOwnOrUndef e es h))
     (entries_writable es (All-tail IsOwnOrUndef e es h))
 
 -- ---- trees
@@ -81,12 +86,14 @@ mutual
   laid_writable first absent w = All-nil HasWritableHead
   laid_writable first (node h kids) w =
       let own : Node Head = record { head = h; children = places first kids } in
-      All-append HasWritableHead (laid_all first kids) (own ∷ []) (all_laid_writable first kids w.1) (All-cons HasWritableHead own [] w.0 (All-nil HasWritableHead))
+      All-append HasWritableHead (laid_all first kids) (own ∷ []) (all_laid_writable first kids w.1)
+      (All-cons HasWritableHead own [] w.0 (All-nil HasWritableHead))
 
   all_laid_writable : (first : ℕ) (ts : Terms Head) → AreWritableTrees ts → All HasWritableHead (laid_all first ts)
   all_laid_writable first no_terms w = All-nil HasWritableHead
   all_laid_writable first (t ▸ ts) w =
-      All-append HasWritableHead (laid first t) (laid_all (first + size_of t) ts) (laid_writable first t w.0) (all_laid_writable (first + size_of t) ts w.1)
+      All-append HasWritableHead (laid first t) (laid_all (first + node_count_of t) ts) (laid_writable first t w.0)
+      (all_laid_writable (first + node_count_of t) ts w.1)
 
 picked_writable : (at : ℕ → Term Head) (is : List ℕ) → ((k : ℕ) → IsWritableTree (at k)) → AreWritableTrees (pick at is)
 picked_writable at [] h = tt
@@ -97,9 +104,13 @@ trees_writable : (ns : List (Node Head)) → All HasWritableHead ns → (i : ℕ
 trees_writable [] all i = tt
 trees_writable (n ∷ earlier) all i =
     let older = trees_writable earlier (All-tail HasWritableHead n earlier all) in
-    go (length earlier == i) (All-head HasWritableHead n earlier all, picked_writable (tree_at earlier) n.children older) (older i)
+    go (length earlier == i) (
+      All-head HasWritableHead n earlier all,
+      picked_writable (tree_at earlier) n.children older,
+    ) (older i)
   where
-    go : (b : Bool) → IsWritableTree (node n.head (pick (tree_at earlier) n.children)) → IsWritableTree (tree_at earlier i) → IsWritableTree (cond b (node n.head (pick (tree_at earlier) n.children)) (tree_at earlier i))
+    go : (b : Bool) → IsWritableTree (node n.head (pick (tree_at earlier) n.children)) → IsWritableTree (tree_at earlier i) →
+        IsWritableTree (cond b (node n.head (pick (tree_at earlier) n.children)) (tree_at earlier i))
     go true p q = p
     go false p q = q
 
@@ -120,7 +131,9 @@ nodes_writable (l ∷ ls) h =
     (nodes_writable ls (All-tail HasWritableHead (node_of l) (map node_of ls) h))
 
 -- what is laid out of a graph
-pub laid_out_writable : (es : List StackEntry) (i : ℕ) → AreWritable (operators es) → (r : Result (List Lang) Error) → IfOk r (λ expr. map node_of expr ≡ laid 0 (tree_at (entry_nodes es) i)) →
+pub laid_out_writable : (es : List StackEntry) (i : ℕ) → AreWritable (operators es) → (r : Result (List Lang) Error) →
+    IfOk r (λ expr. map node_of expr ≡ laid 0 (tree_at (entry_nodes es) i)) →
     IfOk r (λ expr. AreWritable expr)
-laid_out_writable es i w (Ok expr) h = nodes_writable expr (subst (All HasWritableHead) (sym h) (laid_writable 0 (tree_at (entry_nodes es) i) (trees_writable (entry_nodes es) (turned_writable es w) i)))
+laid_out_writable es i w (Ok expr) h = nodes_writable expr (subst (All HasWritableHead) (sym h)
+    (laid_writable 0 (tree_at (entry_nodes es) i) (trees_writable (entry_nodes es) (turned_writable es w) i)))
 laid_out_writable es i w (Err refusal) h = tt

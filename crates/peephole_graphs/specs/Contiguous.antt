@@ -1,7 +1,7 @@
 -- A tree of one colour lies together: the operators of its entries follow one another in the body, in the tree's postfix. This project's rule.
 use Rattle.std.specs.Prelude.{ℕ, ◌<◌, ◌≡◌, List, length, map, slice_index}
 use Rattle.peephole_graphs.specs.Tree.{range_from}
-use Rattle.peephole_graphs.specs.Downwards.{downwards, HasOneColour}
+use Rattle.peephole_graphs.specs.Downwards.{downwards, HasOneColor}
 use Rattle.peephole_graphs.specs.Entries.{kins_of}
 use Rattle.peephole_graphs.specs.declared.dfg.StackEntry.{StackEntry}
 
@@ -19,4 +19,4 @@ AreConsecutive numbers = (first count : ℕ) × (numbers ≡ range_from first co
 
 -- Where all entries from one downwards have one colour, their operators are consecutive and ascend.
 abbrev pub HasContiguousTrees : List StackEntry → Type 0
-HasContiguousTrees entries = (i : ℕ) → i < length entries → HasOneColour (kins_of entries) i → AreConsecutive (operators_below entries i)
+HasContiguousTrees entries = (i : ℕ) → i < length entries → HasOneColor (kins_of entries) i → AreConsecutive (operators_below entries i)

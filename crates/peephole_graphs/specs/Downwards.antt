@@ -6,7 +6,7 @@ use Rattle.peephole_graphs.specs.Graph.{item}
 -- an entry's children and colour
 pub record Kin : Type 0 where
   pub children : List ℕ
-  pub colour : ℕ
+  pub color : ℕ
 
 abbrev pub gather : (ℕ → List ℕ) → List ℕ → List ℕ
 gather f [] = []
@@ -18,12 +18,12 @@ downwards [] i = []
 downwards (e ∷ earlier) i = if length earlier == i then gather (downwards earlier) e.children ++ length earlier ∷ [] else downwards earlier i
 
 abbrev pub kin_at : List Kin → ℕ → Kin
-kin_at kins i = item (record { children = []; colour = 0 }) kins i
+kin_at kins i = item (record { children = []; color = 0 }) kins i
 
 -- the entries have the colour
-abbrev pub are_coloured : List Kin → ℕ → List ℕ → Bool
-are_coloured kins c [] = true
-are_coloured kins c (i ∷ is) = ((kin_at kins i).colour == c) && are_coloured kins c is
+abbrev pub are_colored : List Kin → ℕ → List ℕ → Bool
+are_colored kins c [] = true
+are_colored kins c (i ∷ is) = ((kin_at kins i).color == c) && are_colored kins c is
 
 -- how many entries there are from each downwards
 abbrev pub sizes_of : List Kin → List ℕ
@@ -33,7 +33,7 @@ sizes_of (e ∷ earlier) = length (downwards (e ∷ earlier) (length earlier)) �
 -- whether they have one colour
 abbrev pub flags_of : List Kin → List Bool
 flags_of [] = []
-flags_of (e ∷ earlier) = are_coloured (e ∷ earlier) e.colour (downwards (e ∷ earlier) (length earlier)) ∷ flags_of earlier
+flags_of (e ∷ earlier) = are_colored (e ∷ earlier) e.color (downwards (e ∷ earlier) (length earlier)) ∷ flags_of earlier
 
 abbrev pub total : (ℕ → ℕ) → List ℕ → ℕ
 total f [] = 0
@@ -41,19 +41,19 @@ total f (i ∷ is) = f i + total f is
 
 -- every entry from there downwards has the flag and the colour
 abbrev pub are_alike : (ℕ → Bool) → (ℕ → ℕ) → ℕ → List ℕ → Bool
-are_alike flag colour c [] = true
-are_alike flag colour c (i ∷ is) = (flag i && (colour i == c)) && are_alike flag colour c is
+are_alike flag color c [] = true
+are_alike flag color c (i ∷ is) = (flag i && (color i == c)) && are_alike flag color c is
 
 -- all entries from one downwards have its colour
-abbrev pub HasOneColour : List Kin → ℕ → Type 0
-HasOneColour kins i = All (λ j. (kin_at kins j).colour ≡ (kin_at kins i).colour) (downwards kins i)
+abbrev pub HasOneColor : List Kin → ℕ → Type 0
+HasOneColor kins i = All (λ j. (kin_at kins j).color ≡ (kin_at kins i).color) (downwards kins i)
 
 -- the children that are no missing operands lie, by their sizes, one behind another from `at` on
 abbrev pub forward : (ℕ → ℕ) → (ℕ → ℕ) → ℕ → List ℕ → Bool
-forward size colour at [] = true
-forward size colour at (c ∷ cs) = if colour c == 4294967295 then forward size colour at cs else (suc c == at + size c) && forward size colour (at + size c) cs
+forward size color at [] = true
+forward size color at (c ∷ cs) = if color c == 4294967295 then forward size color at cs else (suc c == at + size c) && forward size color (at + size c) cs
 
 -- so do those of every entry, and end right before it
 abbrev pub forwards : List Kin → Bool
 forwards [] = true
-forwards (e ∷ earlier) = forwards earlier && forward (λ i. item 0 (sizes_of earlier) i) (λ i. (kin_at earlier i).colour) (suc (length earlier) - length (downwards (e ∷ earlier) (length earlier))) e.children
+forwards (e ∷ earlier) = forwards earlier && forward (λ i. item 0 (sizes_of earlier) i) (λ i. (kin_at earlier i).color) (suc (length earlier) - length (downwards (e ∷ earlier) (length earlier))) e.children

@@ -1,30 +1,38 @@
 -- The entries of a graph, as what they stand for. The code's lists ascend; those of the theory have the last entry first. This project's rule.
-use Rattle.std.specs.Prelude.{ℕ, ◌-◌, ◌<◌, ◌≡◌, Bool, true, false, List, [], length, map, reverse, slice_get, slice_index_or, Option, Some, option_map}
+use Rattle.std.specs.Prelude.{ℕ, ◌-◌, ◌<◌, ◌≡◌, Bool, true, false, List, [], length, map, reverse, slice_get, slice_index, slice_index_or, Option, Some, option_map}
 use Rattle.std.specs.Bool.{nat_eq}
 use Rattle.std.specs.List.{IsDistinct}
 use Rattle.wasm_code.specs.Instruction.{Instruction}
 use Rattle.mutate_base.specs.Module.{Module}
 use Rattle.peephole_lang.specs.Node.{instr_of, children_of}
 use Rattle.peephole_graphs.specs.declared.dfg.StackEntry.{StackEntry}
+use Rattle.peephole_graphs.specs.declared.subtree.Subtree.{Subtree}
 use Rattle.peephole_graphs.specs.Shape.{Shape, Judged, Fits, judge_instruction}
+use Rattle.peephole_graphs.specs.Source.{Source}
 use Rattle.peephole_graphs.specs.Tree.{Tree, Trees}
 use Rattle.peephole_graphs.specs.Forest.{has}
-use Rattle.peephole_graphs.specs.Graph.{Entry, pick, tree_at, roots}
+use Rattle.peephole_graphs.specs.Graph.{GraphEntry, trees_at, tree_at_entry, roots}
 use Rattle.peephole_graphs.specs.Downwards.{Kin, sizes_of, flags_of}
 
+-- A graph: its entries, the parent of each, and where the own entry of an operator is found by the operator's index in the body.
+pub record Graph : Type 0 where
+  pub entries : List StackEntry
+  pub parents : List (Option ℕ)
+  pub own_entry : ℕ → Option ℕ
+
 -- An entry's instruction, or none for a missing operand; its children; the body's index of the operator that it is or that took it; its colour.
-pub record Seen : Type 0 where
+pub record EntryView : Type 0 where
   pub instr : Option Instruction
   pub children : List ℕ
   pub operator : ℕ
-  pub colour : ℕ
+  pub color : ℕ
 
-abbrev pub seen : StackEntry → Seen
-seen e = record { instr = instr_of e.operator; children = children_of e.operator; operator = e.operator_idx; colour = e.color }
+abbrev pub entry_view : StackEntry → EntryView
+entry_view e = record { instr = instr_of e.operator; children = children_of e.operator; operator = e.operator_idx; color = e.color }
 
 -- an entry's children and colour
 abbrev pub kin : StackEntry → Kin
-kin e = record { children = children_of e.operator; colour = e.color }
+kin e = record { children = children_of e.operator; color = e.color }
 
 abbrev pub kins_of : List StackEntry → List Kin
 kins_of entries = reverse (map kin entries)
@@ -38,23 +46,23 @@ abbrev pub shape_of : Module → Instruction → Shape
 shape_of info i = shape_of_judged i (judge_instruction info i)
 
 -- the operators are numbered from the block's first one on, whose index in the body is `first`
-abbrev pub entry_of : Module → ℕ → Seen → Entry
-entry_of info first e = record { shape = option_map (shape_of info) e.instr; children = e.children; number = e.operator - first; colour = e.colour }
+abbrev pub graph_entry : Module → ℕ → EntryView → GraphEntry
+graph_entry info first e = record { shape = option_map (shape_of info) e.instr; children = e.children; number = e.operator - first; color = e.color }
 
-abbrev pub nodes_of : Module → ℕ → List StackEntry → List Entry
-nodes_of info first entries = reverse (map (entry_of info first) (map seen entries))
+abbrev pub graph_entries : Module → ℕ → List StackEntry → List GraphEntry
+graph_entries info first entries = reverse (map (graph_entry info first) (map entry_view entries))
 
 -- the indexes, ascending, of the entries without a parent
 abbrev pub roots_of : List (Option ℕ) → List ℕ
 roots_of parents = reverse (roots (reverse parents))
 
 -- the tree of the entry with an index
-abbrev pub entry_tree : Module → ℕ → List StackEntry → ℕ → Tree
-entry_tree info first entries i = tree_at (nodes_of info first entries) i
+abbrev pub entry_tree : Source → Graph → ℕ → Tree
+entry_tree s g i = tree_at_entry (graph_entries s.info s.first g.entries) i
 
 -- the trees of the entries without a parent, ascending
-abbrev pub forest_of : Module → ℕ → List StackEntry → List (Option ℕ) → Trees
-forest_of info first entries parents = pick (entry_tree info first entries) (roots_of parents)
+abbrev pub forest_of : Source → Graph → Trees
+forest_of s g = trees_at (entry_tree s g) (roots_of g.parents)
 
 -- the children of the entry with an index, and none past the last one
 abbrev pub children_at : List StackEntry → ℕ → List ℕ
@@ -68,10 +76,24 @@ pub record IsForest (entries : List StackEntry) (parents : List (Option ℕ)) : 
   pub child : (p i : ℕ) → slice_get parents i ≡ Some (Some p) → has i (children_at entries p) ≡ true
   pub once : (p : ℕ) → IsDistinct nat_eq (children_at entries p)
 
-abbrev pub colours : List StackEntry → List ℕ
-colours entries = map (λ (e : StackEntry). e.color) entries
+abbrev pub colors : List StackEntry → List ℕ
+colors entries = map (λ (e : StackEntry). e.color) entries
 
--- what is kept of each entry: the number of entries from it downwards, and whether they have one colour
-pub record Measured (entries : List StackEntry) (sizes : List ℕ) (same : List Bool) : Type 0 where
-  pub sizes_are : reverse sizes ≡ sizes_of (kins_of entries)
-  pub flags_are : reverse same ≡ flags_of (kins_of entries)
+-- what is kept of the entries from each one downwards: how many they are, and whether they have one colour
+abbrev pub sizes_kept : List Subtree → List ℕ
+sizes_kept subtrees = map (λ (t : Subtree). t.len) subtrees
+
+abbrev pub flags_kept : List Subtree → List Bool
+flags_kept subtrees = map (λ (t : Subtree). t.one_color) subtrees
+
+-- of the entry with an index
+abbrev pub size_kept : List Subtree → ℕ → ℕ
+size_kept subtrees i = slice_index (sizes_kept subtrees) i
+
+abbrev pub flag_kept : List Subtree → ℕ → Bool
+flag_kept subtrees i = slice_index_or (flags_kept subtrees) i false
+
+-- it is right
+pub record Measured (entries : List StackEntry) (subtrees : List Subtree) : Type 0 where
+  pub sizes_are : reverse (sizes_kept subtrees) ≡ sizes_of (kins_of entries)
+  pub flags_are : reverse (flags_kept subtrees) ≡ flags_of (kins_of entries)

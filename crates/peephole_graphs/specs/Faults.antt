@@ -3,10 +3,11 @@ use Rattle.std.specs.Prelude.{ℕ, ◌≡◌, ◌↔◌, nat_le, nat_lt, Bool, �
 use Rattle.std.specs.Option.{option_or}
 use Rattle.wasm_code.specs.declared.operator.Operator.{Operator}
 use Rattle.mutate_base.specs.Module.{Module}
-use Rattle.peephole_graphs.specs.Shape.{Shape, Judged, Fits, Unfit, Unknown, judge, AreFit, block_of}
+use Rattle.peephole_graphs.specs.Shape.{Shape, Judged, Fits, Unfit, Unknown, judge, AreFit, shapes_of_block}
 use Rattle.peephole_graphs.specs.Tree.{full_size}
 use Rattle.peephole_graphs.specs.Forest.{forest}
-use Rattle.peephole_graphs.specs.Colour.{colour_after}
+use Rattle.peephole_graphs.specs.Color.{color_after}
+use Rattle.peephole_graphs.specs.Source.{Source}
 use Rattle.peephole_graphs.specs.GraphOf.{IsSmall, HasNoGraph, CallsUnknown, IsTooLarge}
 
 -- no graph holds the operator, or it calls the function with that index, which isn't known, or its index or its colour does not fit
@@ -17,22 +18,22 @@ pub data Fault : Type 0 where
 
 -- The operator's index in the graph, behind those of its missing operands, has 32 bits, and its colour is below that of a missing operand.
 abbrev pub has_room : Bool → List Shape → Shape → Bool
-has_room keeping block s = nat_le (full_size (forest (s ∷ block))) 4294967296 && nat_lt (colour_after keeping block) 4294967295
+has_room preserving block s = nat_le (full_size (forest (s ∷ block))) 4294967296 && nat_lt (color_after preserving block) 4294967295
 
 -- the fault of the operator behind a block
 abbrev pub fault_behind : Bool → List Shape → Judged → Option Fault
-fault_behind keeping block Unfit = Some held_by_none
-fault_behind keeping block (Unknown function) = Some (calls_unknown function)
-fault_behind keeping block (Fits s) = if has_room keeping block s then None else Some too_large
+fault_behind preserving block Unfit = Some held_by_none
+fault_behind preserving block (Unknown function) = Some (calls_unknown function)
+fault_behind preserving block (Fits s) = if has_room preserving block s then None else Some too_large
 
 -- the first fault among operators, of which the last one stands first
 abbrev pub fault_among : Module → Bool → List (Operator × ℕ) → Option Fault
-fault_among info keeping [] = None
-fault_among info keeping (o ∷ earlier) = option_or (fault_among info keeping earlier) (fault_behind keeping (block_of info (reverse earlier)) (judge info o.0))
+fault_among info preserving [] = None
+fault_among info preserving (o ∷ earlier) = option_or (fault_among info preserving earlier) (fault_behind preserving (shapes_of_block info (reverse earlier)) (judge info o.0))
 
 -- the first fault among a block's operators
 abbrev pub fault_of : Module → Bool → List (Operator × ℕ) → Option Fault
-fault_of info keeping operators = fault_among info keeping (reverse operators)
+fault_of info preserving operators = fault_among info preserving (reverse operators)
 
 abbrev pub unless : {A : Type 0} → Option Fault → A → Result A Fault
 unless None x = Ok x
@@ -40,21 +41,20 @@ unless (Some fault) x = Err fault
 
 -- the block of operators that have a graph, as the theory has it, or their first fault
 abbrev pub graphed : Module → Bool → List (Operator × ℕ) → Result (List Shape) Fault
-graphed info keeping operators = unless (fault_of info keeping operators) (block_of info operators)
+graphed info preserving operators = unless (fault_of info preserving operators) (shapes_of_block info operators)
 
 -- ---- the function says what the relations say
 
 -- there is no fault exactly where the operators fit and are small
 abbrev pub HasNoFault : Type 0
-HasNoFault = (info : Module) (keeping : Bool) (operators : List (Operator × ℕ)) →
-    (fault_of info keeping operators ≡ None) ↔ (AreFit info operators × IsSmall keeping (block_of info operators))
+HasNoFault = (info : Module) (preserving : Bool) (operators : List (Operator × ℕ)) →
+    (fault_of info preserving operators ≡ None) ↔ (AreFit info operators × IsSmall preserving (shapes_of_block info operators))
 
 abbrev pub FindsNoGraph : Type 0
-FindsNoGraph = (info : Module) (keeping : Bool) (operators : List (Operator × ℕ)) → (fault_of info keeping operators ≡ Some held_by_none) ↔ HasNoGraph info keeping operators
+FindsNoGraph = (s : Source) → (fault_of s.info s.preserving s.operators ≡ Some held_by_none) ↔ HasNoGraph s
 
 abbrev pub FindsUnknown : Type 0
-FindsUnknown = (info : Module) (keeping : Bool) (operators : List (Operator × ℕ)) (function : ℕ) →
-    (fault_of info keeping operators ≡ Some (calls_unknown function)) ↔ CallsUnknown info keeping operators function
+FindsUnknown = (s : Source) (function : ℕ) → (fault_of s.info s.preserving s.operators ≡ Some (calls_unknown function)) ↔ CallsUnknown s function
 
 abbrev pub FindsTooLarge : Type 0
-FindsTooLarge = (info : Module) (keeping : Bool) (operators : List (Operator × ℕ)) → (fault_of info keeping operators ≡ Some too_large) ↔ IsTooLarge info keeping operators
+FindsTooLarge = (s : Source) → (fault_of s.info s.preserving s.operators ≡ Some too_large) ↔ IsTooLarge s

@@ -6,7 +6,7 @@ use Rattle.std.specs.Cmp.Lexicographic.{pointwise}
 use lib.IntN.{pos, negsuc, ◌+ℤ◌, ◌-ℤ◌}
 use Rattle.std.specs.Ordering.{int_eq}
 use Rattle.peephole_graphs.specs.Shape.{Shape}
-use Rattle.peephole_graphs.specs.Tree.{Tree, entry, node, Trees, no_trees, ◌▸◌, join, numbers_of, numbers, range_from}
+use Rattle.peephole_graphs.specs.Tree.{Tree, entry, node, Trees, no_trees, ◌▸◌, join, postfix_of, postfix, range_from}
 
 -- 1 with a result, 0 without
 abbrev pub results : Shape → ℤ
@@ -22,9 +22,9 @@ abbrev pub low : Shape → List Shape → ℤ
 low s earlier = height earlier -ℤ pos s.operands
 
 -- the trees at `count` places from `place` on
-abbrev pub from_place : (ℤ → Tree) → ℤ → ℕ → Trees
-from_place at place zero = no_trees
-from_place at place (suc count) = at place ▸ from_place at (place +ℤ pos 1) count
+abbrev pub from_height : (ℤ → Tree) → ℤ → ℕ → Trees
+from_height at place zero = no_trees
+from_height at place (suc count) = at place ▸ from_height at (place +ℤ pos 1) count
 
 -- -1 - place
 abbrev pub entry_number : ℤ → ℕ
@@ -32,19 +32,19 @@ entry_number (pos n) = zero
 entry_number (negsuc n) = n
 
 -- the tree of the last operator whose result is at the place, or the entry operand there
-abbrev pub at_place : List Shape → ℤ → Tree
-at_place [] p = entry (entry_number p)
-at_place (s ∷ earlier) p =
-    if s.has_result && int_eq p (low s earlier) then node (length earlier) s (from_place (at_place earlier) (low s earlier) s.operands) else at_place earlier p
+abbrev pub at_height : List Shape → ℤ → Tree
+at_height [] p = entry (entry_number p)
+at_height (s ∷ earlier) p =
+    if s.has_result && int_eq p (low s earlier) then node (length earlier) s (from_height (at_height earlier) (low s earlier) s.operands) else at_height earlier p
 
 -- the tree of an operator
-abbrev pub tree_of : Shape → List Shape → Tree
-tree_of s earlier = node (length earlier) s (from_place (at_place earlier) (low s earlier) s.operands)
+abbrev pub operator_tree : Shape → List Shape → Tree
+operator_tree s earlier = node (length earlier) s (from_height (at_height earlier) (low s earlier) s.operands)
 
 -- the trees of all operators, ascending
 abbrev pub trees : List Shape → Trees
 trees [] = no_trees
-trees (s ∷ earlier) = join (trees earlier) (tree_of s earlier ▸ no_trees)
+trees (s ∷ earlier) = join (trees earlier) (operator_tree s earlier ▸ no_trees)
 
 -- one of the trees is the operator's
 abbrev pub is_root : ℕ → Trees → Bool
@@ -70,7 +70,7 @@ forest block = without (λ j. is_operand j (trees block)) (trees block)
 
 -- the trees lie one after another: their operators in postfix, joined, are the block's, ascending
 abbrev pub IsInOrder : List Shape → Type 0
-IsInOrder block = numbers (forest block) ≡ range_from 0 (length block)
+IsInOrder block = postfix (forest block) ≡ range_from 0 (length block)
 
 -- one of the numbers is `j`
 abbrev pub has : ℕ → List ℕ → Bool
@@ -81,12 +81,12 @@ has j (i ∷ is) = (i == j) || has j is
 abbrev pub AreTogether : List Shape → Type 0
 AreTogether [] = ⊤
 AreTogether (s ∷ earlier) =
-    AreTogether earlier × ((j : ℕ) → j < length earlier → IsTrue (has j (numbers_of (tree_of s earlier))) → IsTrue (has (suc j) (numbers_of (tree_of s earlier))))
+    AreTogether earlier × ((j : ℕ) → j < length earlier → IsTrue (has j (postfix_of (operator_tree s earlier))) → IsTrue (has (suc j) (postfix_of (operator_tree s earlier))))
 
 -- ---- the order as a test
 
 abbrev pub is_in_order : List Shape → Bool
-is_in_order block = pointwise nat_eq (numbers (forest block)) (range_from 0 (length block))
+is_in_order block = pointwise nat_eq (postfix (forest block)) (range_from 0 (length block))
 
 -- the test decides whether the trees lie one after another
 abbrev pub DecidesTheOrder : Type 0

@@ -3,7 +3,7 @@ use Rattle.std.specs.Prelude.{ℕ, Bool, true, false, List, [], ◌∷◌, ◌++
 use Rattle.peephole_nodes.specs.declared.id.Id.{Id}
 use Rattle.peephole_lang.specs.Term.{Terms, pick, numbers_of}
 use Rattle.peephole_graphs.specs.declared.dfg.StackEntry.{StackEntry}
-use Rattle.peephole_graphs.specs.ForestText.{Line, edge, child_lines, tree_of}
+use Rattle.peephole_graphs.specs.ForestText.{Line, edge, child_lines, entry_term}
 
 abbrev pub has_some : List Id → Bool
 has_some [] = false
@@ -15,7 +15,7 @@ edges [] = []
 edges (ids ∷ levels) = edge (has_some ids) ++ edges levels
 
 abbrev pub trees_of : List StackEntry → List Id → Terms StackEntry
-trees_of entries ids = pick (tree_of entries) (numbers_of ids)
+trees_of entries ids = pick (entry_term entries) (numbers_of ids)
 
 -- the lines that are still to come
 abbrev pub level_lines : List StackEntry → List ℕ → List (List Id) → List Line

@@ -51,13 +51,13 @@ abbrev pub linked : List StackEntry → List (Node StackEntry)
 linked entries = nodes_of (λ e. e) (λ e. children_of e.operator) entries
 
 -- the tree of an entry: the entry and its children's trees
-abbrev pub tree_of : List StackEntry → ℕ → Term StackEntry
-tree_of entries i = tree_at (linked entries) i
+abbrev pub entry_term : List StackEntry → ℕ → Term StackEntry
+entry_term entries i = tree_at (linked entries) i
 
 -- the lines of the roots' trees, root by root
 abbrev pub root_lines : List StackEntry → List ℕ → List Line
 root_lines entries [] = []
-root_lines entries (i ∷ is) = tree_lines [] [] (tree_of entries i) ++ root_lines entries is
+root_lines entries (i ∷ is) = tree_lines [] [] (entry_term entries i) ++ root_lines entries is
 
 abbrev pub forest_lines : List StackEntry → List (Option ℕ) → List Line
 forest_lines entries parents = root_lines entries (roots_of parents)
@@ -65,8 +65,8 @@ forest_lines entries parents = root_lines entries (roots_of parents)
 -- ---- their text, where `said` tells the text of each entry, or its refusal
 
 -- what stands behind a line's prefix: `(colour)(at operator) text`, and a newline
-abbrev pub line_text : (colour operator : ℕ) → List ℕ → List ℕ
-line_text colour operator text = codes "(" ++ (decimal colour ++ (codes ")(at " ++ (decimal operator ++ (codes ") " ++ (text ++ codes "\n")))))
+abbrev pub line_text : (color operator : ℕ) → List ℕ → List ℕ
+line_text color operator text = codes "(" ++ (decimal color ++ (codes ")(at " ++ (decimal operator ++ (codes ") " ++ (text ++ codes "\n")))))
 
 -- the same of an entry
 abbrev pub entry_text : StackEntry → List ℕ → List ℕ
@@ -80,14 +80,14 @@ with_text before e (Err refusal) = Err refusal
 abbrev pub with_entry : (StackEntry → Result (List ℕ) Error) → List ℕ → StackEntry → Result (List ℕ) Error
 with_entry said before e = with_text before e (said e)
 
-abbrev pub and_then : Result (List ℕ) Error → (List ℕ → Result (List ℕ) Error) → Result (List ℕ) Error
-and_then (Ok text) go = go text
-and_then (Err refusal) go = Err refusal
+abbrev pub then_text : Result (List ℕ) Error → (List ℕ → Result (List ℕ) Error) → Result (List ℕ) Error
+then_text (Ok text) go = go text
+then_text (Err refusal) go = Err refusal
 
 -- with the lines behind it, or the first refusal
 abbrev pub with_lines : (StackEntry → Result (List ℕ) Error) → List ℕ → List Line → Result (List ℕ) Error
 with_lines said before [] = Ok before
-with_lines said before (l ∷ ls) = and_then (with_entry said (before ++ l.prefix) l.entry) (λ text. with_lines said text ls)
+with_lines said before (l ∷ ls) = then_text (with_entry said (before ++ l.prefix) l.entry) (λ text. with_lines said text ls)
 
 abbrev pub forest_text : (StackEntry → Result (List ℕ) Error) → List StackEntry → List (Option ℕ) → Result (List ℕ) Error
 forest_text said entries parents = with_lines said (codes "DFG forest\n") (forest_lines entries parents)

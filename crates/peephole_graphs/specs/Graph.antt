@@ -4,29 +4,29 @@ use Rattle.peephole_graphs.specs.Shape.{Shape}
 use Rattle.peephole_graphs.specs.Tree.{Tree, entry, node, Trees, no_trees, ◌▸◌}
 
 -- An operator's instruction, or none for a missing operand; its children; and the number of the operator that it is or that took it.
-pub record Entry : Type 0 where
+pub record GraphEntry : Type 0 where
   pub shape : Option Shape
   pub children : List ℕ
   pub number : ℕ
-  pub colour : ℕ
+  pub color : ℕ
 
-abbrev pub pick : (ℕ → Tree) → List ℕ → Trees
-pick at [] = no_trees
-pick at (i ∷ is) = at i ▸ pick at is
+abbrev pub trees_at : (ℕ → Tree) → List ℕ → Trees
+trees_at at [] = no_trees
+trees_at at (i ∷ is) = at i ▸ trees_at at is
 
 -- how many missing operands there are
-abbrev pub undefs : List Entry → ℕ
+abbrev pub undefs : List GraphEntry → ℕ
 undefs [] = 0
 undefs (e ∷ earlier) = elim e.shape [ None ↦ suc (undefs earlier) | Some s ↦ undefs earlier ]
 
 -- the tree of an entry: the k-th missing operand is entry operand k
 abbrev pub tree_of_entry : Option Shape → List ℕ → ℕ → ℕ → (ℕ → Tree) → Tree
 tree_of_entry None children number missing at = entry missing
-tree_of_entry (Some s) children number missing at = node number s (pick at children)
+tree_of_entry (Some s) children number missing at = node number s (trees_at at children)
 
-abbrev pub tree_at : List Entry → ℕ → Tree
-tree_at [] i = entry 0
-tree_at (e ∷ earlier) i = if length earlier == i then tree_of_entry e.shape e.children e.number (undefs earlier) (tree_at earlier) else tree_at earlier i
+abbrev pub tree_at_entry : List GraphEntry → ℕ → Tree
+tree_at_entry [] i = entry 0
+tree_at_entry (e ∷ earlier) i = if length earlier == i then tree_of_entry e.shape e.children e.number (undefs earlier) (tree_at_entry earlier) else tree_at_entry earlier i
 
 -- the entries without a parent
 abbrev pub roots : List (Option ℕ) → List ℕ
@@ -35,8 +35,8 @@ roots (None ∷ earlier) = length earlier ∷ roots earlier
 roots (Some p ∷ earlier) = roots earlier
 
 -- a missing operand of the operator
-abbrev pub undef : ℕ → Entry
-undef n = record { shape = None; children = []; number = n; colour = 4294967295 }
+abbrev pub undef : ℕ → GraphEntry
+undef n = record { shape = None; children = []; number = n; color = 4294967295 }
 
 -- the item with a number, counted from the last one of the list
 abbrev pub item : {A : Type 0} → A → List A → ℕ → A

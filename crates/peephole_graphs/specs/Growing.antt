@@ -1,15 +1,17 @@
 -- How the builder's lists change by one operator. This project's rule, for the builder alone.
-use Rattle.std.specs.Prelude.{ℕ, suc, ◌+◌, ◌-◌, ◌≡◌, ◌==◌, ◌&&◌, true, false, List, [], ◌∷◌, ◌++◌, length, take, drop, replicate, slice_set, slice_index, slice_index_or, Option, None, Some, if◌then◌else◌}
+use Rattle.std.specs.Prelude.{ℕ, suc, ◌+◌, ◌-◌, ◌≡◌, ◌<◌, ◌≤◌, ◌==◌, ◌&&◌, true, List, [], ◌∷◌, ◌++◌, length, take, drop, replicate, slice_set, slice_index, Option, None, Some, if◌then◌else◌}
+use Rattle.std.specs.List.{All}
 use Rattle.std.specs.HashMap as hash
 use Rattle.std.specs.Bool.{nat_eq}
 use Rattle.peephole_lang.specs.Node.{instr_of, children_of}
 use Rattle.peephole_lang.specs.declared.lang.Lang.TheVariants.{Undef}
 use Rattle.peephole_graphs.specs.declared.dfg.StackEntry.{StackEntry}
+use Rattle.peephole_graphs.specs.declared.subtree.Subtree.{Subtree}
 use Rattle.peephole_graphs.specs.declared.growing.Growing.{Growing}
 use Rattle.peephole_graphs.specs.Shape.{Shape}
 use Rattle.peephole_graphs.specs.Downwards.{total, are_alike}
 use Rattle.peephole_graphs.specs.Step.{down}
-use Rattle.peephole_graphs.specs.Entries.{colours}
+use Rattle.peephole_graphs.specs.Entries.{colors, size_kept, flag_kept}
 
 -- the entry of a missing operand
 abbrev pub undef_entry : ℕ → StackEntry
@@ -31,17 +33,42 @@ own_index operands old = length old.entries.items + lacks operands old
 abbrev pub taken_of : ℕ → Growing → List ℕ
 taken_of operands old = drop (length old.stack.items - operands) old.stack.items
 
+-- how many entries there are from those downwards
+abbrev pub taken_total : ℕ → Growing → ℕ
+taken_total operands g = total (size_kept g.subtrees.items) (taken_of operands g)
+
+-- what is kept of a missing operand
+abbrev pub missing_subtree : Subtree
+missing_subtree = record { len = 1; one_color = true }
+
+-- what is kept of an operator's own entry
+abbrev pub own_subtree : (operands missing color : ℕ) → Growing → Subtree
+own_subtree operands missing color g = record {
+  len = suc (missing + taken_total operands g);
+  one_color = (missing == 0) && are_alike (flag_kept g.subtrees.items) (slice_index (colors g.entries.items)) color (taken_of operands g);
+}
+
+-- The lists belong to one graph: there are as many parents and subtrees as entries, and the stack is of entries, whose
+-- subtrees have no more entries than there are.
+pub record IsConsistent (g : Growing) : Type 0 where
+  pub parents : length g.parents.items ≡ length g.entries.items
+  pub subtrees : length g.subtrees.items ≡ length g.entries.items
+  pub stack : All (λ i. i < length g.entries.items) g.stack.items
+  pub room : total (size_kept g.subtrees.items) g.stack.items ≤ length g.entries.items
+
 -- An operator's entries were put behind the others.
 pub record Added (s : Shape) (operator : ℕ) (old new : Growing) : Type 0 where
   pub own : StackEntry
   pub own_instr : instr_of own.operator ≡ Some s.instr
   pub own_children : children_of own.operator ≡ down (length old.entries.items) (lacks s.operands old) ++ taken_of s.operands old
-  pub own_colour : own.color ≡ old.color
+  pub own_color : own.color ≡ old.color
   pub own_operator : own.operator_idx ≡ operator
   pub entries : new.entries.items ≡ (old.entries.items ++ replicate (lacks s.operands old) (undef_entry operator)) ++ own ∷ []
-  pub parents : new.parents.items ≡ (set_each (own_index s.operands old) (taken_of s.operands old) old.parents.items ++ replicate (lacks s.operands old) (Some (own_index s.operands old))) ++ None ∷ []
-  pub stack : new.stack.items ≡ (if s.has_result then take (length old.stack.items - s.operands) old.stack.items ++ own_index s.operands old ∷ [] else take (length old.stack.items - s.operands) old.stack.items)
-  pub sizes : new.sizes.items ≡ (old.sizes.items ++ replicate (lacks s.operands old) 1) ++ suc (lacks s.operands old + total (λ i. slice_index old.sizes.items i) (taken_of s.operands old)) ∷ []
-  pub same : new.same.items ≡ (old.same.items ++ replicate (lacks s.operands old) true) ++
-      ((lacks s.operands old == 0) && are_alike (λ i. slice_index_or old.same.items i false) (λ i. slice_index (colours old.entries.items) i) old.color (taken_of s.operands old)) ∷ []
-  pub named : (k : ℕ) → hash.get nat_eq new.map k ≡ (if operator == k then Some (own_index s.operands old) else hash.get nat_eq old.map k)
+  pub parents : new.parents.items ≡ (set_each (own_index s.operands old) (taken_of s.operands old) old.parents.items
+      ++ replicate (lacks s.operands old) (Some (own_index s.operands old))) ++ None ∷ []
+  pub stack : new.stack.items ≡ (let left = take (length old.stack.items - s.operands) old.stack.items in
+      if s.has_result then left ++ own_index s.operands old ∷ [] else left)
+  pub subtrees : new.subtrees.items ≡ (old.subtrees.items ++ replicate (lacks s.operands old) missing_subtree)
+      ++ own_subtree s.operands (lacks s.operands old) old.color old ∷ []
+  pub named : (k : ℕ) → hash.get nat_eq new.map k
+      ≡ (if operator == k then Some (own_index s.operands old) else hash.get nat_eq old.map k)

@@ -5,21 +5,21 @@ use Rattle.peephole_graphs.specs.Tree.{shapes, renumbered}
 use Rattle.peephole_graphs.specs.Forest.{forest, IsInOrder, AreTogether}
 
 -- The block of instructions that is written with a block's own trees, the last instruction first.
-abbrev pub written : List Shape → List Shape
-written block = reverse (shapes (forest block))
+abbrev pub rewritten : List Shape → List Shape
+rewritten block = reverse (shapes (forest block))
 
 -- What was written has the same forest, but for the operators' numbers, which are those of the new places.
 abbrev pub HasSameTrees : Type 0
-HasSameTrees = (block : List Shape) → forest (written block) ≡ renumbered 0 (forest block)
+HasSameTrees = (block : List Shape) → forest (rewritten block) ≡ renumbered 0 (forest block)
 
 abbrev pub IsWrittenInOrder : Type 0
-IsWrittenInOrder = (block : List Shape) → IsInOrder (written block)
+IsWrittenInOrder = (block : List Shape) → IsInOrder (rewritten block)
 
 abbrev pub StaysWhenWrittenAgain : Type 0
-StaysWhenWrittenAgain = (block : List Shape) → written (written block) ≡ written block
+StaysWhenWrittenAgain = (block : List Shape) → rewritten (rewritten block) ≡ rewritten block
 
 abbrev pub OrderIsTogether : Type 0
 OrderIsTogether = (block : List Shape) → IsInOrder block ↔ AreTogether block
 
 abbrev pub OrderedIsPostfix : Type 0
-OrderedIsPostfix = (block : List Shape) → IsInOrder block → written block ≡ block
+OrderedIsPostfix = (block : List Shape) → IsInOrder block → rewritten block ≡ block

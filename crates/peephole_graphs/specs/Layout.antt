@@ -22,18 +22,18 @@ held_nodes held items = reverse (map held items)
 
 -- how many nodes there are, a shared one counted as often as it is named
 abbrev mutual
-  pub size_of : {H : Type 0} → Term H → ℕ
-  size_of absent = 0
-  size_of (node h kids) = suc (size kids)
+  pub node_count_of : {H : Type 0} → Term H → ℕ
+  node_count_of absent = 0
+  node_count_of (node h kids) = suc (node_count kids)
 
-  pub size : {H : Type 0} → Terms H → ℕ
-  size no_terms = 0
-  size (t ▸ ts) = size_of t + size ts
+  pub node_count : {H : Type 0} → Terms H → ℕ
+  node_count no_terms = 0
+  node_count (t ▸ ts) = node_count_of t + node_count ts
 
 -- where the terms' own nodes stand when the terms are laid out from `first` on: each is the last one of its term
 abbrev pub places : {H : Type 0} → ℕ → Terms H → List ℕ
 places first no_terms = []
-places first (t ▸ ts) = (first + size_of t - 1) ∷ places (first + size_of t) ts
+places first (t ▸ ts) = (first + node_count_of t - 1) ∷ places (first + node_count_of t) ts
 
 -- the nodes from the place `first` on
 abbrev mutual
@@ -43,7 +43,7 @@ abbrev mutual
 
   pub laid_all : {H : Type 0} → ℕ → Terms H → List (Node H)
   laid_all first no_terms = []
-  laid_all first (t ▸ ts) = laid first t ++ laid_all (first + size_of t) ts
+  laid_all first (t ▸ ts) = laid first t ++ laid_all (first + node_count_of t) ts
 
 -- every node is there
 abbrev mutual
@@ -72,7 +72,7 @@ AreWritable nodes = All (λ l. IsTrue (is_writable (payload_of l))) nodes
 pub record HasTrees (entries : List StackEntry) (look : ℕ → Option ℕ) : Type 0 where
   pub below : (i : ℕ) (d : StackEntry) → i < length entries → All (λ c. c < i) (children_of (slice_index_or entries i d).operator)
   pub found : (k i : ℕ) → look k ≡ Some i → i < length entries
-  pub small : (i : ℕ) → i < length entries → size_of (tree_at (entry_nodes entries) i) ≤ 2 ^ 32
+  pub small : (i : ℕ) → i < length entries → node_count_of (tree_at (entry_nodes entries) i) ≤ 2 ^ 32
   pub writable : AreWritable (map (λ (e : StackEntry). e.operator) entries)
 
 -- an equation of nodes has one proof at most

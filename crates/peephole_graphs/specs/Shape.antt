@@ -4,7 +4,7 @@
 use Rattle.std.specs.Prelude.{ℕ, Bool, true, false, List, [], ◌∷◌, length, Option, None, Some, reverse}
 use Rattle.std.specs.List.{All}
 use Rattle.wasm_code.specs.Instruction.{Instruction}
-use Rattle.wasm_code.specs.Table.{info_of}
+use Rattle.wasm_code.specs.Table.{row_info_of}
 use Rattle.wasm_code.specs.declared.immediate.Imm.{Imm}
 use Rattle.wasm_code.specs.declared.immediate.Imm.TheVariants.{Index}
 use Rattle.wasm_code.specs.declared.table.RowInfo.{RowInfo}
@@ -51,7 +51,7 @@ judge_found info i None = Unfit
 judge_found info i (Some row) = judge_row info i row row.operands
 
 abbrev pub judge_instruction : Module → Instruction → Judged
-judge_instruction info i = judge_found info i (info_of i.row)
+judge_instruction info i = judge_found info i (row_info_of i.row)
 
 -- an instruction by its row; no other operator fits
 abbrev pub judge : Module → Operator → Judged
@@ -76,5 +76,5 @@ operator_shapes info [] = []
 operator_shapes info (o ∷ os) = and_shape (judge info o.0) (operator_shapes info os)
 
 -- A block as the theory has it: the shapes of its operators, the last operator first.
-abbrev pub block_of : Module → List (Operator × ℕ) → List Shape
-block_of info operators = reverse (operator_shapes info operators)
+abbrev pub shapes_of_block : Module → List (Operator × ℕ) → List Shape
+shapes_of_block info operators = reverse (operator_shapes info operators)

@@ -3,7 +3,7 @@
 use Rattle.std.specs.Prelude.{ℕ, zero, suc, ◌+◌, ◌-◌, ◌++◌, take, drop, reverse, replicate, List, [], ◌∷◌, length, Option, None, Some, if◌then◌else◌}
 use Rattle.peephole_graphs.specs.Shape.{Shape}
 use Rattle.peephole_graphs.specs.Forest.{has}
-use Rattle.peephole_graphs.specs.Graph.{Entry, undef}
+use Rattle.peephole_graphs.specs.Graph.{GraphEntry, undef}
 
 -- indexes from `first + count` down to `first`
 abbrev pub down : ℕ → ℕ → List ℕ
@@ -15,18 +15,18 @@ abbrev pub mark : ℕ → List ℕ → List (Option ℕ) → List (Option ℕ)
 mark p is [] = []
 mark p is (q ∷ earlier) = (if has (length earlier) is then Some p else q) ∷ mark p is earlier
 
-pub record State : Type 0 where
-  pub nodes : List Entry
+pub record Growth : Type 0 where
+  pub nodes : List GraphEntry
   pub parents : List (Option ℕ)
   pub stack : List ℕ
 
-abbrev pub grown : State → Shape → ℕ → ℕ → State
+abbrev pub grown : Growth → Shape → ℕ → ℕ → Growth
 grown g s n c =
     let more = s.operands - length g.stack in
     let own = length g.nodes + more in
     let taken = take s.operands g.stack in
     record {
-      nodes = record { shape = Some s; children = down (length g.nodes) more ++ reverse taken; number = n; colour = c } ∷ (replicate more (undef n) ++ g.nodes);
+      nodes = record { shape = Some s; children = down (length g.nodes) more ++ reverse taken; number = n; color = c } ∷ (replicate more (undef n) ++ g.nodes);
       parents = None ∷ (replicate more (Some own) ++ mark own taken g.parents);
       stack = if s.has_result then own ∷ drop s.operands g.stack else drop s.operands g.stack;
     }

@@ -1,16 +1,14 @@
 -- Terms that stand for the trees of a block's forest: with the same instructions, operand by operand. This project's law.
-use Rattle.std.specs.Prelude.{ℕ, ◌<◌, ◌≡◌, ⊤, Bool, List, length, Option, Some}
-use Rattle.wasm_code.specs.declared.operator.Operator.{Operator}
-use Rattle.mutate_base.specs.Module.{Module}
+use Rattle.std.specs.Prelude.{ℕ, ◌<◌, ◌≡◌, ⊤, length, Some}
 use Rattle.peephole_lang.specs.declared.lang.Head.{Head}
 use Rattle.peephole_lang.specs.declared.lang.Lang.TheVariants.{Undef}
 use Rattle.peephole_lang.specs.Node.{head_of, instr_of_head}
 use Rattle.peephole_lang.specs.Term as term
 use Rattle.peephole_lang.specs.Term.{Term, Terms, no_terms, ◌▸◌, tree_at}
-use Rattle.peephole_graphs.specs.declared.dfg.StackEntry.{StackEntry}
 use Rattle.peephole_graphs.specs.Tree as tree
 use Rattle.peephole_graphs.specs.Tree.{Tree, Trees, entry, no_trees}
-use Rattle.peephole_graphs.specs.Entries.{entry_tree}
+use Rattle.peephole_graphs.specs.Source.{Source}
+use Rattle.peephole_graphs.specs.Entries.{Graph, entry_tree}
 use Rattle.peephole_graphs.specs.GraphOf.{IsGraphOf}
 use Rattle.peephole_graphs.specs.Layout.{entry_nodes}
 
@@ -29,6 +27,5 @@ abbrev mutual
 
 -- the term of each entry of a block's graph stands for the entry's tree
 abbrev pub HasTermsOfTrees : Type 0
-HasTermsOfTrees = (info : Module) (keeping : Bool) (first : ℕ) (operators : List (Operator × ℕ)) (entries : List StackEntry) (parents : List (Option ℕ)) (look : ℕ → Option ℕ) →
-    IsGraphOf info keeping first operators entries parents look → (i : ℕ) → i < length entries →
-    IsTermOf (tree_at (entry_nodes entries) i) (entry_tree info first entries i)
+HasTermsOfTrees = (s : Source) (g : Graph) → IsGraphOf s g → (i : ℕ) → i < length g.entries →
+    IsTermOf (tree_at (entry_nodes g.entries) i) (entry_tree s g i)

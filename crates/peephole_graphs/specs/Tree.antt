@@ -20,13 +20,13 @@ join (t ▸ ts) us = t ▸ join ts us
 
 -- Postfix: the children's in order, then the operator. Entry operands add nothing. Here as operator numbers.
 abbrev mutual
-  pub numbers_of : Tree → List ℕ
-  numbers_of (entry m) = []
-  numbers_of (node i s kids) = numbers kids ++ i ∷ []
+  pub postfix_of : Tree → List ℕ
+  postfix_of (entry m) = []
+  postfix_of (node i s kids) = postfix kids ++ i ∷ []
 
-  pub numbers : Trees → List ℕ
-  numbers no_trees = []
-  numbers (t ▸ ts) = numbers_of t ++ numbers ts
+  pub postfix : Trees → List ℕ
+  postfix no_trees = []
+  postfix (t ▸ ts) = postfix_of t ++ postfix ts
 
 -- The same as shapes.
 abbrev mutual

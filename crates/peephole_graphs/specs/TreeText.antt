@@ -10,7 +10,7 @@ use Rattle.peephole_nodes.specs.Variants.{Variant, variant_at}
 use Rattle.peephole_graphs.specs.Shape.{Shape}
 use Rattle.peephole_graphs.specs.Tree.{Tree, Trees, entry, node, no_trees, ◌▸◌}
 use Rattle.peephole_graphs.specs.Forest.{forest}
-use Rattle.peephole_graphs.specs.Colour.{colour_at}
+use Rattle.peephole_graphs.specs.Color.{color_at}
 use Rattle.peephole_graphs.specs.ForestText.{branch, edge, line_text}
 
 -- the text of a variant with the payload that stands for an immediate
@@ -34,20 +34,20 @@ are_some (t ▸ ts) = true
 -- have the numbers of the body, in which the block's first one has the number `first`.
 abbrev mutual
   pub tree_text : (ℕ → ℕ) → (first : ℕ) → (prefix inner : List ℕ) → (taker : ℕ) → Tree → List ℕ
-  tree_text colour first prefix inner taker (entry m) = prefix ++ line_text 4294967295 taker (codes "undef")
-  tree_text colour first prefix inner taker (node i s kids) =
-      (prefix ++ line_text (colour i) (first + i) (instruction_text s.instr)) ++ operands_text colour first inner (first + i) kids
+  tree_text color first prefix inner taker (entry m) = prefix ++ line_text 4294967295 taker (codes "undef")
+  tree_text color first prefix inner taker (node i s kids) =
+      (prefix ++ line_text (color i) (first + i) (instruction_text s.instr)) ++ operands_text color first inner (first + i) kids
 
   pub operands_text : (ℕ → ℕ) → (first : ℕ) → (inner : List ℕ) → (taker : ℕ) → Trees → List ℕ
-  operands_text colour first inner taker no_trees = []
-  operands_text colour first inner taker (t ▸ ts) =
-      tree_text colour first (inner ++ branch (are_some ts)) (inner ++ edge (are_some ts)) taker t ++ operands_text colour first inner taker ts
+  operands_text color first inner taker no_trees = []
+  operands_text color first inner taker (t ▸ ts) =
+      tree_text color first (inner ++ branch (are_some ts)) (inner ++ edge (are_some ts)) taker t ++ operands_text color first inner taker ts
 
 -- the lines of the trees, tree by tree; a root is no operand
 abbrev pub trees_text : (ℕ → ℕ) → (first : ℕ) → Trees → List ℕ
-trees_text colour first no_trees = []
-trees_text colour first (t ▸ ts) = tree_text colour first [] [] 0 t ++ trees_text colour first ts
+trees_text color first no_trees = []
+trees_text color first (t ▸ ts) = tree_text color first [] [] 0 t ++ trees_text color first ts
 
 -- the text of the block's forest
 abbrev pub block_text : Bool → (first : ℕ) → List Shape → List ℕ
-block_text keeping first block = codes "DFG forest\n" ++ trees_text (colour_at keeping block) first (forest block)
+block_text preserving first block = codes "DFG forest\n" ++ trees_text (color_at preserving block) first (forest block)

@@ -1,9 +1,11 @@
 //! Basic blocks.
 
-ghost use Rattle.std.specs.Prelude.{◌≡◌, ◌≤◌};
+ghost use Rattle.std.specs.Prelude.{◌≡◌, ◌+◌, ◌<◌, ◌≤◌, ℕ, length, IfSome, IfNone};
+ghost use Rattle.peephole_graphs.specs.Block.{HasNoDelimiter, IsDelimiterAt, IsBlockOf};
 
 use std::marker::Model;
 use std::ops::Range;
+use wasm_code::OperatorAndByteOffset;
 
 /// A basic block: a range of a body's operators that holds no delimiter.
 #[derive(Debug, Drop)]
@@ -23,13 +25,44 @@ impl Model for BBlock {
     ghost invariant = { λ b. b.start ≤ b.end };
 }
 
+// The first operator of the block that ends with the one at the index; behind it where that is a delimiter.
+fn block_start(index: usize, operators: &[OperatorAndByteOffset]) -> usize
+    requires { index < length operators.now }
+    ensures within { result ≤ index + 1 }
+    ensures none { HasNoDelimiter operators.now result (index + 1) }
+    ensures longest { (from : ℕ) → HasNoDelimiter operators.now from (index + 1) → result ≤ from }
+{
+    let mut start = index + 1;
+    while start > 0 {
+        if operators[start - 1].0.is_delimiter() {
+            return start;
+        }
+        start -= 1;
+    }
+    start
+}
+
 impl BBlock {
     // The block of these operators.
-    pub(crate) fn of_range(start: usize, end: usize) -> BBlock
+    fn of_range(start: usize, end: usize) -> BBlock
         requires { start ≤ end }
         ensures { result ≡ record { start = start; end = end } }
     {
         BBlock { start, end }
+    }
+
+    /// The block of the operator at `index`: the longest range of operators that ends with it and holds no delimiter. None
+    /// exactly where the operator is a delimiter. Condition: the operator is there.
+    pub fn of_operator(index: usize, operators: &[OperatorAndByteOffset]) -> Option<BBlock>
+        requires { index < length operators.now }
+        ensures block { IfSome result (λ b. IsBlockOf operators.now index b.start b.end) }
+        ensures none { IfNone result (IsDelimiterAt operators.now index) }
+    {
+        let start = block_start(index, operators);
+        if start > index {
+            return None;
+        }
+        Some(BBlock::of_range(start, index + 1))
     }
 
     /// The indexes, in the body, of the block's operators.

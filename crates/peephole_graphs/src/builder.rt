@@ -1,9 +1,11 @@
 //! Blocks and their graphs.
 
-ghost use Rattle.std.specs.Prelude.{◌≡◌, ◌+◌, ◌^◌, ◌<◌, ◌≤◌, ℕ, length, slice_range, nat_eq, IfOk, IfSome, IfNone, IfErr, MatchOption, MatchResult};
+ghost use Rattle.std.specs.Prelude.{◌≡◌, ◌+◌, ◌^◌, ◌<◌, ◌≤◌, ℕ, length, IsTrue, IfOk, IfSome, IfNone, IfErr, MatchOption, MatchResult};
 ghost use Rattle.std.specs.HashMap as hash;
-ghost use Rattle.peephole_graphs.specs.Block.{HasNoDelimiter, IsDelimiterAt, IsBlockOf};
-ghost use Rattle.peephole_graphs.specs.Dfg.{entries_of, parents_of, look_of};
+ghost use Rattle.peephole_graphs.specs.Block.{IsDelimiterAt, IsBlockOf};
+ghost use Rattle.peephole_graphs.specs.Source.{Source, source_of};
+ghost use Rattle.peephole_graphs.specs.Dfg.{graph_of};
+ghost use Rattle.peephole_graphs.specs.Contiguous.{HasContiguousTrees};
 ghost use Rattle.peephole_graphs.specs.GraphOf.{IsGraphOf, HasNoGraph, IsRefused};
 ghost use Rattle.peephole_graphs.specs.Building.{HasGrown};
 
@@ -30,23 +32,6 @@ impl Model for DFGBuilder {
     ghost view = { λ b. record { preserving = b.preserving } };
 }
 
-// The first operator of the block that ends with the one at the index; behind it where that is a delimiter.
-fn block_start(index: usize, operators: &[OperatorAndByteOffset]) -> usize
-    requires { index < length operators.now }
-    ensures within { result ≤ index + 1 }
-    ensures none { HasNoDelimiter operators.now result (index + 1) }
-    ensures longest { (from : ℕ) → HasNoDelimiter operators.now from (index + 1) → result ≤ from }
-{
-    let mut start = index + 1;
-    while start > 0 {
-        if operators[start - 1].0.is_delimiter() {
-            return start;
-        }
-        start -= 1;
-    }
-    start
-}
-
 // The graph of the operators of a block whose first one has the index `first`; none at an operator that no graph holds,
 // and refused at a call of a function that isn't known.
 fn build(
@@ -57,9 +42,12 @@ fn build(
     preserving: bool,
 ) -> Result<Option<Growing>, Error>
     requires { first + length operators.now < 2 ^ 64 }
-    ensures { MatchResult result
-        (λ o. MatchOption o (HasNoGraph info.now preserving operators.now) (λ g. HasGrown info.now preserving first operators.now g))
-        (λ e. IsRefused info.now preserving operators.now e) }
+    ensures { let s : Source = record {
+      info = info.now;
+      preserving = preserving;
+      first = first;
+      operators = operators.now;
+    } in MatchResult result (λ o. MatchOption o (HasNoGraph s) (HasGrown s)) (IsRefused s) }
 {
     let mut growing = start_graph(alloc, operators.len())?;
     for (number, operator) in operators.iter().enumerate() {
@@ -88,7 +76,7 @@ impl DFGBuilder {
         }
     }
 
-    /// The block of the operator at `index`: the longest range of operators that ends with it and holds no delimiter. None exactly where the operator is a delimiter. Condition: the operator is there.
+    /// The block of the operator at `index`, as `BBlock::of_operator` finds it.
     pub fn get_bb_from_operator(
         &self,
         index: usize,
@@ -98,11 +86,7 @@ impl DFGBuilder {
         ensures block { IfSome result (λ b. IsBlockOf operators.now index b.start b.end) }
         ensures none { IfNone result (IsDelimiterAt operators.now index) }
     {
-        let start = block_start(index, operators);
-        if start > index {
-            return None;
-        }
-        Some(BBlock::of_range(start, index + 1))
+        BBlock::of_operator(index, operators)
     }
 
     /// The graph of a block of `operators`, made anew at each call. An operator `call` takes as many operands as its function
@@ -124,10 +108,14 @@ impl DFGBuilder {
         block: &BBlock,
     ) -> Result<Option<MiniDFG>, Error>
         requires within { block.now.end ≤ length operators.now }
-        ensures graph { let inside = slice_range operators.now block.now.start block.now.end in
-            IfOk result (λ o. IfSome o (λ g. IsGraphOf info.now self.old.preserving block.now.start inside (entries_of g) (parents_of g) (look_of g))) }
-        ensures none { IfOk result (λ o. IfNone o (HasNoGraph info.now self.old.preserving (slice_range operators.now block.now.start block.now.end))) }
-        ensures refused { IfErr result (λ e. IsRefused info.now self.old.preserving (slice_range operators.now block.now.start block.now.end) e) }
+        ensures graph { let s = source_of info.now self.old.preserving operators.now block.now in
+            IfOk result (λ o. IfSome o (λ g. IsGraphOf s (graph_of g))) }
+        ensures none { let s = source_of info.now self.old.preserving operators.now block.now in
+            IfOk result (λ o. IfNone o (HasNoGraph s)) }
+        ensures refused { let s = source_of info.now self.old.preserving operators.now block.now in
+            IfErr result (IsRefused s) }
+        ensures contiguous { IsTrue self.old.preserving
+            → IfOk result (λ o. IfSome o (λ g. HasContiguousTrees (graph_of g).entries)) }
         ensures same { self.new ≡ self.old }
     {
         let range = block.range();
@@ -145,11 +133,10 @@ impl DFGBuilder {
                     map,
                     entries,
                     parents,
-                    sizes,
-                    same,
+                    subtrees,
                     ..
                 } = growing;
-                Ok(Some(MiniDFG::of_parts(map, entries, parents, sizes, same)))
+                Ok(Some(MiniDFG::of_parts(map, entries, parents, subtrees)))
             }
         }
     }

@@ -1,18 +1,19 @@
 //! The graph of a block.
 
-ghost use Rattle.std.specs.Prelude.{◌≡◌, ◌<◌, ◌-◌, ◌↔◌, ℕ, IsTrue, length, reverse, slice_index, nat_eq};
+ghost use Rattle.std.specs.Prelude.{◌≡◌, ◌<◌, ◌-◌, ◌↔◌, ℕ, IsTrue, length, slice_index, nat_eq};
 ghost use Rattle.std.specs.HashMap as hash;
 ghost use Rattle.std.proofs.Props.{props};
 ghost use Rattle.std.proofs.lemmas.Map.Keys.{IsDistinct-prop};
 ghost use Rattle.peephole_lang.specs.Term.{numbers_of};
-ghost use Rattle.peephole_graphs.specs.Downwards.{downwards, sizes_of, flags_of, forward, forwards, HasOneColour};
-ghost use Rattle.peephole_graphs.specs.Entries.{kins_of, colours, Measured, IsForest};
+ghost use Rattle.peephole_graphs.specs.Downwards.{downwards, forward, forwards, HasOneColor};
+ghost use Rattle.peephole_graphs.specs.Entries.{kins_of, colors, size_kept, Measured, IsForest};
 ghost use Rattle.peephole_graphs.specs.Order.{AreInOrder};
 ghost use Rattle.peephole_graphs.specs.Layout.{HasTrees, Lang-set};
 
 use crate::forest_text::{operator_text, print_forest};
 use crate::layout::lay_out;
 use crate::span::{copy_span, is_span};
+use crate::subtree::Subtree;
 use mutate_base::Error;
 use peephole_lang::{Id, Lang, RecExpr};
 use std::alloc::{AllocError, Global};
@@ -36,12 +37,9 @@ pub struct MiniDFG {
     map: HashMap<usize, usize>,
     entries: Vec<StackEntry>,
     parents: Vec<Option<usize>>,
-    // How many entries there are from each one downwards.
-    sizes: Vec<usize>,
-    // Whether these have one colour.
-    same: Vec<bool>,
-    ghost sizes_are: { reverse sizes.items ≡ sizes_of (kins_of entries.items) } by { Prim.hlevel props },
-    ghost flags_are: { reverse same.items ≡ flags_of (kins_of entries.items) } by { Prim.hlevel props },
+    // Of the entries from each one downwards.
+    subtrees: Vec<Subtree>,
+    ghost measured: { Measured entries.items subtrees.items } by { Prim.hlevel props },
     ghost trees: { HasTrees entries.items (hash.get nat_eq map) } by { Prim.hlevel (props, Lang-set) },
     ghost forest: { IsForest entries.items parents.items } by { Prim.hlevel (props, IsDistinct-prop) },
     // Whether the trees lie one after another is seen from the entries' sizes alone.
@@ -50,7 +48,7 @@ pub struct MiniDFG {
 
 // The colour of an entry, or 0 past the end.
 fn color_at(entries: &[StackEntry], i: usize) -> u32
-    ensures { result ≡ slice_index (colours entries.now) i }
+    ensures { result ≡ slice_index (colors entries.now) i }
 {
     if i < entries.len() {
         entries[i].color
@@ -59,22 +57,27 @@ fn color_at(entries: &[StackEntry], i: usize) -> u32
     }
 }
 
-/// The size at an index, or 0 past the end.
-pub(crate) fn size_at(sizes: &[usize], i: usize) -> usize
-    ensures { result ≡ slice_index sizes.now i }
+/// How many entries there are from the one at an index downwards, or 0 past the end.
+pub(crate) fn size_at(subtrees: &[Subtree], i: usize) -> usize
+    ensures { result ≡ size_kept subtrees.now i }
 {
-    if i < sizes.len() { sizes[i] } else { 0 }
+    if i < subtrees.len() {
+        subtrees[i].len
+    } else {
+        0
+    }
 }
 
 // Whether the children that are no missing operands lie, by their sizes, one behind another from an index on.
-fn lie_forward(entries: &[StackEntry], sizes: &[usize], children: &[Id], from: usize) -> bool
-    ensures { result ≡ forward (λ i. slice_index sizes.now i) (λ i. slice_index (colours entries.now) i) from (numbers_of children.now) }
+fn lie_forward(entries: &[StackEntry], subtrees: &[Subtree], children: &[Id], from: usize) -> bool
+    ensures { result ≡ forward (size_kept subtrees.now) (slice_index (colors entries.now)) from
+        (numbers_of children.now) }
 {
     let mut at = from;
     for child in children {
         let i = child.0 as usize;
         if color_at(entries, i) != u32::MAX {
-            let size = size_at(sizes, i);
+            let size = size_at(subtrees, i);
             if size > i + 1 || i + 1 - size != at {
                 return false;
             }
@@ -107,9 +110,8 @@ impl Clone for MiniDFG {
         let map = self.map.clone()?;
         let entries = self.entries.clone()?;
         let parents = Vec::from_slice(*self.parents.allocator(), &self.parents)?;
-        let sizes = self.sizes.clone()?;
-        let same = self.same.clone()?;
-        Ok(MiniDFG::of_parts(map, entries, parents, sizes, same))
+        let subtrees = Vec::from_slice(*self.subtrees.allocator(), &self.subtrees)?;
+        Ok(MiniDFG::of_parts(map, entries, parents, subtrees))
     }
 }
 
@@ -119,7 +121,7 @@ impl MiniDFG {
     ghost use Rattle.peephole_lang.specs.Node.{node_of, head_of, children_of};
     ghost use Rattle.peephole_lang.specs.Term.{tree_at, term_of};
     ghost use Rattle.peephole_graphs.specs.Layout.{entry_nodes, laid, AreWritable};
-    ghost use Rattle.peephole_graphs.specs.Dfg.{entries_of, parents_of, look_of};
+    ghost use Rattle.peephole_graphs.specs.Dfg.{graph_of};
     ghost use Rattle.peephole_graphs.specs.ForestText.{forest_text, default_text, IsText, CanTell, Tells};
 
     // The graph of these parts.
@@ -127,35 +129,33 @@ impl MiniDFG {
         map: HashMap<usize, usize>,
         entries: Vec<StackEntry>,
         parents: Vec<Option<usize>>,
-        sizes: Vec<usize>,
-        same: Vec<bool>,
+        subtrees: Vec<Subtree>,
     ) -> MiniDFG
-        requires measured { Measured entries.items sizes.items same.items }
+        requires measured { Measured entries.items subtrees.items }
         requires trees { HasTrees entries.items (hash.get nat_eq map) }
         requires forest { IsForest entries.items parents.items }
-        requires lies { IsTrue (forwards (kins_of entries.items)) ↔ AreInOrder entries.items parents.items }
-        ensures map { (k : ℕ) → look_of result k ≡ hash.get nat_eq map k }
-        ensures entries { entries_of result ≡ entries.items }
-        ensures parents { parents_of result ≡ parents.items }
+        requires lies { IsTrue (forwards (kins_of entries.items))
+            ↔ AreInOrder entries.items parents.items }
+        ensures map { (k : ℕ) → (graph_of result).own_entry k ≡ hash.get nat_eq map k }
+        ensures entries { (graph_of result).entries ≡ entries.items }
+        ensures parents { (graph_of result).parents ≡ parents.items }
     {
         MiniDFG {
             map,
             entries,
             parents,
-            sizes,
-            same,
+            subtrees,
         }
     }
 
     /// A graph without entries.
     pub fn empty(alloc: Global) -> MiniDFG
-        ensures map { (k : ℕ) → look_of result k ≡ None }
-        ensures entries { entries_of result ≡ [] }
-        ensures parents { parents_of result ≡ [] }
+        ensures map { (k : ℕ) → (graph_of result).own_entry k ≡ None }
+        ensures entries { (graph_of result).entries ≡ [] }
+        ensures parents { (graph_of result).parents ≡ [] }
     {
         MiniDFG::of_parts(
             HashMap::new(alloc),
-            Vec::new(alloc),
             Vec::new(alloc),
             Vec::new(alloc),
             Vec::new(alloc),
@@ -164,14 +164,14 @@ impl MiniDFG {
 
     /// The index of the own entry of each of the block's operators, by the operator's index in the body.
     pub fn map(&self) -> &HashMap<usize, usize>
-        ensures { (k : ℕ) → hash.get nat_eq result.now k ≡ look_of self.now k }
+        ensures { (k : ℕ) → hash.get nat_eq result.now k ≡ (graph_of self.now).own_entry k }
     {
         &self.map
     }
 
     /// The entries. Children stand before their parents, and operators in the block's order.
     pub fn entries(&self) -> &[StackEntry]
-        ensures { result.now ≡ entries_of self.now }
+        ensures { result.now ≡ (graph_of self.now).entries }
     {
         self.entries.as_slice()
     }
@@ -179,17 +179,21 @@ impl MiniDFG {
     /// The index of each entry's parent, none of a root. Entries and parents make a forest: an entry is the child of its
     /// parent and of no other entry, stands among its parent's children once, and stands before it.
     pub fn parents(&self) -> &[Option<usize>]
-        ensures value { result.now ≡ parents_of self.now }
-        ensures forest { IsForest (entries_of self.now) (parents_of self.now) }
+        ensures value { result.now ≡ (graph_of self.now).parents }
+        ensures forest { IsForest (graph_of self.now).entries (graph_of self.now).parents }
     {
         self.parents.as_slice()
     }
 
     /// The tree of the operator with the index `at` in the body, laid out in postfix: its operands' trees one after another, then its own node, the last one. Each node names its children by their places, and can be written; a missing operand is `Undef`. Refused for want of memory alone (`Memory`). Condition: `at` is a key of `map()`.
     pub fn get_expr(&self, alloc: Global, at: usize) -> Result<RecExpr<Lang>, Error>
-        requires { IsSome (look_of self.now at) }
-        ensures laid { IfOk result (λ expr. IfSome (look_of self.now at) (λ i. map node_of expr ≡ laid 0 (tree_at (entry_nodes (entries_of self.now)) i))) }
-        ensures term { IfOk result (λ expr. IfSome (look_of self.now at) (λ i. term_of head_of children_of expr ≡ tree_at (entry_nodes (entries_of self.now)) i)) }
+        requires { IsSome ((graph_of self.now).own_entry at) }
+        ensures laid { let g = graph_of self.now in
+            IfOk result (λ expr. IfSome (g.own_entry at) (λ i.
+            map node_of expr ≡ laid 0 (tree_at (entry_nodes g.entries) i))) }
+        ensures term { let g = graph_of self.now in
+            IfOk result (λ expr. IfSome (g.own_entry at) (λ i.
+            term_of head_of children_of expr ≡ tree_at (entry_nodes g.entries) i)) }
         ensures some { IfOk result (λ expr. 0 < length expr) }
         ensures writable { IfOk result (λ expr. AreWritable expr) }
         ensures refused { IfErr result (λ e. e ≡ Error.Memory) }
@@ -202,13 +206,14 @@ impl MiniDFG {
 
     // The tree of the entry at an index, laid out: copied where its entries stand so already.
     fn lay_out_at(&self, alloc: Global, root: usize) -> Result<RecExpr<Lang>, Error>
-        requires { root < length (entries_of self.now) }
-        ensures laid { IfOk result (λ expr. map node_of expr ≡ laid 0 (tree_at (entry_nodes (entries_of self.now)) root)) }
+        requires { root < length (graph_of self.now).entries }
+        ensures laid { IfOk result (λ expr.
+            map node_of expr ≡ laid 0 (tree_at (entry_nodes (graph_of self.now).entries) root)) }
         ensures refused { IfErr result (λ e. e ≡ Error.Memory) }
     {
         let end = root + 1;
-        let start = end.saturating_sub(self.sizes[root]);
-        if is_span(&self.entries, &self.sizes, start, end) {
+        let start = end.saturating_sub(self.subtrees[root].len);
+        if is_span(&self.entries, &self.subtrees, start, end) {
             copy_span(alloc, &self.entries[start..end], start)
         } else {
             lay_out(alloc, &self.entries, root)
@@ -217,37 +222,38 @@ impl MiniDFG {
 
     /// How many entries there are from the one at index `i` downwards, with itself. Condition: the entry is there.
     pub fn subtree_len(&self, i: usize) -> usize
-        requires { i < length (entries_of self.now) }
-        ensures { result ≡ length (downwards (kins_of (entries_of self.now)) i) }
+        requires { i < length (graph_of self.now).entries }
+        ensures { result ≡ length (downwards (kins_of (graph_of self.now).entries) i) }
     {
-        self.sizes[i]
+        self.subtrees[i].len
     }
 
     /// Whether all entries from the one at index `i` downwards have one colour. Condition: the entry is there.
     pub fn is_subtree_consistent(&self, i: usize) -> bool
-        requires { i < length (entries_of self.now) }
-        ensures { IsTrue result ↔ HasOneColour (kins_of (entries_of self.now)) i }
+        requires { i < length (graph_of self.now).entries }
+        ensures { IsTrue result ↔ HasOneColor (kins_of (graph_of self.now).entries) i }
     {
-        self.same[i]
+        self.subtrees[i].one_color
     }
 
     /// The same of the last entry, which is the block's last operator's. Condition: there is an entry.
     pub fn is_subtree_consistent_from_root(&self) -> bool
-        requires { 0 < length (entries_of self.now) }
-        ensures { IsTrue result ↔ HasOneColour (kins_of (entries_of self.now)) (length (entries_of self.now) - 1) }
+        requires { 0 < length (graph_of self.now).entries }
+        ensures { let entries = (graph_of self.now).entries in
+            IsTrue result ↔ HasOneColor (kins_of entries) (length entries - 1) }
     {
         self.is_subtree_consistent(self.entries.len() - 1)
     }
 
     // Whether the children of every entry lie one behind another, and end right before it.
     fn lies_forward(&self) -> bool
-        ensures { result ≡ forwards (kins_of (entries_of self.now)) }
+        ensures { result ≡ forwards (kins_of (graph_of self.now).entries) }
     {
         for i in 0..self.entries.len() {
-            let from = (i + 1).saturating_sub(self.sizes[i]);
+            let from = (i + 1).saturating_sub(self.subtrees[i].len);
             if !lie_forward(
                 &self.entries[..i],
-                &self.sizes[..i],
+                &self.subtrees[..i],
                 self.entries[i].operator.children(),
                 from,
             ) {
@@ -260,7 +266,8 @@ impl MiniDFG {
     /// Whether the trees lie one after another: whether the operators of the roots' trees, the roots ascending and each tree
     /// in postfix, ascend. True of no entries.
     pub fn keeps_order(&self) -> bool
-        ensures { IsTrue result ↔ AreInOrder (entries_of self.now) (parents_of self.now) }
+        ensures { IsTrue result
+            ↔ AreInOrder (graph_of self.now).entries (graph_of self.now).parents }
     {
         self.lies_forward()
     }
@@ -275,18 +282,18 @@ impl MiniDFG {
         alloc: Global,
         f: F,
     ) -> Result<String, Error>
-        requires { All (CanTell F.Fn f) (entries_of self.now) }
-        ensures { (said : StackEntry → Result (List ℕ) Error)
-            → All (Tells F.Fn f said) (entries_of self.now)
-            → IsText (forest_text said (entries_of self.now) (parents_of self.now)) result }
+        requires { All (CanTell F.Fn f) (graph_of self.now).entries }
+        ensures { (said : StackEntry → Result (List ℕ) Error) → let g = graph_of self.now in
+            All (Tells F.Fn f said) g.entries
+            → IsText (forest_text said g.entries g.parents) result }
     {
         print_forest(alloc, &self.entries, &self.parents, &f)
     }
 
     /// The same with the texts of the entries' operators. Refused for want of memory alone (`Memory`).
     pub fn pretty_print_default(&self, alloc: Global) -> Result<String, Error>
-        ensures { MatchResult result
-            (λ text. string_bytes text ≡ default_text (entries_of self.now) (parents_of self.now))
+        ensures { let g = graph_of self.now in MatchResult result
+            (λ text. string_bytes text ≡ default_text g.entries g.parents)
             (λ e. e ≡ Error.Memory) }
     {
         self.pretty_print(alloc, |entry| operator_text(alloc, entry))
@@ -295,10 +302,10 @@ impl MiniDFG {
 
 impl fmt::Display for MiniDFG {
     ghost use Rattle.std.specs.Prelude.{Some};
-    ghost use Rattle.peephole_graphs.specs.Dfg.{entries_of, parents_of};
+    ghost use Rattle.peephole_graphs.specs.Dfg.{graph_of};
     ghost use Rattle.peephole_graphs.specs.ForestText.{default_text};
 
-    ghost output = { λ g. Some (default_text (entries_of g) (parents_of g)) };
+    ghost output = { λ g. Some (default_text (graph_of g).entries (graph_of g).parents) };
 
     fn fmt<W: fmt::Write>(&self, f: &mut fmt::Formatter<W>) -> fmt::Result {
         match self.pretty_print_default(*self.entries.allocator()) {
@@ -310,10 +317,10 @@ impl fmt::Display for MiniDFG {
 
 impl fmt::Debug for MiniDFG {
     ghost use Rattle.std.specs.Prelude.{Some};
-    ghost use Rattle.peephole_graphs.specs.Dfg.{entries_of, parents_of};
+    ghost use Rattle.peephole_graphs.specs.Dfg.{graph_of};
     ghost use Rattle.peephole_graphs.specs.ForestText.{default_text};
 
-    ghost debug_output = { λ g. Some (default_text (entries_of g) (parents_of g)) };
+    ghost debug_output = { λ g. Some (default_text (graph_of g).entries (graph_of g).parents) };
 
     fn fmt<W: fmt::Write>(&self, f: &mut fmt::Formatter<W>) -> fmt::Result {
         fmt::Display::fmt(self, f)

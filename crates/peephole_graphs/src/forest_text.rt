@@ -6,7 +6,7 @@ ghost use Rattle.mutate_base.specs.declared.error.Error.{Error};
 ghost use Rattle.peephole_lang.specs.Term.{AreBelow};
 ghost use Rattle.peephole_lang.specs.Text.{text_of};
 ghost use Rattle.peephole_graphs.specs.declared.dfg.StackEntry.{StackEntry};
-ghost use Rattle.peephole_graphs.specs.ForestText.{branch, edge, linked, tree_of, tree_lines, forest_lines, with_entry, with_lines, forest_text, IsText, IsWritten, CanTell, Tells};
+ghost use Rattle.peephole_graphs.specs.ForestText.{branch, edge, linked, entry_term, tree_lines, forest_lines, with_entry, with_lines, forest_text, IsText, IsWritten, CanTell, Tells};
 ghost use Rattle.peephole_graphs.specs.ForestSteps.{has_some, edges};
 
 use crate::dfg::StackEntry;
@@ -89,7 +89,7 @@ fn write_tree<F: Fn(&StackEntry) -> Result<String, Error>>(
     requires below { AreBelow (linked entries.now) }
     ensures { (said : StackEntry → Result (List ℕ) Error) → All (Tells F.Fn f.now said) entries.now
         → IsWritten (with_lines said (string_bytes text.old)
-        (tree_lines [] [] (tree_of entries.now root)))
+        (tree_lines [] [] (entry_term entries.now root)))
         result (string_bytes text.new) }
 {
     let top = &entries[root];
@@ -151,7 +151,8 @@ pub(crate) fn print_forest<F: Fn(&StackEntry) -> Result<String, Error>>(
 
 /// The text of an entry's operator.
 pub(crate) fn operator_text(alloc: Global, entry: &StackEntry) -> Result<String, Error>
-    ensures { MatchResult result (λ text. string_bytes text ≡ text_of entry.now.operator) (λ e. e ≡ Error.Memory) }
+    ensures { MatchResult result (λ text. string_bytes text ≡ text_of entry.now.operator)
+        (λ e. e ≡ Error.Memory) }
 {
     let operator = &entry.operator;
     Ok(format!(in alloc; "{operator}")?)

@@ -24,8 +24,10 @@ pub fn push_frame(frames: &mut Vec<Frame>, frame: Frame) -> Result<(), AllocErro
 /// Begins a node's next child.
 pub fn descend(frames: &mut Vec<Frame>, frame: Frame, children: &[Id]) -> Result<(), AllocError>
     requires { frame.next < length children.now }
-    ensures { OnOk result (frames.new.items ≡ frames.old.items
-        ++ record { node = frame.node; next = frame.next + 1 } ∷ record { node = slice_index (numbers_of children.now) frame.next; next = 0 } ∷ []) }
+    ensures { let child = slice_index (numbers_of children.now) frame.next in
+        OnOk result (frames.new.items ≡ frames.old.items
+        ++ record { node = frame.node; next = frame.next + 1 }
+        ∷ record { node = child; next = 0 } ∷ []) }
 {
     let child = children[frame.next];
     push_frame(

@@ -1,17 +1,20 @@
 //! A graph as it grows by one operator after another.
 
-ghost use Rattle.std.specs.Prelude.{◌≡◌, ◌+◌, ◌-◌, ◌^◌, ◌<◌, ◌≤◌, ◌++◌, ◌∷◌, [], ◌⊎◌, if◌then◌else◌, true, false, slice_index, slice_index_or, nat_eq, ◌==◌, ◌&&◌, suc, ℕ, length, take, drop, replicate, IfOk, OnOk, IfErr};
+ghost use Rattle.std.specs.Prelude.{◌≡◌, ◌+◌, ◌-◌, ◌^◌, ◌<◌, ◌≤◌, ◌++◌, ◌∷◌, [], ◌⊎◌, if◌then◌else◌};
+ghost use Rattle.std.specs.Prelude.{true, slice_index, nat_eq, ◌==◌, ℕ, length, drop, replicate, IfOk, OnOk, IfErr};
 ghost use Rattle.std.specs.List.{All};
 ghost use Rattle.std.specs.HashMap as hash;
 ghost use Rattle.peephole_lang.specs.Node.{instr_of, children_of, takes_children};
 ghost use Rattle.peephole_lang.specs.Term.{numbers_of};
 ghost use Rattle.peephole_graphs.specs.Downwards.{total, are_alike};
-ghost use Rattle.peephole_graphs.specs.Entries.{colours};
-ghost use Rattle.peephole_graphs.specs.Growing.{undef_entry, set_each, lacks, own_index, taken_of, Added};
+ghost use Rattle.peephole_graphs.specs.Entries.{colors, size_kept, flag_kept};
+ghost use Rattle.peephole_graphs.specs.Growing.{undef_entry, set_each, lacks, own_index, taken_of, taken_total};
+ghost use Rattle.peephole_graphs.specs.Growing.{missing_subtree, own_subtree, IsConsistent, Added};
 ghost use Rattle.peephole_graphs.specs.Step.{down};
 
 use crate::dfg::StackEntry;
 use crate::shape::Shape;
+use crate::subtree::Subtree;
 use mutate_base::Error;
 use peephole_lang::{Id, Lang};
 use std::alloc::{AllocError, Global};
@@ -24,8 +27,7 @@ pub struct Growing {
     pub map: HashMap<usize, usize>,
     pub entries: Vec<StackEntry>,
     pub parents: Vec<Option<usize>>,
-    pub sizes: Vec<usize>,
-    pub same: Vec<bool>,
+    pub subtrees: Vec<Subtree>,
     pub stack: Vec<u32>,
     pub color: u64,
 }
@@ -35,8 +37,7 @@ pub fn start_graph(alloc: Global, count: usize) -> Result<Growing, AllocError>
     ensures map { IfOk result (λ g. (k : ℕ) → hash.get nat_eq g.map k ≡ None) }
     ensures entries { IfOk result (λ g. g.entries.items ≡ []) }
     ensures parents { IfOk result (λ g. g.parents.items ≡ []) }
-    ensures sizes { IfOk result (λ g. g.sizes.items ≡ []) }
-    ensures same { IfOk result (λ g. g.same.items ≡ []) }
+    ensures subtrees { IfOk result (λ g. g.subtrees.items ≡ []) }
     ensures stack { IfOk result (λ g. g.stack.items ≡ []) }
     ensures color { IfOk result (λ g. g.color ≡ 0) }
 {
@@ -44,8 +45,7 @@ pub fn start_graph(alloc: Global, count: usize) -> Result<Growing, AllocError>
         map: HashMap::with_capacity(alloc, count)?,
         entries: Vec::with_capacity(alloc, count)?,
         parents: Vec::with_capacity(alloc, count)?,
-        sizes: Vec::with_capacity(alloc, count)?,
-        same: Vec::with_capacity(alloc, count)?,
+        subtrees: Vec::with_capacity(alloc, count)?,
         stack: Vec::new(alloc),
         color: 0,
     })
@@ -94,7 +94,8 @@ fn own_node(
 ) -> Result<Lang, Error>
     requires room { base + missing < 2 ^ 32 }
     requires fits { takes_children instr.row (missing + length taken.now) ≡ true }
-    ensures node { IfOk result (λ l. (instr_of l ≡ Some instr) × (children_of l ≡ down base missing ++ taken.now)) }
+    ensures node { IfOk result (λ l.
+        (instr_of l ≡ Some instr) × (children_of l ≡ down base missing ++ taken.now)) }
     ensures refused { IfErr result (λ e. e ≡ Error.Memory) }
 {
     let mut ids = missing_ids(alloc, base, missing, taken.len())?;
@@ -119,11 +120,14 @@ fn add_missing(
     parent: usize,
     operator_idx: usize,
 ) -> Result<(), AllocError>
-    ensures entries { OnOk result (growing.new.entries.items ≡ growing.old.entries.items ++ replicate missing (undef_entry operator_idx)) }
-    ensures parents { OnOk result (growing.new.parents.items ≡ growing.old.parents.items ++ replicate missing (Some parent)) }
-    ensures sizes { OnOk result (growing.new.sizes.items ≡ growing.old.sizes.items ++ replicate missing 1) }
-    ensures same { OnOk result (growing.new.same.items ≡ growing.old.same.items ++ replicate missing true) }
-    ensures others { OnOk result ((growing.new.map ≡ growing.old.map) × (growing.new.stack ≡ growing.old.stack) × (growing.new.color ≡ growing.old.color)) }
+    ensures entries { OnOk result (growing.new.entries.items
+        ≡ growing.old.entries.items ++ replicate missing (undef_entry operator_idx)) }
+    ensures parents { OnOk result (growing.new.parents.items
+        ≡ growing.old.parents.items ++ replicate missing (Some parent)) }
+    ensures subtrees { OnOk result (growing.new.subtrees.items
+        ≡ growing.old.subtrees.items ++ replicate missing missing_subtree) }
+    ensures others { OnOk result ((growing.new.map ≡ growing.old.map)
+        × (growing.new.stack ≡ growing.old.stack) × (growing.new.color ≡ growing.old.color)) }
 {
     for made in 0..missing {
         growing.entries.push(StackEntry {
@@ -132,16 +136,20 @@ fn add_missing(
             operator_idx,
         })?;
         growing.parents.push(Some(parent))?;
-        growing.sizes.push(1)?;
-        growing.same.push(true)?;
+        growing.subtrees.push(Subtree {
+            len: 1,
+            one_color: true,
+        })?;
     }
     Ok(())
 }
 
 // The index of the own entry, and how many operands are missing.
 fn find_place(growing: &Growing, operands: usize) -> Result<(u32, u32), Error>
-    ensures place { IfOk result (λ p. (p.0 ≡ own_index operands growing.now) × (p.1 ≡ lacks operands growing.now) × (growing.now.color < 4294967295)) }
-    ensures refused { IfErr result (λ e. (e ≡ Error.TooLarge) × ((2 ^ 32 ≤ own_index operands growing.now) ⊎ (4294967295 ≤ growing.now.color))) }
+    ensures place { IfOk result (λ p. (p.0 ≡ own_index operands growing.now)
+        × (p.1 ≡ lacks operands growing.now) × (growing.now.color < 4294967295)) }
+    ensures refused { IfErr result (λ e. (e ≡ Error.TooLarge)
+        × ((2 ^ 32 ≤ own_index operands growing.now) ⊎ (4294967295 ≤ growing.now.color))) }
 {
     const LIMIT: usize = 4294967295;
     let base = growing.entries.len();
@@ -153,45 +161,48 @@ fn find_place(growing: &Growing, operands: usize) -> Result<(u32, u32), Error>
 }
 
 // How many entries there are from the taken ones downwards.
-fn taken_size(sizes: &[usize], taken: &[u32]) -> usize
-    requires below { All (λ i. i < length sizes.now) taken.now }
-    requires room { total (λ i. slice_index sizes.now i) taken.now < 2 ^ 64 }
-    ensures { result ≡ total (λ i. slice_index sizes.now i) taken.now }
+fn taken_size(subtrees: &[Subtree], taken: &[u32]) -> usize
+    requires below { All (λ i. i < length subtrees.now) taken.now }
+    requires room { total (size_kept subtrees.now) taken.now < 2 ^ 64 }
+    ensures { result ≡ total (size_kept subtrees.now) taken.now }
 {
     let mut size = 0;
     for i in taken {
-        size += sizes[*i as usize];
+        size += subtrees[*i as usize].len;
     }
     size
 }
 
 // Whether all entries from the taken ones downwards have the colour.
-fn taken_alike(same: &[bool], entries: &[StackEntry], taken: &[u32], color: u32) -> bool
-    requires below_same { All (λ i. i < length same.now) taken.now }
+fn taken_alike(subtrees: &[Subtree], entries: &[StackEntry], taken: &[u32], color: u32) -> bool
+    requires below_subtrees { All (λ i. i < length subtrees.now) taken.now }
     requires below_entries { All (λ i. i < length entries.now) taken.now }
-    ensures { result ≡ are_alike (λ i. slice_index_or same.now i false) (λ i. slice_index (colours entries.now) i) color taken.now }
+    ensures { result ≡ are_alike (flag_kept subtrees.now) (slice_index (colors entries.now)) color
+        taken.now }
 {
     for i in taken {
-        if !same[*i as usize] || entries[*i as usize].color != color {
+        if !subtrees[*i as usize].one_color || entries[*i as usize].color != color {
             return false;
         }
     }
     true
 }
 
-// How many entries there are from an operator's entry downwards, and whether all have its colour.
-fn measure(growing: &Growing, operands: usize, missing: u32, color: u32) -> (usize, bool)
-    requires below { All (λ i. i < length growing.now.entries.items) (taken_of operands growing.now) }
-    requires sizes { length growing.now.sizes.items ≡ length growing.now.entries.items }
-    requires same { length growing.now.same.items ≡ length growing.now.entries.items }
-    requires room { total (λ i. slice_index growing.now.sizes.items i) (taken_of operands growing.now) < 2 ^ 33 }
-    ensures size { result.0 ≡ suc (missing + total (λ i. slice_index growing.now.sizes.items i) (taken_of operands growing.now)) }
-    ensures same { result.1 ≡ ((missing == 0) && are_alike (λ i. slice_index_or growing.now.same.items i false) (λ i. slice_index (colours growing.now.entries.items) i) color (taken_of operands growing.now)) }
+// What is kept of an operator's entry: how many entries there are from it downwards, and whether all have its colour.
+fn measure(growing: &Growing, operands: usize, missing: u32, color: u32) -> Subtree
+    requires below { All (λ i. i < length growing.now.entries.items)
+        (taken_of operands growing.now) }
+    requires subtrees { length growing.now.subtrees.items ≡ length growing.now.entries.items }
+    requires room { taken_total operands growing.now < 2 ^ 33 }
+    ensures { result ≡ own_subtree operands missing color growing.now }
 {
     let taken = last_operands(&growing.stack, operands);
-    let size = taken_size(&growing.sizes, taken);
-    let alike = taken_alike(&growing.same, &growing.entries, taken, color);
-    (1 + missing as usize + size, missing == 0 && alike)
+    let size = taken_size(&growing.subtrees, taken);
+    let alike = taken_alike(&growing.subtrees, &growing.entries, taken, color);
+    Subtree {
+        len: 1 + missing as usize + size,
+        one_color: missing == 0 && alike,
+    }
 }
 
 // An operator's own entry.
@@ -199,21 +210,23 @@ fn add_own(
     growing: &mut Growing,
     entry: StackEntry,
     own: usize,
-    size: usize,
-    same: bool,
+    subtree: Subtree,
 ) -> Result<(), AllocError>
-    ensures entries { OnOk result (growing.new.entries.items ≡ growing.old.entries.items ++ entry ∷ []) }
-    ensures parents { OnOk result (growing.new.parents.items ≡ growing.old.parents.items ++ None ∷ []) }
-    ensures sizes { OnOk result (growing.new.sizes.items ≡ growing.old.sizes.items ++ size ∷ []) }
-    ensures same { OnOk result (growing.new.same.items ≡ growing.old.same.items ++ same ∷ []) }
-    ensures named { OnOk result ((k : ℕ) → hash.get nat_eq growing.new.map k ≡ (if entry.operator_idx == k then Some own else hash.get nat_eq growing.old.map k)) }
-    ensures others { OnOk result ((growing.new.stack ≡ growing.old.stack) × (growing.new.color ≡ growing.old.color)) }
+    ensures entries { OnOk result (growing.new.entries.items
+        ≡ growing.old.entries.items ++ entry ∷ []) }
+    ensures parents { OnOk result (growing.new.parents.items
+        ≡ growing.old.parents.items ++ None ∷ []) }
+    ensures subtrees { OnOk result (growing.new.subtrees.items
+        ≡ growing.old.subtrees.items ++ subtree ∷ []) }
+    ensures named { OnOk result ((k : ℕ) → hash.get nat_eq growing.new.map k
+        ≡ (if entry.operator_idx == k then Some own else hash.get nat_eq growing.old.map k)) }
+    ensures others { OnOk result ((growing.new.stack ≡ growing.old.stack)
+        × (growing.new.color ≡ growing.old.color)) }
 {
     let operator_idx = entry.operator_idx;
     growing.entries.push(entry)?;
     growing.parents.push(None)?;
-    growing.sizes.push(size)?;
-    growing.same.push(same)?;
+    growing.subtrees.push(subtree)?;
     growing.map.insert(operator_idx, own)?;
     Ok(())
 }
@@ -230,7 +243,8 @@ fn next_color(preserving: bool, color: u64, change: u8) -> u64
     }
 }
 
-/// Takes an operator's operands and puts its entry behind the others. Conditions: the instruction takes so many operands, and the lists are those of a graph.
+/// Takes an operator's operands and puts its entry behind the others. Conditions: the instruction takes so many operands, and
+/// the lists are those of a graph.
 pub fn add_operator(
     alloc: Global,
     growing: &mut Growing,
@@ -239,14 +253,14 @@ pub fn add_operator(
     preserving: bool,
 ) -> Result<(), Error>
     requires fits { takes_children shape.instr.row shape.operands ≡ true }
-    requires below { All (λ i. i < length growing.old.entries.items) growing.old.stack.items }
-    requires parents { length growing.old.parents.items ≡ length growing.old.entries.items }
-    requires sizes { length growing.old.sizes.items ≡ length growing.old.entries.items }
-    requires same { length growing.old.same.items ≡ length growing.old.entries.items }
-    requires room { total (λ i. slice_index growing.old.sizes.items i) growing.old.stack.items ≤ length growing.old.entries.items }
+    requires consistent { IsConsistent growing.old }
     ensures added { OnOk result (Added shape operator_idx growing.old growing.new) }
-    ensures small { OnOk result ((own_index shape.operands growing.old < 2 ^ 32) × (growing.old.color < 4294967295) × (growing.new.color ≡ (if preserving then growing.old.color + shape.change else growing.old.color))) }
-    ensures refused { IfErr result (λ e. (e ≡ Error.Memory) ⊎ ((e ≡ Error.TooLarge) × ((2 ^ 32 ≤ own_index shape.operands growing.old) ⊎ (4294967295 ≤ growing.old.color)))) }
+    ensures small { OnOk result ((own_index shape.operands growing.old < 2 ^ 32)
+        × (growing.old.color < 4294967295)) }
+    ensures color { OnOk result (growing.new.color
+        ≡ (if preserving then growing.old.color + shape.change else growing.old.color)) }
+    ensures refused { IfErr result (λ e. (e ≡ Error.Memory) ⊎ ((e ≡ Error.TooLarge)
+        × ((2 ^ 32 ≤ own_index shape.operands growing.old) ⊎ (4294967295 ≤ growing.old.color)))) }
 {
     let Shape {
         instr,
@@ -257,7 +271,7 @@ pub fn add_operator(
     let (own, missing) = find_place(growing, operands)?;
     let color = growing.color;
     let base = own - missing;
-    let (size, same) = measure(growing, operands, missing, color as u32);
+    let subtree = measure(growing, operands, missing, color as u32);
     let taken = last_operands(&growing.stack, operands);
     let operator = own_node(alloc, instr, base, missing, taken)?;
     mark(&mut growing.parents, taken, own as usize);
@@ -269,7 +283,7 @@ pub fn add_operator(
         color: color as u32,
         operator_idx,
     };
-    add_own(growing, entry, own as usize, size, same)?;
+    add_own(growing, entry, own as usize, subtree)?;
     if has_result {
         growing.stack.push(own)?;
     }

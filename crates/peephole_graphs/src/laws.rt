@@ -1,7 +1,7 @@
 //! What holds of the forest of every block. A function here does nothing: its contract is the laws.
 
 ghost use Rattle.peephole_graphs.specs.Layout.{KeepsTheTerm};
-ghost use Rattle.peephole_graphs.specs.Shown.{ShowsTheForest, ShowsTheColour};
+ghost use Rattle.peephole_graphs.specs.Shown.{ShowsTheForest, ShowsTheOrder, ShowsTheColor};
 ghost use Rattle.peephole_graphs.specs.Block.{FindsTheBlock, FindsNoBlock};
 ghost use Rattle.peephole_graphs.specs.EntryTrees.{EndsWithTheLastTree, HasOwnTree, IsEntryOperand, HasChildrenBefore};
 ghost use Rattle.peephole_graphs.specs.Faults.{HasNoFault, FindsNoGraph, FindsUnknown, FindsTooLarge};
@@ -25,11 +25,13 @@ pub fn layout_keeps_the_term()
     ensures { KeepsTheTerm }
 {}
 
-/// A block's graph shows its forest: its text is the text of the forest, told by the trees alone (`text`); and a test of the
-/// forest's last tree decides whether all entries of the last operator's tree have one colour (`colour`).
+/// A block's graph shows its forest: its text is the text of the forest, told by the trees alone (`text`); its trees lie one
+/// after another exactly where the block's do (`order`); and a test of the forest's last tree decides whether all entries of
+/// the last operator's tree have one colour (`color`).
 pub fn graph_shows_the_forest()
     ensures text { ShowsTheForest }
-    ensures colour { ShowsTheColour }
+    ensures order { ShowsTheOrder }
+    ensures color { ShowsTheColor }
 {}
 
 /// The tree of an entry with an instruction is its operator over its children's trees (`own`), that of a missing operand is

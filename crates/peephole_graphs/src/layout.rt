@@ -3,7 +3,7 @@ ghost use Rattle.std.specs.Prelude.{◌≡◌, ℕ, ◌<◌, ◌≤◌, ◌-◌,
 ghost use Rattle.std.specs.List.{All};
 ghost use Rattle.peephole_lang.specs.Node.{node_of, head_of, children_of};
 ghost use Rattle.peephole_lang.specs.Term.{AreBelow, numbers_of, tree_at, term_of};
-ghost use Rattle.peephole_graphs.specs.Layout.{node_by, entry_nodes, laid, size_of};
+ghost use Rattle.peephole_graphs.specs.Layout.{node_by, entry_nodes, laid, node_count_of};
 
 use crate::dfg::StackEntry;
 use crate::frames::{Frame, descend, push_frame};
@@ -31,13 +31,17 @@ pub(crate) fn add_own<L: Language>(
 ) -> Result<(), Error>
     requires enough { length (L.ids node.now) ≤ length finished.old.items }
     requires below { All (λ (k : ℕ). k < length expr.old) (numbers_of finished.old.items) }
-    ensures added { OnOk result (map (node_by L.head L.children) expr.new ≡ map (node_by L.head L.children) expr.old ++ record {
-      head = L.head node.now;
-      children = drop (length finished.old.items - length (L.ids node.now)) (numbers_of finished.old.items);
-    } ∷ []) }
+    ensures added { OnOk result (map (node_by L.head L.children) expr.new
+        ≡ map (node_by L.head L.children) expr.old ++ record {
+          head = L.head node.now;
+          children = drop (length finished.old.items - length (L.ids node.now))
+              (numbers_of finished.old.items);
+        } ∷ []) }
     ensures finished { OnOk result (numbers_of finished.new.items
-        ≡ take (length finished.old.items - length (L.ids node.now)) (numbers_of finished.old.items) ++ length expr.old ∷ []) }
-    ensures refused { IfErr result (λ e. (e ≡ Error.Memory) ⊎ ((e ≡ Error.TooLarge) × (2 ^ 32 ≤ length expr.old))) }
+        ≡ take (length finished.old.items - length (L.ids node.now))
+        (numbers_of finished.old.items) ++ length expr.old ∷ []) }
+    ensures refused { IfErr result (λ e. (e ≡ Error.Memory)
+        ⊎ ((e ≡ Error.TooLarge) × (2 ^ 32 ≤ length expr.old))) }
 {
     let count = node.children().len();
     let ids = finished.split_off(finished.len() - count)?;
@@ -64,7 +68,8 @@ pub(crate) fn lay_out(
         ≡ tree_at (entry_nodes entries.now) root) }
     ensures some { IfOk result (λ expr. 0 < length expr) }
     ensures refused { IfErr result (λ e. (e ≡ Error.Memory)
-        ⊎ ((e ≡ Error.TooLarge) × (2 ^ 32 < size_of (tree_at (entry_nodes entries.now) root)))) }
+        ⊎ ((e ≡ Error.TooLarge)
+        × (2 ^ 32 < node_count_of (tree_at (entry_nodes entries.now) root)))) }
 {
     let mut expr = RecExpr::new(alloc);
     let mut finished = Vec::new(alloc);

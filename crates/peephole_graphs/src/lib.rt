@@ -1,7 +1,6 @@
 //! Blocks of a body as forests and graphs, and terms laid out.
 #![tactic(auto)]
 
-mod asking;
 mod block;
 mod builder;
 mod dfg;
@@ -10,10 +9,12 @@ mod frames;
 mod growing;
 pub mod laws;
 mod layout;
+mod rebuild;
 mod shape;
 mod span;
+mod subtree;
 
-pub use asking::build_expr;
 pub use block::BBlock;
 pub use builder::DFGBuilder;
 pub use dfg::{MiniDFG, StackEntry};
+pub use rebuild::build_expr;

@@ -1,7 +1,7 @@
 //! What an operator is to a graph.
 
 ghost use Rattle.std.specs.Prelude.{◌≡◌, length};
-ghost use Rattle.wasm_code.specs.Table.{info_of};
+ghost use Rattle.wasm_code.specs.Table.{row_info_of};
 ghost use Rattle.peephole_graphs.specs.Shape.{has_result, call_shape, judge_call, judge_found, judge};
 
 use mutate_base::{FuncInfo, ModuleInfo, TypeInfo};
@@ -68,7 +68,7 @@ fn judge_call(info: &ModuleInfo, instr: Instr) -> Judged
 
 // An instruction by its row.
 fn judge_instr(info: &ModuleInfo, instr: Instr) -> Judged
-    ensures { result ≡ judge_found info.now instr (info_of instr.row) }
+    ensures { result ≡ judge_found info.now instr (row_info_of instr.row) }
 {
     match row_info(instr.row()) {
         None => Judged::Unfit,

@@ -1,25 +1,27 @@
 // The tree of an entry as a copy of the entries that it consists of, where these stand one behind another in postfix.
-ghost use Rattle.std.specs.Prelude.{◌≡◌, ◌+◌, ◌-◌, ◌<◌, ◌≤◌, ◌^◌, ℕ, IsTrue, ◌↔◌, length, map, slice_index, IfOk, IfErr};
+ghost use Rattle.std.specs.Prelude.{◌≡◌, ◌+◌, ◌-◌, ◌<◌, ◌≤◌, ◌^◌, ℕ, IsTrue, ◌↔◌, length, map, IfOk, IfErr};
 ghost use Rattle.std.specs.List.{All};
 ghost use Rattle.mutate_base.specs.declared.error.Error.{Error};
 ghost use Rattle.peephole_lang.specs.Node.{node_of};
 ghost use Rattle.peephole_lang.specs.Term.{numbers_of};
+ghost use Rattle.peephole_graphs.specs.Entries.{size_kept, sizes_kept};
 ghost use Rattle.peephole_graphs.specs.Span.{lie_behind, lowered, IsSpan, HoldsItsChildren};
 
 use crate::dfg::{StackEntry, size_at};
+use crate::subtree::Subtree;
 use mutate_base::Error;
 use peephole_lang::{Id, Lang, Language, RecExpr};
 use std::alloc::Global;
 
 // Whether the entries from each child downwards, by their number, end at the child and begin behind those of the child
 // before it, the first at `from`.
-fn lie_one_behind_another(sizes: &[usize], children: &[Id], from: usize) -> bool
-    ensures { result ≡ lie_behind (λ i. slice_index sizes.now i) from (numbers_of children.now) }
+fn lie_one_behind_another(subtrees: &[Subtree], children: &[Id], from: usize) -> bool
+    ensures { result ≡ lie_behind (size_kept subtrees.now) from (numbers_of children.now) }
 {
     let mut at = from;
     for child in children {
         let i = child.0 as usize;
-        let size = size_at(sizes, i);
+        let size = size_at(subtrees, i);
         if size > i + 1 || i + 1 - size != at {
             return false;
         }
@@ -29,18 +31,23 @@ fn lie_one_behind_another(sizes: &[usize], children: &[Id], from: usize) -> bool
 }
 
 /// Whether the entries from `start` to before `end` are trees in postfix: whether the entries from each of them downwards
-/// are those right before it, and none of them stands before `start`. `sizes` are the numbers of entries downwards.
-pub(crate) fn is_span(entries: &[StackEntry], sizes: &[usize], start: usize, end: usize) -> bool
+/// are those right before it, and none of them stands before `start`. `subtrees` tell how many they are.
+pub(crate) fn is_span(
+    entries: &[StackEntry],
+    subtrees: &[Subtree],
+    start: usize,
+    end: usize,
+) -> bool
     requires within { end ≤ length entries.now }
-    requires sizes { length sizes.now ≡ length entries.now }
-    ensures { IsTrue result ↔ IsSpan entries.now sizes.now start end }
+    requires subtrees { length subtrees.now ≡ length entries.now }
+    ensures { IsTrue result ↔ IsSpan entries.now (sizes_kept subtrees.now) start end }
 {
     for i in start..end {
-        let size = sizes[i];
+        let size = subtrees[i].len;
         if size > i + 1 - start {
             return false;
         }
-        if !lie_one_behind_another(sizes, entries[i].operator.children(), i + 1 - size) {
+        if !lie_one_behind_another(subtrees, entries[i].operator.children(), i + 1 - size) {
             return false;
         }
     }
@@ -77,7 +84,8 @@ pub(crate) fn copy_span(
 ) -> Result<RecExpr<Lang>, Error>
     requires inside { HoldsItsChildren start entries.now }
     requires small { length entries.now ≤ 2 ^ 32 }
-    ensures nodes { IfOk result (λ expr. map node_of expr ≡ map (λ (e : StackEntry). lowered start (node_of e.operator)) entries.now) }
+    ensures nodes { IfOk result (λ expr. map node_of expr
+        ≡ map (λ (e : StackEntry). lowered start (node_of e.operator)) entries.now) }
     ensures refused { IfErr result (λ e. e ≡ Error.Memory) }
 {
     let mut expr = RecExpr::new(alloc);

@@ -4,17 +4,17 @@ use Rattle.std.specs.Prelude.{if◌then◌else◌}
 use Rattle.std.proofs.lemmas.Bool.{cond-true, cond-false, cases_lt}
 use Rattle.std.proofs.lemmas.Option.{same_Some}
 use Rattle.wasm_code.specs.Instruction.{Instruction}
-use Rattle.wasm_code.specs.Table.{info_in, info_of}
+use Rattle.wasm_code.specs.Table.{info_in, row_info_of}
 use Rattle.peephole_lang.specs.declared.lang.Head.{Head}
 use Rattle.peephole_lang.specs.declared.lang.Lang.{Lang}
 use Rattle.peephole_nodes.specs.declared.payload.Payload.{Payload}
-use Rattle.peephole_lang.specs.Fits.{fits_own}
+use Rattle.peephole_lang.specs.laws.Fits.{fits_own}
 use Rattle.peephole_lang.specs.Lang.{place_of, payload_of, ids_of, count_of}
 use Rattle.peephole_lang.specs.Language.{IsSame}
-use Rattle.peephole_nodes.specs.VariantLemmas.{HasVariant, has_variant}
+use Rattle.peephole_nodes.specs.laws.VariantLemmas.{HasVariant, has_variant}
 use Rattle.peephole_lang.specs.Node.{IsNode, head_of, instr_of, instr_of_head, takes, takes_children}
 use Rattle.peephole_nodes.specs.Payload.{imm_of, payload_of_imm, is_of, is_writable}
-use Rattle.peephole_nodes.specs.PayloadLemmas.{imm_back}
+use Rattle.peephole_nodes.specs.laws.PayloadLemmas.{imm_back}
 use Rattle.peephole_nodes.specs.Variants.{Variant, variant_at}
 use Rattle.peephole_lang.proofs.RowLemmas.{has_row}
 
@@ -52,7 +52,7 @@ own_variant l = has_variant (place_of l) (payload_of l) (count_of l) (fits_own l
 
 -- the instruction takes the node's children
 pub takes_own : (l : Lang) (i : Instruction) (n : ℕ) → instr_of l ≡ Some i → n ≡ count_of l → takes_children i.row n ≡ true
-unfolding info_of
+unfolding row_info_of
 takes_own l i n e c =
     let h = head_of_instr (head_of l) i e in
     let own = own_variant l in

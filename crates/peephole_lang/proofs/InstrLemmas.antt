@@ -6,21 +6,21 @@ use Rattle.std.proofs.lemmas.Option.{same_Some, slice_get_within}
 use Rattle.wasm_code.specs.declared.immediate.Imm.{Imm}
 use Rattle.wasm_code.specs.declared.table.Row.{Row}
 use Rattle.wasm_code.specs.Instruction.{Instruction, IsInstruction, is_of_kind, fits_row}
-use Rattle.wasm_code.specs.Table.{table, row_at, info_in, info_of}
+use Rattle.wasm_code.specs.Table.{table, row_at, info_in, row_info_of}
 use Rattle.peephole_lang.specs.declared.lang.Lang.{Lang}
 use Rattle.peephole_nodes.specs.declared.payload.Payload.{Payload}
-use Rattle.peephole_lang.specs.declared.variants.Entry.{Entry}
-use Rattle.peephole_lang.specs.Entries.{entry_of}
-use Rattle.peephole_lang.specs.Fits.{fits_own}
+use Rattle.peephole_lang.specs.declared.variants.VariantRow.{VariantRow}
+use Rattle.peephole_lang.specs.VariantRows.{variant_row}
+use Rattle.peephole_lang.specs.laws.Fits.{fits_own}
 use Rattle.peephole_lang.specs.Lang.{place_of, payload_of, count_of}
-use Rattle.peephole_lang.specs.MadeLemmas.{fits_made}
-use Rattle.peephole_nodes.specs.VariantLemmas.{has_variant}
+use Rattle.peephole_lang.specs.laws.MadeLemmas.{fits_made}
+use Rattle.peephole_nodes.specs.laws.VariantLemmas.{has_variant}
 use Rattle.peephole_lang.specs.Making.{is_made}
 use Rattle.peephole_lang.specs.Node.{instr_of, takes, takes_children}
 use Rattle.peephole_nodes.specs.Payload.{imm_of, payload_of_imm, is_of, is_writable}
 use Rattle.peephole_nodes.specs.PayloadKind.{imm_kind}
-use Rattle.peephole_nodes.specs.PayloadLemmas.{imm_fits, of_imm_back, of_imm_some}
-use Rattle.peephole_lang.specs.TableLemmas.{place_is}
+use Rattle.peephole_nodes.specs.laws.PayloadLemmas.{imm_fits, of_imm_back, of_imm_some}
+use Rattle.peephole_lang.specs.laws.TableLemmas.{place_is}
 use Rattle.peephole_nodes.specs.Variants.{Variant, variant_at, is_right, is_node_of, fits}
 use Rattle.std.specs.Option.{option_map}
 use Rattle.peephole_lang.proofs.RowLemmas.{IsOfRow, has_row}
@@ -47,11 +47,13 @@ unwritten false i e = refl
 unwritten true i e = absurd cc
 
 -- what `Instr::new` answers for a row and an immediate
-new_is : (result : Option Instruction) (i : Instruction) (writable : Bool) → fits_row (row_at i.row) i.imm ≡ writable → IfSome result (λ j. (j ≡ i) × IsInstruction j)
+new_is : (result : Option Instruction) (i : Instruction) (writable : Bool) → fits_row (row_at i.row) i.imm ≡ writable →
+    IfSome result (λ j. (j ≡ i) × IsInstruction j)
     → IfNone result (IsFalse (fits_row (row_at i.row) i.imm)) → result ≡ (if writable then Some i else None)
 new_is None i writable fits some none = sym (unwritten writable i (sym fits ∙ none))
 new_is (Some j) i writable fits some none =
-    ap (λ (x : Instruction). Some x) some.0 ∙ sym (written writable i (sym fits ∙ (ap (λ (x : Instruction). fits_row (row_at x.row) x.imm) (sym some.0) ∙ some.1.kind)))
+    ap (λ (x : Instruction). Some x) some.0
+    ∙ sym (written writable i (sym fits ∙ (ap (λ (x : Instruction). fits_row (row_at x.row) x.imm) (sym some.0) ∙ some.1.kind)))
 
 -- and for those of a node
 pub new_of_node : (l : Lang) (place : ℕ) (imm : Imm) (result : Option Instruction) → place ≡ place_of l → imm ≡ imm_of (payload_of l) → 12 ≤ place
@@ -71,7 +73,8 @@ all_fit true b e = refl
 all_fit false b e = absurd cc
 
 -- what is made is what fits
-made_fits : (result : Option Lang) (place : ℕ) (p : Payload) (given : ℕ) → IfSome result (λ l. place_of l ≡ place) → IfSome result (λ l. payload_of l ≡ p)
+made_fits : (result : Option Lang) (place : ℕ) (p : Payload) (given : ℕ) → IfSome result (λ l. place_of l ≡ place) →
+    IfSome result (λ l. payload_of l ≡ p)
     → IfSome result (λ l. count_of l ≡ given) → is_some result ≡ is_made place p given → is_some result ≡ fits place p given
 made_fits (Some l) place p given at same count made = sym (fits_own l) ∙ (ap₂ (λ n q. fits n q (count_of l)) at same ∙ ap (fits place p) count)
 made_fits None place p given at same count made = none_fits (fits place p given) refl
@@ -91,7 +94,8 @@ row_of None imm is = absurd cc
 row_of (Some r) imm is = (r, (refl, is))
 
 abbrev VariantOf : Instruction → Type 0
-VariantOf i = (v : Variant) × ((variant_at (12 + i.row) ≡ Some v) × ((r : Row) × ((row_at i.row ≡ Some r) × (IsOfRow r v × (is_of_kind r.kind i.imm ≡ true)))))
+VariantOf i = (v : Variant)
+    × ((variant_at (12 + i.row) ≡ Some v) × ((r : Row) × ((row_at i.row ≡ Some r) × (IsOfRow r v × (is_of_kind r.kind i.imm ≡ true)))))
 
 -- an instruction has a variant
 pub variant_of_instr : (i : Instruction) → IsInstruction i → VariantOf i
@@ -108,34 +112,40 @@ small row (Some r) e is = slice_get_within table row r e
 pub row_small : (i : Instruction) → IsInstruction i → i.row < 446
 row_small i is = let v = variant_of_instr i is in small i.row (Some v.1.1.0) v.1.1.1.0 refl
 
-pub has_payload : (i : Instruction) (is : IsInstruction i) (v : Variant) → variant_at (12 + i.row) ≡ Some v → is_some (payload_of_imm v.payload i.imm) ≡ true
+pub has_payload : (i : Instruction) (is : IsInstruction i) (v : Variant) → variant_at (12 + i.row) ≡ Some v →
+    is_some (payload_of_imm v.payload i.imm) ≡ true
 has_payload i is v e =
     let known = variant_of_instr i is in
     let same : known.0 ≡ v = same_Some _ _ (sym known.1.0 ∙ e) in
-    of_imm_some v.payload i.imm (ap (λ (w : Variant). is_of_kind (imm_kind w.payload) i.imm) (sym same) ∙ (ap (λ k. is_of_kind k i.imm) (sym known.1.1.1.1.0.kind) ∙ known.1.1.1.1.1))
+    of_imm_some v.payload i.imm (ap (λ (w : Variant). is_of_kind (imm_kind w.payload) i.imm) (sym same)
+    ∙ (ap (λ k. is_of_kind k i.imm) (sym known.1.1.1.1.0.kind) ∙ known.1.1.1.1.1))
 
 -- the node says the instruction
-pub says_instr : (i : Instruction) → IsInstruction i → (v : Variant) (p : Payload) → IsNodeOf i v p → (l : Lang) → place_of l ≡ v.place → payload_of l ≡ p → instr_of l ≡ Some i
+pub says_instr : (i : Instruction) → IsInstruction i → (v : Variant) (p : Payload) → IsNodeOf i v p → (l : Lang) → place_of l ≡ v.place →
+    payload_of l ≡ p → instr_of l ≡ Some i
 says_instr i is v p node l at same =
     let known = variant_of_instr i is in
     let same_variant : known.0 ≡ v = same_Some _ _ (sym known.1.0 ∙ node.at) in
     let kind : is_of_kind (imm_kind v.payload) i.imm ≡ true =
-    ap (λ (w : Variant). is_of_kind (imm_kind w.payload) i.imm) (sym same_variant) ∙ (ap (λ k. is_of_kind k i.imm) (sym known.1.1.1.1.0.kind) ∙ known.1.1.1.1.1) in
+    ap (λ (w : Variant). is_of_kind (imm_kind w.payload) i.imm) (sym same_variant) ∙ (ap (λ k. is_of_kind k i.imm) (sym known.1.1.1.1.0.kind)
+    ∙ known.1.1.1.1.1) in
     let back = of_imm_back v.payload i.imm p node.payload in
     let writable : is_writable p ≡ true = sym (imm_fits v.payload p back.1) ∙ (ap (is_of_kind (imm_kind v.payload)) back.0 ∙ kind) in
     let place : place_of l ≡ 12 + i.row = at ∙ node.own in
     let above : 12 ≤ place_of l = omega arith in
     cond-false _ _ _ (not_below (place_of l) 12 above)
-    ∙ (written (is_writable (payload_of l)) _ (ap is_writable same ∙ writable) ∙ same_instr i (place_of l - 12) (imm_of (payload_of l)) (omega arith) (ap imm_of same ∙ back.0))
+    ∙ (written (is_writable (payload_of l)) _ (ap is_writable same ∙ writable) ∙ same_instr i (place_of l - 12) (imm_of (payload_of l)) (omega arith)
+    (ap imm_of same ∙ back.0))
   where
-    same_instr : (i : Instruction) (row : ℕ) (imm : Imm) → row ≡ i.row → imm ≡ i.imm → ◌≡◌ {A = Option Instruction} (Some (record { row = row; imm = imm })) (Some i)
+    same_instr : (i : Instruction) (row : ℕ) (imm : Imm) → row ≡ i.row → imm ≡ i.imm →
+        ◌≡◌ {A = Option Instruction} (Some (record { row = row; imm = imm })) (Some i)
     same_instr i row imm e f = ap₂ (λ (r : ℕ) (m : Imm). Some (record { row = r; imm = m })) e f
 
 -- and is there exactly where the row takes so many children
 pub takes_made : (i : Instruction) → IsInstruction i → (v : Variant) (p : Payload) → IsNodeOf i v p → (result : Option Lang) (given : ℕ)
     → IfSome result (λ l. place_of l ≡ v.place) → IfSome result (λ l. payload_of l ≡ p) → IfSome result (λ l. count_of l ≡ given)
     → is_some result ≡ is_made v.place p given → is_some result ≡ takes_children i.row given
-unfolding info_of
+unfolding row_info_of
 takes_made i is v p node result given at same count made =
     let known = variant_of_instr i is in
     let same_variant : known.0 ≡ v = same_Some _ _ (sym known.1.0 ∙ node.at) in
@@ -144,69 +154,78 @@ takes_made i is v p node result given at same count made =
     ∙ (ap (λ n. is_node_of (variant_at n) p given) node.own
     ∙ (ap (λ o. is_node_of o p given) node.at
     ∙ (all_fit (is_of v.payload p) (is_right v.children given) back.1
-    ∙ (ap (λ (w : Variant). is_right w.children given) (sym same_variant) ∙ (sym (known.1.1.1.1.0.operands given) ∙ sym (ap (λ r. takes (info_in r) given) known.1.1.1.0))))))
+    ∙ (ap (λ (w : Variant). is_right w.children given) (sym same_variant)
+    ∙ (sym (known.1.1.1.1.0.operands given) ∙ sym (ap (λ r. takes (info_in r) given) known.1.1.1.0))))))
 
 -- ---- the steps of `of_instr`
 
-found_entry : (i : Instruction) → IsInstruction i → (o : Option Entry) → o ≡ option_map entry_of (variant_at (12 + i.row)) → (v : Variant) × ((variant_at (12 + i.row) ≡ Some v) × (o ≡ Some (entry_of v)))
-found_entry i is o e = let known = variant_of_instr i is in (known.0, (known.1.0, e ∙ ap (option_map entry_of) known.1.0))
+found_row : (i : Instruction) → IsInstruction i → (o : Option VariantRow) → o ≡ option_map variant_row (variant_at (12 + i.row)) →
+    (v : Variant) × ((variant_at (12 + i.row) ≡ Some v) × (o ≡ Some (variant_row v)))
+found_row i is o e = let known = variant_of_instr i is in (known.0, (known.1.0, e ∙ ap (option_map variant_row) known.1.0))
 
-at_row : (row : ℕ) (i : Instruction) (o : Option Entry) → row ≡ i.row → o ≡ option_map entry_of (variant_at (12 + row)) → o ≡ option_map entry_of (variant_at (12 + i.row))
-at_row row i o same e = e ∙ ap (λ n. option_map entry_of (variant_at (12 + n))) same
+at_row : (row : ℕ) (i : Instruction) (o : Option VariantRow) → row ≡ i.row → o ≡ option_map variant_row (variant_at (12 + row)) →
+    o ≡ option_map variant_row (variant_at (12 + i.row))
+at_row row i o same e = e ∙ ap (λ n. option_map variant_row (variant_at (12 + n))) same
 
-no_entry : (o : Option Entry) (entry : Entry) → o ≡ Some entry → o ≡ None → ⊥
-no_entry o entry e f = some_none entry (sym e ∙ f)
+no_variant_row : (o : Option VariantRow) (told : VariantRow) → o ≡ Some told → o ≡ None → ⊥
+no_variant_row o told e f = some_none told (sym e ∙ f)
   where
-    some_none : (entry : Entry) → Some entry ≡ None → ⊥
-    some_none entry e = cc
+    some_none : (told : VariantRow) → Some told ≡ None → ⊥
+    some_none told e = cc
 
--- the table has an entry for the instruction
-pub has_entry : (i : Instruction) → IsInstruction i → (row : ℕ) (o : Option Entry) → row ≡ i.row → o ≡ option_map entry_of (variant_at (12 + row)) → o ≡ None → ⊥
-has_entry i is row o same e none = let f = found_entry i is o (at_row row i o same e) in no_entry o (entry_of f.0) f.1.1 none
+-- the table has a row for the instruction
+pub has_variant_row : (i : Instruction) → IsInstruction i → (row : ℕ) (o : Option VariantRow) → row ≡ i.row → o ≡ option_map variant_row (variant_at (12 + row)) →
+    o ≡ None → ⊥
+has_variant_row i is row o same e none = let f = found_row i is o (at_row row i o same e) in no_variant_row o (variant_row f.0) f.1.1 none
 
--- what the entry and the payload that were found are to the instruction
-pub record IsFound (i : Instruction) (entry : Entry) (p : Payload) : Type 0 where
+-- what the row and the payload that were found are to the instruction
+pub record IsFound (i : Instruction) (told : VariantRow) (p : Payload) : Type 0 where
   pub variant : Variant
   pub node : IsNodeOf i variant p
-  pub place : variant.place ≡ entry.place
+  pub place : variant.place ≡ told.place
 
-abbrev EntryOf : Instruction → Entry → Type 0
-EntryOf i entry = (v : Variant) × ((variant_at (12 + i.row) ≡ Some v) × (entry_of v ≡ entry))
+abbrev RowOf : Instruction → VariantRow → Type 0
+RowOf i told = (v : Variant) × ((variant_at (12 + i.row) ≡ Some v) × (variant_row v ≡ told))
 
-entry_found : (i : Instruction) → IsInstruction i → (row : ℕ) (o : Option Entry) → row ≡ i.row → o ≡ option_map entry_of (variant_at (12 + row)) → (entry : Entry) → o ≡ Some entry
-    → EntryOf i entry
-entry_found i is row o same e entry some = let f = found_entry i is o (at_row row i o same e) in (f.0, (f.1.0, same_Some _ _ (sym f.1.1 ∙ some)))
+row_found : (i : Instruction) → IsInstruction i → (row : ℕ) (o : Option VariantRow) → row ≡ i.row → o ≡ option_map variant_row (variant_at (12 + row)) →
+    (told : VariantRow) → o ≡ Some told
+    → RowOf i told
+row_found i is row o same e told some = let f = found_row i is o (at_row row i o same e) in (f.0, (f.1.0, same_Some _ _ (sym f.1.1 ∙ some)))
 
 -- and the immediate stands for a payload
-pub payload_there : (i : Instruction) → IsInstruction i → (row : ℕ) (o : Option Entry) → row ≡ i.row → o ≡ option_map entry_of (variant_at (12 + row)) → (entry : Entry) → o ≡ Some entry
-    → (q : Option Payload) → q ≡ payload_of_imm entry.payload i.imm → q ≡ None → ⊥
-payload_there i is row o same e entry some q made none =
-    let f = entry_found i is row o same e entry some in
+pub payload_there : (i : Instruction) → IsInstruction i → (row : ℕ) (o : Option VariantRow) → row ≡ i.row →
+    o ≡ option_map variant_row (variant_at (12 + row)) → (told : VariantRow) → o ≡ Some told
+    → (q : Option Payload) → q ≡ payload_of_imm told.payload i.imm → q ≡ None → ⊥
+payload_there i is row o same e told some q made none =
+    let f = row_found i is row o same e told some in
     let there = has_payload i is f.0 f.1.0 in
-    false≢true (sym (ap is_some (sym made ∙ none)) ∙ (ap (λ (x : Entry). is_some (payload_of_imm x.payload i.imm)) (sym f.1.1) ∙ there))
+    false≢true (sym (ap is_some (sym made ∙ none)) ∙ (ap (λ (x : VariantRow). is_some (payload_of_imm x.payload i.imm)) (sym f.1.1) ∙ there))
 
-pub node_found : (i : Instruction) → IsInstruction i → (row : ℕ) (o : Option Entry) → row ≡ i.row → o ≡ option_map entry_of (variant_at (12 + row)) → (entry : Entry) → o ≡ Some entry
-    → (q : Option Payload) → q ≡ payload_of_imm entry.payload i.imm → (p : Payload) → q ≡ Some p → IsFound i entry p
-node_found i is row o same e entry some q made p there =
-    let f = entry_found i is row o same e entry some in
+pub node_found : (i : Instruction) → IsInstruction i → (row : ℕ) (o : Option VariantRow) → row ≡ i.row → o ≡ option_map variant_row (variant_at (12 + row)) →
+    (told : VariantRow) → o ≡ Some told
+    → (q : Option Payload) → q ≡ payload_of_imm told.payload i.imm → (p : Payload) → q ≡ Some p → IsFound i told p
+node_found i is row o same e told some q made p there =
+    let f = row_found i is row o same e told some in
     record {
       variant = f.0;
       node = record {
         at = f.1.0;
         own = place_is (12 + i.row) f.0 f.1.0;
-        payload = ap (λ (x : Entry). payload_of_imm x.payload i.imm) f.1.1 ∙ (sym made ∙ there);
+        payload = ap (λ (x : VariantRow). payload_of_imm x.payload i.imm) f.1.1 ∙ (sym made ∙ there);
       };
-      place = ap (λ (x : Entry). x.place) f.1.1;
+      place = ap (λ (x : VariantRow). x.place) f.1.1;
     }
 
-pub says_found : (i : Instruction) → IsInstruction i → (entry : Entry) (p : Payload) → IsFound i entry p → (result : Option Lang) → IfSome result (λ l. place_of l ≡ entry.place)
+pub says_found : (i : Instruction) → IsInstruction i → (told : VariantRow) (p : Payload) → IsFound i told p → (result : Option Lang) →
+    IfSome result (λ l. place_of l ≡ told.place)
     → IfSome result (λ l. payload_of l ≡ p) → IfSome result (λ l. instr_of l ≡ Some i)
-says_found i is entry p found None at same = at
-says_found i is entry p found (Some l) at same = says_instr i is found.variant p found.node l (at ∙ sym found.place) same
+says_found i is told p found None at same = at
+says_found i is told p found (Some l) at same = says_instr i is found.variant p found.node l (at ∙ sym found.place) same
 
-pub takes_found : (i : Instruction) → IsInstruction i → (entry : Entry) (p : Payload) → IsFound i entry p → (result : Option Lang) (given : ℕ)
-    → IfSome result (λ l. place_of l ≡ entry.place) → IfSome result (λ l. payload_of l ≡ p) → IfSome result (λ l. count_of l ≡ given)
-    → is_some result ≡ is_made entry.place p given → is_some result ≡ takes_children i.row given
-takes_found i is entry p found None given at same count made = takes_made i is found.variant p found.node None given at same count (made ∙ ap (λ n. is_made n p given) (sym found.place))
-takes_found i is entry p found (Some l) given at same count made =
+pub takes_found : (i : Instruction) → IsInstruction i → (told : VariantRow) (p : Payload) → IsFound i told p → (result : Option Lang) (given : ℕ)
+    → IfSome result (λ l. place_of l ≡ told.place) → IfSome result (λ l. payload_of l ≡ p) → IfSome result (λ l. count_of l ≡ given)
+    → is_some result ≡ is_made told.place p given → is_some result ≡ takes_children i.row given
+takes_found i is told p found None given at same count made = takes_made i is found.variant p found.node None given at same count (made
+    ∙ ap (λ n. is_made n p given) (sym found.place))
+takes_found i is told p found (Some l) given at same count made =
     takes_made i is found.variant p found.node (Some l) given (at ∙ sym found.place) same count (made ∙ ap (λ n. is_made n p given) (sym found.place))

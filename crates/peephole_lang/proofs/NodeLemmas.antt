@@ -6,20 +6,20 @@ use Rattle.peephole_nodes.specs.contracts.payload.PayloadPartialEq.TheImpl as pa
 use Rattle.peephole_nodes.specs.declared.id.Id.{Id}
 use Rattle.peephole_nodes.specs.declared.payload.Payload.{Payload}
 use Rattle.peephole_nodes.specs.declared.payload.Payload.TheVariants as payload
-use Rattle.peephole_nodes.specs.ComparedLemmas.{equal_alike}
-use Rattle.peephole_nodes.specs.PayloadLemmas.{same_payload, payload_itself}
+use Rattle.peephole_nodes.specs.laws.ComparedLemmas.{equal_alike}
+use Rattle.peephole_nodes.specs.laws.PayloadLemmas.{same_payload, payload_itself}
 use Rattle.peephole_lang.specs.declared.lang.Head.{Head}
 use Rattle.peephole_lang.specs.declared.lang.Lang.{Lang}
 use Rattle.peephole_lang.specs.declared.lang.Lang.TheVariants.{Container, Call}
-use Rattle.peephole_lang.specs.Again.{determined}
+use Rattle.peephole_lang.specs.laws.Again.{determined}
 use Rattle.peephole_lang.specs.Compared.{lang_eq}
 use Rattle.peephole_lang.specs.Equal.{IsContainer, IsCall, IsEqual}
-use Rattle.peephole_lang.specs.Fits.{fits_own}
+use Rattle.peephole_lang.specs.laws.Fits.{fits_own}
 use Rattle.peephole_lang.specs.Lang.{place_of, payload_of, ids_of}
 use Rattle.peephole_lang.specs.Language.{IsSame}
 use Rattle.peephole_lang.specs.Node.{IsNode, head_of}
 use Rattle.peephole_nodes.specs.Variants.{fits}
-use Rattle.peephole_lang.specs.NodeLemmas.{same_head}
+use Rattle.peephole_lang.specs.laws.NodeLemmas.{same_head}
 
 equal_says : (l m : Lang) → lang_eq l m ≡ true → IsSame head_of ids_of l m
 equal_says l m e =
@@ -27,7 +27,11 @@ equal_says l m e =
     (sym (same_head (place_of l) (place_of m) (payload_of l) (payload_of m) a.0 a.1), sym a.2)
 
 same_equal : (l m : Lang) → IsSame head_of ids_of l m → lang_eq l m ≡ true
-same_equal l m s = (equal_alike place_of payload_of ids_of l m).1 (ap (λ (h : Head). h.place) (sym s.0), ap (λ (h : Head). h.payload) (sym s.0), sym s.1)
+same_equal l m s = (equal_alike place_of payload_of ids_of l m).1 (
+  ap (λ (h : Head). h.place) (sym s.0),
+  ap (λ (h : Head). h.payload) (sym s.0),
+  sym s.1,
+)
 
 pub equal_is_same : (l m : Lang) → Decides (lang_eq l m) (IsSame head_of ids_of l m)
 equal_is_same l m = (equal_says l m, same_equal l m)
@@ -36,7 +40,10 @@ equal_is_same l m = (equal_says l m, same_equal l m)
 
 call_same : (p : ℕ) (children : Vec Id) (m : Lang) → IsCall p children.items m → IsSame head_of ids_of (Call p children) m
 unfolding place_of payload_of ids_of
-call_same p children (Call q given) e = (sym (same_head 13 13 (payload.Index p) (payload.Index q) refl (ap (λ (k : ℕ). payload.Index k) e.0)), sym e.1)
+call_same p children (Call q given) e = (
+  sym (same_head 13 13 (payload.Index p) (payload.Index q) refl (ap (λ (k : ℕ). payload.Index k) e.0)),
+  sym e.1,
+)
 call_same p children _ e = absurd e
 
 container_same : (children : Vec Id) (m : Lang) → IsContainer children.items m → IsSame head_of ids_of (Container children) m

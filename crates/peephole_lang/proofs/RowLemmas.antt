@@ -59,13 +59,15 @@ variant_operands v = operands_of v.children
 kind_at : (i : ℕ) → option_map kind_in (row_at i) ≡ option_map variant_kind (variant_at (12 + i))
 unfolding row_at variant_kind
 kind_at i =
-    sym (slice_get-map kind_in table i) ∙ (ap (λ xs. slice_get xs i) kinds_agree ∙ (slice_get-map variant_kind (drop 12 variants) i ∙ ap (option_map variant_kind) (behind 12 i variants)))
+    sym (slice_get-map kind_in table i) ∙ (ap (λ xs. slice_get xs i) kinds_agree ∙ (slice_get-map variant_kind (drop 12 variants) i
+    ∙ ap (option_map variant_kind) (behind 12 i variants)))
 
 operands_at : (i : ℕ) → option_map operands_in (row_at i) ≡ option_map variant_operands (variant_at (12 + i))
 unfolding row_at variant_operands
 operands_at i =
     sym (slice_get-map operands_in table i)
-    ∙ (ap (λ xs. slice_get xs i) operands_agree ∙ (slice_get-map variant_operands (drop 12 variants) i ∙ ap (option_map variant_operands) (behind 12 i variants)))
+    ∙ (ap (λ xs. slice_get xs i) operands_agree ∙ (slice_get-map variant_operands (drop 12 variants) i
+    ∙ ap (option_map variant_operands) (behind 12 i variants)))
 
 agrees : (r : Row) (v : Variant) → kind_in r ≡ variant_kind v → operands_in r ≡ variant_operands v → IsOfRow r v
 unfolding kind_in operands_in variant_kind variant_operands

@@ -12,15 +12,15 @@ use Rattle.std.specs.declared.cmp.Ordering.TheVariants.{Less, Equal, Greater}
 use Rattle.std.proofs.lemmas.Bool.{cases_lt}
 use Rattle.std.proofs.lemmas.Option.{same_Some, MatchOption-at_some}
 use Rattle.peephole_lang.specs.declared.names.TheConstants.{BY_FRONT}
-use Rattle.peephole_lang.specs.declared.variants.Entry.{Entry}
+use Rattle.peephole_lang.specs.declared.variants.VariantRow.{VariantRow}
 use Rattle.peephole_nodes.specs.Variants.{Variant, variants, variant_at}
-use Rattle.peephole_lang.specs.Names.{after, find_in}
-use Rattle.peephole_lang.specs.Entries.{entry_of, found, place_found}
+use Rattle.peephole_lang.specs.Names.{rest_after, find_in}
+use Rattle.peephole_lang.specs.VariantRows.{variant_row, found, place_found}
 use Rattle.peephole_lang.specs.Fronts.{standing}
 use Rattle.peephole_nodes.specs.Fronts.{front_of, front_at}
-use Rattle.peephole_lang.specs.TableLemmas.{place_is, is_known}
-use Rattle.peephole_lang.specs.FrontLemmas.{after_is, after_none}
-use Rattle.peephole_lang.specs.VariantLemmas.{fit, fits_where_equal, standings_rise, standing_at, stands_equal, found_at, found_is, not_found, behind_front}
+use Rattle.peephole_lang.specs.laws.TableLemmas.{place_is, is_known}
+use Rattle.peephole_lang.specs.laws.FrontLemmas.{after_is, after_none}
+use Rattle.peephole_lang.specs.laws.VariantLemmas.{fit, fits_where_equal, standings_rise, standing_at, stands_equal, found_at, found_is, not_found, behind_front}
 
 -- ---- a place that is found
 
@@ -89,9 +89,10 @@ no_place text e = by_found (find_in variants text) e
     by_found None e = refl
     by_found (Some x) e = absurd cc
 
--- what is found with that place: its entry, and what stands behind its front
+-- what is found with that place: its variant, and what stands behind its front
 abbrev pub FoundAt : ℕ → List ℕ → Type 0
-FoundAt place text = (x : Variant × List ℕ) × (find_in variants text ≡ Some x) × (variant_at place ≡ Some x.0) × (after (front_at place) text ≡ Some x.1)
+FoundAt place text = (x : Variant × List ℕ) × (find_in variants text ≡ Some x) × (variant_at place ≡ Some x.0)
+    × (rest_after (front_at place) text ≡ Some x.1)
 
 pub at_place : (place : ℕ) (text : List ℕ) → Some place ≡ place_found (find_in variants text) → FoundAt place text
 at_place place text e = by_found (find_in variants text) refl e
@@ -102,32 +103,34 @@ at_place place text e = by_found (find_in variants text) refl e
         let f = found_is text x is in
         let same : f.0 ≡ place = sym (place_is f.0 x.0 f.1) ∙ sym (same_Some place x.0.place e) in
         let at : variant_at place ≡ Some x.0 = ap variant_at (sym same) ∙ f.1 in
-        (x, is, at, ap (λ front. after front text) (front_known place x.0 at) ∙ behind_front x.0 text x.1 f.2)
+        (x, is, at, ap (λ front. rest_after front text) (front_known place x.0 at) ∙ behind_front x.0 text x.1 f.2)
 
--- the place has an entry
-pub has_entry : (place : ℕ) (text : List ℕ) (r : Option Entry) → FoundAt place text → r ≡ option_map entry_of (variant_at place) → IsSome r
-has_entry place text r f is = ap is_some (is ∙ ap (option_map entry_of) f.2)
+-- the place has a variant
+pub has_variant_row : (place : ℕ) (text : List ℕ) (r : Option VariantRow) → FoundAt place text → r ≡ option_map variant_row (variant_at place) → IsSome r
+has_variant_row place text r f is = ap is_some (is ∙ ap (option_map variant_row) f.2)
 
 -- what `strip_prefix` gives of a text and a front
 abbrev pub Stripped : List ℕ → List ℕ → Option (Bor (List ℕ)) → Type 0
 Stripped front text r = MatchOption r (FindsTextPrefix front text None) (λ x. StripsPrefix (FindsTextPrefix front) text x.now)
 
 -- the text begins with the place's front
-pub has_front : (place : ℕ) (text front : List ℕ) (r : Option (Bor (List ℕ))) → FoundAt place text → front ≡ front_at place → Stripped front text r → IsSome r
+pub has_front : (place : ℕ) (text front : List ℕ) (r : Option (Bor (List ℕ))) → FoundAt place text → front ≡ front_at place → Stripped front text r →
+    IsSome r
 has_front place text front None f is lacks =
-    let clash : None ≡ Some f.0.1 = sym (after_none front text lacks) ∙ ap (λ front. after front text) is ∙ f.3 in
+    let clash : None ≡ Some f.0.1 = sym (after_none front text lacks) ∙ ap (λ front. rest_after front text) is ∙ f.3 in
     absurd cc
 has_front place text front (Some x) f is strips = refl
 
--- the entry that was found, and the text behind the front
-pub entry_and_text : (place : ℕ) (text front : List ℕ) (entry : Entry) (r : Option (Bor (List ℕ))) (rest : Bor (List ℕ)) → FoundAt place text
-    → Some entry ≡ option_map entry_of (variant_at place) → front ≡ front_at place → Stripped front text r → r ≡ Some rest
-    → ◌≡◌ {A = Option (Entry × List ℕ)} (Some (entry, rest.now)) (found (find_in variants text))
-entry_and_text place text front entry r rest f is_entry is_front strips is_rest =
-    let same_entry : entry ≡ entry_of f.0.0 = same_Some _ _ (is_entry ∙ ap (option_map entry_of) f.2) in
+-- the variant that was found, and the text behind the front
+pub variant_and_text : (place : ℕ) (text front : List ℕ) (variant : VariantRow) (r : Option (Bor (List ℕ))) (rest : Bor (List ℕ)) → FoundAt place text
+    → Some variant ≡ option_map variant_row (variant_at place) → front ≡ front_at place → Stripped front text r → r ≡ Some rest
+    → ◌≡◌ {A = Option (VariantRow × List ℕ)} (Some (variant, rest.now)) (found (find_in variants text))
+variant_and_text place text front variant r rest f is_variant is_front strips is_rest =
+    let same_variant : variant ≡ variant_row f.0.0 = same_Some _ _ (is_variant ∙ ap (option_map variant_row) f.2) in
     let s = MatchOption-at_some (FindsTextPrefix front text None) (λ x. StripsPrefix (FindsTextPrefix front) text x.now) rest is_rest strips in
     let parts : text ≡ front ++ rest.now = s.1.1 ∙ ap (λ t. front ++ t) (sym s.2) in
-    let same_rest : rest.now ≡ f.0.1 = same_Some _ _ (sym (after_is front text rest.now parts) ∙ ap (λ front. after front text) is_front ∙ f.3) in
-    ap (λ e. let x : Option (Entry × List ℕ) = Some (e, rest.now) in x) same_entry
-    ∙ ap (λ t. let x : Option (Entry × List ℕ) = Some (entry_of f.0.0, t) in x) same_rest
+    let same_rest : rest.now ≡ f.0.1 = same_Some _ _ (sym (after_is front text rest.now parts) ∙ ap (λ front. rest_after front text) is_front
+    ∙ f.3) in
+    ap (λ e. let x : Option (VariantRow × List ℕ) = Some (e, rest.now) in x) same_variant
+    ∙ ap (λ t. let x : Option (VariantRow × List ℕ) = Some (variant_row f.0.0, t) in x) same_rest
     ∙ ap found (sym f.1)

@@ -2,7 +2,7 @@
 -- than the row of its instruction, and below 12 for a node without one).
 use Rattle.std.specs.Prelude.{◌≡◌, ℕ, ◌-◌, ◌==◌, nat_lt, length, Bool, true, false, List, Option, Some, None, if◌then◌else◌}
 use Rattle.wasm_code.specs.Instruction.{Instruction, InRange}
-use Rattle.wasm_code.specs.Table.{info_of}
+use Rattle.wasm_code.specs.Table.{row_info_of}
 use Rattle.wasm_code.specs.declared.table.RowInfo.{RowInfo}
 use Rattle.peephole_lang.specs.declared.lang.Head.{Head}
 use Rattle.peephole_lang.specs.declared.lang.Lang.{Lang}
@@ -51,4 +51,4 @@ takes (Some info) count = is_count info.operands count
 
 -- the row takes that many children
 abbrev pub takes_children : ℕ → ℕ → Bool
-takes_children row count = takes (info_of row) count
+takes_children row count = takes (row_info_of row) count

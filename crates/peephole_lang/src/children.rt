@@ -39,7 +39,8 @@ pub trait Children: Drop {
 
     /// The same ids, to be written.
     fn as_slice_mut(&mut self) -> &mut [Id]
-        ensures* lends { sem 𝓛 (Lends Self.row (Array id_row.the_row 0) self.entry result (with_ids self.old)) }
+        ensures* lends { sem 𝓛 (Lends Self.row (Array id_row.the_row 0) self.entry result
+            (with_ids self.old)) }
         ensures value { result.now ≡ ids self.old };
 
     // the ids determine the value

@@ -44,7 +44,9 @@ impl<L: Language> RecExpr<L> {
         requires { All (λ child. child < length self.old) (L.children node) }
         ensures place { IfOk result (λ id. id.0 ≡ length self.old) }
         ensures added { IfOk result (λ _. self.new ≡ self.old ++ node ∷ []) }
-        ensures err { IfErr result (λ e. e ≡ (if nat_lt (length self.old) (2 ^ 32) then Error.Memory else Error.TooLarge)) }
+        ensures err { IfErr result
+            (λ e. e ≡ (if nat_lt (length self.old)
+            (2 ^ 32) then Error.Memory else Error.TooLarge)) }
         ensures unchanged { OnErr result (self.new ≡ self.old) }
     {
         let place = self.nodes.len();

@@ -6,7 +6,7 @@ ghost use Rattle.peephole_nodes.specs.Payload.{is_writable};
 
 use crate::lang::Lang;
 use crate::making::make;
-use crate::names::entry_at;
+use crate::names::variant_row_at;
 use peephole_nodes::Id;
 use wasm_code::Instr;
 
@@ -37,8 +37,8 @@ impl Lang {
         ensures children { IfSome result (λ l. ids_of l ≡ children.items) }
         ensures complete { is_some result ≡ takes_children instr.now.row (length children.items) }
     {
-        let entry = entry_at(12 + instr.row())?;
-        let payload = entry.payload.of_imm(instr.imm())?;
-        make(entry.place, payload, children)
+        let variant = variant_row_at(12 + instr.row())?;
+        let payload = variant.payload.of_imm(instr.imm())?;
+        make(variant.place, payload, children)
     }
 }

@@ -52,7 +52,8 @@ pub trait Language: Display + Drop {
 
     /// The same ids, to be written. The node then says what it said, and has the children that were written last.
     fn children_mut(&mut self) -> &mut [Id]
-        ensures* lends { sem 𝓛 (Lends Self.row (Array id_row.the_row 0) self.entry result (with_ids self.old)) }
+        ensures* lends { sem 𝓛 (Lends Self.row (Array id_row.the_row 0) self.entry result
+            (with_ids self.old)) }
         ensures value { result.now ≡ ids self.old };
 
     /// Whether both nodes say the same and have as many children, whichever these are.

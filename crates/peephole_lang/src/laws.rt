@@ -4,7 +4,7 @@ ghost use Rattle.std.specs.List.{Contains};
 ghost use Rattle.wasm_code.specs.Instruction.{Instruction};
 ghost use Rattle.peephole_nodes.specs.contracts.payload.PayloadPartialEq.TheImpl as payload_eq;
 ghost use Rattle.peephole_nodes.specs.declared.payload.Payload.{Payload};
-ghost use Rattle.peephole_lang.specs.Names.{after, behind_name};
+ghost use Rattle.peephole_lang.specs.Names.{rest_after, behind_name};
 ghost use Rattle.std.specs.Bool.{Decides};
 ghost use Rattle.peephole_lang.specs.Lang.{place_of, payload_of, ids_of};
 ghost use Rattle.peephole_nodes.specs.declared.id.Id.{Id};
@@ -41,14 +41,17 @@ pub fn is_of_its_variant()
 /// At most one variant fits a text: the whole text is its name, or its name and a dot begin the text where it has a payload.
 pub fn one_variant_a_text()
     ensures { (v w : Variant) (text : List ℕ) → Contains variants v → Contains variants w
-        → IsSome (behind_name v.payload (after v.name text)) → IsSome (behind_name w.payload (after w.name text)) → v ≡ w }
+        → IsSome (behind_name v.payload (rest_after v.name text))
+        → IsSome (behind_name w.payload (rest_after w.name text)) → v ≡ w }
 {}
 
 /// The instruction of a node takes the node's children, and nodes with the same instruction and children are the same. By
 /// the contract of `of_instr`, the node that it makes of a node's instruction and children is therefore that node.
 pub fn instruction_decides_node()
-    ensures takes { (l : Lang) (i : Instruction) → IsNode l → instr_of l ≡ Some i → takes_children i.row (length (ids_of l)) ≡ true }
-    ensures one { (l m : Lang) (i : Instruction) → instr_of l ≡ Some i → instr_of m ≡ Some i → ids_of l ≡ ids_of m → IsSame head_of ids_of m l }
+    ensures takes { (l : Lang) (i : Instruction) → IsNode l → instr_of l ≡ Some i
+        → takes_children i.row (length (ids_of l)) ≡ true }
+    ensures one { (l m : Lang) (i : Instruction) → instr_of l ≡ Some i → instr_of m ≡ Some i
+        → ids_of l ≡ ids_of m → IsSame head_of ids_of m l }
 {}
 
 /// The test for equal payloads is true exactly where they are equal.
@@ -83,5 +86,6 @@ pub fn matching_are_equal<L: Language>()
 
 /// A node whose children were written through `children_mut` matches what it was before, in every language.
 pub fn written_matches<L: Language>()
-    ensures { (l : L) (w : List Id) → length w ≡ length (L.ids l) → L.matches l (L.with_ids l w) ≡ true }
+    ensures { (l : L) (w : List Id) → length w ≡ length (L.ids l)
+        → L.matches l (L.with_ids l w) ≡ true }
 {}

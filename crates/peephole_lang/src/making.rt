@@ -94,7 +94,8 @@ fn make_memory(place: u16, memarg: MemArg, children: &[Id]) -> Option<Lang>
     ensures payload { IfSome result (λ l. payload_of l ≡ P.Memory memarg) }
     ensures children { IfSome result (λ l. ids_of l ≡ children.now) }
     ensures count { IfSome result (λ l. count_of l ≡ length children.now) }
-    ensures complete { is_some result ≡ is_simd place (P.Memory memarg) (length children.now) || is_memory place (length children.now) }
+    ensures complete { is_some result ≡ is_simd place (P.Memory memarg)
+        (length children.now) || is_memory place (length children.now) }
 {
     if let Some(node) = Simd::make(place, Payload::Memory(memarg), children) {
         return Some(Lang::Simd(node));

@@ -3,11 +3,11 @@ ghost use Rattle.std.specs.Prelude.{◌≡◌, slice_get};
 ghost use Rattle.std.specs.Option.{option_map};
 ghost use Rattle.peephole_nodes.specs.Variants.{variants, variant_at};
 ghost use Rattle.peephole_lang.specs.Names.{find_in};
-ghost use Rattle.peephole_lang.specs.Entries.{entry_of, given, found, place_found};
+ghost use Rattle.peephole_lang.specs.VariantRows.{variant_row, given, found, place_found};
 ghost use Rattle.peephole_lang.specs.Fronts.{standing};
 ghost use Rattle.peephole_nodes.specs.Fronts.{front_at};
 
-use crate::variants::{Entry, VARIANTS};
+use crate::variants::{VARIANTS, VariantRow};
 use peephole_nodes::front_at;
 use std::cmp::Ordering;
 
@@ -39,20 +39,20 @@ const BY_FRONT: [u16; 458] = [
     150,
 ];
 
-fn entry_in(entries: &[Entry], place: u16) -> Option<Entry>
-    ensures { result ≡ slice_get entries.now place }
+fn variant_row_in(rows: &[VariantRow], place: u16) -> Option<VariantRow>
+    ensures { result ≡ slice_get rows.now place }
 {
-    match entries.get(place as usize) {
-        Some(entry) => Some(*entry),
+    match rows.get(place as usize) {
+        Some(variant) => Some(*variant),
         None => None,
     }
 }
 
 // The variant with that place.
-pub(crate) fn entry_at(place: u16) -> Option<Entry>
-    ensures { result ≡ option_map entry_of (variant_at place) }
+pub(crate) fn variant_row_at(place: u16) -> Option<VariantRow>
+    ensures { result ≡ option_map variant_row (variant_at place) }
 {
-    entry_in(&VARIANTS, place)
+    variant_row_in(&VARIANTS, place)
 }
 
 // `Equal` where the text is the front of the variant with that place, or begins with it and the front ends in a dot; else as
@@ -79,11 +79,11 @@ fn place_of(text: &str) -> Option<u16>
 }
 
 // The variant that the text is of, and the text of its payload.
-pub(crate) fn find(text: &str) -> Option<(Entry, &str)>
+pub(crate) fn find(text: &str) -> Option<(VariantRow, &str)>
     ensures { given result ≡ found (find_in variants text.now) }
 {
     let place = place_of(text)?;
-    let entry = entry_at(place).unwrap();
+    let variant = variant_row_at(place).unwrap();
     let payload_text = text.strip_prefix(front_at(place)).unwrap();
-    Some((entry, payload_text))
+    Some((variant, payload_text))
 }

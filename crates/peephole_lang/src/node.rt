@@ -1,15 +1,15 @@
 //! The nodes of `Lang` as a kind of nodes.
 ghost use Rattle.std.specs.Prelude.{◌≡◌, refl};
-ghost use Rattle.peephole_lang.specs.Again.{determined};
+ghost use Rattle.peephole_lang.specs.laws.Again.{determined};
 ghost use Rattle.peephole_lang.specs.Equal.{IsEqual};
 ghost use Rattle.peephole_lang.specs.Lang.{ids_of};
 ghost use Rattle.peephole_lang.specs.Text.{text_of, reads};
 ghost use Rattle.peephole_lang.specs.Compared.{lang_matches};
 ghost use Rattle.peephole_lang.specs.WithIds.{with_ids};
-ghost use Rattle.peephole_lang.specs.WithIdsLemmas.{keeps_head, has_written};
+ghost use Rattle.peephole_lang.specs.laws.WithIdsLemmas.{keeps_head, has_written};
 ghost use Rattle.peephole_lang.specs.Node.{IsNode, head_of, children_of};
-ghost use Rattle.peephole_lang.specs.NodeLemmas.{matches_exactly, matches_equivalence, says};
-ghost use Rattle.peephole_lang.specs.TextLemmas.{reads_back};
+ghost use Rattle.peephole_lang.specs.laws.NodeLemmas.{matches_exactly, matches_equivalence, says};
+ghost use Rattle.peephole_lang.specs.laws.TextLemmas.{reads_back};
 
 use crate::lang::{Head, Lang};
 use crate::language::Language;

@@ -6,7 +6,7 @@ ghost use Rattle.peephole_lang.specs.Text.{text_of, wrong_count, judged, ReadsAs
 use crate::lang::Lang;
 use crate::making::make;
 use crate::names::find;
-use crate::variants::Entry;
+use crate::variants::VariantRow;
 use mutate_base::TermError;
 use peephole_nodes::{Arity, Id, Payload, PayloadText, front_at};
 use std::fmt;
@@ -24,9 +24,9 @@ impl Lang {
         ensures { ReadsAs text.now children.items result }
     {
         match find(text) {
-            Some((entry, payload_text)) => {
-                let payload = entry.read(payload_text, children.len())?;
-                Ok(make(entry.place, payload, children).unwrap())
+            Some((variant, payload_text)) => {
+                let payload = variant.read(payload_text, children.len())?;
+                Ok(make(variant.place, payload, children).unwrap())
             }
             None => Err(TermError::InvalidToken),
         }
@@ -63,10 +63,11 @@ fn wrong_children(arity: Arity, count: usize) -> Option<TermError>
     }
 }
 
-impl Entry {
+impl VariantRow {
     // The payload that its text writes, where a node of the variant has this many children.
     fn read(&self, payload_text: &str, count: usize) -> Result<Payload, TermError>
-        ensures { result ≡ judged self.now.children (wrong_count self.now.children count) (read_payload self.now.payload payload_text.now) }
+        ensures { result ≡ judged self.now.children (wrong_count self.now.children count)
+            (read_payload self.now.payload payload_text.now) }
     {
         let wrong = wrong_children(self.children, count);
         match (self.children, wrong) {

@@ -123,8 +123,8 @@ abbrev pub extend_low_s : IntegerType → Width → IntegerOperator
 extend_low_s t low = record { operands = type_of t ∷ []; result = t; value = on_one (λ n. Some (signed_into low (width_of t) n)) }
 
 -- the select whose type is written
-abbrev pub select_of : IntegerType → IntegerOperator
-select_of t = record {
+abbrev pub select_operator : IntegerType → IntegerOperator
+select_operator t = record {
   operands = type_of t ∷ type_of t ∷ primitive.I32 ∷ [];
   result = t;
   value = on_three (λ n m c. Some (if c == 0 then m else n));

@@ -14,7 +14,7 @@ use Rattle.mutate_base.specs.declared.types.PrimitiveTypeInfo.{PrimitiveTypeInfo
 use Rattle.mutate_base.specs.declared.types.PrimitiveTypeInfo.TheVariants as primitive
 use Rattle.peephole_machine.specs.declared.integer.IntegerType.TheVariants as integer
 use Rattle.peephole_machine.specs.Values.{IntegerType, type_of, is_integer, same_type, same_types, Variable, local, global}
-use Rattle.peephole_machine.specs.Integer.{IntegerOperator, binary, unary, eqz, compare, wrap, extend_i32_s, extend_i32_u, extend_low_s, select_of, add, sub, mul, div_s, div_u, rem_s, rem_u, and_, or_, xor_, shl, shr_s, shr_u, rotl, rotr, clz, ctz, popcnt, eq, ne, lt_s, lt_u, gt_s, gt_u, le_s, le_u, ge_s, ge_u}
+use Rattle.peephole_machine.specs.Integer.{IntegerOperator, binary, unary, eqz, compare, wrap, extend_i32_s, extend_i32_u, extend_low_s, select_operator, add, sub, mul, div_s, div_u, rem_s, rem_u, and_, or_, xor_, shl, shr_s, shr_u, rotl, rotr, clz, ctz, popcnt, eq, ne, lt_s, lt_u, gt_s, gt_u, le_s, le_u, ge_s, ge_u}
 
 -- an instruction to the machine, by its opcode; `discard` is `drop`, and `other` every row that is none of these; whether a variable is an integer is
 -- asked of the lists
@@ -82,8 +82,8 @@ variable_row byte index =
 
 -- the select whose type is written
 abbrev pub typed_select : ValType → IntegerRow
-typed_select val.I32 = operation (select_of integer.I32)
-typed_select val.I64 = operation (select_of integer.I64)
+typed_select val.I32 = operation (select_operator integer.I32)
+typed_select val.I64 = operation (select_operator integer.I64)
 typed_select _ = other
 
 -- an opcode of one byte, with an immediate

@@ -100,11 +100,11 @@ pub data Outcome : Type 0 where
   Traps : List Value → Outcome
   Stuck : Outcome
 
-abbrev pub and_then : Outcome → (List Value → State → Outcome) → Outcome
-and_then (Ends vs s) next = next vs s
-and_then (Traps globals) next = Traps globals
-and_then Stuck next = Stuck
+abbrev pub then_run : Outcome → (List Value → State → Outcome) → Outcome
+then_run (Ends vs s) next = next vs s
+then_run (Traps globals) next = Traps globals
+then_run Stuck next = Stuck
 
 -- the values stand above others
 abbrev pub above : List Value → Outcome → Outcome
-above below o = and_then o (λ vs s. Ends (below ++ vs) s)
+above below o = then_run o (λ vs s. Ends (below ++ vs) s)

@@ -5,11 +5,11 @@ use Rattle.std.proofs.Common.{ap}
 use Rattle.peephole_nodes.specs.declared.numeric.Numeric.{Numeric}
 use Rattle.peephole_nodes.specs.declared.simd.Simd.{Simd}
 use Rattle.peephole_nodes.specs.Compared.{numeric_payload_of, numeric_eq, simd_eq}
-use Rattle.peephole_nodes.specs.ComparedLemmas.{equal_alike}
+use Rattle.peephole_nodes.specs.laws.ComparedLemmas.{equal_alike}
 use Rattle.peephole_nodes.specs.Numeric.{numeric_place_of, numeric_ids_of}
-use Rattle.peephole_nodes.specs.NumericAgain.{numeric_determined}
+use Rattle.peephole_nodes.specs.laws.NumericAgain.{numeric_determined}
 use Rattle.peephole_nodes.specs.Simd.{simd_place_of, simd_payload_of}
-use Rattle.peephole_nodes.specs.SimdAgain.{simd_determined}
+use Rattle.peephole_nodes.specs.laws.SimdAgain.{simd_determined}
 use Rattle.peephole_nodes.specs.SimdChildren.{simd_ids_of}
 
 pub numeric_equal : (l m : Numeric) → Decides (numeric_eq l m) (l ≡ m)

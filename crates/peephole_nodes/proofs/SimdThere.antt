@@ -269,7 +269,8 @@ simd_there (I16x8RelaxedDotI8x16I7x16S _) = refl
 simd_there (I32x4RelaxedDotI8x16I7x16AddS _) = refl
 
 -- where none is told, there is none
-pub simd_none : (made : Option Simd) (place : ℕ) (p : Payload) (count : ℕ) → is_some made ≡ is_simd place p count → IfNone made (LacksSimd place p count)
+pub simd_none : (made : Option Simd) (place : ℕ) (p : Payload) (count : ℕ) → is_some made ≡ is_simd place p count →
+    IfNone made (LacksSimd place p count)
 simd_none (Some s) place p count e = tt
 simd_none None place p count e = λ s a b c.
     true≢false (sym (simd_there s) ∙ (ap₂ (λ n q. is_simd n q (simd_count_of s)) a b ∙ (ap (is_simd place p) c ∙ sym e)))

@@ -7,13 +7,13 @@ use Rattle.peephole_nodes.specs.declared.payload.Payload.TheVariants as payload
 use Rattle.peephole_nodes.specs.declared.simd.Simd.{Simd}
 use Rattle.peephole_nodes.specs.Fronts.{front_at}
 use Rattle.peephole_nodes.specs.Numeric.{numeric_place_of, numeric_count_of}
-use Rattle.peephole_nodes.specs.NumericFits.{numeric_fits}
+use Rattle.peephole_nodes.specs.laws.NumericFits.{numeric_fits}
 use Rattle.peephole_nodes.specs.PayloadText.{inner_text}
 use Rattle.peephole_nodes.specs.Simd.{simd_place_of, simd_payload_of}
 use Rattle.peephole_nodes.specs.SimdChildren.{simd_count_of}
-use Rattle.peephole_nodes.specs.SimdFits.{simd_fits}
+use Rattle.peephole_nodes.specs.laws.SimdFits.{simd_fits}
 use Rattle.peephole_nodes.specs.Text.{numeric_text, simd_text}
-use Rattle.peephole_nodes.specs.VariantLemmas.{fitting_text}
+use Rattle.peephole_nodes.specs.laws.VariantLemmas.{fitting_text}
 
 pub numeric_text_is : (n : Numeric) → numeric_text n ≡ front_at (numeric_place_of n)
 numeric_text_is n =

@@ -9,7 +9,7 @@ use Rattle.wasm_code.specs.declared.immediate.Imm.{Imm}
 use Rattle.wasm_code.specs.declared.immediate.Imm.TheVariants as imm
 use Rattle.mutate_base.specs.declared.payload.RefType.{RefType}
 use Rattle.mutate_base.specs.declared.payload.RefType.TheVariants as ref
-use Rattle.mutate_base.specs.Payload.{heap_type_of, payload_of_mem_arg, mem_arg_of_payload}
+use Rattle.mutate_base.specs.Payload.{ref_heap_type, payload_of_mem_arg, mem_arg_of_payload}
 use Rattle.peephole_nodes.specs.declared.payload.Payload.{Payload}
 use Rattle.peephole_nodes.specs.declared.payload.Payload.TheVariants as payload
 use Rattle.peephole_nodes.specs.declared.payload.PayloadKind.{PayloadKind}
@@ -27,7 +27,7 @@ imm_of (payload.V128 number) = imm.V128 number
 imm_of (payload.Memory m) = imm.Mem (mem_arg_of_payload m)
 imm_of (payload.MemoryLane m) = imm.MemLane (mem_arg_of_payload m.memarg) m.lane
 imm_of (payload.Shuffle s) = imm.Shuffle s.indices
-imm_of (payload.Ref t) = imm.Heap (heap_type_of t)
+imm_of (payload.Ref t) = imm.Heap (ref_heap_type t)
 imm_of (payload.Value t) = imm.Val t
 imm_of (payload.MemoryInit x) = imm.Pair x.segment x.memory
 imm_of (payload.MemoryCopy x) = imm.Pair x.dst x.src

@@ -12,7 +12,8 @@ use std::slice::from_raw_parts_mut;
 /// Condition: a node's alignment is at least that of an id.
 pub fn no_children<T>(node: &mut T) -> &mut [Id]
     requires { type_align id.the_row ≤ type_align T.row }
-    ensures* writes_back { sem 𝓛 (Lends T.row (Array id.the_row 0) node.entry result (λ _. node.old)) }
+    ensures* writes_back { sem 𝓛 (Lends T.row (Array id.the_row 0) node.entry result
+        (λ _. node.old)) }
     ensures value { result.now ≡ [] }
 {
     unsafe { from_raw_parts_mut(node as *mut T as *mut Id, 0) }
@@ -20,7 +21,8 @@ pub fn no_children<T>(node: &mut T) -> &mut [Id]
 
 /// The id, lent as a list of it alone.
 pub fn only_child(child: &mut Id) -> &mut [Id]
-    ensures* writes_back { sem 𝓛 (Lends id.the_row (Array id.the_row 0) child.entry result (λ ids. slice_index_or ids 0 child.old)) }
+    ensures* writes_back { sem 𝓛 (Lends id.the_row (Array id.the_row 0) child.entry result
+        (λ ids. slice_index_or ids 0 child.old)) }
     ensures value { result.now ≡ child.old ∷ [] }
 {
     std::slice::from_mut(child)

@@ -115,7 +115,8 @@ fn simd_two(place: u16, first: Id, second: Id) -> Option<Simd>
     ensures payload { IfSome result (λ l. simd_payload_of l ≡ P.Nothing) }
     ensures children { IfSome result (λ l. simd_ids_of l ≡ first ∷ second ∷ []) }
     ensures count { IfSome result (λ l. simd_count_of l ≡ 2) }
-    ensures complete { is_some result ≡ is_simd_plain_two_a place || is_simd_plain_two_b place || is_simd_plain_two_c place || is_simd_plain_two_d place }
+    ensures complete { is_some result
+        ≡ is_simd_plain_two_a place || is_simd_plain_two_b place || is_simd_plain_two_c place || is_simd_plain_two_d place }
 {
     if let Some(node) = simd::simd_plain_two_a(place, first, second) {
         return Some(node);

@@ -11,7 +11,7 @@ use Rattle.mutate_base.specs.Types.{type_name}
 use Rattle.mutate_base.specs.declared.types.PrimitiveTypeInfo.{PrimitiveTypeInfo}
 use Rattle.mutate_base.specs.declared.types.PrimitiveTypeInfo.TheVariants as type
 use Rattle.peephole_script.specs.Arguments.{type_of, is_arrow, parts_of}
-use Rattle.peephole_script.proofs.Values.{texts}
+use Rattle.peephole_script.specs.Text.{texts}
 
 -- ---- types
 

@@ -1,9 +1,6 @@
 -- Reading a value from each of some words.
-use Rattle.std.proofs.Common.{ℕ, List, ◌++◌, map, Some, None, Bor}
+use Rattle.std.proofs.Common.{List, ◌++◌, Some, None}
 use Rattle.std.specs.Prelude.{Option}
-
-abbrev pub texts : List (Bor (List ℕ)) → List (List ℕ)
-texts words = map (λ word. word.now) words
 
 -- the values of the words so far, before those of the words that are left
 abbrev pub after_front : {A : Type 0} → List A → Option (List A) → Option (List A)

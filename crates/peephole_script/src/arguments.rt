@@ -1,8 +1,8 @@
 //! The words behind a command's name.
 
-ghost use Rattle.std.specs.Prelude.{◌≡◌, nat_lt, map, position, IfOk, MatchOption, Some, None};
+ghost use Rattle.std.specs.Prelude.{◌≡◌, nat_lt, position, IfOk, MatchOption, Some, None};
 ghost use Rattle.std.specs.List.{concat, list_all};
-ghost use Rattle.peephole_script.specs.Text.{number_of};
+ghost use Rattle.peephole_script.specs.Text.{number_of, texts};
 ghost use Rattle.peephole_script.specs.Arguments.{all_of, type_of, is_64, element_of, is_yes, is_arrow, parts_of, Argument};
 
 use crate::fault::Fault;
@@ -12,7 +12,7 @@ use std::alloc::{AllocError, Global};
 
 /// The numbers that the words write; `BadArgument` where one writes none, `Memory` for want of memory.
 pub fn numbers_of(alloc: Global, words: &[&str]) -> Result<Vec<u64>, Fault>
-    ensures { Argument (all_of number_of (map (λ word. word.now) words.now)) result }
+    ensures { Argument (all_of number_of (texts words.now)) result }
 {
     let mut numbers = Vec::new(alloc);
     for word in words {
@@ -39,7 +39,7 @@ pub fn type_of(word: &str) -> Option<PrimitiveTypeInfo>
 
 /// The types that the words name; `BadArgument` where one names none, `Memory` for want of memory.
 pub fn types_of(alloc: Global, words: &[&str]) -> Result<Vec<PrimitiveTypeInfo>, Fault>
-    ensures { Argument (all_of type_of (map (λ word. word.now) words.now)) result }
+    ensures { Argument (all_of type_of (texts words.now)) result }
 {
     let mut types = Vec::new(alloc);
     for word in words {
@@ -104,8 +104,9 @@ fn arrow_place(words: &[&str]) -> Option<usize>
 
 /// The words before the first arrow `->`, and those behind it; none where there is no arrow.
 pub fn parts_of<'a, 'b>(words: &'a [&'b str]) -> Option<(&'a [&'b str], &'a [&'b str])>
-    ensures { MatchOption result (parts_of (map (λ word. word.now) words.now) ≡ None) (λ parts.
-        parts_of (map (λ word. word.now) words.now) ≡ Some (map (λ word. word.now) parts.0.now, map (λ word. word.now) parts.1.now)) }
+    ensures { let found = parts_of (texts words.now) in
+        MatchOption result (found ≡ None)
+        (λ parts. found ≡ Some (texts parts.0.now, texts parts.1.now)) }
 {
     match arrow_place(words) {
         Some(at) => Some((&words[..at], &words[at + 1..])),
@@ -115,7 +116,7 @@ pub fn parts_of<'a, 'b>(words: &'a [&'b str]) -> Option<(&'a [&'b str], &'a [&'b
 
 /// The words, joined; an error for want of memory alone.
 pub fn joined(alloc: Global, words: &[&str]) -> Result<Vec<u8>, AllocError>
-    ensures { IfOk result (λ text. text.items ≡ concat (map (λ word. word.now) words.now)) }
+    ensures { IfOk result (λ text. text.items ≡ concat (texts words.now)) }
 {
     let mut text = Vec::new(alloc);
     for word in words {

@@ -1,6 +1,6 @@
 //! What lines say of the module that the body comes from.
 
-ghost use Rattle.std.specs.Prelude.{map};
+ghost use Rattle.peephole_script.specs.Text.{texts};
 ghost use Rattle.peephole_script.specs.Declarations.{with_global, with_memory, with_table, with_type, with_function, declared, Declares};
 
 use crate::arguments::{element_of, is_64, parts_of, type_of, types_of};
@@ -32,7 +32,7 @@ pub fn declare(
     declaration: Declaration,
     words: &[&str],
 ) -> Result<(), Fault>
-    ensures { Declares (declared declaration info.old (map (λ word. word.now) words.now)) info.old info.new result }
+    ensures { Declares (declared declaration info.old (texts words.now)) info.old info.new result }
 {
     match declaration {
         Declaration::Global => add_global(info, words),
@@ -44,7 +44,7 @@ pub fn declare(
 }
 
 fn add_global(info: &mut ModuleInfo, words: &[&str]) -> Result<(), Fault>
-    ensures { Declares (with_global info.old (map (λ word. word.now) words.now)) info.old info.new result }
+    ensures { Declares (with_global info.old (texts words.now)) info.old info.new result }
 {
     let [name] = words else {
         return Err(Fault::BadArgument);
@@ -57,7 +57,7 @@ fn add_global(info: &mut ModuleInfo, words: &[&str]) -> Result<(), Fault>
 }
 
 fn add_memory(info: &mut ModuleInfo, words: &[&str]) -> Result<(), Fault>
-    ensures { Declares (with_memory info.old (map (λ word. word.now) words.now)) info.old info.new result }
+    ensures { Declares (with_memory info.old (texts words.now)) info.old info.new result }
 {
     let [bits] = words else {
         return Err(Fault::BadArgument);
@@ -70,7 +70,7 @@ fn add_memory(info: &mut ModuleInfo, words: &[&str]) -> Result<(), Fault>
 }
 
 fn add_table(info: &mut ModuleInfo, words: &[&str]) -> Result<(), Fault>
-    ensures { Declares (with_table info.old (map (λ word. word.now) words.now)) info.old info.new result }
+    ensures { Declares (with_table info.old (texts words.now)) info.old info.new result }
 {
     let [element, bits] = words else {
         return Err(Fault::BadArgument);
@@ -86,7 +86,7 @@ fn add_table(info: &mut ModuleInfo, words: &[&str]) -> Result<(), Fault>
 }
 
 fn add_type(alloc: Global, info: &mut ModuleInfo, words: &[&str]) -> Result<(), Fault>
-    ensures { Declares (with_type info.old (map (λ word. word.now) words.now)) info.old info.new result }
+    ensures { Declares (with_type info.old (texts words.now)) info.old info.new result }
 {
     let Some((params, returns)) = parts_of(words) else {
         return Err(Fault::BadArgument);
@@ -99,7 +99,7 @@ fn add_type(alloc: Global, info: &mut ModuleInfo, words: &[&str]) -> Result<(), 
 }
 
 fn add_function(info: &mut ModuleInfo, words: &[&str]) -> Result<(), Fault>
-    ensures { Declares (with_function info.old (map (λ word. word.now) words.now)) info.old info.new result }
+    ensures { Declares (with_function info.old (texts words.now)) info.old info.new result }
 {
     let [word] = words else {
         return Err(Fault::BadArgument);

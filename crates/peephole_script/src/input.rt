@@ -18,10 +18,12 @@ pub const LIMIT: usize = 16_777_216;
 /// Condition: no call on the input has failed.
 pub fn read_input<R: Read>(alloc: Global, input: &mut Tally<R>) -> Result<Vec<u8>, RunError>
     requires { input.old.failed ≡ false }
-    ensures bytes { IfOk result (λ text. Consumes (R.remaining input.old.device) (R.remaining input.new.device) text.items) }
+    ensures bytes { IfOk result (λ text. Consumes (R.remaining input.old.device)
+        (R.remaining input.new.device) text.items) }
     ensures end { OnOk result (IsAtEnd (R.remaining input.new.device)) }
     ensures length { IfOk result (λ text. length text.items ≤ LIMIT) }
-    ensures too_long { IsErrOf result RunError.TooLong → ConsumesMore (R.remaining input.old.device) (R.remaining input.new.device) LIMIT }
+    ensures too_long { IsErrOf result RunError.TooLong
+        → ConsumesMore (R.remaining input.old.device) (R.remaining input.new.device) LIMIT }
     ensures input { IsErrOf result RunError.Input → IsTrue input.new.failed }
     ensures not_output { result ≢ Err RunError.Output }
 {

@@ -57,7 +57,8 @@ impl<R: Read> Read for Tally<R> {
 
     fn read(&mut self, buf: &mut [u8]) -> io::Result<usize>
         ensures bound { ReadsAtMost result buf.new }
-        ensures bytes { ReadConsumes (R.remaining self.old.device) (R.remaining self.new.device) result buf.new }
+        ensures bytes { ReadConsumes (R.remaining self.old.device)
+            (R.remaining self.new.device) result buf.new }
         ensures failed { self.new.failed ≡ (self.old.failed || is_err result) }
     {
         let result = self.device.read(buf);
@@ -68,7 +69,8 @@ impl<R: Read> Read for Tally<R> {
     }
 
     fn read_exact(&mut self, buf: &mut [u8]) -> io::Result<()>
-        ensures bytes { OnOk result (Consumes (R.remaining self.old.device) (R.remaining self.new.device) buf.new) }
+        ensures bytes { OnOk result
+            (Consumes (R.remaining self.old.device) (R.remaining self.new.device) buf.new) }
         ensures failed { self.new.failed ≡ (self.old.failed || is_err result) }
     {
         let result = self.device.read_exact(buf);
@@ -84,8 +86,10 @@ impl<W: Write> Write for Tally<W> {
 
     fn write(&mut self, buf: &[u8]) -> io::Result<usize>
         ensures bound { WritesAtMost result buf.now }
-        ensures bytes { WriteAppends (W.contents self.old.device) (W.contents self.new.device) result buf.now }
-        ensures failed { self.new.failed ≡ (self.old.failed || write_failed result (length buf.now)) }
+        ensures bytes { WriteAppends (W.contents self.old.device)
+            (W.contents self.new.device) result buf.now }
+        ensures failed { self.new.failed ≡
+            (self.old.failed || write_failed result (length buf.now)) }
     {
         let result = self.device.write(buf);
         let took_some = match &result {
@@ -99,7 +103,8 @@ impl<W: Write> Write for Tally<W> {
     }
 
     fn write_all(&mut self, buf: &[u8]) -> io::Result<()>
-        ensures bytes { OnOk result (Appends (W.contents self.old.device) (W.contents self.new.device) buf.now) }
+        ensures bytes { OnOk result
+            (Appends (W.contents self.old.device) (W.contents self.new.device) buf.now) }
         ensures failed { self.new.failed ≡ (self.old.failed || is_err result) }
     {
         let result = self.device.write_all(buf);

@@ -1,9 +1,9 @@
 //! Lines, words and numbers of the input.
 
-ghost use Rattle.std.specs.Prelude.{◌≡◌, map, position, IfOk};
+ghost use Rattle.std.specs.Prelude.{◌≡◌, position, IfOk};
 ghost use Rattle.std.specs.List.{before_first, after_first, list_all};
 ghost use Rattle.std.specs.Char.{is_ascii_digit};
-ghost use Rattle.peephole_script.specs.Text.{is_byte, is_text, words_of, number_of};
+ghost use Rattle.peephole_script.specs.Text.{is_byte, is_text, words_of, number_of, texts};
 
 use std::alloc::{AllocError, Global};
 
@@ -35,7 +35,7 @@ pub fn is_text(line: &[u8]) -> bool
 
 /// The words of a line, which spaces separate; an error for want of memory alone.
 pub fn words_of<'a>(alloc: Global, line: &'a str) -> Result<Vec<&'a str>, AllocError>
-    ensures { IfOk result (λ words. map (λ word. word.now) words.items ≡ words_of line.now) }
+    ensures { IfOk result (λ words. texts words.items ≡ words_of line.now) }
 {
     let mut words = Vec::new(alloc);
     for word in line.split(' ') {

@@ -39,7 +39,8 @@ end_delimits (TypedSelect count first) e = absurd cc
 
 -- ---- offsets
 
-starts : (xs : List (Operator × ℕ)) (start : ℕ) (text : List ℕ) → SpellsAll xs start text → (i : ℕ) → i < length xs → (start ≤ offset_of xs i) × (offset_of xs i ≤ start + length text)
+starts : (xs : List (Operator × ℕ)) (start : ℕ) (text : List ℕ) → SpellsAll xs start text → (i : ℕ) → i < length xs →
+    (start ≤ offset_of xs i) × (offset_of xs i ≤ start + length text)
 starts [] start text h i l = absurd (omega arith)
 starts (x ∷ xs) start text h zero l = let e : x.1 ≡ start = h.offset in (omega arith, omega arith)
 starts (x ∷ xs) start text h (suc i) l =
@@ -51,12 +52,14 @@ starts (x ∷ xs) start text h (suc i) l =
 
 rises : (xs : List (Operator × ℕ)) (start : ℕ) (text : List ℕ) → SpellsAll xs start text → (i j : ℕ) → i ≤ j → j < length xs → offset_of xs i ≤ offset_of xs j
 rises [] start text h i j l m = absurd (omega arith)
-rises (x ∷ xs) start text h zero j l m = let e : x.1 ≡ start = h.offset in let s : start ≤ offset_of (x ∷ xs) j = (starts (x ∷ xs) start text h j m).0 in omega arith
+rises (x ∷ xs) start text h zero j l m =
+    let e : x.1 ≡ start = h.offset in let s : start ≤ offset_of (x ∷ xs) j = (starts (x ∷ xs) start text h j m).0 in omega arith
 rises (x ∷ xs) start text h (suc i) zero l m = absurd (omega arith)
 rises (x ∷ xs) start text h (suc i) (suc j) l m = rises xs (start + length h.front) h.back h.rest i j (omega arith) (omega arith)
 
 -- the last operator is one byte at least
-last_byte : (xs : List (Operator × ℕ)) (start : ℕ) (text : List ℕ) → SpellsAll xs start text → IsTrue (ends xs) → offset_of xs (length xs - 1) < start + length text
+last_byte : (xs : List (Operator × ℕ)) (start : ℕ) (text : List ℕ) → SpellsAll xs start text → IsTrue (ends xs) →
+    offset_of xs (length xs - 1) < start + length text
 last_byte [] start text h e = absurd cc
 last_byte (x ∷ []) start text h e =
     let s = spelling_size x.0 h.front h.spells in
@@ -100,7 +103,8 @@ before_last operators block e b = elim (eqb_tells (b.index + 1) (length operator
     differ : true ≡ false → ⊥
     differ e = cc
 
-pub inside : (input : List ℕ) (operators : List (Operator × ℕ)) (block : BlockRange) → IsBodyIn input operators → IsBlockIn operators block → IsInside input operators block
+pub inside : (input : List ℕ) (operators : List (Operator × ℕ)) (block : BlockRange) → IsBodyIn input operators → IsBlockIn operators block →
+    IsInside input operators block
 inside input operators block h b =
     let all = h.spells.all in
     let text = slice_range input h.from h.to in

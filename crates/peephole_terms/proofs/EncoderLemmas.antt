@@ -18,25 +18,27 @@ use Rattle.peephole_lang.specs.Node.{head_of, children_of, instr_of}
 use Rattle.peephole_lang.specs.Term as term
 use Rattle.peephole_graphs.specs.declared.dfg.StackEntry.{StackEntry}
 use Rattle.peephole_graphs.specs.declared.shape.Shape.{Shape}
-use Rattle.peephole_graphs.specs.Shape.{block_of}
 use Rattle.peephole_graphs.specs.Tree.{Tree, Trees, entry, node, no_trees, ◌▸◌, join, instructions_of, instructions}
 use Rattle.peephole_graphs.specs.Order.{AreInOrder}
 use Rattle.peephole_graphs.specs.Forest.{IsInOrder, has, forest, trees, is_operand, without}
-use Rattle.peephole_graphs.specs.Graph.{Entry, pick, tree_at, tree_of_entry, undefs, item, undef}
+use Rattle.peephole_graphs.specs.Graph.{GraphEntry, trees_at, tree_at_entry, tree_of_entry, undefs, item, undef}
 use Rattle.peephole_graphs.proofs.Stands.{entry_at}
-use Rattle.peephole_graphs.specs.Entries.{Seen, seen, entry_of, nodes_of, roots_of, shape_of}
+use Rattle.peephole_graphs.specs.Entries.{Graph, EntryView, entry_view, graph_entry, graph_entries, roots_of, shape_of}
 use Rattle.peephole_graphs.specs.GraphOf.{IsGraphOf}
 use Rattle.peephole_graphs.proofs.Represents.{IsOwnOrUndef}
 use Rattle.peephole_graphs.proofs.GraphOfLemmas.{represents}
 use Rattle.peephole_terms.specs.declared.encoder.request.ResourceRequest.{ResourceRequest}
 use Rattle.peephole_terms.specs.Kind.{NumberType}
-use Rattle.peephole_terms.specs.Expansion.{Refuses, followed, joined, expansion_of, expansion, requests_of, requests, request, draws_of, draws, drawn}
-use Rattle.peephole_terms.specs.EncoderSteps.{operator_at, entry_nodes, root_term, root_terms, IsWalkable, IsInRange, Step, Writing, steps_of, steps, take_steps, after, IsRefusal}
-use Rattle.peephole_terms.specs.Written.{replaced, is_root, KeepsOrder}
+use Rattle.peephole_terms.specs.Expansion.{Refuses, then_code, joined_code, expansion_of, expansion, requests_of, requests, request, draws_of, draws, drawn}
+use Rattle.peephole_graphs.specs.Layout.{entry_nodes}
+use Rattle.peephole_terms.specs.EncoderSteps.{operator_of_entry, root_term, root_terms, root_steps, IsWalkable, IsInRange, Step, Writing, writing_of, steps_of, steps, take_steps, then_steps, IsRefusal, Does}
+use Rattle.peephole_terms.specs.Written.{Site, source_at, block_shapes, with_tree_replaced, has_root, KeepsOrder}
+use Rattle.peephole_graphs.specs.Block.{BlockRange}
+use Rattle.peephole_graphs.specs.Source.{Source, source_of, shapes_in}
 use Rattle.peephole_graphs.proofs.DfgLemmas.{get_item}
-use Rattle.peephole_graphs.proofs.GraphLemmas.{parents_length, roots_root, roots_child}
+use Rattle.peephole_graphs.proofs.GraphLemmas.{in_order, parents_length, roots_root, roots_child}
 use Rattle.peephole_graphs.proofs.BuilderLemmas.{shape_instr}
-use Rattle.peephole_terms.proofs.WalkLemmas.{take_steps-append, refused_after}
+use Rattle.peephole_terms.proofs.WalkLemmas.{take_steps-append, refused_after, kept_more}
 use Rattle.peephole_terms.proofs.ExpansionLemmas.{finished, all_from_start, refused}
 use Rattle.peephole_terms.proofs.PlainLemmas.{listed, plain_of, plain, IsItself, is_itself, as_node, trees_plain, with_term}
 
@@ -44,7 +46,9 @@ use Rattle.peephole_terms.proofs.PlainLemmas.{listed, plain_of, plain, IsItself,
 
 map-reverse : {A B : Type 0} (f : A → B) (xs : List A) → map f (reverse xs) ≡ reverse (map f xs)
 map-reverse f [] = refl
-map-reverse f (x ∷ xs) = ap (map f) (reverse-append (x ∷ []) xs) ∙ (map-append f (reverse xs) (x ∷ []) ∙ (ap (λ y. y ++ f x ∷ []) (map-reverse f xs) ∙ sym (reverse-append (f x ∷ []) (map f xs))))
+map-reverse f (x ∷ xs) =
+    ap (map f) (reverse-append (x ∷ []) xs) ∙ (map-append f (reverse xs) (x ∷ [])
+    ∙ (ap (λ y. y ++ f x ∷ []) (map-reverse f xs) ∙ sym (reverse-append (f x ∷ []) (map f xs))))
 
 map-map : {A B C : Type 0} (f : B → C) (g : A → B) (xs : List A) → map f (map g xs) ≡ map (λ x. f (g x)) xs
 map-map f g [] = refl
@@ -56,7 +60,8 @@ All-push P (z ∷ ys) y all p = All-cons P z (ys ++ y ∷ []) (All-head P z ys a
 
 pub All-reverse : {A : Type 0} (P : A → Type 0) (xs : List A) → All P xs → All P (reverse xs)
 All-reverse P [] all = All-nil P
-All-reverse P (x ∷ xs) all = subst (All P) (sym (reverse-append (x ∷ []) xs)) (All-push P (reverse xs) x (All-reverse P xs (All-tail P x xs all)) (All-head P x xs all))
+All-reverse P (x ∷ xs) all =
+    subst (All P) (sym (reverse-append (x ∷ []) xs)) (All-push P (reverse xs) x (All-reverse P xs (All-tail P x xs all)) (All-head P x xs all))
 
 All-unmap : {A B : Type 0} (P : B → Type 0) (f : A → B) (xs : List A) → All P (map f xs) → All (λ x. P (f x)) xs
 All-unmap P f [] all = All-nil (λ x. P (f x))
@@ -78,14 +83,16 @@ before_last_behind n i = grind arith
 -- ---- an entry's tree and its node's term
 
 -- an entry as the theory has it
-abbrev as_entry : Module → ℕ → StackEntry → Entry
-as_entry info first e = entry_of info first (seen e)
+abbrev as_entry : Module → ℕ → StackEntry → GraphEntry
+as_entry info first e = graph_entry info first (entry_view e)
 
-picked : (at : ℕ → Tree) (terms : ℕ → term.Term Head) (is : List ℕ) → ((k : ℕ) → instructions_of (at k) ≡ plain_of (terms k)) → instructions (pick at is) ≡ plain (term.pick terms is)
+picked : (at : ℕ → Tree) (terms : ℕ → term.Term Head) (is : List ℕ) → ((k : ℕ) → instructions_of (at k) ≡ plain_of (terms k)) →
+    instructions (trees_at at is) ≡ plain (term.pick terms is)
 picked at terms [] same = refl
 picked at terms (k ∷ is) same = ap₂ (λ x y. x ++ y) (same k) (picked at terms is same)
 
-own_is : (info : Module) (e : StackEntry) (i : Option Instruction) → IsOwnOrUndef e → i ≡ instr_of e.operator → (number missing : ℕ) (at : ℕ → Tree) (terms : ℕ → term.Term Head) →
+own_is : (info : Module) (e : StackEntry) (i : Option Instruction) → IsOwnOrUndef e → i ≡ instr_of e.operator →
+    (number missing : ℕ) (at : ℕ → Tree) (terms : ℕ → term.Term Head) →
     ((k : ℕ) → instructions_of (at k) ≡ plain_of (terms k)) →
     instructions_of (tree_of_entry (option_map (shape_of info) i) (children_of e.operator) number missing at) ≡ plain_of (term.node (head_of e.operator) (term.pick terms (children_of e.operator)))
 unfolding place_of payload_of ids_of
@@ -94,25 +101,26 @@ own_is info e (Some j) own is number missing at terms same =
 own_is info e None own is number missing at terms same =
     sym (ap (λ (l : Lang). plain (term.pick terms (children_of l)) ++ listed (instr_of l)) (own (sym is)))
 
-chosen_same : (b c : Bool) (x y : Tree) (s t : term.Term Head) → b ≡ c → instructions_of x ≡ plain_of s → instructions_of y ≡ plain_of t → instructions_of (cond b x y) ≡ plain_of (cond c s t)
+chosen_same : (b c : Bool) (x y : Tree) (s t : term.Term Head) → b ≡ c → instructions_of x ≡ plain_of s → instructions_of y ≡ plain_of t →
+    instructions_of (cond b x y) ≡ plain_of (cond c s t)
 chosen_same true true x y s t e p q = p
 chosen_same true false x y s t e p q = absurd cc
 chosen_same false true x y s t e p q = absurd cc
 chosen_same false false x y s t e p q = q
 
 trees_are : (info : Module) (first : ℕ) (es : List StackEntry) → All IsOwnOrUndef es → (i : ℕ) →
-    instructions_of (tree_at (map (as_entry info first) es) i) ≡ plain_of (term.tree_at (map as_node es) i)
+    instructions_of (tree_at_entry (map (as_entry info first) es) i) ≡ plain_of (term.tree_at (map as_node es) i)
 trees_are info first [] all i = refl
 trees_are info first (e ∷ earlier) all i =
     let ih = trees_are info first earlier (All-tail IsOwnOrUndef e earlier all) in
     chosen_same (length (map (as_entry info first) earlier) == i) (length (map as_node earlier) == i) _ _ _ _
     (ap (λ n. n == i) (length-map earlier (as_entry info first) ∙ sym (length-map earlier as_node)))
-    (own_is info e (instr_of e.operator) (All-head IsOwnOrUndef e earlier all) refl (e.operator_idx - first) (undefs (map (as_entry info first) earlier)) (tree_at (map (as_entry info first) earlier)) (term.tree_at (map as_node earlier)) ih)
+    (own_is info e (instr_of e.operator) (All-head IsOwnOrUndef e earlier all) refl (e.operator_idx - first) (undefs (map (as_entry info first) earlier)) (tree_at_entry (map (as_entry info first) earlier)) (term.tree_at (map as_node earlier)) ih)
     (ih i)
 
 -- so the entry's term expands to its tree's instructions
 trees_themselves : (info : Module) (first : ℕ) (es : List StackEntry) → All IsOwnOrUndef es → (i : ℕ) →
-    IsItself (term.tree_at (map as_node es) i) (instructions_of (tree_at (map (as_entry info first) es) i))
+    IsItself (term.tree_at (map as_node es) i) (instructions_of (tree_at_entry (map (as_entry info first) es) i))
 trees_themselves info first es all i =
     subst (λ (code : List Instruction). IsItself (term.tree_at (map as_node es) i) code) (sym (trees_are info first es all i)) (is_itself (term.tree_at (map as_node es) i) (trees_plain es all i))
 
@@ -134,19 +142,20 @@ own_number : (first number missing operator : ℕ) (s : Option Shape) (children 
 own_number first number missing operator None children at l e n = absurd n
 own_number first number missing operator (Some s) children at l e n = omega arith
 
-chosen_number : (b c : Bool) (first : ℕ) (x y : Tree) (m n : ℕ) → b ≡ c → (IsNode x → first + number_of x ≡ m) → (IsNode y → first + number_of y ≡ n) → IsNode (cond b x y) → first + number_of (cond b x y) ≡ cond c m n
+chosen_number : (b c : Bool) (first : ℕ) (x y : Tree) (m n : ℕ) → b ≡ c → (IsNode x → first + number_of x ≡ m) →
+    (IsNode y → first + number_of y ≡ n) → IsNode (cond b x y) → first + number_of (cond b x y) ≡ cond c m n
 chosen_number true true first x y m n e p q = p
 chosen_number true false first x y m n e p q = absurd cc
 chosen_number false true first x y m n e p q = absurd cc
 chosen_number false false first x y m n e p q = q
 
-numbers_are : (info : Module) (first : ℕ) (es : List StackEntry) → All (IsLater first) es → (i : ℕ) → IsNode (tree_at (map (as_entry info first) es) i) →
-    first + number_of (tree_at (map (as_entry info first) es) i) ≡ item 0 (map (λ (e : StackEntry). e.operator_idx) es) i
+numbers_are : (info : Module) (first : ℕ) (es : List StackEntry) → All (IsLater first) es → (i : ℕ) → IsNode (tree_at_entry (map (as_entry info first) es) i) →
+    first + number_of (tree_at_entry (map (as_entry info first) es) i) ≡ item 0 (map (λ (e : StackEntry). e.operator_idx) es) i
 numbers_are info first [] all i n = absurd n
 numbers_are info first (e ∷ earlier) all i n =
     chosen_number (length (map (as_entry info first) earlier) == i) (length (map (λ (e : StackEntry). e.operator_idx) earlier) == i) first _ _ _ _
     (ap (λ n. n == i) (length-map earlier (as_entry info first) ∙ sym (length-map earlier (λ (e : StackEntry). e.operator_idx))))
-    (own_number first (e.operator_idx - first) (undefs (map (as_entry info first) earlier)) e.operator_idx (option_map (shape_of info) (instr_of e.operator)) (children_of e.operator) (tree_at (map (as_entry info first) earlier)) (All-head (IsLater first) e earlier all) refl)
+    (own_number first (e.operator_idx - first) (undefs (map (as_entry info first) earlier)) e.operator_idx (option_map (shape_of info) (instr_of e.operator)) (children_of e.operator) (tree_at_entry (map (as_entry info first) earlier)) (All-head (IsLater first) e earlier all) refl)
     (numbers_are info first earlier (All-tail (IsLater first) e earlier all) i) n
 
 -- ---- a forest's roots are operators, ascending
@@ -162,7 +171,8 @@ rising_lower no_trees low less high l h = omega arith
 rising_lower (entry m ▸ ts) low less high l h = h
 rising_lower (node i s kids ▸ ts) low less high l h = let more : low ≤ i = h.0 in (omega arith, h.1)
 
-rising_joined : (ts : Trees) (low high : ℕ) (s : Shape) (kids : Trees) → AreRising low high ts → AreRising low (suc high) (join ts (node high s kids ▸ no_trees))
+rising_joined : (ts : Trees) (low high : ℕ) (s : Shape) (kids : Trees) → AreRising low high ts →
+    AreRising low (suc high) (join ts (node high s kids ▸ no_trees))
 rising_joined no_trees low high s kids h = (h, omega arith)
 rising_joined (entry m ▸ ts) low high s kids h = absurd h
 rising_joined (node i r below ▸ ts) low high s kids h = (h.0, rising_joined ts (suc i) high s kids h.1)
@@ -184,29 +194,31 @@ rising_forest : (block : List Shape) → AreRising 0 (length block) (forest bloc
 rising_forest block = rising_without (λ j. is_operand j (trees block)) (trees block) 0 (length block) (rising_block block)
 
 -- no root has a smaller number
-no_root : (first at : ℕ) (ts : Trees) (low high : ℕ) → AreRising low high ts → at < first + low → is_root first at ts ≡ false
+no_root : (first at : ℕ) (ts : Trees) (low high : ℕ) → AreRising low high ts → at < first + low → has_root first at ts ≡ false
 no_root first at no_trees low high h l = refl
 no_root first at (entry m ▸ ts) low high h l = absurd h
 no_root first at (node i s kids ▸ ts) low high h l =
     let more : low ≤ i = h.0 in
-    ap (λ (b : Bool). b || is_root first at ts) (ne_eqb (first + i) at (omega arith)) ∙ no_root first at ts (suc i) high h.1 (omega arith)
+    ap (λ (b : Bool). b || has_root first at ts) (ne_eqb (first + i) at (omega arith)) ∙ no_root first at ts (suc i) high h.1 (omega arith)
 
 -- ---- the roots' terms are the forest, in which one term stands for a tree
 
 -- where no root is the insertion point, nothing is replaced
-replaced_none : (first at : ℕ) (code other : List Instruction) (ts : Trees) → is_root first at ts ≡ false → replaced first at code ts ≡ replaced first at other ts
+replaced_none : (first at : ℕ) (code other : List Instruction) (ts : Trees) → has_root first at ts ≡ false →
+    with_tree_replaced first at code ts ≡ with_tree_replaced first at other ts
 replaced_none first at code other no_trees f = refl
 replaced_none first at code other (entry m ▸ ts) f = replaced_none first at code other ts f
 replaced_none first at code other (node i s kids ▸ ts) f = go (first + i == at) f (replaced_none first at code other ts)
   where
-    go : (b : Bool) → (b || is_root first at ts) ≡ false → (is_root first at ts ≡ false → replaced first at code ts ≡ replaced first at other ts) →
-        cond b code (instructions_of (node i s kids)) ++ replaced first at code ts ≡ cond b other (instructions_of (node i s kids)) ++ replaced first at other ts
+    go : (b : Bool) → (b || has_root first at ts) ≡ false →
+        (has_root first at ts ≡ false → with_tree_replaced first at code ts ≡ with_tree_replaced first at other ts) →
+        cond b code (instructions_of (node i s kids)) ++ with_tree_replaced first at code ts ≡ cond b other (instructions_of (node i s kids)) ++ with_tree_replaced first at other ts
     go true e h = absurd cc
     go false e h = ap (λ x. instructions_of (node i s kids) ++ x) (h e)
 
 -- What terms are written as that stand for trees, of which one is replaced by a term where `b` says so.
 pub record IsPart (first at : ℕ) (t : term.Term Head) (ts : Trees) (us : term.Terms Head) (b : Bool) : Type 0 where
-  pub code : (n : ℕ) (words : List ℕ) → expansion n words us ≡ followed (cond b (expansion_of n words t) (Ok [])) (λ code. Ok (replaced first at code ts))
+  pub code : (n : ℕ) (words : List ℕ) → expansion n words us ≡ then_code (cond b (expansion_of n words t) (Ok [])) (λ code. Ok (with_tree_replaced first at code ts))
   asked : requests us ≡ cond b (requests_of t) []
   drawn_types : draws us ≡ cond b (draws_of t) []
 
@@ -217,49 +229,52 @@ ok code = Ok code
 abbrev IsStep : (first at : ℕ) (t own : term.Term Head) (code : List Instruction) (ts : Trees) (us : term.Terms Head) → Bool → Type 0
 IsStep first at t own code ts us b =
     ((n : ℕ) (words : List ℕ) → expansion n words (with_term (cond b t own) us)
-    ≡ followed (cond (b || is_root first at ts) (expansion_of n words t) (Ok [])) (λ more. ok (cond b more code ++ replaced first at more ts)))
-    × (requests_of (cond b t own) ++ requests us ≡ cond (b || is_root first at ts) (requests_of t) [])
-    × (draws_of (cond b t own) ++ draws us ≡ cond (b || is_root first at ts) (draws_of t) [])
+    ≡ then_code (cond (b || has_root first at ts) (expansion_of n words t) (Ok [])) (λ more. ok (cond b more code ++ with_tree_replaced first at more ts)))
+    × (requests_of (cond b t own) ++ requests us ≡ cond (b || has_root first at ts) (requests_of t) [])
+    × (draws_of (cond b t own) ++ draws us ≡ cond (b || has_root first at ts) (draws_of t) [])
 
-term_first : (first at : ℕ) (ts : Trees) (e : Result (List Instruction) Error) → is_root first at ts ≡ false →
-    joined e (Ok (replaced first at [] ts)) ≡ followed e (λ code. Ok (code ++ replaced first at code ts))
+term_first : (first at : ℕ) (ts : Trees) (e : Result (List Instruction) Error) → has_root first at ts ≡ false →
+    joined_code e (Ok (with_tree_replaced first at [] ts)) ≡ then_code e (λ code. Ok (code ++ with_tree_replaced first at code ts))
 term_first first at ts (Err d) f = refl
 term_first first at ts (Ok is) f = ap (λ (x : List Instruction). ok (is ++ x)) (replaced_none first at [] is ts f)
 
 own_first : (first at : ℕ) (ts : Trees) (own : List Instruction) (x : Result (List Instruction) Error) →
-    joined (Ok own) (followed x (λ code. Ok (replaced first at code ts))) ≡ followed x (λ code. Ok (own ++ replaced first at code ts))
+    joined_code (Ok own) (then_code x (λ code. Ok (with_tree_replaced first at code ts))) ≡ then_code x (λ code. Ok (own ++ with_tree_replaced first at code ts))
 own_first first at ts own (Err d) = refl
 own_first first at ts own (Ok is) = refl
 
 add_none : (n : ℕ) → n + 0 ≡ n
 add_none n = omega arith
 
-step_term : (first at : ℕ) (t own : term.Term Head) (code : List Instruction) (ts : Trees) (us : term.Terms Head) → is_root first at ts ≡ false → IsPart first at t ts us (is_root first at ts) →
+step_term : (first at : ℕ) (t own : term.Term Head) (code : List Instruction) (ts : Trees) (us : term.Terms Head) → has_root first at ts ≡ false →
+    IsPart first at t ts us (has_root first at ts) →
     IsStep first at t own code ts us true
 step_term first at t own code ts us f ih =
     let k = subst (IsPart first at t ts us) f ih in (
-      λ n words. ap (λ (x : Result (List Instruction) Error). joined (expansion_of n words t) x) (k.code (n + length (requests_of t)) (drop (length (draws_of t)) words))
+      λ n words. ap (λ (x : Result (List Instruction) Error). joined_code (expansion_of n words t) x) (k.code (n + length (requests_of t)) (drop (length (draws_of t)) words))
           ∙ term_first first at ts (expansion_of n words t) f,
       ap (λ (x : List NumberType). requests_of t ++ x) k.asked ∙ append-nil (requests_of t),
       ap (λ (x : List NumberType). draws_of t ++ x) k.drawn_types ∙ append-nil (draws_of t),
     )
 
-step_own : (first at : ℕ) (t own : term.Term Head) (code : List Instruction) (ts : Trees) (us : term.Terms Head) → IsItself own code → IsPart first at t ts us (is_root first at ts) →
+step_own : (first at : ℕ) (t own : term.Term Head) (code : List Instruction) (ts : Trees) (us : term.Terms Head) → IsItself own code →
+    IsPart first at t ts us (has_root first at ts) →
     IsStep first at t own code ts us false
 step_own first at t own code ts us i k = (
   λ n words.
       let next : n + length (requests_of own) ≡ n = ap (λ (x : List NumberType). n + length x) i.asks ∙ add_none n in
       let left : drop (length (draws_of own)) words ≡ words = ap (λ (x : List NumberType). drop (length x) words) i.takes in
-      ap₂ joined (i.expands n words) (ap₂ (λ m ws. expansion m ws us) next left ∙ k.code n words)
-      ∙ own_first first at ts code (cond (is_root first at ts) (expansion_of n words t) (Ok [])),
+      ap₂ joined_code (i.expands n words) (ap₂ (λ m ws. expansion m ws us) next left ∙ k.code n words)
+      ∙ own_first first at ts code (cond (has_root first at ts) (expansion_of n words t) (Ok [])),
   ap₂ (λ (x y : List NumberType). x ++ y) i.asks k.asked,
   ap₂ (λ (x y : List NumberType). x ++ y) i.takes k.drawn_types,
 )
 
 -- an operator's tree first
-node_part : (first at : ℕ) (t own : term.Term Head) (i high : ℕ) (s : Shape) (kids ts : Trees) (us : term.Terms Head) → AreRising (suc i) high ts → IsItself own (instructions_of (node i s kids)) →
-    IsPart first at t ts us (is_root first at ts) →
-    IsPart first at t (node i s kids ▸ ts) (with_term (cond (first + i == at) t own) us) (is_root first at (node i s kids ▸ ts))
+node_part : (first at : ℕ) (t own : term.Term Head) (i high : ℕ) (s : Shape) (kids ts : Trees) (us : term.Terms Head) → AreRising (suc i) high ts →
+    IsItself own (instructions_of (node i s kids)) →
+    IsPart first at t ts us (has_root first at ts) →
+    IsPart first at t (node i s kids ▸ ts) (with_term (cond (first + i == at) t own) us) (has_root first at (node i s kids ▸ ts))
 node_part first at t own i high s kids ts us rising itself k =
     let step = go (first + i == at) refl in
     record { code = step.0; asked = step.1; drawn_types = step.2 }
@@ -271,99 +286,113 @@ node_part first at t own i high s kids ts us rising itself k =
     go false e = step_own first at t own (instructions_of (node i s kids)) ts us itself k
 
 -- the first tree, which is an operator's
-tree_part : (first at : ℕ) (t own : term.Term Head) (low high number : ℕ) (x : Tree) (ts : Trees) (us : term.Terms Head) → AreRising low high (x ▸ ts) → (IsNode x → first + number_of x ≡ number) →
-    IsItself own (instructions_of x) → ((next : ℕ) → AreRising next high ts → IsPart first at t ts us (is_root first at ts)) →
-    IsPart first at t (x ▸ ts) (with_term (cond (number == at) t own) us) (is_root first at (x ▸ ts))
+tree_part : (first at : ℕ) (t own : term.Term Head) (low high number : ℕ) (x : Tree) (ts : Trees) (us : term.Terms Head) →
+    AreRising low high (x ▸ ts) → (IsNode x → first + number_of x ≡ number) →
+    IsItself own (instructions_of x) → ((next : ℕ) → AreRising next high ts → IsPart first at t ts us (has_root first at ts)) →
+    IsPart first at t (x ▸ ts) (with_term (cond (number == at) t own) us) (has_root first at (x ▸ ts))
 tree_part first at t own low high number (entry m) ts us rising n itself k = absurd rising
 tree_part first at t own low high number (node i s kids) ts us rising n itself k =
-    subst (λ (m : ℕ). IsPart first at t (node i s kids ▸ ts) (with_term (cond (m == at) t own) us) (is_root first at (node i s kids ▸ ts))) (n tt)
+    subst (λ (m : ℕ). IsPart first at t (node i s kids ▸ ts) (with_term (cond (m == at) t own) us) (has_root first at (node i s kids ▸ ts))) (n tt)
     (node_part first at t own i high s kids ts us rising.1 itself (k (suc i) rising.1))
 
-roots_part : (first at : ℕ) (t : term.Term Head) (entries : List StackEntry) (tree : ℕ → Tree) (is : List ℕ) (low high : ℕ) → AreRising low high (pick tree is) →
-    ((i : ℕ) → IsNode (tree i) → first + number_of (tree i) ≡ operator_at entries i) →
+roots_part : (first at : ℕ) (t : term.Term Head) (entries : List StackEntry) (tree : ℕ → Tree) (is : List ℕ) (low high : ℕ) →
+    AreRising low high (trees_at tree is) →
+    ((i : ℕ) → IsNode (tree i) → first + number_of (tree i) ≡ operator_of_entry entries i) →
     ((i : ℕ) → IsItself (term.tree_at (entry_nodes entries) i) (instructions_of (tree i))) →
-    IsPart first at t (pick tree is) (root_terms at t entries is) (is_root first at (pick tree is))
+    IsPart first at t (trees_at tree is) (root_terms at t entries is) (has_root first at (trees_at tree is))
 roots_part first at t entries tree [] low high rising numbers own = record { code = λ n words. refl; asked = refl; drawn_types = refl }
 roots_part first at t entries tree (i ∷ is) low high rising numbers own =
-    tree_part first at t (term.tree_at (entry_nodes entries) i) low high (operator_at entries i) (tree i) (pick tree is) (root_terms at t entries is) rising (numbers i) (own i)
+    tree_part first at t (term.tree_at (entry_nodes entries) i) low high (operator_of_entry entries i) (tree i) (trees_at tree is) (root_terms at t entries is) rising (numbers i) (own i)
     (λ next more. roots_part first at t entries tree is next high more numbers own)
 
 -- the same lists, seen from the last entry on
-entries_back : (info : Module) (first : ℕ) (entries : List StackEntry) → nodes_of info first entries ≡ map (as_entry info first) (reverse entries)
-entries_back info first entries = ap (λ (x : List Entry). reverse x) (map-map (entry_of info first) seen entries) ∙ sym (map-reverse (as_entry info first) entries)
+entries_back : (info : Module) (first : ℕ) (entries : List StackEntry) → graph_entries info first entries ≡ map (as_entry info first) (reverse entries)
+entries_back info first entries =
+    ap (λ (x : List GraphEntry). reverse x) (map-map (graph_entry info first) entry_view entries) ∙ sym (map-reverse (as_entry info first) entries)
 
-operator_back : (entries : List StackEntry) (i : ℕ) → operator_at entries i ≡ item 0 (map (λ (e : StackEntry). e.operator_idx) (reverse entries)) i
+operator_back : (entries : List StackEntry) (i : ℕ) → operator_of_entry entries i ≡ item 0 (map (λ (e : StackEntry). e.operator_idx) (reverse entries)) i
 operator_back entries i =
-    get_item 0 (map (λ (e : StackEntry). e.operator_idx) entries) i ∙ ap (λ (x : List ℕ). item 0 x i) (sym (map-reverse (λ (e : StackEntry). e.operator_idx) entries))
+    get_item 0 (map (λ (e : StackEntry). e.operator_idx) entries) i
+    ∙ ap (λ (x : List ℕ). item 0 x i) (sym (map-reverse (λ (e : StackEntry). e.operator_idx) entries))
 
 -- what the encoder writes for the roots is what the block is written as
-pub roots_written : (info : Module) (keeping : Bool) (first : ℕ) (operators : List (Operator × ℕ)) (entries : List StackEntry) (parents : List (Option ℕ)) (look : ℕ → Option ℕ) (at : ℕ) (t : term.Term Head) →
-    IsGraphOf info keeping first operators entries parents look →
-    IsPart first at t (forest (block_of info operators)) (root_terms at t entries (roots_of parents)) (is_root first at (forest (block_of info operators)))
-roots_written info keeping first operators entries parents look at t h =
-    let back = reverse entries in
-    let block = block_of info operators in
-    let r = represents info keeping first operators entries parents look h in
-    let later : All (IsLater first) back = All-reverse (IsLater first) entries (All-unmap (λ (x : Seen). first ≤ x.operator) seen entries r.later) in
-    let own : All IsOwnOrUndef back = All-reverse IsOwnOrUndef entries r.missing in
-    let tree : ℕ → Tree = tree_at (map (as_entry info first) back) in
-    let nodes : entry_nodes entries ≡ map as_node back = sym (map-reverse as_node entries) in
-    let stands : pick tree (roots_of parents) ≡ forest block = ap (λ (x : List Entry). pick (tree_at x) (roots_of parents)) (sym (entries_back info first entries)) ∙ r.stands.trees in
-    subst (λ (x : Trees). IsPart first at t x (root_terms at t entries (roots_of parents)) (is_root first at x)) stands
-    (roots_part first at t entries tree (roots_of parents) 0 (length block) (subst (λ (x : Trees). AreRising 0 (length block) x) (sym stands) (rising_forest block))
-    (λ i n. numbers_are info first back later i n ∙ sym (operator_back entries i))
-    (λ i. subst (λ (x : List (term.Node Head)). IsItself (term.tree_at x i) (instructions_of (tree i))) (sym nodes) (trees_themselves info first back own i)))
+pub roots_written : (source : Source) (g : Graph) (at : ℕ) (t : term.Term Head) → IsGraphOf source g →
+    IsPart source.first at t (forest (shapes_in source)) (root_terms at t g.entries (roots_of g.parents)) (has_root source.first at (forest (shapes_in source)))
+roots_written source g at t h =
+    let first = source.first in
+    let back = reverse g.entries in
+    let block = shapes_in source in
+    let r = represents source g h in
+    let later : All (IsLater first) back =
+    All-reverse (IsLater first) g.entries (All-unmap (λ (x : EntryView). first ≤ x.operator) entry_view g.entries r.later) in
+    let own : All IsOwnOrUndef back = All-reverse IsOwnOrUndef g.entries r.missing in
+    let tree : ℕ → Tree = tree_at_entry (map (as_entry source.info first) back) in
+    let nodes : entry_nodes g.entries ≡ map as_node back = sym (map-reverse as_node g.entries) in
+    let stands : trees_at tree (roots_of g.parents) ≡ forest block =
+    ap (λ (x : List GraphEntry). trees_at (tree_at_entry x) (roots_of g.parents)) (sym (entries_back source.info first g.entries)) ∙ r.stands.trees in
+    subst (λ (x : Trees). IsPart first at t x (root_terms at t g.entries (roots_of g.parents)) (has_root first at x)) stands
+    (roots_part first at t g.entries tree (roots_of g.parents) 0 (length block)
+    (subst (λ (x : Trees). AreRising 0 (length block) x) (sym stands) (rising_forest block))
+    (λ i n. numbers_are source.info first back later i n ∙ sym (operator_back g.entries i))
+    (λ i. subst (λ (x : List (term.Node Head)). IsItself (term.tree_at x i) (instructions_of (tree i))) (sym nodes)
+    (trees_themselves source.info first back own i)))
 
 -- ---- what is written for a root
 
-pub term_there : (at : ℕ) (t : term.Term Head) (entries : List StackEntry) (i : ℕ) (d : StackEntry) → i < length entries → (get_or entries i d).operator_idx ≡ at → root_term at t entries i ≡ t
-term_there at t entries i d l there = cond-true _ _ _ (eq-eqb (operator_at entries i) at (get_or-map (λ (e : StackEntry). e.operator_idx) entries i d 0 l ∙ there))
+pub term_there : (at : ℕ) (t : term.Term Head) (entries : List StackEntry) (i : ℕ) (d : StackEntry) → i < length entries →
+    (get_or entries i d).operator_idx ≡ at → root_term at t entries i ≡ t
+term_there at t entries i d l there =
+    cond-true _ _ _ (eq-eqb (operator_of_entry entries i) at (get_or-map (λ (e : StackEntry). e.operator_idx) entries i d 0 l ∙ there))
 
-pub tree_there : (at : ℕ) (t : term.Term Head) (entries : List StackEntry) (i : ℕ) (d : StackEntry) → i < length entries → ((get_or entries i d).operator_idx ≡ at → ⊥) →
+pub tree_there : (at : ℕ) (t : term.Term Head) (entries : List StackEntry) (i : ℕ) (d : StackEntry) → i < length entries →
+    ((get_or entries i d).operator_idx ≡ at → ⊥) →
     root_term at t entries i ≡ term.tree_at (entry_nodes entries) i
-tree_there at t entries i d l elsewhere = cond-false _ _ _ (ne_eqb (operator_at entries i) at (λ there. elsewhere (sym (get_or-map (λ (e : StackEntry). e.operator_idx) entries i d 0 l) ∙ there)))
+tree_there at t entries i d l elsewhere =
+    cond-false _ _ _ (ne_eqb (operator_of_entry entries i) at (λ there. elsewhere (sym (get_or-map (λ (e : StackEntry). e.operator_idx) entries i d 0 l) ∙ there)))
 
 -- ---- the roots are walked over
 
 each_less : (n : ℕ) (is : List ℕ) → ((i : ℕ) → has i is ≡ true → i < n) → All (λ i. i < n) is
 each_less n [] h = All-nil (λ i. i < n)
-each_less n (i ∷ is) h = All-cons (λ i. i < n) i is (h i (ap (λ (b : Bool). b || has i is) (eq-eqb i i refl))) (each_less n is (λ j e. h j (more (i == j) (has j is) e)))
+each_less n (i ∷ is) h =
+    All-cons (λ i. i < n) i is (h i (ap (λ (b : Bool). b || has i is) (eq-eqb i i refl))) (each_less n is (λ j e. h j (more (i == j) (has j is) e)))
   where
     more : (b c : Bool) → c ≡ true → (b || c) ≡ true
     more true c e = refl
     more false c e = e
 
-below_of : (info : Module) (first : ℕ) (es : List StackEntry) → ((p i : ℕ) → has i (entry_at (map (as_entry info first) es) p).children ≡ true → i < p) → term.AreBelow (map as_node es)
+below_of : (info : Module) (first : ℕ) (es : List StackEntry) →
+    ((p i : ℕ) → has i (entry_at (map (as_entry info first) es) p).children ≡ true → i < p) → term.AreBelow (map as_node es)
 below_of info first [] h = tt
 below_of info first (e ∷ earlier) h =
     let n = length-map earlier (as_entry info first) in
     let m = length-map earlier as_node in
     let front = map (as_entry info first) earlier in (
       each_less (length (map as_node earlier)) (children_of e.operator) (λ i t.
-          let l : i < length front = h (length front) i (ap (λ (x : Entry). has i x.children) (item_last (undef 0) (as_entry info first e) front (length front) refl) ∙ t) in
+          let l : i < length front = h (length front) i (ap (λ (x : GraphEntry). has i x.children) (item_last (undef 0) (as_entry info first e) front (length front) refl) ∙ t) in
           omega arith),
       below_of info first earlier (λ p i t. elim (before_last_behind (length front) p) [
-        | inl l ↦ h p i (ap (λ (x : Entry). has i x.children) (item_before (undef 0) (as_entry info first e) front p l) ∙ t)
+        | inl l ↦ h p i (ap (λ (x : GraphEntry). has i x.children) (item_before (undef 0) (as_entry info first e) front p l) ∙ t)
         | inr b ↦ absurd (none p i (at_or_behind p b) t)
       ]),
     )
   where
-    at_or_behind : (p : ℕ) → (length (map (as_entry info first) earlier) ≡ p) ⊎ (length (map (as_entry info first) earlier) < p) → length (map (as_entry info first) earlier) ≤ p
+    at_or_behind : (p : ℕ) → (length (map (as_entry info first) earlier) ≡ p) ⊎ (length (map (as_entry info first) earlier) < p) →
+        length (map (as_entry info first) earlier) ≤ p
     at_or_behind p (inl e) = omega arith
     at_or_behind p (inr l) = omega arith
 
     none : (p i : ℕ) → length (map (as_entry info first) earlier) ≤ p → has i (entry_at (map (as_entry info first) earlier) p).children ≡ true → ⊥
-    none p i l t = let e : false ≡ true = sym (ap (λ (x : Entry). has i x.children) (item_none (undef 0) (map (as_entry info first) earlier) p l)) ∙ t in cc
+    none p i l t =
+        let e : false ≡ true = sym (ap (λ (x : GraphEntry). has i x.children) (item_none (undef 0) (map (as_entry info first) earlier) p l)) ∙ t in cc
 
-pub walkable : (info : Module) (keeping : Bool) (first : ℕ) (operators : List (Operator × ℕ)) (entries : List StackEntry) (parents : List (Option ℕ)) (look : ℕ → Option ℕ) →
-    IsGraphOf info keeping first operators entries parents look → IsWalkable entries parents
-walkable info keeping first operators entries parents look h =
-    let same = entries_back info first entries in
-    record {
-      below = subst term.AreBelow (map-reverse as_node entries)
-          (below_of info first (reverse entries) (λ p i t. ((represents info keeping first operators entries parents look h).stands.parent p i (ap (λ (x : List Entry). has i (entry_at x p).children) same ∙ t)).1));
-      parent_each = parents_length info keeping first operators entries parents look h;
-    }
+walkable : (source : Source) (g : Graph) → IsGraphOf source g → IsWalkable g.entries g.parents
+walkable source g h = record {
+  below = subst term.AreBelow (map-reverse as_node g.entries) (below_of source.info source.first (reverse g.entries) (λ p i t.
+      ((represents source g h).stands.parent p i
+      (ap (λ (x : List GraphEntry). has i (entry_at x p).children) (entries_back source.info source.first g.entries) ∙ t)).1));
+  parent_each = parents_length source g h;
+}
 
 -- ---- the loop over the parents
 
@@ -388,89 +417,88 @@ roots_behind (p ∷ ps) back front e =
     one_more None = (length front ∷ [], roots_root front)
     one_more (Some q) = ([], roots_child front q ∙ sym (append-nil (roots_of front)))
 
-abbrev all_steps : ℕ → term.Term Head → List StackEntry → List (Option ℕ) → List Step
-all_steps at t entries parents = steps (root_terms at t entries (roots_of parents))
-
 -- at a root, the steps go on with those of its term
 next_root : (at : ℕ) (t : term.Term Head) (entries : List StackEntry) (parents : List (Option ℕ)) (i : ℕ) → i < length parents → get_or parents i None ≡ None →
-    all_steps at t entries (take (i + 1) parents) ≡ all_steps at t entries (take i parents) ++ steps_of (root_term at t entries i)
+    root_steps at t entries (take (i + 1) parents) ≡ root_steps at t entries (take i parents) ++ steps_of (root_term at t entries i)
 next_root at t entries parents i l none =
     let front = take i parents in
     let n : length front ≡ i = omega (arith, length-take i parents) in
     let taken : take (i + 1) parents ≡ front ++ None ∷ [] = take_more parents i None l ∙ ap (λ (q : Option ℕ). front ++ q ∷ []) none in
-    let roots : roots_of (take (i + 1) parents) ≡ roots_of front ++ i ∷ [] = ap roots_of taken ∙ (roots_root front ∙ ap (λ k. roots_of front ++ k ∷ []) n) in
+    let roots : roots_of (take (i + 1) parents) ≡ roots_of front ++ i ∷ [] =
+    ap roots_of taken ∙ (roots_root front ∙ ap (λ k. roots_of front ++ k ∷ []) n) in
     ap (λ (x : List ℕ). steps (root_terms at t entries x)) roots
-    ∙ (root_terms-append at t entries (roots_of front) (i ∷ []) ∙ ap (λ (x : List Step). all_steps at t entries front ++ x) (append-nil (steps_of (root_term at t entries i))))
+    ∙ (root_terms-append at t entries (roots_of front) (i ∷ [])
+    ∙ ap (λ (x : List Step). root_steps at t entries front ++ x) (append-nil (steps_of (root_term at t entries i))))
+
+-- steps behind others
+done_more : {count : ℕ} {front here : List Step} {start w v : Writing} → Does count front start w (Ok tt) → Does count here w v (Ok tt) →
+    Does count (front ++ here) start v (Ok tt)
+done_more {count} {front} {here} {start} {w} {v} before own = record {
+  ok = take_steps-append count front here start ∙ (ap (λ (x : Result Writing Error). then_steps x (take_steps count here)) before.ok ∙ own.ok);
+  err = tt;
+  in_range = All-append IsInRange front here before.in_range own.in_range;
+  kept = kept_more start.bytes w.bytes v.bytes before.kept own.kept;
+}
 
 -- one more root is written
-pub root_step : (count at : ℕ) (t : term.Term Head) (entries : List StackEntry) (parents : List (Option ℕ)) (i : ℕ) (start w v : Writing) → i < length parents → get_or parents i None ≡ None →
-    take_steps count (all_steps at t entries (take i parents)) start ≡ Ok w → take_steps count (steps_of (root_term at t entries i)) w ≡ Ok v →
-    take_steps count (all_steps at t entries (take (i + 1) parents)) start ≡ Ok v
-root_step count at t entries parents i start w v l none before own =
-    let front = all_steps at t entries (take i parents) in
-    let here = steps_of (root_term at t entries i) in
-    ap (λ (x : List Step). take_steps count x start) (next_root at t entries parents i l none)
-    ∙ (take_steps-append count front here start ∙ (ap (λ (x : Result Writing Error). after x (take_steps count here)) before ∙ own))
+pub root_done : {count : ℕ} {start w v : Writing} (at : ℕ) (t : term.Term Head) (entries : List StackEntry) (parents : List (Option ℕ)) (i : ℕ) →
+    i < length parents → get_or parents i None ≡ None →
+    Does count (root_steps at t entries (take i parents)) start w (Ok tt) → Does count (steps_of (root_term at t entries i)) w v (Ok tt) →
+    Does count (root_steps at t entries (take (i + 1) parents)) start v (Ok tt)
+root_done {count} {start} {v} at t entries parents i l none before own =
+    subst (λ (x : List Step). Does count x start v (Ok tt)) (sym (next_root at t entries parents i l none)) (done_more before own)
 
 -- or its term refuses, and so does the whole
-pub root_refused : (count at : ℕ) (t : term.Term Head) (entries : List StackEntry) (parents : List (Option ℕ)) (i : ℕ) (start w : Writing) (d : Error) → i < length parents → get_or parents i None ≡ None →
-    take_steps count (all_steps at t entries (take i parents)) start ≡ Ok w → IsRefusal d (take_steps count (steps_of (root_term at t entries i)) w) →
-    IsRefusal d (take_steps count (all_steps at t entries parents) start)
-root_refused count at t entries parents i start w d l none before own =
-    let front = all_steps at t entries (take i parents) in
+pub root_refused : {count : ℕ} {start w : Writing} (at : ℕ) (t : term.Term Head) (entries : List StackEntry) (parents : List (Option ℕ)) (i : ℕ) (d : Error) →
+    i < length parents → get_or parents i None ≡ None →
+    Does count (root_steps at t entries (take i parents)) start w (Ok tt) → IsRefusal d (take_steps count (steps_of (root_term at t entries i)) w) →
+    IsRefusal d (take_steps count (root_steps at t entries parents) start)
+root_refused {count} {start} {w} at t entries parents i d l none before own =
+    let front = root_steps at t entries (take i parents) in
     let here = steps_of (root_term at t entries i) in
     let more = roots_behind (drop (i + 1) parents) (reverse (drop (i + 1) parents)) (take (i + 1) parents) refl in
     let roots : roots_of parents ≡ roots_of (take (i + 1) parents) ++ more.0 = ap roots_of (sym (take-append-drop (i + 1) parents)) ∙ more.1 in
     let rest = steps (root_terms at t entries more.0) in
-    let whole : all_steps at t entries parents ≡ (front ++ here) ++ rest =
+    let whole : root_steps at t entries parents ≡ (front ++ here) ++ rest =
     ap (λ (x : List ℕ). steps (root_terms at t entries x)) roots
-    ∙ (root_terms-append at t entries (roots_of (take (i + 1) parents)) more.0 ∙ ap (λ (x : List Step). x ++ rest) (next_root at t entries parents i l none)) in
+    ∙ (root_terms-append at t entries (roots_of (take (i + 1) parents)) more.0
+    ∙ ap (λ (x : List Step). x ++ rest) (next_root at t entries parents i l none)) in
     let begun : take_steps count (front ++ here) start ≡ take_steps count here w =
-    take_steps-append count front here start ∙ ap (λ (x : Result Writing Error). after x (take_steps count here)) before in
-    refused_after d (take_steps count here w) (take_steps count (all_steps at t entries parents) start) (take_steps count rest)
-    (ap (λ (x : Result Writing Error). after x (take_steps count rest)) (sym begun)
+    take_steps-append count front here start ∙ ap (λ (x : Result Writing Error). then_steps x (take_steps count here)) before.ok in
+    refused_after d (take_steps count here w) (take_steps count (root_steps at t entries parents) start) (take_steps count rest)
+    (ap (λ (x : Result Writing Error). then_steps x (take_steps count rest)) (sym begun)
     ∙ (sym (take_steps-append count (front ++ here) rest start) ∙ ap (λ (x : List Step). take_steps count x start) (sym whole))) own
 
--- their instructions are in range
-pub root_in_range : (at : ℕ) (t : term.Term Head) (entries : List StackEntry) (parents : List (Option ℕ)) (i : ℕ) → i < length parents → get_or parents i None ≡ None →
-    All IsInRange (all_steps at t entries (take i parents)) → All IsInRange (steps_of (root_term at t entries i)) → All IsInRange (all_steps at t entries (take (i + 1) parents))
-root_in_range at t entries parents i l none before own =
-    subst (All IsInRange) (sym (next_root at t entries parents i l none)) (All-append IsInRange (all_steps at t entries (take i parents)) (steps_of (root_term at t entries i)) before own)
-
 -- one more entry is none
-child_same : (at : ℕ) (t : term.Term Head) (entries : List StackEntry) (parents : List (Option ℕ)) (i p : ℕ) → i < length parents → get_or parents i None ≡ Some p →
-    all_steps at t entries (take (i + 1) parents) ≡ all_steps at t entries (take i parents)
-child_same at t entries parents i p l some =
-    let taken : take (i + 1) parents ≡ take i parents ++ Some p ∷ [] = take_more parents i None l ∙ ap (λ (q : Option ℕ). take i parents ++ q ∷ []) some in
-    ap (λ (x : List ℕ). steps (root_terms at t entries x)) (ap roots_of taken ∙ roots_child (take i parents) p)
-
-pub child_in_range : (at : ℕ) (t : term.Term Head) (entries : List StackEntry) (parents : List (Option ℕ)) (i p : ℕ) → i < length parents → get_or parents i None ≡ Some p →
-    All IsInRange (all_steps at t entries (take i parents)) → All IsInRange (all_steps at t entries (take (i + 1) parents))
-child_in_range at t entries parents i p l some before = subst (All IsInRange) (sym (child_same at t entries parents i p l some)) before
-
-pub child_step : (count at : ℕ) (t : term.Term Head) (entries : List StackEntry) (parents : List (Option ℕ)) (i p : ℕ) (start w : Writing) → i < length parents → get_or parents i None ≡ Some p →
-    take_steps count (all_steps at t entries (take i parents)) start ≡ Ok w → take_steps count (all_steps at t entries (take (i + 1) parents)) start ≡ Ok w
-child_step count at t entries parents i p start w l some e = ap (λ (x : List Step). take_steps count x start) (child_same at t entries parents i p l some) ∙ e
+pub child_done : {count : ℕ} {start w : Writing} (at : ℕ) (t : term.Term Head) (entries : List StackEntry) (parents : List (Option ℕ)) (i p : ℕ) →
+    i < length parents → get_or parents i None ≡ Some p →
+    Does count (root_steps at t entries (take i parents)) start w (Ok tt) → Does count (root_steps at t entries (take (i + 1) parents)) start w (Ok tt)
+child_done {count} {start} {w} at t entries parents i p l some before =
+    let front = take i parents in
+    let taken : take (i + 1) parents ≡ front ++ Some p ∷ [] = take_more parents i None l ∙ ap (λ (q : Option ℕ). front ++ q ∷ []) some in
+    subst (λ (x : List ℕ). Does count (steps (root_terms at t entries x)) start w (Ok tt)) (sym (ap roots_of taken ∙ roots_child front p)) before
 
 -- what a branch leaves is what it wrote
-pub same_writing : (a b : List ℕ) (r q : List ResourceRequest) (s t : Stream) → b ≡ a → q ≡ r → t ≡ s →
-    ◌≡◌ {A = Result Writing Error} (Ok (record { bytes = a; requests = r; stream = s })) (Ok (record { bytes = b; requests = q; stream = t }))
-same_writing a b r q s t e f g = cc
+pub left_as : {count : ℕ} {ss : List Step} {start : Writing} {a b : List ℕ} {r q : List ResourceRequest} {s t : Stream} → b ≡ a → q ≡ r → t ≡ s →
+    Does count ss start (writing_of a r s) (Ok tt) → Does count ss start (writing_of b q t) (Ok tt)
+left_as {count} {ss} {start} {a} {b} {r} {q} {s} {t} e f g h =
+    let same : writing_of b q t ≡ writing_of a r s = cc in
+    subst (λ (w : Writing). Does count ss start w (Ok tt)) (sym same) h
 
 -- ---- under a configuration that is set up
 
-pub walkable_under : (under : Option Module) (keeping : Bool) (first : ℕ) (operators : List (Operator × ℕ)) (entries : List StackEntry) (parents : List (Option ℕ)) (look : ℕ → Option ℕ) →
-    IsTrue (is_some under) → IfSome under (λ info. IsGraphOf info keeping first operators entries parents look) → IsWalkable entries parents
-walkable_under None keeping first operators entries parents look s h = absurd cc
-walkable_under (Some info) keeping first operators entries parents look s h = walkable info keeping first operators entries parents look h
+pub walkable_under : (under : Option Module) (preserving : Bool) (operators : List (Operator × ℕ)) (block : BlockRange) (g : Graph) →
+    IsTrue (is_some under) → IfSome under (λ info. IsGraphOf (source_of info preserving operators block) g) → IsWalkable g.entries g.parents
+walkable_under None preserving operators block g s h = absurd cc
+walkable_under (Some info) preserving operators block g s h = walkable (source_of info preserving operators block) g h
 
 -- What is there after success.
 pub record IsBlockWritten (first at : ℕ) (t : term.Term Head) (ts : Trees) (count : ℕ) (w v : Writing) : Type 0 where
   pub code : List Instruction
-  pub expands : cond (is_root first at ts) (expansion_of count (drawn (draws_of t) w.stream).0 t) (Ok []) ≡ Ok code
-  pub bytes : v.bytes ≡ w.bytes ++ codes (replaced first at code ts)
-  pub requests : v.requests ≡ cond (is_root first at ts) (map request (requests_of t)) []
-  pub stream : v.stream ≡ cond (is_root first at ts) (drawn (draws_of t) w.stream).1 w.stream
+  pub expands : cond (has_root first at ts) (expansion_of count (drawn (draws_of t) w.stream).0 t) (Ok []) ≡ Ok code
+  pub bytes : v.bytes ≡ w.bytes ++ codes (with_tree_replaced first at code ts)
+  pub requests : v.requests ≡ cond (has_root first at ts) (map request (requests_of t)) []
+  pub stream : v.stream ≡ cond (has_root first at ts) (drawn (draws_of t) w.stream).1 w.stream
 
 words_are : (count : ℕ) (t : term.Term Head) (stream : Stream) (b : Bool) (ds : List NumberType) → ds ≡ cond b (draws_of t) [] →
     cond b (expansion_of count (drawn ds stream).0 t) (Ok []) ≡ cond b (expansion_of count (drawn (draws_of t) stream).0 t) (Ok [])
@@ -485,12 +513,14 @@ behind_is : (b : Bool) (ts : List NumberType) (stream : Stream) → (drawn (cond
 behind_is true ts stream = refl
 behind_is false ts stream = refl
 
-followed_ok : (e : Result (List Instruction) Error) (f : List Instruction → List Instruction) (is : List Instruction) → followed e (λ code. Ok (f code)) ≡ Ok is →
+followed_ok : (e : Result (List Instruction) Error) (f : List Instruction → List Instruction) (is : List Instruction) →
+    then_code e (λ code. Ok (f code)) ≡ Ok is →
     (code : List Instruction) × (e ≡ Ok code) × (is ≡ f code)
 followed_ok (Ok code) f is e = (code, refl, cc)
 followed_ok (Err d) f is e = absurd cc
 
-followed_err : (e : Result (List Instruction) Error) (f : List Instruction → List Instruction) (d : Error) → Refuses (followed e (λ code. Ok (f code))) d → Refuses e d
+followed_err : (e : Result (List Instruction) Error) (f : List Instruction → List Instruction) (d : Error) →
+    Refuses (then_code e (λ code. Ok (f code))) d → Refuses e d
 followed_err (Ok code) f Memory r = tt
 followed_err (Ok code) f CannotUnfold r = absurd cc
 followed_err (Ok code) f GlobalIndex r = absurd cc
@@ -498,32 +528,36 @@ followed_err (Ok code) f _ r = r
 followed_err (Err c) f d r = r
 
 -- the code of the whole, by the term's
-code_is : (first at : ℕ) (t : term.Term Head) (ts : Trees) (us : term.Terms Head) (count : ℕ) (stream : Stream) → IsPart first at t ts us (is_root first at ts) →
+code_is : (first at : ℕ) (t : term.Term Head) (ts : Trees) (us : term.Terms Head) (count : ℕ) (stream : Stream) →
+    IsPart first at t ts us (has_root first at ts) →
     expansion count (drawn (draws us) stream).0 us
-    ≡ followed (cond (is_root first at ts) (expansion_of count (drawn (draws_of t) stream).0 t) (Ok [])) (λ code. Ok (replaced first at code ts))
+    ≡ then_code (cond (has_root first at ts) (expansion_of count (drawn (draws_of t) stream).0 t) (Ok [])) (λ code. Ok (with_tree_replaced first at code ts))
 code_is first at t ts us count stream p =
     p.code count (drawn (draws us) stream).0
-    ∙ ap (λ (x : Result (List Instruction) Error). followed x (λ code. Ok (replaced first at code ts))) (words_are count t stream (is_root first at ts) (draws us) p.drawn_types)
+    ∙ ap (λ (x : Result (List Instruction) Error). then_code x (λ code. Ok (with_tree_replaced first at code ts))) (words_are count t stream (has_root first at ts) (draws us) p.drawn_types)
 
-pub block_written : (first at : ℕ) (t : term.Term Head) (ts : Trees) (us : term.Terms Head) (count : ℕ) (w v : Writing) → IsPart first at t ts us (is_root first at ts) → w.requests ≡ [] →
+pub block_written : (first at : ℕ) (t : term.Term Head) (ts : Trees) (us : term.Terms Head) (count : ℕ) (w v : Writing) →
+    IsPart first at t ts us (has_root first at ts) → w.requests ≡ [] →
     take_steps count (steps us) w ≡ Ok v → IsBlockWritten first at t ts count w v
 block_written first at t ts us count w v p none e =
     let h = finished w v (requests us) (draws us) (expansion count (drawn (draws us) w.stream).0 us) (sym (all_from_start us count w none) ∙ e) in
-    let f = followed_ok (cond (is_root first at ts) (expansion_of count (drawn (draws_of t) w.stream).0 t) (Ok [])) (λ code. replaced first at code ts) h.instructions
+    let f = followed_ok (cond (has_root first at ts) (expansion_of count (drawn (draws_of t) w.stream).0 t) (Ok [])) (λ code. with_tree_replaced first at code ts) h.instructions
     (sym (code_is first at t ts us count w.stream p) ∙ h.expands) in
     record {
       code = f.0;
       expands = f.1;
       bytes = h.bytes ∙ ap (λ (x : List Instruction). w.bytes ++ codes x) f.2;
-      requests = h.requests ∙ (ap (λ (x : List ResourceRequest). x ++ map request (requests us)) none ∙ (ap (λ (x : List NumberType). map request x) p.asked ∙ asked_are (is_root first at ts) (requests_of t)));
-      stream = h.stream ∙ (ap (λ (x : List NumberType). (drawn x w.stream).1) p.drawn_types ∙ behind_is (is_root first at ts) (draws_of t) w.stream);
+      requests = h.requests ∙ (ap (λ (x : List ResourceRequest). x ++ map request (requests us)) none
+          ∙ (ap (λ (x : List NumberType). map request x) p.asked ∙ asked_are (has_root first at ts) (requests_of t)));
+      stream = h.stream ∙ (ap (λ (x : List NumberType). (drawn x w.stream).1) p.drawn_types ∙ behind_is (has_root first at ts) (draws_of t) w.stream);
     }
 
-pub block_refused : (first at : ℕ) (t : term.Term Head) (ts : Trees) (us : term.Terms Head) (count : ℕ) (w : Writing) (d : Error) → IsPart first at t ts us (is_root first at ts) → w.requests ≡ [] →
-    IsRefusal d (take_steps count (steps us) w) → Refuses (cond (is_root first at ts) (expansion_of count (drawn (draws_of t) w.stream).0 t) (Ok [])) d
+pub block_refused : (first at : ℕ) (t : term.Term Head) (ts : Trees) (us : term.Terms Head) (count : ℕ) (w : Writing) (d : Error) →
+    IsPart first at t ts us (has_root first at ts) → w.requests ≡ [] →
+    IsRefusal d (take_steps count (steps us) w) → Refuses (cond (has_root first at ts) (expansion_of count (drawn (draws_of t) w.stream).0 t) (Ok [])) d
 block_refused first at t ts us count w d p none r =
     let all = expansion count (drawn (draws us) w.stream).0 us in
-    followed_err (cond (is_root first at ts) (expansion_of count (drawn (draws_of t) w.stream).0 t) (Ok [])) (λ code. replaced first at code ts) d
+    followed_err (cond (has_root first at ts) (expansion_of count (drawn (draws_of t) w.stream).0 t) (Ok [])) (λ code. with_tree_replaced first at code ts) d
     (subst (λ (x : Result (List Instruction) Error). Refuses x d) (code_is first at t ts us count w.stream p)
     (refused d w (requests us) (draws us) all (take_steps count (steps us) w) (all_from_start us count w none) r))
 
@@ -534,13 +568,25 @@ where_written P (Ok x) h = h
 where_written P (Err e) h = tt
 
 -- where the order is to be preserved, a call that isn't refused for its sake has a block in order
-pub order_kept : {T : Type 0} (under : Option Module) (keeping : Bool) (first : ℕ) (operators : List (Operator × ℕ)) (entries : List StackEntry) (parents : List (Option ℕ)) (look : ℕ → Option ℕ) (r : Result T Error) →
-    IfSome under (λ info. IsGraphOf info keeping first operators entries parents look) → (keeping ≡ true → AreInOrder entries parents) → (r ≡ Err NoMutationsApplicable → ⊥) →
-    IfSome under (λ info. KeepsOrder keeping (block_of info operators) r)
-order_kept None keeping first operators entries parents look r h lies other = tt
-order_kept (Some info) keeping first operators entries parents look r h lies other = record {
-  refused = (λ e. absurd (other e), λ k. absurd (k.1 (h.ordered.0 (lies k.0))));
-  in_order = where_written (keeping ≡ true → IsInOrder (block_of info operators)) r (λ keeps. h.ordered.0 (lies keeps));
+pub order_kept : {T : Type 0} (under : Option Module) (preserving : Bool) (site : Site) (g : Graph) (r : Result T Error) →
+    IfSome under (λ info. IsGraphOf (source_at info preserving site) g) → (preserving ≡ true → AreInOrder g.entries g.parents) →
+    (r ≡ Err NoMutationsApplicable → ⊥) → IfSome under (λ info. KeepsOrder preserving (block_shapes info site) r)
+order_kept None preserving site g r h lies other = tt
+order_kept (Some info) preserving site g r h lies other =
+    let ordered = in_order (source_at info preserving site) g h in
+    record {
+      refused = (λ e. absurd (other e), λ k. absurd (k.1 (ordered.0 (lies k.0))));
+      in_order = where_written (preserving ≡ true → IsInOrder (block_shapes info site)) r (λ keeps. ordered.0 (lies keeps));
+    }
+
+-- a block out of order, while preserving, is refused
+pub order_refused : (T : Type 0) (under : Option Module) (preserving : Bool) (site : Site) (g : Graph) → preserving ≡ true →
+    IfSome under (λ info. IsGraphOf (source_at info preserving site) g) → (AreInOrder g.entries g.parents → ⊥) →
+    IfSome under (λ info. KeepsOrder {A = T} preserving (block_shapes info site) (Err NoMutationsApplicable))
+order_refused T None preserving site g on h out = tt
+order_refused T (Some info) preserving site g on h out = record {
+  refused = (λ e. (on, λ o. out ((in_order (source_at info preserving site) g h).1 o)), λ k. refl);
+  in_order = tt;
 }
 
 pub wrote : {T : Type 0} (x : T) → Ok x ≡ Err NoMutationsApplicable → ⊥

@@ -11,10 +11,10 @@ use Rattle.peephole_lang.specs.declared.lang.Head.{Head}
 use Rattle.peephole_lang.specs.Term.{Term, Terms, absent, node, no_terms, ◌▸◌}
 use Rattle.peephole_terms.specs.declared.encoder.request.ResourceRequest.{ResourceRequest}
 use Rattle.peephole_terms.specs.declared.encoder.kind.Kind.TheVariants.{Own, Random, Unfold, UseGlobal, Container, Nothing}
-use Rattle.peephole_terms.specs.Kind.{NumberType, IntegerType, Kind, kind_of, number_of}
-use Rattle.peephole_terms.specs.EncoderSteps.{Step, Writing, own_step, opened, split, steps_of, steps, take_steps, after, written, requested, IsRefusal}
+use Rattle.peephole_terms.specs.Kind.{NumberType, IntegerType, Kind, node_kind, number_of}
+use Rattle.peephole_terms.specs.EncoderSteps.{Step, Writing, own_step, opened, split, steps_of, steps, take_steps, then_steps, with_instruction, with_request, IsRefusal}
 use Rattle.peephole_terms.specs.Expansion.{own_requests, with_own_requests, requests_of, requests, request, own_draws, with_own_draws, draws_of, draws, next_word, drawn, constant_in, set_global, get_global}
-use Rattle.peephole_terms.specs.Expansion.{joined, own_code, with_own_code, sum_of, expansion_of, expansion, Refuses}
+use Rattle.peephole_terms.specs.Expansion.{joined_code, own_code, with_own_code, sum_of, expansion_of, expansion, Refuses}
 use Rattle.peephole_terms.proofs.WalkLemmas.{take_steps-append}
 
 pub codes-append : (is js : List Instruction) → codes (is ++ js) ≡ codes is ++ codes js
@@ -56,7 +56,7 @@ writing_same a b r q s t e f g = cc
 
 -- two parts, one after the other
 two_parts : (w : Writing) (rs qs ds es : List NumberType) (front back : Result (List Instruction) Error) (go : Writing → Result Writing Error) →
-    ((is : List Instruction) → go (then w rs ds is) ≡ finish (then w rs ds is) qs es back) → after (finish w rs ds front) go ≡ finish w (rs ++ qs) (ds ++ es) (joined front back)
+    ((is : List Instruction) → go (then w rs ds is) ≡ finish (then w rs ds is) qs es back) → then_steps (finish w rs ds front) go ≡ finish w (rs ++ qs) (ds ++ es) (joined_code front back)
 two_parts w rs qs ds es (Err e) back go h = refl
 two_parts w rs qs ds es (Ok is) (Err e) go h = h is
 two_parts w rs qs ds es (Ok is) (Ok js) go h =
@@ -78,7 +78,7 @@ split_is count t w (Some z) = writing_same _ _ _ _ _ _ (three_codes w.bytes _ _ 
 split_is count t w None = refl
 
 store_is : (w : Writing) (t : NumberType) (g : ℕ) (b : Bool) →
-    after (cond b (Ok (written (get_global g) (written (set_global g) (requested t w)))) (Err GlobalIndex)) (λ x. Ok x)
+    then_steps (cond b (Ok (with_instruction (get_global g) (with_instruction (set_global g) (with_request t w)))) (Err GlobalIndex)) (λ x. Ok x)
     ≡ finish w (t ∷ []) [] (cond b (Ok (set_global g ∷ get_global g ∷ [])) (Err GlobalIndex))
 store_is w t g true = writing_same _ _ _ _ _ _ (two_codes w.bytes _ _) refl refl
 store_is w t g false = refl
@@ -111,16 +111,17 @@ parts : (count : ℕ) (xs ys : List Step) (rs qs ds es : List NumberType) (F B :
     ((r : List ℕ) → take_steps count xs w ≡ finish w rs ds (F (count + length w.requests) ((drawn ds w.stream).0 ++ r))) →
     ((v : Writing) (r : List ℕ) → take_steps count ys v ≡ finish v qs es (B (count + length v.requests) ((drawn es v.stream).0 ++ r))) →
     take_steps count (xs ++ ys) w ≡ finish w (rs ++ qs) (ds ++ es)
-    (joined (F (count + length w.requests) ((drawn (ds ++ es) w.stream).0 ++ rest)) (B ((count + length w.requests) + length rs) (drop (length ds) ((drawn (ds ++ es) w.stream).0 ++ rest))))
+    (joined_code (F (count + length w.requests) ((drawn (ds ++ es) w.stream).0 ++ rest)) (B ((count + length w.requests) + length rs) (drop (length ds) ((drawn (ds ++ es) w.stream).0 ++ rest))))
 parts count xs ys rs qs ds es F B w rest first second =
     let n = count + length w.requests in
     let words = (drawn (ds ++ es) w.stream).0 ++ rest in
     let more = (drawn es (drawn ds w.stream).1).0 ++ rest in
-    let first' : take_steps count xs w ≡ finish w rs ds (F n words) = first more ∙ ap (λ (z : List ℕ). finish w rs ds (F n z)) (sym (words_front ds es w.stream rest)) in
+    let first' : take_steps count xs w ≡ finish w rs ds (F n words) = first more
+    ∙ ap (λ (z : List ℕ). finish w rs ds (F n z)) (sym (words_front ds es w.stream rest)) in
     let next : count + length (w.requests ++ map request rs) ≡ n + length rs = omega (arith, length-append w.requests (map request rs), length-map rs request) in
     let second' : (is : List Instruction) → take_steps count ys (then w rs ds is) ≡ finish (then w rs ds is) qs es (B (n + length rs) (drop (length ds) words)) =
     λ is. second (then w rs ds is) rest ∙ ap₂ (λ (k : ℕ) (z : List ℕ). finish (then w rs ds is) qs es (B k z)) next (sym (words_back ds es w.stream rest)) in
-    take_steps-append count xs ys w ∙ (ap (λ (x : Result Writing Error). after x (take_steps count ys)) first'
+    take_steps-append count xs ys w ∙ (ap (λ (x : Result Writing Error). then_steps x (take_steps count ys)) first'
     ∙ two_parts w rs qs ds es (F n words) (B (n + length rs) (drop (length ds) words)) (take_steps count ys) second')
 
 -- what a list of terms writes
@@ -131,7 +132,7 @@ AreWritten ts = (count : ℕ) (w : Writing) (rest : List ℕ) →
 -- a node behind its children
 behind : (k : Kind) (kids : Terms Head) → AreWritten kids → IsOwnStep k kids → (count : ℕ) (w : Writing) (rest : List ℕ) →
     take_steps count (steps kids ++ own_step k kids ∷ []) w ≡ finish w (requests kids ++ own_requests k) (draws kids ++ own_draws k)
-    (joined (expansion (count + length w.requests) ((drawn (draws kids ++ own_draws k) w.stream).0 ++ rest) kids)
+    (joined_code (expansion (count + length w.requests) ((drawn (draws kids ++ own_draws k) w.stream).0 ++ rest) kids)
     (own_code ((count + length w.requests) + length (requests kids)) (drop (length (draws kids)) ((drawn (draws kids ++ own_draws k) w.stream).0 ++ rest)) k))
 behind k kids all own count w rest =
     parts count (steps kids) (own_step k kids ∷ []) (requests kids) (own_requests k) (draws kids) (own_draws k)
@@ -152,7 +153,7 @@ mutual
   written_of : (t : Term Head) (count : ℕ) (w : Writing) (rest : List ℕ) →
       take_steps count (steps_of t) w ≡ finish w (requests_of t) (draws_of t) (expansion_of (count + length w.requests) ((drawn (draws_of t) w.stream).0 ++ rest) t)
   written_of absent count w rest = nothing_is w
-  written_of (node h kids) count w rest = node_written (kind_of h) kids (written_all kids) count w rest
+  written_of (node h kids) count w rest = node_written (node_kind h) kids (written_all kids) count w rest
 
   written_all : (ts : Terms Head) → AreWritten ts
   written_all no_terms count w rest = nothing_is w
@@ -205,7 +206,8 @@ finish_err w rs ds (Ok is) d e = absurd cc
 finish_err w rs ds (Err c) d e = cc
 
 -- a refusal of the steps is one of the expansion
-pub refused : (d : Error) (w : Writing) (rs ds : List NumberType) (r : Result (List Instruction) Error) (all : Result Writing Error) → all ≡ finish w rs ds r → IsRefusal d all → Refuses r d
+pub refused : (d : Error) (w : Writing) (rs ds : List NumberType) (r : Result (List Instruction) Error) (all : Result Writing Error) →
+    all ≡ finish w rs ds r → IsRefusal d all → Refuses r d
 refused Memory w rs ds r all e q = tt
 refused CannotUnfold w rs ds r all e q = finish_err w rs ds r CannotUnfold (sym e ∙ q)
 refused GlobalIndex w rs ds r all e q = finish_err w rs ds r GlobalIndex (sym e ∙ q)

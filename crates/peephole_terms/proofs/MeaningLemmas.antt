@@ -4,12 +4,12 @@ use Rattle.std.specs.Prelude.{option_and_then, option_map}
 use Rattle.mutate_base.specs.declared.types.PrimitiveTypeInfo.{PrimitiveTypeInfo}
 use Rattle.peephole_lang.specs.declared.lang.Head.{Head}
 use Rattle.peephole_lang.specs.Term.{Term, Terms, absent, node, no_terms, ◌▸◌}
-use Rattle.peephole_machine.specs.Values.{type_of, same_types, types, State, Outcome, Ends, Traps, Stuck, and_then}
+use Rattle.peephole_machine.specs.Values.{type_of, same_types, types, State, Outcome, Ends, Traps, Stuck, then_run}
 use Rattle.peephole_machine.specs.IntegerRow.{integer_row}
 use Rattle.peephole_machine.specs.RowLemmas.{some_if, and_then_some, map_some, same_types_is}
 use Rattle.peephole_machine.specs.TypeLemmas.{Fine, then_act_fine, then_above_fine}
 use Rattle.peephole_terms.specs.declared.encoder.kind.Kind.TheVariants.{Own, Random, Unfold, UseGlobal, Container, Nothing}
-use Rattle.peephole_terms.specs.Kind.{IntegerType, Kind, kind_of}
+use Rattle.peephole_terms.specs.Kind.{IntegerType, Kind, node_kind}
 use Rattle.peephole_terms.specs.Expansion.{constant_in, draws_of, draws, first_word}
 use Rattle.peephole_terms.specs.Typing.{integer_type, number_types, if_that_type, own_types, with_own_types, joined_types, types_of, types_in}
 use Rattle.peephole_terms.specs.Meaning.{word_meaning, number_meaning, own_meaning, with_own_meaning, meaning_of, meaning}
@@ -45,14 +45,14 @@ number_fine locals globals ts t None s e hl hg = absurd cc
 number_fine locals globals ts t (Some z) s e hl hg = (cc, hl, hg)
 
 same_fine : (locals globals us ts : List PrimitiveTypeInfo) (o : Outcome) → us ≡ ts → Fine locals globals us o →
-    Fine locals globals ts (and_then o (λ vs s. Ends vs s))
+    Fine locals globals ts (then_run o (λ vs s. Ends vs s))
 same_fine locals globals us ts (Ends vs s) e h = (h.0 ∙ e, h.1, h.2)
 same_fine locals globals us ts (Traps hs) e h = tt
 same_fine locals globals us ts Stuck e h = h
 
 -- a node behind its children
 own_fine : (locals globals us ts : List PrimitiveTypeInfo) (words : List ℕ) (k : Kind) (o : Outcome) → Fine locals globals us o →
-    own_types locals globals k us ≡ Some ts → Fine locals globals ts (and_then o (own_meaning words k))
+    own_types locals globals k us ≡ Some ts → Fine locals globals ts (then_run o (own_meaning words k))
 own_fine locals globals us ts words (Own i) o h e = then_act_fine locals globals us ts (integer_row i) o h e
 own_fine locals globals [] ts words (Random t) (Ends vs s) h e = word_fine locals globals ts (integer_type t) (first_word words) s e h.1 h.2
 own_fine locals globals [] ts words (Random t) (Traps hs) h e = tt
@@ -72,7 +72,7 @@ AreFine locals globals words kids s = (us : List PrimitiveTypeInfo) → types_in
 behind_fine : (locals globals ts : List PrimitiveTypeInfo) (words : List ℕ) (k : Kind) (kids : Terms Head) (s : State) →
     AreFine locals globals words kids s →
     option_and_then (own_types locals globals k) (types_in locals globals kids) ≡ Some ts →
-    Fine locals globals ts (and_then (meaning words kids s) (own_meaning (drop (length (draws kids)) words) k))
+    Fine locals globals ts (then_run (meaning words kids s) (own_meaning (drop (length (draws kids)) words) k))
 behind_fine locals globals ts words k kids s below e =
     let (us, a, b) = and_then_some (own_types locals globals k) (types_in locals globals kids) ts e in
     own_fine locals globals us ts (drop (length (draws kids)) words) k (meaning words kids s) (below us a) b
@@ -94,7 +94,7 @@ mutual
       types s.locals ≡ locals → types s.globals ≡ globals → Fine locals globals list (meaning_of words t s)
   fine_of locals globals list absent words s e hl hg = absurd cc
   fine_of locals globals list (node h kids) words s e hl hg =
-      node_fine locals globals list words (kind_of h) kids s (λ us a. fine_in locals globals us kids words s a hl hg) hl hg e
+      node_fine locals globals list words (node_kind h) kids s (λ us a. fine_in locals globals us kids words s a hl hg) hl hg e
 
   pub fine_in : (locals globals list : List PrimitiveTypeInfo) (ts : Terms Head) (words : List ℕ) (s : State) →
       types_in locals globals ts ≡ Some list →

@@ -12,8 +12,8 @@ use Rattle.peephole_lang.specs.Lang.{place_of, payload_of}
 use Rattle.peephole_lang.specs.Node.{head_of, children_of, instr_of, instr_of_head}
 use Rattle.peephole_lang.specs.Term.{Term, Terms, absent, node, no_terms, ◌▸◌, Node, pick, tree_at}
 use Rattle.peephole_graphs.specs.declared.dfg.StackEntry.{StackEntry}
-use Rattle.peephole_terms.specs.Kind.{Kind, NumberType, rowless, kind_found, kind_of, of_instruction}
-use Rattle.peephole_terms.specs.Expansion.{with_own_requests, requests_of, requests, with_own_draws, draws_of, draws, joined, with_own_code, expansion_of, expansion}
+use Rattle.peephole_terms.specs.Kind.{Kind, NumberType, rowless, kind_found, node_kind, of_instruction}
+use Rattle.peephole_terms.specs.Expansion.{with_own_requests, requests_of, requests, with_own_draws, draws_of, draws, joined_code, with_own_code, expansion_of, expansion}
 use Rattle.peephole_graphs.proofs.Represents.{IsOwnOrUndef}
 
 abbrev pub listed : Option Instruction → List Instruction
@@ -38,7 +38,7 @@ with_term t ts = t ▸ ts
 abbrev mutual
   pub IsPlain : Term Head → Type 0
   IsPlain absent = Unit {0}
-  IsPlain (node h kids) = (kind_of h ≡ of_instruction (instr_of_head h)) × ArePlain kids
+  IsPlain (node h kids) = (node_kind h ≡ of_instruction (instr_of_head h)) × ArePlain kids
 
   pub ArePlain : Terms Head → Type 0
   ArePlain no_terms = Unit {0}
@@ -59,12 +59,12 @@ node_itself : (k : Kind) (i : Option Instruction) (kids : Terms Head) → k ≡ 
     ((n : ℕ) (words : List ℕ) → with_own_code n words k kids (expansion n words kids) ≡ Ok (plain kids ++ listed i))
     × (with_own_requests k (requests kids) ≡ []) × (with_own_draws k (draws kids) ≡ [])
 node_itself k (Some i) kids e h = rw e (
-  λ n words. ap (λ (r : Result (List Instruction) Error). joined r (Ok (i ∷ []))) (h.expands n words),
+  λ n words. ap (λ (r : Result (List Instruction) Error). joined_code r (Ok (i ∷ []))) (h.expands n words),
   ap (λ (x : List NumberType). x ++ []) h.asks,
   ap (λ (x : List NumberType). x ++ []) h.takes,
 )
 node_itself k None kids e h = rw e (
-  λ n words. ap (λ (r : Result (List Instruction) Error). joined r (Ok [])) (h.expands n words),
+  λ n words. ap (λ (r : Result (List Instruction) Error). joined_code r (Ok [])) (h.expands n words),
   ap (λ (x : List NumberType). x ++ []) h.asks,
   ap (λ (x : List NumberType). x ++ []) h.takes,
 )
@@ -73,7 +73,7 @@ mutual
   pub is_itself : (t : Term Head) → IsPlain t → IsItself t (plain_of t)
   is_itself absent p = record { expands = λ n words. refl; asks = refl; takes = refl }
   is_itself (node h kids) p =
-      let own = node_itself (kind_of h) (instr_of_head h) kids p.0 (are_themselves kids p.1) in
+      let own = node_itself (node_kind h) (instr_of_head h) kids p.0 (are_themselves kids p.1) in
       record { expands = own.0; asks = own.1; takes = own.2 }
 
   are_themselves : (ts : Terms Head) → ArePlain ts → AreThemselves ts
@@ -82,7 +82,7 @@ mutual
       let h = is_itself t p.0 in
       let k = are_themselves ts p.1 in
       record {
-        expands = λ n words. ap₂ joined (h.expands n words) (k.expands (n + length (requests_of t)) (drop (length (draws_of t)) words));
+        expands = λ n words. ap₂ joined_code (h.expands n words) (k.expands (n + length (requests_of t)) (drop (length (draws_of t)) words));
         asks = ap₂ (λ (x y : List NumberType). x ++ y) h.asks k.asks;
         takes = ap₂ (λ (x y : List NumberType). x ++ y) h.takes k.takes;
       }
@@ -93,18 +93,18 @@ mutual
 past_rowless : (p : ℕ) → nat_lt p 12 ≡ false → slice_get rowless p ≡ None
 past_rowless p e = slice_get_past rowless p (ltb-false p 12 e)
 
-pub row_kind : (h : Head) (i : Instruction) → instr_of_head h ≡ Some i → kind_of h ≡ of_instruction (instr_of_head h)
+pub row_kind : (h : Head) (i : Instruction) → instr_of_head h ≡ Some i → node_kind h ≡ of_instruction (instr_of_head h)
 row_kind h i e = ap (λ (k : Option Kind). kind_found k (instr_of_head h)) (past_rowless h.place (later (nat_lt h.place 12) _ e))
   where
     later : (b : Bool) (more : Option Instruction) → cond b None more ≡ Some i → b ≡ false
     later true more e = absurd cc
     later false more e = refl
 
-entry_plain : (e : StackEntry) → IsOwnOrUndef e → kind_of (head_of e.operator) ≡ of_instruction (instr_of e.operator)
+entry_plain : (e : StackEntry) → IsOwnOrUndef e → node_kind (head_of e.operator) ≡ of_instruction (instr_of e.operator)
 unfolding place_of payload_of
 entry_plain e own = go (instr_of e.operator) refl
   where
-    go : (i : Option Instruction) → instr_of e.operator ≡ i → kind_of (head_of e.operator) ≡ of_instruction (instr_of e.operator)
+    go : (i : Option Instruction) → instr_of e.operator ≡ i → node_kind (head_of e.operator) ≡ of_instruction (instr_of e.operator)
     go (Some i) is = row_kind (head_of e.operator) i is
     go None is = rw (own is) refl
 
@@ -122,7 +122,8 @@ trees_plain (e ∷ earlier) all i =
     let older = trees_plain earlier (All-tail IsOwnOrUndef e earlier all) in
     go (length (map as_node earlier) == i) (entry_plain e (All-head IsOwnOrUndef e earlier all), picked_plain (tree_at (map as_node earlier)) (children_of e.operator) older) (older i)
   where
-    go : (b : Bool) → IsPlain (node (head_of e.operator) (pick (tree_at (map as_node earlier)) (children_of e.operator))) → IsPlain (tree_at (map as_node earlier) i) →
+    go : (b : Bool) → IsPlain (node (head_of e.operator) (pick (tree_at (map as_node earlier)) (children_of e.operator))) →
+        IsPlain (tree_at (map as_node earlier) i) →
         IsPlain (cond b (node (head_of e.operator) (pick (tree_at (map as_node earlier)) (children_of e.operator))) (tree_at (map as_node earlier) i))
     go true p q = p
     go false p q = q

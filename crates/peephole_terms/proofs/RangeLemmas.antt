@@ -14,11 +14,11 @@ use Rattle.peephole_lang.specs.Term.{Term, Terms, absent, node, no_terms, ◌▸
 use Rattle.peephole_terms.specs.declared.encoder.kind.NumberType.TheVariants as number
 use Rattle.peephole_machine.specs.declared.integer.IntegerType.TheVariants as integer
 use Rattle.peephole_terms.specs.declared.encoder.kind.Kind.TheVariants.{Own, Random, Unfold, UseGlobal, Container, Nothing}
-use Rattle.peephole_terms.specs.Kind.{NumberType, IntegerType, Kind, kind_of, number_of}
+use Rattle.peephole_terms.specs.Kind.{NumberType, IntegerType, Kind, node_kind, number_of}
 use Rattle.peephole_graphs.specs.Tree.{Trees}
-use Rattle.peephole_terms.specs.Expansion.{constant, rest_of, add_of, sum, set_global, get_global, constant_in, sum_of, through_global, followed, joined, first_word, own_code, with_own_code, requests_of, requests, draws_of, draws, expansion_of, expansion}
+use Rattle.peephole_terms.specs.Expansion.{constant, rest_of, add_of, sum, set_global, get_global, constant_in, sum_of, through_global, then_code, joined_code, first_word, own_code, with_own_code, requests_of, requests, draws_of, draws, expansion_of, expansion}
 use Rattle.peephole_terms.specs.EncoderSteps.{Step, IsInRange, own_step, opened, steps_of, steps}
-use Rattle.peephole_terms.specs.Written.{replaced}
+use Rattle.peephole_terms.specs.Written.{with_tree_replaced}
 use Rattle.peephole_terms.proofs.EncoderLemmas.{IsPart}
 use Rattle.peephole_terms.proofs.RowLemmas.{global_get_row, global_set_row, i32_const_row, i64_const_row, f32_const_row, f64_const_row, i32_add_row, i64_add_row}
 
@@ -74,9 +74,11 @@ through_is g is e = go (nat_le g 4294967295) refl e
         (one_is (get_global g) (record { kind = global_get_row g; in_range = omega arith })))
     go false l e = absurd cc
 
-own_is : (next : ℕ) (words : List ℕ) (k : Kind) (kids : Terms Head) (is : List Instruction) → IsInRange (own_step k kids) → own_code next words k ≡ Ok is → AreInstructions is
+own_is : (next : ℕ) (words : List ℕ) (k : Kind) (kids : Terms Head) (is : List Instruction) → IsInRange (own_step k kids) →
+    own_code next words k ≡ Ok is → AreInstructions is
 own_is next words (Own i) kids is r e = are_these is (i ∷ []) e (one_is i r)
-own_is next words (Random t) kids is r e = are_these is (constant t (first_word words) ∷ []) e (one_is (constant t (first_word words)) (constant_is t (first_word words)))
+own_is next words (Random t) kids is r e =
+    are_these is (constant t (first_word words) ∷ []) e (one_is (constant t (first_word words)) (constant_is t (first_word words)))
 own_is next words (UseGlobal t) kids is r e = through_is next is e
 own_is next words (Unfold t) kids is r e = are_these is [] e (All-nil IsInstruction)
 own_is next words Container kids is r e = are_these is [] e (All-nil IsInstruction)
@@ -84,7 +86,7 @@ own_is next words Nothing kids is r e = are_these is [] e (All-nil IsInstruction
 
 -- ---- terms
 
-two_parts : (front back : Result (List Instruction) Error) (is : List Instruction) → joined front back ≡ Ok is →
+two_parts : (front back : Result (List Instruction) Error) (is : List Instruction) → joined_code front back ≡ Ok is →
     ((xs : List Instruction) → front ≡ Ok xs → AreInstructions xs) → ((ys : List Instruction) → back ≡ Ok ys → AreInstructions ys) → AreInstructions is
 two_parts (Ok xs) (Ok ys) is e f g = are_these is (xs ++ ys) e (All-append IsInstruction xs ys (f xs refl) (g ys refl))
 two_parts (Ok xs) (Err d) is e f g = absurd cc
@@ -103,14 +105,15 @@ abbrev AreGood : Terms Head → Type 0
 AreGood ts = (n : ℕ) (words : List ℕ) (is : List Instruction) → All IsInRange (steps ts) → expansion n words ts ≡ Ok is → AreInstructions is
 
 behind : (k : Kind) (kids : Terms Head) (n : ℕ) (words : List ℕ) (is : List Instruction) → AreGood kids → All IsInRange (steps kids ++ own_step k kids ∷ []) →
-    joined (expansion n words kids) (own_code (n + length (requests kids)) (drop (length (draws kids)) words) k) ≡ Ok is → AreInstructions is
+    joined_code (expansion n words kids) (own_code (n + length (requests kids)) (drop (length (draws kids)) words) k) ≡ Ok is → AreInstructions is
 behind k kids n words is good r e =
     let own : IsInRange (own_step k kids) = All-head IsInRange (own_step k kids) [] (steps_right (steps kids) (own_step k kids ∷ []) r) in
     two_parts (expansion n words kids) (own_code (n + length (requests kids)) (drop (length (draws kids)) words) k) is e
     (λ xs f. good n words xs (steps_left (steps kids) (own_step k kids ∷ []) r) f)
     (λ ys f. own_is (n + length (requests kids)) (drop (length (draws kids)) words) k kids ys own f)
 
-node_is : (k : Kind) (kids : Terms Head) (n : ℕ) (words : List ℕ) (is : List Instruction) → AreGood kids → All IsInRange (opened k (steps kids) ++ own_step k kids ∷ []) →
+node_is : (k : Kind) (kids : Terms Head) (n : ℕ) (words : List ℕ) (is : List Instruction) → AreGood kids →
+    All IsInRange (opened k (steps kids) ++ own_step k kids ∷ []) →
     with_own_code n words k kids (expansion n words kids) ≡ Ok is → AreInstructions is
 node_is (Unfold t) kids n words is good r e = sum_is t (first_word words) (constant_in t kids) is e
 node_is (Own i) kids n words is good r e = behind (Own i) kids n words is good r e
@@ -122,7 +125,7 @@ node_is Nothing kids n words is good r e = behind Nothing kids n words is good r
 mutual
   term_is : (t : Term Head) (n : ℕ) (words : List ℕ) (is : List Instruction) → All IsInRange (steps_of t) → expansion_of n words t ≡ Ok is → AreInstructions is
   term_is absent n words is r e = are_these is [] e (All-nil IsInstruction)
-  term_is (node h kids) n words is r e = node_is (kind_of h) kids n words is (terms_are kids) r e
+  term_is (node h kids) n words is r e = node_is (node_kind h) kids n words is (terms_are kids) r e
 
   terms_are : (ts : Terms Head) → AreGood ts
   terms_are no_terms n words is r e = are_these is [] e (All-nil IsInstruction)
@@ -133,11 +136,14 @@ mutual
 
 -- ---- a block
 
-followed_is : (x : Result (List Instruction) Error) (f : List Instruction → List Instruction) (code : List Instruction) → x ≡ Ok code → followed x (λ code. Ok (f code)) ≡ Ok (f code)
+followed_is : (x : Result (List Instruction) Error) (f : List Instruction → List Instruction) (code : List Instruction) → x ≡ Ok code →
+    then_code x (λ code. Ok (f code)) ≡ Ok (f code)
 followed_is x f code e = rw e refl
 
 -- what the block is written as, where the steps of the roots' terms are in range
-pub block_in_range : (first at : ℕ) (t : Term Head) (ts : Trees) (us : Terms Head) (b : Bool) (n : ℕ) (words : List ℕ) (code : List Instruction) → IsPart first at t ts us b → All IsInRange (steps us) →
-    cond b (expansion_of n words t) (Ok []) ≡ Ok code → All IsInstruction (replaced first at code ts)
+pub block_in_range : (first at : ℕ) (t : Term Head) (ts : Trees) (us : Terms Head) (b : Bool) (n : ℕ) (words : List ℕ) (code : List Instruction) →
+    IsPart first at t ts us b → All IsInRange (steps us) →
+    cond b (expansion_of n words t) (Ok []) ≡ Ok code → All IsInstruction (with_tree_replaced first at code ts)
 block_in_range first at t ts us b n words code p r e =
-    terms_are us n words (replaced first at code ts) r (p.code n words ∙ followed_is (cond b (expansion_of n words t) (Ok [])) (λ code. replaced first at code ts) code e)
+    terms_are us n words (with_tree_replaced first at code ts) r (p.code n words
+    ∙ followed_is (cond b (expansion_of n words t) (Ok [])) (λ code. with_tree_replaced first at code ts) code e)

@@ -9,8 +9,8 @@ use Rattle.peephole_lang.specs.Term.{Term, Terms, absent, node, no_terms, ◌▸
 use Rattle.peephole_machine.specs.declared.integer.IntegerType.{IntegerType}
 use Rattle.peephole_terms.specs.declared.encoder.kind.Kind.{Kind}
 use Rattle.peephole_terms.specs.declared.encoder.kind.Kind.TheVariants as kind
-use Rattle.peephole_terms.specs.Kind.{kind_of}
-use Rattle.peephole_terms.specs.Expansion.{sum_of, through_global, set_global, get_global, joined, first_word, constant_in, with_own_code, expansion_of, expansion, requests, requests_of, draws_of, drawn}
+use Rattle.peephole_terms.specs.Kind.{node_kind}
+use Rattle.peephole_terms.specs.Expansion.{sum_of, through_global, set_global, get_global, joined_code, first_word, constant_in, with_own_code, expansion_of, expansion, requests, requests_of, draws_of, drawn}
 use Rattle.peephole_terms.specs.Laws.{RefusesByName}
 
 -- a refusal is one of the two
@@ -35,12 +35,13 @@ global_refuses g = go (nat_le g 4294967295)
     go true = never _
     go false = λ e h. inr (sym (ap error_in h))
 
-joined_refuses : (x y : Result (List Instruction) Error) → RefusesSo x → RefusesSo y → RefusesSo (joined x y)
+joined_refuses : (x y : Result (List Instruction) Error) → RefusesSo x → RefusesSo y → RefusesSo (joined_code x y)
 joined_refuses (Err why) y p q = p
 joined_refuses (Ok xs) (Err why) p q = q
 joined_refuses (Ok xs) (Ok ys) p q = never _
 
-node_refuses : (next : ℕ) (words : List ℕ) (k : Kind) (kids : Terms Head) (below : Result (List Instruction) Error) → RefusesSo below → RefusesSo (with_own_code next words k kids below)
+node_refuses : (next : ℕ) (words : List ℕ) (k : Kind) (kids : Terms Head) (below : Result (List Instruction) Error) → RefusesSo below →
+    RefusesSo (with_own_code next words k kids below)
 node_refuses next words (kind.Unfold t) kids below p = sum_refuses t (first_word words) (constant_in t kids)
 node_refuses next words (kind.Own i) kids below p = joined_refuses below _ p (never _)
 node_refuses next words (kind.Random t) kids below p = joined_refuses below _ p (never _)
@@ -51,7 +52,7 @@ node_refuses next words kind.Nothing kids below p = joined_refuses below _ p (ne
 mutual
   term_refuses : (next : ℕ) (words : List ℕ) (t : Term Head) → RefusesSo (expansion_of next words t)
   term_refuses next words absent = never _
-  term_refuses next words (node h kids) = node_refuses next words (kind_of h) kids (expansion next words kids) (terms_refuse next words kids)
+  term_refuses next words (node h kids) = node_refuses next words (node_kind h) kids (expansion next words kids) (terms_refuse next words kids)
 
   terms_refuse : (next : ℕ) (words : List ℕ) (ts : Terms Head) → RefusesSo (expansion next words ts)
   terms_refuse next words no_terms = never _

@@ -8,7 +8,7 @@ use Rattle.std.proofs.lemmas.List.Elements.{All-nil, All-cons, All-append, All-h
 use Rattle.wasm_code.specs.Instruction.{Instruction, IsInstruction}
 use Rattle.wasm_code.specs.Operator.{is_delimiter}
 use Rattle.wasm_code.specs.Body.{joined, placed, SpellsBody}
-use Rattle.wasm_code.specs.Table.{info_of}
+use Rattle.wasm_code.specs.Table.{row_info_of}
 use Rattle.wasm_code.specs.declared.immediate.Imm.{Imm}
 use Rattle.wasm_code.specs.declared.immediate.Imm.TheVariants.{Index}
 use Rattle.wasm_code.specs.declared.table.RowInfo.{RowInfo}
@@ -23,9 +23,9 @@ use Rattle.peephole_graphs.specs.declared.shape.Shape.{Shape}
 use Rattle.peephole_graphs.specs.declared.shape.Judged.{Judged}
 use Rattle.peephole_graphs.specs.declared.shape.Judged.TheVariants.{Fits}
 use Rattle.peephole_graphs.specs.Shape.{IsFit, AreFit, judge, judge_instruction, judge_found, judge_row, judge_call, judge_callee, call_shape, and_shape, operator_shapes}
-use Rattle.peephole_graphs.specs.Tree.{Tree, Trees, entry, node, no_trees, ◌▸◌, join, numbers_of, numbers, shapes_of, shapes, instructions_of, instructions, renumbered}
-use Rattle.peephole_graphs.specs.Forest.{low, from_place, at_place, tree_of, trees, is_operand, without, forest, IsInOrder}
-use Rattle.peephole_terms.specs.Written.{shapes_in, written_body, IsBodyIn, IsBlockIn}
+use Rattle.peephole_graphs.specs.Tree.{Tree, Trees, entry, node, no_trees, ◌▸◌, join, postfix_of, postfix, shapes_of, shapes, instructions_of, instructions, renumbered}
+use Rattle.peephole_graphs.specs.Forest.{low, from_height, at_height, operator_tree, trees, is_operand, without, forest, IsInOrder}
+use Rattle.peephole_terms.specs.Written.{Site, site_at, block_operators, block_shapes, written_body, IsBodyIn, IsBlockIn}
 use Rattle.peephole_terms.specs.ReadAgain.{without_offsets, IsReread}
 use Rattle.peephole_terms.proofs.EncoderLemmas.{All-reverse}
 use Rattle.peephole_graphs.proofs.ForestLemmas.{forest_is}
@@ -55,17 +55,17 @@ mutual
   shapes_hold P no_trees h = All-nil P
   shapes_hold P (t ▸ ts) h = All-append P (shapes_of t) (shapes ts) (shapes_of_hold P t h.0) (shapes_hold P ts h.1)
 
-places_hold : (P : Shape → Type 0) (at : ℤ → Tree) → ((p : ℤ) → HoldsIn P (at p)) → (p : ℤ) (count : ℕ) → HoldAll P (from_place at p count)
+places_hold : (P : Shape → Type 0) (at : ℤ → Tree) → ((p : ℤ) → HoldsIn P (at p)) → (p : ℤ) (count : ℕ) → HoldAll P (from_height at p count)
 places_hold P at h p zero = tt
 places_hold P at h p (suc count) = (h p, places_hold P at h (p +ℤ pos 1) count)
 
-place_holds : (P : Shape → Type 0) (block : List Shape) → All P block → (p : ℤ) → HoldsIn P (at_place block p)
+place_holds : (P : Shape → Type 0) (block : List Shape) → All P block → (p : ℤ) → HoldsIn P (at_height block p)
 place_holds P [] all p = tt
 place_holds P (s ∷ earlier) all p =
     let older = place_holds P earlier (All-tail P s earlier all) in
-    go (s.has_result && int_eq p (low s earlier)) (All-head P s earlier all, places_hold P (at_place earlier) older (low s earlier) s.operands) (older p)
+    go (s.has_result && int_eq p (low s earlier)) (All-head P s earlier all, places_hold P (at_height earlier) older (low s earlier) s.operands) (older p)
   where
-    go : (b : Bool) → HoldsIn P (tree_of s earlier) → HoldsIn P (at_place earlier p) → HoldsIn P (cond b (tree_of s earlier) (at_place earlier p))
+    go : (b : Bool) → HoldsIn P (operator_tree s earlier) → HoldsIn P (at_height earlier p) → HoldsIn P (cond b (operator_tree s earlier) (at_height earlier p))
     go true own older = own
     go false own older = older
 
@@ -77,8 +77,8 @@ trees_hold : (P : Shape → Type 0) (block : List Shape) → All P block → Hol
 trees_hold P [] all = tt
 trees_hold P (s ∷ earlier) all =
     let rest = All-tail P s earlier all in
-    joined_hold P (trees earlier) (tree_of s earlier ▸ no_trees) (trees_hold P earlier rest)
-    ((All-head P s earlier all, places_hold P (at_place earlier) (place_holds P earlier rest) (low s earlier) s.operands), tt)
+    joined_hold P (trees earlier) (operator_tree s earlier ▸ no_trees) (trees_hold P earlier rest)
+    ((All-head P s earlier all, places_hold P (at_height earlier) (place_holds P earlier rest) (low s earlier) s.operands), tt)
 
 without_hold : (P : Shape → Type 0) (test : ℕ → Bool) (ts : Trees) → HoldAll P ts → HoldAll P (without test ts)
 without_hold P test no_trees h = tt
@@ -93,16 +93,16 @@ pub forest_holds : (P : Shape → Type 0) (block : List Shape) → All P block �
 forest_holds P block all = shapes_hold P (forest block) (without_hold P (λ j. is_operand j (trees block)) (trees block) (trees_hold P block all))
 
 mutual
-  count_of : (t : Tree) → length (shapes_of t) ≡ length (numbers_of t)
+  count_of : (t : Tree) → length (shapes_of t) ≡ length (postfix_of t)
   count_of (entry m) = refl
-  count_of (node i s kids) = let e = count kids in omega (arith, length-append (shapes kids) (s ∷ []), length-append (numbers kids) (i ∷ []))
+  count_of (node i s kids) = let e = count kids in omega (arith, length-append (shapes kids) (s ∷ []), length-append (postfix kids) (i ∷ []))
 
-  count : (ts : Trees) → length (shapes ts) ≡ length (numbers ts)
+  count : (ts : Trees) → length (shapes ts) ≡ length (postfix ts)
   count no_trees = refl
-  count (t ▸ ts) = let e = count_of t in let f = count ts in omega (arith, length-append (shapes_of t) (shapes ts), length-append (numbers_of t) (numbers ts))
+  count (t ▸ ts) = let e = count_of t in let f = count ts in omega (arith, length-append (shapes_of t) (shapes ts), length-append (postfix_of t) (postfix ts))
 
 pub count_forest : (block : List Shape) → length (shapes (forest block)) ≡ length block
-count_forest block = count (forest block) ∙ (ap (λ (ts : Trees). length (numbers ts)) (forest_is block) ∙ count_all block)
+count_forest block = count (forest block) ∙ (ap (λ (ts : Trees). length (postfix ts)) (forest_is block) ∙ count_all block)
 
 -- ---- the instructions are those of the shapes
 
@@ -120,7 +120,8 @@ mutual
 
   pub instructions_are : (ts : Trees) → instructions ts ≡ instr_of (shapes ts)
   instructions_are no_trees = refl
-  instructions_are (t ▸ ts) = ap₂ (λ (x y : List Instruction). x ++ y) (instructions_of_are t) (instructions_are ts) ∙ sym (instr-append (shapes_of t) (shapes ts))
+  instructions_are (t ▸ ts) =
+      ap₂ (λ (x y : List Instruction). x ++ y) (instructions_of_are t) (instructions_are ts) ∙ sym (instr-append (shapes_of t) (shapes ts))
 
 -- ---- what an instruction's shape is, its own instruction is
 
@@ -153,10 +154,11 @@ abbrev HasOwnShape : Module → Shape → Type 0
 HasOwnShape info s = judge_instruction info s.instr ≡ Fits s
 
 judged_own : (info : Module) (o : Operator) (s : Shape) → judge info o ≡ Fits s → HasOwnShape info s
-judged_own info (Instr i) s e = ap (judge_instruction info) (found_is info i (info_of i.row) s e) ∙ e
+judged_own info (Instr i) s e = ap (judge_instruction info) (found_is info i (row_info_of i.row) s e) ∙ e
 judged_own info _ s e = absurd cc
 
-own_shapes : (info : Module) (os : List (Operator × ℕ)) → AreFit info os → All (HasOwnShape info) (operator_shapes info os) × (length (operator_shapes info os) ≡ length os)
+own_shapes : (info : Module) (os : List (Operator × ℕ)) → AreFit info os →
+    All (HasOwnShape info) (operator_shapes info os) × (length (operator_shapes info os) ≡ length os)
 own_shapes info [] fit = (All-nil (HasOwnShape info), refl)
 own_shapes info (o ∷ os) fit =
     let rest = own_shapes info os (All-tail (λ (x : Operator × ℕ). IsFit (judge info x.0)) o os fit) in
@@ -168,7 +170,8 @@ own_shapes info (o ∷ os) fit =
     go _ e f all n = absurd f
 
 -- operators that are the instructions of such shapes have these shapes
-judged_again : (info : Module) (ss : List Shape) (xs : List (Operator × ℕ)) → All (HasOwnShape info) ss → without_offsets xs ≡ map (λ (i : Instruction). Instr i) (instr_of ss) →
+judged_again : (info : Module) (ss : List Shape) (xs : List (Operator × ℕ)) → All (HasOwnShape info) ss →
+    without_offsets xs ≡ map (λ (i : Instruction). Instr i) (instr_of ss) →
     (operator_shapes info xs ≡ ss) × AreFit info xs
 judged_again info [] [] all e = (refl, All-nil (λ (x : Operator × ℕ). IsFit (judge info x.0)))
 judged_again info [] (x ∷ xs) all e = absurd cc
@@ -192,7 +195,8 @@ get_map f (x ∷ xs) (suc k) = get_map f xs k
 get_alone : (xs : List (Operator × ℕ)) (k : ℕ) (o : Operator × ℕ) → slice_get xs k ≡ Some o → slice_get (without_offsets xs) k ≡ Some o.0
 get_alone xs k o e = get_map (λ (o : Operator × ℕ). o.0) xs k ∙ ap (option_map (λ (o : Operator × ℕ). o.0)) e
 
-from_alone : (xs : List (Operator × ℕ)) (k : ℕ) (p : Operator) → slice_get (without_offsets xs) k ≡ Some p → (o : Operator × ℕ) × (slice_get xs k ≡ Some o) × (o.0 ≡ p)
+from_alone : (xs : List (Operator × ℕ)) (k : ℕ) (p : Operator) → slice_get (without_offsets xs) k ≡ Some p →
+    (o : Operator × ℕ) × (slice_get xs k ≡ Some o) × (o.0 ≡ p)
 from_alone [] k p e = absurd cc
 from_alone (x ∷ xs) zero p e = (x, refl, cc)
 from_alone (x ∷ xs) (suc k) p e = from_alone xs k p e
@@ -231,24 +235,28 @@ record IsAgain (operators again : List (Operator × ℕ)) (block : BlockRange) (
 abbrev middle : List Instruction → List Operator
 middle code = map (λ (i : Instruction). Instr i) code
 
-length_front : (operators again : List (Operator × ℕ)) (block : BlockRange) (code : List Instruction) → IsAgain operators again block code → length (take block.start (without_offsets operators)) ≡ block.start
+length_front : (operators again : List (Operator × ℕ)) (block : BlockRange) (code : List Instruction) → IsAgain operators again block code →
+    length (take block.start (without_offsets operators)) ≡ block.start
 length_front operators again block code h =
     let l = h.ordered in
     let m = h.inside in
     omega (arith, length-take block.start (without_offsets operators), length-map operators (λ (o : Operator × ℕ). o.0))
 
 -- the block's range has these instructions
-range_again : (operators again : List (Operator × ℕ)) (block : BlockRange) (code : List Instruction) → IsAgain operators again block code → without_offsets (slice_range again block.start block.end) ≡ middle code
+range_again : (operators again : List (Operator × ℕ)) (block : BlockRange) (code : List Instruction) → IsAgain operators again block code →
+    without_offsets (slice_range again block.start block.end) ≡ middle code
 range_again operators again block code h =
     let front = take block.start (without_offsets operators) in
     let back = drop block.end (without_offsets operators) in
     let n : length (middle code) ≡ block.end - block.start = length-map code (λ (i : Instruction). Instr i) ∙ h.count in
     sym (take-map (λ (o : Operator × ℕ). o.0) (block.end - block.start) (drop block.start again))
-    ∙ (ap (take (block.end - block.start)) (sym (drop-map (λ (o : Operator × ℕ). o.0) block.start again) ∙ (ap (drop block.start) h.are ∙ drop_at front (middle code ++ back) block.start (length_front operators again block code h)))
+    ∙ (ap (take (block.end - block.start)) (sym (drop-map (λ (o : Operator × ℕ). o.0) block.start again)
+    ∙ (ap (drop block.start) h.are ∙ drop_at front (middle code ++ back) block.start (length_front operators again block code h)))
     ∙ take_at (middle code) back (block.end - block.start) n)
 
 -- it is a block again
-block_again : (operators again : List (Operator × ℕ)) (block : BlockRange) (code : List Instruction) → IsAgain operators again block code → length again ≡ length operators → IsBlockIn operators block → IsBlockIn again block
+block_again : (operators again : List (Operator × ℕ)) (block : BlockRange) (code : List Instruction) → IsAgain operators again block code →
+    length again ≡ length operators → IsBlockIn operators block → IsBlockIn again block
 block_again operators again block code h n b =
     let front = take block.start (without_offsets operators) in
     let back = drop block.end (without_offsets operators) in
@@ -264,7 +272,9 @@ block_again operators again block code h n b =
         none = λ k o low high e.
             let at : k ≡ block.start + (k - block.start) = omega arith in
             let there : slice_get (without_offsets again) k ≡ slice_get (middle code) (k - block.start) =
-            ap (λ (xs : List Operator). slice_get xs k) h.are ∙ (get_behind front (middle code ++ back) block.start k (k - block.start) f at ∙ get_front (middle code) back (k - block.start) (omega arith)) in
+            ap (λ (xs : List Operator). slice_get xs k) h.are
+            ∙ (get_behind front (middle code ++ back) block.start k (k - block.start) f at
+            ∙ get_front (middle code) back (k - block.start) (omega arith)) in
             none_delimits code (k - block.start) o.0 (sym there ∙ get_alone again k o e);
         longest = λ from all. b.is.longest from (λ k o low high e. as_before f from all k o low high e (before_or_in k));
       };
@@ -273,13 +283,15 @@ block_again operators again block code h n b =
     before_or_in : (k : ℕ) → (k < block.start) ⊎ (block.start ≤ k)
     before_or_in k = grind arith
 
-    as_before : length (take block.start (without_offsets operators)) ≡ block.start → (from : ℕ) → HasNoDelimiter again from block.end → (k : ℕ) (o : Operator × ℕ) → from ≤ k → k < block.end → slice_get operators k ≡ Some o →
+    as_before : length (take block.start (without_offsets operators)) ≡ block.start → (from : ℕ) → HasNoDelimiter again from block.end →
+        (k : ℕ) (o : Operator × ℕ) → from ≤ k → k < block.end → slice_get operators k ≡ Some o →
         (k < block.start) ⊎ (block.start ≤ k) → is_delimiter o.0 ≡ false
     as_before f from all k o low high e (inr behind) = b.is.none k o behind high e
     as_before f from all k o low high e (inl before) =
         let there : slice_get (without_offsets again) k ≡ Some o.0 =
         ap (λ (xs : List Operator). slice_get xs k) h.are
-        ∙ (get_front (take block.start (without_offsets operators)) (middle code ++ drop block.end (without_offsets operators)) k (omega arith) ∙ (get_taken block.start (without_offsets operators) k before ∙ get_alone operators k o e)) in
+        ∙ (get_front (take block.start (without_offsets operators)) (middle code ++ drop block.end (without_offsets operators)) k (omega arith)
+        ∙ (get_taken block.start (without_offsets operators) k before ∙ get_alone operators k o e)) in
         let found = from_alone again k o.0 there in
         ap is_delimiter (sym found.2) ∙ all k found.0 low high found.1
 
@@ -289,7 +301,8 @@ length_coded : (is : List Instruction) → length (coded is) ≡ length is
 length_coded [] = refl
 length_coded (i ∷ is) = ap suc (length_coded is)
 
-with_same : (ps : List Spelling) (block : BlockRange) (code : List Instruction) → block.start ≤ block.end → block.end < length ps → length code ≡ block.end - block.start →
+with_same : (ps : List Spelling) (block : BlockRange) (code : List Instruction) → block.start ≤ block.end → block.end < length ps →
+    length code ≡ block.end - block.start →
     with_code (with_code ps block code) block code ≡ with_code ps block code
 with_same ps block code l m n =
     let front = take block.start ps in
@@ -300,22 +313,27 @@ with_same ps block code l m n =
     ap₂ (λ (x y : List Spelling). x ++ (coded code ++ y)) (take_at front (coded code ++ back) block.start f)
     (ap (drop block.end) (sym (append_assoc front (coded code) back)) ∙ drop_at (front ++ coded code) back block.end whole)
 
-length_with : (ps : List Spelling) (block : BlockRange) (code : List Instruction) → block.start ≤ block.end → block.end < length ps → length code ≡ block.end - block.start →
+length_with : (ps : List Spelling) (block : BlockRange) (code : List Instruction) → block.start ≤ block.end → block.end < length ps →
+    length code ≡ block.end - block.start →
     length (with_code ps block code) ≡ length ps
 length_with ps block code l m n =
     omega (arith, length-append (take block.start ps) (coded code ++ drop block.end ps), length-append (coded code) (drop block.end ps), length-take block.start ps, length-drop block.end ps, length_coded code)
 
 -- how many operators the block has
-block_size : (operators : List (Operator × ℕ)) (block : BlockRange) → block.start ≤ block.end → block.end < length operators → length (slice_range operators block.start block.end) ≡ block.end - block.start
+block_size : (operators : List (Operator × ℕ)) (block : BlockRange) → block.start ≤ block.end → block.end < length operators →
+    length (slice_range operators block.start block.end) ≡ block.end - block.start
 block_size operators block l m = omega (arith, length-take (block.end - block.start) (drop block.start operators), length-drop block.start operators)
 
-pub reread : CodesSpell → (info : Module) (input : List ℕ) (operators : List (Operator × ℕ)) (block : BlockRange) → IsBodyIn input operators → IsBlockIn operators block → AreFit info (slice_range operators block.start block.end) →
-    All IsInstruction (instructions (forest (shapes_in info operators block))) →
-    IsReread info operators block (written_body input operators block (instructions (forest (shapes_in info operators block))))
-reread spell info input operators block b k fit all =
+pub reread : CodesSpell → (info : Module) (site : Site) → IsBodyIn site.input site.operators → IsBlockIn site.operators site.block →
+    AreFit info (block_operators site) → All IsInstruction (instructions (forest (block_shapes info site))) →
+    IsReread info site (written_body site (instructions (forest (block_shapes info site))))
+reread spell info site b k fit all =
+    let input = site.input in
+    let operators = site.operators in
+    let block = site.block in
     let h = spelled_in input operators block b k in
-    let os = slice_range operators block.start block.end in
-    let shaped = shapes_in info operators block in
+    let os = block_operators site in
+    let shaped = block_shapes info site in
     let code = instructions (forest shaped) in
     let qs = with_code h.ps block code in
     let again = placed 0 qs in
@@ -327,10 +345,11 @@ reread spell info input operators block b k fit all =
     ap (λ (is : List Instruction). length is) (instructions_are (forest shaped)) ∙ (length-map (shapes (forest shaped)) (λ (s : Shape). s.instr)
     ∙ (count_forest shaped ∙ (length-reverse (operator_shapes info os) ∙ (own.1 ∙ block_size operators block ordered (omega arith))))) in
     let body = again_of spell h.ps block code h.is.each h.is.last h.end_there all in
-    let text : written_body input operators block code ≡ joined qs = written_is input h.from h.to h.ps operators block code h.is h.start_there h.end_there in
+    let text : written_body site code ≡ joined qs = written_is input h.from h.to h.ps operators block code h.is h.start_there h.end_there in
     let names = alone_are input h.from h.to h.ps operators h.is in
     let is_again : IsAgain operators again block code = record {
-      are = named_placed 0 qs ∙ (spelled_with h.ps block code ∙ ap (λ (os : List Operator). take block.start os ++ (map (λ (i : Instruction). Instr i) code ++ drop block.end os)) (sym names));
+      are = named_placed 0 qs ∙ (spelled_with h.ps block code
+          ∙ ap (λ (os : List Operator). take block.start os ++ (map (λ (i : Instruction). Instr i) code ++ drop block.end os)) (sym names));
       ordered = ordered;
       inside = omega arith;
       count = size;
@@ -340,10 +359,11 @@ reread spell info input operators block b k fit all =
     range_again operators again block code is_again ∙ ap (map (λ (i : Instruction). Instr i)) (instructions_are (forest shaped)) in
     let owned : All (HasOwnShape info) (shapes (forest shaped)) = forest_holds (HasOwnShape info) shaped (All-reverse (HasOwnShape info) (operator_shapes info os) own.0) in
     let judged = judged_again info (shapes (forest shaped)) (slice_range again block.start block.end) owned ranged in
-    let new : shapes_in info again block ≡ reverse (shapes (forest shaped)) = ap reverse judged.0 in
-    let kept : forest (shapes_in info again block) ≡ renumbered 0 (forest shaped) = ap forest new ∙ same_trees shaped in
-    let code_is : instructions (forest (shapes_in info again block)) ≡ code =
-    ap instructions kept ∙ (instructions_are (renumbered 0 (forest shaped)) ∙ (ap instr_of (shapes-renumbered 0 (forest shaped)) ∙ sym (instructions_are (forest shaped)))) in
+    let new : block_shapes info (site_at (joined qs) again block site.at) ≡ reverse (shapes (forest shaped)) = ap reverse judged.0 in
+    let kept : forest (block_shapes info (site_at (joined qs) again block site.at)) ≡ renumbered 0 (forest shaped) = ap forest new ∙ same_trees shaped in
+    let code_is : instructions (forest (block_shapes info (site_at (joined qs) again block site.at))) ≡ code =
+    ap instructions kept ∙ (instructions_are (renumbered 0 (forest shaped))
+    ∙ (ap instr_of (shapes-renumbered 0 (forest shaped)) ∙ sym (instructions_are (forest shaped)))) in
     record {
       again = again;
       spells = subst (λ (t : List ℕ). SpellsBody 0 t again) (sym text) (spells_again (joined qs) (length (joined qs)) qs again body refl);
@@ -351,6 +371,7 @@ reread spell info input operators block b k fit all =
       fit = judged.1;
       same = kept;
       order = subst IsInOrder (sym new) (written_in_order shaped);
-      stays = ap₂ (λ (t : List ℕ) (is : List Instruction). written_body t again block is) text code_is
-          ∙ (written_is (joined qs) 0 (length (joined qs)) qs again block code body (omega arith) (omega arith) ∙ (ap joined (with_same h.ps block code ordered end_in size) ∙ sym text));
+      stays = ap₂ (λ (t : List ℕ) (is : List Instruction). written_body (site_at t again block site.at) is) text code_is
+          ∙ (written_is (joined qs) 0 (length (joined qs)) qs again block code body (omega arith) (omega arith)
+          ∙ (ap joined (with_same h.ps block code ordered end_in size) ∙ sym text));
     }

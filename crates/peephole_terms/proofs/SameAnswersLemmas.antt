@@ -2,16 +2,14 @@
 use Rattle.std.proofs.Common.{◌≡◌, ℕ, Bool, true, false, cond, List, [], ◌++◌, length, Result, Ok, refl, sym, ap, ap₂, ◌∙◌}
 use Rattle.wasm_code.specs.Instruction.{Instruction}
 use Rattle.wasm_code.specs.Code.{codes}
-use Rattle.wasm_code.specs.declared.operator.Operator.{Operator}
 use Rattle.mutate_base.specs.Module.{Module}
 use Rattle.mutate_base.specs.declared.error.Error.{Error}
 use Rattle.peephole_lang.specs.declared.lang.Head.{Head}
 use Rattle.peephole_lang.specs.Term.{Term}
-use Rattle.peephole_graphs.specs.Block.{BlockRange}
 use Rattle.peephole_terms.specs.Expansion.{Setting, expansion_of, expanded}
 use Rattle.peephole_terms.specs.SameAnswers.{block_words, TermAnswersAreTheSame, BodyAnswersAreTheSame}
 use Rattle.peephole_terms.specs.StackCode.{words_for}
-use Rattle.peephole_terms.specs.Written.{is_written, term_code, term_requests, written_block, written_body}
+use Rattle.peephole_terms.specs.Written.{Site, is_written, term_code, term_requests, written_block, written_body}
 
 abbrev Expanded : Type 0
 Expanded = Result (List Instruction) Error
@@ -33,22 +31,23 @@ chosen : (b : Bool) (next next' : ℕ) (words words' : List ℕ) (t : Term Head)
 chosen true next next' words words' t n w = ap₂ (λ (n : ℕ) (ws : List ℕ). expansion_of n ws t) n w
 chosen false next next' words words' t n w = refl
 
-same_term_code : (s s' : Setting) (operators : List (Operator × ℕ)) (block : BlockRange) (at : ℕ) (t : Term Head) → s.info ≡ s'.info →
-    block_words s operators block at t ≡ block_words s' operators block at t → term_code s operators block at t ≡ term_code s' operators block at t
-same_term_code s s' operators block at t i w =
-    let b : is_written s.info operators block at ≡ is_written s'.info operators block at = ap (λ (info : Module). is_written info operators block at) i in
+same_term_code : (s s' : Setting) (site : Site) (t : Term Head) → s.info ≡ s'.info → block_words s site t ≡ block_words s' site t →
+    term_code s site t ≡ term_code s' site t
+same_term_code s s' site t i w =
+    let b : is_written s.info site ≡ is_written s'.info site = ap (λ (info : Module). is_written info site) i in
     let words = w ∙ ap (λ (x : Bool). cond x (words_for s' t) []) (sym b) in
-    chosen (is_written s.info operators block at) (length s.info.globals) (length s'.info.globals) (words_for s t) (words_for s' t) t (ap (λ (info : Module). length info.globals) i) words
-    ∙ ap (λ (x : Bool). cond x (expanded s' t) (Ok [])) b
+    chosen (is_written s.info site) (length s.info.globals) (length s'.info.globals) (words_for s t) (words_for s' t) t
+    (ap (λ (info : Module). length info.globals) i) words ∙ ap (λ (x : Bool). cond x (expanded s' t) (Ok [])) b
 
 pub same_bodies : BodyAnswersAreTheSame
-same_bodies s s' input operators block at t old new old' new' answer answer' i w h h' =
-    let codes_are = same_term_code s s' operators block at t i w in
-    let same : h.written.0 ≡ h'.written.0 = same_code h.written.0 h'.written.0 (sym h.written.1 ∙ (codes_are ∙ h'.written.1)) in (
+same_bodies s s' site t old new old' new' answer answer' i w h h' =
+    let body = h.written in
+    let body' = h'.written in
+    let same : body.code ≡ body'.code = same_code body.code body'.code (sym body.expands ∙ (same_term_code s s' site t i w ∙ body'.expands)) in (
       (
-        written_body input operators block (written_block s.info operators block at h.written.0),
-        h.written.2,
-        h'.written.2 ∙ ap₂ (λ (info : Module) (c : List Instruction). old' ++ written_body input operators block (written_block info operators block at c)) (sym i) (sym same),
+        written_body site (written_block s.info site body.code),
+        body.appended,
+        body'.appended ∙ ap₂ (λ (info : Module) (c : List Instruction). old' ++ written_body site (written_block info site c)) (sym i) (sym same),
       ),
-      h.asks ∙ (ap (λ (info : Module). term_requests info operators block at t) i ∙ sym h'.asks),
+      h.asks ∙ (ap (λ (info : Module). term_requests info site t) i ∙ sym h'.asks),
     )

@@ -1,32 +1,30 @@
 -- A block in which a term stands for the tree that it evaluates as runs as it did.
-use Rattle.std.proofs.Common.{◌≡◌, ℕ, zero, suc, ◌+◌, ◌<◌, ◌≤◌, Bool, true, false, List, [], ◌∷◌, ◌++◌, length, map, take, drop, Option, Ok, refl, sym, ap, ap₂, ◌∙◌, subst, arith, append_assoc}
-use Rattle.std.specs.Prelude.{◌==◌, ◌≢◌, ◌||◌, IfSome, reverse, slice_range}
+use Rattle.std.proofs.Common.{◌≡◌, ℕ, zero, suc, ◌+◌, ◌<◌, ◌≤◌, Bool, true, false, List, [], ◌∷◌, ◌++◌, length, map, take, drop, Ok, refl, sym, ap, ap₂, ◌∙◌, subst, arith, append_assoc}
+use Rattle.std.specs.Prelude.{◌==◌, ◌≢◌, ◌||◌, IfSome, reverse}
 use Rattle.std.specs.List.{All}
 use Rattle.std.proofs.lemmas.Bool.{cond-true, cond-false, ne_eqb, eqb-true}
 use Rattle.std.proofs.lemmas.List.{drop_at, take_at, take-take, take-map, reverse-reverse}
 use Rattle.std.proofs.lemmas.List.Elements.{All-nil, All-cons, All-head, All-tail, All-take, All-append}
 use Rattle.rand_core.specs.Stream.{Stream}
 use Rattle.wasm_code.specs.Instruction.{Instruction}
-use Rattle.wasm_code.specs.Table.{info_of}
+use Rattle.wasm_code.specs.Table.{row_info_of}
 use Rattle.wasm_code.specs.declared.operator.Operator.{Operator}
 use Rattle.wasm_code.specs.declared.operator.Operator.TheVariants.{Instr}
-use Rattle.mutate_base.specs.Config.{Config, info_of as info_in}
 use Rattle.mutate_base.specs.Module.{Module}
 use Rattle.mutate_base.specs.declared.types.PrimitiveTypeInfo.{PrimitiveTypeInfo}
 use Rattle.peephole_lang.specs.declared.lang.Head.{Head}
 use Rattle.peephole_lang.specs.Term.{Term, tree_at}
-use Rattle.peephole_graphs.specs.declared.dfg.StackEntry.{StackEntry}
+use Rattle.peephole_graphs.specs.Entries.{Graph}
 use Rattle.peephole_graphs.specs.declared.shape.Shape.{Shape}
 use Rattle.peephole_graphs.specs.declared.shape.Judged.{Judged}
 use Rattle.peephole_graphs.specs.declared.shape.Judged.TheVariants.{Fits}
-use Rattle.peephole_graphs.specs.Block.{BlockRange}
 use Rattle.peephole_graphs.specs.Shape.{IsFit, AreFit, judge, and_shape, operator_shapes}
-use Rattle.peephole_graphs.specs.Tree.{Trees, entry, node, no_trees, ◌▸◌, numbers, instructions_of, instructions, range_from}
+use Rattle.peephole_graphs.specs.Tree.{Trees, entry, node, no_trees, ◌▸◌, postfix, instructions_of, instructions, range_from}
 use Rattle.peephole_graphs.specs.Forest.{forest, IsInOrder}
 use Rattle.peephole_graphs.specs.GraphOf.{IsGraphOf}
 use Rattle.peephole_graphs.specs.Layout.{entry_nodes}
 use Rattle.peephole_graphs.proofs.Order.{in_order_code}
-use Rattle.peephole_machine.specs.Values.{Value, IsValue, types, State, HasTypes, Outcome, Ends, Traps, Stuck, and_then, above}
+use Rattle.peephole_machine.specs.Values.{Value, IsValue, types, State, HasTypes, Outcome, Ends, Traps, Stuck, then_run, above}
 use Rattle.peephole_machine.specs.Machine.{run}
 use Rattle.peephole_machine.specs.Agreement.{with_globals, SameState, SameBelow}
 use Rattle.peephole_machine.specs.Laws.{IsIntegerInstruction}
@@ -35,8 +33,9 @@ use Rattle.peephole_machine.specs.SameLemmas.{rows_name, name_left, name_right, 
 use Rattle.peephole_machine.specs.TypeLemmas.{Keeps, run_keeps}
 use Rattle.peephole_machine.specs.RangeLemmas.{AreValues, Leaves, run_leaves}
 use Rattle.peephole_terms.specs.Kind.{primitive_of}
-use Rattle.peephole_terms.specs.Expansion.{Setting, setting_of, requests_of, expansion_of}
-use Rattle.peephole_terms.specs.Written.{replaced, is_root, shapes_in, is_written, term_code, written_block}
+use Rattle.peephole_terms.specs.Expansion.{setting_of, requests_of, expansion_of}
+use Rattle.peephole_terms.specs.Written.{Site, source_at, block_operators, block_shapes, with_tree_replaced, has_root, is_written, term_code, written_block}
+use Rattle.peephole_terms.specs.EncoderSteps.{Writing}
 use Rattle.peephole_terms.specs.Meaning.{meaning_of}
 use Rattle.peephole_terms.specs.StackCode.{words_for}
 use Rattle.peephole_terms.specs.SameRun.{EvaluatesAs, IsIntegerOperator, and_instruction, instructions_in, RunsAsBefore, AppendsSameRun}
@@ -44,7 +43,7 @@ use Rattle.peephole_terms.proofs.PlainLemmas.{IsItself, plain_of, is_itself}
 use Rattle.peephole_terms.proofs.LayoutExpansion.{term_expands}
 use Rattle.peephole_terms.proofs.OwnTrees.{own_replaced, own_plain, not_replaced}
 use Rattle.peephole_terms.proofs.RereadLemmas.{instr_of, instructions_are, found_is}
-use Rattle.peephole_terms.proofs.SettingLemmas.{IsUnder, IsRow, AppendsBody, setting, setting_is}
+use Rattle.peephole_terms.proofs.SettingLemmas.{GivenBody, DoesBody, in_setting, body_graph, body_done}
 use Rattle.peephole_terms.proofs.StackCodeLemmas.{Provided, same_of}
 
 -- ---- a tree and a term that evaluates as it
@@ -98,7 +97,7 @@ after_alike : (locals globals others wanted more : List PrimitiveTypeInfo) (tree
     (own code : List Instruction) →
     EvaluatesAs locals globals words tree t → AreWritten globals words tree t own code → wanted ≡ map primitive_of (requests_of t) ++ more →
     (o r : Outcome) → Alike (length globals) o r → Leaves o → Keeps locals (globals ++ others) o → Keeps locals (globals ++ wanted) r →
-    Alike (length globals) (and_then o (run own)) (and_then r (run code))
+    Alike (length globals) (then_run o (run own)) (then_run r (run code))
 after_alike locals globals others wanted more tree t words own code a x w (Ends vs s) (Ends us m) h hv hk hm =
     subst (λ y. Alike (length globals) (run own vs s) (run code y m)) h.0
     (tree_alike locals globals others wanted more tree t words own code a x w vs s m h.1 hv.1 hk.0 hk.1 hm.1)
@@ -141,10 +140,10 @@ keeps_run locals globals more front back own code tree t words rows a x stack s 
     let left = run_leaves front stack s0 hs (h.local_values, All-append IsValue s.globals others h.global_values ho) in
     let trees = after_alike locals globals (types others) (types requested) more tree t words own code a x hr (run front stack s0)
     (run front stack s1) fronts left k0 k1 in
-    let all = stays_alike c back (and_then (run front stack s0) (run own)) (and_then (run front stack s1) (run code)) back_names trees in
+    let all = stays_alike c back (then_run (run front stack s0) (run own)) (then_run (run front stack s1) (run code)) back_names trees in
     same_from_alike c (run ((front ++ own) ++ back) stack s0) (run ((front ++ code) ++ back) stack s1)
     (subst (λ y. Alike c y (run ((front ++ code) ++ back) stack s1)) (sym (run_three front own back stack s0))
-    (subst (λ y. Alike c (and_then (and_then (run front stack s0) (run own)) (run back)) y) (sym (run_three front code back stack s1)) all))
+    (subst (λ y. Alike c (then_run (then_run (run front stack s0) (run own)) (run back)) y) (sym (run_three front code back stack s1)) all))
     n
 
 -- ---- the trees round the insertion point's
@@ -164,16 +163,16 @@ first_of_range x ys a zero e = absurd cc
 first_of_range x ys a (suc n) e = (cc, (n, cc))
 
 -- the number of a tree's operator, and the numbers behind it
-root_number : (i : ℕ) (s : Shape) (kids ts : Trees) (a n : ℕ) → numbers (node i s kids ▸ ts) ≡ range_from a n →
-    (a ≤ i) × ((m : ℕ) × (numbers ts ≡ range_from (suc i) m))
+root_number : (i : ℕ) (s : Shape) (kids ts : Trees) (a n : ℕ) → postfix (node i s kids ▸ ts) ≡ range_from a n →
+    (a ≤ i) × ((m : ℕ) × (postfix ts ≡ range_from (suc i) m))
 root_number i s kids ts a n e =
-    let (n1, e1) = behind (numbers kids) (i ∷ numbers ts) a n (sym (append_assoc (numbers kids) (i ∷ []) (numbers ts)) ∙ e) in
-    let f = first_of_range i (numbers ts) (a + length (numbers kids)) n1 e1 in
-    let is : i ≡ a + length (numbers kids) = f.0 in
+    let (n1, e1) = behind (postfix kids) (i ∷ postfix ts) a n (sym (append_assoc (postfix kids) (i ∷ []) (postfix ts)) ∙ e) in
+    let f = first_of_range i (postfix ts) (a + length (postfix kids)) n1 e1 in
+    let is : i ≡ a + length (postfix kids) = f.0 in
     (omega arith, (f.1.0, f.1.1 ∙ ap (λ x. range_from (suc x) f.1.0) (sym is)))
 
 -- an operator before the range is no root
-no_root : (first at : ℕ) (ts : Trees) (a n : ℕ) → numbers ts ≡ range_from a n → at < first + a → is_root first at ts ≡ false
+no_root : (first at : ℕ) (ts : Trees) (a n : ℕ) → postfix ts ≡ range_from a n → at < first + a → has_root first at ts ≡ false
 no_root first at no_trees a n e l = refl
 no_root first at (entry m ▸ ts) a n e l = no_root first at ts a n e l
 no_root first at (node i s kids ▸ ts) a n e l =
@@ -186,12 +185,12 @@ no_root first at (node i s kids ▸ ts) a n e l =
 record Split (first at : ℕ) (ts : Trees) : Type 0 where
   front : List Instruction
   back : List Instruction
-  round : (code : List Instruction) → replaced first at code ts ≡ (front ++ code) ++ back
+  round : (code : List Instruction) → with_tree_replaced first at code ts ≡ (front ++ code) ++ back
 
 regroup : (p q r s : List Instruction) → p ++ ((q ++ r) ++ s) ≡ ((p ++ q) ++ r) ++ s
 regroup p q r s = simp append_assoc
 
-split : (first at : ℕ) (ts : Trees) (a n : ℕ) → numbers ts ≡ range_from a n → is_root first at ts ≡ true → Split first at ts
+split : (first at : ℕ) (ts : Trees) (a n : ℕ) → postfix ts ≡ range_from a n → has_root first at ts ≡ true → Split first at ts
 split first at no_trees a n e h = absurd cc
 split first at (entry m ▸ ts) a n e h =
     let s = split first at ts a n e h in
@@ -199,8 +198,8 @@ split first at (entry m ▸ ts) a n e h =
 split first at (node i s kids ▸ ts) a n e h = go (first + i == at) refl (root_number i s kids ts a n e)
     (λ m d k. split first at ts (suc i) m d k)
   where
-    go : (b : Bool) → (first + i == at) ≡ b → (a ≤ i) × ((m : ℕ) × (numbers ts ≡ range_from (suc i) m)) →
-        ((m : ℕ) → numbers ts ≡ range_from (suc i) m → is_root first at ts ≡ true → Split first at ts) → Split first at (node i s kids ▸ ts)
+    go : (b : Bool) → (first + i == at) ≡ b → (a ≤ i) × ((m : ℕ) × (postfix ts ≡ range_from (suc i) m)) →
+        ((m : ℕ) → postfix ts ≡ range_from (suc i) m → has_root first at ts ≡ true → Split first at ts) → Split first at (node i s kids ▸ ts)
     go true b r ih =
         let is = eqb-true (first + i) at b in
         let rest = λ (code : List Instruction). not_replaced first at code ts (no_root first at ts (suc i) r.1.0 r.1.1 (omega arith)) in
@@ -210,7 +209,7 @@ split first at (node i s kids ▸ ts) a n e h = go (first + i == at) refl (root_
           round = λ code. ap₂ (λ x y. x ++ y) (cond-true (first + i == at) code (instructions_of (node i s kids)) b) (rest code);
         }
     go false b r ih =
-        let later = ih r.1.0 r.1.1 (sym (ap (λ x. x || is_root first at ts) b) ∙ h) in
+        let later = ih r.1.0 r.1.1 (sym (ap (λ x. x || has_root first at ts) b) ∙ h) in
         let own = instructions_of (node i s kids) in
         record {
           front = own ++ later.front;
@@ -224,7 +223,7 @@ split first at (node i s kids ▸ ts) a n e h = go (first + i == at) refl (root_
 one_fits : (info : Module) (o : Operator) (j : Judged) (ss : List Shape) (is : List Instruction) → judge info o ≡ j → IsFit j →
     instr_of ss ≡ is →
     instr_of (and_shape j ss) ≡ and_instruction o is
-one_fits info (Instr i) (Fits s) ss is e f h = ap₂ (λ x y. x ∷ y) (found_is info i (info_of i.row) s e) h
+one_fits info (Instr i) (Fits s) ss is e f h = ap₂ (λ x y. x ∷ y) (found_is info i (row_info_of i.row) s e) h
 one_fits info (Instr i) _ ss is e f h = absurd f
 one_fits info _ j ss is e f h = absurd (subst IsFit (sym e) f)
 
@@ -258,60 +257,44 @@ integer_instructions locals globals (o ∷ os) all =
 
 -- ---- a block
 
-pub runs_as_before : (info : Module) (keeping : Bool) (stream : Stream) (operators : List (Operator × ℕ)) (block : BlockRange) (at : ℕ)
-    (entries : List StackEntry)
-    (parents : List (Option ℕ)) (look : ℕ → Option ℕ) (t : Term Head) (code : List Instruction) →
-    IsGraphOf info keeping block.start (slice_range operators block.start block.end) entries parents look →
-    term_code (setting info stream) operators block at t ≡ Ok code →
-    RunsAsBefore (setting info stream) operators block at entries look t (written_block info operators block at code)
-runs_as_before info keeping stream operators block at entries parents look t code g e locals more r stack s others requested hs h ho hr n =
-    let os = slice_range operators block.start block.end in
+runs_as_before : (info : Module) (preserving : Bool) (stream : Stream) (site : Site) (g : Graph) (t : Term Head) (code : List Instruction) →
+    IsGraphOf (source_at info preserving site) g → term_code (record { info = info; stream = stream }) site t ≡ Ok code →
+    RunsAsBefore (record { info = info; stream = stream }) site g t (written_block info site code)
+runs_as_before info preserving stream site g t code h e locals more r stack s others requested hs hv ho hr n =
+    let source = source_at info preserving site in
+    let os = block_operators site in
     let globals = info.globals in
-    let words = words_for (setting info stream) t in
-    let shaped = shapes_in info operators block in
-    let tree = tree_at (entry_nodes entries) r.entry in
+    let words = words_for (record { info = info; stream = stream }) t in
+    let shaped = block_shapes info site in
+    let tree = tree_at (entry_nodes g.entries) r.entry in
     let own = plain_of tree in
-    let itself : IsItself tree own = is_itself tree (own_plain info keeping block.start os entries parents look r.entry tree g refl) in
+    let itself : IsItself tree own = is_itself tree (own_plain source g r.entry tree h refl) in
     let expands : expansion_of (length globals) words t ≡ Ok code =
-    sym (cond-true (is_written info operators block at) (expansion_of (length globals) words t) (Ok []) r.root) ∙ e in
-    let sp = split block.start at (forest shaped) 0 (length shaped) r.order r.root in
-    let stands : replaced block.start at own (forest shaped) ≡ instructions (forest shaped) =
-    own_replaced info keeping block.start os entries parents look at r.entry own g r.own
-    (term_expands info keeping block.start os entries parents look at r.entry tree g r.own refl) in
+    sym (cond-true (is_written info site) (expansion_of (length globals) words t) (Ok []) r.root) ∙ e in
+    let sp = split site.block.start site.at (forest shaped) 0 (length shaped) r.order r.root in
+    let stands : with_tree_replaced site.block.start site.at own (forest shaped) ≡ instructions (forest shaped) =
+    own_replaced source g site.at r.entry own h r.own (term_expands source g site.at r.entry tree h r.own refl) in
     let old : instructions_in os ≡ (sp.front ++ own) ++ sp.back =
-    sym (forest_instructions info os g.fit r.order) ∙ (sym stands ∙ sp.round own) in
+    sym (forest_instructions info os h.fit r.order) ∙ (sym stands ∙ sp.round own) in
     let rows = subst (All (IsIntegerInstruction locals globals)) old (integer_instructions locals globals os r.integer) in
     let moves = subst (λ x. run x stack (with_globals others s) ≢ Stuck) old n in
     let it = keeps_run locals globals more sp.front sp.back own code tree t words rows r.evaluates
-    (record { itself = itself; expands = expands }) stack s others requested hs h ho hr moves in
+    (record { itself = itself; expands = expands }) stack s others requested hs hv ho hr moves in
     subst (λ x. SameBelow (length globals) (run x stack (with_globals others s))
-    (run (written_block info operators block at code) stack (with_globals requested s))) (sym old)
+    (run (written_block info site code) stack (with_globals requested s))) (sym old)
     (subst (λ x. SameBelow (length globals) (run ((sp.front ++ own) ++ sp.back) stack (with_globals others s))
     (run x stack (with_globals requested s))) (sym (sp.round code)) it)
 
 -- ---- the clause
 
-abbrev BodyRuns : List ℕ → List (Operator × ℕ) → BlockRange → ℕ → List StackEntry → (ℕ → Option ℕ) → Term Head → List ℕ → List ℕ →
-    Setting → Type 0
-BodyRuns input operators block at entries look t old new s = AppendsSameRun s input operators block at entries look t old new
-
-pub body_runs : {R : Type 0} (stream : R → Stream) (config : Config Module R) (info : Module) (generator : R) (count : ℕ) (input : List ℕ)
-    (operators : List (Operator × ℕ)) (block : BlockRange) (at : ℕ)
-    (entries es : List StackEntry) (parents ps : List (Option ℕ)) (look : ℕ → Option ℕ) (t read : Term Head) (old new : List ℕ) →
-    IsUnder config info generator count → IsRow (info_in config) config.preserving operators block entries es parents ps look t read →
-    IfSome (setting_of stream config) (AppendsBody input operators block at t old new) →
-    IfSome (setting_of stream config) (BodyRuns input operators block at entries look t old new)
-body_runs stream config info generator count input operators block at entries es parents ps look t read old new u r w =
-    let is = setting_is stream config info generator u.info_is u.generator_is in
-    let graph : IsGraphOf info config.preserving block.start (slice_range operators block.start block.end) entries parents look =
-    subst (λ (x : Option Module). IfSome x (λ info. IsGraphOf info config.preserving block.start
-    (slice_range operators block.start block.end) entries parents look)) u.info_is r.graph in
-    let own : AppendsBody input operators block at t old new (setting info (stream generator)) =
-    subst (λ (x : Option Setting). IfSome x (AppendsBody input operators block at t old new)) is w in
-    subst (λ (x : Option Setting). IfSome x (BodyRuns input operators block at entries look t old new)) (sym is) (record {
-      code = own.0;
-      expands = own.1;
-      appended = own.2;
-      runs = runs_as_before info config.preserving
-          (stream generator) operators block at entries parents look t own.0 graph own.1;
+pub body_runs : {R : Type 0} (b : GivenBody R) (v : Writing) → DoesBody b v (Ok tt) →
+    IfSome (setting_of b.given.stream b.given.config) (λ s. AppendsSameRun s b.site b.graph b.given.term b.given.old v.bytes)
+body_runs b v d =
+    let g = b.given in
+    let own = (body_done b v d).body in
+    in_setting g (λ s. AppendsSameRun s b.site b.graph g.term g.old v.bytes) (record {
+      code = own.code;
+      expands = own.expands;
+      appended = own.appended;
+      runs = runs_as_before g.info g.config.preserving (g.stream g.generator) b.site b.graph g.term own.code (body_graph b) own.expands;
     })

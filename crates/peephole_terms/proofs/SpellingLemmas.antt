@@ -75,7 +75,8 @@ length-placed start [] = refl
 length-placed start (p ∷ ps) = ap suc (length-placed (start + length p.1) ps)
 
 -- an operator starts behind the bytes of those before it
-pub offset_placed : (start : ℕ) (ps : List Spelling) (i : ℕ) → i < length ps → slice_index (map (λ (o : Operator × ℕ). o.1) (placed start ps)) i ≡ start + length (joined (take i ps))
+pub offset_placed : (start : ℕ) (ps : List Spelling) (i : ℕ) → i < length ps →
+    slice_index (map (λ (o : Operator × ℕ). o.1) (placed start ps)) i ≡ start + length (joined (take i ps))
 offset_placed start [] i l = absurd (omega arith)
 offset_placed start (p ∷ ps) zero l = omega arith
 offset_placed start (p ∷ ps) (suc i) l =
@@ -123,7 +124,8 @@ ends_behind (o ∷ []) (p ∷ ps) l = refl
 ends_behind (o ∷ q ∷ os) ps l = ends_behind (q ∷ os) ps l
 
 -- an opcode of one byte has no bytes behind it
-no_more : (v w : Bool) (b c : ℕ) (back : List ℕ) (o : Opcode) → Choose v (Of (λ n. Fc n) (SpellsUnsigned 32)) (Choose w (Of (λ n. Fd n) (SpellsUnsigned 32)) (NoBytes (Byte b))) back o → o ≡ Byte c → back ≡ []
+no_more : (v w : Bool) (b c : ℕ) (back : List ℕ) (o : Opcode) →
+    Choose v (Of (λ n. Fc n) (SpellsUnsigned 32)) (Choose w (Of (λ n. Fd n) (SpellsUnsigned 32)) (NoBytes (Byte b))) back o → o ≡ Byte c → back ≡ []
 no_more true w b c back o s e = let m = s.made in absurd cc
 no_more false true b c back o s e = let m = s.made in absurd cc
 no_more false false b c back o s e = s.0
@@ -157,14 +159,16 @@ pub record StandsIn (input : List ℕ) (from to : ℕ) (ps : List Spelling) : Ty
   pub whole : slice_range input from to ≡ joined ps
   pub size : length (joined ps) ≡ to - from
 
-pub stands_in : (input : List ℕ) (from to : ℕ) (ps : List Spelling) → from ≤ to → to ≤ length input → slice_range input from to ≡ joined ps → StandsIn input from to ps
+pub stands_in : (input : List ℕ) (from to : ℕ) (ps : List Spelling) → from ≤ to → to ≤ length input → slice_range input from to ≡ joined ps →
+    StandsIn input from to ps
 stands_in input from to ps l m whole = record {
   whole = whole;
   size = omega (arith, ap (λ (t : List ℕ). length t) whole, length-take (to - from) (drop from input), length-drop from input);
 }
 
 -- those before an operator
-pub front_in : (input : List ℕ) (from to k : ℕ) (ps : List Spelling) → StandsIn input from to ps → slice_range input from (from + length (joined (take k ps))) ≡ joined (take k ps)
+pub front_in : (input : List ℕ) (from to k : ℕ) (ps : List Spelling) → StandsIn input from to ps →
+    slice_range input from (from + length (joined (take k ps))) ≡ joined (take k ps)
 front_in input from to k ps h =
     let m = length (joined (take k ps)) in
     let parts = joined_parts k ps in
@@ -176,7 +180,8 @@ front_in input from to k ps h =
     ∙ (ap (take m) (h.whole ∙ parts) ∙ take_at (joined (take k ps)) (joined (drop k ps)) m refl))
 
 -- those from an operator on, to where the last one ends
-pub back_in : (input : List ℕ) (from to end k : ℕ) (ps : List Spelling) → StandsIn input from to ps → end ≡ from + length (joined ps) → slice_range input (from + length (joined (take k ps))) end ≡ joined (drop k ps)
+pub back_in : (input : List ℕ) (from to end k : ℕ) (ps : List Spelling) → StandsIn input from to ps → end ≡ from + length (joined ps) →
+    slice_range input (from + length (joined (take k ps))) end ≡ joined (drop k ps)
 back_in input from to end k ps h e =
     let m = length (joined (take k ps)) in
     let parts = joined_parts k ps in

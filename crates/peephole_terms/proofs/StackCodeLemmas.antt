@@ -13,7 +13,7 @@ use Rattle.mutate_base.specs.declared.error.Error.TheVariants.{GlobalIndex}
 use Rattle.peephole_lang.specs.declared.lang.Head.{Head}
 use Rattle.peephole_lang.specs.Term.{Term, Terms, absent, node, no_terms, ◌▸◌}
 use Rattle.peephole_machine.specs.declared.integer.IntegerType.TheVariants as integer
-use Rattle.peephole_machine.specs.Values.{type_of, width_of, Value, whole, types, State, global, write, Outcome, Ends, Traps, Stuck, and_then, above}
+use Rattle.peephole_machine.specs.Values.{type_of, width_of, Value, whole, types, State, global, write, Outcome, Ends, Traps, Stuck, then_run, above}
 use Rattle.peephole_machine.specs.IntegerRow.{operand_count, row_types, integer_row}
 use Rattle.peephole_machine.specs.Machine.{act, run}
 use Rattle.peephole_machine.specs.Agreement.{with_globals, SameState, SameBelow}
@@ -23,12 +23,11 @@ use Rattle.peephole_machine.specs.SameLemmas.{typed_names, Alike, same_from_alik
 use Rattle.peephole_machine.specs.TypeLemmas.{Fine, Keeps, run_keeps}
 use Rattle.peephole_terms.specs.declared.encoder.kind.NumberType.TheVariants as number
 use Rattle.peephole_terms.specs.declared.encoder.kind.Kind.TheVariants.{Own, Random, Unfold, UseGlobal, Container, Nothing}
-use Rattle.peephole_terms.specs.Kind.{NumberType, IntegerType, Kind, kind_of, primitive_of}
-use Rattle.peephole_terms.specs.Expansion.{constant, sum, set_global, get_global, constant_in, sum_of, through_global, followed, joined, first_word, own_code, with_own_code, own_requests, with_own_requests, requests_of, requests, draws_of, draws, expansion_of, expansion, Setting, setting_of}
+use Rattle.peephole_terms.specs.Kind.{NumberType, IntegerType, Kind, node_kind, primitive_of}
+use Rattle.peephole_terms.specs.Expansion.{constant, sum, set_global, get_global, constant_in, sum_of, through_global, then_code, joined_code, first_word, own_code, with_own_code, own_requests, with_own_requests, requests_of, requests, draws_of, draws, expansion_of, expansion, AppendsCode, setting_of}
 use Rattle.peephole_terms.specs.Typing.{integer_type, number_types, own_types, with_own_types, types_of, types_in}
 use Rattle.peephole_terms.specs.Meaning.{word_meaning, number_meaning, own_meaning, with_own_meaning, meaning_of, meaning}
 use Rattle.peephole_terms.specs.StackCode.{AppendsStackCode, words_for, IsStackCode}
-use Rattle.peephole_terms.proofs.SettingLemmas.{Appends}
 use Rattle.peephole_terms.proofs.MeaningRows.{run_word, run_sum_of, run_through_global}
 use Rattle.peephole_terms.proofs.MeaningLemmas.{parts_of_types, that_type, fine_of, fine_in}
 
@@ -73,7 +72,7 @@ primitive_is number.F64 u e = absurd cc
 row_alike : (locals globals us ts : List PrimitiveTypeInfo) (i : Instruction) (stack : List Value) (o r : Outcome) →
     Alike (length globals) (above stack o) r →
     Fine locals globals us o → row_types locals globals (integer_row i) us ≡ Some ts →
-    Alike (length globals) (above stack (and_then o (act (integer_row i)))) (and_then r (run (i ∷ [])))
+    Alike (length globals) (above stack (then_run o (act (integer_row i)))) (then_run r (run (i ∷ [])))
 row_alike locals globals us ts i stack (Ends vs s) (Ends st m) h f e =
     let row = integer_row i in
     let n : operand_count row ≡ length vs = row_types_count locals globals row us ts e ∙ (ap length (sym f.0) ∙ length_types vs) in
@@ -93,8 +92,8 @@ row_alike locals globals us ts i stack Stuck r h f e = absurd f
 word_alike : (locals globals ts : List PrimitiveTypeInfo) (t : NumberType) (word : ℕ) (stack : List Value) (o r : Outcome) →
     Alike (length globals) (above stack o) r →
     Fine locals globals [] o → number_types (integer_type t) ≡ Some ts →
-    Alike (length globals) (above stack (and_then o (λ vs s. word_meaning (integer_type t) word s)))
-    (and_then r (run (constant t word ∷ [])))
+    Alike (length globals) (above stack (then_run o (λ vs s. word_meaning (integer_type t) word s)))
+    (then_run r (run (constant t word ∷ [])))
 word_alike locals globals ts t word stack (Ends [] s) (Ends st m) h f e =
     let (u, a, b) = map_some (λ u. type_of u ∷ []) (integer_type t) ts e in
     let it : run (constant t word ∷ []) st m ≡ Ends (stack ++ whole u word ∷ []) m =
@@ -114,7 +113,7 @@ through_alike : (locals globals other_locals other_globals : List PrimitiveTypeI
     (o r : Outcome) →
     Alike (length globals) (above stack o) r → Fine locals globals (type_of t ∷ []) o → Keeps other_locals other_globals r →
     slice_get other_globals g ≡ Some (type_of t) → length globals ≤ g →
-    Alike (length globals) (above stack (and_then o (λ vs s. Ends vs s))) (and_then r (run (set_global g ∷ get_global g ∷ [])))
+    Alike (length globals) (above stack (then_run o (λ vs s. Ends vs s))) (then_run r (run (set_global g ∷ get_global g ∷ [])))
 through_alike locals globals other_locals other_globals t g stack (Ends [] s) (Ends st m) h f k e l =
     absurd (let n = ap length f.0 in omega arith)
 through_alike locals globals other_locals other_globals t g stack (Ends (v ∷ []) s) (Ends st m) h f k e l =
@@ -135,14 +134,14 @@ through_alike locals globals other_locals other_globals t g stack Stuck r h f k 
 
 -- nothing is added
 still_alike : (count : ℕ) (stack : List Value) (o r : Outcome) → Alike count (above stack o) r →
-    Alike count (above stack (and_then o (λ vs s. Ends vs s))) (and_then r (run []))
-still_alike count stack o r h = subst (λ x. Alike count (above stack x) (and_then r (run []))) (sym (then_ends o))
+    Alike count (above stack (then_run o (λ vs s. Ends vs s))) (then_run r (run []))
+still_alike count stack o r h = subst (λ x. Alike count (above stack x) (then_run r (run []))) (sym (then_ends o))
     (subst (Alike count (above stack o)) (sym (then_ends r)) h)
 
 -- ---- codes
 
 pub followed_ok : (r : Result (List Instruction) Error) (f : List Instruction → Result (List Instruction) Error) (y : List Instruction) →
-    followed r f ≡ Ok y →
+    then_code r f ≡ Ok y →
     (x : List Instruction) × (r ≡ Ok x) × (f x ≡ Ok y)
 followed_ok (Ok x) f y e = (x, refl, e)
 followed_ok (Err x) f y e = absurd cc
@@ -151,10 +150,10 @@ ok_is : (x y : List Instruction) → ◌≡◌ {A = Result (List Instruction) Er
 ok_is x y e = cc
 
 -- the parts of a code
-joined_ok : (a b : Result (List Instruction) Error) (code : List Instruction) → joined a b ≡ Ok code →
+joined_ok : (a b : Result (List Instruction) Error) (code : List Instruction) → joined_code a b ≡ Ok code →
     (front back : List Instruction) × (a ≡ Ok front) × (b ≡ Ok back) × (front ++ back ≡ code)
 joined_ok a b code e =
-    let (front, p, q) = followed_ok a (λ xs. followed b (λ ys. Ok (xs ++ ys))) code e in
+    let (front, p, q) = followed_ok a (λ xs. then_code b (λ ys. Ok (xs ++ ys))) code e in
     let (back, u, v) = followed_ok b (λ ys. Ok (front ++ ys)) code q in
     (front, back, p, u, ok_is (front ++ back) code v)
 
@@ -172,12 +171,12 @@ own_alike : (locals globals other_locals other_globals us ts : List PrimitiveTyp
     Alike (length globals) (above stack o) r → Fine locals globals us o → Keeps other_locals other_globals r →
     own_types locals globals k us ≡ Some ts →
     own_code next words k ≡ Ok code → length globals ≤ next → Provided next (own_requests k) other_globals →
-    Alike (length globals) (above stack (and_then o (own_meaning words k))) (and_then r (run code))
+    Alike (length globals) (above stack (then_run o (own_meaning words k))) (then_run r (run code))
 own_alike locals globals other_locals other_globals us ts (Own i) next words code stack o r h f k e x l p =
-    subst (λ y. Alike (length globals) (above stack (and_then o (act (integer_row i)))) (and_then r (run y))) (ok_is (i ∷ []) code x)
+    subst (λ y. Alike (length globals) (above stack (then_run o (act (integer_row i)))) (then_run r (run y))) (ok_is (i ∷ []) code x)
     (row_alike locals globals us ts i stack o r h f e)
 own_alike locals globals other_locals other_globals [] ts (Random t) next words code stack o r h f k e x l p =
-    subst (λ y. Alike (length globals) (above stack (and_then o (own_meaning words (Random t)))) (and_then r (run y)))
+    subst (λ y. Alike (length globals) (above stack (then_run o (own_meaning words (Random t)))) (then_run r (run y)))
     (ok_is (constant t (first_word words) ∷ []) code x)
     (word_alike locals globals ts t (first_word words) stack o r h f e)
 own_alike locals globals other_locals other_globals (u ∷ us) ts (Random t) next words code stack o r h f k e x l p = absurd cc
@@ -185,10 +184,10 @@ own_alike locals globals other_locals other_globals us ts (UseGlobal t) next wor
     let (u, a, b, c) = that_type (integer_type t) us ts e in
     let there : slice_get other_globals next ≡ Some (type_of u) =
     drop_get next other_globals p.0 (primitive_of t) p.1 ∙ ap Some (primitive_is t u a) in
-    subst (λ y. Alike (length globals) (above stack (and_then o (λ vs s. Ends vs s))) (and_then r (run y))) (through_code next code x)
+    subst (λ y. Alike (length globals) (above stack (then_run o (λ vs s. Ends vs s))) (then_run r (run y))) (through_code next code x)
     (through_alike locals globals other_locals other_globals u next stack o r h (subst (λ y. Fine locals globals y o) b f) k there l)
 own_alike locals globals other_locals other_globals us ts Container next words code stack o r h f k e x l p =
-    subst (λ y. Alike (length globals) (above stack (and_then o (λ vs s. Ends vs s))) (and_then r (run y))) (ok_is [] code x)
+    subst (λ y. Alike (length globals) (above stack (then_run o (λ vs s. Ends vs s))) (then_run r (run y))) (ok_is [] code x)
     (still_alike (length globals) stack o r h)
 own_alike locals globals other_locals other_globals us ts (Unfold t) next words code stack o r h f k e x l p = absurd cc
 own_alike locals globals other_locals other_globals us ts Nothing next words code stack o r h f k e x l p = absurd cc
@@ -218,17 +217,17 @@ AreAlike locals globals ts =
 behind_alike : (locals globals list : List PrimitiveTypeInfo) (k : Kind) (kids : Terms Head) (words : List ℕ) (next : ℕ)
     (code : List Instruction) → AreAlike locals globals kids →
     option_and_then (own_types locals globals k) (types_in locals globals kids) ≡ Some list →
-    joined (expansion next words kids) (own_code (next + length (requests kids)) (drop (length (draws kids)) words) k) ≡ Ok code →
+    joined_code (expansion next words kids) (own_code (next + length (requests kids)) (drop (length (draws kids)) words) k) ≡ Ok code →
     (stack : List Value) (s m : State) → types s.locals ≡ locals → types s.globals ≡ globals → SameState (length globals) s m →
     length globals ≤ next →
     Provided next (requests kids ++ own_requests k) (types m.globals) →
-    Alike (length globals) (above stack (and_then (meaning words kids s) (own_meaning (drop (length (draws kids)) words) k)))
+    Alike (length globals) (above stack (then_run (meaning words kids s) (own_meaning (drop (length (draws kids)) words) k)))
     (run code stack m)
 behind_alike locals globals list k kids words next code below e x stack s m hl hg hs l p =
     let (us, a, b) = and_then_some (own_types locals globals k) (types_in locals globals kids) list e in
     let (front, back, c, d, f) = joined_ok (expansion next words kids)
     (own_code (next + length (requests kids)) (drop (length (draws kids)) words) k) code x in
-    let means = above stack (and_then (meaning words kids s) (own_meaning (drop (length (draws kids)) words) k)) in
+    let means = above stack (then_run (meaning words kids s) (own_meaning (drop (length (draws kids)) words) k)) in
     subst (λ y. Alike (length globals) means (run y stack m)) f
     (subst (Alike (length globals) means) (sym (run_append front back stack m))
     (own_alike locals globals (types m.locals) (types m.globals) us list k (next + length (requests kids))
@@ -264,7 +263,7 @@ next_alike : (count : ℕ) (locals globals us other_locals other_globals : List 
     Alike count (above stack o) r → Fine locals globals us o → Keeps other_locals other_globals r →
     ((st : List Value) (s m : State) → types s.locals ≡ locals → types s.globals ≡ globals → SameState count s m →
     types m.globals ≡ other_globals → Alike count (above st (f s)) (g st m)) →
-    Alike count (above stack (and_then o (λ vs s. above vs (f s)))) (and_then r g)
+    Alike count (above stack (then_run o (λ vs s. above vs (f s)))) (then_run r g)
 next_alike count locals globals us other_locals other_globals stack f g (Ends vs s) (Ends st m) h fine k next =
     subst (λ x. Alike count (above stack (above vs (f s))) (g x m)) h.0
     (subst (λ x. Alike count x (g (stack ++ vs) m)) (above_above stack vs (f s)) (next (stack ++ vs) s m fine.1 fine.2 h.1 k.1))
@@ -283,7 +282,7 @@ mutual
       Provided next (requests_of t) (types m.globals) → Alike (length globals) (above stack (meaning_of words t s)) (run code stack m)
   alike_of locals globals list absent words next code e x stack s m hl hg hs l p = absurd cc
   alike_of locals globals list (node h kids) words next code e x stack s m hl hg hs l p =
-      node_alike locals globals list (kind_of h) kids words next code (alike_in locals globals kids) e x stack s m hl hg hs l p
+      node_alike locals globals list (node_kind h) kids words next code (alike_in locals globals kids) e x stack s m hl hg hs l p
 
   pub alike_in : (locals globals : List PrimitiveTypeInfo) (ts : Terms Head) → AreAlike locals globals ts
   alike_in locals globals no_terms list words next code e x stack s m hl hg hs l p =
@@ -340,11 +339,8 @@ pub under : {A : Type 0} (o : Option A) (P Q : A → Type 0) → IfSome o P → 
 under None P Q h f = h
 under (Some x) P Q h f = f x h
 
-abbrev Runs : List ℕ → List ℕ → Term Head → Setting → Type 0
-Runs old new t s = AppendsStackCode s t old new
-
 pub term_runs : {R : Type 0} (stream : R → Stream) (config : Config Module R) (t : Term Head) (old new : List ℕ) →
-    IfSome (setting_of stream config) (Appends old new t) → IfSome (setting_of stream config) (Runs old new t)
+    IfSome (setting_of stream config) (λ s. AppendsCode s t old new) → IfSome (setting_of stream config) (λ s. AppendsStackCode s t old new)
 term_runs {R} stream config t old new w =
-    under (setting_of stream config) (Appends old new t) (Runs old new t) w
+    under (setting_of stream config) (λ s. AppendsCode s t old new) (λ s. AppendsStackCode s t old new) w
     (λ s a. record { code = a.0; expands = a.1; appended = a.2; runs = stack_code s.info.globals (words_for s t) t a.0 a.1 })

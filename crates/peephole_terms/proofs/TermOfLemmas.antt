@@ -9,7 +9,7 @@ use Rattle.peephole_lang.specs.Term as term
 use Rattle.peephole_lang.specs.Term.{Term, Terms}
 use Rattle.peephole_graphs.specs.TermOf.{IsTermOf, AreTermsOf}
 use Rattle.peephole_graphs.specs.Tree.{Tree, Trees, entry, node, no_trees, ◌▸◌, instructions_of, instructions}
-use Rattle.peephole_terms.specs.Kind.{kind_of, of_instruction}
+use Rattle.peephole_terms.specs.Kind.{node_kind, of_instruction}
 use Rattle.peephole_terms.specs.Expansion.{drawn, draws_of}
 use Rattle.peephole_terms.specs.Laws.{TreesAreWrittenAsTheyAre}
 use Rattle.peephole_terms.proofs.PlainLemmas.{IsPlain, ArePlain, IsItself, listed, plain_of, plain, is_itself, row_kind}
@@ -21,8 +21,8 @@ at_place h place = record { place = place; payload = h.payload }
 no_instruction : (h : Head) → h.place ≡ 4 → instr_of_head h ≡ None
 no_instruction h e = ap (λ (place : ℕ). instr_of_head (at_place h place)) e
 
-undef_kind : (h : Head) → h.place ≡ 4 → kind_of h ≡ of_instruction (instr_of_head h)
-undef_kind h e = ap (λ (place : ℕ). kind_of (at_place h place)) e ∙ sym (ap of_instruction (no_instruction h e))
+undef_kind : (h : Head) → h.place ≡ 4 → node_kind h ≡ of_instruction (instr_of_head h)
+undef_kind h e = ap (λ (place : ℕ). node_kind (at_place h place)) e ∙ sym (ap of_instruction (no_instruction h e))
 
 undef_place : place_of Undef ≡ 4
 unfolding place_of

@@ -12,13 +12,15 @@ use Rattle.mutate_base.specs.declared.error.Error.TheVariants.{Memory, CannotUnf
 use Rattle.peephole_lang.specs.declared.lang.Head.{Head}
 use Rattle.peephole_nodes.specs.declared.payload.Payload.{Payload}
 use Rattle.peephole_nodes.specs.declared.payload.Payload.TheVariants as payload
-use Rattle.peephole_lang.specs.Term.{Term, Terms, absent, node, no_terms, ◌▸◌}
+use Rattle.peephole_lang.specs.declared.lang.Lang.{Lang}
+use Rattle.peephole_lang.specs.Node.{head_of, children_of}
+use Rattle.peephole_lang.specs.Term.{Term, Terms, absent, node, no_terms, ◌▸◌, term_of}
 use Rattle.peephole_terms.specs.declared.encoder.request.ResourceRequest.{ResourceRequest}
 use Rattle.peephole_terms.specs.declared.encoder.request.ResourceRequest.TheVariants.{Global}
 use Rattle.peephole_terms.specs.declared.encoder.kind.NumberType.TheVariants as number
 use Rattle.peephole_machine.specs.declared.integer.IntegerType.TheVariants as integer
 use Rattle.peephole_terms.specs.declared.encoder.kind.Kind.TheVariants as kind
-use Rattle.peephole_terms.specs.Kind.{NumberType, IntegerType, Kind, kind_of, primitive_of, number_of}
+use Rattle.peephole_terms.specs.Kind.{NumberType, IntegerType, Kind, node_kind, primitive_of, number_of}
 
 -- ---- the globals that a term asks for, children first, and none below an unfold
 
@@ -33,7 +35,7 @@ with_own_requests k below = below ++ own_requests k
 abbrev mutual
   pub requests_of : Term Head → List NumberType
   requests_of absent = []
-  requests_of (node h kids) = with_own_requests (kind_of h) (requests kids)
+  requests_of (node h kids) = with_own_requests (node_kind h) (requests kids)
 
   pub requests : Terms Head → List NumberType
   requests no_terms = []
@@ -56,7 +58,7 @@ with_own_draws k below = below ++ own_draws k
 abbrev mutual
   pub draws_of : Term Head → List NumberType
   draws_of absent = []
-  draws_of (node h kids) = with_own_draws (kind_of h) (draws kids)
+  draws_of (node h kids) = with_own_draws (node_kind h) (draws kids)
 
   pub draws : Terms Head → List NumberType
   draws no_terms = []
@@ -124,13 +126,13 @@ sum_of t word None = Err CannotUnfold
 abbrev pub through_global : ℕ → Result (List Instruction) Error
 through_global g = if nat_le g 4294967295 then Ok (set_global g ∷ get_global g ∷ []) else Err GlobalIndex
 
-abbrev pub followed : Result (List Instruction) Error → (List Instruction → Result (List Instruction) Error) → Result (List Instruction) Error
-followed (Ok front) more = more front
-followed (Err e) more = Err e
+abbrev pub then_code : Result (List Instruction) Error → (List Instruction → Result (List Instruction) Error) → Result (List Instruction) Error
+then_code (Ok front) more = more front
+then_code (Err e) more = Err e
 
 -- one after the other; the first refusal counts
-abbrev pub joined : Result (List Instruction) Error → Result (List Instruction) Error → Result (List Instruction) Error
-joined front back = followed front (λ xs. followed back (λ ys. Ok (xs ++ ys)))
+abbrev pub joined_code : Result (List Instruction) Error → Result (List Instruction) Error → Result (List Instruction) Error
+joined_code front back = then_code front (λ xs. then_code back (λ ys. Ok (xs ++ ys)))
 
 abbrev pub first_word : List ℕ → ℕ
 first_word [] = 0
@@ -146,17 +148,21 @@ own_code next words _ = Ok []
 -- an unfold stands for itself and its child; any other node comes behind its children's code
 abbrev pub with_own_code : ℕ → List ℕ → Kind → Terms Head → Result (List Instruction) Error → Result (List Instruction) Error
 with_own_code next words (kind.Unfold t) kids below = sum_of t (first_word words) (constant_in t kids)
-with_own_code next words k kids below = joined below (own_code (next + length (requests kids)) (drop (length (draws kids)) words) k)
+with_own_code next words k kids below = joined_code below (own_code (next + length (requests kids)) (drop (length (draws kids)) words) k)
 
 -- The instructions of a term, or the first refusal. `next` is the index of the first requested global, and `words` is what is drawn from here on.
 abbrev mutual
   pub expansion_of : (next : ℕ) (words : List ℕ) → Term Head → Result (List Instruction) Error
   expansion_of next words absent = Ok []
-  expansion_of next words (node h kids) = with_own_code next words (kind_of h) kids (expansion next words kids)
+  expansion_of next words (node h kids) = with_own_code next words (node_kind h) kids (expansion next words kids)
 
   pub expansion : (next : ℕ) (words : List ℕ) → Terms Head → Result (List Instruction) Error
   expansion next words no_terms = Ok []
-  expansion next words (t ▸ ts) = joined (expansion_of next words t) (expansion (next + length (requests_of t)) (drop (length (draws_of t)) words) ts)
+  expansion next words (t ▸ ts) = joined_code (expansion_of next words t) (expansion (next + length (requests_of t)) (drop (length (draws_of t)) words) ts)
+
+-- the term of an expression, that of its last node
+abbrev pub term_in : List Lang → Term Head
+term_in expr = term_of head_of children_of expr
 
 -- ---- under a configuration
 

@@ -39,8 +39,8 @@ kind_found (Some k) i = k
 kind_found None i = of_instruction i
 
 -- what a node is; one that isn't writable is none of these, and stands for nothing here
-abbrev pub kind_of : Head → Kind
-kind_of h = kind_found (slice_get rowless h.place) (instr_of_head h)
+abbrev pub node_kind : Head → Kind
+node_kind h = kind_found (slice_get rowless h.place) (instr_of_head h)
 
 abbrev pub is_unfold : Kind → Bool
 is_unfold (kind.Unfold t) = true

@@ -1,20 +1,18 @@
 -- What holds of written instructions, and of terms that stand for trees: this project's laws. Which opcode a name has: WebAssembly Core Specification,
 -- Binary Format, Instructions.
-use Rattle.std.specs.Prelude.{ℕ, ℤ, ◌≡◌, ◌⊎◌, ◌≤◌, ◌<◌, Bool, List, [], length, slice_range, Option, Ok, Err, IsSome, FitsSigned}
+use Rattle.std.specs.Prelude.{ℕ, ℤ, ◌≡◌, ◌⊎◌, ◌≤◌, ◌<◌, Bool, List, [], length, Ok, Err, IsSome, FitsSigned}
 use Rattle.std.specs.Int.{Width, w32, w64, int_wrapping_add}
 use Rattle.wasm_code.specs.Instruction.{Instruction}
 use Rattle.wasm_code.specs.Table.{HasOpcode}
 use Rattle.wasm_code.specs.declared.immediate.Imm.{Imm}
 use Rattle.wasm_code.specs.declared.immediate.Imm.TheVariants as imm
-use Rattle.wasm_code.specs.declared.operator.Operator.{Operator}
 use Rattle.wasm_code.specs.declared.table.Opcode.TheVariants.{Byte}
 use Rattle.mutate_base.specs.Module.{Module}
 use Rattle.mutate_base.specs.declared.error.Error.{Error}
 use Rattle.mutate_base.specs.declared.error.Error.TheVariants.{CannotUnfold, GlobalIndex}
 use Rattle.peephole_lang.specs.declared.lang.Head.{Head}
 use Rattle.peephole_lang.specs.Term.{Term}
-use Rattle.peephole_graphs.specs.declared.dfg.StackEntry.{StackEntry}
-use Rattle.peephole_graphs.specs.Block.{BlockRange}
+use Rattle.peephole_graphs.specs.Entries.{Graph}
 use Rattle.peephole_graphs.specs.Forest.{forest}
 use Rattle.peephole_graphs.specs.GraphOf.{IsGraphOf}
 use Rattle.peephole_graphs.specs.Tree.{Tree, instructions_of, instructions}
@@ -23,7 +21,7 @@ use Rattle.peephole_terms.specs.declared.encoder.kind.NumberType.TheVariants as 
 use Rattle.peephole_terms.specs.Expansion.{Setting, constant, rest_of, add_of, set_global, get_global, expanded, requests_of, draws_of}
 use Rattle.peephole_terms.specs.ReadAgain.{KeepsTheTrees}
 use Rattle.peephole_graphs.specs.TermOf.{IsTermOf}
-use Rattle.peephole_terms.specs.Written.{shapes_in, term_code, term_requests, written_block, after_block_term}
+use Rattle.peephole_terms.specs.Written.{Site, source_at, block_shapes, term_code, term_requests, written_block, after_block_term}
 
 -- ---- instructions of nodes without a row
 
@@ -70,25 +68,21 @@ abbrev pub TreesAreWrittenAsTheyAre : Type 0
 TreesAreWrittenAsTheyAre = (t : Term Head) (tree : Tree) → IsTermOf t tree → IsAlwaysWrittenAs t (instructions_of tree)
 
 -- With the term at the insertion point a block is written as its own trees in postfix, with no word drawn and no global asked for.
-pub record WritesItsOwnTrees (s : Setting) (operators : List (Operator × ℕ)) (block : BlockRange) (at : ℕ) (t : Term Head) : Type 0 where
+pub record WritesItsOwnTrees (s : Setting) (site : Site) (t : Term Head) : Type 0 where
   pub code : List Instruction
-  pub expands : term_code s operators block at t ≡ Ok code
-  pub trees : written_block s.info operators block at code ≡ instructions (forest (shapes_in s.info operators block))
-  pub asks : term_requests s.info operators block at t ≡ []
-  pub draws : after_block_term s operators block at t ≡ s
+  pub expands : term_code s site t ≡ Ok code
+  pub trees : written_block s.info site code ≡ instructions (forest (block_shapes s.info site))
+  pub asks : term_requests s.info site t ≡ []
+  pub draws : after_block_term s site t ≡ s
 
 -- So it is with the own tree of the operator at the insertion point, and with any term where that operator is no root.
 abbrev pub OwnTreesAreKept : Type 0
 OwnTreesAreKept =
-    (s : Setting) (keeping : Bool) (operators : List (Operator × ℕ)) (block : BlockRange) (entries : List StackEntry) (parents : List (Option ℕ))
-    (look : ℕ → Option ℕ) (at : ℕ) (t : Term Head) →
-    IsGraphOf s.info keeping block.start (slice_range operators block.start block.end) entries parents look →
-    KeepsTheTrees s.info operators block at entries look t → WritesItsOwnTrees s operators block at t
+    (s : Setting) (preserving : Bool) (site : Site) (graph : Graph) (t : Term Head) →
+    IsGraphOf (source_at s.info preserving site) graph → KeepsTheTrees s.info site graph t → WritesItsOwnTrees s site t
 
 -- Every operator of a block has its own entry in the block's graph.
 abbrev pub OperatorsHaveEntries : Type 0
 OperatorsHaveEntries =
-    (info : Module) (keeping : Bool) (operators : List (Operator × ℕ)) (block : BlockRange) (entries : List StackEntry) (parents : List (Option ℕ))
-    (look : ℕ → Option ℕ) → block.end ≤ length operators →
-    IsGraphOf info keeping block.start (slice_range operators block.start block.end) entries parents look →
-    (at : ℕ) → block.start ≤ at → at < block.end → IsSome (look at)
+    (info : Module) (preserving : Bool) (site : Site) (graph : Graph) → site.block.end ≤ length site.operators →
+    IsGraphOf (source_at info preserving site) graph → (at : ℕ) → site.block.start ≤ at → at < site.block.end → IsSome (graph.own_entry at)

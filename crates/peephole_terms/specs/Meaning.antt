@@ -5,11 +5,11 @@ use Rattle.std.specs.Prelude.{ℕ, ℤ, List, [], ◌∷◌, length, drop, Optio
 use Rattle.std.specs.Int.{cast_unsigned}
 use Rattle.peephole_lang.specs.declared.lang.Head.{Head}
 use Rattle.peephole_lang.specs.Term.{Term, Terms, absent, node, no_terms, ◌▸◌}
-use Rattle.peephole_machine.specs.Values.{Value, width_of, whole, State, Outcome, Ends, Stuck, and_then, above}
+use Rattle.peephole_machine.specs.Values.{Value, width_of, whole, State, Outcome, Ends, Stuck, then_run, above}
 use Rattle.peephole_machine.specs.IntegerRow.{integer_row}
 use Rattle.peephole_machine.specs.Machine.{act}
 use Rattle.peephole_terms.specs.declared.encoder.kind.Kind.TheVariants as kind
-use Rattle.peephole_terms.specs.Kind.{IntegerType, Kind, kind_of}
+use Rattle.peephole_terms.specs.Kind.{IntegerType, Kind, node_kind}
 use Rattle.peephole_terms.specs.Expansion.{constant_in, draws_of, draws, first_word}
 use Rattle.peephole_terms.specs.Typing.{integer_type}
 
@@ -34,13 +34,13 @@ own_meaning words _ vs s = Stuck
 -- an unfold means its constant; any other node comes behind its children
 abbrev pub with_own_meaning : List ℕ → Kind → Terms Head → Outcome → State → Outcome
 with_own_meaning words (kind.Unfold t) kids below s = number_meaning t (constant_in t kids) s
-with_own_meaning words k kids below s = and_then below (own_meaning (drop (length (draws kids)) words) k)
+with_own_meaning words k kids below s = then_run below (own_meaning (drop (length (draws kids)) words) k)
 
 abbrev mutual
   pub meaning_of : List ℕ → Term Head → State → Outcome
   meaning_of words absent s = Stuck
-  meaning_of words (node h kids) s = with_own_meaning words (kind_of h) kids (meaning words kids s) s
+  meaning_of words (node h kids) s = with_own_meaning words (node_kind h) kids (meaning words kids s) s
 
   pub meaning : List ℕ → Terms Head → State → Outcome
   meaning words no_terms s = Ends [] s
-  meaning words (t ▸ ts) s = and_then (meaning_of words t s) (λ vs after. above vs (meaning (drop (length (draws_of t)) words) ts after))
+  meaning words (t ▸ ts) s = then_run (meaning_of words t s) (λ vs after. above vs (meaning (drop (length (draws_of t)) words) ts after))

@@ -1,5 +1,5 @@
 -- What a written body is when its bytes are read again. This project's rule.
-use Rattle.std.specs.Prelude.{ℕ, ◌≡◌, ◌++◌, ◌⊎◌, List, map, take, drop, slice_range, Option, Some, false}
+use Rattle.std.specs.Prelude.{ℕ, ◌≡◌, ◌++◌, ◌⊎◌, List, map, take, drop, Some, Ok, false}
 use Rattle.wasm_code.specs.Instruction.{Instruction}
 use Rattle.wasm_code.specs.Body.{SpellsBody}
 use Rattle.wasm_code.specs.declared.operator.Operator.{Operator}
@@ -7,38 +7,57 @@ use Rattle.wasm_code.specs.declared.operator.Operator.TheVariants.{Instr}
 use Rattle.mutate_base.specs.Module.{Module}
 use Rattle.peephole_lang.specs.declared.lang.Head.{Head}
 use Rattle.peephole_lang.specs.Term.{Term, tree_at}
-use Rattle.peephole_graphs.specs.declared.dfg.StackEntry.{StackEntry}
-use Rattle.peephole_graphs.specs.Block.{BlockRange}
 use Rattle.peephole_graphs.specs.Shape.{AreFit}
 use Rattle.peephole_graphs.specs.Tree.{instructions, renumbered}
+use Rattle.peephole_graphs.specs.Entries.{Graph}
 use Rattle.peephole_graphs.specs.Forest.{forest, IsInOrder}
 use Rattle.peephole_graphs.specs.Layout.{entry_nodes}
-use Rattle.peephole_terms.specs.Written.{shapes_in, is_written, written_body, IsBlockIn}
+use Rattle.peephole_terms.specs.Expansion.{Setting}
+use Rattle.peephole_terms.specs.Written.{Site, site_at, block_operators, block_shapes, is_written, term_code, written_block, written_body, IsBlockIn}
 
 -- the operators alone
 abbrev pub without_offsets : List (Operator × ℕ) → List Operator
 without_offsets operators = map (λ (o : Operator × ℕ). o.0) operators
 
 -- The bytes are those of a body: the operators before the block, these instructions, and the operators behind the block.
-pub record ReadsAgain (operators : List (Operator × ℕ)) (block : BlockRange) (code : List Instruction) (text : List ℕ) : Type 0 where
+pub record ReadsAgain (site : Site) (code : List Instruction) (text : List ℕ) : Type 0 where
   pub again : List (Operator × ℕ)
   pub spells : SpellsBody 0 text again
-  pub are : without_offsets again ≡ without_offsets (take block.start operators) ++ (map (λ (i : Instruction). Instr i) code ++ without_offsets (drop block.end operators))
+  pub are :
+      without_offsets again ≡ without_offsets (take site.block.start site.operators)
+      ++ (map (λ (i : Instruction). Instr i) code ++ without_offsets (drop site.block.end site.operators))
+
+-- The sink has grown by a body that is read again as the site's with the term in its block.
+pub record AppendsReadable (s : Setting) (site : Site) (t : Term Head) (old new : List ℕ) : Type 0 where
+  pub code : List Instruction
+  pub text : List ℕ
+  pub expands : term_code s site t ≡ Ok code
+  pub appended : new ≡ old ++ text
+  pub reads : ReadsAgain site (written_block s.info site code) text
 
 -- The term changes no tree: it isn't written, or it is the insertion point's own, as `get_expr` lays it out.
-abbrev pub KeepsTheTrees : Module → List (Operator × ℕ) → BlockRange → (at : ℕ) → List StackEntry → (look : ℕ → Option ℕ) → Term Head → Type 0
-KeepsTheTrees info operators block at entries look term =
-    (is_written info operators block at ≡ false) ⊎ ((i : ℕ) × (look at ≡ Some i) × (term ≡ tree_at (entry_nodes entries) i))
+abbrev pub KeepsTheTrees : Module → Site → Graph → Term Head → Type 0
+KeepsTheTrees info site graph term =
+    (is_written info site ≡ false) ⊎ ((i : ℕ) × (graph.own_entry site.at ≡ Some i) × (term ≡ tree_at (entry_nodes graph.entries) i))
+
+-- the same in another body
+abbrev pub site_again : Site → (text : List ℕ) → List (Operator × ℕ) → Site
+site_again site text again = site_at text again site.block site.at
 
 -- The bytes are those of a body in which the block is read again the same.
-pub record IsReread (info : Module) (operators : List (Operator × ℕ)) (block : BlockRange) (text : List ℕ) : Type 0 where
+pub record IsReread (info : Module) (site : Site) (text : List ℕ) : Type 0 where
   pub again : List (Operator × ℕ)
   pub spells : SpellsBody 0 text again
   -- a block has the same range, and its operators fit
-  pub there : IsBlockIn again block
-  pub fit : AreFit info (slice_range again block.start block.end)
+  pub there : IsBlockIn again site.block
+  pub fit : AreFit info (block_operators (site_again site text again))
   -- it has the same trees, their operators numbered by the new places, and is in order
-  pub same : forest (shapes_in info again block) ≡ renumbered 0 (forest (shapes_in info operators block))
-  pub order : IsInOrder (shapes_in info again block)
+  pub same : forest (block_shapes info (site_again site text again)) ≡ renumbered 0 (forest (block_shapes info site))
+  pub order : IsInOrder (block_shapes info (site_again site text again))
   -- written with its own trees, it leaves these bytes
-  pub stays : written_body text again block (instructions (forest (shapes_in info again block))) ≡ text
+  pub stays : written_body (site_again site text again) (instructions (forest (block_shapes info (site_again site text again)))) ≡ text
+
+-- Where the term changes no tree, the sink has grown by a body in which the block is read again the same.
+abbrev pub RereadsOwnTrees : Module → Site → Graph → Term Head → (old new : List ℕ) → Type 0
+RereadsOwnTrees info site graph t old new =
+    KeepsTheTrees info site graph t → (text : List ℕ) × (new ≡ old ++ text) × IsReread info site text

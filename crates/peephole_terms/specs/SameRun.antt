@@ -1,6 +1,6 @@
 -- When a block in which a term stands for a whole tree runs as it did: of integer rows and in order, with a term that evaluates as the tree
 -- (this project).
-use Rattle.std.specs.Prelude.{◌≡◌, ◌≢◌, ℕ, List, [], ◌∷◌, ◌++◌, length, map, slice_range, true, Option, Some, Ok}
+use Rattle.std.specs.Prelude.{◌≡◌, ◌≢◌, ℕ, List, [], ◌∷◌, ◌++◌, length, map, true, Some, Ok}
 use Rattle.std.specs.List.{All}
 use Rattle.wasm_code.specs.Instruction.{Instruction}
 use Rattle.wasm_code.specs.declared.operator.Operator.{Operator}
@@ -8,8 +8,7 @@ use Rattle.wasm_code.specs.declared.operator.Operator.TheVariants.{Instr}
 use Rattle.mutate_base.specs.declared.types.PrimitiveTypeInfo.{PrimitiveTypeInfo}
 use Rattle.peephole_lang.specs.declared.lang.Head.{Head}
 use Rattle.peephole_lang.specs.Term.{Term, tree_at}
-use Rattle.peephole_graphs.specs.declared.dfg.StackEntry.{StackEntry}
-use Rattle.peephole_graphs.specs.Block.{BlockRange}
+use Rattle.peephole_graphs.specs.Entries.{Graph}
 use Rattle.peephole_graphs.specs.Forest.{IsInOrder}
 use Rattle.peephole_graphs.specs.Layout.{entry_nodes}
 use Rattle.peephole_machine.specs.Values.{Value, IsValue, types, State, HasTypes, Stuck}
@@ -19,7 +18,7 @@ use Rattle.peephole_machine.specs.Agreement.{with_globals, SameBelow}
 use Rattle.peephole_machine.specs.Laws.{IsIntegerRow}
 use Rattle.peephole_terms.specs.Kind.{primitive_of}
 use Rattle.peephole_terms.specs.Expansion.{Setting, requests_of}
-use Rattle.peephole_terms.specs.Written.{shapes_in, is_written, term_code, written_block, written_body}
+use Rattle.peephole_terms.specs.Written.{Site, block_operators, block_shapes, is_written, term_code, written_block, written_body}
 use Rattle.peephole_terms.specs.Typing.{types_of}
 use Rattle.peephole_terms.specs.Meaning.{meaning_of}
 use Rattle.peephole_terms.specs.StackCode.{words_for}
@@ -46,34 +45,31 @@ instructions_in [] = []
 instructions_in (o ∷ os) = and_instruction o.0 (instructions_in os)
 
 -- The block is of integer rows and in order, the insertion point's operator is a root, and the term evaluates as its whole tree.
-pub record Replaces (locals : List PrimitiveTypeInfo) (s : Setting) (operators : List (Operator × ℕ)) (block : BlockRange) (at : ℕ)
-    (entries : List StackEntry) (look : ℕ → Option ℕ) (t : Term Head) : Type 0 where
-  pub integer : All (λ (o : Operator × ℕ). IsIntegerOperator locals s.info.globals o.0) (slice_range operators block.start block.end)
-  pub order : IsInOrder (shapes_in s.info operators block)
-  pub root : is_written s.info operators block at ≡ true
+pub record Replaces (locals : List PrimitiveTypeInfo) (s : Setting) (site : Site) (graph : Graph) (t : Term Head) : Type 0 where
+  pub integer : All (λ (o : Operator × ℕ). IsIntegerOperator locals s.info.globals o.0) (block_operators site)
+  pub order : IsInOrder (block_shapes s.info site)
+  pub root : is_written s.info site ≡ true
   -- its own entry in the graph, whose tree is the one that is replaced; a tree that has types has no entry operand
   pub entry : ℕ
-  pub own : look at ≡ Some entry
-  pub evaluates : EvaluatesAs locals s.info.globals (words_for s t) (tree_at (entry_nodes entries) entry) t
+  pub own : graph.own_entry site.at ≡ Some entry
+  pub evaluates : EvaluatesAs locals s.info.globals (words_for s t) (tree_at (entry_nodes graph.entries) entry) t
 
 -- For all types of locals with which the term replaces the tree: wherever the block's own run ends or traps, the written one does the same, apart
 -- from requested globals. Behind the module's globals the
 -- old run may find any values, and the new one values of the requested types and any others behind these.
-abbrev pub RunsAsBefore : Setting → List (Operator × ℕ) → BlockRange → (at : ℕ) → List StackEntry → (ℕ → Option ℕ) → Term Head →
-    List Instruction → Type 0
-RunsAsBefore s operators block at entries look t written =
-    let old = instructions_in (slice_range operators block.start block.end) in
+abbrev pub RunsAsBefore : Setting → Site → Graph → Term Head → (written : List Instruction) → Type 0
+RunsAsBefore s site graph t written =
+    let old = instructions_in (block_operators site) in
     let count = length s.info.globals in
-    (locals more : List PrimitiveTypeInfo) → Replaces locals s operators block at entries look t →
+    (locals more : List PrimitiveTypeInfo) → Replaces locals s site graph t →
     (stack : List Value) (state : State) (others requested : List Value) → All IsValue stack → HasTypes locals s.info.globals state →
     All IsValue others → types requested ≡ map primitive_of (requests_of t) ++ more →
     run old stack (with_globals others state) ≢ Stuck →
     SameBelow count (run old stack (with_globals others state)) (run written stack (with_globals requested state))
 
 -- The sink has grown by the written body, whose block runs as before.
-pub record AppendsSameRun (s : Setting) (input : List ℕ) (operators : List (Operator × ℕ)) (block : BlockRange) (at : ℕ)
-    (entries : List StackEntry) (look : ℕ → Option ℕ) (t : Term Head) (old new : List ℕ) : Type 0 where
+pub record AppendsSameRun (s : Setting) (site : Site) (graph : Graph) (t : Term Head) (old new : List ℕ) : Type 0 where
   pub code : List Instruction
-  pub expands : term_code s operators block at t ≡ Ok code
-  pub appended : new ≡ old ++ written_body input operators block (written_block s.info operators block at code)
-  pub runs : RunsAsBefore s operators block at entries look t (written_block s.info operators block at code)
+  pub expands : term_code s site t ≡ Ok code
+  pub appended : new ≡ old ++ written_body site (written_block s.info site code)
+  pub runs : RunsAsBefore s site graph t (written_block s.info site code)

@@ -9,7 +9,7 @@ use Rattle.peephole_machine.specs.Values.{type_of, same_types}
 use Rattle.peephole_machine.specs.IntegerRow.{if_typed, row_types, integer_row}
 use Rattle.peephole_terms.specs.declared.encoder.kind.NumberType.TheVariants as number
 use Rattle.peephole_terms.specs.declared.encoder.kind.Kind.TheVariants as kind
-use Rattle.peephole_terms.specs.Kind.{NumberType, IntegerType, Kind, kind_of}
+use Rattle.peephole_terms.specs.Kind.{NumberType, IntegerType, Kind, node_kind}
 use Rattle.peephole_terms.specs.Expansion.{constant_in}
 
 -- none for floats
@@ -49,7 +49,7 @@ joined_types o r = option_and_then (λ ts. option_map (λ us. ts ++ us) r) o
 abbrev mutual
   pub types_of : (locals globals : List PrimitiveTypeInfo) → Term Head → Option (List PrimitiveTypeInfo)
   types_of locals globals absent = None
-  types_of locals globals (node h kids) = with_own_types locals globals (kind_of h) kids (types_in locals globals kids)
+  types_of locals globals (node h kids) = with_own_types locals globals (node_kind h) kids (types_in locals globals kids)
 
   pub types_in : (locals globals : List PrimitiveTypeInfo) → Terms Head → Option (List PrimitiveTypeInfo)
   types_in locals globals no_terms = Some []

@@ -1,24 +1,21 @@
 //! The body that is written with a term in the place of one of a block's trees.
 
-ghost use Rattle.std.specs.Prelude.{◌≡◌, ◌≢◌, ◌<◌, ◌++◌, ◌↔◌, List, ℕ, Ok, Some, All, true, length, take, slice_range, IfOk, IfErr, OnOk, OnErr, IfSome, IsTrue, is_some, Err};
-ghost use Rattle.wasm_code.specs.Instruction.{Instruction};
+ghost use Rattle.std.specs.Prelude.{◌≡◌, ◌<◌, length, IfOk, IfErr, OnErr, IfSome, IsTrue, is_some};
 ghost use Rattle.mutate_base.specs.Config.{info_of, ChangesGeneratorAlone};
-ghost use Rattle.peephole_lang.specs.Lang.{payload_of};
-ghost use Rattle.peephole_lang.specs.Node.{head_of, children_of};
-ghost use Rattle.peephole_nodes.specs.Payload.{is_writable};
-ghost use Rattle.peephole_lang.specs.Term.{AreBelow, nodes_of, term_of};
-ghost use Rattle.peephole_graphs.specs.Dfg.{entries_of, parents_of, look_of};
-ghost use Rattle.peephole_graphs.specs.Entries.{roots_of};
-ghost use Rattle.peephole_terms.specs.Expansion.{Refuses, setting_of};
+ghost use Rattle.peephole_lang.specs.Term.{AreBelow};
+ghost use Rattle.peephole_graphs.specs.Dfg.{graph_of};
 ghost use Rattle.peephole_graphs.specs.GraphOf.{IsGraphOf};
-ghost use Rattle.peephole_terms.specs.EncoderSteps.{IsRefusal, IsInRange, IsWalkable, IsInside, entry_nodes, root_term, root_terms, steps_of, steps, take_steps};
-ghost use Rattle.peephole_terms.specs.ReadAgain.{ReadsAgain, KeepsTheTrees, IsReread};
+ghost use Rattle.peephole_graphs.specs.Layout.{AreWritable, entry_nodes};
+ghost use Rattle.peephole_graphs.specs.Source.{source_of};
+ghost use Rattle.peephole_terms.specs.Expansion.{setting_of, term_in};
+ghost use Rattle.peephole_terms.specs.EncoderSteps.{Does, IsWalkable, IsInside, around, nodes_in, root_term, root_steps, steps_of, writing_of};
+ghost use Rattle.peephole_terms.specs.ReadAgain.{AppendsReadable, RereadsOwnTrees};
 ghost use Rattle.peephole_terms.specs.SameRun.{AppendsSameRun};
-ghost use Rattle.peephole_terms.specs.Written.{AppendsBody, IsBodyIn, IsBlockIn, KeepsOrder, offset_of, before_block, after_block, written_block, term_code, term_requests, after_block_term, shapes_in};
+ghost use Rattle.peephole_terms.specs.Written.{site_at, AppendsBody, IsBodyIn, IsBlockIn, KeepsOrder, RefusesBody, offset_of, before_block, after_block, block_shapes, term_requests, StandsBehind};
 
 pub(crate) mod expr2wasm;
+mod holds;
 mod kind;
-mod node;
 mod own;
 pub(crate) mod request;
 mod walk;
@@ -72,18 +69,13 @@ fn write_root<R: Rng>(
     requests: &mut Vec<ResourceRequest>,
 ) -> Result<(), Error>
     requires some { 0 < length expr.now }
-    requires expr_below { AreBelow (nodes_of head_of children_of expr.now) }
+    requires expr_below { AreBelow (nodes_in (λ l. l) expr.now) }
     requires entries_below { AreBelow (entry_nodes entries.now) }
     requires root { root < length entries.now }
-    ensures ok { OnOk result (
-        take_steps globals (steps_of (root_term insertion_point (term_of head_of children_of expr.now) entries.now root))
-        (record { bytes = newfunc.old; requests = requests.old.items; stream = R.stream rng.old })
-        ≡ Ok (record { bytes = newfunc.new; requests = requests.new.items; stream = R.stream rng.new })) }
-    ensures err { IfErr result (λ e. IsRefusal e (
-        take_steps globals (steps_of (root_term insertion_point (term_of head_of children_of expr.now) entries.now root))
-        (record { bytes = newfunc.old; requests = requests.old.items; stream = R.stream rng.old }))) }
-    ensures in_range { OnOk result (All IsInRange (steps_of (root_term insertion_point (term_of head_of children_of expr.now) entries.now root))) }
-    ensures kept { take (length newfunc.old) newfunc.new ≡ newfunc.old }
+    ensures { Does globals
+        (steps_of (root_term insertion_point (term_in expr.now) entries.now root))
+        (writing_of newfunc.old requests.old.items (R.stream rng.old))
+        (writing_of newfunc.new requests.new.items (R.stream rng.new)) result }
 {
     if entries[root].operator_idx == insertion_point {
         write_tree(alloc, globals, expr, expr.len() - 1, rng, newfunc, requests)
@@ -105,17 +97,11 @@ fn write_roots<R: Rng>(
     requests: &mut Vec<ResourceRequest>,
 ) -> Result<(), Error>
     requires some { 0 < length expr.now }
-    requires expr_below { AreBelow (nodes_of head_of children_of expr.now) }
+    requires expr_below { AreBelow (nodes_in (λ l. l) expr.now) }
     requires walkable { IsWalkable entries.now parents.now }
-    ensures ok { OnOk result (
-        take_steps globals (steps (root_terms insertion_point (term_of head_of children_of expr.now) entries.now (roots_of parents.now)))
-        (record { bytes = newfunc.old; requests = requests.old.items; stream = R.stream rng.old })
-        ≡ Ok (record { bytes = newfunc.new; requests = requests.new.items; stream = R.stream rng.new })) }
-    ensures err { IfErr result (λ e. IsRefusal e (
-        take_steps globals (steps (root_terms insertion_point (term_of head_of children_of expr.now) entries.now (roots_of parents.now)))
-        (record { bytes = newfunc.old; requests = requests.old.items; stream = R.stream rng.old }))) }
-    ensures in_range { OnOk result (All IsInRange (steps (root_terms insertion_point (term_of head_of children_of expr.now) entries.now (roots_of parents.now)))) }
-    ensures kept { take (length newfunc.old) newfunc.new ≡ newfunc.old }
+    ensures { Does globals (root_steps insertion_point (term_in expr.now) entries.now parents.now)
+        (writing_of newfunc.old requests.old.items (R.stream rng.old))
+        (writing_of newfunc.new requests.new.items (R.stream rng.new)) result }
 {
     for index in 0..parents.len() {
         if parents[index].is_none() {
@@ -152,17 +138,13 @@ fn write_body<R: Rng>(
     requests: &mut Vec<ResourceRequest>,
 ) -> Result<(), Error>
     requires some { 0 < length expr.now }
-    requires expr_below { AreBelow (nodes_of head_of children_of expr.now) }
-    requires walkable { IsWalkable (entries_of dfg.now) (parents_of dfg.now) }
-    ensures ok { OnOk result ((middle : List ℕ) × (newfunc.new ≡ middle ++ after.now) × (
-        take_steps globals (steps (root_terms insertion_point (term_of head_of children_of expr.now) (entries_of dfg.now) (roots_of (parents_of dfg.now))))
-        (record { bytes = newfunc.old ++ before.now; requests = requests.old.items; stream = R.stream rng.old })
-        ≡ Ok (record { bytes = middle; requests = requests.new.items; stream = R.stream rng.new }))) }
-    ensures err { IfErr result (λ e. IsRefusal e (
-        take_steps globals (steps (root_terms insertion_point (term_of head_of children_of expr.now) (entries_of dfg.now) (roots_of (parents_of dfg.now))))
-        (record { bytes = newfunc.old ++ before.now; requests = requests.old.items; stream = R.stream rng.old }))) }
-    ensures in_range { OnOk result (All IsInRange (steps (root_terms insertion_point (term_of head_of children_of expr.now) (entries_of dfg.now) (roots_of (parents_of dfg.now))))) }
-    ensures kept { take (length newfunc.old) newfunc.new ≡ newfunc.old }
+    requires expr_below { AreBelow (nodes_in (λ l. l) expr.now) }
+    requires walkable { IsWalkable (graph_of dfg.now).entries (graph_of dfg.now).parents }
+    ensures { Does globals (around before.now
+        (root_steps insertion_point (term_in expr.now)
+        (graph_of dfg.now).entries (graph_of dfg.now).parents) after.now)
+        (writing_of newfunc.old requests.old.items (R.stream rng.old))
+        (writing_of newfunc.new requests.new.items (R.stream rng.new)) result }
 {
     newfunc.raw(before)?;
     match write_roots(
@@ -218,47 +200,42 @@ impl Encoder {
     ) -> Result<Vec<ResourceRequest>, Error>
         requires set_up { IsTrue (is_some config.old.setup) }
         requires some { 0 < length expr.now }
-        requires writable { All (λ l. IsTrue (is_writable (payload_of l))) expr.now }
+        requires writable { AreWritable expr.now }
         requires body { IsBodyIn input_wasm.now operators.now }
         requires block { IsBlockIn operators.now basicblock.now }
         requires graph { IfSome (info_of config.old) (λ info.
-            IsGraphOf info config.old.preserving basicblock.now.start
-            (slice_range operators.now basicblock.now.start basicblock.now.end)
-            (entries_of dfg.now) (parents_of dfg.now) (look_of dfg.now)) }
+            IsGraphOf (source_of info config.old.preserving operators.now basicblock.now)
+            (graph_of dfg.now)) }
         // The bytes outside the block, and between them its forest with the term.
-        ensures written { IfOk result (λ _. IfSome (setting_of R.stream config.old) (λ setting.
-            AppendsBody setting input_wasm.now operators.now basicblock.now insertion_point
-            (term_of head_of children_of expr.now) newfunc.old newfunc.new)) }
-        // Read again, the appended bytes are the operators before the block, the written instructions and the operators behind it.
-        ensures reads_again { IfOk result (λ _. IfSome (setting_of R.stream config.old) (λ setting. (code : List Instruction) × (text : List ℕ)
-            × (term_code setting operators.now basicblock.now insertion_point (term_of head_of children_of expr.now) ≡ Ok code)
-            × (newfunc.new ≡ newfunc.old ++ text)
-            × ReadsAgain operators.now basicblock.now (written_block setting.info operators.now basicblock.now insertion_point code) text)) }
-        // Where the term changes no tree, the block is read again with the same trees, is in order, and is written again the same.
-        ensures reread { IfOk result (λ _. IfSome (info_of config.old) (λ info.
-            KeepsTheTrees info operators.now basicblock.now insertion_point
-            (entries_of dfg.now) (look_of dfg.now) (term_of head_of children_of expr.now)
-            → (text : List ℕ) × (newfunc.new ≡ newfunc.old ++ text) × IsReread info operators.now basicblock.now text)) }
-        // Where the term evaluates as the whole tree that it replaces, a block of integer rows that is in order runs as before.
-        ensures same_run { IfOk result (λ _. IfSome (setting_of R.stream config.old) (λ setting.
-            AppendsSameRun setting input_wasm.now operators.now basicblock.now insertion_point
-            (entries_of dfg.now) (look_of dfg.now) (term_of head_of children_of expr.now) newfunc.old newfunc.new)) }
-        // What the term asks for, where it is written.
-        ensures requests { IfOk result (λ requests. IfSome (info_of config.old) (λ info.
-            requests.items ≡ term_requests info operators.now basicblock.now insertion_point
-            (term_of head_of children_of expr.now))) }
-        // The generator stands behind the term's last word, where the term is written, and otherwise where it stood.
-        ensures generator { IfOk result (λ _. IfSome (setting_of R.stream config.old) (λ setting. setting_of R.stream config.new
-            ≡ Some (after_block_term setting operators.now basicblock.now insertion_point (term_of head_of children_of expr.now)))) }
-        // While preserving, a block out of order is refused, and one that is written is in order.
-        ensures order { IfSome (info_of config.old) (λ info.
-            KeepsOrder config.old.preserving (shapes_in info operators.now basicblock.now) result) }
-        // Otherwise the term's expansion refuses, or memory does.
-        ensures refusal { IfErr result (λ e. e ≢ Error.NoMutationsApplicable → IfSome (setting_of R.stream config.old) (λ setting.
-            Refuses (term_code setting operators.now basicblock.now insertion_point (term_of head_of children_of expr.now)) e)) }
-        // After a refusal the sink holds its old bytes.
+        ensures written { IfOk result (λ _. IfSome (setting_of R.stream config.old) (λ s.
+            AppendsBody s (site_at input_wasm.now operators.now basicblock.now insertion_point)
+            (term_in expr.now) newfunc.old newfunc.new)) }
+        // It reads as a body again; where the term changes no tree, as the same block, in order; and it runs as before.
+        ensures reads_again { IfOk result (λ _. IfSome (setting_of R.stream config.old) (λ s.
+            AppendsReadable s (site_at input_wasm.now operators.now basicblock.now insertion_point)
+            (term_in expr.now) newfunc.old newfunc.new)) }
+        ensures reread { IfOk result (λ _. IfSome (info_of config.old) (λ m.
+            RereadsOwnTrees m (site_at input_wasm.now operators.now basicblock.now insertion_point)
+            (graph_of dfg.now) (term_in expr.now) newfunc.old newfunc.new)) }
+        ensures same_run { IfOk result (λ _. IfSome (setting_of R.stream config.old) (λ s.
+            AppendsSameRun s (site_at input_wasm.now operators.now basicblock.now insertion_point)
+            (graph_of dfg.now) (term_in expr.now) newfunc.old newfunc.new)) }
+        // What the term asks for, and where the generator then stands; nothing, where it isn't written.
+        ensures requests { IfOk result (λ requests. IfSome (info_of config.old) (λ m. requests.items
+            ≡ term_requests m (site_at input_wasm.now operators.now basicblock.now insertion_point)
+            (term_in expr.now))) }
+        ensures generator { IfOk result (λ _. IfSome (setting_of R.stream config.old) (λ s.
+            StandsBehind s (site_at input_wasm.now operators.now basicblock.now insertion_point)
+            (term_in expr.now) (setting_of R.stream config.new))) }
+        // While preserving, a block out of order is refused; otherwise the term's expansion refuses, or memory does.
+        ensures order { IfSome (info_of config.old) (λ m.
+            KeepsOrder config.old.preserving (block_shapes m
+            (site_at input_wasm.now operators.now basicblock.now insertion_point)) result) }
+        ensures refusal { IfErr result (λ e. IfSome (setting_of R.stream config.old) (λ s.
+            RefusesBody s (site_at input_wasm.now operators.now basicblock.now insertion_point)
+            (term_in expr.now) e)) }
+        // After a refusal the sink holds its old bytes. Of the configuration the generator alone changes.
         ensures restored { OnErr result (newfunc.new ≡ newfunc.old) }
-        // Of the configuration the generator alone changes.
         ensures unchanged { ChangesGeneratorAlone config.old config.new }
     {
         if config.preserves_semantics() && !dfg.keeps_order() {

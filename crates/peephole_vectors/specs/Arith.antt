@@ -13,9 +13,9 @@ use Rattle.mutate_base.specs.declared.term_error.TermError.TheVariants.{InvalidT
 use Rattle.peephole_nodes.specs.declared.id.Id.{Id}
 use Rattle.peephole_lang.specs.Language.{IsAlike, alike_equivalence}
 use Rattle.mutate_base.specs.Number.{read_signed}
-use Rattle.mutate_base.specs.NumberBack.{signed_in_range_back}
+use Rattle.mutate_base.specs.laws.NumberBack.{signed_in_range_back}
 use Rattle.peephole_lang.specs.Term.{numbers_of}
-use Rattle.peephole_lang.specs.Names.{after}
+use Rattle.peephole_lang.specs.Names.{rest_after}
 use Rattle.peephole_nodes.specs.Written.{none_written, any_written}
 use Rattle.peephole_vectors.specs.declared.arith.Arith.{Arith}
 use Rattle.peephole_vectors.specs.declared.arith.Arith.TheVariants.{Num, Neg, Add, Sum}
@@ -95,7 +95,7 @@ reads text count =
     if pointwise nat_eq text (codes "neg") then counted head.Neg 1 count
     else if pointwise nat_eq text (codes "add") then counted head.Add 2 count
     else if pointwise nat_eq text (codes "sum") then Ok head.Sum
-    else read_num (after (codes "num.") text) count
+    else read_num (rest_after (codes "num.") text) count
 
 -- a node's text is its head's
 pub says : (a b : Arith) → head_of a ≡ head_of b → text_of a ≡ text_of b

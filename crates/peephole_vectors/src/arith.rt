@@ -2,7 +2,7 @@
 ghost use Rattle.std.specs.Prelude.{◌≡◌, [], Some, codes, refl};
 ghost use Rattle.std.specs.Option.{option_copied};
 ghost use Rattle.peephole_lang.specs.Language.{ReadsInto};
-ghost use Rattle.peephole_lang.specs.Names.{after};
+ghost use Rattle.peephole_lang.specs.Names.{rest_after};
 ghost use Rattle.peephole_vectors.specs.Arith.{head_of, ids_of, children_of, with_ids, IsEqual, IsNode, arith_matches, text_of, read_number, reads, says, reads_back, determined, keeps_head, has_written, matches_exactly, matches_equivalence};
 
 use mutate_base::number::read_i32;
@@ -34,7 +34,7 @@ pub enum Arith {
 
 // The text behind `num.`.
 fn behind_num(text: &str) -> Option<&str>
-    ensures { option_copied result ≡ after (codes "num.") text.now }
+    ensures { option_copied result ≡ rest_after (codes "num.") text.now }
 {
     match text.strip_prefix("num.") {
         Some(digits) => Some(digits),

@@ -20,8 +20,26 @@ use Rattle.wasm_code.proofs.ImmediateLemmas.{val_type_named, val_type_coded}
 -- a byte that begins a number not below zero names no type
 not_type : (b : ℕ) → (b < 64) ⊎ (128 ≤ b) → (val_type_of b ≡ None) × (eqb b 64 ≡ false)
 unfolding val_type_of
-not_type b (inl h) = rw (ne_eqb b 127 (omega arith), ne_eqb b 126 (omega arith), ne_eqb b 125 (omega arith), ne_eqb b 124 (omega arith), ne_eqb b 123 (omega arith), ne_eqb b 112 (omega arith), ne_eqb b 111 (omega arith), ne_eqb b 64 (omega arith)) (refl, refl)
-not_type b (inr h) = rw (ne_eqb b 127 (omega arith), ne_eqb b 126 (omega arith), ne_eqb b 125 (omega arith), ne_eqb b 124 (omega arith), ne_eqb b 123 (omega arith), ne_eqb b 112 (omega arith), ne_eqb b 111 (omega arith), ne_eqb b 64 (omega arith)) (refl, refl)
+not_type b (inl h) = rw (
+  ne_eqb b 127 (omega arith),
+  ne_eqb b 126 (omega arith),
+  ne_eqb b 125 (omega arith),
+  ne_eqb b 124 (omega arith),
+  ne_eqb b 123 (omega arith),
+  ne_eqb b 112 (omega arith),
+  ne_eqb b 111 (omega arith),
+  ne_eqb b 64 (omega arith),
+) (refl, refl)
+not_type b (inr h) = rw (
+  ne_eqb b 127 (omega arith),
+  ne_eqb b 126 (omega arith),
+  ne_eqb b 125 (omega arith),
+  ne_eqb b 124 (omega arith),
+  ne_eqb b 123 (omega arith),
+  ne_eqb b 112 (omega arith),
+  ne_eqb b 111 (omega arith),
+  ne_eqb b 64 (omega arith),
+) (refl, refl)
 
 below_zero : (v p n : ℕ) → v < p → pos v -ℤ pos p ≡ pos n → ⊥
 below_zero v p n lt e = omega (arith, ints)
@@ -78,30 +96,47 @@ block_again (b ∷ text) rest (FuncType n) s =
 
 -- ---- what is read is spelled
 
-func_takes : (bytes : List ℕ) (z : ℤ) (after : List ℕ) (t : BlockType) (rest : List ℕ) → signed_at 33 bytes ≡ Ok (z, after) → func_type_at z after ≡ Ok (t, rest) → (text : List ℕ) × (bytes ≡ text ++ rest) × SpellsBlockType text t
+func_takes : (bytes : List ℕ) (z : ℤ) (after : List ℕ) (t : BlockType) (rest : List ℕ) → signed_at 33 bytes ≡ Ok (z, after) →
+    func_type_at z after ≡ Ok (t, rest) → (text : List ℕ) × (bytes ≡ text ++ rest) × SpellsBlockType text t
 func_takes bytes (pos n) after t rest e f =
     let p = ok_is (FuncType n, after) (t, rest) f in
-    let s = (signed_exact 33).takes bytes (pos n) after e in
-    (s.0, s.1 ∙ ap (λ (q : BlockType × List ℕ). s.0 ++ q.1) p, subst (λ (u : BlockType). SpellsBlockType s.0 u) (ap (λ (q : BlockType × List ℕ). q.0) p) s.2)
+    let s = (signed_exact 33).takes bytes (pos n) after e in (
+      s.0,
+      s.1 ∙ ap (λ (q : BlockType × List ℕ). s.0 ++ q.1) p,
+      subst (λ (u : BlockType). SpellsBlockType s.0 u)
+          (ap (λ (q : BlockType × List ℕ). q.0) p) s.2,
+    )
 func_takes bytes (negsuc n) after t rest e f = absurd cc
 
-value_takes : (b : ℕ) (bytes : List ℕ) (o : Option ValType) (t : BlockType) (rest : List ℕ) → val_type_of b ≡ o → block_type_of o (b ∷ bytes) bytes ≡ Ok (t, rest) → (text : List ℕ) × (b ∷ bytes ≡ text ++ rest) × SpellsBlockType text t
+value_takes : (b : ℕ) (bytes : List ℕ) (o : Option ValType) (t : BlockType) (rest : List ℕ) → val_type_of b ≡ o →
+    block_type_of o (b ∷ bytes) bytes ≡ Ok (t, rest) → (text : List ℕ) × (b ∷ bytes ≡ text ++ rest) × SpellsBlockType text t
 unfolding block_type_of
 value_takes b bytes None t rest is e =
     let z = bind_ok (signed_at 33 (b ∷ bytes)) (λ z. func_type_at z.0 z.1) (t, rest) e in
     func_takes (b ∷ bytes) z.0.0 z.0.1 t rest z.1 z.2
 value_takes b bytes (Some u) t rest is e =
     let p = ok_is (Value u, bytes) (t, rest) e in
-    let s : b ∷ [] ≡ val_type_code u ∷ [] = ap (λ (c : ℕ). c ∷ []) (sym (val_type_named b u is)) in
-    (b ∷ [], ap (λ (q : BlockType × List ℕ). b ∷ q.1) p, subst (λ (v : BlockType). SpellsBlockType (b ∷ []) v) (ap (λ (q : BlockType × List ℕ). q.0) p) s)
+    let s : b ∷ [] ≡ val_type_code u ∷ [] = ap (λ (c : ℕ). c ∷ []) (sym (val_type_named b u is)) in (
+      b ∷ [],
+      ap (λ (q : BlockType × List ℕ). b ∷ q.1) p,
+      subst (λ (v : BlockType). SpellsBlockType (b ∷ []) v)
+          (ap (λ (q : BlockType × List ℕ). q.0) p) s,
+    )
 
-byte_takes : (v : Bool) (b : ℕ) (bytes : List ℕ) (t : BlockType) (rest : List ℕ) → eqb b 64 ≡ v → cond v (Ok (Empty, bytes)) (block_type_of (val_type_of b) (b ∷ bytes) bytes) ≡ Ok (t, rest) → (text : List ℕ) × (b ∷ bytes ≡ text ++ rest) × SpellsBlockType text t
+byte_takes : (v : Bool) (b : ℕ) (bytes : List ℕ) (t : BlockType) (rest : List ℕ) → eqb b 64 ≡ v →
+    cond v (Ok (Empty, bytes)) (block_type_of (val_type_of b) (b ∷ bytes) bytes) ≡ Ok (t, rest) → (text : List ℕ) × (b ∷ bytes ≡ text ++ rest)
+    × SpellsBlockType text t
 byte_takes true b bytes t rest is e =
-    let p = ok_is (Empty, bytes) (t, rest) e in
-    (b ∷ [], ap (λ (q : BlockType × List ℕ). b ∷ q.1) p, subst (λ (v : BlockType). SpellsBlockType (b ∷ []) v) (ap (λ (q : BlockType × List ℕ). q.0) p) (ap (λ (c : ℕ). c ∷ []) (eqb-true b 64 is)))
+    let p = ok_is (Empty, bytes) (t, rest) e in (
+      b ∷ [],
+      ap (λ (q : BlockType × List ℕ). b ∷ q.1) p,
+      subst (λ (v : BlockType). SpellsBlockType (b ∷ []) v)
+          (ap (λ (q : BlockType × List ℕ). q.0) p) (ap (λ (c : ℕ). c ∷ []) (eqb-true b 64 is)),
+    )
 byte_takes false b bytes t rest is e = value_takes b bytes (val_type_of b) t rest refl e
 
-block_takes : (bytes : List ℕ) (t : BlockType) (rest : List ℕ) → block_type_at bytes ≡ Ok (t, rest) → (text : List ℕ) × (bytes ≡ text ++ rest) × SpellsBlockType text t
+block_takes : (bytes : List ℕ) (t : BlockType) (rest : List ℕ) → block_type_at bytes ≡ Ok (t, rest) → (text : List ℕ) × (bytes ≡ text ++ rest)
+    × SpellsBlockType text t
 unfolding block_type_at
 block_takes [] t rest e = absurd cc
 block_takes (b ∷ bytes) t rest e = byte_takes (eqb b 64) b bytes t rest refl e
@@ -114,14 +149,24 @@ number_stops bytes UnknownOpcode s = s
 number_stops bytes BadInteger s = s
 number_stops bytes BadImmediate s = absurd s
 
-func_stops : (bytes : List ℕ) (z : ℤ) (after : List ℕ) (cause : Cause) → block_type_at bytes ≡ Err cause → signed_at 33 bytes ≡ Ok (z, after) → func_type_at z after ≡ Err cause → FailsBlockType bytes cause
+func_stops : (bytes : List ℕ) (z : ℤ) (after : List ℕ) (cause : Cause) → block_type_at bytes ≡ Err cause → signed_at 33 bytes ≡ Ok (z, after) →
+    func_type_at z after ≡ Err cause → FailsBlockType bytes cause
 func_stops bytes (pos n) after cause whole e f = absurd cc
 func_stops bytes (negsuc n) after cause whole e f =
     let t = (signed_exact 33).takes bytes (negsuc n) after e in
-    let none : (u : BlockType) → SpellsBlockType t.0 u → ⊥ = λ u s. let clash = sym (block_again t.0 after u s) ∙ sym (ap block_type_at t.1) ∙ whole in absurd cc in
-    subst (FailsBlockType bytes) (err_is {A = BlockType × List ℕ} BadImmediate cause f) (record { n = n; front = t.0; back = after; parts = t.1; number = t.2; none = none })
+    let none : (u : BlockType) → SpellsBlockType t.0 u → ⊥ = λ u s. let clash = sym (block_again t.0 after u s) ∙ sym (ap block_type_at t.1)
+    ∙ whole in absurd cc in
+    subst (FailsBlockType bytes) (err_is {A = BlockType × List ℕ} BadImmediate cause f) (record {
+      n = n;
+      front = t.0;
+      back = after;
+      parts = t.1;
+      number = t.2;
+      none = none;
+    })
 
-value_stops : (b : ℕ) (bytes : List ℕ) (o : Option ValType) (cause : Cause) → block_type_at (b ∷ bytes) ≡ Err cause → block_type_of o (b ∷ bytes) bytes ≡ Err cause → FailsBlockType (b ∷ bytes) cause
+value_stops : (b : ℕ) (bytes : List ℕ) (o : Option ValType) (cause : Cause) → block_type_at (b ∷ bytes) ≡ Err cause →
+    block_type_of o (b ∷ bytes) bytes ≡ Err cause → FailsBlockType (b ∷ bytes) cause
 unfolding block_type_of
 value_stops b bytes (Some u) cause whole e = absurd cc
 value_stops b bytes None cause whole e =
@@ -130,7 +175,8 @@ value_stops b bytes None cause whole e =
       | inr there ↦ func_stops (b ∷ bytes) there.0.0 there.0.1 cause whole there.1 there.2
     ]
 
-byte_stops : (v : Bool) (b : ℕ) (bytes : List ℕ) (cause : Cause) → block_type_at (b ∷ bytes) ≡ Err cause → cond v (Ok (Empty, bytes)) (block_type_of (val_type_of b) (b ∷ bytes) bytes) ≡ Err cause → FailsBlockType (b ∷ bytes) cause
+byte_stops : (v : Bool) (b : ℕ) (bytes : List ℕ) (cause : Cause) → block_type_at (b ∷ bytes) ≡ Err cause →
+    cond v (Ok (Empty, bytes)) (block_type_of (val_type_of b) (b ∷ bytes) bytes) ≡ Err cause → FailsBlockType (b ∷ bytes) cause
 byte_stops true b bytes cause whole e = absurd cc
 byte_stops false b bytes cause whole e = value_stops b bytes (val_type_of b) cause whole e
 
@@ -174,7 +220,8 @@ type_below FuncRef = omega arith
 type_below ExternRef = omega arith
 
 none_by_byte : (b : ℕ) (front back : List ℕ) (n : ℕ) → SpellsSigned 33 (b ∷ front) (negsuc n) → ((t : BlockType) → SpellsBlockType (b ∷ front) t → ⊥)
-    → (v : Bool) (o : Option ValType) → eqb b 64 ≡ v → val_type_of b ≡ o → cond v (Ok (Empty, front ++ back)) (block_type_of o (b ∷ (front ++ back)) (front ++ back)) ≡ Err BadImmediate
+    → (v : Bool) (o : Option ValType) → eqb b 64 ≡ v → val_type_of b ≡ o →
+    cond v (Ok (Empty, front ++ back)) (block_type_of o (b ∷ (front ++ back)) (front ++ back)) ≡ Err BadImmediate
 unfolding block_type_of
 none_by_byte b front back n number none true o is named =
     let b-is : b ≡ 64 = eqb-true b 64 is in
@@ -186,14 +233,16 @@ none_by_byte b front back n number none false (Some t) is named =
     absurd (none (Value t) (rw (← b-is, alone) refl))
 none_by_byte b front back n number none false None is named = rw ((signed_exact 33).again (b ∷ front) back (negsuc n) number) refl
 
-none_fails : (b : ℕ) (front back : List ℕ) (n : ℕ) → SpellsSigned 33 (b ∷ front) (negsuc n) → ((t : BlockType) → SpellsBlockType (b ∷ front) t → ⊥) → block_type_at (b ∷ (front ++ back)) ≡ Err BadImmediate
+none_fails : (b : ℕ) (front back : List ℕ) (n : ℕ) → SpellsSigned 33 (b ∷ front) (negsuc n) → ((t : BlockType) → SpellsBlockType (b ∷ front) t → ⊥) →
+    block_type_at (b ∷ (front ++ back)) ≡ Err BadImmediate
 unfolding block_type_at
 none_fails b front back n number none = none_by_byte b front back n number none (eqb b 64) (val_type_of b) refl refl
 
 immediate_fails : (bytes : List ℕ) → IsNoBlockType bytes → block_type_at bytes ≡ Err BadImmediate
 immediate_fails bytes s = ap block_type_at s.parts ∙ front_fails s.front s.back s.n s.number s.none
   where
-    front_fails : (front back : List ℕ) (n : ℕ) → SpellsSigned 33 front (negsuc n) → ((t : BlockType) → SpellsBlockType front t → ⊥) → block_type_at (front ++ back) ≡ Err BadImmediate
+    front_fails : (front back : List ℕ) (n : ℕ) → SpellsSigned 33 front (negsuc n) → ((t : BlockType) → SpellsBlockType front t → ⊥) →
+        block_type_at (front ++ back) ≡ Err BadImmediate
     front_fails [] back n number none = absurd number.group
     front_fails (b ∷ front) back n number none = none_fails b front back n number none
 

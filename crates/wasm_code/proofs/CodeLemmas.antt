@@ -52,18 +52,27 @@ unfolding memarg_code
 memarg_spells m align range =
     elim (cases_eq m.memory 0) [
       | inl none ↦
-          let same : record { offset = m.offset; align = m.align; memory = 0 } ≡ m = ap (λ (k : ℕ). let r : MemArg = record { offset = m.offset; align = m.align; memory = k } in r) (sym none) in
+          let same : record { offset = m.offset; align = m.align; memory = 0 } ≡ m = ap (λ (k : ℕ). let r : MemArg = record {
+            offset = m.offset;
+            align = m.align;
+            memory = k;
+          } in r) (sym none) in
           rw (eq-eqb m.memory 0 none) (record {
             value = m.align;
             front = shortest m.align;
             back = shortest m.offset;
             parts = refl;
             first = spells_32 m.align (omega (arith, align));
-            second = subst (λ (v : Bool). BehindAlign v (ltb m.align 128) m.align (shortest m.offset) m) (sym (lt-ltb m.align 64 align)) (record { value = m.offset; spells = spells_64 m.offset range.1; made = same });
+            second = subst (λ (v : Bool). BehindAlign v (ltb m.align 128) m.align (shortest m.offset) m) (sym (lt-ltb m.align 64 align))
+                (record { value = m.offset; spells = spells_64 m.offset range.1; made = same });
           })
       | inr some ↦
           let n = m.align + 64 in
-          let same : record { offset = m.offset; align = n - 64; memory = m.memory } ≡ m = ap (λ (k : ℕ). let r : MemArg = record { offset = m.offset; align = k; memory = m.memory } in r) (omega arith) in
+          let same : record { offset = m.offset; align = n - 64; memory = m.memory } ≡ m = ap (λ (k : ℕ). let r : MemArg = record {
+            offset = m.offset;
+            align = k;
+            memory = m.memory;
+          } in r) (omega arith) in
           let behind : Indexed n (shortest m.memory ++ shortest m.offset) m = record {
             value = m.memory;
             front = shortest m.memory;
@@ -79,7 +88,8 @@ memarg_spells m align range =
             parts = refl;
             first = spells_32 n (omega (arith, align));
             second = subst (λ (v : Bool). BehindAlign v (ltb n 128) n (shortest m.memory ++ shortest m.offset) m) (sym (le-ltb n 64 (omega arith)))
-                (subst (λ (v : Bool). BehindAlign false v n (shortest m.memory ++ shortest m.offset) m) (sym (lt-ltb n 128 (omega (arith, align)))) behind);
+                (subst (λ (v : Bool). BehindAlign false v n (shortest m.memory ++ shortest m.offset) m)
+                (sym (lt-ltb n 128 (omega (arith, align)))) behind);
           })
     ]
 
@@ -112,7 +122,14 @@ one_type t = record {
   first = record { group = omega arith; short = omega arith; is = refl; fits = omega arith };
   second = record {
     value = Some t;
-    spells = record { value = t; front = val_type_code t ∷ []; back = []; parts = refl; first = refl; second = record { value = tt; spells = (refl, refl); made = refl } };
+    spells = record {
+      value = t;
+      front = val_type_code t ∷ [];
+      back = [];
+      parts = refl;
+      first = refl;
+      second = record { value = tt; spells = (refl, refl); made = refl };
+    };
     made = refl;
   };
 }
@@ -123,16 +140,42 @@ imm_spells kind.Nothing imm.Nothing e r = (refl, refl)
 imm_spells kind.Index (imm.Index n) e r = record { value = n; spells = spells_32 n r; made = refl }
 imm_spells kind.Pair (imm.Pair a b) e r =
     let second : Of (λ (n : ℕ). (a, n)) (SpellsUnsigned 32) (shortest b) (a, b) = record { value = b; spells = spells_32 b r.1; made = refl } in
-    let pair : SpellsPair (shortest a ++ shortest b) (a, b) = record { value = a; front = shortest a; back = shortest b; parts = refl; first = spells_32 a r.0; second = second } in
+    let pair : SpellsPair (shortest a ++ shortest b) (a, b) = record {
+      value = a;
+      front = shortest a;
+      back = shortest b;
+      parts = refl;
+      first = spells_32 a r.0;
+      second = second;
+    } in
     record { value = (a, b); spells = pair; made = refl }
 imm_spells kind.Mem (imm.Mem m) e r = record { value = m; spells = memarg_spells m (ltb-true _ _ e) r; made = refl }
-imm_spells kind.MemLane (imm.MemLane m lane) e r = record { value = m; front = memarg_code m; back = lane ∷ []; parts = refl; first = memarg_spells m (ltb-true _ _ e) r.0; second = record { value = lane; spells = refl; made = refl } }
+imm_spells kind.MemLane (imm.MemLane m lane) e r = record {
+  value = m;
+  front = memarg_code m;
+  back = lane ∷ [];
+  parts = refl;
+  first = memarg_spells m (ltb-true _ _ e) r.0;
+  second = record { value = lane; spells = refl; made = refl };
+}
 imm_spells kind.Lane (imm.Lane lane) e r = record { value = lane; spells = refl; made = refl }
 imm_spells kind.I32 (imm.I32 z) e r = record { value = z; spells = spells_signed_32 z r.0 r.1; made = refl }
 imm_spells kind.I64 (imm.I64 z) e r = record { value = z; spells = spells_signed_64 z r.0 r.1; made = refl }
-imm_spells kind.F32 (imm.F32 bits) e r = record { value = to_le_bytes w32 bits; spells = (refl, refl); made = ap (λ (n : ℕ). imm.F32 n) (from_le_bytes-to_le_bytes_4 bits r) }
-imm_spells kind.F64 (imm.F64 bits) e r = record { value = to_le_bytes w64 bits; spells = (refl, refl); made = ap (λ (n : ℕ). imm.F64 n) (from_le_bytes-to_le_bytes_8 bits r) }
-imm_spells kind.V128 (imm.V128 z) e r = record { value = v128_code z; spells = (v128_length z, refl); made = ap (λ (y : ℤ). imm.V128 y) (v128_same z r) }
+imm_spells kind.F32 (imm.F32 bits) e r = record {
+  value = to_le_bytes w32 bits;
+  spells = (refl, refl);
+  made = ap (λ (n : ℕ). imm.F32 n) (from_le_bytes-to_le_bytes_4 bits r);
+}
+imm_spells kind.F64 (imm.F64 bits) e r = record {
+  value = to_le_bytes w64 bits;
+  spells = (refl, refl);
+  made = ap (λ (n : ℕ). imm.F64 n) (from_le_bytes-to_le_bytes_8 bits r);
+}
+imm_spells kind.V128 (imm.V128 z) e r = record {
+  value = v128_code z;
+  spells = (v128_length z, refl);
+  made = ap (λ (y : ℤ). imm.V128 y) (v128_same z r);
+}
 imm_spells kind.Shuffle (imm.Shuffle lanes) e r = record { value = lanes; spells = (r.0, refl); made = refl }
 imm_spells kind.Heap (imm.Heap t) e r = record { value = t; spells = refl; made = refl }
 imm_spells kind.Val (imm.Val t) e r = one_type t
@@ -155,10 +198,25 @@ opcode_spells (Byte b) f = record {
   second = subst (λ (v : Bool). Choose v SpellsFc (Choose (eqb b 253) SpellsFd (NoBytes (Byte b))) [] (Byte b)) (sym (ne_eqb b 252 f.0))
       (subst (λ (v : Bool). Choose v SpellsFd (NoBytes (Byte b)) [] (Byte b)) (sym (ne_eqb b 253 f.1)) (refl, refl));
 }
-opcode_spells (Fc n) f = record { value = 252; front = 252 ∷ []; back = shortest n; parts = refl; first = refl; second = record { value = n; spells = spells_32 n f; made = refl } }
-opcode_spells (Fd n) f = record { value = 253; front = 253 ∷ []; back = shortest n; parts = refl; first = refl; second = record { value = n; spells = spells_32 n f; made = refl } }
+opcode_spells (Fc n) f = record {
+  value = 252;
+  front = 252 ∷ [];
+  back = shortest n;
+  parts = refl;
+  first = refl;
+  second = record { value = n; spells = spells_32 n f; made = refl };
+}
+opcode_spells (Fd n) f = record {
+  value = 253;
+  front = 253 ∷ [];
+  back = shortest n;
+  parts = refl;
+  first = refl;
+  second = record { value = n; spells = spells_32 n f; made = refl };
+}
 
-spells_in : (o : Option Row) (r : ℕ) (i : Imm) → row_at r ≡ o → fits_row o i ≡ true → InRange i → Spells (row_code o ++ imm_code i) (op.Instr (record { row = r; imm = i }))
+spells_in : (o : Option Row) (r : ℕ) (i : Imm) → row_at r ≡ o → fits_row o i ≡ true → InRange i →
+    Spells (row_code o ++ imm_code i) (op.Instr (record { row = r; imm = i }))
 spells_in None r i at fits range = absurd cc
 spells_in (Some row) r i at fits range = record {
   value = row.opcode;
@@ -183,7 +241,8 @@ least_64 : (n : ℕ) (text : List ℕ) → SpellsUnsigned 64 text n → length (
 least_64 n text s = shortest_least 64 n text (omega arith) s
 
 -- a number other than 0 behind 64 to 127 has one form; memory 0 is shorter without its index
-indexed_least : (n memory offset : ℕ) (front middle back : List ℕ) → 64 ≤ n → n < 128 → SpellsUnsigned 32 front n → SpellsUnsigned 32 middle memory → SpellsUnsigned 64 back offset
+indexed_least : (n memory offset : ℕ) (front middle back : List ℕ) → 64 ≤ n → n < 128 → SpellsUnsigned 32 front n → SpellsUnsigned 32 middle memory →
+    SpellsUnsigned 64 back offset
     → length (memarg_code (record { offset = offset; align = n - 64; memory = memory })) ≤ length front + (length middle + length back)
 unfolding memarg_code
 indexed_least n memory offset front middle back low high first second third =
@@ -191,31 +250,64 @@ indexed_least n memory offset front middle back low high first second third =
       | inl none ↦
           let align = ap length (shortest_last (n - 64) (omega arith)) in
           let one = ap length (shortest_last n high) in
-          rw (eq-eqb memory 0 none) (omega (arith, length-append (shortest (n - 64)) (shortest offset), align, one, least_32 n front first, least_64 offset back third))
+          rw (eq-eqb memory 0 none) (omega (
+            arith,
+            length-append (shortest (n - 64)) (shortest offset),
+            align,
+            one,
+            least_32 n front first,
+            least_64 offset back third,
+          ))
       | inr some ↦
           let again : n - 64 + 64 ≡ n = omega arith in
           rw (ne_eqb memory 0 some, again)
-          (omega (arith, length-append (shortest n ++ shortest memory) (shortest offset), length-append (shortest n) (shortest memory), least_32 n front first, least_32 memory middle second, least_64 offset back third))
+          (omega (
+            arith,
+            length-append (shortest n ++ shortest memory) (shortest offset),
+            length-append (shortest n) (shortest memory),
+            least_32 n front first,
+            least_32 memory middle second,
+            least_64 offset back third,
+          ))
     ]
 
-memarg_behind : (plain indexed : Bool) (n : ℕ) (front back : List ℕ) (m : MemArg) → ltb n 64 ≡ plain → ltb n 128 ≡ indexed → SpellsUnsigned 32 front n → BehindAlign plain indexed n back m → length (memarg_code m) ≤ length front + length back
+memarg_behind : (plain indexed : Bool) (n : ℕ) (front back : List ℕ) (m : MemArg) → ltb n 64 ≡ plain → ltb n 128 ≡ indexed →
+    SpellsUnsigned 32 front n → BehindAlign plain indexed n back m → length (memarg_code m) ≤ length front + length back
 unfolding memarg_code
 memarg_behind true indexed n front back m small below first s =
-    subst (λ (k : MemArg). length (memarg_code k) ≤ length front + length back) s.made (omega (arith, length-append (shortest n) (shortest s.value), least_32 n front first, least_64 s.value back s.spells))
+    subst (λ (k : MemArg). length (memarg_code k) ≤ length front + length back) s.made (omega (
+      arith,
+      length-append (shortest n) (shortest s.value),
+      least_32 n front first,
+      least_64 s.value back s.spells,
+    ))
 memarg_behind false true n front back m small below first s =
     let low : 64 ≤ n = ltb-false n 64 small in
     let high : n < 128 = ltb-true n 128 below in
     let t = indexed_least n s.value s.second.value front s.front s.back low high first s.first s.second.spells in
-    subst (λ (k : MemArg). length (memarg_code k) ≤ length front + length back) s.second.made (omega (arith, t, ap length s.parts, length-append s.front s.back))
+    subst (λ (k : MemArg). length (memarg_code k) ≤ length front + length back) s.second.made
+    (omega (arith, t, ap length s.parts, length-append s.front s.back))
 memarg_behind false false n front back m small below first s = absurd s
 
 memarg_least : (m : MemArg) (text : List ℕ) → SpellsMemArg text m → length (memarg_code m) ≤ length text
-memarg_least m text s = omega (arith, memarg_behind (ltb s.value 64) (ltb s.value 128) s.value s.front s.back m refl refl s.first s.second, ap length s.parts, length-append s.front s.back)
+memarg_least m text s = omega (
+  arith,
+  memarg_behind (ltb s.value 64) (ltb s.value 128) s.value s.front s.back m refl refl s.first s.second,
+  ap length s.parts,
+  length-append s.front s.back,
+)
 
 pair_least : (p : ℕ × ℕ) (text : List ℕ) → SpellsPair text p → length (shortest p.0 ++ shortest p.1) ≤ length text
 pair_least p text s =
     subst (λ (q : ℕ × ℕ). length (shortest q.0 ++ shortest q.1) ≤ length text) s.second.made
-    (omega (arith, length-append (shortest s.value) (shortest s.second.value), least_32 s.value s.front s.first, least_32 s.second.value s.back s.second.spells, ap length s.parts, length-append s.front s.back))
+    (omega (
+      arith,
+      length-append (shortest s.value) (shortest s.second.value),
+      least_32 s.value s.front s.first,
+      least_32 s.second.value s.back s.second.spells,
+      ap length s.parts,
+      length-append s.front s.back,
+    ))
 
 group_some : (text : List ℕ) → IsGroup text → 1 ≤ length text
 group_some [] g = absurd g
@@ -228,7 +320,13 @@ first_some (suc n) text first e s = omega (arith, ap length s.first, ap length s
 types_some : (t : ValType) (text : List ℕ) → SpellsTypes text (1, Some t) → 2 ≤ length text
 types_some t text s =
     let one : s.value ≡ 1 = ap (λ (p : ℕ × Option ValType). p.0) s.second.made in
-    omega (arith, group_some s.front s.first.group, first_some s.value s.back s.second.value one s.second.spells, ap length s.parts, length-append s.front s.back)
+    omega (
+      arith,
+      group_some s.front s.first.group,
+      first_some s.value s.back s.second.value one s.second.spells,
+      ap length s.parts,
+      length-append s.front s.back,
+    )
 
 imm_least : (k : Kind) (i : Imm) (text : List ℕ) → SpellsImm k text i → length (imm_code i) ≤ length text
 unfolding imm_code
@@ -238,13 +336,23 @@ imm_least kind.Pair i text s = subst (λ (j : Imm). length (imm_code j) ≤ leng
 imm_least kind.Mem i text s = subst (λ (j : Imm). length (imm_code j) ≤ length text) s.made (memarg_least s.value text s.spells)
 imm_least kind.MemLane i text s =
     subst (λ (j : Imm). length (imm_code j) ≤ length text) s.second.made
-    (omega (arith, memarg_least s.value s.front s.first, length-append (memarg_code s.value) (s.second.value ∷ []), ap length s.second.spells, ap length s.parts, length-append s.front s.back))
+    (omega (
+      arith,
+      memarg_least s.value s.front s.first,
+      length-append (memarg_code s.value) (s.second.value ∷ []),
+      ap length s.second.spells,
+      ap length s.parts,
+      length-append s.front s.back,
+    ))
 imm_least kind.Lane i text s = subst (λ (j : Imm). length (imm_code j) ≤ length text) s.made (omega (arith, ap length s.spells))
-imm_least kind.I32 i text s = subst (λ (j : Imm). length (imm_code j) ≤ length text) s.made (shortest_signed_least 32 s.value text (omega arith) s.spells)
-imm_least kind.I64 i text s = subst (λ (j : Imm). length (imm_code j) ≤ length text) s.made (shortest_signed_least 64 s.value text (omega arith) s.spells)
+imm_least kind.I32 i text s = subst (λ (j : Imm). length (imm_code j) ≤ length text) s.made
+    (shortest_signed_least 32 s.value text (omega arith) s.spells)
+imm_least kind.I64 i text s = subst (λ (j : Imm). length (imm_code j) ≤ length text) s.made
+    (shortest_signed_least 64 s.value text (omega arith) s.spells)
 imm_least kind.F32 i text s = subst (λ (j : Imm). length (imm_code j) ≤ length text) s.made (omega (arith, s.spells.0))
 imm_least kind.F64 i text s = subst (λ (j : Imm). length (imm_code j) ≤ length text) s.made (omega (arith, s.spells.0))
-imm_least kind.V128 i text s = subst (λ (j : Imm). length (imm_code j) ≤ length text) s.made (omega (arith, s.spells.0, v128_length (cast_signed w128 (from_le_bytes w128 s.value))))
+imm_least kind.V128 i text s = subst (λ (j : Imm). length (imm_code j) ≤ length text) s.made
+    (omega (arith, s.spells.0, v128_length (cast_signed w128 (from_le_bytes w128 s.value))))
 imm_least kind.Shuffle i text s = subst (λ (j : Imm). length (imm_code j) ≤ length text) s.made (omega (arith, ap length s.spells.1))
 imm_least kind.Heap i text s = subst (λ (j : Imm). length (imm_code j) ≤ length text) s.made (omega (arith, ap length s.spells))
 imm_least kind.Val (imm.Val t) text s = types_some t text s
@@ -255,9 +363,11 @@ unfolding opcode_code
 numbered true b o back s = subst (λ (p : Opcode). length (opcode_code p) ≤ suc (length back)) s.made (omega (arith, least_32 s.value back s.spells))
 numbered false b o back s = subst (λ (p : Opcode). length (opcode_code p) ≤ suc (length back)) s.1 (omega arith)
 
-opcode_behind : (v : Bool) (b : ℕ) (o : Opcode) (back : List ℕ) → Choose v SpellsFc (Choose (eqb b 253) SpellsFd (NoBytes (Byte b))) back o → length (opcode_code o) ≤ suc (length back)
+opcode_behind : (v : Bool) (b : ℕ) (o : Opcode) (back : List ℕ) → Choose v SpellsFc (Choose (eqb b 253) SpellsFd (NoBytes (Byte b))) back o →
+    length (opcode_code o) ≤ suc (length back)
 unfolding opcode_code
-opcode_behind true b o back s = subst (λ (p : Opcode). length (opcode_code p) ≤ suc (length back)) s.made (omega (arith, least_32 s.value back s.spells))
+opcode_behind true b o back s = subst (λ (p : Opcode). length (opcode_code p) ≤ suc (length back)) s.made
+    (omega (arith, least_32 s.value back s.spells))
 opcode_behind false b o back s = numbered (eqb b 253) b o back s
 
 opcode_least : (o : Opcode) (text : List ℕ) → SpellsOpcode text o → length (opcode_code o) ≤ length text
@@ -272,4 +382,12 @@ code_least i text s =
     let o = opcode_least s.value s.front s.first in
     let o' : length (opcode_code s.second.row.opcode) ≤ length s.front = rw s.second.opcode o in
     let m = imm_least s.second.row.kind i.imm s.back s.second.imm in
-    rw s.second.at (omega (arith, o', m, ap length s.parts, length-append s.front s.back, length-append (opcode_code s.second.row.opcode) (imm_code i.imm)))
+    rw s.second.at (omega (
+      arith,
+      o',
+      m,
+      ap length s.parts,
+      length-append s.front s.back,
+      length-append (opcode_code s.second.row.opcode)
+          (imm_code i.imm),
+    ))

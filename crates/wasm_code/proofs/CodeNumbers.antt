@@ -128,13 +128,19 @@ signed_is (suc k) negative n lt =
       | inl small ↦ rw (lt-ltb n 64 small) (one_byte (suc k) negative n small)
       | inr big ↦
           let t = signed_is k negative (n / 128) (omega (arith, lt, pow-suc 128 k)) in
-          rw (le-ltb n 64 big) (record { group = more_group _ _ (low_below negative n) t.group; is = sum_more negative n (signed_within k negative (n / 128)) t.is; short = omega (arith, t.short); sign = last_cons _ _ t.group ∙ t.sign })
+          rw (le-ltb n 64 big) (record {
+            group = more_group _ _ (low_below negative n) t.group;
+            is = sum_more negative n (signed_within k negative (n / 128)) t.is;
+            short = omega (arith, t.short);
+            sign = last_cons _ _ t.group ∙ t.sign;
+          })
     ]
 
 less_power : (v p n : ℕ) → v + (n + 1) ≡ p → pos v -ℤ pos p ≡ negsuc n
 less_power v p n e = omega (arith, ints, e)
 
-signed_value_is : (k : ℕ) (negative : Bool) (n : ℕ) (text : List ℕ) → IsSignedForm k negative n text → signed_value text ≡ cond negative (negsuc n) (pos n)
+signed_value_is : (k : ℕ) (negative : Bool) (n : ℕ) (text : List ℕ) → IsSignedForm k negative n text →
+    signed_value text ≡ cond negative (negsuc n) (pos n)
 signed_value_is k false n text f = rw f.sign (ap pos f.is)
 signed_value_is k true n text f = rw f.sign (less_power (value text) (128 ^ length text) n f.is)
 
@@ -149,7 +155,13 @@ form_spells : (bits : ℕ) (negative : Bool) (n : ℕ) (z : ℤ) → 1 ≤ bits 
     → (neg_ℤ (pos (2 ^ (bits - 1))) ≤ℤ z) × (z <ℤ pos (2 ^ (bits - 1))) → SpellsSigned bits (signed_form negative n) z
 form_spells bits negative n z some le lt e w =
     let f = signed_is (more_bytes bits) negative n (fits_half_bytes bits n lt) in
-    rw (form_is bits negative n le lt) (record { group = f.group; short = omega (arith, f.short); is = signed_value_is (more_bytes bits) negative n _ f ∙ e; low = w.0; high = w.1 })
+    rw (form_is bits negative n le lt) (record {
+      group = f.group;
+      short = omega (arith, f.short);
+      is = signed_value_is (more_bytes bits) negative n _ f ∙ e;
+      low = w.0;
+      high = w.1;
+    })
 
 below_half : (half n : ℕ) → pos n <ℤ pos half → n < half
 below_half half n lt = omega (arith, ints)
@@ -158,7 +170,8 @@ above_half : (half n : ℕ) → neg_ℤ (pos half) ≤ℤ negsuc n → n < half
 above_half half n le = omega (arith, ints)
 
 -- The shortest spelling of a signed number spells it, at any number of bits that it fits.
-pub shortest_signed_spells : (bits : ℕ) (z : ℤ) → 1 ≤ bits → bits ≤ 64 → neg_ℤ (pos (2 ^ (bits - 1))) ≤ℤ z → z <ℤ pos (2 ^ (bits - 1)) → SpellsSigned bits (shortest_signed z) z
+pub shortest_signed_spells : (bits : ℕ) (z : ℤ) → 1 ≤ bits → bits ≤ 64 → neg_ℤ (pos (2 ^ (bits - 1))) ≤ℤ z → z <ℤ pos (2 ^ (bits - 1)) →
+    SpellsSigned bits (shortest_signed z) z
 shortest_signed_spells bits (pos n) some le low high = form_spells bits false n (pos n) some le (below_half _ n high) refl (low, high)
 shortest_signed_spells bits (negsuc n) some le low high = form_spells bits true n (negsuc n) some le (above_half _ n low) refl (low, high)
 
@@ -172,7 +185,8 @@ sum_rest : (negative : Bool) (b n : ℕ) (text : List ℕ) → Sum negative (b �
 sum_rest false b n text s = omega (arith, s)
 sum_rest true b n text s = omega (arith, s, pow-suc 128 (length text))
 
-least_signed : (k : ℕ) (negative : Bool) (n : ℕ) (text : List ℕ) → n < 64 * 128 ^ k → IsGroup text → is_negative text ≡ negative → Sum negative text n → length (signed_within k negative n) ≤ length text
+least_signed : (k : ℕ) (negative : Bool) (n : ℕ) (text : List ℕ) → n < 64 * 128 ^ k → IsGroup text → is_negative text ≡ negative →
+    Sum negative text n → length (signed_within k negative n) ≤ length text
 unfolding signed_within
 least_signed k negative n [] lt g e s = absurd g
 least_signed zero negative n (b ∷ text) lt g e s = omega arith
@@ -181,16 +195,19 @@ least_signed (suc k) negative n (b ∷ c ∷ text) lt g e s =
     elim (cases_lt n 64) [
       | inl small ↦ rw (lt-ltb n 64 small) (omega arith)
       | inr big ↦
-          let rest = least_signed k negative (n / 128) (c ∷ text) (omega (arith, lt, pow-suc 128 k)) g.1 (sym (last_cons b (c ∷ text) g.1) ∙ e) (sum_rest negative b n (c ∷ text) s) in
+          let rest = least_signed k negative (n / 128) (c ∷ text) (omega (arith, lt, pow-suc 128 k)) g.1 (sym (last_cons b (c ∷ text) g.1) ∙ e)
+          (sum_rest negative b n (c ∷ text) s) in
           rw (le-ltb n 64 big) (omega (arith, rest))
     ]
 
 -- the sign and the sum of a group whose number is n, or -1 - n
-pos_sum : (v : Bool) (text : List ℕ) (n : ℕ) → is_negative text ≡ v → cond v (pos (value text) -ℤ pos (128 ^ length text)) (pos (value text)) ≡ pos n → (v ≡ false) × (value text ≡ n)
+pos_sum : (v : Bool) (text : List ℕ) (n : ℕ) → is_negative text ≡ v → cond v (pos (value text) -ℤ pos (128 ^ length text)) (pos (value text))
+    ≡ pos n → (v ≡ false) × (value text ≡ n)
 pos_sum false text n e s = (refl, cc)
 pos_sum true text n e s = let below = value_below text in absurd (omega (arith, ints, s))
 
-negsuc_sum : (v : Bool) (text : List ℕ) (n : ℕ) → is_negative text ≡ v → cond v (pos (value text) -ℤ pos (128 ^ length text)) (pos (value text)) ≡ negsuc n → (v ≡ true) × (value text + (n + 1) ≡ 128 ^ length text)
+negsuc_sum : (v : Bool) (text : List ℕ) (n : ℕ) → is_negative text ≡ v → cond v (pos (value text) -ℤ pos (128 ^ length text)) (pos (value text))
+    ≡ negsuc n → (v ≡ true) × (value text + (n + 1) ≡ 128 ^ length text)
 negsuc_sum false text n e s = absurd cc
 negsuc_sum true text n e s = let below = value_below text in (refl, omega (arith, ints, s))
 

@@ -38,8 +38,10 @@ row_has : (o : Opcode) (d : Option (ℕ × Row)) (g : Form) → row_with o ≡ d
 row_has o None g is e = absurd cc
 row_has o (Some found) g is e = subst (λ (j : Form). HasForm j o) (some_is (form.Row found.0 found.1) g e) (is_by_opcode o found.0 found.1 is)
 
-step : (v : Bool) (b k : ℕ) (f g : Form) (rest : Option Form) → eqb b k ≡ v → HasForm f (Byte k) → cond v (Some f) rest ≡ Some g → (rest ≡ Some g → HasForm g (Byte b)) → HasForm g (Byte b)
-step true b k f g rest is h e go = subst (λ (j : Form). HasForm j (Byte b)) (some_is f g e) (subst (λ (c : ℕ). HasForm f (Byte c)) (sym (eqb-true b k is)) h)
+step : (v : Bool) (b k : ℕ) (f g : Form) (rest : Option Form) → eqb b k ≡ v → HasForm f (Byte k) → cond v (Some f) rest ≡ Some g →
+    (rest ≡ Some g → HasForm g (Byte b)) → HasForm g (Byte b)
+step true b k f g rest is h e go = subst (λ (j : Form). HasForm j (Byte b)) (some_is f g e)
+    (subst (λ (c : ℕ). HasForm f (Byte c)) (sym (eqb-true b k is)) h)
 step false b k f g rest is h e go = go e
 
 byte_has : (b : ℕ) (g : Form) → byte_form b ≡ Some g → HasForm g (Byte b)
@@ -47,7 +49,8 @@ byte_has b g e =
     step _ b 0 form.Unreachable g _ refl refl e (λ e. step _ b 2 form.Block g _ refl refl e (λ e. step _ b 3 form.Loop g _ refl refl e
     (λ e. step _ b 4 form.If g _ refl refl e (λ e. step _ b 5 form.Else g _ refl refl e (λ e. step _ b 11 form.End g _ refl refl e
     (λ e. step _ b 12 form.Br g _ refl refl e (λ e. step _ b 13 form.BrIf g _ refl refl e (λ e. step _ b 14 form.BrTable g _ refl refl e
-    (λ e. step _ b 15 form.Return g _ refl refl e (λ e. step _ b 17 form.CallIndirect g _ refl refl e (λ e. step _ b 28 form.TypedSelect g _ refl refl e
+    (λ e. step _ b 15 form.Return g _ refl refl e (λ e. step _ b 17 form.CallIndirect g _ refl refl e
+    (λ e. step _ b 28 form.TypedSelect g _ refl refl e
     (λ e. row_has (Byte b) (row_with (Byte b)) g refl e))))))))))))
 
 pub form_has : (o : Opcode) (g : Form) → form_of o ≡ Some g → HasForm g o
@@ -62,7 +65,8 @@ select_formed = refl
 
 -- a row's form isn't that of a select with value types
 pub not_select : (o : Opcode) (number : ℕ) (row : Row) → form_of o ≡ Some (form.Row number row) → o ≢ Byte 28
-not_select o number row e is = let clash : Some form.TypedSelect ≡ Some (form.Row number row) = sym select_formed ∙ sym (ap form_of is) ∙ e in absurd cc
+not_select o number row e is = let clash : Some form.TypedSelect ≡ Some (form.Row number row) = sym select_formed ∙ sym (ap form_of is) ∙ e in
+    absurd cc
 
 pub form_is : (o : Opcode) (g : Form) → form_of o ≡ Some g → IsForm g
 form_is o (form.Row number row) e =
@@ -88,9 +92,11 @@ is_form o (Some g) e = form_is o g (sym e)
 -- ---- an opcode's form is found
 
 -- a byte that begins another form is no row's
-other : (b k : ℕ) (number : ℕ) (row : Row) (f : Form) (rest : Option Form) → row_with (Byte b) ≡ Some (number, row) → row_with (Byte k) ≡ None → rest ≡ Some (form.Row number row) → cond (eqb b k) (Some f) rest ≡ Some (form.Row number row)
+other : (b k : ℕ) (number : ℕ) (row : Row) (f : Form) (rest : Option Form) → row_with (Byte b) ≡ Some (number, row) → row_with (Byte k) ≡ None →
+    rest ≡ Some (form.Row number row) → cond (eqb b k) (Some f) rest ≡ Some (form.Row number row)
 other b k number row f rest found none e =
-    let ne : eqb b k ≡ false = ne_eqb b k (λ same. let clash : Some (number, row) ≡ None = sym found ∙ ap (λ (c : ℕ). row_with (Byte c)) same ∙ none in absurd cc) in
+    let ne : eqb b k ≡ false = ne_eqb b k (λ same. let clash : Some (number, row) ≡ None = sym found ∙ ap (λ (c : ℕ). row_with (Byte c)) same
+    ∙ none in absurd cc) in
     rw ne e
 
 byte_formed : (b number : ℕ) (row : Row) → row_with (Byte b) ≡ Some (number, row) → eqb b 28 ≡ false → byte_form b ≡ Some (form.Row number row)
@@ -124,7 +130,8 @@ record Unlisted (b : ℕ) (bytes : List ℕ) (rest : Option Form) : Type 0 where
   other : IsOneOf (Byte b) bytes → ⊥
   none : rest ≡ None
 
-unlisted : (v : Bool) (b k : ℕ) (bytes : List ℕ) (f : Form) (rest last : Option Form) → eqb b k ≡ v → cond v (Some f) rest ≡ None → (rest ≡ None → Unlisted b bytes last) → Unlisted b (k ∷ bytes) last
+unlisted : (v : Bool) (b k : ℕ) (bytes : List ℕ) (f : Form) (rest last : Option Form) → eqb b k ≡ v → cond v (Some f) rest ≡ None →
+    (rest ≡ None → Unlisted b bytes last) → Unlisted b (k ∷ bytes) last
 unlisted true b k bytes f rest last is e more = absurd cc
 unlisted false b k bytes f rest last is e more =
     let u = more e in
@@ -139,7 +146,10 @@ byte_unknown b e =
     unlisted _ b 0 _ form.Unreachable _ _ refl e (λ e. unlisted _ b 2 _ form.Block _ _ refl e (λ e. unlisted _ b 3 _ form.Loop _ _ refl e
     (λ e. unlisted _ b 4 _ form.If _ _ refl e (λ e. unlisted _ b 5 _ form.Else _ _ refl e (λ e. unlisted _ b 11 _ form.End _ _ refl e
     (λ e. unlisted _ b 12 _ form.Br _ _ refl e (λ e. unlisted _ b 13 _ form.BrIf _ _ refl e (λ e. unlisted _ b 14 _ form.BrTable _ _ refl e
-    (λ e. unlisted _ b 15 _ form.Return _ _ refl e (λ e. unlisted _ b 17 [] form.CallIndirect _ _ refl e (λ e. record { other = λ one. one; none = beyond (eqb b 28) _ e })))))))))))
+    (λ e. unlisted _ b 15 _ form.Return _ _ refl e (λ e. unlisted _ b 17 [] form.CallIndirect _ _ refl e (λ e. record {
+      other = λ one. one;
+      none = beyond (eqb b 28) _ e;
+    })))))))))))
 
 no_byte : (o : Opcode) (bytes : List ℕ) → ((b : ℕ) → o ≢ Byte b) → IsOneOf o bytes → ⊥
 no_byte o [] none one = one

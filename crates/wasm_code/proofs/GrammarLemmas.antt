@@ -12,7 +12,8 @@ abbrev pub Reader : Type 0 → Type 0
 Reader A = List ℕ → Result (A × List ℕ) Cause
 
 -- Reading takes exactly what is spelled, whatever follows it, and fails exactly where no spelling begins the bytes.
-pub record Exact {A : Type 0} (Spells : List ℕ → A → Type 0) (Fails : List ℕ → Cause → Type 0) (at : List ℕ → Result (A × List ℕ) Cause) : Type 0 where
+pub record Exact {A : Type 0} (Spells : List ℕ → A → Type 0) (Fails : List ℕ → Cause → Type 0) (at : List ℕ →
+    Result (A × List ℕ) Cause) : Type 0 where
   pub takes : (bytes : List ℕ) (x : A) (rest : List ℕ) → at bytes ≡ Ok (x, rest) → (text : List ℕ) × (bytes ≡ text ++ rest) × Spells text x
   pub again : (text rest : List ℕ) (x : A) → Spells text x → at (text ++ rest) ≡ Ok (x, rest)
   pub stops : (bytes : List ℕ) (cause : Cause) → at bytes ≡ Err cause → Fails bytes cause
@@ -30,7 +31,8 @@ failed c = Err c
 pub err_is : {A : Type 0} (c d : Cause) → failed {A = A} c ≡ failed {A = A} d → c ≡ d
 err_is {A} c d e = cc
 
-pub bind_err : {A B : Type 0} (r : Result A Cause) (f : A → Result B Cause) (d : Cause) → (r >>= f) ≡ Err d → (r ≡ Err d) ⊎ ((x : A) × (r ≡ Ok x) × (f x ≡ Err d))
+pub bind_err : {A B : Type 0} (r : Result A Cause) (f : A → Result B Cause) (d : Cause) → (r >>= f) ≡ Err d →
+    (r ≡ Err d) ⊎ ((x : A) × (r ≡ Ok x) × (f x ≡ Err d))
 bind_err (Ok x) f d e = inr (x, refl, e)
 bind_err (Err c) f d e = inl (ap failed (err_is c d e))
 
@@ -65,7 +67,8 @@ exact_ends {A} x = record {
   fails = λ bytes cause f. absurd f;
 }
 
-pub exact_of : {A B : Type 0} {Spells : List ℕ → A → Type 0} {Fails : List ℕ → Cause → Type 0} {at : Reader A} (f : A → B) → Exact Spells Fails at → Exact (Of f Spells) Fails (λ bytes. at bytes >>= λ x. Ok (f x.0, x.1))
+pub exact_of : {A B : Type 0} {Spells : List ℕ → A → Type 0} {Fails : List ℕ → Cause → Type 0} {at : Reader A} (f : A → B) → Exact Spells Fails at →
+    Exact (Of f Spells) Fails (λ bytes. at bytes >>= λ x. Ok (f x.0, x.1))
 exact_of {A} {B} {Spells} {Fails} {at} f one = record {
   takes = λ bytes y rest e.
       let a = bind_ok (at bytes) (λ x. Ok (f x.0, x.1)) (y, rest) e in
@@ -81,34 +84,56 @@ exact_of {A} {B} {Spells} {Fails} {at} f one = record {
   fails = λ bytes cause s. rw (one.fails bytes cause s) refl;
 }
 
-pub exact_choose : {A : Type 0} {Yes No : List ℕ → A → Type 0} {FailsYes FailsNo : List ℕ → Cause → Type 0} {yes_at no_at : Reader A} (b : Bool) → Exact Yes FailsYes yes_at → Exact No FailsNo no_at
+pub exact_choose : {A : Type 0} {Yes No : List ℕ → A → Type 0} {FailsYes FailsNo : List ℕ → Cause → Type 0} {yes_at no_at : Reader A} (b : Bool) →
+    Exact Yes FailsYes yes_at → Exact No FailsNo no_at
     → Exact (Choose b Yes No) (FailsChosen b FailsYes FailsNo) (λ bytes. cond b (yes_at bytes) (no_at bytes))
 exact_choose true first second = record { takes = first.takes; again = first.again; stops = first.stops; fails = first.fails }
 exact_choose false first second = record { takes = second.takes; again = second.again; stops = second.stops; fails = second.fails }
 
-pub exact_then : {A B : Type 0} {First : List ℕ → A → Type 0} {Second : A → List ℕ → B → Type 0} {FailsFirst : List ℕ → Cause → Type 0} {FailsSecond : A → List ℕ → Cause → Type 0} {first_at : Reader A} {second_at : A → Reader B}
-    → Exact First FailsFirst first_at → ((a : A) → Exact (Second a) (FailsSecond a) (second_at a)) → Exact (Then First Second) (FailsThen FailsFirst First FailsSecond) (λ bytes. first_at bytes >>= λ x. second_at x.0 x.1)
+pub exact_then : {A B : Type 0} {First : List ℕ → A → Type 0} {Second : A → List ℕ → B → Type 0} {FailsFirst : List ℕ → Cause →
+    Type 0} {FailsSecond : A → List ℕ → Cause → Type 0} {first_at : Reader A} {second_at : A → Reader B}
+    → Exact First FailsFirst first_at → ((a : A) → Exact (Second a) (FailsSecond a) (second_at a)) →
+    Exact (Then First Second) (FailsThen FailsFirst First FailsSecond) (λ bytes. first_at bytes >>= λ x. second_at x.0 x.1)
 exact_then {A} {B} {First} {Second} {FailsFirst} {FailsSecond} {first_at} {second_at} one two = record {
   takes = λ bytes y rest e.
       let a = bind_ok (first_at bytes) (λ x. second_at x.0 x.1) (y, rest) e in
       let t = one.takes bytes a.0.0 a.0.1 a.1 in
-      let u = (two a.0.0).takes a.0.1 y rest a.2 in
-      (t.0 ++ u.0, t.1 ∙ ap (λ (r : List ℕ). t.0 ++ r) u.1 ∙ sym (append_assoc t.0 u.0 rest), record { value = a.0.0; front = t.0; back = u.0; parts = refl; first = t.2; second = u.2 });
+      let u = (two a.0.0).takes a.0.1 y rest a.2 in (
+        t.0 ++ u.0,
+        t.1 ∙ ap (λ (r : List ℕ). t.0 ++ r) u.1 ∙ sym (append_assoc t.0 u.0 rest),
+        record {
+          value = a.0.0;
+          front = t.0;
+          back = u.0;
+          parts = refl;
+          first = t.2;
+          second = u.2;
+        },
+      );
   again = λ text rest y s.
       let regrouped : text ++ rest ≡ s.front ++ (s.back ++ rest) = ap (λ (r : List ℕ). r ++ rest) s.parts ∙ append_assoc s.front s.back rest in
-      ap (λ (r : List ℕ). first_at r >>= λ x. second_at x.0 x.1) regrouped ∙ rw (one.again s.front (s.back ++ rest) s.value s.first) ((two s.value).again s.back rest y s.second);
+      ap (λ (r : List ℕ). first_at r >>= λ x. second_at x.0 x.1) regrouped ∙ rw (one.again s.front (s.back ++ rest) s.value s.first)
+      ((two s.value).again s.back rest y s.second);
   stops = λ bytes cause e.
       elim (bind_err (first_at bytes) (λ x. second_at x.0 x.1) cause e) [
         | inl here ↦ inl (one.stops bytes cause here)
         | inr there ↦
             let t = one.takes bytes there.0.0 there.0.1 there.1 in
-            inr (record { value = there.0.0; front = t.0; back = there.0.1; parts = t.1; first = t.2; second = (two there.0.0).stops there.0.1 cause there.2 })
+            inr (record {
+              value = there.0.0;
+              front = t.0;
+              back = there.0.1;
+              parts = t.1;
+              first = t.2;
+              second = (two there.0.0).stops there.0.1 cause there.2;
+            })
       ];
   fails = λ bytes cause s.
       elim s [
         | inl here ↦ rw (one.fails bytes cause here) refl
         | inr there ↦
-            ap (λ (r : List ℕ). first_at r >>= λ x. second_at x.0 x.1) there.parts ∙ rw (one.again there.front there.back there.value there.first) ((two there.value).fails there.back cause there.second)
+            ap (λ (r : List ℕ). first_at r >>= λ x. second_at x.0 x.1) there.parts ∙ rw (one.again there.front there.back there.value there.first)
+            ((two there.value).fails there.back cause there.second)
       ];
 }
 
@@ -125,7 +150,8 @@ exact_same to from fails_to fails_from one = record {
 }
 
 -- another reading function that answers the same
-pub exact_at : {A : Type 0} {Spells : List ℕ → A → Type 0} {Fails : List ℕ → Cause → Type 0} {at other : Reader A} → ((bytes : List ℕ) → at bytes ≡ other bytes) → Exact Spells Fails at → Exact Spells Fails other
+pub exact_at : {A : Type 0} {Spells : List ℕ → A → Type 0} {Fails : List ℕ → Cause → Type 0} {at other : Reader A} →
+    ((bytes : List ℕ) → at bytes ≡ other bytes) → Exact Spells Fails at → Exact Spells Fails other
 exact_at same one = record {
   takes = λ bytes x rest e. one.takes bytes x rest (same bytes ∙ e);
   again = λ text rest x s. sym (same (text ++ rest)) ∙ one.again text rest x s;
@@ -158,8 +184,11 @@ bytes_exact n = record {
   takes = λ bytes x rest e.
       let g = passed (ltb (length bytes) n) Truncated (take n bytes, drop n bytes) (x, rest) e in
       let long : n ≤ length bytes = ltb-false _ _ g.0 in
-      let rest-is : drop n bytes ≡ rest = ap (λ (p : List ℕ × List ℕ). p.1) g.1 in
-      (take n bytes, sym (take-append-drop n bytes) ∙ ap (λ (r : List ℕ). take n bytes ++ r) rest-is, (omega (arith, length-take n bytes), ap (λ (p : List ℕ × List ℕ). p.0) g.1));
+      let rest-is : drop n bytes ≡ rest = ap (λ (p : List ℕ × List ℕ). p.1) g.1 in (
+        take n bytes,
+        sym (take-append-drop n bytes) ∙ ap (λ (r : List ℕ). take n bytes ++ r) rest-is,
+        (omega (arith, length-take n bytes), ap (λ (p : List ℕ × List ℕ). p.0) g.1),
+      );
   again = λ text rest x s.
       let long : ltb (length (text ++ rest)) n ≡ false = le-ltb _ _ (omega (arith, length-append text rest, s.0)) in
       rw (long, take_at text rest n s.0, drop_at text rest n s.0) (ap (λ (y : List ℕ). Ok (y, rest)) s.1);
@@ -170,38 +199,52 @@ bytes_exact n = record {
 }
 
 -- so many bytes of bytes are bytes
-pub bytes_small : (n : ℕ) (bytes text rest : List ℕ) → bytes_at n bytes ≡ Ok (text, rest) → ((i : ℕ) → get_or bytes i 0 < 256) → (length text ≡ n) × All (λ b. b < 256) text
+pub bytes_small : (n : ℕ) (bytes text rest : List ℕ) → bytes_at n bytes ≡ Ok (text, rest) → ((i : ℕ) → get_or bytes i 0 < 256) → (length text ≡ n)
+    × All (λ b. b < 256) text
 bytes_small n bytes text rest e small =
     let g = passed (ltb (length bytes) n) Truncated (take n bytes, drop n bytes) (text, rest) e in
     let long : n ≤ length bytes = ltb-false _ _ g.0 in
     let is : take n bytes ≡ text = ap (λ (p : List ℕ × List ℕ). p.0) g.1 in
-    let len : length text ≡ n = omega (arith, sym (ap length is), length-take n bytes, long) in
-    (len, λ k d within. omega (arith, ap (λ (l : List ℕ). get_or l k d) is, get_or-take n bytes k d (omega (arith, within, len)), get_or_default bytes k d 0 (omega (arith, within, len, long)), small k))
+    let len : length text ≡ n = omega (arith, sym (ap length is), length-take n bytes, long) in (
+      len,
+      λ k d within. omega (
+        arith,
+        ap (λ (l : List ℕ). get_or l k d) is,
+        get_or-take n bytes k d (omega (arith, within, len)),
+        get_or_default bytes k d 0 (omega (arith, within, len, long)),
+        small k,
+      ),
+    )
 
 -- ---- the byte of a code
 
-code_takes : {A : Type 0} (code : A → ℕ) (b : ℕ) (bytes : List ℕ) (o : Option A) (x : A) (rest : List ℕ) → ((y : A) → o ≡ Some y → code y ≡ b) → named_at o bytes ≡ Ok (x, rest) → (text : List ℕ) × (b ∷ bytes ≡ text ++ rest) × IsCode code text x
+code_takes : {A : Type 0} (code : A → ℕ) (b : ℕ) (bytes : List ℕ) (o : Option A) (x : A) (rest : List ℕ) → ((y : A) → o ≡ Some y → code y ≡ b) →
+    named_at o bytes ≡ Ok (x, rest) → (text : List ℕ) × (b ∷ bytes ≡ text ++ rest) × IsCode code text x
 code_takes code b bytes None x rest is e = absurd cc
 code_takes {A} code b bytes (Some y) x rest is e =
     let p = ok_is (y, bytes) (x, rest) e in
     (b ∷ [], ap (λ (q : A × List ℕ). b ∷ q.1) p, ap (λ (c : ℕ). c ∷ []) (sym (is y refl)) ∙ ap (λ (q : A × List ℕ). code q.0 ∷ []) p)
 
-code_stops : {A : Type 0} (code : A → ℕ) (b : ℕ) (bytes : List ℕ) (o : Option A) (cause : Cause) → ((y : A) → code y ≡ b → o ≡ Some y) → named_at o bytes ≡ Err cause → (cause ≡ BadImmediate) × ((x : A) → code x ≢ b)
+code_stops : {A : Type 0} (code : A → ℕ) (b : ℕ) (bytes : List ℕ) (o : Option A) (cause : Cause) → ((y : A) → code y ≡ b → o ≡ Some y) →
+    named_at o bytes ≡ Err cause → (cause ≡ BadImmediate) × ((x : A) → code x ≢ b)
 code_stops {A} code b bytes None cause is e = (sym (err_is {A = A × List ℕ} BadImmediate cause e), λ x same. let clash = is x same in absurd cc)
 code_stops code b bytes (Some y) cause is e = absurd cc
 
-code_fails : {A : Type 0} (code : A → ℕ) (b : ℕ) (bytes : List ℕ) (o : Option A) (cause : Cause) → ((y : A) → o ≡ Some y → code y ≡ b) → (cause ≡ BadImmediate) × ((x : A) → code x ≢ b) → named_at o bytes ≡ Err cause
+code_fails : {A : Type 0} (code : A → ℕ) (b : ℕ) (bytes : List ℕ) (o : Option A) (cause : Cause) → ((y : A) → o ≡ Some y → code y ≡ b) →
+    (cause ≡ BadImmediate) × ((x : A) → code x ≢ b) → named_at o bytes ≡ Err cause
 code_fails code b bytes None cause is s = ap failed (sym s.0)
 code_fails code b bytes (Some y) cause is s = absurd (s.1 y (is y refl))
 
-pub exact_code : {A : Type 0} (code : A → ℕ) (named : ℕ → Option A) → ((b : ℕ) (x : A) → named b ≡ Some x → code x ≡ b) → ((x : A) → named (code x) ≡ Some x)
+pub exact_code : {A : Type 0} (code : A → ℕ) (named : ℕ → Option A) → ((b : ℕ) (x : A) → named b ≡ Some x → code x ≡ b) →
+    ((x : A) → named (code x) ≡ Some x)
     → Exact (IsCode code) (FailsCode code) (λ bytes. byte_at bytes >>= λ b. named_at (named b.0) b.1)
 exact_code {A} code named right left = record { takes = takes; again = λ text rest x s. rw (s, left x) refl; stops = stops; fails = fails }
   where
     back : (b : ℕ) (x : A) → code x ≡ b → named b ≡ Some x
     back b x is = ap named (sym is) ∙ left x
 
-    takes : (bytes : List ℕ) (x : A) (rest : List ℕ) → (byte_at bytes >>= λ b. named_at (named b.0) b.1) ≡ Ok (x, rest) → (text : List ℕ) × (bytes ≡ text ++ rest) × IsCode code text x
+    takes : (bytes : List ℕ) (x : A) (rest : List ℕ) → (byte_at bytes >>= λ b. named_at (named b.0) b.1) ≡ Ok (x, rest) → (text : List ℕ)
+        × (bytes ≡ text ++ rest) × IsCode code text x
     takes [] x rest e = absurd cc
     takes (b ∷ bytes) x rest e = code_takes code b bytes (named b) x rest (right b) e
 
@@ -215,7 +258,8 @@ exact_code {A} code named right left = record { takes = takes; again = λ text r
 
 -- ---- one after another
 
-pub exact_times : {A : Type 0} {One : List ℕ → A → Type 0} {FailsOne : List ℕ → Cause → Type 0} {at : Reader A} → Exact One FailsOne at → (n : ℕ) → Exact (Times n One) (FailsTimes n FailsOne One) (times_at n at)
+pub exact_times : {A : Type 0} {One : List ℕ → A → Type 0} {FailsOne : List ℕ → Cause → Type 0} {at : Reader A} → Exact One FailsOne at → (n : ℕ) →
+    Exact (Times n One) (FailsTimes n FailsOne One) (times_at n at)
 unfolding times_at
 exact_times one zero = exact_ends tt
 exact_times one (suc n) = exact_then one (λ _. exact_times one n)

@@ -20,7 +20,8 @@ use Rattle.wasm_code.proofs.NumberExact.{unsigned_exact, signed_exact}
 -- ---- types
 
 -- the next code of a list of codes is the byte's, or it is one of those behind it
-listed : {A : Type 0} (code : A → ℕ) (v : Bool) (b k : ℕ) (x y : A) (rest : Option A) → eqb b k ≡ v → code y ≡ k → cond v (Some y) rest ≡ Some x → (rest ≡ Some x → code x ≡ b) → code x ≡ b
+listed : {A : Type 0} (code : A → ℕ) (v : Bool) (b k : ℕ) (x y : A) (rest : Option A) → eqb b k ≡ v → code y ≡ k → cond v (Some y) rest ≡ Some x →
+    (rest ≡ Some x → code x ≡ b) → code x ≡ b
 listed code true b k x y rest is named e more = let same : y ≡ x = cc in ap code (sym same) ∙ named ∙ sym (eqb-true b k is)
 listed code false b k x y rest is named e more = more e
 

@@ -6,9 +6,17 @@ use Rattle.wasm_code.specs.Body.{SpellsAll, AreSpelled, joined, placed, shifted,
 
 pub all_joined : (start : ℕ) (xs : List (Operator × List ℕ)) → AreSpelled xs → SpellsAll (placed start xs) start (joined xs)
 all_joined start [] s = refl
-all_joined start (x ∷ xs) s = record { front = x.1; back = joined xs; parts = refl; offset = refl; spells = s.0; rest = all_joined (start + length x.1) xs s.1 }
+all_joined start (x ∷ xs) s = record {
+  front = x.1;
+  back = joined xs;
+  parts = refl;
+  offset = refl;
+  spells = s.0;
+  rest = all_joined (start + length x.1) xs s.1;
+}
 
-pub all_append : (xs ys : List (Operator × ℕ)) (start : ℕ) (a b : List ℕ) → SpellsAll xs start a → SpellsAll ys (start + length a) b → SpellsAll (xs ++ ys) start (a ++ b)
+pub all_append : (xs ys : List (Operator × ℕ)) (start : ℕ) (a b : List ℕ) → SpellsAll xs start a → SpellsAll ys (start + length a) b →
+    SpellsAll (xs ++ ys) start (a ++ b)
 all_append [] ys start a b p q =
     let same : b ≡ a ++ b = ap (λ (t : List ℕ). t ++ b) (sym p) in
     let at : start + length a ≡ start = omega (arith, ap length p) in

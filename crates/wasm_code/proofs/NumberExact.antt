@@ -25,12 +25,17 @@ group_takes (suc most) (b ∷ bytes) x e =
     elim (cases_lt b 128) [
       | inl lt ↦
           let e' = rw (lt-ltb _ _ lt) at e in
-          subst (λ (y : List ℕ × List ℕ). IsTaken (suc most) (b ∷ bytes) y.0 y.1) (ok_is (b ∷ [], bytes) x e') (record { parts = refl; group = lt; short = omega arith })
+          subst (λ (y : List ℕ × List ℕ). IsTaken (suc most) (b ∷ bytes) y.0 y.1) (ok_is (b ∷ [], bytes) x e') (record {
+            parts = refl;
+            group = lt;
+            short = omega arith;
+          })
       | inr le ↦
           let e' = rw (le-ltb _ _ le) at e in
           let a = bind_ok (group_at most bytes) (λ g. Ok (b ∷ g.0, g.1)) x e' in
           let t = group_takes most bytes a.0 a.1 in
-          subst (λ (y : List ℕ × List ℕ). IsTaken (suc most) (b ∷ bytes) y.0 y.1) (ok_is (b ∷ a.0.0, a.0.1) x a.2) (record { parts = ap (λ (l : List ℕ). b ∷ l) t.parts; group = more_group b a.0.0 le t.group; short = omega (arith, t.short) })
+          subst (λ (y : List ℕ × List ℕ). IsTaken (suc most) (b ∷ bytes) y.0 y.1) (ok_is (b ∷ a.0.0, a.0.1) x a.2)
+          (record { parts = ap (λ (l : List ℕ). b ∷ l) t.parts; group = more_group b a.0.0 le t.group; short = omega (arith, t.short) })
     ]
 
 pub group_again : (most : ℕ) (group rest : List ℕ) → IsGroup group → length group ≤ most → group_at most (group ++ rest) ≡ Ok (group, rest)
@@ -59,14 +64,27 @@ FailsGroup most bytes BadImmediate = ⊥
 
 one_later : (most b : ℕ) (bytes : List ℕ) (c : Cause) → 128 ≤ b → FailsGroup most bytes c → FailsGroup (suc most) (b ∷ bytes) c
 one_later most b bytes Truncated high s = record { high = (high, s.high); short = omega (arith, s.short) }
-one_later most b bytes BadInteger high s = record { front = b ∷ s.front; back = s.back; parts = ap (λ (l : List ℕ). b ∷ l) s.parts; high = (high, s.high); long = omega (arith, s.long) }
+one_later most b bytes BadInteger high s = record {
+  front = b ∷ s.front;
+  back = s.back;
+  parts = ap (λ (l : List ℕ). b ∷ l) s.parts;
+  high = (high, s.high);
+  long = omega (arith, s.long);
+}
 one_later most b bytes UnknownOpcode high s = s
 one_later most b bytes BadImmediate high s = s
 
 group_stops : (most : ℕ) (bytes : List ℕ) (c : Cause) → group_at most bytes ≡ Err c → FailsGroup most bytes c
 unfolding group_at
-group_stops zero bytes c e = subst (FailsGroup zero bytes) (err_is {A = List ℕ × List ℕ} BadInteger c e) (record { front = []; back = bytes; parts = refl; high = tt; long = refl })
-group_stops (suc most) [] c e = subst (FailsGroup (suc most) []) (err_is {A = List ℕ × List ℕ} Truncated c e) (record { high = tt; short = omega arith })
+group_stops zero bytes c e = subst (FailsGroup zero bytes) (err_is {A = List ℕ × List ℕ} BadInteger c e) (record {
+  front = [];
+  back = bytes;
+  parts = refl;
+  high = tt;
+  long = refl;
+})
+group_stops (suc most) [] c e = subst (FailsGroup (suc most) []) (err_is {A = List ℕ × List ℕ} Truncated c e)
+    (record { high = tt; short = omega arith })
 group_stops (suc most) (b ∷ bytes) c e =
     elim (cases_lt b 128) [
       | inl lt ↦ let e' = rw (lt-ltb _ _ lt) at e in absurd cc
@@ -106,7 +124,14 @@ unsigned_stops bits bytes c e =
       | inr there ↦
           let g = refused (ltb (value there.0.0) (2 ^ bits)) BadInteger c (value there.0.0, there.0.1) there.2 in
           let t = group_takes (most_bytes bits) bytes there.0 there.1 in
-          subst (FailsUnsigned bits bytes) g.1 (inr (record { group = there.0.0; rest = there.0.1; parts = t.parts; is_group = t.group; short = t.short; out = ltb-false _ _ g.0 }))
+          subst (FailsUnsigned bits bytes) g.1 (inr (record {
+            group = there.0.0;
+            rest = there.0.1;
+            parts = t.parts;
+            is_group = t.group;
+            short = t.short;
+            out = ltb-false _ _ g.0;
+          }))
     ]
 
 unsigned_fails : (bits : ℕ) (bytes : List ℕ) (c : Cause) → FailsUnsigned bits bytes c → unsigned_at bits bytes ≡ Err c
@@ -124,12 +149,23 @@ pub unsigned_exact : (bits : ℕ) → Exact (SpellsUnsigned bits) (FailsUnsigned
 unfolding below_at
 unsigned_exact bits = record {
   takes = λ bytes n rest e.
-      let a = bind_ok (group_at (most_bytes bits) bytes) (λ g. cond (ltb (value g.0) (2 ^ bits)) (Ok (value g.0, g.1)) (Err BadInteger)) (n, rest) e in
+      let a = bind_ok (group_at (most_bytes bits) bytes) (λ g. cond (ltb (value g.0) (2 ^ bits)) (Ok (value g.0, g.1)) (Err BadInteger)) (
+        n,
+        rest,
+      ) e in
       let g = passed (ltb (value a.0.0) (2 ^ bits)) BadInteger (value a.0.0, a.0.1) (n, rest) a.2 in
       let t = group_takes (most_bytes bits) bytes a.0 a.1 in
       let n-is : value a.0.0 ≡ n = ap (λ (p : ℕ × List ℕ). p.0) g.1 in
-      let rest-is : a.0.1 ≡ rest = ap (λ (p : ℕ × List ℕ). p.1) g.1 in
-      (a.0.0, t.parts ∙ ap (λ (r : List ℕ). a.0.0 ++ r) rest-is, record { group = t.group; short = t.short; is = n-is; fits = subst (λ (m : ℕ). m < 2 ^ bits) n-is (ltb-true _ _ g.0) });
+      let rest-is : a.0.1 ≡ rest = ap (λ (p : ℕ × List ℕ). p.1) g.1 in (
+        a.0.0,
+        t.parts ∙ ap (λ (r : List ℕ). a.0.0 ++ r) rest-is,
+        record {
+          group = t.group;
+          short = t.short;
+          is = n-is;
+          fits = subst (λ (m : ℕ). m < 2 ^ bits) n-is (ltb-true _ _ g.0);
+        },
+      );
   again = λ text rest n s.
       let test : ltb (value text) (2 ^ bits) ≡ true = lt-ltb _ _ (rw s.is s.fits) in
       rw (group_again (most_bytes bits) text rest s.group s.short, test, s.is) refl;
@@ -159,12 +195,20 @@ signed_stops : (bits : ℕ) (bytes : List ℕ) (c : Cause) → signed_at bits by
 unfolding within_at
 signed_stops bits bytes c e =
     let half = 2 ^ (bits - 1) in
-    elim (bind_err (group_at (most_bytes bits) bytes) (λ g. cond (fits_half half (signed_value g.0)) (Ok (signed_value g.0, g.1)) (Err BadInteger)) c e) [
+    elim (bind_err (group_at (most_bytes bits) bytes) (λ g. cond (fits_half half (signed_value g.0)) (Ok (signed_value g.0, g.1))
+    (Err BadInteger)) c e) [
       | inl here ↦ number_of (IsOutside half) (most_bytes bits) bytes c (group_stops (most_bytes bits) bytes c here)
       | inr there ↦
           let g = refused (fits_half half (signed_value there.0.0)) BadInteger c (signed_value there.0.0, there.0.1) there.2 in
           let t = group_takes (most_bytes bits) bytes there.0 there.1 in
-          subst (FailsSigned bits bytes) g.1 (inr (record { group = there.0.0; rest = there.0.1; parts = t.parts; is_group = t.group; short = t.short; out = outside_of half (signed_value there.0.0) g.0 }))
+          subst (FailsSigned bits bytes) g.1 (inr (record {
+            group = there.0.0;
+            rest = there.0.1;
+            parts = t.parts;
+            is_group = t.group;
+            short = t.short;
+            out = outside_of half (signed_value there.0.0) g.0;
+          }))
     ]
 
 signed_fails : (bits : ℕ) (bytes : List ℕ) (c : Cause) → FailsSigned bits bytes c → signed_at bits bytes ≡ Err c
@@ -173,7 +217,11 @@ signed_fails bits bytes Truncated s = rw (high_ends (most_bytes bits) bytes s.hi
 signed_fails bits bytes BadInteger s =
     elim s [
       | inl long ↦ rw (long.parts, high_goes_on (most_bytes bits) long.front long.back long.high long.long) refl
-      | inr out ↦ rw (out.parts, group_again (most_bytes bits) out.group out.rest out.is_group out.short, outside-fits_half (2 ^ (bits - 1)) (signed_value out.group) out.out) refl
+      | inr out ↦ rw (
+        out.parts,
+        group_again (most_bytes bits) out.group out.rest out.is_group out.short,
+        outside-fits_half (2 ^ (bits - 1)) (signed_value out.group) out.out,
+      ) refl
     ]
 signed_fails bits bytes UnknownOpcode s = absurd s
 signed_fails bits bytes BadImmediate s = absurd s
@@ -183,13 +231,23 @@ unfolding within_at
 signed_exact bits = record {
   takes = λ bytes z rest e.
       let half = 2 ^ (bits - 1) in
-      let a = bind_ok (group_at (most_bytes bits) bytes) (λ g. cond (fits_half half (signed_value g.0)) (Ok (signed_value g.0, g.1)) (Err BadInteger)) (z, rest) e in
+      let a = bind_ok (group_at (most_bytes bits) bytes) (λ g. cond (fits_half half (signed_value g.0)) (Ok (signed_value g.0, g.1)) (Err BadInteger))
+      (z, rest) e in
       let g = passed (fits_half half (signed_value a.0.0)) BadInteger (signed_value a.0.0, a.0.1) (z, rest) a.2 in
       let t = group_takes (most_bytes bits) bytes a.0 a.1 in
       let z-is : signed_value a.0.0 ≡ z = ap (λ (p : ℤ × List ℕ). p.0) g.1 in
       let rest-is : a.0.1 ≡ rest = ap (λ (p : ℤ × List ℕ). p.1) g.1 in
-      let w = fits_half-within half (signed_value a.0.0) g.0 in
-      (a.0.0, t.parts ∙ ap (λ (r : List ℕ). a.0.0 ++ r) rest-is, record { group = t.group; short = t.short; is = z-is; low = subst (λ (y : ℤ). neg_ℤ (pos half) ≤ℤ y) z-is w.0; high = subst (λ (y : ℤ). y <ℤ pos half) z-is w.1 });
+      let w = fits_half-within half (signed_value a.0.0) g.0 in (
+        a.0.0,
+        t.parts ∙ ap (λ (r : List ℕ). a.0.0 ++ r) rest-is,
+        record {
+          group = t.group;
+          short = t.short;
+          is = z-is;
+          low = subst (λ (y : ℤ). neg_ℤ (pos half) ≤ℤ y) z-is w.0;
+          high = subst (λ (y : ℤ). y <ℤ pos half) z-is w.1;
+        },
+      );
   again = λ text rest z s.
       let half = 2 ^ (bits - 1) in
       let test : fits_half half (signed_value text) ≡ true = ap (fits_half half) s.is ∙ within-fits_half half z s.low s.high in

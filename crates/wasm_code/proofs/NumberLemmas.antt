@@ -14,7 +14,8 @@ use Rattle.std.proofs.lemmas.Int.{ints}
 abbrev pub with_front : List ℕ → Result (List ℕ × List ℕ) Cause → Result (List ℕ × List ℕ) Cause
 with_front front read = read >>= λ g. Ok (front ++ g.0, g.1)
 
-regroup : (front : List ℕ) (b : ℕ) (r : Result (List ℕ × List ℕ) Cause) → with_front front (r >>= λ g. Ok (b ∷ g.0, g.1)) ≡ with_front (front ++ b ∷ []) r
+regroup : (front : List ℕ) (b : ℕ) (r : Result (List ℕ × List ℕ) Cause) → with_front front (r >>= λ g. Ok (b ∷ g.0, g.1))
+    ≡ with_front (front ++ b ∷ []) r
 regroup front b (Ok x) = ap (λ (l : List ℕ). Ok (l, x.1)) (simp append_assoc)
 regroup front b (Err f) = refl
 
@@ -22,16 +23,19 @@ abbrev pub At : ℕ → List ℕ → ℕ → Result (List ℕ × List ℕ) Cause
 At most bytes i = with_front (take i bytes) (group_at (most - i) (drop i bytes))
 
 pub begins : (most : ℕ) (bytes : List ℕ) → At most bytes 0 ≡ group_at most bytes
-begins most bytes = let k : most - 0 ≡ most = omega arith in rw k (elim (group_at most bytes) as (λ r. with_front [] r ≡ r) [ Ok x ↦ refl | Err e ↦ refl ])
+begins most bytes = let k : most - 0 ≡ most = omega arith in
+    rw k (elim (group_at most bytes) as (λ r. with_front [] r ≡ r) [ Ok x ↦ refl | Err e ↦ refl ])
 
 pub goes_on : (most : ℕ) (bytes : List ℕ) (i : ℕ) → i < most → i < length bytes → 128 ≤ get_or bytes i 0 → At most bytes i ≡ At most bytes (i + 1)
 unfolding group_at
 goes_on most bytes i lt in_range high =
     let k : most - i ≡ suc (most - (i + 1)) = omega arith in
     let test : ltb (get_or bytes i 0) 128 ≡ false = le-ltb _ _ high in
-    rw (k, drop_more bytes i 0 in_range, test, take_more bytes i 0 in_range) (regroup (take i bytes) (get_or bytes i 0) (group_at (most - (i + 1)) (drop (i + 1) bytes)))
+    rw (k, drop_more bytes i 0 in_range, test, take_more bytes i 0 in_range) (regroup (take i bytes) (get_or bytes i 0)
+    (group_at (most - (i + 1)) (drop (i + 1) bytes)))
 
-pub found : (most : ℕ) (bytes : List ℕ) (i : ℕ) → i < most → i < length bytes → get_or bytes i 0 < 128 → At most bytes i ≡ Ok (take (i + 1) bytes, drop (i + 1) bytes)
+pub found : (most : ℕ) (bytes : List ℕ) (i : ℕ) → i < most → i < length bytes → get_or bytes i 0 < 128 →
+    At most bytes i ≡ Ok (take (i + 1) bytes, drop (i + 1) bytes)
 unfolding group_at
 found most bytes i lt in_range low =
     let k : most - i ≡ suc (most - (i + 1)) = omega arith in
@@ -61,7 +65,12 @@ value_step bytes i sum scale total lt h = let e = rw (drop_more bytes i 0 lt) at
 -- what is added next fits
 pub value_fits : (bytes : List ℕ) (i sum scale : ℕ) → length bytes ≤ 10 → i < length bytes → sum + scale * value (drop i bytes) ≡ value bytes
     → sum + get_or bytes i 0 % 128 * scale < 2 ^ 70
-value_fits bytes i sum scale short lt h = omega (arith, value_step bytes i sum scale (value bytes) lt h, value_below bytes, pow-le-pow_right {n = 128} (omega arith) short)
+value_fits bytes i sum scale short lt h = omega (
+  arith,
+  value_step bytes i sum scale (value bytes) lt h,
+  value_below bytes,
+  pow-le-pow_right {n = 128} (omega arith) short,
+)
 
 pub scale_fits : (i n scale : ℕ) → n ≤ 10 → i < n → scale ≡ 128 ^ i → scale * 128 ≤ 128 ^ 10
 scale_fits i n scale short lt e =
@@ -79,7 +88,8 @@ negative_at half most bytes group rest e high lt =
     let l : ltb (128 ^ length group - 1 - value group) half ≡ true = lt-ltb _ _ lt in
     rw (e, n, less_power (value group) (128 ^ length group) (value_below group), l) refl
 
-pub done_below : (group : List ℕ) (i sum scale : ℕ) → length group ≤ i → i ≤ length group → sum + scale * value (drop i group) ≡ value group → scale ≡ 128 ^ i → sum < scale
+pub done_below : (group : List ℕ) (i sum scale : ℕ) → length group ≤ i → i ≤ length group → sum + scale * value (drop i group) ≡ value group →
+    scale ≡ 128 ^ i → sum < scale
 done_below group i sum scale past in_range h e =
     let same : i ≡ length group = omega arith in
     rw (e, same) (omega (arith, value_below group, h))
@@ -105,7 +115,8 @@ short_unsigned limit (suc most) b rest some low fits =
     let lt : b < limit = omega arith in
     rw (lt-ltb b 128 low, is, lt-ltb b limit lt) refl
 
-pub one_unsigned : (limit most : ℕ) (bytes : List ℕ) → 1 ≤ most → 1 ≤ length bytes → get_or bytes 0 0 < 128 → 128 ≤ limit → OneByte (below_at limit most) bytes (get_or bytes 0 0)
+pub one_unsigned : (limit most : ℕ) (bytes : List ℕ) → 1 ≤ most → 1 ≤ length bytes → get_or bytes 0 0 < 128 → 128 ≤ limit →
+    OneByte (below_at limit most) bytes (get_or bytes 0 0)
 one_unsigned limit most [] some has low fits = absurd (omega (arith, has))
 one_unsigned limit most (b ∷ rest) some has low fits = short_unsigned limit most b rest some low fits ∙ ap (λ (r : List ℕ). Ok (b, r)) (rest_is rest)
 
@@ -118,11 +129,14 @@ short_positive half (suc most) b rest some low fits =
     let lt : b < half = omega arith in
     rw (lt-ltb b 128 below, lt-leb 64 b low, is, lt-ltb b half lt) refl
 
-pub one_positive : (half most : ℕ) (bytes : List ℕ) → 1 ≤ most → 1 ≤ length bytes → get_or bytes 0 0 < 64 → 64 ≤ half → OneByte (within_at half most) bytes (pos (get_or bytes 0 0))
+pub one_positive : (half most : ℕ) (bytes : List ℕ) → 1 ≤ most → 1 ≤ length bytes → get_or bytes 0 0 < 64 → 64 ≤ half →
+    OneByte (within_at half most) bytes (pos (get_or bytes 0 0))
 one_positive half most [] some has low fits = absurd (omega (arith, has))
-one_positive half most (b ∷ rest) some has low fits = short_positive half most b rest some low fits ∙ ap (λ (r : List ℕ). Ok (pos b, r)) (rest_is rest)
+one_positive half most (b ∷ rest) some has low fits = short_positive half most b rest some low fits
+    ∙ ap (λ (r : List ℕ). Ok (pos b, r)) (rest_is rest)
 
-short_negative : (half most b : ℕ) (rest : List ℕ) → 1 ≤ most → 64 ≤ b → b < 128 → 64 ≤ half → within_at half most (b ∷ rest) ≡ Ok (negsuc (127 - b), rest)
+short_negative : (half most b : ℕ) (rest : List ℕ) → 1 ≤ most → 64 ≤ b → b < 128 → 64 ≤ half →
+    within_at half most (b ∷ rest) ≡ Ok (negsuc (127 - b), rest)
 unfolding within_at group_at
 short_negative half zero b rest some high low fits = absurd (omega (arith, some))
 short_negative half (suc most) b rest some high low fits =
@@ -130,9 +144,11 @@ short_negative half (suc most) b rest some high low fits =
     let lt : 127 - b < half = omega arith in
     rw (lt-ltb b 128 low, le-leb 64 b high, is, less_power b 128 low, lt-ltb (127 - b) half lt) refl
 
-pub one_negative : (half most : ℕ) (bytes : List ℕ) → 1 ≤ most → 1 ≤ length bytes → 64 ≤ get_or bytes 0 0 → get_or bytes 0 0 < 128 → 64 ≤ half → OneByte (within_at half most) bytes (negsuc (127 - get_or bytes 0 0))
+pub one_negative : (half most : ℕ) (bytes : List ℕ) → 1 ≤ most → 1 ≤ length bytes → 64 ≤ get_or bytes 0 0 → get_or bytes 0 0 < 128 → 64 ≤ half →
+    OneByte (within_at half most) bytes (negsuc (127 - get_or bytes 0 0))
 one_negative half most [] some has high low fits = absurd (omega (arith, has))
-one_negative half most (b ∷ rest) some has high low fits = short_negative half most b rest some high low fits ∙ ap (λ (r : List ℕ). Ok (negsuc (127 - b), r)) (rest_is rest)
+one_negative half most (b ∷ rest) some has high low fits = short_negative half most b rest some high low fits
+    ∙ ap (λ (r : List ℕ). Ok (negsuc (127 - b), r)) (rest_is rest)
 
 -- what the code computes for a negative number of one byte
 pub byte_less : (b : ℕ) → 64 ≤ b → b < 128 → negsuc (127 - b) ≡ to_z w64 (of_z w64 (to_z w64 b -ℤ pos 128))

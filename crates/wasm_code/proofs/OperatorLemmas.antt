@@ -95,7 +95,12 @@ cause_is : (c d : Cause) → refused c ≡ refused d → c ≡ d
 cause_is c d e = cc
 
 formed_exact : (o : Opcode) (d : Option Form) → form_of o ≡ d → Exact (SpellsFormed d) (FailsFormed d) (formed_at d)
-formed_exact o None e = record { takes = λ bytes y rest e. absurd cc; again = λ text rest y s. absurd s; stops = λ bytes c e. cause_is UnknownOpcode c e; fails = λ bytes c f. rw f refl }
+formed_exact o None e = record {
+  takes = λ bytes y rest e. absurd cc;
+  again = λ text rest y s. absurd s;
+  stops = λ bytes c e. cause_is UnknownOpcode c e;
+  fails = λ bytes c f. rw f refl;
+}
 formed_exact o (Some f) e = let x = form_exact f (form_is o f e) in record { takes = x.takes; again = x.again; stops = x.stops; fails = x.fails }
 
 -- ---- a select with value types
@@ -120,7 +125,8 @@ select_to o true n t text h is s =
     record { row = typed_select; at = row.0; opcode = sym h; imm = subst (λ (k : ℕ). SpellsTypes text (k, Some t)) (eqb-true n 1 is) s }
 select_to o false n t text h is s = (h, eqb-false n 1 is, s)
 
-select_behind : (o : Opcode) (n : ℕ) (first : Option ValType) (text : List ℕ) → o ≡ Byte 28 → SpellsTypes text (n, first) → SpellsBehind o text (select_of n first)
+select_behind : (o : Opcode) (n : ℕ) (first : Option ValType) (text : List ℕ) → o ≡ Byte 28 → SpellsTypes text (n, first) →
+    SpellsBehind o text (select_of n first)
 select_behind o n None text h s = (h, none_counted text n s, s)
 select_behind o n (Some t) text h s = select_to o (eqb n 1) n t text h refl s
 
@@ -131,7 +137,12 @@ some_counted n (Some t) other = rw (ne_eqb n 1 other) refl
 -- ---- the two grammars say the same
 
 to_behind : (o : Opcode) (f : Form) (text : List ℕ) (x : Operator) → HasForm f o → SpellsForm f text x → SpellsBehind o text x
-to_behind o (form.Row number row) text x h s = subst (λ (y : Operator). SpellsBehind o text y) s.made (record { row = row; at = h.0; opcode = h.1; imm = s.spells })
+to_behind o (form.Row number row) text x h s = subst (λ (y : Operator). SpellsBehind o text y) s.made (record {
+  row = row;
+  at = h.0;
+  opcode = h.1;
+  imm = s.spells;
+})
 to_behind o form.Unreachable text x h s = subst (λ (y : Operator). SpellsBehind o text y) s.1 (h, s.0)
 to_behind o form.Block text x h s = subst (λ (y : Operator). SpellsBehind o text y) s.made (h, s.spells)
 to_behind o form.Loop text x h s = subst (λ (y : Operator). SpellsBehind o text y) s.made (h, s.spells)
@@ -175,15 +186,18 @@ is_select (Byte b) = by_test (eqb b 28) refl
 is_select (Fc n) = inr (λ e. absurd cc)
 is_select (Fd n) = inr (λ e. absurd cc)
 
-from_instr : (o : Opcode) (text : List ℕ) (number : ℕ) (i : Imm) (row : Row) → row_at number ≡ Some row → row.opcode ≡ o → SpellsImm row.kind text i → SpellsFormed (form_of o) text (op.Instr (record { row = number; imm = i }))
+from_instr : (o : Opcode) (text : List ℕ) (number : ℕ) (i : Imm) (row : Row) → row_at number ≡ Some row → row.opcode ≡ o → SpellsImm row.kind text i →
+    SpellsFormed (form_of o) text (op.Instr (record { row = number; imm = i }))
 from_instr o text number i row at is s =
     elim (is_select o) [
       | inl h ↦
           let same = select_is o number row h at is in
           let s' : SpellsOneType text i = subst (λ (r : Row). SpellsImm r.kind text i) (sym same.1) s in
           subst (λ (k : ℕ). SpellsFormed (form_of o) text (op.Instr (record { row = k; imm = i }))) same.0
-          (formed o form.TypedSelect text (op.Instr (record { row = 445; imm = i })) (at_byte o 28 form.TypedSelect h select_formed) (one_type text i s'))
-      | inr plain ↦ formed o (form.Row number row) text (op.Instr (record { row = number; imm = i })) (row_formed o number row (with_opcode number row o at is) plain) (record { value = i; spells = s; made = refl })
+          (formed o form.TypedSelect text (op.Instr (record { row = 445; imm = i })) (at_byte o 28 form.TypedSelect h select_formed)
+          (one_type text i s'))
+      | inr plain ↦ formed o (form.Row number row) text (op.Instr (record { row = number; imm = i }))
+          (row_formed o number row (with_opcode number row o at is) plain) (record { value = i; spells = s; made = refl })
     ]
 
 from_behind : (o : Opcode) (text : List ℕ) (x : Operator) → SpellsBehind o text x → SpellsFormed (form_of o) text x
@@ -197,10 +211,16 @@ from_behind o text op.Else s = formed o form.Else text _ (at_byte o 5 form.Else 
 from_behind o text op.End s = formed o form.End text _ (at_byte o 11 form.End s.0 refl) (s.1, refl)
 from_behind o text (op.Br n) s = formed o form.Br text _ (at_byte o 12 form.Br s.0 refl) (record { value = n; spells = s.1; made = refl })
 from_behind o text (op.BrIf n) s = formed o form.BrIf text _ (at_byte o 13 form.BrIf s.0 refl) (record { value = n; spells = s.1; made = refl })
-from_behind o text (op.BrTable n) s = formed o form.BrTable text _ (at_byte o 14 form.BrTable s.0 refl) (record { value = n; spells = s.1; made = refl })
+from_behind o text (op.BrTable n) s = formed o form.BrTable text _ (at_byte o 14 form.BrTable s.0 refl) (record {
+  value = n;
+  spells = s.1;
+  made = refl;
+})
 from_behind o text op.Return s = formed o form.Return text _ (at_byte o 15 form.Return s.0 refl) (s.1, refl)
-from_behind o text (op.CallIndirect a b) s = formed o form.CallIndirect text _ (at_byte o 17 form.CallIndirect s.0 refl) (record { value = (a, b); spells = s.1; made = refl })
-from_behind o text (op.TypedSelect n first) s = formed o form.TypedSelect text _ (at_byte o 28 form.TypedSelect s.0 refl) (record { value = (n, first); spells = s.2; made = some_counted n first s.1 })
+from_behind o text (op.CallIndirect a b) s = formed o form.CallIndirect text _ (at_byte o 17 form.CallIndirect s.0 refl)
+    (record { value = (a, b); spells = s.1; made = refl })
+from_behind o text (op.TypedSelect n first) s = formed o form.TypedSelect text _ (at_byte o 28 form.TypedSelect s.0 refl)
+    (record { value = (n, first); spells = s.2; made = some_counted n first s.1 })
 
 -- ---- the faults are the same
 
@@ -233,8 +253,10 @@ from_row o bytes c s =
     elim (is_select o) [
       | inl h ↦
           let same = select_is o s.number s.row h s.at s.opcode in
-          formed_fails o form.TypedSelect bytes c (at_byte o 28 form.TypedSelect h select_formed) (subst (λ (r : Row). FailsImm r.kind bytes c) (sym same.1) s.imm)
-      | inr plain ↦ formed_fails o (form.Row s.number s.row) bytes c (row_formed o s.number s.row (with_opcode s.number s.row o s.at s.opcode) plain) s.imm
+          formed_fails o form.TypedSelect bytes c (at_byte o 28 form.TypedSelect h select_formed) (subst (λ (r : Row). FailsImm r.kind bytes c)
+          (sym same.1) s.imm)
+      | inr plain ↦ formed_fails o (form.Row s.number s.row) bytes c
+          (row_formed o s.number s.row (with_opcode s.number s.row o s.at s.opcode) plain) s.imm
     ]
 
 from_block : (o : Opcode) (bytes : List ℕ) (c : Cause) → IsOneOf o (2 ∷ 3 ∷ 4 ∷ []) → FailsBlockType bytes c → FailsFormed (form_of o) bytes c
@@ -256,7 +278,8 @@ from_branch o bytes c one s =
       | inr last ↦ elim last [ inl h ↦ formed_fails o form.BrIf bytes c (at_byte o 13 form.BrIf h refl) s | inr none ↦ absurd none ]
     ]
 
-from_one : (o : Opcode) (k : ℕ) (f : Form) (bytes : List ℕ) (c : Cause) → form_of (Byte k) ≡ Some f → IsOneOf o (k ∷ []) → FailsForm f bytes c → FailsFormed (form_of o) bytes c
+from_one : (o : Opcode) (k : ℕ) (f : Form) (bytes : List ℕ) (c : Cause) → form_of (Byte k) ≡ Some f → IsOneOf o (k ∷ []) → FailsForm f bytes c →
+    FailsFormed (form_of o) bytes c
 from_one o k f bytes c is one s = elim one [ inl h ↦ formed_fails o f bytes c (at_byte o k f h is) s | inr none ↦ absurd none ]
 
 from_control : (o : Opcode) (bytes : List ℕ) (c : Cause) → FailsControl o bytes c → FailsFormed (form_of o) bytes c
@@ -284,7 +307,8 @@ from_fails o bytes c s =
     ]
 
 behind_exact : (o : Opcode) → Exact (SpellsBehind o) (FailsBehindOpcode o) (formed_at (form_of o))
-behind_exact o = exact_same (λ text x. to_formed o (form_of o) text x refl) (from_behind o) (λ bytes c. to_formed_fails o (form_of o) bytes c refl) (from_fails o) (formed_exact o (form_of o) refl)
+behind_exact o = exact_same (λ text x. to_formed o (form_of o) text x refl) (from_behind o) (λ bytes c. to_formed_fails o (form_of o) bytes c refl)
+    (from_fails o) (formed_exact o (form_of o) refl)
 
 pub operator_exact : Exact Spells Fails operator_at
 unfolding operator_at
@@ -296,7 +320,8 @@ abbrev read : Operator × List ℕ → Result (Operator × List ℕ) Cause
 read p = Ok p
 
 pair_is : (m n : Operator) (x y : List ℕ) → read (m, x) ≡ read (n, y) → (m ≡ n) × (x ≡ y)
-pair_is m n x y e = let p = ok_is {A = Operator × List ℕ} (m, x) (n, y) e in (ap (λ (r : Operator × List ℕ). r.0) p, ap (λ (r : Operator × List ℕ). r.1) p)
+pair_is m n x y e = let p = ok_is {A = Operator × List ℕ} (m, x) (n, y) e in
+    (ap (λ (r : Operator × List ℕ). r.0) p, ap (λ (r : Operator × List ℕ). r.1) p)
 
 -- No spelling begins another spelling, and a spelling spells one operator.
 pub one_spelling : (a b x y : List ℕ) (m n : Operator) → Spells a m → Spells b n → a ++ x ≡ b ++ y → (m ≡ n) × (x ≡ y)

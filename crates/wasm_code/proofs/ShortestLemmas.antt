@@ -51,14 +51,18 @@ pub form_last : (negative : Bool) (n : ℕ) → n < 64 → signed_form negative 
 unfolding signed_form signed_within
 form_last negative n lt = rw (lt-ltb n 64 lt) refl
 
-pub form_step : (negative : Bool) (n : ℕ) → 64 ≤ n → n < 2 ^ 64 → signed_form negative n ≡ (low_bits negative n + 128) ∷ signed_form negative (n / 128)
+pub form_step : (negative : Bool) (n : ℕ) → 64 ≤ n → n < 2 ^ 64 → signed_form negative n ≡ (low_bits negative n + 128) ∷ signed_form negative
+    (n / 128)
 unfolding signed_form signed_within
-form_step negative n big lt = rw (le-ltb n 64 big) (ap (λ (l : List ℕ). (low_bits negative n + 128) ∷ l) (sym (form_more 8 negative (n / 128) (omega arith))))
+form_step negative n big lt = rw (le-ltb n 64 big) (ap (λ (l : List ℕ). (low_bits negative n + 128) ∷ l)
+    (sym (form_more 8 negative (n / 128) (omega arith))))
 
 -- ---- a loop that pushes one byte after another
 
-pub shift : (items items' tail more total : List ℕ) (b : ℕ) → items' ≡ items ++ b ∷ [] → tail ≡ b ∷ more → items ++ tail ≡ total → items' ++ more ≡ total
-shift items items' tail more total b p t e = ap (λ (l : List ℕ). l ++ more) p ∙ append_assoc items (b ∷ []) more ∙ ap (λ (l : List ℕ). items ++ l) (sym t) ∙ e
+pub shift : (items items' tail more total : List ℕ) (b : ℕ) → items' ≡ items ++ b ∷ [] → tail ≡ b ∷ more → items ++ tail ≡ total →
+    items' ++ more ≡ total
+shift items items' tail more total b p t e = ap (λ (l : List ℕ). l ++ more) p ∙ append_assoc items (b ∷ []) more
+    ∙ ap (λ (l : List ℕ). items ++ l) (sym t) ∙ e
 
 pub finish : (items items' tail total : List ℕ) (b : ℕ) → items' ≡ items ++ b ∷ [] → tail ≡ b ∷ [] → items ++ tail ≡ total → items' ≡ total
 finish items items' tail total b p t e = p ∙ ap (λ (l : List ℕ). items ++ l) (sym t) ∙ e

@@ -47,7 +47,8 @@ all_found : found_from 0 ROWS ≡ true
 unfolding found_from dense_row is_number
 all_found = refl
 
-found_at : (from : ℕ) (rows : List Row) (k : ℕ) (o : Opcode) → found_from from rows ≡ true → opcode_in (slice_get rows k) ≡ Some o → dense_row o ≡ Some (from + k)
+found_at : (from : ℕ) (rows : List Row) (k : ℕ) (o : Opcode) → found_from from rows ≡ true → opcode_in (slice_get rows k) ≡ Some o →
+    dense_row o ≡ Some (from + k)
 unfolding found_from
 found_at from [] k o all e = absurd cc
 found_at from (row ∷ rows) zero o all e =
@@ -108,7 +109,8 @@ right_fd : right_from (λ n. Fd n) 0 FD_ROWS ≡ true
 unfolding right_from is_right is_opcode
 right_fd = refl
 
-right_at : (made : ℕ → Opcode) (from : ℕ) (cells : List ℕ) (k r : ℕ) → right_from made from cells ≡ true → cell cells k ≡ Some r → opcode_in (slice_get ROWS r) ≡ Some (made (from + k))
+right_at : (made : ℕ → Opcode) (from : ℕ) (cells : List ℕ) (k r : ℕ) → right_from made from cells ≡ true → cell cells k ≡ Some r →
+    opcode_in (slice_get ROWS r) ≡ Some (made (from + k))
 unfolding right_from is_right
 right_at made from [] k r all e = absurd cc
 right_at made from (c ∷ cells) zero r all e =
@@ -145,7 +147,8 @@ StandsIn o r n rows row = (k : ℕ) × (n ≡ r + k) × (slice_get rows k ≡ So
 behind_first : (o : Opcode) (r n : ℕ) (first : Row) (rows : List Row) (row : Row) → StandsIn o (suc r) n rows row → StandsIn o r n (first ∷ rows) row
 behind_first o r n first rows row s = (suc s.0, omega (arith, s.1), s.2, s.3)
 
-first_stands : (v : Bool) (o : Opcode) (r n : ℕ) (first : Row) (rows : List Row) (row : Row) (more : Numbered) → same_opcode first.opcode o ≡ v → cond v (Some (r, first)) more ≡ Some (n, row)
+first_stands : (v : Bool) (o : Opcode) (r n : ℕ) (first : Row) (rows : List Row) (row : Row) (more : Numbered) → same_opcode first.opcode o ≡ v →
+    cond v (Some (r, first)) more ≡ Some (n, row)
     → (more ≡ Some (n, row) → StandsIn o (suc r) n rows row) → StandsIn o r n (first ∷ rows) row
 first_stands true o r n first rows row more is e go =
     let p = some_pair_parts r n first row e in
@@ -155,9 +158,11 @@ first_stands false o r n first rows row more is e go = behind_first o r n first 
 -- a row that is found stands there, and has the opcode
 first_is : (o : Opcode) (r n : ℕ) (rows : List Row) (row : Row) → first_with o r rows ≡ Some (n, row) → StandsIn o r n rows row
 first_is o r n [] row e = absurd cc
-first_is o r n (first ∷ rows) row e = first_stands (same_opcode first.opcode o) o r n first rows row (first_with o (suc r) rows) refl e (λ e. first_is o (suc r) n rows row e)
+first_is o r n (first ∷ rows) row e = first_stands (same_opcode first.opcode o) o r n first rows row (first_with o (suc r) rows) refl e
+    (λ e. first_is o (suc r) n rows row e)
 
-first_other : (v : Bool) (o : Opcode) (r : ℕ) (first : Row) (more : Numbered) → same_opcode first.opcode o ≡ v → cond v (Some (r, first)) more ≡ None → (v ≡ false) × (more ≡ None)
+first_other : (v : Bool) (o : Opcode) (r : ℕ) (first : Row) (more : Numbered) → same_opcode first.opcode o ≡ v →
+    cond v (Some (r, first)) more ≡ None → (v ≡ false) × (more ≡ None)
 first_other true o r first more is e = absurd cc
 first_other false o r first more is e = (refl, e)
 
@@ -200,7 +205,8 @@ the_first : (n : ℕ) (row : Row) (o : Opcode) (d : Numbered) → row_with o ≡
 the_first n row o None none at is = absurd (without_row o none n (has_opcode n row o at is))
 the_first n row o (Some other) e at is =
     let p = is_by_opcode o other.0 other.1 e in
-    let same : other.0 ≡ n = some_is other.0 n (sym (found other.0 o (has_opcode other.0 other.1 o p.0 p.1)) ∙ found n o (has_opcode n row o at is)) in
+    let same : other.0 ≡ n = some_is other.0 n (sym (found other.0 o (has_opcode other.0 other.1 o p.0 p.1))
+    ∙ found n o (has_opcode n row o at is)) in
     let row_is : other.1 ≡ row = some_is other.1 row (sym p.0 ∙ ap row_at same ∙ at) in
     ap (λ (k : ℕ). let x : Numbered = Some (k, other.1) in x) same ∙ ap (λ (r : Row). let x : Numbered = Some (n, r) in x) row_is
 
@@ -270,7 +276,8 @@ rows_fit = refl
 fits_in : (rows : List Row) (n : ℕ) (row : Row) → all_fit rows ≡ true → slice_get rows n ≡ Some row → fits_test row.opcode ≡ true
 unfolding all_fit
 fits_in [] n row all e = absurd cc
-fits_in (first ∷ rows) zero row all e = subst (λ (r : Row). fits_test r.opcode ≡ true) (same_Some first row e) (both {a = fits_test first.opcode} {b = all_fit rows} all).0
+fits_in (first ∷ rows) zero row all e = subst (λ (r : Row). fits_test r.opcode ≡ true) (same_Some first row e)
+    (both {a = fits_test first.opcode} {b = all_fit rows} all).0
 fits_in (first ∷ rows) (suc n) row all e = fits_in rows n row (both {a = fits_test first.opcode} {b = all_fit rows} all).1 e
 
 pub opcode_fits : (n : ℕ) (row : Row) → row_at n ≡ Some row → fits_test row.opcode ≡ true
@@ -354,16 +361,19 @@ rows_vals : vals_listed ROWS ≡ true
 unfolding vals_listed is_val
 rows_vals = refl
 
-val_in : (rows : List Row) (n : ℕ) (row : Row) → vals_listed rows ≡ true → slice_get rows n ≡ Some row → is_val row.kind ≡ true → same_opcode row.opcode (Byte 28) ≡ true
+val_in : (rows : List Row) (n : ℕ) (row : Row) → vals_listed rows ≡ true → slice_get rows n ≡ Some row → is_val row.kind ≡ true →
+    same_opcode row.opcode (Byte 28) ≡ true
 unfolding vals_listed
 val_in [] n row all e v = absurd cc
 val_in (first ∷ rows) zero row all e v =
     let is = same_Some first row e in
-    let one : cond (is_val first.kind) (same_opcode first.opcode (Byte 28)) true ≡ true = (both {a = cond (is_val first.kind) (same_opcode first.opcode (Byte 28)) true} {b = vals_listed rows} all).0 in
+    let one : cond (is_val first.kind) (same_opcode first.opcode (Byte 28)) true ≡ true =
+    (both {a = cond (is_val first.kind) (same_opcode first.opcode (Byte 28)) true} {b = vals_listed rows} all).0 in
     let own = rw is at one in
     let own' = rw v at own in
     own'
-val_in (first ∷ rows) (suc n) row all e v = val_in rows n row (both {a = cond (is_val first.kind) (same_opcode first.opcode (Byte 28)) true} {b = vals_listed rows} all).1 e v
+val_in (first ∷ rows) (suc n) row all e v = val_in rows n row (both {a = cond (is_val first.kind) (same_opcode first.opcode (Byte 28)) true} {b =
+    vals_listed rows} all).1 e v
 
 pub val_opcode : (n : ℕ) (row : Row) → row_at n ≡ Some row → row.kind ≡ kind.Val → row.opcode ≡ Byte 28
 val_opcode n row e k = same_opcode-true _ _ (val_in ROWS n row rows_vals (sym (at_rows n) ∙ e) (is_val-true row.kind k))

@@ -209,5 +209,5 @@ info_in None = None
 info_in (Some row) = Some row.info
 
 -- what the table says of row r
-unfoldable pub info_of : ℕ → Option RowInfo
-info_of r = info_in (row_at r)
+unfoldable pub row_info_of : ℕ → Option RowInfo
+row_info_of r = info_in (row_at r)

@@ -41,7 +41,8 @@ fn operators_of(
     // What is read is spelled so.
     ensures found { IfOk result (λ v. SpellsBody from (slice_range bytes.now from to) v.items) }
     // What doesn't come from memory is the first fault.
-    ensures fault { IfErr result (λ e. IsFault from to (slice_range bytes.now from to) e.kind e.offset) }
+    ensures fault { IfErr result
+        (λ e. IsFault from to (slice_range bytes.now from to) e.kind e.offset) }
 {
     let mut found = Vec::new(alloc);
     let mut rest = &bytes[from..to];
@@ -101,7 +102,8 @@ pub fn read_body(
     ensures only { (xs : List (Operator × ℕ)) → SpellsBody from (slice_range bytes.now from to) xs
         → MatchResult result (λ v. v.items ≡ xs) (λ e. e.kind ≡ Memory) }
     // What doesn't come from memory is the first fault.
-    ensures fault { IfErr result (λ e. IsFault from to (slice_range bytes.now from to) e.kind e.offset) }
+    ensures fault { IfErr result
+        (λ e. IsFault from to (slice_range bytes.now from to) e.kind e.offset) }
 {
     operators_of(alloc, bytes, from, to)
 }

@@ -16,7 +16,8 @@ ghost use Rattle.wasm_code.specs.declared.operator.Operator.TheVariants as op;
 
 /// No spelling begins another spelling, and a spelling spells one operator.
 pub fn one_spelling()
-    ensures { (a b x y : List ℕ) (m n : Operator) → Spells a m → Spells b n → a ++ x ≡ b ++ y → (m ≡ n) × (x ≡ y) }
+    ensures { (a b x y : List ℕ) (m n : Operator) → Spells a m → Spells b n → a ++ x ≡ b ++ y
+        → (m ≡ n) × (x ≡ y) }
 {}
 
 /// The code of an instruction spells it.
@@ -26,45 +27,61 @@ pub fn code_spells()
 
 /// No spelling of an instruction has fewer bytes than its code.
 pub fn code_is_shortest()
-    ensures { (i : Instruction) (text : List ℕ) → Spells text (op.Instr i) → length (code i) ≤ length text }
+    ensures { (i : Instruction) (text : List ℕ) → Spells text (op.Instr i)
+        → length (code i) ≤ length text }
 {}
 
 /// Reading a body as a function answers its operators, or the kind and the offset of its first fault, and nothing else:
 /// every text has one of the two.
 pub fn body_at_reads()
-    ensures spelled { (start : ℕ) (text : List ℕ) (xs : List (Operator × ℕ)) → SpellsBody start text xs → body_at start text ≡ Ok xs }
-    ensures faulty { (start : ℕ) (text : List ℕ) (kind : ReadKind) (offset : ℕ) → IsFault start (start + length text) text kind offset → kind ≢ Memory → body_at start text ≡ Err (kind, offset) }
-    ensures answers { (start : ℕ) (text : List ℕ) (xs : List (Operator × ℕ)) → body_at start text ≡ Ok xs → SpellsBody start text xs }
-    ensures faults { (start : ℕ) (text : List ℕ) (kind : ReadKind) (offset : ℕ) → body_at start text ≡ Err (kind, offset) → IsFault start (start + length text) text kind offset × (kind ≢ Memory) }
+    ensures spelled { (start : ℕ) (text : List ℕ) (xs : List (Operator × ℕ))
+        → SpellsBody start text xs → body_at start text ≡ Ok xs }
+    ensures faulty { (start : ℕ) (text : List ℕ) (kind : ReadKind) (offset : ℕ)
+        → IsFault start (start + length text) text kind offset → kind ≢ Memory
+        → body_at start text ≡ Err (kind, offset) }
+    ensures answers { (start : ℕ) (text : List ℕ) (xs : List (Operator × ℕ))
+        → body_at start text ≡ Ok xs → SpellsBody start text xs }
+    ensures faults { (start : ℕ) (text : List ℕ) (kind : ReadKind) (offset : ℕ)
+        → body_at start text ≡ Err (kind, offset)
+        → IsFault start (start + length text) text kind offset × (kind ≢ Memory) }
 {}
 
 /// A joined list of spelled operators is read as that list, with its offsets.
 pub fn joined_spellings()
-    ensures { (start : ℕ) (xs : List (Operator × List ℕ)) → AreSpelled xs → SpellsAll (placed start xs) start (joined xs) }
+    ensures { (start : ℕ) (xs : List (Operator × List ℕ)) → AreSpelled xs
+        → SpellsAll (placed start xs) start (joined xs) }
 {}
 
 /// Lists of operators are joined, moved and cut as their bytes are.
 pub fn bodies_append()
-    ensures joins { (xs ys : List (Operator × ℕ)) (start : ℕ) (a b : List ℕ) → SpellsAll xs start a → SpellsAll ys (start + length a) b → SpellsAll (xs ++ ys) start (a ++ b) }
-    ensures shifts { (xs : List (Operator × ℕ)) (start by : ℕ) (text : List ℕ) → SpellsAll xs start text → SpellsAll (shifted by xs) (start + by) text }
-    ensures cuts { (xs ys : List (Operator × ℕ)) (start : ℕ) (text : List ℕ) → SpellsAll (xs ++ ys) start text → IsCut xs ys start text }
+    ensures joins { (xs ys : List (Operator × ℕ)) (start : ℕ) (a b : List ℕ) → SpellsAll xs start a
+        → SpellsAll ys (start + length a) b → SpellsAll (xs ++ ys) start (a ++ b) }
+    ensures shifts { (xs : List (Operator × ℕ)) (start by : ℕ) (text : List ℕ)
+        → SpellsAll xs start text → SpellsAll (shifted by xs) (start + by) text }
+    ensures cuts { (xs ys : List (Operator × ℕ)) (start : ℕ) (text : List ℕ)
+        → SpellsAll (xs ++ ys) start text → IsCut xs ys start text }
 {}
 
 /// Bytes spell one list of operators.
 pub fn one_list()
-    ensures { (xs ys : List (Operator × ℕ)) (start : ℕ) (text : List ℕ) → SpellsAll xs start text → SpellsAll ys start text → xs ≡ ys }
+    ensures { (xs ys : List (Operator × ℕ)) (start : ℕ) (text : List ℕ) → SpellsAll xs start text
+        → SpellsAll ys start text → xs ≡ ys }
 {}
 
 /// The shortest spelling of a number spells it, at any number of bits to 64 that it fits.
 pub fn shortest_is_a_spelling()
-    ensures unsigned { (bits n : ℕ) → 1 ≤ bits → bits ≤ 64 → n < 2 ^ bits → SpellsUnsigned bits (shortest n) n }
-    ensures signed { (bits : ℕ) (z : ℤ) → 1 ≤ bits → bits ≤ 64 → neg_ℤ (pos (2 ^ (bits - 1))) ≤ℤ z → z <ℤ pos (2 ^ (bits - 1)) → SpellsSigned bits (shortest_signed z) z }
+    ensures unsigned { (bits n : ℕ) → 1 ≤ bits → bits ≤ 64 → n < 2 ^ bits
+        → SpellsUnsigned bits (shortest n) n }
+    ensures signed { (bits : ℕ) (z : ℤ) → 1 ≤ bits → bits ≤ 64 → neg_ℤ (pos (2 ^ (bits - 1))) ≤ℤ z
+        → z <ℤ pos (2 ^ (bits - 1)) → SpellsSigned bits (shortest_signed z) z }
 {}
 
 /// No spelling of a number has fewer bytes than the shortest one.
 pub fn shortest_is_least()
-    ensures unsigned { (bits n : ℕ) (text : List ℕ) → bits ≤ 64 → SpellsUnsigned bits text n → length (shortest n) ≤ length text }
-    ensures signed { (bits : ℕ) (z : ℤ) (text : List ℕ) → bits ≤ 64 → SpellsSigned bits text z → length (shortest_signed z) ≤ length text }
+    ensures unsigned { (bits n : ℕ) (text : List ℕ) → bits ≤ 64 → SpellsUnsigned bits text n
+        → length (shortest n) ≤ length text }
+    ensures signed { (bits : ℕ) (z : ℤ) (text : List ℕ) → bits ≤ 64 → SpellsSigned bits text z
+        → length (shortest_signed z) ≤ length text }
 {}
 
 /// Two value types compare equal, by `==`, exactly where they are the same.

@@ -54,7 +54,8 @@ impl Instr {
     /// The instruction of row `row` (see `row_info`) with the immediate `imm`, or none where the table has no such row,
     /// the immediate isn't of the row's kind, or the exponent of its alignment is 64 or more.
     pub fn new(row: u16, imm: Imm) -> Option<Instr>
-        ensures some { IfSome result (λ i. (i ≡ record { row = row; imm = imm }) × IsInstruction i) }
+        ensures some { IfSome result (λ i. (i ≡ record { row = row; imm = imm })
+            × IsInstruction i) }
         ensures none { IfNone result (IsFalse (fits_row (row_at row) imm)) }
     {
         match find_row(row) {

@@ -1,6 +1,6 @@
 //! The instruction table: opcode, kind of immediate, operands, result and change of each row.
 ghost use Rattle.std.specs.Prelude.{◌≡◌, ℕ, Some, IfSome, slice_get};
-ghost use Rattle.wasm_code.specs.Table.{row_at, info_of, HasOpcode};
+ghost use Rattle.wasm_code.specs.Table.{row_at, row_info_of, HasOpcode};
 ghost use Rattle.wasm_code.specs.Finding.{row_with};
 ghost use Rattle.wasm_code.specs.Dense.{cell, dense_row};
 
@@ -145,9 +145,9 @@ pub fn row_by_opcode(op: Opcode) -> Option<(u16, Row)>
 ///
 /// Rows are numbered from 0: one-byte opcodes ascending, then those behind FC, then those behind FD (WebAssembly Core
 /// Specification 3.0, Binary Format, Instructions). Row 445 is the select with one value type.
-#[tactic(auto, unfolding(crate::specs::Table::info_of))]
+#[tactic(auto, unfolding(crate::specs::Table::row_info_of))]
 pub fn row_info(row: u16) -> Option<RowInfo>
-    ensures { result ≡ info_of row }
+    ensures { result ≡ row_info_of row }
 {
     find_row(row).map(|found| found.info)
 }

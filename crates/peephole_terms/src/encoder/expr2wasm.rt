@@ -1,12 +1,9 @@
 //! Terms as instructions.
 
-ghost use Rattle.std.specs.Prelude.{◌≡◌, ◌<◌, Some, All, IfOk, IfErr, IfSome, OnErr, IsTrue, length, map, is_some};
+ghost use Rattle.std.specs.Prelude.{◌≡◌, ◌<◌, Some, IfOk, IfErr, IfSome, OnErr, IsTrue, length, map, is_some};
 ghost use Rattle.mutate_base.specs.Config.{ChangesGeneratorAlone};
-ghost use Rattle.peephole_lang.specs.Lang.{payload_of};
-ghost use Rattle.peephole_lang.specs.Node.{head_of, children_of};
-ghost use Rattle.peephole_nodes.specs.Payload.{is_writable};
-ghost use Rattle.peephole_lang.specs.Term.{term_of};
-ghost use Rattle.peephole_terms.specs.Expansion.{AppendsCode, Refuses, setting_of, expanded, after_term, request, requests_of};
+ghost use Rattle.peephole_graphs.specs.Layout.{AreWritable};
+ghost use Rattle.peephole_terms.specs.Expansion.{AppendsCode, Refuses, setting_of, expanded, after_term, request, requests_of, term_in};
 ghost use Rattle.peephole_terms.specs.StackCode.{AppendsStackCode};
 
 use super::request::ResourceRequest;
@@ -37,21 +34,22 @@ pub fn expr2wasm<R: Rng + Drop>(
 ) -> Result<Vec<ResourceRequest>, Error>
     requires set_up { IsTrue (is_some config.old.setup) }
     requires some { 0 < length expr.now }
-    requires writable { All (λ l. IsTrue (is_writable (payload_of l))) expr.now }
+    requires writable { AreWritable expr.now }
     // What is written is the term's expansion, with the words that are drawn.
     ensures written { IfOk result (λ _. IfSome (setting_of R.stream config.old) (λ setting.
-        AppendsCode setting (term_of head_of children_of expr.now) newfunc.old newfunc.new)) }
+        AppendsCode setting (term_in expr.now) newfunc.old newfunc.new)) }
     // A typed term's code, run, leaves the term's values and state, and traps exactly where the term does.
     ensures stack_code { IfOk result (λ _. IfSome (setting_of R.stream config.old) (λ setting.
-        AppendsStackCode setting (term_of head_of children_of expr.now) newfunc.old newfunc.new)) }
+        AppendsStackCode setting (term_in expr.now) newfunc.old newfunc.new)) }
     // A global is asked for by each node that uses one.
-    ensures requests { IfOk result (λ requests. requests.items ≡ map request (requests_of (term_of head_of children_of expr.now))) }
+    ensures requests { IfOk result (λ requests.
+        requests.items ≡ map request (requests_of (term_in expr.now))) }
     // The generator stands behind the last word that was drawn.
     ensures generator { IfOk result (λ _. IfSome (setting_of R.stream config.old) (λ setting.
-        setting_of R.stream config.new ≡ Some (after_term setting (term_of head_of children_of expr.now)))) }
+        setting_of R.stream config.new ≡ Some (after_term setting (term_in expr.now)))) }
     // The expansion refuses, or memory does.
     ensures refusal { IfErr result (λ e. IfSome (setting_of R.stream config.old) (λ setting.
-        Refuses (expanded setting (term_of head_of children_of expr.now)) e)) }
+        Refuses (expanded setting (term_in expr.now)) e)) }
     // After a refusal the sink holds its old bytes.
     ensures restored { OnErr result (newfunc.new ≡ newfunc.old) }
     // Of the configuration the generator alone changes.

@@ -51,11 +51,11 @@ impl NumberType {
 }
 
 impl Kind {
-    ghost use Rattle.peephole_terms.specs.Kind.{kind_of};
+    ghost use Rattle.peephole_terms.specs.Kind.{node_kind};
 
     /// The kind of a node. The nodes without a row have the first twelve places, in the order of `Lang`'s variants.
     pub fn of(node: &Lang) -> Kind
-        ensures { result ≡ kind_of (head_of node.now) }
+        ensures { result ≡ node_kind (head_of node.now) }
     {
         match node.place() {
             0 => Kind::Random(NumberType::I32),

@@ -1,19 +1,17 @@
 //! What a node itself adds, behind its children.
 
-ghost use Rattle.std.specs.Prelude.{◌≡◌, ◌<◌, ◌++◌, List, ℕ, Ok, All, IsTrue, length, take, OnOk, IfErr};
+ghost use Rattle.std.specs.Prelude.{◌≡◌, ◌<◌, ◌++◌, [], ◌∷◌, Ok, All, IsTrue, length, take, OnOk, IfErr};
 ghost use Rattle.rand_core.specs.Stream.{Stream};
 ghost use Rattle.wasm_code.specs.Code.{code};
 ghost use Rattle.wasm_code.specs.Instruction.{fits_row};
 ghost use Rattle.wasm_code.specs.Table.{row_at};
-ghost use Rattle.peephole_lang.specs.Lang.{payload_of};
-ghost use Rattle.peephole_lang.specs.Node.{head_of, children_of};
-ghost use Rattle.peephole_lang.specs.Term.{AreBelow, tree_at, pick};
-ghost use Rattle.peephole_terms.specs.Kind.{kind_of};
-ghost use Rattle.peephole_terms.specs.Expansion.{constant, constant_in, constant_of, next_word};
-ghost use Rattle.peephole_terms.specs.EncoderSteps.{Writing, IsRefusal, IsInRange, nodes_in, own_step, split, store, take_step};
+ghost use Rattle.peephole_lang.specs.Node.{children_of};
+ghost use Rattle.peephole_lang.specs.Term.{AreBelow};
+ghost use Rattle.peephole_terms.specs.Expansion.{constant_of};
+ghost use Rattle.peephole_terms.specs.EncoderSteps.{Does, DoesAlone, draw, nodes_in, own_step_in, split, split_step_in, store, writing_of};
 
+use super::holds::Holds;
 use super::kind::{Kind, NumberType};
-use super::node::AsNode;
 use super::request::ResourceRequest;
 use mutate_base::Error;
 use peephole_lang::{Lang, Payload};
@@ -56,10 +54,8 @@ fn put(row: u16, imm: Imm, newfunc: &mut Function) -> Result<(), Error>
 // Writes a constant of a drawn word.
 #[tactic(auto, using(crate::proofs::RowLemmas::i32_const_row, crate::proofs::RowLemmas::i64_const_row, crate::proofs::RowLemmas::f32_const_row, crate::proofs::RowLemmas::f64_const_row))]
 fn write_random<R: Rng>(tpe: NumberType, rng: &mut R, newfunc: &mut Function) -> Result<(), Error>
-    ensures ok { OnOk result (newfunc.new ≡ newfunc.old ++ code (constant tpe (next_word tpe (R.stream rng.old)).0)) }
-    ensures drawn { R.stream rng.new ≡ (next_word tpe (R.stream rng.old)).1 }
-    ensures kept { take (length newfunc.old) newfunc.new ≡ newfunc.old }
-    ensures err { IfErr result (λ e. e ≡ Error.Memory) }
+    ensures { DoesAlone (draw tpe) newfunc.old newfunc.new
+        (R.stream rng.old) (R.stream rng.new) result }
 {
     match tpe {
         NumberType::I32 => {
@@ -89,12 +85,8 @@ fn write_sum<R: Rng>(
     rng: &mut R,
     newfunc: &mut Function,
 ) -> Result<(), Error>
-    ensures ok { OnOk result ((count : ℕ) → (requests : List ResourceRequest) →
-        take_step count (split tpe (constant_of tpe constant)) (record { bytes = newfunc.old; requests = requests; stream = R.stream rng.old })
-        ≡ Ok (record { bytes = newfunc.new; requests = requests; stream = R.stream rng.new })) }
-    ensures err { IfErr result (λ e. (count : ℕ) → (requests : List ResourceRequest) →
-        IsRefusal e (take_step count (split tpe (constant_of tpe constant)) (record { bytes = newfunc.old; requests = requests; stream = R.stream rng.old }))) }
-    ensures kept { take (length newfunc.old) newfunc.new ≡ newfunc.old }
+    ensures { DoesAlone (split tpe (constant_of tpe constant)) newfunc.old newfunc.new
+        (R.stream rng.old) (R.stream rng.new) result }
 {
     match (tpe, constant) {
         (IntegerType::I32, Payload::I32(number)) => {
@@ -116,27 +108,21 @@ fn write_sum<R: Rng>(
 }
 
 // Writes an unfold, whose one child is the constant.
-fn write_unfold<R: Rng, N: AsNode>(
+fn write_unfold<R: Rng, N: Holds>(
     tpe: IntegerType,
     nodes: &[N],
     node: &Lang,
     rng: &mut R,
     newfunc: &mut Function,
 ) -> Result<(), Error>
-    requires before { AreBelow (nodes_in N.node nodes.now) }
+    requires before { AreBelow (nodes_in N.held nodes.now) }
     requires below { All (λ k. k < length nodes.now) (children_of node.now) }
-    ensures ok { OnOk result ((count : ℕ) → (requests : List ResourceRequest) →
-        take_step count (split tpe (constant_in tpe (pick (tree_at (nodes_in N.node nodes.now)) (children_of node.now))))
-        (record { bytes = newfunc.old; requests = requests; stream = R.stream rng.old })
-        ≡ Ok (record { bytes = newfunc.new; requests = requests; stream = R.stream rng.new })) }
-    ensures err { IfErr result (λ e. (count : ℕ) → (requests : List ResourceRequest) → IsRefusal e (
-        take_step count (split tpe (constant_in tpe (pick (tree_at (nodes_in N.node nodes.now)) (children_of node.now))))
-        (record { bytes = newfunc.old; requests = requests; stream = R.stream rng.old }))) }
-    ensures kept { take (length newfunc.old) newfunc.new ≡ newfunc.old }
+    ensures { DoesAlone (split_step_in tpe (nodes_in N.held nodes.now) node.now)
+        newfunc.old newfunc.new (R.stream rng.old) (R.stream rng.new) result }
 {
     match node.children() {
         [child] => {
-            let constant = nodes[child.0 as usize].as_node().payload();
+            let constant = nodes[child.0 as usize].node().payload();
             write_sum(tpe, constant, rng, newfunc)
         }
         _ => Err(Error::CannotUnfold),
@@ -151,12 +137,9 @@ fn write_through(
     newfunc: &mut Function,
     requests: &mut Vec<ResourceRequest>,
 ) -> Result<(), Error>
-    ensures ok { OnOk result ((stream : Stream) →
-        take_step globals (store tpe) (record { bytes = newfunc.old; requests = requests.old.items; stream = stream })
-        ≡ Ok (record { bytes = newfunc.new; requests = requests.new.items; stream = stream })) }
-    ensures err { IfErr result (λ e. (stream : Stream) →
-        IsRefusal e (take_step globals (store tpe) (record { bytes = newfunc.old; requests = requests.old.items; stream = stream }))) }
-    ensures kept { take (length newfunc.old) newfunc.new ≡ newfunc.old }
+    ensures { (stream : Stream) → Does globals (store tpe ∷ [])
+        (writing_of newfunc.old requests.old.items stream)
+        (writing_of newfunc.new requests.new.items stream) result }
 {
     let most = u32::MAX as usize;
     if globals > most || requests.len() > most - globals {
@@ -174,7 +157,7 @@ fn write_through(
 }
 
 /// Writes what a node itself adds.
-pub(crate) fn write_own<R: Rng, N: AsNode>(
+pub(crate) fn write_own<R: Rng, N: Holds>(
     globals: usize,
     nodes: &[N],
     node: &Lang,
@@ -182,31 +165,20 @@ pub(crate) fn write_own<R: Rng, N: AsNode>(
     newfunc: &mut Function,
     requests: &mut Vec<ResourceRequest>,
 ) -> Result<(), Error>
-    requires before { AreBelow (nodes_in N.node nodes.now) }
+    requires before { AreBelow (nodes_in N.held nodes.now) }
     requires below { All (λ k. k < length nodes.now) (children_of node.now) }
-    ensures ok { OnOk result (
-        take_step globals (own_step (kind_of (head_of node.now)) (pick (tree_at (nodes_in N.node nodes.now)) (children_of node.now)))
-        (record { bytes = newfunc.old; requests = requests.old.items; stream = R.stream rng.old })
-        ≡ Ok (record { bytes = newfunc.new; requests = requests.new.items; stream = R.stream rng.new })) }
-    ensures err { IfErr result (λ e. IsRefusal e (
-        take_step globals (own_step (kind_of (head_of node.now)) (pick (tree_at (nodes_in N.node nodes.now)) (children_of node.now)))
-        (record { bytes = newfunc.old; requests = requests.old.items; stream = R.stream rng.old }))) }
-    ensures in_range { OnOk result (IsInRange (own_step (kind_of (head_of node.now)) (pick (tree_at (nodes_in N.node nodes.now)) (children_of node.now)))) }
-    ensures kept { take (length newfunc.old) newfunc.new ≡ newfunc.old }
+    ensures { Does globals (own_step_in (nodes_in N.held nodes.now) node.now ∷ [])
+        (writing_of newfunc.old requests.old.items (R.stream rng.old))
+        (writing_of newfunc.new requests.new.items (R.stream rng.new)) result }
 {
     match Kind::of(node) {
-        Kind::Own(instr) => newfunc.instruction(&instr)?,
-        Kind::Random(tpe) => write_random(tpe, rng, newfunc)?,
-        Kind::Unfold(tpe) => match write_unfold(tpe, nodes, node, rng, newfunc) {
-            Ok(()) => {}
-            Err(refusal) => return Err(refusal),
-        },
-        Kind::UseGlobal(tpe) => match write_through(globals, tpe, newfunc, requests) {
-            Ok(()) => {}
-            Err(refusal) => return Err(refusal),
-        },
-        Kind::Container => {}
-        Kind::Nothing => {}
+        Kind::Own(instr) => {
+            newfunc.instruction(&instr)?;
+            Ok(())
+        }
+        Kind::Random(tpe) => write_random(tpe, rng, newfunc),
+        Kind::Unfold(tpe) => write_unfold(tpe, nodes, node, rng, newfunc),
+        Kind::UseGlobal(tpe) => write_through(globals, tpe, newfunc, requests),
+        Kind::Container | Kind::Nothing => Ok(()),
     }
-    Ok(())
 }

@@ -1,12 +1,12 @@
 //! The walk over a tree of nodes, which writes it.
 
-ghost use Rattle.std.specs.Prelude.{◌≡◌, ◌<◌, ◌++◌, Ok, All, length, take, OnOk, IfErr};
+ghost use Rattle.std.specs.Prelude.{◌≡◌, ◌<◌, length};
 ghost use Rattle.peephole_lang.specs.Node.{head_of, children_of};
 ghost use Rattle.peephole_lang.specs.Term.{AreBelow, numbers_of, tree_at};
-ghost use Rattle.peephole_terms.specs.Kind.{kind_of, is_unfold};
-ghost use Rattle.peephole_terms.specs.EncoderSteps.{IsRefusal, IsInRange, nodes_in, opened, steps_of, take_steps};
+ghost use Rattle.peephole_terms.specs.Kind.{node_kind};
+ghost use Rattle.peephole_terms.specs.EncoderSteps.{Does, nodes_in, opened, steps_of, writing_of};
 
-use super::node::AsNode;
+use super::holds::Holds;
 use super::own::write_own;
 use super::request::ResourceRequest;
 use mutate_base::Error;
@@ -24,7 +24,7 @@ struct Frame {
 
 // The children that are written: not those of an unfold.
 fn opened(node: &Lang) -> &[Id]
-    ensures { numbers_of result.now ≡ opened (kind_of (head_of node.now)) (children_of node.now) }
+    ensures { numbers_of result.now ≡ opened (node_kind (head_of node.now)) (children_of node.now) }
 {
     match node.place() {
         5 | 6 => &[],
@@ -33,7 +33,7 @@ fn opened(node: &Lang) -> &[Id]
 }
 
 // Writes the tree of a node, with no recursion: the frames are the way down to where it is.
-pub(crate) fn write_tree<R: Rng, N: AsNode>(
+pub(crate) fn write_tree<R: Rng, N: Holds>(
     alloc: Global,
     globals: usize,
     nodes: &[N],
@@ -43,16 +43,10 @@ pub(crate) fn write_tree<R: Rng, N: AsNode>(
     requests: &mut Vec<ResourceRequest>,
 ) -> Result<(), Error>
     requires root { root < length nodes.now }
-    requires below { AreBelow (nodes_in N.node nodes.now) }
-    ensures ok { OnOk result (
-        take_steps globals (steps_of (tree_at (nodes_in N.node nodes.now) root))
-        (record { bytes = newfunc.old; requests = requests.old.items; stream = R.stream rng.old })
-        ≡ Ok (record { bytes = newfunc.new; requests = requests.new.items; stream = R.stream rng.new })) }
-    ensures err { IfErr result (λ e. IsRefusal e (
-        take_steps globals (steps_of (tree_at (nodes_in N.node nodes.now) root))
-        (record { bytes = newfunc.old; requests = requests.old.items; stream = R.stream rng.old }))) }
-    ensures in_range { OnOk result (All IsInRange (steps_of (tree_at (nodes_in N.node nodes.now) root))) }
-    ensures kept { take (length newfunc.old) newfunc.new ≡ newfunc.old }
+    requires below { AreBelow (nodes_in N.held nodes.now) }
+    ensures { Does globals (steps_of (tree_at (nodes_in N.held nodes.now) root))
+        (writing_of newfunc.old requests.old.items (R.stream rng.old))
+        (writing_of newfunc.new requests.new.items (R.stream rng.new)) result }
 {
     let mut frames = Vec::new(alloc);
     frames.push(Frame {
@@ -60,7 +54,7 @@ pub(crate) fn write_tree<R: Rng, N: AsNode>(
         next: 0,
     })?;
     while let Some(frame) = frames.pop() {
-        let node = nodes[frame.node].as_node();
+        let node = nodes[frame.node].node();
         let children = opened(node);
         if frame.next < children.len() {
             frames.push(Frame {

@@ -1,5 +1,5 @@
 use Rattle.std.proofs.Common.{◌≡◌, ◌≢◌, ◌∙◌, length, get_or, ap, arith}
-use Rattle.mutate_base.specs.HexLemmas.{parsed, not_parsed}
+use Rattle.mutate_base.specs.laws.HexLemmas.{parsed, not_parsed}
 use Rattle.mutate_base.proofs.float.read_hex.Goals as goal
 
 pub returns-in-Ok-clause-value : goal.returns-in-Ok-clause-value

@@ -1,10 +1,8 @@
-use Rattle.mutate_base.specs.Equality.{f32s_equal, f64s_equal, ref_types_equal, mem_args_equal, mem_arg_lanes_equal, shuffles_equal, table_copies_equal, memory_copies_equal, table_inits_equal, memory_inits_equal}
+use Rattle.mutate_base.specs.laws.Equality.{ref_types_equal, mem_args_equal, mem_arg_lanes_equal, shuffles_equal, table_copies_equal, memory_copies_equal, table_inits_equal, memory_inits_equal}
 use Rattle.mutate_base.proofs.laws.equal_payload_parts.Goals as goal
 
 pub returns : goal.returns
 returns c = record {
-  f32 = f32s_equal;
-  f64 = f64s_equal;
   ref_type = ref_types_equal;
   mem_arg = mem_args_equal;
   mem_arg_lane = mem_arg_lanes_equal;

@@ -3,7 +3,7 @@ use Rattle.std.specs.Option.{ok_or}
 use Rattle.std.proofs.lemmas.Int.{to_z-of_z}
 use mir.Syntax.{w64}
 use Rattle.mutate_base.specs.declared.term_error.TermError.TheVariants.{BadInteger}
-use Rattle.mutate_base.specs.NumberLemmas.{signed_same, signed_fits}
+use Rattle.mutate_base.specs.laws.NumberLemmas.{signed_same, signed_fits}
 use Rattle.mutate_base.proofs.number.read_i64.Goals as goal
 
 pub returns-in-Ok : goal.returns-in-Ok

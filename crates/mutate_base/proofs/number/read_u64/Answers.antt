@@ -1,7 +1,7 @@
 use Rattle.std.proofs.Common.{ap, sym, Ok, Err}
 use Rattle.std.specs.Option.{ok_or}
 use Rattle.mutate_base.specs.declared.term_error.TermError.TheVariants.{BadInteger}
-use Rattle.mutate_base.specs.NumberLemmas.{unsigned_same}
+use Rattle.mutate_base.specs.laws.NumberLemmas.{unsigned_same}
 use Rattle.mutate_base.proofs.number.read_u64.Goals as goal
 
 pub returns-in-Ok : goal.returns-in-Ok

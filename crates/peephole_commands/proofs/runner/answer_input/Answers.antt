@@ -22,7 +22,8 @@ lines-preserved g c =
     let here = rw e at c.lines.invariant.reached in
     record {
       reached = reached_more _ _ _ _ _ _ here c.in-Ok.ensures;
-      written = appends_more _ _ _ _ _ _ _ c.lines.invariant.written c.in_ok-write-in-Ok.ensures.ok c.as_slice.ensures.value (front_more _ _ _ _ _ _ here c.in-Ok.ensures);
+      written = appends_more _ _ _ _ _ _ _ c.lines.invariant.written c.in_ok-write-in-Ok.ensures.ok c.as_slice.ensures.value
+          (front_more _ _ _ _ _ _ here c.in-Ok.ensures);
       sound = c.in_ok-write-in-Ok.ensures.sound;
       room = omega (arith, length-after_line c.lines.rest.now _ some c.cut_line.ensures.rest);
     }

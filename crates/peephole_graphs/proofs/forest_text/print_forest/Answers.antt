@@ -12,5 +12,6 @@ returns-in_err-write_roots g c said t =
 
 pub returns : goal.returns
 returns g c said t =
-    forest_written said c.args.entries.now c.args.parents.now (string_bytes c.in_ok-text.text) (string_bytes c.write_roots.new.text)
+    forest_written said c.args.entries.now c.args.parents.now (string_bytes c.in_ok-text.text)
+    (string_bytes c.write_roots.new.text)
     c.in_ok-text.ensures.ok (c.in_ok-write_roots.ensures said t)

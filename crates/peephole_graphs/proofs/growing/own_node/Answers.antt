@@ -12,11 +12,14 @@ length_down : (base missing : ℕ) → length (down base missing) ≡ missing
 length_down base zero = refl
 length_down base (suc missing) = ap suc (length_down base missing)
 
-length_ids : (ids old : List Id) (base missing : ℕ) (taken : List ℕ) → numbers_of ids ≡ numbers_of old ++ taken → numbers_of old ≡ down base missing → length ids ≡ missing + length taken
+length_ids : (ids old : List Id) (base missing : ℕ) (taken : List ℕ) → numbers_of ids ≡ numbers_of old ++ taken → numbers_of old ≡
+    down base missing → length ids ≡ missing + length taken
 length_ids ids old base missing taken e f =
-    sym (length-map ids (λ (i : Id). i.0)) ∙ (ap length e ∙ (length-append (numbers_of old) taken ∙ ap (λ n. n + length taken) (ap length f ∙ length_down base missing)))
+    sym (length-map ids (λ (i : Id). i.0)) ∙ (ap length e ∙ (length-append (numbers_of old) taken ∙ ap (λ n. n + length taken)
+    (ap length f ∙ length_down base missing)))
 
 pub unreachable-requires : goal.unreachable-requires
 unreachable-requires c =
-    let count = length_ids c.push_ids.new.ids.items c.in_ok-ids.ids.items c.args.base c.args.missing c.args.taken.now c.in_ok-push_ids.ensures c.in_ok-ids.ensures in
+    let count = length_ids c.push_ids.new.ids.items c.in_ok-ids.ids.items c.args.base c.args.missing c.args.taken.now
+    c.in_ok-push_ids.ensures c.in_ok-ids.ensures in
     false≢true (c.in-None.ensures.complete ∙ (ap (λ n. takes_children c.args.instr.row n) count ∙ c.requires.fits))

@@ -15,12 +15,14 @@ place_is fin kids own n e k =
 ids_are : (fin ids kids own : List Id) (n : ℕ) → n ≡ length fin → kids ≡ own → ids ≡ drop (n - length kids) fin →
     numbers_of ids ≡ drop (length fin - length own) (numbers_of fin)
 ids_are fin ids kids own n e k t =
-    ap numbers_of t ∙ (sym (drop-map (λ (i : Id). i.0) (n - length kids) fin) ∙ ap (λ m. drop m (numbers_of fin)) (place_is fin kids own n e k))
+    ap numbers_of t ∙ (sym (drop-map (λ (i : Id). i.0) (n - length kids) fin) ∙
+    ap (λ m. drop m (numbers_of fin)) (place_is fin kids own n e k))
 
 left_are : (fin left kids own : List Id) (n : ℕ) → n ≡ length fin → kids ≡ own → left ≡ take (n - length kids) fin →
     numbers_of left ≡ take (length fin - length own) (numbers_of fin)
 left_are fin left kids own n e k t =
-    ap numbers_of t ∙ (sym (take-map (λ (i : Id). i.0) (n - length kids) fin) ∙ ap (λ m. take m (numbers_of fin)) (place_is fin kids own n e k))
+    ap numbers_of t ∙ (sym (take-map (λ (i : Id). i.0) (n - length kids) fin) ∙
+    ap (λ m. take m (numbers_of fin)) (place_is fin kids own n e k))
 
 added_is : {L H : Type 0} (head : L → H) (children : L → List ℕ) (old new : List L) (own given : L) (is : List ℕ) → new ≡ old ++ own ∷ [] →
     head own ≡ head given → children own ≡ is →
@@ -47,9 +49,9 @@ returns-clause-added g c =
 
 pub returns-clause-finished : goal.returns-clause-finished
 returns-clause-finished g c =
-    ap numbers_of c.in_ok-push.ensures.items
-    ∙ (map-append (λ (i : Id). i.0) c.split_off.new.self.items (c.in_ok-own.own ∷ [])
+    ap numbers_of c.in_ok-push.ensures.items ∙ (map-append (λ (i : Id). i.0) c.split_off.new.self.items (c.in_ok-own.own ∷ [])
     ∙ ap₂ (λ (x : List ℕ) (y : ℕ). x ++ y ∷ [])
-    (left_are c.args.finished.now.items c.split_off.new.self.items c.children-count.result.now (g.L.Language.ids c.args.node.now) c.len.result
+    (left_are c.args.finished.now.items c.split_off.new.self.items c.children-count.result.now
+    (g.L.Language.ids c.args.node.now) c.len.result
     (c.len.ensures ∙ c.args.finished.now.ok.0) c.children-count.ensures.ids c.in_ok-ids.ensures.items)
     c.in_ok-own.ensures.place)

@@ -9,7 +9,7 @@ use Rattle.peephole_graphs.proofs.layout.lay_out.Given as goal
 abbrev pub invariant-loop-frame : goal.invariant-loop-frame
 invariant-loop-frame l =
     let ns = entry_nodes l.entries in
-    IsWalk missing ns (laid_out missing ns l.root) l.frames.items (laying missing (map node_of l.expr) (numbers_of l.finished.items))
+    IsWalk missing ns (laid_out missing ns l.root) l.frames.items (laying (map node_of l.expr) (numbers_of l.finished.items))
 
 abbrev pub decreases-loop-frame : goal.decreases-loop-frame
-decreases-loop-frame l = measure (entry_nodes l.entries) l.frames.items
+decreases-loop-frame l = measure missing (entry_nodes l.entries) l.frames.items

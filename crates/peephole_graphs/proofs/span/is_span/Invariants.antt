@@ -1,5 +1,6 @@
+use Rattle.peephole_graphs.specs.Entries.{sizes_kept}
 use Rattle.peephole_graphs.specs.Span.{IsSpan}
 use Rattle.peephole_graphs.proofs.span.is_span.Given as goal
 
 abbrev pub invariant-loop-i : goal.invariant-loop-i
-invariant-loop-i l = IsSpan l.entries l.sizes l.start l.i
+invariant-loop-i l = IsSpan l.entries (sizes_kept l.subtrees) l.start l.i

@@ -3,7 +3,7 @@ use Rattle.std.specs.Cmp.Lexicographic.{slice_cmp}
 use Rattle.std.specs.Ordering.{nat_cmp}
 use Rattle.std.proofs.lemmas.Str.Pattern.{ends_char, starts_text}
 use Rattle.peephole_lang.specs.Fronts.{standing}
-use Rattle.peephole_lang.specs.FrontLemmas.{stands_equal, stands_without_dot, stands_elsewhere}
+use Rattle.peephole_lang.specs.laws.FrontLemmas.{stands_equal, stands_without_dot, stands_elsewhere}
 use Rattle.peephole_lang.proofs.names.compare.Goals as goal
 use Rattle.peephole_lang.proofs.names.compare.Goals.{else-ends_with-via-then-ends_with+else-starts_with, else-ends_with-via-else-ends_with}
 

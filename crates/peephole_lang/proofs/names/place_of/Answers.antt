@@ -8,7 +8,8 @@ use Rattle.peephole_lang.proofs.names.place_of.Goals as goal
 pub returns-in_err-at : goal.returns-in_err-at
 returns-in_err-at c =
     let text = c.args.text.now in
-    let by_front = c.binary_search_by.ensures.position (λ place. standing (front_at place) text) (always_returns_same _ _ _ (λ a r f called. search rules)) in
+    let by_front = c.binary_search_by.ensures.position (λ place. standing (front_at place) text)
+    (always_returns_same _ _ _ (λ a r f called. search rules)) in
     c.from_residual.ensures ∙ searched_none text _ by_front (sym c.ok.ensures.value ∙ c.in_err-at.was)
 
 pub returns : goal.returns

@@ -70,7 +70,8 @@ module _ (X : RattleType) {M : Type 1} {𝓤 : Ura M} (𝓛 : Logic 𝓤) (at_me
   abbrev clauses : Clauses 𝓤 (ended X)
   clauses = F.clauses X 𝓛 at_mem run
 
-  module _ (C : Calls 𝓤 H) (Λ : Loops 𝓤 H) (κ κT : Lft) (q qT : Share) (bd : AllOutlive 2 (ended X).signature.outlives (κ, (κT, tt))) (b o : ℕ) (γ : GName) (x : (S X).Denot) where
+  module _ (C : Calls 𝓤 H) (Λ : Loops 𝓤 H) (κ κT : Lft) (q qT : Share) (bd : AllOutlive 2 (ended X).signature.outlives (κ, (κT, tt))) (b o : ℕ)
+      (γ : GName) (x : (S X).Denot) where
     abbrev self : MutBor (S X).Denot
     self = record { ref_ptr = (b, o); ghost_name = γ; now = x }
 
@@ -80,9 +81,11 @@ module _ (X : RattleType) {M : Type 1} {𝓤 : Ura M} (𝓛 : Logic 𝓤) (at_me
     abbrev Post : Val → SProp 𝓤
     Post = (walk_of 𝓛 (ended X) (stayed X) clauses).post bound
 
-    walk : Room (R X) 0 → ent 𝓤 (on_entry 𝓛 (ended X).signature (κ, (κT, tt)) (q, (qT, tt)) (self, tt) (mut_vals self, tt)) (WpFn 𝓤 H C Λ (function X) (vptr b o ∷ []) Post)
+    walk : Room (R X) 0 → ent 𝓤 (on_entry 𝓛 (ended X).signature (κ, (κT, tt)) (q, (qT, tt)) (self, tt) (mut_vals self, tt))
+        (WpFn 𝓤 H C Λ (function X) (vptr b o ∷ []) Post)
     walk rm =
-        qed 𝓛 ((‵ (flft κ q) ⊛ ‵ (flft κT qT) ⊛ ‵ ftrue) ∷ ‵ (owns (MutRef (named 0) κ (S X) ∷ []) (self, tt) (mut_vals self, tt)) ∷ []) ∵ enter ! C Λ (function X) (vptr b o ∷ []) _ $
+        qed 𝓛 ((‵ (flft κ q) ⊛ ‵ (flft κT qT) ⊛ ‵ ftrue) ∷ ‵ (owns (MutRef (named 0) κ (S X) ∷ []) (self, tt) (mut_vals self, tt)) ∷ []) ∵ enter ! C Λ
+        (function X) (vptr b o ∷ []) _ $
         alloc_all ! (λ l. pass_all ! refl ((tt, tt), tt) $
         let En : Env 𝓤 H = env (function X).locals l in
         first ! $ blocks ! $
@@ -92,14 +95,19 @@ module _ (X : RattleType) {M : Type 1} {𝓤 : Ura M} (𝓛 : Logic 𝓤) (at_me
         exec ! C Λ En rest (at_ret En Post) $
         sets ! (of_opd ! (get ! refl)) refl (tt, (tt, (record { fits = rm.0 }, tt))) $
         split ! $ move ! (2 ∷ []) $ fsplit ! $ move ! (0 ∷ 2 ∷ []) $
-        use2 𝓛 (later (some (slice_lent 𝓛 (named 0) κ q b o γ (S X) (R X) (λ _. x) ([])))) (lends_none 𝓛 (named 0) κ q b o γ (S X) (R X) x rm (vptr b o ∷ [])) $ await ! tt $ pick ! (λ δ.
+        use2 𝓛 (later (some (slice_lent 𝓛 (named 0) κ q b o γ (S X) (R X) (λ _. x) ([])))) (lends_none 𝓛 (named 0) κ q b o γ (S X) (R X) x rm
+        (vptr b o ∷ [])) $ await ! tt $ pick ! (λ δ.
         returns ! (look_at ! 0 refl) $ free_all ! refl $ keep ! (0 ∷ 2 ∷ []) $ split3 ! $
-        suffices ! _ (ends_at 𝓛 (ended X) (stayed X) clauses bound (slice_val (b, o) 0) (record { ref_ptr = (b, o); ghost_name = δ; now = [] }) (tt, tt) (tt, tt)) $
+        suffices ! _ (ends_at 𝓛 (ended X) (stayed X) clauses bound (slice_val (b, o) 0) (record { ref_ptr = (b, o); ghost_name = δ; now = [] }) (
+          tt,
+          tt,
+        ) (tt, tt)) $
         nothing ! $ nothing ! $ fjoin ! $ join ! $ move ! (1 ∷ 3 ∷ []) $ join ! $ join ! $ frame ! $ says ! refl $ done !))
 
   meets : (𝓣 : Tables 𝓤 H) → Meets 𝓛 (ended X).signature (WpFn 𝓤 H 𝓣.C 𝓣.Λ (function X)) (closing 𝓛 (ended X) clauses)
   meets 𝓣 =
-      walk_Meets 𝓛 (ended X) (stayed X) (Goes-spent_ref 𝓛 2 (0 ∷ []) tt (plain (λ _. S X)), tt) clauses (WpFn 𝓤 H 𝓣.C 𝓣.Λ (function X)) (WpFn-mono 𝓤 H 𝓛.laws 𝓣 (function X))
+      walk_Meets 𝓛 (ended X) (stayed X) (Goes-spent_ref 𝓛 2 (0 ∷ []) tt (plain (λ _. S X)), tt) clauses (WpFn 𝓤 H 𝓣.C 𝓣.Λ (function X))
+      (WpFn-mono 𝓤 H 𝓛.laws 𝓣 (function X))
       (walked 𝓛 (ended X) (stayed X) clauses (WpFn 𝓤 H 𝓣.C 𝓣.Λ (function X)) (λ κs. (mut_vals, tt)) (λ κs. (mut_Tells (named 0) κs.0 (S X), tt))
       (λ κs qs bounds a g are.
       qed 𝓛 (raw (on_entry 𝓛 (ended X).signature κs qs a (mut_vals a.0, tt)) ∷ raw ((clauses κs a).requires g) ∷ []) ∵
@@ -110,5 +118,6 @@ unfolding tables_of
 no_children_spec 𝓤 𝓛 𝓜 𝓡 wired X L =
     let A = 𝓛.A in
     let 𝓣 : Tables 𝓤 𝓛.H = tables_of 𝓤 𝓛.H 𝓜 (tables 𝓤 𝓛.H 𝓜 𝓡 𝓡.env) in
-    entered 𝓤 𝓛.H (triple_of 𝓛 (ended X).signature (F.spec X 𝓛 𝓜.mem 𝓡.returns)) 𝓣.C 𝓣.Λ (#self (args X)) (function X) (code.unfolded 𝓤 𝓛.H 𝓜 𝓡 wired (X, tt))
+    entered 𝓤 𝓛.H (triple_of 𝓛 (ended X).signature (F.spec X 𝓛 𝓜.mem 𝓡.returns)) 𝓣.C 𝓣.Λ (#self (args X)) (function X)
+    (code.unfolded 𝓤 𝓛.H 𝓜 𝓡 wired (X, tt))
     (meets X 𝓛 𝓜.mem 𝓡.returns 𝓣)

@@ -1,6 +1,6 @@
 use Rattle.std.proofs.Common.{◌≡◌, ◌++◌, drop}
 use Rattle.std.specs.List.{concat}
-use Rattle.peephole_script.proofs.Values.{texts}
+use Rattle.peephole_script.specs.Text.{texts}
 use Rattle.peephole_script.proofs.arguments.joined.Given as goal
 
 -- the text so far and the words that are left are all words

@@ -1,7 +1,7 @@
 use Rattle.std.proofs.Common.{◌≡◌, drop}
-use Rattle.peephole_script.specs.Text.{number_of}
+use Rattle.peephole_script.specs.Text.{number_of, texts}
 use Rattle.peephole_script.specs.Arguments.{all_of}
-use Rattle.peephole_script.proofs.Values.{texts, after_front}
+use Rattle.peephole_script.proofs.Values.{after_front}
 use Rattle.peephole_script.proofs.arguments.numbers_of.Given as goal
 
 -- the values so far and those of the words that are left are those of all words

@@ -1,6 +1,7 @@
 use Rattle.std.proofs.Common.{◌≡◌, drop}
 use Rattle.peephole_script.specs.Arguments.{all_of, type_of}
-use Rattle.peephole_script.proofs.Values.{texts, after_front}
+use Rattle.peephole_script.specs.Text.{texts}
+use Rattle.peephole_script.proofs.Values.{after_front}
 use Rattle.peephole_script.proofs.arguments.types_of.Given as goal
 
 -- the types so far and those of the words that are left are those of all words

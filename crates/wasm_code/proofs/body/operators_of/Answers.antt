@@ -8,7 +8,8 @@ loop-rest-smaller c = shrinks _ _ _ c.in-Ok.ensures
 
 pub loop-rest-preserved : goal.loop-rest-preserved
 loop-rest-preserved c =
-    let items : c.push.new.self.items ≡ c.loop-rest.found.items ++ (c.in-Ok.operator, c.args.to - length c.loop-rest.rest.now) ∷ [] = grind (arith, common_steps) in
+    let items : c.push.new.self.items ≡ c.loop-rest.found.items ++ (c.in-Ok.operator, c.args.to - length c.loop-rest.rest.now) ∷ [] =
+    grind (arith, common_steps) in
     rw (items, c.is_end_of-ended.ensures) (goes_on _ _ _ _ _ _ _ _ c.requires.order c.requires.bounds c.loop-rest.invariant c.in-Ok.ensures)
 
 pub returns-in-Err-clause-fault : goal.returns-in-Err-clause-fault

@@ -9,7 +9,8 @@ pub returns-then-i-bytes-clause-gives : goal.returns-then-i-bytes-clause-gives
 returns-then-i-bytes-clause-gives c = sym c.loop-i.invariant ∙ ended _ _ _ c.loop-i-test.true c.if-i-bytes.true
 
 pub returns-then-bytes-i-lt-GOES_ON-clause-gives : goal.returns-then-bytes-i-lt-GOES_ON-clause-gives
-returns-then-bytes-i-lt-GOES_ON-clause-gives c = let e = sym c.loop-i.invariant ∙ found _ _ _ c.loop-i-test.true c.if-i-bytes.false c.if-bytes-i-lt-GOES_ON.true in rw (c.split_at.ensures.front, c.split_at.ensures.back) e
+returns-then-bytes-i-lt-GOES_ON-clause-gives c = let e = sym c.loop-i.invariant
+    ∙ found _ _ _ c.loop-i-test.true c.if-i-bytes.false c.if-bytes-i-lt-GOES_ON.true in rw (c.split_at.ensures.front, c.split_at.ensures.back) e
 
 pub loop-i-preserved : goal.loop-i-preserved
 loop-i-preserved c = sym (goes_on _ _ _ c.loop-i-test.true c.if-i-bytes.false c.if-bytes-i-lt-GOES_ON.false) ∙ c.loop-i.invariant

@@ -7,7 +7,8 @@ pub returns-in-len1-up-clause-gives : goal.returns-in-len1-up-clause-gives
 returns-in-len1-up-clause-gives c =
     let bytes = c.args.bytes.now in
     let same : pos (get_or bytes 0 0) ≡ to_z w64 (get_or bytes 0 0) = omega (arith, ints, c.if-b-lt-NEGATIVE.true) in
-    one_positive c.args.half c.args.most bytes c.requires.some c.in-len1-up.len_at_least c.if-b-lt-NEGATIVE.true c.requires.one_byte ∙ ap (λ z. Ok (z, take (length bytes - 1) (drop 1 bytes))) same
+    one_positive c.args.half c.args.most bytes c.requires.some c.in-len1-up.len_at_least c.if-b-lt-NEGATIVE.true c.requires.one_byte
+    ∙ ap (λ z. Ok (z, take (length bytes - 1) (drop 1 bytes))) same
 
 pub returns-in-len1-up-2-clause-gives : goal.returns-in-len1-up-2-clause-gives
 returns-in-len1-up-2-clause-gives c =

@@ -12,8 +12,10 @@ returns-in-Byte-clause-in_table c = is_form (Byte c.in-Byte.b) c.byte_form_of.re
 
 pub returns-in-Fc-clause-in_table : goal.returns-in-Fc-clause-in_table
 unfolding form_of
-returns-in-Fc-clause-in_table c = is_form (Fc c.in-Fc.field-0) c.row_form_of.result (c.row_form_of.ensures ∙ ap (λ (o : Opcode). row_form (row_with o)) c.in-Fc.is)
+returns-in-Fc-clause-in_table c = is_form (Fc c.in-Fc.field-0) c.row_form_of.result (c.row_form_of.ensures
+    ∙ ap (λ (o : Opcode). row_form (row_with o)) c.in-Fc.is)
 
 pub returns-in-Fd-clause-in_table : goal.returns-in-Fd-clause-in_table
 unfolding form_of
-returns-in-Fd-clause-in_table c = is_form (Fd c.in-Fd.field-0) c.row_form_of-in-Fd.result (c.row_form_of-in-Fd.ensures ∙ ap (λ (o : Opcode). row_form (row_with o)) c.in-Fd.is)
+returns-in-Fd-clause-in_table c = is_form (Fd c.in-Fd.field-0) c.row_form_of-in-Fd.result (c.row_form_of-in-Fd.ensures
+    ∙ ap (λ (o : Opcode). row_form (row_with o)) c.in-Fd.is)

@@ -7,8 +7,10 @@ loop-rest-preserved c = record {
   kept = kept_more _ _ _ _ c.in_ok-push.ensures.items c.loop-rest.invariant.kept;
   written =
       let fits : c.loop-rest.rest < 2 ^ 64 = omega arith in
-      shift _ _ _ _ _ _ c.in_ok-push.ensures.items (rw c.low.ensures.value (form_step c.args.negative c.loop-rest.rest c.loop-rest-test.true fits)) c.loop-rest.invariant.written;
+      shift _ _ _ _ _ _ c.in_ok-push.ensures.items
+      (rw c.low.ensures.value (form_step c.args.negative c.loop-rest.rest c.loop-rest-test.true fits)) c.loop-rest.invariant.written;
 }
 
 pub returns-clause-ok : goal.returns-clause-ok
-returns-clause-ok c = finish _ _ _ _ _ c.in_ok-push-2.ensures.items (rw c.low-2.ensures.value (form_last c.args.negative c.loop-rest.rest c.loop-rest-test.false)) c.loop-rest.invariant.written
+returns-clause-ok c = finish _ _ _ _ _ c.in_ok-push-2.ensures.items
+    (rw c.low-2.ensures.value (form_last c.args.negative c.loop-rest.rest c.loop-rest-test.false)) c.loop-rest.invariant.written

@@ -1,6 +1,6 @@
 use Rattle.std.proofs.Common.{rules, subst}
 use Rattle.std.specs.Fmt.{HasWritten}
-use Rattle.mutate_base.specs.HexLemmas.{padded_8}
+use Rattle.mutate_base.specs.laws.HexLemmas.{padded_8}
 use Rattle.mutate_base.proofs.float.F32Display.fmt.Goals as goal
 
 pub returns-clause-writes : goal.returns-clause-writes

@@ -1,7 +1,7 @@
 use Rattle.std.proofs.Common.{◌∙◌, ap, sym}
 use Rattle.mutate_base.specs.Parts.{left_parts}
 use Rattle.mutate_base.specs.PayloadText.{with_no_more}
-use Rattle.mutate_base.specs.PartsLemmas.{some_left}
+use Rattle.mutate_base.specs.laws.PartsLemmas.{some_left}
 use Rattle.mutate_base.proofs.payload_text.Parts.end.Goals as goal
 
 pub returns-in-Some : goal.returns-in-Some

@@ -1,10 +1,18 @@
-use Rattle.std.proofs.Common.{ap, ◌∙◌, ◌≡◌}
+use Rattle.std.proofs.Common.{◌≡◌, ℕ, ◌<◌, List, length, Option, Some, None, sym, ap, ◌∙◌}
+use Rattle.std.specs.Prelude.{IfSome, IfNone}
+use Rattle.wasm_code.specs.declared.operator.Operator.{Operator}
+use Rattle.peephole_graphs.specs.Block.{BlockRange, IsBlockOf, IsDelimiterAt, FindsTheBlock, FindsNoBlock, block_at}
 use Rattle.peephole_commands.specs.Body.{Contents}
-use Rattle.peephole_commands.proofs.Blocks.{block_found}
 use Rattle.peephole_commands.proofs.body.Body.block_at.Goals as goal
 
-pub returns-clause-function : goal.returns-clause-function
-returns-clause-function c =
+block_found : (os : List (Operator × ℕ)) (n : ℕ) (found : Option BlockRange) → n < length os → FindsTheBlock → FindsNoBlock →
+    IfSome found (λ b. IsBlockOf os n b.start b.end) → IfNone found (IsDelimiterAt os n) → found ≡ block_at os n
+block_found os n None l block none h k = sym ((none os n l).1 k)
+block_found os n (Some b) l block none h k = sym ((block os n b).1 h)
+
+pub returns : goal.returns
+returns c =
     let same : c.as_slice.result.now ≡ c.args.self.now.operators = c.as_slice.ensures.value ∙ ap (λ (b : Contents). b.operators) c.self.view_is in
-    rw same at (block_found c.as_slice.result.now c.args.point c.get_bb_from_operator.result (rw same c.requires) c.blocks_are_found.ensures.block
-    c.blocks_are_found.ensures.none c.get_bb_from_operator.ensures.block c.get_bb_from_operator.ensures.none)
+    let laws = c.blocks_are_found.ensures in
+    let said = c.of_operator.ensures in
+    rw same at (block_found c.as_slice.result.now c.args.point c.of_operator.result (rw same c.requires) laws.block laws.none said.block said.none)

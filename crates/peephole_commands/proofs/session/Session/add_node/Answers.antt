@@ -6,10 +6,10 @@ use Rattle.peephole_commands.proofs.session.Session.add_node.Goals as goal
 
 pub invariant_of-self : goal.invariant_of-self
 invariant_of-self c =
-    let writable : true ≡ is_writable (payload_of c.in-Ok-from_op_str.node) = c.if-not-is_writable.ensures in
+    let writable : true ≡ is_writable (payload_of c.in-Ok.node) = c.if-not-is_writable.ensures in
     grind (arith, common_steps)
 
 pub returns : goal.returns
 returns c =
-    let writable : true ≡ is_writable (payload_of c.in-Ok-from_op_str.node) = c.if-not-is_writable.ensures in
+    let writable : true ≡ is_writable (payload_of c.in-Ok.node) = c.if-not-is_writable.ensures in
     grind (arith, common_steps)

@@ -1,10 +1,14 @@
-use Rattle.std.proofs.Common.{◌≡◌, ◌<◌, length, arith, Some}
-use Rattle.peephole_commands.proofs.Steps.{point_is, prints}
+use Rattle.std.proofs.Common.{◌≡◌, ◌∙◌, ◌<◌, sym, length, arith, Some}
+use Rattle.peephole_script.specs.Text.{texts, number_of}
+use Rattle.peephole_commands.proofs.Steps.{only_is, point_is}
 use Rattle.peephole_commands.proofs.session.Session.at.Goals as goal
 
 pub returns : goal.returns
 returns c =
     let body : c.args.self.now.body ≡ Some c.in-Some-body.body = rw (← c.self.view_is) c.in-Some-body.is in
     let below : c.in-Some.number < length c.in-Some-body.body.operators = omega arith in
-    rw (point_is c.args.self.now c.args.arguments.now _ c.in-Some.number c.in-Some-body.body c.in-len1.len_at_least c.in-len1.len_below c.in-Some.ensures body below)
-    (rw (← c.self.view_is, c.new.ensures) (prints _ _ c.block_line.result (rw c.block_at-block.ensures.function at c.block_line.ensures)))
+    rw (
+      only_is number_of (texts c.args.arguments.now) _ c.in_ok-only.ensures ∙ sym c.in-Some.ensures,
+      point_is c.args.self.now c.in-Some.number c.in-Some-body.body body below,
+    )
+    (rw (← c.self.view_is, c.new.ensures, c.in_ok-line.ensures, c.block_at-block.ensures))

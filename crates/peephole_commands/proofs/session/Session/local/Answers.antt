@@ -1,7 +1,10 @@
-use Rattle.peephole_commands.proofs.Steps.{local_added}
+use Rattle.std.proofs.Common.{◌∙◌, sym}
+use Rattle.peephole_script.specs.Arguments.{type_of}
+use Rattle.peephole_script.specs.Text.{texts}
+use Rattle.peephole_commands.proofs.Steps.{only_is}
 use Rattle.peephole_commands.proofs.session.Session.local.Goals as goal
 
 pub returns : goal.returns
 returns c =
-    rw (local_added c.args.self.now c.args.arguments.now _ c.in-Some.value c.in-len1.len_at_least c.in-len1.len_below c.in-Some.ensures)
+    rw (only_is type_of (texts c.args.arguments.now) _ c.in_ok-only.ensures ∙ sym c.in-Some.ensures)
     (rw (← c.self.view_is, c.in_ok-push.ensures.items, c.new.ensures.items))

@@ -1,7 +1,9 @@
-use Rattle.peephole_commands.proofs.Steps.{word_added}
+use Rattle.std.proofs.Common.{◌∙◌, sym}
+use Rattle.peephole_script.specs.Text.{texts, number_of}
+use Rattle.peephole_commands.proofs.Steps.{only_is}
 use Rattle.peephole_commands.proofs.session.Session.word.Goals as goal
 
 pub returns : goal.returns
 returns c =
-    rw (word_added c.args.self.now c.args.arguments.now _ c.in-Some.number c.in-len1.len_at_least c.in-len1.len_below c.in-Some.ensures)
+    rw (only_is number_of (texts c.args.arguments.now) _ c.in_ok-only.ensures ∙ sym c.in-Some.ensures)
     (rw (← c.self.view_is, c.in_ok-push.ensures.items, c.new.ensures.items))

@@ -6,23 +6,38 @@ use Rattle.peephole_lang.proofs.lang.Lang.children_mut.Goals as goal
 
 pub returns-in-RandI32 : goal.returns-in-RandI32
 unfolding with_ids ids_of
-returns-in-RandI32 c = ((refl, λ w. c.in-RandI32.is ∙ sym (ap (λ l. with_ids l w) c.in-RandI32.is)), record { lends = tt; value = c.lend_none.ensures.value ∙ sym (ap ids_of c.in-RandI32.is) })
+returns-in-RandI32 c = (
+  (refl, λ w. c.in-RandI32.is ∙ sym (ap (λ l. with_ids l w) c.in-RandI32.is)),
+  record { lends = tt; value = c.lend_none.ensures.value ∙ sym (ap ids_of c.in-RandI32.is) },
+)
 
 pub returns-in-RandI64 : goal.returns-in-RandI64
 unfolding with_ids ids_of
-returns-in-RandI64 c = ((refl, λ w. c.in-RandI64.is ∙ sym (ap (λ l. with_ids l w) c.in-RandI64.is)), record { lends = tt; value = c.lend_none-in-RandI64.ensures.value ∙ sym (ap ids_of c.in-RandI64.is) })
+returns-in-RandI64 c = (
+  (refl, λ w. c.in-RandI64.is ∙ sym (ap (λ l. with_ids l w) c.in-RandI64.is)),
+  record { lends = tt; value = c.lend_none-in-RandI64.ensures.value ∙ sym (ap ids_of c.in-RandI64.is) },
+)
 
 pub returns-in-RandF32 : goal.returns-in-RandF32
 unfolding with_ids ids_of
-returns-in-RandF32 c = ((refl, λ w. c.in-RandF32.is ∙ sym (ap (λ l. with_ids l w) c.in-RandF32.is)), record { lends = tt; value = c.lend_none-in-RandF32.ensures.value ∙ sym (ap ids_of c.in-RandF32.is) })
+returns-in-RandF32 c = (
+  (refl, λ w. c.in-RandF32.is ∙ sym (ap (λ l. with_ids l w) c.in-RandF32.is)),
+  record { lends = tt; value = c.lend_none-in-RandF32.ensures.value ∙ sym (ap ids_of c.in-RandF32.is) },
+)
 
 pub returns-in-RandF64 : goal.returns-in-RandF64
 unfolding with_ids ids_of
-returns-in-RandF64 c = ((refl, λ w. c.in-RandF64.is ∙ sym (ap (λ l. with_ids l w) c.in-RandF64.is)), record { lends = tt; value = c.lend_none-in-RandF64.ensures.value ∙ sym (ap ids_of c.in-RandF64.is) })
+returns-in-RandF64 c = (
+  (refl, λ w. c.in-RandF64.is ∙ sym (ap (λ l. with_ids l w) c.in-RandF64.is)),
+  record { lends = tt; value = c.lend_none-in-RandF64.ensures.value ∙ sym (ap ids_of c.in-RandF64.is) },
+)
 
 pub returns-in-Undef : goal.returns-in-Undef
 unfolding with_ids ids_of
-returns-in-Undef c = ((refl, λ w. c.in-Undef.is ∙ sym (ap (λ l. with_ids l w) c.in-Undef.is)), record { lends = tt; value = c.lend_none-in-Undef.ensures.value ∙ sym (ap ids_of c.in-Undef.is) })
+returns-in-Undef c = (
+  (refl, λ w. c.in-Undef.is ∙ sym (ap (λ l. with_ids l w) c.in-Undef.is)),
+  record { lends = tt; value = c.lend_none-in-Undef.ensures.value ∙ sym (ap ids_of c.in-Undef.is) },
+)
 
 pub returns-in-UnfoldI32 : goal.returns-in-UnfoldI32
 unfolding with_ids ids_of
@@ -54,7 +69,14 @@ returns-in-Container c = ((refl, λ w. rw c.in-Container.is refl), record { lend
 
 pub returns-in-Nop : goal.returns-in-Nop
 unfolding with_ids ids_of
-returns-in-Nop c = ((refl, λ w. c.in-Nop.is ∙ sym (ap (λ l. with_ids l w) c.in-Nop.is)), record { lends = tt; value = c.lend_none-in-Nop.ensures.value ∙ sym (ap ids_of c.in-Nop.is) })
+returns-in-Nop c = (
+  (refl, λ w. c.in-Nop.is ∙ sym (ap (λ l. with_ids l w) c.in-Nop.is)),
+  record {
+    lends = tt;
+    value = c.lend_none-in-Nop.ensures.value
+        ∙ sym (ap ids_of c.in-Nop.is);
+  },
+)
 
 pub returns-in-Call : goal.returns-in-Call
 unfolding with_ids ids_of
@@ -70,7 +92,10 @@ returns-in-Select c = ((refl, λ w. rw c.in-Select.is refl), record { lends = tt
 
 pub returns-in-LocalGet : goal.returns-in-LocalGet
 unfolding with_ids ids_of
-returns-in-LocalGet c = ((refl, λ w. c.in-LocalGet.is ∙ sym (ap (λ l. with_ids l w) c.in-LocalGet.is)), record { lends = tt; value = c.lend_none-in-LocalGet.ensures.value ∙ sym (ap ids_of c.in-LocalGet.is) })
+returns-in-LocalGet c = (
+  (refl, λ w. c.in-LocalGet.is ∙ sym (ap (λ l. with_ids l w) c.in-LocalGet.is)),
+  record { lends = tt; value = c.lend_none-in-LocalGet.ensures.value ∙ sym (ap ids_of c.in-LocalGet.is) },
+)
 
 pub returns-in-LocalSet : goal.returns-in-LocalSet
 unfolding with_ids ids_of
@@ -82,7 +107,10 @@ returns-in-LocalTee c = ((refl, λ w. rw c.in-LocalTee.is refl), record { lends 
 
 pub returns-in-GlobalGet : goal.returns-in-GlobalGet
 unfolding with_ids ids_of
-returns-in-GlobalGet c = ((refl, λ w. c.in-GlobalGet.is ∙ sym (ap (λ l. with_ids l w) c.in-GlobalGet.is)), record { lends = tt; value = c.lend_none-in-GlobalGet.ensures.value ∙ sym (ap ids_of c.in-GlobalGet.is) })
+returns-in-GlobalGet c = (
+  (refl, λ w. c.in-GlobalGet.is ∙ sym (ap (λ l. with_ids l w) c.in-GlobalGet.is)),
+  record { lends = tt; value = c.lend_none-in-GlobalGet.ensures.value ∙ sym (ap ids_of c.in-GlobalGet.is) },
+)
 
 pub returns-in-GlobalSet : goal.returns-in-GlobalSet
 unfolding with_ids ids_of
@@ -190,7 +218,10 @@ returns-in-I64Store32 c = ((refl, λ w. rw c.in-I64Store32.is refl), record { le
 
 pub returns-in-MemorySize : goal.returns-in-MemorySize
 unfolding with_ids ids_of
-returns-in-MemorySize c = ((refl, λ w. c.in-MemorySize.is ∙ sym (ap (λ l. with_ids l w) c.in-MemorySize.is)), record { lends = tt; value = c.lend_none-in-MemorySize.ensures.value ∙ sym (ap ids_of c.in-MemorySize.is) })
+returns-in-MemorySize c = (
+  (refl, λ w. c.in-MemorySize.is ∙ sym (ap (λ l. with_ids l w) c.in-MemorySize.is)),
+  record { lends = tt; value = c.lend_none-in-MemorySize.ensures.value ∙ sym (ap ids_of c.in-MemorySize.is) },
+)
 
 pub returns-in-MemoryGrow : goal.returns-in-MemoryGrow
 unfolding with_ids ids_of
@@ -198,23 +229,54 @@ returns-in-MemoryGrow c = ((refl, λ w. rw c.in-MemoryGrow.is refl), record { le
 
 pub returns-in-I32 : goal.returns-in-I32
 unfolding with_ids ids_of
-returns-in-I32 c = ((refl, λ w. c.in-I32.is ∙ sym (ap (λ l. with_ids l w) c.in-I32.is)), record { lends = tt; value = c.lend_none-in-I32.ensures.value ∙ sym (ap ids_of c.in-I32.is) })
+returns-in-I32 c = (
+  (refl, λ w. c.in-I32.is ∙ sym (ap (λ l. with_ids l w) c.in-I32.is)),
+  record {
+    lends = tt;
+    value = c.lend_none-in-I32.ensures.value
+        ∙ sym (ap ids_of c.in-I32.is);
+  },
+)
 
 pub returns-in-I64 : goal.returns-in-I64
 unfolding with_ids ids_of
-returns-in-I64 c = ((refl, λ w. c.in-I64.is ∙ sym (ap (λ l. with_ids l w) c.in-I64.is)), record { lends = tt; value = c.lend_none-in-I64.ensures.value ∙ sym (ap ids_of c.in-I64.is) })
+returns-in-I64 c = (
+  (refl, λ w. c.in-I64.is ∙ sym (ap (λ l. with_ids l w) c.in-I64.is)),
+  record {
+    lends = tt;
+    value = c.lend_none-in-I64.ensures.value
+        ∙ sym (ap ids_of c.in-I64.is);
+  },
+)
 
 pub returns-in-F32 : goal.returns-in-F32
 unfolding with_ids ids_of
-returns-in-F32 c = ((refl, λ w. c.in-F32.is ∙ sym (ap (λ l. with_ids l w) c.in-F32.is)), record { lends = tt; value = c.lend_none-in-F32.ensures.value ∙ sym (ap ids_of c.in-F32.is) })
+returns-in-F32 c = (
+  (refl, λ w. c.in-F32.is ∙ sym (ap (λ l. with_ids l w) c.in-F32.is)),
+  record {
+    lends = tt;
+    value = c.lend_none-in-F32.ensures.value
+        ∙ sym (ap ids_of c.in-F32.is);
+  },
+)
 
 pub returns-in-F64 : goal.returns-in-F64
 unfolding with_ids ids_of
-returns-in-F64 c = ((refl, λ w. c.in-F64.is ∙ sym (ap (λ l. with_ids l w) c.in-F64.is)), record { lends = tt; value = c.lend_none-in-F64.ensures.value ∙ sym (ap ids_of c.in-F64.is) })
+returns-in-F64 c = (
+  (refl, λ w. c.in-F64.is ∙ sym (ap (λ l. with_ids l w) c.in-F64.is)),
+  record {
+    lends = tt;
+    value = c.lend_none-in-F64.ensures.value
+        ∙ sym (ap ids_of c.in-F64.is);
+  },
+)
 
 pub returns-in-RefNull : goal.returns-in-RefNull
 unfolding with_ids ids_of
-returns-in-RefNull c = ((refl, λ w. c.in-RefNull.is ∙ sym (ap (λ l. with_ids l w) c.in-RefNull.is)), record { lends = tt; value = c.lend_none-in-RefNull.ensures.value ∙ sym (ap ids_of c.in-RefNull.is) })
+returns-in-RefNull c = (
+  (refl, λ w. c.in-RefNull.is ∙ sym (ap (λ l. with_ids l w) c.in-RefNull.is)),
+  record { lends = tt; value = c.lend_none-in-RefNull.ensures.value ∙ sym (ap ids_of c.in-RefNull.is) },
+)
 
 pub returns-in-RefIsNull : goal.returns-in-RefIsNull
 unfolding with_ids ids_of
@@ -222,7 +284,10 @@ returns-in-RefIsNull c = ((refl, λ w. rw c.in-RefIsNull.is refl), record { lend
 
 pub returns-in-RefFunc : goal.returns-in-RefFunc
 unfolding with_ids ids_of
-returns-in-RefFunc c = ((refl, λ w. c.in-RefFunc.is ∙ sym (ap (λ l. with_ids l w) c.in-RefFunc.is)), record { lends = tt; value = c.lend_none-in-RefFunc.ensures.value ∙ sym (ap ids_of c.in-RefFunc.is) })
+returns-in-RefFunc c = (
+  (refl, λ w. c.in-RefFunc.is ∙ sym (ap (λ l. with_ids l w) c.in-RefFunc.is)),
+  record { lends = tt; value = c.lend_none-in-RefFunc.ensures.value ∙ sym (ap ids_of c.in-RefFunc.is) },
+)
 
 pub returns-in-MemoryInit : goal.returns-in-MemoryInit
 unfolding with_ids ids_of
@@ -230,7 +295,10 @@ returns-in-MemoryInit c = ((refl, λ w. rw c.in-MemoryInit.is refl), record { le
 
 pub returns-in-DataDrop : goal.returns-in-DataDrop
 unfolding with_ids ids_of
-returns-in-DataDrop c = ((refl, λ w. c.in-DataDrop.is ∙ sym (ap (λ l. with_ids l w) c.in-DataDrop.is)), record { lends = tt; value = c.lend_none-in-DataDrop.ensures.value ∙ sym (ap ids_of c.in-DataDrop.is) })
+returns-in-DataDrop c = (
+  (refl, λ w. c.in-DataDrop.is ∙ sym (ap (λ l. with_ids l w) c.in-DataDrop.is)),
+  record { lends = tt; value = c.lend_none-in-DataDrop.ensures.value ∙ sym (ap ids_of c.in-DataDrop.is) },
+)
 
 pub returns-in-MemoryCopy : goal.returns-in-MemoryCopy
 unfolding with_ids ids_of
@@ -246,7 +314,10 @@ returns-in-TableInit c = ((refl, λ w. rw c.in-TableInit.is refl), record { lend
 
 pub returns-in-ElemDrop : goal.returns-in-ElemDrop
 unfolding with_ids ids_of
-returns-in-ElemDrop c = ((refl, λ w. c.in-ElemDrop.is ∙ sym (ap (λ l. with_ids l w) c.in-ElemDrop.is)), record { lends = tt; value = c.lend_none-in-ElemDrop.ensures.value ∙ sym (ap ids_of c.in-ElemDrop.is) })
+returns-in-ElemDrop c = (
+  (refl, λ w. c.in-ElemDrop.is ∙ sym (ap (λ l. with_ids l w) c.in-ElemDrop.is)),
+  record { lends = tt; value = c.lend_none-in-ElemDrop.ensures.value ∙ sym (ap ids_of c.in-ElemDrop.is) },
+)
 
 pub returns-in-TableCopy : goal.returns-in-TableCopy
 unfolding with_ids ids_of
@@ -258,7 +329,10 @@ returns-in-TableGrow c = ((refl, λ w. rw c.in-TableGrow.is refl), record { lend
 
 pub returns-in-TableSize : goal.returns-in-TableSize
 unfolding with_ids ids_of
-returns-in-TableSize c = ((refl, λ w. c.in-TableSize.is ∙ sym (ap (λ l. with_ids l w) c.in-TableSize.is)), record { lends = tt; value = c.lend_none-in-TableSize.ensures.value ∙ sym (ap ids_of c.in-TableSize.is) })
+returns-in-TableSize c = (
+  (refl, λ w. c.in-TableSize.is ∙ sym (ap (λ l. with_ids l w) c.in-TableSize.is)),
+  record { lends = tt; value = c.lend_none-in-TableSize.ensures.value ∙ sym (ap ids_of c.in-TableSize.is) },
+)
 
 pub returns-in-TableFill : goal.returns-in-TableFill
 unfolding with_ids ids_of

@@ -11,6 +11,6 @@ unwrap-requires c =
     let len = c.len.ensures in
     let counted : length c.args.children.items ≡ c.len.result = omega (arith, whole, len) in
     c.make.ensures.complete
-    ∙ (ap (is_made c.in-Some.entry.place c.in_ok-payload-in-Some.payload) counted
-    ∙ is_a_node (find_in variants c.args.text.now) c.args.text.now c.in-Some.entry c.in-Some.payload_text.now c.in_ok-payload-in-Some.payload c.len.result refl c.in-Some.ensures
+    ∙ (ap (is_made c.in-Some.variant.place c.in_ok-payload-in-Some.payload) counted
+    ∙ is_a_node (find_in variants c.args.text.now) c.args.text.now c.in-Some.variant c.in-Some.payload_text.now c.in_ok-payload-in-Some.payload c.len.result refl c.in-Some.ensures
     c.in_ok-payload-in-Some.ensures)

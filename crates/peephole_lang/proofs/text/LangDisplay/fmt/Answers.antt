@@ -1,5 +1,5 @@
 use Rattle.std.proofs.Common.{rules}
-use Rattle.peephole_lang.specs.TextLemmas.{text_is}
+use Rattle.peephole_lang.specs.laws.TextLemmas.{text_is}
 use Rattle.peephole_lang.proofs.text.LangDisplay.fmt.Goals as goal
 
 pub returns-clause-writes : goal.returns-clause-writes

@@ -1,13 +1,14 @@
-use Rattle.std.proofs.Common.{ℕ, take, ap, refl, sym, Ok, Err, ◌∙◌}
+use Rattle.std.proofs.Common.{ℕ, take, ap, sym, Ok, Err, ◌∙◌}
 use Rattle.std.proofs.lemmas.Bool.{false≢true}
 use Rattle.mutate_base.specs.Config.{info_of, with_generator}
-use Rattle.mutate_base.specs.ConfigLemmas.{changes_generator_alone, info_of-with_generator, generator_of-with_generator, is_some-info_of}
-use Rattle.peephole_lang.specs.Node.{head_of, children_of}
-use Rattle.peephole_lang.specs.Term.{term_of}
-use Rattle.peephole_graphs.specs.Dfg.{entries_of, parents_of, look_of}
+use Rattle.mutate_base.specs.laws.ConfigLemmas.{changes_generator_alone, info_of-with_generator, generator_of-with_generator, is_some-info_of}
+use Rattle.peephole_graphs.specs.Dfg.{graph_of}
+use Rattle.peephole_terms.specs.EncoderSteps.{writing_of}
+use Rattle.peephole_terms.specs.Expansion.{term_in}
+use Rattle.peephole_terms.specs.Written.{site_at}
 use Rattle.peephole_terms.proofs.BodyLemmas.{inside}
-use Rattle.peephole_terms.proofs.EncoderLemmas.{walkable_under, order_kept, wrote, not_for_order}
-use Rattle.peephole_terms.proofs.SettingLemmas.{body_written, body_asked, body_leaves, body_refused}
+use Rattle.peephole_terms.proofs.EncoderLemmas.{walkable_under, order_kept, order_refused, wrote, not_for_order}
+use Rattle.peephole_terms.proofs.SettingLemmas.{GivenBody, body_given, body_written, body_asked, body_leaves, body_refused}
 use Rattle.peephole_terms.proofs.AgainLemmas.{body_again, body_reread}
 use Rattle.peephole_terms.proofs.SameRunLemmas.{body_runs}
 use Rattle.peephole_terms.proofs.encoder.Encoder.build_function.Goals.{else-preserves_semantics-via-then-preserves_semantics+else-not-keeps_order, else-preserves_semantics-via-else-preserves_semantics}
@@ -18,73 +19,100 @@ outside-requires g c = inside _ _ _ c.requires.body c.requires.block
 
 pub write_body-requires-clause-walkable : goal.write_body-requires-clause-walkable
 write_body-requires-clause-walkable g c =
-    walkable_under (info_of c.args.config.now) _ _ _ (entries_of c.args.dfg.now) (parents_of c.args.dfg.now) (look_of c.args.dfg.now) (is_some-info_of c.args.config.now ∙ c.requires.set_up) c.requires.graph
+    walkable_under (info_of c.args.config.now) c.args.config.now.preserving c.args.operators.now c.args.basicblock.now (graph_of c.args.dfg.now)
+    (is_some-info_of c.args.config.now ∙ c.requires.set_up) c.requires.graph
 
-pub returns-in-Ok-clause-written : goal.returns-in-Ok-clause-written
-returns-in-Ok-clause-written g c =
-    let w = c.in-Ok.ensures.ok in
-    body_written g.R.Rng.stream c.args.config.now c.info.result.now c.rng-rng.result.now c.get_global_count-globals.result c.args.input_wasm.now c.args.operators.now c.args.basicblock.now c.args.insertion_point (entries_of c.args.dfg.now) (entries_of c.args.dfg.now) (parents_of c.args.dfg.now) (parents_of c.args.dfg.now) (look_of c.args.dfg.now) (term_of head_of children_of c.args.expr.now) (term_of head_of children_of c.as_ref.result.now) _ _ _ w.0 _ _ _ _
-    (record { info_is = c.info.ensures; generator_is = c.rng-rng.ensures.value; count_is = c.get_global_count-globals.ensures }) (record { graph = c.requires.graph; entries_are = refl; parents_are = refl; term_is = ap (term_of head_of children_of) c.as_ref.ensures.nodes }) c.new-requests.ensures.items c.outside.ensures.before c.outside.ensures.after w.1 w.2
+pub returns-then-not-keeps_order-clause-order : goal.returns-then-not-keeps_order-clause-order
+returns-then-not-keeps_order-clause-order g c =
+    order_refused _ (info_of c.args.config.now) c.args.config.now.preserving
+    (site_at c.args.input_wasm.now c.args.operators.now c.args.basicblock.now c.args.insertion_point) (graph_of c.args.dfg.now)
+    (sym c.preserves_semantics.ensures ∙ c.if-preserves_semantics.true) c.requires.graph (λ o. let t = c.keeps_order.ensures.1 o in cc)
 
-pub returns-in-Ok-clause-reads_again : goal.returns-in-Ok-clause-reads_again
-returns-in-Ok-clause-reads_again g c =
-    body_again c.code_spells.ensures g.R.Rng.stream c.args.config.now c.info.result.now c.rng-rng.result.now c.get_global_count-globals.result c.args.input_wasm.now c.args.operators.now c.args.basicblock.now c.args.insertion_point (entries_of c.args.dfg.now) (entries_of c.args.dfg.now) (parents_of c.args.dfg.now) (parents_of c.args.dfg.now) (look_of c.args.dfg.now) (term_of head_of children_of c.args.expr.now) (term_of head_of children_of c.as_ref.result.now) _ _
-    (record { info_is = c.info.ensures; generator_is = c.rng-rng.ensures.value; count_is = c.get_global_count-globals.ensures }) (record { graph = c.requires.graph; entries_are = refl; parents_are = refl; term_is = ap (term_of head_of children_of) c.as_ref.ensures.nodes }) c.in-Ok.ensures.in_range c.requires.body c.requires.block
-    (returns-in-Ok-clause-written g c)
+pub returns-in-Ok : goal.returns-in-Ok
+returns-in-Ok g c =
+    let site = site_at c.args.input_wasm.now c.args.operators.now c.args.basicblock.now c.args.insertion_point in
+    let graph = graph_of c.args.dfg.now in
+    let body : GivenBody g.row.R.Denot = record {
+      given = record {
+        stream = g.R.Rng.stream;
+        config = c.args.config.now;
+        info = c.info.result.now;
+        generator = c.rng-rng.result.now;
+        count = c.get_global_count-globals.result;
+        info_is = c.info.ensures;
+        generator_is = c.rng-rng.ensures.value;
+        count_is = c.get_global_count-globals.ensures;
+        term = term_in c.args.expr.now;
+        old = c.args.newfunc.now;
+      };
+      site = site;
+      graph = graph;
+      is_graph = c.requires.graph;
+    } in
+    let rng = c.write_body.new.rng in
+    let left = with_generator rng c.args.config.now in
+    let asked = c.write_body.new.requests.items in
+    let v = writing_of c.write_body.new.newfunc asked (g.R.Rng.stream rng) in
+    let done = body_given c.args.insertion_point graph.entries graph.parents c.outside.ensures.before c.outside.ensures.after
+    (ap term_in c.as_ref.ensures.nodes) c.new-requests.ensures.items c.in-Ok.ensures in
+    record {
+      written = body_written body v done;
+      reads_again = body_again c.code_spells.ensures body v c.requires.body c.requires.block done;
+      reread = body_reread c.code_spells.ensures body v c.requires.body c.requires.block done;
+      same_run = body_runs body v done;
+      requests = body_asked body v done;
+      generator = body_leaves body left rng c.write_body.new.newfunc asked (info_of-with_generator rng c.args.config.now)
+          (generator_of-with_generator rng c.args.config.now c.requires.set_up) done;
+      order = order_kept (info_of c.args.config.now) c.args.config.now.preserving site graph (Ok c.write_body.new.requests) c.requires.graph
+          (λ preserving. elim c.else-preserves_semantics.branch [
+            | else-preserves_semantics-via-then-preserves_semantics+else-not-keeps_order w ↦ w.keeps_order.ensures.0 w.if-not-keeps_order.false
+            | else-preserves_semantics-via-else-preserves_semantics w ↦
+                absurd (false≢true (sym w.if-preserves_semantics.false ∙ (c.preserves_semantics.ensures ∙ preserving)))
+          ]) (wrote c.write_body.new.requests);
+      refusal = tt;
+      restored = tt;
+      unchanged = changes_generator_alone rng c.args.config.now;
+    }
 
-pub returns-in-Ok-clause-reread : goal.returns-in-Ok-clause-reread
-returns-in-Ok-clause-reread g c =
-    body_reread c.code_spells.ensures g.R.Rng.stream c.args.config.now c.info.result.now c.rng-rng.result.now c.get_global_count-globals.result c.args.input_wasm.now c.args.operators.now c.args.basicblock.now c.args.insertion_point (entries_of c.args.dfg.now) (entries_of c.args.dfg.now) (parents_of c.args.dfg.now) (parents_of c.args.dfg.now) (look_of c.args.dfg.now) (term_of head_of children_of c.args.expr.now) (term_of head_of children_of c.as_ref.result.now) _ _
-    (record { info_is = c.info.ensures; generator_is = c.rng-rng.ensures.value; count_is = c.get_global_count-globals.ensures }) (record { graph = c.requires.graph; entries_are = refl; parents_are = refl; term_is = ap (term_of head_of children_of) c.as_ref.ensures.nodes }) c.in-Ok.ensures.in_range c.requires.body c.requires.block
-    (returns-in-Ok-clause-written g c)
-
-pub returns-in-Ok-clause-same_run : goal.returns-in-Ok-clause-same_run
-returns-in-Ok-clause-same_run g c =
-    body_runs g.R.Rng.stream c.args.config.now c.info.result.now c.rng-rng.result.now c.get_global_count-globals.result c.args.input_wasm.now c.args.operators.now c.args.basicblock.now c.args.insertion_point (entries_of c.args.dfg.now) (entries_of c.args.dfg.now) (parents_of c.args.dfg.now) (parents_of c.args.dfg.now) (look_of c.args.dfg.now) (term_of head_of children_of c.args.expr.now) (term_of head_of children_of c.as_ref.result.now) _ _
-    (record { info_is = c.info.ensures; generator_is = c.rng-rng.ensures.value; count_is = c.get_global_count-globals.ensures }) (record { graph = c.requires.graph; entries_are = refl; parents_are = refl; term_is = ap (term_of head_of children_of) c.as_ref.ensures.nodes })
-    (returns-in-Ok-clause-written g c)
-
-pub returns-in-Ok-clause-requests : goal.returns-in-Ok-clause-requests
-returns-in-Ok-clause-requests g c =
-    let w = c.in-Ok.ensures.ok in
-    body_asked g.R.Rng.stream c.args.config.now c.info.result.now c.rng-rng.result.now c.get_global_count-globals.result c.args.operators.now c.args.basicblock.now c.args.insertion_point (entries_of c.args.dfg.now) (entries_of c.args.dfg.now) (parents_of c.args.dfg.now) (parents_of c.args.dfg.now) (look_of c.args.dfg.now) (term_of head_of children_of c.args.expr.now) (term_of head_of children_of c.as_ref.result.now) _ w.0 _ _ _
-    (record { info_is = c.info.ensures; generator_is = c.rng-rng.ensures.value; count_is = c.get_global_count-globals.ensures }) (record { graph = c.requires.graph; entries_are = refl; parents_are = refl; term_is = ap (term_of head_of children_of) c.as_ref.ensures.nodes }) c.new-requests.ensures.items w.2
-
-pub returns-in-Ok-clause-generator : goal.returns-in-Ok-clause-generator
-returns-in-Ok-clause-generator g c =
-    let w = c.in-Ok.ensures.ok in
-    body_leaves g.R.Rng.stream c.args.config.now (with_generator c.write_body.new.rng c.args.config.now) c.info.result.now c.rng-rng.result.now c.write_body.new.rng c.get_global_count-globals.result c.args.operators.now c.args.basicblock.now c.args.insertion_point (entries_of c.args.dfg.now) (entries_of c.args.dfg.now) (parents_of c.args.dfg.now) (parents_of c.args.dfg.now) (look_of c.args.dfg.now) (term_of head_of children_of c.args.expr.now) (term_of head_of children_of c.as_ref.result.now) _ w.0 _ _
-    (record { info_is = c.info.ensures; generator_is = c.rng-rng.ensures.value; count_is = c.get_global_count-globals.ensures }) (info_of-with_generator c.write_body.new.rng c.args.config.now) (generator_of-with_generator c.write_body.new.rng c.args.config.now c.requires.set_up) (record { graph = c.requires.graph; entries_are = refl; parents_are = refl; term_is = ap (term_of head_of children_of) c.as_ref.ensures.nodes }) c.new-requests.ensures.items w.2
-
-pub returns-in-Err-clause-refusal : goal.returns-in-Err-clause-refusal
-returns-in-Err-clause-refusal g c other =
-    body_refused g.R.Rng.stream c.args.config.now c.info.result.now c.rng-rng.result.now c.get_global_count-globals.result c.args.operators.now c.args.basicblock.now c.args.insertion_point (entries_of c.args.dfg.now) (entries_of c.args.dfg.now) (parents_of c.args.dfg.now) (parents_of c.args.dfg.now) (look_of c.args.dfg.now) (term_of head_of children_of c.args.expr.now) (term_of head_of children_of c.as_ref.result.now) _ _ c.in-Err.refusal
-    (record { info_is = c.info.ensures; generator_is = c.rng-rng.ensures.value; count_is = c.get_global_count-globals.ensures }) (record { graph = c.requires.graph; entries_are = refl; parents_are = refl; term_is = ap (term_of head_of children_of) c.as_ref.ensures.nodes }) c.new-requests.ensures.items c.in-Err.ensures.err
-
-pub returns-in-Ok-clause-order : goal.returns-in-Ok-clause-order
-returns-in-Ok-clause-order g c =
-    order_kept (info_of c.args.config.now) _ _ _ (entries_of c.args.dfg.now) (parents_of c.args.dfg.now) (look_of c.args.dfg.now) (Ok c.write_body.new.requests) c.requires.graph
-    (λ keeping. elim c.else-preserves_semantics.branch [
-      | else-preserves_semantics-via-then-preserves_semantics+else-not-keeps_order w ↦ w.keeps_order.ensures.0 w.if-not-keeps_order.false
-      | else-preserves_semantics-via-else-preserves_semantics w ↦ absurd (false≢true (sym w.if-preserves_semantics.false ∙ (c.preserves_semantics.ensures ∙ keeping)))
-    ])
-    (wrote c.write_body.new.requests)
-
-pub returns-in-Err-clause-order : goal.returns-in-Err-clause-order
-returns-in-Err-clause-order g c =
-    order_kept (info_of c.args.config.now) _ _ _ (entries_of c.args.dfg.now) (parents_of c.args.dfg.now) (look_of c.args.dfg.now) (Err c.in-Err.refusal) c.requires.graph
-    (λ keeping. elim c.else-preserves_semantics.branch [
-      | else-preserves_semantics-via-then-preserves_semantics+else-not-keeps_order w ↦ w.keeps_order.ensures.0 w.if-not-keeps_order.false
-      | else-preserves_semantics-via-else-preserves_semantics w ↦ absurd (false≢true (sym w.if-preserves_semantics.false ∙ (c.preserves_semantics.ensures ∙ keeping)))
-    ])
-    (not_for_order c.in-Err.refusal _ c.in-Err.ensures.err)
-
-pub returns-in-Err-clause-restored : goal.returns-in-Err-clause-restored
-returns-in-Err-clause-restored g c =
-    c.truncate.ensures ∙ (ap (λ (n : ℕ). take n c.write_body.new.newfunc) c.len-old_len.ensures ∙ c.write_body.ensures.kept)
-
-pub returns-in-Ok-clause-unchanged : goal.returns-in-Ok-clause-unchanged
-returns-in-Ok-clause-unchanged g c = changes_generator_alone c.write_body.new.rng c.args.config.now
-
-pub returns-in-Err-clause-unchanged : goal.returns-in-Err-clause-unchanged
-returns-in-Err-clause-unchanged g c = changes_generator_alone c.write_body.new.rng c.args.config.now
+pub returns-in-Err : goal.returns-in-Err
+returns-in-Err g c =
+    let site = site_at c.args.input_wasm.now c.args.operators.now c.args.basicblock.now c.args.insertion_point in
+    let graph = graph_of c.args.dfg.now in
+    let body : GivenBody g.row.R.Denot = record {
+      given = record {
+        stream = g.R.Rng.stream;
+        config = c.args.config.now;
+        info = c.info.result.now;
+        generator = c.rng-rng.result.now;
+        count = c.get_global_count-globals.result;
+        info_is = c.info.ensures;
+        generator_is = c.rng-rng.ensures.value;
+        count_is = c.get_global_count-globals.ensures;
+        term = term_in c.args.expr.now;
+        old = c.args.newfunc.now;
+      };
+      site = site;
+      graph = graph;
+      is_graph = c.requires.graph;
+    } in
+    let rng = c.write_body.new.rng in
+    let v = writing_of c.write_body.new.newfunc c.write_body.new.requests.items (g.R.Rng.stream rng) in
+    let done = body_given c.args.insertion_point graph.entries graph.parents c.outside.ensures.before c.outside.ensures.after
+    (ap term_in c.as_ref.ensures.nodes) c.new-requests.ensures.items c.in-Err.ensures in
+    record {
+      written = tt;
+      reads_again = tt;
+      reread = tt;
+      same_run = tt;
+      requests = tt;
+      generator = tt;
+      order = order_kept (info_of c.args.config.now) c.args.config.now.preserving site graph (Err c.in-Err.refusal) c.requires.graph
+          (λ preserving. elim c.else-preserves_semantics.branch [
+            | else-preserves_semantics-via-then-preserves_semantics+else-not-keeps_order w ↦ w.keeps_order.ensures.0 w.if-not-keeps_order.false
+            | else-preserves_semantics-via-else-preserves_semantics w ↦
+                absurd (false≢true (sym w.if-preserves_semantics.false ∙ (c.preserves_semantics.ensures ∙ preserving)))
+          ]) (not_for_order c.in-Err.refusal _ c.in-Err.ensures.err);
+      refusal = body_refused body v c.in-Err.refusal done;
+      restored = c.truncate.ensures ∙ (ap (λ (n : ℕ). take n c.write_body.new.newfunc) c.len-old_len.ensures ∙ c.in-Err.ensures.kept);
+      unchanged = changes_generator_alone rng c.args.config.now;
+    }
