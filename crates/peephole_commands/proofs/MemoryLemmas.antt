@@ -44,7 +44,7 @@ use Rattle.peephole_script.specs.Declarations.{declared}
 use Rattle.peephole_script.specs.Text.{is_text, words_of, number_of}
 use Rattle.peephole_commands.specs.declared.graphs.Refusal.{Refusal}
 use Rattle.peephole_commands.specs.declared.graphs.Refusal.TheVariants as refusal
-use Rattle.peephole_commands.specs.Arguments.{only, all_below}
+use Rattle.peephole_commands.specs.Arguments.{only_word, all_below}
 use Rattle.peephole_commands.specs.Body.{Contents, with_operators, body_of}
 use Rattle.peephole_commands.specs.Commands.{with_argument, body_read, at_body, node_read, node_with, node_step, place_at, place_in, working_place, at_working_place, command_step, run_command, words_step, step_line}
 use Rattle.peephole_commands.specs.Graphs.{refusal_of, of_graph}
@@ -130,14 +130,14 @@ working_sound s (word ∷ words) text = (λ e. cc, λ e. cc)
 
 command_sound : HasNoMemoryFault → (c : Command) (s : SessionState) (words : List (List ℕ)) → Sound (command_step c s words)
 command_sound law name.Body s words = argument_sound (result_ok (decode_of (concat words))) _ (body_sound law s)
-command_sound law name.At s words = argument_sound (only number_of words) _ (λ n. at_sound s n s.body)
+command_sound law name.At s words = argument_sound (only_word number_of words) _ (λ n. at_sound s n s.body)
 command_sound law name.Node s words = node_sound s words
 command_sound law name.Write s words = working_sound s words _
 command_sound law name.Show s words = working_sound s words _
 command_sound law name.Result s words = working_sound s words _
-command_sound law name.Local s words = argument_sound (only type_of words) _ (λ t. tt)
-command_sound law name.Preserve s words = argument_sound (only is_yes words) _ (λ b. tt)
-command_sound law name.Word s words = argument_sound (only number_of words) _ (λ n. tt)
+command_sound law name.Local s words = argument_sound (only_word type_of words) _ (λ t. tt)
+command_sound law name.Preserve s words = argument_sound (only_word is_yes words) _ (λ b. tt)
+command_sound law name.Word s words = argument_sound (only_word number_of words) _ (λ n. tt)
 command_sound law (name.Declare declaration) s words = argument_sound (declared declaration s.info words) _ (λ info. tt)
 
 words_sound : HasNoMemoryFault → (s : SessionState) (words : List (List ℕ)) → Sound (words_step s words)

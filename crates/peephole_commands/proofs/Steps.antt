@@ -10,14 +10,14 @@ use Rattle.peephole_lang.specs.Term.{numbers_of}
 use Rattle.peephole_lang.specs.Text.{reads}
 use Rattle.peephole_graphs.specs.Block.{BlockRange, IsBlockOf, FindsTheBlock, block_at}
 use Rattle.peephole_commands.specs.declared.place.Point.{Point}
-use Rattle.peephole_commands.specs.Arguments.{only, children_of}
+use Rattle.peephole_commands.specs.Arguments.{only_word, children_of}
 use Rattle.peephole_commands.specs.Body.{Contents, body_of}
 use Rattle.peephole_commands.specs.Commands.{quiet, body_step, at_body, node_read, node_with, block_line}
 use Rattle.peephole_commands.specs.State.{SessionState, IsPointOf, PointsInto}
 
 -- the only word decides
-pub only_is : {A : Type 0} (value : List ℕ → Option A) (words : List (List ℕ)) (word : List ℕ) → only (λ w. Some w) words ≡ Some word →
-    only value words ≡ value word
+pub only_is : {A : Type 0} (value : List ℕ → Option A) (words : List (List ℕ)) (word : List ℕ) → only_word (λ w. Some w) words ≡ Some word →
+    only_word value words ≡ value word
 only_is value [] word h = absurd (cc)
 only_is value (w ∷ []) word h = ap value (cc)
 only_is value (w ∷ other ∷ words) word h = absurd (cc)

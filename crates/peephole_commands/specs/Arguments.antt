@@ -9,9 +9,9 @@ use Rattle.peephole_script.specs.Text.{number_of}
 use Rattle.peephole_script.specs.Arguments.{all_of}
 
 -- the value of the only word
-abbrev pub only : {A : Type 0} → (List ℕ → Option A) → List (List ℕ) → Option A
-only value (word ∷ []) = value word
-only value _ = None
+abbrev pub only_word : {A : Type 0} → (List ℕ → Option A) → List (List ℕ) → Option A
+only_word value (word ∷ []) = value word
+only_word value _ = None
 
 -- the numbers, if there are any and each is below the count
 abbrev pub all_below : ℕ → Option (List ℕ) → Result (List ℕ) Fault

@@ -33,7 +33,7 @@ use Rattle.peephole_script.specs.Command.{command_of}
 use Rattle.peephole_commands.specs.Body.{Contents, body_of}
 use Rattle.peephole_script.specs.Declarations.{declared}
 use Rattle.peephole_commands.specs.State.{SessionState, Reply}
-use Rattle.peephole_commands.specs.Arguments.{only, children_of}
+use Rattle.peephole_commands.specs.Arguments.{only_word, children_of}
 use Rattle.peephole_commands.specs.Graphs.{site_of}
 use Rattle.peephole_commands.specs.Writing.{Output, written_output}
 use Rattle.peephole_commands.specs.Show.{show_output}
@@ -54,15 +54,15 @@ declare_step declaration s words = with_argument (declared declaration s.info wo
 
 -- `local T`: a local of that type
 abbrev pub local_step : SessionState → List (List ℕ) → Result Reply Fault
-local_step s words = with_argument (only type_of words) (λ t. quiet (record s { locals = s.locals ++ t ∷ [] }))
+local_step s words = with_argument (only_word type_of words) (λ t. quiet (record s { locals = s.locals ++ t ∷ [] }))
 
 -- `preserve yes|no`: the mode
 abbrev pub preserve_step : SessionState → List (List ℕ) → Result Reply Fault
-preserve_step s words = with_argument (only is_yes words) (λ preserving. quiet (record s { preserving = preserving }))
+preserve_step s words = with_argument (only_word is_yes words) (λ preserving. quiet (record s { preserving = preserving }))
 
 -- `word N`: a further word to be drawn
 abbrev pub draw_step : SessionState → List (List ℕ) → Result Reply Fault
-draw_step s words = with_argument (only number_of words) (λ n. quiet (record s { words = s.words ++ n ∷ [] }))
+draw_step s words = with_argument (only_word number_of words) (λ n. quiet (record s { words = s.words ++ n ∷ [] }))
 
 -- `body HEX*`: the words joined are the body, in hexadecimal digits; point and nodes are cleared
 abbrev pub body_read : SessionState → Result Contents ReadKind → Result Reply Fault
@@ -85,7 +85,7 @@ at_body s n (Some body) =
     else Err fault.OutOfRange
 
 abbrev pub at_step : SessionState → List (List ℕ) → Result Reply Fault
-at_step s words = with_argument (only number_of words) (λ n. at_body s n s.body)
+at_step s words = with_argument (only_word number_of words) (λ n. at_body s n s.body)
 
 -- `node TEXT ID*`: the text with earlier nodes as children is the next node of the term, where it can be written
 abbrev pub node_added : SessionState → Node Head → Result Reply Fault
@@ -161,12 +161,12 @@ abbrev pub output_lines : Output → List ℕ
 output_lines o = bytes_line o.bytes ++ concat (map global_line o.requests)
 
 -- what it goes by: each time the words from the first one on
-abbrev pub setting_of : SessionState → Setting
-setting_of s = record { info = s.info; stream = word_stream s.words }
+abbrev pub state_setting : SessionState → Setting
+state_setting s = record { info = s.info; stream = word_stream s.words }
 
 abbrev pub write_step : SessionState → List (List ℕ) → Result Reply Fault
 write_step s words = at_working_place s (working_place s words) (λ site.
-    answer_text output_lines (written_output (setting_of s) s.preserving site s.nodes))
+    answer_text output_lines (written_output (state_setting s) s.preserving site s.nodes))
 
 -- the commands
 abbrev pub command_step : Command → SessionState → List (List ℕ) → Result Reply Fault

@@ -3,7 +3,7 @@
 ghost use Rattle.std.specs.Prelude.{◌≡◌, ◌≤◌, ◌<◌, ◌^◌, All, length, IfOk, MatchResult, Some, None, Ok};
 ghost use Rattle.peephole_lang.specs.Term.{numbers_of};
 ghost use Rattle.peephole_script.specs.Text.{texts};
-ghost use Rattle.peephole_commands.specs.Arguments.{only, children_of, Reads};
+ghost use Rattle.peephole_commands.specs.Arguments.{only_word, children_of, Reads};
 
 use peephole_lang::Id;
 use peephole_script::{Fault, number_of};
@@ -11,8 +11,8 @@ use std::alloc::Global;
 
 /// The only word; `BadArgument` where there is none, or more than one.
 pub fn only<'a>(arguments: &[&'a str]) -> Result<&'a str, Fault>
-    ensures { MatchResult result (λ word. only (λ w. Some w) (texts arguments.now) ≡ Some word.now)
-        (λ f. (f ≡ Fault.BadArgument) × (only (λ w. Some w) (texts arguments.now) ≡ None)) }
+    ensures { MatchResult result (λ word. only_word (λ w. Some w) (texts arguments.now) ≡ Some word.now)
+        (λ f. (f ≡ Fault.BadArgument) × (only_word (λ w. Some w) (texts arguments.now) ≡ None)) }
 {
     match arguments {
         [word] => Ok(word),

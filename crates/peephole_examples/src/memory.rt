@@ -3,7 +3,7 @@
 ghost use Rattle.std.specs.Prelude.{◌≡◌, ◌<◌, length, IfOk};
 
 use crate::expansions::is_expanded;
-use crate::graphs::shapes_of_block;
+use crate::graphs::block_of;
 use crate::refused;
 use crate::terms::Outcome;
 use crate::uses::tree_of;

@@ -4,7 +4,7 @@
 ghost use Rattle.std.specs.Prelude.{IsTrue, is_some};
 ghost use Rattle.peephole_terms.specs.Written.{IsBodyIn};
 
-use crate::graphs::shapes_of_block;
+use crate::graphs::block_of;
 use crate::samples::{SAMPLES, Sample};
 use crate::terms::{
     are_globals, assert_below, assert_writable, begun_sink, config_of, node_of, term_of,

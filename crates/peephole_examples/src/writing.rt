@@ -5,7 +5,7 @@ ghost use Rattle.peephole_lang.specs.Lang.{payload_of};
 ghost use Rattle.peephole_nodes.specs.Payload.{is_writable};
 ghost use Rattle.peephole_terms.specs.Written.{IsBodyIn};
 
-use crate::graphs::shapes_of_block;
+use crate::graphs::block_of;
 use crate::terms::{
     Outcome, assert_writable, begun_sink, config_of, is_outcome, outcome_of, term_of,
 };

@@ -39,7 +39,7 @@ use Rattle.peephole_graphs.specs.Source.{shapes_in}
 
 kids_colored : (xs : List Kin) (color : ℕ → ℕ) (c n : ℕ) (g : ℕ → Tree) → ((k : ℕ) → k < n → are_colored xs c (downwards xs k) ≡
     is_colored color c (g k)) →
-    (is : List ℕ) → All (λ k. k < n) is → are_colored xs c (gather (downwards xs) is) ≡ test.are_colored color c
+    (is : List ℕ) → All (λ k. k < n) is → are_colored xs c (gather (downwards xs) is) ≡ test.trees_are_colored color c
     (graph.trees_at g is)
 kids_colored xs color c n g h [] l = refl
 kids_colored xs color c n g h (i ∷ is) l =
@@ -48,7 +48,7 @@ kids_colored xs color c n g h (i ∷ is) l =
 
 own_colored : (info : Module) (color : ℕ → ℕ) (first c : ℕ) (e : StackEntry) (g : ℕ → Tree) (a : Bool) (o : Option Instruction) →
     instr_of e.operator ≡ o → IsShown color first e → c < 4294967295 →
-    a ≡ test.are_colored color c (graph.trees_at g (children_of e.operator)) → (missing : ℕ) →
+    a ≡ test.trees_are_colored color c (graph.trees_at g (children_of e.operator)) → (missing : ℕ) →
     (a && ((e.color == c) && true)) ≡ is_colored color c (tree_of_entry (view info first e).shape (children_of e.operator)
     (view info first e).number missing g)
 own_colored info color first c e g a None is h l k missing =
@@ -79,7 +79,7 @@ entries_colored info color first c s (e ∷ earlier) b m i l =
       | inl h ↦
           let all = gather (downwards xs) kids in
           let inside : All (λ j. j < length xs) all = All_gather (downwards xs) (length xs) kids (down_below xs) in
-          let a : are_colored (kin e ∷ xs) c all ≡ test.are_colored color c (graph.trees_at g kids) =
+          let a : are_colored (kin e ∷ xs) c all ≡ test.trees_are_colored color c (graph.trees_at g kids) =
           colored_same (kin e ∷ xs) xs c (length xs) all inside (kin_older (kin e) xs) ∙
           kids_colored xs color c (length earlier) g older kids below in
           let top : kin_at (kin e ∷ xs) (length xs) ≡ kin e = cond-true _ _ _ (eq-eqb (length xs) (length xs) refl) in

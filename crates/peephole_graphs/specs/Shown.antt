@@ -29,11 +29,11 @@ last_of t (u ▸ us) = last_of u us
 abbrev mutual
   pub is_colored : (ℕ → ℕ) → ℕ → Tree → Bool
   is_colored color c (entry m) = false
-  is_colored color c (node i s kids) = are_colored color c kids && (color i == c)
+  is_colored color c (node i s kids) = trees_are_colored color c kids && (color i == c)
 
-  pub are_colored : (ℕ → ℕ) → ℕ → Trees → Bool
-  are_colored color c no_trees = true
-  are_colored color c (t ▸ ts) = is_colored color c t && are_colored color c ts
+  pub trees_are_colored : (ℕ → ℕ) → ℕ → Trees → Bool
+  trees_are_colored color c no_trees = true
+  trees_are_colored color c (t ▸ ts) = is_colored color c t && trees_are_colored color c ts
 
 -- so it is with the colour of the tree's own operator
 abbrev pub has_one_color : (ℕ → ℕ) → Tree → Bool
