@@ -1,28 +1,13 @@
 //! The words behind a command's name.
 
-ghost use Rattle.std.specs.Prelude.{◌≡◌, nat_lt, position, IfOk, MatchOption, Some, None};
-ghost use Rattle.std.specs.List.{concat, list_all};
-ghost use Rattle.peephole_script.specs.Text.{number_of, texts};
+ghost use Rattle.std.specs.Prelude.{◌≡◌, position, IfOk, MatchOption, Some, None};
+ghost use Rattle.std.specs.List.{concat};
+ghost use Rattle.peephole_script.specs.Text.{texts};
 ghost use Rattle.peephole_script.specs.Arguments.{all_of, type_of, is_64, element_of, is_yes, is_arrow, parts_of, Argument};
 
 use crate::fault::Fault;
-use crate::text::number_of;
 use mutate_base::{ElementType, PrimitiveTypeInfo};
 use std::alloc::{AllocError, Global};
-
-/// The numbers that the words write; `BadArgument` where one writes none, `Memory` for want of memory.
-pub fn numbers_of(alloc: Global, words: &[&str]) -> Result<Vec<u64>, Fault>
-    ensures { Argument (all_of number_of (texts words.now)) result }
-{
-    let mut numbers = Vec::new(alloc);
-    for word in words {
-        let Some(number) = number_of(word) else {
-            return Err(Fault::BadArgument);
-        };
-        numbers.push(number)?;
-    }
-    Ok(numbers)
-}
 
 /// The type of a name, where it is a value's: `empty` is none.
 pub fn type_of(word: &str) -> Option<PrimitiveTypeInfo>
@@ -123,11 +108,4 @@ pub fn joined(alloc: Global, words: &[&str]) -> Result<Vec<u8>, AllocError>
         text.extend_from_slice(word.as_bytes())?;
     }
     Ok(text)
-}
-
-/// Whether all numbers are below a count.
-pub fn all_below(numbers: &[u64], count: u64) -> bool
-    ensures { result ≡ list_all (λ number. nat_lt number count) numbers.now }
-{
-    numbers.iter().all(|number| *number < count)
 }
