@@ -23,9 +23,6 @@ Operators = List (Operator × ℕ)
 
 -- ---- room
 
-abbrev HasRoom : Bool → List Shape → Shape → Type 0
-HasRoom preserving block s = (full_size (forest (s ∷ block)) ≤ 4294967296) × (color_after preserving block < 4294967295)
-
 room : (preserving : Bool) (s : Shape) (block : List Shape) → full_size (forest (s ∷ block)) ≤ 4294967296 →
     color_after preserving block < 4294967295 → has_room preserving block s ≡ true
 room preserving s block h k = grind (arith, nat_tests)
