@@ -1,6 +1,6 @@
 //! The type of a node's result.
 
-ghost use Rattle.std.specs.Prelude.{◌≡◌, ◌<◌, ℕ, Option, slice_get, IfOk};
+ghost use Rattle.std.specs.Prelude.{◌≡◌, ◌<◌, ℕ, Option, slice_get, IfOk, IfErr};
 ghost use Rattle.wasm_code.specs.Table.{row_info_of};
 ghost use Rattle.mutate_base.specs.declared.types.PrimitiveTypeInfo.{PrimitiveTypeInfo};
 ghost use Rattle.peephole_lang.specs.Node.{head_of};
@@ -169,8 +169,9 @@ impl<'a> PeepholeMutationAnalysis<'a> {
     pub fn new(
         info: &ModuleInfo<'a>,
         locals: Vec<PrimitiveTypeInfo>,
-    ) -> Result<PeepholeMutationAnalysis<'a>, AllocError>
-        ensures { IfOk result (λ a. a ≡ record { info = info.now; locals = locals.items }) }
+    ) -> Result<PeepholeMutationAnalysis<'a>, Error>
+        ensures made { IfOk result (λ a. a ≡ record { info = info.now; locals = locals.items }) }
+        ensures refused { IfErr result (λ e. e ≡ Error.Memory) }
     {
         Ok(PeepholeMutationAnalysis {
             info: info.clone()?,

@@ -40,7 +40,7 @@ use Rattle.peephole_script.specs.declared.fault.Fault.{Fault}
 use Rattle.peephole_script.specs.declared.fault.Fault.TheVariants as fault
 use Rattle.peephole_script.specs.Arguments.{all_of, type_of, is_yes}
 use Rattle.peephole_script.specs.Command.{command_of}
-use Rattle.peephole_script.specs.Declarations.{declared}
+use Rattle.peephole_script.specs.Declarations.{with_declaration}
 use Rattle.peephole_script.specs.Text.{is_text, words_of, number_of}
 use Rattle.peephole_commands.specs.declared.graphs.Refusal.{Refusal}
 use Rattle.peephole_commands.specs.declared.graphs.Refusal.TheVariants as refusal
@@ -138,7 +138,7 @@ command_sound law name.Result s words = working_sound s words _
 command_sound law name.Local s words = argument_sound (only_word type_of words) _ (λ t. tt)
 command_sound law name.Preserve s words = argument_sound (only_word is_yes words) _ (λ b. tt)
 command_sound law name.Word s words = argument_sound (only_word number_of words) _ (λ n. tt)
-command_sound law (name.Declare declaration) s words = argument_sound (declared declaration s.info words) _ (λ info. tt)
+command_sound law (name.Declare declaration) s words = argument_sound (with_declaration declaration s.info words) _ (λ info. tt)
 
 words_sound : HasNoMemoryFault → (s : SessionState) (words : List (List ℕ)) → Sound (words_step s words)
 words_sound law s [] = tt

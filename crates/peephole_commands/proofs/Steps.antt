@@ -10,7 +10,7 @@ use Rattle.peephole_lang.specs.Term.{numbers_of}
 use Rattle.peephole_lang.specs.Text.{reads}
 use Rattle.peephole_graphs.specs.Block.{BlockRange, IsBlockOf, FindsTheBlock, block_at}
 use Rattle.peephole_commands.specs.declared.place.Point.{Point}
-use Rattle.peephole_commands.specs.Arguments.{only_word, children_of}
+use Rattle.peephole_commands.specs.Arguments.{only_word, named_children}
 use Rattle.peephole_commands.specs.Body.{Contents, body_of}
 use Rattle.peephole_commands.specs.Commands.{quiet, body_step, at_body, node_read, node_with, block_line}
 use Rattle.peephole_commands.specs.State.{SessionState, IsPointOf, PointsInto}
@@ -43,8 +43,8 @@ point_place law body point b p block h e k i =
 
 -- a node whose children were read
 pub node_is : (s : SessionState) (text : List ℕ) (words : List (List ℕ)) (count : ℕ) (ids : List Id) → count ≡ length s.nodes →
-    children_of count words ≡ Ok (numbers_of ids) →
-    node_with s text (children_of (length s.nodes) words) ≡ node_read s (numbers_of ids) (reads text (length ids))
+    named_children count words ≡ Ok (numbers_of ids) →
+    node_with s text (named_children (length s.nodes) words) ≡ node_read s (numbers_of ids) (reads text (length ids))
 node_is s text words count ids n h =
-    let said : children_of (length s.nodes) words ≡ Ok (numbers_of ids) = rw n at h in
+    let said : named_children (length s.nodes) words ≡ Ok (numbers_of ids) = rw n at h in
     ap (node_with s text) said ∙ ap (λ (k : ℕ). node_read s (numbers_of ids) (reads text k)) (length-map ids (λ id. id.0))

@@ -19,8 +19,8 @@ all_below count None = Err fault.BadArgument
 all_below count (Some numbers) = if list_all (λ n. nat_lt n count) numbers then Ok numbers else Err fault.BadChild
 
 -- the children that words name among so many nodes
-abbrev pub children_of : ℕ → List (List ℕ) → Result (List ℕ) Fault
-children_of count words = all_below count (all_of number_of words)
+abbrev pub named_children : ℕ → List (List ℕ) → Result (List ℕ) Fault
+named_children count words = all_below count (all_of number_of words)
 
 -- a call read these ids, or answered the fault, or no memory was left
 abbrev pub Reads : {A : Type 0} → Result (List ℕ) Fault → Result (Vec Id A) Fault → Type 0

@@ -31,9 +31,9 @@ use Rattle.peephole_script.specs.Text.{is_text, words_of, number_of}
 use Rattle.peephole_script.specs.Arguments.{type_of, is_yes}
 use Rattle.peephole_script.specs.Command.{command_of}
 use Rattle.peephole_commands.specs.Body.{Contents, body_of}
-use Rattle.peephole_script.specs.Declarations.{declared}
+use Rattle.peephole_script.specs.Declarations.{with_declaration}
 use Rattle.peephole_commands.specs.State.{SessionState, Reply}
-use Rattle.peephole_commands.specs.Arguments.{only_word, children_of}
+use Rattle.peephole_commands.specs.Arguments.{only_word, named_children}
 use Rattle.peephole_commands.specs.Graphs.{site_of}
 use Rattle.peephole_commands.specs.Writing.{Output, written_output}
 use Rattle.peephole_commands.specs.Show.{show_output}
@@ -50,7 +50,7 @@ with_argument (Some x) f = f x
 
 -- the module's lines
 abbrev pub declare_step : Declaration → SessionState → List (List ℕ) → Result Reply Fault
-declare_step declaration s words = with_argument (declared declaration s.info words) (λ info. quiet (record s { info = info }))
+declare_step declaration s words = with_argument (with_declaration declaration s.info words) (λ info. quiet (record s { info = info }))
 
 -- `local T`: a local of that type
 abbrev pub local_step : SessionState → List (List ℕ) → Result Reply Fault
@@ -104,7 +104,7 @@ node_with s text (Err f) = Err f
 
 abbrev pub node_step : SessionState → List (List ℕ) → Result Reply Fault
 node_step s [] = Err fault.BadArgument
-node_step s (text ∷ words) = node_with s text (children_of (length s.nodes) words)
+node_step s (text ∷ words) = node_with s text (named_children (length s.nodes) words)
 
 -- where `show`, `result` and `write` work, which take no words: the body, the point and its block
 abbrev pub place_at : Contents → ℕ → Option BlockRange → Result Site Fault

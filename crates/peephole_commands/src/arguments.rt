@@ -3,7 +3,7 @@
 ghost use Rattle.std.specs.Prelude.{◌≡◌, ◌≤◌, ◌<◌, ◌^◌, All, length, IfOk, MatchResult, Some, None, Ok};
 ghost use Rattle.peephole_lang.specs.Term.{numbers_of};
 ghost use Rattle.peephole_script.specs.Text.{texts};
-ghost use Rattle.peephole_commands.specs.Arguments.{only_word, children_of, Reads};
+ghost use Rattle.peephole_commands.specs.Arguments.{only_word, named_children, Reads};
 
 use peephole_lang::Id;
 use peephole_script::{Fault, number_of};
@@ -24,7 +24,7 @@ pub fn only<'a>(arguments: &[&'a str]) -> Result<&'a str, Fault>
 /// one is not below, `Memory` for want of memory.
 pub fn ids_of(alloc: Global, words: &[&str], count: u64) -> Result<Vec<Id>, Fault>
     requires { count ≤ 2 ^ 32 }
-    ensures read { Reads (children_of count (texts words.now)) result }
+    ensures read { Reads (named_children count (texts words.now)) result }
     ensures below { IfOk result (λ ids. All (λ child. child < count) (numbers_of ids.items)) }
 {
     let mut ids = Vec::new(alloc);

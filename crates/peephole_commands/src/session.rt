@@ -6,7 +6,7 @@ ghost use Rattle.peephole_lang.specs.Term.{numbers_of};
 ghost use Rattle.peephole_lang.specs.Text.{reads};
 ghost use Rattle.peephole_graphs.specs.Layout.{AreWritable};
 ghost use Rattle.peephole_script.specs.Text.{texts};
-ghost use Rattle.peephole_commands.specs.Arguments.{children_of};
+ghost use Rattle.peephole_commands.specs.Arguments.{named_children};
 ghost use Rattle.peephole_commands.specs.State.{SessionState, Reply, PointsInto, start};
 ghost use Rattle.peephole_commands.specs.Graphs.{IsPlace};
 ghost use Rattle.peephole_commands.specs.Commands.{step_line, words_step, command_step, declare_step, local_step, preserve_step, draw_step, body_step, at_step, node_step, node_with, node_read, working_place, show_step, result_step, write_step, Steps, Finds};
@@ -21,7 +21,7 @@ use crate::writing::write_answer;
 use mutate_base::{Error, ModuleInfo, PrimitiveTypeInfo, WasmMutate, Words};
 use peephole_lang::{Id, Lang, RecExpr};
 use peephole_script::{
-    Command, Declaration, Fault, command_of, declare, is_text, is_yes, joined, number_of, type_of,
+    Command, Declaration, Fault, command_of, declare, is_text, is_yes, join, number_of, type_of,
     words_of,
 };
 use peephole_terms::laws::blocks_are_found;
@@ -161,7 +161,7 @@ impl Session {
     fn body(&mut self, arguments: &[&str]) -> Result<Vec<u8>, Fault>
         ensures { Steps (body_step self.old (texts arguments.now)) self.new result }
     {
-        let Ok(text) = joined(self.alloc, arguments) else {
+        let Ok(text) = join(self.alloc, arguments) else {
             return Err(Fault::Memory);
         };
         let bytes = match hex::decode(self.alloc, text.as_slice()) {
@@ -212,7 +212,7 @@ impl Session {
 
     fn node_of_words(&mut self, text: &str, words: &[&str]) -> Result<Vec<u8>, Fault>
         ensures { Steps (node_with self.old text.now
-            (children_of (length self.old.nodes) (texts words.now))) self.new result }
+            (named_children (length self.old.nodes) (texts words.now))) self.new result }
     {
         let children = ids_of(self.alloc, words, self.node_count())?;
         self.add_node(text, children)

@@ -570,12 +570,11 @@ fn is_drawn(rt: &impl Abort, alloc: Global, graph: &MiniDFG, wanted: &str) -> Re
 fn text_of_a_forest(rt: HostRuntime) -> Result<(), Fail> {
     let bytes = [0x20, 0x00, 0x02, 0x40, 0x0b, 0x41, 0x01, 0x6a, 0x0b];
     let graph = graph_of(&rt, rt.alloc(), &bytes, 4, false)?;
-    is_drawn(
-        &rt,
-        rt.alloc(),
-        &graph,
-        "DFG forest\n(0)(at 4) i32.add\n├──(4294967295)(at 4) undef\n└──(0)(at 3) i32.const.1\n",
-    )
+    let wanted =
+        "DFG forest\n(0)(at 4) i32.add\n├──(4294967295)(at 4) undef\n└──(0)(at 3) i32.const.1\n";
+    let text = graph.pretty_print_default(rt.alloc())?;
+    assert!(rt; text.as_str() == wanted);
+    is_drawn(&rt, rt.alloc(), &graph, wanted)
 }
 
 /// call 0, nop, while preserving: a function that takes and gives nothing raises the colour by two.

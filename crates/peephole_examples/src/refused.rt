@@ -32,7 +32,7 @@ pub enum Refused {
 
 /// What was refused up to here: one request at most. `answer` is whether the last call answered `Memory`, or `Memory` where
 /// the test couldn't make that call.
-fn joined(rt: &impl Abort, before: Refused, answer: Result<bool, Error>) -> Refused {
+fn with_answer(rt: &impl Abort, before: Refused, answer: Result<bool, Error>) -> Refused {
     let now = match answer {
         Ok(false) => return before,
         Ok(true) => Refused::Call,
@@ -72,7 +72,7 @@ fn lacks_reading(rt: &impl Abort, alloc: Global, sample: &Sample) -> Result<bool
 pub fn reading(rt: &impl Abort, alloc: Global) -> Refused {
     let mut found = Refused::Nothing;
     for sample in &SAMPLES {
-        found = joined(rt, found, lacks_reading(rt, alloc, sample));
+        found = with_answer(rt, found, lacks_reading(rt, alloc, sample));
     }
     found
 }
@@ -125,7 +125,7 @@ fn lacks_graph(rt: &impl Abort, alloc: Global, sample: &Sample) -> Result<bool, 
 pub fn graphs(rt: &impl Abort, alloc: Global) -> Refused {
     let mut found = Refused::Nothing;
     for sample in &SAMPLES {
-        found = joined(rt, found, lacks_graph(rt, alloc, sample));
+        found = with_answer(rt, found, lacks_graph(rt, alloc, sample));
     }
     found
 }
@@ -176,7 +176,7 @@ fn lacks_own_tree(rt: &impl Abort, alloc: Global, sample: &Sample) -> Result<boo
 pub fn own_trees(rt: &impl Abort, alloc: Global) -> Refused {
     let mut found = Refused::Nothing;
     for sample in &SAMPLES {
-        found = joined(rt, found, lacks_own_tree(rt, alloc, sample));
+        found = with_answer(rt, found, lacks_own_tree(rt, alloc, sample));
     }
     found
 }
@@ -199,7 +199,7 @@ fn lacks_layout(rt: &impl Abort, alloc: Global, sample: &Sample) -> Result<bool,
 pub fn layouts(rt: &impl Abort, alloc: Global) -> Refused {
     let mut found = Refused::Nothing;
     for sample in &SAMPLES {
-        found = joined(rt, found, lacks_layout(rt, alloc, sample));
+        found = with_answer(rt, found, lacks_layout(rt, alloc, sample));
     }
     found
 }
@@ -235,7 +235,7 @@ fn lacks_a_node(rt: &impl Abort, alloc: Global, sample: &Sample) -> Result<bool,
 pub fn nodes(rt: &impl Abort, alloc: Global) -> Refused {
     let mut found = Refused::Nothing;
     for sample in &SAMPLES {
-        found = joined(rt, found, lacks_a_node(rt, alloc, sample));
+        found = with_answer(rt, found, lacks_a_node(rt, alloc, sample));
     }
     found
 }
@@ -261,7 +261,7 @@ fn lacks_text(rt: &impl Abort, alloc: Global, sample: &Sample) -> Result<bool, E
 pub fn texts(rt: &impl Abort, alloc: Global) -> Refused {
     let mut found = Refused::Nothing;
     for sample in &SAMPLES {
-        found = joined(rt, found, lacks_text(rt, alloc, sample));
+        found = with_answer(rt, found, lacks_text(rt, alloc, sample));
     }
     found
 }
@@ -314,7 +314,7 @@ fn lacks_code(rt: &impl Abort, alloc: Global, sample: &Sample) -> Result<bool, E
 pub fn codes(rt: &impl Abort, alloc: Global) -> Refused {
     let mut found = Refused::Nothing;
     for sample in &SAMPLES {
-        found = joined(rt, found, lacks_code(rt, alloc, sample));
+        found = with_answer(rt, found, lacks_code(rt, alloc, sample));
     }
     found
 }
@@ -366,7 +366,7 @@ fn lacks_new_body(rt: &impl Abort, alloc: Global, sample: &Sample) -> Result<boo
 pub fn bodies(rt: &impl Abort, alloc: Global) -> Refused {
     let mut found = Refused::Nothing;
     for sample in &SAMPLES {
-        found = joined(rt, found, lacks_new_body(rt, alloc, sample));
+        found = with_answer(rt, found, lacks_new_body(rt, alloc, sample));
     }
     found
 }

@@ -59,14 +59,13 @@ pub fn term_at(
     ensures some { IfOk result (λ term. 0 < length term) }
     ensures writable { IfOk result (λ term. All (λ l. IsTrue (is_writable (payload_of l))) term) }
 {
-    let term = if lines.len() > 0 {
-        term_of(rt, alloc, lines)?
-    } else {
-        assert!(rt; graph.map().contains_key(&point));
-        graph.get_expr(alloc, point)?
-    };
-    assert_writable(rt, &term);
-    Ok(term)
+    if lines.len() > 0 {
+        let term = term_of(rt, alloc, lines)?;
+        assert_writable(rt, &term);
+        return Ok(term);
+    }
+    assert!(rt; graph.map().contains_key(&point));
+    graph.get_expr(alloc, point)
 }
 
 /// Writes a block behind the bytes AA BB: with the term of some nodes, or with the own tree of the insertion point where

@@ -16,7 +16,7 @@ use Rattle.peephole_lang.specs.declared.variants.VariantRow.{VariantRow}
 use Rattle.peephole_nodes.specs.Variants.{Variant, variants, variant_at}
 use Rattle.peephole_lang.specs.Names.{rest_after, find_in}
 use Rattle.peephole_lang.specs.VariantRows.{variant_row, found, place_found}
-use Rattle.peephole_lang.specs.Fronts.{standing}
+use Rattle.peephole_lang.specs.Fronts.{front_order}
 use Rattle.peephole_nodes.specs.Fronts.{front_of, front_at}
 use Rattle.peephole_lang.specs.laws.TableLemmas.{place_is, is_known}
 use Rattle.peephole_lang.specs.laws.FrontLemmas.{after_is, after_none}
@@ -32,17 +32,17 @@ fits_at : (o : Option (List ℕ)) (place : ℕ) (v : Variant) (text : List ℕ) 
 fits_at None place v text at is some = absurd cc
 fits_at (Some rest) place v text at is some = sym (ap place_found (found_at place v text rest at is) ∙ ap (λ p. Some p) (place_is place v at))
 
-stands_at : (o : Option Variant) (place : ℕ) (text : List ℕ) → variant_at place ≡ o → is_some o ≡ true → standing (front_at place) text ≡ Equal
+stands_at : (o : Option Variant) (place : ℕ) (text : List ℕ) → variant_at place ≡ o → is_some o ≡ true → front_order (front_at place) text ≡ Equal
     → Some place ≡ place_found (find_in variants text)
 stands_at None place text at some equal = absurd cc
 stands_at (Some v) place text at some equal =
-    let equal_there : standing (front_of v) text ≡ Equal = ap (λ front. standing front text) (sym (front_known place v at)) ∙ equal in
+    let equal_there : front_order (front_of v) text ≡ Equal = ap (λ front. front_order front text) (sym (front_known place v at)) ∙ equal in
     let fits : is_some (fit v text) ≡ true = fits_where_equal place v text at ∙ ap is_eq equal_there in
     fits_at (fit v text) place v text at refl fits
 
 -- what a binary search among the places says
 abbrev pub Searched : List ℕ → Result ℕ ℕ → Type 0
-Searched text = IsBinarySearchResult (λ place. standing (front_at place) text) BY_FRONT
+Searched text = IsBinarySearchResult (λ place. front_order (front_at place) text) BY_FRONT
 
 -- the search ends where a front stands `Equal` to the text
 pub searched_some : (text : List ℕ) (r : Result ℕ ℕ) → IsSearchInRange r (length BY_FRONT) → Searched text r → (i d : ℕ)

@@ -14,31 +14,31 @@ use Rattle.peephole_lang.specs.Names.{find_in}
 use Rattle.peephole_nodes.specs.laws.PayloadLemmas.{read_is_of}
 use Rattle.peephole_nodes.specs.PayloadText.{read_payload}
 use Rattle.peephole_lang.specs.laws.TableLemmas.{place_is}
-use Rattle.peephole_lang.specs.Text.{wrong_count, judged}
+use Rattle.peephole_lang.specs.Text.{wrong_count, checked_reading}
 use Rattle.peephole_lang.specs.laws.VariantLemmas.{found_is}
 use Rattle.peephole_nodes.specs.Variants.{Variant, variants, is_right}
 
 -- what a variant of the table reads
 abbrev pub variant_reads : VariantRow → List ℕ → ℕ → Result Payload TermError
-variant_reads variant rest count = judged variant.children (wrong_count variant.children count) (read_payload variant.payload rest)
+variant_reads variant rest count = checked_reading variant.children (wrong_count variant.children count) (read_payload variant.payload rest)
 
-judged_ok : (a : Arity) (wrong : Option TermError) (read : Result Payload TermError) (p : Payload) → Ok p ≡ judged a wrong read → (wrong ≡ None)
+checked_ok : (a : Arity) (wrong : Option TermError) (read : Result Payload TermError) (p : Payload) → Ok p ≡ checked_reading a wrong read → (wrong ≡ None)
     × (read ≡ Ok p)
-judged_ok arity.Zero None (Ok q) p e = (refl, sym e)
-judged_ok arity.Zero None (Err x) p e = absurd cc
-judged_ok arity.Zero (Some x) read p e = absurd cc
-judged_ok arity.One None (Ok q) p e = (refl, sym e)
-judged_ok arity.One None (Err x) p e = absurd cc
-judged_ok arity.One (Some x) (Ok q) p e = absurd cc
-judged_ok arity.One (Some x) (Err y) p e = absurd cc
-judged_ok (arity.Several n) None (Ok q) p e = (refl, sym e)
-judged_ok (arity.Several n) None (Err x) p e = absurd cc
-judged_ok (arity.Several n) (Some x) (Ok q) p e = absurd cc
-judged_ok (arity.Several n) (Some x) (Err y) p e = absurd cc
-judged_ok arity.Any None (Ok q) p e = (refl, sym e)
-judged_ok arity.Any None (Err x) p e = absurd cc
-judged_ok arity.Any (Some x) (Ok q) p e = absurd cc
-judged_ok arity.Any (Some x) (Err y) p e = absurd cc
+checked_ok arity.Zero None (Ok q) p e = (refl, sym e)
+checked_ok arity.Zero None (Err x) p e = absurd cc
+checked_ok arity.Zero (Some x) read p e = absurd cc
+checked_ok arity.One None (Ok q) p e = (refl, sym e)
+checked_ok arity.One None (Err x) p e = absurd cc
+checked_ok arity.One (Some x) (Ok q) p e = absurd cc
+checked_ok arity.One (Some x) (Err y) p e = absurd cc
+checked_ok (arity.Several n) None (Ok q) p e = (refl, sym e)
+checked_ok (arity.Several n) None (Err x) p e = absurd cc
+checked_ok (arity.Several n) (Some x) (Ok q) p e = absurd cc
+checked_ok (arity.Several n) (Some x) (Err y) p e = absurd cc
+checked_ok arity.Any None (Ok q) p e = (refl, sym e)
+checked_ok arity.Any None (Err x) p e = absurd cc
+checked_ok arity.Any (Some x) (Ok q) p e = absurd cc
+checked_ok arity.Any (Some x) (Err y) p e = absurd cc
 
 some_is_none : (e : TermError) → Some e ≡ None → ⊥
 some_is_none e h = cc
@@ -58,7 +58,7 @@ made_of_variant : (text : List ℕ) (x : Variant × List ℕ) (p : Payload) (cou
 made_of_variant text x p count e ok =
     let f = found_is text x e in
     let own = place_is f.0 x.0 f.1 in
-    let parts = judged_ok x.0.children (wrong_count x.0.children count) (read_payload x.0.payload x.1) p ok in
+    let parts = checked_ok x.0.children (wrong_count x.0.children count) (read_payload x.0.payload x.1) p ok in
     let fits = fits_variant f.0 p count (record {
       variant = x.0;
       at = f.1;

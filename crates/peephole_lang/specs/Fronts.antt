@@ -8,6 +8,6 @@ use Rattle.std.specs.declared.cmp.Ordering.TheVariants.{Equal}
 
 -- where a front stands against a text: `Equal` where the text is the front, or begins with it and the front ends in a dot; else as the two are ordered as
 -- texts
-abbrev pub standing : List ℕ → List ℕ → Ordering
-standing front text =
+abbrev pub front_order : List ℕ → List ℕ → Ordering
+front_order front text =
     if ends_with (λ c d. c == d) front (codes ".") && starts_with (λ c d. c == d) text front then Equal else slice_cmp nat_cmp front text

@@ -31,11 +31,11 @@ wrong_count (arity.Several n) count = if count == n then None else Some (Expecte
 wrong_count arity.Any count = None
 
 -- the children are judged before the payload where there are to be none, and behind it otherwise
-abbrev pub judged : Arity → Option TermError → Result Payload TermError → Result Payload TermError
-judged arity.Zero (Some e) read = Err e
-judged _ _ (Err e) = Err e
-judged _ (Some e) (Ok p) = Err e
-judged _ None (Ok p) = Ok p
+abbrev pub checked_reading : Arity → Option TermError → Result Payload TermError → Result Payload TermError
+checked_reading arity.Zero (Some e) read = Err e
+checked_reading _ _ (Err e) = Err e
+checked_reading _ (Some e) (Ok p) = Err e
+checked_reading _ None (Ok p) = Ok p
 
 abbrev pub with_place : ℕ → Result Payload TermError → Result Head TermError
 with_place place (Err e) = Err e
@@ -43,7 +43,7 @@ with_place place (Ok p) = Ok (record { place = place; payload = p })
 
 abbrev pub read_found : Option (Variant × List ℕ) → ℕ → Result Head TermError
 read_found None count = Err InvalidToken
-read_found (Some x) count = with_place x.0.place (judged x.0.children (wrong_count x.0.children count) (read_payload x.0.payload x.1))
+read_found (Some x) count = with_place x.0.place (checked_reading x.0.children (wrong_count x.0.children count) (read_payload x.0.payload x.1))
 
 -- the head that the text reads as, given that many children, or the first refusal
 abbrev pub reads : List ℕ → ℕ → Result Head TermError

@@ -4,7 +4,7 @@ ghost use Rattle.std.specs.Option.{option_map};
 ghost use Rattle.peephole_nodes.specs.Variants.{variants, variant_at};
 ghost use Rattle.peephole_lang.specs.Names.{find_in};
 ghost use Rattle.peephole_lang.specs.VariantRows.{variant_row, given, found, place_found};
-ghost use Rattle.peephole_lang.specs.Fronts.{standing};
+ghost use Rattle.peephole_lang.specs.Fronts.{front_order};
 ghost use Rattle.peephole_nodes.specs.Fronts.{front_at};
 
 use crate::variants::{VARIANTS, VariantRow};
@@ -58,7 +58,7 @@ pub(crate) fn variant_row_at(place: u16) -> Option<VariantRow>
 // `Equal` where the text is the front of the variant with that place, or begins with it and the front ends in a dot; else as
 // front and text are ordered.
 fn compare(place: u16, text: &str) -> Ordering
-    ensures { result ≡ standing (front_at place) text.now }
+    ensures { result ≡ front_order (front_at place) text.now }
 {
     let front = front_at(place);
     if front.ends_with('.') && text.starts_with(front) {

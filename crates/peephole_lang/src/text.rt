@@ -1,7 +1,7 @@
 //! The texts of nodes, written and read.
 ghost use Rattle.std.specs.Prelude.{◌≡◌, Some};
 ghost use Rattle.peephole_nodes.specs.PayloadText.{read_payload};
-ghost use Rattle.peephole_lang.specs.Text.{text_of, wrong_count, judged, ReadsAs};
+ghost use Rattle.peephole_lang.specs.Text.{text_of, wrong_count, checked_reading, ReadsAs};
 
 use crate::lang::Lang;
 use crate::making::make;
@@ -66,7 +66,7 @@ fn wrong_children(arity: Arity, count: usize) -> Option<TermError>
 impl VariantRow {
     // The payload that its text writes, where a node of the variant has this many children.
     fn read(&self, payload_text: &str, count: usize) -> Result<Payload, TermError>
-        ensures { result ≡ judged self.now.children (wrong_count self.now.children count)
+        ensures { result ≡ checked_reading self.now.children (wrong_count self.now.children count)
             (read_payload self.now.payload payload_text.now) }
     {
         let wrong = wrong_children(self.children, count);

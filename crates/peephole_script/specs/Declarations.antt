@@ -42,12 +42,12 @@ with_function info (word ∷ []) = given (number_of word) (λ n.
 with_function info _ = None
 
 -- the module with what is declared, where the words are what the declaration wants
-abbrev pub declared : Declaration → Module → List (List ℕ) → Option Module
-declared declare.Global = with_global
-declared declare.Memory = with_memory
-declared declare.Table = with_table
-declared declare.Type = with_type
-declared declare.Function = with_function
+abbrev pub with_declaration : Declaration → Module → List (List ℕ) → Option Module
+with_declaration declare.Global = with_global
+with_declaration declare.Memory = with_memory
+with_declaration declare.Table = with_table
+with_declaration declare.Type = with_type
+with_declaration declare.Function = with_function
 
 -- a call that adds to the module made it what was found; or found nothing, or had no memory left, and left it as it was
 abbrev pub Declares : Option Module → Module → Module → Result (Unit {0}) Fault → Type 0

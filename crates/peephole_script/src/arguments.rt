@@ -99,8 +99,8 @@ pub fn parts_of<'a, 'b>(words: &'a [&'b str]) -> Option<(&'a [&'b str], &'a [&'b
     }
 }
 
-/// The words, joined; an error for want of memory alone.
-pub fn joined(alloc: Global, words: &[&str]) -> Result<Vec<u8>, AllocError>
+/// The words joined; an error for want of memory alone.
+pub fn join(alloc: Global, words: &[&str]) -> Result<Vec<u8>, AllocError>
     ensures { IfOk result (λ text. text.items ≡ concat (texts words.now)) }
 {
     let mut text = Vec::new(alloc);

@@ -1,7 +1,7 @@
 //! What lines say of the module that the body comes from.
 
 ghost use Rattle.peephole_script.specs.Text.{texts};
-ghost use Rattle.peephole_script.specs.Declarations.{with_global, with_memory, with_table, with_type, with_function, declared, Declares};
+ghost use Rattle.peephole_script.specs.Declarations.{with_global, with_memory, with_table, with_type, with_function, with_declaration, Declares};
 
 use crate::arguments::{element_of, is_64, parts_of, type_of, types_of};
 use crate::fault::Fault;
@@ -32,7 +32,7 @@ pub fn declare(
     declaration: Declaration,
     words: &[&str],
 ) -> Result<(), Fault>
-    ensures { Declares (declared declaration info.old (texts words.now)) info.old info.new result }
+    ensures { Declares (with_declaration declaration info.old (texts words.now)) info.old info.new result }
 {
     match declaration {
         Declaration::Global => add_global(info, words),

@@ -21,6 +21,8 @@ pub use peephole_lang;
 pub use peephole_lang::{
     Children, Head, Id, Lang, Language, Numeric, Payload, RecExpr, Simd, no_children,
 };
+pub use peephole_machine;
+pub use peephole_nodes;
 pub use wasm_code;
 pub use wasm_code::{
     AbstractHeapType, BlockType, Function, HeapType, Imm, Instr, MemArg as MemoryArgument, Opcode,

@@ -11,7 +11,7 @@ use Rattle.std.proofs.lemmas.Bool.{eq-eqb, ne_eqb, eqb-true, lt-ltb, le-ltb, ltb
 use Rattle.std.proofs.lemmas.Slice.Eq.{ends_is}
 use Rattle.std.proofs.lemmas.Bool.Decides.{Decides-eqb}
 use Rattle.peephole_lang.specs.Names.{rest_after}
-use Rattle.peephole_lang.specs.Fronts.{standing}
+use Rattle.peephole_lang.specs.Fronts.{front_order}
 
 -- the last byte of a front, or the one before it where it is empty
 unfoldable pub last_byte : ℕ → List ℕ → ℕ
@@ -101,7 +101,7 @@ ends_in_dot front =
     (λ ends. eq-eqb _ _ (ap (last_byte 0) (decides.0 ends) ∙ last_pushed 0 _ 46))
     (λ last. let p = parts_at_dot 0 front (λ z. absurd (omega arith)) (eqb-true _ _ last) in decides.1 p.0 p.1)
 
-pub standing_is : (front text : List ℕ) → standing front text ≡ against 0 front text
+pub standing_is : (front text : List ℕ) → front_order front text ≡ against 0 front text
 standing_is front text = stands 0 front text (ends_with eqb front (codes ".")) (ends_in_dot front)
 
 -- what the test of a front's end says
@@ -115,13 +115,13 @@ dot_tested front r h =
 
 -- what the two tests of the code say
 module _ (front text : List ℕ) (ends : Bool) (tested : EndTested front ends) where
-  pub stands_equal : (starts : Bool) → starts ≡ starts_with eqb text front → ends ≡ true → starts ≡ true → Equal ≡ standing front text
+  pub stands_equal : (starts : Bool) → starts ≡ starts_with eqb text front → ends ≡ true → starts ≡ true → Equal ≡ front_order front text
   stands_equal starts e is_end is_start = rw (← dot_tested front ends tested, ← e, is_end, is_start) refl
 
-  pub stands_without_dot : ends ≡ false → slice_cmp nat_cmp front text ≡ standing front text
+  pub stands_without_dot : ends ≡ false → slice_cmp nat_cmp front text ≡ front_order front text
   stands_without_dot is_end = rw (← dot_tested front ends tested, is_end) refl
 
-  pub stands_elsewhere : (starts : Bool) → starts ≡ starts_with eqb text front → starts ≡ false → slice_cmp nat_cmp front text ≡ standing front text
+  pub stands_elsewhere : (starts : Bool) → starts ≡ starts_with eqb text front → starts ≡ false → slice_cmp nat_cmp front text ≡ front_order front text
   stands_elsewhere starts e is_start = rw (← e, is_start) (either (ends_with eqb front (codes ".")))
     where
       either : (b : Bool) → slice_cmp nat_cmp front text ≡ cond (b && false) Equal (slice_cmp nat_cmp front text)

@@ -18,7 +18,7 @@ use Rattle.peephole_lang.specs.Node.{head_of, IsNode}
 use Rattle.peephole_nodes.specs.Payload.{is_of}
 use Rattle.peephole_nodes.specs.laws.PayloadLemmas.{payload_back}
 use Rattle.peephole_nodes.specs.PayloadText.{inner_text, payload_text, read_payload}
-use Rattle.peephole_lang.specs.Text.{text_of, wrong_count, judged, with_place, read_found, reads}
+use Rattle.peephole_lang.specs.Text.{text_of, wrong_count, checked_reading, with_place, read_found, reads}
 use Rattle.peephole_nodes.specs.Text.{name_in}
 use Rattle.peephole_lang.specs.laws.TableLemmas.{place_is}
 use Rattle.peephole_lang.specs.laws.VariantLemmas.{found_at}
@@ -48,17 +48,17 @@ right_none arity.One count e = cond-true _ _ _ (eq-eqb count 1 (sym (eqb-true 1 
 right_none (arity.Several n) count e = cond-true _ _ _ (eq-eqb count n (sym (eqb-true n count e)))
 right_none arity.Any count e = refl
 
-judged_right : (a : Arity) (p : Payload) → judged a None (Ok p) ≡ Ok p
-judged_right arity.Zero p = refl
-judged_right arity.One p = refl
-judged_right (arity.Several n) p = refl
-judged_right arity.Any p = refl
+checked_right : (a : Arity) (p : Payload) → checked_reading a None (Ok p) ≡ Ok p
+checked_right arity.Zero p = refl
+checked_right arity.One p = refl
+checked_right (arity.Several n) p = refl
+checked_right arity.Any p = refl
 
 read_right : (v : Variant) (place : ℕ) (p : Payload) (rest : List ℕ) (count : ℕ) → v.place ≡ place → wrong_count v.children count ≡ None → read_payload v.payload rest ≡ Ok p
     → read_found (Some (v, rest)) count ≡ Ok (record { place = place; payload = p })
 read_right v place p rest count at right read =
-    ap₂ (λ wrong r. with_place v.place (judged v.children wrong r)) right read
-    ∙ (ap (with_place v.place) (judged_right v.children p) ∙ ap (λ (n : ℕ). Ok (record { place = n; payload = p })) at)
+    ap₂ (λ wrong r. with_place v.place (checked_reading v.children wrong r)) right read
+    ∙ (ap (with_place v.place) (checked_right v.children p) ∙ ap (λ (n : ℕ). Ok (record { place = n; payload = p })) at)
 
 -- what a node's text reads as, with its children, is that node
 pub reads_back : (l : Lang) → IsNode l → reads (text_of l) (length (ids_of l)) ≡ Ok (head_of l)

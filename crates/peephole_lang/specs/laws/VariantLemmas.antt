@@ -16,7 +16,7 @@ use Rattle.peephole_nodes.specs.declared.payload.PayloadKind.TheVariants as kind
 use Rattle.peephole_lang.specs.declared.names.TheConstants.{BY_FRONT}
 use Rattle.peephole_nodes.specs.Variants.{Variant, variants, variant_at}
 use Rattle.peephole_lang.specs.Names.{rest_after, behind_name, found_or, find_in}
-use Rattle.peephole_lang.specs.Fronts.{standing}
+use Rattle.peephole_lang.specs.Fronts.{front_order}
 use Rattle.peephole_nodes.specs.Fronts.{dot_of, front_of, front_at}
 use Rattle.peephole_lang.specs.laws.FrontLemmas.{standing_is, may_follow, equal_is, above}
 use Rattle.peephole_lang.specs.laws.TableLemmas.{place_is, has_payload, dot_with_payload, StandsAt, is_listed, rises}
@@ -57,7 +57,7 @@ fits_by_kind kind.Nothing (Some (c ∷ rest)) = refl
 fits_by_kind _ None = refl
 fits_by_kind _ (Some rest) = all_may_follow (rest_after (codes ".") rest)
 
-pub fits_where_equal : (k : ℕ) (v : Variant) (text : List ℕ) → variant_at k ≡ Some v → is_some (fit v text) ≡ is_eq (standing (front_of v) text)
+pub fits_where_equal : (k : ℕ) (v : Variant) (text : List ℕ) → variant_at k ≡ Some v → is_some (fit v text) ≡ is_eq (front_order (front_of v) text)
 fits_where_equal k v text at =
     fits_by_kind v.payload (rest_after v.name text)
     ∙ ap (may_follow (has_payload v.payload)) (sym (after_both v.name (dot_of v.payload) text))
@@ -91,21 +91,21 @@ rank_rises Equal p up = rw (up (λ e. absurd cc)) (omega arith)
 rank_rises Greater p up = rw (up (λ e. absurd cc)) (omega arith)
 
 next_above : (text : List ℕ) (k d : ℕ) → k + 1 < length BY_FRONT
-    → standing (front_at (get_or BY_FRONT k d)) text ≢ Less → standing (front_at (get_or BY_FRONT (k + 1) d)) text ≡ Greater
+    → front_order (front_at (get_or BY_FRONT k d)) text ≢ Less → front_order (front_at (get_or BY_FRONT (k + 1) d)) text ≡ Greater
 next_above text k d lt stays =
     standing_is _ text ∙ above 0 _ _ text (rises k d lt) (λ less. stays (standing_is _ text ∙ less))
 
 -- along the places by front, the standings rise
-pub standings_rise : (text : List ℕ) → IsNonDecreasingBy (λ place. ordering_index (standing (front_at place) text)) BY_FRONT
+pub standings_rise : (text : List ℕ) → IsNonDecreasingBy (λ place. ordering_index (front_order (front_at place) text)) BY_FRONT
 standings_rise text =
-    IsNonDecreasingBy-from_all_adjacent (λ place. ordering_index (standing (front_at place) text)) BY_FRONT (λ k d lt. rank_rises _ _ (next_above text k d lt))
+    IsNonDecreasingBy-from_all_adjacent (λ place. ordering_index (front_order (front_at place) text)) BY_FRONT (λ k d lt. rank_rises _ _ (next_above text k d lt))
 
 equal_not_less : (o : Ordering) → o ≡ Equal → o ≢ Less
 equal_not_less o equal less = let clash : Equal ≡ Less = sym equal ∙ less in absurd cc
 
 -- where the front at that index stands against the text
 abbrev pub standing_at : List ℕ → ℕ → Ordering
-standing_at text i = standing (front_at (get_or BY_FRONT i 0)) text
+standing_at text i = front_order (front_at (get_or BY_FRONT i 0)) text
 
 later_is_greater : (text : List ℕ) (i j : ℕ) → i < j → j < length BY_FRONT → standing_at text i ≡ Equal → standing_at text j ≡ Equal → ⊥
 later_is_greater text i j lt within first second =
@@ -137,7 +137,7 @@ pub stands_equal : (k : ℕ) (v : Variant) (text : List ℕ) → variant_at k �
 stands_equal k v text at fits =
     let s = is_listed k v at in
     let front : front_at (get_or BY_FRONT s.0 0) ≡ front_of v = ap front_at s.2 ∙ own_front k v at in
-    (s, ap (λ f. standing f text) front ∙ is_equal _ (sym (fits_where_equal k v text at) ∙ fits))
+    (s, ap (λ f. front_order f text) front ∙ is_equal _ (sym (fits_where_equal k v text at) ∙ fits))
 
 one_at : (i j : ℕ) (v w : Variant) (text : List ℕ) → variant_at i ≡ Some v → variant_at j ≡ Some w → IsSome (fit v text) → IsSome (fit w text) → v ≡ w
 one_at i j v w text at_v at_w fits_v fits_w =

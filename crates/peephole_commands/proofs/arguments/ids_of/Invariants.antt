@@ -6,7 +6,7 @@ use Rattle.peephole_script.specs.declared.fault.Fault.{Fault}
 use Rattle.peephole_script.specs.declared.fault.Fault.TheVariants as fault
 use Rattle.peephole_script.specs.Arguments.{all_of}
 use Rattle.peephole_script.specs.Text.{number_of, texts}
-use Rattle.peephole_commands.specs.Arguments.{children_of}
+use Rattle.peephole_commands.specs.Arguments.{named_children}
 use Rattle.peephole_commands.proofs.arguments.ids_of.Given as goal
 
 -- the answer where `front` was read, of words below the count or not, and these are the numbers of the words that are left
@@ -18,6 +18,6 @@ after_front count below front (Some rest) =
 -- the ids so far, and the numbers of the words that are left, make the answer
 abbrev pub invariant-loop-word : goal.invariant-loop-word
 invariant-loop-word l = record {
-  read : after_front l.count l.below (numbers_of l.ids.items) (all_of number_of (texts (drop l.word-index l.words))) ≡ children_of l.count (texts l.words);
+  read : after_front l.count l.below (numbers_of l.ids.items) (all_of number_of (texts (drop l.word-index l.words))) ≡ named_children l.count (texts l.words);
   all : All (λ child. child < l.count) (numbers_of l.ids.items);
 }

@@ -1,0 +1,5 @@
+use Rattle.peephole_lang.specs.laws.MadeLemmas.{fits_made}
+use Rattle.peephole_lang.proofs.laws.each_variant_is_made.Goals as goal
+
+pub returns : goal.returns
+returns c = fits_made
