@@ -7,7 +7,10 @@ use Rattle.std.proofs.lemmas.Int.{of_z-to_z, to_z-of_z}
 use Rattle.std.proofs.Math.Nat.{mod-lt, mod-mod, mod-eq_of_lt}
 use mir.Val.{bits}
 use mir.ValLaws.{of_z_fits}
+use Rattle.wasm_code.specs.Instruction.{Instruction}
 use Rattle.wasm_code.specs.Table.{row_at, table}
+use Rattle.wasm_code.specs.declared.immediate.Imm.{Imm}
+use Rattle.wasm_code.specs.declared.immediate.Imm.TheVariants as imm
 use Rattle.peephole_machine.specs.declared.integer.IntegerType.TheVariants as integer
 use Rattle.peephole_machine.specs.Values.{type_of, width_of, Value, whole, types, State, global, write, Ends}
 use Rattle.peephole_machine.specs.Integer.{binary, add}
@@ -17,9 +20,9 @@ use Rattle.peephole_machine.specs.Machine.{run}
 use Rattle.peephole_machine.specs.OutcomeLemmas.{run_one}
 use Rattle.peephole_machine.specs.RangeLemmas.{sum_split, run_op, run_sum, run_through}
 use Rattle.peephole_terms.specs.declared.encoder.kind.NumberType.TheVariants as number
-use Rattle.peephole_terms.specs.Kind.{NumberType, IntegerType, number_of}
+use Rattle.peephole_terms.specs.Kind.{NumberType, IntegerType, number_of, primitive_of}
 use Rattle.peephole_terms.specs.Expansion.{constant, rest_of, add_of, sum, set_global, get_global}
-use Rattle.peephole_terms.specs.Laws.{UnfoldsAddUp}
+use Rattle.peephole_terms.specs.Laws.{AddUpTo, UnfoldsAddUp}
 use Rattle.peephole_terms.specs.Typing.{integer_type}
 
 -- ---- rows
@@ -44,26 +47,23 @@ add_up w word z l f =
 low_fits : (w : Width) (n : ℕ) → 0 < 2 ^ bits w → FitsSigned w (cast_signed w (n % 2 ^ bits w))
 low_fits w n l = sfits_to_z (record { fits = mod-lt n l })
 
+adds_up : (w : Width) (number : ℤ → Imm) (one other : Instruction) (word : ℕ) (z : ℤ) → 0 < 2 ^ bits w → FitsSigned w z →
+    one.imm ≡ number (cast_signed w (word % 2 ^ bits w)) →
+    other.imm ≡ number (int_wrapping_sub w z (cast_signed w (word % 2 ^ bits w))) → AddUpTo w number z one other
+adds_up w number one other word z l f a b = record {
+  a = cast_signed w (word % 2 ^ bits w);
+  b = int_wrapping_sub w z (cast_signed w (word % 2 ^ bits w));
+  one_is = a;
+  other_is = b;
+  a_fits = low_fits w word l;
+  b_fits = low_fits w _ l;
+  sum = add_up w word z l f;
+}
+
 pub unfolds_add_up : UnfoldsAddUp
 unfolds_add_up = record {
-  i32 = λ word z f. record {
-    a = cast_signed w32 (word % 2 ^ 32);
-    b = int_wrapping_sub w32 z (cast_signed w32 (word % 2 ^ 32));
-    one_is = refl;
-    other_is = refl;
-    a_fits = low_fits w32 word (omega arith);
-    b_fits = low_fits w32 _ (omega arith);
-    sum = add_up w32 word z (omega arith) f;
-  };
-  i64 = λ word z f. record {
-    a = cast_signed w64 (word % 2 ^ 64);
-    b = int_wrapping_sub w64 z (cast_signed w64 (word % 2 ^ 64));
-    one_is = refl;
-    other_is = refl;
-    a_fits = low_fits w64 word (omega arith);
-    b_fits = low_fits w64 _ (omega arith);
-    sum = add_up w64 word z (omega arith) f;
-  };
+  i32 = λ word z f. adds_up w32 (λ n. imm.I32 n) (constant number.I32 word) (rest_of integer.I32 word z) word z (omega arith) f refl refl;
+  i64 = λ word z f. adds_up w64 (λ n. imm.I64 n) (constant number.I64 word) (rest_of integer.I64 word z) word z (omega arith) f refl refl;
 }
 
 pub constant_row : (t : IntegerType) (word : ℕ) → integer_row (constant (number_of t) word) ≡ rows.constant t (word % 2 ^ bits (width_of t))
@@ -83,28 +83,19 @@ unfolding integer_row row_at table
 add_row integer.I32 = refl
 add_row integer.I64 = refl
 
-pub set_row : (g : ℕ) → integer_row (set_global g) ≡ rows.set (global g)
-unfolding integer_row row_at table
-set_row g = refl
-
-pub get_row : (g : ℕ) → integer_row (get_global g) ≡ rows.get (global g)
-unfolding integer_row row_at table
-get_row g = refl
-
 -- ---- runs
 
-number_type : (t : NumberType) (u : IntegerType) → integer_type t ≡ Some u → t ≡ number_of u
-number_type number.I32 u e = let k : integer.I32 ≡ u = cc in ap number_of k
-number_type number.I64 u e = let k : integer.I64 ≡ u = cc in ap number_of k
-number_type number.F32 u e = absurd cc
-number_type number.F64 u e = absurd cc
+pub number_type : (t : NumberType) (u : IntegerType) → integer_type t ≡ Some u → (t ≡ number_of u) × (primitive_of t ≡ type_of u)
+number_type number.I32 u e = let k : integer.I32 ≡ u = cc in (ap number_of k, ap type_of k)
+number_type number.I64 u e = let k : integer.I64 ≡ u = cc in (ap number_of k, ap type_of k)
+number_type _ u e = absurd cc
 
 -- the constant of a word
 pub run_word : (t : NumberType) (u : IntegerType) (word : ℕ) (stack : List Value) (s : State) → integer_type t ≡ Some u →
     run (constant t word ∷ []) stack s ≡ Ends (stack ++ whole u word ∷ []) s
 run_word t u word stack s e =
     let size = 2 ^ bits (width_of u) in
-    ap (λ (x : NumberType). run (constant x word ∷ []) stack s) (number_type t u e) ∙
+    ap (λ (x : NumberType). run (constant x word ∷ []) stack s) (number_type t u e).0 ∙
     (run_one (constant (number_of u) word) (rows.constant u (word % size)) stack s (constant_row u word) ∙
     (run_op u (word % size) stack s ∙ ap (λ (n : ℕ). Ends (stack ++ record { type = type_of u; number = n } ∷ []) s) (mod-mod word size)))
 
@@ -119,4 +110,5 @@ run_sum_of t word z stack s =
 pub run_through_global : (t : IntegerType) (g : ℕ) (v : Value) (stack : List Value) (s : State) → v.type ≡ type_of t →
     slice_get (types s.globals) g ≡ Some (type_of t) →
     run (set_global g ∷ get_global g ∷ []) (stack ++ v ∷ []) s ≡ Ends (stack ++ v ∷ []) (write (global g) v s)
-run_through_global t g v stack s hv hg = run_through t g v (set_global g) (get_global g) stack s (set_row g) (get_row g) hv hg
+unfolding integer_row row_at table
+run_through_global t g v stack s hv hg = run_through t g v (set_global g) (get_global g) stack s refl refl hv hg

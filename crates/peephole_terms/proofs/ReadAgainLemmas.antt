@@ -1,24 +1,24 @@
 -- The bytes of a written body are read again.
-use Rattle.std.proofs.Common.{◌≡◌, ℕ, zero, suc, ◌+◌, ◌-◌, ◌<◌, ◌≤◌, List, [], ◌∷◌, ◌++◌, length, take, drop, map, refl, sym, ap, ap₂, subst, ◌∙◌, append_assoc, arith, IsTrue}
-use Rattle.std.specs.Prelude.{slice_range}
+use Rattle.std.proofs.Common.{◌≡◌, ℕ, ◌+◌, ◌-◌, ◌<◌, ◌≤◌, List, [], ◌∷◌, ◌++◌, length, take, drop, map, refl, sym, ap, ap₂, subst, ◌∙◌, append_assoc, arith}
+use Rattle.std.proofs.Common.{IsTrue, inl, inr, suc, true, Some}
+use Rattle.std.proofs.lemmas.Bool.{false≢true}
+use Rattle.std.proofs.lemmas.Bool.Decides.{eqb_tells}
+use Rattle.std.specs.Prelude.{slice_get, slice_range}
 use Rattle.std.specs.List.{All}
-use Rattle.std.proofs.lemmas.List.{length-map, length-drop, map-append, take-map, take-append-drop, take_all}
+use Rattle.std.proofs.lemmas.List.{drop-map, length-map, length-drop, map-append, take-map, take-append-drop, take_all, take-take, length-append}
 use Rattle.wasm_code.specs.Instruction.{Instruction, IsInstruction}
 use Rattle.wasm_code.specs.Code.{codes}
-use Rattle.wasm_code.specs.Body.{AreSpelled, joined, placed, SpellsAll, SpellsBody}
+use Rattle.wasm_code.specs.Body.{AreSpelled, joined, placed, is_end, ends, SpellsAll, SpellsBody}
+use Rattle.wasm_code.specs.Operator.{is_delimiter}
 use Rattle.wasm_code.specs.declared.operator.Operator.{Operator}
-use Rattle.wasm_code.specs.declared.operator.Operator.TheVariants.{Instr}
+use Rattle.wasm_code.specs.declared.operator.Operator.TheVariants.{Instr, End}
 use Rattle.peephole_graphs.specs.Block.{BlockRange}
 use Rattle.peephole_terms.specs.Written.{Site, site_at, offset_of, before_block, after_block, written_body, IsBodyIn, IsBlockIn}
 use Rattle.peephole_terms.specs.ReadAgain.{without_offsets, ReadsAgain}
-use Rattle.peephole_terms.proofs.BodyLemmas.{inside}
-use Rattle.peephole_terms.proofs.SpellingLemmas.{Spelling, CodesSpell, spelled, spellings_of, spelled_append, spelled_take, spelled_drop, joined-append, named_placed, length-placed, offset_placed, coded, coded_spelled, joined_coded, spelled_coded}
+use Rattle.peephole_terms.specs.EncoderSteps.{IsInside}
+use Rattle.peephole_terms.proofs.SpellingLemmas.{Spelling, CodesSpell, spelled, spellings_of, spelled_append, spelled_take, spelled_drop, joined-append}
+use Rattle.peephole_terms.proofs.SpellingLemmas.{joined_parts, named_placed, length-placed, offset_placed, coded, coded_spelled, joined_coded, spelled_coded}
 use Rattle.peephole_terms.proofs.SpellingLemmas.{ends_with, ends_named, ends_behind, last_size, StandsIn, stands_in, front_in, back_in}
-
-pub drop-map : {A B : Type 0} (f : A → B) (n : ℕ) (xs : List A) → drop n (map f xs) ≡ map f (drop n xs)
-drop-map f zero xs = refl
-drop-map f (suc n) [] = refl
-drop-map f (suc n) (x ∷ xs) = drop-map f n xs
 
 -- ---- a body by its spellings
 
@@ -30,58 +30,48 @@ pub record IsBodyOf (input : List ℕ) (from to : ℕ) (ps : List Spelling) (ope
   pub ordered : from ≤ to
   pub last : IsTrue (ends_with (spelled ps))
 
-pub alone_are : (input : List ℕ) (from to : ℕ) (ps : List Spelling) (operators : List (Operator × ℕ)) → IsBodyOf input from to ps operators →
-    without_offsets operators ≡ spelled ps
-alone_are input from to ps operators h = ap without_offsets (sym h.read) ∙ named_placed from ps
-
-pub count_is : (input : List ℕ) (from to : ℕ) (ps : List Spelling) (operators : List (Operator × ℕ)) → IsBodyOf input from to ps operators →
-    length operators ≡ length ps
-count_is input from to ps operators h = ap (λ (xs : List (Operator × ℕ)). length xs) (sym h.read) ∙ length-placed from ps
-
-starts_at : (input : List ℕ) (from to : ℕ) (ps : List Spelling) (operators : List (Operator × ℕ)) (i : ℕ) → IsBodyOf input from to ps operators →
-    i < length ps →
-    offset_of operators i ≡ from + length (joined (take i ps))
-starts_at input from to ps operators i h l = ap (λ (xs : List (Operator × ℕ)). offset_of xs i) (sym h.read) ∙ offset_placed from ps i l
-
-pub before_is : (input : List ℕ) (from to : ℕ) (ps : List Spelling) (operators : List (Operator × ℕ)) (block : BlockRange) →
-    IsBodyOf input from to ps operators → block.start < length ps →
-    before_block input operators block ≡ joined (take block.start ps)
-before_is input from to ps operators block h l =
-    let first : offset_of operators 0 ≡ from = let e = starts_at input from to ps operators 0 h (omega arith) in omega arith in
-    ap₂ (slice_range input) first (starts_at input from to ps operators block.start h l) ∙ front_in input from to block.start ps h.stands
-
-pub after_is : (input : List ℕ) (from to : ℕ) (ps : List Spelling) (operators : List (Operator × ℕ)) (block : BlockRange) →
-    IsBodyOf input from to ps operators → block.end < length ps →
-    after_block input operators block ≡ joined (drop block.end ps)
-after_is input from to ps operators block h l =
-    let n = count_is input from to ps operators h in
-    let start = starts_at input from to ps operators block.end h l in
-    let last = starts_at input from to ps operators (length ps - 1) h (omega arith) in
-    let one = last_size ps h.each h.last in
-    let end : offset_of operators (length operators - 1) + 1 ≡ from + length (joined ps) = ap (λ (k : ℕ). offset_of operators (k - 1) + 1) n ∙ omega arith in
-    ap (λ (k : ℕ). slice_range input k (offset_of operators (length operators - 1) + 1)) start
-    ∙ back_in input from to (offset_of operators (length operators - 1) + 1) block.end ps h.stands end
-
--- ---- the same with other instructions in the place of a block
-
 abbrev pub with_code : List Spelling → BlockRange → List Instruction → List Spelling
 with_code ps block code = take block.start ps ++ (coded code ++ drop block.end ps)
 
-pub written_is : (input : List ℕ) (from to : ℕ) (ps : List Spelling) (operators : List (Operator × ℕ)) (block : BlockRange) (code : List Instruction) → IsBodyOf input from to ps operators →
-    block.start < length ps → block.end < length ps → written_body (site_at input operators block 0) code ≡ joined (with_code ps block code)
-written_is input from to ps operators block code h l m =
-    ap₂ (λ (x y : List ℕ). x ++ (codes code ++ y)) (before_is input from to ps operators block h l) (after_is input from to ps operators block h m)
-    ∙ sym (joined-append (take block.start ps) (coded code ++ drop block.end ps)
-    ∙ ap (λ (x : List ℕ). joined (take block.start ps) ++ x) (joined-append (coded code) (drop block.end ps)
-    ∙ ap (λ (x : List ℕ). x ++ joined (drop block.end ps)) (joined_coded code)))
+module _ {input : List ℕ} {from to : ℕ} {ps : List Spelling} {operators : List (Operator × ℕ)} (h : IsBodyOf input from to ps operators) where
+  pub alone_are : without_offsets operators ≡ spelled ps
+  alone_are = ap without_offsets (sym h.read) ∙ named_placed from ps
+
+  pub count_is : length operators ≡ length ps
+  count_is = ap (λ (xs : List (Operator × ℕ)). length xs) (sym h.read) ∙ length-placed from ps
+
+  starts_at : (i : ℕ) → i < length ps → offset_of operators i ≡ from + length (joined (take i ps))
+  starts_at i l = ap (λ (xs : List (Operator × ℕ)). offset_of xs i) (sym h.read) ∙ offset_placed from ps i l
+
+  before_is : (block : BlockRange) → block.start < length ps → before_block input operators block ≡ joined (take block.start ps)
+  before_is block l =
+      let first : offset_of operators 0 ≡ from = let e = starts_at 0 (omega arith) in omega arith in
+      ap₂ (slice_range input) first (starts_at block.start l) ∙ front_in input from to block.start ps h.stands
+
+  after_is : (block : BlockRange) → block.end < length ps → after_block input operators block ≡ joined (drop block.end ps)
+  after_is block l =
+      let last = starts_at (length ps - 1) (omega arith) in
+      let one = last_size ps h.each h.last in
+      let end : offset_of operators (length operators - 1) + 1 ≡ from + length (joined ps) =
+      ap (λ (k : ℕ). offset_of operators (k - 1) + 1) count_is ∙ omega arith in
+      ap (λ (k : ℕ). slice_range input k (offset_of operators (length operators - 1) + 1)) (starts_at block.end l)
+      ∙ back_in input from to (offset_of operators (length operators - 1) + 1) block.end ps h.stands end
+
+  -- with instructions in the place of a block
+  pub written_is : (block : BlockRange) (code : List Instruction) → block.start < length ps → block.end < length ps →
+      written_body (site_at input operators block 0) code ≡ joined (with_code ps block code)
+  written_is block code l m =
+      ap₂ (λ (x y : List ℕ). x ++ (codes code ++ y)) (before_is block l) (after_is block m)
+      ∙ sym (joined-append (take block.start ps) (coded code ++ drop block.end ps)
+      ∙ ap (λ (x : List ℕ). joined (take block.start ps) ++ x) (joined-append (coded code) (drop block.end ps)
+      ∙ ap (λ (x : List ℕ). x ++ joined (drop block.end ps)) (joined_coded code)))
+
+-- ---- the same with other instructions in the place of a block
 
 pub spelled_with : (ps : List Spelling) (block : BlockRange) (code : List Instruction) →
     spelled (with_code ps block code) ≡ take block.start (spelled ps) ++ (map (λ (i : Instruction). Instr i) code ++ drop block.end (spelled ps))
 spelled_with ps block code =
-    map-append (λ (p : Operator × List ℕ). p.0) (take block.start ps) (coded code ++ drop block.end ps)
-    ∙ ap₂ (λ (x y : List Operator). x ++ y) (sym (take-map (λ (p : Operator × List ℕ). p.0) block.start ps))
-    (map-append (λ (p : Operator × List ℕ). p.0) (coded code) (drop block.end ps)
-    ∙ ap₂ (λ (x y : List Operator). x ++ y) (spelled_coded code) (sym (drop-map (λ (p : Operator × List ℕ). p.0) block.end ps)))
+    simp (map-append, ← take-map, ← drop-map) (ap (λ os. take block.start (spelled ps) ++ (os ++ drop block.end (spelled ps))) (spelled_coded code))
 
 -- the last operator stays
 last_with : (ps : List Spelling) (block : BlockRange) (code : List Instruction) → block.end < length ps →
@@ -102,7 +92,8 @@ again_of spell ps block code each last l all =
     let qs = with_code ps block code in
     let whole : slice_range (joined qs) 0 (length (joined qs)) ≡ joined qs = take_all (length (joined qs) - 0) (joined qs) (omega arith) in
     record {
-      each = spelled_append (take block.start ps) (coded code ++ drop block.end ps) (spelled_take block.start ps each) (spelled_append (coded code) (drop block.end ps) (coded_spelled spell code all) (spelled_drop block.end ps each));
+      each = spelled_append (take block.start ps) (coded code ++ drop block.end ps) (spelled_take block.start ps each)
+          (spelled_append (coded code) (drop block.end ps) (coded_spelled spell code all) (spelled_drop block.end ps each));
       read = refl;
       stands = stands_in (joined qs) 0 (length (joined qs)) qs (omega arith) (omega arith) whole;
       ordered = omega arith;
@@ -112,34 +103,61 @@ again_of spell ps block code each last l all =
 -- joined spellings are read as their operators
 all_joined : (start : ℕ) (ps : List Spelling) → AreSpelled ps → SpellsAll (placed start ps) start (joined ps)
 all_joined start [] s = refl
-all_joined start (p ∷ ps) s = record { front = p.1; back = joined ps; parts = refl; offset = refl; spells = s.0; rest = all_joined (start + length p.1) ps s.1 }
+all_joined start (p ∷ ps) s =
+    record { front = p.1; back = joined ps; parts = refl; offset = refl; spells = s.0; rest = all_joined (start + length p.1) ps s.1 }
 
 pub spells_again : (text : List ℕ) (to : ℕ) (ps : List Spelling) (operators : List (Operator × ℕ)) → IsBodyOf text 0 to ps operators →
     text ≡ joined ps → SpellsBody 0 text operators
 spells_again text to ps operators h e = record {
   all = subst (λ (xs : List (Operator × ℕ)). SpellsAll xs 0 text) h.read (subst (SpellsAll (placed 0 ps) 0) (sym e) (all_joined 0 ps h.each));
-  last = ends_named operators ∙ (ap ends_with (alone_are text 0 to ps operators h) ∙ h.last);
+  last = ends_named operators ∙ (ap ends_with (alone_are h) ∙ h.last);
 }
 
 -- ---- a body in an input
+
+end_delimits : (o : Operator) → IsTrue (is_end o) → is_delimiter o ≡ true
+end_delimits End e = refl
+end_delimits _ e = absurd cc
+
+last_delimits : (xs : List (Operator × ℕ)) → IsTrue (ends xs) → (o : Operator × ℕ) × (slice_get xs (length xs - 1) ≡ Some o) × (is_delimiter o.0 ≡ true)
+last_delimits [] e = absurd cc
+last_delimits (x ∷ []) e = (x, refl, end_delimits x.0 e)
+last_delimits (x ∷ y ∷ xs) e =
+    let more = last_delimits (y ∷ xs) e in
+    let at : length (x ∷ y ∷ xs) - 1 ≡ suc (length (y ∷ xs) - 1) = omega arith in
+    (more.0, ap (λ k. slice_get (x ∷ y ∷ xs) k) at ∙ more.1, more.2)
+
+-- something stands behind a block
+before_last : (operators : List (Operator × ℕ)) (block : BlockRange) → IsTrue (ends operators) → IsBlockIn operators block → block.end < length operators
+before_last operators block e b =
+    let end_is : block.end ≡ b.index + 1 = b.is.last in
+    let inside = b.inside in
+    elim (eqb_tells (b.index + 1) (length operators)) [
+      | inl h ↦
+          let last = last_delimits operators e in
+          let whole : b.index + 1 ≡ length operators = h.1 in
+          let at : b.index ≡ length operators - 1 = omega arith in
+          absurd (false≢true (sym (b.is.none b.index last.0 b.is.some (omega arith) (ap (λ k. slice_get operators k) at ∙ last.1)) ∙ last.2))
+      | inr h ↦ let not_whole = h.1 in omega arith
+    ]
 
 pub record IsSpelledIn (input : List ℕ) (operators : List (Operator × ℕ)) (block : BlockRange) : Type 0 where
   pub from : ℕ
   pub to : ℕ
   pub ps : List Spelling
   pub is : IsBodyOf input from to ps operators
+  within : to ≤ length input
   pub start_there : block.start < length ps
   pub end_there : block.end < length ps
 
 pub spelled_in : (input : List ℕ) (operators : List (Operator × ℕ)) (block : BlockRange) → IsBodyIn input operators → IsBlockIn operators block →
     IsSpelledIn input operators block
 spelled_in input operators block b k =
-    let text = slice_range input b.from b.to in
-    let h = spellings_of operators b.from text b.spells.all in
-    let there = inside input operators block b k in
+    let h = spellings_of operators b.from (slice_range input b.from b.to) b.spells.all in
     let n : length operators ≡ length h.spellings = ap (λ (xs : List (Operator × ℕ)). length xs) (sym h.read) ∙ length-placed b.from h.spellings in
-    let start_in = there.start_there in
-    let end_in = there.end_there in
+    let end_in : block.end < length operators = before_last operators block b.spells.last k in
+    let end_is = k.is.last in
+    let start_in = k.is.some in
     record {
       from = b.from;
       to = b.to;
@@ -151,8 +169,42 @@ spelled_in input operators block b k =
         ordered = b.ordered;
         last = sym (ends_named operators ∙ ap ends_with (ap without_offsets (sym h.read) ∙ named_placed b.from h.spellings)) ∙ b.spells.last;
       };
+      within = b.inside;
       start_there = omega arith;
       end_there = omega arith;
+    }
+
+joined_less : (ps : List Spelling) (i j : ℕ) → i ≤ j → length (joined (take i ps)) ≤ length (joined (take j ps))
+joined_less ps i j l =
+    let parts = ap (λ (t : List ℕ). length t) (joined_parts i (take j ps)) in
+    omega (arith, ap (λ x. length (joined x)) (take-take i j ps l), length-append (joined (take i (take j ps))) (joined (drop i (take j ps))))
+
+-- so the bytes outside a block are in the input
+pub inside : (input : List ℕ) (operators : List (Operator × ℕ)) (block : BlockRange) → IsBodyIn input operators → IsBlockIn operators block →
+    IsInside input operators block
+inside input operators block b k =
+    let h = spelled_in input operators block b k in
+    let last = length h.ps - 1 in
+    let n = count_is h.is in
+    let start_there = h.start_there in
+    let end_there = h.end_there in
+    let first_at = starts_at h.is 0 (omega arith) in
+    let start_at = starts_at h.is block.start start_there in
+    let end_at = starts_at h.is block.end end_there in
+    let last_at : offset_of operators (length operators - 1) ≡ h.from + length (joined (take last h.ps)) =
+    ap (λ (k : ℕ). offset_of operators (k - 1)) n ∙ starts_at h.is last (omega arith) in
+    let end_less = joined_less h.ps block.end last (omega arith) in
+    let start_less = joined_less h.ps block.start last (let l = k.is.some in let m = k.is.last in omega arith) in
+    let one = last_size h.ps h.is.each h.is.last in
+    let size = h.is.stands.size in
+    let to_in = h.within in
+    record {
+      start_there = omega arith;
+      end_there = omega arith;
+      before = omega arith;
+      start_inside = omega arith;
+      after = omega arith;
+      last_inside = let ordered = h.is.ordered in omega arith;
     }
 
 -- the clause
@@ -163,9 +215,8 @@ reads_again spell site code b k all =
     let h = spelled_in site.input site.operators block b k in
     let qs = with_code h.ps block code in
     let again = again_of spell h.ps block code h.is.each h.is.last h.end_there all in
-    let text : written_body site code ≡ joined qs =
-    written_is site.input h.from h.to h.ps site.operators block code h.is h.start_there h.end_there in
-    let names = alone_are site.input h.from h.to h.ps site.operators h.is in
+    let text : written_body site code ≡ joined qs = written_is h.is block code h.start_there h.end_there in
+    let names = alone_are h.is in
     record {
       again = placed 0 qs;
       spells = subst (λ (t : List ℕ). SpellsBody 0 t (placed 0 qs)) (sym text) (spells_again (joined qs) (length (joined qs)) qs (placed 0 qs) again refl);

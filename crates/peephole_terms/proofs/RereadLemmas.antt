@@ -1,96 +1,83 @@
 -- A block that is written with its own trees is read again as the same trees.
-use Rattle.std.proofs.Common.{◌≡◌, ℕ, ℤ, pos, ◌+ℤ◌, zero, suc, ◌+◌, ◌-◌, ◌<◌, ◌≤◌, ◌⊎◌, inl, inr, List, [], ◌∷◌, ◌++◌, length, take, drop, map, Bool, true, false, cond, refl, sym, ap, ap₂, subst, ◌∙◌, append_assoc, arith, Option, Some, None}
-use Rattle.std.specs.Prelude.{reverse, slice_get, slice_range, option_map, ◌&&◌, ⊤}
+use Rattle.std.proofs.Common.{◌≡◌, ℕ, ℤ, pos, ◌+ℤ◌, zero, suc, ◌+◌, ◌-◌, ◌<◌, ◌≤◌, ◌⊎◌, inl, inr, List, [], ◌∷◌, ◌++◌, length, take, drop, map, Bool, true}
+use Rattle.std.proofs.Common.{false, cond, refl, sym, ap, ap₂, subst, ◌∙◌, append_assoc, arith, Some}
+use Rattle.std.specs.Prelude.{reverse, slice_get, slice_range, option_map, ◌&&◌}
 use Rattle.std.specs.Ordering.{int_eq}
 use Rattle.std.specs.List.{All}
-use Rattle.std.proofs.lemmas.List.{length-append, length-map, length-take, length-drop, length-reverse, take-map, take_at, drop_at}
-use Rattle.std.proofs.lemmas.List.Elements.{All-nil, All-cons, All-append, All-head, All-tail}
+use Rattle.std.proofs.lemmas.List.{append-nil, map-append, drop-map, length-append, length-map, length-take, length-drop, take-map, take_at, drop_at}
+use Rattle.std.proofs.lemmas.Option.{slice_get-map}
+use Rattle.std.proofs.lemmas.List.Elements.{All-nil, All-cons, All-push, All-append, All-head, All-tail}
 use Rattle.wasm_code.specs.Instruction.{Instruction, IsInstruction}
 use Rattle.wasm_code.specs.Operator.{is_delimiter}
 use Rattle.wasm_code.specs.Body.{joined, placed, SpellsBody}
-use Rattle.wasm_code.specs.Table.{row_info_of}
-use Rattle.wasm_code.specs.declared.immediate.Imm.{Imm}
-use Rattle.wasm_code.specs.declared.immediate.Imm.TheVariants.{Index}
-use Rattle.wasm_code.specs.declared.table.RowInfo.{RowInfo}
 use Rattle.wasm_code.specs.declared.operator.Operator.{Operator}
 use Rattle.wasm_code.specs.declared.operator.Operator.TheVariants.{Instr}
-use Rattle.mutate_base.specs.Module.{Module, function_type}
-use Rattle.mutate_base.specs.declared.types.PrimitiveTypeInfo.{PrimitiveTypeInfo}
-use Rattle.mutate_base.specs.declared.types.TypeInfo.{TypeInfo}
-use Rattle.mutate_base.specs.declared.types.TypeInfo.TheVariants.{Func}
+use Rattle.mutate_base.specs.Module.{Module}
 use Rattle.peephole_graphs.specs.Block.{BlockRange, HasNoDelimiter}
 use Rattle.peephole_graphs.specs.declared.shape.Shape.{Shape}
 use Rattle.peephole_graphs.specs.declared.shape.Judged.{Judged}
 use Rattle.peephole_graphs.specs.declared.shape.Judged.TheVariants.{Fits}
-use Rattle.peephole_graphs.specs.Shape.{IsFit, AreFit, judge, judge_instruction, judge_found, judge_row, judge_call, judge_callee, call_shape, and_shape, operator_shapes}
-use Rattle.peephole_graphs.specs.Tree.{Tree, Trees, entry, node, no_trees, ◌▸◌, join, postfix_of, postfix, shapes_of, shapes, instructions_of, instructions, renumbered}
+use Rattle.peephole_graphs.specs.Shape.{IsFit, AreFit, judge, judge_instruction, and_shape, operator_shapes}
+use Rattle.peephole_graphs.specs.Tree.{Tree, Trees, entry, node, no_trees, ◌▸◌, join, postfix_of, postfix, shapes_of, shapes, instructions_of, instructions}
+use Rattle.peephole_graphs.specs.Tree.{renumbered}
 use Rattle.peephole_graphs.specs.Forest.{low, from_height, at_height, operator_tree, trees, is_operand, without, forest, IsInOrder}
 use Rattle.peephole_terms.specs.Written.{Site, site_at, block_operators, block_shapes, written_body, IsBodyIn, IsBlockIn}
 use Rattle.peephole_terms.specs.ReadAgain.{without_offsets, IsReread}
-use Rattle.peephole_terms.proofs.EncoderLemmas.{All-reverse}
+use Rattle.peephole_terms.proofs.RootTerms.{All-reverse, All-front, All-back}
+use Rattle.peephole_graphs.proofs.BuilderLemmas.{block_length, operator_fits}
 use Rattle.peephole_graphs.proofs.ForestLemmas.{forest_is}
 use Rattle.peephole_graphs.proofs.Rereading.{same_trees}
 use Rattle.peephole_graphs.proofs.Order.{written_in_order, shapes-renumbered}
 use Rattle.peephole_graphs.proofs.OrderLemmas.{count_all}
-use Rattle.peephole_terms.proofs.SpellingLemmas.{CodesSpell, Spelling, named_placed, length-placed, coded}
-use Rattle.peephole_terms.proofs.ReadAgainLemmas.{drop-map, alone_are, with_code, spelled_with, written_is, again_of, spells_again, spelled_in}
+use Rattle.peephole_terms.proofs.SpellingLemmas.{CodesSpell, Spelling, named_placed, length-placed, spelling_of, coded}
+use Rattle.peephole_terms.proofs.ReadAgainLemmas.{alone_are, count_is, with_code, spelled_with, written_is, again_of, spells_again, spelled_in}
 
 -- ---- the shapes of a forest are its block's
 
-abbrev mutual
-  HoldsIn : (Shape → Type 0) → Tree → Type 0
-  HoldsIn P (entry m) = ⊤
-  HoldsIn P (node i s kids) = P s × HoldAll P kids
+module _ (P : Shape → Type 0) where
+  places_hold : (at : ℤ → Tree) → ((p : ℤ) → All P (shapes_of (at p))) → (p : ℤ) (count : ℕ) → All P (shapes (from_height at p count))
+  places_hold at h p zero = All-nil P
+  places_hold at h p (suc count) =
+      All-append P (shapes_of (at p)) (shapes (from_height at (p +ℤ pos 1) count)) (h p) (places_hold at h (p +ℤ pos 1) count)
 
-  HoldAll : (Shape → Type 0) → Trees → Type 0
-  HoldAll P no_trees = ⊤
-  HoldAll P (t ▸ ts) = HoldsIn P t × HoldAll P ts
+  own_holds : (s : Shape) (earlier : List Shape) → P s → ((p : ℤ) → All P (shapes_of (at_height earlier p))) → All P (shapes_of (operator_tree s earlier))
+  own_holds s earlier h older =
+      All-push P (shapes (from_height (at_height earlier) (low s earlier) s.operands)) s (places_hold (at_height earlier) older (low s earlier) s.operands) h
 
-mutual
-  shapes_of_hold : (P : Shape → Type 0) (t : Tree) → HoldsIn P t → All P (shapes_of t)
-  shapes_of_hold P (entry m) h = All-nil P
-  shapes_of_hold P (node i s kids) h = All-append P (shapes kids) (s ∷ []) (shapes_hold P kids h.1) (All-cons P s [] h.0 (All-nil P))
+  place_holds : (block : List Shape) → All P block → (p : ℤ) → All P (shapes_of (at_height block p))
+  place_holds [] all p = All-nil P
+  place_holds (s ∷ earlier) all p =
+      let older = place_holds earlier (All-tail P s earlier all) in
+      elim (s.has_result && int_eq p (low s earlier)) as (λ b. All P (shapes_of (cond b (operator_tree s earlier) (at_height earlier p)))) [
+        | true ↦ own_holds s earlier (All-head P s earlier all) older
+        | false ↦ older p
+      ]
 
-  shapes_hold : (P : Shape → Type 0) (ts : Trees) → HoldAll P ts → All P (shapes ts)
-  shapes_hold P no_trees h = All-nil P
-  shapes_hold P (t ▸ ts) h = All-append P (shapes_of t) (shapes ts) (shapes_of_hold P t h.0) (shapes_hold P ts h.1)
+  joined_hold : (ts us : Trees) → All P (shapes ts) → All P (shapes us) → All P (shapes (join ts us))
+  joined_hold no_trees us a b = b
+  joined_hold (t ▸ ts) us a b = All-append P (shapes_of t) (shapes (join ts us)) (All-front P (shapes_of t) (shapes ts) a)
+      (joined_hold ts us (All-back P (shapes_of t) (shapes ts) a) b)
 
-places_hold : (P : Shape → Type 0) (at : ℤ → Tree) → ((p : ℤ) → HoldsIn P (at p)) → (p : ℤ) (count : ℕ) → HoldAll P (from_height at p count)
-places_hold P at h p zero = tt
-places_hold P at h p (suc count) = (h p, places_hold P at h (p +ℤ pos 1) count)
+  trees_hold : (block : List Shape) → All P block → All P (shapes (trees block))
+  trees_hold [] all = All-nil P
+  trees_hold (s ∷ earlier) all =
+      let rest = All-tail P s earlier all in
+      joined_hold (trees earlier) (operator_tree s earlier ▸ no_trees) (trees_hold earlier rest)
+      (rw append-nil (own_holds s earlier (All-head P s earlier all) (place_holds earlier rest)))
 
-place_holds : (P : Shape → Type 0) (block : List Shape) → All P block → (p : ℤ) → HoldsIn P (at_height block p)
-place_holds P [] all p = tt
-place_holds P (s ∷ earlier) all p =
-    let older = place_holds P earlier (All-tail P s earlier all) in
-    go (s.has_result && int_eq p (low s earlier)) (All-head P s earlier all, places_hold P (at_height earlier) older (low s earlier) s.operands) (older p)
-  where
-    go : (b : Bool) → HoldsIn P (operator_tree s earlier) → HoldsIn P (at_height earlier p) → HoldsIn P (cond b (operator_tree s earlier) (at_height earlier p))
-    go true own older = own
-    go false own older = older
+  without_hold : (test : ℕ → Bool) (ts : Trees) → All P (shapes ts) → All P (shapes (without test ts))
+  without_hold test no_trees h = h
+  without_hold test (entry m ▸ ts) h = without_hold test ts h
+  without_hold test (node i s kids ▸ ts) h =
+      let own = shapes kids ++ s ∷ [] in
+      let rest = without_hold test ts (All-back P own (shapes ts) h) in
+      elim (test i) as (λ b. All P (shapes (cond b (without test ts) (node i s kids ▸ without test ts)))) [
+        | true ↦ rest
+        | false ↦ All-append P own (shapes (without test ts)) (All-front P own (shapes ts) h) rest
+      ]
 
-joined_hold : (P : Shape → Type 0) (ts us : Trees) → HoldAll P ts → HoldAll P us → HoldAll P (join ts us)
-joined_hold P no_trees us a b = b
-joined_hold P (t ▸ ts) us a b = (a.0, joined_hold P ts us a.1 b)
-
-trees_hold : (P : Shape → Type 0) (block : List Shape) → All P block → HoldAll P (trees block)
-trees_hold P [] all = tt
-trees_hold P (s ∷ earlier) all =
-    let rest = All-tail P s earlier all in
-    joined_hold P (trees earlier) (operator_tree s earlier ▸ no_trees) (trees_hold P earlier rest)
-    ((All-head P s earlier all, places_hold P (at_height earlier) (place_holds P earlier rest) (low s earlier) s.operands), tt)
-
-without_hold : (P : Shape → Type 0) (test : ℕ → Bool) (ts : Trees) → HoldAll P ts → HoldAll P (without test ts)
-without_hold P test no_trees h = tt
-without_hold P test (entry m ▸ ts) h = (tt, without_hold P test ts h.1)
-without_hold P test (node i s kids ▸ ts) h = go (test i) (without_hold P test ts h.1)
-  where
-    go : (b : Bool) → HoldAll P (without test ts) → HoldAll P (cond b (without test ts) (node i s kids ▸ without test ts))
-    go true rest = rest
-    go false rest = (h.0, rest)
-
-pub forest_holds : (P : Shape → Type 0) (block : List Shape) → All P block → All P (shapes (forest block))
-forest_holds P block all = shapes_hold P (forest block) (without_hold P (λ j. is_operand j (trees block)) (trees block) (trees_hold P block all))
+  forest_holds : (block : List Shape) → All P block → All P (shapes (forest block))
+  forest_holds block all = without_hold (λ j. is_operand j (trees block)) (trees block) (trees_hold block all)
 
 mutual
   count_of : (t : Tree) → length (shapes_of t) ≡ length (postfix_of t)
@@ -101,7 +88,7 @@ mutual
   count no_trees = refl
   count (t ▸ ts) = let e = count_of t in let f = count ts in omega (arith, length-append (shapes_of t) (shapes ts), length-append (postfix_of t) (postfix ts))
 
-pub count_forest : (block : List Shape) → length (shapes (forest block)) ≡ length block
+count_forest : (block : List Shape) → length (shapes (forest block)) ≡ length block
 count_forest block = count (forest block) ∙ (ap (λ (ts : Trees). length (postfix ts)) (forest_is block) ∙ count_all block)
 
 -- ---- the instructions are those of the shapes
@@ -109,65 +96,32 @@ count_forest block = count (forest block) ∙ (ap (λ (ts : Trees). length (post
 abbrev pub instr_of : List Shape → List Instruction
 instr_of ss = map (λ (s : Shape). s.instr) ss
 
-instr-append : (ss us : List Shape) → instr_of (ss ++ us) ≡ instr_of ss ++ instr_of us
-instr-append [] us = refl
-instr-append (s ∷ ss) us = ap (λ (is : List Instruction). s.instr ∷ is) (instr-append ss us)
-
 mutual
   instructions_of_are : (t : Tree) → instructions_of t ≡ instr_of (shapes_of t)
   instructions_of_are (entry m) = refl
-  instructions_of_are (node i s kids) = ap (λ (is : List Instruction). is ++ s.instr ∷ []) (instructions_are kids) ∙ sym (instr-append (shapes kids) (s ∷ []))
+  instructions_of_are (node i s kids) =
+      ap (λ (is : List Instruction). is ++ s.instr ∷ []) (instructions_are kids) ∙ sym (map-append (λ (s : Shape). s.instr) (shapes kids) (s ∷ []))
 
   pub instructions_are : (ts : Trees) → instructions ts ≡ instr_of (shapes ts)
   instructions_are no_trees = refl
-  instructions_are (t ▸ ts) =
-      ap₂ (λ (x y : List Instruction). x ++ y) (instructions_of_are t) (instructions_are ts) ∙ sym (instr-append (shapes_of t) (shapes ts))
+  instructions_are (t ▸ ts) = ap₂ (λ (x y : List Instruction). x ++ y) (instructions_of_are t) (instructions_are ts)
+      ∙ sym (map-append (λ (s : Shape). s.instr) (shapes_of t) (shapes ts))
 
--- ---- what an instruction's shape is, its own instruction is
+-- ---- an instruction that is judged again has the same shape
 
-fits_same : (s t : Shape) → Fits s ≡ Fits t → s ≡ t
-fits_same s t e = cc
-
-called_is : (i : Instruction) (n : ℕ) (returns : List PrimitiveTypeInfo) (s : Shape) → call_shape i n returns ≡ Fits s → s.instr ≡ i
-called_is i n [] s e = ap (λ (x : Shape). x.instr) (sym (fits_same _ s e))
-called_is i n (one ∷ []) s e = ap (λ (x : Shape). x.instr) (sym (fits_same _ s e))
-called_is i n (one ∷ two ∷ more) s e = absurd cc
-
-callee_is : (i : Instruction) (function : ℕ) (type : Option TypeInfo) (s : Shape) → judge_callee i function type ≡ Fits s → s.instr ≡ i
-callee_is i function None s e = absurd cc
-callee_is i function (Some (Func type)) s e = called_is i (length type.params) type.returns s e
-
-call_is : (info : Module) (i : Instruction) (imm : Imm) (s : Shape) → judge_call info i imm ≡ Fits s → s.instr ≡ i
-call_is info i (Index function) s e = callee_is i function (function_type info function) s e
-call_is info i _ s e = absurd cc
-
-row_is : (info : Module) (i : Instruction) (row : RowInfo) (operands : Option ℕ) (s : Shape) → judge_row info i row operands ≡ Fits s → s.instr ≡ i
-row_is info i row None s e = call_is info i i.imm s e
-row_is info i row (Some operands) s e = ap (λ (x : Shape). x.instr) (sym (fits_same _ s e))
-
-pub found_is : (info : Module) (i : Instruction) (row : Option RowInfo) (s : Shape) → judge_found info i row ≡ Fits s → s.instr ≡ i
-found_is info i None s e = absurd cc
-found_is info i (Some row) s e = row_is info i row row.operands s e
-
--- an instruction that is judged again has the same shape
 abbrev HasOwnShape : Module → Shape → Type 0
 HasOwnShape info s = judge_instruction info s.instr ≡ Fits s
 
-judged_own : (info : Module) (o : Operator) (s : Shape) → judge info o ≡ Fits s → HasOwnShape info s
-judged_own info (Instr i) s e = ap (judge_instruction info) (found_is info i (row_info_of i.row) s e) ∙ e
-judged_own info _ s e = absurd cc
-
-own_shapes : (info : Module) (os : List (Operator × ℕ)) → AreFit info os →
-    All (HasOwnShape info) (operator_shapes info os) × (length (operator_shapes info os) ≡ length os)
-own_shapes info [] fit = (All-nil (HasOwnShape info), refl)
+own_shapes : (info : Module) (os : List (Operator × ℕ)) → AreFit info os → All (HasOwnShape info) (operator_shapes info os)
+own_shapes info [] fit = All-nil (HasOwnShape info)
 own_shapes info (o ∷ os) fit =
-    let rest = own_shapes info os (All-tail (λ (x : Operator × ℕ). IsFit (judge info x.0)) o os fit) in
-    go (judge info o.0) refl (All-head (λ (x : Operator × ℕ). IsFit (judge info x.0)) o os fit) rest.0 rest.1
+    go (judge info o.0) refl (All-head (λ (x : Operator × ℕ). IsFit (judge info x.0)) o os fit)
+    (own_shapes info os (All-tail (λ (x : Operator × ℕ). IsFit (judge info x.0)) o os fit))
   where
-    go : (j : Judged) → judge info o.0 ≡ j → IsFit j → All (HasOwnShape info) (operator_shapes info os) → length (operator_shapes info os) ≡ length os →
-        All (HasOwnShape info) (and_shape j (operator_shapes info os)) × (length (and_shape j (operator_shapes info os)) ≡ suc (length os))
-    go (Fits s) e f all n = (All-cons (HasOwnShape info) s (operator_shapes info os) (judged_own info o.0 s e) all, ap suc n)
-    go _ e f all n = absurd f
+    go : (j : Judged) → judge info o.0 ≡ j → IsFit j → All (HasOwnShape info) (operator_shapes info os) →
+        All (HasOwnShape info) (and_shape j (operator_shapes info os))
+    go (Fits s) e f all = All-cons (HasOwnShape info) s (operator_shapes info os) (rw (operator_fits info o.0 s e) at e) all
+    go _ e f all = absurd f
 
 -- operators that are the instructions of such shapes have these shapes
 judged_again : (info : Module) (ss : List Shape) (xs : List (Operator × ℕ)) → All (HasOwnShape info) ss →
@@ -187,13 +141,8 @@ judged_again info (s ∷ ss) (x ∷ xs) all e =
 
 -- ---- places in joined lists
 
-get_map : {A B : Type 0} (f : A → B) (xs : List A) (k : ℕ) → slice_get (map f xs) k ≡ option_map f (slice_get xs k)
-get_map f [] k = refl
-get_map f (x ∷ xs) zero = refl
-get_map f (x ∷ xs) (suc k) = get_map f xs k
-
 get_alone : (xs : List (Operator × ℕ)) (k : ℕ) (o : Operator × ℕ) → slice_get xs k ≡ Some o → slice_get (without_offsets xs) k ≡ Some o.0
-get_alone xs k o e = get_map (λ (o : Operator × ℕ). o.0) xs k ∙ ap (option_map (λ (o : Operator × ℕ). o.0)) e
+get_alone xs k o e = slice_get-map (λ (o : Operator × ℕ). o.0) xs k ∙ ap (option_map (λ (o : Operator × ℕ). o.0)) e
 
 from_alone : (xs : List (Operator × ℕ)) (k : ℕ) (p : Operator) → slice_get (without_offsets xs) k ≡ Some p →
     (o : Operator × ℕ) × (slice_get xs k ≡ Some o) × (o.0 ≡ p)
@@ -227,79 +176,77 @@ none_delimits (i ∷ is) (suc k) p e = none_delimits is k p e
 
 -- The operators of a body, with instructions in the place of a block.
 record IsAgain (operators again : List (Operator × ℕ)) (block : BlockRange) (code : List Instruction) : Type 0 where
-  are : without_offsets again ≡ take block.start (without_offsets operators) ++ (map (λ (i : Instruction). Instr i) code ++ drop block.end (without_offsets operators))
+  are : without_offsets again ≡ take block.start (without_offsets operators)
+      ++ (map (λ (i : Instruction). Instr i) code ++ drop block.end (without_offsets operators))
   ordered : block.start ≤ block.end
   inside : block.end < length operators
   count : length code ≡ block.end - block.start
 
-abbrev middle : List Instruction → List Operator
-middle code = map (λ (i : Instruction). Instr i) code
+module _ {operators again : List (Operator × ℕ)} {block : BlockRange} {code : List Instruction} (h : IsAgain operators again block code) where
+  abbrev front : List Operator
+  front = take block.start (without_offsets operators)
 
-length_front : (operators again : List (Operator × ℕ)) (block : BlockRange) (code : List Instruction) → IsAgain operators again block code →
-    length (take block.start (without_offsets operators)) ≡ block.start
-length_front operators again block code h =
-    let l = h.ordered in
-    let m = h.inside in
-    omega (arith, length-take block.start (without_offsets operators), length-map operators (λ (o : Operator × ℕ). o.0))
+  abbrev middle : List Operator
+  middle = map (λ (i : Instruction). Instr i) code
 
--- the block's range has these instructions
-range_again : (operators again : List (Operator × ℕ)) (block : BlockRange) (code : List Instruction) → IsAgain operators again block code →
-    without_offsets (slice_range again block.start block.end) ≡ middle code
-range_again operators again block code h =
-    let front = take block.start (without_offsets operators) in
-    let back = drop block.end (without_offsets operators) in
-    let n : length (middle code) ≡ block.end - block.start = length-map code (λ (i : Instruction). Instr i) ∙ h.count in
-    sym (take-map (λ (o : Operator × ℕ). o.0) (block.end - block.start) (drop block.start again))
-    ∙ (ap (take (block.end - block.start)) (sym (drop-map (λ (o : Operator × ℕ). o.0) block.start again)
-    ∙ (ap (drop block.start) h.are ∙ drop_at front (middle code ++ back) block.start (length_front operators again block code h)))
-    ∙ take_at (middle code) back (block.end - block.start) n)
+  abbrev back : List Operator
+  back = drop block.end (without_offsets operators)
 
--- it is a block again
-block_again : (operators again : List (Operator × ℕ)) (block : BlockRange) (code : List Instruction) → IsAgain operators again block code →
-    length again ≡ length operators → IsBlockIn operators block → IsBlockIn again block
-block_again operators again block code h n b =
-    let front = take block.start (without_offsets operators) in
-    let back = drop block.end (without_offsets operators) in
-    let f = length_front operators again block code h in
-    let count : length (middle code) ≡ block.end - block.start = length-map code (λ (i : Instruction). Instr i) ∙ h.count in
-    let inside : b.index < length operators = b.inside in
-    record {
-      index = b.index;
-      inside = omega arith;
-      is = record {
-        last = b.is.last;
-        some = b.is.some;
-        none = λ k o low high e.
-            let at : k ≡ block.start + (k - block.start) = omega arith in
-            let there : slice_get (without_offsets again) k ≡ slice_get (middle code) (k - block.start) =
-            ap (λ (xs : List Operator). slice_get xs k) h.are
-            ∙ (get_behind front (middle code ++ back) block.start k (k - block.start) f at
-            ∙ get_front (middle code) back (k - block.start) (omega arith)) in
-            none_delimits code (k - block.start) o.0 (sym there ∙ get_alone again k o e);
-        longest = λ from all. b.is.longest from (λ k o low high e. as_before f from all k o low high e (before_or_in k));
-      };
-    }
-  where
-    before_or_in : (k : ℕ) → (k < block.start) ⊎ (block.start ≤ k)
-    before_or_in k = grind arith
+  length_front : length front ≡ block.start
+  length_front =
+      let l = h.ordered in
+      let m = h.inside in
+      omega (arith, length-take block.start (without_offsets operators), length-map operators (λ (o : Operator × ℕ). o.0))
 
-    as_before : length (take block.start (without_offsets operators)) ≡ block.start → (from : ℕ) → HasNoDelimiter again from block.end →
-        (k : ℕ) (o : Operator × ℕ) → from ≤ k → k < block.end → slice_get operators k ≡ Some o →
-        (k < block.start) ⊎ (block.start ≤ k) → is_delimiter o.0 ≡ false
-    as_before f from all k o low high e (inr behind) = b.is.none k o behind high e
-    as_before f from all k o low high e (inl before) =
-        let there : slice_get (without_offsets again) k ≡ Some o.0 =
-        ap (λ (xs : List Operator). slice_get xs k) h.are
-        ∙ (get_front (take block.start (without_offsets operators)) (middle code ++ drop block.end (without_offsets operators)) k (omega arith)
-        ∙ (get_taken block.start (without_offsets operators) k before ∙ get_alone operators k o e)) in
-        let found = from_alone again k o.0 there in
-        ap is_delimiter (sym found.2) ∙ all k found.0 low high found.1
+  length_middle : length middle ≡ block.end - block.start
+  length_middle = length-map code (λ (i : Instruction). Instr i) ∙ h.count
+
+  -- the block's range has these instructions
+  range_again : without_offsets (slice_range again block.start block.end) ≡ middle
+  range_again =
+      sym (take-map (λ (o : Operator × ℕ). o.0) (block.end - block.start) (drop block.start again))
+      ∙ (ap (take (block.end - block.start)) (sym (drop-map (λ (o : Operator × ℕ). o.0) block.start again)
+      ∙ (ap (drop block.start) h.are ∙ drop_at front (middle ++ back) block.start length_front))
+      ∙ take_at middle back (block.end - block.start) length_middle)
+
+  -- none of them is a delimiter
+  inside_again : HasNoDelimiter again block.start block.end
+  inside_again k o low high e =
+      let n = length_front in
+      let m = length_middle in
+      let at : k ≡ block.start + (k - block.start) = omega arith in
+      let there : slice_get (without_offsets again) k ≡ slice_get middle (k - block.start) = ap (λ (xs : List Operator). slice_get xs k) h.are
+      ∙ (get_behind front (middle ++ back) block.start k (k - block.start) n at ∙ get_front middle back (k - block.start) (omega arith)) in
+      none_delimits code (k - block.start) o.0 (sym there ∙ get_alone again k o e)
+
+  -- and before them the operators are the same
+  before_again : (k : ℕ) (o : Operator × ℕ) → k < block.start → slice_get operators k ≡ Some o →
+      (p : Operator × ℕ) × (slice_get again k ≡ Some p) × (p.0 ≡ o.0)
+  before_again k o l e =
+      let n = length_front in
+      from_alone again k o.0 (ap (λ (xs : List Operator). slice_get xs k) h.are ∙ (get_front front (middle ++ back) k (omega arith)
+      ∙ (get_taken block.start (without_offsets operators) k l ∙ get_alone operators k o e)))
+
+  -- it is a block again
+  block_again : length again ≡ length operators → IsBlockIn operators block → IsBlockIn again block
+  block_again n b = record {
+    index = b.index;
+    inside = let l = b.inside in omega arith;
+    is = record {
+      last = b.is.last;
+      some = b.is.some;
+      none = inside_again;
+      longest = λ from all. b.is.longest from (λ k o low high e. elim (before_or_in k) [
+        | inl before ↦ let p = before_again k o before e in ap is_delimiter (sym p.2) ∙ all k p.0 low high p.1
+        | inr behind ↦ b.is.none k o behind high e
+      ]);
+    };
+  }
+    where
+      before_or_in : (k : ℕ) → (k < block.start) ⊎ (block.start ≤ k)
+      before_or_in k = grind arith
 
 -- ---- the clause
-
-length_coded : (is : List Instruction) → length (coded is) ≡ length is
-length_coded [] = refl
-length_coded (i ∷ is) = ap suc (length_coded is)
 
 with_same : (ps : List Spelling) (block : BlockRange) (code : List Instruction) → block.start ≤ block.end → block.end < length ps →
     length code ≡ block.end - block.start →
@@ -308,7 +255,7 @@ with_same ps block code l m n =
     let front = take block.start ps in
     let back = drop block.end ps in
     let f : length front ≡ block.start = omega (arith, length-take block.start ps) in
-    let c : length (coded code) ≡ block.end - block.start = length_coded code ∙ n in
+    let c : length (coded code) ≡ block.end - block.start = length-map code spelling_of ∙ n in
     let whole : length (front ++ coded code) ≡ block.end = omega (arith, length-append front (coded code)) in
     ap₂ (λ (x y : List Spelling). x ++ (coded code ++ y)) (take_at front (coded code ++ back) block.start f)
     (ap (drop block.end) (sym (append_assoc front (coded code) back)) ∙ drop_at (front ++ coded code) back block.end whole)
@@ -317,7 +264,14 @@ length_with : (ps : List Spelling) (block : BlockRange) (code : List Instruction
     length code ≡ block.end - block.start →
     length (with_code ps block code) ≡ length ps
 length_with ps block code l m n =
-    omega (arith, length-append (take block.start ps) (coded code ++ drop block.end ps), length-append (coded code) (drop block.end ps), length-take block.start ps, length-drop block.end ps, length_coded code)
+    omega (
+      arith,
+      length-append (take block.start ps) (coded code ++ drop block.end ps),
+      length-append (coded code) (drop block.end ps),
+      length-take block.start ps,
+      length-drop block.end ps,
+      length-map code spelling_of,
+    )
 
 -- how many operators the block has
 block_size : (operators : List (Operator × ℕ)) (block : BlockRange) → block.start ≤ block.end → block.end < length operators →
@@ -337,16 +291,15 @@ reread spell info site b k fit all =
     let code = instructions (forest shaped) in
     let qs = with_code h.ps block code in
     let again = placed 0 qs in
-    let n : length operators ≡ length h.ps = ap (λ (xs : List (Operator × ℕ)). length xs) (sym h.is.read) ∙ length-placed h.from h.ps in
+    let n = count_is h.is in
     let end_in : block.end < length h.ps = h.end_there in
     let ordered : block.start ≤ block.end = let last = k.is.last in let some = k.is.some in omega arith in
-    let own = own_shapes info os fit in
     let size : length code ≡ block.end - block.start =
     ap (λ (is : List Instruction). length is) (instructions_are (forest shaped)) ∙ (length-map (shapes (forest shaped)) (λ (s : Shape). s.instr)
-    ∙ (count_forest shaped ∙ (length-reverse (operator_shapes info os) ∙ (own.1 ∙ block_size operators block ordered (omega arith))))) in
+    ∙ (count_forest shaped ∙ (block_length info os fit ∙ block_size operators block ordered (omega arith)))) in
     let body = again_of spell h.ps block code h.is.each h.is.last h.end_there all in
-    let text : written_body site code ≡ joined qs = written_is input h.from h.to h.ps operators block code h.is h.start_there h.end_there in
-    let names = alone_are input h.from h.to h.ps operators h.is in
+    let text : written_body site code ≡ joined qs = written_is h.is block code h.start_there h.end_there in
+    let names = alone_are h.is in
     let is_again : IsAgain operators again block code = record {
       are = named_placed 0 qs ∙ (spelled_with h.ps block code
           ∙ ap (λ (os : List Operator). take block.start os ++ (map (λ (i : Instruction). Instr i) code ++ drop block.end os)) (sym names));
@@ -356,8 +309,9 @@ reread spell info site b k fit all =
     } in
     let same_length : length qs ≡ length h.ps = length_with h.ps block code ordered end_in size in
     let ranged : without_offsets (slice_range again block.start block.end) ≡ map (λ (i : Instruction). Instr i) (instr_of (shapes (forest shaped))) =
-    range_again operators again block code is_again ∙ ap (map (λ (i : Instruction). Instr i)) (instructions_are (forest shaped)) in
-    let owned : All (HasOwnShape info) (shapes (forest shaped)) = forest_holds (HasOwnShape info) shaped (All-reverse (HasOwnShape info) (operator_shapes info os) own.0) in
+    range_again is_again ∙ ap (map (λ (i : Instruction). Instr i)) (instructions_are (forest shaped)) in
+    let owned : All (HasOwnShape info) (shapes (forest shaped)) =
+    forest_holds (HasOwnShape info) shaped (All-reverse (HasOwnShape info) (operator_shapes info os) (own_shapes info os fit)) in
     let judged = judged_again info (shapes (forest shaped)) (slice_range again block.start block.end) owned ranged in
     let new : block_shapes info (site_at (joined qs) again block site.at) ≡ reverse (shapes (forest shaped)) = ap reverse judged.0 in
     let kept : forest (block_shapes info (site_at (joined qs) again block site.at)) ≡ renumbered 0 (forest shaped) = ap forest new ∙ same_trees shaped in
@@ -367,11 +321,11 @@ reread spell info site b k fit all =
     record {
       again = again;
       spells = subst (λ (t : List ℕ). SpellsBody 0 t again) (sym text) (spells_again (joined qs) (length (joined qs)) qs again body refl);
-      there = block_again operators again block code is_again (length-placed 0 qs ∙ (same_length ∙ sym n)) k;
+      there = block_again is_again (length-placed 0 qs ∙ (same_length ∙ sym n)) k;
       fit = judged.1;
       same = kept;
       order = subst IsInOrder (sym new) (written_in_order shaped);
       stays = ap₂ (λ (t : List ℕ) (is : List Instruction). written_body (site_at t again block site.at) is) text code_is
-          ∙ (written_is (joined qs) 0 (length (joined qs)) qs again block code body (omega arith) (omega arith)
+          ∙ (written_is body block code (omega arith) (omega arith)
           ∙ (ap joined (with_same h.ps block code ordered end_in size) ∙ sym text));
     }

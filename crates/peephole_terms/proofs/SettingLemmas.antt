@@ -1,139 +1,76 @@
 -- What is written under a configuration that is set up.
-use Rattle.std.proofs.Common.{◌≡◌, refl, ℕ, Bool, true, false, cond, List, [], ◌++◌, length, map, Option, Some, None, Result, Ok, Err, sym, ap, subst, ◌∙◌, append_assoc}
-use Rattle.std.specs.Prelude.{IfSome, option_map}
+use Rattle.std.proofs.Common.{◌≡◌, refl, ℕ, Bool, true, false, cond, List, [], ◌++◌, length, map, Option, Some, None, Result, Ok, Err, sym, ap, ap₂, ◌∙◌}
+use Rattle.std.proofs.Common.{append_assoc}
+use Rattle.std.specs.Prelude.{option_map}
+use Rattle.std.specs.List.{All}
 use Rattle.rand_core.specs.Stream.{Stream}
 use Rattle.wasm_code.specs.Code.{codes}
+use Rattle.wasm_code.specs.Instruction.{Instruction, IsInstruction}
 use Rattle.mutate_base.specs.Config.{Setup, Config, info_of, generator_of}
 use Rattle.mutate_base.specs.Module.{Module}
 use Rattle.mutate_base.specs.declared.error.Error.{Error}
+use Rattle.mutate_base.specs.declared.error.Error.TheVariants.{Memory, CannotUnfold, GlobalIndex}
 use Rattle.peephole_lang.specs.declared.lang.Head.{Head}
-use Rattle.peephole_lang.specs.Term.{Term}
-use Rattle.peephole_graphs.specs.declared.dfg.StackEntry.{StackEntry}
+use Rattle.peephole_lang.specs.Term.{Term, Terms}
 use Rattle.peephole_graphs.specs.Entries.{Graph, roots_of}
 use Rattle.peephole_graphs.specs.Forest.{forest}
 use Rattle.peephole_graphs.specs.GraphOf.{IsGraphOf}
 use Rattle.peephole_terms.specs.declared.encoder.request.ResourceRequest.{ResourceRequest}
-use Rattle.peephole_terms.specs.EncoderSteps.{Step, Writing, Does, around, with_bytes, writing_of, root_terms, root_steps, steps_of, take_steps}
-use Rattle.peephole_terms.specs.Expansion.{Setting, AppendsCode, setting_of, expanded, after_term, Refuses, expansion_of, requests_of, request, draws_of, drawn}
-use Rattle.peephole_terms.specs.Written.{Site, source_at, AppendsBody, RefusesBody, block_shapes, is_written, term_requests, after_block_term, before_block, after_block, written_block}
-use Rattle.peephole_terms.proofs.ExpansionLemmas.{IsFinished, finished, from_start, refused}
-use Rattle.peephole_terms.proofs.EncoderLemmas.{IsPart, roots_written, block_written, block_refused}
-use Rattle.peephole_terms.proofs.WalkLemmas.{around_ok, around_refused}
+use Rattle.peephole_terms.specs.EncoderSteps.{Writing, Does, around, with_bytes, writing_of, root_terms, root_steps, steps_of, steps}
+use Rattle.peephole_terms.specs.Expansion.{Setting, expanded, after_term, Refuses, then_code, expansion, requests_of, requests, request, draws_of, draws}
+use Rattle.peephole_terms.specs.Expansion.{drawn}
+use Rattle.peephole_terms.specs.Written.{Site, source_at, AppendsBody, RefusesBody, block_shapes, is_written, term_requests, after_block_term, before_block}
+use Rattle.peephole_terms.specs.Written.{after_block, written_block}
+use Rattle.peephole_terms.proofs.ExpansionLemmas.{IsFinished, finished, from_start, all_from_start, refused}
+use Rattle.peephole_terms.proofs.RangeLemmas.{block_in_range}
+use Rattle.peephole_terms.proofs.RootTerms.{IsWrittenAs, term_where, block_written_as}
+use Rattle.peephole_terms.proofs.WalkLemmas.{around_ok, around_refused, inside_in_range}
 
--- What a call of the writer has: a configuration that is set up, its module, its generator and its number of globals; the term; and the sink.
-pub record Given (R : Type 0) : Type 0 where
-  pub stream : R → Stream
-  pub config : Config Module R
-  pub info : Module
-  pub generator : R
-  pub count : ℕ
-  pub info_is : info_of config ≡ Some info
-  pub generator_is : generator_of config ≡ Some generator
-  pub count_is : count ≡ length info.globals
-  pub term : Term Head
-  pub old : List ℕ
+-- what a configuration is set up with
+abbrev pub set_up_with : {R : Type 0} → Module → R → Option (Setup Module R)
+set_up_with info generator = Some (record { info = info; generator = generator })
 
-abbrev pub setting_in : {R : Type 0} → Given R → Setting
-setting_in g = record { info = g.info; stream = g.stream g.generator }
+pub is_set_up : {R : Type 0} (config : Config Module R) (info : Module) (generator : R) → info_of config ≡ Some info →
+    generator_of config ≡ Some generator → config.setup ≡ set_up_with info generator
+is_set_up {R} config info generator i g = go config.setup i g
+  where
+    go : (o : Option (Setup Module R)) → option_map (λ s. s.info) o ≡ Some info → option_map (λ s. s.generator) o ≡ Some generator →
+        o ≡ set_up_with info generator
+    go None i g = cc
+    go (Some s) i g = let same : s.info ≡ info = cc in let own : s.generator ≡ generator = cc in ap₂ (λ (m : Module) (r : R). set_up_with m r) same own
+
+-- the setting of a module and of what a generator will give
+abbrev pub setting : Module → Stream → Setting
+setting info stream = record { info = info; stream = stream }
+
+abbrev pub some_setting : Module → Stream → Option Setting
+some_setting info stream = Some (setting info stream)
 
 -- nothing is requested yet
-abbrev pub start_in : {R : Type 0} → Given R → Writing
-start_in g = writing_of g.old [] (g.stream g.generator)
-
-setting_is : {R : Type 0} (stream : R → Stream) (config : Config Module R) (info : Module) (generator : R) →
-    info_of config ≡ Some info → generator_of config ≡ Some generator →
-    setting_of stream config ≡ Some (record { info = info; stream = stream generator })
-setting_is {R} stream config info generator i g = go config.setup i g
-  where
-    setting : Module → Stream → Setting
-    setting info stream = record { info = info; stream = stream }
-
-    go : (o : Option (Setup Module R)) → option_map (λ s. s.info) o ≡ Some info → option_map (λ s. s.generator) o ≡ Some generator →
-        option_map (λ s. setting s.info (stream s.generator)) o ≡ Some (setting info (stream generator))
-    go None i g = cc
-    go (Some s) i g = let same : s.info ≡ info = cc in let drawn : s.generator ≡ generator = cc in rw (same, drawn) refl
-
-pub in_setting : {R : Type 0} (g : Given R) (P : Setting → Type 0) → P (setting_in g) → IfSome (setting_of g.stream g.config) P
-in_setting g P h = subst (λ (x : Option Setting). IfSome x P) (sym (setting_is g.stream g.config g.info g.generator g.info_is g.generator_is)) h
-
-pub in_module : {R : Type 0} (g : Given R) (P : Module → Type 0) → P g.info → IfSome (info_of g.config) P
-in_module g P h = subst (λ (x : Option Module). IfSome x P) (sym g.info_is) h
-
--- the setting of a configuration of the same module with another generator
-left_is : {R : Type 0} (g : Given R) (left : Config Module R) (rest : R) → info_of left ≡ info_of g.config → generator_of left ≡ Some rest →
-    setting_of g.stream left ≡ Some (record { info = g.info; stream = g.stream rest })
-left_is g left rest i k = setting_is g.stream left g.info rest (i ∙ g.info_is) k
+abbrev pub start_at : Setting → List ℕ → Writing
+start_at s old = writing_of old [] s.stream
 
 -- ---- a term
 
+abbrev DoesTerm : Setting → Term Head → List ℕ → Writing → Result (Unit {0}) Error → Type 0
+DoesTerm s t old v out = Does (length s.info.globals) (steps_of t) (start_at s old) v out
+
 -- what the code read is the term, and nothing was requested
-pub as_given : {count : ℕ} {read t : Term Head} {none : List ResourceRequest} {old : List ℕ} {s : Stream} {v : Writing} {out : Result (Unit {0}) Error} →
-    read ≡ t → none ≡ [] → Does count (steps_of read) (writing_of old none s) v out → Does count (steps_of t) (writing_of old [] s) v out
-as_given {count} {read} {t} {none} {old} {s} {v} {out} same empty d =
-    subst (λ (x : Term Head). Does count (steps_of x) (writing_of old [] s) v out) same
-    (subst (λ (x : List ResourceRequest). Does count (steps_of read) (writing_of old x s) v out) empty d)
+pub as_given : {count globals : ℕ} {read t : Term Head} {none : List ResourceRequest} {old : List ℕ} {stream : Stream} {v : Writing}
+    {out : Result (Unit {0}) Error} → count ≡ globals → read ≡ t → none ≡ [] → Does count (steps_of read) (writing_of old none stream) v out →
+    Does globals (steps_of t) (writing_of old [] stream) v out
+as_given c same empty d = rw (c, same, empty) at d
 
-abbrev DoesTerm : {R : Type 0} → Given R → Writing → Result (Unit {0}) Error → Type 0
-DoesTerm g v out = Does g.count (steps_of g.term) (start_in g) v out
+pub term_done : (s : Setting) (t : Term Head) (old : List ℕ) (v : Writing) → DoesTerm s t old v (Ok tt) →
+    IsFinished old s.stream v (requests_of t) (draws_of t) (expanded s t)
+term_done s t old v d =
+    finished old s.stream v (requests_of t) (draws_of t) (expanded s t) (sym (from_start t (length s.info.globals) old s.stream) ∙ d.ok)
 
-term_done : {R : Type 0} (g : Given R) (v : Writing) → DoesTerm g v (Ok tt) →
-    IsFinished (start_in g) v (requests_of g.term) (draws_of g.term) (expanded (setting_in g) g.term)
-term_done g v d =
-    let words = (drawn (draws_of g.term) (g.stream g.generator)).0 in
-    subst (λ (n : ℕ). IsFinished (start_in g) v (requests_of g.term) (draws_of g.term) (expansion_of n words g.term)) g.count_is
-    (finished (start_in g) v (requests_of g.term) (draws_of g.term) (expansion_of g.count words g.term)
-    (sym (from_start g.term g.count (start_in g) refl) ∙ d.ok))
-
-pub term_written : {R : Type 0} (g : Given R) (v : Writing) → DoesTerm g v (Ok tt) →
-    IfSome (setting_of g.stream g.config) (λ s. AppendsCode s g.term g.old v.bytes)
-term_written g v d = let h = term_done g v d in in_setting g (λ s. AppendsCode s g.term g.old v.bytes) (h.instructions, h.expands, h.bytes)
-
-pub term_asked : {R : Type 0} (g : Given R) (v : Writing) → DoesTerm g v (Ok tt) → v.requests ≡ map request (requests_of g.term)
-term_asked g v d = (term_done g v d).requests
-
-pub term_leaves : {R : Type 0} (g : Given R) (left : Config Module R) (rest : R) (new : List ℕ) (asked : List ResourceRequest) →
-    info_of left ≡ info_of g.config → generator_of left ≡ Some rest → DoesTerm g (writing_of new asked (g.stream rest)) (Ok tt) →
-    IfSome (setting_of g.stream g.config) (λ s. setting_of g.stream left ≡ Some (after_term s g.term))
-term_leaves g left rest new asked i k d =
-    in_setting g (λ s. setting_of g.stream left ≡ Some (after_term s g.term))
-    (left_is g left rest i k ∙ ap (λ (x : Stream). Some (setting x)) (term_done g (writing_of new asked (g.stream rest)) d).stream)
-  where
-    setting : Stream → Setting
-    setting stream = record { info = g.info; stream = stream }
-
-pub term_refused : {R : Type 0} (g : Given R) (v : Writing) (e : Error) → DoesTerm g v (Err e) →
-    IfSome (setting_of g.stream g.config) (λ s. Refuses (expanded s g.term) e)
-term_refused g v e d =
-    let words = (drawn (draws_of g.term) (g.stream g.generator)).0 in
-    in_setting g (λ s. Refuses (expanded s g.term) e)
-    (subst (λ (n : ℕ). Refuses (expansion_of n words g.term) e) g.count_is
-    (refused e (start_in g) (requests_of g.term) (draws_of g.term) (expansion_of g.count words g.term) (take_steps g.count (steps_of g.term) (start_in g))
-    (from_start g.term g.count (start_in g) refl) d.err))
+pub term_refused : (s : Setting) (t : Term Head) (old : List ℕ) (v : Writing) (e : Error) → DoesTerm s t old v (Err e) → Refuses (expanded s t) e
+term_refused s t old v e d =
+    refused e (start_at s old) (requests_of t) (draws_of t) (expanded s t) (rw (from_start t (length s.info.globals) old s.stream) at d.err)
 
 -- ---- a body
-
--- What a call for a body has besides: the site, and the graph of its block.
-pub record GivenBody (R : Type 0) : Type 0 where
-  pub given : Given R
-  pub site : Site
-  pub graph : Graph
-  pub is_graph : IfSome (info_of given.config) (λ info. IsGraphOf (source_at info given.config.preserving site) graph)
-
--- what the code read is the term, nothing was requested, and the bytes are those outside the block
-pub body_given : {count : ℕ} {front before back after : List ℕ} {read t : Term Head} {none : List ResourceRequest} {old : List ℕ} {s : Stream} {v : Writing}
-    {out : Result (Unit {0}) Error} (at : ℕ) (entries : List StackEntry) (parents : List (Option ℕ)) →
-    front ≡ before → back ≡ after → read ≡ t → none ≡ [] →
-    Does count (around front (root_steps at read entries parents) back) (writing_of old none s) v out →
-    Does count (around before (root_steps at t entries parents) after) (writing_of old [] s) v out
-body_given {count} {front} {before} {back} {after} {read} {t} {none} {old} {s} {v} {out} at entries parents f b same empty d =
-    let taken : List ℕ → Term Head → List ℕ → List Step = λ x y z. around x (root_steps at y entries parents) z in
-    subst (λ (x : List ℕ). Does count (taken x t after) (writing_of old [] s) v out) f
-    (subst (λ (x : List ℕ). Does count (taken front t x) (writing_of old [] s) v out) b
-    (subst (λ (x : Term Head). Does count (taken front x back) (writing_of old [] s) v out) same
-    (subst (λ (x : List ResourceRequest). Does count (taken front read back) (writing_of old x s) v out) empty d)))
-
-abbrev pub forest_steps : {R : Type 0} → GivenBody R → List Step
-forest_steps b = root_steps b.site.at b.given.term b.graph.entries b.graph.parents
 
 abbrev pub front_of : Site → List ℕ
 front_of site = before_block site.input site.operators site.block
@@ -141,73 +78,84 @@ front_of site = before_block site.input site.operators site.block
 abbrev pub back_of : Site → List ℕ
 back_of site = after_block site.input site.operators site.block
 
-abbrev pub DoesBody : {R : Type 0} → GivenBody R → Writing → Result (Unit {0}) Error → Type 0
-DoesBody b v out = Does b.given.count (around (front_of b.site) (forest_steps b) (back_of b.site)) (start_in b.given) v out
+abbrev pub DoesBody : Setting → Site → Graph → Term Head → List ℕ → Writing → Result (Unit {0}) Error → Type 0
+DoesBody s site g t old v out =
+    Does (length s.info.globals) (around (front_of site) (root_steps site.at t g.entries g.parents) (back_of site)) (start_at s old) v out
 
-pub body_graph : {R : Type 0} (b : GivenBody R) → IsGraphOf (source_at b.given.info b.given.config.preserving b.site) b.graph
-body_graph b =
-    subst (λ (x : Option Module). IfSome x (λ info. IsGraphOf (source_at info b.given.config.preserving b.site) b.graph)) b.given.info_is b.is_graph
-
-pub body_part : {R : Type 0} (b : GivenBody R) →
-    IsPart b.site.block.start b.site.at b.given.term (forest (block_shapes b.given.info b.site))
-    (root_terms b.site.at b.given.term b.graph.entries (roots_of b.graph.parents)) (is_written b.given.info b.site)
-body_part b = roots_written (source_at b.given.info b.given.config.preserving b.site) b.graph b.site.at b.given.term (body_graph b)
+-- what the code read is the term, nothing was requested, and the bytes are those outside the block
+pub body_given : {count globals : ℕ} {front before back after : List ℕ} {read t : Term Head} {none : List ResourceRequest} {old : List ℕ}
+    {stream : Stream} {v : Writing} {out : Result (Unit {0}) Error} (at : ℕ) (g : Graph) → count ≡ globals → front ≡ before → back ≡ after →
+    read ≡ t → none ≡ [] → Does count (around front (root_steps at read g.entries g.parents) back) (writing_of old none stream) v out →
+    Does globals (around before (root_steps at t g.entries g.parents) after) (writing_of old [] stream) v out
+body_given at g c f b same empty d = rw (c, f, b, same, empty) at d
 
 -- What a call for a body has done that succeeded.
-pub record HasWritten {R : Type 0} (b : GivenBody R) (v : Writing) : Type 0 where
-  pub body : AppendsBody (setting_in b.given) b.site b.given.term b.given.old v.bytes
-  pub asks : v.requests ≡ term_requests b.given.info b.site b.given.term
-  pub leaves : record { info = b.given.info; stream = v.stream } ≡ after_block_term (setting_in b.given) b.site b.given.term
+pub record HasWritten (s : Setting) (site : Site) (t : Term Head) (old : List ℕ) (v : Writing) : Type 0 where
+  pub body : AppendsBody s site t old v.bytes
+  pub asks : v.requests ≡ term_requests s.info site t
+  pub leaves : setting s.info v.stream ≡ after_block_term s site t
+  pub in_range : All IsInstruction (written_block s.info site body.code)
 
-chosen_setting : (b : Bool) (info : Module) (s left rest : Stream) → left ≡ cond b rest s →
-    ◌≡◌ {A = Setting} (record { info = info; stream = left }) (cond b (record { info = info; stream = rest }) (record { info = info; stream = s }))
-chosen_setting true info s left rest e = cc
-chosen_setting false info s left rest e = cc
+-- a term that isn't written is none
+pub written_where : (b : Bool) (s : Setting) (t : Term Head) → (cond b (expanded s t) (Ok []) ≡ expanded s (term_where b t))
+    × (cond b (map request (requests_of t)) [] ≡ map request (requests_of (term_where b t))) × (cond b (after_term s t) s ≡ after_term s (term_where b t))
+written_where true s t = (refl, refl, refl)
+written_where false s t = (refl, refl, refl)
 
-pub body_done : {R : Type 0} (b : GivenBody R) (v : Writing) → DoesBody b v (Ok tt) → HasWritten b v
-body_done b v d =
-    let g = b.given in
-    let front = front_of b.site in
-    let back = back_of b.site in
-    let (m, e, f) = around_ok g.count front back (forest_steps b) (start_in g) v d.ok in
-    let h = block_written b.site.block.start b.site.at g.term (forest (block_shapes g.info b.site))
-    (root_terms b.site.at g.term b.graph.entries (roots_of b.graph.parents)) g.count (with_bytes front (start_in g)) m (body_part b) refl e in
-    let words = (drawn (draws_of g.term) (g.stream g.generator)).0 in
-    let block_codes = codes (written_block g.info b.site h.code) in
-    record {
-      body = record {
-        code = h.code;
-        expands = ap (λ (n : ℕ). cond (is_written g.info b.site) (expansion_of n words g.term) (Ok [])) (sym g.count_is) ∙ h.expands;
-        appended = ap (λ (x : Writing). x.bytes) f ∙ (ap (λ (x : List ℕ). x ++ back) h.bytes
-            ∙ (append_assoc (g.old ++ front) block_codes back ∙ append_assoc g.old front (block_codes ++ back)));
-      };
-      asks = ap (λ (x : Writing). x.requests) f ∙ h.requests;
-      leaves = chosen_setting (is_written g.info b.site) g.info (g.stream g.generator) v.stream (drawn (draws_of g.term) (g.stream g.generator)).1
-          (ap (λ (x : Writing). x.stream) f ∙ h.stream);
-    }
+followed_ok : (e : Result (List Instruction) Error) (f : List Instruction → List Instruction) (is : List Instruction) →
+    then_code e (λ code. Ok (f code)) ≡ Ok is → (code : List Instruction) × (e ≡ Ok code) × (f code ≡ is)
+followed_ok (Ok code) f is e = (code, refl, cc)
+followed_ok (Err d) f is e = absurd cc
 
-pub body_written : {R : Type 0} (b : GivenBody R) (v : Writing) → DoesBody b v (Ok tt) →
-    IfSome (setting_of b.given.stream b.given.config) (λ s. AppendsBody s b.site b.given.term b.given.old v.bytes)
-body_written b v d = in_setting b.given (λ s. AppendsBody s b.site b.given.term b.given.old v.bytes) (body_done b v d).body
+followed_err : (e : Result (List Instruction) Error) (f : List Instruction → List Instruction) (d : Error) →
+    Refuses (then_code e (λ code. Ok (f code))) d → Refuses e d
+followed_err (Err c) f d r = r
+followed_err (Ok code) f Memory r = tt
+followed_err (Ok code) f CannotUnfold r = absurd cc
+followed_err (Ok code) f GlobalIndex r = absurd cc
+followed_err (Ok code) f _ r = r
 
-pub body_asked : {R : Type 0} (b : GivenBody R) (v : Writing) → DoesBody b v (Ok tt) →
-    IfSome (info_of b.given.config) (λ info. v.requests ≡ term_requests info b.site b.given.term)
-body_asked b v d = in_module b.given (λ info. v.requests ≡ term_requests info b.site b.given.term) (body_done b v d).asks
+module _ (s : Setting) (preserving : Bool) (site : Site) (g : Graph) (t : Term Head) (h : IsGraphOf (source_at s.info preserving site) g) where
+  abbrev count : ℕ
+  count = length s.info.globals
 
-pub body_leaves : {R : Type 0} (b : GivenBody R) (left : Config Module R) (rest : R) (new : List ℕ) (asked : List ResourceRequest) →
-    info_of left ≡ info_of b.given.config → generator_of left ≡ Some rest → DoesBody b (writing_of new asked (b.given.stream rest)) (Ok tt) →
-    IfSome (setting_of b.given.stream b.given.config) (λ s. setting_of b.given.stream left ≡ Some (after_block_term s b.site b.given.term))
-body_leaves b left rest new asked i k d =
-    in_setting b.given (λ s. setting_of b.given.stream left ≡ Some (after_block_term s b.site b.given.term))
-    (left_is b.given left rest i k ∙ ap (λ (x : Setting). Some x) (body_done b (writing_of new asked (b.given.stream rest)) d).leaves)
+  abbrev us : Terms Head
+  us = root_terms site.at t g.entries (roots_of g.parents)
 
-pub body_refused : {R : Type 0} (b : GivenBody R) (v : Writing) (e : Error) → DoesBody b v (Err e) →
-    IfSome (setting_of b.given.stream b.given.config) (λ s. RefusesBody s b.site b.given.term e)
-body_refused b v e d =
-    let g = b.given in
-    let words = (drawn (draws_of g.term) (g.stream g.generator)).0 in
-    in_setting g (λ s. RefusesBody s b.site g.term e) (λ other.
-    subst (λ (n : ℕ). Refuses (cond (is_written g.info b.site) (expansion_of n words g.term) (Ok [])) e) g.count_is
-    (block_refused b.site.block.start b.site.at g.term (forest (block_shapes g.info b.site))
-    (root_terms b.site.at g.term b.graph.entries (roots_of b.graph.parents)) g.count (with_bytes (front_of b.site) (start_in g)) e (body_part b) refl
-    (around_refused g.count (front_of b.site) (back_of b.site) (forest_steps b) (start_in g) e d.err)))
+  -- the term, if it is written
+  abbrev own : Term Head
+  own = term_where (is_written s.info site) t
+
+  written_as : IsWrittenAs site.block.start site.at own (forest (block_shapes s.info site)) us
+  written_as = block_written_as (source_at s.info preserving site) g site.at t h
+
+  code_is : expansion count (drawn (draws us) s.stream).0 us ≡ then_code (expanded s own) (λ code. Ok (written_block s.info site code))
+  code_is = ap (λ ds. expansion count (drawn ds s.stream).0 us) written_as.takes ∙ written_as.code count (drawn (draws_of own) s.stream).0
+
+  pub body_done : (old : List ℕ) (v : Writing) → DoesBody s site g t old v (Ok tt) → HasWritten s site t old v
+  body_done old v d =
+      let (m, e, f) = around_ok count (front_of site) (back_of site) (steps us) (start_at s old) v d.ok in
+      let all = finished (old ++ front_of site) s.stream m (requests us) (draws us) (expansion count (drawn (draws us) s.stream).0 us)
+      (sym (all_from_start us count (old ++ front_of site) s.stream) ∙ e) in
+      let (code, expands, is) = followed_ok (expanded s own) (λ code. written_block s.info site code) all.instructions (sym code_is ∙ all.expands) in
+      let form = written_where (is_written s.info site) s t in
+      record {
+        body = record {
+          code = code;
+          expands = form.0 ∙ expands;
+          appended = ap (λ (x : Writing). x.bytes) f ∙ (ap (λ x. x ++ back_of site) (all.bytes ∙ ap (λ is. (old ++ front_of site) ++ codes is) (sym is))
+              ∙ (append_assoc (old ++ front_of site) _ (back_of site) ∙ append_assoc old (front_of site) _));
+        };
+        asks = ap (λ (x : Writing). x.requests) f ∙ (all.asks ∙ (ap (map request) written_as.asks ∙ sym form.1));
+        leaves = ap (λ (x : Writing). setting s.info x.stream) f
+            ∙ (ap (setting s.info) (all.leaves ∙ ap (λ ds. (drawn ds s.stream).1) written_as.takes) ∙ sym form.2);
+        in_range = block_in_range count (drawn (draws_of own) s.stream).0 code written_as
+            (inside_in_range (front_of site) (back_of site) (steps us) d.in_range) expands;
+      }
+
+  pub body_refused : (old : List ℕ) (v : Writing) (e : Error) → DoesBody s site g t old v (Err e) → RefusesBody s site t e
+  body_refused old v e d = λ other.
+      let r = around_refused count (front_of site) (back_of site) (steps us) (start_at s old) e d.err in
+      let q = refused e (with_bytes (front_of site) (start_at s old)) (requests us) (draws us) (expansion count (drawn (draws us) s.stream).0 us)
+      (rw (all_from_start us count (old ++ front_of site) s.stream) at r) in
+      rw ((written_where (is_written s.info site) s t).0) (followed_err (expanded s own) (λ code. written_block s.info site code) e (rw code_is at q))

@@ -1,5 +1,6 @@
 -- Bodies as lists of operators with their spellings: their bytes and their operators' offsets.
-use Rattle.std.proofs.Common.{◌≡◌, ℕ, zero, suc, ◌+◌, ◌-◌, ◌<◌, ◌≤◌, List, [], ◌∷◌, ◌++◌, length, take, drop, map, Bool, true, false, refl, sym, ap, ap₂, ◌∙◌, append_assoc, arith, IsTrue}
+use Rattle.std.proofs.Common.{◌≡◌, ℕ, zero, suc, ◌+◌, ◌-◌, ◌<◌, ◌≤◌, List, [], ◌∷◌, ◌++◌, length, take, drop, map, Bool, true, false, refl, sym, ap, ap₂, ◌∙◌}
+use Rattle.std.proofs.Common.{append_assoc, arith, IsTrue}
 use Rattle.std.specs.Prelude.{slice_index, slice_range, ◌==◌}
 use Rattle.std.specs.List.{All}
 use Rattle.std.proofs.lemmas.List.{length-append, length-take, length-drop, take-append-drop, take-take, take_at, drop-drop, drop-take, drop_at}
@@ -85,8 +86,11 @@ offset_placed start (p ∷ ps) (suc i) l =
 
 -- ---- instructions
 
+abbrev pub spelling_of : Instruction → Spelling
+spelling_of i = (op.Instr i, code i)
+
 abbrev pub coded : List Instruction → List Spelling
-coded is = map (λ (i : Instruction). (op.Instr i, code i)) is
+coded is = map spelling_of is
 
 -- the code of every instruction spells it, as the law `code_spells` says
 abbrev pub CodesSpell : Type 0
@@ -149,7 +153,8 @@ last_size (p ∷ []) a e =
 last_size (p ∷ q ∷ ps) a e =
     let more = last_size (q ∷ ps) a.1 e in
     let at : length (p ∷ q ∷ ps) - 1 ≡ suc (length (q ∷ ps) - 1) = omega arith in
-    let front : length (joined (take (length (p ∷ q ∷ ps) - 1) (p ∷ q ∷ ps))) ≡ length (p.1 ++ joined (take (length (q ∷ ps) - 1) (q ∷ ps))) = ap (λ (k : ℕ). length (joined (take k (p ∷ q ∷ ps)))) at in
+    let front : length (joined (take (length (p ∷ q ∷ ps) - 1) (p ∷ q ∷ ps))) ≡ length (p.1 ++ joined (take (length (q ∷ ps) - 1) (q ∷ ps))) =
+    ap (λ (k : ℕ). length (joined (take k (p ∷ q ∷ ps)))) at in
     omega (arith, more, front, length-append p.1 (joined (take (length (q ∷ ps) - 1) (q ∷ ps))), length-append p.1 (joined (q ∷ ps)))
 
 -- ---- where they stand in an input
@@ -186,7 +191,8 @@ back_in input from to end k ps h e =
     let m = length (joined (take k ps)) in
     let parts = joined_parts k ps in
     let size = h.size in
-    let more : to - from ≡ m + (end - (from + m)) = omega (arith, ap (λ (t : List ℕ). length t) parts, length-append (joined (take k ps)) (joined (drop k ps))) in
+    let more : to - from ≡ m + (end - (from + m)) =
+    omega (arith, ap (λ (t : List ℕ). length t) parts, length-append (joined (take k ps)) (joined (drop k ps))) in
     ap (take (end - (from + m))) (sym (drop-drop m from input))
     ∙ (sym (drop-take m (end - (from + m)) (drop from input))
     ∙ (ap (drop m) (ap (λ (k : ℕ). take k (drop from input)) (sym more) ∙ h.whole ∙ parts) ∙ drop_at (joined (take k ps)) (joined (drop k ps)) m refl))

@@ -14,8 +14,9 @@ use Rattle.peephole_terms.proofs.encoder.write_roots.Goals as goal
 pub returns-in-Err : goal.returns-in-Err
 returns-in-Err g c = record {
   ok = tt;
-  err = root_refused c.args.insertion_point (term_in c.args.expr.now) c.args.entries.now c.args.parents.now c.loop-index.index c.in-Err.refusal
-      c.loop-index-test.true (no_parent (get_or c.args.parents.now c.loop-index.index None) c.is_none.result c.is_none.ensures c.if-is_none.true)
+  err = root_refused c.args.insertion_point (term_in c.args.expr.now) c.args.entries.now c.args.parents.now c.loop-index.index
+      c.loop-index-test.true c.in-Err.refusal
+      (no_parent (get_or c.args.parents.now c.loop-index.index None) c.is_none.result c.is_none.ensures c.if-is_none.true)
       c.loop-index.invariant c.in-Err.ensures.err;
   in_range = tt;
   kept = kept_more _ _ _ c.loop-index.invariant.kept c.in-Err.ensures.kept;
@@ -33,8 +34,8 @@ loop-index-preserved g c = elim c.if-is_none.branch [
   | else-is_none w ↦
       let some = some_parent (get_or c.args.parents.now c.loop-index.index None) c.is_none.result c.is_none.ensures w.if-is_none.false in
       left_as w.newfunc-is (ap (λ (v : Vec ResourceRequest Global). v.items) w.requests-is) (ap g.R.Rng.stream w.rng-is)
-      (child_done c.args.insertion_point (term_in c.args.expr.now) c.args.entries.now c.args.parents.now c.loop-index.index some.0
-      c.loop-index-test.true some.1 c.loop-index.invariant)
+      (child_done c.args.insertion_point (term_in c.args.expr.now) c.args.entries.now c.args.parents.now c.loop-index.index
+      c.loop-index-test.true some.0 some.1 c.loop-index.invariant)
 ]
 
 pub returns : goal.returns

@@ -1,4 +1,4 @@
-use Rattle.peephole_terms.proofs.RefusalLemmas.{refuses_by_name}
+use Rattle.peephole_terms.proofs.RangeLemmas.{refuses_by_name}
 use Rattle.peephole_terms.proofs.laws.expansions_refuse_by_name.Goals as goal
 
 pub returns : goal.returns

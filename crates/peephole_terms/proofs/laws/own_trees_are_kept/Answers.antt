@@ -1,4 +1,4 @@
-use Rattle.peephole_terms.proofs.KeptTrees.{trees_kept, have_entries}
+use Rattle.peephole_terms.proofs.AgainLemmas.{trees_kept, have_entries}
 use Rattle.peephole_terms.proofs.laws.own_trees_are_kept.Goals as goal
 
 pub returns-clause-kept : goal.returns-clause-kept
