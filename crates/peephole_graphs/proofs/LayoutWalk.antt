@@ -1,12 +1,13 @@
--- A tree is laid out by one step a node, in postfix; what frames hold is what is left of the steps.
-use Rattle.std.proofs.Common.{◌≡◌, ℕ, suc, ◌+◌, ◌-◌, ◌*◌, ◌<◌, ◌≤◌, inl, inr, List, [], ◌∷◌, ◌++◌, length, get_or, take, drop}
-use Rattle.std.proofs.Common.{refl, sym, ap, ap₂, subst, ◌∙◌, arith, append_assoc, length-append, add-one, drop-cons, map, Option, Some, None}
+-- A tree is laid out by one piece a node, in postfix; what a walk has left is what is left of the pieces.
+use Rattle.std.proofs.Common.{◌≡◌, ℕ, suc, ◌+◌, ◌-◌, ◌<◌, ◌≤◌, inl, inr, List, [], ◌∷◌, ◌++◌, length, get_or, take, drop}
+use Rattle.std.proofs.Common.{refl, sym, ap, ap₂, subst, ◌∙◌, arith, append_assoc, length-append, map, Option, Some, None}
 use Rattle.std.specs.Prelude.{reverse, All, nat_le, ◌==◌, if◌then◌else◌}
+use Rattle.std.specs.List.{flat_map}
 use Rattle.std.proofs.lemmas.Bool.{cond-true, cond-false, eq-eqb, ne_eqb}
 use Rattle.std.proofs.lemmas.Grind.{common_steps}
-use Rattle.std.proofs.lemmas.List.{get_or_append_left, get_or_push, append-nil, drop_all}
+use Rattle.std.proofs.lemmas.List.{get_or_append_left, get_or_push, append-nil}
 use Rattle.std.proofs.lemmas.List.{length-reverse, length-map, reverse-append, reverse-reverse, get_or-map}
-use Rattle.std.proofs.lemmas.List.Elements.{All-nil, All-cons, All-head, All-tail, All-weaker, All-append, All-push, All-get_or, All-pop, All-take}
+use Rattle.std.proofs.lemmas.List.Elements.{All-nil, All-head, All-tail, All-weaker, All-push, All-take}
 use Rattle.peephole_nodes.specs.declared.id.Id.{Id}
 use Rattle.peephole_lang.specs.laws.PlaceLemmas.{IsAt, last_or_before}
 use Rattle.peephole_lang.specs.laws.PlaceLemmas as place
@@ -14,7 +15,9 @@ use Rattle.peephole_lang.specs.laws.PlaceLemmas.IsAt.{last, before}
 use Rattle.peephole_lang.specs.Term.{Term, Terms, absent, node, no_terms, ◌▸◌, Node, AreBelow, pick, tree_at, numbers_of}
 use Rattle.peephole_graphs.specs.Layout.{held_nodes, node_count_of, node_count, places, laid, laid_all, IsWhole, AreWhole}
 use Rattle.peephole_graphs.specs.Rebuild.{Piece, child_count, in_postfix, all_in_postfix}
-use Rattle.peephole_graphs.specs.declared.frames.Frame.{Frame}
+use Rattle.peephole_graphs.specs.declared.postfix.Turn.TheVariants.{Child, Own}
+use Rattle.peephole_graphs.specs.Postfix.{Stop, stop, GoesOn, left}
+use Rattle.peephole_graphs.specs.PostfixLemmas.{IsTreeOf, turns_left, goes_on, entered, child_comes, own_comes, nodes_on, child_on, own_on, entered_on}
 use Rattle.peephole_graphs.proofs.LayoutLemmas.{length_laid, length_all}
 
 -- ---- the items that hold nodes, and what is left of a walk
@@ -25,12 +28,6 @@ length-held held items = length-reverse (map held items) ∙ length-map items he
 pub some_item : {A : Type 0} (items : List A) (i : ℕ) → i < length items → A
 some_item [] i l = absurd (omega arith)
 some_item (x ∷ items) i l = x
-
-abbrev pub start_of : ℕ → Frame
-start_of i = record { node = i; next = 0 }
-
-abbrev moved : Frame → Frame
-moved f = record { node = f.node; next = f.next + 1 }
 
 -- the last of the finished ones, as many as there are ids, and those before them
 abbrev pub last_ones : List Id → List Id → List ℕ
@@ -108,7 +105,7 @@ module _ {H : Type 0} where
 
   mutual
     -- a term's steps lay it out and finish it
-    pub laid_steps : (t : Term H) (ns : List (Node H)) (d : List ℕ) (first : ℕ) → length ns ≡ first → IsWhole t →
+    laid_steps : (t : Term H) (ns : List (Node H)) (d : List ℕ) (first : ℕ) → length ns ≡ first → IsWhole t →
         make_all (in_postfix t) (laying ns d) ≡ Some (laying (ns ++ laid first t) (d ++ (first + node_count_of t - 1) ∷ []))
     laid_steps absent ns d first l w = absurd w
     laid_steps (node h kids) ns d first l w =
@@ -136,14 +133,14 @@ module _ {H : Type 0} where
         (append_assoc d ((next - 1) ∷ []) (places next ts))))
 
   -- a step that is made found its children
-  pub found_children : (s : Piece H) (ss : List (Piece H)) (w v : Laying H) → make_all (s ∷ ss) w ≡ Some v → s.count ≤ length w.done
+  found_children : (s : Piece H) (ss : List (Piece H)) (w v : Laying H) → make_all (s ∷ ss) w ≡ Some v → s.count ≤ length w.done
   found_children s ss w v e = grind arith
 
   -- and leaves the rest
-  pub made_rest : (s : Piece H) (ss : List (Piece H)) (w v : Laying H) → make_all (s ∷ ss) w ≡ Some v → make_all ss (put s w) ≡ Some v
+  made_rest : (s : Piece H) (ss : List (Piece H)) (w v : Laying H) → make_all (s ∷ ss) w ≡ Some v → make_all ss (put s w) ≡ Some v
   made_rest s ss w v e = sym (ap (λ (r : Option (Laying H)). after r (make_all ss)) (make_is s w (found_children s ss w v e))) ∙ e
 
-  pub same_laying : (w v : Laying H) → some_laying w ≡ Some v → w.nodes ≡ v.nodes
+  same_laying : (w v : Laying H) → some_laying w ≡ Some v → w.nodes ≡ v.nodes
   same_laying w v e = cc
 
   -- a step a node
@@ -154,7 +151,7 @@ module _ {H : Type 0} where
       omega (arith, more, length-append w.nodes (record { head = s.head; children = drop (length w.done - s.count) w.done } ∷ []))
 
   -- the finished places stay below the nodes laid out
-  pub put_below : (s : Piece H) (w : Laying H) → All (λ (k : ℕ). k < length w.nodes) w.done →
+  put_below : (s : Piece H) (w : Laying H) → All (λ (k : ℕ). k < length w.nodes) w.done →
       All (λ (k : ℕ). k < length (put s w).nodes) (put s w).done
   put_below s w below =
       let P : ℕ → Type 0 = λ k. k < length w.nodes in
@@ -164,16 +161,45 @@ module _ {H : Type 0} where
       All-push Q kept (length w.nodes) (All-weaker P Q (λ k h. omega arith) kept (All-take P (length w.done - s.count) w.done below))
       (omega arith)
 
-  -- the same by the ids of the code
-  pub put_is : (n : Node H) (ids finished : List Id) (nodes nodes' : List (Node H)) (done' : List ℕ) → n.children ≡ numbers_of ids →
-      nodes' ≡ nodes ++ record { head = n.head; children = last_ones ids finished } ∷ [] →
-      done' ≡ first_ones ids finished ++ length nodes ∷ [] → laying nodes' done' ≡ put (own_of n) (laying nodes (numbers_of finished))
-  put_is n ids finished nodes nodes' done' k a d =
-      let l : length n.children ≡ length ids = ap (λ (x : List ℕ). length x) k ∙ length-map ids (λ (x : Id). x.0) in
-      let m = length-map finished (λ (x : Id). x.0) in
-      let at : length finished - length ids ≡ length (numbers_of finished) - length n.children = omega arith in
-      let children_from : ℕ → Node H = λ z. record { head = n.head; children = drop z (numbers_of finished) } in
-      ap₂ laying a d ∙ ap (λ z. laying (nodes ++ children_from z ∷ []) (take z (numbers_of finished) ++ length nodes ∷ [])) at
+  -- the tree, laid out and finished
+  abbrev pub whole_of : Term H → Laying H
+  whole_of t = laying (laid 0 t) ((0 + node_count_of t - 1) ∷ [])
+
+  -- What is left, made from here, gives the whole; the finished places are below the nodes laid out.
+  pub record IsLaying (t : Term H) (pieces : List (Piece H)) (w : Laying H) : Type 0 where
+    pub same : make_all pieces w ≡ Some (whole_of t)
+    pub below : All (λ (k : ℕ). k < length w.nodes) w.done
+
+  pub laying_begins : (t : Term H) → IsWhole t → IsLaying t (in_postfix t) (laying [] [])
+  laying_begins t w = record { same = laid_steps t [] [] 0 refl w; below = All-nil (λ (k : ℕ). k < 0) }
+
+  pub laying_step : {t : Term H} {p : Piece H} {pieces : List (Piece H)} {w : Laying H} → IsLaying t (p ∷ pieces) w →
+      (p.count ≤ length w.done) × IsLaying t pieces (put p w)
+  laying_step {t} {p} {pieces} {w} h = (
+    found_children p pieces w (whole_of t) h.same,
+    record { same = made_rest p pieces w (whole_of t) h.same; below = put_below p w h.below },
+  )
+
+  pub laying_ends : {t : Term H} {w : Laying H} → IsLaying t [] w → w.nodes ≡ laid 0 t
+  laying_ends {t} {w} h = same_laying w (whole_of t) h.same
+
+  -- the next piece by the ids of the code: a node over the last of the finished ones
+  module _ {t : Term H} {n : Node H} {rest : List (Piece H)} {nodes : List (Node H)} (finished ids : List Id)
+      (k : n.children ≡ numbers_of ids) (h : IsLaying t (own_of n ∷ rest) (laying nodes (numbers_of finished))) where
+    as_many : length n.children ≡ length ids
+    as_many = ap (λ (x : List ℕ). length x) k ∙ length-map ids (λ (x : Id). x.0)
+
+    pub enough_finished : length ids ≤ length finished
+    enough_finished = let enough = (laying_step h).0 in omega (arith, enough, as_many, length-map finished (λ (x : Id). x.0))
+
+    pub own_added : (nodes' : List (Node H)) (done' : List ℕ) → nodes' ≡ nodes ++ record { head = n.head; children = last_ones ids finished } ∷ [] →
+        done' ≡ first_ones ids finished ++ length nodes ∷ [] → IsLaying t rest (laying nodes' done')
+    own_added nodes' done' a d =
+        let at : length finished - length ids ≡ length (numbers_of finished) - length n.children = omega (arith, as_many, length-map finished (λ (x : Id). x.0)) in
+        let children_from : ℕ → Node H = λ z. record { head = n.head; children = drop z (numbers_of finished) } in
+        subst (λ w. IsLaying t rest w)
+        (sym (ap₂ laying a d ∙ ap (λ z. laying (nodes ++ children_from z ∷ []) (take z (numbers_of finished) ++ length nodes ∷ [])) at))
+        (laying_step h).1
 
 -- Past the last node there is one of the head `missing`.
 module _ {H : Type 0} (missing : H) where
@@ -228,126 +254,71 @@ module _ {H : Type 0} (missing : H) where
   count_picked at (i ∷ is) = ap (λ n. suc n) (count_picked at is)
 
   module _ (ns : List (Node H)) where
+    abbrev Inside : ℕ → Type 0
+    Inside i = i < length ns
+
     abbrev kids_at : ℕ → List ℕ
     kids_at i = (node_at ns i).children
 
-    -- a frame: the children from the next one on, and then the node
-    abbrev steps_left : Frame → List (Piece H)
-    steps_left f = all_in_postfix (pick (tree_at ns) (drop f.next (kids_at f.node))) ++ own_of (node_at ns f.node) ∷ []
+    -- what the tree of a place brings, and what its own node does
+    abbrev pub pieces_at : ℕ → List (Piece H)
+    pieces_at i = in_postfix (tree_at ns i)
 
-    -- the last frame comes first
-    abbrev todo : List Frame → List (Piece H)
-    todo [] = []
-    todo (f ∷ fs) = todo fs ++ steps_left f
+    abbrev pub own_at : ℕ → Piece H
+    own_at i = own_of (node_at ns i)
 
-    -- each node is a step, and each frame holds one of them
-    abbrev pub measure : List Frame → ℕ
-    measure frames = 2 * length (todo frames) - length frames
+    abbrev pub pieces_left : List Stop → List (Piece H)
+    pieces_left way = left pieces_at own_at way
 
-    steps_tree : (i : ℕ) → AreBelow ns → i < length ns → in_postfix (tree_at ns i) ≡ steps_left (start_of i)
-    steps_tree i b l =
+    abbrev pub measure : List Stop → ℕ
+    measure way = turns_left pieces_at own_at way
+
+    all_picked : (is : List ℕ) → all_in_postfix (pick (tree_at ns) is) ≡ flat_map pieces_at is
+    all_picked [] = refl
+    all_picked (i ∷ is) = ap (λ x. pieces_at i ++ x) (all_picked is)
+
+    is_tree : (i : ℕ) → AreBelow ns → i < length ns → IsTreeOf pieces_at own_at i (kids_at i)
+    is_tree i b l =
         ap in_postfix (tree_is ns i b l)
-        ∙ ap (λ n. all_in_postfix (pick (tree_at ns) (kids_at i)) ++ making (node_at ns i).head n ∷ [])
-        (count_picked (tree_at ns) (kids_at i))
+        ∙ ap₂ (λ x n. x ++ making (node_at ns i).head n ∷ []) (all_picked (kids_at i)) (count_picked (tree_at ns) (kids_at i))
 
-    descended : (f : Frame) → f.next < length (kids_at f.node) →
-        steps_left f ≡ in_postfix (tree_at ns (get_or (kids_at f.node) f.next 0)) ++ steps_left (moved f)
-    descended f l =
-        let kids = kids_at f.node in
-        let e : drop f.next kids ≡ get_or kids f.next 0 ∷ drop (f.next + 1) kids = rw add-one (drop-cons kids f.next 0 l) in
-        ap (λ x. all_in_postfix (pick (tree_at ns) x) ++ own_of (node_at ns f.node) ∷ []) e ∙
-        append_assoc (in_postfix (tree_at ns (get_or kids f.next 0))) _ _
-
-    todo-append : (xs ys : List Frame) → todo (xs ++ ys) ≡ todo ys ++ todo xs
-    todo-append [] ys = sym (append-nil (todo ys))
-    todo-append (x ∷ xs) ys = ap (λ z. z ++ steps_left x) (todo-append xs ys) ∙ append_assoc (todo ys) (todo xs) (steps_left x)
-
-    enough : (fs : List Frame) → length fs ≤ length (todo fs)
-    enough [] = omega arith
-    enough (f ∷ fs) =
-        let kids = all_in_postfix (pick (tree_at ns) (drop f.next (kids_at f.node))) in
-        omega (arith, enough fs, length-append (todo fs) (steps_left f), length-append kids (own_of (node_at ns f.node) ∷ []))
+    kids_inside : (i : ℕ) → AreBelow ns → i < length ns → All Inside (kids_at i)
+    kids_inside i b l = All-weaker (λ k. k < i) Inside (λ k h. omega arith) (kids_at i) (place.children_in (own_place ns i l) b)
 
     -- ---- the invariant
 
-    -- What is left, made from here, gives the whole; the finished places are below the nodes laid out.
-    pub record IsWalk (whole : Laying H) (frames : List Frame) (w : Laying H) : Type 0 where
-      pub same : make_all (todo frames) w ≡ Some whole
-      pub inside : All (λ (f : Frame). f.node < length ns) frames
-      pub below : All (λ (k : ℕ). k < length w.nodes) w.done
+    -- What is left of the tree at `root` is left of its pieces, and the nodes on the way are there.
+    pub record IsWalk (root : ℕ) (way : List Stop) (w : Laying H) : Type 0 where
+      pub made : IsLaying (tree_at ns root) (pieces_left way) w
+      pub inside : All Inside (nodes_on way)
 
-    abbrev Inside : Frame → Type 0
-    Inside f = f.node < length ns
+    walk_start : (root : ℕ) → AreBelow ns → root < length ns → IsWalk root (stop root (kids_at root) ∷ []) (laying [] [])
+    walk_start root b l =
+        let t = tree_at ns root in
+        let all = entered pieces_at own_at root (kids_at root) [] (is_tree root b l) ∙ append-nil (pieces_at root) in
+        record {
+          made = subst (λ x. IsLaying t x (laying [] [])) (sym all) (laying_begins t (whole_at ns root b l));
+          inside = entered_on Inside root (kids_at root) [] l (kids_inside root b l) (All-nil Inside);
+        }
 
-    -- the tree of a place, laid out and finished
-    abbrev pub laid_out : ℕ → Laying H
-    laid_out i = laying (laid 0 (tree_at ns i)) ((0 + node_count_of (tree_at ns i) - 1) ∷ [])
-
-    walk_start : (i : ℕ) → AreBelow ns → i < length ns → IsWalk (laid_out i) (start_of i ∷ []) (laying [] [])
-    walk_start i b l = record {
-      same = ap (λ x. make_all x (laying [] [])) (sym (steps_tree i b l)) ∙ laid_steps (tree_at ns i) [] [] 0 refl (whole_at ns i b l);
-      inside = All-cons Inside (start_of i) [] l (All-nil Inside);
-      below = All-nil (λ (k : ℕ). k < 0);
-    }
-
-    -- the frames behind a frame's next child
-    abbrev deeper : List Frame → Frame → List Frame
-    deeper rest f = rest ++ moved f ∷ start_of (get_or (kids_at f.node) f.next 0) ∷ []
-
-    walk_down : (whole : Laying H) (frames rest : List Frame) (f : Frame) (w : Laying H) → AreBelow ns → frames ≡ rest ++ f ∷ [] →
-        f.next < length (kids_at f.node) → IsWalk whole frames w →
-        IsWalk whole (deeper rest f) w × (measure (deeper rest f) < measure frames)
-    walk_down whole frames rest f w b top l h =
-        let popped = All-pop Inside frames rest (Some f) top h.inside in
-        let at : f.node < length ns = popped.1 in
-        let child = get_or (kids_at f.node) f.next 0 in
-        let new = moved f ∷ start_of child ∷ [] in
-        let below_own = place.children_in (own_place ns f.node at) b in
-        let lower : child < f.node = All-get_or (λ k. k < f.node) (kids_at f.node) f.next 0 l below_own in
-        let inside : child < length ns = omega arith in
-        let same : todo (deeper rest f) ≡ todo frames =
-        todo-append rest new ∙ (ap (λ x. x ++ todo rest)
-        (ap (λ x. x ++ steps_left (moved f)) (sym (steps_tree child b inside)) ∙ sym (descended f l))
-        ∙ (sym (todo-append rest (f ∷ [])) ∙ ap todo (sym top))) in
-        let n = ap (λ (x : List (Piece H)). length x) same in
-        let m = ap (λ (x : List Frame). length x) top in (
+    walk_down : {root i : ℕ} {w : Laying H} {old new later : List Stop} → AreBelow ns → GoesOn old new (Some (Child i)) →
+        later ≡ stop i (kids_at i) ∷ new → IsWalk root old w → IsWalk root later w × (measure later < measure old)
+    walk_down {root} {i} {w} {old} {new} {later} b g e h =
+        let on = child_on Inside g h.inside in
+        let comes = child_comes pieces_at own_at (kids_at i) g e (is_tree i b on.0) in (
           record {
-            same = ap (λ x. make_all x w) same ∙ h.same;
-            inside = All-append Inside rest new popped.0 (All-cons Inside (moved f) (start_of child ∷ []) at
-                (All-cons Inside (start_of child) [] inside (All-nil Inside)));
-            below = h.below;
+            made = subst (λ x. IsLaying (tree_at ns root) x w) (sym comes.0) h.made;
+            inside = subst (λ x. All Inside (nodes_on x)) (sym e) (entered_on Inside i (kids_at i) new on.0 (kids_inside i b on.0) on.1);
           },
-          omega (arith, enough (deeper rest f), length-append rest new, length-append rest (f ∷ [])),
+          comes.1,
         )
 
-    -- the frame's node is the next step
-    own_next : (frames rest : List Frame) (f : Frame) → frames ≡ rest ++ f ∷ [] → length (kids_at f.node) ≤ f.next →
-        todo frames ≡ own_of (node_at ns f.node) ∷ todo rest
-    own_next frames rest f top l =
-        ap todo top ∙ (todo-append rest (f ∷ [])
-        ∙ ap (λ x. (all_in_postfix (pick (tree_at ns) x) ++ own_of (node_at ns f.node) ∷ []) ++ todo rest)
-        (drop_all f.next (kids_at f.node) l))
+    -- the node that comes is the next piece
+    next_piece : {root i : ℕ} {w : Laying H} {old new : List Stop} → GoesOn old new (Some (Own i)) → IsWalk root old w →
+        IsLaying (tree_at ns root) (own_at i ∷ pieces_left new) w
+    next_piece {root} {i} {w} g h = subst (λ x. IsLaying (tree_at ns root) x w) (own_comes pieces_at own_at g).0 h.made
 
-    next_step : (whole : Laying H) (frames rest : List Frame) (f : Frame) (w : Laying H) → frames ≡ rest ++ f ∷ [] →
-        length (kids_at f.node) ≤ f.next → IsWalk whole frames w → make_all (own_of (node_at ns f.node) ∷ todo rest) w ≡ Some whole
-    next_step whole frames rest f w top l h = ap (λ x. make_all x w) (sym (own_next frames rest f top l)) ∙ h.same
-
-    walk_own : (whole : Laying H) (frames rest : List Frame) (f : Frame) (w : Laying H) → frames ≡ rest ++ f ∷ [] →
-        length (kids_at f.node) ≤ f.next → IsWalk whole frames w →
-        IsWalk whole rest (put (own_of (node_at ns f.node)) w) × (measure rest < measure frames)
-    walk_own whole frames rest f w top l h =
-        let own = own_of (node_at ns f.node) in
-        let n = ap (λ (x : List (Piece H)). length x) (own_next frames rest f top l) in
-        let m = ap (λ (x : List Frame). length x) top in (
-          record {
-            same = made_rest own (todo rest) w whole (next_step whole frames rest f w top l h);
-            inside = (All-pop Inside frames rest (Some f) top h.inside).0;
-            below = put_below own w h.below;
-          },
-          omega (arith, enough rest, enough frames, length-append rest (f ∷ [])),
-        )
-
-  -- ---- the all_in_postfix by what the code looks up
+  -- ---- the nodes by what the code looks up
 
   pub node_at-reverse : (ns : List (Node H)) (i : ℕ) (d : Node H) → i < length ns → node_at ns i ≡ get_or (reverse ns) i d
   node_at-reverse [] i d l = absurd (omega arith)
@@ -370,95 +341,72 @@ module _ {H : Type 0} (missing : H) where
         ∙ (ap (λ (y : List (Node H)). get_or y i (held x)) (reverse-reverse (map held items)) ∙
         (get_or-map held items i x (held x) h ∙ ap held (sym is)))
 
-    -- What the code knows of the frame that it took, and of its item.
-    pub record Taken (items : List A) (whole : Laying H) (frames rest : List Frame) (f : Frame) (x : A) (w : Laying H) : Type 0 where
-      pub before : AreBelow (nodes_in items)
-      pub top : frames ≡ rest ++ f ∷ []
-      pub is : x ≡ get_or items f.node x
-      pub walk : IsWalk (nodes_in items) whole frames w
+    kids_are : (items : List A) (i : ℕ) (x : A) → i < length items → x ≡ get_or items i x → kids_at (nodes_in items) i ≡ (held x).children
+    kids_are items i x l is = ap (λ (n : Node H). n.children) (node_at_is items i x l is)
 
-    pub start : (items : List A) (root : ℕ) (frames : List Frame) (w : Laying H) → AreBelow (nodes_in items) → root < length items →
-        frames ≡ start_of root ∷ [] → w ≡ laying [] [] → IsWalk (nodes_in items) (laid_out (nodes_in items) root) frames w
-    start items root frames w b l e v =
-        let n = length-held held items in
+    -- the root that is entered
+    pub start : (items : List A) (root : ℕ) (way : List Stop) (w : Laying H) (x : A) → AreBelow (nodes_in items) → root < length items →
+        x ≡ get_or items root x → way ≡ stop root (held x).children ∷ [] → w ≡ laying [] [] → IsWalk (nodes_in items) root way w
+    start items root way w x b l is e v =
         let ns = nodes_in items in
-        subst (λ (x : List Frame). IsWalk ns (laid_out ns root) x w) (sym e)
-        (subst (λ (x : Laying H). IsWalk ns (laid_out ns root) (start_of root ∷ []) x) (sym v) (walk_start ns root b (omega arith)))
-
-    pub inside_of : (items : List A) (whole : Laying H) (frames rest : List Frame) (f : Frame) (w : Laying H) → frames ≡ rest ++ f ∷ [] →
-        IsWalk (nodes_in items) whole frames w → f.node < length items
-    inside_of items whole frames rest f w top h =
-        let i = (All-pop (Inside (nodes_in items)) frames rest (Some f) top h.inside).1 in
         let n = length-held held items in
-        omega arith
+        let to = ap (λ k. stop root k ∷ []) (kids_are items root x l is) ∙ sym e in
+        subst (λ y. IsWalk ns root y w) to (subst (λ y. IsWalk ns root (stop root (kids_at ns root) ∷ []) y) (sym v) (walk_start ns root b (omega arith)))
 
-    module _ {items : List A} {whole : Laying H} {frames rest : List Frame} {f : Frame} {x : A} where
-      -- the node in the frame, and its children as the code names them
-      own_node : (w : Laying H) → Taken items whole frames rest f x w → node_at (nodes_in items) f.node ≡ held x
-      own_node w t = node_at_is items f.node x (inside_of items whole frames rest f w t.top t.walk) t.is
+    module _ (items : List A) {root : ℕ} {old new : List Stop} {i : ℕ} where
+      pub child_inside : {w : Laying H} → GoesOn old new (Some (Child i)) → IsWalk (nodes_in items) root old w → i < length items
+      child_inside g h = let l = (child_on (Inside (nodes_in items)) g h.inside).0 in let n = length-held held items in omega arith
 
-      kids_are : (w : Laying H) → Taken items whole frames rest f x w → (below : List Id) → numbers_of below ≡ (held x).children →
-          (kids_at (nodes_in items) f.node ≡ numbers_of below) × (length (kids_at (nodes_in items) f.node) ≡ length below)
-      kids_are w t below b =
-          let same : kids_at (nodes_in items) f.node ≡ numbers_of below = ap (λ (y : Node H). y.children) (own_node w t) ∙ sym b in
-          (same, ap length same ∙ length-map below (λ (y : Id). y.0))
+      pub own_inside : {w : Laying H} → GoesOn old new (Some (Own i)) → IsWalk (nodes_in items) root old w → i < length items
+      own_inside g h = let l = (own_on (Inside (nodes_in items)) g h.inside).0 in let n = length-held held items in omega arith
 
-      pub down : (w : Laying H) → Taken items whole frames rest f x w → (later : List Frame) (below : List Id) →
-          numbers_of below ≡ (held x).children →
-          f.next < length below → later ≡ rest ++ moved f ∷ start_of (get_or (numbers_of below) f.next 0) ∷ [] →
-          IsWalk (nodes_in items) whole later w × (measure (nodes_in items) later < measure (nodes_in items) frames)
-      down w t later below b more is =
-          let kids = kids_are w t below b in
-          let count = kids.1 in
-          let to = ap (λ y. rest ++ moved f ∷ start_of (get_or y f.next 0) ∷ []) kids.0 ∙ sym is in
-          subst (λ (y : List Frame). IsWalk (nodes_in items) whole y w × (measure (nodes_in items) y < measure (nodes_in items) frames)) to
-          (walk_down (nodes_in items) whole frames rest f w t.before t.top (omega arith) t.walk)
+      pub down : {w : Laying H} {later : List Stop} (x : A) → AreBelow (nodes_in items) → GoesOn old new (Some (Child i)) →
+          x ≡ get_or items i x → later ≡ stop i (held x).children ∷ new → IsWalk (nodes_in items) root old w →
+          IsWalk (nodes_in items) root later w × (measure (nodes_in items) later < measure (nodes_in items) old)
+      down x b g is e h =
+          walk_down (nodes_in items) b g (e ∙ ap (λ k. stop i k ∷ new) (sym (kids_are items i x (child_inside g h) is))) h
+
+      next_own : {w : Laying H} {x : A} → GoesOn old new (Some (Own i)) → x ≡ get_or items i x → IsWalk (nodes_in items) root old w →
+          IsLaying (tree_at (nodes_in items) root) (own_of (held x) ∷ pieces_left (nodes_in items) new) w
+      next_own {w} {x} g is h =
+          subst (λ n. IsLaying (tree_at (nodes_in items) root) (own_of n ∷ pieces_left (nodes_in items) new) w)
+          (node_at_is items i x (own_inside g h) is) (next_piece (nodes_in items) g h)
 
       -- the finished places of which an item's children are the last ones
-      pub found : (nodes : List (Node H)) (finished below : List Id) →
-          Taken items whole frames rest f x (laying nodes (numbers_of finished)) →
-          numbers_of below ≡ (held x).children → length below ≤ f.next → length below ≤ length finished
-      found nodes finished below t b more =
-          let w = laying nodes (numbers_of finished) in
-          let count = (kids_are w t below b).1 in
-          let next = next_step (nodes_in items) whole frames rest f w t.top (omega arith) t.walk in
-          let enough = found_children (own_of (node_at (nodes_in items) f.node)) (todo (nodes_in items) rest) w whole next in
-          omega (arith, enough, length-map finished (λ (y : Id). y.0))
+      pub found : {nodes : List (Node H)} {x : A} (finished ids : List Id) → GoesOn old new (Some (Own i)) → x ≡ get_or items i x →
+          (held x).children ≡ numbers_of ids → IsWalk (nodes_in items) root old (laying nodes (numbers_of finished)) →
+          length ids ≤ length finished
+      found finished ids g is k h = enough_finished finished ids k (next_own g is h)
 
-      pub own_done : (nodes nodes' : List (Node H)) (finished finished' below : List Id) (at : ℕ) →
-          Taken items whole frames rest f x (laying nodes (numbers_of finished)) → numbers_of below ≡ (held x).children →
-          length below ≤ f.next →
-          at ≡ length nodes →
-          nodes' ≡ nodes ++ record { head = (held x).head; children = last_ones below finished } ∷ [] →
-          numbers_of finished' ≡ first_ones below finished ++ at ∷ [] →
-          IsWalk (nodes_in items) whole rest (laying nodes' (numbers_of finished')) ×
-          (measure (nodes_in items) rest < measure (nodes_in items) frames)
-      own_done nodes nodes' finished finished' below at t b more e a d =
-          let w = laying nodes (numbers_of finished) in
-          let count = (kids_are w t below b).1 in
-          let made =
-          put_is (held x) below finished nodes nodes' (numbers_of finished')
-          (sym b) a (d ∙ ap (λ n. first_ones below finished ++ n ∷ []) e)
-          ∙ ap (λ (y : Node H). put (own_of y) w) (sym (own_node w t)) in
-          subst (λ (y : Laying H). IsWalk (nodes_in items) whole rest y × (measure (nodes_in items) rest < measure (nodes_in items) frames))
-          (sym made) (walk_own (nodes_in items) whole frames rest f w t.top (omega arith) t.walk)
+      pub own_done : {nodes nodes' : List (Node H)} {x : A} (finished finished' ids : List Id) → GoesOn old new (Some (Own i)) → x ≡ get_or items i x → (held x).children ≡ numbers_of ids →
+          nodes' ≡ nodes ++ record { head = (held x).head; children = last_ones ids finished } ∷ [] →
+          numbers_of finished' ≡ first_ones ids finished ++ length nodes ∷ [] →
+          IsWalk (nodes_in items) root old (laying nodes (numbers_of finished)) →
+          IsWalk (nodes_in items) root new (laying nodes' (numbers_of finished')) × (measure (nodes_in items) new < measure (nodes_in items) old)
+      own_done {nodes} {nodes'} finished finished' ids g is k a d h =
+          let ns = nodes_in items in (
+            record {
+              made = own_added finished ids k (next_own g is h) nodes' (numbers_of finished') a d;
+              inside = (own_on (Inside ns) g h.inside).1;
+            },
+            (own_comes (pieces_at ns) (own_at ns) g).1,
+          )
 
-    -- as long as a node is to be made, those made are fewer than the tree's
-    pub still_more : (items : List A) (root : ℕ) (frames rest : List Frame) (f : Frame) (w : Laying H) → frames ≡ rest ++ f ∷ [] →
-        IsWalk (nodes_in items) (laid_out (nodes_in items) root) frames w →
-        length w.nodes < node_count_of (tree_at (nodes_in items) root)
-    still_more items root frames rest f w top h =
+      -- as long as a node is to be made, those made are fewer than the tree's
+      pub still_more : {w : Laying H} → GoesOn old new (Some (Own i)) → IsWalk (nodes_in items) root old w →
+          length w.nodes < node_count_of (tree_at (nodes_in items) root)
+      still_more {w} g h =
+          let ns = nodes_in items in
+          let t = tree_at ns root in
+          let n = made_count (own_at ns i ∷ pieces_left ns new) w (whole_of t) (next_piece ns g h).same in
+          omega (arith, n, length_laid 0 t)
+
+    -- the expression at the end
+    pub end_laid : (items : List A) {root : ℕ} {old new : List Stop} {w : Laying H} → GoesOn old new None → IsWalk (nodes_in items) root old w →
+        w.nodes ≡ laid 0 (tree_at (nodes_in items) root)
+    end_laid items {root} {old} {new} {w} g h =
         let ns = nodes_in items in
-        let n = made_count (todo ns frames) w (laid_out ns root) h.same in
-        let m = ap (λ (x : List Frame). length x) top in
-        omega (arith, n, m, enough ns frames, length_laid 0 (tree_at ns root), length-append rest (f ∷ []))
-
-    -- the expression at the end, when no frame is left
-    pub end_laid : (items : List A) (root n : ℕ) (frames : List Frame) (nodes : List (Node H)) (done : List ℕ) → n ≡ length frames → n ≡ 0 →
-        IsWalk (nodes_in items) (laid_out (nodes_in items) root) frames (laying nodes done) →
-        nodes ≡ laid 0 (tree_at (nodes_in items) root)
-    end_laid items root n [] nodes done e z h = same_laying (laying nodes done) (laid_out (nodes_in items) root) h.same
-    end_laid items root n (f ∷ fs) nodes done e z h = absurd (omega arith)
+        laying_ends (subst (λ x. IsLaying (tree_at ns root) x w) (goes_on (pieces_at ns) (own_at ns) g) h.made)
 
     pub end_whole : (items : List A) (root : ℕ) → AreBelow (nodes_in items) → root < length items → IsWhole (tree_at (nodes_in items) root)
     end_whole items root b l = let n = length-held held items in whole_at (nodes_in items) root b (omega arith)

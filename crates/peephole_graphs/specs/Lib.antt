@@ -17,6 +17,7 @@ pub mod Dfg
 pub mod Growing
 pub mod Building
 pub mod Layout
+pub mod Postfix
 pub mod Rebuild
 pub mod ForestText
 pub mod ForestSteps
@@ -25,3 +26,4 @@ pub mod Shown
 pub mod EntryTrees
 pub mod TermOf
 pub mod Span
+pub mod PostfixLemmas

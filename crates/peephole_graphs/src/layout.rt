@@ -6,7 +6,7 @@ ghost use Rattle.peephole_lang.specs.Term.{AreBelow, numbers_of, tree_at, term_o
 ghost use Rattle.peephole_graphs.specs.Layout.{node_by, entry_nodes, laid, node_count_of};
 
 use crate::dfg::StackEntry;
-use crate::frames::{Frame, descend, push_frame};
+use crate::postfix::{Postfix, Turn};
 use mutate_base::Error;
 use peephole_lang::{Id, Lang, Language, RecExpr};
 use std::alloc::Global;
@@ -73,26 +73,18 @@ pub(crate) fn lay_out(
 {
     let mut expr = RecExpr::new(alloc);
     let mut finished = Vec::new(alloc);
-    let mut frames = Vec::new(alloc);
-    push_frame(
-        &mut frames,
-        Frame {
-            node: root,
-            next: 0,
-        },
-    )?;
-    while let Some(frame) = frames.pop() {
-        let entry = &entries[frame.node];
-        let below = entry.operator.children();
-        if frame.next < below.len() {
-            match descend(&mut frames, frame, below) {
-                Ok(()) => {}
-                Err(_) => return Err(Error::Memory),
+    let mut walk = Postfix::new(alloc);
+    let entry = &entries[root];
+    walk.enter(root, entry.operator.children())?;
+    while let Some(turn) = walk.advance() {
+        match turn {
+            Turn::Child(index) => {
+                let entry = &entries[index];
+                walk.enter(index, entry.operator.children())?;
             }
-        } else {
-            match add_own(&mut expr, &mut finished, &entry.operator) {
-                Ok(()) => {}
-                Err(refusal) => return Err(refusal),
+            Turn::Own(index) => {
+                let entry = &entries[index];
+                add_own(&mut expr, &mut finished, &entry.operator)?;
             }
         }
     }

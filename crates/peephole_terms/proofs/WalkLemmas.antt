@@ -1,9 +1,10 @@
 -- The walk over a tree of nodes: what is left to be written of it. Lists of nodes have the last one first.
-use Rattle.std.proofs.Common.{◌≡◌, ℕ, zero, suc, ◌+◌, ◌-◌, ◌*◌, ◌<◌, ◌≤◌, List, [], ◌∷◌, ◌++◌, length, drop, take, get_or, refl, sym, ap, ap₂, subst, ◌∙◌, arith, append_assoc, append-nil, add-one, drop-cons, length-append, Some, None, Bool, true, false, cond, Result, Ok, Err}
+use Rattle.std.proofs.Common.{◌≡◌, ℕ, ◌<◌, ◌≤◌, List, [], ◌∷◌, ◌++◌, length, take, get_or, refl, sym, ap, ap₂, subst, ◌∙◌, arith, append-nil, Some, None, Bool, true, false, cond, Result, Ok, Err}
 use Rattle.std.specs.Prelude.{All, map}
+use Rattle.std.specs.List.{flat_map}
 use Rattle.std.proofs.lemmas.Grind.{common_steps}
-use Rattle.std.proofs.lemmas.List.{drop_all, get_or-map, length-take, length-map, length-reverse}
-use Rattle.std.proofs.lemmas.List.Elements.{All-nil, All-cons, All-append, All-get_or, All-pop, All-weaker, All-head, All-tail}
+use Rattle.std.proofs.lemmas.List.{length-take, length-map, length-reverse}
+use Rattle.std.proofs.lemmas.List.Elements.{All-nil, All-cons, All-append, All-weaker, All-head, All-tail}
 use Rattle.rand_core.specs.Stream.{Stream}
 use Rattle.mutate_base.specs.declared.error.Error.{Error}
 use Rattle.mutate_base.specs.declared.error.Error.TheVariants.{Memory, CannotUnfold, GlobalIndex}
@@ -14,11 +15,13 @@ use Rattle.peephole_lang.specs.Lang.{ids_of, payload_of}
 use Rattle.peephole_lang.specs.Node.{head_of, children_of}
 use Rattle.peephole_lang.specs.Term.{numbers_of, Term, Terms, absent, node, no_terms, ◌▸◌, Node, AreBelow, pick, tree_at}
 use Rattle.peephole_terms.specs.declared.encoder.request.ResourceRequest.{ResourceRequest}
-use Rattle.peephole_terms.specs.declared.encoder.walk.Frame.{Frame}
+use Rattle.peephole_graphs.specs.declared.postfix.Turn.TheVariants.{Child, Own}
+use Rattle.peephole_graphs.specs.Postfix.{Stop, stop, GoesOn, left}
+use Rattle.peephole_graphs.specs.PostfixLemmas.{IsTreeOf, turns_left, goes_on, entered, child_comes, own_comes, nodes_on, child_on, own_on, entered_on}
 use Rattle.peephole_terms.specs.Kind.{IntegerType, node_kind, is_unfold}
 use Rattle.peephole_terms.specs.Expansion.{constant_in, constant_of}
-use Rattle.peephole_terms.specs.EncoderSteps.{Step, raw, around, Writing, writing_of, with_bytes, IsInRange, own_step, own_step_in, opened, steps_of, steps, take_step, take_steps, then_steps, IsRefusal, Does, nodes_in}
-use Rattle.peephole_lang.specs.laws.PlaceLemmas.{IsAt, tree_is, children_in, at_place, view, some_at}
+use Rattle.peephole_terms.specs.EncoderSteps.{Step, nothing, raw, around, Writing, writing_of, with_bytes, IsInRange, own_step, own_step_in, opened, steps_of, steps, take_step, take_steps, then_steps, IsRefusal, Does, nodes_in}
+use Rattle.peephole_lang.specs.laws.PlaceLemmas.{IsAt, tree_is, children_in, at_place, view}
 
 -- ---- steps one after another
 
@@ -39,81 +42,38 @@ refused_after CannotUnfold r whole more e q = sym e ∙ ap (λ (x : Result Writi
 refused_after GlobalIndex r whole more e q = sym e ∙ ap (λ (x : Result Writing Error). then_steps x more) q
 refused_after _ r whole more e q = q
 
--- ---- what is left
+-- ---- what the tree of a node brings
 
--- a term's children without the first ones
-abbrev skipped : ℕ → Terms Head → Terms Head
-skipped zero ts = ts
-skipped (suc k) no_terms = no_terms
-skipped (suc k) (t ▸ ts) = skipped k ts
+-- the step of a term's own node
+abbrev root_step : Term Head → Step
+root_step absent = nothing
+root_step (node h kids) = own_step (node_kind h) kids
 
--- the written children from one on, and then the node
-abbrev steps_left : Term Head → ℕ → List Step
-steps_left absent k = []
-steps_left (node h kids) k = steps (skipped k (cond (is_unfold (node_kind h)) no_terms kids)) ++ own_step (node_kind h) kids ∷ []
+module _ (ns : List (Node Head)) where
+  abbrev steps_at : ℕ → List Step
+  steps_at i = steps_of (tree_at ns i)
 
--- the last frame comes first
-abbrev todo : List (Node Head) → List Frame → List Step
-todo ns [] = []
-todo ns (f ∷ fs) = todo ns fs ++ steps_left (tree_at ns f.node) f.next
+  abbrev own_at : ℕ → Step
+  own_at i = root_step (tree_at ns i)
 
-abbrev pub start_of : ℕ → Frame
-start_of i = record { node = i; next = 0 }
+  abbrev steps_left : List Stop → List Step
+  steps_left way = left steps_at own_at way
 
-abbrev pub moved : Frame → Frame
-moved f = record { node = f.node; next = f.next + 1 }
+  abbrev pub measure : List Stop → ℕ
+  measure way = turns_left steps_at own_at way
 
-whole_left : (t : Term Head) → steps_left t 0 ≡ steps_of t
-whole_left absent = refl
-whole_left (node h kids) = go (is_unfold (node_kind h))
-  where
-    go : (b : Bool) → steps (skipped 0 (cond b no_terms kids)) ++ own_step (node_kind h) kids ∷ [] ≡ cond b [] (steps kids) ++ own_step (node_kind h) kids ∷ []
-    go true = refl
-    go false = refl
+  picked_steps : (is : List ℕ) → steps (pick (tree_at ns) is) ≡ flat_map steps_at is
+  picked_steps [] = refl
+  picked_steps (i ∷ is) = ap (λ x. steps_at i ++ x) (picked_steps is)
 
-skipped-pick : (at : ℕ → Term Head) (k : ℕ) (is : List ℕ) → skipped k (pick at is) ≡ pick at (drop k is)
-skipped-pick at zero is = refl
-skipped-pick at (suc k) [] = refl
-skipped-pick at (suc k) (i ∷ is) = skipped-pick at k is
+  opened_steps : (b : Bool) (is : List ℕ) → cond b [] (steps (pick (tree_at ns) is)) ≡ flat_map steps_at (cond b [] is)
+  opened_steps true is = refl
+  opened_steps false is = picked_steps is
 
-skipped-opened : (at : ℕ → Term Head) (k : ℕ) (b : Bool) (is : List ℕ) → skipped k (cond b no_terms (pick at is)) ≡ pick at (drop k (cond b [] is))
-skipped-opened at k true is = skipped-pick at k []
-skipped-opened at k false is = skipped-pick at k is
-
--- the places of a node's written children, and its own step
-abbrev opened_of : Node Head → List ℕ
-opened_of n = opened (node_kind n.head) n.children
-
-abbrev own_at : List (Node Head) → Node Head → Step
-own_at ns n = own_step (node_kind n.head) (pick (tree_at ns) n.children)
-
--- at a node's frame
-left_at : (ns : List (Node Head)) (n : Node Head) (i k : ℕ) → IsAt n ns i → AreBelow ns →
-    steps_left (tree_at ns i) k ≡ steps (pick (tree_at ns) (drop k (opened_of n))) ++ own_at ns n ∷ []
-left_at ns n i k at b =
-    ap (λ t. steps_left t k) (tree_is at b) ∙ ap (λ ts. steps ts ++ own_at ns n ∷ []) (skipped-opened (tree_at ns) k (is_unfold (node_kind n.head)) n.children)
-
-left_down : (ns : List (Node Head)) (n : Node Head) (i k : ℕ) → IsAt n ns i → AreBelow ns → k < length (opened_of n) →
-    steps_left (tree_at ns i) k ≡ steps_left (tree_at ns (get_or (opened_of n) k 0)) 0 ++ steps_left (tree_at ns i) (k + 1)
-left_down ns n i k at b l =
-    let child = get_or (opened_of n) k 0 in
-    let e : drop k (opened_of n) ≡ child ∷ drop (k + 1) (opened_of n) = rw add-one (drop-cons (opened_of n) k 0 l) in
-    left_at ns n i k at b ∙ (ap (λ (x : List ℕ). steps (pick (tree_at ns) x) ++ own_at ns n ∷ []) e
-    ∙ (append_assoc (steps_of (tree_at ns child)) (steps (pick (tree_at ns) (drop (k + 1) (opened_of n)))) (own_at ns n ∷ [])
-    ∙ ap₂ (λ (x y : List Step). x ++ y) (sym (whole_left (tree_at ns child))) (sym (left_at ns n i (k + 1) at b))))
-
-left_own : (ns : List (Node Head)) (n : Node Head) (i k : ℕ) → IsAt n ns i → AreBelow ns → length (opened_of n) ≤ k →
-    steps_left (tree_at ns i) k ≡ own_at ns n ∷ []
-left_own ns n i k at b l = left_at ns n i k at b ∙ ap (λ (x : List ℕ). steps (pick (tree_at ns) x) ++ own_at ns n ∷ []) (drop_all k (opened_of n) l)
-
-todo-append : (ns : List (Node Head)) (xs ys : List Frame) → todo ns (xs ++ ys) ≡ todo ns ys ++ todo ns xs
-todo-append ns [] ys = sym (append-nil (todo ns ys))
-todo-append ns (x ∷ xs) ys =
-    ap (λ z. z ++ steps_left (tree_at ns x.node) x.next) (todo-append ns xs ys) ∙ append_assoc (todo ns ys) (todo ns xs) (steps_left (tree_at ns x.node) x.next)
-
-todo_top : (ns : List (Node Head)) (frames rest : List Frame) (f : Frame) → frames ≡ rest ++ f ∷ [] →
-    todo ns frames ≡ steps_left (tree_at ns f.node) f.next ++ todo ns rest
-todo_top ns frames rest f top = ap (todo ns) top ∙ todo-append ns rest (f ∷ [])
+  is_tree : {n : Node Head} {i : ℕ} → IsAt n ns i → AreBelow ns → IsTreeOf steps_at own_at i (opened (node_kind n.head) n.children)
+  is_tree {n} at b =
+      ap steps_of (tree_is at b)
+      ∙ ap₂ (λ (x : List Step) (y : Step). x ++ y ∷ []) (opened_steps (is_unfold (node_kind n.head)) n.children) (sym (ap root_step (tree_is at b)))
 
 -- ---- steps between bytes
 
@@ -171,199 +131,146 @@ nodes k = nodes_in k.held k.items
 abbrev pub every : {A : Type 0} → Walk A → List Step
 every k = steps_of (tree_at (nodes k) k.root)
 
-abbrev Inside : List (Node Head) → Frame → Type 0
-Inside ns f = f.node < length ns
+abbrev Inside : List (Node Head) → ℕ → Type 0
+Inside ns i = i < length ns
 
--- What is left, done from here, is what the whole gives; where its instructions are in range, those of all steps are; and every frame stands at a node.
-pub record IsUnderway {A : Type 0} (k : Walk A) (frames : List Frame) (w : Writing) : Type 0 where
+-- What is left, done from here, is what the whole gives; where its instructions are in range, those of all steps are; and the nodes on the way are there.
+pub record IsUnderway {A : Type 0} (k : Walk A) (way : List Stop) (w : Writing) : Type 0 where
   pub below : AreBelow (nodes k)
-  pub same : take_steps k.count (todo (nodes k) frames) w ≡ take_steps k.count (every k) k.start
-  pub in_range : All IsInRange (todo (nodes k) frames) → All IsInRange (every k)
-  pub inside : All (Inside (nodes k)) frames
+  pub same : take_steps k.count (steps_left (nodes k) way) w ≡ take_steps k.count (every k) k.start
+  pub in_range : All IsInRange (steps_left (nodes k) way) → All IsInRange (every k)
+  pub inside : All (Inside (nodes k)) (nodes_on way)
 
 pub length-nodes_in : {A : Type 0} (held : A → Lang) (items : List A) → length (nodes_in held items) ≡ length items
 length-nodes_in held items =
     length-reverse (map (view (λ x. head_of (held x)) (λ x. children_of (held x))) items)
     ∙ length-map items (view (λ x. head_of (held x)) (λ x. children_of (held x)))
 
-pub start : {A : Type 0} (k : Walk A) (frames : List Frame) → AreBelow (nodes k) → k.root < length k.items → frames ≡ start_of k.root ∷ [] →
-    IsUnderway k frames k.start
-start k frames b l e =
+-- ---- one node
+
+-- What the code reads at a place: the item there, and the node in it.
+pub record IsRead {A : Type 0} (k : Walk A) (i : ℕ) (x : A) (l : Lang) : Type 0 where
+  pub is : x ≡ get_or k.items i x
+  pub held_is : l ≡ k.held x
+
+abbrev written_kids : Lang → List ℕ
+written_kids l = opened (node_kind (head_of l)) (children_of l)
+
+module _ {A : Type 0} {k : Walk A} {i : ℕ} {x : A} {l : Lang} (there : i < length k.items) where
+  read_at : IsRead k i x l → IsAt (view head_of children_of l) (nodes k) i
+  read_at r =
+      subst (λ y. IsAt (view head_of children_of y) (nodes k) i) (sym r.held_is)
+      (at_place (λ y. head_of (k.held y)) (λ y. children_of (k.held y)) k.items i x there r.is)
+
+  -- the children of the node that is read are there
+  pub kids_in : AreBelow (nodes k) → IsRead k i x l → All (λ c. c < length k.items) (children_of l)
+  kids_in b r =
+      let wider : (c : ℕ) → c < i → c < length k.items = λ c g. omega arith in
+      All-weaker (λ c. c < i) (λ c. c < length k.items) wider (children_of l) (children_in (read_at r) b)
+
+  -- so are those that are written
+  kids_inside : AreBelow (nodes k) → IsRead k i x l → All (Inside (nodes k)) (written_kids l)
+  kids_inside b r =
+      let n = length-nodes_in k.held k.items in
+      let all = All-weaker (λ c. c < length k.items) (Inside (nodes k)) (λ c g. omega arith) (children_of l) (kids_in b r) in
+      opened_in (is_unfold (node_kind (head_of l))) (children_of l) (Inside (nodes k)) all
+    where
+      opened_in : (b : Bool) (kids : List ℕ) (P : ℕ → Type 0) → All P kids → All P (cond b [] kids)
+      opened_in true kids P all = All-nil P
+      opened_in false kids P all = all
+
+-- ---- turns
+
+-- at the root
+pub start : {A : Type 0} {k : Walk A} {x : A} {l : Lang} {way : List Stop} (ids : List Id) → AreBelow (nodes k) → k.root < length k.items →
+    IsRead k k.root x l → numbers_of ids ≡ written_kids l → way ≡ stop k.root (numbers_of ids) ∷ [] → IsUnderway k way k.start
+start {A} {k} {x} {l} {way} ids b there r kids e =
+    let ns = nodes k in
     let n = length-nodes_in k.held k.items in
-    let inside : k.root < length (nodes k) = omega arith in
-    let whole = whole_left (tree_at (nodes k) k.root) in
-    subst (λ (x : List Frame). IsUnderway k x k.start) (sym e) (record {
+    let whole = entered (steps_at ns) (own_at ns) k.root (written_kids l) [] (is_tree ns (read_at there r) b) ∙ append-nil (every k) in
+    subst (λ (y : List Stop). IsUnderway k y k.start) (sym (e ∙ ap (λ c. stop k.root c ∷ []) kids)) (record {
       below = b;
-      same = ap (λ (x : List Step). take_steps k.count x k.start) whole;
-      in_range = λ r. subst (All IsInRange) whole r;
-      inside = All-cons (Inside (nodes k)) (start_of k.root) [] inside (All-nil (Inside (nodes k)));
+      same = ap (λ (y : List Step). take_steps k.count y k.start) whole;
+      in_range = λ q. subst (All IsInRange) whole q;
+      inside = entered_on (Inside ns) k.root (written_kids l) [] (omega arith) (kids_inside there b r) (All-nil (Inside ns));
     })
 
 -- at the end
-pub arrived : {A : Type 0} {k : Walk A} {frames : List Frame} {w : Writing} → IsUnderway k frames w → frames ≡ [] →
+pub arrived : {A : Type 0} {k : Walk A} {old new : List Stop} {w : Writing} → IsUnderway k old w → GoesOn old new None →
     take (length k.start.bytes) w.bytes ≡ k.start.bytes → Does k.count (every k) k.start w (Ok tt)
-arrived {A} {k} {frames} {w} h none kept =
-    let left : todo (nodes k) frames ≡ [] = ap (todo (nodes k)) none in
+arrived {A} {k} {old} {new} {w} h g kept =
+    let none = goes_on (steps_at (nodes k)) (own_at (nodes k)) g in
     record {
-      ok = sym h.same ∙ ap (λ (x : List Step). take_steps k.count x w) left;
+      ok = sym h.same ∙ ap (λ (y : List Step). take_steps k.count y w) none;
       err = tt;
-      in_range = h.in_range (subst (All IsInRange) (sym left) (All-nil IsInRange));
+      in_range = h.in_range (subst (All IsInRange) (sym none) (All-nil IsInRange));
       kept = kept;
     }
 
--- ---- the measure: each node is a step, and each frame holds one of them
+module _ {A : Type 0} {k : Walk A} {old new : List Stop} {i : ℕ} {w : Writing} (h : IsUnderway k old w) where
+  pub child_inside : GoesOn old new (Some (Child i)) → i < length k.items
+  child_inside g = let there = (child_on (Inside (nodes k)) g h.inside).0 in let n = length-nodes_in k.held k.items in omega arith
 
-enough : (ns : List (Node Head)) (fs : List Frame) → AreBelow ns → All (Inside ns) fs → length fs ≤ length (todo ns fs)
-enough ns [] b all = omega arith
-enough ns (f ∷ fs) b all =
-    let at = some_at ns f.node (All-head (Inside ns) f fs all) in
-    let kids = steps (pick (tree_at ns) (drop f.next (opened_of at.0))) in
-    let e : length (steps_left (tree_at ns f.node) f.next) ≡ length (kids ++ own_at ns at.0 ∷ []) =
-    ap (λ (x : List Step). length x) (left_at ns at.0 f.node f.next at.1 b) in
-    omega (
-      arith,
-      enough ns fs b (All-tail (Inside ns) f fs all),
-      length-append (todo ns fs) (steps_left (tree_at ns f.node) f.next),
-      length-append kids (own_at ns at.0 ∷ []),
-    )
+  pub own_inside : GoesOn old new (Some (Own i)) → i < length k.items
+  own_inside g = let there = (own_on (Inside (nodes k)) g h.inside).0 in let n = length-nodes_in k.held k.items in omega arith
 
-abbrev pub measure : List (Node Head) → List Frame → ℕ
-measure ns frames = 2 * length (todo ns frames) - length frames
+  -- a child that is entered
+  pub down : {x : A} {l : Lang} {later : List Stop} (ids : List Id) → GoesOn old new (Some (Child i)) → IsRead k i x l →
+      numbers_of ids ≡ written_kids l → later ≡ stop i (numbers_of ids) ∷ new →
+      IsUnderway k later w × (measure (nodes k) later < measure (nodes k) old)
+  down {x} {l} {later} ids g r kids e =
+      let ns = nodes k in
+      let to : later ≡ stop i (written_kids l) ∷ new = e ∙ ap (λ c. stop i c ∷ new) kids in
+      let on = child_on (Inside ns) g h.inside in
+      let comes = child_comes (steps_at ns) (own_at ns) (written_kids l) g to (is_tree ns (read_at (child_inside g) r) h.below) in (
+        record {
+          below = h.below;
+          same = ap (λ (y : List Step). take_steps k.count y w) comes.0 ∙ h.same;
+          in_range = λ q. h.in_range (subst (All IsInRange) comes.0 q);
+          inside = subst (λ (y : List Stop). All (Inside ns) (nodes_on y)) (sym to)
+              (entered_on (Inside ns) i (written_kids l) new on.0 (kids_inside (child_inside g) h.below r) on.1);
+        },
+        comes.1,
+      )
 
--- ---- one frame
+  -- the node itself is the next step
+  own_next : {x : A} {l : Lang} → GoesOn old new (Some (Own i)) → IsRead k i x l →
+      steps_left (nodes k) old ≡ own_step_in (nodes k) l ∷ steps_left (nodes k) new
+  own_next g r =
+      let ns = nodes k in
+      (own_comes (steps_at ns) (own_at ns) g).0 ∙ ap (λ (y : Term Head). root_step y ∷ steps_left ns new) (tree_is (read_at (own_inside g) r) h.below)
 
--- What the code knows of the frame that it took, of what it read there, of the node in it and of that node's written children.
-pub record IsRead {A : Type 0} (k : Walk A) (frames rest : List Frame) (f : Frame) (x : A) (l : Lang) (ids : List Id) : Type 0 where
-  pub top : frames ≡ rest ++ f ∷ []
-  pub is : x ≡ get_or k.items f.node x
-  pub held_is : l ≡ k.held x
-  pub ids_are : numbers_of ids ≡ opened (node_kind (head_of l)) (children_of l)
+  pub own_done : {x : A} {l : Lang} {v : Writing} → GoesOn old new (Some (Own i)) → IsRead k i x l →
+      Does k.count (own_step_in (nodes k) l ∷ []) w v (Ok tt) → IsUnderway k new v × (measure (nodes k) new < measure (nodes k) old)
+  own_done {x} {l} {v} g r own =
+      let ns = nodes k in
+      let step = own_step_in ns l in
+      let rest = steps_left ns new in
+      let next = own_next g r in (
+        record {
+          below = h.below;
+          same = ap (λ (q : Result Writing Error). then_steps q (take_steps k.count rest)) (sym own.ok)
+              ∙ (sym (take_steps-append k.count (step ∷ []) rest w) ∙ (ap (λ (y : List Step). take_steps k.count y w) (sym next) ∙ h.same));
+          in_range = λ q. h.in_range (subst (All IsInRange) (sym next)
+              (All-cons IsInRange step rest (All-head IsInRange step [] own.in_range) q));
+          inside = (own_on (Inside ns) g h.inside).1;
+        },
+        (own_comes (steps_at ns) (own_at ns) g).1,
+      )
 
-pub inside_of : {A : Type 0} {k : Walk A} {frames : List Frame} {w : Writing} (rest : List Frame) (f : Frame) → IsUnderway k frames w →
-    frames ≡ rest ++ f ∷ [] →
-    f.node < length k.items
-inside_of {A} {k} {frames} rest f h top =
-    let i : f.node < length (nodes k) = (All-pop (Inside (nodes k)) frames rest (Some f) top h.inside).1 in
-    let n = length-nodes_in k.held k.items in
-    omega arith
-
--- the node of a place
-abbrev node_in : {A : Type 0} → (A → Lang) → A → Node Head
-node_in held x = view (λ x. head_of (held x)) (λ x. children_of (held x)) x
-
--- the node that is read stands at the frame's place, and its written children are those that were read
-read_at : {A : Type 0} (k : Walk A) (frames rest : List Frame) (f : Frame) (x : A) (l : Lang) (ids : List Id) (w : Writing) → IsUnderway k frames w →
-    IsRead k frames rest f x l ids →
-    IsAt (node_in k.held x) (nodes k) f.node × (numbers_of ids ≡ opened_of (node_in k.held x)) × (length (opened_of (node_in k.held x)) ≡ length ids)
-read_at k frames rest f x l ids w h r =
-    let kids : numbers_of ids ≡ opened_of (node_in k.held x) = r.ids_are ∙ ap (λ (n : Lang). opened (node_kind (head_of n)) (children_of n)) r.held_is in (
-      at_place (λ x. head_of (k.held x)) (λ x. children_of (k.held x)) k.items f.node x (inside_of rest f h r.top) r.is,
-      kids,
-      ap (λ (n : List ℕ). length n) (sym kids) ∙ length-map ids (λ id. id.0),
-    )
-
-opened_in : (b : Bool) (kids : List ℕ) (P : ℕ → Type 0) → All P kids → All P (cond b [] kids)
-opened_in true kids P all = All-nil P
-opened_in false kids P all = all
-
--- its next child comes above it
-pub down : {A : Type 0} {k : Walk A} {frames rest : List Frame} {f : Frame} {x : A} {l : Lang} {ids : List Id} {w : Writing} (later : List Frame) →
-    IsUnderway k frames w → IsRead k frames rest f x l ids → f.next < length ids →
-    later ≡ rest ++ moved f ∷ start_of (get_or (numbers_of ids) f.next 0) ∷ [] →
-    IsUnderway k later w × (measure (nodes k) later < measure (nodes k) frames)
-down {A} {k} {frames} {rest} {f} {x} {l} {ids} {w} later h r more pushed =
-    let ns = nodes k in
-    let n = node_in k.held x in
-    let (at, kids, size) = read_at k frames rest f x l ids w h r in
-    let child = get_or (opened_of n) f.next 0 in
-    let less : f.next < length (opened_of n) = omega arith in
-    let e : later ≡ rest ++ moved f ∷ start_of child ∷ [] = pushed ∙ ap (λ (c : List ℕ). rest ++ moved f ∷ start_of (get_or c f.next 0) ∷ []) kids in
-    let P : ℕ → Type 0 = λ i. i < length ns in
-    let in_rest = All-pop (Inside ns) frames rest (Some f) r.top h.inside in
-    let wider : (i : ℕ) → i < f.node → i < length ns = λ i g. let f_in : f.node < length ns = in_rest.1 in omega arith in
-    let child_in : child < length ns = All-get_or P (opened_of n) f.next 0 less
-    (opened_in (is_unfold (node_kind n.head)) n.children P (All-weaker (λ i. i < f.node) P wider n.children (children_in at h.below))) in
-    let left : todo ns later ≡ todo ns frames = ap (todo ns) e ∙ (todo-append ns rest (moved f ∷ start_of child ∷ [])
-    ∙ (ap (λ (y : List Step). y ++ todo ns rest) (sym (left_down ns n f.node f.next at h.below less)) ∙ sym (todo_top ns frames rest f r.top))) in
-    let all : All (Inside ns) later = subst (All (Inside ns)) (sym e) (All-append (Inside ns) rest (moved f ∷ start_of child ∷ []) in_rest.0
-    (All-cons (Inside ns) (moved f) (start_of child ∷ []) in_rest.1 (All-cons (Inside ns) (start_of child) [] child_in (All-nil (Inside ns))))) in
-    let m : length (todo ns later) ≡ length (todo ns frames) = ap (λ (y : List Step). length y) left in
-    let c : length later ≡ length (rest ++ moved f ∷ start_of child ∷ []) = ap (λ (y : List Frame). length y) e in
-    let d : length frames ≡ length (rest ++ f ∷ []) = ap (λ (y : List Frame). length y) r.top in (
-      record {
-        below = h.below;
-        same = ap (λ (y : List Step). take_steps k.count y w) left ∙ h.same;
-        in_range = λ i. h.in_range (subst (All IsInRange) left i);
-        inside = all;
-      },
-      omega (arith, enough ns later h.below all, length-append rest (moved f ∷ start_of child ∷ []), length-append rest (f ∷ [])),
-    )
-
--- what two frames that are pushed leave: the node's next child stands above it
-pub pushed : (rest later newest : List Frame) (f : Frame) (ids : List Id) (d : Id) → f.next < length ids →
-    later ≡ rest ++ moved f ∷ [] → newest ≡ later ++ start_of (get_or ids f.next d).0 ∷ [] →
-    newest ≡ rest ++ moved f ∷ start_of (get_or (numbers_of ids) f.next 0) ∷ []
-pushed rest later newest f ids d l a b =
-    let child = (get_or ids f.next d).0 in
-    b ∙ (ap (λ (x : List Frame). x ++ start_of child ∷ []) a ∙ (append_assoc rest (moved f ∷ []) (start_of child ∷ [])
-    ∙ ap (λ (i : ℕ). rest ++ moved f ∷ start_of i ∷ []) (sym (get_or-map (λ (i : Id). i.0) ids f.next d 0 l))))
-
--- the node itself is the next step, behind its children
-own_next : {A : Type 0} (k : Walk A) (frames rest : List Frame) (f : Frame) (x : A) (l : Lang) (ids : List Id) (w : Writing) → IsUnderway k frames w →
-    IsRead k frames rest f x l ids → length ids ≤ f.next → todo (nodes k) frames ≡ own_step_in (nodes k) l ∷ todo (nodes k) rest
-own_next k frames rest f x l ids w h r done =
-    let ns = nodes k in
-    let n = node_in k.held x in
-    let (at, kids, size) = read_at k frames rest f x l ids w h r in
-    let through : length (opened_of n) ≤ f.next = omega arith in
-    todo_top ns frames rest f r.top ∙ (ap (λ (y : List Step). y ++ todo ns rest) (left_own ns n f.node f.next at h.below through)
-    ∙ ap (λ (y : Lang). own_step_in ns y ∷ todo ns rest) (sym r.held_is))
-
-pub own_done : {A : Type 0} {k : Walk A} {frames rest : List Frame} {f : Frame} {x : A} {l : Lang} {ids : List Id} {w v : Writing} →
-    IsUnderway k frames w → IsRead k frames rest f x l ids → length ids ≤ f.next → Does k.count (own_step_in (nodes k) l ∷ []) w v (Ok tt) →
-    IsUnderway k rest v × (measure (nodes k) rest < measure (nodes k) frames)
-own_done {A} {k} {frames} {rest} {f} {x} {l} {ids} {w} {v} h r done own =
-    let ns = nodes k in
-    let step = own_step_in ns l in
-    let left = own_next k frames rest f x l ids w h r done in
-    let in_rest = All-pop (Inside ns) frames rest (Some f) r.top h.inside in
-    let m : length (todo ns frames) ≡ suc (length (todo ns rest)) = ap (λ (y : List Step). length y) left in
-    let d : length frames ≡ length (rest ++ f ∷ []) = ap (λ (y : List Frame). length y) r.top in (
-      record {
-        below = h.below;
-        same = ap (λ (q : Result Writing Error). then_steps q (take_steps k.count (todo ns rest))) (sym own.ok)
-            ∙ (sym (take_steps-append k.count (step ∷ []) (todo ns rest) w)
-            ∙ (ap (λ (y : List Step). take_steps k.count y w) (sym left) ∙ h.same));
-        in_range = λ i. h.in_range (subst (All IsInRange) (sym left)
-            (All-cons IsInRange step (todo ns rest) (All-head IsInRange step [] own.in_range) i));
-        inside = in_rest.0;
-      },
-      omega (arith, enough ns rest h.below in_rest.0, enough ns frames h.below h.inside, length-append rest (f ∷ [])),
-    )
-
-pub own_refused : {A : Type 0} {k : Walk A} {frames rest : List Frame} {f : Frame} {x : A} {l : Lang} {ids : List Id} {w : Writing} (d : Error) →
-    IsUnderway k frames w → IsRead k frames rest f x l ids → length ids ≤ f.next →
-    IsRefusal d (take_steps k.count (own_step_in (nodes k) l ∷ []) w) → IsRefusal d (take_steps k.count (every k) k.start)
-own_refused {A} {k} {frames} {rest} {f} {x} {l} {ids} {w} d h r done q =
-    let own = own_step_in (nodes k) l ∷ [] in
-    refused_after d (take_steps k.count own w) (take_steps k.count (every k) k.start) (take_steps k.count (todo (nodes k) rest))
-    (sym (take_steps-append k.count own (todo (nodes k) rest) w)
-    ∙ (ap (λ (y : List Step). take_steps k.count y w) (sym (own_next k frames rest f x l ids w h r done)) ∙ h.same)) q
+  pub own_refused : {x : A} {l : Lang} (d : Error) → GoesOn old new (Some (Own i)) → IsRead k i x l →
+      IsRefusal d (take_steps k.count (own_step_in (nodes k) l ∷ []) w) → IsRefusal d (take_steps k.count (every k) k.start)
+  own_refused {x} {l} d g r q =
+      let own = own_step_in (nodes k) l ∷ [] in
+      let rest = steps_left (nodes k) new in
+      refused_after d (take_steps k.count own w) (take_steps k.count (every k) k.start) (take_steps k.count rest)
+      (sym (take_steps-append k.count own rest w) ∙ (ap (λ (y : List Step). take_steps k.count y w) (sym (own_next g r)) ∙ h.same)) q
 
 -- a refusal that is passed on
 pub passed_on : {count : ℕ} {taken : List Step} {w v : Writing} (out : Result (Unit {0}) Error) (d : Error) → out ≡ Err d →
     IsRefusal d (take_steps count taken w) → take (length w.bytes) v.bytes ≡ w.bytes → Does count taken w v out
 passed_on {count} {taken} {w} {v} out d e q k =
     subst (λ (r : Result (Unit {0}) Error). Does count taken w v r) (sym e) (record { ok = tt; err = q; in_range = tt; kept = k })
-
--- the children of the node that is read are there
-pub kids_in : {A : Type 0} (held : A → Lang) (items : List A) (i : ℕ) (x : A) (l : Lang) → AreBelow (nodes_in held items) → i < length items →
-    x ≡ get_or items i x → l ≡ held x →
-    All (λ k. k < length items) (children_of l)
-kids_in held items i x l b inside is held_is =
-    let all : All (λ k. k < i) (children_of (held x)) = children_in (at_place (λ x. head_of (held x)) (λ x. children_of (held x)) items i x inside is) b in
-    let wider : (k : ℕ) → k < i → k < length items = λ k g. omega arith in
-    subst (λ (k : Lang). All (λ c. c < length items) (children_of k)) (sym held_is) (All-weaker (λ k. k < i) (λ k. k < length items) wider (children_of (held x)) all)
 
 -- what begins with what begins with a list begins with the list
 pub kept_more : (a b c : List ℕ) → take (length a) b ≡ a → take (length b) c ≡ b → take (length a) c ≡ a

@@ -10,17 +10,11 @@ use super::holds::Holds;
 use super::own::write_own;
 use super::request::ResourceRequest;
 use mutate_base::Error;
+use peephole_graphs::{Postfix, Turn};
 use peephole_lang::{Id, Lang};
 use rand_core::Rng;
 use std::alloc::Global;
 use wasm_code::Function;
-
-// A node whose written children from the next one on are still to come, and then the node itself.
-#[derive(Clone, Copy)]
-struct Frame {
-    node: usize,
-    next: usize,
-}
 
 // The children that are written: not those of an unfold.
 fn opened(node: &Lang) -> &[Id]
@@ -32,7 +26,7 @@ fn opened(node: &Lang) -> &[Id]
     }
 }
 
-// Writes the tree of a node, with no recursion: the frames are the way down to where it is.
+// Writes the tree of a node, in postfix.
 pub(crate) fn write_tree<R: Rng, N: Holds>(
     alloc: Global,
     globals: usize,
@@ -48,25 +42,19 @@ pub(crate) fn write_tree<R: Rng, N: Holds>(
         (writing_of newfunc.old requests.old.items (R.stream rng.old))
         (writing_of newfunc.new requests.new.items (R.stream rng.new)) result }
 {
-    let mut frames = Vec::new(alloc);
-    frames.push(Frame {
-        node: root,
-        next: 0,
-    })?;
-    while let Some(frame) = frames.pop() {
-        let node = nodes[frame.node].node();
-        let children = opened(node);
-        if frame.next < children.len() {
-            frames.push(Frame {
-                node: frame.node,
-                next: frame.next + 1,
-            })?;
-            frames.push(Frame {
-                node: children[frame.next].0 as usize,
-                next: 0,
-            })?;
-        } else {
-            write_own(globals, nodes, node, rng, newfunc, requests)?;
+    let mut walk = Postfix::new(alloc);
+    let node = nodes[root].node();
+    walk.enter(root, opened(node))?;
+    while let Some(turn) = walk.advance() {
+        match turn {
+            Turn::Child(index) => {
+                let node = nodes[index].node();
+                walk.enter(index, opened(node))?;
+            }
+            Turn::Own(index) => {
+                let node = nodes[index].node();
+                write_own(globals, nodes, node, rng, newfunc, requests)?;
+            }
         }
     }
     Ok(())

@@ -1,78 +1,74 @@
-use Rattle.std.proofs.Common.{◌<◌, ◌≤◌, ◌++◌, ◌∷◌, [], List, refl, ap, ap₂, ◌∙◌, sym, subst, inl, inr, arith, length, map}
-use Rattle.std.specs.Prelude.{All}
+use Rattle.std.proofs.Common.{◌≡◌, ◌++◌, ◌∷◌, [], List, refl, ap, ap₂, ◌∙◌, sym, subst, inl, inr, arith, Result, Err, IfErr, map}
 use Rattle.std.proofs.lemmas.List.{length-map}
+use Rattle.std.proofs.lemmas.Result.{err_from_is_err_and}
+use Rattle.mutate_base.specs.declared.error.Error.{Error}
 use Rattle.peephole_nodes.specs.declared.id.Id.{Id}
 use Rattle.peephole_lang.specs.Node.{node_of, head_of, children_of}
+use Rattle.peephole_lang.specs.Lang.{ids_of}
 use Rattle.peephole_lang.specs.Term.{numbers_of}
-use Rattle.peephole_graphs.specs.declared.frames.Frame.{Frame}
+use Rattle.peephole_graphs.specs.Postfix.{Stop, stop}
 use Rattle.peephole_graphs.proofs.LayoutLemmas.{term_is, some_expr}
 use Rattle.peephole_graphs.proofs.LayoutTrees.{missing, node_of_entry}
-use Rattle.peephole_graphs.proofs.LayoutWalk.{laying, start_of, Taken, start, down, found, own_done, still_more, inside_of, end_laid, end_whole}
+use Rattle.peephole_graphs.proofs.LayoutWalk.{laying, first_ones, start, child_inside, own_inside, down, found, own_done, still_more, end_laid, end_whole}
 use Rattle.peephole_graphs.proofs.layout.lay_out.Goals as goal
 
-pub loop-frame-init : goal.loop-frame-init
-loop-frame-init c =
-    start missing node_of_entry c.args.entries.now c.args.root _ _ c.requires.below c.requires.root
-    (c.in_ok-push_frame.ensures ∙ ap (λ (x : List Frame). x ++ start_of c.args.root ∷ []) c.new-frames.ensures.items)
+pub loop-turn-init : goal.loop-turn-init
+loop-turn-init c =
+    start missing node_of_entry c.args.entries.now c.args.root _ _ c.index-entries-root.result c.requires.below c.requires.root
+    c.index-entries-root.is
+    (c.in_ok-enter.ensures ∙ ap₂ (λ (ids : List Id) (way : List Stop). stop c.args.root (numbers_of ids) ∷ way)
+    c.children.ensures.value c.new-walk.ensures)
     (ap₂ (λ x (y : List Id). laying (map node_of x) (numbers_of y)) c.new-expr.ensures c.new-finished.ensures.items)
 
-pub bounds-entries-frame : goal.bounds-entries-frame
-bounds-entries-frame c = inside_of missing node_of_entry c.args.entries.now _ _ _ _ _ c.in-Some.ensures.items c.loop-frame.invariant
+pub bounds-entries-index : goal.bounds-entries-index
+bounds-entries-index c =
+    child_inside missing node_of_entry c.args.entries.now (rw c.in-Child.is at c.in-Some.ensures.turn) c.loop-turn.invariant
 
-pub loop-frame-preserved-in-Ok : goal.loop-frame-preserved-in-Ok
-loop-frame-preserved-in-Ok c =
-    let t : Taken missing node_of_entry c.args.entries.now _ c.loop-frame.frames.items c.pop.new.self.items c.in-Some.frame _ _ =
-    record { before = c.requires.below; top = c.in-Some.ensures.items; is = c.index-entries-frame.is; walk = c.loop-frame.invariant } in
-    (down missing node_of_entry _ t c.descend.new.frames.items c.children-below.result.now (ap numbers_of c.children-below.ensures.value)
-    c.if-frame-below.true c.in-Ok.ensures).0
+pub bounds-entries-index-in-Own : goal.bounds-entries-index-in-Own
+bounds-entries-index-in-Own c =
+    own_inside missing node_of_entry c.args.entries.now (rw c.in-Own.is at c.in-Some.ensures.turn) c.loop-turn.invariant
 
-pub loop-frame-smaller-in-Ok : goal.loop-frame-smaller-in-Ok
-loop-frame-smaller-in-Ok c =
-    let t : Taken missing node_of_entry c.args.entries.now _ c.loop-frame.frames.items c.pop.new.self.items c.in-Some.frame _ _ =
-    record { before = c.requires.below; top = c.in-Some.ensures.items; is = c.index-entries-frame.is; walk = c.loop-frame.invariant } in
-    (down missing node_of_entry _ t c.descend.new.frames.items c.children-below.result.now (ap numbers_of c.children-below.ensures.value)
-    c.if-frame-below.true c.in-Ok.ensures).1
+pub loop-turn-preserved-in-Continue-branch-2 : goal.loop-turn-preserved-in-Continue-branch-2
+loop-turn-preserved-in-Continue-branch-2 c = (down missing node_of_entry c.args.entries.now c.index-entries-index.result c.requires.below
+    (rw c.in-Child.is at c.in-Some.ensures.turn) c.index-entries-index.is
+    (c.in_ok-enter-in-Child.ensures ∙ ap (λ (ids : List Id). stop c.in-Child.index (numbers_of ids) ∷ c.advance.new.self)
+    c.children-in-Child.ensures.value)
+    c.loop-turn.invariant).0
+
+pub loop-turn-smaller-in-Continue-branch-2 : goal.loop-turn-smaller-in-Continue-branch-2
+loop-turn-smaller-in-Continue-branch-2 c = (down missing node_of_entry c.args.entries.now c.index-entries-index.result c.requires.below
+    (rw c.in-Child.is at c.in-Some.ensures.turn) c.index-entries-index.is
+    (c.in_ok-enter-in-Child.ensures ∙ ap (λ (ids : List Id). stop c.in-Child.index (numbers_of ids) ∷ c.advance.new.self)
+    c.children-in-Child.ensures.value)
+    c.loop-turn.invariant).1
 
 pub add_own-requires-clause-enough : goal.add_own-requires-clause-enough
 add_own-requires-clause-enough c =
-    let t : Taken missing node_of_entry c.args.entries.now _ c.loop-frame.frames.items c.pop.new.self.items c.in-Some.frame _ _ =
-    record { before = c.requires.below; top = c.in-Some.ensures.items; is = c.index-entries-frame.is; walk = c.loop-frame.invariant } in
-    let enough = found missing node_of_entry _ c.loop-frame.finished.items c.children-below.result.now t
-    (ap numbers_of c.children-below.ensures.value) c.if-frame-below.false in
-    let same = ap (λ (x : List Id). length x) c.children-below.ensures.value in
-    omega arith
+    found missing node_of_entry c.args.entries.now c.loop-turn.finished.items (ids_of c.index-entries-index-in-Own.result.operator) (rw c.in-Own.is at c.in-Some.ensures.turn)
+    c.index-entries-index-in-Own.is refl c.loop-turn.invariant
 
-pub add_own-requires-clause-below : goal.add_own-requires-clause-below
-add_own-requires-clause-below c =
-    subst (λ n. All (λ k. k < n) (numbers_of c.loop-frame.finished.items))
-    (length-map c.loop-frame.expr node_of) c.loop-frame.invariant.below
+pub loop-turn-preserved : goal.loop-turn-preserved
+loop-turn-preserved c = (own_done missing node_of_entry c.args.entries.now c.loop-turn.finished.items c.add_own.new.finished.items
+    (ids_of c.index-entries-index-in-Own.result.operator) (rw c.in-Own.is at c.in-Some.ensures.turn) c.index-entries-index-in-Own.is refl
+    c.in_ok-add_own-in-Own.ensures.added
+    (c.in_ok-add_own-in-Own.ensures.finished
+    ∙ ap (λ n. first_ones (ids_of c.index-entries-index-in-Own.result.operator) c.loop-turn.finished.items ++ n ∷ [])
+    (sym (length-map c.loop-turn.expr node_of)))
+    c.loop-turn.invariant).0
 
-pub loop-frame-preserved : goal.loop-frame-preserved
-loop-frame-preserved c =
-    let t : Taken missing node_of_entry c.args.entries.now _ c.loop-frame.frames.items c.pop.new.self.items c.in-Some.frame _ _ =
-    record { before = c.requires.below; top = c.in-Some.ensures.items; is = c.index-entries-frame.is; walk = c.loop-frame.invariant } in
-    (own_done missing node_of_entry _ _ c.loop-frame.finished.items c.add_own.new.finished.items _ _ t refl
-    (subst (λ (x : List Id). length x ≤ c.in-Some.frame.next) c.children-below.ensures.value c.if-frame-below.false)
-    (sym (length-map c.loop-frame.expr node_of)) c.in-Ok-add_own.ensures.added c.in-Ok-add_own.ensures.finished).0
+err_is : {A : Type 0} (P : Error → Type 0) (r : Result A Error) (e : Error) → r ≡ Err e → P e → IfErr r P
+err_is P r e is h = subst (λ x. IfErr x P) (sym is) h
 
-pub loop-frame-smaller : goal.loop-frame-smaller
-loop-frame-smaller c =
-    let t : Taken missing node_of_entry c.args.entries.now _ c.loop-frame.frames.items c.pop.new.self.items c.in-Some.frame _ _ =
-    record { before = c.requires.below; top = c.in-Some.ensures.items; is = c.index-entries-frame.is; walk = c.loop-frame.invariant } in
-    (own_done missing node_of_entry _ _ c.loop-frame.finished.items c.add_own.new.finished.items _ _ t refl
-    (subst (λ (x : List Id). length x ≤ c.in-Some.frame.next) c.children-below.ensures.value c.if-frame-below.false)
-    (sym (length-map c.loop-frame.expr node_of)) c.in-Ok-add_own.ensures.added c.in-Ok-add_own.ensures.finished).1
-
-pub returns-in-Err-add_own-clause-refused : goal.returns-in-Err-add_own-clause-refused
-returns-in-Err-add_own-clause-refused c =
-    let more = still_more missing node_of_entry c.args.entries.now c.args.root _ _ _ _ c.in-Some.ensures.items c.loop-frame.invariant in
-    let same = length-map c.loop-frame.expr node_of in
-    elim c.in-Err-add_own.ensures.refused [ inl h ↦ inl h | inr h ↦ let l = h.1 in inr (h.0, omega arith) ]
+pub returns-in_err-add_own-in-Own-clause-refused : goal.returns-in_err-add_own-in-Own-clause-refused
+returns-in_err-add_own-in-Own-clause-refused c =
+    let more = still_more missing node_of_entry c.args.entries.now (rw c.in-Own.is at c.in-Some.ensures.turn) c.loop-turn.invariant in
+    let same = length-map c.loop-turn.expr node_of in
+    let p = err_from_is_err_and c.from_residual-in_err-add_own-in-Own.result c.from_residual-in_err-add_own-in-Own.ensures.1 in
+    err_is _ _ c.in_err-add_own-in-Own.field-0.0 (p.1 ∙ ap (λ x. Err x) p.2)
+    (elim c.in_err-add_own-in-Own.ensures.refused [ inl h ↦ inl h | inr h ↦ let l = h.1 in inr (h.0, omega arith) ])
 
 pub returns-clause-laid : goal.returns-clause-laid
-returns-clause-laid c =
-    end_laid missing node_of_entry c.args.entries.now c.args.root _ _ _ _
-    c.loop-frame.frames.ok.0 c.in_default.ensures.cases.0 c.loop-frame.invariant
+returns-clause-laid c = end_laid missing node_of_entry c.args.entries.now c.in_default.ensures.turn c.loop-turn.invariant
 
 pub returns-clause-term : goal.returns-clause-term
 returns-clause-term c =
