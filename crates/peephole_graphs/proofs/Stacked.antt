@@ -36,8 +36,7 @@ pulled (t ▸ forest) (suc count) = cond (is_open t) (t ▸ pulled forest count)
 abbrev mutual
   pub stacked : List Shape → Trees
   stacked [] = no_trees
-  stacked (s ∷ earlier) =
-      node (length earlier) s (top (forest_value (stacked earlier) (missing earlier)) s.operands) ▸ kept (stacked earlier) s.operands
+  stacked (s ∷ earlier) = node (length earlier) s (top (forest_value (stacked earlier) (missing earlier)) s.operands) ▸ kept (stacked earlier) s.operands
 
   pub missing : List Shape → ℕ
   missing [] = 0
@@ -60,8 +59,7 @@ opens_done t forest e = cond-false _ _ _ e
 pub forest_value_top : (t : Tree) (forest : Trees) (m : ℕ) → is_open t ≡ true → forest_value (t ▸ forest) m 0 ≡ t
 forest_value_top t forest m e = cond-true _ _ _ e
 
-pub forest_value_under : (t : Tree) (forest : Trees) (m d : ℕ) → is_open t ≡ true →
-    forest_value (t ▸ forest) m (suc d) ≡ forest_value forest m d
+pub forest_value_under : (t : Tree) (forest : Trees) (m d : ℕ) → is_open t ≡ true → forest_value (t ▸ forest) m (suc d) ≡ forest_value forest m d
 forest_value_under t forest m d e = cond-true _ _ _ e
 
 pub forest_value_done : (t : Tree) (forest : Trees) (m d : ℕ) → is_open t ≡ false → forest_value (t ▸ forest) m d ≡ forest_value forest m d
@@ -82,8 +80,7 @@ pub pulled_done : (t : Tree) (forest : Trees) (k : ℕ) → is_open t ≡ false 
 pulled_done t forest zero e = sym (pulled_zero forest)
 pulled_done t forest (suc k) e = cond-false _ _ _ e
 
-pub forest_value_kept : (forest : Trees) (m k d : ℕ) →
-    forest_value (kept forest k) (m + (k - opens forest)) d ≡ forest_value forest m (d + k)
+pub forest_value_kept : (forest : Trees) (m k d : ℕ) → forest_value (kept forest k) (m + (k - opens forest)) d ≡ forest_value forest m (d + k)
 forest_value_kept no_trees m k d = ap entry (omega arith)
 forest_value_kept (t ▸ forest) m zero d =
     let e : m + (0 - opens (t ▸ forest)) ≡ m = omega arith in
@@ -113,8 +110,7 @@ value_stacked (s ∷ earlier) zero =
     let below = forest_value_kept (stacked earlier) (missing earlier) s.operands 0 in
     grind arith
 value_stacked (s ∷ earlier) (suc d) =
-    let under = λ (e : ℕ). value_stacked earlier (e + s.operands) ∙
-    sym (forest_value_kept (stacked earlier) (missing earlier) s.operands e) in
+    let under = λ (e : ℕ). value_stacked earlier (e + s.operands) ∙ sym (forest_value_kept (stacked earlier) (missing earlier) s.operands e) in
     let u = under d in
     let v = under (suc d) in
     grind arith

@@ -44,7 +44,7 @@ use Rattle.peephole_graphs.specs.Shown.{ShowsTheForest}
 use Rattle.peephole_graphs.specs.TreeText.{written_payload, variant_text, instruction_text, are_some, tree_text, operands_text, trees_text}
 use Rattle.peephole_graphs.proofs.DfgLemmas.{nodes_length, entry_seen, get_item}
 use Rattle.peephole_graphs.proofs.GraphLemmas.{parents_length, entry_later, all_has}
-use Rattle.peephole_graphs.proofs.Contiguous.{all_within}
+use Rattle.peephole_graphs.proofs.Lists.{all_within}
 use Rattle.peephole_graphs.proofs.BuilderLemmas.{shape_instr}
 use Rattle.peephole_graphs.proofs.LayoutTrees.{node_of_entry, entries_below, view, Ordered, map_turned, map_twice, All_turned, last_or_before, has_trees}
 use Rattle.peephole_graphs.proofs.Standing.{has_root, has_back}
