@@ -1,5 +1,5 @@
 -- No entry stands twice among an operator's children.
-use Rattle.std.proofs.Common.{◌≡◌, ℕ, zero, suc, ◌+◌, ◌-◌, ◌<◌, Bool, false, List, [], ◌∷◌, ◌++◌, length, arith}
+use Rattle.std.proofs.Common.{◌≡◌, ℕ, zero, suc, ◌+◌, ◌<◌, Bool, false, List, [], ◌∷◌, ◌++◌, length, arith}
 use Rattle.std.specs.Prelude.{◌==◌, reverse, replicate}
 use Rattle.std.specs.Bool.{nat_eq}
 use Rattle.std.specs.List.{All, IsDistinct}
