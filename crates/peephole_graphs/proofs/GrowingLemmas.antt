@@ -3,6 +3,7 @@ use Rattle.std.proofs.Common.{◌≡◌, ℕ, zero, suc, ◌+◌, ◌-◌, ◌<�
 use Rattle.std.proofs.Common.{None, Some, refl, sym, ap, ap₂, ◌∙◌, subst, arith, ⊎_elim}
 use Rattle.std.specs.Prelude.{◌||◌, ◌==◌, reverse, if◌then◌else◌}
 use Rattle.std.specs.List.{All}
+use Rattle.std.proofs.lemmas.Bool.Decides.{nat_tests}
 use Rattle.std.proofs.lemmas.Bool.{eq-eqb, ne_eqb, cases_lt, cases_eq}
 use Rattle.std.proofs.lemmas.List.{reverse-append, reverse-reverse, length-reverse, length-drop, take_at, drop_at, take_all, drop_all, take-append-drop}
 use Rattle.std.proofs.lemmas.List.{replicate_more, set-append_left, set_at}
@@ -50,30 +51,21 @@ drop_reverse k xs = ⊎_elim
 
 mark_none : (p i : ℕ) (qs : List (Option ℕ)) → length qs ≤ i → mark p (i ∷ []) qs ≡ qs
 mark_none p i [] l = refl
-mark_none p i (q ∷ qs) l = ap₂ (λ b x. (if b || false then Some p else q) ∷ x) (ne_eqb i (length qs) (λ w. omega arith)) (mark_none p i qs (omega arith))
+mark_none p i (q ∷ qs) l = let ih = mark_none p i qs in grind (arith, nat_tests)
 
 mark_one : (p i : ℕ) (qs : List (Option ℕ)) → i < length qs → set (reverse qs) i (Some p) ≡ reverse (mark p (i ∷ []) qs)
 mark_one p i [] l = absurd (omega arith)
-mark_one p i (q ∷ qs) l = ⊎_elim
-    (λ e. ap (λ x. set x i (Some p)) (reverse-append (q ∷ []) qs) ∙
-    (ap (λ x. set x i (Some p)) refl ∙ (set_at (reverse qs) q [] (Some p) i (length-reverse qs ∙ sym e) ∙
-    (sym (reverse-append (Some p ∷ []) qs) ∙ ap₂ (λ b x. reverse ((if b || false then Some p else q) ∷ x))
-    (sym (eq-eqb i (length qs) e)) (sym (mark_none p i qs (omega arith)))))))
-    (λ n. ap (λ x. set x i (Some p)) (reverse-append (q ∷ []) qs) ∙ (set-append_left (reverse qs) (q ∷ []) i (Some p) (omega (arith, length-reverse qs)) ∙
-    (ap (λ x. x ++ q ∷ []) (mark_one p i qs (omega arith)) ∙ (sym (reverse-append (q ∷ []) (mark p (i ∷ []) qs)) ∙
-    ap (λ b. reverse ((if b || false then Some p else q) ∷ mark p (i ∷ []) qs)) (sym (ne_eqb i (length qs) n))))))
-    (cases_eq i (length qs))
+mark_one p i (q ∷ qs) l =
+    let ih = mark_one p i qs in
+    let none = mark_none p i qs in
+    let last = set_at (reverse qs) q [] (Some p) i in
+    let before = set-append_left (reverse qs) (q ∷ []) i (Some p) in
+    let count = length-reverse qs in
+    grind (arith, nat_tests, reverse-append (q ∷ []) qs, reverse-append (Some p ∷ []) qs, reverse-append (q ∷ []) (mark p (i ∷ []) qs))
 
 mark_both : (p i : ℕ) (is : List ℕ) (qs : List (Option ℕ)) → mark p is (mark p (i ∷ []) qs) ≡ mark p (i ∷ is) qs
 mark_both p i is [] = refl
-mark_both p i is (q ∷ qs) = ap₂ (λ n x. (if has n is then Some p else (if (i == length qs) || false then Some p else q)) ∷ x) (length-mark p (i ∷ []) qs)
-    (mark_both p i is qs) ∙ ap (λ x. x ∷ mark p (i ∷ is) qs) (go (i == length qs) (has (length qs) is))
-  where
-    go : (b c : Bool) → (if c then Some p else (if b || false then Some p else q)) ≡ (if b || c then Some p else q)
-    go true true = refl
-    go true false = refl
-    go false true = refl
-    go false false = refl
+mark_both p i is (q ∷ qs) = grind (arith, length-mark p (i ∷ []) qs, mark_both p i is qs)
 
 mark_all : (p : ℕ) (is : List ℕ) (qs : List (Option ℕ)) → All (λ i. i < length qs) is → reverse (set_each p is (reverse qs)) ≡ mark p is qs
 mark_all p [] qs h = reverse-reverse qs ∙ sym (mark_nil qs)

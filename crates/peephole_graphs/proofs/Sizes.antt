@@ -3,6 +3,7 @@ use Rattle.std.proofs.Common.{◌≡◌, ℕ, zero, suc, ◌+◌, ◌<◌, ◌�
 use Rattle.std.specs.Prelude.{◌&&◌, ◌==◌, reverse, replicate}
 use Rattle.std.specs.List.{All, flat_map, sum_by}
 use Rattle.std.proofs.Math.Bool.{and-true, and-false, and_assoc, and_comm}
+use Rattle.std.proofs.lemmas.Bool.Decides.{nat_tests}
 use Rattle.std.proofs.lemmas.Bool.{cond-true, cond-false, cond_both, eq-eqb, ne_eqb, cases_eq}
 use Rattle.std.proofs.lemmas.Grind.{flat_map-append}
 use Rattle.std.proofs.lemmas.List.{length-append, reverse-append}
@@ -55,12 +56,7 @@ flags_length (e ∷ xs) = ap suc (flags_length xs)
 
 pub size_at : (xs : List Kin) (i : ℕ) → i < length xs → length (downwards xs i) ≡ item 0 (sizes_of xs) i
 size_at [] i l = absurd (omega arith)
-size_at (e ∷ xs) i l =
-    let n = sizes_length xs in
-    ⊎_elim
-    (λ w. ap (λ j. length (downwards (e ∷ xs) j)) (sym w) ∙ sym (item_last 0 _ (sizes_of xs) i (omega arith)))
-    (λ w. ap length (cond-false _ _ _ (ne_eqb (length xs) i w)) ∙ (size_at xs i (omega arith) ∙ sym (item_before 0 _ (sizes_of xs) i (omega arith))))
-    (cases_eq (length xs) i)
+size_at (e ∷ xs) i l = let ih = size_at xs i in grind (arith, nat_tests, sizes_length xs)
 
 pub sizes_replicate : (u : Kin) (k : ℕ) (xs : List Kin) → u.children ≡ [] → sizes_of (replicate k u ++ xs) ≡ replicate k 1 ++ sizes_of xs
 sizes_replicate u zero xs e = refl
@@ -109,17 +105,11 @@ colored_older e xs c i = colored_same (e ∷ xs) xs c (length xs) (downwards xs 
 
 pub flag_at : (xs : List Kin) (i : ℕ) → i < length xs → are_colored xs (kin_at xs i).color (downwards xs i) ≡ item false (flags_of xs) i
 flag_at [] i l = absurd (omega arith)
-flag_at (e ∷ xs) i l = ⊎_elim
-    (λ w.
-    let k : kin_at (e ∷ xs) i ≡ e = cond-true _ _ _ (eq-eqb (length xs) i w) in
-    ap₂ (λ (x : Kin) j. are_colored (e ∷ xs) x.color (downwards (e ∷ xs) j)) k (sym w) ∙
-    sym (cond-true _ _ _ (eq-eqb (length (flags_of xs)) i (flags_length xs ∙ w))))
-    (λ w.
-    let b : i < length xs = omega arith in
-    ap₂ (λ (x : Kin) y. are_colored (e ∷ xs) x.color y) (kin_older e xs i b) (cond-false _ _ _ (ne_eqb (length xs) i w)) ∙
-    (colored_older e xs (kin_at xs i).color i ∙ (flag_at xs i b ∙
-    sym (cond-false _ _ _ (ne_eqb (length (flags_of xs)) i (λ x. w (sym (flags_length xs) ∙ x)))))))
-    (cases_eq (length xs) i)
+flag_at (e ∷ xs) i l =
+    let ih = flag_at xs i in
+    let older = colored_older e xs (kin_at xs i).color i in
+    let count = flags_length xs in
+    grind (arith, nat_tests)
 
 -- the entry itself is the last one
 pub down_last : (xs : List Kin) (i : ℕ) → i < length xs → (is : List ℕ) × (downwards xs i ≡ is ++ i ∷ [])
@@ -132,16 +122,13 @@ down_last (e ∷ xs) i l = ⊎_elim
     (λ w. let h = down_last xs i (omega arith) in (h.0, cond-false _ _ _ (ne_eqb (length xs) i w) ∙ h.1))
     (cases_eq (length xs) i)
 
-alike : (xs : List Kin) (c i : ℕ) → i < length xs → are_colored xs c (downwards xs i) ≡ (item false (flags_of xs) i && ((kin_at xs i).color == c))
-alike xs c i l = ⊎_elim
-    (λ w. ap (λ x. are_colored xs x (downwards xs i)) (sym w) ∙
-    (flag_at xs i l ∙ (sym (and-true _) ∙ ap (λ b. item false (flags_of xs) i && b) (sym (eq-eqb (kin_at xs i).color c w)))))
-    (λ w.
-    let h = down_last xs i l in
-    let no = ne_eqb (kin_at xs i).color c w in
-    ap (are_colored xs c) h.1 ∙ (colored_append xs c h.0 (i ∷ []) ∙ (ap (λ b. are_colored xs c h.0 && (b && true)) no ∙ (and-false (are_colored xs c h.0) ∙
-    (sym (and-false (item false (flags_of xs) i)) ∙ ap (λ b. item false (flags_of xs) i && b) (sym no))))))
-    (cases_eq (kin_at xs i).color c)
+alike : (xs : List Kin) (c i : ℕ) → i < length xs →
+    are_colored xs c (downwards xs i) ≡ (item false (flags_of xs) i && ((kin_at xs i).color == c))
+alike xs c i l =
+    let flag = flag_at xs i l in
+    let own = down_last xs i l in
+    let parts = ap (are_colored xs c) own.1 ∙ colored_append xs c own.0 (i ∷ []) in
+    grind (arith, nat_tests)
 
 alike_append : (flag : ℕ → Bool) (color : ℕ → ℕ) (c : ℕ) (is js : List ℕ) → are_alike flag color c (is ++ js) ≡
     (are_alike flag color c is && are_alike flag color c js)

@@ -80,24 +80,17 @@ pub pulled_done : (t : Tree) (forest : Trees) (k : ℕ) → is_open t ≡ false 
 pulled_done t forest zero e = sym (pulled_zero forest)
 pulled_done t forest (suc k) e = cond-false _ _ _ e
 
-pub forest_value_kept : (forest : Trees) (m k d : ℕ) → forest_value (kept forest k) (m + (k - opens forest)) d ≡ forest_value forest m (d + k)
+pub forest_value_kept : (forest : Trees) (m k d : ℕ) →
+    forest_value (kept forest k) (m + (k - opens forest)) d ≡ forest_value forest m (d + k)
 forest_value_kept no_trees m k d = ap entry (omega arith)
 forest_value_kept (t ▸ forest) m zero d =
     let e : m + (0 - opens (t ▸ forest)) ≡ m = omega arith in
     let f : d ≡ d + 0 = omega arith in
     ap₂ (forest_value (t ▸ forest)) e f
 forest_value_kept (t ▸ forest) m (suc k) d =
-    let g : suc (d + k) ≡ d + suc k = omega arith in
-    elim (cases_Bool (is_open t)) [
-      | inl e ↦
-          let f : m + (suc k - opens (t ▸ forest)) ≡ m + (k - opens forest) = let o = opens_open t forest e in omega arith in
-          ap₂ (λ r n. forest_value r n d) (kept_open t forest k e) f ∙ (forest_value_kept forest m k d
-          ∙ (sym (forest_value_under t forest m (d + k) e) ∙ ap (forest_value (t ▸ forest) m) g))
-      | inr e ↦
-          let f : m + (suc k - opens (t ▸ forest)) ≡ m + (suc k - opens forest) = let o = opens_done t forest e in omega arith in
-          ap₂ (λ r n. forest_value r n d) (kept_done t forest (suc k) e) f ∙ (forest_value_done t (kept forest (suc k)) _ d e
-          ∙ (forest_value_kept forest m (suc k) d ∙ sym (forest_value_done t forest m (d + suc k) e)))
-    ]
+    let one = forest_value_kept forest m k d in
+    let all = forest_value_kept forest m (suc k) d in
+    grind arith
 
 abbrev pub operator : Shape → List Shape → Tree
 operator s earlier = node (length earlier) s (top (forest_value (stacked earlier) (missing earlier)) s.operands)

@@ -3,6 +3,7 @@ use Rattle.std.proofs.Common.{◌≡◌, ℕ, zero, suc, ◌+◌, ◌-◌, ◌<�
 use Rattle.std.proofs.Common.{sym, ap, ap₂, ◌∙◌, subst, arith, ⊎_elim, inl, inr}
 use Rattle.std.specs.Prelude.{◌⊎◌, ◌==◌, reverse, replicate, if◌then◌else◌}
 use Rattle.std.specs.List.{filter}
+use Rattle.std.proofs.lemmas.Bool.Decides.{nat_tests}
 use Rattle.std.proofs.lemmas.Bool.{cond-true, cond-false, eq-eqb, ne_eqb, eqb-true, or_cases, or_left, or_right, cases_lt, cases_eq, cases_Bool, false≢true}
 use Rattle.std.proofs.lemmas.Bool.{false_from_ne_true}
 use Rattle.std.proofs.lemmas.List.Elements.{All-take, All-filter, filter_passes}
@@ -90,16 +91,11 @@ has_reversed j is h = has_reverse j is ∙ h
 
 has_down : (j b k : ℕ) → has j (down b k) ≡ true → (b ≤ j) × (j < b + k)
 has_down j b zero h = absurd (false≢true h)
-has_down j b (suc k) h = ⊎_elim
-    (λ w. let e = eqb-true (b + k) j w in (omega arith, omega arith))
-    (λ w. let e = has_down j b k w in (e.0, omega arith)) (or_cases ((b + k) == j) (has j (down b k)) h)
+has_down j b (suc k) h = let ih = has_down j b k in (grind (arith, nat_tests), grind (arith, nat_tests))
 
 down_has : (j b k : ℕ) → b ≤ j → j < b + k → has j (down b k) ≡ true
 down_has j b zero m l = absurd (omega arith)
-down_has j b (suc k) m l = ⊎_elim
-    (λ w. or_left ((b + k) == j) (has j (down b k)) (eq-eqb (b + k) j w))
-    (λ w. or_right ((b + k) == j) (has j (down b k)) (down_has j b k m (omega arith)))
-    (cases_eq (b + k) j)
+down_has j b (suc k) m l = let ih = down_has j b k m in grind (arith, nat_tests)
 
 has_take : (j k : ℕ) (is : List ℕ) → has j (take k is) ≡ true → has j is ≡ true
 has_take j k is h = has_each (λ i. has i is ≡ true) (take k is) (All-take (λ i. has i is ≡ true) k is (has_itself is)) j h
@@ -112,16 +108,8 @@ has_filter test j is h = (
 
 pub has_root : (j : ℕ) (ps : List (Option ℕ)) → has j (roots ps) ≡ true → (parent_at ps j ≡ None) × (j < length ps)
 has_root j [] h = absurd (false≢true h)
-has_root j (None ∷ ps) h = ⊎_elim
-    (λ w. let e = eqb-true (length ps) j w in (cond-true _ _ _ w, omega arith))
-    (λ w. let e = has_root j ps w in (
-      cond-false _ _ _ (ne_eqb (length ps) j (λ x. let f = e.1 in omega arith)) ∙ e.0,
-      let f = e.1 in omega arith,
-    )) (or_cases (length ps == j) (has j (roots ps)) h)
-has_root j (Some p ∷ ps) h = let e = has_root j ps h in (
-  cond-false _ _ _ (ne_eqb (length ps) j (λ x. let f = e.1 in omega arith)) ∙ e.0,
-  let f = e.1 in omega arith,
-)
+has_root j (None ∷ ps) h = let ih = has_root j ps in (grind (arith, nat_tests), grind (arith, nat_tests))
+has_root j (Some p ∷ ps) h = let ih = has_root j ps h in (grind (arith, nat_tests), omega arith)
 
 -- an open tree's entry is an operator
 open_operator : (es : List GraphEntry) (i : ℕ) → open_at (tree_at_entry es) i ≡ true → is_operator (entry_at es i).shape ≡ true
@@ -137,24 +125,15 @@ open_operator (e ∷ es) i h = go (length es == i) h (open_operator es i)
     go true w u = one e.shape w
     go false w u = u w
 
-marked : (p : ℕ) (is : List ℕ) (ps : List (Option ℕ)) (i : ℕ) → i < length ps → parent_at (mark p is ps) i ≡ (if has i is then Some p else parent_at ps i)
+marked : (p : ℕ) (is : List ℕ) (ps : List (Option ℕ)) (i : ℕ) → i < length ps →
+    parent_at (mark p is ps) i ≡ (if has i is then Some p else parent_at ps i)
 marked p is [] i l = absurd (omega arith)
-marked p is (q ∷ ps) i l = ⊎_elim
-    (λ w. cond-true _ _ _ (eq-eqb (length (mark p is ps)) i (length-mark p is ps ∙ w)) ∙
-    ap₂ (λ j x. if has j is then Some p else x) w (sym (cond-true _ _ _ (eq-eqb (length ps) i w))))
-    (λ w. cond-false _ _ _ (ne_eqb (length (mark p is ps)) i (λ x. w (sym (length-mark p is ps) ∙ x))) ∙
-    (marked p is ps i (omega arith) ∙ ap (λ x. if has i is then Some p else x) (sym (cond-false _ _ _ (ne_eqb (length ps) i w)))))
-    (cases_eq (length ps) i)
+marked p is (q ∷ ps) i l = let ih = marked p is ps i in grind (arith, nat_tests, length-mark p is ps)
 
 opens_kept : (forest : Trees) (k : ℕ) → opens (kept forest k) ≡ opens forest - k
 opens_kept no_trees k = omega arith
 opens_kept (t ▸ forest) zero = omega arith
-opens_kept (t ▸ forest) (suc k) = go (is_open t) refl (opens_kept forest k) (opens_kept forest (suc k))
-  where
-    go : (b : Bool) → is_open t ≡ b → opens (kept forest k) ≡ opens forest - k → opens (kept forest (suc k)) ≡
-        opens forest - suc k → opens (kept (t ▸ forest) (suc k)) ≡ opens (t ▸ forest) - suc k
-    go true e u v = ap opens (kept_open t forest k e) ∙ (u ∙ let f = opens_open t forest e in omega arith)
-    go false e u v = ap opens (kept_done t forest (suc k) e) ∙ (opens_done t (kept forest (suc k)) e ∙ (v ∙ let f = opens_done t forest e in omega arith))
+opens_kept (t ▸ forest) (suc k) = grind (arith, opens_kept forest k, opens_kept forest (suc k))
 
 pub standing_is : (block : List Shape) → standing block ≡ opens (stacked block)
 standing_is [] = refl
@@ -187,15 +166,13 @@ none_some p e = cc
 some_same : (p q : ℕ) → ◌≡◌ {A = Option ℕ} (Some p) (Some q) → p ≡ q
 some_same p q e = cc
 
-entry_weaker : (preserving : Bool) (s : Shape) (earlier : List Shape) (e : GraphEntry) → IsEntryOf preserving earlier e → IsEntryOf preserving (s ∷ earlier) e
+entry_weaker : (preserving : Bool) (s : Shape) (earlier : List Shape) (e : GraphEntry) → IsEntryOf preserving earlier e →
+    IsEntryOf preserving (s ∷ earlier) e
 entry_weaker preserving s earlier e h = (let l = h.0 in omega arith, go e.shape h.1)
   where
-    other : (length earlier == e.number) ≡ false
-    other = ne_eqb (length earlier) e.number (λ w. let l = h.0 in omega arith)
-
     go : (o : Option Shape) → IsOperator preserving earlier o e → IsOperator preserving (s ∷ earlier) o e
     go None u = u
-    go (Some t) u = (cond-false _ _ _ other ∙ u.0, u.1 ∙ sym (cond-false _ _ _ other))
+    go (Some t) u = let l = h.0 in (grind (arith, nat_tests), grind (arith, nat_tests))
 
 -- what was taken was an operator's entry without a parent
 pub taken_root : (earlier : List Shape) (g : Growth) → IsGraph earlier g → (k i : ℕ) → has i (take k g.stack) ≡ true →
