@@ -5,6 +5,7 @@ use Rattle.std.specs.Prelude.{◌⊎◌, nat_le, option_map, reverse, if◌then�
 use Rattle.std.specs.Bool.{nat_eq}
 use Rattle.std.specs.List.{All, sum_by}
 use Rattle.std.specs.HashMap as hash
+use Rattle.std.proofs.lemmas.Bool.Decides.{nat_tests}
 use Rattle.std.proofs.lemmas.Bool.{cond-true, cond-false, eq-eqb, ne_eqb, le-leb, lt-leb, cases_lt, cases_eq}
 use Rattle.std.proofs.lemmas.List.{reverse-append, length-reverse, map-append, length-map, take-append-drop, drop_more, take_more, length-take}
 use Rattle.std.proofs.lemmas.Simd.{map-map}
@@ -256,15 +257,11 @@ names_more source n s old new e h a k =
     let more = s.operands - length (reverse old.stack.items) in
     let place_is : own_index s.operands old ≡ length (replicate more (undef n) ++ nodes) =
     omega (arith, behind (undef n) more nodes, nodes_length source.info first old.entries.items, length-reverse old.stack.items) in
-    a.named k ∙ (⊎_elim
-    (λ w. cond-true _ _ _ (eq-eqb (first + n) k w) ∙
-    (ap Some place_is ∙ (sym (cond-true _ _ _ (eq-eqb n (k - first) (omega arith))) ∙ sym (cond-true _ _ _ (le-leb first k (omega arith))))))
-    (λ w. cond-false _ _ _ (ne_eqb (first + n) k w) ∙ (h k ∙ ⊎_elim
-    (λ u. cond-false _ _ _ (lt-leb first k u) ∙ sym (cond-false _ _ _ (lt-leb first k u)))
-    (λ u. ap (λ x. if nat_le first k then x else None) (sym (own_replicate more n (k - first) nodes) ∙
-    sym (cond-false _ _ _ (ne_eqb n (k - first) (λ v. w (omega arith))))))
-    (cases_lt k first)))
-    (cases_eq (first + n) k) ∙ ap (λ (x : Growth). named first x.nodes k) (sym e))
+    let here = a.named k in
+    let old_is = h k in
+    let rest = own_replicate more n (k - first) nodes in
+    let next : hash.get nat_eq new.map k ≡ named first (grown (state_of source old) s n old.color).nodes k = grind (arith, nat_tests) in
+    next ∙ ap (λ (x : Growth). named first x.nodes k) (sym e)
 
 split_at : (operators : List (Operator × ℕ)) (i : ℕ) (d : Operator × ℕ) → i < length operators → operators ≡ take i operators ++
     get_or operators i d ∷ drop (i + 1) operators

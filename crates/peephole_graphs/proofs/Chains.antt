@@ -120,12 +120,7 @@ contig_kept test size (i ∷ is) end n (suc k) c f h = go (test i) h (contig_kep
   where
     kept_none : (is : List ℕ) (k : ℕ) → take (suc k) (filter test is) ≡ [] → kept_ids test is (suc k) ≡ is
     kept_none [] k e = refl
-    kept_none (i ∷ is) k e = one (test i) e (kept_none is k)
-      where
-        one : (b : Bool) → take (suc k) (cond b (i ∷ filter test is) (filter test is)) ≡ [] → (take (suc k) (filter test is) ≡ [] →
-            kept_ids test is (suc k) ≡ is) → cond b (kept_ids test is k) (i ∷ kept_ids test is (suc k)) ≡ i ∷ is
-        one true e u = absurd cc
-        one false e u = ap (λ x. i ∷ x) (u e)
+    kept_none (i ∷ is) k e = let ih = kept_none is k in grind arith
 
     go : (b : Bool) → chain size end (take (suc k) (cond b (i ∷ filter test is) (filter test is))) ≡ true →
         (chain size (end - size i) (take k (filter test is)) ≡ true →

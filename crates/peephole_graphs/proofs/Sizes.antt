@@ -27,8 +27,7 @@ sum_by_down f b (suc k) h =
 -- old entries keep what lies below them
 pub down_old : (u : Kin) (more : ℕ) (xs : List Kin) (i : ℕ) → i < length xs → downwards (replicate more u ++ xs) i ≡ downwards xs i
 down_old u zero xs i l = refl
-down_old u (suc k) xs i l =
-    let b = behind u k xs in cond-false _ _ _ (ne_eqb (length (replicate k u ++ xs)) i (λ w. omega arith)) ∙ down_old u k xs i l
+down_old u (suc k) xs i l = let b = behind u k xs in let ih = down_old u k xs i l in grind (arith, nat_tests)
 
 pub down_own : (new : Kin) (ys : List Kin) → downwards (new ∷ ys) (length ys) ≡ flat_map (downwards ys) new.children ++ length ys ∷ []
 down_own new ys = cond-true _ _ _ (eq-eqb (length ys) (length ys) refl)
@@ -41,10 +40,9 @@ pub down_more : (u : Kin) (more : ℕ) (xs : List Kin) (i : ℕ) → u.children 
 down_more u zero xs i e m l = absurd (omega arith)
 down_more u (suc k) xs i e m l =
     let b = behind u k xs in
-    ⊎_elim
-    (λ w. ap (downwards (u ∷ (replicate k u ++ xs))) (sym w) ∙ (down_bare u (replicate k u ++ xs) e ∙ ap (λ x. x ∷ []) w))
-    (λ w. cond-false _ _ _ (ne_eqb (length (replicate k u ++ xs)) i w) ∙ down_more u k xs i e m (omega arith))
-    (cases_eq (length (replicate k u ++ xs)) i)
+    let own = down_bare u (replicate k u ++ xs) e in
+    let ih = down_more u k xs i e m in
+    grind (arith, nat_tests)
 
 pub sizes_length : (xs : List Kin) → length (sizes_of xs) ≡ length xs
 sizes_length [] = refl
@@ -78,8 +76,7 @@ sizes_step new u more xs taken e c h =
 
 pub colored_append : (xs : List Kin) (c : ℕ) (is js : List ℕ) → are_colored xs c (is ++ js) ≡ (are_colored xs c is && are_colored xs c js)
 colored_append xs c [] js = refl
-colored_append xs c (i ∷ is) js = ap (λ b. ((kin_at xs i).color == c) && b) (colored_append xs c is js) ∙
-    sym (and_assoc ((kin_at xs i).color == c) (are_colored xs c is) (are_colored xs c js))
+colored_append xs c (i ∷ is) js = grind (arith, colored_append xs c is js)
 
 pub colored_same : (xs ys : List Kin) (c n : ℕ) (is : List ℕ) → All (λ i. i < n) is →
     ((i : ℕ) → i < n → kin_at xs i ≡ kin_at ys i) → are_colored xs c is ≡ are_colored ys c is
@@ -130,17 +127,15 @@ alike xs c i l =
     let parts = ap (are_colored xs c) own.1 ∙ colored_append xs c own.0 (i ∷ []) in
     grind (arith, nat_tests)
 
-alike_append : (flag : ℕ → Bool) (color : ℕ → ℕ) (c : ℕ) (is js : List ℕ) → are_alike flag color c (is ++ js) ≡
-    (are_alike flag color c is && are_alike flag color c js)
+alike_append : (flag : ℕ → Bool) (color : ℕ → ℕ) (c : ℕ) (is js : List ℕ) →
+    are_alike flag color c (is ++ js) ≡ (are_alike flag color c is && are_alike flag color c js)
 alike_append flag color c [] js = refl
-alike_append flag color c (i ∷ is) js = ap (λ b. (flag i && (color i == c)) && b) (alike_append flag color c is js) ∙
-    sym (and_assoc (flag i && (color i == c)) _ _)
+alike_append flag color c (i ∷ is) js = grind (arith, alike_append flag color c is js)
 
 pub alike_reverse : (flag : ℕ → Bool) (color : ℕ → ℕ) (c : ℕ) (is : List ℕ) → are_alike flag color c (reverse is) ≡ are_alike flag color c is
 alike_reverse flag color c [] = refl
-alike_reverse flag color c (i ∷ is) = ap (are_alike flag color c) (reverse-append (i ∷ []) is) ∙ (alike_append flag color c (reverse is) (i ∷ []) ∙
-    (ap₂ (λ a b. a && b) (alike_reverse flag color c is) (and-true (flag i && (color i == c))) ∙
-    and_comm (are_alike flag color c is) (flag i && (color i == c))))
+alike_reverse flag color c (i ∷ is) = ap (are_alike flag color c) (reverse-append (i ∷ []) is) ∙
+    grind (arith, alike_append flag color c (reverse is) (i ∷ []), alike_reverse flag color c is)
 
 colored_gather : (xs : List Kin) (c : ℕ) (f : ℕ → List ℕ) (flag : ℕ → Bool) (color : ℕ → ℕ) (is : List ℕ) (n : ℕ) →
     All (λ i. i < n) is → ((i : ℕ) → i < n → are_colored xs c (f i) ≡ (flag i && (color i == c))) →
@@ -153,17 +148,16 @@ colored_gather xs c f flag color (i ∷ is) n h e = colored_append xs c (f i) (f
 colored_down : (zs : List Kin) (c b k : ℕ) (f : ℕ → List ℕ) → ((i : ℕ) → b ≤ i → i < b + k → are_colored zs c (f i) ≡ false) →
     are_colored zs c (flat_map f (down b k)) ≡ (k == 0)
 colored_down zs c b zero f h = refl
-colored_down zs c b (suc k) f h = colored_append zs c (f (b + k)) (flat_map f (down b k)) ∙
-    (ap (λ x. x && are_colored zs c (flat_map f (down b k))) (h (b + k) (omega arith) (omega arith)) ∙ sym (ne_eqb (suc k) 0 (λ w. omega arith)))
+colored_down zs c b (suc k) f h = let one = h (b + k) (omega arith) (omega arith) in
+    grind (arith, nat_tests, colored_append zs c (f (b + k)) (flat_map f (down b k)))
 
 flags_replicate : (u : Kin) (k : ℕ) (xs : List Kin) → u.children ≡ [] → flags_of (replicate k u ++ xs) ≡ replicate k true ++ flags_of xs
 flags_replicate u zero xs e = refl
 flags_replicate u (suc k) xs e =
-    let ys = replicate k u ++ xs in
-    let here = eq-eqb (length ys) (length ys) refl in
-    ap₂ (λ x y. x ∷ y) (ap (are_colored (u ∷ ys) u.color) (down_own u ys ∙ ap (λ x. flat_map (downwards ys) x ++ length ys ∷ []) e) ∙
-    ap₂ (λ (x : Kin) b. b && true) (sym (cond-true _ u (kin_at ys (length ys)) here)) (ap (λ (x : Kin). x.color == u.color)
-    (cond-true _ u (kin_at ys (length ys)) here) ∙ eq-eqb u.color u.color refl)) (flags_replicate u k xs e)
+    let ih = flags_replicate u k xs e in
+    let own = down_bare u (replicate k u ++ xs) e in
+    let here = item_last (record { children = []; color = 0 }) u (replicate k u ++ xs) _ refl in
+    grind (arith, nat_tests)
 
 pub flags_step : (new u : Kin) (more : ℕ) (xs : List Kin) (taken : List ℕ) → u.children ≡ [] → u.color ≡ 4294967295 →
     new.color < 4294967295 → new.children ≡ down (length xs) more ++ reverse taken → All (λ i. i < length xs) taken →

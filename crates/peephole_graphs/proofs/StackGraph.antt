@@ -3,6 +3,7 @@ use Rattle.std.proofs.Common.{◌≡◌, ℕ, zero, suc, ◌+◌, ◌-◌, ◌<�
 use Rattle.std.proofs.Common.{refl, sym, ap, ap₂, ◌∙◌, subst, arith, ⊎_elim}
 use Rattle.std.specs.Prelude.{⊤, ◌||◌, reverse, replicate, if◌then◌else◌}
 use Rattle.std.specs.List.{All, filter}
+use Rattle.std.proofs.lemmas.Bool.Decides.{nat_tests}
 use Rattle.std.proofs.lemmas.Bool.{cond-true, cond-false, cond_both, eq-eqb, ne_eqb, cases_lt, false_from_ne_true}
 use Rattle.std.proofs.lemmas.List.{length-append, length-replicate, reverse-append}
 use Rattle.std.proofs.lemmas.List.Elements.{All-nil, All-cons, All-head, All-tail, All-weaker}
@@ -21,6 +22,9 @@ use Rattle.peephole_graphs.proofs.Lists.{has_each}
 abbrev pub graph : Bool → List Shape → Growth
 graph preserving [] = record { nodes = []; parents = []; stack = [] }
 graph preserving (s ∷ earlier) = grown (graph preserving earlier) s (length earlier) (color_after preserving earlier)
+
+pub behind : {A : Type 0} (u : A) (more : ℕ) (xs : List A) → length (replicate more u ++ xs) ≡ length xs + more
+behind u more xs = omega (arith, length-append (replicate more u) xs, length-replicate more u)
 
 -- on indexes, what `kept` and `pulled` are on trees
 abbrev pub kept_ids : (ℕ → Bool) → List ℕ → ℕ → List ℕ
@@ -150,21 +154,18 @@ undefs_replicate zero n es = omega arith
 undefs_replicate (suc k) n es = let e = undefs_replicate k n es in omega arith
 
 -- new entries leave the trees of the old ones
-tree_before : (es : List GraphEntry) (old : List GraphEntry) (i : ℕ) → i < length old → tree_at_entry (es ++ old) i ≡ tree_at_entry old i
+tree_before : (es old : List GraphEntry) (i : ℕ) → i < length old → tree_at_entry (es ++ old) i ≡ tree_at_entry old i
 tree_before [] old i l = refl
-tree_before (e ∷ es) old i l = cond-false _ _ _ (ne_eqb (length (es ++ old)) i (λ w. let f = length-append es old in omega arith)) ∙ tree_before es old i l
+tree_before (e ∷ es) old i l = let ih = tree_before es old i l in grind (arith, nat_tests, length-append es old)
 
 -- the missing operands' entries
 tree_undef : (k n d : ℕ) (es : List GraphEntry) → d < k → tree_at_entry (replicate k (undef n) ++ es) (length es + d) ≡ entry (undefs es + d)
 tree_undef zero n d es l = absurd (omega arith)
 tree_undef (suc k) n d es l =
-    let f = length-append (replicate k (undef n)) es in
-    let g = length-replicate k (undef n) in
-    ⊎_elim
-    (λ e. cond-false _ _ _ (ne_eqb (length (replicate k (undef n) ++ es)) (length es + d) (λ w. omega arith)) ∙ tree_undef k n d es e)
-    (λ e. cond-true _ _ _ (eq-eqb (length (replicate k (undef n) ++ es)) (length es + d) (omega arith)) ∙
-    ap entry (let u = undefs_replicate k n es in omega arith))
-    (cases_lt d k)
+    let count = behind (undef n) k es in
+    let u = undefs_replicate k n es in
+    let ih = tree_undef k n d es in
+    grind (arith, nat_tests)
 
 pick_down : (at : ℕ → Tree) (base m k : ℕ) → ((d : ℕ) → d < k → at (base + d) ≡ entry (m + d)) → trees_at at (down base k) ≡ entries m k
 pick_down at base m zero h = refl
@@ -189,9 +190,6 @@ taken_of s g = take s.operands g.stack
 
 abbrev pub new_entry : Shape → Growth → ℕ → ℕ → GraphEntry
 new_entry s g n c = record { shape = Some s; children = down (length g.nodes) (more_of s g) ++ reverse (taken_of s g); number = n; color = c }
-
-pub behind : {A : Type 0} (u : A) (more : ℕ) (xs : List A) → length (replicate more u ++ xs) ≡ length xs + more
-behind u more xs = omega (arith, length-append (replicate more u) xs, length-replicate more u)
 
 module _ (block : List Shape) (g : Growth) (ig : IsGraph block g) where
   pub roots_fall : FallingIds (roots g.parents) (length g.nodes)

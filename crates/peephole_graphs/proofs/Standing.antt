@@ -44,11 +44,7 @@ item_old d u (suc k) xs i l =
 
 item_more : {A : Type 0} (d u : A) (k : ℕ) (xs : List A) (i : ℕ) → length xs ≤ i → i < length xs + k → item d (replicate k u ++ xs) i ≡ u
 item_more d u zero xs i m l = absurd (omega arith)
-item_more d u (suc k) xs i m l =
-    let b = behind u k xs in ⊎_elim
-    (λ w. item_last d u (replicate k u ++ xs) i (omega arith))
-    (λ w. item_before d u (replicate k u ++ xs) i (omega arith) ∙ item_more d u k xs i m (omega arith))
-    (cases_eq (length xs + k) i)
+item_more d u (suc k) xs i m l = let b = behind u k xs in let ih = item_more d u k xs i m in grind (arith, nat_tests)
 
 pub at_old : {A : Type 0} (d new u : A) (more : ℕ) (xs : List A) (i : ℕ) → i < length xs → item d (new ∷ (replicate more u ++ xs)) i ≡ item d xs i
 at_old d new u more xs i l =

@@ -73,14 +73,10 @@ sum_by_parts : (f : ℕ → ℕ) (test : ℕ → Bool) (is : List ℕ) (k : ℕ)
 sum_by_parts f test [] zero = refl
 sum_by_parts f test [] (suc k) = refl
 sum_by_parts f test (i ∷ is) zero = omega arith
-sum_by_parts f test (i ∷ is) (suc k) = go (test i) (sum_by_parts f test is k) (sum_by_parts f test is (suc k))
-  where
-    go : (b : Bool) → sum_by f is ≡ sum_by f (kept_ids test is k) + sum_by f (take k (filter test is)) →
-        sum_by f is ≡ sum_by f (kept_ids test is (suc k)) + sum_by f (take (suc k) (filter test is)) →
-        sum_by f (i ∷ is) ≡ sum_by f (cond b (kept_ids test is k) (i ∷ kept_ids test is (suc k))) +
-        sum_by f (take (suc k) (cond b (i ∷ filter test is) (filter test is)))
-    go true u v = omega (arith, sum_by-cons f i is, sum_by-cons f i (take k (filter test is)))
-    go false u v = omega (arith, sum_by-cons f i is, sum_by-cons f i (kept_ids test is (suc k)))
+sum_by_parts f test (i ∷ is) (suc k) =
+    let one = sum_by_parts f test is k in
+    let all = sum_by_parts f test is (suc k) in
+    grind (arith, sum_by-cons f i is, sum_by-cons f i (take k (filter test is)), sum_by-cons f i (kept_ids test is (suc k)))
 
 roots_total : (preserving : Bool) (block : List Shape) →
     sum_by (size_of_entry (graph preserving block)) (roots (graph preserving block).parents) ≡ length (graph preserving block).nodes
