@@ -1,9 +1,10 @@
 -- The trees are in order exactly if every operator takes, by their sizes, the entries that end right before its own.
 use Rattle.std.proofs.Common.{◌≡◌, ℕ, zero, suc, ◌-◌, ◌<◌, Bool, true, false, cond, List, [], ◌∷◌, ◌++◌, length, take, refl, sym, ap, ap₂, ◌∙◌, subst}
-use Rattle.std.proofs.Common.{arith, ⊎_elim, append_assoc}
+use Rattle.std.proofs.Common.{arith, ⊎_elim, append_assoc, inl, inr}
 use Rattle.std.specs.Prelude.{⊤, ◌&&◌, ◌==◌}
 use Rattle.std.specs.List.{filter, sum_by}
-use Rattle.std.proofs.lemmas.Bool.{eq-eqb, eqb-true, and_parts, and_from}
+use Rattle.std.proofs.lemmas.Bool.Decides.{nat_tests}
+use Rattle.std.proofs.lemmas.Bool.{cases_Bool, eq-eqb, eqb-true, and_parts, and_from}
 use Rattle.std.proofs.lemmas.List.{append-nil, same_from_push}
 use Rattle.std.proofs.lemmas.List.Sums.{sum_by-cons}
 use Rattle.peephole_graphs.specs.Shape.{Shape}
@@ -34,8 +35,8 @@ Contig size end (i ∷ is) = (suc i ≡ end) × Contig size (end - size i) is
 -- below a root that is not taken none is
 chain_none : (size : ℕ → ℕ) (end i : ℕ) (ts : List ℕ) → suc i ≡ end → FallingIds ts i → chain size end ts ≡ true → ts ≡ []
 chain_none size end i [] e f h = refl
-chain_none size end i (t ∷ ts) e f h = let p = eqb-true (suc t) end (and_parts (suc t == end) (chain size (end - size t) ts) h).0 in
-    let l = f.0 in absurd (omega arith)
+chain_none size end i (t ∷ ts) e f h =
+    let l = f.0 in let p = (and_parts (suc t == end) (chain size (end - size t) ts) h).0 in absurd (grind (arith, nat_tests))
 
 pick_none : (at : ℕ → Tree) (is : List ℕ) → trees_at at is ≡ no_trees → is ≡ []
 pick_none at [] e = refl
@@ -49,24 +50,24 @@ pub chain_to_front : (at : ℕ → Tree) (size : ℕ → ℕ) (is : List ℕ) (e
     postfix (rev (kept (trees_at at is) k)) ++ postfix (rev (pulled (trees_at at is) k)) ≡ postfix (rev (trees_at at is))
 chain_to_front at size [] end n k c f h = refl
 chain_to_front at size (i ∷ is) end n zero c f h = append-nil (postfix (rev (trees_at at (i ∷ is))))
-chain_to_front at size (i ∷ is) end n (suc k) c f h = go (is_open (at i)) refl h (chain_to_front at size is (end - size i) i k c.1 f.1)
-  where
-    go : (b : Bool) → is_open (at i) ≡ b → chain size end (take (suc k) (cond b (i ∷ filter (open_at at) is) (filter (open_at at) is))) ≡ true →
-        (chain size (end - size i) (take k (filter (open_at at) is)) ≡ true → postfix (rev (kept (trees_at at is) k)) ++
-        postfix (rev (pulled (trees_at at is) k)) ≡ postfix (rev (trees_at at is))) →
-        postfix (rev (kept (at i ▸ trees_at at is) (suc k))) ++ postfix (rev (pulled (at i ▸ trees_at at is) (suc k))) ≡ postfix (rev (at i ▸ trees_at at is))
-    go true e w ih =
-        let ts = trees_at at is in
-        ap₂ (λ x y. postfix (rev x) ++ y) (kept_open (at i) ts k e) (ap (λ x. postfix (rev x)) (pulled_open (at i) ts k e) ∙
-        numbers_rev (at i) (pulled ts k)) ∙ (sym (append_assoc (postfix (rev (kept ts k))) (postfix (rev (pulled ts k))) (postfix_of (at i))) ∙
-        (ap (λ x. x ++ postfix_of (at i)) (ih (and_parts (suc i == end)
-        (chain size (end - size i) (take k (filter (open_at at) is))) w).1) ∙ sym (numbers_rev (at i) ts)))
-    go false e w ih =
-        let ts = trees_at at is in
-        let none = chain_none size end i (take (suc k) (filter (open_at at) is)) c.0 (taken_falling (open_at at) is i (suc k) f.1) w in
-        let gone : pulled ts (suc k) ≡ no_trees = sym (stack_trees at is (suc k)) ∙ ap (trees_at at) none in
-        ap₂ (λ x y. postfix (rev x) ++ y) (kept_done (at i) ts (suc k) e ∙ ap (λ x. at i ▸ x) (kept_if_none ts k gone))
-        (ap (λ x. postfix (rev x)) (pulled_done (at i) ts (suc k) e ∙ gone)) ∙ append-nil (postfix (rev (at i ▸ ts)))
+chain_to_front at size (i ∷ is) end n (suc k) c f h =
+    let ts = trees_at at is in
+    let taken = filter (open_at at) is in
+    let ih = chain_to_front at size is (end - size i) i k c.1 f.1 in
+    let own = numbers_rev (at i) ts in
+    elim (cases_Bool (is_open (at i))) [
+      | inl e ↦
+          let rest : chain size (end - size i) (take k taken) ≡ true = grind arith in
+          let older = ih rest in
+          let last = numbers_rev (at i) (pulled ts k) in
+          grind (arith, append_assoc (postfix (rev (kept ts k))) (postfix (rev (pulled ts k))) (postfix_of (at i)))
+      | inr e ↦
+          let rest : chain size end (take (suc k) taken) ≡ true = grind arith in
+          let none = chain_none size end i (take (suc k) taken) c.0 (taken_falling (open_at at) is i (suc k) f.1) rest in
+          let gone : pulled ts (suc k) ≡ no_trees = sym (stack_trees at is (suc k)) ∙ ap (trees_at at) none in
+          let all = kept_if_none ts k gone in
+          grind (arith, append-nil (postfix (rev (at i ▸ ts))))
+    ]
 
 pub front_to_chain : (at : ℕ → Tree) (size : ℕ → ℕ) (is : List ℕ) (ts : Trees) (end n m k a z : ℕ) → trees_at at is ≡ ts →
     Contig size end is → FallingIds is n → Falling ts m → postfix (rev (kept ts k)) ++ postfix (rev (pulled ts k)) ≡ range_from a z →
@@ -116,27 +117,22 @@ contig_kept : (test : ℕ → Bool) (size : ℕ → ℕ) (is : List ℕ) (end n 
 contig_kept test size [] end n zero c f h = omega arith
 contig_kept test size [] end n (suc k) c f h = omega arith
 contig_kept test size (i ∷ is) end n zero c f h = subst (λ x. Contig size x (i ∷ is)) (omega arith) c
-contig_kept test size (i ∷ is) end n (suc k) c f h = go (test i) h (contig_kept test size is (end - size i) i k c.1 f.1)
+contig_kept test size (i ∷ is) end n (suc k) c f h = elim (cases_Bool (test i)) [
+  | inl e ↦
+      let rest : chain size (end - size i) (take k (filter test is)) ≡ true = grind arith in
+      let sum : (end - size i) - sum_by size (take k (filter test is)) ≡ end - sum_by size (i ∷ take k (filter test is)) =
+      omega (arith, sum_by-cons size i (take k (filter test is))) in
+      rw e (subst (λ x. Contig size x (kept_ids test is k)) sum (contig_kept test size is (end - size i) i k c.1 f.1 rest))
+  | inr e ↦
+      let rest : chain size end (take (suc k) (filter test is)) ≡ true = grind arith in
+      let none = chain_none size end i (take (suc k) (filter test is)) c.0 (taken_falling test is i (suc k) f.1) rest in
+      let still : end ≡ end - 0 = omega arith in
+      rw (e, none) (subst (λ x. Contig size x (i ∷ kept_ids test is (suc k))) still (c.0, subst (Contig size (end - size i)) (sym (kept_none is k none)) c.1))
+]
   where
     kept_none : (is : List ℕ) (k : ℕ) → take (suc k) (filter test is) ≡ [] → kept_ids test is (suc k) ≡ is
     kept_none [] k e = refl
     kept_none (i ∷ is) k e = let ih = kept_none is k in grind arith
-
-    go : (b : Bool) → chain size end (take (suc k) (cond b (i ∷ filter test is) (filter test is))) ≡ true →
-        (chain size (end - size i) (take k (filter test is)) ≡ true →
-        Contig size ((end - size i) - sum_by size (take k (filter test is))) (kept_ids test is k)) →
-        Contig size (end - sum_by size (take (suc k) (cond b (i ∷ filter test is) (filter test is))))
-        (cond b (kept_ids test is k) (i ∷ kept_ids test is (suc k)))
-    go true w ih = subst (λ x. Contig size x (kept_ids test is k)) (omega (arith, sum_by-cons size i (take k (filter test is))))
-        (ih (and_parts (suc i == end) (chain size (end - size i) (take k (filter test is))) w).1)
-    go false w ih =
-        let none = chain_none size end i (take (suc k) (filter test is)) c.0 (taken_falling test is i (suc k) f.1) w in
-        let sum : sum_by size (take (suc k) (filter test is)) ≡ 0 = ap (sum_by size) none in
-        let e : end ≡ end - sum_by size (take (suc k) (filter test is)) = omega arith in
-        subst (λ x. Contig size x (i ∷ kept_ids test is (suc k))) e (
-          c.0,
-          subst (Contig size (end - size i)) (sym (kept_none is k none)) c.1,
-        )
 
 contig_same : (f g : ℕ → ℕ) (is : List ℕ) (end n : ℕ) → FallingIds is n → ((i : ℕ) → i < n → f i ≡ g i) → Contig f end is → Contig g end is
 contig_same f g [] end n h e c = c

@@ -37,17 +37,15 @@ value_zero : (p : ℕ) → entry_number (pos 0 -ℤ pos (suc p)) ≡ p
 value_zero p = let e : pos 0 -ℤ pos (suc p) ≡ negsuc p = omega (arith, ints) in rw e
 
 -- the tree at a place, by the three cases
-at_result : (s : Shape) (earlier : List Shape) (p : ℤ) → s.has_result ≡ true → p ≡ low s earlier → at_height (s ∷ earlier) p ≡ operator_tree s earlier
-at_result s earlier p h e = cond-true (s.has_result && int_eq p (low s earlier)) (operator_tree s earlier) (at_height earlier p)
-    (and_from s.has_result (int_eq p (low s earlier)) h ((Decides-int_eq p (low s earlier)).1 e))
+at_result : (s : Shape) (earlier : List Shape) (p : ℤ) → s.has_result ≡ true → p ≡ low s earlier →
+    at_height (s ∷ earlier) p ≡ operator_tree s earlier
+at_result s earlier p h e = let d = Decides-int_eq p (low s earlier) in grind arith
 
 at_other : (s : Shape) (earlier : List Shape) (p : ℤ) → (p ≡ low s earlier → ⊥) → at_height (s ∷ earlier) p ≡ at_height earlier p
-at_other s earlier p h = cond-false (s.has_result && int_eq p (low s earlier)) (operator_tree s earlier) (at_height earlier p)
-    (and_right s.has_result (int_eq p (low s earlier)) (false_from_ne_true _ (λ e. h ((Decides-int_eq p (low s earlier)).0 e))))
+at_other s earlier p h = let d = Decides-int_eq p (low s earlier) in grind arith
 
 at_none : (s : Shape) (earlier : List Shape) (p : ℤ) → s.has_result ≡ false → at_height (s ∷ earlier) p ≡ at_height earlier p
-at_none s earlier p h = cond-false (s.has_result && int_eq p (low s earlier)) (operator_tree s earlier)
-    (at_height earlier p) (and_left s.has_result (int_eq p (low s earlier)) h)
+at_none s earlier p h = grind arith
 
 tree_of_top : (s : Shape) (earlier : List Shape) → ((d : ℕ) → at_height earlier (at_depth earlier d) ≡ value earlier d) →
     operator_tree s earlier ≡ node (length earlier) s (top (value earlier) s.operands)

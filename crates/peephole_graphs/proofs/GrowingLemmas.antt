@@ -22,9 +22,7 @@ reverse_push xs x = reverse-append xs (x ∷ [])
 
 pub reverse_replicate : {A : Type 0} (n : ℕ) (x : A) → reverse (replicate n x) ≡ replicate n x
 reverse_replicate zero x = refl
-reverse_replicate (suc n) x =
-    let e : n + 1 ≡ suc n = omega arith in
-    reverse-append (x ∷ []) (replicate n x) ∙ (ap (λ y. y ++ x ∷ []) (reverse_replicate n x) ∙ (replicate_more n x ∙ ap (λ m. replicate m x) e))
+reverse_replicate (suc n) x = grind (arith, reverse-append (x ∷ []) (replicate n x), reverse_replicate n x, replicate_more n x)
 
 reverse_parts : {A : Type 0} (a : ℕ) (xs : List A) → reverse xs ≡ reverse (drop a xs) ++ reverse (take a xs)
 reverse_parts a xs = ap reverse (sym (take-append-drop a xs)) ∙ reverse-append (take a xs) (drop a xs)

@@ -1,10 +1,10 @@
 -- The graph that is built from a block by a symbolic stack, and that it stands for the forest.
 use Rattle.std.proofs.Common.{◌≡◌, ℕ, zero, suc, ◌+◌, ◌-◌, ◌<◌, ◌≤◌, Bool, true, false, cond, List, [], ◌∷◌, ◌++◌, length, take, drop, Option, None, Some}
-use Rattle.std.proofs.Common.{refl, sym, ap, ap₂, ◌∙◌, subst, arith, ⊎_elim}
+use Rattle.std.proofs.Common.{refl, sym, ap, ap₂, ◌∙◌, subst, arith, ⊎_elim, inl, inr}
 use Rattle.std.specs.Prelude.{⊤, ◌||◌, reverse, replicate, if◌then◌else◌}
 use Rattle.std.specs.List.{All, filter}
 use Rattle.std.proofs.lemmas.Bool.Decides.{nat_tests}
-use Rattle.std.proofs.lemmas.Bool.{cond-true, cond-false, cond_both, eq-eqb, ne_eqb, cases_lt, false_from_ne_true}
+use Rattle.std.proofs.lemmas.Bool.{cases_Bool, cond-true, cond-false, cond_both, eq-eqb, ne_eqb, cases_lt, false_from_ne_true}
 use Rattle.std.proofs.lemmas.List.{length-append, length-replicate, reverse-append}
 use Rattle.std.proofs.lemmas.List.Elements.{All-nil, All-cons, All-head, All-tail, All-weaker}
 use Rattle.peephole_graphs.specs.Shape.{Shape}
@@ -129,21 +129,20 @@ roots_kept : (test : ℕ → Bool) (is : List ℕ) (n k : ℕ) → FallingIds is
     filter (λ j. if has j (take k (filter test is)) then false else true) is ≡ kept_ids test is k
 roots_kept test [] n k f = refl
 roots_kept test (i ∷ is) n zero f = filter_all (i ∷ is)
-roots_kept test (i ∷ is) n (suc k) f = go (test i) (roots_kept test is i k f.1) (roots_kept test is i (suc k) f.1)
-  where
-    go : (b : Bool) → filter (λ j. if has j (take k (filter test is)) then false else true) is ≡ kept_ids test is k →
-        filter (λ j. if has j (take (suc k) (filter test is)) then false else true) is ≡ kept_ids test is (suc k) →
-        filter (λ j. if has j (take (suc k) (cond b (i ∷ filter test is) (filter test is))) then false else true) (i ∷ is) ≡
-        cond b (kept_ids test is k) (i ∷ kept_ids test is (suc k))
-    go true u v =
-        let q = λ (j : ℕ). if has j (i ∷ take k (filter test is)) then false else true in
-        let at_i : q i ≡ false = ap (λ b. if b || has i (take k (filter test is)) then false else true) (eq-eqb i i refl) in
-        cond-false _ _ _ at_i ∙ (filter_same q (λ j. if has j (take k (filter test is)) then false else true) is i (falls_below is i f.1)
-        (λ j l. ap (λ b. if b || has j (take k (filter test is)) then false else true) (ne_eqb i j (λ w. omega arith))) ∙ u)
-    go false u v =
-        let below = falls_below (take (suc k) (filter test is)) i (FallingIds-take (suc k) (filter test is) i (FallingIds-filter test is i f.1)) in
-        let none : has i (take (suc k) (filter test is)) ≡ false = false_from_ne_true _ (λ w. let l = has_each (λ j. j < i) _ below i w in omega arith) in
-        cond-true _ _ _ (ap (λ b. if b then false else true) none) ∙ ap (λ x. i ∷ x) v
+roots_kept test (i ∷ is) n (suc k) f =
+    let one = roots_kept test is i k f.1 in
+    let all = roots_kept test is i (suc k) f.1 in
+    elim (cases_Bool (test i)) [
+      | inl e ↦
+          let q = λ (j : ℕ). if has j (i ∷ take k (filter test is)) then false else true in
+          let older = filter_same q (λ j. if has j (take k (filter test is)) then false else true) is i (falls_below is i f.1)
+          (λ j l. grind (arith, nat_tests)) in
+          grind (arith, nat_tests)
+      | inr e ↦
+          let below = falls_below (take (suc k) (filter test is)) i (FallingIds-take (suc k) (filter test is) i (FallingIds-filter test is i f.1)) in
+          let none = false_from_ne_true (has i (take (suc k) (filter test is))) (λ w. let l = has_each (λ j. j < i) _ below i w in omega arith) in
+          grind arith
+    ]
 
 roots_replicate : (k p : ℕ) (ps : List (Option ℕ)) → roots (replicate k (Some p) ++ ps) ≡ roots ps
 roots_replicate zero p ps = refl

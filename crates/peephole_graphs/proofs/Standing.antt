@@ -261,13 +261,15 @@ module _ (preserving : Bool) (s : Shape) (earlier : List Shape) (g : Growth) whe
     owned_step : (n i : ℕ) → own after.nodes n ≡ Some i → (i < length after.nodes) × (is_operator (new i).shape ≡ true) × ((new i).number ≡ n)
     owned_step n i h =
         let e = length_after in
+        let rest = own_replicate (more_of s g) (length earlier) n g.nodes in
         ⊎_elim
         (λ w.
-        let at : i ≡ place_of s g = some_same i (place_of s g) (sym h ∙ (cond-true _ _ _ (eq-eqb (length earlier) n w) ∙ ap Some (omega arith))) in
+        let at : i ≡ place_of s g = grind (arith, nat_tests) in
         let x = ap new at ∙ own_is in
         (omega arith, ap (λ (y : GraphEntry). is_operator y.shape) x, ap (λ (y : GraphEntry). y.number) x ∙ w))
         (λ w.
-        let o = ih.owned n i (sym (cond-false _ _ _ (ne_eqb (length earlier) n w) ∙ own_replicate (more_of s g) (length earlier) n g.nodes) ∙ h) in
+        let found : own g.nodes n ≡ Some i = grind (arith, nat_tests) in
+        let o = ih.owned n i found in
         let b = o.0 in
         let x = old_is i b in
         (omega arith, ap (λ (y : GraphEntry). is_operator y.shape) x ∙ o.1, ap (λ (y : GraphEntry). y.number) x ∙ o.2))
@@ -278,10 +280,13 @@ module _ (preserving : Bool) (s : Shape) (earlier : List Shape) (g : Growth) whe
         let e = length_after in
         each
         (λ j x. j < suc (place_of s g) → is_operator x.shape ≡ true → own after.nodes x.number ≡ Some j)
-        (λ j m w o. cond-false _ _ _ (ne_eqb (length earlier) (entry_at g.nodes j).number (λ y. let b = (ih.entries j m).0 in omega arith)) ∙
-        (own_replicate (more_of s g) (length earlier) (entry_at g.nodes j).number g.nodes ∙ ih.owner j m o))
+        (λ j m w o.
+        let b = (ih.entries j m).0 in
+        let older = ih.owner j m o in
+        let rest = own_replicate (more_of s g) (length earlier) (entry_at g.nodes j).number g.nodes in
+        grind (arith, nat_tests))
         (λ j a b w o. absurd (false≢true o))
-        (λ w o. cond-true _ _ _ (eq-eqb (length earlier) (length earlier) refl) ∙ ap Some (omega arith))
+        (λ w o. grind (arith, nat_tests))
         (λ j a w. absurd (omega arith)) i (omega arith) h
 
     -- a child of the operator is a missing operand or was taken
