@@ -81,36 +81,33 @@ front_to_chain at size (i ∷ is) (node j s kids ▸ ts) end n m (suc k) a z e c
     let t = node j s kids in
     let own : at i ≡ t = cc in
     let rest : trees_at at is ≡ ts = cc in
-    subst (λ b. chain size end (take (suc k) (cond b (i ∷ filter (open_at at) is) (filter (open_at at) is))) ≡ true) (sym (ap is_open own))
-    (go s.has_result refl rest (λ y. front_to_chain at size is ts (end - size i) i j k a y rest c.1 f.1 g.1))
-  where
-    go : (b : Bool) → s.has_result ≡ b → trees_at at is ≡ ts → ((y : ℕ) → postfix (rev (kept ts k)) ++ postfix (rev (pulled ts k)) ≡
-        range_from a y → chain size (end - size i) (take k (filter (open_at at) is)) ≡ true) →
-        chain size end (take (suc k) (cond b (i ∷ filter (open_at at) is) (filter (open_at at) is))) ≡ true
-    go true w rest ih =
-        let t = node j s kids in
-        let X = postfix (rev (kept ts k)) in
-        let Y = postfix (rev (pulled ts k)) in
-        let p : postfix (rev (pulled (t ▸ ts) (suc k))) ≡ Y ++ postfix_of t = ap (λ x. postfix (rev x)) (pulled_open t ts k w) ∙
-        numbers_rev t (pulled ts k) in
-        let whole : (X ++ Y) ++ postfix_of t ≡ range_from a z = append_assoc X Y (postfix_of t) ∙
-        (sym (ap₂ (λ x y. postfix (rev x) ++ y) (kept_open t ts k w) p) ∙ h) in
-        let (u, v, l) = range_parts a z (X ++ Y) (postfix_of t) whole in
-        and_from (suc i == end) (chain size (end - size i) (take k (filter (open_at at) is))) (eq-eqb (suc i) end c.0) (ih (length (X ++ Y)) u)
-    go false w rest ih =
-        let t = node j s kids in
-        let Y = postfix (rev (pulled ts (suc k))) in
-        let p = ap (λ x. postfix (rev x)) (pulled_done t ts (suc k) w) in
-        let q = kept_done t ts (suc k) w in
-        ⊎_elim
-        (λ x. ap (chain size end) (pick_none at (take (suc k) (filter (open_at at) is)) (stack_trees at is (suc k) ∙ (ap (λ y. pulled y (suc k)) rest ∙ x))))
-        (λ (x : (j : ℕ) × (is_root j (pulled ts (suc k)) ≡ true) × (has j Y ≡ true)).
-        let below = root_below ts j (suc k) x.0 g.1 x.1 in
-        let whole : (postfix (rev (kept ts (suc k))) ++ postfix_of t) ++ Y ≡ range_from a z = ap (λ x. x ++ Y)
-        (sym (numbers_rev t (kept ts (suc k)))) ∙ (sym (ap₂ (λ x y. postfix (rev x) ++ y) q p) ∙ h) in
-        let above = parts_apart a z _ Y j x.0 whole (in_right j (postfix (rev (kept ts (suc k)))) (postfix_of t)
-        (in_right j (postfix kids) (j ∷ []) (one_in j))) x.2 in
-        absurd (omega arith)) (some_root (pulled ts (suc k)) (open_pulled ts (suc k)))
+    let opened : is_open (at i) ≡ s.has_result = ap is_open own in
+    let taken = filter (open_at at) is in
+    elim (cases_Bool s.has_result) [
+      | inl w ↦
+          let X = postfix (rev (kept ts k)) in
+          let Y = postfix (rev (pulled ts k)) in
+          let last = numbers_rev t (pulled ts k) in
+          let whole : (X ++ Y) ++ postfix_of t ≡ range_from a z = grind (arith, append_assoc X Y (postfix_of t)) in
+          let (u, v, l) = range_parts a z (X ++ Y) (postfix_of t) whole in
+          let older = front_to_chain at size is ts (end - size i) i j k a (length (X ++ Y)) rest c.1 f.1 g.1 u in
+          let here = eq-eqb (suc i) end c.0 in
+          grind arith
+      | inr w ↦
+          let X = postfix (rev (kept ts (suc k))) in
+          let Y = postfix (rev (pulled ts (suc k))) in
+          let last = numbers_rev t (kept ts (suc k)) in
+          let whole : (X ++ postfix_of t) ++ Y ≡ range_from a z = grind arith in
+          let none : take (suc k) taken ≡ [] = ⊎_elim
+          (λ x. pick_none at (take (suc k) taken) (stack_trees at is (suc k) ∙ (ap (λ y. pulled y (suc k)) rest ∙ x)))
+          (λ (x : (j : ℕ) × (is_root j (pulled ts (suc k)) ≡ true) × (has j Y ≡ true)).
+          let below = root_below ts j (suc k) x.0 g.1 x.1 in
+          let own_last = in_right j X (postfix_of t) (in_right j (postfix kids) (j ∷ []) (one_in j)) in
+          let above = parts_apart a z _ Y j x.0 whole own_last x.2 in
+          absurd (omega arith))
+          (some_root (pulled ts (suc k)) (open_pulled ts (suc k))) in
+          grind arith
+    ]
 
 contig_kept : (test : ℕ → Bool) (size : ℕ → ℕ) (is : List ℕ) (end n k : ℕ) → Contig size end is → FallingIds is n →
     chain size end (take k (filter test is)) ≡ true → Contig size (end - sum_by size (take k (filter test is))) (kept_ids test is k)

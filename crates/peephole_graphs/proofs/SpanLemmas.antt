@@ -4,6 +4,7 @@ use Rattle.std.proofs.Common.{ap₂, subst, ◌∙◌, arith, slice_range}
 use Rattle.std.specs.Prelude.{◌==◌, reverse, slice_index}
 use Rattle.std.specs.List.{All, flat_map, sum_by}
 use Rattle.std.proofs.Math.Seq.{take-add, take-suc}
+use Rattle.std.proofs.lemmas.Bool.Decides.{nat_tests}
 use Rattle.std.proofs.lemmas.Bool.{cond-true, cond-false, eq-eqb, ne_eqb, cases_eq, eqb-true, and_parts}
 use Rattle.std.proofs.lemmas.List.{map-append, map_more, length-append, length-map, length-drop, length-take, drop-drop, drop-map, take-map, get_or-take}
 use Rattle.std.proofs.lemmas.List.{get_or-map, get_or-drop, get_or_default}
@@ -39,14 +40,10 @@ size_down (e ∷ rs) i =
     let ks = map kin rs in
     let n = length-map rs node_of_entry in
     let k = length-map rs kin in
+    let ih = size_down rs i in
     let kids = size_gathered (tree_at ns) (downwards ks) (size_down rs) (children_of e.operator) in
-    elim (cases_eq (length rs) i) [
-      | inl h ↦ ap node_count_of (cond-true _ _ _ (eq-eqb (length ns) i (n ∙ h)))
-          ∙ (omega (arith, kids, length-append (flat_map (downwards ks) (children_of e.operator)) (length ks ∷ []))
-          ∙ sym (ap (λ (x : List ℕ). length x) (cond-true _ _ _ (eq-eqb (length ks) i (k ∙ h)))))
-      | inr h ↦ ap node_count_of (cond-false _ _ _ (ne_eqb (length ns) i (λ w. h (sym n ∙ w))))
-          ∙ (size_down rs i ∙ sym (ap (λ (x : List ℕ). length x) (cond-false _ _ _ (ne_eqb (length ks) i (λ w. h (sym k ∙ w))))))
-    ]
+    let own = length-append (flat_map (downwards ks) (children_of e.operator)) (length ks ∷ []) in
+    grind (arith, nat_tests)
 
 tree_size : (entries : List StackEntry) (sizes : List ℕ) → reverse sizes ≡ sizes_of (kins_of entries) → (i : ℕ) → i < length entries →
     node_count_of (tree_at (entry_nodes entries) i) ≡ slice_index sizes i

@@ -237,25 +237,21 @@ module _ (preserving : Bool) (s : Shape) (earlier : List Shape) (g : Growth) whe
 
     entries_step : (i : ℕ) → i < length after.nodes → IsEntryOf preserving (s ∷ earlier) (new i)
     entries_step i l =
-        let here = eq-eqb (length earlier) (length earlier) refl in
         let e = length_after in
         each
         (λ j x. j < suc (place_of s g) → IsEntryOf preserving (s ∷ earlier) x)
         (λ j m w. entry_weaker preserving s earlier (entry_at g.nodes j) (ih.entries j m))
         (λ j a b w. (omega arith, (refl, refl)))
-        (λ w. (omega arith, (cond-true _ _ _ here, sym (cond-true _ _ _ here))))
+        (λ w. (omega arith, (grind (arith, nat_tests), grind (arith, nat_tests))))
         (λ j a w. absurd (omega arith)) i (omega arith)
 
     owns_step : (n : ℕ) → n < length (s ∷ earlier) → (i : ℕ) × (i < length after.nodes) × (own after.nodes n ≡ Some i)
     owns_step n l =
         let e = length_after in
+        let rest = own_replicate (more_of s g) (length earlier) n g.nodes in
         ⊎_elim
-        (λ w. (length (replicate (more_of s g) (undef (length earlier)) ++ g.nodes), omega arith, cond-true _ _ _ (eq-eqb (length earlier) n w)))
-        (λ w. let o = ih.owns n (omega arith) in let b = o.1 in (
-          o.0,
-          omega arith,
-          cond-false _ _ _ (ne_eqb (length earlier) n w) ∙ (own_replicate (more_of s g) (length earlier) n g.nodes ∙ o.2),
-        ))
+        (λ w. (place_of s g, omega arith, grind (arith, nat_tests)))
+        (λ w. let o = ih.owns n (omega arith) in let b = o.1 in let f = o.2 in (o.0, omega arith, grind (arith, nat_tests)))
         (cases_eq (length earlier) n)
 
     owned_step : (n i : ℕ) → own after.nodes n ≡ Some i → (i < length after.nodes) × (is_operator (new i).shape ≡ true) × ((new i).number ≡ n)

@@ -4,6 +4,7 @@ use Rattle.std.proofs.Common.{Some, None}
 use Rattle.std.specs.Prelude.{◌&&◌, ◌==◌, reverse, is_some}
 use Rattle.std.specs.List.{All, flat_map}
 use Rattle.std.proofs.Math.Bool.{and-true, and-false}
+use Rattle.std.proofs.lemmas.Bool.Decides.{nat_tests}
 use Rattle.std.proofs.lemmas.Bool.{cond-true, cond-false, eq-eqb, ne_eqb}
 use Rattle.std.proofs.lemmas.List.{length-reverse, length-map}
 use Rattle.std.proofs.lemmas.List.Elements.{All-head, All-tail}
@@ -98,14 +99,7 @@ own_instr (Some x) h = (x, refl)
 
 kin_is : (rs : List StackEntry) (i : ℕ) → i < length rs → (kin_at (map kin rs) i).color ≡ (stack_at rs i).color
 kin_is [] i l = absurd (omega arith)
-kin_is (e ∷ earlier) i l =
-    let n = length-map earlier kin in
-    elim (last_or_before (length earlier) i l) [
-      | inl h ↦ ap (λ (k : Kin). k.color) (cond-true _ _ _ (eq-eqb (length (map kin earlier)) i (n ∙ h))) ∙
-          sym (ap (λ (y : StackEntry). y.color) (stack_top e earlier i h))
-      | inr h ↦ ap (λ (k : Kin). k.color) (cond-false _ _ _ (ne_eqb (length (map kin earlier)) i (omega arith)))
-          ∙ (kin_is earlier i h ∙ sym (ap (λ (y : StackEntry). y.color) (stack_older e earlier i h)))
-    ]
+kin_is (e ∷ earlier) i l = let ih = kin_is earlier i in let n = length-map earlier kin in grind (arith, nat_tests)
 
 -- ---- the last tree
 
