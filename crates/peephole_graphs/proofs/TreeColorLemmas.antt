@@ -47,19 +47,16 @@ kids_colored xs color c n g h (i ∷ is) l = colored_append xs c (downwards xs i
 
 own_colored : (info : Module) (color : ℕ → ℕ) (first c : ℕ) (e : StackEntry) (g : ℕ → Tree) (a : Bool) (o : Option Instruction) →
     instr_of e.operator ≡ o → IsShown color first e → c < 4294967295 →
-    a ≡ test.trees_are_colored color c (graph.trees_at g (children_of e.operator)) → (missing : ℕ) →
-    (a && ((e.color == c) && true)) ≡ is_colored color c (tree_of_entry (view info first e).shape (children_of e.operator)
-    (view info first e).number missing g)
+    a ≡ test.trees_are_colored color c (graph.trees_at g (children_of e.operator)) → (missing : ℕ) → (a && ((e.color == c) && true)) ≡
+    is_colored color c (tree_of_entry (view info first e).shape (children_of e.operator) (view info first e).number missing g)
 own_colored info color first c e g a None is h l k missing =
-    let none : (view info first e).shape ≡ None = ap (shape_for info first) is in
+    let none = ap (shape_for info first) is in
     let painted = h.missing is in
-    let other : (e.color == c) ≡ false = ne_eqb e.color c (λ w. omega arith) in
-    ap (λ b. a && (b && true)) other ∙ (and-false a ∙
-    sym (ap (λ x. is_colored color c (tree_of_entry x (children_of e.operator) (view info first e).number missing g)) none))
+    grind (arith, nat_tests)
 own_colored info color first c e g a (Some i) is h l k missing =
-    let some : (view info first e).shape ≡ Some (shape_of info i) = ap (shape_for info first) is in
-    ap (λ b. a && b) (and-true (e.color == c)) ∙ (ap₂ (λ b n. b && (n == c)) k (h.painted i is)
-    ∙ sym (ap (λ x. is_colored color c (tree_of_entry x (children_of e.operator) (view info first e).number missing g)) some))
+    let some = ap (shape_for info first) is in
+    let painted = h.painted i is in
+    grind arith
 
 entries_colored : (info : Module) (color : ℕ → ℕ) (first c : ℕ) → c < 4294967295 → (rs : List StackEntry) → Ordered rs →
     All (IsShown color first) rs → (i : ℕ) → i < length rs →
@@ -70,26 +67,18 @@ entries_colored info color first c s (e ∷ earlier) b m i l =
     let g = graph.tree_at_entry (map (view info first) earlier) in
     let n = length-map earlier kin in
     let p = length-map earlier (view info first) in
-    let q = length-map earlier node_of_entry in
     let kids = children_of e.operator in
     let older = entries_colored info color first c s earlier b.1 (All-tail (IsShown color first) e earlier m) in
-    let below : All (λ c. c < length earlier) kids = subst (λ (k : ℕ). All (λ c. c < k) kids) q b.0 in
-    elim (last_or_before (length earlier) i l) [
-      | inl h ↦
-          let all = flat_map (downwards xs) kids in
-          let inside : All (λ j. j < length xs) all = all_flat_map (downwards xs) (length xs) kids (down_below xs) in
-          let a : are_colored (kin e ∷ xs) c all ≡ test.trees_are_colored color c (graph.trees_at g kids) =
-          colored_same (kin e ∷ xs) xs c (length xs) all inside (kin_older (kin e) xs) ∙ kids_colored xs color c (length earlier) g older kids below in
-          let top : kin_at (kin e ∷ xs) (length xs) ≡ kin e = cond-true _ _ _ (eq-eqb (length xs) (length xs) refl) in
-          ap (are_colored (kin e ∷ xs) c) (cond-true _ _ _ (eq-eqb (length xs) i (n ∙ h))) ∙ (colored_append (kin e ∷ xs) c all (length xs ∷ [])
-          ∙ (ap (λ (x : Kin). are_colored (kin e ∷ xs) c all && ((x.color == c) && true)) top
-          ∙ (own_colored info color first c e g (are_colored (kin e ∷ xs) c all) (instr_of e.operator) refl
-          (All-head (IsShown color first) e earlier m) s a (graph.undefs (map (view info first) earlier))
-          ∙ sym (ap (is_colored color c) (cond-true _ _ _ (eq-eqb (length (map (view info first) earlier)) i (p ∙ h)))))))
-      | inr h ↦ ap (are_colored (kin e ∷ xs) c) (cond-false _ _ _ (ne_eqb (length xs) i (omega arith)))
-          ∙ (colored_same (kin e ∷ xs) xs c (length xs) (downwards xs i) (down_below xs i) (kin_older (kin e) xs)
-          ∙ (older i h ∙ sym (ap (is_colored color c) (cond-false _ _ _ (ne_eqb (length (map (view info first) earlier)) i (omega arith))))))
-    ]
+    let below = subst (λ (k : ℕ). All (λ c. c < k) kids) (length-map earlier node_of_entry) b.0 in
+    let all = flat_map (downwards xs) kids in
+    let inside = all_flat_map (downwards xs) (length xs) kids (down_below xs) in
+    let colored = colored_same (kin e ∷ xs) xs c (length xs) all inside (kin_older (kin e) xs) ∙ kids_colored xs color c (length earlier) g older kids below in
+    let own = own_colored info color first c e g (are_colored (kin e ∷ xs) c all) (instr_of e.operator) refl
+    (All-head (IsShown color first) e earlier m) s colored (graph.undefs (map (view info first) earlier)) in
+    let last = colored_append (kin e ∷ xs) c all (length xs ∷ []) in
+    let under = colored_same (kin e ∷ xs) xs c (length xs) (downwards xs i) (down_below xs i) (kin_older (kin e) xs) in
+    let before = older i in
+    grind (arith, nat_tests)
 
 -- ---- the colour of an entry
 
