@@ -5,7 +5,7 @@ use Rattle.std.specs.Prelude.{◌||◌, ◌==◌, reverse, if◌then◌else◌}
 use Rattle.std.specs.List.{All}
 use Rattle.std.proofs.lemmas.Bool.Decides.{nat_tests}
 use Rattle.std.proofs.lemmas.Bool.{eq-eqb, ne_eqb, cases_lt, cases_eq}
-use Rattle.std.proofs.lemmas.List.{reverse-append, reverse-reverse, length-reverse, length-drop, take_at, drop_at, take_all, drop_all, take-append-drop}
+use Rattle.std.proofs.lemmas.List.{append_cancel_left, reverse-append, reverse-reverse, length-reverse, length-drop, take_at, drop_at, take_all, drop_all, take-append-drop}
 use Rattle.std.proofs.lemmas.List.{replicate_more, set-append_left, set_at}
 use Rattle.std.proofs.lemmas.List.Elements.{All-head, All-tail, All-drop}
 use Rattle.peephole_graphs.specs.Shape.{Shape}
@@ -28,24 +28,19 @@ reverse_parts : {A : Type 0} (a : ℕ) (xs : List A) → reverse xs ≡ reverse 
 reverse_parts a xs = ap reverse (sym (take-append-drop a xs)) ∙ reverse-append (take a xs) (drop a xs)
 
 pub take_reverse : {A : Type 0} (k : ℕ) (xs : List A) → take k (reverse xs) ≡ reverse (drop (length xs - k) xs)
-take_reverse k xs = ⊎_elim
-    (λ l. let e : length xs - k ≡ 0 = omega arith in take_all k (reverse xs) (omega (arith, length-reverse xs)) ∙ ap (λ a. reverse (drop a xs)) (sym e))
-    (λ l. ap (take k) (reverse_parts (length xs - k) xs) ∙ take_at (reverse (drop (length xs - k) xs)) (reverse (take (length xs - k) xs)) k (omega (
-      arith,
-      length-reverse (drop (length xs - k) xs),
-      length-drop (length xs - k) xs,
-    )))
+take_reverse k xs =
+    let a = length xs - k in
+    let n = length-reverse (drop a xs) in
+    let m = length-drop a xs in
+    let whole = length-reverse xs in
+    ⊎_elim
+    (λ l. let e : 0 ≡ a = omega arith in take_all k (reverse xs) (omega arith) ∙ ap (λ a. reverse (drop a xs)) e)
+    (λ l. ap (take k) (reverse_parts a xs) ∙ take_at (reverse (drop a xs)) (reverse (take a xs)) k (omega arith))
     (cases_lt (length xs) k)
 
 pub drop_reverse : {A : Type 0} (k : ℕ) (xs : List A) → drop k (reverse xs) ≡ reverse (take (length xs - k) xs)
-drop_reverse k xs = ⊎_elim
-    (λ l. let e : length xs - k ≡ 0 = omega arith in drop_all k (reverse xs) (omega (arith, length-reverse xs)) ∙ ap (λ a. reverse (take a xs)) (sym e))
-    (λ l. ap (drop k) (reverse_parts (length xs - k) xs) ∙ drop_at (reverse (drop (length xs - k) xs)) (reverse (take (length xs - k) xs)) k (omega (
-      arith,
-      length-reverse (drop (length xs - k) xs),
-      length-drop (length xs - k) xs,
-    )))
-    (cases_lt (length xs) k)
+drop_reverse k xs = append_cancel_left (take k (reverse xs)) _ _ (take-append-drop k (reverse xs) ∙ (reverse_parts (length xs - k) xs ∙
+    ap (λ x. x ++ reverse (take (length xs - k) xs)) (sym (take_reverse k xs))))
 
 mark_none : (p i : ℕ) (qs : List (Option ℕ)) → length qs ≤ i → mark p (i ∷ []) qs ≡ qs
 mark_none p i [] l = refl

@@ -112,10 +112,7 @@ flag_at (e ∷ xs) i l =
 pub down_last : (xs : List Kin) (i : ℕ) → i < length xs → (is : List ℕ) × (downwards xs i ≡ is ++ i ∷ [])
 down_last [] i l = absurd (omega arith)
 down_last (e ∷ xs) i l = ⊎_elim
-    (λ w. (
-      flat_map (downwards xs) e.children,
-      cond-true _ _ _ (eq-eqb (length xs) i w) ∙ ap (λ j. flat_map (downwards xs) e.children ++ j ∷ []) w,
-    ))
+    (λ w. (flat_map (downwards xs) e.children, cond-true _ _ _ (eq-eqb (length xs) i w) ∙ ap (λ j. flat_map (downwards xs) e.children ++ j ∷ []) w))
     (λ w. let h = down_last xs i (omega arith) in (h.0, cond-false _ _ _ (ne_eqb (length xs) i w) ∙ h.1))
     (cases_eq (length xs) i)
 

@@ -110,16 +110,14 @@ has_root j (Some p ∷ ps) h = let ih = has_root j ps h in (grind (arith, nat_te
 -- an open tree's entry is an operator
 open_operator : (es : List GraphEntry) (i : ℕ) → open_at (tree_at_entry es) i ≡ true → is_operator (entry_at es i).shape ≡ true
 open_operator [] i h = h
-open_operator (e ∷ es) i h = go (length es == i) h (open_operator es i)
+open_operator (e ∷ es) i h =
+    let ih = open_operator es i in
+    let own = one e.shape in
+    grind (arith, nat_tests)
   where
     one : (o : Option Shape) → is_open (tree_of_entry o e.children e.number (undefs es) (tree_at_entry es)) ≡ true → is_operator o ≡ true
     one None w = w
     one (Some s) w = refl
-
-    go : (b : Bool) → is_open (if b then tree_of_entry e.shape e.children e.number (undefs es) (tree_at_entry es) else tree_at_entry es i)
-        ≡ true → (open_at (tree_at_entry es) i ≡ true → is_operator (entry_at es i).shape ≡ true) → is_operator (if b then e else entry_at es i).shape ≡ true
-    go true w u = one e.shape w
-    go false w u = u w
 
 marked : (p : ℕ) (is : List ℕ) (ps : List (Option ℕ)) (i : ℕ) → i < length ps →
     parent_at (mark p is ps) i ≡ (if has i is then Some p else parent_at ps i)
@@ -133,10 +131,7 @@ opens_kept (t ▸ forest) (suc k) = grind (arith, opens_kept forest k, opens_kep
 
 pub standing_is : (block : List Shape) → standing block ≡ opens (stacked block)
 standing_is [] = refl
-standing_is (s ∷ earlier) =
-    let e : standing earlier - s.operands ≡ opens (kept (stacked earlier) s.operands) = ap (λ x. x - s.operands)
-    (standing_is earlier) ∙ sym (opens_kept (stacked earlier) s.operands) in
-    ap (λ x. cond s.has_result (suc x) x) e
+standing_is (s ∷ earlier) = grind (arith, standing_is earlier, opens_kept (stacked earlier) s.operands)
 
 pub stack_standing : (block : List Shape) (g : Growth) → IsGraph block g → length g.stack ≡ standing block
 stack_standing block g h = ap length h.stack_is ∙ (stack_length (tree_at_entry g.nodes) (roots g.parents) ∙
@@ -311,10 +306,8 @@ module _ (preserving : Bool) (s : Shape) (earlier : List Shape) (g : Growth) whe
         let f = length_before in
         let missing = down (length g.nodes) (more_of s g) in
         let P : ℕ → Type 0 = λ j. (p < length after.nodes) × (has j (new p).children ≡ true) in
-        let at_own_place : (j : ℕ) → has j (missing ++ reverse (taken_of s g)) ≡ true → p ≡ place_of s g → P j = λ j w y. (
-          omega arith,
-          ap (λ q. has j (new q).children) y ∙ (ap (λ (z : GraphEntry). has j z.children) own_is ∙ w),
-        ) in
+        let at_own_place : (j : ℕ) → has j (missing ++ reverse (taken_of s g)) ≡ true → p ≡ place_of s g → P j = λ j w y.
+        (omega arith, ap (λ q. has j (new q).children) y ∙ (ap (λ (z : GraphEntry). has j z.children) own_is ∙ w)) in
         cases_item None None (Some (place_of s g)) (more_of s g) before (λ j q. q ≡ Some p → P j)
         (λ j m w.
         let was = sym (marked (place_of s g) (taken_of s g) g.parents j (omega arith)) ∙ w in
