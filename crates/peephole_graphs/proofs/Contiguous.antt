@@ -66,9 +66,11 @@ abbrev operands_of : Shape → Growth → List ℕ
 operands_of s g = reverse (taken_of s g)
 
 -- the entries below some are below the graph's end
+inside_below : (nodes : List GraphEntry) (i : ℕ) → All (λ j. j < length nodes) (downwards (kins nodes) i)
+inside_below nodes i = subst (λ m. All (λ j. j < m) (downwards (kins nodes) i)) (length-map nodes kin_of) (down_below (kins nodes) i)
+
 below_inside : (g : Growth) (is : List ℕ) → All (λ i. i < length g.nodes) (flat_map (below g) is)
-below_inside g is = subst (λ n. All (λ i. i < n) (flat_map (below g) is)) (length-map g.nodes kin_of)
-    (all_flat_map (below g) (length (kins g.nodes)) is (down_below (kins g.nodes)))
+below_inside g is = all_flat_map (below g) (length g.nodes) is (inside_below g.nodes)
 
 module _ (s : Shape) (g : Growth) (n c : ℕ) where
   abbrev new : List GraphEntry
@@ -270,7 +272,7 @@ together (s ∷ earlier) ps small i l h =
     elim (cases_lt i (length g.nodes)) [
       | inl w ↦
           let tree = below_old s g n c i w in
-          let inside = subst (λ m. All (λ j. j < m) (below g i)) (length-map g.nodes kin_of) (down_below (kins g.nodes) i) in
+          let inside = inside_below g.nodes i in
           let color = ap (λ (x : GraphEntry). x.color) (old_entry s g n c i w) in
           let painted = colored_same after.nodes g.nodes (below g i) (length g.nodes) inside (old_entry s g n c) (entry_at g.nodes i).color
           (subst (λ q. AreColored after.nodes q (below g i)) color (subst (AreColored after.nodes (entry_at after.nodes i).color) tree h)) in
@@ -311,7 +313,7 @@ contiguous info first block es same later ps small i l one =
     let color = (entry_at nodes i).color in
     let count = nodes_length info first es in
     let own : i < length nodes = omega arith in
-    let inside = subst (λ n. All (λ j. j < n) down) (length-map nodes kin_of) (down_below (kins nodes) i) in
+    let inside = inside_below nodes i in
     let seen = subst (λ c. All (λ j. (kin_at (kins nodes) j).color ≡ c) down) (ap (λ (k : Kin). k.color) (kin_entry nodes i own))
     (subst (λ x. HasOneColor x i) (sym (kins_same info first es)) one) in
     let painted = all_within (length nodes) (λ j. (kin_at (kins nodes) j).color ≡ color) (λ j. (entry_at nodes j).color ≡ color) down

@@ -138,9 +138,6 @@ pub entry_here : (info : Module) (first : ℕ) (es : List StackEntry) (i : ℕ) 
 entry_here info first es i e s = entry_seen info first es i e (slice_get_within es i e s) ∙
     ap (λ (x : StackEntry). graph_entry info first (entry_view x)) (get_or_from_slice_get es i e e s)
 
-instr_same : (i j : Instruction) → Instr i ≡ Instr j → i ≡ j
-instr_same i j e = cc
-
 module _ (source : Source) (e : StackEntry) (fit : AreFit source.info source.operators) where
   abbrev seen : GraphEntry
   seen = graph_entry source.info source.first (entry_view e)
@@ -155,12 +152,11 @@ module _ (source : Source) (e : StackEntry) (fit : AreFit source.info source.ope
         elim kind [
           | inl (i, offset, here, instr, color) ↦
               let o = operator_there source.info source.operators fit n l in
-              let same = same_Some o.operator (Instr i, offset) (sym o.here ∙ here) in
-              let own : Instr o.shape.instr ≡ Instr i = sym (operator_fits source.info o.operator.0 o.shape o.judged) ∙ ap (λ (x : Operator × ℕ). x.0) same in
-              let shape : shape_at block (e.operator_idx - source.first) ≡ Some (shape_of source.info i) =
-              ap (shape_at block) number ∙ (shape_turned (operator_shapes source.info source.operators) n ∙
-              (o.shaped ∙ ap Some (sym (shape_fit source.info o.operator.0 o.shape o.judged) ∙
-              ap (shape_of source.info) (instr_same o.shape.instr i own)))) in
+              let first = ap (λ (x : Operator × ℕ). x.0) (same_Some o.operator (Instr i, offset) (sym o.here ∙ here)) in
+              let own = operator_fits source.info o.operator.0 o.shape o.judged in
+              let fits = shape_fit source.info o.operator.0 o.shape o.judged in
+              let turned = shape_turned (operator_shapes source.info source.operators) n in
+              let shape : shape_at block (e.operator_idx - source.first) ≡ Some (shape_of source.info i) = cc in
               subst P (sym (ap (option_map (shape_of source.info)) instr)) (shape, color ∙ ap (color_at source.preserving block) (sym number))
           | inr (missing, color) ↦ subst P (sym (ap (λ (l : Lang). option_map (shape_of source.info) (instr_of l)) missing ∙
               ap (option_map (shape_of source.info)) undef_instr)) (ap children_of missing ∙ undef_children, color)
@@ -179,10 +175,11 @@ module _ (source : Source) (e : StackEntry) (fit : AreFit source.info source.ope
           let count = block_length source.info source.operators fit in
           let n = e.operator_idx - source.first in
           let o = operator_there source.info source.operators fit n (omega arith) in
-          let shape = same_Some o.shape (shape_of source.info i) (sym o.shaped ∙
-          (sym (shape_turned (operator_shapes source.info source.operators) n) ∙ k.0)) in
-          let own : o.operator.0 ≡ Instr i = operator_fits source.info o.operator.0 o.shape o.judged ∙
-          ap Instr (ap (λ (s : Shape). s.instr) shape ∙ shape_instr source.info i) in
+          let turned = shape_turned (operator_shapes source.info source.operators) n in
+          let painted = k.0 in
+          let fits = operator_fits source.info o.operator.0 o.shape o.judged in
+          let instr = shape_instr source.info i in
+          let own : o.operator.0 ≡ Instr i = cc in
           inl (i, o.operator.1, o.here ∙ ap (λ (x : Operator). Some (x, o.operator.1)) own, w, k.1)
 
 -- ---- graphs

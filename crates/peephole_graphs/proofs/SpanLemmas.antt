@@ -248,8 +248,7 @@ lowered_inside start k cs h = All-map (λ c. c < k) (λ c. c - start) cs
     (All-weaker (λ c. (start ≤ c) × (c < start + k)) (λ c. c - start < k) (λ c w. let low = w.0 in let high = w.1 in omega arith) cs h)
 
 pub copy_inside : (start k n : ℕ) (cs ds : List ℕ) → All (λ c. (start ≤ c) × (c < start + k)) cs → ds ≡ map (λ c. c - start) cs → n ≡ k → All (λ c. c < n) ds
-copy_inside start k n cs ds h e m =
-    subst (All (λ c. c < n)) (sym e) (subst (λ x. All (λ c. c < x) (map (λ c. c - start) cs)) (sym m) (lowered_inside start k cs h))
+copy_inside start k n cs ds h e m = rw (e, m) (lowered_inside start k cs h)
 
 pub copy_count : (start k : ℕ) (entries : List StackEntry) (expr : List Lang) → k ≤ length entries →
     map node_of expr ≡ map (copied_entry start) (take k entries) → length expr ≡ k

@@ -34,7 +34,7 @@ use Rattle.peephole_graphs.proofs.Forwards.{color_small}
 use Rattle.peephole_graphs.proofs.LayoutTrees.{node_of_entry, entries_below, view, Ordered, map_turned, map_twice, last_or_before, has_trees}
 use Rattle.peephole_graphs.proofs.Lists.{all_flat_map}
 use Rattle.peephole_graphs.proofs.Sizes.{colored_append, colored_same, kin_older, down_below}
-use Rattle.peephole_graphs.proofs.TreeTextLemmas.{IsShown, shape_for, stack_at, stack_top, stack_older, entries_all, entry_is}
+use Rattle.peephole_graphs.proofs.TreeTextLemmas.{IsShown, item_of, shape_for, stack_at, stack_top, stack_older, entries_all, entry_is}
 use Rattle.peephole_graphs.specs.Source.{shapes_in}
 
 -- ---- entry by entry
@@ -120,24 +120,17 @@ shows_the_color source given h n e =
     let entry_m = subst (IsEntryOf source.preserving block) (entry_is source.info source.first given.entries m there)
     ((represents source given h).stands.entries m (omega arith)) in
     let all = entries_all source given h in
-    let shown = all_at (IsShown color source.first) rs all m (omega arith) in
+    let shown = item_of (IsShown color source.first) rs all m (omega arith) in
     let c = color number in
     let painted : (stack_at rs m).color ≡ c = shown.painted found.0 instr in
     let small : c < 4294967295 = color_small source.preserving block number h.small entry_m.0 in
     let tree_is : last_of (tree.entry 0) (forest block) ≡ tree.node number (shape_of source.info found.0) kids = last_tree source given h n e ∙ own_tree_is in
     let colored : are_colored (kins_of given.entries) c (downwards (kins_of given.entries) m) ≡ has_one_color color (last_of (tree.entry 0) (forest block)) =
-    ap (λ (x : List Kin). are_colored x c (downwards x m)) kins_are ∙ (entries_colored source.info color source.first c small rs ordered all m (omega arith)
-    ∙ (ap (λ (x : List GraphEntry). is_colored color c (graph.tree_at_entry x m)) (sym nodes_are) ∙
-    (ap (is_colored color c) own_tree_is ∙ ap (has_one_color color) (sym tree_is)))) in
+    let entry_is = entries_colored source.info color source.first c small rs ordered all m (omega arith) in
+    let whole = ap (has_one_color color) tree_is in
+    grind arith in
     let kin_c : (kin_at (kins_of given.entries) m).color ≡ c = ap (λ (x : List Kin). (kin_at x m).color) kins_are ∙ (kin_is rs m (omega arith) ∙ painted) in
     let P : ℕ → Type 0 = λ d. All (λ j. (kin_at (kins_of given.entries) j).color ≡ d) (downwards (kins_of given.entries) m) in (
       λ w. subst P (sym kin_c) (colored_all (kins_of given.entries) c (downwards (kins_of given.entries) m) (colored ∙ w)),
       λ a. sym colored ∙ all_colored (kins_of given.entries) c (downwards (kins_of given.entries) m) (subst P kin_c a),
     )
-  where
-    all_at : (P : StackEntry → Type 0) (rs : List StackEntry) → All P rs → (i : ℕ) → i < length rs → P (stack_at rs i)
-    all_at P [] h i l = absurd (omega arith)
-    all_at P (e ∷ earlier) h i l = elim (last_or_before (length earlier) i l) [
-      | inl w ↦ subst P (sym (stack_top e earlier i w)) (All-head P e earlier h)
-      | inr w ↦ subst P (sym (stack_older e earlier i w)) (all_at P earlier (All-tail P e earlier h) i w)
-    ]

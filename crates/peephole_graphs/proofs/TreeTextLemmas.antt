@@ -305,7 +305,7 @@ entry_shown info preserving first block e h later own =
     (λ (x : Option Shape). IsOperator preserving block x (view info first e)) (ap (shape_for info first) is) h.1 in
     record { own = own; later = later; missing = λ is. (seen None is).1; painted = λ i is. (seen (Some i) is).1 }
 
-item_of : (P : StackEntry → Type 0) (rs : List StackEntry) → All P rs → (i : ℕ) → i < length rs → P (stack_at rs i)
+pub item_of : (P : StackEntry → Type 0) (rs : List StackEntry) → All P rs → (i : ℕ) → i < length rs → P (stack_at rs i)
 item_of P [] h i l = absurd (omega arith)
 item_of P (e ∷ earlier) h i l = elim (last_or_before (length earlier) i l) [
   | inl w ↦ subst P (sym (stack_top e earlier i w)) (All-head P e earlier h)

@@ -18,9 +18,6 @@ use Rattle.peephole_graphs.proofs.builder.DFGBuilder.get_dfg.Goals as goal
 abbrev Answers : Source → Result (Option MiniDFG) Error → Type 0
 Answers s r = IfOk r (λ o. IfSome o (λ g. IsGraphOf s (graph_of g)))
 
-none_is : (s : Source) (r : Result (Option MiniDFG) Error) → r ≡ Ok None → Answers s r
-none_is s r e = subst (Answers s) (sym e) tt
-
 has_grown : (s : Source) (o : Option Growing) (g : Growing) → MatchOption o (HasNoGraph s) (HasGrown s) → o ≡ Some g → HasGrown s g
 has_grown s o g h e = subst (λ x. MatchOption x (HasNoGraph s) (HasGrown s)) e h
 
@@ -37,7 +34,7 @@ same_source s t a b c d = λ i. record { info = a i; preserving = b i; first = c
 
 pub returns-clause-graph : goal.returns-clause-graph
 returns-clause-graph c = elim c.match-growing.branch [
-  | in-None w ↦ none_is _ _ w.result-is
+  | in-None w ↦ rw w.result-is tt
   | in-Some w ↦ some_is _ _ c.in_ok-growing.growing w.in-Some.growing w.of_parts.result _ c.in_ok-growing.ensures w.in-Some.is
       (same_source _ _ refl (grind (arith, common_steps)) c.range-range.ensures.start
       (ap₂ (slice_range c.args.operators.now) c.range-range.ensures.start c.range-range.ensures.end))
@@ -52,7 +49,7 @@ are_contiguous s on o g d r h e same is w on_is = subst (λ x. IfOk x (λ o. IfS
 
 pub returns-clause-contiguous : goal.returns-clause-contiguous
 returns-clause-contiguous c = elim c.match-growing.branch [
-  | in-None w ↦ λ on. subst (λ x. IfOk x (λ o. IfSome o (λ (g : MiniDFG). HasContiguousTrees (graph_of g).entries))) (sym w.result-is) tt
+  | in-None w ↦ λ on. rw w.result-is tt
   | in-Some w ↦ are_contiguous _ _ c.in_ok-growing.growing w.in-Some.growing w.of_parts.result _ c.in_ok-growing.ensures w.in-Some.is
       (grind (arith, common_steps)) w.of_parts.ensures.entries w.result-is
 ]
