@@ -1,27 +1,26 @@
 -- The trees are in order exactly if every operator takes, by their sizes, the entries that end right before its own.
-use Rattle.std.proofs.Common.{◌≡◌, ℕ, zero, suc, ◌+◌, ◌-◌, ◌<◌, Bool, true, false, cond, List, [], ◌∷◌, ◌++◌, length, take, refl}
-use Rattle.std.proofs.Common.{sym, ap, ap₂, ◌∙◌, subst, arith, ⊎_elim, append_assoc}
+use Rattle.std.proofs.Common.{◌≡◌, ℕ, zero, suc, ◌-◌, ◌<◌, Bool, true, false, cond, List, [], ◌∷◌, ◌++◌, length, take, refl, sym, ap, ap₂, ◌∙◌, subst}
+use Rattle.std.proofs.Common.{arith, ⊎_elim, append_assoc, inl, inr}
 use Rattle.std.specs.Prelude.{⊤, ◌&&◌, ◌==◌}
-use Rattle.std.specs.List.{filter}
-use Rattle.std.proofs.lemmas.Bool.{eq-eqb, eqb-true, and_parts, and_from}
-use Rattle.std.proofs.lemmas.List.{append-nil, same_from_push, length-map}
+use Rattle.std.specs.List.{filter, sum_by}
+use Rattle.std.proofs.lemmas.Bool.Decides.{nat_tests}
+use Rattle.std.proofs.lemmas.Bool.{cases_Bool, eq-eqb, eqb-true, and_parts, and_from}
+use Rattle.std.proofs.lemmas.List.{append-nil, same_from_push}
+use Rattle.std.proofs.lemmas.List.Sums.{sum_by-cons}
 use Rattle.peephole_graphs.specs.Shape.{Shape}
 use Rattle.peephole_graphs.specs.Tree.{Tree, entry, node, Trees, no_trees, ◌▸◌, postfix_of, postfix, range_from}
 use Rattle.peephole_graphs.specs.Forest.{is_root, has, IsInOrder}
 use Rattle.peephole_graphs.specs.Color.{color_after}
-use Rattle.peephole_graphs.specs.Graph.{trees_at, roots, tree_at_entry, undef, item}
-use Rattle.peephole_graphs.specs.Step.{grown}
-use Rattle.peephole_graphs.specs.Downwards.{total, sizes_of}
+use Rattle.peephole_graphs.specs.Graph.{trees_at, roots, tree_at_entry, undef}
+use Rattle.peephole_graphs.specs.Step.{Growth, grown}
 use Rattle.peephole_graphs.proofs.Stacked.{is_open, kept, pulled, stacked, kept_open, kept_done, pulled_open, pulled_done}
 use Rattle.peephole_graphs.proofs.ForestLemmas.{rev, forest_is, Falling, Falling-stacked, root_below}
 use Rattle.peephole_graphs.proofs.Readable.{open_pulled}
-use Rattle.peephole_graphs.proofs.Together.{numbers_rev, range_parts, parts_apart, forest_numbers, some_root, kept_if_none}
-use Rattle.peephole_graphs.proofs.Together.{in_right, one_in, order_stacked, range_last, spread}
-use Rattle.peephole_graphs.proofs.StackGraph.{graph, is_graph, FallingIds, FallingIds-roots, FallingIds-filter, FallingIds-take}
-use Rattle.peephole_graphs.proofs.StackGraph.{FallingIds-kept, open_at, kept_ids, stack_trees}
-use Rattle.peephole_graphs.proofs.Standing.{at_old, at_own, behind}
-use Rattle.peephole_graphs.proofs.Sizes.{sizes_length}
-use Rattle.peephole_graphs.proofs.Totals.{kin_of, kins, sizes_grown, size_of_entry, new_roots}
+use Rattle.peephole_graphs.proofs.Together.{numbers_rev, range_parts, parts_apart, forest_numbers, some_root, kept_if_none, in_right, one_in, order_stacked}
+use Rattle.peephole_graphs.proofs.Together.{range_last, spread}
+use Rattle.peephole_graphs.proofs.StackGraph.{graph, IsGraph, is_graph, FallingIds, FallingIds-filter, FallingIds-take, FallingIds-kept, open_at, kept_ids}
+use Rattle.peephole_graphs.proofs.StackGraph.{stack_trees, behind, more_of, place_of, taken_of, roots_fall, new_roots}
+use Rattle.peephole_graphs.proofs.Totals.{size_of_entry, size_own, size_old}
 
 -- the taken indexes, the last first, lie by their sizes one before another, the first right below `end`
 abbrev pub chain : (ℕ → ℕ) → ℕ → List ℕ → Bool
@@ -36,9 +35,8 @@ Contig size end (i ∷ is) = (suc i ≡ end) × Contig size (end - size i) is
 -- below a root that is not taken none is
 chain_none : (size : ℕ → ℕ) (end i : ℕ) (ts : List ℕ) → suc i ≡ end → FallingIds ts i → chain size end ts ≡ true → ts ≡ []
 chain_none size end i [] e f h = refl
-chain_none size end i (t ∷ ts) e f h = let p = eqb-true (suc t) end
-    (and_parts (suc t == end) (chain size (end - size t) ts) h).0 in
-    let l = f.0 in absurd (omega arith)
+chain_none size end i (t ∷ ts) e f h =
+    let l = f.0 in let p = (and_parts (suc t == end) (chain size (end - size t) ts) h).0 in absurd (grind (arith, nat_tests))
 
 pick_none : (at : ℕ → Tree) (is : List ℕ) → trees_at at is ≡ no_trees → is ≡ []
 pick_none at [] e = refl
@@ -52,34 +50,27 @@ pub chain_to_front : (at : ℕ → Tree) (size : ℕ → ℕ) (is : List ℕ) (e
     postfix (rev (kept (trees_at at is) k)) ++ postfix (rev (pulled (trees_at at is) k)) ≡ postfix (rev (trees_at at is))
 chain_to_front at size [] end n k c f h = refl
 chain_to_front at size (i ∷ is) end n zero c f h = append-nil (postfix (rev (trees_at at (i ∷ is))))
-chain_to_front at size (i ∷ is) end n (suc k) c f h = go (is_open (at i)) refl h
-    (chain_to_front at size is (end - size i) i k c.1 f.1)
-  where
-    go : (b : Bool) → is_open (at i) ≡ b → chain size end
-        (take (suc k) (cond b (i ∷ filter (open_at at) is) (filter (open_at at) is))) ≡ true →
-        (chain size (end - size i) (take k (filter (open_at at) is)) ≡ true → postfix (rev (kept (trees_at at is) k)) ++
-        postfix (rev (pulled (trees_at at is) k)) ≡ postfix (rev (trees_at at is))) →
-        postfix (rev (kept (at i ▸ trees_at at is) (suc k))) ++ postfix (rev (pulled (at i ▸ trees_at at is) (suc k))) ≡
-        postfix (rev (at i ▸ trees_at at is))
-    go true e w ih =
-        let ts = trees_at at is in
-        ap₂ (λ x y. postfix (rev x) ++ y) (kept_open (at i) ts k e) (ap (λ x. postfix (rev x)) (pulled_open (at i) ts k e) ∙
-        numbers_rev (at i) (pulled ts k)) ∙
-        (sym (append_assoc (postfix (rev (kept ts k))) (postfix (rev (pulled ts k))) (postfix_of (at i))) ∙
-        (ap (λ x. x ++ postfix_of (at i)) (ih (and_parts (suc i == end)
-        (chain size (end - size i) (take k (filter (open_at at) is))) w).1) ∙ sym (numbers_rev (at i) ts)))
-    go false e w ih =
-        let ts = trees_at at is in
-        let none = chain_none size end i (take (suc k) (filter (open_at at) is)) c.0 (taken_falling (open_at at) is i
-        (suc k) f.1) w in
-        let gone : pulled ts (suc k) ≡ no_trees = sym (stack_trees at is (suc k)) ∙ ap (trees_at at) none in
-        ap₂ (λ x y. postfix (rev x) ++ y) (kept_done (at i) ts (suc k) e ∙ ap (λ x. at i ▸ x) (kept_if_none ts k gone))
-        (ap (λ x. postfix (rev x)) (pulled_done (at i) ts (suc k) e ∙ gone)) ∙
-        append-nil (postfix (rev (at i ▸ ts)))
+chain_to_front at size (i ∷ is) end n (suc k) c f h =
+    let ts = trees_at at is in
+    let taken = filter (open_at at) is in
+    let ih = chain_to_front at size is (end - size i) i k c.1 f.1 in
+    let own = numbers_rev (at i) ts in
+    elim (cases_Bool (is_open (at i))) [
+      | inl e ↦
+          let rest : chain size (end - size i) (take k taken) ≡ true = grind arith in
+          let older = ih rest in
+          let last = numbers_rev (at i) (pulled ts k) in
+          grind (arith, append_assoc (postfix (rev (kept ts k))) (postfix (rev (pulled ts k))) (postfix_of (at i)))
+      | inr e ↦
+          let rest : chain size end (take (suc k) taken) ≡ true = grind arith in
+          let none = chain_none size end i (take (suc k) taken) c.0 (taken_falling (open_at at) is i (suc k) f.1) rest in
+          let gone : pulled ts (suc k) ≡ no_trees = sym (stack_trees at is (suc k)) ∙ ap (trees_at at) none in
+          let all = kept_if_none ts k gone in
+          grind (arith, append-nil (postfix (rev (at i ▸ ts))))
+    ]
 
 pub front_to_chain : (at : ℕ → Tree) (size : ℕ → ℕ) (is : List ℕ) (ts : Trees) (end n m k a z : ℕ) → trees_at at is ≡ ts →
-    Contig size end is → FallingIds is n → Falling ts m →
-    postfix (rev (kept ts k)) ++ postfix (rev (pulled ts k)) ≡ range_from a z →
+    Contig size end is → FallingIds is n → Falling ts m → postfix (rev (kept ts k)) ++ postfix (rev (pulled ts k)) ≡ range_from a z →
     chain size end (take k (filter (open_at at) is)) ≡ true
 front_to_chain at size [] ts end n m zero a z e c f g h = refl
 front_to_chain at size [] ts end n m (suc k) a z e c f g h = refl
@@ -90,129 +81,97 @@ front_to_chain at size (i ∷ is) (node j s kids ▸ ts) end n m (suc k) a z e c
     let t = node j s kids in
     let own : at i ≡ t = cc in
     let rest : trees_at at is ≡ ts = cc in
-    subst (λ b. chain size end (take (suc k) (cond b (i ∷ filter (open_at at) is) (filter (open_at at) is))) ≡ true)
-    (sym (ap is_open own))
-    (go s.has_result refl rest (λ y. front_to_chain at size is ts (end - size i) i j k a y rest c.1 f.1 g.1))
-  where
-    go : (b : Bool) → s.has_result ≡ b → trees_at at is ≡ ts →
-        ((y : ℕ) → postfix (rev (kept ts k)) ++ postfix (rev (pulled ts k)) ≡
-        range_from a y → chain size (end - size i) (take k (filter (open_at at) is)) ≡ true) →
-        chain size end (take (suc k) (cond b (i ∷ filter (open_at at) is) (filter (open_at at) is))) ≡ true
-    go true w rest ih =
-        let t = node j s kids in
-        let X = postfix (rev (kept ts k)) in
-        let Y = postfix (rev (pulled ts k)) in
-        let p : postfix (rev (pulled (t ▸ ts) (suc k))) ≡ Y ++ postfix_of t = ap (λ x. postfix (rev x)) (pulled_open t ts k w) ∙
-        numbers_rev t (pulled ts k) in
-        let whole : (X ++ Y) ++ postfix_of t ≡ range_from a z = append_assoc X Y (postfix_of t) ∙
-        (sym (ap₂ (λ x y. postfix (rev x) ++ y) (kept_open t ts k w) p) ∙ h) in
-        let (u, v, l) = range_parts a z (X ++ Y) (postfix_of t) whole in
-        and_from (suc i == end) (chain size (end - size i) (take k (filter (open_at at) is))) (eq-eqb (suc i) end c.0)
-        (ih (length (X ++ Y)) u)
-    go false w rest ih =
-        let t = node j s kids in
-        let Y = postfix (rev (pulled ts (suc k))) in
-        let p = ap (λ x. postfix (rev x)) (pulled_done t ts (suc k) w) in
-        let q = kept_done t ts (suc k) w in
-        ⊎_elim
-        (λ x. ap (chain size end) (pick_none at (take (suc k) (filter (open_at at) is)) (stack_trees at is (suc k) ∙
-        (ap (λ y. pulled y (suc k)) rest ∙ x))))
-        (λ (x : (j : ℕ) × (is_root j (pulled ts (suc k)) ≡ true) × (has j Y ≡ true)).
-        let below = root_below ts j (suc k) x.0 g.1 x.1 in
-        let whole : (postfix (rev (kept ts (suc k))) ++ postfix_of t) ++ Y ≡ range_from a z = ap (λ x. x ++ Y)
-        (sym (numbers_rev t (kept ts (suc k)))) ∙ (sym (ap₂ (λ x y. postfix (rev x) ++ y) q p) ∙ h) in
-        let above = parts_apart a z _ Y j x.0 whole (in_right j (postfix (rev (kept ts (suc k)))) (postfix_of t)
-        (in_right j (postfix kids) (j ∷ []) (one_in j))) x.2 in
-        absurd (omega arith))
-        (some_root (pulled ts (suc k)) (open_pulled ts (suc k)))
+    let opened : is_open (at i) ≡ s.has_result = ap is_open own in
+    let taken = filter (open_at at) is in
+    elim (cases_Bool s.has_result) [
+      | inl w ↦
+          let X = postfix (rev (kept ts k)) in
+          let Y = postfix (rev (pulled ts k)) in
+          let last = numbers_rev t (pulled ts k) in
+          let whole : (X ++ Y) ++ postfix_of t ≡ range_from a z = grind (arith, append_assoc X Y (postfix_of t)) in
+          let (u, v, l) = range_parts a z (X ++ Y) (postfix_of t) whole in
+          let older = front_to_chain at size is ts (end - size i) i j k a (length (X ++ Y)) rest c.1 f.1 g.1 u in
+          let here = eq-eqb (suc i) end c.0 in
+          grind arith
+      | inr w ↦
+          let X = postfix (rev (kept ts (suc k))) in
+          let Y = postfix (rev (pulled ts (suc k))) in
+          let last = numbers_rev t (kept ts (suc k)) in
+          let whole : (X ++ postfix_of t) ++ Y ≡ range_from a z = grind arith in
+          let none : take (suc k) taken ≡ [] = ⊎_elim
+          (λ x. pick_none at (take (suc k) taken) (stack_trees at is (suc k) ∙ (ap (λ y. pulled y (suc k)) rest ∙ x)))
+          (λ (x : (j : ℕ) × (is_root j (pulled ts (suc k)) ≡ true) × (has j Y ≡ true)).
+          let below = root_below ts j (suc k) x.0 g.1 x.1 in
+          let own_last = in_right j X (postfix_of t) (in_right j (postfix kids) (j ∷ []) (one_in j)) in
+          let above = parts_apart a z _ Y j x.0 whole own_last x.2 in
+          absurd (omega arith))
+          (some_root (pulled ts (suc k)) (open_pulled ts (suc k))) in
+          grind arith
+    ]
 
 contig_kept : (test : ℕ → Bool) (size : ℕ → ℕ) (is : List ℕ) (end n k : ℕ) → Contig size end is → FallingIds is n →
-    chain size end (take k (filter test is)) ≡ true → Contig size (end - total size (take k (filter test is)))
-    (kept_ids test is k)
+    chain size end (take k (filter test is)) ≡ true → Contig size (end - sum_by size (take k (filter test is))) (kept_ids test is k)
 contig_kept test size [] end n zero c f h = omega arith
 contig_kept test size [] end n (suc k) c f h = omega arith
 contig_kept test size (i ∷ is) end n zero c f h = subst (λ x. Contig size x (i ∷ is)) (omega arith) c
-contig_kept test size (i ∷ is) end n (suc k) c f h = go (test i) h (contig_kept test size is (end - size i) i k c.1 f.1)
+contig_kept test size (i ∷ is) end n (suc k) c f h = elim (cases_Bool (test i)) [
+  | inl e ↦
+      let rest : chain size (end - size i) (take k (filter test is)) ≡ true = grind arith in
+      let sum : (end - size i) - sum_by size (take k (filter test is)) ≡ end - sum_by size (i ∷ take k (filter test is)) =
+      omega (arith, sum_by-cons size i (take k (filter test is))) in
+      rw e (subst (λ x. Contig size x (kept_ids test is k)) sum (contig_kept test size is (end - size i) i k c.1 f.1 rest))
+  | inr e ↦
+      let rest : chain size end (take (suc k) (filter test is)) ≡ true = grind arith in
+      let none = chain_none size end i (take (suc k) (filter test is)) c.0 (taken_falling test is i (suc k) f.1) rest in
+      let still : end ≡ end - 0 = omega arith in
+      rw (e, none) (subst (λ x. Contig size x (i ∷ kept_ids test is (suc k))) still (c.0, subst (Contig size (end - size i)) (sym (kept_none is k none)) c.1))
+]
   where
     kept_none : (is : List ℕ) (k : ℕ) → take (suc k) (filter test is) ≡ [] → kept_ids test is (suc k) ≡ is
     kept_none [] k e = refl
-    kept_none (i ∷ is) k e = one (test i) e (kept_none is k)
-      where
-        one : (b : Bool) → take (suc k) (cond b (i ∷ filter test is) (filter test is)) ≡ [] →
-            (take (suc k) (filter test is) ≡ [] →
-            kept_ids test is (suc k) ≡ is) → cond b (kept_ids test is k) (i ∷ kept_ids test is (suc k)) ≡ i ∷ is
-        one true e u = absurd cc
-        one false e u = ap (λ x. i ∷ x) (u e)
+    kept_none (i ∷ is) k e = let ih = kept_none is k in grind arith
 
-    go : (b : Bool) → chain size end (take (suc k) (cond b (i ∷ filter test is) (filter test is))) ≡ true →
-        (chain size (end - size i) (take k (filter test is)) ≡ true →
-        Contig size ((end - size i) - total size (take k (filter test is))) (kept_ids test is k)) →
-        Contig size (end - total size (take (suc k) (cond b (i ∷ filter test is) (filter test is))))
-        (cond b (kept_ids test is k) (i ∷ kept_ids test is (suc k)))
-    go true w ih = subst (λ x. Contig size x (kept_ids test is k)) (omega arith)
-        (ih (and_parts (suc i == end) (chain size (end - size i) (take k (filter test is))) w).1)
-    go false w ih =
-        let none = chain_none size end i (take (suc k) (filter test is)) c.0 (taken_falling test is i (suc k) f.1) w in
-        let sum : total size (take (suc k) (filter test is)) ≡ 0 = ap (total size) none in
-        let e : end ≡ end - total size (take (suc k) (filter test is)) = omega arith in
-        subst (λ x. Contig size x (i ∷ kept_ids test is (suc k))) e (
-          c.0,
-          subst (Contig size (end - size i))
-              (sym (kept_none is k none)) c.1,
-        )
+contig_same : (f g : ℕ → ℕ) (is : List ℕ) (end n : ℕ) → FallingIds is n → ((i : ℕ) → i < n → f i ≡ g i) → Contig f end is → Contig g end is
+contig_same f g [] end n h e c = c
+contig_same f g (i ∷ is) end n h e c =
+    (c.0, subst (λ x. Contig g (end - x) is) (e i h.0) (contig_same f g is (end - f i) i h.1 (λ j l. e j (let k = h.0 in omega arith)) c.1))
+
+-- what a step of the graph takes is a chain
+abbrev IsChained : Shape → Growth → Type 0
+IsChained s g = chain (size_of_entry g) (length g.nodes) (taken_of s g) ≡ true
+
+-- the same of the roots
+chained_roots : (s : Shape) (earlier : List Shape) (g : Growth) → IsGraph earlier g → IsChained s g →
+    chain (size_of_entry g) (length g.nodes) (take s.operands (filter (open_at (tree_at_entry g.nodes)) (roots g.parents))) ≡ true
+chained_roots s earlier g ig h = ap (λ x. chain (size_of_entry g) (length g.nodes) (take s.operands x)) (sym ig.stack_is) ∙ h
 
 abbrev pub ChainsOk : Bool → List Shape → Type 0
 ChainsOk preserving [] = ⊤
-ChainsOk preserving (s ∷ earlier) =
-    ChainsOk preserving earlier × (chain (size_of_entry (graph preserving earlier)) (length (graph preserving earlier).nodes)
-    (take s.operands (graph preserving earlier).stack) ≡ true)
-
-contig_same : (f g : ℕ → ℕ) (is : List ℕ) (end n : ℕ) → FallingIds is n → ((i : ℕ) → i < n → f i ≡ g i) → Contig f end is →
-    Contig g end is
-contig_same f g [] end n h e c = c
-contig_same f g (i ∷ is) end n h e c = (
-  c.0,
-  subst (λ x. Contig g (end - x) is) (e i h.0) (contig_same f g is (end - f i) i h.1
-      (λ j l. e j (omega arith)) c.1),
-)
+ChainsOk preserving (s ∷ earlier) = ChainsOk preserving earlier × IsChained s (graph preserving earlier)
 
 pub contig : (preserving : Bool) (block : List Shape) → ChainsOk preserving block →
-    Contig (size_of_entry (graph preserving block))
-    (length (graph preserving block).nodes) (roots (graph preserving block).parents)
+    Contig (size_of_entry (graph preserving block)) (length (graph preserving block).nodes) (roots (graph preserving block).parents)
 contig preserving [] h = refl
 contig preserving (s ∷ earlier) h =
     let g = graph preserving earlier in
     let ig = is_graph preserving earlier in
     let n = length earlier in
     let c = color_after preserving earlier in
-    let more = s.operands - length g.stack in
     let base = length g.nodes in
     let rs = roots g.parents in
     let test = open_at (tree_at_entry g.nodes) in
     let kept = kept_ids test rs s.operands in
-    let falling : FallingIds rs base = subst (FallingIds rs) ig.same_length (FallingIds-roots g.parents) in
+    let falling = roots_fall earlier g ig in
     let f = size_of_entry g in
     let f' = size_of_entry (grown g s n c) in
-    let own_size = suc (more + total f (take s.operands g.stack)) in
-    let sizes = sizes_grown s earlier g n c ig in
-    let sl : length (sizes_of (kins g.nodes)) ≡ base = sizes_length (kins g.nodes) ∙ length-map g.nodes kin_of in
-    let own : f' (base + more) ≡ own_size = ap₂ (λ x j. item 0 x j) sizes (ap (λ x. x + more) (sym sl)) ∙
-    at_own 0 own_size 1 more (sizes_of (kins g.nodes)) in
-    let old : (i : ℕ) → i < base → f i ≡ f' i = λ i l. sym (ap (λ x. item 0 x i) sizes ∙
-    at_old 0 own_size 1 more (sizes_of (kins g.nodes)) i (omega arith)) in
-    let b = behind (undef n) more g.nodes in
-    let chained : chain f base (take s.operands (filter test rs)) ≡ true = ap (λ x. chain f base (take s.operands x))
-    (sym ig.stack_is) ∙ h.1 in
-    let rest : Contig f (base - total f (take s.operands g.stack)) kept =
-    subst (λ x. Contig f (base - total f (take s.operands x)) kept) (sym ig.stack_is) (contig_kept test f rs base base s.operands
-    (contig preserving earlier h.0) falling chained) in
-    let rest' = contig_same f f' kept (base - total f (take s.operands g.stack)) base
-    (FallingIds-kept test rs base s.operands falling) old rest in
-    let end : base - total f (take s.operands g.stack) ≡ length (grown g s n c).nodes - f' (base + more) = omega arith in
-    subst (Contig f' (length (grown g s n c).nodes)) (sym (new_roots s earlier g n c ig)) (
-      omega arith,
-      subst (λ x. Contig f' x kept) end rest',
-    )
+    let own = size_own s earlier g n c ig in
+    let b = behind (undef n) (more_of s g) g.nodes in
+    let rest : Contig f (base - sum_by f (taken_of s g)) kept = subst (λ x. Contig f (base - sum_by f (take s.operands x)) kept) (sym ig.stack_is)
+    (contig_kept test f rs base base s.operands (contig preserving earlier h.0) falling (chained_roots s earlier g ig h.1)) in
+    let rest' = contig_same f f' kept (base - sum_by f (taken_of s g)) base (FallingIds-kept test rs base s.operands falling)
+    (λ i l. sym (size_old s earlier g n c ig i l)) rest in
+    let end : base - sum_by f (taken_of s g) ≡ length (grown g s n c).nodes - f' (place_of s g) = omega arith in
+    subst (Contig f' (length (grown g s n c).nodes)) (sym (new_roots earlier g ig s n c)) (omega arith, subst (λ x. Contig f' x kept) end rest')
 
 pub chains_from_order : (preserving : Bool) (block : List Shape) → IsInOrder block → ChainsOk preserving block
 chains_from_order preserving [] o = tt
@@ -223,10 +182,9 @@ chains_from_order preserving (s ∷ earlier) o =
     let forest = stacked earlier in
     let k = s.operands in
     let rs = roots g.parents in
-    let falling : FallingIds rs (length g.nodes) = subst (FallingIds rs) ig.same_length (FallingIds-roots g.parents) in
+    let falling = roots_fall earlier g ig in
     let whole = sym (forest_numbers s earlier) ∙ (order_stacked (s ∷ earlier) o ∙ range_last n) in
-    let front : postfix (rev (kept forest k)) ++ postfix (rev (pulled forest k)) ≡ range_from 0 n =
-    (same_from_push _ _ _ _ whole).0 in
+    let front : postfix (rev (kept forest k)) ++ postfix (rev (pulled forest k)) ≡ range_from 0 n = (same_from_push _ _ _ _ whole).0 in
     let back : IsInOrder earlier = ap postfix (forest_is earlier) ∙ spread forest 0 n n k (Falling-stacked earlier) front in
     let before = chains_from_order preserving earlier back in
     let chained = front_to_chain (tree_at_entry g.nodes) (size_of_entry g) rs forest (length g.nodes)
@@ -242,10 +200,9 @@ order_from_chains preserving (s ∷ earlier) h =
     let forest = stacked earlier in
     let k = s.operands in
     let rs = roots g.parents in
-    let falling : FallingIds rs (length g.nodes) = subst (FallingIds rs) ig.same_length (FallingIds-roots g.parents) in
+    let falling = roots_fall earlier g ig in
     let before = order_stacked earlier (order_from_chains preserving earlier h.0) in
-    let chained : chain (size_of_entry g) (length g.nodes) (take k (filter (open_at (tree_at_entry g.nodes)) rs)) ≡ true =
-    ap (λ x. chain (size_of_entry g) (length g.nodes) (take k x)) (sym ig.stack_is) ∙ h.1 in
+    let chained = chained_roots s earlier g ig h.1 in
     let front : postfix (rev (kept forest k)) ++ postfix (rev (pulled forest k)) ≡ range_from 0 n =
     sym (ap (λ x. postfix (rev (kept x k)) ++ postfix (rev (pulled x k))) ig.stacked_are) ∙
     (chain_to_front (tree_at_entry g.nodes) (size_of_entry g) rs (length g.nodes) (length g.nodes) k

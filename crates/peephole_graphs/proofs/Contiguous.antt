@@ -1,12 +1,14 @@
 -- While preserving, the operators of a tree of one colour are consecutive.
-use Rattle.std.proofs.Common.{◌≡◌, ℕ, zero, suc, ◌+◌, ◌-◌, ◌<◌, ◌≤◌, true, false, List, [], ◌∷◌, ◌++◌, length, take}
-use Rattle.std.proofs.Common.{drop, map, Some, refl, sym, ap, ap₂, ◌∙◌, subst, arith, inl, inr, append_assoc}
-use Rattle.std.specs.Prelude.{◌==◌, reverse, replicate, slice_index}
-use Rattle.std.specs.List.{All}
+use Rattle.std.proofs.Common.{◌≡◌, ℕ, zero, suc, ◌+◌, ◌<◌, ◌≤◌, true, false, List, [], ◌∷◌, ◌++◌, length, take, drop, map, refl, sym, ap, ap₂, ◌∙◌}
+use Rattle.std.proofs.Common.{subst, arith, inl, inr, append_assoc}
+use Rattle.std.specs.Prelude.{reverse, replicate, slice_index}
+use Rattle.std.specs.List.{All, flat_map}
 use Rattle.std.proofs.Math.Seq.{take-add}
-use Rattle.std.proofs.lemmas.Bool.{cond-true, cond-false, eq-eqb, ne_eqb, cases_lt, cases_Bool, or_left, or_right}
+use Rattle.std.proofs.lemmas.Bool.{cond-true, cond-false, ne_eqb, cases_lt, cases_Bool}
+use Rattle.std.proofs.lemmas.Grind.{flat_map-append}
+use Rattle.std.proofs.lemmas.Simd.{map-map}
 use Rattle.std.proofs.lemmas.List.{length-map, map-append, reverse-append, append-nil, take_all, get_or-map}
-use Rattle.std.proofs.lemmas.List.Elements.{All-head, All-tail, All-cons, All-nil, All-push, All-take, All-drop, All-get_or}
+use Rattle.std.proofs.lemmas.List.Elements.{All-head, All-tail, All-take, All-drop, All-get_or}
 use Rattle.mutate_base.specs.Module.{Module}
 use Rattle.peephole_graphs.specs.declared.dfg.StackEntry.{StackEntry}
 use Rattle.peephole_graphs.specs.Shape.{Shape}
@@ -17,50 +19,19 @@ use Rattle.peephole_graphs.specs.Graph.{GraphEntry, undef}
 use Rattle.peephole_graphs.specs.GraphOf.{IsSmall}
 use Rattle.peephole_graphs.proofs.Stands.{entry_at}
 use Rattle.peephole_graphs.specs.Step.{down, Growth, grown}
-use Rattle.peephole_graphs.specs.Downwards.{Kin, gather, downwards, kin_at, HasOneColor}
+use Rattle.peephole_graphs.specs.Downwards.{Kin, downwards, kin_at, HasOneColor}
 use Rattle.peephole_graphs.specs.Entries.{EntryView, entry_view, graph_entries}
 use Rattle.peephole_graphs.specs.Contiguous.{operators_of, AreConsecutive, HasContiguousTrees}
 use Rattle.peephole_graphs.specs.Growing.{undef_entry}
 use Rattle.peephole_graphs.proofs.DepthLemmas.{range_more}
-use Rattle.peephole_graphs.proofs.StackGraph.{graph, is_graph}
-use Rattle.peephole_graphs.proofs.Standing.{at_old, at_more, at_own, behind, taken_root, facts}
-use Rattle.peephole_graphs.proofs.Sizes.{gather_append, down_old, down_more, down_own, down_below, All_gather, down_last}
-use Rattle.peephole_graphs.proofs.Totals.{kin_of, kins, new_kin, kins_step, taken_below}
+use Rattle.peephole_graphs.proofs.Lists.{all_left, all_right, all_reverse, all_flat_map, all_has, all_within, map_same, flat_map_same}
+use Rattle.peephole_graphs.proofs.StackGraph.{graph, is_graph, behind, more_of, place_of, taken_of, taken_below}
+use Rattle.peephole_graphs.proofs.Standing.{old_entry, more_entry, own_entry, taken_root, facts}
+use Rattle.peephole_graphs.proofs.Sizes.{down_old, down_more, down_own, down_below, down_last}
+use Rattle.peephole_graphs.proofs.Totals.{kin_of, kins, new_kin, kins_step}
 use Rattle.peephole_graphs.proofs.Forwards.{kin_entry, operator_color}
 use Rattle.peephole_graphs.proofs.DfgLemmas.{nodes_length, entry_seen, later_entries, kins_same}
 use Rattle.peephole_graphs.proofs.Raising.{Raises}
-
--- ---- lists
-
-pub all_left : {A : Type 0} (P : A → Type 0) (xs ys : List A) → All P (xs ++ ys) → All P xs
-all_left P [] ys h = All-nil P
-all_left P (x ∷ xs) ys h = All-cons P x xs (All-head P x (xs ++ ys) h) (all_left P xs ys (All-tail P x (xs ++ ys) h))
-
-pub all_right : {A : Type 0} (P : A → Type 0) (xs ys : List A) → All P (xs ++ ys) → All P ys
-all_right P [] ys h = h
-all_right P (x ∷ xs) ys h = all_right P xs ys (All-tail P x (xs ++ ys) h)
-
-all_turned : {A : Type 0} (P : A → Type 0) (xs : List A) → All P xs → All P (reverse xs)
-all_turned P [] h = h
-all_turned P (x ∷ xs) h =
-    subst (All P) (sym (reverse-append (x ∷ []) xs)) (All-push P (reverse xs) x (all_turned P xs (All-tail P x xs h)) (All-head P x xs h))
-
-all_has : (P : ℕ → Type 0) (is : List ℕ) → ((i : ℕ) → has i is ≡ true → P i) → All P is
-all_has P [] h = All-nil P
-all_has P (i ∷ is) h =
-    All-cons P i is (h i (or_left (i == i) (has i is) (eq-eqb i i refl))) (all_has P is (λ j w. h j (or_right (i == j) (has j is) w)))
-
--- one fact of numbers below `n` from another
-pub all_within : (n : ℕ) (Q R : ℕ → Type 0) (is : List ℕ) → ((k : ℕ) → k < n → Q k → R k) → All (λ k. k < n) is → All Q is → All R is
-all_within n Q R [] f h q = All-nil R
-all_within n Q R (i ∷ is) f h q =
-    All-cons R i is (f i (All-head (λ k. k < n) i is h) (All-head Q i is q))
-    (all_within n Q R is f (All-tail (λ k. k < n) i is h) (All-tail Q i is q))
-
-gather_same : (f g : ℕ → List ℕ) (is : List ℕ) (n : ℕ) → All (λ i. i < n) is → ((i : ℕ) → i < n → f i ≡ g i) → gather f is ≡ gather g is
-gather_same f g [] n h e = refl
-gather_same f g (i ∷ is) n h e =
-    ap₂ (λ x y. x ++ y) (e i (All-head (λ i. i < n) i is h)) (gather_same f g is n (All-tail (λ i. i < n) i is h) e)
 
 -- ---- the numbers and colours of entries
 
@@ -74,14 +45,9 @@ abbrev AreColored : List GraphEntry → ℕ → List ℕ → Type 0
 AreColored nodes c is = All (λ j. (entry_at nodes j).color ≡ c) is
 
 -- the same entries below `n`
-module _ (xs ys : List GraphEntry) (is : List ℕ) (n : ℕ) (h : All (λ i. i < n) is)
-    (e : (i : ℕ) → i < n → entry_at xs i ≡ entry_at ys i) where
+module _ (xs ys : List GraphEntry) (is : List ℕ) (n : ℕ) (h : All (λ i. i < n) is) (e : (i : ℕ) → i < n → entry_at xs i ≡ entry_at ys i) where
   numbers_same : numbers xs is ≡ numbers ys is
-  numbers_same = go is h
-    where
-      go : (is : List ℕ) → All (λ i. i < n) is → numbers xs is ≡ numbers ys is
-      go [] h = refl
-      go (i ∷ is) h = ap₂ (λ (x : GraphEntry) y. x.number ∷ y) (e i (All-head (λ i. i < n) i is h)) (go is (All-tail (λ i. i < n) i is h))
+  numbers_same = map_same (λ i. (entry_at xs i).number) (λ i. (entry_at ys i).number) is n h (λ i l. ap (λ (x : GraphEntry). x.number) (e i l))
 
   colored_same : (c : ℕ) → AreColored xs c is → AreColored ys c is
   colored_same c a = all_within n (λ j. (entry_at xs j).color ≡ c) (λ j. (entry_at ys j).color ≡ c) is
@@ -92,25 +58,19 @@ abbrev EndAt : List ℕ → ℕ → Type 0
 EndAt ns end = (a z : ℕ) × (a + z ≡ end) × (ns ≡ range_from a z)
 
 end_more : (ns : List ℕ) (n : ℕ) → EndAt ns n → EndAt (ns ++ n ∷ []) (suc n)
-end_more ns n (a, z, e, h) =
-    (a, suc z, omega arith, ap (λ x. x ++ n ∷ []) h ∙ (ap (λ x. range_from a z ++ x ∷ []) (sym e) ∙ range_more a z))
+end_more ns n (a, z, e, h) = (a, suc z, omega arith, ap (λ x. x ++ n ∷ []) h ∙ (ap (λ x. range_from a z ++ x ∷ []) (sym e) ∙ range_more a z))
 
 -- ---- a step of the graph
 
-abbrev more_of : Shape → Growth → ℕ
-more_of s g = s.operands - length g.stack
-
-abbrev place_of : Shape → Growth → ℕ
-place_of s g = length g.nodes + more_of s g
-
-abbrev taken_of : Shape → Growth → List ℕ
-taken_of s g = reverse (take s.operands g.stack)
+abbrev operands_of : Shape → Growth → List ℕ
+operands_of s g = reverse (taken_of s g)
 
 -- the entries below some are below the graph's end
-below_inside : (g : Growth) (is : List ℕ) → All (λ i. i < length g.nodes) (gather (below g) is)
-below_inside g is =
-    subst (λ n. All (λ i. i < n) (gather (below g) is)) (length-map g.nodes kin_of)
-    (All_gather (below g) (length (kins g.nodes)) is (down_below (kins g.nodes)))
+inside_below : (nodes : List GraphEntry) (i : ℕ) → All (λ j. j < length nodes) (downwards (kins nodes) i)
+inside_below nodes i = subst (λ m. All (λ j. j < m) (downwards (kins nodes) i)) (length-map nodes kin_of) (down_below (kins nodes) i)
+
+below_inside : (g : Growth) (is : List ℕ) → All (λ i. i < length g.nodes) (flat_map (below g) is)
+below_inside g is = all_flat_map (below g) (length g.nodes) is (inside_below g.nodes)
 
 module _ (s : Shape) (g : Growth) (n c : ℕ) where
   abbrev new : List GraphEntry
@@ -119,20 +79,8 @@ module _ (s : Shape) (g : Growth) (n c : ℕ) where
   abbrev new_below : ℕ → List ℕ
   new_below i = below (grown g s n c) i
 
-  abbrev own_new : GraphEntry
-  own_new = record { shape = Some s; children = down (length g.nodes) (more_of s g) ++ taken_of s g; number = n; color = c }
-
   abbrev with_missing : ℕ → List Kin
   with_missing more = replicate more (kin_of (undef n)) ++ kins g.nodes
-
-  old_entry : (i : ℕ) → i < length g.nodes → entry_at new i ≡ entry_at g.nodes i
-  old_entry i l = at_old (undef 0) own_new (undef n) (more_of s g) g.nodes i l
-
-  own_entry : entry_at new (place_of s g) ≡ own_new
-  own_entry = at_own (undef 0) own_new (undef n) (more_of s g) g.nodes
-
-  more_entry : (i : ℕ) → length g.nodes ≤ i → i < place_of s g → entry_at new i ≡ undef n
-  more_entry i a l = at_more (undef 0) own_new (undef n) (more_of s g) g.nodes i a l
 
   -- how many there are before the operator's own
   before : place_of s g ≡ length (with_missing (more_of s g))
@@ -149,7 +97,7 @@ module _ (s : Shape) (g : Growth) (n c : ℕ) where
   below_old : (i : ℕ) → i < length g.nodes → new_below i ≡ below g i
   below_old i l =
       let m = length-map g.nodes kin_of in
-      below_before i (omega arith) ∙ down_old (new_kin s g c) (kin_of (undef n)) (more_of s g) (kins g.nodes) i (omega arith)
+      below_before i (omega arith) ∙ down_old (kin_of (undef n)) (more_of s g) (kins g.nodes) i (omega arith)
 
   below_more : (i : ℕ) → length g.nodes ≤ i → i < place_of s g → new_below i ≡ i ∷ []
   below_more i a l =
@@ -157,10 +105,10 @@ module _ (s : Shape) (g : Growth) (n c : ℕ) where
       below_before i l ∙ down_more (kin_of (undef n)) (more_of s g) (kins g.nodes) i refl (omega arith) (omega arith)
 
   below_own : new_below (place_of s g)
-      ≡ gather (downwards (with_missing (more_of s g))) (down (length g.nodes) (more_of s g) ++ taken_of s g) ++ place_of s g ∷ []
+      ≡ flat_map (downwards (with_missing (more_of s g))) (down (length g.nodes) (more_of s g) ++ operands_of s g) ++ place_of s g ∷ []
   below_own =
       let ys = with_missing (more_of s g) in
-      let kids = gather (downwards ys) (down (length g.nodes) (more_of s g) ++ taken_of s g) in
+      let kids = flat_map (downwards ys) (down (length g.nodes) (more_of s g) ++ operands_of s g) in
       ap₂ (λ x j. downwards x j) (kins_step s g n c) before ∙ (down_own (new_kin s g c) ys ∙ ap (λ j. kids ++ j ∷ []) (sym before))
 
   module _ (p : ℕ) (low : p < 4294967295) (h : AreColored new p (new_below (place_of s g))) where
@@ -173,18 +121,18 @@ module _ (s : Shape) (g : Growth) (n c : ℕ) where
         let ys = with_missing (more_of s g) in
         let missing = down (length g.nodes) (more_of s g) in
         let count = length-map g.nodes kin_of in
-        let kids = all_left P (gather (downwards ys) (missing ++ taken_of s g)) (place_of s g ∷ []) (subst (All P) below_own h) in
-        let first = all_left P (gather (downwards ys) missing) (gather (downwards ys) (taken_of s g))
-        (subst (All P) (gather_append (downwards ys) missing (taken_of s g)) kids) in
-        let some = subst (λ x. All P (gather (downwards ys) (down (length g.nodes) x))) e first in
+        let kids = all_left P (flat_map (downwards ys) (missing ++ operands_of s g)) (place_of s g ∷ []) (subst (All P) below_own h) in
+        let first = all_left P (flat_map (downwards ys) missing) (flat_map (downwards ys) (operands_of s g))
+        (subst (All P) (flat_map-append (downwards ys) missing (operands_of s g)) kids) in
+        let some = subst (λ x. All P (flat_map (downwards ys) (down (length g.nodes) x))) e first in
         let one = subst (All P) (down_more (kin_of (undef n)) (more_of s g) (kins g.nodes) at refl (omega arith) (omega arith))
-        (all_left P (downwards ys at) (gather (downwards ys) (down (length g.nodes) m)) some) in
+        (all_left P (downwards ys at) (flat_map (downwards ys) (down (length g.nodes) m)) some) in
         let same = All-head P at [] one in
-        let none = ap (λ (x : GraphEntry). x.color) (more_entry at (omega arith) (omega arith)) in
+        let none = ap (λ (x : GraphEntry). x.color) (more_entry s g n c at (omega arith) (omega arith)) in
         absurd (omega arith)
 
-    own_tree : new_below (place_of s g) ≡ gather (below g) (taken_of s g) ++ place_of s g ∷ []
-    own_tree = below_own ∙ ap (λ m. gather (downwards (with_missing m)) (down (length g.nodes) m ++ taken_of s g) ++ place_of s g ∷ [])
+    own_tree : new_below (place_of s g) ≡ flat_map (below g) (operands_of s g) ++ place_of s g ∷ []
+    own_tree = below_own ∙ ap (λ m. flat_map (downwards (with_missing m)) (down (length g.nodes) m ++ operands_of s g) ++ place_of s g ∷ [])
         (none_missing (more_of s g) refl)
 
   -- an operator behind the entries of its operands
@@ -192,25 +140,25 @@ module _ (s : Shape) (g : Growth) (n c : ℕ) where
       AreColored new p (is ++ place_of s g ∷ []) → EndAt (numbers new (is ++ place_of s g ∷ [])) (suc n)
   own_end p is inside ih h =
       let P : ℕ → Type 0 = λ j. (entry_at new j).color ≡ p in
-      let before = ih (colored_same new g.nodes is (length g.nodes) inside old_entry p (all_left P is (place_of s g ∷ []) h)) in
+      let before = ih (colored_same new g.nodes is (length g.nodes) inside (old_entry s g n c) p (all_left P is (place_of s g ∷ []) h)) in
       let e = map-append (λ j. (entry_at new j).number) is (place_of s g ∷ [])
-      ∙ ap₂ (λ x (y : GraphEntry). x ++ y.number ∷ []) (numbers_same new g.nodes is (length g.nodes) inside old_entry) own_entry in
+      ∙ ap₂ (λ x (y : GraphEntry). x ++ y.number ∷ []) (numbers_same new g.nodes is (length g.nodes) inside (old_entry s g n c)) (own_entry s g n c) in
       subst (λ ns. EndAt ns (suc n)) (sym e) (end_more (numbers g.nodes is) n before)
 
   -- an entry of another colour than its tree's
   none_colored : (p low : ℕ) (is : List ℕ) → All (λ i. (i < length g.nodes) × ((entry_at g.nodes i).color ≤ low)) is → low < p →
-      AreColored new p (gather new_below is) → is ≡ []
+      AreColored new p (flat_map new_below is) → is ≡ []
   none_colored p low [] h l a = refl
   none_colored p low (i ∷ is) h l a =
       let P : ℕ → Type 0 = λ j. (entry_at new j).color ≡ p in
       let here = All-head (λ i. (i < length g.nodes) × ((entry_at g.nodes i).color ≤ low)) i is h in
       let inside = here.0 in
       let at_most = here.1 in
-      let one = subst (All P) (below_old i inside) (all_left P (new_below i) (gather new_below is) a) in
+      let one = subst (All P) (below_old i inside) (all_left P (new_below i) (flat_map new_below is) a) in
       let m = length-map g.nodes kin_of in
       let own = down_last (kins g.nodes) i (omega arith) in
       let same = All-head P i [] (all_right P own.0 (i ∷ []) (subst (All P) own.1 one)) in
-      let old = ap (λ (x : GraphEntry). x.color) (old_entry i inside) in
+      let old = ap (λ (x : GraphEntry). x.color) (old_entry s g n c i inside) in
       absurd (omega arith)
 
 -- ---- the entries whose results no operator has taken
@@ -233,7 +181,7 @@ stack_low earlier =
     (t.1, omega arith))
 
 abbrev open_entries : Growth → ℕ → List ℕ
-open_entries g j = gather (below g) (reverse (take j g.stack))
+open_entries g j = flat_map (below g) (reverse (take j g.stack))
 
 -- the operators of the last open trees, where they have the last colour, end at the block's end
 abbrev OpenEnd : List Shape → ℕ → Type 0
@@ -249,27 +197,25 @@ open_result s earlier j e low ih h =
     let p = raised (s ∷ earlier) in
     let after = graph true (s ∷ earlier) in
     let own = place_of s g in
-    let taken = taken_of s g in
+    let taken = operands_of s g in
     let rest = take j (drop s.operands g.stack) in
     let older = reverse rest in
     let P : ℕ → Type 0 = λ i. (entry_at after.nodes i).color ≡ p in
     let Q : ℕ → Type 0 = λ i. i < length g.nodes in
     let ids = ap (λ x. reverse (take (suc j) x)) (cond-true _ _ _ e) ∙ reverse-append (own ∷ []) rest in
-    let parts = ap (gather (below after)) ids ∙ gather_append (below after) older (own ∷ []) in
-    let right =
-    all_left P (below after own) [] (all_right P (gather (below after) older) (below after own ++ []) (subst (All P) parts h)) in
+    let parts = ap (flat_map (below after)) ids ∙ flat_map-append (below after) older (own ∷ []) in
+    let right = all_left P (below after own) [] (all_right P (flat_map (below after) older) (below after own ++ []) (subst (All P) parts h)) in
     let tree = own_tree s g n c p low right in
-    let last = All-head P own [] (all_right P (gather (below g) taken) (own ∷ []) (subst (All P) tree right)) in
+    let last = All-head P own [] (all_right P (flat_map (below g) taken) (own ∷ []) (subst (All P) tree right)) in
     let same : p ≡ c = sym last ∙ ap (λ (x : GraphEntry). x.color) (own_entry s g n c) in
-    let all =
-    subst (All Q) (take_all (length g.stack) g.stack (omega arith)) (taken_below earlier g (is_graph true earlier) (length g.stack)) in
-    let inside = all_turned Q rest (All-take Q j (drop s.operands g.stack) (All-drop Q s.operands g.stack all)) in
+    let all = subst (All Q) (take_all (length g.stack) g.stack (omega arith)) (taken_below earlier g (is_graph true earlier) (length g.stack)) in
+    let inside = all_reverse Q rest (All-take Q j (drop s.operands g.stack) (All-drop Q s.operands g.stack all)) in
     let joined = ap reverse (take-add s.operands j g.stack) ∙ reverse-append (take s.operands g.stack) rest in
-    let before : gather (below g) older ++ gather (below g) taken ≡ open_entries g (s.operands + j) =
-    sym (ap (gather (below g)) joined ∙ gather_append (below g) older taken) in
+    let before : flat_map (below g) older ++ flat_map (below g) taken ≡ open_entries g (s.operands + j) =
+    sym (ap (flat_map (below g)) joined ∙ flat_map-append (below g) older taken) in
     let whole : open_entries after (suc j) ≡ open_entries g (s.operands + j) ++ own ∷ [] =
-    parts ∙ (ap₂ (λ x y. x ++ y) (gather_same (below after) (below g) older (length g.nodes) inside (below_old s g n c))
-    (append-nil (below after own) ∙ tree) ∙ (sym (append_assoc (gather (below g) older) (gather (below g) taken) (own ∷ []))
+    parts ∙ (ap₂ (λ x y. x ++ y) (flat_map_same (below after) (below g) older (length g.nodes) inside (below_old s g n c))
+    (append-nil (below after own) ∙ tree) ∙ (sym (append_assoc (flat_map (below g) older) (flat_map (below g) taken) (own ∷ []))
     ∙ ap (λ x. x ++ own ∷ []) before)) in
     let end = own_end s g n c p (open_entries g (s.operands + j)) (below_inside g (reverse (take (s.operands + j) g.stack)))
     (λ a. ih (omega arith) (subst (λ q. AreColored g.nodes q (open_entries g (s.operands + j))) same a)) (subst (All P) whole h) in
@@ -284,10 +230,10 @@ open_none s earlier j e up h =
     let older = take (suc j) (drop s.operands g.stack) in
     let ids = ap (λ x. reverse (take (suc j) x)) (cond-false _ _ _ e) in
     let more = up e in
-    let low = all_turned P older (All-take P (suc j) (drop s.operands g.stack) (All-drop P s.operands g.stack (stack_low earlier))) in
+    let low = all_reverse P older (All-take P (suc j) (drop s.operands g.stack) (All-drop P s.operands g.stack (stack_low earlier))) in
     let none = none_colored s g (length earlier) (raised earlier) p (raised earlier) (reverse older) low (omega arith)
-    (subst (λ is. AreColored after.nodes p (gather (below after) is)) ids h) in
-    (suc (length earlier), 0, omega arith, ap (λ is. numbers after.nodes (gather (below after) is)) (ids ∙ none))
+    (subst (λ is. AreColored after.nodes p (flat_map (below after) is)) ids h) in
+    (suc (length earlier), 0, omega arith, ap (λ is. numbers after.nodes (flat_map (below after) is)) (ids ∙ none))
 
 open_end : (block : List Shape) (j : ℕ) → All Raises block → raised block < 4294967295 → OpenEnd block j
 open_end block zero ps low h = (length block, 0, omega arith, refl)
@@ -309,15 +255,13 @@ own_together s earlier ps low h =
     let n = length earlier in
     let c = raised earlier in
     let nodes = (graph true (s ∷ earlier)).nodes in
-    let painted =
-    subst (λ q. AreColored nodes q (new_below s g n c (place_of s g))) (ap (λ (x : GraphEntry). x.color) (own_entry s g n c)) h in
+    let painted = subst (λ q. AreColored nodes q (new_below s g n c (place_of s g))) (ap (λ (x : GraphEntry). x.color) (own_entry s g n c)) h in
     let tree = own_tree s g n c c low painted in
-    let end = own_end s g n c c (open_entries g s.operands) (below_inside g (taken_of s g)) (open_end earlier s.operands ps low)
+    let end = own_end s g n c c (open_entries g s.operands) (below_inside g (operands_of s g)) (open_end earlier s.operands ps low)
     (subst (AreColored nodes c) tree painted) in
     (end.0, end.1, ap (numbers nodes) tree ∙ end.3)
 
-together : (block : List Shape) → All Raises block → IsSmall true block → (i : ℕ) → i < length (graph true block).nodes →
-    IsTogether (graph true block) i
+together : (block : List Shape) → All Raises block → IsSmall true block → (i : ℕ) → i < length (graph true block).nodes → IsTogether (graph true block) i
 together [] ps small i l h = absurd (omega arith)
 together (s ∷ earlier) ps small i l h =
     let g = graph true earlier in
@@ -328,16 +272,14 @@ together (s ∷ earlier) ps small i l h =
     elim (cases_lt i (length g.nodes)) [
       | inl w ↦
           let tree = below_old s g n c i w in
-          let inside = subst (λ m. All (λ j. j < m) (below g i)) (length-map g.nodes kin_of) (down_below (kins g.nodes) i) in
+          let inside = inside_below g.nodes i in
           let color = ap (λ (x : GraphEntry). x.color) (old_entry s g n c i w) in
           let painted = colored_same after.nodes g.nodes (below g i) (length g.nodes) inside (old_entry s g n c) (entry_at g.nodes i).color
-          (subst (λ q. AreColored after.nodes q (below g i)) color
-          (subst (AreColored after.nodes (entry_at after.nodes i).color) tree h)) in
+          (subst (λ q. AreColored after.nodes q (below g i)) color (subst (AreColored after.nodes (entry_at after.nodes i).color) tree h)) in
           let older = together earlier (All-tail Raises s earlier ps) small.0 i w painted in (
             older.0,
             older.1,
-            ap (numbers after.nodes) tree
-                ∙ (numbers_same after.nodes g.nodes (below g i) (length g.nodes) inside (old_entry s g n c) ∙ older.2),
+            ap (numbers after.nodes) tree ∙ (numbers_same after.nodes g.nodes (below g i) (length g.nodes) inside (old_entry s g n c) ∙ older.2),
           )
       | inr w ↦ elim (cases_lt i (place_of s g)) [
         | inl v ↦ ((entry_at after.nodes i).number, 1, ap (numbers after.nodes) (below_more s g n c i w v))
@@ -355,12 +297,6 @@ range_shift first a (suc z) =
     let e : first + suc a ≡ suc (first + a) = omega arith in
     ap (λ x. (first + a) ∷ x) (range_shift first (suc a) z ∙ ap (λ x. range_from x z) e)
 
-shifted : (first : ℕ) (f g : ℕ → ℕ) (is : List ℕ) (n : ℕ) → All (λ i. i < n) is → ((i : ℕ) → i < n → f i ≡ first + g i) →
-    map f is ≡ map (λ x. first + x) (map g is)
-shifted first f g [] n h e = refl
-shifted first f g (i ∷ is) n h e =
-    ap₂ (λ x y. x ∷ y) (e i (All-head (λ i. i < n) i is h)) (shifted first f g is n (All-tail (λ i. i < n) i is h) e)
-
 pub number_seen : (info : Module) (first : ℕ) (es : List StackEntry) → All (λ (x : EntryView). first ≤ x.operator) (map entry_view es) →
     (j : ℕ) → j < length es → slice_index (operators_of es) j ≡ first + (entry_at (graph_entries info first es) j).number
 number_seen info first es later j l =
@@ -369,8 +305,7 @@ number_seen info first es later j l =
     let number = ap (λ (e : GraphEntry). e.number) (entry_seen info first es j d l) in
     get_or-map (λ (e : StackEntry). e.operator_idx) es j d 0 l ∙ omega arith
 
-pub contiguous : (info : Module) (first : ℕ) (block : List Shape) (es : List StackEntry) →
-    (graph true block).nodes ≡ graph_entries info first es →
+pub contiguous : (info : Module) (first : ℕ) (block : List Shape) (es : List StackEntry) → (graph true block).nodes ≡ graph_entries info first es →
     All (λ (x : EntryView). first ≤ x.operator) (map entry_view es) → All Raises block → IsSmall true block → HasContiguousTrees es
 contiguous info first block es same later ps small i l one =
     let nodes = graph_entries info first es in
@@ -378,7 +313,7 @@ contiguous info first block es same later ps small i l one =
     let color = (entry_at nodes i).color in
     let count = nodes_length info first es in
     let own : i < length nodes = omega arith in
-    let inside = subst (λ n. All (λ j. j < n) down) (length-map nodes kin_of) (down_below (kins nodes) i) in
+    let inside = inside_below nodes i in
     let seen = subst (λ c. All (λ j. (kin_at (kins nodes) j).color ≡ c) down) (ap (λ (k : Kin). k.color) (kin_entry nodes i own))
     (subst (λ x. HasOneColor x i) (sym (kins_same info first es)) one) in
     let painted = all_within (length nodes) (λ j. (kin_at (kins nodes) j).color ≡ color) (λ j. (entry_at nodes j).color ≡ color) down
@@ -388,6 +323,7 @@ contiguous info first block es same later ps small i l one =
       first + run.0,
       run.1,
       ap (λ x. map (λ j. slice_index (operators_of es) j) (downwards x i)) (sym (kins_same info first es))
-          ∙ (shifted first (λ j. slice_index (operators_of es) j) (λ j. (entry_at nodes j).number) down (length nodes) inside
-          (λ j w. number_seen info first es later j (omega arith)) ∙ (ap (map (λ x. first + x)) run.2 ∙ range_shift first run.0 run.1)),
+          ∙ (map_same (λ j. slice_index (operators_of es) j) (λ j. first + (entry_at nodes j).number) down (length nodes) inside
+          (λ j w. number_seen info first es later j (omega arith)) ∙ (sym (map-map (λ x. first + x) (λ j. (entry_at nodes j).number) down)
+          ∙ (ap (map (λ x. first + x)) run.2 ∙ range_shift first run.0 run.1))),
     )

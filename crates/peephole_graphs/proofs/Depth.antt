@@ -25,8 +25,7 @@ value (s ∷ earlier) (suc d) = cond s.has_result (value earlier (d + s.operands
 abbrev at_depth : List Shape → ℕ → ℤ
 at_depth earlier d = height earlier -ℤ pos (suc d)
 
-from_place_top : (at : ℤ → Tree) (f : ℕ → Tree) (h : ℤ) → ((d : ℕ) → at (h -ℤ pos (suc d)) ≡ f d) → (k : ℕ) →
-    from_height at (h -ℤ pos k) k ≡ top f k
+from_place_top : (at : ℤ → Tree) (f : ℕ → Tree) (h : ℤ) → ((d : ℕ) → at (h -ℤ pos (suc d)) ≡ f d) → (k : ℕ) → from_height at (h -ℤ pos k) k ≡ top f k
 from_place_top at f h e zero = refl
 from_place_top at f h e (suc k) =
     let next : (h -ℤ pos (suc k)) +ℤ pos 1 ≡ h -ℤ pos k = omega (arith, ints) in
@@ -40,24 +39,17 @@ value_zero p = let e : pos 0 -ℤ pos (suc p) ≡ negsuc p = omega (arith, ints)
 -- the tree at a place, by the three cases
 at_result : (s : Shape) (earlier : List Shape) (p : ℤ) → s.has_result ≡ true → p ≡ low s earlier →
     at_height (s ∷ earlier) p ≡ operator_tree s earlier
-at_result s earlier p h e =
-    cond-true (s.has_result && int_eq p (low s earlier)) (operator_tree s earlier) (at_height earlier p)
-    (and_from s.has_result (int_eq p (low s earlier)) h ((Decides-int_eq p (low s earlier)).1 e))
+at_result s earlier p h e = let d = Decides-int_eq p (low s earlier) in grind arith
 
 at_other : (s : Shape) (earlier : List Shape) (p : ℤ) → (p ≡ low s earlier → ⊥) → at_height (s ∷ earlier) p ≡ at_height earlier p
-at_other s earlier p h =
-    cond-false (s.has_result && int_eq p (low s earlier)) (operator_tree s earlier) (at_height earlier p)
-    (and_right s.has_result (int_eq p (low s earlier)) (false_from_ne_true _ (λ e. h ((Decides-int_eq p (low s earlier)).0 e))))
+at_other s earlier p h = let d = Decides-int_eq p (low s earlier) in grind arith
 
 at_none : (s : Shape) (earlier : List Shape) (p : ℤ) → s.has_result ≡ false → at_height (s ∷ earlier) p ≡ at_height earlier p
-at_none s earlier p h =
-    cond-false (s.has_result && int_eq p (low s earlier)) (operator_tree s earlier)
-    (at_height earlier p) (and_left s.has_result (int_eq p (low s earlier)) h)
+at_none s earlier p h = grind arith
 
 tree_of_top : (s : Shape) (earlier : List Shape) → ((d : ℕ) → at_height earlier (at_depth earlier d) ≡ value earlier d) →
     operator_tree s earlier ≡ node (length earlier) s (top (value earlier) s.operands)
-tree_of_top s earlier ih =
-    ap (node (length earlier) s) (from_place_top (at_height earlier) (value earlier) (height earlier) ih s.operands)
+tree_of_top s earlier ih = ap (node (length earlier) s) (from_place_top (at_height earlier) (value earlier) (height earlier) ih s.operands)
 
 height_is : (s : Shape) (earlier : List Shape) (b : Bool) → s.has_result ≡ b →
     height (s ∷ earlier) ≡ height earlier +ℤ (cond b (pos 1) (pos 0) -ℤ pos s.operands)
@@ -79,8 +71,7 @@ value_is (s ∷ earlier) (suc d) = elim (cases_Bool s.has_result) [
   | inl h ↦
       let e = height_is s earlier true h in
       let p : at_depth (s ∷ earlier) (suc d) ≡ at_depth earlier (d + s.operands) = omega (arith, ints) in
-      at_other s earlier _ (λ w. omega (arith, ints)) ∙
-      (ap (at_height earlier) p ∙ (value_is earlier (d + s.operands) ∙ sym (cond-true _ _ _ h)))
+      at_other s earlier _ (λ w. omega (arith, ints)) ∙ (ap (at_height earlier) p ∙ (value_is earlier (d + s.operands) ∙ sym (cond-true _ _ _ h)))
   | inr h ↦
       let e = height_is s earlier false h in
       let p : at_depth (s ∷ earlier) (suc d) ≡ at_depth earlier (suc d + s.operands) = omega (arith, ints) in

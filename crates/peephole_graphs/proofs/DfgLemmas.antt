@@ -2,7 +2,7 @@
 use Rattle.std.proofs.Common.{◌≡◌, ℕ, zero, suc, ◌+◌, ◌-◌, ◌<◌, ◌≤◌, Bool, true, false, List, [], ◌∷◌, ◌++◌, length, take, drop}
 use Rattle.std.proofs.Common.{get_or, map, replicate, refl, sym, ap, ap₂, ◌∙◌, arith, ⊎_elim}
 use Rattle.std.specs.Prelude.{◌&&◌, ◌==◌, ◌↔◌, IsTrue, reverse, slice_index, slice_index_or, if◌then◌else◌}
-use Rattle.std.specs.List.{All}
+use Rattle.std.specs.List.{All, sum_by}
 use Rattle.std.proofs.lemmas.Bool.{cond-true, cond-false, eq-eqb, ne_eqb, eqb-true, false_from_ne_true, false≢true, and_parts}
 use Rattle.std.proofs.lemmas.Bool.{and_from, cases_eq}
 use Rattle.std.proofs.lemmas.List.{length-append, length-map, length-reverse, map-append, reverse-append, get_or_default}
@@ -13,7 +13,7 @@ use Rattle.peephole_graphs.specs.Graph.{GraphEntry, undef, item}
 use Rattle.peephole_graphs.proofs.Stands.{entry_at}
 use Rattle.peephole_graphs.specs.Step.{Growth, grown}
 use Rattle.peephole_graphs.specs.Downwards.{Kin, forward, forwards, HasOneColor, are_colored, downwards, kin_at, sizes_of, flags_of}
-use Rattle.peephole_graphs.specs.Downwards.{total, are_alike}
+use Rattle.peephole_graphs.specs.Downwards.{are_alike}
 use Rattle.std.proofs.Math.ListN as list
 use Rattle.peephole_graphs.specs.Entries.{EntryView, Measured, sizes_kept, flags_kept, size_kept, flag_kept, entry_view, kin}
 use Rattle.peephole_graphs.specs.Entries.{kins_of, colors, graph_entry, graph_entries}
@@ -21,8 +21,9 @@ use Rattle.peephole_graphs.specs.Growing.{missing_subtree}
 use Rattle.peephole_graphs.specs.declared.subtree.Subtree.{Subtree}
 use Rattle.peephole_lang.specs.Node.{children_of}
 use Rattle.mutate_base.specs.Module.{Module}
+use Rattle.peephole_graphs.proofs.Lists.{sum_by-reverse}
 use Rattle.peephole_graphs.proofs.StackGraph.{IsGraph}
-use Rattle.peephole_graphs.proofs.Sizes.{sizes_length, flags_length, total_reverse, size_at, flag_at, alike_reverse}
+use Rattle.peephole_graphs.proofs.Sizes.{sizes_length, flags_length, size_at, flag_at, alike_reverse}
 use Rattle.peephole_graphs.proofs.Totals.{map_replicate, kin_of, kins, sizes_grown, flags_grown, size_of_entry}
 use Rattle.peephole_graphs.specs.declared.dfg.StackEntry.{StackEntry}
 use Rattle.peephole_graphs.proofs.GrowingLemmas.{take_reverse, drop_reverse, reverse_push, reverse_replicate}
@@ -88,9 +89,8 @@ sizes_count es sizes h = sym (length-reverse sizes) ∙ (ap length h ∙ (sizes_
 pub flags_count : (es : List StackEntry) (same : List Bool) → reverse same ≡ flags_of (kins_of es) → length same ≡ length es
 flags_count es same h = sym (length-reverse same) ∙ (ap length h ∙ (flags_length (kins_of es) ∙ kins_length es))
 
-total_equal : (f g : ℕ → ℕ) (is : List ℕ) → ((i : ℕ) → f i ≡ g i) → total f is ≡ total g is
-total_equal f g [] e = refl
-total_equal f g (i ∷ is) e = ap₂ (λ x y. x + y) (e i) (total_equal f g is e)
+total_equal : (f g : ℕ → ℕ) (is : List ℕ) → ((i : ℕ) → f i ≡ g i) → sum_by f is ≡ sum_by g is
+total_equal f g is e = λ j. sum_by (λ i. e i j) is
 
 alike_equal : (f g : ℕ → Bool) (h k : ℕ → ℕ) (c : ℕ) (is : List ℕ) → ((i : ℕ) → f i ≡ g i) → ((i : ℕ) → h i ≡ k i) →
     are_alike f h c is ≡ are_alike g k c is
@@ -129,7 +129,7 @@ pub measured_more : (info : Module) (first n : ℕ) (s : Shape) (earlier : List 
     c < 4294967295 →
     more ≡ s.operands - length stack → taken ≡ drop (length stack - s.operands) stack → Measured es ts →
     ts' ≡ (ts ++ replicate more missing_subtree) ++ record {
-      len = suc (more + total (size_kept ts) taken);
+      len = suc (more + sum_by (size_kept ts) taken);
       one_color = (more == 0) && are_alike (flag_kept ts) (slice_index (colors es)) c taken;
     } ∷ [] →
     Measured es' ts'
@@ -143,12 +143,12 @@ measured_more info first n s earlier es es' ts ts' c stack more taken g ig gn gs
     let kins_new : kins_of es' ≡ kins (grown g s n c).nodes = sym (kins_same info first es') ∙ ap kins e in
     let taken_back : reverse taken ≡ take k g.stack = ap reverse w ∙ (sym (take_reverse k stack) ∙ ap (take k) (sym gs)) in
     let more_is : more ≡ k - length g.stack = m ∙ ap (λ x. k - x) (sym (length-reverse stack) ∙ ap length (sym gs)) in
-    let total_is : total (λ i. slice_index sizes i) taken ≡ total (λ i. item 0 (sizes_of (kins g.nodes)) i) (take k g.stack) =
+    let total_is : sum_by (λ i. slice_index sizes i) taken ≡ sum_by (λ i. item 0 (sizes_of (kins g.nodes)) i) (take k g.stack) =
     total_equal (λ i. slice_index sizes i) (λ i. item 0 (sizes_of (kins g.nodes)) i) taken
     (λ i. sizes_are es sizes h.sizes_are i ∙
     ap (λ x. item 0 (sizes_of x) i) (sym kins_old)) ∙
-    (sym (total_reverse (λ i. item 0 (sizes_of (kins g.nodes)) i) taken) ∙
-    ap (total (λ i. item 0 (sizes_of (kins g.nodes)) i)) taken_back) in
+    (sym (sum_by-reverse (λ i. item 0 (sizes_of (kins g.nodes)) i) taken) ∙
+    ap (sum_by (λ i. item 0 (sizes_of (kins g.nodes)) i)) taken_back) in
     let alike_is : are_alike (λ i. slice_index_or same i false) (λ i. slice_index (colors es) i) c taken ≡
     are_alike (item false (flags_of (kins g.nodes))) (λ i. (kin_at (kins g.nodes) i).color) c (take k g.stack) =
     alike_equal (λ i. slice_index_or same i false) (item false (flags_of (kins g.nodes))) (λ i. slice_index (colors es) i)
@@ -173,14 +173,14 @@ measured_more info first n s earlier es es' ts ts' c stack more taken g ig gn gs
 -- what `add_row` wants
 pub stack_room : (es : List StackEntry) (sizes : List ℕ) (stack : List ℕ) (g : Growth) (info : Module) (first : ℕ) →
     g.nodes ≡ graph_entries info first es → g.stack ≡ reverse stack → reverse sizes ≡ sizes_of (kins_of es) →
-    total (size_of_entry g) g.stack ≤ length g.nodes →
-    total (λ i. slice_index sizes i) stack ≤ length es
+    sum_by (size_of_entry g) g.stack ≤ length g.nodes →
+    sum_by (λ i. slice_index sizes i) stack ≤ length es
 stack_room es sizes stack g info first gn gs h l =
     let kins_old : kins g.nodes ≡ kins_of es = ap kins gn ∙ kins_same info first es in
-    let e : total (λ i. slice_index sizes i) stack ≡ total (size_of_entry g) g.stack =
+    let e : sum_by (λ i. slice_index sizes i) stack ≡ sum_by (size_of_entry g) g.stack =
     total_equal (λ i. slice_index sizes i) (size_of_entry g) stack (λ i. sizes_are es sizes h i ∙ ap (λ x. item 0 (sizes_of x) i)
     (sym kins_old)) ∙
-    (sym (total_reverse (size_of_entry g) stack) ∙ ap (total (size_of_entry g)) (sym gs)) in
+    (sym (sum_by-reverse (size_of_entry g) stack) ∙ ap (sum_by (size_of_entry g)) (sym gs)) in
     let n : length g.nodes ≡ length es = sym (length-map g.nodes kin_of) ∙ (ap length kins_old ∙ kins_length es) in
     omega arith
 

@@ -2,11 +2,13 @@
 use Rattle.std.proofs.Common.{◌≡◌, ℕ, zero, suc, ◌+◌, ◌-◌, ◌<◌, ◌≤◌, Bool, true, List, [], ◌∷◌, ◌++◌, length, take, Option, None}
 use Rattle.std.proofs.Common.{Some, refl, sym, ap, ap₂, ◌∙◌, subst, arith, ⊎_elim}
 use Rattle.std.specs.Prelude.{⊤, ◌&&◌, ◌==◌, ◌↔◌, IsTrue, reverse, replicate, if◌then◌else◌}
-use Rattle.std.specs.List.{All}
+use Rattle.std.specs.List.{All, sum_by}
+use Rattle.std.proofs.Math.Bool.{and-true, and_assoc, and_comm}
 use Rattle.std.proofs.lemmas.Bool.{cond-true, cond-false, eq-eqb, ne_eqb, or_left, or_right, and_parts, and_from, cases_eq}
 use Rattle.std.proofs.lemmas.Bool.{false≢true}
 use Rattle.std.proofs.lemmas.List.{reverse-append, length-map}
-use Rattle.std.proofs.lemmas.List.Elements.{All-head, All-tail, All-append, All-cons, All-nil}
+use Rattle.std.proofs.lemmas.List.Sums.{sum_by-cons, sum_by-take-le}
+use Rattle.std.proofs.lemmas.List.Elements.{All-head, All-tail}
 use Rattle.peephole_graphs.specs.Shape.{Shape}
 use Rattle.peephole_graphs.specs.Forest.{has, IsInOrder}
 use Rattle.peephole_graphs.specs.Color.{color_after, color_at}
@@ -14,11 +16,12 @@ use Rattle.peephole_graphs.specs.Graph.{GraphEntry, undef, item}
 use Rattle.peephole_graphs.specs.GraphOf.{IsSmall}
 use Rattle.peephole_graphs.proofs.Stands.{entry_at, is_operator, IsOperator}
 use Rattle.peephole_graphs.specs.Step.{down}
-use Rattle.peephole_graphs.specs.Downwards.{Kin, downwards, kin_at, sizes_of, total, forward, forwards}
-use Rattle.peephole_graphs.proofs.StackGraph.{graph, is_graph}
-use Rattle.peephole_graphs.proofs.Standing.{at_old, at_more, behind, facts, taken_root}
-use Rattle.peephole_graphs.proofs.Sizes.{and_true, and_assoc', and_comm', sizes_replicate, sizes_length, total_reverse}
-use Rattle.peephole_graphs.proofs.Totals.{kin_of, kins, new_kin, kins_step, sizes_grown, size_of_entry, taken_below, stack_total}
+use Rattle.peephole_graphs.specs.Downwards.{Kin, downwards, kin_at, sizes_of, forward, forwards}
+use Rattle.peephole_graphs.proofs.StackGraph.{graph, is_graph, behind, taken_below}
+use Rattle.peephole_graphs.proofs.Lists.{all_reverse, sum_by-reverse}
+use Rattle.peephole_graphs.proofs.Standing.{at_old, at_more, facts, taken_root}
+use Rattle.peephole_graphs.proofs.Sizes.{sizes_replicate, sizes_length}
+use Rattle.peephole_graphs.proofs.Totals.{kin_of, kins, new_kin, kins_step, sizes_grown, size_of_entry, stack_total}
 use Rattle.peephole_graphs.proofs.Chains.{chain, ChainsOk, chains_from_order, order_from_chains}
 
 forward_down : (size color : ℕ → ℕ) (at b k : ℕ) (cs : List ℕ) → ((i : ℕ) → b ≤ i → i < b + k → color i ≡ 4294967295) →
@@ -33,17 +36,17 @@ Colors color [] = ⊤
 Colors color (c ∷ cs) = (color c < 4294967295) × Colors color cs
 
 forward_push : (size color : ℕ → ℕ) (at t : ℕ) (cs : List ℕ) → Colors color cs → color t < 4294967295 →
-    forward size color at (cs ++ t ∷ []) ≡ (forward size color at cs && (suc t == (at + total size cs) + size t))
+    forward size color at (cs ++ t ∷ []) ≡ (forward size color at cs && (suc t == (at + sum_by size cs) + size t))
 forward_push size color at t [] h l =
     let e : at + size t ≡ (at + 0) + size t = omega arith in
-    cond-false _ _ _ (ne_eqb (color t) 4294967295 (λ w. omega arith)) ∙ (and_true (suc t == at + size t) ∙ ap (λ x. suc t == x) e)
+    cond-false _ _ _ (ne_eqb (color t) 4294967295 (λ w. omega arith)) ∙ (and-true (suc t == at + size t) ∙ ap (λ x. suc t == x) e)
 forward_push size color at t (c ∷ cs) h l =
     let other = ne_eqb (color c) 4294967295 (λ w. let a = h.0 in omega arith) in
-    let e : (at + size c) + total size cs ≡ at + (size c + total size cs) = omega arith in
+    let e : (at + size c) + sum_by size cs ≡ at + sum_by size (c ∷ cs) = omega (arith, sum_by-cons size c cs) in
     cond-false _ _ _ other ∙
     (ap (λ x. (suc c == at + size c) && x) (forward_push size color (at + size c) t cs h.1 l) ∙
-    (sym (and_assoc' (suc c == at + size c) (forward size color (at + size c) cs)
-    (suc t == ((at + size c) + total size cs) + size t)) ∙
+    (sym (and_assoc (suc c == at + size c) (forward size color (at + size c) cs)
+    (suc t == ((at + size c) + sum_by size cs) + size t)) ∙
     ap₂ (λ x y. x && (suc t == y + size t)) (sym (cond-false _ _ _ other)) e))
 
 Colors-reverse : (color : ℕ → ℕ) (cs : List ℕ) → Colors color cs → Colors color (reverse cs)
@@ -55,19 +58,20 @@ Colors-reverse color (c ∷ cs) h = subst (Colors color) (sym (reverse-append (c
     push [] g = (h.0, tt)
     push (d ∷ ds) g = (g.0, push ds g.1)
 
-forward_chain : (size color : ℕ → ℕ) (end : ℕ) (ts : List ℕ) → Colors color ts → total size ts ≤ end →
-    forward size color (end - total size ts) (reverse ts) ≡ chain size end ts
+forward_chain : (size color : ℕ → ℕ) (end : ℕ) (ts : List ℕ) → Colors color ts → sum_by size ts ≤ end →
+    forward size color (end - sum_by size ts) (reverse ts) ≡ chain size end ts
 forward_chain size color end [] h l = refl
 forward_chain size color end (t ∷ ts) h l =
-    let at = end - (size t + total size ts) in
-    let e : at ≡ (end - size t) - total size ts = omega arith in
-    let r = total_reverse size ts in
-    let f : (at + total size (reverse ts)) + size t ≡ end = omega arith in
+    let at = end - sum_by size (t ∷ ts) in
+    let s = sum_by-cons size t ts in
+    let e : at ≡ (end - size t) - sum_by size ts = omega arith in
+    let r = sum_by-reverse size ts in
+    let f : (at + sum_by size (reverse ts)) + size t ≡ end = omega arith in
     ap (forward size color at) (reverse-append (t ∷ []) ts) ∙
     (forward_push size color at t (reverse ts) (Colors-reverse color ts h.1) h.0 ∙
     (ap₂ (λ x y. x && (suc t == y)) (ap (λ a. forward size color a (reverse ts)) e ∙ forward_chain size color (end - size t) ts h.1
     (omega arith)) f ∙
-    and_comm' (chain size (end - size t) ts) (suc t == end)))
+    and_comm (chain size (end - size t) ts) (suc t == end)))
 
 forward_same : (f g h k : ℕ → ℕ) (at n : ℕ) (cs : List ℕ) → All (λ i. i < n) cs → ((i : ℕ) → i < n → f i ≡ g i) →
     ((i : ℕ) → i < n → h i ≡ k i) → forward f h at cs ≡ forward g k at cs
@@ -84,7 +88,7 @@ forwards_replicate u zero xs e = refl
 forwards_replicate u (suc k) xs e =
     let ys = replicate k u ++ xs in
     ap (λ x. forwards ys && forward (λ i. item 0 (sizes_of ys) i) (λ i. (kin_at ys i).color)
-    (suc (length ys) - length (downwards (u ∷ ys) (length ys))) x) e ∙ (and_true (forwards ys) ∙ forwards_replicate u k xs e)
+    (suc (length ys) - length (downwards (u ∷ ys) (length ys))) x) e ∙ (and-true (forwards ys) ∙ forwards_replicate u k xs e)
 
 item_older : {A : Type 0} (d x : A) (ys : List A) (i : ℕ) → i < length ys → item d ys i ≡ item d (x ∷ ys) i
 item_older d x ys i l = sym (cond-false _ _ _ (ne_eqb (length ys) i (λ w. omega arith)))
@@ -119,17 +123,6 @@ Colors_has color (c ∷ cs) h = (
   Colors_has color cs (λ i w. h i (or_right (c == i) (has i cs) w)),
 )
 
-total_take : (f : ℕ → ℕ) (k : ℕ) (is : List ℕ) → total f (take k is) ≤ total f is
-total_take f zero is = omega arith
-total_take f (suc k) [] = omega arith
-total_take f (suc k) (i ∷ is) = let e = total_take f k is in omega arith
-
-All_reversed : (n : ℕ) (is : List ℕ) → All (λ i. i < n) is → All (λ i. i < n) (reverse is)
-All_reversed n [] h = h
-All_reversed n (i ∷ is) h = subst (All (λ i. i < n)) (sym (reverse-append (i ∷ []) is)) (All-append (λ i. i < n) (reverse is)
-    (i ∷ []) (All_reversed n is (All-tail (λ i. i < n) i is h)) (All-cons (λ i. i < n) i [] (All-head (λ i. i < n) i is h)
-    (All-nil (λ i. i < n))))
-
 head_same : (x y : ℕ) (xs ys : List ℕ) → x ∷ xs ≡ y ∷ ys → x ≡ y
 head_same x y xs ys e = cc
 
@@ -154,11 +147,11 @@ forwards_step preserving s earlier small =
     let xs_length : length xs ≡ base = length-map g.nodes kin_of in
     let ys_length = behind u more xs in
     let below = taken_below earlier g ig s.operands in
-    let sum : total f taken ≤ base = let a = total_take f s.operands g.stack in let b = stack_total preserving earlier in
+    let sum : sum_by f taken ≤ base = let a = sum_by-take-le f g.stack s.operands in let b = stack_total preserving earlier in
     omega arith in
-    let size_is : length (downwards (new ∷ ys) (length ys)) ≡ suc (more + total f taken) =
+    let size_is : length (downwards (new ∷ ys) (length ys)) ≡ suc (more + sum_by f taken) =
     head_same _ _ _ _ (ap sizes_of (sym (kins_step s g n c)) ∙ sizes_grown s earlier g n c ig) in
-    let start : suc (length ys) - length (downwards (new ∷ ys) (length ys)) ≡ base - total f taken = omega arith in
+    let start : suc (length ys) - length (downwards (new ∷ ys) (length ys)) ≡ base - sum_by f taken = omega arith in
     let sizes_ys : sizes_of ys ≡ replicate more 1 ++ sizes_of xs = sizes_replicate u more xs refl in
     let sl = sizes_length xs in
     let size_old : (i : ℕ) → i < base → item 0 (sizes_of ys) i ≡ f i =
@@ -178,11 +171,11 @@ forwards_step preserving s earlier small =
     ap forwards (kins_step s g n c) ∙
     ap₂ (λ a b. a && b) (forwards_replicate u more xs refl)
     (ap (λ x. forward (λ i. item 0 (sizes_of ys) i) (λ i. (kin_at ys i).color) x (down base more ++ reverse taken)) start ∙
-    (forward_down (λ i. item 0 (sizes_of ys) i) (λ i. (kin_at ys i).color) (base - total f taken) base more
+    (forward_down (λ i. item 0 (sizes_of ys) i) (λ i. (kin_at ys i).color) (base - sum_by f taken) base more
     (reverse taken) color_more ∙
     (forward_same (λ i. item 0 (sizes_of ys) i) f (λ i. (kin_at ys i).color) (λ i. (kin_at xs i).color)
-    (base - total f taken) base
-    (reverse taken) (All_reversed base taken below) size_old color_old ∙
+    (base - sum_by f taken) base
+    (reverse taken) (all_reverse (λ i. i < base) taken below) size_old color_old ∙
     forward_chain f (λ i. (kin_at xs i).color) base taken colored sum)))
 
 chains_forwards : (preserving : Bool) (block : List Shape) → IsSmall preserving block → ChainsOk preserving block →

@@ -1,13 +1,14 @@
 -- That a graph is a block's says what it is in the theory's lists, and the other way round.
-use Rattle.std.proofs.Common.{◌≡◌, ℕ, zero, suc, ◌-◌, ◌<◌, ◌≤◌, true, false, List, [], ◌∷◌, ◌++◌, length, map, get_or, Option, None}
-use Rattle.std.proofs.Common.{Some, refl, sym, ap, ◌∙◌, subst, arith, inl, inr}
-use Rattle.std.specs.Prelude.{◌⊎◌, reverse, slice_get, option_map}
+use Rattle.std.proofs.Common.{◌≡◌, ℕ, zero, suc, ◌-◌, ◌<◌, ◌≤◌, true, List, [], ◌∷◌, length, map, get_or, Option, None, Some, refl, sym, ap, ap₂, ◌∙◌, subst}
+use Rattle.std.proofs.Common.{arith, inl, inr}
+use Rattle.std.specs.Prelude.{◌⊎◌, ◌==◌, if◌then◌else◌, reverse, slice_get, option_map}
 use Rattle.std.specs.Bool.{nat_eq}
-use Rattle.std.specs.List.{All, IsDistinct}
-use Rattle.std.proofs.lemmas.Bool.{cond-true, cond-false, eq-eqb, ne_eqb, cases_eq, cases_lt}
-use Rattle.std.proofs.lemmas.List.{length-append, length-reverse, length-map, reverse-append, get_or-map}
-use Rattle.std.proofs.lemmas.List.Elements.{All-head, All-tail, All-get_or}
-use Rattle.std.proofs.lemmas.Option.{slice_get-get_or, get_or_from_slice_get, slice_get_within}
+use Rattle.std.specs.List.{IsDistinct}
+use Rattle.std.proofs.lemmas.Bool.{cases_lt, false≢true}
+use Rattle.std.proofs.lemmas.Simd.{map-map}
+use Rattle.std.proofs.lemmas.List.{length-reverse, length-map, get_or-map, get_or_past}
+use Rattle.std.proofs.lemmas.List.Elements.{All-head, All-tail, All-from_get_or, All-map}
+use Rattle.std.proofs.lemmas.Option.{same_Some, slice_get-get_or, get_or_from_slice_get, slice_get_within}
 use Rattle.wasm_code.specs.Instruction.{Instruction}
 use Rattle.wasm_code.specs.declared.operator.Operator.{Operator}
 use Rattle.wasm_code.specs.declared.operator.Operator.TheVariants.{Instr}
@@ -22,16 +23,16 @@ use Rattle.peephole_graphs.specs.Forest.{has}
 use Rattle.peephole_graphs.specs.Color.{color_at}
 use Rattle.peephole_graphs.specs.Graph.{GraphEntry, undef, item}
 use Rattle.peephole_graphs.specs.Growing.{undef_entry}
-use Rattle.peephole_graphs.specs.Entries.{EntryView, entry_view, shape_of, graph_entry, graph_entries, children_at}
+use Rattle.peephole_graphs.specs.Entries.{EntryView, entry_view, shape_of, graph_entry, graph_entries, children_at, Graph}
 use Rattle.peephole_graphs.specs.GraphOf.{IsGraphOf, IsMissing}
 use Rattle.peephole_graphs.specs.GraphOf as public
-use Rattle.peephole_graphs.proofs.Stands.{Stands, entry_at, parent_at, shape_at}
+use Rattle.peephole_graphs.proofs.Lists.{all_slice_get}
+use Rattle.peephole_graphs.proofs.Stands.{entry_at, parent_at, shape_at}
 use Rattle.peephole_graphs.proofs.Stands as theory
 use Rattle.peephole_graphs.proofs.Represents.{Represents, IsOwnOrUndef}
 use Rattle.peephole_graphs.proofs.DfgLemmas.{get_item, item_map, map_reverse, nodes_length, entry_seen, later_entries}
 use Rattle.peephole_graphs.proofs.BuilderLemmas.{block_length, operator_fits, shape_fit, shape_instr}
 use Rattle.peephole_graphs.specs.Source.{Source, shapes_in}
-use Rattle.peephole_graphs.specs.Entries.{Graph}
 
 -- ---- lists
 
@@ -41,33 +42,21 @@ reads_some [] i x e = absurd cc
 reads_some (y ∷ ys) zero x e = ap Some e
 reads_some (y ∷ ys) (suc i) x e = reads_some ys i x e
 
-some_same : {A : Type 0} (x y : A) → Some x ≡ Some y → x ≡ y
-some_same x y e = cc
-
 some_none : {A P : Type 0} (x : A) → ◌≡◌ {A = Option A} (Some x) None → P
 some_none x e = cc
 
-shape_first : (x : Shape) (ys : List Shape) → shape_at (ys ++ x ∷ []) 0 ≡ Some x
-shape_first x [] = refl
-shape_first x (y ∷ ys) = cond-false _ _ _ (ne_eqb (length (ys ++ x ∷ [])) 0 (λ w. let e = length-append ys (x ∷ []) in
-    omega arith)) ∙ shape_first x ys
+shape_item : (xs : List Shape) (i : ℕ) → shape_at xs i ≡ item None (map Some xs) i
+shape_item [] i = refl
+shape_item (x ∷ xs) i = ap₂ (λ n y. if n == i then Some x else y) (sym (length-map xs Some)) (shape_item xs i)
 
-shape_later : (x : Shape) (ys : List Shape) (i : ℕ) → shape_at (ys ++ x ∷ []) (suc i) ≡ shape_at ys i
-shape_later x [] i = cond-false _ _ _ (ne_eqb 0 (suc i) (λ w. omega arith))
-shape_later x (y ∷ ys) i = elim (cases_eq (length ys) i) [
-  | inl w ↦ cond-true _ _ _ (eq-eqb (length (ys ++ x ∷ [])) (suc i) (let e = length-append ys (x ∷ []) in omega arith)) ∙
-      sym (cond-true _ _ _ (eq-eqb (length ys) i w))
-  | inr w ↦ cond-false _ _ _ (ne_eqb (length (ys ++ x ∷ [])) (suc i) (λ v. w (let e = length-append ys (x ∷ []) in
-      omega arith))) ∙
-      (shape_later x ys i ∙ sym (cond-false _ _ _ (ne_eqb (length ys) i w)))
-]
+shape_read : (xs : List Shape) (i : ℕ) → get_or (map Some xs) i None ≡ slice_get xs i
+shape_read [] i = refl
+shape_read (x ∷ xs) zero = refl
+shape_read (x ∷ xs) (suc i) = shape_read xs i
 
 -- the shapes by number, the first one first
 shape_turned : (xs : List Shape) (i : ℕ) → shape_at (reverse xs) i ≡ slice_get xs i
-shape_turned [] i = refl
-shape_turned (x ∷ xs) zero = ap (λ y. shape_at y 0) (reverse-append (x ∷ []) xs) ∙ shape_first x (reverse xs)
-shape_turned (x ∷ xs) (suc i) = ap (λ y. shape_at y (suc i)) (reverse-append (x ∷ []) xs) ∙ (shape_later x (reverse xs) i ∙
-    shape_turned xs i)
+shape_turned xs i = shape_item (reverse xs) i ∙ (ap (λ y. item None y i) (map_reverse Some xs) ∙ (sym (get_item None (map Some xs) i) ∙ shape_read xs i))
 
 -- ---- the operators of a block
 
@@ -78,11 +67,9 @@ record HasOperator (info : Module) (operators : List (Operator × ℕ)) (n : ℕ
   judged : judge info operator.0 ≡ Fits shape
   shaped : slice_get (operator_shapes info operators) n ≡ Some shape
 
-operator_there : (info : Module) (operators : List (Operator × ℕ)) → AreFit info operators → (n : ℕ) → n < length operators →
-    HasOperator info operators n
+operator_there : (info : Module) (operators : List (Operator × ℕ)) → AreFit info operators → (n : ℕ) → n < length operators → HasOperator info operators n
 operator_there info [] h n l = absurd (omega arith)
-operator_there info (o ∷ os) h n l =
-    go (judge info o.0) refl (All-head (λ (o : Operator × ℕ). IsFit (judge info o.0)) o os h)
+operator_there info (o ∷ os) h n l = go (judge info o.0) refl (All-head (λ (o : Operator × ℕ). IsFit (judge info o.0)) o os h)
     (operator_there info os (All-tail (λ (o : Operator × ℕ). IsFit (judge info o.0)) o os h)) n l
   where
     go : (j : Judged) → judge info o.0 ≡ j → IsFit j → ((k : ℕ) → k < length os → HasOperator info os k) → (n : ℕ) →
@@ -107,44 +94,29 @@ operator_there info (o ∷ os) h n l =
 
 -- ---- children and parents
 
-children_map : (info : Module) (first : ℕ) (es : List StackEntry) → map (λ (e : GraphEntry). e.children)
-    (map (graph_entry info first) (map entry_view es)) ≡ map (λ (e : StackEntry). children_of e.operator) es
-children_map info first [] = refl
-children_map info first (e ∷ es) = ap (λ x. children_of e.operator ∷ x) (children_map info first es)
-
-pub children_seen : (info : Module) (first : ℕ) (es : List StackEntry) (p : ℕ) →
-    (entry_at (graph_entries info first es) p).children ≡ children_at es p
+children_seen : (info : Module) (first : ℕ) (es : List StackEntry) (p : ℕ) → (entry_at (graph_entries info first es) p).children ≡ children_at es p
 children_seen info first es p =
-    let kids = map (λ (e : StackEntry). children_of e.operator) es in
-    item_map (λ (e : GraphEntry). e.children) (undef 0) (graph_entries info first es) p
-    ∙ (ap (λ x. item [] x p) (map_reverse (λ (e : GraphEntry). e.children) (map (graph_entry info first) (map entry_view es)) ∙
-    ap reverse (children_map info first es))
-    ∙ sym (get_item [] kids p))
-
-past_end : {A : Type 0} (xs : List A) (i : ℕ) (d : A) → length xs ≤ i → get_or xs i d ≡ d
-past_end [] i d l = refl
-past_end (x ∷ xs) zero d l = absurd (omega arith)
-past_end (x ∷ xs) (suc i) d l = past_end xs i d (omega arith)
+    let kids : GraphEntry → List ℕ = λ e. e.children in
+    let whole = map-map kids (graph_entry info first) (map entry_view es) ∙ map-map (λ v. kids (graph_entry info first v)) entry_view es in
+    item_map kids (undef 0) (graph_entries info first es) p
+    ∙ (ap (λ x. item [] x p) (map_reverse kids (map (graph_entry info first) (map entry_view es)) ∙ ap reverse whole)
+    ∙ sym (get_item [] (map (λ (e : StackEntry). children_of e.operator) es) p))
 
 -- only an entry has children
 with_children : (es : List StackEntry) (p i : ℕ) → has i (children_at es p) ≡ true → p < length es
 with_children es p i h = elim (cases_lt p (length es)) [
   | inl l ↦ l
-  | inr l ↦ absurd (never (sym (ap (has i) (past_end (map (λ (e : StackEntry). children_of e.operator) es) p []
-      (let n = length-map es (λ (e : StackEntry). children_of e.operator) in omega arith))) ∙ h))
+  | inr l ↦
+      let kids = map (λ (e : StackEntry). children_of e.operator) es in
+      let n = length-map es (λ (e : StackEntry). children_of e.operator) in
+      absurd (false≢true (sym (ap (has i) (get_or_past kids p [] (omega arith))) ∙ h))
 ]
-  where
-    never : false ≡ true → ⊥
-    never e = cc
 
-pub children_here : (es : List StackEntry) (p : ℕ) (e : StackEntry) → slice_get es p ≡ Some e → children_at es p ≡
-    children_of e.operator
-children_here es p e s =
-    get_or-map (λ (x : StackEntry). children_of x.operator) es p e [] (slice_get_within es p e s) ∙
+pub children_here : (es : List StackEntry) (p : ℕ) (e : StackEntry) → slice_get es p ≡ Some e → children_at es p ≡ children_of e.operator
+children_here es p e s = get_or-map (λ (x : StackEntry). children_of x.operator) es p e [] (slice_get_within es p e s) ∙
     ap (λ (x : StackEntry). children_of x.operator) (get_or_from_slice_get es p e e s)
 
-parent_there : (parents : List (Option ℕ)) (i p : ℕ) → slice_get parents i ≡ Some (Some p) →
-    parent_at (reverse parents) i ≡ Some p
+parent_there : (parents : List (Option ℕ)) (i p : ℕ) → slice_get parents i ≡ Some (Some p) → parent_at (reverse parents) i ≡ Some p
 parent_there parents i p e = sym (get_item None parents i) ∙ get_or_from_slice_get parents i (Some p) None e
 
 parent_read : (parents : List (Option ℕ)) (i p : ℕ) → parent_at (reverse parents) i ≡ Some p → slice_get parents i ≡ Some (Some p)
@@ -166,210 +138,172 @@ pub entry_here : (info : Module) (first : ℕ) (es : List StackEntry) (i : ℕ) 
 entry_here info first es i e s = entry_seen info first es i e (slice_get_within es i e s) ∙
     ap (λ (x : StackEntry). graph_entry info first (entry_view x)) (get_or_from_slice_get es i e e s)
 
-entry_into : (source : Source) (e : StackEntry) → AreFit source.info source.operators →
-    public.IsEntryOf source e → theory.IsEntryOf source.preserving (shapes_in source) (graph_entry source.info source.first
-    (entry_view e))
-entry_into source e fit (n, l, at, kind) =
-    let block = shapes_in source in
-    let count = block_length source.info source.operators fit in
-    let number : e.operator_idx - source.first ≡ n = omega arith in (
-      omega arith,
-      elim kind [
-        | inl (i, offset, here, instr, color) ↦
-            let o = operator_there source.info source.operators fit n l in
-            let same : o.operator ≡ (Instr i, offset) = some_same o.operator (Instr i, offset) (sym o.here ∙ here) in
-            let of = operator_fits source.info o.operator.0 o.shape o.judged in
-            let own : Instr o.shape.instr ≡ Instr i = sym of ∙ ap (λ (x : Operator × ℕ). x.0) same in
-            let shape : shape_at block (e.operator_idx - source.first) ≡ Some (shape_of source.info i) =
-            ap (shape_at block) number ∙ (shape_turned (operator_shapes source.info source.operators) n ∙
-            (o.shaped ∙ ap Some (sym (shape_fit source.info o.operator.0 o.shape o.judged) ∙
-            ap (shape_of source.info) (instr_same o.shape.instr i own)))) in
-            subst (λ o. theory.IsOperator source.preserving block o (graph_entry source.info source.first (entry_view e)))
-            (sym (ap (option_map (shape_of source.info)) instr)) (
-              shape,
-              color ∙ ap (color_at source.preserving block)
-                  (sym number),
-            )
-        | inr (missing, color) ↦
-            subst (λ o. theory.IsOperator source.preserving block o (graph_entry source.info source.first (entry_view e)))
-            (sym (ap (λ (l : Lang). option_map (shape_of source.info) (instr_of l)) missing ∙
-            ap (option_map (shape_of source.info)) undef_instr))
-            (ap children_of missing ∙ undef_children, color)
-      ],
-    )
-  where
-    instr_same : (i j : Instruction) → Instr i ≡ Instr j → i ≡ j
-    instr_same i j e = cc
+module _ (source : Source) (e : StackEntry) (fit : AreFit source.info source.operators) where
+  abbrev seen : GraphEntry
+  seen = graph_entry source.info source.first (entry_view e)
 
-entry_from : (source : Source) (e : StackEntry) → AreFit source.info source.operators → source.first ≤ e.operator_idx →
-    IsOwnOrUndef e →
-    theory.IsEntryOf source.preserving (shapes_in source) (graph_entry source.info source.first (entry_view e)) →
-    public.IsEntryOf source e
-entry_from source e fit later missing (l, kind) =
-    let block = shapes_in source in
-    let count = block_length source.info source.operators fit in
-    let n = e.operator_idx - source.first in
-    (n, omega arith, omega arith, go (instr_of e.operator) refl kind)
-  where
-    go : (o : Option Instruction) → instr_of e.operator ≡ o → theory.IsOperator source.preserving (shapes_in source)
-        (option_map (shape_of source.info) o) (graph_entry source.info source.first (entry_view e)) →
-        public.IsOperator source (e.operator_idx - source.first) e ⊎ IsMissing e
-    go None w k = inr (missing w, k.1)
-    go (Some i) w k =
-        let count = block_length source.info source.operators fit in
-        let o = operator_there source.info source.operators fit (e.operator_idx - source.first) (omega arith) in
-        let shape : o.shape ≡ shape_of source.info i =
-        some_same o.shape (shape_of source.info i) (sym o.shaped ∙
-        (sym (shape_turned (operator_shapes source.info source.operators) (e.operator_idx - source.first)) ∙ k.0)) in
-        let own : o.operator.0 ≡ Instr i = operator_fits source.info o.operator.0 o.shape o.judged ∙
-        ap Instr (ap (λ (s : Shape). s.instr) shape ∙ shape_instr source.info i) in
-        inl (i, o.operator.1, o.here ∙ ap (λ (x : Operator). Some (x, o.operator.1)) own, w, k.1)
+  entry_into : public.IsEntryOf source e → theory.IsEntryOf source.preserving (shapes_in source) seen
+  entry_into (n, l, at, kind) =
+      let block = shapes_in source in
+      let P : Option Shape → Type 0 = λ o. theory.IsOperator source.preserving block o seen in
+      let count = block_length source.info source.operators fit in
+      let number : e.operator_idx - source.first ≡ n = omega arith in (
+        omega arith,
+        elim kind [
+          | inl (i, offset, here, instr, color) ↦
+              let o = operator_there source.info source.operators fit n l in
+              let first = ap (λ (x : Operator × ℕ). x.0) (same_Some o.operator (Instr i, offset) (sym o.here ∙ here)) in
+              let own = operator_fits source.info o.operator.0 o.shape o.judged in
+              let fits = shape_fit source.info o.operator.0 o.shape o.judged in
+              let turned = shape_turned (operator_shapes source.info source.operators) n in
+              let shape : shape_at block (e.operator_idx - source.first) ≡ Some (shape_of source.info i) = cc in
+              subst P (sym (ap (option_map (shape_of source.info)) instr)) (shape, color ∙ ap (color_at source.preserving block) (sym number))
+          | inr (missing, color) ↦ subst P (sym (ap (λ (l : Lang). option_map (shape_of source.info) (instr_of l)) missing ∙
+              ap (option_map (shape_of source.info)) undef_instr)) (ap children_of missing ∙ undef_children, color)
+        ],
+      )
+
+  entry_from : source.first ≤ e.operator_idx → IsOwnOrUndef e → theory.IsEntryOf source.preserving (shapes_in source) seen → public.IsEntryOf source e
+  entry_from later missing (l, kind) =
+      let count = block_length source.info source.operators fit in
+      (e.operator_idx - source.first, omega arith, omega arith, go (instr_of e.operator) refl kind)
+    where
+      go : (o : Option Instruction) → instr_of e.operator ≡ o → theory.IsOperator source.preserving (shapes_in source)
+          (option_map (shape_of source.info) o) seen → public.IsOperator source (e.operator_idx - source.first) e ⊎ IsMissing e
+      go None w k = inr (missing w, k.1)
+      go (Some i) w k =
+          let count = block_length source.info source.operators fit in
+          let n = e.operator_idx - source.first in
+          let o = operator_there source.info source.operators fit n (omega arith) in
+          let turned = shape_turned (operator_shapes source.info source.operators) n in
+          let painted = k.0 in
+          let fits = operator_fits source.info o.operator.0 o.shape o.judged in
+          let instr = shape_instr source.info i in
+          let own : o.operator.0 ≡ Instr i = cc in
+          inl (i, o.operator.1, o.here ∙ ap (λ (x : Operator). Some (x, o.operator.1)) own, w, k.1)
 
 -- ---- graphs
 
-pub represents : (source : Source) (given : Graph) →
-    IsGraphOf source given → Represents source given
-represents source given h = record {
-  fit = h.fit;
-  small = h.small;
-  stands = record {
-    same_length = length-reverse given.parents ∙ (h.forest_is.paired ∙ sym count);
-    trees = h.trees;
-    entries = λ i l.
-        let e = get_or given.entries i d in
-        let n = count in
-        let s = here i (omega arith) in
-        subst (theory.IsEntryOf source.preserving (shapes_in source))
-        (sym (entry_here source.info source.first given.entries i e s)) (entry_into source e h.fit (h.entry i e s));
-    parent = λ p i w. let q = h.forest_is.parent p i (sym (ap (has i) (children_seen source.info source.first given.entries p)) ∙
-        w) in (parent_there given.parents i p q.0, q.1);
-    child = λ p i w.
-        let q = h.forest_is.child p i (parent_read given.parents i p w) in
-        let l = with_children given.entries p i q in
-        let n = count in
-        (omega arith, ap (has i) (children_seen source.info source.first given.entries p) ∙ q);
-    once = λ p. subst (IsDistinct nat_eq) (sym (children_seen source.info source.first given.entries p)) (h.forest_is.once p);
-    taker = λ p i w none.
-        let q = sym (ap (has i) (children_seen source.info source.first given.entries p)) ∙ w in
-        let l = with_children given.entries p i q in
-        let below = (h.forest_is.parent p i q).1 in
-        let e = get_or given.entries p d in
-        let x = get_or given.entries i d in
-        let se = here p l in
-        let sx = here i (omega arith) in
-        let missing = lacks i x sx (sym (ap (λ (y : GraphEntry). y.shape)
-        (entry_here source.info source.first given.entries i x sx)) ∙ none) in
-        let same = h.taker p i e x se sx (sym (ap (has i) (children_here given.entries p e se)) ∙ q) missing in
-        ap (λ (y : GraphEntry). y.number) (entry_here source.info source.first given.entries i x sx) ∙
-        (ap (λ k. k - source.first) same ∙ sym (ap (λ (y : GraphEntry). y.number)
-        (entry_here source.info source.first given.entries p e se)));
-    order = λ i j le l.
-        let n = count in
-        let x = get_or given.entries i d in
-        let y = get_or given.entries j d in
-        let sx = here i (omega arith) in
-        let sy = here j (omega arith) in
-        let rises = h.order i j x y le sx sy in
-        let p : (entry_at (graph_entries source.info source.first given.entries) i).number ≡ x.operator_idx - source.first =
-        ap (λ (z : GraphEntry). z.number) (entry_here source.info source.first given.entries i x sx) in
-        let q : (entry_at (graph_entries source.info source.first given.entries) j).number ≡ y.operator_idx - source.first =
-        ap (λ (z : GraphEntry). z.number) (entry_here source.info source.first given.entries j y sy) in
-        omega arith;
-  };
-  missing = λ i e l w. own (h.entry i (get_or given.entries i e) (slice_get-get_or given.entries i e l)) w;
-  later = seen_later given.entries (λ i e s. let at = (h.entry i e s).2 in omega arith);
-  finds = h.finds;
-  keys = h.keys;
-  last = h.last;
-}
-  where
-    d : StackEntry
-    d = undef_entry 0
+module _ (source : Source) (given : Graph) where
+  abbrev nodes : List GraphEntry
+  nodes = graph_entries source.info source.first given.entries
 
-    count : length (graph_entries source.info source.first given.entries) ≡ length given.entries
-    count = nodes_length source.info source.first given.entries
+  abbrev entry : ℕ → StackEntry
+  entry i = get_or given.entries i (undef_entry 0)
 
-    here : (i : ℕ) → i < length given.entries → slice_get given.entries i ≡ Some (get_or given.entries i d)
-    here i l = slice_get-get_or given.entries i d l
+  abbrev IsAt : ℕ → StackEntry → Type 0
+  IsAt i e = slice_get given.entries i ≡ Some e
 
-    own : {e : StackEntry} → public.IsEntryOf source e → instr_of e.operator ≡ None → e.operator ≡ Undef
-    own (n, l, at, inl (i, offset, there, instr, color)) w = some_none i (sym instr ∙ w)
-    own (n, l, at, inr (missing, color)) w = missing
+  count : length nodes ≡ length given.entries
+  count = nodes_length source.info source.first given.entries
 
-    lacks : (i : ℕ) (e : StackEntry) → slice_get given.entries i ≡ Some e → option_map (shape_of source.info)
-        (instr_of e.operator) ≡ None → IsMissing e
+  here : (i : ℕ) → i < length given.entries → IsAt i (entry i)
+  here i l = slice_get-get_or given.entries i (undef_entry 0) l
+
+  at : (i : ℕ) (e : StackEntry) → IsAt i e → entry_at nodes i ≡ graph_entry source.info source.first (entry_view e)
+  at = entry_here source.info source.first given.entries
+
+  number : (i : ℕ) (e : StackEntry) → IsAt i e → (entry_at nodes i).number ≡ e.operator_idx - source.first
+  number i e s = ap (λ (z : GraphEntry). z.number) (at i e s)
+
+  kids : (p i : ℕ) → has i (entry_at nodes p).children ≡ has i (children_at given.entries p)
+  kids p i = ap (has i) (children_seen source.info source.first given.entries p)
+
+  module _ (h : IsGraphOf source given) where
+    own : (e : StackEntry) → public.IsEntryOf source e → instr_of e.operator ≡ None → e.operator ≡ Undef
+    own e (n, l, at, inl (i, offset, there, instr, color)) w = some_none i (sym instr ∙ w)
+    own e (n, l, at, inr (missing, color)) w = missing
+
+    lacks : (i : ℕ) (e : StackEntry) → IsAt i e → option_map (shape_of source.info) (instr_of e.operator) ≡ None → IsMissing e
     lacks i e s none = elim (h.entry i e s).3 [
-      | inl (j, offset, there, instr, color) ↦ some_none (shape_of source.info j)
-          (sym (ap (option_map (shape_of source.info)) instr) ∙ none)
+      | inl (j, offset, there, instr, color) ↦ some_none (shape_of source.info j) (sym (ap (option_map (shape_of source.info)) instr) ∙ none)
       | inr missing ↦ missing
     ]
 
-    seen_later : (es : List StackEntry) → ((i : ℕ) (e : StackEntry) → slice_get es i ≡ Some e → source.first ≤ e.operator_idx) →
-        All (λ (x : EntryView). source.first ≤ x.operator) (map entry_view es)
-    seen_later es f = λ i x l.
-        let n = length-map es entry_view in
-        let e = get_or es i d in
-        let low = f i e (slice_get-get_or es i d (omega arith)) in
-        let same = get_or-map entry_view es i d x (omega arith) in
-        subst (λ (y : EntryView). source.first ≤ y.operator) (sym same) low
+    pub represents : Represents source given
+    represents = record {
+      fit = h.fit;
+      small = h.small;
+      stands = record {
+        same_length = length-reverse given.parents ∙ (h.forest_is.paired ∙ sym count);
+        trees = h.trees;
+        entries = λ i l.
+            let n = count in
+            let s = here i (omega arith) in
+            subst (theory.IsEntryOf source.preserving (shapes_in source)) (sym (at i (entry i) s))
+            (entry_into source (entry i) h.fit (h.entry i (entry i) s));
+        parent = λ p i w. let q = h.forest_is.parent p i (sym (kids p i) ∙ w) in (parent_there given.parents i p q.0, q.1);
+        child = λ p i w.
+            let q = h.forest_is.child p i (parent_read given.parents i p w) in
+            let l = with_children given.entries p i q in
+            let n = count in
+            (omega arith, kids p i ∙ q);
+        once = λ p. subst (IsDistinct nat_eq) (sym (children_seen source.info source.first given.entries p)) (h.forest_is.once p);
+        taker = λ p i w none.
+            let q = sym (kids p i) ∙ w in
+            let l = with_children given.entries p i q in
+            let below = (h.forest_is.parent p i q).1 in
+            let se = here p l in
+            let sx = here i (omega arith) in
+            let missing = lacks i (entry i) sx (sym (ap (λ (y : GraphEntry). y.shape) (at i (entry i) sx)) ∙ none) in
+            let same = h.taker p i (entry p) (entry i) se sx (sym (ap (has i) (children_here given.entries p (entry p) se)) ∙ q) missing in
+            number i (entry i) sx ∙ (ap (λ k. k - source.first) same ∙ sym (number p (entry p) se));
+        order = λ i j le l.
+            let n = count in
+            let sx = here i (omega arith) in
+            let sy = here j (omega arith) in
+            let rises = h.order i j (entry i) (entry j) le sx sy in
+            let p = number i (entry i) sx in
+            let q = number j (entry j) sy in
+            omega arith;
+      };
+      missing = λ i e l w. own (get_or given.entries i e) (h.entry i (get_or given.entries i e) (slice_get-get_or given.entries i e l)) w;
+      later = All-map (λ (x : EntryView). source.first ≤ x.operator) entry_view given.entries (All-from_get_or
+          (λ (e : StackEntry). source.first ≤ e.operator_idx) given.entries (undef_entry 0)
+          (λ i l. let at = (h.entry i (entry i) (here i l)).2 in omega arith));
+      finds = h.finds;
+      keys = h.keys;
+      last = h.last;
+    }
 
-pub is_graph_of : (source : Source) (given : Graph) →
-    Represents source given → IsGraphOf source given
-is_graph_of source given h = record {
-  fit = h.fit;
-  small = h.small;
-  forest_is = record {
-    paired = sym (length-reverse given.parents) ∙ (h.stands.same_length ∙ count);
-    parent = λ p i w. let q = h.stands.parent p i (ap (has i) (children_seen source.info source.first given.entries p) ∙ w) in
-        (parent_read given.parents i p q.0, q.1);
-    child = λ p i w. sym (ap (has i) (children_seen source.info source.first given.entries p)) ∙
-        (h.stands.child p i (parent_there given.parents i p w)).1;
-    once = λ p. subst (IsDistinct nat_eq) (children_seen source.info source.first given.entries p) (h.stands.once p);
-  };
-  trees = h.stands.trees;
-  entry = λ i e s. entry_from source e h.fit (later i e s) (missing i e s) (at i e s);
-  taker = λ p i e x se sx w m.
-      let same = h.stands.taker p i
-      (ap (λ (y : GraphEntry). has i y.children) (entry_here source.info source.first given.entries p e se) ∙ w)
-      (ap (λ (y : GraphEntry). y.shape) (entry_here source.info source.first given.entries i x sx) ∙
-      ap (option_map (shape_of source.info)) (ap instr_of m.0 ∙ undef_instr)) in
-      let p' : (entry_at (graph_entries source.info source.first given.entries) i).number ≡ x.operator_idx - source.first =
-      ap (λ (z : GraphEntry). z.number) (entry_here source.info source.first given.entries i x sx) in
-      let q' : (entry_at (graph_entries source.info source.first given.entries) p).number ≡ e.operator_idx - source.first =
-      ap (λ (z : GraphEntry). z.number) (entry_here source.info source.first given.entries p e se) in
-      let a = later i x sx in
-      let b = later p e se in
-      omega arith;
-  order = λ i j x y le sx sy.
-      let l = slice_get_within given.entries j y sy in
-      let n = count in
-      let rises = h.stands.order i j le (omega arith) in
-      let p : (entry_at (graph_entries source.info source.first given.entries) i).number ≡ x.operator_idx - source.first =
-      ap (λ (z : GraphEntry). z.number) (entry_here source.info source.first given.entries i x sx) in
-      let q : (entry_at (graph_entries source.info source.first given.entries) j).number ≡ y.operator_idx - source.first =
-      ap (λ (z : GraphEntry). z.number) (entry_here source.info source.first given.entries j y sy) in
-      let a = later i x sx in
-      let b = later j y sy in
-      omega arith;
-  finds = h.finds;
-  keys = h.keys;
-  last = h.last;
-}
-  where
-    count : length (graph_entries source.info source.first given.entries) ≡ length given.entries
-    count = nodes_length source.info source.first given.entries
+  module _ (h : Represents source given) where
+    later : (i : ℕ) (e : StackEntry) → IsAt i e → source.first ≤ e.operator_idx
+    later i e s = all_slice_get (λ (x : StackEntry). source.first ≤ x.operator_idx) given.entries i e s (later_entries source.first given.entries h.later)
 
-    later : (i : ℕ) (e : StackEntry) → slice_get given.entries i ≡ Some e → source.first ≤ e.operator_idx
-    later i e s = subst (λ (x : StackEntry). source.first ≤ x.operator_idx) (get_or_from_slice_get given.entries i e e s)
-        (All-get_or (λ (x : StackEntry). source.first ≤ x.operator_idx) given.entries i e (slice_get_within given.entries i e s)
-        (later_entries source.first given.entries h.later))
-
-    missing : (i : ℕ) (e : StackEntry) → slice_get given.entries i ≡ Some e → IsOwnOrUndef e
-    missing i e s = subst IsOwnOrUndef (get_or_from_slice_get given.entries i e e s) (All-get_or IsOwnOrUndef given.entries i e
-        (slice_get_within given.entries i e s) h.missing)
-
-    at : (i : ℕ) (e : StackEntry) → slice_get given.entries i ≡ Some e → theory.IsEntryOf source.preserving (shapes_in source)
-        (graph_entry source.info source.first (entry_view e))
-    at i e s = subst (theory.IsEntryOf source.preserving (shapes_in source))
-        (entry_here source.info source.first given.entries i e s)
-        (h.stands.entries i (let l = slice_get_within given.entries i e s in let n = count in omega arith))
+    pub is_graph_of : IsGraphOf source given
+    is_graph_of = record {
+      fit = h.fit;
+      small = h.small;
+      forest_is = record {
+        paired = sym (length-reverse given.parents) ∙ (h.stands.same_length ∙ count);
+        parent = λ p i w. let q = h.stands.parent p i (kids p i ∙ w) in (parent_read given.parents i p q.0, q.1);
+        child = λ p i w. sym (kids p i) ∙ (h.stands.child p i (parent_there given.parents i p w)).1;
+        once = λ p. subst (IsDistinct nat_eq) (children_seen source.info source.first given.entries p) (h.stands.once p);
+      };
+      trees = h.stands.trees;
+      entry = λ i e s.
+          let l = slice_get_within given.entries i e s in
+          let n = count in
+          entry_from source e h.fit (later i e s) (all_slice_get IsOwnOrUndef given.entries i e s h.missing)
+          (subst (theory.IsEntryOf source.preserving (shapes_in source)) (at i e s) (h.stands.entries i (omega arith)));
+      taker = λ p i e x se sx w m.
+          let same = h.stands.taker p i (ap (λ (y : GraphEntry). has i y.children) (at p e se) ∙ w)
+          (ap (λ (y : GraphEntry). y.shape) (at i x sx) ∙ ap (option_map (shape_of source.info)) (ap instr_of m.0 ∙ undef_instr)) in
+          let p' = number i x sx in
+          let q' = number p e se in
+          let a = later i x sx in
+          let b = later p e se in
+          omega arith;
+      order = λ i j x y le sx sy.
+          let l = slice_get_within given.entries j y sy in
+          let n = count in
+          let rises = h.stands.order i j le (omega arith) in
+          let p = number i x sx in
+          let q = number j y sy in
+          let a = later i x sx in
+          let b = later j y sy in
+          omega arith;
+      finds = h.finds;
+      keys = h.keys;
+      last = h.last;
+    }

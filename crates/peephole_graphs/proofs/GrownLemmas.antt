@@ -1,77 +1,131 @@
 -- What has grown is the graph of the block.
-use Rattle.std.proofs.Common.{◌≡◌, ℕ, suc, ◌+◌, ◌-◌, ◌<◌, ◌≤◌, Bool, List, length, None, Some, sym, ap, ◌∙◌, subst, arith}
-use Rattle.std.specs.Prelude.{◌↔◌, IsTrue, is_some, reverse}
+use Rattle.std.proofs.Common.{Bool, ◌≡◌, ℕ, suc, ◌+◌, ◌-◌, ◌≤◌, List, length, get_or, Option, None, Some, sym, ap, ◌∙◌, subst, arith, ⊎_elim, refl}
+use Rattle.std.specs.Prelude.{◌↔◌, IsTrue, is_some, option_map, reverse, slice_get}
 use Rattle.std.specs.Bool.{nat_eq}
 use Rattle.std.specs.HashMap as hash
+use Rattle.std.proofs.lemmas.Bool.{cond-true, cond-false, le-leb, lt-leb, cases_lt}
 use Rattle.std.proofs.lemmas.List.{take_all}
+use Rattle.std.proofs.lemmas.Option.{slice_get-get_or, slice_get_within}
+use Rattle.wasm_code.specs.Instruction.{Instruction}
+use Rattle.mutate_base.specs.Module.{Module}
+use Rattle.peephole_lang.specs.Node.{instr_of}
+use Rattle.peephole_graphs.specs.declared.dfg.StackEntry.{StackEntry}
+use Rattle.peephole_graphs.specs.declared.growing.Growing.{Growing}
 use Rattle.peephole_graphs.specs.Forest.{IsInOrder}
+use Rattle.peephole_graphs.specs.Graph.{GraphEntry}
 use Rattle.peephole_graphs.specs.Step.{Growth}
 use Rattle.peephole_graphs.specs.Downwards.{Kin, forwards}
-use Rattle.peephole_graphs.specs.Entries.{kins_of, graph_entries}
-use Rattle.peephole_graphs.specs.GraphOf.{IsSmall}
+use Rattle.peephole_graphs.specs.Source.{Source, shapes_in}
+use Rattle.peephole_graphs.specs.Entries.{kins_of, shape_of}
+use Rattle.peephole_graphs.specs.Growing.{undef_entry}
+use Rattle.peephole_graphs.specs.GraphOf.{IsSmall, IsGraphOf, IsOwnEntry}
 use Rattle.peephole_graphs.specs.Building.{HasGrown, graph_in}
-use Rattle.peephole_graphs.specs.declared.growing.Growing.{Growing}
-use Rattle.peephole_graphs.proofs.Stands.{parent_at, Stands}
+use Rattle.peephole_graphs.proofs.Lists.{all_slice_get}
+use Rattle.peephole_graphs.proofs.Stands.{parent_at, is_operator, Stands}
 use Rattle.peephole_graphs.proofs.StackGraph.{graph}
-use Rattle.peephole_graphs.proofs.Standing.{own, Facts, last_of, stands, facts}
+use Rattle.peephole_graphs.proofs.Standing.{own, Facts, stands, facts}
 use Rattle.peephole_graphs.proofs.Totals.{kins}
-use Rattle.peephole_graphs.proofs.DfgLemmas.{nodes_length, kins_same}
+use Rattle.peephole_graphs.proofs.DfgLemmas.{nodes_length, kins_same, get_item, later_entries}
 use Rattle.peephole_graphs.proofs.Forwards.{order_forwards}
 use Rattle.peephole_graphs.proofs.Raising.{block_raises}
 use Rattle.peephole_graphs.proofs.Contiguous.{contiguous}
 use Rattle.peephole_graphs.proofs.GraphLemmas.{in_order}
-use Rattle.peephole_graphs.specs.GraphOf.{IsGraphOf}
-use Rattle.peephole_graphs.proofs.GraphOfLemmas.{is_graph_of}
-use Rattle.peephole_graphs.proofs.BuilderLemmas.{Kept, over, front, state_of, block_length, kept_parents, finds_own}
-use Rattle.peephole_graphs.proofs.BuilderLemmas.{named_key, last_entry}
-use Rattle.peephole_graphs.specs.Source.{Source, shapes_in}
+use Rattle.peephole_graphs.proofs.GraphOfLemmas.{is_graph_of, entry_here}
+use Rattle.peephole_graphs.proofs.BuilderLemmas.{Kept, named, nodes_in, state_of, over, front, block_length, kept_parents}
 
-pub grown_from : (source : Source) (g : Growing) → Kept source g → HasGrown source g
-grown_from source g h =
-    let block = shapes_in source in
-    let es = g.entries.items in
-    let look = hash.get nat_eq g.map in
-    let nodes = graph_entries source.info source.first es in
-    let count = block_length source.info source.operators h.fit in
-    let state : graph source.preserving block ≡ state_of source.info source.first g = sym h.state in
-    let f : Facts source.preserving block nodes (reverse g.parents.items) =
-    subst (λ (x : Growth). Facts source.preserving block x.nodes x.parents) state (facts source.preserving block) in
-    let n = nodes_length source.info source.first es in
-    let some_entries : (m : ℕ) → length source.operators ≡ suc m → 0 < length es = λ m e. let c = f.count in omega arith in
-    let last : 0 < length block → (own nodes (length block - 1) ≡
-    Some (length nodes - 1)) ×
-    (parent_at (reverse g.parents.items) (length nodes - 1) ≡ None) =
-    λ l. subst (λ (x : Growth). (own x.nodes (length block - 1) ≡ Some (length x.nodes - 1)) ×
-    (parent_at x.parents (length x.nodes - 1) ≡ None)) state (last_of source.preserving block l) in
-    let stand : Stands source.preserving block nodes (reverse g.parents.items) =
-    subst (λ (x : Growth). Stands source.preserving block x.nodes x.parents) state (stands source.preserving block) in
-    let forward : IsTrue (forwards (kins_of es)) ↔ IsInOrder block = subst (λ (x : List Kin). IsTrue (forwards x) ↔
-    IsInOrder block)
-    (ap (λ (x : Growth). kins x.nodes) state ∙ kins_same source.info source.first es)
-    (order_forwards source.preserving block h.small) in
-    let is : IsGraphOf source (graph_in g) = is_graph_of source (graph_in g) (
-    record {
-      fit = h.fit;
-      small = h.small;
-      stands = stand;
-      finds = finds_own source (graph_in g) f h.names h.later;
-      keys = λ m l. let w = f.owns m (omega arith) in ap is_some (h.names (source.first + m) ∙
-          (named_key source.first m nodes ∙ w.2));
-      last = λ m e. last_entry source.info source.first block es g.parents.items look (kept_parents source g h)
-          (some_entries m e) h.names (last (omega arith)) m (omega arith);
-      later = h.later;
-      missing = h.missing;
-    }
-    ) in
-    let order = in_order source (graph_in g) is in
-    record {
-      graph = is;
-      contiguous = λ on. contiguous source.info source.first block es (ap (λ (k : Bool). (graph k block).nodes) (sym on) ∙
-          ap (λ (x : Growth). x.nodes) state) h.later (block_raises source.info source.operators)
-          (subst (λ k. IsSmall k block) on h.small);
-      measured = h.measured;
-      lies = (λ t. order.1 (forward.0 t), λ a. forward.1 (order.0 a));
-    }
+none_index : {P : Type 0} (i : ℕ) → ◌≡◌ {A = Option ℕ} None (Some i) → P
+none_index i e = cc
+
+operator_some : (info : Module) (o : Option Instruction) → is_operator (option_map (shape_of info) o) ≡ is_some o
+operator_some info None = refl
+operator_some info (Some i) = refl
+
+named_key : (first n : ℕ) (nodes : List GraphEntry) → named first nodes (first + n) ≡ own nodes n
+named_key first n nodes =
+    let e : (first + n) - first ≡ n = omega arith in cond-true _ _ _ (le-leb first (first + n) (omega arith)) ∙ ap (own nodes) e
+
+module _ (source : Source) (g : Growing) (h : Kept source g) where
+  state_is : graph source.preserving (shapes_in source) ≡ state_of source g
+  state_is = sym h.state
+
+  facts_are : Facts source.preserving (shapes_in source) (nodes_in source g) (reverse g.parents.items)
+  facts_are = subst (λ (x : Growth). Facts source.preserving (shapes_in source) x.nodes x.parents) state_is (facts source.preserving (shapes_in source))
+
+  count : length (nodes_in source g) ≡ length g.entries.items
+  count = nodes_length source.info source.first g.entries.items
+
+  low : (i : ℕ) (x : StackEntry) → slice_get g.entries.items i ≡ Some x → source.first ≤ x.operator_idx
+  low i x s = all_slice_get (λ (e : StackEntry). source.first ≤ e.operator_idx) g.entries.items i x s (later_entries source.first g.entries.items h.later)
+
+  -- the map finds the own entry of each operator, and nothing else
+  found_is_own : (k i : ℕ) → hash.get nat_eq g.map k ≡ Some i → IsOwnEntry g.entries.items k i
+  found_is_own k i e = ⊎_elim
+      (λ u. none_index i (sym (cond-false _ _ _ (lt-leb source.first k u)) ∙ (sym (h.names k) ∙ e)))
+      (λ u.
+      let o = facts_are.owned (k - source.first) i (sym (cond-true _ _ _ (le-leb source.first k u)) ∙ (sym (h.names k) ∙ e)) in
+      let x = get_or g.entries.items i (undef_entry 0) in
+      let n = count in
+      let inside = o.0 in
+      let s = slice_get-get_or g.entries.items i (undef_entry 0) (omega arith) in
+      let q = entry_here source.info source.first g.entries.items i x s in
+      let a = low i x s in
+      let m = sym (ap (λ (e : GraphEntry). e.number) q) ∙ o.2 in
+      (x, s, omega arith, sym (operator_some source.info (instr_of x.operator)) ∙ (sym (ap (λ (e : GraphEntry). is_operator e.shape) q) ∙ o.1)))
+      (cases_lt k source.first)
+
+  own_is_found : (k i : ℕ) → IsOwnEntry g.entries.items k i → hash.get nat_eq g.map k ≡ Some i
+  own_is_found k i w =
+      let n = count in
+      let l = slice_get_within g.entries.items i w.0 w.1 in
+      let q = entry_here source.info source.first g.entries.items i w.0 w.1 in
+      let a = low i w.0 w.1 in
+      let c = w.2 in
+      let o = facts_are.owner i (omega arith)
+      (ap (λ (e : GraphEntry). is_operator e.shape) q ∙ (operator_some source.info (instr_of (w.0).operator) ∙ w.3)) in
+      let m = ap (λ (e : GraphEntry). e.number) q ∙ ap (λ x. x - source.first) c in
+      h.names k ∙ (cond-true _ _ _ (le-leb source.first k (omega arith)) ∙ (ap (own (nodes_in source g)) (sym m) ∙ o))
+
+  last_is_found : (n : ℕ) → length source.operators ≡ suc n → (hash.get nat_eq g.map (source.first + n) ≡ Some (length g.entries.items - 1))
+      × (slice_get g.parents.items (length g.entries.items - 1) ≡ Some None)
+  last_is_found n e =
+      let ps = g.parents.items in
+      let m = count in
+      let c = facts_are.count in
+      let p = kept_parents source g h in
+      let b = block_length source.info source.operators h.fit in
+      let f = facts_are.last n (omega arith) in (
+        h.names (source.first + n) ∙ (named_key source.first n (nodes_in source g) ∙ (f.0 ∙ ap (λ k. Some (k - 1)) m)),
+        slice_get-get_or ps (length g.entries.items - 1) None (omega arith) ∙ ap Some (get_item None ps (length g.entries.items - 1) ∙
+            (ap (λ k. parent_at (reverse ps) (k - 1)) (sym m) ∙ f.1)),
+      )
+
+  is_graph : IsGraphOf source (graph_in g)
+  is_graph = is_graph_of source (graph_in g) (record {
+    fit = h.fit;
+    small = h.small;
+    stands = subst (λ (x : Growth). Stands source.preserving (shapes_in source) x.nodes x.parents) state_is (stands source.preserving (shapes_in source));
+    finds = λ k i. (found_is_own k i, own_is_found k i);
+    keys = λ m l. let b = block_length source.info source.operators h.fit in let w = facts_are.owns m (omega arith) in
+        ap is_some (h.names (source.first + m) ∙ (named_key source.first m (nodes_in source g) ∙ w.2));
+    last = last_is_found;
+    later = h.later;
+    missing = h.missing;
+  })
+
+  has_grown : HasGrown source g
+  has_grown =
+      let block = shapes_in source in
+      let es = g.entries.items in
+      let forward : IsTrue (forwards (kins_of es)) ↔ IsInOrder block = subst (λ (x : List Kin). IsTrue (forwards x) ↔ IsInOrder block)
+      (ap (λ (x : Growth). kins x.nodes) state_is ∙ kins_same source.info source.first es) (order_forwards source.preserving block h.small) in
+      let order = in_order source (graph_in g) is_graph in
+      record {
+        graph = is_graph;
+        contiguous = λ on. contiguous source.info source.first block es (ap (λ (k : Bool). (graph k block).nodes) (sym on) ∙
+            ap (λ (x : Growth). x.nodes) state_is) h.later (block_raises source.info source.operators) (subst (λ k. IsSmall k block) on h.small);
+        measured = h.measured;
+        lies = (λ t. order.1 (forward.0 t), λ a. forward.1 (order.0 a));
+      }
 
 pub kept_all : (source : Source) (i : ℕ) (g : Growing) → length source.operators ≤ i → Kept (front source i) g → HasGrown source g
-kept_all source i g l h = grown_from source g (subst (λ x. Kept (over source x) g) (take_all i source.operators l) h)
+kept_all source i g l h = has_grown source g (subst (λ x. Kept (over source x) g) (take_all i source.operators l) h)

@@ -1,3 +1,4 @@
+pub mod Lists
 pub mod Depth
 pub mod DepthLemmas
 pub mod Stands

@@ -2,7 +2,7 @@
 use Rattle.std.proofs.Common.{◌≡◌, ℕ, zero, suc, ◌+◌, ◌-◌, ◌<◌, ◌≤◌, Bool, false, cond, List, [], ◌∷◌, ◌++◌, length}
 use Rattle.std.proofs.Common.{map, get_or, Option, None, Some, refl, sym, ap, ap₂, ◌∙◌, subst, arith, inl, inr}
 use Rattle.std.specs.Prelude.{◌↔◌, is_some, slice_index, filter, option_map}
-use Rattle.std.specs.List.{All}
+use Rattle.std.specs.List.{All, flat_map}
 use Rattle.std.specs.List.Sorted.{IsStrictlyIncreasing}
 use Rattle.std.proofs.lemmas.Bool.{cond-true, cond-false, eq-eqb, ne_eqb, cases_eq, cases_Bool}
 use Rattle.std.proofs.lemmas.List.{length-append, length-map, map-append, get_or-map}
@@ -16,17 +16,18 @@ use Rattle.peephole_graphs.specs.Shape.{Shape}
 use Rattle.peephole_graphs.specs.Tree.{Tree, Trees, no_trees, ◌▸◌, postfix_of, postfix, range_from}
 use Rattle.peephole_graphs.specs.Forest.{forest, IsInOrder}
 use Rattle.peephole_graphs.specs.Graph.{GraphEntry, trees_at, undefs, tree_of_entry, tree_at_entry}
-use Rattle.peephole_graphs.specs.Downwards.{Kin, gather, downwards}
+use Rattle.peephole_graphs.specs.Downwards.{Kin, downwards}
 use Rattle.peephole_graphs.specs.Entries.{EntryView, entry_view, shape_of, graph_entries, roots_of}
 use Rattle.peephole_graphs.specs.Order.{is_operator_at, operators_among, forest_operators, AreInOrder}
 use Rattle.peephole_graphs.proofs.Stands.{entry_at, is_operator}
 use Rattle.peephole_graphs.proofs.Stacked.{is_open, kept, pulled, stacked, kept_open, kept_done, pulled_open, pulled_done}
 use Rattle.peephole_graphs.proofs.ForestLemmas.{forest_is}
 use Rattle.peephole_graphs.proofs.Together.{numbers, numbers_rev, forest_numbers, length-range}
-use Rattle.peephole_graphs.proofs.Sizes.{down_below, All_gather}
+use Rattle.peephole_graphs.proofs.Lists.{all_flat_map, all_left, all_right}
+use Rattle.peephole_graphs.proofs.Sizes.{down_below}
 use Rattle.peephole_graphs.proofs.Totals.{kin_of, kins}
 use Rattle.peephole_graphs.proofs.DfgLemmas.{nodes_length, entry_seen, kins_same}
-use Rattle.peephole_graphs.proofs.Contiguous.{all_left, all_right, number_seen}
+use Rattle.peephole_graphs.proofs.Contiguous.{number_seen}
 
 -- ---- the operators of an entry's tree are those of the entries from it downwards
 
@@ -48,10 +49,10 @@ own-older e earlier (i ∷ is) h =
     let same : entry_at (e ∷ earlier) i ≡ entry_at earlier i = cond-false _ _ _ (ne_eqb (length earlier) i (λ w. omega arith)) in
     grind (arith, same, own-older e earlier is (All-tail (λ i. i < length earlier) i is h))
 
-own-gather : (nodes : List GraphEntry) (at : ℕ → Tree) (f : ℕ → List ℕ) → ((i : ℕ) → postfix_of (at i) ≡ own_numbers nodes (f i)) →
-    (is : List ℕ) → postfix (trees_at at is) ≡ own_numbers nodes (gather f is)
-own-gather nodes at f h [] = refl
-own-gather nodes at f h (i ∷ is) = ap₂ (λ x y. x ++ y) (h i) (own-gather nodes at f h is) ∙ sym (own-append nodes (f i) (gather f is))
+own-flat_map : (nodes : List GraphEntry) (at : ℕ → Tree) (f : ℕ → List ℕ) → ((i : ℕ) → postfix_of (at i) ≡ own_numbers nodes (f i)) →
+    (is : List ℕ) → postfix (trees_at at is) ≡ own_numbers nodes (flat_map f is)
+own-flat_map nodes at f h [] = refl
+own-flat_map nodes at f h (i ∷ is) = ap₂ (λ x y. x ++ y) (h i) (own-flat_map nodes at f h is) ∙ sym (own-append nodes (f i) (flat_map f is))
 
 -- a missing operand has no operands
 abbrev pub IsLeafOrOwn : GraphEntry → Type 0
@@ -78,13 +79,13 @@ module _ (e : GraphEntry) (earlier : List GraphEntry) where
       let same : entry_at (e ∷ earlier) (length ks) ≡ e = cond-true _ _ _ (eq-eqb (length earlier) (length ks) (sym count)) in
       grind (arith, same)
 
-  whole : ((j : ℕ) → IsBelow earlier j) → own_numbers (e ∷ earlier) (gather (downwards ks) e.children ++ length ks ∷ []) ≡
+  whole : ((j : ℕ) → IsBelow earlier j) → own_numbers (e ∷ earlier) (flat_map (downwards ks) e.children ++ length ks ∷ []) ≡
       postfix (trees_at (tree_at_entry earlier) e.children) ++ own
   whole older =
-      let kids = gather (downwards ks) e.children in
+      let kids = flat_map (downwards ks) e.children in
       own-append (e ∷ earlier) kids (length ks ∷ []) ∙ ap₂ (λ x y. x ++ y)
-      (older_kept kids (All_gather (downwards ks) (length ks) e.children (down_below ks))
-      ∙ sym (own-gather earlier (tree_at_entry earlier) (downwards ks) older e.children)) last
+      (older_kept kids (all_flat_map (downwards ks) (length ks) e.children (down_below ks))
+      ∙ sym (own-flat_map earlier (tree_at_entry earlier) (downwards ks) older e.children)) last
 
   by_shape : (o : Option Shape) → (o ≡ None → e.children ≡ []) →
       postfix_of (tree_of_entry o e.children e.number (undefs earlier) (tree_at_entry earlier))
@@ -259,11 +260,11 @@ order_is info first block es parents later leaves trees =
     let all = postfix (forest block) in
     let n = length-map nodes kin_of ∙ nodes_length info first es in
     let inside =
-    subst (λ k. All (λ i. i < k) (gather (downwards ks) roots)) n (All_gather (downwards ks) (length ks) roots (down_below ks)) in
-    let own = own-gather nodes (tree_at_entry nodes) (downwards ks) (numbers-below nodes leaves) roots in
+    subst (λ k. All (λ i. i < k) (flat_map (downwards ks) roots)) n (all_flat_map (downwards ks) (length ks) roots (down_below ks)) in
+    let own = own-flat_map nodes (tree_at_entry nodes) (downwards ks) (numbers-below nodes leaves) roots in
     let same : forest_operators es parents ≡ map (λ n. first + n) all =
-    ap (λ x. operators_among es (gather (downwards x) roots)) (sym (kins_same info first es))
-    ∙ (among-seen info first es later (gather (downwards ks) roots) inside ∙ ap (map (λ n. first + n)) (sym own ∙ ap postfix trees)) in
+    ap (λ x. operators_among es (flat_map (downwards x) roots)) (sym (kins_same info first es))
+    ∙ (among-seen info first es later (flat_map (downwards ks) roots) inside ∙ ap (map (λ n. first + n)) (sym own ∙ ap postfix trees)) in
     let whole = in_order-ascends block in
     let up_and_down = shifted first all in (
       λ up. whole.0 (up_and_down.1 (subst IsStrictlyIncreasing same up)),

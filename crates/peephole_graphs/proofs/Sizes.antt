@@ -1,82 +1,48 @@
 -- Sizes and flags of a graph that grows.
-use Rattle.std.proofs.Common.{◌≡◌, ℕ, zero, suc, ◌+◌, ◌<◌, ◌≤◌, Bool, true, false, List, [], ◌∷◌, ◌++◌, length, refl, sym, ap, ap₂}
-use Rattle.std.proofs.Common.{◌∙◌, subst, arith, ⊎_elim}
-use Rattle.std.specs.Prelude.{◌&&◌, ◌==◌, reverse, replicate, if◌then◌else◌}
-use Rattle.std.specs.List.{All}
-use Rattle.std.proofs.lemmas.Bool.{cond-true, cond-false, eq-eqb, ne_eqb, cases_eq}
+use Rattle.std.proofs.Common.{◌≡◌, ℕ, zero, suc, ◌+◌, ◌<◌, ◌≤◌, Bool, true, false, List, [], ◌∷◌, ◌++◌, length, refl, sym, ap, ap₂, ◌∙◌, arith, ⊎_elim}
+use Rattle.std.specs.Prelude.{◌&&◌, ◌==◌, reverse, replicate}
+use Rattle.std.specs.List.{All, flat_map, sum_by}
+use Rattle.std.proofs.Math.Bool.{and-true, and-false, and_assoc, and_comm}
+use Rattle.std.proofs.lemmas.Bool.Decides.{nat_tests}
+use Rattle.std.proofs.lemmas.Bool.{cond-true, cond-false, cond_both, eq-eqb, ne_eqb, cases_eq}
+use Rattle.std.proofs.lemmas.Grind.{flat_map-append}
 use Rattle.std.proofs.lemmas.List.{length-append, reverse-append}
-use Rattle.std.proofs.lemmas.List.Elements.{All-head, All-tail, All-append, All-cons, All-nil}
+use Rattle.std.proofs.lemmas.List.Concat.{length-flat_map}
+use Rattle.std.proofs.lemmas.List.Elements.{All-head, All-tail, All-nil, All-push, All-weaker}
+use Rattle.std.proofs.lemmas.List.Sums.{sum_by-append, sum_by-cons}
 use Rattle.peephole_graphs.specs.Graph.{item}
 use Rattle.peephole_graphs.specs.Step.{down}
-use Rattle.peephole_graphs.specs.Downwards.{Kin, gather, downwards, kin_at, are_colored, sizes_of, flags_of, total, are_alike}
-use Rattle.peephole_graphs.proofs.Standing.{at_old, at_more, behind}
+use Rattle.peephole_graphs.specs.Downwards.{Kin, downwards, kin_at, are_colored, sizes_of, flags_of, are_alike}
+use Rattle.peephole_graphs.proofs.Lists.{all_reverse, all_flat_map, sum_by-reverse, sum_by_same}
+use Rattle.peephole_graphs.proofs.StackGraph.{behind}
+use Rattle.peephole_graphs.proofs.Standing.{at_old, at_more, item_last, item_before}
 
-pub gather_append : (f : ℕ → List ℕ) (is js : List ℕ) → gather f (is ++ js) ≡ gather f is ++ gather f js
-gather_append f [] js = refl
-gather_append f (i ∷ is) js = ap (λ x. f i ++ x) (gather_append f is js) ∙ sym (assoc (f i) (gather f is) (gather f js))
-  where
-    assoc : (a b c : List ℕ) → (a ++ b) ++ c ≡ a ++ (b ++ c)
-    assoc [] b c = refl
-    assoc (x ∷ a) b c = ap (λ y. x ∷ y) (assoc a b c)
-
-gather_length : (f : ℕ → List ℕ) (is : List ℕ) → length (gather f is) ≡ total (λ i. length (f i)) is
-gather_length f [] = refl
-gather_length f (i ∷ is) = length-append (f i) (gather f is) ∙ ap (λ x. length (f i) + x) (gather_length f is)
-
-pub total_append : (f : ℕ → ℕ) (is js : List ℕ) → total f (is ++ js) ≡ total f is + total f js
-total_append f [] js = omega arith
-total_append f (i ∷ is) js = let e = total_append f is js in omega arith
-
-pub total_reverse : (f : ℕ → ℕ) (is : List ℕ) → total f (reverse is) ≡ total f is
-total_reverse f [] = refl
-total_reverse f (i ∷ is) = ap (total f) (reverse-append (i ∷ []) is) ∙ (let e = total_append f (reverse is) (i ∷ []) in
-    let h = total_reverse f is in omega arith)
-
-pub total_same : (f g : ℕ → ℕ) (is : List ℕ) (n : ℕ) → All (λ i. i < n) is → ((i : ℕ) → i < n → f i ≡ g i) →
-    total f is ≡ total g is
-total_same f g [] n h e = refl
-total_same f g (i ∷ is) n h e = ap₂ (λ x y. x + y) (e i (All-head (λ i. i < n) i is h))
-    (total_same f g is n (All-tail (λ i. i < n) i is h) e)
-
-total_down : (f : ℕ → ℕ) (b k : ℕ) → ((i : ℕ) → b ≤ i → i < b + k → f i ≡ 1) → total f (down b k) ≡ k
-total_down f b zero h = refl
-total_down f b (suc k) h = let e = h (b + k) (omega arith) (omega arith) in
-    let g = total_down f b k (λ i a c. h i a (omega arith)) in omega arith
+sum_by_down : (f : ℕ → ℕ) (b k : ℕ) → ((i : ℕ) → b ≤ i → i < b + k → f i ≡ 1) → sum_by f (down b k) ≡ k
+sum_by_down f b zero h = refl
+sum_by_down f b (suc k) h =
+    let e = h (b + k) (omega arith) (omega arith) in
+    let g = sum_by_down f b k (λ i a c. h i a (omega arith)) in
+    omega (arith, sum_by-cons f (b + k) (down b k))
 
 -- old entries keep what lies below them
-pub down_old : (new u : Kin) (more : ℕ) (xs : List Kin) (i : ℕ) → i < length xs → downwards (replicate more u ++ xs) i ≡
-    downwards xs i
-down_old new u zero xs i l = refl
-down_old new u (suc k) xs i l = cond-false _ _ _ (ne_eqb (length (replicate k u ++ xs)) i (λ w. let e = behind u k xs in
-    omega arith)) ∙ down_old new u k xs i l
+pub down_old : (u : Kin) (more : ℕ) (xs : List Kin) (i : ℕ) → i < length xs → downwards (replicate more u ++ xs) i ≡ downwards xs i
+down_old u zero xs i l = refl
+down_old u (suc k) xs i l = let b = behind u k xs in let ih = down_old u k xs i l in grind (arith, nat_tests)
+
+pub down_own : (new : Kin) (ys : List Kin) → downwards (new ∷ ys) (length ys) ≡ flat_map (downwards ys) new.children ++ length ys ∷ []
+down_own new ys = cond-true _ _ _ (eq-eqb (length ys) (length ys) refl)
+
+down_bare : (u : Kin) (ys : List Kin) → u.children ≡ [] → downwards (u ∷ ys) (length ys) ≡ length ys ∷ []
+down_bare u ys e = down_own u ys ∙ ap (λ x. flat_map (downwards ys) x ++ length ys ∷ []) e
 
 pub down_more : (u : Kin) (more : ℕ) (xs : List Kin) (i : ℕ) → u.children ≡ [] → length xs ≤ i → i < length xs + more →
     downwards (replicate more u ++ xs) i ≡ i ∷ []
 down_more u zero xs i e m l = absurd (omega arith)
 down_more u (suc k) xs i e m l =
     let b = behind u k xs in
-    ⊎_elim
-    (λ w. cond-true _ _ _ (eq-eqb (length (replicate k u ++ xs)) i w) ∙
-    (ap (λ x. gather (downwards (replicate k u ++ xs)) x ++ length (replicate k u ++ xs) ∷ []) e ∙ ap (λ x. x ∷ []) w))
-    (λ w. cond-false _ _ _ (ne_eqb (length (replicate k u ++ xs)) i w) ∙ down_more u k xs i e m (omega arith))
-    (cases_eq (length (replicate k u ++ xs)) i)
-
-pub down_own : (new : Kin) (ys : List Kin) → downwards (new ∷ ys) (length ys) ≡ gather (downwards ys) new.children ++
-    length ys ∷ []
-down_own new ys = cond-true _ _ _ (eq-eqb (length ys) (length ys) refl)
-
-pub size_at : (xs : List Kin) (i : ℕ) → i < length xs → length (downwards xs i) ≡ item 0 (sizes_of xs) i
-size_at [] i l = absurd (omega arith)
-size_at (e ∷ xs) i l = ⊎_elim
-    (λ w. ap (λ j. length (downwards (e ∷ xs) j)) (sym w) ∙
-    sym (cond-true _ _ _ (eq-eqb (length (sizes_of xs)) i (sizes_length xs ∙ w))))
-    (λ w. ap length (cond-false _ _ _ (ne_eqb (length xs) i w)) ∙
-    (size_at xs i (omega arith) ∙ sym (cond-false _ _ _ (ne_eqb (length (sizes_of xs)) i (λ x. w (sym (sizes_length xs) ∙ x))))))
-    (cases_eq (length xs) i)
-  where
-    sizes_length : (xs : List Kin) → length (sizes_of xs) ≡ length xs
-    sizes_length [] = refl
-    sizes_length (e ∷ xs) = ap suc (sizes_length xs)
+    let own = down_bare u (replicate k u ++ xs) e in
+    let ih = down_more u k xs i e m in
+    grind (arith, nat_tests)
 
 pub sizes_length : (xs : List Kin) → length (sizes_of xs) ≡ length xs
 sizes_length [] = refl
@@ -86,53 +52,31 @@ pub flags_length : (xs : List Kin) → length (flags_of xs) ≡ length xs
 flags_length [] = refl
 flags_length (e ∷ xs) = ap suc (flags_length xs)
 
-pub sizes_replicate : (u : Kin) (k : ℕ) (xs : List Kin) → u.children ≡ [] → sizes_of (replicate k u ++ xs) ≡
-    replicate k 1 ++ sizes_of xs
-sizes_replicate u zero xs e = refl
-sizes_replicate u (suc k) xs e =
-    let ys = replicate k u ++ xs in
-    ap₂ (λ x y. length x ∷ y) (down_own u ys ∙ ap (λ x. gather (downwards ys) x ++ length ys ∷ []) e) (sizes_replicate u k xs e)
+pub size_at : (xs : List Kin) (i : ℕ) → i < length xs → length (downwards xs i) ≡ item 0 (sizes_of xs) i
+size_at [] i l = absurd (omega arith)
+size_at (e ∷ xs) i l = let ih = size_at xs i in grind (arith, nat_tests, sizes_length xs)
 
-pub sizes_step : (new u : Kin) (more : ℕ) (xs : List Kin) (taken : List ℕ) → u.children ≡ [] → new.children ≡
-    down (length xs) more ++ reverse taken → All (λ i. i < length xs) taken →
-    sizes_of (new ∷ (replicate more u ++ xs)) ≡ suc (more + total (λ i. item 0 (sizes_of xs) i) taken) ∷ (replicate more 1 ++
-    sizes_of xs)
+pub sizes_replicate : (u : Kin) (k : ℕ) (xs : List Kin) → u.children ≡ [] → sizes_of (replicate k u ++ xs) ≡ replicate k 1 ++ sizes_of xs
+sizes_replicate u zero xs e = refl
+sizes_replicate u (suc k) xs e = ap₂ (λ x y. length x ∷ y) (down_bare u (replicate k u ++ xs) e) (sizes_replicate u k xs e)
+
+pub sizes_step : (new u : Kin) (more : ℕ) (xs : List Kin) (taken : List ℕ) → u.children ≡ [] →
+    new.children ≡ down (length xs) more ++ reverse taken → All (λ i. i < length xs) taken → sizes_of (new ∷ (replicate more u ++ xs)) ≡
+    suc (more + sum_by (λ i. item 0 (sizes_of xs) i) taken) ∷ (replicate more 1 ++ sizes_of xs)
 sizes_step new u more xs taken e c h =
     let ys = replicate more u ++ xs in
     let f : ℕ → ℕ = λ i. length (downwards ys i) in
-    let one = total_down f (length xs) more (λ i a b. ap length (down_more u more xs i e a b)) in
-    let two : total f (reverse taken) ≡ total (λ i. item 0 (sizes_of xs) i) taken = total_reverse f taken ∙
-    total_same f (λ i. item 0 (sizes_of xs) i) taken (length xs) h (λ i l. ap length (down_old new u more xs i l) ∙
-    size_at xs i l) in
-    let whole : length (gather (downwards ys) new.children) ≡ more + total (λ i. item 0 (sizes_of xs) i) taken =
-    gather_length (downwards ys) new.children ∙ (ap (total f) c ∙ (total_append f (down (length xs) more) (reverse taken) ∙
-    ap₂ (λ x y. x + y) one two)) in
-    ap₂ (λ x y. x ∷ y) (ap length (down_own new ys) ∙ (length-append (gather (downwards ys) new.children) (length ys ∷ []) ∙
-    omega arith)) (sizes_replicate u more xs e)
+    let g : ℕ → ℕ = λ i. item 0 (sizes_of xs) i in
+    let one = sum_by_down f (length xs) more (λ i a b. ap length (down_more u more xs i e a b)) in
+    let two : sum_by f (reverse taken) ≡ sum_by g taken = sum_by-reverse f taken ∙
+    sum_by_same f g taken (length xs) h (λ i l. ap length (down_old u more xs i l) ∙ size_at xs i l) in
+    let kids = length-flat_map (downwards ys) new.children ∙ (ap (sum_by f) c ∙ sum_by-append f (down (length xs) more) (reverse taken)) in
+    let whole = ap length (down_own new ys) ∙ length-append (flat_map (downwards ys) new.children) (length ys ∷ []) in
+    ap₂ (λ x y. x ∷ y) (omega arith) (sizes_replicate u more xs e)
 
-pub and_true : (b : Bool) → (b && true) ≡ b
-and_true true = refl
-and_true false = refl
-
-pub and_false : (b : Bool) → (b && false) ≡ false
-and_false true = refl
-and_false false = refl
-
-pub and_assoc' : (a b c : Bool) → ((a && b) && c) ≡ (a && (b && c))
-and_assoc' true b c = refl
-and_assoc' false b c = refl
-
-pub and_comm' : (a b : Bool) → (a && b) ≡ (b && a)
-and_comm' true true = refl
-and_comm' true false = refl
-and_comm' false true = refl
-and_comm' false false = refl
-
-pub colored_append : (xs : List Kin) (c : ℕ) (is js : List ℕ) → are_colored xs c (is ++ js) ≡
-    (are_colored xs c is && are_colored xs c js)
+pub colored_append : (xs : List Kin) (c : ℕ) (is js : List ℕ) → are_colored xs c (is ++ js) ≡ (are_colored xs c is && are_colored xs c js)
 colored_append xs c [] js = refl
-colored_append xs c (i ∷ is) js = ap (λ b. ((kin_at xs i).color == c) && b) (colored_append xs c is js) ∙
-    sym (and_assoc' ((kin_at xs i).color == c) (are_colored xs c is) (are_colored xs c js))
+colored_append xs c (i ∷ is) js = grind (arith, colored_append xs c is js)
 
 pub colored_same : (xs ys : List Kin) (c n : ℕ) (is : List ℕ) → All (λ i. i < n) is →
     ((i : ℕ) → i < n → kin_at xs i ≡ kin_at ys i) → are_colored xs c is ≡ are_colored ys c is
@@ -140,120 +84,77 @@ colored_same xs ys c n [] h e = refl
 colored_same xs ys c n (i ∷ is) h e = ap₂ (λ (k : Kin) b. (k.color == c) && b) (e i (All-head (λ i. i < n) i is h))
     (colored_same xs ys c n is (All-tail (λ i. i < n) i is h) e)
 
-All_weaker : (m n : ℕ) (is : List ℕ) → m ≤ n → All (λ i. i < m) is → All (λ i. i < n) is
-All_weaker m n [] l h = All-nil (λ i. i < n)
-All_weaker m n (i ∷ is) l h = All-cons (λ i. i < n) i is (let a = All-head (λ i. i < m) i is h in omega arith)
-    (All_weaker m n is l (All-tail (λ i. i < m) i is h))
-
-pub All_gather : (f : ℕ → List ℕ) (n : ℕ) (is : List ℕ) → ((i : ℕ) → All (λ j. j < n) (f i)) → All (λ j. j < n) (gather f is)
-All_gather f n [] h = All-nil (λ j. j < n)
-All_gather f n (i ∷ is) h = All-append (λ j. j < n) (f i) (gather f is) (h i) (All_gather f n is h)
-
 pub down_below : (xs : List Kin) (i : ℕ) → All (λ j. j < length xs) (downwards xs i)
 down_below [] i = All-nil (λ j. j < 0)
-down_below (e ∷ xs) i = go (length xs == i) (down_below xs)
-  where
-    go : (b : Bool) → ((i : ℕ) → All (λ j. j < length xs) (downwards xs i)) → All (λ j. j < suc (length xs))
-        (if b then gather (downwards xs) e.children ++ length xs ∷ [] else downwards xs i)
-    go true h = All-append (λ j. j < suc (length xs)) (gather (downwards xs) e.children) (length xs ∷ [])
-        (All_weaker (length xs) (suc (length xs)) (gather (downwards xs) e.children) (omega arith)
-        (All_gather (downwards xs) (length xs) e.children h))
-        (All-cons (λ j. j < suc (length xs)) (length xs) [] (omega arith) (All-nil (λ j. j < suc (length xs))))
-    go false h = All_weaker (length xs) (suc (length xs)) (downwards xs i) (omega arith) (h i)
+down_below (e ∷ xs) i =
+    let kids = flat_map (downwards xs) e.children in
+    let older = All-weaker (λ j. j < length xs) (λ j. j < suc (length xs)) (λ j l. omega arith) in
+    cond_both (length xs == i) (kids ++ length xs ∷ []) (downwards xs i) (All (λ j. j < suc (length xs)))
+    (λ w. All-push (λ j. j < suc (length xs)) kids (length xs)
+    (older kids (all_flat_map (downwards xs) (length xs) e.children (down_below xs))) (omega arith))
+    (λ w. older (downwards xs i) (down_below xs i))
 
 pub kin_older : (e : Kin) (xs : List Kin) (i : ℕ) → i < length xs → kin_at (e ∷ xs) i ≡ kin_at xs i
-kin_older e xs i l = cond-false _ _ _ (ne_eqb (length xs) i (λ w. omega arith))
+kin_older e xs i l = item_before (record { children = []; color = 0 }) e xs i l
 
 colored_older : (e : Kin) (xs : List Kin) (c i : ℕ) → are_colored (e ∷ xs) c (downwards xs i) ≡ are_colored xs c (downwards xs i)
 colored_older e xs c i = colored_same (e ∷ xs) xs c (length xs) (downwards xs i) (down_below xs i) (kin_older e xs)
 
-pub flag_at : (xs : List Kin) (i : ℕ) → i < length xs → are_colored xs (kin_at xs i).color (downwards xs i) ≡
-    item false (flags_of xs) i
+pub flag_at : (xs : List Kin) (i : ℕ) → i < length xs → are_colored xs (kin_at xs i).color (downwards xs i) ≡ item false (flags_of xs) i
 flag_at [] i l = absurd (omega arith)
-flag_at (e ∷ xs) i l = ⊎_elim
-    (λ w.
-    let k : kin_at (e ∷ xs) i ≡ e = cond-true _ _ _ (eq-eqb (length xs) i w) in
-    ap₂ (λ (x : Kin) j. are_colored (e ∷ xs) x.color (downwards (e ∷ xs) j)) k (sym w) ∙
-    sym (cond-true _ _ _ (eq-eqb (length (flags_of xs)) i (flags_length xs ∙ w))))
-    (λ w.
-    let b : i < length xs = omega arith in
-    ap₂ (λ (x : Kin) y. are_colored (e ∷ xs) x.color y) (kin_older e xs i b) (cond-false _ _ _ (ne_eqb (length xs) i w)) ∙
-    (colored_older e xs (kin_at xs i).color i ∙ (flag_at xs i b ∙
-    sym (cond-false _ _ _ (ne_eqb (length (flags_of xs)) i (λ x. w (sym (flags_length xs) ∙ x)))))))
-    (cases_eq (length xs) i)
+flag_at (e ∷ xs) i l =
+    let ih = flag_at xs i in
+    let older = colored_older e xs (kin_at xs i).color i in
+    let count = flags_length xs in
+    grind (arith, nat_tests)
 
 -- the entry itself is the last one
 pub down_last : (xs : List Kin) (i : ℕ) → i < length xs → (is : List ℕ) × (downwards xs i ≡ is ++ i ∷ [])
 down_last [] i l = absurd (omega arith)
 down_last (e ∷ xs) i l = ⊎_elim
-    (λ w. (
-      gather (downwards xs) e.children,
-      cond-true _ _ _ (eq-eqb (length xs) i w) ∙
-          ap (λ j. gather (downwards xs) e.children ++ j ∷ []) w,
-    ))
+    (λ w. (flat_map (downwards xs) e.children, cond-true _ _ _ (eq-eqb (length xs) i w) ∙ ap (λ j. flat_map (downwards xs) e.children ++ j ∷ []) w))
     (λ w. let h = down_last xs i (omega arith) in (h.0, cond-false _ _ _ (ne_eqb (length xs) i w) ∙ h.1))
     (cases_eq (length xs) i)
 
-alike : (xs : List Kin) (c i : ℕ) → i < length xs → are_colored xs c (downwards xs i) ≡ (item false (flags_of xs) i &&
-    ((kin_at xs i).color == c))
-alike xs c i l = ⊎_elim
-    (λ w. ap (λ x. are_colored xs x (downwards xs i)) (sym w) ∙
-    (flag_at xs i l ∙ (sym (and_true _) ∙ ap (λ b. item false (flags_of xs) i && b) (sym (eq-eqb (kin_at xs i).color c w)))))
-    (λ w.
-    let h = down_last xs i l in
-    let no = ne_eqb (kin_at xs i).color c w in
-    ap (are_colored xs c) h.1 ∙ (colored_append xs c h.0 (i ∷ []) ∙ (ap (λ b. are_colored xs c h.0 && (b && true)) no ∙
-    (and_false (are_colored xs c h.0) ∙
-    (sym (and_false (item false (flags_of xs) i)) ∙ ap (λ b. item false (flags_of xs) i && b) (sym no))))))
-    (cases_eq (kin_at xs i).color c)
+alike : (xs : List Kin) (c i : ℕ) → i < length xs →
+    are_colored xs c (downwards xs i) ≡ (item false (flags_of xs) i && ((kin_at xs i).color == c))
+alike xs c i l =
+    let flag = flag_at xs i l in
+    let own = down_last xs i l in
+    let parts = ap (are_colored xs c) own.1 ∙ colored_append xs c own.0 (i ∷ []) in
+    grind (arith, nat_tests)
 
-alike_append : (flag : ℕ → Bool) (color : ℕ → ℕ) (c : ℕ) (is js : List ℕ) → are_alike flag color c (is ++ js) ≡
-    (are_alike flag color c is && are_alike flag color c js)
+alike_append : (flag : ℕ → Bool) (color : ℕ → ℕ) (c : ℕ) (is js : List ℕ) →
+    are_alike flag color c (is ++ js) ≡ (are_alike flag color c is && are_alike flag color c js)
 alike_append flag color c [] js = refl
-alike_append flag color c (i ∷ is) js = ap (λ b. (flag i && (color i == c)) && b) (alike_append flag color c is js) ∙
-    sym (and_assoc' (flag i && (color i == c)) _ _)
+alike_append flag color c (i ∷ is) js = grind (arith, alike_append flag color c is js)
 
-pub alike_reverse : (flag : ℕ → Bool) (color : ℕ → ℕ) (c : ℕ) (is : List ℕ) → are_alike flag color c (reverse is) ≡
-    are_alike flag color c is
+pub alike_reverse : (flag : ℕ → Bool) (color : ℕ → ℕ) (c : ℕ) (is : List ℕ) → are_alike flag color c (reverse is) ≡ are_alike flag color c is
 alike_reverse flag color c [] = refl
-alike_reverse flag color c (i ∷ is) =
-    ap (are_alike flag color c) (reverse-append (i ∷ []) is) ∙ (alike_append flag color c (reverse is) (i ∷ []) ∙
-    (ap₂ (λ a b. a && b) (alike_reverse flag color c is) (and_true (flag i && (color i == c))) ∙
-    and_comm' (are_alike flag color c is) (flag i && (color i == c))))
+alike_reverse flag color c (i ∷ is) = ap (are_alike flag color c) (reverse-append (i ∷ []) is) ∙
+    grind (arith, alike_append flag color c (reverse is) (i ∷ []), alike_reverse flag color c is)
 
 colored_gather : (xs : List Kin) (c : ℕ) (f : ℕ → List ℕ) (flag : ℕ → Bool) (color : ℕ → ℕ) (is : List ℕ) (n : ℕ) →
     All (λ i. i < n) is → ((i : ℕ) → i < n → are_colored xs c (f i) ≡ (flag i && (color i == c))) →
-    are_colored xs c (gather f is) ≡ are_alike flag color c is
+    are_colored xs c (flat_map f is) ≡ are_alike flag color c is
 colored_gather xs c f flag color [] n h e = refl
-colored_gather xs c f flag color (i ∷ is) n h e = colored_append xs c (f i) (gather f is) ∙
-    ap₂ (λ a b. a && b) (e i (All-head (λ i. i < n) i is h)) (colored_gather xs c f flag color is n
-    (All-tail (λ i. i < n) i is h) e)
-
-All_reversed : (n : ℕ) (is : List ℕ) → All (λ i. i < n) is → All (λ i. i < n) (reverse is)
-All_reversed n [] h = h
-All_reversed n (i ∷ is) h = subst (All (λ i. i < n)) (sym (reverse-append (i ∷ []) is)) (All-append (λ i. i < n) (reverse is)
-    (i ∷ []) (All_reversed n is (All-tail (λ i. i < n) i is h)) (All-cons (λ i. i < n) i [] (All-head (λ i. i < n) i is h)
-    (All-nil (λ i. i < n))))
+colored_gather xs c f flag color (i ∷ is) n h e = colored_append xs c (f i) (flat_map f is) ∙
+    ap₂ (λ a b. a && b) (e i (All-head (λ i. i < n) i is h)) (colored_gather xs c f flag color is n (All-tail (λ i. i < n) i is h) e)
 
 -- a missing operand has no operator's colour
 colored_down : (zs : List Kin) (c b k : ℕ) (f : ℕ → List ℕ) → ((i : ℕ) → b ≤ i → i < b + k → are_colored zs c (f i) ≡ false) →
-    are_colored zs c (gather f (down b k)) ≡ (k == 0)
+    are_colored zs c (flat_map f (down b k)) ≡ (k == 0)
 colored_down zs c b zero f h = refl
-colored_down zs c b (suc k) f h = colored_append zs c (f (b + k)) (gather f (down b k)) ∙
-    (ap (λ x. x && are_colored zs c (gather f (down b k))) (h (b + k) (omega arith) (omega arith)) ∙
-    sym (ne_eqb (suc k) 0 (λ w. omega arith)))
+colored_down zs c b (suc k) f h = let one = h (b + k) (omega arith) (omega arith) in
+    grind (arith, nat_tests, colored_append zs c (f (b + k)) (flat_map f (down b k)))
 
-flags_replicate : (u : Kin) (k : ℕ) (xs : List Kin) → u.children ≡ [] → flags_of (replicate k u ++ xs) ≡
-    replicate k true ++ flags_of xs
+flags_replicate : (u : Kin) (k : ℕ) (xs : List Kin) → u.children ≡ [] → flags_of (replicate k u ++ xs) ≡ replicate k true ++ flags_of xs
 flags_replicate u zero xs e = refl
 flags_replicate u (suc k) xs e =
-    let ys = replicate k u ++ xs in
-    let here = eq-eqb (length ys) (length ys) refl in
-    ap₂ (λ x y. x ∷ y)
-    (ap (are_colored (u ∷ ys) u.color) (down_own u ys ∙ ap (λ x. gather (downwards ys) x ++ length ys ∷ []) e) ∙
-    ap₂ (λ (x : Kin) b. b && true) (sym (cond-true _ u (kin_at ys (length ys)) here)) (ap (λ (x : Kin). x.color == u.color)
-    (cond-true _ u (kin_at ys (length ys)) here) ∙ eq-eqb u.color u.color refl))
-    (flags_replicate u k xs e)
+    let ih = flags_replicate u k xs e in
+    let own = down_bare u (replicate k u ++ xs) e in
+    let here = item_last (record { children = []; color = 0 }) u (replicate k u ++ xs) _ refl in
+    grind (arith, nat_tests)
 
 pub flags_step : (new u : Kin) (more : ℕ) (xs : List Kin) (taken : List ℕ) → u.children ≡ [] → u.color ≡ 4294967295 →
     new.color < 4294967295 → new.children ≡ down (length xs) more ++ reverse taken → All (λ i. i < length xs) taken →
@@ -266,24 +167,15 @@ flags_step new u more xs taken e v l d h =
     let none : Kin = record { children = []; color = 0 } in
     let here : kin_at zs (length ys) ≡ new = cond-true _ _ _ (eq-eqb (length ys) (length ys) refl) in
     let old : (i : ℕ) → i < length xs → kin_at zs i ≡ kin_at xs i = λ i b. at_old none new u more xs i b in
-    let one : are_colored zs c (gather (downwards ys) (down (length xs) more)) ≡ (more == 0) =
+    let one : are_colored zs c (flat_map (downwards ys) (down (length xs) more)) ≡ (more == 0) =
     colored_down zs c (length xs) more (downwards ys) (λ i a b. ap (are_colored zs c) (down_more u more xs i e a b) ∙
-    ap (λ x. x && true) (ap (λ (k : Kin). k.color == c) (at_more none new u more xs i a b) ∙
-    ne_eqb u.color c (λ w. omega arith))) in
-    let two : are_colored zs c (gather (downwards ys) (reverse taken)) ≡ are_alike (item false (flags_of xs))
-    (λ i. (kin_at xs i).color) c taken =
-    colored_gather zs c (downwards ys) (item false (flags_of xs)) (λ i. (kin_at xs i).color) (reverse taken) (length xs)
-    (All_reversed (length xs) taken h)
-    (λ i b. ap (are_colored zs c) (down_old new u more xs i b) ∙
-    (colored_same zs xs c (length xs) (downwards xs i) (down_below xs i) old ∙ alike xs c i b)) ∙
+    ap (λ x. x && true) (ap (λ (k : Kin). k.color == c) (at_more none new u more xs i a b) ∙ ne_eqb u.color c (λ w. omega arith))) in
+    let two : are_colored zs c (flat_map (downwards ys) (reverse taken)) ≡ are_alike (item false (flags_of xs))
+    (λ i. (kin_at xs i).color) c taken = colored_gather zs c (downwards ys) (item false (flags_of xs)) (λ i. (kin_at xs i).color) (reverse taken) (length xs)
+    (all_reverse (λ i. i < length xs) taken h)
+    (λ i b. ap (are_colored zs c) (down_old u more xs i b) ∙ (colored_same zs xs c (length xs) (downwards xs i) (down_below xs i) old ∙ alike xs c i b)) ∙
     alike_reverse (item false (flags_of xs)) (λ i. (kin_at xs i).color) c taken in
-    let both : are_colored zs c (gather (downwards ys) new.children) ≡ ((more == 0) && are_alike (item false (flags_of xs))
-    (λ i. (kin_at xs i).color) c taken) =
-    ap (λ x. are_colored zs c (gather (downwards ys) x)) d ∙
-    (ap (are_colored zs c) (gather_append (downwards ys) (down (length xs) more) (reverse taken)) ∙
-    (colored_append zs c (gather (downwards ys) (down (length xs) more)) (gather (downwards ys) (reverse taken)) ∙
-    ap₂ (λ a b. a && b) one two)) in
-    ap₂ (λ x y. x ∷ y)
-    (ap (are_colored zs c) (down_own new ys) ∙ (colored_append zs c (gather (downwards ys) new.children) (length ys ∷ []) ∙
-    (ap₂ (λ a b. a && (b && true)) both (ap (λ (k : Kin). k.color == c) here ∙ eq-eqb c c refl) ∙ and_true _)))
-    (flags_replicate u more xs e)
+    let kids = ap (λ x. are_colored zs c (flat_map (downwards ys) x)) d ∙ ap (are_colored zs c) (flat_map-append (downwards ys) (down (length xs) more) (reverse taken)) in
+    let own = ap (are_colored zs c) (down_own new ys) ∙ colored_append zs c (flat_map (downwards ys) new.children) (length ys ∷ []) in
+    let parts = colored_append zs c (flat_map (downwards ys) (down (length xs) more)) (flat_map (downwards ys) (reverse taken)) in
+    ap₂ (λ x y. x ∷ y) (grind (arith, nat_tests)) (flags_replicate u more xs e)

@@ -36,8 +36,7 @@ pulled (t ▸ forest) (suc count) = cond (is_open t) (t ▸ pulled forest count)
 abbrev mutual
   pub stacked : List Shape → Trees
   stacked [] = no_trees
-  stacked (s ∷ earlier) =
-      node (length earlier) s (top (forest_value (stacked earlier) (missing earlier)) s.operands) ▸ kept (stacked earlier) s.operands
+  stacked (s ∷ earlier) = node (length earlier) s (top (forest_value (stacked earlier) (missing earlier)) s.operands) ▸ kept (stacked earlier) s.operands
 
   pub missing : List Shape → ℕ
   missing [] = 0
@@ -60,8 +59,7 @@ opens_done t forest e = cond-false _ _ _ e
 pub forest_value_top : (t : Tree) (forest : Trees) (m : ℕ) → is_open t ≡ true → forest_value (t ▸ forest) m 0 ≡ t
 forest_value_top t forest m e = cond-true _ _ _ e
 
-pub forest_value_under : (t : Tree) (forest : Trees) (m d : ℕ) → is_open t ≡ true →
-    forest_value (t ▸ forest) m (suc d) ≡ forest_value forest m d
+pub forest_value_under : (t : Tree) (forest : Trees) (m d : ℕ) → is_open t ≡ true → forest_value (t ▸ forest) m (suc d) ≡ forest_value forest m d
 forest_value_under t forest m d e = cond-true _ _ _ e
 
 pub forest_value_done : (t : Tree) (forest : Trees) (m d : ℕ) → is_open t ≡ false → forest_value (t ▸ forest) m d ≡ forest_value forest m d
@@ -90,17 +88,9 @@ forest_value_kept (t ▸ forest) m zero d =
     let f : d ≡ d + 0 = omega arith in
     ap₂ (forest_value (t ▸ forest)) e f
 forest_value_kept (t ▸ forest) m (suc k) d =
-    let g : suc (d + k) ≡ d + suc k = omega arith in
-    elim (cases_Bool (is_open t)) [
-      | inl e ↦
-          let f : m + (suc k - opens (t ▸ forest)) ≡ m + (k - opens forest) = let o = opens_open t forest e in omega arith in
-          ap₂ (λ r n. forest_value r n d) (kept_open t forest k e) f ∙ (forest_value_kept forest m k d
-          ∙ (sym (forest_value_under t forest m (d + k) e) ∙ ap (forest_value (t ▸ forest) m) g))
-      | inr e ↦
-          let f : m + (suc k - opens (t ▸ forest)) ≡ m + (suc k - opens forest) = let o = opens_done t forest e in omega arith in
-          ap₂ (λ r n. forest_value r n d) (kept_done t forest (suc k) e) f ∙ (forest_value_done t (kept forest (suc k)) _ d e
-          ∙ (forest_value_kept forest m (suc k) d ∙ sym (forest_value_done t forest m (d + suc k) e)))
-    ]
+    let one = forest_value_kept forest m k d in
+    let all = forest_value_kept forest m (suc k) d in
+    grind arith
 
 abbrev pub operator : Shape → List Shape → Tree
 operator s earlier = node (length earlier) s (top (forest_value (stacked earlier) (missing earlier)) s.operands)
@@ -113,8 +103,7 @@ value_stacked (s ∷ earlier) zero =
     let below = forest_value_kept (stacked earlier) (missing earlier) s.operands 0 in
     grind arith
 value_stacked (s ∷ earlier) (suc d) =
-    let under = λ (e : ℕ). value_stacked earlier (e + s.operands) ∙
-    sym (forest_value_kept (stacked earlier) (missing earlier) s.operands e) in
+    let under = λ (e : ℕ). value_stacked earlier (e + s.operands) ∙ sym (forest_value_kept (stacked earlier) (missing earlier) s.operands e) in
     let u = under d in
     let v = under (suc d) in
     grind arith

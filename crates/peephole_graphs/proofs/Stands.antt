@@ -1,6 +1,5 @@
 -- What a graph that is built says of its block, in the theory's lists, which have the last item first.
-use Rattle.std.specs.Prelude.{ℕ, suc, ◌+◌, ◌-◌, ◌<◌, ◌≤◌, ◌≡◌, ◌==◌, Bool, false, true, List, [], ◌∷◌, length, reverse, Option}
-use Rattle.std.specs.Prelude.{None, Some, if◌then◌else◌}
+use Rattle.std.specs.Prelude.{ℕ, suc, ◌+◌, ◌-◌, ◌<◌, ◌≤◌, ◌≡◌, ◌==◌, Bool, false, true, List, [], ◌∷◌, length, reverse, Option, None, Some, if◌then◌else◌}
 use Rattle.std.specs.Bool.{nat_eq}
 use Rattle.std.specs.List.{IsDistinct}
 use Rattle.peephole_graphs.specs.Shape.{Shape}
@@ -47,6 +46,5 @@ pub record Stands (preserving : Bool) (block : List Shape) (nodes : List GraphEn
   pub parent : (p i : ℕ) → has i (entry_at nodes p).children ≡ true → (parent_at parents i ≡ Some p) × (i < p)
   pub child : (p i : ℕ) → parent_at parents i ≡ Some p → (p < length nodes) × (has i (entry_at nodes p).children ≡ true)
   pub once : (p : ℕ) → IsDistinct nat_eq (entry_at nodes p).children
-  pub taker : (p i : ℕ) → has i (entry_at nodes p).children ≡ true → (entry_at nodes i).shape ≡ None → (entry_at nodes i).number ≡
-      (entry_at nodes p).number
+  pub taker : (p i : ℕ) → has i (entry_at nodes p).children ≡ true → (entry_at nodes i).shape ≡ None → (entry_at nodes i).number ≡ (entry_at nodes p).number
   pub order : (i j : ℕ) → i ≤ j → j < length nodes → (entry_at nodes i).number ≤ (entry_at nodes j).number

@@ -1,24 +1,26 @@
 -- Whether all entries of a tree of a graph have one colour, told by the tree.
-use Rattle.std.proofs.Common.{◌≡◌, ℕ, ◌+◌, ◌-◌, ◌<◌, inl, inr, Bool, true, false, List, [], ◌∷◌, length, get_or, map, refl, sym, ap}
-use Rattle.std.proofs.Common.{ap₂, subst, ◌∙◌, arith, Option, Some, None}
-use Rattle.std.specs.Prelude.{◌&&◌, ◌==◌, reverse, slice_get, is_some}
-use Rattle.std.specs.List.{All}
+use Rattle.std.proofs.Common.{◌≡◌, ℕ, ◌+◌, ◌-◌, ◌<◌, inl, inr, Bool, true, false, List, [], ◌∷◌, length, map, refl, sym, ap, ap₂, subst, ◌∙◌, arith, Option}
+use Rattle.std.proofs.Common.{Some, None}
+use Rattle.std.specs.Prelude.{◌&&◌, ◌==◌, reverse, is_some}
+use Rattle.std.specs.List.{All, flat_map}
+use Rattle.std.proofs.Math.Bool.{and-true, and-false}
+use Rattle.std.proofs.lemmas.Bool.Decides.{nat_tests}
 use Rattle.std.proofs.lemmas.Bool.{cond-true, cond-false, eq-eqb, ne_eqb}
 use Rattle.std.proofs.lemmas.List.{length-reverse, length-map}
 use Rattle.std.proofs.lemmas.List.Elements.{All-head, All-tail}
-use Rattle.std.proofs.lemmas.Option.{slice_get_within, slice_get-get_or}
+use Rattle.std.proofs.lemmas.Option.{slice_get_within, get_or_from_slice_get}
 use Rattle.wasm_code.specs.Instruction.{Instruction}
 use Rattle.mutate_base.specs.Module.{Module}
 use Rattle.peephole_lang.specs.Node.{instr_of, children_of}
 use Rattle.peephole_lang.specs.Term.{AreBelow}
 use Rattle.peephole_graphs.specs.declared.dfg.StackEntry.{StackEntry}
 use Rattle.peephole_graphs.specs.Tree as tree
-use Rattle.peephole_graphs.specs.Tree.{Tree, Trees, no_trees, ◌▸◌}
+use Rattle.peephole_graphs.specs.Tree.{Tree}
 use Rattle.peephole_graphs.specs.Forest.{forest}
 use Rattle.peephole_graphs.specs.Color.{color_at}
-use Rattle.peephole_graphs.specs.Downwards.{Kin, gather, downwards, kin_at, are_colored}
+use Rattle.peephole_graphs.specs.Downwards.{Kin, downwards, kin_at, are_colored}
 use Rattle.peephole_graphs.specs.Graph as graph
-use Rattle.peephole_graphs.specs.Graph.{GraphEntry, roots, tree_of_entry}
+use Rattle.peephole_graphs.specs.Graph.{GraphEntry, tree_of_entry}
 use Rattle.peephole_graphs.proofs.Stands.{IsEntryOf}
 use Rattle.peephole_graphs.proofs.GraphOfLemmas.{represents}
 use Rattle.peephole_graphs.specs.Growing.{undef_entry}
@@ -29,38 +31,32 @@ use Rattle.peephole_graphs.specs.Shown.{is_colored, has_one_color, last_of, Show
 use Rattle.peephole_graphs.proofs.DfgLemmas.{nodes_length, get_item, colored_all, all_colored}
 use Rattle.peephole_graphs.proofs.EntryTreeLemmas.{own_tree, last_tree}
 use Rattle.peephole_graphs.proofs.Forwards.{color_small}
-use Rattle.peephole_graphs.proofs.LayoutTrees.{node_of_entry, entries_below, view, Ordered, map_turned, map_twice, last_or_before}
-use Rattle.peephole_graphs.proofs.LayoutTrees.{has_trees}
-use Rattle.peephole_graphs.proofs.Sizes.{colored_append, colored_same, kin_older, All_gather, down_below, and_true, and_false}
-use Rattle.peephole_graphs.proofs.TreeTextLemmas.{IsShown, shape_for, stack_at, stack_top, stack_older, entries_all, entry_is}
+use Rattle.peephole_graphs.proofs.LayoutTrees.{node_of_entry, entries_below, view, Ordered, map_turned, map_twice, last_or_before, has_trees}
+use Rattle.peephole_graphs.proofs.Lists.{all_flat_map}
+use Rattle.peephole_graphs.proofs.Sizes.{colored_append, colored_same, kin_older, down_below}
+use Rattle.peephole_graphs.proofs.TreeTextLemmas.{IsShown, item_of, shape_for, stack_at, stack_top, stack_older, entries_all, entry_is}
 use Rattle.peephole_graphs.specs.Source.{shapes_in}
 
 -- ---- entry by entry
 
-kids_colored : (xs : List Kin) (color : ℕ → ℕ) (c n : ℕ) (g : ℕ → Tree) → ((k : ℕ) → k < n → are_colored xs c (downwards xs k) ≡
-    is_colored color c (g k)) →
-    (is : List ℕ) → All (λ k. k < n) is → are_colored xs c (gather (downwards xs) is) ≡ test.trees_are_colored color c
-    (graph.trees_at g is)
+kids_colored : (xs : List Kin) (color : ℕ → ℕ) (c n : ℕ) (g : ℕ → Tree) → ((k : ℕ) → k < n → are_colored xs c (downwards xs k) ≡ is_colored color c (g k)) →
+    (is : List ℕ) → All (λ k. k < n) is → are_colored xs c (flat_map (downwards xs) is) ≡ test.trees_are_colored color c (graph.trees_at g is)
 kids_colored xs color c n g h [] l = refl
-kids_colored xs color c n g h (i ∷ is) l =
-    colored_append xs c (downwards xs i) (gather (downwards xs) is)
+kids_colored xs color c n g h (i ∷ is) l = colored_append xs c (downwards xs i) (flat_map (downwards xs) is)
     ∙ ap₂ (λ a b. a && b) (h i (All-head (λ k. k < n) i is l)) (kids_colored xs color c n g h is (All-tail (λ k. k < n) i is l))
 
 own_colored : (info : Module) (color : ℕ → ℕ) (first c : ℕ) (e : StackEntry) (g : ℕ → Tree) (a : Bool) (o : Option Instruction) →
     instr_of e.operator ≡ o → IsShown color first e → c < 4294967295 →
-    a ≡ test.trees_are_colored color c (graph.trees_at g (children_of e.operator)) → (missing : ℕ) →
-    (a && ((e.color == c) && true)) ≡ is_colored color c (tree_of_entry (view info first e).shape (children_of e.operator)
-    (view info first e).number missing g)
+    a ≡ test.trees_are_colored color c (graph.trees_at g (children_of e.operator)) → (missing : ℕ) → (a && ((e.color == c) && true)) ≡
+    is_colored color c (tree_of_entry (view info first e).shape (children_of e.operator) (view info first e).number missing g)
 own_colored info color first c e g a None is h l k missing =
-    let none : (view info first e).shape ≡ None = ap (shape_for info first) is in
+    let none = ap (shape_for info first) is in
     let painted = h.missing is in
-    let other : (e.color == c) ≡ false = ne_eqb e.color c (λ w. omega arith) in
-    ap (λ b. a && (b && true)) other ∙ (and_false a ∙
-    sym (ap (λ x. is_colored color c (tree_of_entry x (children_of e.operator) (view info first e).number missing g)) none))
+    grind (arith, nat_tests)
 own_colored info color first c e g a (Some i) is h l k missing =
-    let some : (view info first e).shape ≡ Some (shape_of info i) = ap (shape_for info first) is in
-    ap (λ b. a && b) (and_true (e.color == c)) ∙ (ap₂ (λ b n. b && (n == c)) k (h.painted i is)
-    ∙ sym (ap (λ x. is_colored color c (tree_of_entry x (children_of e.operator) (view info first e).number missing g)) some))
+    let some = ap (shape_for info first) is in
+    let painted = h.painted i is in
+    grind arith
 
 entries_colored : (info : Module) (color : ℕ → ℕ) (first c : ℕ) → c < 4294967295 → (rs : List StackEntry) → Ordered rs →
     All (IsShown color first) rs → (i : ℕ) → i < length rs →
@@ -71,30 +67,18 @@ entries_colored info color first c s (e ∷ earlier) b m i l =
     let g = graph.tree_at_entry (map (view info first) earlier) in
     let n = length-map earlier kin in
     let p = length-map earlier (view info first) in
-    let q = length-map earlier node_of_entry in
     let kids = children_of e.operator in
     let older = entries_colored info color first c s earlier b.1 (All-tail (IsShown color first) e earlier m) in
-    let below : All (λ c. c < length earlier) kids = subst (λ (k : ℕ). All (λ c. c < k) kids) q b.0 in
-    elim (last_or_before (length earlier) i l) [
-      | inl h ↦
-          let all = gather (downwards xs) kids in
-          let inside : All (λ j. j < length xs) all = All_gather (downwards xs) (length xs) kids (down_below xs) in
-          let a : are_colored (kin e ∷ xs) c all ≡ test.trees_are_colored color c (graph.trees_at g kids) =
-          colored_same (kin e ∷ xs) xs c (length xs) all inside (kin_older (kin e) xs) ∙
-          kids_colored xs color c (length earlier) g older kids below in
-          let top : kin_at (kin e ∷ xs) (length xs) ≡ kin e = cond-true _ _ _ (eq-eqb (length xs) (length xs) refl) in
-          ap (are_colored (kin e ∷ xs) c) (cond-true _ _ _ (eq-eqb (length xs) i (n ∙ h)))
-          ∙ (colored_append (kin e ∷ xs) c all (length xs ∷ [])
-          ∙ (ap (λ (x : Kin). are_colored (kin e ∷ xs) c all && ((x.color == c) && true)) top
-          ∙ (own_colored info color first c e g (are_colored (kin e ∷ xs) c all) (instr_of e.operator) refl
-          (All-head (IsShown color first) e earlier m) s a (graph.undefs (map (view info first) earlier))
-          ∙ sym (ap (is_colored color c) (cond-true _ _ _ (eq-eqb (length (map (view info first) earlier)) i (p ∙ h)))))))
-      | inr h ↦
-          ap (are_colored (kin e ∷ xs) c) (cond-false _ _ _ (ne_eqb (length xs) i (omega arith)))
-          ∙ (colored_same (kin e ∷ xs) xs c (length xs) (downwards xs i) (down_below xs i) (kin_older (kin e) xs)
-          ∙ (older i h ∙ sym (ap (is_colored color c) (cond-false _ _ _ (ne_eqb (length (map (view info first) earlier)) i
-          (omega arith))))))
-    ]
+    let below = subst (λ (k : ℕ). All (λ c. c < k) kids) (length-map earlier node_of_entry) b.0 in
+    let all = flat_map (downwards xs) kids in
+    let inside = all_flat_map (downwards xs) (length xs) kids (down_below xs) in
+    let colored = colored_same (kin e ∷ xs) xs c (length xs) all inside (kin_older (kin e) xs) ∙ kids_colored xs color c (length earlier) g older kids below in
+    let own = own_colored info color first c e g (are_colored (kin e ∷ xs) c all) (instr_of e.operator) refl
+    (All-head (IsShown color first) e earlier m) s colored (graph.undefs (map (view info first) earlier)) in
+    let last = colored_append (kin e ∷ xs) c all (length xs ∷ []) in
+    let under = colored_same (kin e ∷ xs) xs c (length xs) (downwards xs i) (down_below xs i) (kin_older (kin e) xs) in
+    let before = older i in
+    grind (arith, nat_tests)
 
 -- ---- the colour of an entry
 
@@ -104,15 +88,7 @@ own_instr (Some x) h = (x, refl)
 
 kin_is : (rs : List StackEntry) (i : ℕ) → i < length rs → (kin_at (map kin rs) i).color ≡ (stack_at rs i).color
 kin_is [] i l = absurd (omega arith)
-kin_is (e ∷ earlier) i l =
-    let n = length-map earlier kin in
-    elim (last_or_before (length earlier) i l) [
-      | inl h ↦ ap (λ (k : Kin). k.color) (cond-true _ _ _ (eq-eqb (length (map kin earlier)) i (n ∙ h))) ∙
-          sym (ap (λ (y : StackEntry). y.color) (stack_top e earlier i h))
-      | inr h ↦
-          ap (λ (k : Kin). k.color) (cond-false _ _ _ (ne_eqb (length (map kin earlier)) i (omega arith)))
-          ∙ (kin_is earlier i h ∙ sym (ap (λ (y : StackEntry). y.color) (stack_older e earlier i h)))
-    ]
+kin_is (e ∷ earlier) i l = let ih = kin_is earlier i in let n = length-map earlier kin in grind (arith, nat_tests)
 
 -- ---- the last tree
 
@@ -125,8 +101,7 @@ shows_the_color source given h n e =
     let nodes = graph_entries source.info source.first given.entries in
     let count : length nodes ≡ length given.entries = nodes_length source.info source.first given.entries in
     let length_rs : length rs ≡ length given.entries = length-reverse given.entries in
-    let nodes_are : nodes ≡ map (view source.info source.first) rs =
-    ap reverse (map_twice source.info source.first given.entries) ∙
+    let nodes_are : nodes ≡ map (view source.info source.first) rs = ap reverse (map_twice source.info source.first given.entries) ∙
     map_turned (view source.info source.first) given.entries in
     let own_nodes : entry_nodes given.entries ≡ map node_of_entry rs = map_turned node_of_entry given.entries in
     let kins_are : kins_of given.entries ≡ map kin rs = map_turned kin given.entries in
@@ -134,11 +109,9 @@ shows_the_color source given h n e =
     let last = h.last n e in
     let own = (h.finds (source.first + n) m).0 last.0 in
     let there : m < length given.entries = slice_get_within given.entries m own.0 own.1 in
-    let own_is : own.0 ≡ stack_at rs m = sym (slice_get-get_or_at given.entries m own.0 own.1) ∙
-    get_item (undef_entry 0) given.entries m in
+    let own_is : own.0 ≡ stack_at rs m = sym (get_or_from_slice_get given.entries m own.0 (undef_entry 0) own.1) ∙ get_item (undef_entry 0) given.entries m in
     let found = own_instr (instr_of own.0.operator) own.3 in
-    let instr : instr_of (stack_at rs m).operator ≡ Some found.0 = ap (λ (y : StackEntry). instr_of y.operator)
-    (sym own_is) ∙ found.1 in
+    let instr : instr_of (stack_at rs m).operator ≡ Some found.0 = ap (λ (y : StackEntry). instr_of y.operator) (sym own_is) ∙ found.1 in
     let number = (stack_at rs m).operator_idx - source.first in
     let kids = graph.trees_at (entry_tree source given) (children_of own.0.operator) in
     let own_tree_is : entry_tree source given m ≡ tree.node number (shape_of source.info found.0) kids =
@@ -147,35 +120,17 @@ shows_the_color source given h n e =
     let entry_m = subst (IsEntryOf source.preserving block) (entry_is source.info source.first given.entries m there)
     ((represents source given h).stands.entries m (omega arith)) in
     let all = entries_all source given h in
-    let shown = all_at (IsShown color source.first) rs all m (omega arith) in
+    let shown = item_of (IsShown color source.first) rs all m (omega arith) in
     let c = color number in
     let painted : (stack_at rs m).color ≡ c = shown.painted found.0 instr in
     let small : c < 4294967295 = color_small source.preserving block number h.small entry_m.0 in
-    let tree_is : last_of (tree.entry 0) (forest block) ≡ tree.node number (shape_of source.info found.0) kids =
-    last_tree source given h n e ∙ own_tree_is in
-    let colored : are_colored (kins_of given.entries) c (downwards (kins_of given.entries) m) ≡ has_one_color color
-    (last_of (tree.entry 0) (forest block)) =
-    ap (λ (x : List Kin). are_colored x c (downwards x m)) kins_are
-    ∙ (entries_colored source.info color source.first c small rs ordered all m (omega arith)
-    ∙ (ap (λ (x : List GraphEntry). is_colored color c (graph.tree_at_entry x m)) (sym nodes_are) ∙
-    (ap (is_colored color c) own_tree_is ∙ ap (has_one_color color) (sym tree_is)))) in
-    let kin_c : (kin_at (kins_of given.entries) m).color ≡ c = ap (λ (x : List Kin). (kin_at x m).color) kins_are ∙
-    (kin_is rs m (omega arith) ∙ painted) in
+    let tree_is : last_of (tree.entry 0) (forest block) ≡ tree.node number (shape_of source.info found.0) kids = last_tree source given h n e ∙ own_tree_is in
+    let colored : are_colored (kins_of given.entries) c (downwards (kins_of given.entries) m) ≡ has_one_color color (last_of (tree.entry 0) (forest block)) =
+    let entry_is = entries_colored source.info color source.first c small rs ordered all m (omega arith) in
+    let whole = ap (has_one_color color) tree_is in
+    grind arith in
+    let kin_c : (kin_at (kins_of given.entries) m).color ≡ c = ap (λ (x : List Kin). (kin_at x m).color) kins_are ∙ (kin_is rs m (omega arith) ∙ painted) in
     let P : ℕ → Type 0 = λ d. All (λ j. (kin_at (kins_of given.entries) j).color ≡ d) (downwards (kins_of given.entries) m) in (
       λ w. subst P (sym kin_c) (colored_all (kins_of given.entries) c (downwards (kins_of given.entries) m) (colored ∙ w)),
       λ a. sym colored ∙ all_colored (kins_of given.entries) c (downwards (kins_of given.entries) m) (subst P kin_c a),
     )
-  where
-    slice_get-get_or_at : (xs : List StackEntry) (i : ℕ) (x : StackEntry) → slice_get xs i ≡ Some x →
-        get_or xs i (undef_entry 0) ≡ x
-    slice_get-get_or_at xs i x h =
-        let k : slice_get xs i ≡ Some (get_or xs i (undef_entry 0)) = slice_get-get_or xs i (undef_entry 0)
-        (slice_get_within xs i x h) in
-        cc
-
-    all_at : (P : StackEntry → Type 0) (rs : List StackEntry) → All P rs → (i : ℕ) → i < length rs → P (stack_at rs i)
-    all_at P [] h i l = absurd (omega arith)
-    all_at P (e ∷ earlier) h i l = elim (last_or_before (length earlier) i l) [
-      | inl w ↦ subst P (sym (stack_top e earlier i w)) (All-head P e earlier h)
-      | inr w ↦ subst P (sym (stack_older e earlier i w)) (all_at P earlier (All-tail P e earlier h) i w)
-    ]

@@ -44,7 +44,7 @@ use Rattle.peephole_graphs.specs.Shown.{ShowsTheForest}
 use Rattle.peephole_graphs.specs.TreeText.{written_payload, variant_text, instruction_text, are_some, tree_text, operands_text, trees_text}
 use Rattle.peephole_graphs.proofs.DfgLemmas.{nodes_length, entry_seen, get_item}
 use Rattle.peephole_graphs.proofs.GraphLemmas.{parents_length, entry_later, all_has}
-use Rattle.peephole_graphs.proofs.Contiguous.{all_within}
+use Rattle.peephole_graphs.proofs.Lists.{all_within}
 use Rattle.peephole_graphs.proofs.BuilderLemmas.{shape_instr}
 use Rattle.peephole_graphs.proofs.LayoutTrees.{node_of_entry, entries_below, view, Ordered, map_turned, map_twice, All_turned, last_or_before, has_trees}
 use Rattle.peephole_graphs.proofs.Standing.{has_root, has_back}
@@ -305,7 +305,7 @@ entry_shown info preserving first block e h later own =
     (λ (x : Option Shape). IsOperator preserving block x (view info first e)) (ap (shape_for info first) is) h.1 in
     record { own = own; later = later; missing = λ is. (seen None is).1; painted = λ i is. (seen (Some i) is).1 }
 
-item_of : (P : StackEntry → Type 0) (rs : List StackEntry) → All P rs → (i : ℕ) → i < length rs → P (stack_at rs i)
+pub item_of : (P : StackEntry → Type 0) (rs : List StackEntry) → All P rs → (i : ℕ) → i < length rs → P (stack_at rs i)
 item_of P [] h i l = absurd (omega arith)
 item_of P (e ∷ earlier) h i l = elim (last_or_before (length earlier) i l) [
   | inl w ↦ subst P (sym (stack_top e earlier i w)) (All-head P e earlier h)

@@ -1,6 +1,6 @@
 -- The entries from one downwards: how many there are, whether they have one colour, and whether they lie one behind another. Lists have the last entry first. This project's rule.
 use Rattle.std.specs.Prelude.{ℕ, suc, ◌+◌, ◌-◌, ◌≡◌, Bool, true, ◌&&◌, ◌==◌, List, [], ◌∷◌, ◌++◌, length, if◌then◌else◌}
-use Rattle.std.specs.List.{All}
+use Rattle.std.specs.List.{All, flat_map}
 use Rattle.peephole_graphs.specs.Graph.{item}
 
 -- an entry's children and colour
@@ -8,14 +8,10 @@ pub record Kin : Type 0 where
   pub children : List ℕ
   pub color : ℕ
 
-abbrev pub gather : (ℕ → List ℕ) → List ℕ → List ℕ
-gather f [] = []
-gather f (i ∷ is) = f i ++ gather f is
-
 -- the indexes from an entry downwards, in postfix: those of its children in order, and its own
 abbrev pub downwards : List Kin → ℕ → List ℕ
 downwards [] i = []
-downwards (e ∷ earlier) i = if length earlier == i then gather (downwards earlier) e.children ++ length earlier ∷ [] else downwards earlier i
+downwards (e ∷ earlier) i = if length earlier == i then flat_map (downwards earlier) e.children ++ length earlier ∷ [] else downwards earlier i
 
 abbrev pub kin_at : List Kin → ℕ → Kin
 kin_at kins i = item (record { children = []; color = 0 }) kins i
@@ -34,10 +30,6 @@ sizes_of (e ∷ earlier) = length (downwards (e ∷ earlier) (length earlier)) �
 abbrev pub flags_of : List Kin → List Bool
 flags_of [] = []
 flags_of (e ∷ earlier) = are_colored (e ∷ earlier) e.color (downwards (e ∷ earlier) (length earlier)) ∷ flags_of earlier
-
-abbrev pub total : (ℕ → ℕ) → List ℕ → ℕ
-total f [] = 0
-total f (i ∷ is) = f i + total f is
 
 -- every entry from there downwards has the flag and the colour
 abbrev pub are_alike : (ℕ → Bool) → (ℕ → ℕ) → ℕ → List ℕ → Bool

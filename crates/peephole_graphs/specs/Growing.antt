@@ -1,6 +1,6 @@
 -- How the builder's lists change by one operator. This project's rule, for the builder alone.
 use Rattle.std.specs.Prelude.{ℕ, suc, ◌+◌, ◌-◌, ◌≡◌, ◌<◌, ◌≤◌, ◌==◌, ◌&&◌, true, List, [], ◌∷◌, ◌++◌, length, take, drop, replicate, slice_set, slice_index, Option, None, Some, if◌then◌else◌}
-use Rattle.std.specs.List.{All}
+use Rattle.std.specs.List.{All, sum_by}
 use Rattle.std.specs.HashMap as hash
 use Rattle.std.specs.Bool.{nat_eq}
 use Rattle.peephole_lang.specs.Node.{instr_of, children_of}
@@ -9,7 +9,7 @@ use Rattle.peephole_graphs.specs.declared.dfg.StackEntry.{StackEntry}
 use Rattle.peephole_graphs.specs.declared.subtree.Subtree.{Subtree}
 use Rattle.peephole_graphs.specs.declared.growing.Growing.{Growing}
 use Rattle.peephole_graphs.specs.Shape.{Shape}
-use Rattle.peephole_graphs.specs.Downwards.{total, are_alike}
+use Rattle.peephole_graphs.specs.Downwards.{are_alike}
 use Rattle.peephole_graphs.specs.Step.{down}
 use Rattle.peephole_graphs.specs.Entries.{colors, size_kept, flag_kept}
 
@@ -35,7 +35,7 @@ taken_of operands old = drop (length old.stack.items - operands) old.stack.items
 
 -- how many entries there are from those downwards
 abbrev pub taken_total : ℕ → Growing → ℕ
-taken_total operands g = total (size_kept g.subtrees.items) (taken_of operands g)
+taken_total operands g = sum_by (size_kept g.subtrees.items) (taken_of operands g)
 
 -- what is kept of a missing operand
 abbrev pub missing_subtree : Subtree
@@ -54,7 +54,7 @@ pub record IsConsistent (g : Growing) : Type 0 where
   pub parents : length g.parents.items ≡ length g.entries.items
   pub subtrees : length g.subtrees.items ≡ length g.entries.items
   pub stack : All (λ i. i < length g.entries.items) g.stack.items
-  pub room : total (size_kept g.subtrees.items) g.stack.items ≤ length g.entries.items
+  pub room : sum_by (size_kept g.subtrees.items) g.stack.items ≤ length g.entries.items
 
 -- An operator's entries were put behind the others.
 pub record Added (s : Shape) (operator : ℕ) (old new : Growing) : Type 0 where

@@ -1,8 +1,9 @@
 -- Whether the trees of a graph lie one after another: the operators of the roots' trees, the roots ascending and each tree in postfix, ascend. This project's rule.
 use Rattle.std.specs.Prelude.{ℕ, Bool, List, Option, is_some, map, slice_index, slice_index_or, filter, false}
+use Rattle.std.specs.List.{flat_map}
 use Rattle.std.specs.List.Sorted.{IsStrictlyIncreasing}
 use Rattle.peephole_lang.specs.Node.{instr_of}
-use Rattle.peephole_graphs.specs.Downwards.{gather, downwards}
+use Rattle.peephole_graphs.specs.Downwards.{downwards}
 use Rattle.peephole_graphs.specs.Entries.{kins_of, roots_of}
 use Rattle.peephole_graphs.specs.Contiguous.{operators_of}
 use Rattle.peephole_graphs.specs.declared.dfg.StackEntry.{StackEntry}
@@ -17,7 +18,7 @@ operators_among entries is = map (λ i. slice_index (operators_of entries) i) (f
 
 -- those of the whole forest in postfix
 abbrev pub forest_operators : List StackEntry → List (Option ℕ) → List ℕ
-forest_operators entries parents = operators_among entries (gather (downwards (kins_of entries)) (roots_of parents))
+forest_operators entries parents = operators_among entries (flat_map (downwards (kins_of entries)) (roots_of parents))
 
 abbrev pub AreInOrder : List StackEntry → List (Option ℕ) → Type 0
 AreInOrder entries parents = IsStrictlyIncreasing (forest_operators entries parents)

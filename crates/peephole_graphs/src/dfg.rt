@@ -1,21 +1,20 @@
 //! The graph of a block.
 
-ghost use Rattle.std.specs.Prelude.{◌≡◌, ◌<◌, ◌-◌, ◌↔◌, ℕ, IsTrue, length, slice_index, nat_eq};
+ghost use Rattle.std.specs.Prelude.{◌≡◌, ◌<◌, ◌-◌, ◌↔◌, ℕ, IsTrue, length, nat_eq};
 ghost use Rattle.std.specs.HashMap as hash;
 ghost use Rattle.std.proofs.Props.{props};
 ghost use Rattle.std.proofs.lemmas.Map.Keys.{IsDistinct-prop};
-ghost use Rattle.peephole_lang.specs.Term.{numbers_of};
-ghost use Rattle.peephole_graphs.specs.Downwards.{downwards, forward, forwards, HasOneColor};
-ghost use Rattle.peephole_graphs.specs.Entries.{kins_of, colors, size_kept, Measured, IsForest};
+ghost use Rattle.peephole_graphs.specs.Downwards.{downwards, forwards, HasOneColor};
+ghost use Rattle.peephole_graphs.specs.Entries.{kins_of, Measured, IsForest};
 ghost use Rattle.peephole_graphs.specs.Order.{AreInOrder};
 ghost use Rattle.peephole_graphs.specs.Layout.{HasTrees, Lang-set};
 
 use crate::forest_text::{operator_text, print_forest};
 use crate::layout::lay_out;
-use crate::span::{copy_span, is_span};
+use crate::span::{copy_span, is_span, lie_one_behind_another};
 use crate::subtree::Subtree;
 use mutate_base::Error;
-use peephole_lang::{Id, Lang, RecExpr};
+use peephole_lang::{Lang, RecExpr};
 use std::alloc::{AllocError, Global};
 use std::collections::HashMap;
 use std::fmt;
@@ -44,47 +43,6 @@ pub struct MiniDFG {
     ghost forest: { IsForest entries.items parents.items } by { Prim.hlevel (props, IsDistinct-prop) },
     // Whether the trees lie one after another is seen from the entries' sizes alone.
     ghost lies: { IsTrue (forwards (kins_of entries.items)) ↔ AreInOrder entries.items parents.items } by { Prim.hlevel props },
-}
-
-// The colour of an entry, or 0 past the end.
-fn color_at(entries: &[StackEntry], i: usize) -> u32
-    ensures { result ≡ slice_index (colors entries.now) i }
-{
-    if i < entries.len() {
-        entries[i].color
-    } else {
-        0
-    }
-}
-
-/// How many entries there are from the one at an index downwards, or 0 past the end.
-pub(crate) fn size_at(subtrees: &[Subtree], i: usize) -> usize
-    ensures { result ≡ size_kept subtrees.now i }
-{
-    if i < subtrees.len() {
-        subtrees[i].len
-    } else {
-        0
-    }
-}
-
-// Whether the children that are no missing operands lie, by their sizes, one behind another from an index on.
-fn lie_forward(entries: &[StackEntry], subtrees: &[Subtree], children: &[Id], from: usize) -> bool
-    ensures { result ≡ forward (size_kept subtrees.now) (slice_index (colors entries.now)) from
-        (numbers_of children.now) }
-{
-    let mut at = from;
-    for child in children {
-        let i = child.0 as usize;
-        if color_at(entries, i) != u32::MAX {
-            let size = size_at(subtrees, i);
-            if size > i + 1 || i + 1 - size != at {
-                return false;
-            }
-            at = i + 1;
-        }
-    }
-    true
 }
 
 impl Clone for StackEntry {
@@ -251,11 +209,12 @@ impl MiniDFG {
     {
         for i in 0..self.entries.len() {
             let from = (i + 1).saturating_sub(self.subtrees[i].len);
-            if !lie_forward(
+            if !lie_one_behind_another(
                 &self.entries[..i],
                 &self.subtrees[..i],
                 self.entries[i].operator.children(),
                 from,
+                true,
             ) {
                 return false;
             }

@@ -2,11 +2,11 @@
 
 ghost use Rattle.std.specs.Prelude.{◌≡◌, ◌+◌, ◌-◌, ◌^◌, ◌<◌, ◌≤◌, ◌++◌, ◌∷◌, [], ◌⊎◌, if◌then◌else◌};
 ghost use Rattle.std.specs.Prelude.{true, slice_index, nat_eq, ◌==◌, ℕ, length, drop, replicate, IfOk, OnOk, IfErr};
-ghost use Rattle.std.specs.List.{All};
+ghost use Rattle.std.specs.List.{All, sum_by};
 ghost use Rattle.std.specs.HashMap as hash;
 ghost use Rattle.peephole_lang.specs.Node.{instr_of, children_of, takes_children};
 ghost use Rattle.peephole_lang.specs.Term.{numbers_of};
-ghost use Rattle.peephole_graphs.specs.Downwards.{total, are_alike};
+ghost use Rattle.peephole_graphs.specs.Downwards.{are_alike};
 ghost use Rattle.peephole_graphs.specs.Entries.{colors, size_kept, flag_kept};
 ghost use Rattle.peephole_graphs.specs.Growing.{undef_entry, set_each, lacks, own_index, taken_of, taken_total};
 ghost use Rattle.peephole_graphs.specs.Growing.{missing_subtree, own_subtree, IsConsistent, Added};
@@ -163,8 +163,8 @@ fn find_place(growing: &Growing, operands: usize) -> Result<(u32, u32), Error>
 // How many entries there are from the taken ones downwards.
 fn taken_size(subtrees: &[Subtree], taken: &[u32]) -> usize
     requires below { All (λ i. i < length subtrees.now) taken.now }
-    requires room { total (size_kept subtrees.now) taken.now < 2 ^ 64 }
-    ensures { result ≡ total (size_kept subtrees.now) taken.now }
+    requires room { sum_by (size_kept subtrees.now) taken.now < 2 ^ 64 }
+    ensures { result ≡ sum_by (size_kept subtrees.now) taken.now }
 {
     let mut size = 0;
     for i in taken {

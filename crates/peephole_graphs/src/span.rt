@@ -1,31 +1,65 @@
 // The tree of an entry as a copy of the entries that it consists of, where these stand one behind another in postfix.
-ghost use Rattle.std.specs.Prelude.{◌≡◌, ◌+◌, ◌-◌, ◌<◌, ◌≤◌, ◌^◌, ℕ, IsTrue, ◌↔◌, length, map, IfOk, IfErr};
+ghost use Rattle.std.specs.Prelude.{◌≡◌, ◌+◌, ◌-◌, ◌<◌, ◌≤◌, ◌^◌, IsTrue, ◌↔◌, if◌then◌else◌, length, map, slice_index, IfOk, IfErr};
 ghost use Rattle.std.specs.List.{All};
 ghost use Rattle.mutate_base.specs.declared.error.Error.{Error};
 ghost use Rattle.peephole_lang.specs.Node.{node_of};
 ghost use Rattle.peephole_lang.specs.Term.{numbers_of};
-ghost use Rattle.peephole_graphs.specs.Entries.{size_kept, sizes_kept};
+ghost use Rattle.peephole_graphs.specs.Downwards.{forward};
+ghost use Rattle.peephole_graphs.specs.Entries.{colors, size_kept, sizes_kept};
 ghost use Rattle.peephole_graphs.specs.Span.{lie_behind, lowered, IsSpan, HoldsItsChildren};
 
-use crate::dfg::{StackEntry, size_at};
+use crate::dfg::StackEntry;
 use crate::subtree::Subtree;
 use mutate_base::Error;
 use peephole_lang::{Id, Lang, Language, RecExpr};
 use std::alloc::Global;
 
-// Whether the entries from each child downwards, by their number, end at the child and begin behind those of the child
-// before it, the first at `from`.
-fn lie_one_behind_another(subtrees: &[Subtree], children: &[Id], from: usize) -> bool
-    ensures { result ≡ lie_behind (size_kept subtrees.now) from (numbers_of children.now) }
+// The colour of an entry, or 0 past the end.
+fn color_at(entries: &[StackEntry], i: usize) -> u32
+    ensures { result ≡ slice_index (colors entries.now) i }
+{
+    if i < entries.len() {
+        entries[i].color
+    } else {
+        0
+    }
+}
+
+// How many entries there are from the one at an index downwards, or 0 past the end.
+fn size_at(subtrees: &[Subtree], i: usize) -> usize
+    ensures { result ≡ size_kept subtrees.now i }
+{
+    if i < subtrees.len() {
+        subtrees[i].len
+    } else {
+        0
+    }
+}
+
+/// Whether the entries from each child downwards, by their number, end at the child and begin behind those of the child
+/// before it, the first at `from`. With `skips` missing operands are passed over.
+pub(crate) fn lie_one_behind_another(
+    entries: &[StackEntry],
+    subtrees: &[Subtree],
+    children: &[Id],
+    from: usize,
+    skips: bool,
+) -> bool
+    ensures { result ≡ (if skips
+        then forward (size_kept subtrees.now) (slice_index (colors entries.now)) from
+        (numbers_of children.now)
+        else lie_behind (size_kept subtrees.now) from (numbers_of children.now)) }
 {
     let mut at = from;
     for child in children {
         let i = child.0 as usize;
-        let size = size_at(subtrees, i);
-        if size > i + 1 || i + 1 - size != at {
-            return false;
+        if !skips || color_at(entries, i) != u32::MAX {
+            let size = size_at(subtrees, i);
+            if size > i + 1 || i + 1 - size != at {
+                return false;
+            }
+            at = i + 1;
         }
-        at = i + 1;
     }
     true
 }
@@ -47,7 +81,13 @@ pub(crate) fn is_span(
         if size > i + 1 - start {
             return false;
         }
-        if !lie_one_behind_another(subtrees, entries[i].operator.children(), i + 1 - size) {
+        if !lie_one_behind_another(
+            entries,
+            subtrees,
+            entries[i].operator.children(),
+            i + 1 - size,
+            false,
+        ) {
             return false;
         }
     }

@@ -29,10 +29,8 @@ returns-in-Unfit c = let h = c.in-Unfit.ensures in
     (sym (judged c.args.info.now c.args.operators.now c.loop-number.number _ _ c.index-operators-number.is h))
 
 pub returns-in-Unknown : goal.returns-in-Unknown
-returns-in-Unknown c =
-    fault (given c.args.info.now c.args.preserving c.args.first c.args.operators.now) c.loop-number.number
-    c.index-operators-number.result _ (λ b j. j ≡ Unknown c.in-Unknown.function)
-    c.loop-number-test.true c.loop-number.invariant
+returns-in-Unknown c = fault (given c.args.info.now c.args.preserving c.args.first c.args.operators.now) c.loop-number.number
+    c.index-operators-number.result _ (λ b j. j ≡ Unknown c.in-Unknown.function) c.loop-number-test.true c.loop-number.invariant
     (sym (judged c.args.info.now c.args.operators.now c.loop-number.number _ _ c.index-operators-number.is c.in-Unknown.ensures))
 
 pub loop-number-preserved : goal.loop-number-preserved

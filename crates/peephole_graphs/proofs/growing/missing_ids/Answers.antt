@@ -13,15 +13,13 @@ down_step b (suc l) h = let e : suc l - 1 ≡ l = omega arith in sym (ap (λ x. 
 step : (ids ids' : List Id) (i : Id) (b l m : ℕ) → ids' ≡ ids ++ i ∷ [] → i.0 ≡ b + (l - 1) → 0 < l → numbers_of ids ++ down b l ≡
     down b m → numbers_of ids' ++ down b (l - 1) ≡ down b m
 step ids ids' i b l m e n h f =
-    ap (λ x. numbers_of x ++ down b (l - 1)) e ∙
-    (ap (λ x. x ++ down b (l - 1)) (map_push (λ (i : Id). i.0) ids i) ∙
-    (append_assoc (numbers_of ids) (i.0 ∷ []) (down b (l - 1)) ∙ (ap (λ x. numbers_of ids ++ (x ∷ down b (l - 1))) n ∙
-    (ap (λ x. numbers_of ids ++ x) (sym (down_step b l h)) ∙ f))))
+    let pushed = map_push (λ (i : Id). i.0) ids i in
+    let below = down_step b l h in
+    grind (arith, append_assoc (numbers_of ids) (i.0 ∷ []) (down b (l - 1)))
 
 pub loop-left-preserved : goal.loop-left-preserved
 loop-left-preserved c = (
-  step c.loop-left.ids.items c.push.new.self.items
-      (record { 0 = c.args.base + (c.loop-left.left - 1) }) c.args.base c.loop-left.left c.args.missing
+  step c.loop-left.ids.items c.push.new.self.items (record { 0 = c.args.base + (c.loop-left.left - 1) }) c.args.base c.loop-left.left c.args.missing
       c.in_ok-push.ensures.items refl (omega arith) c.loop-left.invariant.0,
   omega arith,
 )

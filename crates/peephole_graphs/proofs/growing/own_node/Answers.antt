@@ -1,5 +1,5 @@
 -- So many children as the instruction takes.
-use Rattle.std.proofs.Common.{◌≡◌, ℕ, zero, suc, ◌+◌, ◌++◌, List, length, refl, sym, ap, ◌∙◌}
+use Rattle.std.proofs.Common.{◌≡◌, ℕ, zero, suc, ◌+◌, ◌++◌, List, length, refl, sym, ap, ◌∙◌, arith}
 use Rattle.std.proofs.lemmas.Bool.{false≢true}
 use Rattle.std.proofs.lemmas.List.{length-append, length-map}
 use Rattle.peephole_lang.specs.Node.{takes_children}
@@ -15,8 +15,8 @@ length_down base (suc missing) = ap suc (length_down base missing)
 length_ids : (ids old : List Id) (base missing : ℕ) (taken : List ℕ) → numbers_of ids ≡ numbers_of old ++ taken → numbers_of old ≡
     down base missing → length ids ≡ missing + length taken
 length_ids ids old base missing taken e f =
-    sym (length-map ids (λ (i : Id). i.0)) ∙ (ap length e ∙ (length-append (numbers_of old) taken ∙ ap (λ n. n + length taken)
-    (ap length f ∙ length_down base missing)))
+    let count = length-map ids (λ (i : Id). i.0) in
+    omega (arith, ap length e, ap length f, length-append (numbers_of old) taken, length_down base missing)
 
 pub unreachable-requires : goal.unreachable-requires
 unreachable-requires c =

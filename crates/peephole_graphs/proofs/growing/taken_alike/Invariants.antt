@@ -5,6 +5,5 @@ use Rattle.peephole_graphs.specs.Entries.{colors, flag_kept}
 use Rattle.peephole_graphs.proofs.growing.taken_alike.Given as goal
 
 abbrev pub invariant-loop-i : goal.invariant-loop-i
-invariant-loop-i l =
-    are_alike (flag_kept l.subtrees) (slice_index (colors l.entries)) l.color (drop l.i-index l.taken)
+invariant-loop-i l = are_alike (flag_kept l.subtrees) (slice_index (colors l.entries)) l.color (drop l.i-index l.taken)
     ≡ are_alike (flag_kept l.subtrees) (slice_index (colors l.entries)) l.color l.taken

@@ -1,7 +1,7 @@
 use Rattle.std.proofs.Common.{◌≡◌, ◌+◌, drop}
-use Rattle.peephole_graphs.specs.Downwards.{total}
+use Rattle.std.specs.List.{sum_by}
 use Rattle.peephole_graphs.specs.Entries.{size_kept}
 use Rattle.peephole_graphs.proofs.growing.taken_size.Given as goal
 
 abbrev pub invariant-loop-i : goal.invariant-loop-i
-invariant-loop-i l = l.size + total (size_kept l.subtrees) (drop l.i-index l.taken) ≡ total (size_kept l.subtrees) l.taken
+invariant-loop-i l = l.size + sum_by (size_kept l.subtrees) (drop l.i-index l.taken) ≡ sum_by (size_kept l.subtrees) l.taken

@@ -20,8 +20,7 @@ children_read es i e ns k l = k ∙ sym (get_or-map (λ (x : StackEntry). childr
 size_read : (ts : List Subtree) (i : ℕ) (d : Subtree) → i < length ts → (get_or ts i d).len ≡ size_kept ts i
 size_read ts i d l = sym (get_or-map (λ (x : Subtree). x.len) ts i d 0 l)
 
-too_long : (es : List StackEntry) (sizes : List ℕ) (start end i z : ℕ) → (i + 1) - start < z → z ≡ slice_index sizes i →
-    start ≤ i → i < end →
+too_long : (es : List StackEntry) (sizes : List ℕ) (start end i z : ℕ) → (i + 1) - start < z → z ≡ slice_index sizes i → start ≤ i → i < end →
     IsTrue false ↔ IsSpan es sizes start end
 too_long es sizes start end i z h q l m = (λ w. absurd (false≢true w), λ s. let a = s.within i l m in absurd (omega arith))
 
@@ -42,34 +41,28 @@ one_more es sizes start i z ns b h q k l m t s = record {
     | inr other ↦ s.within j from (omega arith)
   ];
   behind = λ j from before. elim (cases_eq j i) [
-    | inl e ↦
-        subst (λ n. IsTrue (lie_behind (slice_index sizes) ((n + 1) - slice_index sizes n) (children_at es n))) (sym e)
+    | inl e ↦ subst (λ n. IsTrue (lie_behind (slice_index sizes) ((n + 1) - slice_index sizes n) (children_at es n))) (sym e)
         (sym (λ u. lie_behind (slice_index sizes) ((i + 1) - q u) (k u)) ∙ (sym h ∙ t))
     | inr other ↦ s.behind j from (omega arith)
   ];
 }
 
 pub returns-then-size-i : goal.returns-then-size-i
-returns-then-size-i c =
-    too_long c.args.entries.now (sizes_kept c.args.subtrees.now) c.args.start c.args.end c.loop-i.i _ c.if-size-i.true
+returns-then-size-i c = too_long c.args.entries.now (sizes_kept c.args.subtrees.now) c.args.start c.args.end c.loop-i.i _ c.if-size-i.true
     (size_read c.args.subtrees.now c.loop-i.i _ (omega arith)) (omega arith) (omega arith)
 
 pub returns-then-not-lie_one_behind_another : goal.returns-then-not-lie_one_behind_another
-returns-then-not-lie_one_behind_another c =
-    not_behind c.args.entries.now (sizes_kept c.args.subtrees.now) c.args.start c.args.end c.loop-i.i _
+returns-then-not-lie_one_behind_another c = not_behind c.args.entries.now (sizes_kept c.args.subtrees.now) c.args.start c.args.end c.loop-i.i _
     (numbers_of c.children.result.now) c.lie_one_behind_another.result
     c.lie_one_behind_another.ensures (size_read c.args.subtrees.now c.loop-i.i _ (omega arith))
-    (children_read c.args.entries.now c.loop-i.i c.index-entries-i.result _ (ap numbers_of c.children.ensures.value)
-    (omega arith))
+    (children_read c.args.entries.now c.loop-i.i c.index-entries-i.result _ (ap numbers_of c.children.ensures.value) (omega arith))
     (omega arith) (omega arith) c.if-not-lie_one_behind_another.true
 
 pub loop-i-preserved : goal.loop-i-preserved
-loop-i-preserved c =
-    one_more c.args.entries.now (sizes_kept c.args.subtrees.now) c.args.start c.loop-i.i _
+loop-i-preserved c = one_more c.args.entries.now (sizes_kept c.args.subtrees.now) c.args.start c.loop-i.i _
     (numbers_of c.children.result.now) c.lie_one_behind_another.result
     c.lie_one_behind_another.ensures (size_read c.args.subtrees.now c.loop-i.i _ (omega arith))
-    (children_read c.args.entries.now c.loop-i.i c.index-entries-i.result _ (ap numbers_of c.children.ensures.value)
-    (omega arith))
+    (children_read c.args.entries.now c.loop-i.i c.index-entries-i.result _ (ap numbers_of c.children.ensures.value) (omega arith))
     (omega arith) c.if-size-i.false c.if-not-lie_one_behind_another.false c.loop-i.invariant
 
 pub returns : goal.returns

@@ -27,8 +27,7 @@ unfolding IsDistinct
 nothing = record { paired = refl; parent = λ p i w. absurd cc; child = λ p i w. absurd cc; once = λ p. tt }
 
 no_forest : (es : List StackEntry) (parents : List (Option ℕ)) → es ≡ [] → parents ≡ [] → IsForest es parents
-no_forest es parents e f = subst (λ (ps : List (Option ℕ)). IsForest es ps) (sym f)
-    (subst (λ (xs : List StackEntry). IsForest xs []) (sym e) nothing)
+no_forest es parents e f = subst (λ (ps : List (Option ℕ)). IsForest es ps) (sym f) (subst (λ (xs : List StackEntry). IsForest xs []) (sym e) nothing)
 
 pub of_parts-requires-clause-forest : goal.of_parts-requires-clause-forest
 of_parts-requires-clause-forest c = no_forest c.new-2.result.items c.new-3.result.items c.new-2.ensures.items c.new-3.ensures.items

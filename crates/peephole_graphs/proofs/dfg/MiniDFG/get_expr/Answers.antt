@@ -18,8 +18,7 @@ at_root Q (Ok expr) o k e h = subst (λ p. IfSome p (λ i. Q i expr)) (sym e) h
 at_root Q (Err refusal) o k e h = tt
 
 laid_term : (es : List StackEntry) (i : ℕ) → Below es → i < length es → (r : Result (List Lang) Error) →
-    IfOk r (λ expr. map node_of expr ≡ laid 0 (tree_at (entry_nodes es) i)) →
-    IfOk r (λ expr. term_of head_of children_of expr ≡ tree_at (entry_nodes es) i)
+    IfOk r (λ expr. map node_of expr ≡ laid 0 (tree_at (entry_nodes es) i)) → IfOk r (λ expr. term_of head_of children_of expr ≡ tree_at (entry_nodes es) i)
 laid_term es i below l (Ok expr) h = term_is head_of children_of expr (tree_at (entry_nodes es) i) (entry_whole es i below l) h
 laid_term es i below l (Err refusal) h = tt
 
@@ -32,17 +31,13 @@ pub lay_out_at-requires : goal.lay_out_at-requires
 lay_out_at-requires c = c.args.self.now.trees.found c.args.at c.in-Some.root.now (sym c.in-Some.ensures.value)
 
 pub returns-clause-laid : goal.returns-clause-laid
-returns-clause-laid c =
-    at_root (λ i expr. map node_of expr ≡ laid 0 (tree_at (entry_nodes c.args.self.now.entries.items) i)) c.lay_out_at.result
+returns-clause-laid c = at_root (λ i expr. map node_of expr ≡ laid 0 (tree_at (entry_nodes c.args.self.now.entries.items) i)) c.lay_out_at.result
     ((graph_of c.args.self.now).own_entry c.args.at) c.in-Some.root.now (sym c.in-Some.ensures.value) c.lay_out_at.ensures.laid
 
 pub returns-clause-term : goal.returns-clause-term
-returns-clause-term c =
-    at_root (λ i expr. term_of head_of children_of expr ≡
-    tree_at (entry_nodes c.args.self.now.entries.items) i) c.lay_out_at.result
+returns-clause-term c = at_root (λ i expr. term_of head_of children_of expr ≡ tree_at (entry_nodes c.args.self.now.entries.items) i) c.lay_out_at.result
     ((graph_of c.args.self.now).own_entry c.args.at) c.in-Some.root.now (sym c.in-Some.ensures.value)
-    (laid_term c.args.self.now.entries.items c.in-Some.root.now c.args.self.now.trees.below
-    (c.args.self.now.trees.found c.args.at c.in-Some.root.now
+    (laid_term c.args.self.now.entries.items c.in-Some.root.now c.args.self.now.trees.below (c.args.self.now.trees.found c.args.at c.in-Some.root.now
     (sym c.in-Some.ensures.value)) c.lay_out_at.result c.lay_out_at.ensures.laid)
 
 pub returns-clause-writable : goal.returns-clause-writable
@@ -50,7 +45,5 @@ returns-clause-writable c = laid_out_writable c.args.self.now.entries.items c.in
     c.lay_out_at.result c.lay_out_at.ensures.laid
 
 pub returns-clause-some : goal.returns-clause-some
-returns-clause-some c =
-    laid_some c.args.self.now.entries.items c.in-Some.root.now c.args.self.now.trees.below
-    (c.args.self.now.trees.found c.args.at c.in-Some.root.now
-    (sym c.in-Some.ensures.value)) c.lay_out_at.result c.lay_out_at.ensures.laid
+returns-clause-some c = laid_some c.args.self.now.entries.items c.in-Some.root.now c.args.self.now.trees.below
+    (c.args.self.now.trees.found c.args.at c.in-Some.root.now (sym c.in-Some.ensures.value)) c.lay_out_at.result c.lay_out_at.ensures.laid

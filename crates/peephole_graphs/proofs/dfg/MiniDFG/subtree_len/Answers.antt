@@ -9,7 +9,6 @@ index-requires c = let e = kept_count _ _ c.args.self.now.measured in
     grind (arith, common_steps)
 
 pub returns : goal.returns
-returns c =
-    kept_size c.args.self.now.subtrees.items c.args.i c.index.result.now c.index.ensures
+returns c = kept_size c.args.self.now.subtrees.items c.args.i c.index.result.now c.index.ensures
     ∙ size_read c.args.self.now.entries.items (sizes_kept c.args.self.now.subtrees.items) c.args.self.now.measured.sizes_are
     c.args.i c.requires c.index.result.now.len
