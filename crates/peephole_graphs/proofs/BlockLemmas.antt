@@ -1,30 +1,27 @@
 -- The block that the function finds is the one of the relation.
-use Rattle.std.proofs.Common.{◌≡◌, ℕ, zero, suc, ◌+◌, ◌<◌, ◌≤◌, inl, inr, List, [], ◌∷◌, length, Bool, Option, Some, None, true}
-use Rattle.std.proofs.Common.{false, refl, sym, ap, ap₂, ◌∙◌, subst, arith, cond}
+use Rattle.std.proofs.Common.{◌≡◌, ℕ, zero, suc, ◌+◌, ◌<◌, ◌≤◌, inl, inr, List, length, Bool, Option, Some, None, true, false, refl, sym, ap, ap₂, ◌∙◌, subst}
+use Rattle.std.proofs.Common.{arith, cond}
 use Rattle.std.specs.Prelude.{slice_get}
 use Rattle.std.proofs.lemmas.Bool.{cases_lt}
 use Rattle.std.proofs.lemmas.Bool.Decides.{eqb_tells}
+use Rattle.std.proofs.lemmas.Option.{slice_get_cases}
 use Rattle.wasm_code.specs.Operator.{is_delimiter}
 use Rattle.wasm_code.specs.declared.operator.Operator.{Operator}
-use Rattle.peephole_graphs.specs.Block.{BlockRange, HasNoDelimiter, IsBlockOf, delimits, is_delimiter_of, block_start, block_at}
-use Rattle.peephole_graphs.specs.Block.{FindsTheBlock, FindsNoBlock}
+use Rattle.peephole_graphs.specs.Block.{BlockRange, HasNoDelimiter, IsBlockOf, delimits, is_delimiter_of, block_start, block_at, FindsTheBlock, FindsNoBlock}
 
 abbrev Operators : Type 0
 Operators = List (Operator × ℕ)
 
 -- what stands at a place that delimits
-some_of : (found : Option (Operator × ℕ)) → is_delimiter_of found ≡ true → (o : Operator × ℕ) × (found ≡ Some o) ×
-    (is_delimiter o.0 ≡ true)
+some_of : (found : Option (Operator × ℕ)) → is_delimiter_of found ≡ true → (o : Operator × ℕ) × (found ≡ Some o) × (is_delimiter o.0 ≡ true)
 some_of None h = cc
 some_of (Some o) h = (o, refl, h)
 
-not_delimiter : (found : Option (Operator × ℕ)) (o : Operator × ℕ) → is_delimiter_of found ≡ false → found ≡ Some o →
-    is_delimiter o.0 ≡ false
+not_delimiter : (found : Option (Operator × ℕ)) (o : Operator × ℕ) → is_delimiter_of found ≡ false → found ≡ Some o → is_delimiter o.0 ≡ false
 not_delimiter found o h e = let k : is_delimiter_of found ≡ is_delimiter o.0 = ap is_delimiter_of e in cc
 
 -- no delimiter from the start on
-start_none : (os : Operators) (n k : ℕ) (o : Operator × ℕ) → block_start os n ≤ k → k < n → slice_get os k ≡ Some o →
-    is_delimiter o.0 ≡ false
+start_none : (os : Operators) (n k : ℕ) (o : Operator × ℕ) → block_start os n ≤ k → k < n → slice_get os k ≡ Some o → is_delimiter o.0 ≡ false
 start_none os zero k o a b e = absurd (omega arith)
 start_none os (suc n) k o a b e =
     (elim (delimits os n) as (λ d. delimits os n ≡ d → cond d (suc n) (block_start os n) ≤ k → is_delimiter o.0 ≡ false) [
@@ -58,12 +55,9 @@ start_least os (suc n) from l h =
     ]
 
 get_some : (os : Operators) (n : ℕ) → n < length os → (o : Operator × ℕ) × (slice_get os n ≡ Some o)
-get_some [] n l = absurd (omega arith)
-get_some (o ∷ os) zero l = (o, refl)
-get_some (o ∷ os) (suc n) l = get_some os n (omega arith)
+get_some os n l = elim (slice_get_cases os n).1 [ inl h ↦ (h.0, h.2) | inr h ↦ let past = h.0 in absurd (omega arith) ]
 
-free : (os : Operators) (n : ℕ) → ((o : Operator × ℕ) → slice_get os n ≡ Some o → is_delimiter o.0 ≡ false) →
-    delimits os n ≡ false
+free : (os : Operators) (n : ℕ) → ((o : Operator × ℕ) → slice_get os n ≡ Some o → is_delimiter o.0 ≡ false) → delimits os n ≡ false
 free os n h =
     (elim (slice_get os n) as (λ found. slice_get os n ≡ found → is_delimiter_of found ≡ false) [
       | None ↦ λ _. refl
@@ -109,8 +103,7 @@ start_block os n d =
 found_is : (os : Operators) (n : ℕ) (b : BlockRange) → block_at os n ≡ Some b → IsBlockOf os n b.start b.end
 found_is os n b = go (delimits os n) refl
   where
-    go : (d : Bool) → delimits os n ≡ d → cond d None (Some (range (block_start os n) (n + 1))) ≡ Some b →
-        IsBlockOf os n b.start b.end
+    go : (d : Bool) → delimits os n ≡ d → cond d None (Some (range (block_start os n) (n + 1))) ≡ Some b → IsBlockOf os n b.start b.end
     go true d e = absurd (cc)
     go false d e = let same : range (block_start os n) (n + 1) ≡ b = cc in
         subst (λ (b : BlockRange). IsBlockOf os n b.start b.end) same (start_block os n d)
@@ -124,8 +117,7 @@ finds_no_block os n l = (
   λ h. let found = get_some os n l in let d : delimits os n ≡ true = ap is_delimiter_of found.1 ∙ h found.0 found.1 in rw d,
 )
   where
-    delimiter : (d : Bool) → delimits os n ≡ d → cond d None (Some (range (block_start os n) (n + 1))) ≡ None →
-        (o : Operator × ℕ) →
+    delimiter : (d : Bool) → delimits os n ≡ d → cond d None (Some (range (block_start os n) (n + 1))) ≡ None → (o : Operator × ℕ) →
         slice_get os n ≡ Some o → is_delimiter o.0 ≡ true
     delimiter true d e o at = sym (ap is_delimiter_of at) ∙ d
     delimiter false d e o at = absurd (cc)

@@ -1,6 +1,5 @@
 -- What a reader of a graph needs of its entries, its parents and its roots.
-use Rattle.std.proofs.Common.{Bool, ◌≡◌, ℕ, ◌+◌, ◌-◌, ◌<◌, ◌≤◌, true, List, [], ◌∷◌, ◌++◌, length, get_or, Option, None, Some, refl}
-use Rattle.std.proofs.Common.{ap, ◌∙◌, arith}
+use Rattle.std.proofs.Common.{◌≡◌, ℕ, ◌+◌, ◌-◌, ◌<◌, ◌≤◌, true, List, [], ◌∷◌, ◌++◌, length, get_or, Option, None, Some, refl, ap, ◌∙◌, arith}
 use Rattle.std.specs.Prelude.{◌==◌, reverse}
 use Rattle.std.specs.List.{All}
 use Rattle.std.proofs.lemmas.Bool.{eq-eqb, or_left, or_right}
@@ -10,20 +9,14 @@ use Rattle.peephole_lang.specs.Node.{children_of}
 use Rattle.peephole_graphs.specs.declared.dfg.StackEntry.{StackEntry}
 use Rattle.peephole_graphs.specs.Forest.{has}
 use Rattle.peephole_graphs.specs.Graph.{GraphEntry, roots}
-use Rattle.peephole_graphs.proofs.Stands.{entry_at, IsOperator, IsEntryOf}
-use Rattle.peephole_graphs.specs.Entries.{graph_entries, roots_of}
+use Rattle.peephole_graphs.proofs.Stands.{entry_at}
+use Rattle.peephole_graphs.specs.Entries.{graph_entries, roots_of, Graph}
 use Rattle.peephole_graphs.specs.GraphOf.{IsGraphOf}
 use Rattle.peephole_graphs.proofs.GrowingLemmas.{reverse_push}
 use Rattle.peephole_graphs.proofs.DfgLemmas.{nodes_length, entry_seen, later_entries}
 use Rattle.peephole_graphs.proofs.BuilderLemmas.{block_length}
-use Rattle.peephole_graphs.proofs.OrderLemmas.{IsLeafOrOwn, order_is}
-use Rattle.peephole_graphs.specs.Shown.{ShowsTheOrder}
-use Rattle.peephole_graphs.specs.Shape.{Shape}
-use Rattle.std.proofs.Common.{subst}
-use Rattle.std.proofs.lemmas.Bool.{cond-true, cond-false, ne_eqb}
 use Rattle.peephole_graphs.proofs.GraphOfLemmas.{represents}
-use Rattle.peephole_graphs.specs.Source.{Source, shapes_in}
-use Rattle.peephole_graphs.specs.Entries.{Graph}
+use Rattle.peephole_graphs.specs.Source.{Source}
 
 pub parents_length : (source : Source) (given : Graph) → IsGraphOf source given →
     length given.parents ≡ length given.entries
@@ -66,25 +59,3 @@ entry_later source given h i d l =
     (entry_seen source.info source.first given.entries i d l) in
     let n = block_length source.info source.operators h.fit in
     (a, omega arith)
-
--- ---- the order
-
--- a missing operand has no operands
-leaf : (preserving : Bool) (block : List Shape) (e : GraphEntry) → IsEntryOf preserving block e → IsLeafOrOwn e
-leaf preserving block e h none = (subst (λ o. IsOperator preserving block o e) none h.1).0
-
-leaves : (nodes : List GraphEntry) → ((i : ℕ) → i < length nodes → IsLeafOrOwn (entry_at nodes i)) → All IsLeafOrOwn nodes
-leaves [] h = All-nil IsLeafOrOwn
-leaves (e ∷ earlier) h =
-    All-cons IsLeafOrOwn e earlier
-    (subst IsLeafOrOwn (cond-true _ _ _ (eq-eqb (length earlier) (length earlier) refl)) (h (length earlier) (omega arith)))
-    (leaves earlier (λ i l. subst IsLeafOrOwn (cond-false _ _ _ (ne_eqb (length earlier) i (λ w. omega arith)))
-    (h i (omega arith))))
-
--- the trees of the roots lie in order exactly where the block's do
-pub in_order : ShowsTheOrder
-in_order source given h =
-    let r = represents source given h in
-    let nodes = graph_entries source.info source.first given.entries in
-    order_is source.info source.first (shapes_in source) given.entries given.parents r.later
-    (leaves nodes (λ i l. leaf source.preserving (shapes_in source) (entry_at nodes i) (r.stands.entries i l))) r.stands.trees

@@ -19,7 +19,7 @@ use Rattle.peephole_graphs.proofs.DfgLemmas.{nodes_length, kins_same}
 use Rattle.peephole_graphs.proofs.Forwards.{order_forwards}
 use Rattle.peephole_graphs.proofs.Raising.{block_raises}
 use Rattle.peephole_graphs.proofs.Contiguous.{contiguous}
-use Rattle.peephole_graphs.proofs.GraphLemmas.{in_order}
+use Rattle.peephole_graphs.proofs.OrderLemmas.{in_order}
 use Rattle.peephole_graphs.specs.GraphOf.{IsGraphOf}
 use Rattle.peephole_graphs.proofs.GraphOfLemmas.{is_graph_of}
 use Rattle.peephole_graphs.proofs.BuilderLemmas.{Kept, over, front, state_of, block_length, kept_parents, finds_own}

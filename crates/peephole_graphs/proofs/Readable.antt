@@ -1,6 +1,5 @@
 -- How entry operands stand in a forest: one is taken only while no open tree stands, and they are numbered as they are taken.
-use Rattle.std.proofs.Common.{◌≡◌, ℕ, zero, suc, ◌+◌, ◌-◌, ◌<◌, true, List, [], ◌∷◌}
-use Rattle.std.proofs.Common.{length, refl, sym, ap, ap₂, ◌∙◌, subst, subst₂, arith, inl, inr}
+use Rattle.std.proofs.Common.{◌≡◌, ℕ, zero, suc, ◌+◌, ◌-◌, ◌<◌, true, List, [], ◌∷◌, length, refl, sym, ap, ap₂, ◌∙◌, subst, subst₂, arith, inl, inr}
 use Rattle.std.specs.Prelude.{⊤}
 use Rattle.std.proofs.lemmas.Bool.{cases_Bool, cases_lt}
 use Rattle.peephole_graphs.specs.Shape.{Shape}
@@ -76,8 +75,7 @@ top_pulled (t ▸ forest) m (suc k) =
     elim (cases_Bool (is_open t)) [
       | inl e ↦
           let n : k - opens forest ≡ suc k - opens (t ▸ forest) = let o = opens_open t forest e in omega arith in
-          top_first f k ∙ (ap₂ (λ x y. join x (y ▸ no_trees))
-          (top_same (λ d. f (suc d)) g (λ d. forest_value_under t forest m d e) k ∙ top_pulled forest m k)
+          top_first f k ∙ (ap₂ (λ x y. join x (y ▸ no_trees)) (top_same (λ d. f (suc d)) g (λ d. forest_value_under t forest m d e) k ∙ top_pulled forest m k)
           (forest_value_top t forest m e) ∙ (join_assoc (entries m (k - opens forest)) (rev (pulled forest k)) (t ▸ no_trees)
           ∙ ap₂ (λ x y. join (entries m x) (rev y)) n (sym (pulled_open t forest k e))))
       | inr e ↦
@@ -91,8 +89,7 @@ no_more more n l z = grind arith
 
 -- a tree that is read where an open one stands has no entry operand, and can be read anywhere
 moved : {n m1 m2 more : ℕ} {s : Shape} {kids operands : Trees} (i m0 : ℕ) → Operands n s kids operands m1 more m2 → 0 < n →
-    (m0 ≡ m1) × ((a b : ℕ) → Reads a b operands b) →
-    (m0 ≡ m2) × ((a b c : ℕ) (ts : Trees) → Reads a b ts c → Reads a b (node i s kids ▸ ts) c)
+    (m0 ≡ m1) × ((a b : ℕ) → Reads a b operands b) → (m0 ≡ m2) × ((a b c : ℕ) (ts : Trees) → Reads a b ts c → Reads a b (node i s kids ▸ ts) c)
 moved {n = n} {m1 = m1} {more = more} {s = s} {kids = kids} {operands = operands} i m0 o l q =
     let none = no_more more n l o.alone in
     let same = q.0 in
@@ -160,8 +157,7 @@ split {stand} {m} {m'} (suc k) (one_more {m0 = m0} {m1 = m1} {ts = ts} i s kids 
   | inr h ↦
       let (b, C, D) = split_done stand m m0 k i ts o q (split (suc k) r) in
       let later = subst (λ x. Reads (stand + x) b (pulled ts (suc k)) m') (sym (opens_done (node i s kids) (kept ts (suc k)) h)) D in
-      subst₂ (λ x y. AreRead stand m x y m') (sym (kept_done (node i s kids) ts (suc k) h))
-      (sym (pulled_done (node i s kids) ts (suc k) h)) (b, C, later)
+      subst₂ (λ x y. AreRead stand m x y m') (sym (kept_done (node i s kids) ts (suc k) h)) (sym (pulled_done (node i s kids) ts (suc k) h)) (b, C, later)
 ]
 
 pub reads_stacked : (block : List Shape) → Reads 0 0 (stacked block) (missing block)

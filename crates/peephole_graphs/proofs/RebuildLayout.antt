@@ -1,7 +1,6 @@
 -- Nodes that were asked for, laid out by one step each.
 use denote.Ref.{Bor}
-use Rattle.std.proofs.Common.{◌≡◌, ℕ, ◌+◌, ◌-◌, ◌<◌, ◌≤◌, List, [], ◌∷◌, ◌++◌, length}
-use Rattle.std.proofs.Common.{refl, sym, ap, ap₂, subst, ◌∙◌, arith, length-append, map, Some}
+use Rattle.std.proofs.Common.{◌≡◌, ℕ, ◌+◌, ◌-◌, ◌<◌, ◌≤◌, List, [], ◌∷◌, ◌++◌, length, refl, sym, ap, subst, ◌∙◌, arith, length-append, map, Some}
 use Rattle.std.specs.Prelude.{All}
 use Rattle.std.proofs.lemmas.List.{length-map}
 use Rattle.std.proofs.lemmas.List.Elements.{All-nil}
@@ -11,8 +10,8 @@ use Rattle.peephole_graphs.specs.Layout.{node_by, laid, node_count_of, IsWhole}
 use Rattle.peephole_graphs.specs.Rebuild.{IsLaidOut, Piece, piece_by, in_postfix, AreAsked}
 use Rattle.peephole_graphs.proofs.Answering.{pieces_of, one_more}
 use Rattle.peephole_graphs.proofs.LayoutLemmas.{term_is}
-use Rattle.peephole_graphs.proofs.LayoutWalk.{Laying, laying, put, make_all, laid_steps, found_children}
-use Rattle.peephole_graphs.proofs.LayoutWalk.{made_rest, same_laying, put_below, put_is, first_ones, last_ones}
+use Rattle.peephole_graphs.proofs.LayoutWalk.{Laying, laying, put, make_all, laid_steps, found_children, made_rest, same_laying, put_below, put_is}
+use Rattle.peephole_graphs.proofs.LayoutWalk.{first_ones, last_ones}
 
 module _ {H : Type 0} where
   -- the tree, laid out and finished
@@ -42,13 +41,10 @@ module _ {L H : Type 0} (head : L → H) (children : L → List ℕ) where
 
   pub asked_begins : (asked : List (Bor L)) (expr : List L) (finished : List Id) (t : Term H) → expr ≡ [] → finished ≡ [] → IsWhole t →
       AreAsked head children asked t → IsLaying t (pieces_of head children asked) (now_laid expr finished)
-  asked_begins asked expr finished t e f w a =
-      subst (λ x. IsLaying t x (now_laid expr finished)) (sym a)
-      (subst (λ x. IsLaying t (in_postfix t) x) (sym (ap₂ (λ (x : List L) (y : List Id). now_laid x y) e f)) (laying_begins t w))
+  asked_begins asked expr finished t e f w a = rw (a, e, f) (laying_begins t w)
 
   module _ (asked rest : List (Bor L)) (n : Bor L) (ids : List Id) (t : Term H) (expr : List L) (finished : List Id)
-      (top : asked ≡ rest ++ n ∷ []) (k : children n.now ≡ numbers_of ids)
-      (h : IsLaying t (pieces_of head children asked) (now_laid expr finished)) where
+      (top : asked ≡ rest ++ n ∷ []) (k : children n.now ≡ numbers_of ids) (h : IsLaying t (pieces_of head children asked) (now_laid expr finished)) where
     -- the node that was taken is made next
     next_made : (length (children n.now) ≤ length (numbers_of finished))
         × IsLaying t (pieces_of head children rest) (put (piece_by head children n.now) (now_laid expr finished))
@@ -62,8 +58,7 @@ module _ {L H : Type 0} (head : L → H) (children : L → List ℕ) where
         omega (arith, enough, many, length-map finished (λ (x : Id). x.0))
 
     pub asked_goes_on : (expr' : List L) (finished' : List Id) → map (node_by head children) expr' ≡ map (node_by head children) expr
-        ++ record { head = head n.now; children = last_ones ids finished } ∷ [] →
-        numbers_of finished' ≡ first_ones ids finished ++ length expr ∷ [] →
+        ++ record { head = head n.now; children = last_ones ids finished } ∷ [] → numbers_of finished' ≡ first_ones ids finished ++ length expr ∷ [] →
         IsLaying t (pieces_of head children rest) (now_laid expr' finished')
     asked_goes_on expr' finished' a d =
         let place = ap (λ z. first_ones ids finished ++ z ∷ []) (sym (length-map expr (node_by head children))) in
@@ -77,8 +72,7 @@ module _ {L H : Type 0} (head : L → H) (children : L → List ℕ) where
       record { nodes_are = laid_is; term_is = term_is head children expr t w laid_is }
   asked_laid (n ∷ asked) count t expr finished c z w h = absurd (omega arith)
 
-pub one_longer : {L H : Type 0} (held : L → H) (expr expr' : List L) (n : H) → map held expr' ≡ map held expr ++ n ∷ [] →
-    length expr' ≡ length expr + 1
+pub one_longer : {L H : Type 0} (held : L → H) (expr expr' : List L) (n : H) → map held expr' ≡ map held expr ++ n ∷ [] → length expr' ≡ length expr + 1
 one_longer held expr expr' n e =
     let many = ap (λ x. length x) e in
     omega (arith, many, length-map expr held, length-map expr' held, length-append (map held expr) (n ∷ []))

@@ -36,7 +36,8 @@ use Rattle.peephole_terms.specs.Written.{Site, source_at, block_shapes, with_tre
 use Rattle.peephole_graphs.specs.Block.{BlockRange}
 use Rattle.peephole_graphs.specs.Source.{Source, source_of, shapes_in}
 use Rattle.peephole_graphs.proofs.DfgLemmas.{get_item}
-use Rattle.peephole_graphs.proofs.GraphLemmas.{in_order, parents_length, roots_root, roots_child}
+use Rattle.peephole_graphs.proofs.GraphLemmas.{parents_length, roots_root, roots_child}
+use Rattle.peephole_graphs.proofs.OrderLemmas.{in_order}
 use Rattle.peephole_graphs.proofs.BuilderLemmas.{shape_instr}
 use Rattle.peephole_terms.proofs.WalkLemmas.{take_steps-append, refused_after, kept_more}
 use Rattle.peephole_terms.proofs.ExpansionLemmas.{finished, all_from_start, refused}

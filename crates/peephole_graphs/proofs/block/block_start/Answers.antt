@@ -9,8 +9,7 @@ use Rattle.peephole_graphs.specs.Block.{HasNoDelimiter}
 use Rattle.peephole_graphs.proofs.block.block_start.Goals as goal
 
 one_more : (operators : List (Operator × ℕ)) (start end : ℕ) (d : Operator × ℕ) → 0 < start → start - 1 < length operators →
-    is_delimiter (get_or operators (start - 1) d).0 ≡ false → HasNoDelimiter operators start end →
-    HasNoDelimiter operators (start - 1) end
+    is_delimiter (get_or operators (start - 1) d).0 ≡ false → HasNoDelimiter operators start end → HasNoDelimiter operators (start - 1) end
 one_more operators start end d some inside passed h k o low high is = elim (cases_eq k (start - 1)) [
   | inl e ↦
       let same : o ≡ get_or operators (start - 1) d = same_Some o _ (sym is ∙

@@ -7,11 +7,9 @@ pub returns-in_err-write_roots : goal.returns-in_err-write_roots
 returns-in_err-write_roots g c said t =
     let p = err_from_is_err_and c.from_residual-in_err-write_roots.result c.from_residual-in_err-write_roots.ensures.1 in
     forest_failed said c.args.entries.now c.args.parents.now (string_bytes c.in_ok-text.text) c.in_err-write_roots.field-0.0
-    c.from_residual-in_err-write_roots.result c.in_ok-text.ensures.ok
-    (p.1 ∙ ap (λ x. Err x) p.2) (c.in_err-write_roots.ensures said t)
+    c.from_residual-in_err-write_roots.result c.in_ok-text.ensures.ok (p.1 ∙ ap (λ x. Err x) p.2) (c.in_err-write_roots.ensures said t)
 
 pub returns : goal.returns
 returns g c said t =
-    forest_written said c.args.entries.now c.args.parents.now (string_bytes c.in_ok-text.text)
-    (string_bytes c.write_roots.new.text)
+    forest_written said c.args.entries.now c.args.parents.now (string_bytes c.in_ok-text.text) (string_bytes c.write_roots.new.text)
     c.in_ok-text.ensures.ok (c.in_ok-write_roots.ensures said t)

@@ -11,6 +11,5 @@ returns-in_err-own g c said t =
 
 pub returns : goal.returns
 returns g c said t =
-    answered g.F.Fn c.args.f.now said c.args.entry c.f.result c.in_ok-own.own
-    (string_bytes c.args.text.now) t c.f.ensures c.in_ok-own.was
+    answered g.F.Fn c.args.f.now said c.args.entry c.f.result c.in_ok-own.own (string_bytes c.args.text.now) t c.f.ensures c.in_ok-own.was
     ∙ ap (λ x. Ok x) (sym c.in_ok-writeln.ensures.bytes)

@@ -39,6 +39,5 @@ loop-node-preserved g c = (
 )
 
 pub returns-clause-laid : goal.returns-clause-laid
-returns-clause-laid g c = λ t w a.
-    asked_laid g.L.Language.head g.L.Language.children c.loop-node.asked.items _ t c.loop-node.expr c.loop-node.finished.items
+returns-clause-laid g c = λ t w a. asked_laid g.L.Language.head g.L.Language.children c.loop-node.asked.items _ t c.loop-node.expr c.loop-node.finished.items
     c.loop-node.asked.ok.0 c.in_default.ensures.cases.0 w (c.loop-node.invariant.0 t w a)

@@ -19,8 +19,7 @@ pub returns-then-start-index-clause-none : goal.returns-then-start-index-clause-
 returns-then-start-index-clause-none c = delimiter c.args.operators.now c.args.index _ c.if-start-index.true c.block_start-start.ensures.longest
 
 block_is : (operators : List (Operator × ℕ)) (index start : ℕ) (b : BlockRange) → b ≡ record { start = start; end = index + 1 } →
-    start ≤ index → HasNoDelimiter operators start (index + 1) → ((from : ℕ) → HasNoDelimiter operators from (index + 1) →
-    start ≤ from) →
+    start ≤ index → HasNoDelimiter operators start (index + 1) → ((from : ℕ) → HasNoDelimiter operators from (index + 1) → start ≤ from) →
     IsBlockOf operators index b.start b.end
 block_is operators index start b e l none longest =
     let P : BlockRange → Type 0 = λ x. IsBlockOf operators index x.start x.end in

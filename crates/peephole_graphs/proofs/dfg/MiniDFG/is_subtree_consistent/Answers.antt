@@ -11,5 +11,4 @@ index-requires c = let e = kept_count _ _ c.args.self.now.measured in
 pub returns : goal.returns
 returns c =
     one_color c.args.self.now.entries.items (flags_kept c.args.self.now.subtrees.items) c.args.self.now.measured.flags_are c.args.i
-    c.requires c.index.result.now.one_color
-    (kept_flag c.args.self.now.subtrees.items c.args.i c.index.result.now c.index.ensures)
+    c.requires c.index.result.now.one_color (kept_flag c.args.self.now.subtrees.items c.args.i c.index.result.now c.index.ensures)

@@ -10,5 +10,4 @@ pub returns : goal.returns
 returns c =
     let es = (graph_of c.args.self.now).entries in
     let counted : c.len.result ≡ length es = grind (arith, common_steps) in
-    subst (λ count. IsTrue c.is_subtree_consistent.result ↔ HasOneColor (kins_of es)
-    (count - 1)) counted c.is_subtree_consistent.ensures
+    subst (λ count. IsTrue c.is_subtree_consistent.result ↔ HasOneColor (kins_of es) (count - 1)) counted c.is_subtree_consistent.ensures

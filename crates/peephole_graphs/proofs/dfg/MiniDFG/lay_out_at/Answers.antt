@@ -1,5 +1,5 @@
-use Rattle.std.proofs.Common.{◌≡◌, ℕ, ◌+◌, ◌-◌, ◌<◌, ◌≤◌, ◌^◌, ◌⊎◌, inl, inr, Bool, true, List, Result, Ok, Err, IfOk, IfErr}
-use Rattle.std.proofs.Common.{length, get_or, map, sym, ap, subst, ◌∙◌, arith, slice_range}
+use Rattle.std.proofs.Common.{◌≡◌, ℕ, ◌+◌, ◌-◌, ◌<◌, ◌≤◌, ◌^◌, ◌⊎◌, inl, inr, Bool, true, List, Result, Ok, Err, IfOk, IfErr, length, get_or, map, sym, ap}
+use Rattle.std.proofs.Common.{subst, ◌∙◌, arith, slice_range}
 use Rattle.std.specs.Prelude.{◌↔◌, IsTrue}
 use Rattle.std.proofs.lemmas.Grind.{common_steps}
 use Rattle.std.proofs.lemmas.List.{get_or_default}
@@ -28,16 +28,12 @@ copying es es' ts ts' start root own b m below l q w x y s t =
       sizes_are = m.sizes_are;
       below = below;
       inside = l;
-      first = w ∙ ap (λ k. (root + 1) - k) (kept_size ts root own q ∙ get_or_default (sizes_kept ts) root own.len 0
-          (omega arith));
-      span = subst (λ xs. IsSpan xs (sizes_kept ts) start (root + 1)) x
-          (subst (λ ks. IsSpan es' (sizes_kept ks) start (root + 1)) y (s.0 t));
+      first = w ∙ ap (λ k. (root + 1) - k) (kept_size ts root own q ∙ get_or_default (sizes_kept ts) root own.len 0 (omega arith));
+      span = subst (λ xs. IsSpan xs (sizes_kept ts) start (root + 1)) x (subst (λ ks. IsSpan es' (sizes_kept ks) start (root + 1)) y (s.0 t));
     }
 
-copied_laid : (r : Result (List Lang) Error) (es es' : List StackEntry) (sizes : List ℕ) (start root : ℕ) →
-    IsCopying es sizes start root → es' ≡ es →
-    IfOk r (λ expr. map node_of expr ≡ map (λ (e : StackEntry). lowered start (node_of e.operator))
-    (slice_range es' start (root + 1))) →
+copied_laid : (r : Result (List Lang) Error) (es es' : List StackEntry) (sizes : List ℕ) (start root : ℕ) → IsCopying es sizes start root → es' ≡ es →
+    IfOk r (λ expr. map node_of expr ≡ map (λ (e : StackEntry). lowered start (node_of e.operator)) (slice_range es' start (root + 1))) →
     IfOk r (λ expr. map node_of expr ≡ laid 0 (tree_at (entry_nodes es) root))
 copied_laid (Ok expr) es es' sizes start root c x h =
     span_laid node_of es sizes start root c expr (h ∙ ap (λ xs. map (λ (e : StackEntry). lowered start (node_of e.operator))
@@ -45,10 +41,8 @@ copied_laid (Ok expr) es es' sizes start root c x h =
 copied_laid (Err e) es es' sizes start root c x h = tt
 
 -- no tree of a graph is too large
-memory_alone : (r : Result (List Lang) Error) (k : ℕ) (es xs : List StackEntry) → xs ≡ es →
-    node_count_of (tree_at (entry_nodes es) k) ≤ 2 ^ 32 →
-    IfErr r (λ e. (e ≡ Memory) ⊎ ((e ≡ TooLarge) × (2 ^ 32 < node_count_of (tree_at (entry_nodes xs) k)))) →
-    IfErr r (λ e. e ≡ Memory)
+memory_alone : (r : Result (List Lang) Error) (k : ℕ) (es xs : List StackEntry) → xs ≡ es → node_count_of (tree_at (entry_nodes es) k) ≤ 2 ^ 32 →
+    IfErr r (λ e. (e ≡ Memory) ⊎ ((e ≡ TooLarge) × (2 ^ 32 < node_count_of (tree_at (entry_nodes xs) k)))) → IfErr r (λ e. e ≡ Memory)
 memory_alone (Ok expr) k es xs x small h = tt
 memory_alone (Err refusal) k es xs x small h = elim h [
   | inl h ↦ h
@@ -62,8 +56,7 @@ index-requires c = let e = kept_count _ _ c.args.self.now.measured in
 
 pub is_span-requires-clause-subtrees : goal.is_span-requires-clause-subtrees
 is_span-requires-clause-subtrees c =
-    ap (λ (x : List Subtree). length x) c.deref-2.ensures.value
-    ∙ (kept_count _ _ c.args.self.now.measured
+    ap (λ (x : List Subtree). length x) c.deref-2.ensures.value ∙ (kept_count _ _ c.args.self.now.measured
     ∙ sym (ap (λ (x : List StackEntry). length x) c.deref.ensures.value))
 
 pub copy_span-requires-clause-inside : goal.copy_span-requires-clause-inside
@@ -76,12 +69,10 @@ copy_span-requires-clause-inside c =
 
 pub copy_span-requires-clause-small : goal.copy_span-requires-clause-small
 copy_span-requires-clause-small c =
-    subst (λ (x : List StackEntry). length (slice_range x c.saturating_sub-start.result (c.args.root + 1)) ≤ 2 ^ 32)
-    (sym c.deref-then-is_span.ensures.value)
+    subst (λ (x : List StackEntry). length (slice_range x c.saturating_sub-start.result (c.args.root + 1)) ≤ 2 ^ 32) (sym c.deref-then-is_span.ensures.value)
     (span_small c.args.self.now.entries.items (sizes_kept c.args.self.now.subtrees.items) c.saturating_sub-start.result c.args.root
     (copying _ _ _ _ _ _ _ _ c.args.self.now.measured c.args.self.now.trees.below c.requires c.index.ensures c.saturating_sub-start.ensures
-    c.deref.ensures.value c.deref-2.ensures.value c.is_span.ensures c.if-is_span.true)
-    (c.args.self.now.trees.small c.args.root c.requires))
+    c.deref.ensures.value c.deref-2.ensures.value c.is_span.ensures c.if-is_span.true) (c.args.self.now.trees.small c.args.root c.requires))
 
 pub lay_out-requires-clause-below : goal.lay_out-requires-clause-below
 lay_out-requires-clause-below c =
@@ -93,8 +84,7 @@ returns-then-is_span-clause-laid c =
     copied_laid c.copy_span.result c.args.self.now.entries.items c.deref-then-is_span.result.now
     (sizes_kept c.args.self.now.subtrees.items) c.saturating_sub-start.result c.args.root
     (copying _ _ _ _ _ _ _ _ c.args.self.now.measured c.args.self.now.trees.below c.requires c.index.ensures c.saturating_sub-start.ensures
-    c.deref.ensures.value c.deref-2.ensures.value c.is_span.ensures c.if-is_span.true)
-    c.deref-then-is_span.ensures.value c.copy_span.ensures.nodes
+    c.deref.ensures.value c.deref-2.ensures.value c.is_span.ensures c.if-is_span.true) c.deref-then-is_span.ensures.value c.copy_span.ensures.nodes
 
 pub returns-else-is_span-clause-laid : goal.returns-else-is_span-clause-laid
 returns-else-is_span-clause-laid c =

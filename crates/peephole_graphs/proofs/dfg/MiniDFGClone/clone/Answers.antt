@@ -14,10 +14,8 @@ of_parts-requires-clause-measured c =
 
 pub of_parts-requires-clause-trees : goal.of_parts-requires-clause-trees
 of_parts-requires-clause-trees c =
-    copied_trees c.args.self.now.entries.items c.in_ok-entries.entries.items (hash.get nat_eq c.args.self.now.map)
-    (hash.get nat_eq c.in_ok-map.map)
-    c.in_ok-entries.ensures.cases.0 (λ k. found_same
-    (nat_eq k) c.args.self.now.map.entries c.in_ok-map.map.entries c.in_ok-map.ensures.cases)
+    copied_trees c.args.self.now.entries.items c.in_ok-entries.entries.items (hash.get nat_eq c.args.self.now.map) (hash.get nat_eq c.in_ok-map.map)
+    c.in_ok-entries.ensures.cases.0 (λ k. found_same (nat_eq k) c.args.self.now.map.entries c.in_ok-map.map.entries c.in_ok-map.ensures.cases)
     c.args.self.now.trees
 
 pub of_parts-requires-clause-forest : goal.of_parts-requires-clause-forest
@@ -36,7 +34,6 @@ returns c = record {
     entries = subst (λ (x : List StackEntry). AllZip IsSameEntry c.args.self.now.entries.items x)
         (sym c.of_parts.ensures.entries) c.in_ok-entries.ensures.cases.0;
     parents = c.of_parts.ensures.parents ∙ c.in_ok-parents.ensures.items ∙ c.deref.ensures.value;
-    map = λ k. c.of_parts.ensures.map k ∙ found_same
-        (nat_eq k) c.args.self.now.map.entries c.in_ok-map.map.entries c.in_ok-map.ensures.cases;
+    map = λ k. c.of_parts.ensures.map k ∙ found_same (nat_eq k) c.args.self.now.map.entries c.in_ok-map.map.entries c.in_ok-map.ensures.cases;
   };
 }
