@@ -29,8 +29,7 @@ use Rattle.peephole_graphs.proofs.GrowingLemmas.{take_reverse, drop_reverse, rev
 
 pub map_reverse : {A B : Type 0} (f : A → B) (xs : List A) → map f (reverse xs) ≡ reverse (map f xs)
 map_reverse f [] = refl
-map_reverse f (x ∷ xs) = ap (map f) (reverse-append (x ∷ []) xs) ∙ (map-append f (reverse xs) (x ∷ []) ∙
-    (ap (λ y. y ++ f x ∷ []) (map_reverse f xs) ∙ sym (reverse-append (f x ∷ []) (map f xs))))
+map_reverse f (x ∷ xs) = rw (reverse-append (x ∷ []) xs, reverse-append (f x ∷ []) (map f xs), map-append f (reverse xs) (x ∷ []), map_reverse f xs)
 
 pub kins_same : (info : Module) (first : ℕ) (es : List StackEntry) → kins (graph_entries info first es) ≡ kins_of es
 kins_same info first es = map_reverse kin_of (map (graph_entry info first) (map entry_view es)) ∙ ap reverse

@@ -1,8 +1,8 @@
 -- The forest of a block is what the growing forest says.
 use Rattle.std.proofs.Common.{◌≡◌, ℕ, zero, suc, ◌<◌, ◌≤◌, Bool, true, false, cond, List, [], ◌∷◌, length, refl, sym, ap, ap₂, ◌∙◌, arith, inl, inr}
 use Rattle.std.specs.Prelude.{⊤, ◌||◌, ◌==◌}
-use Rattle.std.proofs.Math.Bool.{or_assoc, or_comm}
-use Rattle.std.proofs.lemmas.Bool.{cases_Bool, cond-true, cond-false, eq-eqb, ne_eqb, eqb-true, false_from_ne_true, false≢true}
+use Rattle.std.proofs.Math.Bool.{or_comm}
+use Rattle.std.proofs.lemmas.Bool.{cases_Bool, cond-true, cond-false, eq-eqb, ne_eqb, or_left, eqb-true, false_from_ne_true, false≢true}
 use Rattle.peephole_graphs.specs.Shape.{Shape}
 use Rattle.peephole_graphs.specs.Tree.{Tree, entry, node, Trees, no_trees, ◌▸◌, join}
 use Rattle.peephole_graphs.specs.Forest.{operator_tree, trees, is_root, is_operand, without, forest}
@@ -25,13 +25,12 @@ or_nil a = grind arith
 is_root_join : (j : ℕ) (ts us : Trees) → is_root j (join ts us) ≡ (is_root j ts || is_root j us)
 is_root_join j no_trees us = refl
 is_root_join j (entry m ▸ ts) us = is_root_join j ts us
-is_root_join j (node i s kids ▸ ts) us = ap (λ x. (i == j) || x) (is_root_join j ts us) ∙ sym (or_assoc (i == j) (is_root j ts) (is_root j us))
+is_root_join j (node i s kids ▸ ts) us = grind (arith, is_root_join j ts us)
 
 is_operand_join : (j : ℕ) (ts us : Trees) → is_operand j (join ts us) ≡ (is_operand j ts || is_operand j us)
 is_operand_join j no_trees us = refl
 is_operand_join j (entry m ▸ ts) us = is_operand_join j ts us
-is_operand_join j (node i s kids ▸ ts) us =
-    ap (λ x. is_root j kids || x) (is_operand_join j ts us) ∙ sym (or_assoc (is_root j kids) (is_operand j ts) (is_operand j us))
+is_operand_join j (node i s kids ▸ ts) us = grind (arith, is_operand_join j ts us)
 
 without_join : (test : ℕ → Bool) (ts us : Trees) → without test (join ts us) ≡ join (without test ts) (without test us)
 without_join test no_trees us = refl
@@ -42,8 +41,7 @@ without_rev : (test : ℕ → Bool) (ts : Trees) → without test (rev ts) ≡ r
 without_rev test no_trees = refl
 without_rev test (entry m ▸ ts) = without_join test (rev ts) (entry m ▸ no_trees) ∙ ap (λ x. join x (entry m ▸ no_trees)) (without_rev test ts)
 without_rev test (node i s kids ▸ ts) =
-    let own = node i s kids ▸ no_trees in
-    grind (arith, without_join test (rev ts) own, without_rev test ts, join_nil (rev (without test ts)))
+    grind (arith, without_join test (rev ts) (node i s kids ▸ no_trees), without_rev test ts, join_nil (rev (without test ts)))
 
 -- two tests, one after the other
 without_both : (p q : ℕ → Bool) (ts : Trees) → without (λ j. p j || q j) ts ≡ without q (without p ts)
@@ -84,11 +82,7 @@ root_below no_trees n k j f h = absurd (false≢true h)
 root_below (entry m ▸ ts) n k j f h = absurd f
 root_below (node i s kids ▸ ts) n zero j f h = absurd (false≢true h)
 root_below (node i s kids ▸ ts) n (suc k) j f h =
-    let own = f.0 in
-    let u = root_below ts i k j f.1 in
-    let v = root_below ts i (suc k) j f.1 in
-    let w = eqb-true i j in
-    grind arith
+    let own = f.0 in grind (arith, root_below ts i k j f.1, root_below ts i (suc k) j f.1, eqb-true i j)
 
 without_below : (p q : ℕ → Bool) (ts : Trees) (n : ℕ) → Falling ts n → ((j : ℕ) → j < n → p j ≡ q j) → without p ts ≡ without q ts
 without_below p q no_trees n f h = refl
@@ -110,10 +104,10 @@ without_pulled (node i s kids ▸ ts) n (suc k) f =
     elim (cases_Bool s.has_result) [
       | inl e ↦
           let is : (j : ℕ) → now j ≡ ((i == j) || is_root j (pulled ts k)) = λ j. ap (is_root j) (pulled_open t ts k e) in
-          let yes = is i ∙ ap (λ b. b || is_root i (pulled ts k)) (eq-eqb i i refl) in
           let same : (j : ℕ) → j < i → now j ≡ is_root j (pulled ts k) =
           λ j l. is j ∙ ap (λ b. b || is_root j (pulled ts k)) (ne_eqb i j (λ w. omega arith)) in
-          cond-true _ _ _ yes ∙ (without_below now (λ j. is_root j (pulled ts k)) ts i f.1 same ∙ (without_pulled ts i k f.1 ∙ sym (kept_open t ts k e)))
+          cond-true _ _ _ (is i ∙ or_left _ _ (eq-eqb i i refl))
+          ∙ (without_below now (λ j. is_root j (pulled ts k)) ts i f.1 same ∙ (without_pulled ts i k f.1 ∙ sym (kept_open t ts k e)))
       | inr e ↦
           let is : (j : ℕ) → now j ≡ is_root j (pulled ts (suc k)) = λ j. ap (is_root j) (pulled_done t ts (suc k) e) in
           let no = is i ∙ false_from_ne_true _ (λ w. let l = root_below ts i (suc k) i f.1 w in omega arith) in

@@ -7,7 +7,7 @@ use Rattle.std.specs.Borrow.{Bor}
 use Rattle.std.specs.Global.{Global}
 use denote.Param.Members.{Shared}
 use Rattle.std.proofs.lemmas.Fn.{says_at}
-use Rattle.std.proofs.lemmas.List.{map-append, take-append-drop, take_more, length-take}
+use Rattle.std.proofs.lemmas.List.{map-append, map_more, take-append-drop, take_more, length-take}
 use Rattle.std.proofs.lemmas.List.Elements.{All-nil, All-cons, All-head, All-tail, All-push, All-get_or, All-pop, All-weaker}
 use Rattle.mutate_base.specs.declared.error.Error.{Error}
 use Rattle.mutate_base.specs.declared.error.Error.TheVariants.{Memory}
@@ -20,7 +20,7 @@ use Rattle.peephole_graphs.specs.declared.dfg.StackEntry.{StackEntry}
 use Rattle.peephole_graphs.specs.Entries.{roots_of}
 use Rattle.peephole_graphs.specs.ForestText.{Line, is_followed, branch, edge, tree_lines, child_lines, linked, entry_term, root_lines, forest_lines}
 use Rattle.peephole_graphs.specs.ForestText.{entry_text, with_text, with_entry, then_text, with_lines, forest_text, default_lines, default_text, IsText}
-use Rattle.peephole_graphs.specs.ForestText.{Tells, IsWritten}
+use Rattle.peephole_graphs.specs.ForestText.{Tells}
 use Rattle.peephole_graphs.specs.ForestSteps.{has_some, edges, trees_of, level_lines}
 use Rattle.peephole_graphs.proofs.GraphLemmas.{roots_root, roots_child}
 use Rattle.peephole_graphs.proofs.EntryTreeLemmas.{nodes_below}
@@ -46,17 +46,12 @@ passed : {part whole : Text} (x : Error) → (part ≡ Err x → whole ≡ Err x
 passed x f (inl a) = inl (f a)
 passed x f (inr b) = inr b
 
--- a call that failed
-pub failed : (whole : Text) (out : Result (Unit {0}) Error) (x : Error) (now : List ℕ) → out ≡ Err x → Fails whole x → IsWritten whole out now
-failed whole out x now o h = subst (λ (w : Result (Unit {0}) Error). IsWritten whole w now) (sym o) h
-
 -- ---- an entry's own text
 
 module _ {F : Type 0} (g : Shared F (Bor StackEntry × Unit {0}) (Result (String Global) Error)) (f : F) (said : Saying) where
-  pub refused : (y : Bor StackEntry) (r : Result (String Global) Error) (x : Error) (before now : List ℕ) (out : Result (Unit {0}) Error) →
-      Tells g f said y.now → g.post f (y, tt) r → r ≡ Err x → out ≡ Err x → IsWritten (with_entry said before y.now) out now
-  refused y r x before now out t p e o =
-      failed (with_entry said before y.now) out x now o (passed x (ap (with_text before y.now)) (t (Err x) (says_at g p e)))
+  pub refused : (y : Bor StackEntry) (r : Result (String Global) Error) (x : Error) (before : List ℕ) → Tells g f said y.now → g.post f (y, tt) r →
+      r ≡ Err x → Fails (with_entry said before y.now) x
+  refused y r x before t p e = passed x (ap (with_text before y.now)) (t (Err x) (says_at g p e))
 
   pub answered : (y : Bor StackEntry) (r : Result (String Global) Error) (s : String Global) (before : List ℕ) →
       Tells g f said y.now → g.post f (y, tt) r → r ≡ Ok s → with_entry said before y.now ≡ Ok (before ++ entry_text y.now (string_bytes s))
@@ -156,8 +151,7 @@ edge_added levels i d old text now l e n =
     let front = take i levels in
     let own = edge (has_some k.now) in
     let all : edges (shown (take (i + 1) levels)) ≡ edges (shown front) ++ own =
-    ap (λ x. edges (shown x)) (take_more levels i d l) ∙ (ap edges (map-append (λ (x : Ids). x.now) front (k ∷ []))
-    ∙ (edges-append (shown front) (k.now ∷ []) ∙ ap (λ x. edges (shown front) ++ x) (append-nil own))) in
+    ap edges (map_more (λ (x : Ids). x.now) levels i d l) ∙ (edges-append (shown front) (k.now ∷ []) ∙ ap (λ x. edges (shown front) ++ x) (append-nil own)) in
     n ∙ (ap (λ x. x ++ own) e ∙ (append_assoc old (edges (shown front)) own ∙ ap (λ x. old ++ x) (sym all)))
 
 -- What is written and what is still to come are together the whole.
@@ -344,18 +338,6 @@ module _ (said : Saying) (entries : List StackEntry) (parents : List (Option ℕ
       root_lines-append entries (roots_of front) more.0 in
       passed x (λ a. ap (with_lines said old) all ∙ (with_lines-append said old (first_lines entries parents (i + 1)) late
       ∙ ap (then_lines said late) (root_written none (Err x) a))) r
-
--- behind the first line
-pub forest_written : (said : Saying) (entries : List StackEntry) (parents : List (Option ℕ)) (old now : List ℕ) → old ≡ codes "DFG forest\n" →
-    with_lines said old (forest_lines entries parents) ≡ Ok now → forest_text said entries parents ≡ Ok now
-forest_written said entries parents old now e h = ap (λ (x : List ℕ). with_lines said x (forest_lines entries parents)) (sym e) ∙ h
-
-pub forest_failed : (said : Saying) (entries : List StackEntry) (parents : List (Option ℕ)) (old : List ℕ) (x : Error)
-    (out : Result (String Global) Error) → old ≡ codes "DFG forest\n" → out ≡ Err x → Fails (with_lines said old (forest_lines entries parents)) x →
-    IsText (forest_text said entries parents) out
-forest_failed said entries parents old x out e o h =
-    subst (λ (w : Result (String Global) Error). IsText (forest_text said entries parents) w) (sym o)
-    (passed x (λ a. ap (λ (y : List ℕ). with_lines said y (forest_lines entries parents)) (sym e) ∙ a) h)
 
 -- ---- the default text
 

@@ -3,7 +3,7 @@ use Rattle.std.proofs.Common.{◌≡◌, ℕ, zero, suc, ◌+◌, ◌-◌, ◌<�
 use Rattle.std.proofs.Common.{◌∙◌, subst, arith}
 use Rattle.std.specs.Prelude.{◌&&◌, ◌==◌, ◌↔◌, IsTrue, reverse, replicate}
 use Rattle.std.specs.List.{All}
-use Rattle.std.proofs.lemmas.Bool.{cond-true, cond-false, eq-eqb, ne_eqb, or_left, or_right, and_parts, and_from, false≢true}
+use Rattle.std.proofs.lemmas.Bool.{cond-false, eq-eqb, ne_eqb, or_left, or_right, and_parts, and_from, false≢true}
 use Rattle.std.proofs.lemmas.List.{reverse-append, length-map}
 use Rattle.std.proofs.lemmas.List.Elements.{All-head, All-tail, All-cons, All-nil}
 use Rattle.std.proofs.lemmas.List.Sorted.{All-permutation, IsPermutation-reverse}
@@ -18,15 +18,15 @@ use Rattle.peephole_graphs.specs.Step.{down}
 use Rattle.peephole_graphs.specs.Downwards.{Kin, downwards, kin_at, sizes_of, total, forward, forwards}
 use Rattle.peephole_graphs.proofs.StackGraph.{graph, is_graph}
 use Rattle.peephole_graphs.proofs.Standing.{at_old, at_more, behind, facts, taken_root}
-use Rattle.peephole_graphs.proofs.Sizes.{and_true, and_assoc', and_comm', sizes_replicate, sizes_length, total_reverse}
+use Rattle.peephole_graphs.proofs.Sizes.{and_true, and_comm', sizes_replicate, sizes_length, total_reverse}
 use Rattle.peephole_graphs.proofs.Totals.{kin_of, kins, new_kin, kins_step, sizes_grown, size_of_entry, taken_below, stack_total}
 use Rattle.peephole_graphs.proofs.Chains.{chain, ChainsOk, chains_from_order, order_from_chains}
 
 forward_down : (size color : ℕ → ℕ) (at b k : ℕ) (cs : List ℕ) → ((i : ℕ) → b ≤ i → i < b + k → color i ≡ 4294967295) →
     forward size color at (down b k ++ cs) ≡ forward size color at cs
 forward_down size color at b zero cs h = refl
-forward_down size color at b (suc k) cs h = cond-true _ _ _ (eq-eqb (color (b + k)) 4294967295
-    (h (b + k) (omega arith) (omega arith))) ∙ forward_down size color at b k cs (λ i m l. h i m (omega arith))
+forward_down size color at b (suc k) cs h =
+    grind (arith, nat_tests, h (b + k) (omega arith) (omega arith), forward_down size color at b k cs (λ i m l. h i m (omega arith)))
 
 -- of operators' entries alone
 abbrev Colors : (ℕ → ℕ) → List ℕ → Type 0
@@ -34,17 +34,12 @@ Colors color cs = All (λ c. color c < 4294967295) cs
 
 forward_push : (size color : ℕ → ℕ) (at t : ℕ) (cs : List ℕ) → Colors color cs → color t < 4294967295 →
     forward size color at (cs ++ t ∷ []) ≡ (forward size color at cs && (suc t == (at + total size cs) + size t))
-forward_push size color at t [] h l =
-    let e : at + size t ≡ (at + 0) + size t = omega arith in
-    cond-false _ _ _ (ne_eqb (color t) 4294967295 (λ w. omega arith)) ∙ (and_true (suc t == at + size t) ∙ ap (λ x. suc t == x) e)
+forward_push size color at t [] h l = grind (arith, nat_tests)
 forward_push size color at t (c ∷ cs) h l =
     let P : ℕ → Type 0 = λ c. color c < 4294967295 in
     let own = All-head P c cs h in
-    let other = ne_eqb (color c) 4294967295 (λ w. omega arith) in
     let e : (at + size c) + total size cs ≡ at + (size c + total size cs) = omega arith in
-    cond-false _ _ _ other ∙ (ap (λ x. (suc c == at + size c) && x) (forward_push size color (at + size c) t cs (All-tail P c cs h) l) ∙
-    (sym (and_assoc' (suc c == at + size c) (forward size color (at + size c) cs) (suc t == ((at + size c) + total size cs) + size t)) ∙
-    ap₂ (λ x y. x && (suc t == y + size t)) (sym (cond-false _ _ _ other)) e))
+    grind (arith, nat_tests, forward_push size color (at + size c) t cs (All-tail P c cs h) l)
 
 forward_chain : (size color : ℕ → ℕ) (end : ℕ) (ts : List ℕ) → Colors color ts → total size ts ≤ end →
     forward size color (end - total size ts) (reverse ts) ≡ chain size end ts

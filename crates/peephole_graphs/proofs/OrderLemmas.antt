@@ -24,7 +24,7 @@ use Rattle.peephole_graphs.specs.Contiguous.{operators_of}
 use Rattle.peephole_graphs.specs.Order.{is_operator_at, operators_among, forest_operators}
 use Rattle.peephole_graphs.specs.GraphOf.{IsGraphOf}
 use Rattle.peephole_graphs.specs.Shown.{ShowsTheOrder}
-use Rattle.peephole_graphs.proofs.Stacked.{is_open, kept, pulled, stacked, kept_open, kept_done, pulled_open, pulled_done}
+use Rattle.peephole_graphs.proofs.Stacked.{is_open, kept, pulled, stacked}
 use Rattle.peephole_graphs.proofs.ForestLemmas.{forest_is}
 use Rattle.peephole_graphs.proofs.Together.{numbers, numbers_rev, forest_numbers, length-range, range_last}
 use Rattle.peephole_graphs.proofs.GraphOfLemmas.{undef_instr, undef_children}
@@ -105,13 +105,13 @@ parts (t ▸ ts) (suc k) =
           let K = numbers (kept ts k) in
           let P = numbers (pulled ts k) in
           let left : K ++ numbers (t ▸ pulled ts k) ≡ (K ++ P) ++ own = ap (λ x. K ++ x) (numbers_rev t (pulled ts k)) ∙ sym (append_assoc K P own) in
-          rw (kept_open t ts k e, pulled_open t ts k e, left, numbers_rev t ts) (IsPermutation-append_left own (numbers ts) (K ++ P) (parts ts k))
+          rw (e, left, numbers_rev t ts) (IsPermutation-append_left own (numbers ts) (K ++ P) (parts ts k))
       | inr e ↦
           let K = numbers (kept ts (suc k)) in
           let P = numbers (pulled ts (suc k)) in
           let turned : IsPermutation ((K ++ P) ++ own) ((K ++ own) ++ P) =
           rw (append_assoc K P own, append_assoc K own P) (IsPermutation-append_right K (P ++ own) (own ++ P) (IsPermutation-append_comm P own)) in
-          rw (kept_done t ts (suc k) e, pulled_done t ts (suc k) e, numbers_rev t ts, numbers_rev t (kept ts (suc k)))
+          rw (e, numbers_rev t ts, numbers_rev t (kept ts (suc k)))
           (IsPermutation-trans (numbers ts ++ own) ((K ++ P) ++ own) ((K ++ own) ++ P)
           (IsPermutation-append_left own (numbers ts) (K ++ P) (parts ts (suc k))) turned)
     ]

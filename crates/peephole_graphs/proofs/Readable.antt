@@ -7,7 +7,7 @@ use Rattle.peephole_graphs.specs.Tree.{entry, node, Trees, no_trees, ◌▸◌, 
 use Rattle.peephole_graphs.proofs.Depth.{top}
 use Rattle.peephole_graphs.proofs.DepthLemmas.{top_same, top_first}
 use Rattle.peephole_graphs.proofs.Stacked.{is_open, opens, forest_value, kept, pulled, stacked, missing, forest_value_top, forest_value_under}
-use Rattle.peephole_graphs.proofs.Stacked.{forest_value_done, kept_open, kept_done, pulled_open, pulled_done, opens_open, opens_done}
+use Rattle.peephole_graphs.proofs.Stacked.{forest_value_done, kept_open, kept_done, pulled_open, pulled_done, opens_done}
 use Rattle.peephole_graphs.proofs.ForestLemmas.{rev, join_nil}
 
 -- how many trees
@@ -41,10 +41,8 @@ pub data Reads : ℕ → ℕ → Trees → ℕ → Type 0 where
 pub open_pulled : (forest : Trees) (k : ℕ) → AllOpen (pulled forest k)
 open_pulled no_trees k = tt
 open_pulled (t ▸ forest) zero = tt
-open_pulled (t ▸ forest) (suc k) = elim (cases_Bool (is_open t)) [
-  | inl e ↦ subst AllOpen (sym (pulled_open t forest k e)) (e, open_pulled forest k)
-  | inr e ↦ subst AllOpen (sym (pulled_done t forest (suc k) e)) (open_pulled forest (suc k))
-]
+open_pulled (t ▸ forest) (suc k) =
+    elim (cases_Bool (is_open t)) [ inl e ↦ rw e (e, open_pulled forest k) | inr e ↦ rw e (open_pulled forest (suc k)) ]
 
 pub count_pulled : (forest : Trees) (k : ℕ) → (k - opens forest) + count (pulled forest k) ≡ k
 count_pulled no_trees k = omega arith
@@ -74,14 +72,10 @@ top_pulled (t ▸ forest) m (suc k) =
     let g = forest_value forest m in
     elim (cases_Bool (is_open t)) [
       | inl e ↦
-          let n : k - opens forest ≡ suc k - opens (t ▸ forest) = let o = opens_open t forest e in omega arith in
-          top_first f k ∙ (ap₂ (λ x y. join x (y ▸ no_trees)) (top_same (λ d. f (suc d)) g (λ d. forest_value_under t forest m d e) k ∙ top_pulled forest m k)
-          (forest_value_top t forest m e) ∙ (join_assoc (entries m (k - opens forest)) (rev (pulled forest k)) (t ▸ no_trees)
-          ∙ ap₂ (λ x y. join (entries m x) (rev y)) n (sym (pulled_open t forest k e))))
-      | inr e ↦
-          let n : suc k - opens forest ≡ suc k - opens (t ▸ forest) = let o = opens_done t forest e in omega arith in
-          top_same f g (λ d. forest_value_done t forest m d e) (suc k)
-          ∙ (top_pulled forest m (suc k) ∙ ap₂ (λ x y. join (entries m x) (rev y)) n (sym (pulled_done t forest (suc k) e)))
+          let n : suc k - suc (opens forest) ≡ k - opens forest = omega arith in
+          rw (e, n) (top_first f k ∙ (ap₂ (λ x y. join x (y ▸ no_trees)) (top_same (λ d. f (suc d)) g (λ d. forest_value_under t forest m d e) k
+          ∙ top_pulled forest m k) (forest_value_top t forest m e) ∙ join_assoc (entries m (k - opens forest)) (rev (pulled forest k)) (t ▸ no_trees)))
+      | inr e ↦ rw e (top_same f g (λ d. forest_value_done t forest m d e) (suc k) ∙ top_pulled forest m (suc k))
     ]
 
 no_more : (more n : ℕ) → 0 < n → (0 < more → n ≡ 0) → more ≡ 0

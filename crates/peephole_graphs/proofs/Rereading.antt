@@ -7,8 +7,7 @@ use Rattle.peephole_graphs.specs.Tree.{Tree, entry, node, Trees, no_trees, ◌�
 use Rattle.peephole_graphs.specs.Forest.{forest}
 use Rattle.peephole_graphs.proofs.Depth.{top}
 use Rattle.peephole_graphs.proofs.DepthLemmas.{top_same, top_first}
-use Rattle.peephole_graphs.proofs.Stacked.{is_open, opens, forest_value, kept, stacked, missing, kept_zero, forest_value_top, forest_value_under, kept_open}
-use Rattle.peephole_graphs.proofs.Stacked.{opens_open}
+use Rattle.peephole_graphs.proofs.Stacked.{is_open, opens, forest_value, kept, stacked, missing, kept_zero, forest_value_top, forest_value_under}
 use Rattle.peephole_graphs.proofs.ForestLemmas.{rev, join_nil, forest_is}
 use Rattle.peephole_graphs.proofs.Readable.{join_assoc, count, AllOpen, entries, Operands, Reads, nothing, one_more, reads_stacked}
 
@@ -92,13 +91,11 @@ opens_join (t ▸ ts) us = grind (arith, opens_join ts us)
 
 opens_all : (ts : Trees) → AllOpen ts → opens ts ≡ count ts
 opens_all no_trees h = refl
-opens_all (t ▸ ts) h = opens_open t ts h.0 ∙ ap suc (opens_all ts h.1)
+opens_all (t ▸ ts) h = rw h.0 (ap suc (opens_all ts h.1))
 
 kept_all : (ts forest : Trees) (j : ℕ) → AllOpen ts → kept (join ts forest) (j + count ts) ≡ kept forest j
 kept_all no_trees forest j h = let e : j + 0 ≡ j = omega arith in ap (kept forest) e
-kept_all (t ▸ ts) forest j h =
-    let e : j + suc (count ts) ≡ suc (j + count ts) = omega arith in
-    ap (kept (t ▸ join ts forest)) e ∙ (kept_open t (join ts forest) (j + count ts) h.0 ∙ kept_all ts forest j h.1)
+kept_all (t ▸ ts) forest j h = let e : j + suc (count ts) ≡ suc (j + count ts) = omega arith in rw (e, h.0) (kept_all ts forest j h.1)
 
 top_all : (ts forest : Trees) (m j : ℕ) → AllOpen ts → top (forest_value (join ts forest) m) (j + count ts) ≡ join (top (forest_value forest m) j) (rev ts)
 top_all no_trees forest m j h =

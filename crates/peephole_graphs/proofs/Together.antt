@@ -2,29 +2,25 @@
 use Rattle.std.proofs.Common.{◌≡◌, ℕ, zero, suc, ◌+◌, ◌-◌, ◌<◌, ◌≤◌, true, false, List, [], ◌∷◌, ◌++◌, length, refl, sym, ap, ap₂, ◌∙◌, arith, ⊎_elim, inl}
 use Rattle.std.proofs.Common.{inr, append_assoc}
 use Rattle.std.specs.Prelude.{◌⊎◌, ◌||◌, ◌==◌}
-use Rattle.std.proofs.Math.Bool.{or_assoc}
-use Rattle.std.proofs.lemmas.Bool.{eq-eqb, eqb-true, or_cases, or_left, or_right, cases_Bool, cases_eq, cases_lt, false≢true}
+use Rattle.std.proofs.lemmas.Bool.Decides.{nat_tests}
+use Rattle.std.proofs.lemmas.Bool.{eq-eqb, eqb-true, or_cases, or_left, or_right, cases_Bool, cases_lt, false≢true}
 use Rattle.std.proofs.lemmas.List.{append-nil, same_from_push, length-append}
 use Rattle.peephole_graphs.specs.Shape.{Shape}
 use Rattle.peephole_graphs.specs.Tree.{Tree, entry, node, Trees, no_trees, ◌▸◌, join, postfix_of, postfix, range_from}
 use Rattle.peephole_graphs.specs.Forest.{operator_tree, is_root, has, IsInOrder, AreTogether}
 use Rattle.peephole_graphs.proofs.Depth.{top}
 use Rattle.peephole_graphs.proofs.DepthLemmas.{numbers-join, range_more}
-use Rattle.peephole_graphs.proofs.Stacked.{is_open, opens, forest_value, kept, pulled, stacked, missing, kept_open, kept_done, pulled_open, pulled_done}
-use Rattle.peephole_graphs.proofs.Stacked.{operator}
+use Rattle.peephole_graphs.proofs.Stacked.{is_open, opens, forest_value, kept, pulled, stacked, missing, kept_open, kept_done, pulled_done, operator}
 use Rattle.peephole_graphs.proofs.ForestLemmas.{rev, join_nil, forest_is, Falling, Falling-stacked, tree_of_stacked, root_below}
 use Rattle.peephole_graphs.proofs.Readable.{join_assoc, entries, top_pulled, AllOpen, open_pulled}
 
 has_append : (j : ℕ) (is js : List ℕ) → has j (is ++ js) ≡ (has j is || has j js)
 has_append j [] js = refl
-has_append j (i ∷ is) js = ap (λ x. (i == j) || x) (has_append j is js) ∙ sym (or_assoc (i == j) (has j is) (has j js))
+has_append j (i ∷ is) js = grind (arith, has_append j is js)
 
 has_range : (j a n : ℕ) → a ≤ j → j < a + n → has j (range_from a n) ≡ true
 has_range j a zero l h = absurd (omega arith)
-has_range j a (suc n) l h = elim (cases_eq a j) [
-  | inl e ↦ or_left (a == j) _ (eq-eqb a j e)
-  | inr e ↦ or_right (a == j) _ (has_range j (suc a) n (omega arith) (omega arith))
-]
+has_range j a (suc n) l h = grind (arith, nat_tests, has_range j (suc a) n)
 
 range_has : (j a n : ℕ) → has j (range_from a n) ≡ true → (a ≤ j) × (j < a + n)
 range_has j a zero h = absurd (false≢true h)
@@ -153,13 +149,13 @@ on_top-numbers ts k e =
     sym (numbers-join (rev (kept ts k)) (rev (pulled ts k))) ∙ ap postfix (sym (rev_join (pulled ts k) (kept ts k)) ∙ ap rev e)
 
 open_on_top : (t : Tree) (ts : Trees) (k : ℕ) → is_open t ≡ true → AreOnTop ts k → AreOnTop (t ▸ ts) (suc k)
-open_on_top t ts k w e = ap₂ join (pulled_open t ts k w) (kept_open t ts k w) ∙ ap (λ x. t ▸ x) e
+open_on_top t ts k w e = rw w (ap (λ x. t ▸ x) e)
 
 done_on_top : (t : Tree) (ts : Trees) (k : ℕ) → is_open t ≡ false → pulled ts (suc k) ≡ no_trees → AreOnTop (t ▸ ts) (suc k)
-done_on_top t ts k w x = ap₂ join (pulled_done t ts (suc k) w ∙ x) (kept_done t ts (suc k) w ∙ ap (λ y. t ▸ y) (kept_if_none ts k x))
+done_on_top t ts k w x = rw (w, x) (ap (λ y. t ▸ y) (kept_if_none ts k x))
 
 pulled_top : (t : Tree) (ts : Trees) (k : ℕ) → is_open t ≡ true → numbers (pulled (t ▸ ts) (suc k)) ≡ numbers (pulled ts k) ++ postfix_of t
-pulled_top t ts k w = ap numbers (pulled_open t ts k w) ∙ numbers_rev t (pulled ts k)
+pulled_top t ts k w = rw w (numbers_rev t (pulled ts k))
 
 gather_open : (t : Tree) (ts : Trees) (a z k : ℕ) → is_open t ≡ true → numbers (t ▸ ts) ≡ range_from a z →
     IsUpward (numbers (pulled (t ▸ ts) (suc k))) (a + z) →

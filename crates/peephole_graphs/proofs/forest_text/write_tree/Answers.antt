@@ -1,17 +1,16 @@
-use Rattle.std.proofs.Common.{◌++◌, ◌∷◌, [], Err, ap, ◌∙◌, string_bytes}
+use Rattle.std.proofs.Common.{◌++◌, ◌∷◌, [], ap, ◌∙◌, string_bytes}
 use Rattle.std.proofs.lemmas.List.{nil_from_length}
 use Rattle.std.proofs.lemmas.Result.{err_from_is_err_and}
 use Rattle.peephole_graphs.specs.ForestText.{CanTell, Tells}
-use Rattle.peephole_graphs.proofs.ForestWalk.{at_entry_of, at_child_of, failed, start_failed, start_inside, walk_start, child_inside, child_failed}
-use Rattle.peephole_graphs.proofs.ForestWalk.{child_written, down_inside, down_smaller, IsTaken, taken, walk_up, up_inside, up_smaller}
+use Rattle.peephole_graphs.proofs.ForestWalk.{at_entry_of, at_child_of, start_failed, start_inside, walk_start, child_inside, child_failed, child_written}
+use Rattle.peephole_graphs.proofs.ForestWalk.{down_inside, down_smaller, IsTaken, taken, walk_up, up_inside, up_smaller}
 use Rattle.peephole_graphs.proofs.forest_text.write_tree.Goals as goal
 
 pub returns-in_err-write_entry : goal.returns-in_err-write_entry
 returns-in_err-write_entry g c said t =
     let p = err_from_is_err_and c.from_residual.result c.from_residual.ensures.1 in
     let told = at_entry_of (Tells g.F.Fn c.args.f.now said) c.args.entries.now c.args.root _ c.requires.root c.index-entries-root.is t in
-    failed _ c.from_residual.result c.in_err-write_entry.field-0.0 _ (p.1 ∙ ap (λ x. Err x) p.2)
-    (start_failed c.args.entries.now c.args.root _ c.requires.below c.requires.root c.index-entries-root.is said (string_bytes c.args.text.now)
+    rw (p.1, p.2) (start_failed c.args.entries.now c.args.root _ c.requires.below c.requires.root c.index-entries-root.is said (string_bytes c.args.text.now)
     c.in_err-write_entry.field-0.0 (c.in_err-write_entry.ensures said told))
 
 pub loop-ids-init : goal.loop-ids-init
@@ -44,8 +43,7 @@ returns-in_err-write_child g c said tells =
     c.in-Some-split_first.later c.index-entries-child.result =
     taken c.requires.below c.loop-ids.invariant.inside c.in-Some.ensures.items c.in-Some-split_first.ensures.cases.0 c.index-entries-child.is in
     let p = err_from_is_err_and c.from_residual-in_err-write_child.result c.from_residual-in_err-write_child.ensures.1 in
-    failed _ c.from_residual-in_err-write_child.result c.in_err-write_child.field-0.0 _ (p.1 ∙ ap (λ x. Err x) p.2)
-    (child_failed t said _ c.as_slice.result.now (string_bytes c.loop-ids.text) (c.loop-ids.invariant.rest said tells) c.as_slice.ensures.value
+    rw (p.1, p.2) (child_failed t said _ c.as_slice.result.now (string_bytes c.loop-ids.text) (c.loop-ids.invariant.rest said tells) c.as_slice.ensures.value
     c.in_err-write_child.field-0.0 (c.in_err-write_child.ensures said (at_child_of t (Tells g.F.Fn c.args.f.now said) tells)))
 
 pub loop-ids-smaller-in-Continue-branch-5 : goal.loop-ids-smaller-in-Continue-branch-5
