@@ -68,13 +68,15 @@ sizes_count es sizes h = sym (length-reverse sizes) ∙ (ap length h ∙ (sizes_
 pub flags_count : (es : List StackEntry) (same : List Bool) → reverse same ≡ flags_of (kins_of es) → length same ≡ length es
 flags_count es same h = sym (length-reverse same) ∙ (ap length h ∙ (flags_length (kins_of es) ∙ kins_length es))
 
-pub sizes_are : (es : List StackEntry) (sizes : List ℕ) → reverse sizes ≡ sizes_of (kins_of es) → (i : ℕ) → slice_index sizes i ≡
-    item 0 (sizes_of (kins_of es)) i
-sizes_are es sizes h i = get_item 0 sizes i ∙ ap (λ x. item 0 x i) h
+sizes_are : (es : List StackEntry) (sizes : List ℕ) → reverse sizes ≡ sizes_of (kins_of es) → slice_index sizes ≡ item 0 (sizes_of (kins_of es))
+sizes_are es sizes h = λ j i. (get_item 0 sizes i ∙ ap (λ x. item 0 x i) h) j
 
-pub flags_are : (es : List StackEntry) (same : List Bool) → reverse same ≡ flags_of (kins_of es) → (i : ℕ) →
-    slice_index_or same i false ≡ item false (flags_of (kins_of es)) i
-flags_are es same h i = get_item false same i ∙ ap (λ x. item false x i) h
+flags_are : (es : List StackEntry) (same : List Bool) → reverse same ≡ flags_of (kins_of es) →
+    (λ i. slice_index_or same i false) ≡ item false (flags_of (kins_of es))
+flags_are es same h = λ j i. (get_item false same i ∙ ap (λ x. item false x i) h) j
+
+colors_are : (es : List StackEntry) → slice_index (colors es) ≡ (λ i. (kin_at (kins_of es) i).color)
+colors_are es = λ j i. color_item es i j
 
 -- ---- what is kept of the entries from one downwards
 
@@ -104,36 +106,28 @@ pub measured_more : (info : Module) (first n : ℕ) (s : Shape) (earlier : List 
 measured_more info first n s earlier es es' ts ts' c stack more taken g ig gn gs e b m w h added =
     let sizes = sizes_kept ts in
     let same = flags_kept ts in
-    let d = ap sizes_kept added ∙ map_added (λ (x : Subtree). x.len) ts more _ in
-    let f = ap flags_kept added ∙ map_added (λ (x : Subtree). x.one_color) ts more _ in
     let k = s.operands in
+    let size = item 0 (sizes_of (kins_of es)) in
+    let flag = item false (flags_of (kins_of es)) in
+    let color = λ (i : ℕ). (kin_at (kins_of es) i).color in
     let kins_old : kins g.nodes ≡ kins_of es = ap kins gn ∙ kins_same info first es in
     let kins_new : kins_of es' ≡ kins (grown g s n c).nodes = sym (kins_same info first es') ∙ ap kins e in
     let taken_back : reverse taken ≡ take k g.stack = ap reverse w ∙ (sym (take_reverse k stack) ∙ ap (take k) (sym gs)) in
     let more_is : more ≡ k - length g.stack = m ∙ ap (λ x. k - x) (sym (length-reverse stack) ∙ ap length (sym gs)) in
-    let size_is : slice_index sizes ≡ item 0 (sizes_of (kins g.nodes)) =
-    λ j i. (sizes_are es sizes h.sizes_are i ∙ ap (λ x. item 0 (sizes_of x) i) (sym kins_old)) j in
-    let flag_is : (λ i. slice_index_or same i false) ≡ item false (flags_of (kins g.nodes)) =
-    λ j i. (flags_are es same h.flags_are i ∙ ap (λ x. item false (flags_of x) i) (sym kins_old)) j in
-    let color_is : slice_index (colors es) ≡ (λ i. (kin_at (kins g.nodes) i).color) =
-    λ j i. (color_item es i ∙ ap (λ x. (kin_at x i).color) (sym kins_old)) j in
-    let total_is : total (slice_index sizes) taken ≡ total (item 0 (sizes_of (kins g.nodes))) (take k g.stack) =
-    ap (λ f. total f taken) size_is
-    ∙ (sym (total_reverse (item 0 (sizes_of (kins g.nodes))) taken) ∙ ap (total (item 0 (sizes_of (kins g.nodes)))) taken_back) in
-    let alike_is : are_alike (λ i. slice_index_or same i false) (slice_index (colors es)) c taken
-    ≡ are_alike (item false (flags_of (kins g.nodes))) (λ i. (kin_at (kins g.nodes) i).color) c (take k g.stack) =
-    ap₂ (λ f h. are_alike f h c taken) flag_is color_is
-    ∙ (sym (alike_reverse (item false (flags_of (kins g.nodes))) (λ i. (kin_at (kins g.nodes) i).color) c taken)
-    ∙ ap (are_alike (item false (flags_of (kins g.nodes))) (λ i. (kin_at (kins g.nodes) i).color) c) taken_back) in
+    let total_is : total (slice_index sizes) taken ≡ total size (take k g.stack) =
+    ap (λ f. total f taken) (sizes_are es sizes h.sizes_are) ∙ (sym (total_reverse size taken) ∙ ap (total size) taken_back) in
+    let alike_is : are_alike (λ i. slice_index_or same i false) (slice_index (colors es)) c taken ≡ are_alike flag color c (take k g.stack) =
+    ap₂ (λ f h. are_alike f h c taken) (flags_are es same h.flags_are) (colors_are es)
+    ∙ (sym (alike_reverse flag color c taken) ∙ ap (are_alike flag color c) taken_back) in
     record {
-      sizes_are = ap reverse d ∙ (reverse_push (sizes ++ replicate more 1) _ ∙ (ap₂ (λ x y. x ∷ y) (ap₂ (λ x y. suc (x + y)) more_is total_is)
-          (reverse-append sizes (replicate more 1) ∙ ap₂ (λ x y. x ++ y) (reverse_replicate more 1 ∙
-          ap (λ x. replicate x 1) more_is) (h.sizes_are ∙ ap sizes_of (sym kins_old))) ∙
-          (sym (sizes_grown s earlier g n c ig) ∙ ap sizes_of (sym kins_new))));
-      flags_are = ap reverse f ∙ (reverse_push (same ++ replicate more true) _ ∙ (ap₂ (λ x y. x ∷ y) (ap₂ (λ x y. (x == 0) && y) more_is alike_is)
-          (reverse-append same (replicate more true) ∙ ap₂ (λ x y. x ++ y) (reverse_replicate more true ∙
-          ap (λ x. replicate x true) more_is) (h.flags_are ∙ ap flags_of (sym kins_old))) ∙
-          (sym (flags_grown s earlier g n c ig b) ∙ ap flags_of (sym kins_new))));
+      sizes_are = ap reverse (ap sizes_kept added ∙ map_added (λ (x : Subtree). x.len) ts more _) ∙ (reverse_push (sizes ++ replicate more 1) _
+          ∙ (ap₂ (λ x y. x ∷ y) (ap₂ (λ x y. suc (x + y)) more_is total_is) (reverse-append sizes (replicate more 1)
+          ∙ ap₂ (λ x y. x ++ y) (reverse_replicate more 1 ∙ ap (λ x. replicate x 1) more_is) h.sizes_are)
+          ∙ (sym (rw kins_old at (sizes_grown s earlier g n c ig)) ∙ ap sizes_of (sym kins_new))));
+      flags_are = ap reverse (ap flags_kept added ∙ map_added (λ (x : Subtree). x.one_color) ts more _) ∙ (reverse_push (same ++ replicate more true) _
+          ∙ (ap₂ (λ x y. x ∷ y) (ap₂ (λ x y. (x == 0) && y) more_is alike_is) (reverse-append same (replicate more true)
+          ∙ ap₂ (λ x y. x ++ y) (reverse_replicate more true ∙ ap (λ x. replicate x true) more_is) h.flags_are)
+          ∙ (sym (rw kins_old at (flags_grown s earlier g n c ig b)) ∙ ap flags_of (sym kins_new))));
     }
 
 -- what `add_row` wants
@@ -142,7 +136,7 @@ pub stack_room : (es : List StackEntry) (sizes : List ℕ) (stack : List ℕ) (g
     total (size_of_entry g) g.stack ≤ length g.nodes → total (λ i. slice_index sizes i) stack ≤ length es
 stack_room es sizes stack g info first gn gs h l =
     let kins_old : kins g.nodes ≡ kins_of es = ap kins gn ∙ kins_same info first es in
-    let size_is : slice_index sizes ≡ size_of_entry g = λ j i. (sizes_are es sizes h i ∙ ap (λ x. item 0 (sizes_of x) i) (sym kins_old)) j in
+    let size_is : slice_index sizes ≡ size_of_entry g = sizes_are es sizes h ∙ ap (λ x. item 0 (sizes_of x)) (sym kins_old) in
     let e : total (slice_index sizes) stack ≡ total (size_of_entry g) g.stack =
     ap (λ f. total f stack) size_is ∙ (sym (total_reverse (size_of_entry g) stack) ∙ ap (total (size_of_entry g)) (sym gs)) in
     let n : length g.nodes ≡ length es = sym (length-map g.nodes kin_of) ∙ (ap length kins_old ∙ kins_length es) in
@@ -151,23 +145,17 @@ stack_room es sizes stack g info first gn gs h l =
 pub size_read : (es : List StackEntry) (sizes : List ℕ) → reverse sizes ≡ sizes_of (kins_of es) → (i : ℕ) → i < length es →
     (d : ℕ) → get_or sizes i d ≡ length (downwards (kins_of es) i)
 size_read es sizes h i l d = get_or_default sizes i d 0 (let e = sizes_count es sizes h in omega arith) ∙
-    (sizes_are es sizes h i ∙ sym (size_at (kins_of es) i (let e = kins_length es in omega arith)))
+    (ap (λ f. f i) (sizes_are es sizes h) ∙ sym (size_at (kins_of es) i (let e = kins_length es in omega arith)))
 
 flag_read : (es : List StackEntry) (same : List Bool) → reverse same ≡ flags_of (kins_of es) → (i : ℕ) → i < length es →
     (d : Bool) → get_or same i d ≡ are_colored (kins_of es) (kin_at (kins_of es) i).color (downwards (kins_of es) i)
 flag_read es same h i l d = get_or_default same i d false (let e = flags_count es same h in omega arith) ∙
-    (flags_are es same h i ∙ sym (flag_at (kins_of es) i (let e = kins_length es in omega arith)))
+    (ap (λ f. f i) (flags_are es same h) ∙ sym (flag_at (kins_of es) i (let e = kins_length es in omega arith)))
 
 -- the test of one colour decides it
 pub decides_colored : (xs : List Kin) (c : ℕ) (is : List ℕ) → Decides (are_colored xs c is) (All (λ j. (kin_at xs j).color ≡ c) is)
 decides_colored xs c is = Decides-by_and (λ j. (kin_at xs j).color == c) (λ j. (kin_at xs j).color ≡ c) (are_colored xs c)
     (λ j. Decides-eqb (kin_at xs j).color c) refl (λ _ _. refl) is
-
-pub colored_all : (xs : List Kin) (c : ℕ) (is : List ℕ) → are_colored xs c is ≡ true → All (λ j. (kin_at xs j).color ≡ c) is
-colored_all xs c is = (decides_colored xs c is).0
-
-pub all_colored : (xs : List Kin) (c : ℕ) (is : List ℕ) → All (λ j. (kin_at xs j).color ≡ c) is → are_colored xs c is ≡ true
-all_colored xs c is = (decides_colored xs c is).1
 
 pub one_color : (es : List StackEntry) (same : List Bool) → reverse same ≡ flags_of (kins_of es) → (i : ℕ) → i < length es →
     (b : Bool) → b ≡ get_or same i b → IsTrue b ↔ HasOneColor (kins_of es) i
@@ -219,10 +207,8 @@ forwards_more es sizes h i l d at w =
     let own : get_or sizes i 0 ≡ length (downwards (kin e ∷ xs) (length xs)) = cc in
     let xs_length : length xs ≡ i = kins_length (take i es) ∙ (let t = length-take i es in omega arith) in
     let start : suc (length xs) - length (downwards (kin e ∷ xs) (length xs)) ≡ at = omega arith in
-    let size_is : item 0 (sizes_of xs) ≡ slice_index (take i sizes) = λ j c. sym (sizes_are (take i es) (take i sizes) front c) j in
-    let color_is : (λ c. (kin_at xs c).color) ≡ slice_index (colors (take i es)) = λ j c. sym (color_item (take i es) c) j in
     ap forwards push ∙ ap (λ b. forwards xs && b) (ap (λ x. forward (item 0 (sizes_of xs)) (λ c. (kin_at xs c).color) x (children_of e.operator)) start
-    ∙ ap₂ (λ f h. forward f h at (children_of e.operator)) size_is color_is)
+    ∙ ap₂ (λ f h. forward f h at (children_of e.operator)) (sym (sizes_are (take i es) (take i sizes) front)) (sym (colors_are (take i es))))
 
 pub forwards_stop : (es : List StackEntry) (i : ℕ) → forwards (kins_of (take i es)) ≡ false → forwards (kins_of es) ≡ false
 forwards_stop es i h = false_from_ne_true (forwards (kins_of es)) (λ w. false≢true (sym h ∙ forwards_suffix (kins_of (drop i es))

@@ -97,7 +97,7 @@ module _ (source : Source) (given : Graph) (h : IsGraphOf source given) where
 -- the trees that an operator leaves and those that it takes are the trees before it
 parts : (ts : Trees) (k : ℕ) → IsPermutation (numbers ts) (numbers (kept ts k) ++ numbers (pulled ts k))
 parts no_trees k = IsPermutation-refl []
-parts (t ▸ ts) zero = subst (IsPermutation (numbers (t ▸ ts))) (sym (append-nil (numbers (t ▸ ts)))) (IsPermutation-refl (numbers (t ▸ ts)))
+parts (t ▸ ts) zero = rw (append-nil (numbers (t ▸ ts))) (IsPermutation-refl (numbers (t ▸ ts)))
 parts (t ▸ ts) (suc k) =
     let own = postfix_of t in
     elim (cases_Bool (is_open t)) [

@@ -126,15 +126,13 @@ split_done : (stand m m0 k i : ℕ) {m1 m2 more : ℕ} {s : Shape} {kids operand
 split_done stand m m0 k i {m1} {m2} {more} {s} {kids} {operands} ts o q (a, A, B) = elim (cases_lt 0 (stand + opens ts)) [
   | inl l ↦
       let (v, rv) = moved i m0 o l (closed q l) in
-      (a, rv stand m a (kept ts (suc k)) A, subst (Reads (stand + opens (kept ts (suc k))) a (pulled ts (suc k))) v B)
+      (a, rv stand m a (kept ts (suc k)) A, rw v at B)
   | inr l ↦
       let none = pulled_none ts (suc k) (omega arith) in
       let left = opens_kept ts (suc k) in
       let n : stand + opens ts ≡ stand + opens (kept ts (suc k)) = omega arith in
-      let front = subst (λ x. Reads stand m (kept ts (suc k)) x) (read_none B none) A in
-      let one = one_more {m2 = m2} i s kids operands more front (subst (λ x. Reads x m0 operands m1) n q)
-      (subst (λ x. Operands x s kids operands m1 more m2) n o) in
-      (m2, one, subst (λ x. Reads (stand + opens (kept ts (suc k))) m2 x m2) (sym none) nothing)
+      let front = rw (read_none B none) at A in
+      (m2, one_more i s kids operands more front (rw n at q) (rw n at o), rw none nothing)
 ]
 
 split : {stand m m' : ℕ} {ts : Trees} (k : ℕ) → Reads stand m ts m' → AreRead stand m (kept ts k) (pulled ts k) m'
@@ -145,8 +143,7 @@ split {stand} {m} {m'} (suc k) (one_more {m0 = m0} {m1 = m1} {ts = ts} i s kids 
       let (a, A, B) = split k r in
       let both = opens_split ts k in
       let n : stand + opens ts ≡ (stand + opens (kept ts k)) + opens (pulled ts k) = omega arith in
-      let one = one_more {m2 = m'} i s kids operands more B (subst (λ x. Reads x m0 operands m1) n q)
-      (subst (λ x. Operands x s kids operands m1 more m') n o) in
+      let one = one_more {m2 = m'} i s kids operands more B (rw n at q) (rw n at o) in
       subst₂ (λ x y. AreRead stand m x y m') (sym (kept_open (node i s kids) ts k h)) (sym (pulled_open (node i s kids) ts k h)) (a, A, one)
   | inr h ↦
       let (b, C, D) = split_done stand m m0 k i ts o q (split (suc k) r) in

@@ -1,6 +1,6 @@
 -- Nodes that were asked for, laid out by one step each.
 use denote.Ref.{Bor}
-use Rattle.std.proofs.Common.{◌≡◌, ℕ, ◌+◌, ◌-◌, ◌<◌, ◌≤◌, List, [], ◌∷◌, ◌++◌, length, refl, sym, ap, subst, ◌∙◌, arith, length-append, map, Some}
+use Rattle.std.proofs.Common.{◌≡◌, ℕ, ◌+◌, ◌-◌, ◌<◌, ◌≤◌, List, [], ◌∷◌, ◌++◌, length, refl, sym, ap, ◌∙◌, arith, length-append, map, Some}
 use Rattle.std.specs.Prelude.{All}
 use Rattle.std.proofs.lemmas.List.{length-map}
 use Rattle.std.proofs.lemmas.List.Elements.{All-nil}
@@ -49,7 +49,7 @@ module _ {L H : Type 0} (head : L → H) (children : L → List ℕ) where
     next_made : (length (children n.now) ≤ length (numbers_of finished))
         × IsLaying t (pieces_of head children rest) (put (piece_by head children n.now) (now_laid expr finished))
     next_made = laying_step t (piece_by head children n.now) (pieces_of head children rest) (now_laid expr finished)
-        (subst (λ x. IsLaying t x (now_laid expr finished)) (ap (pieces_of head children) top ∙ one_more head children rest n) h)
+        (rw (top, one_more head children rest n) at h)
 
     pub asked_enough : length ids ≤ length finished
     asked_enough =
@@ -62,8 +62,8 @@ module _ {L H : Type 0} (head : L → H) (children : L → List ℕ) where
         IsLaying t (pieces_of head children rest) (now_laid expr' finished')
     asked_goes_on expr' finished' a d =
         let place = ap (λ z. first_ones ids finished ++ z ∷ []) (sym (length-map expr (node_by head children))) in
-        subst (λ x. IsLaying t (pieces_of head children rest) x) (sym (put_is (node_by head children n.now) ids finished
-        (map (node_by head children) expr) (map (node_by head children) expr') (numbers_of finished') k a (d ∙ place))) next_made.1
+        rw (put_is (node_by head children n.now) ids finished (map (node_by head children) expr) (map (node_by head children) expr') (numbers_of finished') k a
+        (d ∙ place)) next_made.1
 
   pub asked_laid : (asked : List (Bor L)) (count : ℕ) (t : Term H) (expr : List L) (finished : List Id) → count ≡ length asked → count ≡ 0 →
       IsWhole t → IsLaying t (pieces_of head children asked) (now_laid expr finished) → IsLaidOut head children t expr

@@ -1,4 +1,4 @@
-use Rattle.std.proofs.Common.{◌≡◌, ℕ, ◌+◌, ◌<◌, ◌≤◌, List, Some, refl, sym, ap, ◌∙◌, subst, arith}
+use Rattle.std.proofs.Common.{◌≡◌, ℕ, ◌+◌, ◌<◌, ◌≤◌, List, Some, refl, sym, ap, ◌∙◌, arith}
 use Rattle.std.specs.Prelude.{slice_get}
 use Rattle.std.proofs.lemmas.Bool.{true_from_ne_false}
 use Rattle.peephole_graphs.specs.Block.{BlockRange, HasNoDelimiter, IsDelimiterAt, IsBlockOf}
@@ -21,9 +21,7 @@ returns-then-start-index-clause-none c = delimiter c.args.operators.now c.args.i
 block_is : (operators : List (Operator × ℕ)) (index start : ℕ) (b : BlockRange) → b ≡ record { start = start; end = index + 1 } →
     start ≤ index → HasNoDelimiter operators start (index + 1) → ((from : ℕ) → HasNoDelimiter operators from (index + 1) → start ≤ from) →
     IsBlockOf operators index b.start b.end
-block_is operators index start b e l none longest =
-    let P : BlockRange → Type 0 = λ x. IsBlockOf operators index x.start x.end in
-    subst P (sym e) (record { last = refl; some = l; none = none; longest = longest })
+block_is operators index start b e l none longest = rw e (record { last = refl; some = l; none = none; longest = longest })
 
 pub returns-clause-block : goal.returns-clause-block
 returns-clause-block c = block_is _ _ _ _ c.of_range.ensures c.if-start-index.false c.block_start-start.ensures.none c.block_start-start.ensures.longest
