@@ -1,6 +1,6 @@
 -- The lines of a forest are written one by one; the levels of the way down hold those that are still to come.
 use Rattle.std.proofs.Common.{◌≡◌, ℕ, suc, ◌+◌, ◌*◌, ◌<◌, ◌⊎◌, inl, inr, Bool, true, false, List, [], ◌∷◌, ◌++◌, length, get_or, take, drop, map, Option}
-use Rattle.std.proofs.Common.{None, Some, Result, Ok, Err, refl, sym, ap, ap₂, subst, ◌∙◌, arith, append_assoc, append-nil, length-append, string_bytes}
+use Rattle.std.proofs.Common.{None, Some, Result, Ok, Err, refl, sym, ap, subst, ◌∙◌, arith, append_assoc, append-nil, length-append, string_bytes}
 use Rattle.std.specs.Prelude.{All, String, MatchResult, codes, ◌==◌}
 use Rattle.std.proofs.lemmas.Bool.{ne_eqb, false≢true}
 use Rattle.std.specs.Borrow.{Bor}
@@ -14,7 +14,7 @@ use Rattle.mutate_base.specs.declared.error.Error.TheVariants.{Memory}
 use Rattle.peephole_nodes.specs.declared.id.Id.{Id}
 use Rattle.peephole_lang.specs.Lang.{ids_of}
 use Rattle.peephole_lang.specs.Node.{children_of}
-use Rattle.peephole_lang.specs.Term.{Term, node, AreBelow, numbers_of}
+use Rattle.peephole_lang.specs.Term.{node, AreBelow, numbers_of}
 use Rattle.peephole_lang.specs.Text.{text_of}
 use Rattle.peephole_graphs.specs.declared.dfg.StackEntry.{StackEntry}
 use Rattle.peephole_graphs.specs.Entries.{roots_of}
@@ -80,12 +80,7 @@ with_lines-append said before (l ∷ ls) ys =
 level_lines-append : (entries : List StackEntry) (inner : List ℕ) (ks js : List (List Id)) →
     level_lines entries inner (ks ++ js) ≡ level_lines entries (inner ++ edges ks) js ++ level_lines entries inner ks
 level_lines-append entries inner [] js = sym (append-nil (level_lines entries (inner ++ []) js) ∙ ap (λ p. level_lines entries p js) (append-nil inner))
-level_lines-append entries inner (k ∷ ks) js =
-    let own = child_lines inner (trees_of entries k) in
-    let next = inner ++ edge (has_some k) in
-    let more = level_lines entries next ks in
-    ap (λ x. x ++ own) (level_lines-append entries next ks js) ∙ (append_assoc (level_lines entries (next ++ edges ks) js) more own
-    ∙ ap (λ p. level_lines entries p js ++ (more ++ own)) (append_assoc inner (edge (has_some k)) (edges ks)))
+level_lines-append entries inner (k ∷ ks) js = simp (level_lines-append entries (inner ++ edge (has_some k)) ks js, append_assoc)
 
 followed_is : (entries : List StackEntry) (ids : List Id) → is_followed (trees_of entries ids) ≡ has_some ids
 followed_is entries [] = refl
@@ -109,12 +104,13 @@ module _ (entries : List StackEntry) (i : ℕ) (e : StackEntry) (b : AreBelow (l
   down_lines : (rest : List (List Id)) (child : Id) (later : List Id) → child.0 ≡ i → level_lines entries [] (rest ++ (child ∷ later) ∷ [])
       ≡ line (edges rest ++ branch (has_some later)) e ∷ level_lines entries [] (rest ++ later ∷ ids_of e.operator ∷ [])
   down_lines rest child later same =
-      let after = child_lines (edges rest) (trees_of entries later) in
-      let left = level_lines entries [] rest in
-      let lines : Bool → Term StackEntry → List Line =
-      λ f t. (tree_lines (edges rest ++ branch f) (edges rest ++ edge f) t ++ after) ++ left in
-      level_lines-append entries [] rest ((child ∷ later) ∷ []) ∙ (ap₂ lines (followed_is entries later) (ap (entry_term entries) same ∙ tree_entry)
-      ∙ ap (λ x. line (edges rest ++ branch (has_some later)) e ∷ x) (sym (level_lines-append entries [] rest (later ∷ ids_of e.operator ∷ []))))
+      let here = ap (entry_term entries) same ∙ tree_entry in
+      rw (
+        level_lines-append entries [] rest ((child ∷ later) ∷ []),
+        level_lines-append entries [] rest (later ∷ ids_of e.operator ∷ []),
+        followed_is entries later,
+        here,
+      )
 
 -- ---- the same, by what the code looks up
 
@@ -159,7 +155,7 @@ abbrev pub IsRest : Saying → List StackEntry → Text → List Ids → List �
 IsRest said entries whole levels text = with_lines said text (level_lines entries [] (shown levels)) ≡ whole
 
 shown_top : (levels rest : List Ids) (k : Ids) (ids : List Id) → levels ≡ rest ++ k ∷ [] → k.now ≡ ids → shown levels ≡ shown rest ++ ids ∷ []
-shown_top levels rest k ids e f = ap shown e ∙ (map-append (λ (x : Ids). x.now) rest (k ∷ []) ∙ ap (λ (x : List Id). shown rest ++ x ∷ []) f)
+shown_top levels rest k ids e f = rw (e, map-append (λ (x : Ids). x.now) rest (k ∷ []), f)
 
 pub child_inside : (entries : List StackEntry) (levels rest : List Ids) (k : Ids) (child : Id) (later : List Id) → levels ≡ rest ++ k ∷ [] →
     k.now ≡ child ∷ later → IsInside entries levels → child.0 < length entries
@@ -202,9 +198,7 @@ module _ {entries : List StackEntry} {levels rest : List Ids} {k : Ids} {child :
     next_text = with_entry said (text ++ (edges (shown seen) ++ branch (has_some later.now))) e
 
     whole_is : then_lines said more next_text ≡ whole
-    whole_is =
-        ap (λ (x : List Ids). then_lines said more (with_entry said (text ++ (edges (shown x) ++ branch (has_some later.now))) e)) s
-        ∙ (sym (ap (with_lines said text) next_lines) ∙ same)
+    whole_is = rw s (rw next_lines at same)
 
     -- a refusal at the next line is the whole's
     pub child_failed : (x : Error) → Fails next_text x → Fails whole x
@@ -213,24 +207,19 @@ module _ {entries : List StackEntry} {levels rest : List Ids} {k : Ids} {child :
   -- the levels with the next child's children on top
   module _ (next : List Ids) (kids : Ids) (lb : kids.now ≡ ids_of e.operator) (n : next ≡ (rest ++ later ∷ []) ++ kids ∷ []) where
     next_shown : shown next ≡ shown rest ++ later.now ∷ ids_of e.operator ∷ []
-    next_shown =
-        ap shown (n ∙ append_assoc rest (later ∷ []) (kids ∷ [])) ∙ (map-append (λ (x : Ids). x.now) rest (later ∷ kids ∷ [])
-        ∙ ap (λ (y : List Id). shown rest ++ later.now ∷ y ∷ []) lb)
+    next_shown = rw (n, append_assoc rest (later ∷ []) (kids ∷ []), map-append (λ (x : Ids). x.now) rest (later ∷ kids ∷ []), lb)
 
     pub child_written : (said : Saying) (whole : Text) (seen : List Ids) (text now : List ℕ) → IsRest said entries whole levels text →
         seen ≡ rest → with_entry said (text ++ (edges (shown seen) ++ branch (has_some later.now))) e ≡ Ok now → IsRest said entries whole next now
-    child_written said whole seen text now same s r =
-        ap (λ (x : List (List Id)). with_lines said now (level_lines entries [] x)) next_shown
-        ∙ (ap (then_lines said more) (sym r) ∙ whole_is said whole seen text same s)
+    child_written said whole seen text now same s r = rw next_shown (rw r at (whole_is said whole seen text same s))
 
     pub down_inside : IsInside entries next
     down_inside =
         let P : Ids → Type 0 = λ x. Inside entries x.now in
         let popped = All-pop P levels rest (Some k) t.top t.inside in
-        let own : Inside entries k.now = popped.1 in
-        let left = All-tail (λ (n : ℕ). n < length entries) child.0 (numbers_of later.now) (subst (Inside entries) t.ids own) in
-        let below = subst (Inside entries) (sym lb) (kids_inside entries child.0 e t.below at_child t.is) in
-        subst (All P) (sym n) (All-push P (rest ++ later ∷ []) kids (All-push P rest later popped.0 left) below)
+        let own : Inside entries (child ∷ later.now) = rw t.ids at popped.1 in
+        let left = All-tail (λ (n : ℕ). n < length entries) child.0 (numbers_of later.now) own in
+        rw n (All-push P (rest ++ later ∷ []) kids (All-push P rest later popped.0 left) (rw lb (kids_inside entries child.0 e t.below at_child t.is)))
 
     pub down_smaller : measure entries next < measure entries levels
     down_smaller =
@@ -249,7 +238,7 @@ module _ (entries : List StackEntry) (levels rest : List Ids) (k : Ids) (top : l
   up_shown none = ap (level_lines entries []) (shown_top levels rest k [] top none) ∙ level_lines-append entries [] (shown rest) ([] ∷ [])
 
   pub walk_up : k.now ≡ [] → (said : Saying) (whole : Text) (text : List ℕ) → IsRest said entries whole levels text → IsRest said entries whole rest text
-  walk_up none said whole text same = sym (ap (with_lines said text) (up_shown none)) ∙ same
+  walk_up none said whole text same = rw (up_shown none) at same
 
   pub up_smaller : k.now ≡ [] → measure entries rest < measure entries levels
   up_smaller none =
@@ -264,20 +253,15 @@ module _ (entries : List StackEntry) (i : ℕ) (e : StackEntry) (b : AreBelow (l
 
   first_line : (said : Saying) (before : List ℕ) →
       with_lines said before (tree_lines [] [] (entry_term entries i)) ≡ then_lines said below_it (with_entry said before e)
-  first_line said before =
-      ap (λ (t : Term StackEntry). with_lines said before (tree_lines [] [] t)) (tree_entry entries i e b l is)
-      ∙ ap (λ (x : List ℕ). then_lines said below_it (with_entry said x e)) (append-nil before)
+  first_line said before = rw (tree_entry entries i e b l is, append-nil before)
 
   pub walk_start : (k : Ids) (levels : List Ids) → k.now ≡ ids_of e.operator → levels ≡ k ∷ [] → (said : Saying) (before text : List ℕ) →
       with_entry said before e ≡ Ok text → IsRest said entries (with_lines said before (tree_lines [] [] (entry_term entries i))) levels text
-  walk_start k levels ids top said before text r =
-      ap (λ (x : List (List Id)). with_lines said text (level_lines entries [] x)) (ap shown top ∙ ap (λ (x : List Id). x ∷ []) ids)
-      ∙ (ap (then_lines said below_it) (sym r) ∙ sym (first_line said before))
+  walk_start k levels ids top said before text r = rw (top, ids, first_line said before, r)
 
   pub start_inside : (k : Ids) (levels : List Ids) → k.now ≡ ids_of e.operator → levels ≡ k ∷ [] → IsInside entries levels
   start_inside k levels ids top =
-      let P : Ids → Type 0 = λ x. Inside entries x.now in
-      subst (All P) (sym top) (All-cons P k [] (subst (Inside entries) (sym ids) (kids_inside entries i e b l is)) (All-nil P))
+      let P : Ids → Type 0 = λ x. Inside entries x.now in rw top (All-cons P k [] (rw ids (kids_inside entries i e b l is)) (All-nil P))
 
   -- the root's own refusal
   pub start_failed : (said : Saying) (before : List ℕ) (x : Error) → Fails (with_entry said before e) x →
@@ -288,21 +272,15 @@ module _ (entries : List StackEntry) (i : ℕ) (e : StackEntry) (b : AreBelow (l
 
 root_lines-append : (entries : List StackEntry) (is js : List ℕ) → root_lines entries (is ++ js) ≡ root_lines entries is ++ root_lines entries js
 root_lines-append entries [] js = refl
-root_lines-append entries (i ∷ is) js =
-    ap (λ x. tree_lines [] [] (entry_term entries i) ++ x) (root_lines-append entries is js)
-    ∙ sym (append_assoc (tree_lines [] [] (entry_term entries i)) (root_lines entries is) (root_lines entries js))
+root_lines-append entries (i ∷ is) js = rw (root_lines-append entries is js, append_assoc)
 
 more_roots : (xs ys : List (Option ℕ)) → (js : List ℕ) × (roots_of (xs ++ ys) ≡ roots_of xs ++ js)
-more_roots xs [] = ([], ap roots_of (append-nil xs) ∙ sym (append-nil (roots_of xs)))
+more_roots xs [] = ([], rw (append-nil xs, append-nil (roots_of xs)))
 more_roots xs (None ∷ ys) =
-    let more = more_roots (xs ++ None ∷ []) ys in (
-      length xs ∷ more.0,
-      ap roots_of (sym (append_assoc xs (None ∷ []) ys))
-          ∙ (more.1 ∙ (ap (λ x. x ++ more.0) (roots_root xs) ∙ append_assoc (roots_of xs) (length xs ∷ []) more.0)),
-    )
+    let more = more_roots (xs ++ None ∷ []) ys in
+    (length xs ∷ more.0, rw (← append_assoc xs (None ∷ []) ys, more.1, roots_root xs, append_assoc (roots_of xs) (length xs ∷ []) more.0))
 more_roots xs (Some p ∷ ys) =
-    let more = more_roots (xs ++ Some p ∷ []) ys in
-    (more.0, ap roots_of (sym (append_assoc xs (Some p ∷ []) ys)) ∙ (more.1 ∙ ap (λ x. x ++ more.0) (roots_child xs p)))
+    let more = more_roots (xs ++ Some p ∷ []) ys in (more.0, rw (← append_assoc xs (Some p ∷ []) ys, more.1, roots_child xs p))
 
 abbrev pub first_lines : List StackEntry → List (Option ℕ) → ℕ → List Line
 first_lines entries parents i = root_lines entries (roots_of (take i parents))
@@ -315,16 +293,19 @@ module _ (said : Saying) (entries : List StackEntry) (parents : List (Option ℕ
       let front = take i parents in
       let own = tree_lines [] [] (entry_term entries i) in
       let n : length front ≡ i = omega (arith, length-take i parents) in
-      let roots = ap roots_of (take_more parents i None l ∙ ap (λ (q : Option ℕ). front ++ q ∷ []) none)
-      ∙ (roots_root front ∙ ap (λ k. roots_of front ++ k ∷ []) n) in
-      ap (with_lines said old) (ap (root_lines entries) roots ∙ (root_lines-append entries (roots_of front) (i ∷ [])
-      ∙ ap (λ x. first_lines entries parents i ++ x) (append-nil own)))
-      ∙ (with_lines-append said old (first_lines entries parents i) own ∙ (ap (then_lines said own) e ∙ w))
+      rw (
+        take_more parents i None l,
+        none,
+        roots_root front,
+        n,
+        root_lines-append entries (roots_of front) (i ∷ []),
+        append-nil own,
+        with_lines-append said old (first_lines entries parents i) own,
+        e,
+      ) w
 
   pub child_passed : (p : ℕ) → get_or parents i None ≡ Some p → with_lines said old (first_lines entries parents (i + 1)) ≡ Ok text
-  child_passed p some =
-      let taken = take_more parents i None l ∙ ap (λ (q : Option ℕ). take i parents ++ q ∷ []) some in
-      ap (λ (x : List ℕ). with_lines said old (root_lines entries x)) (ap roots_of taken ∙ roots_child (take i parents) p) ∙ e
+  child_passed p some = rw (take_more parents i None l, some, roots_child (take i parents) p) e
 
   -- a refusal at a root is the whole's
   pub root_failed : (x : Error) → get_or parents i None ≡ None → Fails (with_lines said text (tree_lines [] [] (entry_term entries i))) x →
@@ -351,8 +332,8 @@ default_is : (before : List ℕ) (ls : List Line) → with_lines by_operator bef
 default_is before [] = ap (λ x. Ok x) (sym (append-nil before))
 default_is before (l ∷ ls) =
     let own = entry_text l.entry (text_of l.entry.operator) in
-    default_is ((before ++ l.prefix) ++ own) ls ∙ ap (λ x. Ok x) (ap (λ x. x ++ default_lines ls) (append_assoc before l.prefix own) ∙
-    append_assoc before (l.prefix ++ own) (default_lines ls))
+    default_is ((before ++ l.prefix) ++ own) ls ∙ ap (λ x. Ok x) (ap (λ x. x ++ default_lines ls) (append_assoc before l.prefix own)
+    ∙ append_assoc before (l.prefix ++ own) (default_lines ls))
 
 pub default_told : (entries : List StackEntry) (parents : List (Option ℕ)) (r : Result (String Global) Error) →
     IsText (forest_text by_operator entries parents) r → MatchResult r (λ text. string_bytes text ≡ default_text entries parents) (λ e. e ≡ Memory)

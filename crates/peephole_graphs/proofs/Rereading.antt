@@ -56,8 +56,8 @@ size_rev (t ▸ ts) = let e = size_rev ts in let f = size_join (rev ts) (t ▸ n
 
 renumbered_join : (n : ℕ) (ts us : Trees) → renumbered n (join ts us) ≡ join (renumbered n ts) (renumbered (n + size ts) us)
 renumbered_join n no_trees us = let e : n ≡ n + 0 = omega arith in ap (λ x. renumbered x us) e
-renumbered_join n (t ▸ ts) us = let e : (n + size_of t) + size ts ≡ n + (size_of t + size ts) = omega arith in
-    ap (λ x. renumbered_of n t ▸ x) (renumbered_join (n + size_of t) ts us ∙ ap (λ x. join (renumbered (n + size_of t) ts) (renumbered x us)) e)
+renumbered_join n (t ▸ ts) us =
+    let e : (n + size_of t) + size ts ≡ n + (size_of t + size ts) = omega arith in rw (renumbered_join (n + size_of t) ts us, e)
 
 -- the same for trees of which the last is first
 abbrev pub renumbered_back : ℕ → Trees → Trees
@@ -66,8 +66,7 @@ renumbered_back n (t ▸ ts) = renumbered_of (n + size ts) t ▸ renumbered_back
 
 renumbered_rev : (n : ℕ) (ts : Trees) → renumbered n (rev ts) ≡ rev (renumbered_back n ts)
 renumbered_rev n no_trees = refl
-renumbered_rev n (t ▸ ts) = renumbered_join n (rev ts) (t ▸ no_trees) ∙
-    ap₂ (λ x y. join x (renumbered_of (n + y) t ▸ no_trees)) (renumbered_rev n ts) (size_rev ts)
+renumbered_rev n (t ▸ ts) = rw (renumbered_join n (rev ts) (t ▸ no_trees), renumbered_rev n ts, size_rev ts)
 
 is_open_renumbered : (n : ℕ) (t : Tree) → is_open (renumbered_of n t) ≡ is_open t
 is_open_renumbered n (entry m) = refl
@@ -158,7 +157,7 @@ back_entries m (suc j) = append-nil (back (entries m j)) ∙ back_entries m j
 renumbered_kids : (n m j : ℕ) (ts : Trees) → renumbered n (join (entries m j) (rev ts)) ≡ join (entries m j) (rev (renumbered_back n ts))
 renumbered_kids n m j ts =
     let e : n + size (entries m j) ≡ n = let f = size_entries m j in omega arith in
-    renumbered_join n (entries m j) (rev ts) ∙ ap₂ join (renumbered_entries n m j) (ap (λ x. renumbered x (rev ts)) e ∙ renumbered_rev n ts)
+    rw (renumbered_join n (entries m j) (rev ts), renumbered_entries n m j, e, renumbered_rev n ts)
 
 pub back_kids : (m j : ℕ) (ts : Trees) → back (join (entries m j) (rev ts)) ≡ back (rev ts)
 back_kids m j ts = back_join (entries m j) (rev ts) ∙ (ap (λ x. back (rev ts) ++ x) (back_entries m j) ∙ append-nil (back (rev ts)))

@@ -71,17 +71,15 @@ kids_numbers : (s : Shape) (earlier : List Shape) →
     postfix (top (forest_value (stacked earlier) (missing earlier)) s.operands) ≡ numbers (pulled (stacked earlier) s.operands)
 kids_numbers s earlier =
     let taken = pulled (stacked earlier) s.operands in
-    let more = entries (missing earlier) (s.operands - opens (stacked earlier)) in
-    ap postfix (top_pulled (stacked earlier) (missing earlier) s.operands) ∙ (numbers-join more (rev taken)
-    ∙ ap (λ x. x ++ numbers taken) (numbers_entries (missing earlier) (s.operands - opens (stacked earlier))))
+    let more = s.operands - opens (stacked earlier) in
+    rw (top_pulled (stacked earlier) (missing earlier) s.operands, numbers-join (entries (missing earlier) more) (rev taken), numbers_entries (missing earlier) more)
 
 -- the numbers of the forest as it grows
 pub forest_numbers : (s : Shape) (earlier : List Shape) → numbers (stacked (s ∷ earlier))
     ≡ (numbers (kept (stacked earlier) s.operands) ++ numbers (pulled (stacked earlier) s.operands)) ++ length earlier ∷ []
 forest_numbers s earlier =
     let rest = kept (stacked earlier) s.operands in
-    numbers_rev (operator s earlier) rest ∙ (ap (λ x. numbers rest ++ (x ++ length earlier ∷ [])) (kids_numbers s earlier)
-    ∙ sym (append_assoc (numbers rest) _ _))
+    rw (numbers_rev (operator s earlier) rest, kids_numbers s earlier, append_assoc (numbers rest))
 
 tree_numbers : (s : Shape) (earlier : List Shape) →
     postfix_of (operator_tree s earlier) ≡ numbers (pulled (stacked earlier) s.operands) ++ length earlier ∷ []
