@@ -25,7 +25,7 @@ absents (i ∷ is) = absent ▸ absents is
 
 postfix_join : {H : Type 0} (ts us : Terms H) → all_in_postfix (join ts us) ≡ all_in_postfix ts ++ all_in_postfix us
 postfix_join no_terms us = refl
-postfix_join (t ▸ ts) us = ap (λ x. in_postfix t ++ x) (postfix_join ts us) ∙ sym (append_assoc (in_postfix t) (all_in_postfix ts) (all_in_postfix us))
+postfix_join (t ▸ ts) us = rw (postfix_join ts us, append_assoc)
 
 whole_join : {H : Type 0} (ts us : Terms H) → AreWhole ts → AreWhole us → AreWhole (join ts us)
 whole_join no_terms us w v = v
@@ -106,13 +106,8 @@ module _ {H : Type 0} (Answers : ℕ → Node H → Type 0) where
   own_first : (us kids : Terms H) (n : Node H) (asked : List (Piece H)) → child_count kids ≡ length n.children →
       all_in_postfix (join us (node n.head kids ▸ no_terms)) ++ asked ≡ all_in_postfix (join us kids) ++ own_piece n ∷ asked
   own_first us kids n asked e =
-      ap (λ x. x ++ asked) (postfix_join us (node n.head kids ▸ no_terms))
-      ∙ (ap (λ c. (all_in_postfix us ++ ((all_in_postfix kids ++ piece c ∷ []) ++ [])) ++ asked) e
-      ∙ (moved (all_in_postfix us) (all_in_postfix kids) (own_piece n) asked ∙ ap (λ x. x ++ own_piece n ∷ asked) (sym (postfix_join us kids))))
+      rw (postfix_join us (node n.head kids ▸ no_terms), postfix_join us kids, e) (moved (all_in_postfix us) (all_in_postfix kids) (own_piece n) asked)
     where
-      piece : ℕ → Piece H
-      piece c = record { head = n.head; count = c }
-
       moved : {A : Type 0} (xs ys : List A) (p : A) (zs : List A) → (xs ++ ((ys ++ p ∷ []) ++ [])) ++ zs ≡ (xs ++ ys) ++ p ∷ zs
       moved xs ys p zs = grind (arith, common_steps)
 

@@ -1,6 +1,6 @@
 -- The trees of a graph's entries, entry by entry, and the last tree of its block's forest.
-use Rattle.std.proofs.Common.{◌≡◌, ℕ, zero, suc, ◌+◌, ◌-◌, ◌<◌, inl, inr, List, [], ◌∷◌, ◌++◌, length, get_or, map, take, refl, sym, ap, ap₂, subst, ◌∙◌}
-use Rattle.std.proofs.Common.{arith, Option, Some, None, append_assoc}
+use Rattle.std.proofs.Common.{◌≡◌, ℕ, zero, suc, ◌+◌, ◌-◌, ◌<◌, inl, inr, List, [], ◌∷◌, ◌++◌, length, get_or, map, take, refl, sym, ap, ap₂, ◌∙◌, arith}
+use Rattle.std.proofs.Common.{Option, Some, None, append_assoc}
 use Rattle.std.specs.Prelude.{slice_get, option_map, reverse}
 use Rattle.std.specs.List.{All}
 use Rattle.std.proofs.lemmas.Bool.{cond-true, cond-false, eq-eqb, ne_eqb}
@@ -88,15 +88,13 @@ seen_tree info first entries i e s below =
 
 pub own_tree : HasOwnTree
 own_tree source given h i e instr s is =
-    let own = seen_tree source.info source.first given.entries i e s (children_before given h i e s).1 in
-    own.1 ∙ ap (λ x. tree_of_entry (option_map (shape_of source.info) x) (children_of e.operator)
-    (e.operator_idx - source.first) own.0 (entry_tree source given)) is
+    let own = seen_tree source.info source.first given.entries i e s (children_before given h i e s).1 in rw is at own.1
 
 pub entry_operand : IsEntryOperand
 entry_operand source given i e s u =
     let no_children : children_of e.operator ≡ [] = ap children_of u ∙ undef_children in
     let none : instr_of e.operator ≡ None = ap instr_of u ∙ undef_instr in
-    let own = seen_tree source.info source.first given.entries i e s (subst (λ cs. All (λ c. c < i) cs) (sym no_children) (All-nil (λ c. c < i))) in (
+    let own = seen_tree source.info source.first given.entries i e s (rw no_children (All-nil (λ c. c < i))) in (
       own.0,
       own.1 ∙ ap (λ x. tree_of_entry (option_map (shape_of source.info) x) (children_of e.operator)
           (e.operator_idx - source.first) own.0 (entry_tree source given)) none,
@@ -168,14 +166,14 @@ module _ {H : Type 0} (head : StackEntry → H) where
   below_others (e ∷ es) before h b =
       let own : Node H = record { head = head e; children = children_of e.operator } in
       let seen : List (Node H) = map (λ (x : StackEntry). record { head = head x; children = children_of x.operator }) es in
-      subst AreBelow (sym (ap (λ ns. ns ++ before) (reverse-append (own ∷ []) seen) ∙ append_assoc (reverse seen) (own ∷ []) before))
+      rw (reverse-append (own ∷ []) seen, append_assoc (reverse seen) (own ∷ []) before)
       (below_others es (own ∷ before) (λ i d l. All-weaker (λ c. c < length before + suc i) (λ c. c < suc (length before) + i) (λ c m. omega arith)
       (children_of (get_or es i d).operator) (h (suc i) d (omega arith)))
       (All-weaker (λ c. c < length before + 0) (λ c. c < length before) (λ c m. omega arith) (children_of e.operator) (h 0 e (omega arith)), b))
 
   pub nodes_below : (entries : List StackEntry) → ((i : ℕ) (d : StackEntry) → i < length entries →
       All (λ c. c < i) (children_of (get_or entries i d).operator)) → AreBelow (nodes entries)
-  nodes_below entries h = subst AreBelow (append-nil (nodes entries)) (below_others entries [] (λ i d l. All-weaker (λ c. c < i) (λ c. c < 0 + i)
+  nodes_below entries h = rw (append-nil (nodes entries)) at (below_others entries [] (λ i d l. All-weaker (λ c. c < i) (λ c. c < 0 + i)
       (λ c m. omega arith) (children_of (get_or entries i d).operator) (h i d l)) tt)
 
   -- the term of an entry is its head over the terms of its children

@@ -111,8 +111,7 @@ parts (t ▸ ts) (suc k) =
           let P = numbers (pulled ts (suc k)) in
           let turned : IsPermutation ((K ++ P) ++ own) ((K ++ own) ++ P) =
           rw (append_assoc K P own, append_assoc K own P) (IsPermutation-append_right K (P ++ own) (own ++ P) (IsPermutation-append_comm P own)) in
-          rw (e, numbers_rev t ts, numbers_rev t (kept ts (suc k)))
-          (IsPermutation-trans (numbers ts ++ own) ((K ++ P) ++ own) ((K ++ own) ++ P)
+          rw (e, numbers_rev t ts, numbers_rev t (kept ts (suc k))) (IsPermutation-trans (numbers ts ++ own) ((K ++ P) ++ own) ((K ++ own) ++ P)
           (IsPermutation-append_left own (numbers ts) (K ++ P) (parts ts (suc k))) turned)
     ]
 

@@ -41,8 +41,7 @@ pub data Reads : ℕ → ℕ → Trees → ℕ → Type 0 where
 pub open_pulled : (forest : Trees) (k : ℕ) → AllOpen (pulled forest k)
 open_pulled no_trees k = tt
 open_pulled (t ▸ forest) zero = tt
-open_pulled (t ▸ forest) (suc k) =
-    elim (cases_Bool (is_open t)) [ inl e ↦ rw e (e, open_pulled forest k) | inr e ↦ rw e (open_pulled forest (suc k)) ]
+open_pulled (t ▸ forest) (suc k) = elim (cases_Bool (is_open t)) [ inl e ↦ rw e (e, open_pulled forest k) | inr e ↦ rw e (open_pulled forest (suc k)) ]
 
 pub count_pulled : (forest : Trees) (k : ℕ) → (k - opens forest) + count (pulled forest k) ≡ k
 count_pulled no_trees k = omega arith

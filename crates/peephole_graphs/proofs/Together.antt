@@ -143,8 +143,7 @@ rev_join no_trees us = sym (join_nil (rev us))
 rev_join (t ▸ ts) us = ap (λ x. join x (t ▸ no_trees)) (rev_join ts us) ∙ join_assoc (rev us) (rev ts) (t ▸ no_trees)
 
 on_top-numbers : (ts : Trees) (k : ℕ) → AreOnTop ts k → numbers (kept ts k) ++ numbers (pulled ts k) ≡ numbers ts
-on_top-numbers ts k e =
-    sym (numbers-join (rev (kept ts k)) (rev (pulled ts k))) ∙ ap postfix (sym (rev_join (pulled ts k) (kept ts k)) ∙ ap rev e)
+on_top-numbers ts k e = sym (numbers-join (rev (kept ts k)) (rev (pulled ts k))) ∙ ap postfix (sym (rev_join (pulled ts k) (kept ts k)) ∙ ap rev e)
 
 open_on_top : (t : Tree) (ts : Trees) (k : ℕ) → is_open t ≡ true → AreOnTop ts k → AreOnTop (t ▸ ts) (suc k)
 open_on_top t ts k w e = rw w (ap (λ x. t ▸ x) e)

@@ -1,19 +1,17 @@
-use Rattle.std.proofs.Common.{◌≡◌, ℕ, ◌+◌, ◌<◌, ◌≤◌, List, Some, refl, sym, ap, ◌∙◌, arith}
+use Rattle.std.proofs.Common.{◌≡◌, ℕ, ◌+◌, ◌<◌, ◌≤◌, List, refl, sym, ap, ◌∙◌, arith}
 use Rattle.std.specs.Prelude.{slice_get}
 use Rattle.std.proofs.lemmas.Bool.{true_from_ne_false}
+use Rattle.std.proofs.lemmas.Option.{same_Some}
 use Rattle.peephole_graphs.specs.Block.{BlockRange, HasNoDelimiter, IsDelimiterAt, IsBlockOf}
 use Rattle.wasm_code.specs.Operator.{is_delimiter}
 use Rattle.wasm_code.specs.declared.operator.Operator.{Operator}
 use Rattle.peephole_graphs.proofs.block.BBlock.of_operator.Goals as goal
 
-some_same : (o p : Operator × ℕ) → ◌≡◌ {A = _} (Some o) (Some p) → o ≡ p
-some_same o p e = cc
-
 delimiter : (operators : List (Operator × ℕ)) (index start : ℕ) → index < start →
     ((from : ℕ) → HasNoDelimiter operators from (index + 1) → start ≤ from) → IsDelimiterAt operators index
 delimiter operators index start l longest o e = true_from_ne_false (is_delimiter o.0) (λ f. absurd (
     let h = longest index (λ k p a b s. let w : k ≡ index = omega arith in ap (λ (x : Operator × ℕ). is_delimiter x.0)
-    (sym (some_same o p (sym e ∙ (ap (slice_get operators) (sym w) ∙ s)))) ∙ f) in omega arith))
+    (sym (same_Some o p (sym e ∙ (ap (slice_get operators) (sym w) ∙ s)))) ∙ f) in omega arith))
 
 pub returns-then-start-index-clause-none : goal.returns-then-start-index-clause-none
 returns-then-start-index-clause-none c = delimiter c.args.operators.now c.args.index _ c.if-start-index.true c.block_start-start.ensures.longest
