@@ -8,7 +8,7 @@ use Rattle.std.specs.List.{All}
 use Rattle.std.proofs.lemmas.List.{drop-map, length-map, length-drop, map-append, take-map, take-append-drop, take_all, take-take, length-append}
 use Rattle.wasm_code.specs.Instruction.{Instruction, IsInstruction}
 use Rattle.wasm_code.specs.Code.{codes}
-use Rattle.wasm_code.specs.Body.{AreSpelled, joined, placed, is_end, ends, SpellsAll, SpellsBody}
+use Rattle.wasm_code.specs.Body.{AreSpelled, bytes_of, with_offsets, is_end, ends, SpellsAll, SpellsBody}
 use Rattle.wasm_code.specs.Operator.{is_delimiter}
 use Rattle.wasm_code.specs.declared.operator.Operator.{Operator}
 use Rattle.wasm_code.specs.declared.operator.Operator.TheVariants.{Instr, End}
@@ -16,8 +16,8 @@ use Rattle.peephole_graphs.specs.Block.{BlockRange}
 use Rattle.peephole_terms.specs.Written.{Site, site_at, offset_of, before_block, after_block, written_body, IsBodyIn, IsBlockIn}
 use Rattle.peephole_terms.specs.ReadAgain.{without_offsets, ReadsAgain}
 use Rattle.peephole_terms.specs.EncoderSteps.{IsInside}
-use Rattle.peephole_terms.proofs.SpellingLemmas.{Spelling, CodesSpell, spelled, spellings_of, spelled_append, spelled_take, spelled_drop, joined-append}
-use Rattle.peephole_terms.proofs.SpellingLemmas.{joined_parts, named_placed, length-placed, offset_placed, coded, coded_spelled, joined_coded, spelled_coded}
+use Rattle.peephole_terms.proofs.SpellingLemmas.{Spelling, CodesSpell, spelled, spellings_of, spelled_append, spelled_take, spelled_drop, bytes_of-append}
+use Rattle.peephole_terms.proofs.SpellingLemmas.{joined_parts, named_placed, length-with_offsets, offset_placed, coded, coded_spelled, joined_coded, spelled_coded}
 use Rattle.peephole_terms.proofs.SpellingLemmas.{ends_with, ends_named, ends_behind, last_size, StandsIn, stands_in, front_in, back_in}
 
 -- ---- a body by its spellings
@@ -25,7 +25,7 @@ use Rattle.peephole_terms.proofs.SpellingLemmas.{ends_with, ends_named, ends_beh
 -- The operators are these spellings, which stand in the input, and the last one is `end`.
 pub record IsBodyOf (input : List ℕ) (from to : ℕ) (ps : List Spelling) (operators : List (Operator × ℕ)) : Type 0 where
   pub each : AreSpelled ps
-  pub read : placed from ps ≡ operators
+  pub read : with_offsets from ps ≡ operators
   pub stands : StandsIn input from to ps
   pub ordered : from ≤ to
   pub last : IsTrue (ends_with (spelled ps))
@@ -38,33 +38,33 @@ module _ {input : List ℕ} {from to : ℕ} {ps : List Spelling} {operators : Li
   alone_are = ap without_offsets (sym h.read) ∙ named_placed from ps
 
   pub count_is : length operators ≡ length ps
-  count_is = ap (λ (xs : List (Operator × ℕ)). length xs) (sym h.read) ∙ length-placed from ps
+  count_is = ap (λ (xs : List (Operator × ℕ)). length xs) (sym h.read) ∙ length-with_offsets from ps
 
-  starts_at : (i : ℕ) → i < length ps → offset_of operators i ≡ from + length (joined (take i ps))
+  starts_at : (i : ℕ) → i < length ps → offset_of operators i ≡ from + length (bytes_of (take i ps))
   starts_at i l = ap (λ (xs : List (Operator × ℕ)). offset_of xs i) (sym h.read) ∙ offset_placed from ps i l
 
-  before_is : (block : BlockRange) → block.start < length ps → before_block input operators block ≡ joined (take block.start ps)
+  before_is : (block : BlockRange) → block.start < length ps → before_block input operators block ≡ bytes_of (take block.start ps)
   before_is block l =
       let first : offset_of operators 0 ≡ from = let e = starts_at 0 (omega arith) in omega arith in
       ap₂ (slice_range input) first (starts_at block.start l) ∙ front_in input from to block.start ps h.stands
 
-  after_is : (block : BlockRange) → block.end < length ps → after_block input operators block ≡ joined (drop block.end ps)
+  after_is : (block : BlockRange) → block.end < length ps → after_block input operators block ≡ bytes_of (drop block.end ps)
   after_is block l =
       let last = starts_at (length ps - 1) (omega arith) in
       let one = last_size ps h.each h.last in
-      let end : offset_of operators (length operators - 1) + 1 ≡ from + length (joined ps) =
+      let end : offset_of operators (length operators - 1) + 1 ≡ from + length (bytes_of ps) =
       ap (λ (k : ℕ). offset_of operators (k - 1) + 1) count_is ∙ omega arith in
       ap (λ (k : ℕ). slice_range input k (offset_of operators (length operators - 1) + 1)) (starts_at block.end l)
       ∙ back_in input from to (offset_of operators (length operators - 1) + 1) block.end ps h.stands end
 
   -- with instructions in the place of a block
   pub written_is : (block : BlockRange) (code : List Instruction) → block.start < length ps → block.end < length ps →
-      written_body (site_at input operators block 0) code ≡ joined (with_code ps block code)
+      written_body (site_at input operators block 0) code ≡ bytes_of (with_code ps block code)
   written_is block code l m =
       ap₂ (λ (x y : List ℕ). x ++ (codes code ++ y)) (before_is block l) (after_is block m)
-      ∙ sym (joined-append (take block.start ps) (coded code ++ drop block.end ps)
-      ∙ ap (λ (x : List ℕ). joined (take block.start ps) ++ x) (joined-append (coded code) (drop block.end ps)
-      ∙ ap (λ (x : List ℕ). x ++ joined (drop block.end ps)) (joined_coded code)))
+      ∙ sym (bytes_of-append (take block.start ps) (coded code ++ drop block.end ps)
+      ∙ ap (λ (x : List ℕ). bytes_of (take block.start ps) ++ x) (bytes_of-append (coded code) (drop block.end ps)
+      ∙ ap (λ (x : List ℕ). x ++ bytes_of (drop block.end ps)) (joined_coded code)))
 
 -- ---- the same with other instructions in the place of a block
 
@@ -87,29 +87,29 @@ last_with ps block code l =
 -- what is written is a body by itself
 pub again_of : CodesSpell → (ps : List Spelling) (block : BlockRange) (code : List Instruction) → AreSpelled ps → IsTrue (ends_with (spelled ps)) →
     block.end < length ps → All IsInstruction code →
-    IsBodyOf (joined (with_code ps block code)) 0 (length (joined (with_code ps block code))) (with_code ps block code) (placed 0 (with_code ps block code))
+    IsBodyOf (bytes_of (with_code ps block code)) 0 (length (bytes_of (with_code ps block code))) (with_code ps block code) (with_offsets 0 (with_code ps block code))
 again_of spell ps block code each last l all =
     let qs = with_code ps block code in
-    let whole : slice_range (joined qs) 0 (length (joined qs)) ≡ joined qs = take_all (length (joined qs) - 0) (joined qs) (omega arith) in
+    let whole : slice_range (bytes_of qs) 0 (length (bytes_of qs)) ≡ bytes_of qs = take_all (length (bytes_of qs) - 0) (bytes_of qs) (omega arith) in
     record {
       each = spelled_append (take block.start ps) (coded code ++ drop block.end ps) (spelled_take block.start ps each)
           (spelled_append (coded code) (drop block.end ps) (coded_spelled spell code all) (spelled_drop block.end ps each));
       read = refl;
-      stands = stands_in (joined qs) 0 (length (joined qs)) qs (omega arith) (omega arith) whole;
+      stands = stands_in (bytes_of qs) 0 (length (bytes_of qs)) qs (omega arith) (omega arith) whole;
       ordered = omega arith;
       last = last_with ps block code l ∙ last;
     }
 
 -- joined spellings are read as their operators
-all_joined : (start : ℕ) (ps : List Spelling) → AreSpelled ps → SpellsAll (placed start ps) start (joined ps)
+all_joined : (start : ℕ) (ps : List Spelling) → AreSpelled ps → SpellsAll (with_offsets start ps) start (bytes_of ps)
 all_joined start [] s = refl
 all_joined start (p ∷ ps) s =
-    record { front = p.1; back = joined ps; parts = refl; offset = refl; spells = s.0; rest = all_joined (start + length p.1) ps s.1 }
+    record { front = p.1; back = bytes_of ps; parts = refl; offset = refl; spells = s.0; rest = all_joined (start + length p.1) ps s.1 }
 
 pub spells_again : (text : List ℕ) (to : ℕ) (ps : List Spelling) (operators : List (Operator × ℕ)) → IsBodyOf text 0 to ps operators →
-    text ≡ joined ps → SpellsBody 0 text operators
+    text ≡ bytes_of ps → SpellsBody 0 text operators
 spells_again text to ps operators h e = record {
-  all = subst (λ (xs : List (Operator × ℕ)). SpellsAll xs 0 text) h.read (subst (SpellsAll (placed 0 ps) 0) (sym e) (all_joined 0 ps h.each));
+  all = subst (λ (xs : List (Operator × ℕ)). SpellsAll xs 0 text) h.read (subst (SpellsAll (with_offsets 0 ps) 0) (sym e) (all_joined 0 ps h.each));
   last = ends_named operators ∙ (ap ends_with (alone_are h) ∙ h.last);
 }
 
@@ -154,7 +154,7 @@ pub spelled_in : (input : List ℕ) (operators : List (Operator × ℕ)) (block 
     IsSpelledIn input operators block
 spelled_in input operators block b k =
     let h = spellings_of operators b.from (slice_range input b.from b.to) b.spells.all in
-    let n : length operators ≡ length h.spellings = ap (λ (xs : List (Operator × ℕ)). length xs) (sym h.read) ∙ length-placed b.from h.spellings in
+    let n : length operators ≡ length h.spellings = ap (λ (xs : List (Operator × ℕ)). length xs) (sym h.read) ∙ length-with_offsets b.from h.spellings in
     let end_in : block.end < length operators = before_last operators block b.spells.last k in
     let end_is = k.is.last in
     let start_in = k.is.some in
@@ -174,10 +174,10 @@ spelled_in input operators block b k =
       end_there = omega arith;
     }
 
-joined_less : (ps : List Spelling) (i j : ℕ) → i ≤ j → length (joined (take i ps)) ≤ length (joined (take j ps))
+joined_less : (ps : List Spelling) (i j : ℕ) → i ≤ j → length (bytes_of (take i ps)) ≤ length (bytes_of (take j ps))
 joined_less ps i j l =
     let parts = ap (λ (t : List ℕ). length t) (joined_parts i (take j ps)) in
-    omega (arith, ap (λ x. length (joined x)) (take-take i j ps l), length-append (joined (take i (take j ps))) (joined (drop i (take j ps))))
+    omega (arith, ap (λ x. length (bytes_of x)) (take-take i j ps l), length-append (bytes_of (take i (take j ps))) (bytes_of (drop i (take j ps))))
 
 -- so the bytes outside a block are in the input
 pub inside : (input : List ℕ) (operators : List (Operator × ℕ)) (block : BlockRange) → IsBodyIn input operators → IsBlockIn operators block →
@@ -191,7 +191,7 @@ inside input operators block b k =
     let first_at = starts_at h.is 0 (omega arith) in
     let start_at = starts_at h.is block.start start_there in
     let end_at = starts_at h.is block.end end_there in
-    let last_at : offset_of operators (length operators - 1) ≡ h.from + length (joined (take last h.ps)) =
+    let last_at : offset_of operators (length operators - 1) ≡ h.from + length (bytes_of (take last h.ps)) =
     ap (λ (k : ℕ). offset_of operators (k - 1)) n ∙ starts_at h.is last (omega arith) in
     let end_less = joined_less h.ps block.end last (omega arith) in
     let start_less = joined_less h.ps block.start last (let l = k.is.some in let m = k.is.last in omega arith) in
@@ -215,11 +215,11 @@ reads_again spell site code b k all =
     let h = spelled_in site.input site.operators block b k in
     let qs = with_code h.ps block code in
     let again = again_of spell h.ps block code h.is.each h.is.last h.end_there all in
-    let text : written_body site code ≡ joined qs = written_is h.is block code h.start_there h.end_there in
+    let text : written_body site code ≡ bytes_of qs = written_is h.is block code h.start_there h.end_there in
     let names = alone_are h.is in
     record {
-      again = placed 0 qs;
-      spells = subst (λ (t : List ℕ). SpellsBody 0 t (placed 0 qs)) (sym text) (spells_again (joined qs) (length (joined qs)) qs (placed 0 qs) again refl);
+      again = with_offsets 0 qs;
+      spells = subst (λ (t : List ℕ). SpellsBody 0 t (with_offsets 0 qs)) (sym text) (spells_again (bytes_of qs) (length (bytes_of qs)) qs (with_offsets 0 qs) again refl);
       are = named_placed 0 qs ∙ (spelled_with h.ps block code
           ∙ ap₂ (λ (x y : List Operator). x ++ (map (λ (i : Instruction). Instr i) code ++ y))
           (ap (take block.start) (sym names) ∙ take-map (λ (o : Operator × ℕ). o.0) block.start site.operators)

@@ -9,7 +9,7 @@ use Rattle.std.proofs.lemmas.Option.{slice_get-map}
 use Rattle.std.proofs.lemmas.List.Elements.{All-nil, All-cons, All-push, All-append, All-head, All-tail}
 use Rattle.wasm_code.specs.Instruction.{Instruction, IsInstruction}
 use Rattle.wasm_code.specs.Operator.{is_delimiter}
-use Rattle.wasm_code.specs.Body.{joined, placed, SpellsBody}
+use Rattle.wasm_code.specs.Body.{bytes_of, with_offsets, SpellsBody}
 use Rattle.wasm_code.specs.declared.operator.Operator.{Operator}
 use Rattle.wasm_code.specs.declared.operator.Operator.TheVariants.{Instr}
 use Rattle.mutate_base.specs.Module.{Module}
@@ -29,7 +29,7 @@ use Rattle.peephole_graphs.proofs.ForestLemmas.{forest_is}
 use Rattle.peephole_graphs.proofs.Rereading.{same_trees}
 use Rattle.peephole_graphs.proofs.Order.{written_in_order, shapes-renumbered}
 use Rattle.peephole_graphs.proofs.OrderLemmas.{count_all}
-use Rattle.peephole_terms.proofs.SpellingLemmas.{CodesSpell, Spelling, named_placed, length-placed, spelling_of, coded}
+use Rattle.peephole_terms.proofs.SpellingLemmas.{CodesSpell, Spelling, named_placed, length-with_offsets, spelling_of, coded}
 use Rattle.peephole_terms.proofs.ReadAgainLemmas.{alone_are, count_is, with_code, spelled_with, written_is, again_of, spells_again, spelled_in}
 
 -- ---- the shapes of a forest are its block's
@@ -290,7 +290,7 @@ reread spell info site b k fit all =
     let shaped = block_shapes info site in
     let code = instructions (forest shaped) in
     let qs = with_code h.ps block code in
-    let again = placed 0 qs in
+    let again = with_offsets 0 qs in
     let n = count_is h.is in
     let end_in : block.end < length h.ps = h.end_there in
     let ordered : block.start ≤ block.end = let last = k.is.last in let some = k.is.some in omega arith in
@@ -298,7 +298,7 @@ reread spell info site b k fit all =
     ap (λ (is : List Instruction). length is) (instructions_are (forest shaped)) ∙ (length-map (shapes (forest shaped)) (λ (s : Shape). s.instr)
     ∙ (count_forest shaped ∙ (block_length info os fit ∙ block_size operators block ordered (omega arith)))) in
     let body = again_of spell h.ps block code h.is.each h.is.last h.end_there all in
-    let text : written_body site code ≡ joined qs = written_is h.is block code h.start_there h.end_there in
+    let text : written_body site code ≡ bytes_of qs = written_is h.is block code h.start_there h.end_there in
     let names = alone_are h.is in
     let is_again : IsAgain operators again block code = record {
       are = named_placed 0 qs ∙ (spelled_with h.ps block code
@@ -313,19 +313,19 @@ reread spell info site b k fit all =
     let owned : All (HasOwnShape info) (shapes (forest shaped)) =
     forest_holds (HasOwnShape info) shaped (All-reverse (HasOwnShape info) (operator_shapes info os) (own_shapes info os fit)) in
     let judged = judged_again info (shapes (forest shaped)) (slice_range again block.start block.end) owned ranged in
-    let new : block_shapes info (site_at (joined qs) again block site.at) ≡ reverse (shapes (forest shaped)) = ap reverse judged.0 in
-    let kept : forest (block_shapes info (site_at (joined qs) again block site.at)) ≡ renumbered 0 (forest shaped) = ap forest new ∙ same_trees shaped in
-    let code_is : instructions (forest (block_shapes info (site_at (joined qs) again block site.at))) ≡ code =
+    let new : block_shapes info (site_at (bytes_of qs) again block site.at) ≡ reverse (shapes (forest shaped)) = ap reverse judged.0 in
+    let kept : forest (block_shapes info (site_at (bytes_of qs) again block site.at)) ≡ renumbered 0 (forest shaped) = ap forest new ∙ same_trees shaped in
+    let code_is : instructions (forest (block_shapes info (site_at (bytes_of qs) again block site.at))) ≡ code =
     ap instructions kept ∙ (instructions_are (renumbered 0 (forest shaped))
     ∙ (ap instr_of (shapes-renumbered 0 (forest shaped)) ∙ sym (instructions_are (forest shaped)))) in
     record {
       again = again;
-      spells = subst (λ (t : List ℕ). SpellsBody 0 t again) (sym text) (spells_again (joined qs) (length (joined qs)) qs again body refl);
-      there = block_again is_again (length-placed 0 qs ∙ (same_length ∙ sym n)) k;
+      spells = subst (λ (t : List ℕ). SpellsBody 0 t again) (sym text) (spells_again (bytes_of qs) (length (bytes_of qs)) qs again body refl);
+      there = block_again is_again (length-with_offsets 0 qs ∙ (same_length ∙ sym n)) k;
       fit = judged.1;
       same = kept;
       order = subst IsInOrder (sym new) (written_in_order shaped);
       stays = ap₂ (λ (t : List ℕ) (is : List Instruction). written_body (site_at t again block site.at) is) text code_is
           ∙ (written_is body block code (omega arith) (omega arith)
-          ∙ (ap joined (with_same h.ps block code ordered end_in size) ∙ sym text));
+          ∙ (ap bytes_of (with_same h.ps block code ordered end_in size) ∙ sym text));
     }

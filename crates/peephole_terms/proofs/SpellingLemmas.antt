@@ -12,7 +12,7 @@ use Rattle.wasm_code.specs.Grammar.{Choose, Of, NoBytes}
 use Rattle.wasm_code.specs.Number.{SpellsUnsigned}
 use Rattle.wasm_code.specs.Operator.{Spells}
 use Rattle.wasm_code.specs.Code.{code, codes}
-use Rattle.wasm_code.specs.Body.{SpellsAll, AreSpelled, joined, placed, is_end, ends}
+use Rattle.wasm_code.specs.Body.{SpellsAll, AreSpelled, bytes_of, with_offsets, is_end, ends}
 use Rattle.wasm_code.specs.declared.operator.Operator.{Operator}
 use Rattle.wasm_code.specs.declared.operator.Operator.TheVariants as op
 use Rattle.peephole_terms.specs.ReadAgain.{without_offsets}
@@ -29,8 +29,8 @@ spelled ps = map (λ (p : Operator × List ℕ). p.0) ps
 pub record AreSpellings (xs : List (Operator × ℕ)) (start : ℕ) (text : List ℕ) : Type 0 where
   pub spellings : List (Operator × List ℕ)
   pub each : AreSpelled spellings
-  pub whole : joined spellings ≡ text
-  pub read : placed start spellings ≡ xs
+  pub whole : bytes_of spellings ≡ text
+  pub read : with_offsets start spellings ≡ xs
 
 pub spellings_of : (xs : List (Operator × ℕ)) (start : ℕ) (text : List ℕ) → SpellsAll xs start text → AreSpellings xs start text
 spellings_of [] start text s = record { spellings = []; each = tt; whole = sym s; read = refl }
@@ -60,29 +60,29 @@ spelled_drop zero ps a = a
 spelled_drop (suc n) [] a = tt
 spelled_drop (suc n) (p ∷ ps) a = spelled_drop n ps a.1
 
-pub joined-append : (ps qs : List Spelling) → joined (ps ++ qs) ≡ joined ps ++ joined qs
-joined-append [] qs = refl
-joined-append (p ∷ ps) qs = ap (λ (t : List ℕ). p.1 ++ t) (joined-append ps qs) ∙ sym (append_assoc p.1 (joined ps) (joined qs))
+pub bytes_of-append : (ps qs : List Spelling) → bytes_of (ps ++ qs) ≡ bytes_of ps ++ bytes_of qs
+bytes_of-append [] qs = refl
+bytes_of-append (p ∷ ps) qs = ap (λ (t : List ℕ). p.1 ++ t) (bytes_of-append ps qs) ∙ sym (append_assoc p.1 (bytes_of ps) (bytes_of qs))
 
-pub joined_parts : (n : ℕ) (ps : List Spelling) → joined ps ≡ joined (take n ps) ++ joined (drop n ps)
-joined_parts n ps = ap joined (sym (take-append-drop n ps)) ∙ joined-append (take n ps) (drop n ps)
+pub joined_parts : (n : ℕ) (ps : List Spelling) → bytes_of ps ≡ bytes_of (take n ps) ++ bytes_of (drop n ps)
+joined_parts n ps = ap bytes_of (sym (take-append-drop n ps)) ∙ bytes_of-append (take n ps) (drop n ps)
 
-pub named_placed : (start : ℕ) (ps : List Spelling) → without_offsets (placed start ps) ≡ spelled ps
+pub named_placed : (start : ℕ) (ps : List Spelling) → without_offsets (with_offsets start ps) ≡ spelled ps
 named_placed start [] = refl
 named_placed start (p ∷ ps) = ap (λ (os : List Operator). p.0 ∷ os) (named_placed (start + length p.1) ps)
 
-pub length-placed : (start : ℕ) (ps : List Spelling) → length (placed start ps) ≡ length ps
-length-placed start [] = refl
-length-placed start (p ∷ ps) = ap suc (length-placed (start + length p.1) ps)
+pub length-with_offsets : (start : ℕ) (ps : List Spelling) → length (with_offsets start ps) ≡ length ps
+length-with_offsets start [] = refl
+length-with_offsets start (p ∷ ps) = ap suc (length-with_offsets (start + length p.1) ps)
 
 -- an operator starts behind the bytes of those before it
 pub offset_placed : (start : ℕ) (ps : List Spelling) (i : ℕ) → i < length ps →
-    slice_index (map (λ (o : Operator × ℕ). o.1) (placed start ps)) i ≡ start + length (joined (take i ps))
+    slice_index (map (λ (o : Operator × ℕ). o.1) (with_offsets start ps)) i ≡ start + length (bytes_of (take i ps))
 offset_placed start [] i l = absurd (omega arith)
 offset_placed start (p ∷ ps) zero l = omega arith
 offset_placed start (p ∷ ps) (suc i) l =
     let more = offset_placed (start + length p.1) ps i (omega arith) in
-    omega (arith, more, length-append p.1 (joined (take i ps)))
+    omega (arith, more, length-append p.1 (bytes_of (take i ps)))
 
 -- ---- instructions
 
@@ -100,7 +100,7 @@ pub coded_spelled : CodesSpell → (is : List Instruction) → All IsInstruction
 coded_spelled spell [] all = tt
 coded_spelled spell (i ∷ is) all = (spell i (All-head IsInstruction i is all), coded_spelled spell is (All-tail IsInstruction i is all))
 
-pub joined_coded : (is : List Instruction) → joined (coded is) ≡ codes is
+pub joined_coded : (is : List Instruction) → bytes_of (coded is) ≡ codes is
 joined_coded [] = refl
 joined_coded (i ∷ is) = ap (λ (t : List ℕ). code i ++ t) (joined_coded is)
 
@@ -145,7 +145,7 @@ end_spelling op.End text e s =
 end_spelling _ text e s = absurd cc
 
 -- so the last operator begins one byte before the end
-pub last_size : (ps : List Spelling) → AreSpelled ps → IsTrue (ends_with (spelled ps)) → length (joined (take (length ps - 1) ps)) + 1 ≡ length (joined ps)
+pub last_size : (ps : List Spelling) → AreSpelled ps → IsTrue (ends_with (spelled ps)) → length (bytes_of (take (length ps - 1) ps)) + 1 ≡ length (bytes_of ps)
 last_size [] a e = absurd cc
 last_size (p ∷ []) a e =
     let one = end_spelling p.0 p.1 e a.0 in
@@ -153,18 +153,18 @@ last_size (p ∷ []) a e =
 last_size (p ∷ q ∷ ps) a e =
     let more = last_size (q ∷ ps) a.1 e in
     let at : length (p ∷ q ∷ ps) - 1 ≡ suc (length (q ∷ ps) - 1) = omega arith in
-    let front : length (joined (take (length (p ∷ q ∷ ps) - 1) (p ∷ q ∷ ps))) ≡ length (p.1 ++ joined (take (length (q ∷ ps) - 1) (q ∷ ps))) =
-    ap (λ (k : ℕ). length (joined (take k (p ∷ q ∷ ps)))) at in
-    omega (arith, more, front, length-append p.1 (joined (take (length (q ∷ ps) - 1) (q ∷ ps))), length-append p.1 (joined (q ∷ ps)))
+    let front : length (bytes_of (take (length (p ∷ q ∷ ps) - 1) (p ∷ q ∷ ps))) ≡ length (p.1 ++ bytes_of (take (length (q ∷ ps) - 1) (q ∷ ps))) =
+    ap (λ (k : ℕ). length (bytes_of (take k (p ∷ q ∷ ps)))) at in
+    omega (arith, more, front, length-append p.1 (bytes_of (take (length (q ∷ ps) - 1) (q ∷ ps))), length-append p.1 (bytes_of (q ∷ ps)))
 
 -- ---- where they stand in an input
 
 -- the bytes of the input from one offset to another are the joined spellings
 pub record StandsIn (input : List ℕ) (from to : ℕ) (ps : List Spelling) : Type 0 where
-  pub whole : slice_range input from to ≡ joined ps
-  pub size : length (joined ps) ≡ to - from
+  pub whole : slice_range input from to ≡ bytes_of ps
+  pub size : length (bytes_of ps) ≡ to - from
 
-pub stands_in : (input : List ℕ) (from to : ℕ) (ps : List Spelling) → from ≤ to → to ≤ length input → slice_range input from to ≡ joined ps →
+pub stands_in : (input : List ℕ) (from to : ℕ) (ps : List Spelling) → from ≤ to → to ≤ length input → slice_range input from to ≡ bytes_of ps →
     StandsIn input from to ps
 stands_in input from to ps l m whole = record {
   whole = whole;
@@ -173,26 +173,26 @@ stands_in input from to ps l m whole = record {
 
 -- those before an operator
 pub front_in : (input : List ℕ) (from to k : ℕ) (ps : List Spelling) → StandsIn input from to ps →
-    slice_range input from (from + length (joined (take k ps))) ≡ joined (take k ps)
+    slice_range input from (from + length (bytes_of (take k ps))) ≡ bytes_of (take k ps)
 front_in input from to k ps h =
-    let m = length (joined (take k ps)) in
+    let m = length (bytes_of (take k ps)) in
     let parts = joined_parts k ps in
     let size = h.size in
-    let less : m ≤ to - from = omega (arith, ap (λ (t : List ℕ). length t) parts, length-append (joined (take k ps)) (joined (drop k ps))) in
+    let less : m ≤ to - from = omega (arith, ap (λ (t : List ℕ). length t) parts, length-append (bytes_of (take k ps)) (bytes_of (drop k ps))) in
     let n : from + m - from ≡ m = omega arith in
     ap (λ (k : ℕ). take k (drop from input)) n
     ∙ (sym (take-take m (to - from) (drop from input) less)
-    ∙ (ap (take m) (h.whole ∙ parts) ∙ take_at (joined (take k ps)) (joined (drop k ps)) m refl))
+    ∙ (ap (take m) (h.whole ∙ parts) ∙ take_at (bytes_of (take k ps)) (bytes_of (drop k ps)) m refl))
 
 -- those from an operator on, to where the last one ends
-pub back_in : (input : List ℕ) (from to end k : ℕ) (ps : List Spelling) → StandsIn input from to ps → end ≡ from + length (joined ps) →
-    slice_range input (from + length (joined (take k ps))) end ≡ joined (drop k ps)
+pub back_in : (input : List ℕ) (from to end k : ℕ) (ps : List Spelling) → StandsIn input from to ps → end ≡ from + length (bytes_of ps) →
+    slice_range input (from + length (bytes_of (take k ps))) end ≡ bytes_of (drop k ps)
 back_in input from to end k ps h e =
-    let m = length (joined (take k ps)) in
+    let m = length (bytes_of (take k ps)) in
     let parts = joined_parts k ps in
     let size = h.size in
     let more : to - from ≡ m + (end - (from + m)) =
-    omega (arith, ap (λ (t : List ℕ). length t) parts, length-append (joined (take k ps)) (joined (drop k ps))) in
+    omega (arith, ap (λ (t : List ℕ). length t) parts, length-append (bytes_of (take k ps)) (bytes_of (drop k ps))) in
     ap (take (end - (from + m))) (sym (drop-drop m from input))
     ∙ (sym (drop-take m (end - (from + m)) (drop from input))
-    ∙ (ap (drop m) (ap (λ (k : ℕ). take k (drop from input)) (sym more) ∙ h.whole ∙ parts) ∙ drop_at (joined (take k ps)) (joined (drop k ps)) m refl))
+    ∙ (ap (drop m) (ap (λ (k : ℕ). take k (drop from input)) (sym more) ∙ h.whole ∙ parts) ∙ drop_at (bytes_of (take k ps)) (bytes_of (drop k ps)) m refl))

@@ -8,7 +8,7 @@ use Rattle.wasm_code.specs.declared.fault.ReadKind.TheVariants as kinds
 use Rattle.wasm_code.specs.declared.operator.Operator.{Operator}
 use Rattle.wasm_code.specs.Body.{SpellsAll, SpellsBody, StopsAt, LacksEnd, IsFault, is_end, ends, kind_of}
 use Rattle.wasm_code.specs.Operator.{Spells}
-use Rattle.wasm_code.specs.Reader.{Read, and_first, stopped, after, operator_at, operators_at, body_at}
+use Rattle.wasm_code.specs.Reader.{Read, and_first, at_end, after, operator_at, operators_at, body_at}
 use Rattle.wasm_code.proofs.OperatorLemmas.{operator_exact}
 use Rattle.wasm_code.proofs.BodyLemmas.{some_byte, shrinks}
 
@@ -111,19 +111,19 @@ stops_at start text offset cause s =
 
 -- all bytes are operators
 whole : (start : ℕ) (text : List ℕ) (xs : List (Operator × ℕ)) → SpellsAll xs start text →
-    body_at start text ≡ with_front xs (stopped (ends xs) (start + length text))
+    body_at start text ≡ with_front xs (at_end (ends xs) (start + length text))
 unfolding body_at operators_at
 whole start text xs all =
     let none = append-nil text in
     let w = walks xs (length text) start (start + length text) false text [] all (omega (arith, ap length none)) (omega (arith, ap length none)) in
     ap (λ (l : List ℕ). operators_at (length text) (start + length text) false l) (sym none) ∙ w.2
-    ∙ ap (λ (b : Bool). with_front xs (stopped b (start + length text))) (all_ends xs)
+    ∙ ap (λ (b : Bool). with_front xs (at_end b (start + length text))) (all_ends xs)
 
 -- What is spelled is answered.
 pub body_spelled : (start : ℕ) (text : List ℕ) (xs : List (Operator × ℕ)) → SpellsBody start text xs → body_at start text ≡ Ok xs
 body_spelled start text xs s =
     let last : ends xs ≡ true = s.last in
-    whole start text xs s.all ∙ ap (λ (b : Bool). with_front xs (stopped b (start + length text))) last ∙ front_ok xs
+    whole start text xs s.all ∙ ap (λ (b : Bool). with_front xs (at_end b (start + length text))) last ∙ front_ok xs
 
 -- A fault is answered.
 pub body_faulty : (start : ℕ) (text : List ℕ) (kind : ReadKind) (offset : ℕ) → IsFault start (start + length text) text kind offset →
@@ -134,7 +134,7 @@ body_faulty start text kinds.BadInteger offset s other = stops_at start text off
 body_faulty start text kinds.BadImmediate offset s other = stops_at start text offset BadImmediate s
 body_faulty start text kinds.NoEnd offset s other =
     let to = start + length text in
-    whole start text s.0.operators s.0.all ∙ ap (λ (b : Bool). with_front s.0.operators (stopped b to)) s.0.last
+    whole start text s.0.operators s.0.all ∙ ap (λ (b : Bool). with_front s.0.operators (at_end b to)) s.0.last
     ∙ front_err s.0.operators (kinds.NoEnd, to)
     ∙ ap (λ (k : ℕ). let r : Read = Err (kinds.NoEnd, k) in r) (sym s.1)
 body_faulty start text kinds.Memory offset s other = absurd (other refl)
@@ -207,10 +207,10 @@ and_first_outcome start to offset ended x text front rest (Err e) parts place sp
       | inr s ↦ inr (and_stopped start offset x text front rest e parts place spells s)
     ]
 
-stopped_outcome : (start to : ℕ) (ended : Bool) → to ≡ start + 0 → Outcome start to ended [] (stopped ended to)
+end_outcome : (start to : ℕ) (ended : Bool) → to ≡ start + 0 → Outcome start to ended [] (at_end ended to)
 unfolding ended_after
-stopped_outcome start to true at = (refl, refl)
-stopped_outcome start to false at = inl (record { operators = []; all = refl; last = refl; kind = refl; offset = refl })
+end_outcome start to true at = (refl, refl)
+end_outcome start to false at = inl (record { operators = []; all = refl; last = refl; kind = refl; offset = refl })
 
 -- one operator, or none, and what reading behind it answers
 after_outcome : (m start to : ℕ) (ended : Bool) (b : ℕ) (bytes : List ℕ) (a : Result (Operator × List ℕ) Cause) → operator_at (b ∷ bytes) ≡ a →
@@ -244,7 +244,7 @@ after_outcome m start to ended b bytes (Err cause) e at room more =
 outcome : (most start to : ℕ) (ended : Bool) (text : List ℕ) → to ≡ start + length text → length text ≤ most →
     Outcome start to ended text (operators_at most to ended text)
 unfolding operators_at
-outcome most start to ended [] at room = stopped_outcome start to ended at
+outcome most start to ended [] at room = end_outcome start to ended at
 outcome zero start to ended (b ∷ bytes) at room = absurd (omega (arith, room))
 outcome (suc m) start to ended (b ∷ bytes) at room = after_outcome m start to ended b bytes (operator_at (b ∷ bytes)) refl at room
     (λ from v rest at room. outcome m from to v rest at room)

@@ -171,18 +171,18 @@ exact_never {A} = record {
 -- ---- so many bytes
 
 -- a test that did not fail, the other way round
-passed : {A : Type 0} (b : Bool) (c : Cause) (x y : A) → cond b (Err c) (Ok x) ≡ Ok y → (b ≡ false) × (x ≡ y)
-passed true c x y e = absurd cc
-passed false c x y e = (refl, cc)
+test_ok : {A : Type 0} (b : Bool) (c : Cause) (x y : A) → cond b (Err c) (Ok x) ≡ Ok y → (b ≡ false) × (x ≡ y)
+test_ok true c x y e = absurd cc
+test_ok false c x y e = (refl, cc)
 
-stopped : {A : Type 0} (b : Bool) (c d : Cause) (x : A) → cond b (Err c) (Ok x) ≡ Err d → (b ≡ true) × (c ≡ d)
-stopped {A} true c d x e = (refl, err_is {A = A} c d e)
-stopped false c d x e = absurd cc
+test_err : {A : Type 0} (b : Bool) (c d : Cause) (x : A) → cond b (Err c) (Ok x) ≡ Err d → (b ≡ true) × (c ≡ d)
+test_err {A} true c d x e = (refl, err_is {A = A} c d e)
+test_err false c d x e = absurd cc
 
 pub bytes_exact : (n : ℕ) → Exact (AreBytes n) (LacksBytes n) (bytes_at n)
 bytes_exact n = record {
   takes = λ bytes x rest e.
-      let g = passed (ltb (length bytes) n) Truncated (take n bytes, drop n bytes) (x, rest) e in
+      let g = test_ok (ltb (length bytes) n) Truncated (take n bytes, drop n bytes) (x, rest) e in
       let long : n ≤ length bytes = ltb-false _ _ g.0 in
       let rest-is : drop n bytes ≡ rest = ap (λ (p : List ℕ × List ℕ). p.1) g.1 in (
         take n bytes,
@@ -193,7 +193,7 @@ bytes_exact n = record {
       let long : ltb (length (text ++ rest)) n ≡ false = le-ltb _ _ (omega (arith, length-append text rest, s.0)) in
       rw (long, take_at text rest n s.0, drop_at text rest n s.0) (ap (λ (y : List ℕ). Ok (y, rest)) s.1);
   stops = λ bytes cause e.
-      let g = stopped (ltb (length bytes) n) Truncated cause (take n bytes, drop n bytes) e in
+      let g = test_err (ltb (length bytes) n) Truncated cause (take n bytes, drop n bytes) e in
       (ltb-true _ _ g.0, sym g.1);
   fails = λ bytes cause s. rw (lt-ltb _ _ s.0, s.1) refl;
 }
@@ -202,7 +202,7 @@ bytes_exact n = record {
 pub bytes_small : (n : ℕ) (bytes text rest : List ℕ) → bytes_at n bytes ≡ Ok (text, rest) → ((i : ℕ) → get_or bytes i 0 < 256) → (length text ≡ n)
     × All (λ b. b < 256) text
 bytes_small n bytes text rest e small =
-    let g = passed (ltb (length bytes) n) Truncated (take n bytes, drop n bytes) (text, rest) e in
+    let g = test_ok (ltb (length bytes) n) Truncated (take n bytes, drop n bytes) (text, rest) e in
     let long : n ≤ length bytes = ltb-false _ _ g.0 in
     let is : take n bytes ≡ text = ap (λ (p : List ℕ × List ℕ). p.0) g.1 in
     let len : length text ≡ n = omega (arith, sym (ap length is), length-take n bytes, long) in (

@@ -2,13 +2,13 @@
 use Rattle.std.proofs.Common.{◌≡◌, ℕ, ◌+◌, List, [], ◌∷◌, ◌++◌, length, refl, sym, ap, subst, ◌∙◌, append_assoc, arith}
 use Rattle.std.proofs.lemmas.List.{length-append}
 use Rattle.wasm_code.specs.declared.operator.Operator.{Operator}
-use Rattle.wasm_code.specs.Body.{SpellsAll, AreSpelled, joined, placed, shifted, IsCut}
+use Rattle.wasm_code.specs.Body.{SpellsAll, AreSpelled, bytes_of, with_offsets, move_by, IsCut}
 
-pub all_joined : (start : ℕ) (xs : List (Operator × List ℕ)) → AreSpelled xs → SpellsAll (placed start xs) start (joined xs)
+pub all_joined : (start : ℕ) (xs : List (Operator × List ℕ)) → AreSpelled xs → SpellsAll (with_offsets start xs) start (bytes_of xs)
 all_joined start [] s = refl
 all_joined start (x ∷ xs) s = record {
   front = x.1;
-  back = joined xs;
+  back = bytes_of xs;
   parts = refl;
   offset = refl;
   spells = s.0;
@@ -32,7 +32,7 @@ all_append (x ∷ xs) ys start a b p q =
       rest = all_append xs ys (start + length p.front) p.back b p.rest (subst (λ (n : ℕ). SpellsAll ys n b) at q);
     }
 
-pub all_shifted : (xs : List (Operator × ℕ)) (start by : ℕ) (text : List ℕ) → SpellsAll xs start text → SpellsAll (shifted by xs) (start + by) text
+pub all_shifted : (xs : List (Operator × ℕ)) (start by : ℕ) (text : List ℕ) → SpellsAll xs start text → SpellsAll (move_by by xs) (start + by) text
 all_shifted [] start by text p = p
 all_shifted (x ∷ xs) start by text p =
     let at : start + length p.front + by ≡ start + by + length p.front = omega arith in
@@ -42,7 +42,7 @@ all_shifted (x ∷ xs) start by text p =
       parts = p.parts;
       offset = ap (λ (k : ℕ). k + by) p.offset;
       spells = p.spells;
-      rest = subst (λ (n : ℕ). SpellsAll (shifted by xs) n p.back) at (all_shifted xs (start + length p.front) by p.back p.rest);
+      rest = subst (λ (n : ℕ). SpellsAll (move_by by xs) n p.back) at (all_shifted xs (start + length p.front) by p.back p.rest);
     }
 
 pub all_cut : (xs ys : List (Operator × ℕ)) (start : ℕ) (text : List ℕ) → SpellsAll (xs ++ ys) start text → IsCut xs ys start text

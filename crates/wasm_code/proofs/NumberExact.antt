@@ -46,9 +46,9 @@ group_again (suc most) (b ∷ []) rest g short = rw (lt-ltb b 128 g) refl
 group_again (suc most) (b ∷ c ∷ group) rest g short = rw (le-ltb b 128 g.0, group_again most (c ∷ group) rest g.1 (omega (arith, short))) refl
 
 -- a test that did not fail
-passed : {A : Type 0} (b : Bool) (d : Cause) (x y : A) → cond b (Ok x) (Err d) ≡ Ok y → (b ≡ true) × (x ≡ y)
-passed true d x y e = (refl, cc)
-passed false d x y e = absurd cc
+test_ok : {A : Type 0} (b : Bool) (d : Cause) (x y : A) → cond b (Ok x) (Err d) ≡ Ok y → (b ≡ true) × (x ≡ y)
+test_ok true d x y e = (refl, cc)
+test_ok false d x y e = absurd cc
 
 -- a test that failed
 refused : {A : Type 0} (b : Bool) (c d : Cause) (x : A) → cond b (Ok x) (Err c) ≡ Err d → (b ≡ false) × (c ≡ d)
@@ -153,7 +153,7 @@ unsigned_exact bits = record {
         n,
         rest,
       ) e in
-      let g = passed (ltb (value a.0.0) (2 ^ bits)) BadInteger (value a.0.0, a.0.1) (n, rest) a.2 in
+      let g = test_ok (ltb (value a.0.0) (2 ^ bits)) BadInteger (value a.0.0, a.0.1) (n, rest) a.2 in
       let t = group_takes (most_bytes bits) bytes a.0 a.1 in
       let n-is : value a.0.0 ≡ n = ap (λ (p : ℕ × List ℕ). p.0) g.1 in
       let rest-is : a.0.1 ≡ rest = ap (λ (p : ℕ × List ℕ). p.1) g.1 in (
@@ -233,7 +233,7 @@ signed_exact bits = record {
       let half = 2 ^ (bits - 1) in
       let a = bind_ok (group_at (most_bytes bits) bytes) (λ g. cond (fits_half half (signed_value g.0)) (Ok (signed_value g.0, g.1)) (Err BadInteger))
       (z, rest) e in
-      let g = passed (fits_half half (signed_value a.0.0)) BadInteger (signed_value a.0.0, a.0.1) (z, rest) a.2 in
+      let g = test_ok (fits_half half (signed_value a.0.0)) BadInteger (signed_value a.0.0, a.0.1) (z, rest) a.2 in
       let t = group_takes (most_bytes bits) bytes a.0 a.1 in
       let z-is : signed_value a.0.0 ≡ z = ap (λ (p : ℤ × List ℕ). p.0) g.1 in
       let rest-is : a.0.1 ≡ rest = ap (λ (p : ℤ × List ℕ). p.1) g.1 in

@@ -43,19 +43,19 @@ AreSpelled [] = Unit {0}
 AreSpelled (x ∷ xs) = Spells x.1 x.0 × AreSpelled xs
 
 -- the spellings, joined
-abbrev pub joined : List (Operator × List ℕ) → List ℕ
-joined [] = []
-joined (x ∷ xs) = x.1 ++ joined xs
+abbrev pub bytes_of : List (Operator × List ℕ) → List ℕ
+bytes_of [] = []
+bytes_of (x ∷ xs) = x.1 ++ bytes_of xs
 
 -- the operators with their offsets, where the first byte of the joined spellings has the offset `start`
-abbrev pub placed : ℕ → List (Operator × List ℕ) → List (Operator × ℕ)
-placed start [] = []
-placed start (x ∷ xs) = (x.0, start) ∷ placed (start + length x.1) xs
+abbrev pub with_offsets : ℕ → List (Operator × List ℕ) → List (Operator × ℕ)
+with_offsets start [] = []
+with_offsets start (x ∷ xs) = (x.0, start) ∷ with_offsets (start + length x.1) xs
 
 -- the operators with offsets that much larger
-abbrev pub shifted : ℕ → List (Operator × ℕ) → List (Operator × ℕ)
-shifted by [] = []
-shifted by (x ∷ xs) = (x.0, x.1 + by) ∷ shifted by xs
+abbrev pub move_by : ℕ → List (Operator × ℕ) → List (Operator × ℕ)
+move_by by [] = []
+move_by by (x ∷ xs) = (x.0, x.1 + by) ∷ move_by by xs
 
 -- the bytes, cut behind the spellings of the first operators
 pub record IsCut (xs ys : List (Operator × ℕ)) (start : ℕ) (text : List ℕ) : Type 0 where

@@ -219,9 +219,9 @@ abbrev pub and_first : Operator × ℕ → Read → Read
 and_first x (Ok xs) = Ok (x ∷ xs)
 and_first x (Err e) = Err e
 
-abbrev pub stopped : Bool → ℕ → Read
-stopped true to = Ok []
-stopped false to = Err (kinds.NoEnd, to)
+abbrev pub at_end : Bool → ℕ → Read
+at_end true to = Ok []
+at_end false to = Err (kinds.NoEnd, to)
 
 -- what an operator that was read asks for, or its fault at the offset
 abbrev pub after : (Operator → List ℕ → Read) → ℕ → Result (Operator × List ℕ) Cause → Read
@@ -230,8 +230,8 @@ after next offset (Err cause) = Err (kind_of cause, offset)
 
 -- At most `most` operators, of bytes that end at the offset `to`; `ended`: the last one before them was `end`.
 unfoldable pub operators_at : (most to : ℕ) (ended : Bool) → List ℕ → Read
-operators_at most to ended [] = stopped ended to
-operators_at zero to ended (b ∷ bytes) = stopped ended to
+operators_at most to ended [] = at_end ended to
+operators_at zero to ended (b ∷ bytes) = at_end ended to
 operators_at (suc most) to ended (b ∷ bytes) = after (λ x rest. and_first (x, to - length (b ∷ bytes)) (operators_at most to (is_end x) rest)) (to - length (b ∷ bytes)) (operator_at (b ∷ bytes))
 
 -- What reading a body answers, whose first byte has the offset `start`. (Each operator has a byte or more.)

@@ -4,7 +4,7 @@ ghost use Rattle.wasm_code.specs.Instruction.{Instruction, IsInstruction};
 ghost use Rattle.wasm_code.specs.Operator.{Spells};
 ghost use Rattle.wasm_code.specs.Number.{SpellsUnsigned, SpellsSigned};
 ghost use Rattle.wasm_code.specs.Code.{shortest, shortest_signed, code};
-ghost use Rattle.wasm_code.specs.Body.{SpellsBody, IsFault, SpellsAll, AreSpelled, joined, placed, shifted, IsCut};
+ghost use Rattle.wasm_code.specs.Body.{SpellsBody, IsFault, SpellsAll, AreSpelled, bytes_of, with_offsets, move_by, IsCut};
 ghost use Rattle.wasm_code.specs.Reader.{body_at};
 ghost use Rattle.std.specs.Bool.{Decides};
 ghost use Rattle.wasm_code.specs.contracts.immediate.ValTypePartialEq.TheImpl as val_type_eq;
@@ -49,7 +49,7 @@ pub fn body_at_reads()
 /// A joined list of spelled operators is read as that list, with its offsets.
 pub fn joined_spellings()
     ensures { (start : ℕ) (xs : List (Operator × List ℕ)) → AreSpelled xs
-        → SpellsAll (placed start xs) start (joined xs) }
+        → SpellsAll (with_offsets start xs) start (bytes_of xs) }
 {}
 
 /// Lists of operators are joined, moved and cut as their bytes are.
@@ -57,7 +57,7 @@ pub fn bodies_append()
     ensures joins { (xs ys : List (Operator × ℕ)) (start : ℕ) (a b : List ℕ) → SpellsAll xs start a
         → SpellsAll ys (start + length a) b → SpellsAll (xs ++ ys) start (a ++ b) }
     ensures shifts { (xs : List (Operator × ℕ)) (start by : ℕ) (text : List ℕ)
-        → SpellsAll xs start text → SpellsAll (shifted by xs) (start + by) text }
+        → SpellsAll xs start text → SpellsAll (move_by by xs) (start + by) text }
     ensures cuts { (xs ys : List (Operator × ℕ)) (start : ℕ) (text : List ℕ)
         → SpellsAll (xs ++ ys) start text → IsCut xs ys start text }
 {}
