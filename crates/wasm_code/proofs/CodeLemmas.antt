@@ -108,7 +108,7 @@ v128_fits_signed : (z : ℤ) → (neg_ℤ (pos (2 ^ 127)) ≤ℤ z) × (z <ℤ p
 v128_fits_signed (pos n) range = record { sfits = omega (arith, ints, range.1) }
 v128_fits_signed (negsuc n) range = record { sfits = omega (arith, ints, range.0) }
 
-v128_same : (z : ℤ) → (neg_ℤ (pos (2 ^ 127)) ≤ℤ z) × (z <ℤ pos (2 ^ 127)) → cast_signed w128 (from_le_bytes w128 (v128_code z)) ≡ z
+pub v128_same : (z : ℤ) → (neg_ℤ (pos (2 ^ 127)) ≤ℤ z) × (z <ℤ pos (2 ^ 127)) → cast_signed w128 (from_le_bytes w128 (v128_code z)) ≡ z
 unfolding v128_code
 v128_same z range =
     ap (λ (n : ℕ). cast_signed w128 n) (le_bytes_16 (cast_unsigned w128 z) (v128_fits z range)) ∙ to_z-of_z w128 z (v128_fits_signed z range)

@@ -11,5 +11,6 @@ pub mod OperatorLemmas
 pub mod BodyLemmas
 pub mod CodeNumbers
 pub mod CodeLemmas
+pub mod PackedLemmas
 pub mod BodyReader
 pub mod JoinLemmas

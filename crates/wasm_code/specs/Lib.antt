@@ -11,4 +11,5 @@ pub mod Immediate
 pub mod Operator
 pub mod Body
 pub mod Code
+pub mod Packed
 pub mod Reader

@@ -9,6 +9,7 @@ mod immediate;
 pub mod laws;
 mod number;
 mod operator;
+mod packed;
 mod parse;
 mod reading;
 mod rows;

@@ -5,8 +5,12 @@ ghost use Rattle.wasm_code.specs.Instruction.{Instruction, IsInstruction, InRang
 ghost use Rattle.wasm_code.specs.Operator.{is_delimiter};
 
 use crate::immediate::{BlockType, Imm, ValType};
+use crate::packed::{Packed, pack};
 use crate::table::{Kind, find_row};
+use std::fmt;
 use std::marker::Model;
+
+const _: () = prove!(size_of::<Operator>() <= 32);
 
 fn is_of(kind: Kind, imm: Imm) -> bool
     ensures kind { result ≡ is_of_kind kind imm }
@@ -32,22 +36,26 @@ fn is_of(kind: Kind, imm: Imm) -> bool
 }
 
 /// A row of the table, with an immediate of its kind.
-#[derive(Clone, Copy, Debug, PartialEq, Eq)]
+#[derive(Clone, Copy, PartialEq, Eq)]
 pub struct Instr {
-    row: u16,
-    imm: Imm,
+    packed: Packed,
 }
 
 impl Model for Instr {
-    ghost use Rattle.wasm_code.specs.Instruction.{Instruction, IsInstruction};
+    ghost use Rattle.std.proofs.Common.{ap};
+    ghost use Rattle.wasm_code.specs.Instruction.{Instruction};
 
     ghost Value = { Instruction };
 
-    ghost view = { λ s. record { row = s.row; imm = s.imm } };
+    ghost use Rattle.wasm_code.specs.Packed.{packed_of, instruction_of, IsPacked};
 
-    ghost inverse = { λ i. record { row = i.row; imm = i.imm } };
+    ghost view = { λ s. instruction_of s.packed };
 
-    ghost invariant = { λ s. IsInstruction (record { row = s.row; imm = s.imm }) };
+    ghost inverse = { λ i. record { packed = packed_of i.row i.imm } };
+
+    ghost inverse_ok = { λ s h. ap (λ p. record { packed = p }) h.one };
+
+    ghost invariant = { λ s. IsPacked s.packed };
 }
 
 impl Instr {
@@ -61,7 +69,7 @@ impl Instr {
         match find_row(row) {
             Some(found) => {
                 if is_of(found.kind, imm) {
-                    Some(Instr { row, imm })
+                    Some(Instr::of_row(row, imm))
                 } else {
                     None
                 }
@@ -75,7 +83,9 @@ impl Instr {
         requires { IsInstruction (record { row = row; imm = imm }) }
         ensures { result ≡ record { row = row; imm = imm } }
     {
-        Instr { row, imm }
+        Instr {
+            packed: pack(row, imm),
+        }
     }
 
     /// The number of its row.
@@ -83,14 +93,23 @@ impl Instr {
         ensures row { result ≡ self.now.row }
         ensures instruction { IsInstruction self.now }
     {
-        self.row
+        self.packed.row()
     }
 
     /// Its immediate.
     pub fn imm(&self) -> Imm
         ensures { result ≡ self.now.imm }
     {
-        self.imm
+        self.packed.imm()
+    }
+}
+
+impl fmt::Debug for Instr {
+    fn fmt<W: fmt::Write>(&self, f: &mut fmt::Formatter<W>) -> fmt::Result {
+        f.debug_struct("Instr")
+            .field("row", &self.row())
+            .field("imm", &self.imm())
+            .finish()
     }
 }
 

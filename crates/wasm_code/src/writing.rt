@@ -1,10 +1,11 @@
 //! Instructions as bytes, with shortest numbers.
 ghost use Rattle.std.specs.Prelude.{◌≡◌, ◌++◌, ◌+◌, ◌<◌, [], ◌∷◌, OnOk, OnErr};
 ghost use Rattle.wasm_code.specs.Immediate.{val_type_code, heap_type_code};
-ghost use Rattle.wasm_code.specs.Code.{shortest, low_bits, signed_form, shortest_signed, memarg_code, v128_code, imm_code, opcode_code, code, BeginsWith};
+ghost use Rattle.wasm_code.specs.Code.{shortest, low_bits, signed_form, shortest_signed, memarg_code, imm_code, opcode_code, code, BeginsWith};
 
 use crate::immediate::{AbstractHeapType, HeapType, Imm, MemArg, ValType};
 use crate::operator::Instr;
+use crate::packed::v128_bytes;
 use crate::table::{Opcode, find_row};
 use std::alloc::AllocError;
 
@@ -110,12 +111,6 @@ fn put_memarg(out: &mut Vec<u8>, m: MemArg) -> Result<(), AllocError>
         put_unsigned(out, m.memory as u64)?;
     }
     put_unsigned(out, m.offset)
-}
-
-fn v128_bytes(z: i128) -> [u8; 16]
-    ensures { result ≡ v128_code z }
-{
-    z.to_le_bytes()
 }
 
 #[tactic(auto, unfolding(crate::specs::Code::imm_code))]
