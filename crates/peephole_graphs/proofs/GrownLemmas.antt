@@ -29,7 +29,7 @@ use Rattle.peephole_graphs.proofs.DfgLemmas.{nodes_length, kins_same, get_item, 
 use Rattle.peephole_graphs.proofs.Forwards.{order_forwards}
 use Rattle.peephole_graphs.proofs.Raising.{block_raises}
 use Rattle.peephole_graphs.proofs.Contiguous.{contiguous}
-use Rattle.peephole_graphs.proofs.GraphLemmas.{in_order}
+use Rattle.peephole_graphs.proofs.OrderLemmas.{in_order}
 use Rattle.peephole_graphs.proofs.GraphOfLemmas.{is_graph_of, entry_here}
 use Rattle.peephole_graphs.proofs.BuilderLemmas.{Kept, named, nodes_in, state_of, over, front, block_length, kept_parents}
 

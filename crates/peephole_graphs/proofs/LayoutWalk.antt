@@ -25,10 +25,6 @@ use Rattle.peephole_graphs.proofs.LayoutLemmas.{length_laid, length_all}
 pub length-held : {A H : Type 0} (held : A → Node H) (items : List A) → length (held_nodes held items) ≡ length items
 length-held held items = length-reverse (map held items) ∙ length-map items held
 
-pub some_item : {A : Type 0} (items : List A) (i : ℕ) → i < length items → A
-some_item [] i l = absurd (omega arith)
-some_item (x ∷ items) i l = x
-
 -- the last of the finished ones, as many as there are ids, and those before them
 abbrev pub last_ones : List Id → List Id → List ℕ
 last_ones ids finished = drop (length finished - length ids) (numbers_of finished)

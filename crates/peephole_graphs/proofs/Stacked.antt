@@ -50,9 +50,6 @@ pub pulled_zero : (forest : Trees) → pulled forest 0 ≡ no_trees
 pulled_zero no_trees = refl
 pulled_zero (t ▸ forest) = refl
 
-pub opens_open : (t : Tree) (forest : Trees) → is_open t ≡ true → opens (t ▸ forest) ≡ suc (opens forest)
-opens_open t forest e = cond-true _ _ _ e
-
 pub opens_done : (t : Tree) (forest : Trees) → is_open t ≡ false → opens (t ▸ forest) ≡ opens forest
 opens_done t forest e = cond-false _ _ _ e
 

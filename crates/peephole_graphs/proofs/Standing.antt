@@ -15,7 +15,7 @@ use Rattle.peephole_graphs.specs.Graph.{undef, GraphEntry, undefs, tree_at_entry
 use Rattle.peephole_graphs.proofs.Stands.{entry_at, parent_at, standing, lacking, IsOperator, IsEntryOf, is_operator, Stands}
 use Rattle.peephole_graphs.specs.Step.{down, mark, Growth, grown}
 use Rattle.peephole_graphs.proofs.Lists.{has_append, has_reverse, has_either, has_itself, has_each}
-use Rattle.peephole_graphs.proofs.Stacked.{is_open, opens, kept, stacked, opens_open, opens_done, kept_open, kept_done}
+use Rattle.peephole_graphs.proofs.Stacked.{is_open, opens, kept, stacked, opens_done, kept_open, kept_done}
 use Rattle.peephole_graphs.proofs.Once.{children_once}
 use Rattle.peephole_graphs.proofs.StackGraph.{graph, IsGraph, is_graph, graph_forest, open_at, stack_length, length-mark, behind, more_of, place_of, taken_of}
 use Rattle.peephole_graphs.proofs.StackGraph.{new_entry}

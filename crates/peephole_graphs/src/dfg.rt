@@ -1,6 +1,6 @@
 //! The graph of a block.
 
-ghost use Rattle.std.specs.Prelude.{◌≡◌, ◌<◌, ◌-◌, ◌↔◌, ℕ, IsTrue, length, nat_eq};
+ghost use Rattle.std.specs.Prelude.{◌≡◌, ◌<◌, ◌+◌, ◌-◌, ◌↔◌, ◌&&◌, ℕ, IsTrue, length, take, nat_eq};
 ghost use Rattle.std.specs.HashMap as hash;
 ghost use Rattle.std.proofs.Props.{props};
 ghost use Rattle.std.proofs.lemmas.Map.Keys.{IsDistinct-prop};
@@ -203,19 +203,24 @@ impl MiniDFG {
         self.is_subtree_consistent(self.entries.len() - 1)
     }
 
-    // Whether the children of every entry lie one behind another, and end right before it.
+    // Whether the children of the entry at an index lie one behind another, and end right before it.
+    fn lies_forward_at(&self, i: usize) -> bool
+        requires { i < length (graph_of self.now).entries }
+        ensures { let entries = (graph_of self.now).entries in
+            forwards (kins_of (take (i + 1) entries))
+            ≡ (forwards (kins_of (take i entries)) && result) }
+    {
+        let from = (i + 1).saturating_sub(self.subtrees[i].len);
+        let ids = self.entries[i].operator.children();
+        lie_one_behind_another(&self.entries[..i], &self.subtrees[..i], ids, from, true)
+    }
+
+    // So it is of every entry.
     fn lies_forward(&self) -> bool
         ensures { result ≡ forwards (kins_of (graph_of self.now).entries) }
     {
         for i in 0..self.entries.len() {
-            let from = (i + 1).saturating_sub(self.subtrees[i].len);
-            if !lie_one_behind_another(
-                &self.entries[..i],
-                &self.subtrees[..i],
-                self.entries[i].operator.children(),
-                from,
-                true,
-            ) {
+            if !self.lies_forward_at(i) {
                 return false;
             }
         }
