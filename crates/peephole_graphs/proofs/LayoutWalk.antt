@@ -15,9 +15,10 @@ use Rattle.peephole_lang.specs.laws.PlaceLemmas.IsAt.{last, before}
 use Rattle.peephole_lang.specs.Term.{Term, Terms, absent, node, no_terms, ◌▸◌, Node, AreBelow, pick, tree_at, numbers_of}
 use Rattle.peephole_graphs.specs.Layout.{held_nodes, node_count_of, node_count, places, laid, laid_all, IsWhole, AreWhole}
 use Rattle.peephole_graphs.specs.Rebuild.{Piece, child_count, in_postfix, all_in_postfix}
+use Rattle.peephole_graphs.specs.declared.postfix.Turn.{Turn}
 use Rattle.peephole_graphs.specs.declared.postfix.Turn.TheVariants.{Child, Own}
-use Rattle.peephole_graphs.specs.Postfix.{Stop, stop, GoesOn, left}
-use Rattle.peephole_graphs.specs.PostfixLemmas.{IsTreeOf, turns_left, goes_on, entered, child_comes, own_comes, nodes_on, child_on, own_on, entered_on}
+use Rattle.peephole_graphs.specs.Postfix.{turns_of}
+use Rattle.peephole_graphs.specs.PostfixLemmas.{left, IsTreeOf, turns_left, entered, child_comes, own_comes, AllOn, child_on, own_on, entered_on}
 use Rattle.peephole_graphs.proofs.LayoutLemmas.{length_laid, length_all}
 
 -- ---- the items that hold nodes, and what is left of a walk
@@ -263,11 +264,11 @@ module _ {H : Type 0} (missing : H) where
     abbrev pub own_at : ℕ → Piece H
     own_at i = own_of (node_at ns i)
 
-    abbrev pub pieces_left : List Stop → List (Piece H)
-    pieces_left way = left pieces_at own_at way
+    abbrev pub pieces_left : List Turn → List (Piece H)
+    pieces_left turns = left pieces_at own_at turns
 
-    abbrev pub measure : List Stop → ℕ
-    measure way = turns_left pieces_at own_at way
+    abbrev pub measure : List Turn → ℕ
+    measure turns = turns_left pieces_at own_at turns
 
     all_picked : (is : List ℕ) → all_in_postfix (pick (tree_at ns) is) ≡ flat_map pieces_at is
     all_picked [] = refl
@@ -283,12 +284,12 @@ module _ {H : Type 0} (missing : H) where
 
     -- ---- the invariant
 
-    -- What is left of the tree at `root` is left of its pieces, and the nodes on the way are there.
-    pub record IsWalk (root : ℕ) (way : List Stop) (w : Laying H) : Type 0 where
-      pub made : IsLaying (tree_at ns root) (pieces_left way) w
-      pub inside : All Inside (nodes_on way)
+    -- What is left of the tree at `root` is left of its pieces, and the nodes of the turns are there.
+    pub record IsWalk (root : ℕ) (turns : List Turn) (w : Laying H) : Type 0 where
+      pub made : IsLaying (tree_at ns root) (pieces_left turns) w
+      pub inside : AllOn Inside turns
 
-    walk_start : (root : ℕ) → AreBelow ns → root < length ns → IsWalk root (stop root (kids_at root) ∷ []) (laying [] [])
+    walk_start : (root : ℕ) → AreBelow ns → root < length ns → IsWalk root (turns_of root (kids_at root) ++ []) (laying [] [])
     walk_start root b l =
         let t = tree_at ns root in
         let all = entered pieces_at own_at root (kids_at root) [] (is_tree root b l) ∙ append-nil (pieces_at root) in
@@ -297,20 +298,20 @@ module _ {H : Type 0} (missing : H) where
           inside = entered_on Inside root (kids_at root) [] l (kids_inside root b l) (All-nil Inside);
         }
 
-    walk_down : {root i : ℕ} {w : Laying H} {old new later : List Stop} → AreBelow ns → GoesOn old new (Some (Child i)) →
-        later ≡ stop i (kids_at i) ∷ new → IsWalk root old w → IsWalk root later w × (measure later < measure old)
+    walk_down : {root i : ℕ} {w : Laying H} {old new later : List Turn} → AreBelow ns → old ≡ Child i ∷ new →
+        later ≡ turns_of i (kids_at i) ++ new → IsWalk root old w → IsWalk root later w × (measure later < measure old)
     walk_down {root} {i} {w} {old} {new} {later} b g e h =
         let on = child_on Inside g h.inside in
         let comes = child_comes pieces_at own_at (kids_at i) g e (is_tree i b on.0) in (
           record {
             made = subst (λ x. IsLaying (tree_at ns root) x w) (sym comes.0) h.made;
-            inside = subst (λ x. All Inside (nodes_on x)) (sym e) (entered_on Inside i (kids_at i) new on.0 (kids_inside i b on.0) on.1);
+            inside = subst (AllOn Inside) (sym e) (entered_on Inside i (kids_at i) new on.0 (kids_inside i b on.0) on.1);
           },
           comes.1,
         )
 
     -- the node that comes is the next piece
-    next_piece : {root i : ℕ} {w : Laying H} {old new : List Stop} → GoesOn old new (Some (Own i)) → IsWalk root old w →
+    next_piece : {root i : ℕ} {w : Laying H} {old new : List Turn} → old ≡ Own i ∷ new → IsWalk root old w →
         IsLaying (tree_at ns root) (own_at i ∷ pieces_left new) w
     next_piece {root} {i} {w} g h = subst (λ x. IsLaying (tree_at ns root) x w) (own_comes pieces_at own_at g).0 h.made
 
@@ -341,40 +342,40 @@ module _ {H : Type 0} (missing : H) where
     kids_are items i x l is = ap (λ (n : Node H). n.children) (node_at_is items i x l is)
 
     -- the root that is entered
-    pub start : (items : List A) (root : ℕ) (way : List Stop) (w : Laying H) (x : A) → AreBelow (nodes_in items) → root < length items →
-        x ≡ get_or items root x → way ≡ stop root (held x).children ∷ [] → w ≡ laying [] [] → IsWalk (nodes_in items) root way w
-    start items root way w x b l is e v =
+    pub start : (items : List A) (root : ℕ) (turns : List Turn) (w : Laying H) (x : A) → AreBelow (nodes_in items) → root < length items →
+        x ≡ get_or items root x → turns ≡ turns_of root (held x).children ++ [] → w ≡ laying [] [] → IsWalk (nodes_in items) root turns w
+    start items root turns w x b l is e v =
         let ns = nodes_in items in
         let n = length-held held items in
-        let to = ap (λ k. stop root k ∷ []) (kids_are items root x l is) ∙ sym e in
-        subst (λ y. IsWalk ns root y w) to (subst (λ y. IsWalk ns root (stop root (kids_at ns root) ∷ []) y) (sym v) (walk_start ns root b (omega arith)))
+        let to = ap (λ k. turns_of root k ++ []) (kids_are items root x l is) ∙ sym e in
+        subst (λ y. IsWalk ns root y w) to (subst (λ y. IsWalk ns root (turns_of root (kids_at ns root) ++ []) y) (sym v) (walk_start ns root b (omega arith)))
 
-    module _ (items : List A) {root : ℕ} {old new : List Stop} {i : ℕ} where
-      pub child_inside : {w : Laying H} → GoesOn old new (Some (Child i)) → IsWalk (nodes_in items) root old w → i < length items
+    module _ (items : List A) {root : ℕ} {old new : List Turn} {i : ℕ} where
+      pub child_inside : {w : Laying H} → old ≡ Child i ∷ new → IsWalk (nodes_in items) root old w → i < length items
       child_inside g h = let l = (child_on (Inside (nodes_in items)) g h.inside).0 in let n = length-held held items in omega arith
 
-      pub own_inside : {w : Laying H} → GoesOn old new (Some (Own i)) → IsWalk (nodes_in items) root old w → i < length items
+      pub own_inside : {w : Laying H} → old ≡ Own i ∷ new → IsWalk (nodes_in items) root old w → i < length items
       own_inside g h = let l = (own_on (Inside (nodes_in items)) g h.inside).0 in let n = length-held held items in omega arith
 
-      pub down : {w : Laying H} {later : List Stop} (x : A) → AreBelow (nodes_in items) → GoesOn old new (Some (Child i)) →
-          x ≡ get_or items i x → later ≡ stop i (held x).children ∷ new → IsWalk (nodes_in items) root old w →
+      pub down : {w : Laying H} {later : List Turn} (x : A) → AreBelow (nodes_in items) → old ≡ Child i ∷ new →
+          x ≡ get_or items i x → later ≡ turns_of i (held x).children ++ new → IsWalk (nodes_in items) root old w →
           IsWalk (nodes_in items) root later w × (measure (nodes_in items) later < measure (nodes_in items) old)
       down x b g is e h =
-          walk_down (nodes_in items) b g (e ∙ ap (λ k. stop i k ∷ new) (sym (kids_are items i x (child_inside g h) is))) h
+          walk_down (nodes_in items) b g (e ∙ ap (λ k. turns_of i k ++ new) (sym (kids_are items i x (child_inside g h) is))) h
 
-      next_own : {w : Laying H} {x : A} → GoesOn old new (Some (Own i)) → x ≡ get_or items i x → IsWalk (nodes_in items) root old w →
+      next_own : {w : Laying H} {x : A} → old ≡ Own i ∷ new → x ≡ get_or items i x → IsWalk (nodes_in items) root old w →
           IsLaying (tree_at (nodes_in items) root) (own_of (held x) ∷ pieces_left (nodes_in items) new) w
       next_own {w} {x} g is h =
           subst (λ n. IsLaying (tree_at (nodes_in items) root) (own_of n ∷ pieces_left (nodes_in items) new) w)
           (node_at_is items i x (own_inside g h) is) (next_piece (nodes_in items) g h)
 
       -- the finished places of which an item's children are the last ones
-      pub found : {nodes : List (Node H)} {x : A} (finished ids : List Id) → GoesOn old new (Some (Own i)) → x ≡ get_or items i x →
+      pub found : {nodes : List (Node H)} {x : A} (finished ids : List Id) → old ≡ Own i ∷ new → x ≡ get_or items i x →
           (held x).children ≡ numbers_of ids → IsWalk (nodes_in items) root old (laying nodes (numbers_of finished)) →
           length ids ≤ length finished
       found finished ids g is k h = enough_finished finished ids k (next_own g is h)
 
-      pub own_done : {nodes nodes' : List (Node H)} {x : A} (finished finished' ids : List Id) → GoesOn old new (Some (Own i)) → x ≡ get_or items i x → (held x).children ≡ numbers_of ids →
+      pub own_done : {nodes nodes' : List (Node H)} {x : A} (finished finished' ids : List Id) → old ≡ Own i ∷ new → x ≡ get_or items i x → (held x).children ≡ numbers_of ids →
           nodes' ≡ nodes ++ record { head = (held x).head; children = last_ones ids finished } ∷ [] →
           numbers_of finished' ≡ first_ones ids finished ++ length nodes ∷ [] →
           IsWalk (nodes_in items) root old (laying nodes (numbers_of finished)) →
@@ -389,7 +390,7 @@ module _ {H : Type 0} (missing : H) where
           )
 
       -- as long as a node is to be made, those made are fewer than the tree's
-      pub still_more : {w : Laying H} → GoesOn old new (Some (Own i)) → IsWalk (nodes_in items) root old w →
+      pub still_more : {w : Laying H} → old ≡ Own i ∷ new → IsWalk (nodes_in items) root old w →
           length w.nodes < node_count_of (tree_at (nodes_in items) root)
       still_more {w} g h =
           let ns = nodes_in items in
@@ -398,11 +399,11 @@ module _ {H : Type 0} (missing : H) where
           omega (arith, n, length_laid 0 t)
 
     -- the expression at the end
-    pub end_laid : (items : List A) {root : ℕ} {old new : List Stop} {w : Laying H} → GoesOn old new None → IsWalk (nodes_in items) root old w →
+    pub end_laid : (items : List A) {root : ℕ} {old : List Turn} {w : Laying H} → old ≡ [] → IsWalk (nodes_in items) root old w →
         w.nodes ≡ laid 0 (tree_at (nodes_in items) root)
-    end_laid items {root} {old} {new} {w} g h =
+    end_laid items {root} {old} {w} e h =
         let ns = nodes_in items in
-        laying_ends (subst (λ x. IsLaying (tree_at ns root) x w) (goes_on (pieces_at ns) (own_at ns) g) h.made)
+        laying_ends (subst (λ x. IsLaying (tree_at ns root) x w) (ap (pieces_left ns) e) h.made)
 
     pub end_whole : (items : List A) (root : ℕ) → AreBelow (nodes_in items) → root < length items → IsWhole (tree_at (nodes_in items) root)
     end_whole items root b l = let n = length-held held items in whole_at (nodes_in items) root b (omega arith)
