@@ -28,7 +28,8 @@ use Rattle.peephole_graphs.specs.Graph.{undef, GraphEntry}
 use Rattle.peephole_graphs.specs.GraphOf.{IsSmall, FirstFault, IsRefused, IsLarge}
 use Rattle.peephole_graphs.proofs.Stands.{standing, lacking}
 use Rattle.peephole_graphs.specs.Step.{down, grown, Growth}
-use Rattle.peephole_graphs.specs.Entries.{EntryView, Measured, sizes_kept, size_kept, entry_view, shape_of_judged, shape_of, graph_entry, graph_entries}
+use Rattle.peephole_graphs.specs.Entries.{EntryView, entry_view, shape_of_judged, shape_of, graph_entry, graph_entries}
+use Rattle.peephole_graphs.specs.Measures.{sizes_kept, size_kept, Measured}
 use Rattle.peephole_graphs.specs.Growing.{undef_entry, lacks, taken_of, own_index, IsConsistent, Added}
 use Rattle.peephole_graphs.proofs.Represents.{IsOwnOrUndef}
 use Rattle.peephole_lang.specs.Lang.{place_of, ids_of}

@@ -13,10 +13,11 @@ use Rattle.peephole_lang.specs.Term.{Node, numbers_of, tree_at}
 use Rattle.peephole_graphs.specs.declared.dfg.StackEntry.{StackEntry}
 use Rattle.peephole_graphs.specs.Dfg.{IsSameEntry}
 use Rattle.peephole_graphs.specs.Forest.{has}
-use Rattle.peephole_graphs.specs.Downwards.{Kin, downwards, forwards, sizes_of, flags_of}
+use Rattle.peephole_graphs.specs.Downwards.{Kin, downwards}
 use Rattle.peephole_graphs.specs.Contiguous.{operators_of}
 use Rattle.peephole_graphs.specs.Order.{is_operator_at, forest_operators, AreInOrder}
-use Rattle.peephole_graphs.specs.Entries.{kin, kins_of, roots_of, children_at, IsForest, Measured, sizes_kept, flags_kept}
+use Rattle.peephole_graphs.specs.Entries.{kin, kins_of, roots_of, children_at, IsForest}
+use Rattle.peephole_graphs.specs.Measures.{sizes_kept, flags_kept, sizes_of, flags_of, Measured, forwards}
 use Rattle.peephole_graphs.specs.declared.subtree.Subtree.{Subtree}
 use Rattle.peephole_graphs.specs.Layout.{entry_nodes, node_count_of, HasTrees}
 use Rattle.peephole_graphs.proofs.WritableLemmas.{CanBeWritten, heads_writable, from_heads}

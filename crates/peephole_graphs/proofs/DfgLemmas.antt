@@ -13,9 +13,10 @@ use Rattle.peephole_graphs.specs.Shape.{Shape}
 use Rattle.peephole_graphs.specs.Graph.{undef, item}
 use Rattle.peephole_graphs.proofs.Stands.{entry_at}
 use Rattle.peephole_graphs.specs.Step.{Growth, grown}
-use Rattle.peephole_graphs.specs.Downwards.{Kin, forward, forwards, HasOneColor, are_colored, downwards, kin_at, sizes_of, flags_of, are_alike}
+use Rattle.peephole_graphs.specs.Downwards.{Kin, HasOneColor, downwards, kin_at}
 use Rattle.std.proofs.Math.ListN as list
-use Rattle.peephole_graphs.specs.Entries.{EntryView, Measured, sizes_kept, flags_kept, size_kept, flag_kept, entry_view, kin, kins_of, colors, graph_entry}
+use Rattle.peephole_graphs.specs.Entries.{EntryView, entry_view, kin, kins_of, graph_entry}
+use Rattle.peephole_graphs.specs.Measures.{colors, sizes_kept, flags_kept, size_kept, flag_kept, are_colored, sizes_of, flags_of, are_alike, Measured, forward, forwards}
 use Rattle.peephole_graphs.specs.Entries.{graph_entries}
 use Rattle.peephole_graphs.specs.Growing.{missing_subtree}
 use Rattle.peephole_graphs.specs.declared.subtree.Subtree.{Subtree}

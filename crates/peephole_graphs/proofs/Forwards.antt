@@ -16,7 +16,8 @@ use Rattle.peephole_graphs.specs.Graph.{GraphEntry, undef, item}
 use Rattle.peephole_graphs.specs.GraphOf.{IsSmall}
 use Rattle.peephole_graphs.proofs.Stands.{entry_at, is_operator, IsOperator}
 use Rattle.peephole_graphs.specs.Step.{down}
-use Rattle.peephole_graphs.specs.Downwards.{Kin, downwards, kin_at, sizes_of, forward, forwards}
+use Rattle.peephole_graphs.specs.Downwards.{Kin, downwards, kin_at}
+use Rattle.peephole_graphs.specs.Measures.{sizes_of, forward, forwards}
 use Rattle.peephole_graphs.proofs.StackGraph.{graph, is_graph, behind, taken_below}
 use Rattle.peephole_graphs.proofs.Lists.{all_reverse, all_has, sum_by-reverse}
 use Rattle.peephole_graphs.proofs.Standing.{at_old, at_more, facts, taken_root}

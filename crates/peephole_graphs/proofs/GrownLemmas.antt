@@ -14,7 +14,8 @@ use Rattle.peephole_graphs.specs.declared.growing.Growing.{Growing}
 use Rattle.peephole_graphs.specs.Forest.{IsInOrder}
 use Rattle.peephole_graphs.specs.Graph.{GraphEntry}
 use Rattle.peephole_graphs.specs.Step.{Growth}
-use Rattle.peephole_graphs.specs.Downwards.{Kin, forwards}
+use Rattle.peephole_graphs.specs.Downwards.{Kin}
+use Rattle.peephole_graphs.specs.Measures.{forwards}
 use Rattle.peephole_graphs.specs.Source.{Source, shapes_in}
 use Rattle.peephole_graphs.specs.Entries.{kins_of, shape_of}
 use Rattle.peephole_graphs.specs.Growing.{undef_entry}

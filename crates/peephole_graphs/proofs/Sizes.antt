@@ -12,7 +12,8 @@ use Rattle.std.proofs.lemmas.List.Elements.{All-head, All-tail, All-nil, All-pus
 use Rattle.std.proofs.lemmas.List.Sums.{sum_by-append, sum_by-cons}
 use Rattle.peephole_graphs.specs.Graph.{item}
 use Rattle.peephole_graphs.specs.Step.{down}
-use Rattle.peephole_graphs.specs.Downwards.{Kin, downwards, kin_at, are_colored, sizes_of, flags_of, are_alike}
+use Rattle.peephole_graphs.specs.Downwards.{Kin, downwards, kin_at}
+use Rattle.peephole_graphs.specs.Measures.{are_colored, sizes_of, flags_of, are_alike}
 use Rattle.peephole_graphs.proofs.Lists.{all_reverse, all_flat_map, sum_by-reverse, sum_by_same}
 use Rattle.peephole_graphs.proofs.StackGraph.{behind}
 use Rattle.peephole_graphs.proofs.Standing.{at_old, at_more, item_last, item_before}

@@ -16,7 +16,8 @@ use Rattle.peephole_lang.specs.declared.lang.Lang.TheVariants.{Undef}
 use Rattle.peephole_lang.specs.Node.{head_of, node_of, children_of}
 use Rattle.peephole_lang.specs.Term.{Term, node, Node, pick, tree_at}
 use Rattle.peephole_graphs.specs.declared.dfg.StackEntry.{StackEntry}
-use Rattle.peephole_graphs.specs.Downwards.{Kin, downwards, sizes_of}
+use Rattle.peephole_graphs.specs.Downwards.{Kin, downwards}
+use Rattle.peephole_graphs.specs.Measures.{sizes_of}
 use Rattle.peephole_graphs.specs.Entries.{kin, kins_of, children_at}
 use Rattle.peephole_graphs.specs.Layout.{node_count_of, node_count, places, laid, laid_all, entry_nodes, IsWhole}
 use Rattle.peephole_graphs.specs.Span.{lie_behind, IsSpan, HoldsItsChildren, lowered}

@@ -10,7 +10,8 @@ use Rattle.std.proofs.lemmas.Option.{slice_get_within}
 use Rattle.peephole_lang.specs.Node.{instr_of, children_of}
 use Rattle.peephole_graphs.specs.Tree.{Tree}
 use Rattle.peephole_graphs.specs.Color.{color_at}
-use Rattle.peephole_graphs.specs.Downwards.{Kin, downwards, kin_at, are_colored}
+use Rattle.peephole_graphs.specs.Downwards.{Kin, downwards, kin_at}
+use Rattle.peephole_graphs.specs.Measures.{are_colored}
 use Rattle.peephole_graphs.specs.Graph.{trees_at}
 use Rattle.peephole_graphs.specs.Source.{Source, shapes_in}
 use Rattle.peephole_graphs.specs.Entries.{Graph, kins_of, entry_tree}

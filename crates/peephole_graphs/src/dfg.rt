@@ -4,8 +4,9 @@ ghost use Rattle.std.specs.Prelude.{◌≡◌, ◌<◌, ◌+◌, ◌-◌, ◌↔
 ghost use Rattle.std.specs.HashMap as hash;
 ghost use Rattle.std.proofs.Props.{props};
 ghost use Rattle.std.proofs.lemmas.Map.Keys.{IsDistinct-prop};
-ghost use Rattle.peephole_graphs.specs.Downwards.{downwards, forwards, HasOneColor};
-ghost use Rattle.peephole_graphs.specs.Entries.{kins_of, Measured, IsForest};
+ghost use Rattle.peephole_graphs.specs.Downwards.{downwards, HasOneColor};
+ghost use Rattle.peephole_graphs.specs.Entries.{kins_of, IsForest};
+ghost use Rattle.peephole_graphs.specs.Measures.{Measured, forwards};
 ghost use Rattle.peephole_graphs.specs.Order.{AreInOrder};
 ghost use Rattle.peephole_graphs.specs.Layout.{HasTrees, Lang-set};
 

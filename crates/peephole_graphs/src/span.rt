@@ -4,8 +4,7 @@ ghost use Rattle.std.specs.List.{All};
 ghost use Rattle.mutate_base.specs.declared.error.Error.{Error};
 ghost use Rattle.peephole_lang.specs.Node.{node_of};
 ghost use Rattle.peephole_lang.specs.Term.{numbers_of};
-ghost use Rattle.peephole_graphs.specs.Downwards.{forward};
-ghost use Rattle.peephole_graphs.specs.Entries.{colors, size_kept, sizes_kept};
+ghost use Rattle.peephole_graphs.specs.Measures.{colors, sizes_kept, size_kept, forward};
 ghost use Rattle.peephole_graphs.specs.Span.{lie_behind, lowered, IsSpan, HoldsItsChildren};
 
 use crate::dfg::StackEntry;

@@ -5,7 +5,7 @@ use Rattle.std.proofs.lemmas.Result.{IfOk-weaker, IfErr-weaker}
 use Rattle.peephole_lang.specs.Node.{node_of}
 use Rattle.peephole_graphs.specs.declared.dfg.StackEntry.{StackEntry}
 use Rattle.peephole_graphs.specs.declared.subtree.Subtree.{Subtree}
-use Rattle.peephole_graphs.specs.Entries.{Measured, sizes_kept}
+use Rattle.peephole_graphs.specs.Measures.{sizes_kept, Measured}
 use Rattle.peephole_graphs.specs.Span.{IsSpan}
 use Rattle.peephole_graphs.proofs.DfgLemmas.{sizes_count, kept_count, kept_size}
 use Rattle.peephole_graphs.proofs.LayoutTrees.{entries_below}
