@@ -9,7 +9,7 @@ use Rattle.std.proofs.lemmas.List.Elements.{All-nil, All-cons, All-append, All-p
 use Rattle.peephole_nodes.specs.declared.id.Id.{Id}
 use Rattle.peephole_lang.specs.Term.{Term, Terms, absent, node, no_terms, ◌▸◌, Node, numbers_of}
 use Rattle.peephole_graphs.specs.Layout.{node_count_of, node_count, IsWhole, AreWhole}
-use Rattle.peephole_graphs.specs.Rebuild.{answered, IsReached, IsPart, AreParts, IsTree, IsTooLong, Piece, child_count, in_postfix, all_in_postfix, AreAsked}
+use Rattle.peephole_graphs.specs.Rebuild.{CanAnswer, IsReached, IsPart, AreParts, IsTree, IsTooLong, Piece, child_count, in_postfix, all_in_postfix, AreAsked}
 use Rattle.peephole_graphs.specs.Rebuild.{piece_by}
 use Rattle.peephole_graphs.specs.Rebuild.IsReached.{the_root, a_child}
 
@@ -165,13 +165,13 @@ numbers_append xs ys = map-append (λ (id : Id). id.0) xs ys
 
 module _ {L H : Type 0} (head : L → H) (children : L → List ℕ) (post : Id → Bor L → Type 0) where
   abbrev Asking : ℕ → List Id → List (Bor L) → Type 0
-  Asking root ids nodes = IsAsking (answered head children post) root (numbers_of ids) (pieces_of head children nodes)
+  Asking root ids nodes = IsAsking (CanAnswer head children post) root (numbers_of ids) (pieces_of head children nodes)
 
   abbrev own : Bor L → Node H
   own n = record { head = head n.now; children = children n.now }
 
   pub answering_starts : (root : Id) (ids : List Id) (nodes : List (Bor L)) → ids ≡ root ∷ [] → nodes ≡ [] → Asking root.0 ids nodes
-  answering_starts root ids nodes e n = rw (e, n) (start (answered head children post) root.0)
+  answering_starts root ids nodes e n = rw (e, n) (start (CanAnswer head children post) root.0)
 
   pub answering_goes_on : (root id : Id) (ids rest ids' kids : List Id) (nodes nodes' : List (Bor L)) (n : Bor L) →
       ids ≡ rest ++ id ∷ [] → post id n → nodes' ≡ nodes ++ n ∷ [] → ids' ≡ rest ++ kids → numbers_of kids ≡ children n.now →
@@ -179,16 +179,16 @@ module _ {L H : Type 0} (head : L → H) (children : L → List ℕ) (post : Id 
   answering_goes_on root id ids rest ids' kids nodes nodes' n top a more left are h =
       let before = rw (top, numbers_append rest (id ∷ [])) at h in
       rw (left, numbers_append rest kids, are, more, one_more head children nodes n)
-      (step (answered head children post) root.0 (numbers_of rest) id.0 (own n) (pieces_of head children nodes) (n, a, refl) before)
+      (step (CanAnswer head children post) root.0 (numbers_of rest) id.0 (own n) (pieces_of head children nodes) (n, a, refl) before)
 
   pub answering_ends : (root count : ℕ) (ids : List Id) (nodes : List (Bor L)) → count ≡ length ids → count ≡ 0 → Asking root ids nodes →
-      (t : Term H) × IsTree (answered head children post) root t × AreAsked head children nodes t
-  answering_ends root count [] nodes e z h = end (answered head children post) root (pieces_of head children nodes) h
+      (t : Term H) × IsTree (CanAnswer head children post) root t × AreAsked head children nodes t
+  answering_ends root count [] nodes e z h = end (CanAnswer head children post) root (pieces_of head children nodes) h
   answering_ends root count (id ∷ ids) nodes e z h = absurd (omega arith)
 
   pub answering_too_long : (root id : Id) (ids rest : List Id) (nodes : List (Bor L)) (n : Bor L) → ids ≡ rest ++ id ∷ [] → post id n →
-      2 ^ 32 ≤ length nodes → Asking root.0 ids nodes → IsTooLong (answered head children post) root.0
+      2 ^ 32 ≤ length nodes → Asking root.0 ids nodes → IsTooLong (CanAnswer head children post) root.0
   answering_too_long root id ids rest nodes n top a l h =
       let many = length_pieces head children nodes in
       let before = rw (top, numbers_append rest (id ∷ [])) at h in
-      long (answered head children post) root.0 (numbers_of rest) id.0 (own n) (pieces_of head children nodes) (n, a, refl) (omega arith) before
+      long (CanAnswer head children post) root.0 (numbers_of rest) id.0 (own n) (pieces_of head children nodes) (n, a, refl) (omega arith) before

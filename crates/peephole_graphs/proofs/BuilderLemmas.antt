@@ -238,7 +238,8 @@ state_more source n s old new f b a =
     let missing_is = map_replicate f' more (undef_entry (source.first + n)) ∙ ap (replicate more) (undef_seen source n) in
     let entries_is : map (graph_entry source.info source.first) (map entry_view new.entries.items) ≡
     (es ++ replicate more (undef n)) ++ record { shape = Some s; children = children; number = n; color = old.color } ∷ [] =
-    map-map (graph_entry source.info source.first) entry_view new.entries.items ∙ (ap (map f') a.entries ∙ (map-append f' (old.entries.items ++ missing) (a.own ∷ []) ∙
+    map-map (graph_entry source.info source.first) entry_view new.entries.items ∙ (ap (map f') a.entries ∙
+    (map-append f' (old.entries.items ++ missing) (a.own ∷ []) ∙
     ap₂ (λ x y. x ++ y ∷ []) (map-append f' old.entries.items missing ∙
     ap₂ (λ x y. x ++ y) (sym (map-map (graph_entry source.info source.first) entry_view old.entries.items)) missing_is) own_is)) in
     grown_is s n old.color (length old.entries.items) es old.parents.items old.stack.items

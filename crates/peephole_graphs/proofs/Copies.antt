@@ -76,8 +76,8 @@ module _ (es fs : List StackEntry) (h : AllZip IsSameEntry es fs) where
     flags_are = ap (λ x. reverse (flags_kept x)) e ∙ (m.flags_are ∙ ap flags_of (sym kins_same));
   }
 
-  pub copied_trees : (look look' : ℕ → Option ℕ) → ((k : ℕ) → look' k ≡ look k) → HasTrees es look → HasTrees fs look'
-  copied_trees look look' same t =
+  pub copied_trees : (own_entry own_entry' : ℕ → Option ℕ) → ((k : ℕ) → own_entry' k ≡ own_entry k) → HasTrees es own_entry → HasTrees fs own_entry'
+  copied_trees own_entry own_entry' same t =
       let n = length_all_zip IsSameEntry es fs h in
       record {
         below = λ i d l.

@@ -18,7 +18,7 @@ use Rattle.peephole_lang.specs.Term.{node, AreBelow, numbers_of}
 use Rattle.peephole_lang.specs.Text.{text_of}
 use Rattle.peephole_graphs.specs.declared.dfg.StackEntry.{StackEntry}
 use Rattle.peephole_graphs.specs.Entries.{roots_of}
-use Rattle.peephole_graphs.specs.ForestText.{Line, is_followed, branch, edge, tree_lines, child_lines, linked, entry_term, root_lines, forest_lines}
+use Rattle.peephole_graphs.specs.ForestText.{Line, is_followed, branch, edge, tree_lines, child_lines, entries_as_nodes, entry_term, root_lines, forest_lines}
 use Rattle.peephole_graphs.specs.ForestText.{entry_text, with_text, with_entry, then_text, with_lines, forest_text, default_lines, default_text, IsText}
 use Rattle.peephole_graphs.specs.ForestText.{Tells}
 use Rattle.peephole_graphs.specs.ForestSteps.{has_some, edges, trees_of, level_lines}
@@ -90,8 +90,9 @@ abbrev Inside : List StackEntry → List Id → Type 0
 Inside entries ids = All (λ (k : ℕ). k < length entries) (numbers_of ids)
 
 -- an entry that the code looked up: its tree, and its children
-module _ (entries : List StackEntry) (i : ℕ) (e : StackEntry) (b : AreBelow (linked entries)) (l : i < length entries) (is : e ≡ get_or entries i e) where
-  at_entry : IsAt (record { head = e; children = children_of e.operator }) (linked entries) i
+module _ (entries : List StackEntry) (i : ℕ) (e : StackEntry) (b : AreBelow (entries_as_nodes entries)) (l : i < length entries)
+    (is : e ≡ get_or entries i e) where
+  at_entry : IsAt (record { head = e; children = children_of e.operator }) (entries_as_nodes entries) i
   at_entry = at_place (λ x. x) (λ (x : StackEntry). children_of x.operator) entries i e l is
 
   tree_entry : entry_term entries i ≡ node e (trees_of entries (ids_of e.operator))
@@ -165,13 +166,13 @@ child_inside entries levels rest k child later top ids h =
 
 -- What the code knows of the level that it took, of its next child and of that child's entry.
 pub record IsTaken (entries : List StackEntry) (levels rest : List Ids) (k : Ids) (child : Id) (later : Ids) (e : StackEntry) : Type 0 where
-  pub below : AreBelow (linked entries)
+  pub below : AreBelow (entries_as_nodes entries)
   pub inside : IsInside entries levels
   pub top : levels ≡ rest ++ k ∷ []
   pub ids : k.now ≡ child ∷ later.now
   pub is : e ≡ get_or entries child.0 e
 
-pub taken : {entries : List StackEntry} {levels rest : List Ids} {k : Ids} {child : Id} {later : Ids} {e : StackEntry} → AreBelow (linked entries) →
+pub taken : {entries : List StackEntry} {levels rest : List Ids} {k : Ids} {child : Id} {later : Ids} {e : StackEntry} → AreBelow (entries_as_nodes entries) →
     IsInside entries levels → levels ≡ rest ++ k ∷ [] → k.now ≡ child ∷ later.now → e ≡ get_or entries child.0 e → IsTaken entries levels rest k child later e
 taken b i t d s = record { below = b; inside = i; top = t; ids = d; is = s }
 
@@ -247,7 +248,8 @@ module _ (entries : List StackEntry) (levels rest : List Ids) (k : Ids) (top : l
       omega (arith, p, length-append rest (k ∷ []))
 
 -- the root's own line
-module _ (entries : List StackEntry) (i : ℕ) (e : StackEntry) (b : AreBelow (linked entries)) (l : i < length entries) (is : e ≡ get_or entries i e) where
+module _ (entries : List StackEntry) (i : ℕ) (e : StackEntry) (b : AreBelow (entries_as_nodes entries)) (l : i < length entries)
+    (is : e ≡ get_or entries i e) where
   abbrev below_it : List Line
   below_it = child_lines [] (trees_of entries (ids_of e.operator))
 
@@ -350,6 +352,6 @@ told e y (Ok text) same h = ap yes (ap (λ (x : StackEntry). text_of x.operator)
 told e y (Err x) same h = inr h
 
 -- each entry has its children before it
-pub linked_below : (entries : List StackEntry) → ((i : ℕ) (d : StackEntry) → i < length entries →
-    All (λ c. c < i) (children_of (get_or entries i d).operator)) → AreBelow (linked entries)
-linked_below entries h = nodes_below (λ (e : StackEntry). e) entries h
+pub as_nodes_below : (entries : List StackEntry) → ((i : ℕ) (d : StackEntry) → i < length entries →
+    All (λ c. c < i) (children_of (get_or entries i d).operator)) → AreBelow (entries_as_nodes entries)
+as_nodes_below entries h = nodes_below (λ (e : StackEntry). e) entries h

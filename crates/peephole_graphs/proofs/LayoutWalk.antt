@@ -13,7 +13,7 @@ use Rattle.peephole_lang.specs.laws.PlaceLemmas.{IsAt, last_or_before}
 use Rattle.peephole_lang.specs.laws.PlaceLemmas as place
 use Rattle.peephole_lang.specs.laws.PlaceLemmas.IsAt.{last, before}
 use Rattle.peephole_lang.specs.Term.{Term, Terms, absent, node, no_terms, ◌▸◌, Node, AreBelow, pick, tree_at, numbers_of}
-use Rattle.peephole_graphs.specs.Layout.{held_nodes, node_count_of, node_count, places, laid, laid_all, IsWhole, AreWhole}
+use Rattle.peephole_graphs.specs.Layout.{held_nodes, node_count_of, node_count, root_indexes, layout_from, layouts_from, IsWhole, AreWhole}
 use Rattle.peephole_graphs.specs.Rebuild.{Piece, child_count, in_postfix, all_in_postfix}
 use Rattle.peephole_graphs.specs.declared.postfix.Turn.{Turn}
 use Rattle.peephole_graphs.specs.declared.postfix.Turn.TheVariants.{Child, Own}
@@ -41,7 +41,7 @@ drop_front d p n e = grind (arith, common_steps)
 take_front : (d p : List ℕ) (n : ℕ) → n ≡ length d → take n (d ++ p) ≡ d
 take_front d p n e = grind (arith, common_steps)
 
--- The nodes laid out, and the places of the finished ones that are no children yet.
+-- The nodes laid out, and the indexes of the finished ones that are no children yet.
 pub record Laying (H : Type 0) : Type 0 where
   pub nodes : List (Node H)
   pub done : List ℕ
@@ -84,9 +84,9 @@ module _ {H : Type 0} where
         | Some v ↦ make_all-append xs ys v
       ]
 
-  length_places : (first : ℕ) (ts : Terms H) → length (places first ts) ≡ child_count ts
-  length_places first no_terms = refl
-  length_places first (t ▸ ts) = ap (λ n. suc n) (length_places (first + node_count_of t) ts)
+  length_root_indexes : (first : ℕ) (ts : Terms H) → length (root_indexes first ts) ≡ child_count ts
+  length_root_indexes first no_terms = refl
+  length_root_indexes first (t ▸ ts) = ap (λ n. suc n) (length_root_indexes (first + node_count_of t) ts)
 
   make_is : (s : Piece H) (w : Laying H) → s.count ≤ length w.done → make s w ≡ Some (put s w)
   make_is s w l = cond-true (nat_le s.count (length w.done)) (some_laying (put s w)) None (grind arith)
@@ -103,31 +103,31 @@ module _ {H : Type 0} where
   mutual
     -- a term's steps lay it out and finish it
     laid_steps : (t : Term H) (ns : List (Node H)) (d : List ℕ) (first : ℕ) → length ns ≡ first → IsWhole t →
-        make_all (in_postfix t) (laying ns d) ≡ Some (laying (ns ++ laid first t) (d ++ (first + node_count_of t - 1) ∷ []))
+        make_all (in_postfix t) (laying ns d) ≡ Some (laying (ns ++ layout_from first t) (d ++ (first + node_count_of t - 1) ∷ []))
     laid_steps absent ns d first l w = absurd w
     laid_steps (node h kids) ns d first l w =
         let own = making h (child_count kids) in
         let at = first + suc (node_count kids) - 1 in
-        let earlier = laid_all first kids in
+        let earlier = layouts_from first kids in
         let n : length (ns ++ earlier) ≡ at = omega (arith, length-append ns earlier, length_all first kids) in
         make_all-append (all_in_postfix kids) (own ∷ []) (laying ns d)
         ∙ (ap (λ (r : Option (Laying H)). after r (make_all (own ∷ []))) (all_steps kids ns d first l w)
         ∙ (ap (λ (r : Option (Laying H)). after r some_laying)
-        (make_taken own (ns ++ earlier) d (places first kids) at (length_places first kids) n)
+        (make_taken own (ns ++ earlier) d (root_indexes first kids) at (length_root_indexes first kids) n)
         ∙ ap (λ (x : List (Node H)). some_laying (laying x (d ++ at ∷ []))) (append_assoc ns earlier _)))
 
     all_steps : (ts : Terms H) (ns : List (Node H)) (d : List ℕ) (first : ℕ) → length ns ≡ first → AreWhole ts →
-        make_all (all_in_postfix ts) (laying ns d) ≡ Some (laying (ns ++ laid_all first ts) (d ++ places first ts))
+        make_all (all_in_postfix ts) (laying ns d) ≡ Some (laying (ns ++ layouts_from first ts) (d ++ root_indexes first ts))
     all_steps no_terms ns d first l w =
         ap₂ (λ (x : List (Node H)) (y : List ℕ). some_laying (laying x y)) (sym (append-nil ns)) (sym (append-nil d))
     all_steps (t ▸ ts) ns d first l w =
         let next = first + node_count_of t in
-        let n : length (ns ++ laid first t) ≡ next = omega (arith, length-append ns (laid first t), length_laid first t) in
+        let n : length (ns ++ layout_from first t) ≡ next = omega (arith, length-append ns (layout_from first t), length_laid first t) in
         make_all-append (in_postfix t) (all_in_postfix ts) (laying ns d)
         ∙ (ap (λ (r : Option (Laying H)). after r (make_all (all_in_postfix ts))) (laid_steps t ns d first l w.0)
-        ∙ (all_steps ts (ns ++ laid first t) (d ++ (next - 1) ∷ []) next n w.1
-        ∙ ap₂ (λ (x : List (Node H)) (y : List ℕ). some_laying (laying x y)) (append_assoc ns (laid first t) (laid_all next ts))
-        (append_assoc d ((next - 1) ∷ []) (places next ts))))
+        ∙ (all_steps ts (ns ++ layout_from first t) (d ++ (next - 1) ∷ []) next n w.1
+        ∙ ap₂ (λ (x : List (Node H)) (y : List ℕ). some_laying (laying x y)) (append_assoc ns (layout_from first t) (layouts_from next ts))
+        (append_assoc d ((next - 1) ∷ []) (root_indexes next ts))))
 
   -- a step that is made found its children
   found_children : (s : Piece H) (ss : List (Piece H)) (w v : Laying H) → make_all (s ∷ ss) w ≡ Some v → s.count ≤ length w.done
@@ -147,7 +147,7 @@ module _ {H : Type 0} where
       let more = made_count ss (put s w) v (made_rest s ss w v e) in
       omega (arith, more, length-append w.nodes (record { head = s.head; children = drop (length w.done - s.count) w.done } ∷ []))
 
-  -- the finished places stay below the nodes laid out
+  -- the finished indexes stay below the nodes laid out
   put_below : (s : Piece H) (w : Laying H) → All (λ (k : ℕ). k < length w.nodes) w.done →
       All (λ (k : ℕ). k < length (put s w).nodes) (put s w).done
   put_below s w below =
@@ -160,9 +160,9 @@ module _ {H : Type 0} where
 
   -- the tree, laid out and finished
   abbrev pub whole_of : Term H → Laying H
-  whole_of t = laying (laid 0 t) ((0 + node_count_of t - 1) ∷ [])
+  whole_of t = laying (layout_from 0 t) ((0 + node_count_of t - 1) ∷ [])
 
-  -- What is left, made from here, gives the whole; the finished places are below the nodes laid out.
+  -- What is left, made from here, gives the whole; the finished indexes are below the nodes laid out.
   pub record IsLaying (t : Term H) (pieces : List (Piece H)) (w : Laying H) : Type 0 where
     pub same : make_all pieces w ≡ Some (whole_of t)
     pub below : All (λ (k : ℕ). k < length w.nodes) w.done
@@ -177,7 +177,7 @@ module _ {H : Type 0} where
     record { same = made_rest p pieces w (whole_of t) h.same; below = put_below p w h.below },
   )
 
-  pub laying_ends : {t : Term H} {w : Laying H} → IsLaying t [] w → w.nodes ≡ laid 0 t
+  pub laying_ends : {t : Term H} {w : Laying H} → IsLaying t [] w → w.nodes ≡ layout_from 0 t
   laying_ends {t} {w} h = same_laying w (whole_of t) h.same
 
   -- the next piece by the ids of the code: a node over the last of the finished ones
@@ -192,7 +192,8 @@ module _ {H : Type 0} where
     pub own_added : (nodes' : List (Node H)) (done' : List ℕ) → nodes' ≡ nodes ++ record { head = n.head; children = last_ones ids finished } ∷ [] →
         done' ≡ first_ones ids finished ++ length nodes ∷ [] → IsLaying t rest (laying nodes' done')
     own_added nodes' done' a d =
-        let at : length finished - length ids ≡ length (numbers_of finished) - length n.children = omega (arith, as_many, length-map finished (λ (x : Id). x.0)) in
+        let at : length finished - length ids ≡ length (numbers_of finished) - length n.children =
+        omega (arith, as_many, length-map finished (λ (x : Id). x.0)) in
         let children_from : ℕ → Node H = λ z. record { head = n.head; children = drop z (numbers_of finished) } in
         subst (λ w. IsLaying t rest w)
         (sym (ap₂ laying a d ∙ ap (λ z. laying (nodes ++ children_from z ∷ []) (take z (numbers_of finished) ++ length nodes ∷ [])) at))
@@ -257,7 +258,7 @@ module _ {H : Type 0} (missing : H) where
     abbrev kids_at : ℕ → List ℕ
     kids_at i = (node_at ns i).children
 
-    -- what the tree of a place brings, and what its own node does
+    -- what the tree of an index brings, and what its own node does
     abbrev pub pieces_at : ℕ → List (Piece H)
     pieces_at i = in_postfix (tree_at ns i)
 
@@ -369,13 +370,14 @@ module _ {H : Type 0} (missing : H) where
           subst (λ n. IsLaying (tree_at (nodes_in items) root) (own_of n ∷ pieces_left (nodes_in items) new) w)
           (node_at_is items i x (own_inside g h) is) (next_piece (nodes_in items) g h)
 
-      -- the finished places of which an item's children are the last ones
+      -- the finished indexes of which an item's children are the last ones
       pub found : {nodes : List (Node H)} {x : A} (finished ids : List Id) → old ≡ Own i ∷ new → x ≡ get_or items i x →
           (held x).children ≡ numbers_of ids → IsWalk (nodes_in items) root old (laying nodes (numbers_of finished)) →
           length ids ≤ length finished
       found finished ids g is k h = enough_finished finished ids k (next_own g is h)
 
-      pub own_done : {nodes nodes' : List (Node H)} {x : A} (finished finished' ids : List Id) → old ≡ Own i ∷ new → x ≡ get_or items i x → (held x).children ≡ numbers_of ids →
+      pub own_done : {nodes nodes' : List (Node H)} {x : A} (finished finished' ids : List Id) → old ≡ Own i ∷ new → x ≡ get_or items i x →
+          (held x).children ≡ numbers_of ids →
           nodes' ≡ nodes ++ record { head = (held x).head; children = last_ones ids finished } ∷ [] →
           numbers_of finished' ≡ first_ones ids finished ++ length nodes ∷ [] →
           IsWalk (nodes_in items) root old (laying nodes (numbers_of finished)) →
@@ -400,7 +402,7 @@ module _ {H : Type 0} (missing : H) where
 
     -- the expression at the end
     pub end_laid : (items : List A) {root : ℕ} {old : List Turn} {w : Laying H} → old ≡ [] → IsWalk (nodes_in items) root old w →
-        w.nodes ≡ laid 0 (tree_at (nodes_in items) root)
+        w.nodes ≡ layout_from 0 (tree_at (nodes_in items) root)
     end_laid items {root} {old} {w} e h =
         let ns = nodes_in items in
         laying_ends (subst (λ x. IsLaying (tree_at ns root) x w) (ap (pieces_left ns) e) h.made)

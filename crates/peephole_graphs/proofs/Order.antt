@@ -4,7 +4,7 @@ use Rattle.std.specs.Prelude.{reverse}
 use Rattle.std.proofs.lemmas.List.{length-reverse, reverse-reverse}
 use Rattle.peephole_graphs.specs.Shape.{Shape}
 use Rattle.peephole_graphs.specs.Tree.{Tree, entry, node, Trees, no_trees, ◌▸◌, postfix_of, postfix, range_from, shapes_of, shapes, size_of, size}
-use Rattle.peephole_graphs.specs.Tree.{renumbered_of, renumbered}
+use Rattle.peephole_graphs.specs.Tree.{renumber_tree, renumber}
 use Rattle.peephole_graphs.specs.Forest.{forest, IsInOrder}
 use Rattle.peephole_graphs.proofs.DepthLemmas.{range_more}
 use Rattle.peephole_graphs.proofs.Stacked.{opens, kept, pulled, stacked, missing, operator}
@@ -21,33 +21,33 @@ range_append a (suc n) m =
     ap (λ x. range_from a (suc n) ++ range_from x m) e ∙ (ap (λ x. a ∷ x) (range_append (suc a) n m) ∙ sym (ap (range_from a) f))
 
 mutual
-  numbers_of-renumbered : (n : ℕ) (t : Tree) → postfix_of (renumbered_of n t) ≡ range_from n (size_of t)
-  numbers_of-renumbered n (entry m) = refl
-  numbers_of-renumbered n (node i s kids) = ap (λ x. x ++ (n + size kids) ∷ []) (numbers-renumbered n kids) ∙ range_more n (size kids)
+  numbers_of-renumber : (n : ℕ) (t : Tree) → postfix_of (renumber_tree n t) ≡ range_from n (size_of t)
+  numbers_of-renumber n (entry m) = refl
+  numbers_of-renumber n (node i s kids) = ap (λ x. x ++ (n + size kids) ∷ []) (numbers-renumber n kids) ∙ range_more n (size kids)
 
-  pub numbers-renumbered : (n : ℕ) (ts : Trees) → postfix (renumbered n ts) ≡ range_from n (size ts)
-  numbers-renumbered n no_trees = refl
-  numbers-renumbered n (t ▸ ts) =
-      ap₂ (λ x y. x ++ y) (numbers_of-renumbered n t) (numbers-renumbered (n + size_of t) ts) ∙ range_append n (size_of t) (size ts)
+  pub numbers-renumber : (n : ℕ) (ts : Trees) → postfix (renumber n ts) ≡ range_from n (size ts)
+  numbers-renumber n no_trees = refl
+  numbers-renumber n (t ▸ ts) =
+      ap₂ (λ x y. x ++ y) (numbers_of-renumber n t) (numbers-renumber (n + size_of t) ts) ∙ range_append n (size_of t) (size ts)
 
 mutual
-  pub shapes_of-renumbered : (n : ℕ) (t : Tree) → shapes_of (renumbered_of n t) ≡ shapes_of t
-  shapes_of-renumbered n (entry m) = refl
-  shapes_of-renumbered n (node i s kids) = ap (λ x. x ++ s ∷ []) (shapes-renumbered n kids)
+  pub shapes_of-renumber : (n : ℕ) (t : Tree) → shapes_of (renumber_tree n t) ≡ shapes_of t
+  shapes_of-renumber n (entry m) = refl
+  shapes_of-renumber n (node i s kids) = ap (λ x. x ++ s ∷ []) (shapes-renumber n kids)
 
-  pub shapes-renumbered : (n : ℕ) (ts : Trees) → shapes (renumbered n ts) ≡ shapes ts
-  shapes-renumbered n no_trees = refl
-  shapes-renumbered n (t ▸ ts) = ap₂ (λ x y. x ++ y) (shapes_of-renumbered n t) (shapes-renumbered (n + size_of t) ts)
+  pub shapes-renumber : (n : ℕ) (ts : Trees) → shapes (renumber n ts) ≡ shapes ts
+  shapes-renumber n no_trees = refl
+  shapes-renumber n (t ▸ ts) = ap₂ (λ x y. x ++ y) (shapes_of-renumber n t) (shapes-renumber (n + size_of t) ts)
 
 -- what was written is in order
 pub written_in_order : (block : List Shape) → IsInOrder (reverse (shapes (forest block)))
 written_in_order block =
-    ap postfix (same_trees block) ∙ (numbers-renumbered 0 (forest block) ∙
+    ap postfix (same_trees block) ∙ (numbers-renumber 0 (forest block) ∙
     ap (range_from 0) (sym (length-reverse (shapes (forest block)) ∙ length-shapes (forest block))))
 
 -- and, written again with its own trees, it stays
 pub written_again : (block : List Shape) → shapes (forest (reverse (shapes (forest block)))) ≡ shapes (forest block)
-written_again block = ap shapes (same_trees block) ∙ shapes-renumbered 0 (forest block)
+written_again block = ap shapes (same_trees block) ∙ shapes-renumber 0 (forest block)
 
 -- where the trees are in order, the block is their postfix
 in_order_back : (block : List Shape) → IsInOrder block → back (rev (stacked block)) ≡ block

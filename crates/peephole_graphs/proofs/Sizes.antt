@@ -176,7 +176,8 @@ flags_step new u more xs taken e v l d h =
     (all_reverse (λ i. i < length xs) taken h)
     (λ i b. ap (are_colored zs c) (down_old u more xs i b) ∙ (colored_same zs xs c (length xs) (downwards xs i) (down_below xs i) old ∙ alike xs c i b)) ∙
     alike_reverse (item false (flags_of xs)) (λ i. (kin_at xs i).color) c taken in
-    let kids = ap (λ x. are_colored zs c (flat_map (downwards ys) x)) d ∙ ap (are_colored zs c) (flat_map-append (downwards ys) (down (length xs) more) (reverse taken)) in
+    let kids = ap (λ x. are_colored zs c (flat_map (downwards ys) x)) d ∙
+    ap (are_colored zs c) (flat_map-append (downwards ys) (down (length xs) more) (reverse taken)) in
     let own = ap (are_colored zs c) (down_own new ys) ∙ colored_append zs c (flat_map (downwards ys) new.children) (length ys ∷ []) in
     let parts = colored_append zs c (flat_map (downwards ys) (down (length xs) more)) (flat_map (downwards ys) (reverse taken)) in
     ap₂ (λ x y. x ∷ y) (grind (arith, nat_tests)) (flags_replicate u more xs e)

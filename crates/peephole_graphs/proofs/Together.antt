@@ -72,7 +72,11 @@ kids_numbers : (s : Shape) (earlier : List Shape) →
 kids_numbers s earlier =
     let taken = pulled (stacked earlier) s.operands in
     let more = s.operands - opens (stacked earlier) in
-    rw (top_pulled (stacked earlier) (missing earlier) s.operands, numbers-join (entries (missing earlier) more) (rev taken), numbers_entries (missing earlier) more)
+    rw (
+      top_pulled (stacked earlier) (missing earlier) s.operands,
+      numbers-join (entries (missing earlier) more) (rev taken),
+      numbers_entries (missing earlier) more,
+    )
 
 -- the numbers of the forest as it grows
 pub forest_numbers : (s : Shape) (earlier : List Shape) → numbers (stacked (s ∷ earlier))

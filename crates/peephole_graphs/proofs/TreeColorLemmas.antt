@@ -25,7 +25,8 @@ use Rattle.peephole_graphs.proofs.DfgLemmas.{decides_colored}
 use Rattle.peephole_graphs.proofs.GraphOfLemmas.{undef_instr}
 use Rattle.peephole_graphs.proofs.EntryTreeLemmas.{own_tree, entry_operand, by_children, down_is, kin_is, last_tree}
 
-kids_colored : (xs : List Kin) (color : ℕ → ℕ) (c : ℕ) (g : ℕ → Tree) (is : List ℕ) → All (λ k. are_colored xs c (downwards xs k) ≡ is_colored color c (g k)) is →
+kids_colored : (xs : List Kin) (color : ℕ → ℕ) (c : ℕ) (g : ℕ → Tree) (is : List ℕ) →
+    All (λ k. are_colored xs c (downwards xs k) ≡ is_colored color c (g k)) is →
     are_colored xs c (flat_map (downwards xs) is) ≡ test.trees_are_colored color c (trees_at g is)
 kids_colored xs color c g [] h = refl
 kids_colored xs color c g (i ∷ is) h =

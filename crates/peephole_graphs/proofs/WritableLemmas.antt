@@ -15,7 +15,7 @@ use Rattle.peephole_lang.specs.Node.{node_of, head_of, instr_of}
 use Rattle.peephole_nodes.specs.Payload.{imm_of, is_writable}
 use Rattle.peephole_lang.specs.Term.{Term, Terms, absent, node, no_terms, ◌▸◌, Node, pick, tree_at}
 use Rattle.peephole_graphs.specs.declared.dfg.StackEntry.{StackEntry}
-use Rattle.peephole_graphs.specs.Layout.{entry_nodes, laid, laid_all, node_count_of, places, AreWritable}
+use Rattle.peephole_graphs.specs.Layout.{entry_nodes, layout_from, layouts_from, node_count_of, root_indexes, AreWritable}
 use Rattle.peephole_graphs.proofs.Represents.{IsOwnOrUndef}
 
 -- ---- nodes and their heads
@@ -78,15 +78,15 @@ abbrev mutual
   AreWritableTrees (t ▸ ts) = IsWritableTree t × AreWritableTrees ts
 
 mutual
-  laid_writable : (first : ℕ) (t : Term Head) → IsWritableTree t → All HasWritableHead (laid first t)
+  laid_writable : (first : ℕ) (t : Term Head) → IsWritableTree t → All HasWritableHead (layout_from first t)
   laid_writable first absent w = All-nil HasWritableHead
   laid_writable first (node h kids) w =
-      All-push HasWritableHead (laid_all first kids) (record { head = h; children = places first kids }) (all_laid_writable first kids w.1) w.0
+      All-push HasWritableHead (layouts_from first kids) (record { head = h; children = root_indexes first kids }) (all_laid_writable first kids w.1) w.0
 
-  all_laid_writable : (first : ℕ) (ts : Terms Head) → AreWritableTrees ts → All HasWritableHead (laid_all first ts)
+  all_laid_writable : (first : ℕ) (ts : Terms Head) → AreWritableTrees ts → All HasWritableHead (layouts_from first ts)
   all_laid_writable first no_terms w = All-nil HasWritableHead
   all_laid_writable first (t ▸ ts) w =
-      All-append HasWritableHead (laid first t) (laid_all (first + node_count_of t) ts) (laid_writable first t w.0)
+      All-append HasWritableHead (layout_from first t) (layouts_from (first + node_count_of t) ts) (laid_writable first t w.0)
       (all_laid_writable (first + node_count_of t) ts w.1)
 
 picked_writable : (at : ℕ → Term Head) (is : List ℕ) → ((k : ℕ) → IsWritableTree (at k)) → AreWritableTrees (pick at is)
@@ -111,7 +111,7 @@ turned_writable es h =
 
 -- what is laid out of a graph
 pub laid_out_writable : (es : List StackEntry) (i : ℕ) → AreWritable (operators es) → (r : Result (List Lang) Error) →
-    IfOk r (λ expr. map node_of expr ≡ laid 0 (tree_at (entry_nodes es) i)) → IfOk r (λ expr. AreWritable expr)
+    IfOk r (λ expr. map node_of expr ≡ layout_from 0 (tree_at (entry_nodes es) i)) → IfOk r (λ expr. AreWritable expr)
 laid_out_writable es i w (Ok expr) h = seen_all HasWritableHead node_of expr (subst (All HasWritableHead) (sym h)
     (laid_writable 0 (tree_at (entry_nodes es) i) (trees_writable (entry_nodes es) (turned_writable es w) i)))
 laid_out_writable es i w (Err refusal) h = tt

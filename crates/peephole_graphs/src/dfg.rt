@@ -79,7 +79,7 @@ impl MiniDFG {
     ghost use Rattle.mutate_base.specs.declared.error.Error.{Error};
     ghost use Rattle.peephole_lang.specs.Node.{node_of, head_of, children_of};
     ghost use Rattle.peephole_lang.specs.Term.{tree_at, term_of};
-    ghost use Rattle.peephole_graphs.specs.Layout.{entry_nodes, laid, AreWritable};
+    ghost use Rattle.peephole_graphs.specs.Layout.{entry_nodes, layout_from, AreWritable};
     ghost use Rattle.peephole_graphs.specs.Dfg.{graph_of};
     ghost use Rattle.peephole_graphs.specs.ForestText.{forest_text, default_text, IsText, CanTell, Tells};
 
@@ -144,12 +144,12 @@ impl MiniDFG {
         self.parents.as_slice()
     }
 
-    /// The tree of the operator with the index `at` in the body, laid out in postfix: its operands' trees one after another, then its own node, the last one. Each node names its children by their places, and can be written; a missing operand is `Undef`. Refused for want of memory alone (`Memory`). Condition: `at` is a key of `map()`.
+    /// The tree of the operator with the index `at` in the body, laid out in postfix: its operands' trees one after another, then its own node, the last one. Each node names its children by their indexes, and can be written; a missing operand is `Undef`. Refused for want of memory alone (`Memory`). Condition: `at` is a key of `map()`.
     pub fn get_expr(&self, alloc: Global, at: usize) -> Result<RecExpr<Lang>, Error>
         requires { IsSome ((graph_of self.now).own_entry at) }
         ensures laid { let g = graph_of self.now in
             IfOk result (λ expr. IfSome (g.own_entry at) (λ i.
-            map node_of expr ≡ laid 0 (tree_at (entry_nodes g.entries) i))) }
+            map node_of expr ≡ layout_from 0 (tree_at (entry_nodes g.entries) i))) }
         ensures term { let g = graph_of self.now in
             IfOk result (λ expr. IfSome (g.own_entry at) (λ i.
             term_of head_of children_of expr ≡ tree_at (entry_nodes g.entries) i)) }
@@ -167,7 +167,8 @@ impl MiniDFG {
     fn lay_out_at(&self, alloc: Global, root: usize) -> Result<RecExpr<Lang>, Error>
         requires { root < length (graph_of self.now).entries }
         ensures laid { IfOk result (λ expr.
-            map node_of expr ≡ laid 0 (tree_at (entry_nodes (graph_of self.now).entries) root)) }
+            map node_of expr
+            ≡ layout_from 0 (tree_at (entry_nodes (graph_of self.now).entries) root)) }
         ensures refused { IfErr result (λ e. e ≡ Error.Memory) }
     {
         let end = root + 1;

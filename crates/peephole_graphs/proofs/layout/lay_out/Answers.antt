@@ -45,8 +45,8 @@ loop-turn-smaller-in-Continue-branch-2 c = (down missing node_of_entry c.args.en
 
 pub add_own-requires-clause-enough : goal.add_own-requires-clause-enough
 add_own-requires-clause-enough c =
-    found missing node_of_entry c.args.entries.now c.loop-turn.finished.items (ids_of c.index-entries-index-in-Own.result.operator) (rw c.in-Own.is at c.in-Some.ensures)
-    c.index-entries-index-in-Own.is refl c.loop-turn.invariant
+    found missing node_of_entry c.args.entries.now c.loop-turn.finished.items (ids_of c.index-entries-index-in-Own.result.operator)
+    (rw c.in-Own.is at c.in-Some.ensures) c.index-entries-index-in-Own.is refl c.loop-turn.invariant
 
 pub loop-turn-preserved : goal.loop-turn-preserved
 loop-turn-preserved c = (own_done missing node_of_entry c.args.entries.now c.loop-turn.finished.items c.add_own.new.finished.items

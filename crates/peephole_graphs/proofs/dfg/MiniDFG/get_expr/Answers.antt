@@ -20,7 +20,8 @@ returns-clause-term c =
     let es = c.args.self.now.entries.items in
     let root = c.in-Some.root.now in
     let whole = entry_whole es root c.args.self.now.trees.below (c.args.self.now.trees.found c.args.at root found) in
-    IfOk-weaker c.lay_out_at.result _ _ (λ expr h. rw found (term_is head_of children_of expr (tree_at (entry_nodes es) root) whole h)) c.lay_out_at.ensures.laid
+    IfOk-weaker c.lay_out_at.result _ _ (λ expr h. rw found (term_is head_of children_of expr (tree_at (entry_nodes es) root) whole h))
+    c.lay_out_at.ensures.laid
 
 pub returns-clause-writable : goal.returns-clause-writable
 returns-clause-writable c = laid_out_writable c.args.self.now.entries.items c.in-Some.root.now c.args.self.now.trees.writable
