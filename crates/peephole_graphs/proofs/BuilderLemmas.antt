@@ -6,7 +6,7 @@ use Rattle.std.specs.Bool.{nat_eq}
 use Rattle.std.specs.List.{All, sum_by}
 use Rattle.std.specs.HashMap as hash
 use Rattle.std.proofs.lemmas.Bool.Decides.{nat_tests}
-use Rattle.std.proofs.lemmas.Bool.{cond-true, cond-false, eq-eqb, ne_eqb, le-leb, lt-leb, cases_lt, cases_eq}
+use Rattle.std.proofs.lemmas.Bool.{eq-eqb}
 use Rattle.std.proofs.lemmas.List.{reverse-append, length-reverse, map-append, length-map, take-append-drop, drop_more, take_more, length-take}
 use Rattle.std.proofs.lemmas.Simd.{map-map}
 use Rattle.std.proofs.lemmas.List.Elements.{All-head, All-tail, All-append, All-push, All-map, All-replicate}

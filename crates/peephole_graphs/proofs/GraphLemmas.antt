@@ -1,20 +1,17 @@
 -- What a reader of a graph needs of its entries, its parents and its roots.
-use Rattle.std.proofs.Common.{◌≡◌, ℕ, ◌+◌, ◌-◌, ◌<◌, ◌≤◌, List, [], ◌∷◌, ◌++◌, length, get_or, Option, None, Some, refl, ap, ◌∙◌, arith}
+use Rattle.std.proofs.Common.{◌≡◌, ℕ, ◌<◌, List, [], ◌∷◌, ◌++◌, length, get_or, Option, None, Some, ap, ◌∙◌}
 use Rattle.std.specs.Prelude.{reverse}
 use Rattle.std.specs.List.{All}
 use Rattle.std.proofs.lemmas.List.{length-reverse, reverse-append}
-use Rattle.std.proofs.lemmas.List.Elements.{All-get_or}
 use Rattle.peephole_lang.specs.Node.{children_of}
 use Rattle.peephole_graphs.specs.declared.dfg.StackEntry.{StackEntry}
 use Rattle.peephole_graphs.specs.Forest.{has}
 use Rattle.peephole_graphs.specs.Graph.{GraphEntry, roots}
-use Rattle.peephole_graphs.proofs.Stands.{entry_at}
-use Rattle.peephole_graphs.specs.Entries.{graph_entries, roots_of, Graph}
+use Rattle.peephole_graphs.specs.Entries.{roots_of, Graph}
 use Rattle.peephole_graphs.specs.GraphOf.{IsGraphOf}
 use Rattle.peephole_graphs.proofs.Lists.{all_has}
 use Rattle.peephole_graphs.proofs.GrowingLemmas.{reverse_push}
-use Rattle.peephole_graphs.proofs.DfgLemmas.{nodes_length, entry_seen}
-use Rattle.peephole_graphs.proofs.BuilderLemmas.{block_length}
+use Rattle.peephole_graphs.proofs.DfgLemmas.{entry_seen}
 use Rattle.peephole_graphs.proofs.GraphOfLemmas.{represents}
 use Rattle.peephole_graphs.specs.Source.{Source}
 

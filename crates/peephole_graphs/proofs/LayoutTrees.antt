@@ -5,8 +5,6 @@ use Rattle.std.specs.Prelude.{reverse, ◌==◌}
 use Rattle.std.specs.List.{All}
 use Rattle.std.proofs.lemmas.Bool.{cond-true, cond-false, eq-eqb, ne_eqb, or_left, or_right, or_cases, eqb-true, false≢true}
 use Rattle.std.proofs.lemmas.Option.{slice_get_within, slice_get-get_or}
-use Rattle.std.proofs.lemmas.List.Sorted.{All-permutation, IsPermutation-reverse}
-use Rattle.std.proofs.lemmas.Simd.{map-map}
 use Rattle.mutate_base.specs.Module.{Module}
 use Rattle.peephole_lang.specs.declared.lang.Head.{Head}
 use Rattle.peephole_lang.specs.declared.lang.Lang.TheVariants.{Undef}
@@ -24,7 +22,6 @@ use Rattle.peephole_graphs.specs.GraphOf.{IsGraphOf}
 use Rattle.peephole_graphs.specs.Layout.{node_count_of, node_count, entry_nodes, HasTrees}
 use Rattle.peephole_graphs.proofs.Stands.{parent_at}
 use Rattle.peephole_graphs.proofs.Standing.{has_reversed}
-use Rattle.peephole_graphs.proofs.Represents.{IsOwnOrUndef}
 use Rattle.peephole_graphs.proofs.DfgLemmas.{map_reverse, nodes_length}
 use Rattle.peephole_graphs.proofs.GraphOfLemmas.{represents, children_seen, children_here}
 use Rattle.peephole_graphs.proofs.GraphLemmas.{children_below}

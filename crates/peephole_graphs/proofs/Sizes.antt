@@ -1,8 +1,7 @@
 -- Sizes and flags of a graph that grows.
-use Rattle.std.proofs.Common.{◌≡◌, ℕ, zero, suc, ◌+◌, ◌<◌, ◌≤◌, Bool, true, false, List, [], ◌∷◌, ◌++◌, length, refl, sym, ap, ap₂, ◌∙◌, arith, ⊎_elim}
+use Rattle.std.proofs.Common.{◌≡◌, ℕ, zero, suc, ◌+◌, ◌<◌, ◌≤◌, Bool, true, false, List, [], ◌∷◌, ◌++◌, length, refl, ap, ap₂, ◌∙◌, arith, ⊎_elim}
 use Rattle.std.specs.Prelude.{◌&&◌, ◌==◌, reverse, replicate}
 use Rattle.std.specs.List.{All, flat_map, sum_by}
-use Rattle.std.proofs.Math.Bool.{and-true, and-false, and_assoc, and_comm}
 use Rattle.std.proofs.lemmas.Bool.Decides.{nat_tests}
 use Rattle.std.proofs.lemmas.Bool.{cond-true, cond-false, cond_both, eq-eqb, ne_eqb, cases_eq}
 use Rattle.std.proofs.lemmas.Grind.{flat_map-append}

@@ -25,7 +25,7 @@ use Rattle.peephole_graphs.specs.declared.dfg.StackEntry.{StackEntry}
 use Rattle.peephole_graphs.specs.Shape.{Shape}
 use Rattle.peephole_graphs.specs.Tree as tree
 use Rattle.peephole_graphs.specs.Tree.{Tree, Trees, no_trees, ◌▸◌, join}
-use Rattle.peephole_graphs.specs.Forest.{has, is_operand, trees, operator_tree, without, forest}
+use Rattle.peephole_graphs.specs.Forest.{is_operand, trees, operator_tree, without, forest}
 use Rattle.peephole_graphs.specs.Color.{color_at}
 use Rattle.peephole_graphs.specs.Graph as graph
 use Rattle.peephole_graphs.specs.Growing.{undef_entry}
@@ -39,7 +39,7 @@ use Rattle.peephole_graphs.specs.TreeText.{written_payload, variant_text, instru
 use Rattle.peephole_graphs.proofs.BuilderLemmas.{shape_instr}
 use Rattle.peephole_graphs.proofs.GraphOfLemmas.{undef_children}
 use Rattle.peephole_graphs.proofs.GraphLemmas.{children_below}
-use Rattle.peephole_graphs.proofs.Lists.{all_has, has_itself}
+use Rattle.peephole_graphs.proofs.Lists.{has_itself}
 use Rattle.peephole_graphs.proofs.EntryTreeLemmas.{own_tree, entry_operand, by_children, nodes_below, term_at, roots_below}
 
 -- ---- the text of an instruction

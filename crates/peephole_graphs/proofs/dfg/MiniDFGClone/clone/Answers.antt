@@ -1,9 +1,6 @@
-use Rattle.std.proofs.Common.{List, ◌∙◌, sym, subst}
+use Rattle.std.proofs.Common.{◌∙◌}
 use Rattle.std.specs.Prelude.{nat_eq}
 use Rattle.std.specs.HashMap as hash
-use Rattle.std.specs.List.{AllZip}
-use Rattle.peephole_graphs.specs.declared.dfg.StackEntry.{StackEntry}
-use Rattle.peephole_graphs.specs.Dfg.{IsSameEntry}
 use Rattle.peephole_graphs.proofs.Copies.{found_same, copied_measured, copied_trees, copied_forest, copied_order}
 use Rattle.peephole_graphs.proofs.dfg.MiniDFGClone.clone.Goals as goal
 
