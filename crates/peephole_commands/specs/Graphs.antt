@@ -11,7 +11,7 @@ use Rattle.peephole_graphs.specs.declared.dfg.MiniDFG.{MiniDFG}
 use Rattle.peephole_terms.specs.Expansion.{Setting}
 use Rattle.peephole_terms.specs.Written.{Site, site_at, source_at, block_operators}
 use Rattle.peephole_graphs.specs.Dfg.{graph_of}
-use Rattle.peephole_graphs.specs.Faults.{Fault, held_by_none, calls_unknown, too_large, graphed}
+use Rattle.peephole_graphs.specs.Faults.{Fault, held_by_none, calls_unknown, too_large, shapes_or_fault}
 use Rattle.peephole_graphs.specs.GraphOf.{IsGraphOf}
 use Rattle.peephole_commands.specs.declared.graphs.Refusal.{Refusal}
 use Rattle.peephole_commands.specs.declared.graphs.Refusal.TheVariants as refusal
@@ -25,7 +25,7 @@ refusal_of too_large = refusal.Refused TooLarge
 
 -- the shapes of a block's operators, the last one first, where a graph holds them
 abbrev pub shapes_or_refusal : Module → Bool → Site → Result (List Shape) Refusal
-shapes_or_refusal info preserving site = result_map_both (λ block. block) refusal_of (graphed info preserving (block_operators site))
+shapes_or_refusal info preserving site = result_map_both (λ block. block) refusal_of (shapes_or_fault info preserving (block_operators site))
 
 -- what is said of a block by its shapes, where it has a graph
 abbrev pub of_graph : {A : Type 0} → Result (List Shape) Refusal → (List Shape → Result A Refusal) → Result A Refusal

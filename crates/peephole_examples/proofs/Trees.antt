@@ -6,9 +6,9 @@ use Rattle.std.proofs.lemmas.List.{get_or-map, length-map}
 use Rattle.std.proofs.lemmas.List.Elements.{All-contains}
 use Rattle.peephole_nodes.specs.declared.id.Id.{Id}
 use Rattle.peephole_lang.specs.Term.{Node, AreBelow, nodes_of, tree_at, term_of}
-use Rattle.peephole_graphs.specs.Rebuild.{answered, told_tree, IsLaidOut, IsReached, IsToldBy}
+use Rattle.peephole_graphs.specs.Rebuild.{CanAnswer, told_tree, IsLaidOut, IsReached, IsToldBy}
 use Rattle.peephole_graphs.specs.Rebuild.IsReached.{the_root, a_child}
-use Rattle.peephole_graphs.specs.Layout.{node_by, laid}
+use Rattle.peephole_graphs.specs.Layout.{node_by, layout_from}
 use Rattle.peephole_lang.specs.laws.PlaceLemmas.{at_place, children_in}
 
 -- a closure that answers what stands at the id
@@ -18,7 +18,7 @@ Reads {L} items id node = Id × ((d : L) → node.now ≡ get_or items id.0 d)
 module _ {L H : Type 0} (head : L → H) (children : L → List ℕ) (items expr : List L) (root : ℕ) (same : items ≡ expr)
     (below : AreBelow (nodes_of head children expr)) (inside : root < length expr) where
   abbrev Answers : ℕ → Node H → Type 0
-  Answers = answered head children (Reads items)
+  Answers = CanAnswer head children (Reads items)
 
   -- children stand before their parents
   children_below : (id : ℕ) (n : Node H) → id < length expr → Answers id n → All (λ child. child < id) n.children
@@ -46,7 +46,7 @@ module _ {L H : Type 0} (head : L → H) (children : L → List ℕ) (items expr
   -- what was laid out is the tree of the expression's node
   pub tree_laid : {E : Type 0} (r : Result (List L) E) →
       ((nodes : List (Node H)) → IsToldBy Answers root nodes → IfOk r (λ tree. IsLaidOut head children (told_tree nodes root) tree)) →
-      IfOk r (λ tree. map (node_by head children) tree ≡ laid 0 (tree_at (nodes_of head children expr) root))
+      IfOk r (λ tree. map (node_by head children) tree ≡ layout_from 0 (tree_at (nodes_of head children expr) root))
   tree_laid (Ok tree) h = (h (map (node_by head children) expr) told).nodes_are
   tree_laid (Err e) h = tt
 

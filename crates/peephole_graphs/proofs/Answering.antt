@@ -9,8 +9,8 @@ use Rattle.std.proofs.lemmas.List.Elements.{All-nil, All-cons, All-append, All-p
 use Rattle.peephole_nodes.specs.declared.id.Id.{Id}
 use Rattle.peephole_lang.specs.Term.{Term, Terms, absent, node, no_terms, ◌▸◌, Node, numbers_of}
 use Rattle.peephole_graphs.specs.Layout.{node_count_of, node_count, IsWhole, AreWhole}
-use Rattle.peephole_graphs.specs.Rebuild.{answered, IsReached, IsPart, AreParts, IsTree, IsTooLong, Piece}
-use Rattle.peephole_graphs.specs.Rebuild.{child_count, in_postfix, all_in_postfix, AreAsked, piece_by}
+use Rattle.peephole_graphs.specs.Rebuild.{CanAnswer, IsReached, IsPart, AreParts, IsTree, IsTooLong, Piece, child_count, in_postfix, all_in_postfix, AreAsked}
+use Rattle.peephole_graphs.specs.Rebuild.{piece_by}
 use Rattle.peephole_graphs.specs.Rebuild.IsReached.{the_root, a_child}
 
 -- ---- terms one after another
@@ -25,8 +25,7 @@ absents (i ∷ is) = absent ▸ absents is
 
 postfix_join : {H : Type 0} (ts us : Terms H) → all_in_postfix (join ts us) ≡ all_in_postfix ts ++ all_in_postfix us
 postfix_join no_terms us = refl
-postfix_join (t ▸ ts) us =
-    ap (λ x. in_postfix t ++ x) (postfix_join ts us) ∙ sym (append_assoc (in_postfix t) (all_in_postfix ts) (all_in_postfix us))
+postfix_join (t ▸ ts) us = rw (postfix_join ts us, append_assoc)
 
 whole_join : {H : Type 0} (ts us : Terms H) → AreWhole ts → AreWhole us → AreWhole (join ts us)
 whole_join no_terms us w v = v
@@ -63,34 +62,19 @@ module _ {H : Type 0} (Answers : ℕ → Node H → Type 0) where
   absent_parts [] = tt
   absent_parts (i ∷ is) = (tt, absent_parts is)
 
-  parts_join : (is js : List ℕ) (ts us : Terms H) → AreParts Answers is ts → AreParts Answers js us →
-      AreParts Answers (is ++ js) (join ts us)
+  parts_join : (is js : List ℕ) (ts us : Terms H) → AreParts Answers is ts → AreParts Answers js us → AreParts Answers (is ++ js) (join ts us)
   parts_join [] js no_terms us p q = q
   parts_join [] js (t ▸ ts) us p q = absurd p
   parts_join (i ∷ is) js no_terms us p q = absurd p
   parts_join (i ∷ is) js (t ▸ ts) us p q = (p.0, parts_join is js ts us p.1 q)
 
   -- the terms of some ids, and those of more ids behind them
-  record IsSplit (is js : List ℕ) (ts : Terms H) : Type 0 where
-    front : Terms H
-    back : Terms H
-    of_front : AreParts Answers is front
-    of_back : AreParts Answers js back
-    joined : join front back ≡ ts
-
-  split : (is js : List ℕ) (ts : Terms H) → AreParts Answers (is ++ js) ts → IsSplit is js ts
-  split [] js ts p = record { front = no_terms; back = ts; of_front = tt; of_back = p; joined = refl }
+  split : (is js : List ℕ) (ts : Terms H) → AreParts Answers (is ++ js) ts →
+      (us vs : Terms H) × AreParts Answers is us × AreParts Answers js vs × (join us vs ≡ ts)
+  split [] js ts p = (no_terms, ts, tt, p, refl)
   split (i ∷ is) js no_terms p = absurd p
   split (i ∷ is) js (t ▸ ts) p =
-      let more = split is js ts p.1 in
-      record {
-        front = t ▸ more.front;
-        back = more.back;
-        of_front =
-            (p.0, more.of_front);
-        of_back = more.of_back;
-        joined = ap (λ x. t ▸ x) more.joined;
-      }
+      let (us, vs, a, b, e) = split is js ts p.1 in (t ▸ us, vs, (p.0, a), b, ap (λ x. t ▸ x) e)
 
   -- What was asked, and trees of the ids that are left, are a tree of the root; the ids are reached.
   pub record IsAsking (root : ℕ) (ids : List ℕ) (asked : List (Piece H)) : Type 0 where
@@ -109,29 +93,21 @@ module _ {H : Type 0} (Answers : ℕ → Node H → Type 0) where
 
   children_reached : (root id : ℕ) (n : Node H) → IsReached Answers root id → Answers id n → All (IsReached Answers root) n.children
   children_reached root id n r a =
-      All-weaker (Contains n.children) (IsReached Answers root)
-      (λ child c. a_child id child n r a c) n.children (All-contains_itself n.children)
+      All-weaker (Contains n.children) (IsReached Answers root) (λ child c. a_child id child n r a c) n.children (All-contains_itself n.children)
 
   abbrev own_piece : Node H → Piece H
   own_piece n = record { head = n.head; count = length n.children }
 
   -- a tree of the id that was taken, over trees of its children
-  over_id : (rest : List ℕ) (id : ℕ) (n : Node H) (us kids : Terms H) → Answers id n → AreParts Answers rest us →
-      AreParts Answers n.children kids →
+  over_id : (rest : List ℕ) (id : ℕ) (n : Node H) (us kids : Terms H) → Answers id n → AreParts Answers rest us → AreParts Answers n.children kids →
       AreParts Answers (rest ++ id ∷ []) (join us (node n.head kids ▸ no_terms))
   over_id rest id n us kids a p q = parts_join rest (id ∷ []) us (node n.head kids ▸ no_terms) p ((n.children, a, q), tt)
 
   own_first : (us kids : Terms H) (n : Node H) (asked : List (Piece H)) → child_count kids ≡ length n.children →
       all_in_postfix (join us (node n.head kids ▸ no_terms)) ++ asked ≡ all_in_postfix (join us kids) ++ own_piece n ∷ asked
   own_first us kids n asked e =
-      ap (λ x. x ++ asked) (postfix_join us (node n.head kids ▸ no_terms))
-      ∙ (ap (λ c. (all_in_postfix us ++ ((all_in_postfix kids ++ piece c ∷ []) ++ [])) ++ asked) e
-      ∙ (moved (all_in_postfix us) (all_in_postfix kids) (own_piece n) asked ∙
-      ap (λ x. x ++ own_piece n ∷ asked) (sym (postfix_join us kids))))
+      rw (postfix_join us (node n.head kids ▸ no_terms), postfix_join us kids, e) (moved (all_in_postfix us) (all_in_postfix kids) (own_piece n) asked)
     where
-      piece : ℕ → Piece H
-      piece c = record { head = n.head; count = c }
-
       moved : {A : Type 0} (xs ys : List A) (p : A) (zs : List A) → (xs ++ ((ys ++ p ∷ []) ++ [])) ++ zs ≡ (xs ++ ys) ++ p ∷ zs
       moved xs ys p zs = grind (arith, common_steps)
 
@@ -142,22 +118,16 @@ module _ {H : Type 0} (Answers : ℕ → Node H → Type 0) where
       let reached = All-pop (IsReached Answers root) (rest ++ id ∷ []) rest (Some id) refl h.reached in
       record {
         reached = All-append (IsReached Answers root) rest n.children reached.0 (children_reached root id n reached.1 a);
-        grows = λ ts p. grown ts (split rest n.children ts p);
+        grows = λ ts p.
+            let (us, kids, of_front, of_back, joined) = split rest n.children ts p in
+            let of = h.grows (join us (node n.head kids ▸ no_terms)) (over_id rest id n us kids a of_front of_back) in (
+              of.0,
+              of.1,
+              λ w. let both = whole_parts us kids (subst (λ x. AreWhole x) (sym joined) w) in
+                  of.2 (whole_join us (node n.head kids ▸ no_terms) both.0 (both.1, tt)),
+              of.3 ∙ (own_first us kids n asked (parts_count n.children kids of_back) ∙ ap (λ x. all_in_postfix x ++ own_piece n ∷ asked) joined),
+            );
       }
-    where
-      grown : (ts : Terms H) → IsSplit rest n.children ts →
-          (t : Term H) × IsPart Answers root t × (AreWhole ts → IsWhole t) × (in_postfix t ≡ all_in_postfix ts ++ own_piece n ∷ asked)
-      grown ts s =
-          let us = s.front in
-          let kids = s.back in
-          let of = h.grows (join us (node n.head kids ▸ no_terms)) (over_id rest id n us kids a s.of_front s.of_back) in (
-            of.0,
-            of.1,
-            λ w. let both = whole_parts us kids (subst (λ x. AreWhole x) (sym s.joined) w) in
-                of.2 (whole_join us (node n.head kids ▸ no_terms) both.0 (both.1, tt)),
-            of.3 ∙ (own_first us kids n asked (parts_count n.children kids s.of_back) ∙
-                ap (λ x. all_in_postfix x ++ own_piece n ∷ asked) s.joined),
-          )
 
   -- none is left
   end : (root : ℕ) (asked : List (Piece H)) → IsAsking root [] asked → (t : Term H) × IsTree Answers root t × (asked ≡ in_postfix t)
@@ -180,11 +150,9 @@ module _ {H : Type 0} (Answers : ℕ → Node H → Type 0) where
 abbrev pub pieces_of : {L H : Type 0} → (L → H) → (L → List ℕ) → List (Bor L) → List (Piece H)
 pieces_of {L} head children nodes = reverse (map (λ (n : Bor L). piece_by head children n.now) nodes)
 
-pub length_pieces : {L H : Type 0} (head : L → H) (children : L → List ℕ) (nodes : List (Bor L)) →
-    length (pieces_of head children nodes) ≡ length nodes
+pub length_pieces : {L H : Type 0} (head : L → H) (children : L → List ℕ) (nodes : List (Bor L)) → length (pieces_of head children nodes) ≡ length nodes
 length_pieces {L} head children nodes =
-    length-reverse (map (λ (n : Bor L). piece_by head children n.now) nodes) ∙
-    length-map nodes (λ (n : Bor L). piece_by head children n.now)
+    length-reverse (map (λ (n : Bor L). piece_by head children n.now) nodes) ∙ length-map nodes (λ (n : Bor L). piece_by head children n.now)
 
 pub one_more : {L H : Type 0} (head : L → H) (children : L → List ℕ) (nodes : List (Bor L)) (n : Bor L) →
     pieces_of head children (nodes ++ n ∷ []) ≡ piece_by head children n.now ∷ pieces_of head children nodes
@@ -196,41 +164,31 @@ numbers_append : (xs ys : List Id) → numbers_of (xs ++ ys) ≡ numbers_of xs +
 numbers_append xs ys = map-append (λ (id : Id). id.0) xs ys
 
 module _ {L H : Type 0} (head : L → H) (children : L → List ℕ) (post : Id → Bor L → Type 0) where
-  pub answering_starts : (root : Id) (ids : List Id) (nodes : List (Bor L)) → ids ≡ root ∷ [] → nodes ≡ [] →
-      IsAsking (answered head children post) root.0 (numbers_of ids) (pieces_of head children nodes)
-  answering_starts root ids nodes e n =
-      subst (λ x. IsAsking (answered head children post) root.0 (numbers_of x) (pieces_of head children nodes)) (sym e)
-      (subst (λ x. IsAsking (answered head children post) root.0 (root.0 ∷ []) (pieces_of head children x))
-      (sym n) (start (answered head children post) root.0))
+  abbrev Asking : ℕ → List Id → List (Bor L) → Type 0
+  Asking root ids nodes = IsAsking (CanAnswer head children post) root (numbers_of ids) (pieces_of head children nodes)
+
+  abbrev own : Bor L → Node H
+  own n = record { head = head n.now; children = children n.now }
+
+  pub answering_starts : (root : Id) (ids : List Id) (nodes : List (Bor L)) → ids ≡ root ∷ [] → nodes ≡ [] → Asking root.0 ids nodes
+  answering_starts root ids nodes e n = rw (e, n) (start (CanAnswer head children post) root.0)
 
   pub answering_goes_on : (root id : Id) (ids rest ids' kids : List Id) (nodes nodes' : List (Bor L)) (n : Bor L) →
       ids ≡ rest ++ id ∷ [] → post id n → nodes' ≡ nodes ++ n ∷ [] → ids' ≡ rest ++ kids → numbers_of kids ≡ children n.now →
-      IsAsking (answered head children post) root.0 (numbers_of ids) (pieces_of head children nodes) →
-      IsAsking (answered head children post) root.0 (numbers_of ids') (pieces_of head children nodes')
+      Asking root.0 ids nodes → Asking root.0 ids' nodes'
   answering_goes_on root id ids rest ids' kids nodes nodes' n top a more left are h =
-      let Asking : List ℕ → List (Piece H) → Type 0 = λ x y. IsAsking (answered head children post) root.0 x y in
-      let own : Node H = record { head = head n.now; children = children n.now } in
-      let before = subst (λ x. Asking x (pieces_of head children nodes)) (ap numbers_of top ∙ numbers_append rest (id ∷ [])) h in
-      let after =
-      step (answered head children post) root.0 (numbers_of rest) id.0 own (pieces_of head children nodes) (n, a, refl) before in
-      subst (λ x. Asking x (pieces_of head children nodes'))
-      (sym (ap numbers_of left ∙ (numbers_append rest kids ∙ ap (λ x. numbers_of rest ++ x) are)))
-      (subst (λ x. Asking (numbers_of rest ++ children n.now) x)
-      (sym (ap (pieces_of head children) more ∙ one_more head children nodes n)) after)
+      let before = rw (top, numbers_append rest (id ∷ [])) at h in
+      rw (left, numbers_append rest kids, are, more, one_more head children nodes n)
+      (step (CanAnswer head children post) root.0 (numbers_of rest) id.0 (own n) (pieces_of head children nodes) (n, a, refl) before)
 
-  pub answering_ends : (root count : ℕ) (ids : List Id) (nodes : List (Bor L)) → count ≡ length ids → count ≡ 0 →
-      IsAsking (answered head children post) root (numbers_of ids) (pieces_of head children nodes) →
-      (t : Term H) × IsTree (answered head children post) root t × AreAsked head children nodes t
-  answering_ends root count [] nodes e z h = end (answered head children post) root (pieces_of head children nodes) h
+  pub answering_ends : (root count : ℕ) (ids : List Id) (nodes : List (Bor L)) → count ≡ length ids → count ≡ 0 → Asking root ids nodes →
+      (t : Term H) × IsTree (CanAnswer head children post) root t × AreAsked head children nodes t
+  answering_ends root count [] nodes e z h = end (CanAnswer head children post) root (pieces_of head children nodes) h
   answering_ends root count (id ∷ ids) nodes e z h = absurd (omega arith)
 
-  pub answering_too_long : (root id : Id) (ids rest : List Id) (nodes : List (Bor L)) (n : Bor L) →
-      ids ≡ rest ++ id ∷ [] → post id n → 2 ^ 32 ≤ length nodes →
-      IsAsking (answered head children post) root.0 (numbers_of ids) (pieces_of head children nodes) →
-      IsTooLong (answered head children post) root.0
+  pub answering_too_long : (root id : Id) (ids rest : List Id) (nodes : List (Bor L)) (n : Bor L) → ids ≡ rest ++ id ∷ [] → post id n →
+      2 ^ 32 ≤ length nodes → Asking root.0 ids nodes → IsTooLong (CanAnswer head children post) root.0
   answering_too_long root id ids rest nodes n top a l h =
-      let own : Node H = record { head = head n.now; children = children n.now } in
       let many = length_pieces head children nodes in
-      long (answered head children post) root.0 (numbers_of rest) id.0 own (pieces_of head children nodes) (n, a, refl) (omega arith)
-      (subst (λ x. IsAsking (answered head children post) root.0 x (pieces_of head children nodes))
-      (ap numbers_of top ∙ numbers_append rest (id ∷ [])) h)
+      let before = rw (top, numbers_append rest (id ∷ [])) at h in
+      long (CanAnswer head children post) root.0 (numbers_of rest) id.0 (own n) (pieces_of head children nodes) (n, a, refl) (omega arith) before

@@ -6,7 +6,7 @@ use Rattle.std.specs.Bool.{nat_eq}
 use Rattle.std.specs.List.{All, sum_by}
 use Rattle.std.specs.HashMap as hash
 use Rattle.std.proofs.lemmas.Bool.Decides.{nat_tests}
-use Rattle.std.proofs.lemmas.Bool.{cond-true, cond-false, eq-eqb, ne_eqb, le-leb, lt-leb, cases_lt, cases_eq}
+use Rattle.std.proofs.lemmas.Bool.{eq-eqb}
 use Rattle.std.proofs.lemmas.List.{reverse-append, length-reverse, map-append, length-map, take-append-drop, drop_more, take_more, length-take}
 use Rattle.std.proofs.lemmas.Simd.{map-map}
 use Rattle.std.proofs.lemmas.List.Elements.{All-head, All-tail, All-append, All-push, All-map, All-replicate}
@@ -28,7 +28,8 @@ use Rattle.peephole_graphs.specs.Graph.{undef, GraphEntry}
 use Rattle.peephole_graphs.specs.GraphOf.{IsSmall, FirstFault, IsRefused, IsLarge}
 use Rattle.peephole_graphs.proofs.Stands.{standing, lacking}
 use Rattle.peephole_graphs.specs.Step.{down, grown, Growth}
-use Rattle.peephole_graphs.specs.Entries.{EntryView, Measured, sizes_kept, size_kept, entry_view, shape_of_judged, shape_of, graph_entry, graph_entries}
+use Rattle.peephole_graphs.specs.Entries.{EntryView, entry_view, shape_of_judged, shape_of, graph_entry, graph_entries}
+use Rattle.peephole_graphs.specs.Measures.{sizes_kept, size_kept, Measured}
 use Rattle.peephole_graphs.specs.Growing.{undef_entry, lacks, taken_of, own_index, IsConsistent, Added}
 use Rattle.peephole_graphs.proofs.Represents.{IsOwnOrUndef}
 use Rattle.peephole_lang.specs.Lang.{place_of, ids_of}
@@ -237,7 +238,8 @@ state_more source n s old new f b a =
     let missing_is = map_replicate f' more (undef_entry (source.first + n)) ∙ ap (replicate more) (undef_seen source n) in
     let entries_is : map (graph_entry source.info source.first) (map entry_view new.entries.items) ≡
     (es ++ replicate more (undef n)) ++ record { shape = Some s; children = children; number = n; color = old.color } ∷ [] =
-    map-map (graph_entry source.info source.first) entry_view new.entries.items ∙ (ap (map f') a.entries ∙ (map-append f' (old.entries.items ++ missing) (a.own ∷ []) ∙
+    map-map (graph_entry source.info source.first) entry_view new.entries.items ∙ (ap (map f') a.entries ∙
+    (map-append f' (old.entries.items ++ missing) (a.own ∷ []) ∙
     ap₂ (λ x y. x ++ y ∷ []) (map-append f' old.entries.items missing ∙
     ap₂ (λ x y. x ++ y) (sym (map-map (graph_entry source.info source.first) entry_view old.entries.items)) missing_is) own_is)) in
     grown_is s n old.color (length old.entries.items) es old.parents.items old.stack.items

@@ -1,10 +1,10 @@
 -- The trees are in order exactly if every operator takes, by their sizes, the entries that end right before its own.
-use Rattle.std.proofs.Common.{◌≡◌, ℕ, zero, suc, ◌-◌, ◌<◌, Bool, true, false, cond, List, [], ◌∷◌, ◌++◌, length, take, refl, sym, ap, ap₂, ◌∙◌, subst}
+use Rattle.std.proofs.Common.{◌≡◌, ℕ, zero, suc, ◌-◌, ◌<◌, Bool, true, List, [], ◌∷◌, ◌++◌, length, take, refl, sym, ap, ◌∙◌, subst}
 use Rattle.std.proofs.Common.{arith, ⊎_elim, append_assoc, inl, inr}
 use Rattle.std.specs.Prelude.{⊤, ◌&&◌, ◌==◌}
 use Rattle.std.specs.List.{filter, sum_by}
 use Rattle.std.proofs.lemmas.Bool.Decides.{nat_tests}
-use Rattle.std.proofs.lemmas.Bool.{cases_Bool, eq-eqb, eqb-true, and_parts, and_from}
+use Rattle.std.proofs.lemmas.Bool.{cases_Bool, eq-eqb, and_parts}
 use Rattle.std.proofs.lemmas.List.{append-nil, same_from_push}
 use Rattle.std.proofs.lemmas.List.Sums.{sum_by-cons}
 use Rattle.peephole_graphs.specs.Shape.{Shape}
@@ -13,7 +13,7 @@ use Rattle.peephole_graphs.specs.Forest.{is_root, has, IsInOrder}
 use Rattle.peephole_graphs.specs.Color.{color_after}
 use Rattle.peephole_graphs.specs.Graph.{trees_at, roots, tree_at_entry, undef}
 use Rattle.peephole_graphs.specs.Step.{Growth, grown}
-use Rattle.peephole_graphs.proofs.Stacked.{is_open, kept, pulled, stacked, kept_open, kept_done, pulled_open, pulled_done}
+use Rattle.peephole_graphs.proofs.Stacked.{is_open, kept, pulled, stacked}
 use Rattle.peephole_graphs.proofs.ForestLemmas.{rev, forest_is, Falling, Falling-stacked, root_below}
 use Rattle.peephole_graphs.proofs.Readable.{open_pulled}
 use Rattle.peephole_graphs.proofs.Together.{numbers_rev, range_parts, parts_apart, forest_numbers, some_root, kept_if_none, in_right, one_in, order_stacked}

@@ -14,7 +14,7 @@ use Rattle.peephole_graphs.specs.declared.dfg.StackEntry.{StackEntry}
 use Rattle.peephole_graphs.specs.Shape.{Shape}
 use Rattle.peephole_graphs.specs.Tree.{range_from}
 use Rattle.peephole_graphs.specs.Forest.{has}
-use Rattle.peephole_graphs.specs.Color.{raised, color_at}
+use Rattle.peephole_graphs.specs.Color.{total_change, color_at}
 use Rattle.peephole_graphs.specs.Graph.{GraphEntry, undef}
 use Rattle.peephole_graphs.specs.GraphOf.{IsSmall}
 use Rattle.peephole_graphs.proofs.Stands.{entry_at}
@@ -164,15 +164,15 @@ module _ (s : Shape) (g : Growth) (n c : ℕ) where
 -- ---- the entries whose results no operator has taken
 
 -- no colour is above the block's
-color_low : (block : List Shape) (n : ℕ) → color_at true block n ≤ raised block
+color_low : (block : List Shape) (n : ℕ) → color_at true block n ≤ total_change block
 color_low [] n = omega arith
 color_low (s ∷ earlier) n = grind (arith, color_low earlier n)
 
 stack_low : (earlier : List Shape) → All (λ i. (i < length (graph true earlier).nodes)
-    × ((entry_at (graph true earlier).nodes i).color ≤ raised earlier)) (graph true earlier).stack
+    × ((entry_at (graph true earlier).nodes i).color ≤ total_change earlier)) (graph true earlier).stack
 stack_low earlier =
     let g = graph true earlier in
-    all_has (λ i. (i < length g.nodes) × ((entry_at g.nodes i).color ≤ raised earlier)) g.stack (λ i h.
+    all_has (λ i. (i < length g.nodes) × ((entry_at g.nodes i).color ≤ total_change earlier)) g.stack (λ i h.
     let whole = ap (has i) (take_all (length g.stack) g.stack (omega arith)) in
     let t = taken_root earlier g (is_graph true earlier) (length g.stack) i (whole ∙ h) in
     let e = entry_at g.nodes i in
@@ -185,16 +185,16 @@ open_entries g j = flat_map (below g) (reverse (take j g.stack))
 
 -- the operators of the last open trees, where they have the last colour, end at the block's end
 abbrev OpenEnd : List Shape → ℕ → Type 0
-OpenEnd block j = AreColored (graph true block).nodes (raised block) (open_entries (graph true block) j) →
+OpenEnd block j = AreColored (graph true block).nodes (total_change block) (open_entries (graph true block) j) →
     EndAt (numbers (graph true block).nodes (open_entries (graph true block) j)) (length block)
 
-open_result : (s : Shape) (earlier : List Shape) (j : ℕ) → s.has_result ≡ true → raised (s ∷ earlier) < 4294967295 →
-    (raised earlier < 4294967295 → OpenEnd earlier (s.operands + j)) → OpenEnd (s ∷ earlier) (suc j)
+open_result : (s : Shape) (earlier : List Shape) (j : ℕ) → s.has_result ≡ true → total_change (s ∷ earlier) < 4294967295 →
+    (total_change earlier < 4294967295 → OpenEnd earlier (s.operands + j)) → OpenEnd (s ∷ earlier) (suc j)
 open_result s earlier j e low ih h =
     let g = graph true earlier in
     let n = length earlier in
-    let c = raised earlier in
-    let p = raised (s ∷ earlier) in
+    let c = total_change earlier in
+    let p = total_change (s ∷ earlier) in
     let after = graph true (s ∷ earlier) in
     let own = place_of s g in
     let taken = operands_of s g in
@@ -225,17 +225,17 @@ open_none : (s : Shape) (earlier : List Shape) (j : ℕ) → s.has_result ≡ fa
 open_none s earlier j e up h =
     let g = graph true earlier in
     let after = graph true (s ∷ earlier) in
-    let p = raised (s ∷ earlier) in
-    let P : ℕ → Type 0 = λ i. (i < length g.nodes) × ((entry_at g.nodes i).color ≤ raised earlier) in
+    let p = total_change (s ∷ earlier) in
+    let P : ℕ → Type 0 = λ i. (i < length g.nodes) × ((entry_at g.nodes i).color ≤ total_change earlier) in
     let older = take (suc j) (drop s.operands g.stack) in
     let ids = ap (λ x. reverse (take (suc j) x)) (cond-false _ _ _ e) in
     let more = up e in
     let low = all_reverse P older (All-take P (suc j) (drop s.operands g.stack) (All-drop P s.operands g.stack (stack_low earlier))) in
-    let none = none_colored s g (length earlier) (raised earlier) p (raised earlier) (reverse older) low (omega arith)
+    let none = none_colored s g (length earlier) (total_change earlier) p (total_change earlier) (reverse older) low (omega arith)
     (subst (λ is. AreColored after.nodes p (flat_map (below after) is)) ids h) in
     (suc (length earlier), 0, omega arith, ap (λ is. numbers after.nodes (flat_map (below after) is)) (ids ∙ none))
 
-open_end : (block : List Shape) (j : ℕ) → All Raises block → raised block < 4294967295 → OpenEnd block j
+open_end : (block : List Shape) (j : ℕ) → All Raises block → total_change block < 4294967295 → OpenEnd block j
 open_end block zero ps low h = (length block, 0, omega arith, refl)
 open_end [] (suc j) ps low h = (0, 0, refl, refl)
 open_end (s ∷ earlier) (suc j) ps low h = elim (cases_Bool s.has_result) [
@@ -248,12 +248,12 @@ open_end (s ∷ earlier) (suc j) ps low h = elim (cases_Bool s.has_result) [
 abbrev IsTogether : Growth → ℕ → Type 0
 IsTogether g i = AreColored g.nodes (entry_at g.nodes i).color (below g i) → AreConsecutive (numbers g.nodes (below g i))
 
-own_together : (s : Shape) (earlier : List Shape) → All Raises earlier → raised earlier < 4294967295 →
+own_together : (s : Shape) (earlier : List Shape) → All Raises earlier → total_change earlier < 4294967295 →
     IsTogether (graph true (s ∷ earlier)) (place_of s (graph true earlier))
 own_together s earlier ps low h =
     let g = graph true earlier in
     let n = length earlier in
-    let c = raised earlier in
+    let c = total_change earlier in
     let nodes = (graph true (s ∷ earlier)).nodes in
     let painted = subst (λ q. AreColored nodes q (new_below s g n c (place_of s g))) (ap (λ (x : GraphEntry). x.color) (own_entry s g n c)) h in
     let tree = own_tree s g n c c low painted in
@@ -266,7 +266,7 @@ together [] ps small i l h = absurd (omega arith)
 together (s ∷ earlier) ps small i l h =
     let g = graph true earlier in
     let n = length earlier in
-    let c = raised earlier in
+    let c = total_change earlier in
     let after = graph true (s ∷ earlier) in
     let b = behind (undef n) (more_of s g) g.nodes in
     elim (cases_lt i (length g.nodes)) [

@@ -13,10 +13,11 @@ use Rattle.peephole_lang.specs.Term.{Node, numbers_of, tree_at}
 use Rattle.peephole_graphs.specs.declared.dfg.StackEntry.{StackEntry}
 use Rattle.peephole_graphs.specs.Dfg.{IsSameEntry}
 use Rattle.peephole_graphs.specs.Forest.{has}
-use Rattle.peephole_graphs.specs.Downwards.{Kin, downwards, forwards, sizes_of, flags_of}
+use Rattle.peephole_graphs.specs.Downwards.{Kin, downwards}
 use Rattle.peephole_graphs.specs.Contiguous.{operators_of}
 use Rattle.peephole_graphs.specs.Order.{is_operator_at, forest_operators, AreInOrder}
-use Rattle.peephole_graphs.specs.Entries.{kin, kins_of, roots_of, children_at, IsForest, Measured, sizes_kept, flags_kept}
+use Rattle.peephole_graphs.specs.Entries.{kin, kins_of, roots_of, children_at, IsForest}
+use Rattle.peephole_graphs.specs.Measures.{sizes_kept, flags_kept, sizes_of, flags_of, Measured, forwards}
 use Rattle.peephole_graphs.specs.declared.subtree.Subtree.{Subtree}
 use Rattle.peephole_graphs.specs.Layout.{entry_nodes, node_count_of, HasTrees}
 use Rattle.peephole_graphs.proofs.WritableLemmas.{CanBeWritten, heads_writable, from_heads}
@@ -75,8 +76,8 @@ module _ (es fs : List StackEntry) (h : AllZip IsSameEntry es fs) where
     flags_are = ap (λ x. reverse (flags_kept x)) e ∙ (m.flags_are ∙ ap flags_of (sym kins_same));
   }
 
-  pub copied_trees : (look look' : ℕ → Option ℕ) → ((k : ℕ) → look' k ≡ look k) → HasTrees es look → HasTrees fs look'
-  copied_trees look look' same t =
+  pub copied_trees : (own_entry own_entry' : ℕ → Option ℕ) → ((k : ℕ) → own_entry' k ≡ own_entry k) → HasTrees es own_entry → HasTrees fs own_entry'
+  copied_trees own_entry own_entry' same t =
       let n = length_all_zip IsSameEntry es fs h in
       record {
         below = λ i d l.

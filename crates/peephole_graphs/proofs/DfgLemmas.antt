@@ -1,28 +1,29 @@
 -- Sizes and flags of the code's lists.
-use Rattle.std.proofs.Common.{◌≡◌, ℕ, zero, suc, ◌+◌, ◌-◌, ◌<◌, ◌≤◌, Bool, true, false, List, [], ◌∷◌, ◌++◌, length, take, drop}
-use Rattle.std.proofs.Common.{get_or, map, replicate, refl, sym, ap, ap₂, ◌∙◌, arith, ⊎_elim}
-use Rattle.std.specs.Prelude.{◌&&◌, ◌==◌, ◌↔◌, IsTrue, reverse, slice_index, slice_index_or, if◌then◌else◌}
+use Rattle.std.proofs.Common.{◌≡◌, ℕ, zero, suc, ◌+◌, ◌-◌, ◌<◌, ◌≤◌, Bool, true, false, List, [], ◌∷◌, ◌++◌, length, take, drop, get_or, map, replicate, refl}
+use Rattle.std.proofs.Common.{sym, ap, ap₂, ◌∙◌, subst, arith}
+use Rattle.std.specs.Prelude.{◌&&◌, ◌==◌, ◌↔◌, IsTrue, reverse, slice_index, slice_index_or}
+use Rattle.std.specs.Bool.{Decides}
 use Rattle.std.specs.List.{All, sum_by}
-use Rattle.std.proofs.lemmas.Bool.{cond-true, cond-false, eq-eqb, ne_eqb, eqb-true, false_from_ne_true, false≢true, and_parts}
-use Rattle.std.proofs.lemmas.Bool.{and_from, cases_eq}
-use Rattle.std.proofs.lemmas.List.{length-append, length-map, length-reverse, map-append, reverse-append, get_or_default}
-use Rattle.std.proofs.lemmas.List.{take-append-drop, length-drop, length-take, take_more}
-use Rattle.std.proofs.lemmas.List.Elements.{All-head, All-tail, All-nil, All-cons}
+use Rattle.std.proofs.lemmas.Bool.{false_from_ne_true, false≢true, and_parts}
+use Rattle.std.proofs.lemmas.Bool.Decides.{Decides-by_and, Decides-eqb, nat_tests}
+use Rattle.std.proofs.lemmas.Simd.{map-map}
+use Rattle.std.proofs.lemmas.List.{length-append, length-map, length-reverse, map-append, reverse-append, get_or_default, take-append-drop, length-drop}
+use Rattle.std.proofs.lemmas.List.{length-take, take_more, take-map, get_or-map}
 use Rattle.peephole_graphs.specs.Shape.{Shape}
-use Rattle.peephole_graphs.specs.Graph.{GraphEntry, undef, item}
+use Rattle.peephole_graphs.specs.Graph.{undef, item}
 use Rattle.peephole_graphs.proofs.Stands.{entry_at}
 use Rattle.peephole_graphs.specs.Step.{Growth, grown}
-use Rattle.peephole_graphs.specs.Downwards.{Kin, forward, forwards, HasOneColor, are_colored, downwards, kin_at, sizes_of, flags_of}
-use Rattle.peephole_graphs.specs.Downwards.{are_alike}
+use Rattle.peephole_graphs.specs.Downwards.{Kin, HasOneColor, downwards, kin_at}
 use Rattle.std.proofs.Math.ListN as list
-use Rattle.peephole_graphs.specs.Entries.{EntryView, Measured, sizes_kept, flags_kept, size_kept, flag_kept, entry_view, kin}
-use Rattle.peephole_graphs.specs.Entries.{kins_of, colors, graph_entry, graph_entries}
+use Rattle.peephole_graphs.specs.Entries.{EntryView, entry_view, kin, kins_of, graph_entry}
+use Rattle.peephole_graphs.specs.Measures.{colors, sizes_kept, flags_kept, size_kept, flag_kept, are_colored, sizes_of, flags_of, are_alike, Measured, forward, forwards}
+use Rattle.peephole_graphs.specs.Entries.{graph_entries}
 use Rattle.peephole_graphs.specs.Growing.{missing_subtree}
 use Rattle.peephole_graphs.specs.declared.subtree.Subtree.{Subtree}
 use Rattle.peephole_lang.specs.Node.{children_of}
 use Rattle.mutate_base.specs.Module.{Module}
-use Rattle.peephole_graphs.proofs.Lists.{sum_by-reverse}
 use Rattle.peephole_graphs.proofs.StackGraph.{IsGraph}
+use Rattle.peephole_graphs.proofs.Lists.{sum_by-reverse}
 use Rattle.peephole_graphs.proofs.Sizes.{sizes_length, flags_length, size_at, flag_at, alike_reverse}
 use Rattle.peephole_graphs.proofs.Totals.{map_replicate, kin_of, kins, sizes_grown, flags_grown, size_of_entry}
 use Rattle.peephole_graphs.specs.declared.dfg.StackEntry.{StackEntry}
@@ -30,57 +31,37 @@ use Rattle.peephole_graphs.proofs.GrowingLemmas.{take_reverse, drop_reverse, rev
 
 pub map_reverse : {A B : Type 0} (f : A → B) (xs : List A) → map f (reverse xs) ≡ reverse (map f xs)
 map_reverse f [] = refl
-map_reverse f (x ∷ xs) = ap (map f) (reverse-append (x ∷ []) xs) ∙ (map-append f (reverse xs) (x ∷ []) ∙
-    (ap (λ y. y ++ f x ∷ []) (map_reverse f xs) ∙ sym (reverse-append (f x ∷ []) (map f xs))))
+map_reverse f (x ∷ xs) = rw (reverse-append (x ∷ []) xs, reverse-append (f x ∷ []) (map f xs), map-append f (reverse xs) (x ∷ []), map_reverse f xs)
 
 pub kins_same : (info : Module) (first : ℕ) (es : List StackEntry) → kins (graph_entries info first es) ≡ kins_of es
-kins_same info first es = map_reverse kin_of (map (graph_entry info first) (map entry_view es)) ∙ ap reverse (go es)
-  where
-    go : (es : List StackEntry) → map kin_of (map (graph_entry info first) (map entry_view es)) ≡ map kin es
-    go [] = refl
-    go (e ∷ es) = ap (λ x. kin e ∷ x) (go es)
+kins_same info first es = map_reverse kin_of (map (graph_entry info first) (map entry_view es)) ∙ ap reverse
+    (map-map kin_of (graph_entry info first) (map entry_view es) ∙ map-map (λ (x : EntryView). kin_of (graph_entry info first x)) entry_view es)
 
 item_first : {A : Type 0} (d x : A) (ys : List A) → item d (ys ++ x ∷ []) 0 ≡ x
 item_first d x [] = refl
-item_first d x (y ∷ ys) = cond-false _ _ _ (ne_eqb (length (ys ++ x ∷ [])) 0 (λ w. let e = length-append ys (x ∷ []) in
-    omega arith)) ∙ item_first d x ys
+item_first d x (y ∷ ys) = grind (arith, nat_tests, length-append ys (x ∷ []), item_first d x ys)
 
 item_later : {A : Type 0} (d x : A) (ys : List A) (i : ℕ) → item d (ys ++ x ∷ []) (suc i) ≡ item d ys i
-item_later d x [] i = cond-false _ _ _ (ne_eqb 0 (suc i) (λ w. omega arith))
-item_later d x (y ∷ ys) i =
-    let e = length-append ys (x ∷ []) in
-    ⊎_elim
-    (λ w. cond-true _ _ _ (eq-eqb (length (ys ++ x ∷ [])) (suc i) (omega arith)) ∙ sym (cond-true _ _ _ (eq-eqb (length ys) i w)))
-    (λ w. cond-false _ _ _ (ne_eqb (length (ys ++ x ∷ [])) (suc i) (λ v. w (omega arith))) ∙
-    (item_later d x ys i ∙ sym (cond-false _ _ _ (ne_eqb (length ys) i w))))
-    (cases_eq (length ys) i)
+item_later d x [] i = grind (arith, nat_tests)
+item_later d x (y ∷ ys) i = grind (arith, nat_tests, length-append ys (x ∷ []), item_later d x ys i)
 
 pub get_item : {A : Type 0} (d : A) (xs : List A) (i : ℕ) → get_or xs i d ≡ item d (reverse xs) i
 get_item d [] i = refl
 get_item d (x ∷ xs) zero = sym (ap (λ y. item d y 0) (reverse-append (x ∷ []) xs) ∙ item_first d x (reverse xs))
-get_item d (x ∷ xs) (suc i) = get_item d xs i ∙ sym (ap (λ y. item d y (suc i)) (reverse-append (x ∷ []) xs) ∙
-    item_later d x (reverse xs) i)
+get_item d (x ∷ xs) (suc i) =
+    get_item d xs i ∙ sym (ap (λ y. item d y (suc i)) (reverse-append (x ∷ []) xs) ∙ item_later d x (reverse xs) i)
 
 pub item_map : {A B : Type 0} (f : A → B) (d : A) (xs : List A) (i : ℕ) → f (item d xs i) ≡ item (f d) (map f xs) i
 item_map f d [] i = refl
-item_map f d (x ∷ xs) i = ⊎_elim
-    (λ w. ap f (cond-true _ _ _ (eq-eqb (length xs) i w)) ∙
-    sym (cond-true _ _ _ (eq-eqb (length (map f xs)) i (length-map xs f ∙ w))))
-    (λ w. ap f (cond-false _ _ _ (ne_eqb (length xs) i w)) ∙
-    (item_map f d xs i ∙ sym (cond-false _ _ _ (ne_eqb (length (map f xs)) i (λ v. w (sym (length-map xs f) ∙ v))))))
-    (cases_eq (length xs) i)
+item_map f d (x ∷ xs) i = grind (arith, length-map xs f, item_map f d xs i)
 
 pub color_item : (es : List StackEntry) (i : ℕ) → get_or (colors es) i 0 ≡ (kin_at (kins_of es) i).color
 color_item es i =
-    get_item 0 (colors es) i ∙ (ap (λ x. item 0 x i) (sym (map_reverse (λ (k : Kin). k.color) (map kin es) ∙
-    ap reverse (go es))) ∙
-    sym (item_map (λ (k : Kin). k.color) (record { children = []; color = 0 }) (kins_of es) i))
-  where
-    go : (es : List StackEntry) → map (λ (k : Kin). k.color) (map kin es) ≡ colors es
-    go [] = refl
-    go (e ∷ es) = ap (λ x. e.color ∷ x) (go es)
+    let none : Kin = record { children = []; color = 0 } in
+    ap (λ x. get_or x i 0) (sym (map-map (λ (k : Kin). k.color) kin es))
+    ∙ (list.get_or-map (λ (k : Kin). k.color) (map kin es) i none ∙ ap (λ (k : Kin). k.color) (get_item none (map kin es) i))
 
-kins_length : (es : List StackEntry) → length (kins_of es) ≡ length es
+pub kins_length : (es : List StackEntry) → length (kins_of es) ≡ length es
 kins_length es = length-reverse (map kin es) ∙ length-map es kin
 
 pub sizes_count : (es : List StackEntry) (sizes : List ℕ) → reverse sizes ≡ sizes_of (kins_of es) → length sizes ≡ length es
@@ -89,21 +70,15 @@ sizes_count es sizes h = sym (length-reverse sizes) ∙ (ap length h ∙ (sizes_
 pub flags_count : (es : List StackEntry) (same : List Bool) → reverse same ≡ flags_of (kins_of es) → length same ≡ length es
 flags_count es same h = sym (length-reverse same) ∙ (ap length h ∙ (flags_length (kins_of es) ∙ kins_length es))
 
-total_equal : (f g : ℕ → ℕ) (is : List ℕ) → ((i : ℕ) → f i ≡ g i) → sum_by f is ≡ sum_by g is
-total_equal f g is e = λ j. sum_by (λ i. e i j) is
+sizes_are : (es : List StackEntry) (sizes : List ℕ) → reverse sizes ≡ sizes_of (kins_of es) → slice_index sizes ≡ item 0 (sizes_of (kins_of es))
+sizes_are es sizes h = λ j i. (get_item 0 sizes i ∙ ap (λ x. item 0 x i) h) j
 
-alike_equal : (f g : ℕ → Bool) (h k : ℕ → ℕ) (c : ℕ) (is : List ℕ) → ((i : ℕ) → f i ≡ g i) → ((i : ℕ) → h i ≡ k i) →
-    are_alike f h c is ≡ are_alike g k c is
-alike_equal f g h k c [] e d = refl
-alike_equal f g h k c (i ∷ is) e d = ap₂ (λ x y. x && y) (ap₂ (λ x y. x && (y == c)) (e i) (d i)) (alike_equal f g h k c is e d)
+flags_are : (es : List StackEntry) (same : List Bool) → reverse same ≡ flags_of (kins_of es) →
+    (λ i. slice_index_or same i false) ≡ item false (flags_of (kins_of es))
+flags_are es same h = λ j i. (get_item false same i ∙ ap (λ x. item false x i) h) j
 
-pub sizes_are : (es : List StackEntry) (sizes : List ℕ) → reverse sizes ≡ sizes_of (kins_of es) → (i : ℕ) → slice_index sizes i ≡
-    item 0 (sizes_of (kins_of es)) i
-sizes_are es sizes h i = get_item 0 sizes i ∙ ap (λ x. item 0 x i) h
-
-pub flags_are : (es : List StackEntry) (same : List Bool) → reverse same ≡ flags_of (kins_of es) → (i : ℕ) →
-    slice_index_or same i false ≡ item false (flags_of (kins_of es)) i
-flags_are es same h i = get_item false same i ∙ ap (λ x. item false x i) h
+colors_are : (es : List StackEntry) → slice_index (colors es) ≡ (λ i. (kin_at (kins_of es) i).color)
+colors_are es = λ j i. color_item es i j
 
 -- ---- what is kept of the entries from one downwards
 
@@ -119,103 +94,77 @@ kept_count es ts m = sym (length-map ts (λ (x : Subtree). x.len)) ∙ sizes_cou
 map_added : {B : Type 0} (f : Subtree → B) (ts : List Subtree) (n : ℕ) (own : Subtree) →
     map f ((ts ++ replicate n missing_subtree) ++ own ∷ []) ≡ (map f ts ++ replicate n (f missing_subtree)) ++ f own ∷ []
 map_added f ts n own =
-    map-append f (ts ++ replicate n missing_subtree) (own ∷ []) ∙
-    ap (λ x. x ++ f own ∷ []) (map-append f ts (replicate n missing_subtree) ∙
+    map-append f (ts ++ replicate n missing_subtree) (own ∷ []) ∙ ap (λ x. x ++ f own ∷ []) (map-append f ts (replicate n missing_subtree) ∙
     ap (λ x. map f ts ++ x) (map_replicate f n missing_subtree))
 
 pub measured_more : (info : Module) (first n : ℕ) (s : Shape) (earlier : List Shape) (es es' : List StackEntry)
     (ts ts' : List Subtree) (c : ℕ) (stack : List ℕ) (more : ℕ) (taken : List ℕ) (g : Growth) → IsGraph earlier g →
-    g.nodes ≡ graph_entries info first es → g.stack ≡ reverse stack → graph_entries info first es' ≡ (grown g s n c).nodes →
-    c < 4294967295 →
+    g.nodes ≡ graph_entries info first es → g.stack ≡ reverse stack → graph_entries info first es' ≡ (grown g s n c).nodes → c < 4294967295 →
     more ≡ s.operands - length stack → taken ≡ drop (length stack - s.operands) stack → Measured es ts →
     ts' ≡ (ts ++ replicate more missing_subtree) ++ record {
       len = suc (more + sum_by (size_kept ts) taken);
       one_color = (more == 0) && are_alike (flag_kept ts) (slice_index (colors es)) c taken;
-    } ∷ [] →
-    Measured es' ts'
+    } ∷ [] → Measured es' ts'
 measured_more info first n s earlier es es' ts ts' c stack more taken g ig gn gs e b m w h added =
     let sizes = sizes_kept ts in
     let same = flags_kept ts in
-    let d = ap sizes_kept added ∙ map_added (λ (x : Subtree). x.len) ts more _ in
-    let f = ap flags_kept added ∙ map_added (λ (x : Subtree). x.one_color) ts more _ in
     let k = s.operands in
+    let size = item 0 (sizes_of (kins_of es)) in
+    let flag = item false (flags_of (kins_of es)) in
+    let color = λ (i : ℕ). (kin_at (kins_of es) i).color in
     let kins_old : kins g.nodes ≡ kins_of es = ap kins gn ∙ kins_same info first es in
     let kins_new : kins_of es' ≡ kins (grown g s n c).nodes = sym (kins_same info first es') ∙ ap kins e in
     let taken_back : reverse taken ≡ take k g.stack = ap reverse w ∙ (sym (take_reverse k stack) ∙ ap (take k) (sym gs)) in
     let more_is : more ≡ k - length g.stack = m ∙ ap (λ x. k - x) (sym (length-reverse stack) ∙ ap length (sym gs)) in
-    let total_is : sum_by (λ i. slice_index sizes i) taken ≡ sum_by (λ i. item 0 (sizes_of (kins g.nodes)) i) (take k g.stack) =
-    total_equal (λ i. slice_index sizes i) (λ i. item 0 (sizes_of (kins g.nodes)) i) taken
-    (λ i. sizes_are es sizes h.sizes_are i ∙
-    ap (λ x. item 0 (sizes_of x) i) (sym kins_old)) ∙
-    (sym (sum_by-reverse (λ i. item 0 (sizes_of (kins g.nodes)) i) taken) ∙
-    ap (sum_by (λ i. item 0 (sizes_of (kins g.nodes)) i)) taken_back) in
-    let alike_is : are_alike (λ i. slice_index_or same i false) (λ i. slice_index (colors es) i) c taken ≡
-    are_alike (item false (flags_of (kins g.nodes))) (λ i. (kin_at (kins g.nodes) i).color) c (take k g.stack) =
-    alike_equal (λ i. slice_index_or same i false) (item false (flags_of (kins g.nodes))) (λ i. slice_index (colors es) i)
-    (λ i. (kin_at (kins g.nodes) i).color) c taken
-    (λ i. flags_are es same h.flags_are i ∙ ap (λ x. item false (flags_of x) i) (sym kins_old)) (λ i. color_item es i ∙
-    ap (λ x. (kin_at x i).color) (sym kins_old)) ∙
-    (sym (alike_reverse (item false (flags_of (kins g.nodes))) (λ i. (kin_at (kins g.nodes) i).color) c taken) ∙
-    ap (are_alike (item false (flags_of (kins g.nodes))) (λ i. (kin_at (kins g.nodes) i).color) c) taken_back) in
+    let total_is : sum_by (slice_index sizes) taken ≡ sum_by size (take k g.stack) =
+    ap (λ f. sum_by f taken) (sizes_are es sizes h.sizes_are) ∙ (sym (sum_by-reverse size taken) ∙ ap (sum_by size) taken_back) in
+    let alike_is : are_alike (λ i. slice_index_or same i false) (slice_index (colors es)) c taken ≡ are_alike flag color c (take k g.stack) =
+    ap₂ (λ f h. are_alike f h c taken) (flags_are es same h.flags_are) (colors_are es)
+    ∙ (sym (alike_reverse flag color c taken) ∙ ap (are_alike flag color c) taken_back) in
     record {
-      sizes_are = ap reverse d ∙ (reverse_push (sizes ++ replicate more 1) _ ∙
-          (ap₂ (λ x y. x ∷ y) (ap₂ (λ x y. suc (x + y)) more_is total_is)
-          (reverse-append sizes (replicate more 1) ∙ ap₂ (λ x y. x ++ y) (reverse_replicate more 1 ∙
-          ap (λ x. replicate x 1) more_is) (h.sizes_are ∙ ap sizes_of (sym kins_old))) ∙
-          (sym (sizes_grown s earlier g n c ig) ∙ ap sizes_of (sym kins_new))));
-      flags_are = ap reverse f ∙ (reverse_push (same ++ replicate more true) _ ∙
-          (ap₂ (λ x y. x ∷ y) (ap₂ (λ x y. (x == 0) && y) more_is alike_is)
-          (reverse-append same (replicate more true) ∙ ap₂ (λ x y. x ++ y) (reverse_replicate more true ∙
-          ap (λ x. replicate x true) more_is) (h.flags_are ∙ ap flags_of (sym kins_old))) ∙
-          (sym (flags_grown s earlier g n c ig b) ∙ ap flags_of (sym kins_new))));
+      sizes_are = ap reverse (ap sizes_kept added ∙ map_added (λ (x : Subtree). x.len) ts more _) ∙ (reverse_push (sizes ++ replicate more 1) _
+          ∙ (ap₂ (λ x y. x ∷ y) (ap₂ (λ x y. suc (x + y)) more_is total_is) (reverse-append sizes (replicate more 1)
+          ∙ ap₂ (λ x y. x ++ y) (reverse_replicate more 1 ∙ ap (λ x. replicate x 1) more_is) h.sizes_are)
+          ∙ (sym (rw kins_old at (sizes_grown s earlier g n c ig)) ∙ ap sizes_of (sym kins_new))));
+      flags_are = ap reverse (ap flags_kept added ∙ map_added (λ (x : Subtree). x.one_color) ts more _) ∙ (reverse_push (same ++ replicate more true) _
+          ∙ (ap₂ (λ x y. x ∷ y) (ap₂ (λ x y. (x == 0) && y) more_is alike_is) (reverse-append same (replicate more true)
+          ∙ ap₂ (λ x y. x ++ y) (reverse_replicate more true ∙ ap (λ x. replicate x true) more_is) h.flags_are)
+          ∙ (sym (rw kins_old at (flags_grown s earlier g n c ig b)) ∙ ap flags_of (sym kins_new))));
     }
 
 -- what `add_row` wants
 pub stack_room : (es : List StackEntry) (sizes : List ℕ) (stack : List ℕ) (g : Growth) (info : Module) (first : ℕ) →
     g.nodes ≡ graph_entries info first es → g.stack ≡ reverse stack → reverse sizes ≡ sizes_of (kins_of es) →
-    sum_by (size_of_entry g) g.stack ≤ length g.nodes →
-    sum_by (λ i. slice_index sizes i) stack ≤ length es
+    sum_by (size_of_entry g) g.stack ≤ length g.nodes → sum_by (λ i. slice_index sizes i) stack ≤ length es
 stack_room es sizes stack g info first gn gs h l =
     let kins_old : kins g.nodes ≡ kins_of es = ap kins gn ∙ kins_same info first es in
-    let e : sum_by (λ i. slice_index sizes i) stack ≡ sum_by (size_of_entry g) g.stack =
-    total_equal (λ i. slice_index sizes i) (size_of_entry g) stack (λ i. sizes_are es sizes h i ∙ ap (λ x. item 0 (sizes_of x) i)
-    (sym kins_old)) ∙
-    (sym (sum_by-reverse (size_of_entry g) stack) ∙ ap (sum_by (size_of_entry g)) (sym gs)) in
+    let size_is : slice_index sizes ≡ size_of_entry g = sizes_are es sizes h ∙ ap (λ x. item 0 (sizes_of x)) (sym kins_old) in
+    let e : sum_by (slice_index sizes) stack ≡ sum_by (size_of_entry g) g.stack =
+    ap (λ f. sum_by f stack) size_is ∙ (sym (sum_by-reverse (size_of_entry g) stack) ∙ ap (sum_by (size_of_entry g)) (sym gs)) in
     let n : length g.nodes ≡ length es = sym (length-map g.nodes kin_of) ∙ (ap length kins_old ∙ kins_length es) in
     omega arith
 
 pub size_read : (es : List StackEntry) (sizes : List ℕ) → reverse sizes ≡ sizes_of (kins_of es) → (i : ℕ) → i < length es →
     (d : ℕ) → get_or sizes i d ≡ length (downwards (kins_of es) i)
 size_read es sizes h i l d = get_or_default sizes i d 0 (let e = sizes_count es sizes h in omega arith) ∙
-    (sizes_are es sizes h i ∙ sym (size_at (kins_of es) i (let e = kins_length es in omega arith)))
+    (ap (λ f. f i) (sizes_are es sizes h) ∙ sym (size_at (kins_of es) i (let e = kins_length es in omega arith)))
 
 flag_read : (es : List StackEntry) (same : List Bool) → reverse same ≡ flags_of (kins_of es) → (i : ℕ) → i < length es →
     (d : Bool) → get_or same i d ≡ are_colored (kins_of es) (kin_at (kins_of es) i).color (downwards (kins_of es) i)
 flag_read es same h i l d = get_or_default same i d false (let e = flags_count es same h in omega arith) ∙
-    (flags_are es same h i ∙ sym (flag_at (kins_of es) i (let e = kins_length es in omega arith)))
+    (ap (λ f. f i) (flags_are es same h) ∙ sym (flag_at (kins_of es) i (let e = kins_length es in omega arith)))
 
-pub colored_all : (xs : List Kin) (c : ℕ) (is : List ℕ) → are_colored xs c is ≡ true → All (λ j. (kin_at xs j).color ≡ c) is
-colored_all xs c [] h = All-nil (λ j. (kin_at xs j).color ≡ c)
-colored_all xs c (i ∷ is) h =
-    let p = and_parts ((kin_at xs i).color == c) (are_colored xs c is) h in
-    All-cons (λ j. (kin_at xs j).color ≡ c) i is (eqb-true (kin_at xs i).color c p.0) (colored_all xs c is p.1)
-
-pub all_colored : (xs : List Kin) (c : ℕ) (is : List ℕ) → All (λ j. (kin_at xs j).color ≡ c) is → are_colored xs c is ≡ true
-all_colored xs c [] h = refl
-all_colored xs c (i ∷ is) h =
-    and_from ((kin_at xs i).color == c) (are_colored xs c is)
-    (eq-eqb (kin_at xs i).color c (All-head (λ j. (kin_at xs j).color ≡ c) i is h))
-    (all_colored xs c is (All-tail (λ j. (kin_at xs j).color ≡ c) i is h))
+-- the test of one colour decides it
+pub decides_colored : (xs : List Kin) (c : ℕ) (is : List ℕ) → Decides (are_colored xs c is) (All (λ j. (kin_at xs j).color ≡ c) is)
+decides_colored xs c is = Decides-by_and (λ j. (kin_at xs j).color == c) (λ j. (kin_at xs j).color ≡ c) (are_colored xs c)
+    (λ j. Decides-eqb (kin_at xs j).color c) refl (λ _ _. refl) is
 
 pub one_color : (es : List StackEntry) (same : List Bool) → reverse same ≡ flags_of (kins_of es) → (i : ℕ) → i < length es →
     (b : Bool) → b ≡ get_or same i b → IsTrue b ↔ HasOneColor (kins_of es) i
 one_color es same h i l b e =
-    let f : b ≡ are_colored (kins_of es) (kin_at (kins_of es) i).color (downwards (kins_of es) i) = e ∙
-    flag_read es same h i l b in (
-      λ t. colored_all (kins_of es) (kin_at (kins_of es) i).color (downwards (kins_of es) i) (sym f ∙ t),
-      λ a. f ∙
-          all_colored (kins_of es) (kin_at (kins_of es) i).color (downwards (kins_of es) i) a,
-    )
+    let f : b ≡ are_colored (kins_of es) (kin_at (kins_of es) i).color (downwards (kins_of es) i) = e ∙ flag_read es same h i l b in
+    let d = decides_colored (kins_of es) (kin_at (kins_of es) i).color (downwards (kins_of es) i) in
+    (λ t. d.0 (sym f ∙ t), λ a. f ∙ d.1 a)
 
 -- the order, entry by entry
 kins_push : (es : List StackEntry) (e : StackEntry) → kins_of (es ++ e ∷ []) ≡ kin e ∷ kins_of es
@@ -244,18 +193,7 @@ forwards_suffix : (xs ys : List Kin) → forwards (xs ++ ys) ≡ true → forwar
 forwards_suffix [] ys h = h
 forwards_suffix (x ∷ xs) ys h = forwards_suffix xs ys (and_parts _ _ h).0
 
-head_same : (x y : ℕ) (xs ys : List ℕ) → x ∷ xs ≡ y ∷ ys → x ≡ y
-head_same x y xs ys e = cc
-
-forward_equal : (f g h k : ℕ → ℕ) (at : ℕ) (cs : List ℕ) → ((i : ℕ) → f i ≡ g i) → ((i : ℕ) → h i ≡ k i) → forward f h at cs ≡
-    forward g k at cs
-forward_equal f g h k at [] p q = refl
-forward_equal f g h k at (c ∷ cs) p q =
-    (λ i. if q c i == 4294967295 then forward_equal f g h k at cs p q i else ((suc c == at + p c i) && forward_equal f g h k
-    (at + f c) cs p q i)) ∙
-    ap (λ x. if k c == 4294967295 then forward g k at cs else ((suc c == at + g c) && forward g k (at + x) cs)) (p c)
-
-pub forwards_more : (es : List StackEntry) (sizes : List ℕ) → reverse sizes ≡ sizes_of (kins_of es) → (i : ℕ) → i < length es →
+forwards_more : (es : List StackEntry) (sizes : List ℕ) → reverse sizes ≡ sizes_of (kins_of es) → (i : ℕ) → i < length es →
     (d : StackEntry) (at : ℕ) → at ≡ (i + 1) - get_or sizes i 0 →
     forwards (kins_of (take (i + 1) es)) ≡ (forwards (kins_of (take i es)) && forward (λ c. slice_index (take i sizes) c)
     (λ c. slice_index (colors (take i es)) c) at (children_of (get_or es i d).operator))
@@ -268,71 +206,44 @@ forwards_more es sizes h i l d at w =
     let next : get_or sizes i 0 ∷ reverse (take i sizes) ≡ sizes_of (kin e ∷ xs) =
     sym (reverse_push (take i sizes) (get_or sizes i 0)) ∙ (ap reverse (sym (take_more sizes i 0 (omega arith))) ∙
     (sizes_front es sizes h (i + 1) (omega arith) ∙ ap sizes_of push)) in
-    let own : get_or sizes i 0 ≡ length (downwards (kin e ∷ xs) (length xs)) = head_same _ _ _ _ next in
+    let own : get_or sizes i 0 ≡ length (downwards (kin e ∷ xs) (length xs)) = cc in
     let xs_length : length xs ≡ i = kins_length (take i es) ∙ (let t = length-take i es in omega arith) in
     let start : suc (length xs) - length (downwards (kin e ∷ xs) (length xs)) ≡ at = omega arith in
-    ap forwards push ∙ ap (λ b. forwards xs && b)
-    (ap (λ x. forward (λ c. item 0 (sizes_of xs) c) (λ c. (kin_at xs c).color) x (children_of e.operator)) start ∙
-    forward_equal (λ c. item 0 (sizes_of xs) c) (λ c. slice_index (take i sizes) c) (λ c. (kin_at xs c).color)
-    (λ c. slice_index (colors (take i es)) c) at (children_of e.operator)
-    (λ c. sym (sizes_are (take i es) (take i sizes) front c)) (λ c. sym (color_item (take i es) c)))
+    ap forwards push ∙ ap (λ b. forwards xs && b) (ap (λ x. forward (item 0 (sizes_of xs)) (λ c. (kin_at xs c).color) x (children_of e.operator)) start
+    ∙ ap₂ (λ f h. forward f h at (children_of e.operator)) (sym (sizes_are (take i es) (take i sizes) front)) (sym (colors_are (take i es))))
 
 pub forwards_stop : (es : List StackEntry) (i : ℕ) → forwards (kins_of (take i es)) ≡ false → forwards (kins_of es) ≡ false
 forwards_stop es i h = false_from_ne_true (forwards (kins_of es)) (λ w. false≢true (sym h ∙ forwards_suffix (kins_of (drop i es))
     (kins_of (take i es)) (ap forwards (sym (kins_parts es i)) ∙ w)))
 
-pub forwards_next : (es : List StackEntry) (sizes : List ℕ) → reverse sizes ≡ sizes_of (kins_of es) → (i : ℕ) → i < length es →
-    (d : StackEntry) (at : ℕ) → at ≡ (i + 1) - get_or sizes i 0 → forwards (kins_of (take i es)) ≡ true → (b : Bool) →
-    b ≡ forward (λ c. slice_index (take i sizes) c) (λ c. slice_index (colors (take i es)) c) at
-    (children_of (get_or es i d).operator) → forwards (kins_of (take (i + 1) es)) ≡ b
-forwards_next es sizes h i l d at w t b e = forwards_more es sizes h i l d at w ∙
-    (ap (λ x. x && forward (λ c. slice_index (take i sizes) c) (λ c. slice_index (colors (take i es)) c) at
-    (children_of (get_or es i d).operator)) t ∙ sym e)
+-- the same by what the code reads at an entry
+pub forwards_read : (es : List StackEntry) (ts : List Subtree) → Measured es ts → (i : ℕ) → i < length es → (e : StackEntry) → e ≡ get_or es i e →
+    (t : Subtree) → t ≡ get_or ts i t → (from : ℕ) → from ≡ (i + 1) - t.len → (b : Bool) →
+    b ≡ forward (size_kept (take i ts)) (slice_index (colors (take i es))) from (children_of e.operator) →
+    forwards (kins_of (take (i + 1) es)) ≡ (forwards (kins_of (take i es)) && b)
+forwards_read es ts m i l e p t q from w b f =
+    let sizes = sizes_kept ts in
+    let n = sizes_count es sizes m.sizes_are in
+    let len_is : t.len ≡ get_or sizes i 0 = kept_size ts i t q ∙ get_or_default sizes i t.len 0 (omega arith) in
+    let same : children_of (get_or es i e).operator ≡ children_of e.operator = ap (λ (o : StackEntry). children_of o.operator) (sym p) in
+    let front : slice_index (take i sizes) ≡ size_kept (take i ts) = ap (λ (x : List ℕ). slice_index x) (take-map (λ (x : Subtree). x.len) i ts) in
+    forwards_more es sizes m.sizes_are i l e from (w ∙ ap (λ u. (i + 1) - u) len_is) ∙ ap (λ x. forwards (kins_of (take i es)) && x)
+    (ap₂ (λ size cs. forward size (slice_index (colors (take i es))) from cs) front same ∙ sym f)
 
-pub forwards_read : (es : List StackEntry) (sizes : List ℕ) → reverse sizes ≡ sizes_of (kins_of es) → (i : ℕ) → i < length es →
-    (e : StackEntry) → e ≡ get_or es i e → (z from : ℕ) → z ≡ get_or sizes i z → from ≡ (i + 1) - z →
-    (es' : List StackEntry) → es' ≡ es → (sizes' : List ℕ) → sizes' ≡ sizes → (ns : List ℕ) → ns ≡ children_of e.operator →
-    (b : Bool) → b ≡ forward (λ c. slice_index (take i sizes') c) (λ c. slice_index (colors (take i es')) c) from ns →
-    forwards (kins_of (take i es)) ≡ true → forwards (kins_of (take (i + 1) es)) ≡ b
-forwards_read es sizes h i l e p z from q w es' x sizes' y ns k b f t =
-    let n = sizes_count es sizes h in
-    let zero_is : z ≡ get_or sizes i 0 = q ∙ get_or_default sizes i z 0 (omega arith) in
-    let same : children_of e.operator ≡ children_of (get_or es i e).operator =
-    ap (λ (o : StackEntry). children_of o.operator) p in
-    forwards_next es sizes h i l e from (w ∙ ap (λ u. (i + 1) - u) zero_is) t b
-    (f ∙ (λ j. forward (λ c. slice_index (take i (y j)) c) (λ c. slice_index (colors (take i (x j))) c) from ((k ∙ same) j)))
-
-pub nodes_length : (info : Module) (first : ℕ) (entries : List StackEntry) → length (graph_entries info first entries) ≡
-    length entries
+pub nodes_length : (info : Module) (first : ℕ) (entries : List StackEntry) → length (graph_entries info first entries) ≡ length entries
 nodes_length info first entries = length-reverse (map (graph_entry info first) (map entry_view entries)) ∙
     (length-map (map entry_view entries) (graph_entry info first) ∙ length-map entries entry_view)
 
 -- an entry of the graph is what the code's entry is seen as
-map_both : (info : Module) (first : ℕ) (es : List StackEntry) → map (graph_entry info first) (map entry_view es) ≡
-    map (λ (e : StackEntry). graph_entry info first (entry_view e)) es
-map_both info first [] = refl
-map_both info first (e ∷ es) = ap (λ x. graph_entry info first (entry_view e) ∷ x) (map_both info first es)
-
-item_default : {A : Type 0} (c d : A) (xs : List A) (i : ℕ) → i < length xs → item c xs i ≡ item d xs i
-item_default c d [] i l = absurd (omega arith)
-item_default c d (x ∷ xs) i l = ⊎_elim
-    (λ w. cond-true _ _ _ (eq-eqb (length xs) i w) ∙ sym (cond-true _ _ _ (eq-eqb (length xs) i w)))
-    (λ w. cond-false _ _ _ (ne_eqb (length xs) i w) ∙ (item_default c d xs i (omega arith) ∙
-    sym (cond-false _ _ _ (ne_eqb (length xs) i w))))
-    (cases_eq (length xs) i)
-
 pub entry_seen : (info : Module) (first : ℕ) (entries : List StackEntry) (i : ℕ) (d : StackEntry) → i < length entries →
     entry_at (graph_entries info first entries) i ≡ graph_entry info first (entry_view (get_or entries i d))
 entry_seen info first entries i d l =
-    let f : StackEntry → GraphEntry = λ e. graph_entry info first (entry_view e) in
-    item_default (undef 0) (f d) (graph_entries info first entries) i (let e = nodes_length info first entries in omega arith) ∙
-    (ap (λ x. item (f d) x i) (ap reverse (map_both info first entries) ∙ sym (map_reverse f entries)) ∙
-    (sym (item_map f d (reverse entries) i) ∙ ap f (sym (get_item d entries i))))
+    let n = length-map entries entry_view in
+    sym (get_item (undef 0) (map (graph_entry info first) (map entry_view entries)) i)
+    ∙ (get_or-map (graph_entry info first) (map entry_view entries) i (entry_view d) (undef 0) (omega arith)
+    ∙ ap (graph_entry info first) (get_or-map entry_view entries i d (entry_view d) l))
 
 pub later_entries : (first : ℕ) (es : List StackEntry) → All (λ (x : EntryView). first ≤ x.operator) (map entry_view es) →
     All (λ (e : StackEntry). first ≤ e.operator_idx) es
-later_entries first [] k = All-nil (λ (e : StackEntry). first ≤ e.operator_idx)
-later_entries first (e ∷ es) k =
-    All-cons (λ (e : StackEntry). first ≤ e.operator_idx) e es (All-head (λ (x : EntryView). first ≤ x.operator) (entry_view e)
-    (map entry_view es) k) (later_entries first es (All-tail (λ (x : EntryView). first ≤ x.operator) (entry_view e)
-    (map entry_view es) k))
+later_entries first es k = λ i d l. let n = length-map es entry_view in
+    subst (λ (x : EntryView). first ≤ x.operator) (get_or-map entry_view es i d (entry_view d) l) (k i (entry_view d) (omega arith))

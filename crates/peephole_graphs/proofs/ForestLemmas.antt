@@ -1,14 +1,15 @@
 -- The forest of a block is what the growing forest says.
 use Rattle.std.proofs.Common.{◌≡◌, ℕ, zero, suc, ◌<◌, ◌≤◌, Bool, true, false, cond, List, [], ◌∷◌, length, refl, sym, ap, ap₂, ◌∙◌, arith, inl, inr}
 use Rattle.std.specs.Prelude.{⊤, ◌||◌, ◌==◌}
-use Rattle.std.proofs.lemmas.Bool.{cases_Bool, cond-true, cond-false, eq-eqb, ne_eqb, eqb-true, false_from_ne_true, false≢true}
+use Rattle.std.proofs.Math.Bool.{or_comm}
+use Rattle.std.proofs.lemmas.Bool.{cases_Bool, cond-true, cond-false, eq-eqb, ne_eqb, or_left, eqb-true, false_from_ne_true, false≢true}
 use Rattle.peephole_graphs.specs.Shape.{Shape}
 use Rattle.peephole_graphs.specs.Tree.{Tree, entry, node, Trees, no_trees, ◌▸◌, join}
 use Rattle.peephole_graphs.specs.Forest.{operator_tree, trees, is_root, is_operand, without, forest}
 use Rattle.peephole_graphs.proofs.Depth.{top, value, tree_of_is}
 use Rattle.peephole_graphs.proofs.DepthLemmas.{top_same, top_first}
-use Rattle.peephole_graphs.proofs.Stacked.{is_open, forest_value, kept, pulled, stacked, missing, forest_value_top, forest_value_under}
-use Rattle.peephole_graphs.proofs.Stacked.{forest_value_done, kept_open, kept_done, pulled_open, pulled_done, value_stacked, operator}
+use Rattle.peephole_graphs.proofs.Stacked.{is_open, forest_value, kept, pulled, stacked, missing, forest_value_top, forest_value_under, forest_value_done}
+use Rattle.peephole_graphs.proofs.Stacked.{kept_open, kept_done, pulled_open, pulled_done, value_stacked, operator}
 
 abbrev pub rev : Trees → Trees
 rev no_trees = no_trees
@@ -18,26 +19,18 @@ pub join_nil : (ts : Trees) → join ts no_trees ≡ ts
 join_nil no_trees = refl
 join_nil (t ▸ ts) = ap (λ x. t ▸ x) (join_nil ts)
 
-pub or_assoc : (a b c : Bool) → ((a || b) || c) ≡ (a || (b || c))
-or_assoc a b c = grind arith
-
-or_comm : (a b : Bool) → (a || b) ≡ (b || a)
-or_comm a b = grind arith
-
 or_nil : (a : Bool) → (a || false) ≡ a
 or_nil a = grind arith
 
 is_root_join : (j : ℕ) (ts us : Trees) → is_root j (join ts us) ≡ (is_root j ts || is_root j us)
 is_root_join j no_trees us = refl
 is_root_join j (entry m ▸ ts) us = is_root_join j ts us
-is_root_join j (node i s kids ▸ ts) us =
-    ap (λ x. (i == j) || x) (is_root_join j ts us) ∙ sym (or_assoc (i == j) (is_root j ts) (is_root j us))
+is_root_join j (node i s kids ▸ ts) us = grind (arith, is_root_join j ts us)
 
 is_operand_join : (j : ℕ) (ts us : Trees) → is_operand j (join ts us) ≡ (is_operand j ts || is_operand j us)
 is_operand_join j no_trees us = refl
 is_operand_join j (entry m ▸ ts) us = is_operand_join j ts us
-is_operand_join j (node i s kids ▸ ts) us =
-    ap (λ x. is_root j kids || x) (is_operand_join j ts us) ∙ sym (or_assoc (is_root j kids) (is_operand j ts) (is_operand j us))
+is_operand_join j (node i s kids ▸ ts) us = grind (arith, is_operand_join j ts us)
 
 without_join : (test : ℕ → Bool) (ts us : Trees) → without test (join ts us) ≡ join (without test ts) (without test us)
 without_join test no_trees us = refl
@@ -46,11 +39,9 @@ without_join test (node i s kids ▸ ts) us = grind (arith, without_join test ts
 
 without_rev : (test : ℕ → Bool) (ts : Trees) → without test (rev ts) ≡ rev (without test ts)
 without_rev test no_trees = refl
-without_rev test (entry m ▸ ts) = without_join test (rev ts) (entry m ▸ no_trees) ∙
-    ap (λ x. join x (entry m ▸ no_trees)) (without_rev test ts)
+without_rev test (entry m ▸ ts) = without_join test (rev ts) (entry m ▸ no_trees) ∙ ap (λ x. join x (entry m ▸ no_trees)) (without_rev test ts)
 without_rev test (node i s kids ▸ ts) =
-    let own = node i s kids ▸ no_trees in
-    grind (arith, without_join test (rev ts) own, without_rev test ts, join_nil (rev (without test ts)))
+    grind (arith, without_join test (rev ts) (node i s kids ▸ no_trees), without_rev test ts, join_nil (rev (without test ts)))
 
 -- two tests, one after the other
 without_both : (p q : ℕ → Bool) (ts : Trees) → without (λ j. p j || q j) ts ≡ without q (without p ts)
@@ -59,9 +50,7 @@ without_both p q (entry m ▸ ts) = ap (λ x. entry m ▸ x) (without_both p q t
 without_both p q (node i s kids ▸ ts) = grind (arith, without_both p q ts)
 
 without_same : (p q : ℕ → Bool) → ((j : ℕ) → p j ≡ q j) → (ts : Trees) → without p ts ≡ without q ts
-without_same p q h no_trees = refl
-without_same p q h (entry m ▸ ts) = ap (λ x. entry m ▸ x) (without_same p q h ts)
-without_same p q h (node i s kids ▸ ts) = ap₂ (λ b x. cond b x (node i s kids ▸ x)) (h i) (without_same p q h ts)
+without_same p q h ts = ap (λ (test : ℕ → Bool). without test ts) (λ i j. h j i)
 
 -- all are operators' trees, the numbers fall, from below `n` on
 abbrev pub Falling : Trees → ℕ → Type 0
@@ -93,17 +82,12 @@ root_below no_trees n k j f h = absurd (false≢true h)
 root_below (entry m ▸ ts) n k j f h = absurd f
 root_below (node i s kids ▸ ts) n zero j f h = absurd (false≢true h)
 root_below (node i s kids ▸ ts) n (suc k) j f h =
-    let own = f.0 in
-    let u = root_below ts i k j f.1 in
-    let v = root_below ts i (suc k) j f.1 in
-    let w = eqb-true i j in
-    grind arith
+    let own = f.0 in grind (arith, root_below ts i k j f.1, root_below ts i (suc k) j f.1, eqb-true i j)
 
 without_below : (p q : ℕ → Bool) (ts : Trees) (n : ℕ) → Falling ts n → ((j : ℕ) → j < n → p j ≡ q j) → without p ts ≡ without q ts
 without_below p q no_trees n f h = refl
 without_below p q (entry m ▸ ts) n f h = absurd f
-without_below p q (node i s kids ▸ ts) n f h =
-    ap₂ (λ b x. cond b x (node i s kids ▸ x)) (h i f.0) (without_below p q ts i f.1 (λ j l. h j (omega arith)))
+without_below p q (node i s kids ▸ ts) n f h = ap₂ (λ b x. cond b x (node i s kids ▸ x)) (h i f.0) (without_below p q ts i f.1 (λ j l. h j (omega arith)))
 
 without_none : (ts : Trees) → without (λ j. false) ts ≡ ts
 without_none no_trees = refl
@@ -120,16 +104,14 @@ without_pulled (node i s kids ▸ ts) n (suc k) f =
     elim (cases_Bool s.has_result) [
       | inl e ↦
           let is : (j : ℕ) → now j ≡ ((i == j) || is_root j (pulled ts k)) = λ j. ap (is_root j) (pulled_open t ts k e) in
-          let yes = is i ∙ ap (λ b. b || is_root i (pulled ts k)) (eq-eqb i i refl) in
           let same : (j : ℕ) → j < i → now j ≡ is_root j (pulled ts k) =
           λ j l. is j ∙ ap (λ b. b || is_root j (pulled ts k)) (ne_eqb i j (λ w. omega arith)) in
-          cond-true _ _ _ yes ∙ (without_below now (λ j. is_root j (pulled ts k)) ts i f.1 same
-          ∙ (without_pulled ts i k f.1 ∙ sym (kept_open t ts k e)))
+          cond-true _ _ _ (is i ∙ or_left _ _ (eq-eqb i i refl))
+          ∙ (without_below now (λ j. is_root j (pulled ts k)) ts i f.1 same ∙ (without_pulled ts i k f.1 ∙ sym (kept_open t ts k e)))
       | inr e ↦
           let is : (j : ℕ) → now j ≡ is_root j (pulled ts (suc k)) = λ j. ap (is_root j) (pulled_done t ts (suc k) e) in
           let no = is i ∙ false_from_ne_true _ (λ w. let l = root_below ts i (suc k) i f.1 w in omega arith) in
-          cond-false _ _ _ no ∙
-          (ap (λ x. t ▸ x) (without_same now (λ j. is_root j (pulled ts (suc k))) is ts ∙ without_pulled ts i (suc k) f.1)
+          cond-false _ _ _ no ∙ (ap (λ x. t ▸ x) (without_same now (λ j. is_root j (pulled ts (suc k))) is ts ∙ without_pulled ts i (suc k) f.1)
           ∙ sym (kept_done t ts (suc k) e))
     ]
 
@@ -138,8 +120,7 @@ is_root_entries : (j m k : ℕ) → is_root j (top (forest_value no_trees m) k) 
 is_root_entries j m zero = refl
 is_root_entries j m (suc k) = is_root_entries j m k
 
-is_root_under : (j : ℕ) (t : Tree) (ts : Trees) (m k : ℕ) → is_open t ≡ false →
-    is_root j (top (forest_value ts m) k) ≡ is_root j (pulled ts k) →
+is_root_under : (j : ℕ) (t : Tree) (ts : Trees) (m k : ℕ) → is_open t ≡ false → is_root j (top (forest_value ts m) k) ≡ is_root j (pulled ts k) →
     is_root j (top (forest_value (t ▸ ts) m) k) ≡ is_root j (pulled (t ▸ ts) k)
 is_root_under j t ts m k e h =
     ap (is_root j) (top_same (forest_value (t ▸ ts) m) (forest_value ts m) (λ d. forest_value_done t ts m d e) k) ∙
@@ -156,8 +137,7 @@ is_root_top j (node i s kids ▸ ts) m (suc k) =
     elim (cases_Bool s.has_result) [
       | inl e ↦
           ap (is_root j) (top_first f k)
-          ∙ (ap₂ (λ x y. is_root j (join x (y ▸ no_trees))) (top_same (λ d. f (suc d)) g (λ d. forest_value_under t ts m d e) k)
-          (forest_value_top t ts m e)
+          ∙ (ap₂ (λ x y. is_root j (join x (y ▸ no_trees))) (top_same (λ d. f (suc d)) g (λ d. forest_value_under t ts m d e) k) (forest_value_top t ts m e)
           ∙ (is_root_join j (top g k) (t ▸ no_trees) ∙ (ap₂ (λ x y. x || y) (is_root_top j ts m k) (or_nil (i == j))
           ∙ (or_comm (is_root j (pulled ts k)) (i == j) ∙ ap (is_root j) (sym (pulled_open t ts k e))))))
       | inr e ↦ is_root_under j t ts m (suc k) e (is_root_top j ts m (suc k))
@@ -169,8 +149,7 @@ tree_of_stacked s earlier =
     (top_same (value earlier) (forest_value (stacked earlier) (missing earlier)) (value_stacked earlier) s.operands)
 
 -- which operators an operator takes
-taken_by : (s : Shape) (earlier : List Shape) (j : ℕ) →
-    is_operand j (operator_tree s earlier ▸ no_trees) ≡ is_root j (pulled (stacked earlier) s.operands)
+taken_by : (s : Shape) (earlier : List Shape) (j : ℕ) → is_operand j (operator_tree s earlier ▸ no_trees) ≡ is_root j (pulled (stacked earlier) s.operands)
 taken_by s earlier j = ap (λ t. is_operand j (t ▸ no_trees)) (tree_of_stacked s earlier) ∙
     (or_nil _ ∙ is_root_top j (stacked earlier) (missing earlier) s.operands)
 

@@ -1,24 +1,25 @@
 -- `forwards` tells the order.
-use Rattle.std.proofs.Common.{◌≡◌, ℕ, zero, suc, ◌+◌, ◌-◌, ◌<◌, ◌≤◌, Bool, true, List, [], ◌∷◌, ◌++◌, length, take, Option, None}
-use Rattle.std.proofs.Common.{Some, refl, sym, ap, ap₂, ◌∙◌, subst, arith, ⊎_elim}
-use Rattle.std.specs.Prelude.{⊤, ◌&&◌, ◌==◌, ◌↔◌, IsTrue, reverse, replicate, if◌then◌else◌}
+use Rattle.std.proofs.Common.{◌≡◌, ℕ, zero, suc, ◌+◌, ◌-◌, ◌<◌, ◌≤◌, Bool, true, List, [], ◌∷◌, ◌++◌, length, take, Option, None, Some, refl, sym, ap, ap₂}
+use Rattle.std.proofs.Common.{◌∙◌, subst, arith}
+use Rattle.std.specs.Prelude.{◌&&◌, ◌==◌, ◌↔◌, IsTrue, reverse, replicate}
 use Rattle.std.specs.List.{All, sum_by}
-use Rattle.std.proofs.Math.Bool.{and-true, and_assoc, and_comm}
-use Rattle.std.proofs.lemmas.Bool.{cond-true, cond-false, eq-eqb, ne_eqb, or_left, or_right, and_parts, and_from, cases_eq}
-use Rattle.std.proofs.lemmas.Bool.{false≢true}
+use Rattle.std.proofs.Math.Bool.{and-true, and_comm}
+use Rattle.std.proofs.lemmas.Bool.{cond-false, ne_eqb, and_parts, and_from, false≢true}
 use Rattle.std.proofs.lemmas.List.{reverse-append, length-map}
 use Rattle.std.proofs.lemmas.List.Sums.{sum_by-cons, sum_by-take-le}
 use Rattle.std.proofs.lemmas.List.Elements.{All-head, All-tail}
+use Rattle.std.proofs.lemmas.Bool.Decides.{nat_tests}
 use Rattle.peephole_graphs.specs.Shape.{Shape}
-use Rattle.peephole_graphs.specs.Forest.{has, IsInOrder}
+use Rattle.peephole_graphs.specs.Forest.{IsInOrder}
 use Rattle.peephole_graphs.specs.Color.{color_after, color_at}
 use Rattle.peephole_graphs.specs.Graph.{GraphEntry, undef, item}
 use Rattle.peephole_graphs.specs.GraphOf.{IsSmall}
 use Rattle.peephole_graphs.proofs.Stands.{entry_at, is_operator, IsOperator}
 use Rattle.peephole_graphs.specs.Step.{down}
-use Rattle.peephole_graphs.specs.Downwards.{Kin, downwards, kin_at, sizes_of, forward, forwards}
+use Rattle.peephole_graphs.specs.Downwards.{Kin, downwards, kin_at}
+use Rattle.peephole_graphs.specs.Measures.{sizes_of, forward, forwards}
 use Rattle.peephole_graphs.proofs.StackGraph.{graph, is_graph, behind, taken_below}
-use Rattle.peephole_graphs.proofs.Lists.{all_reverse, sum_by-reverse}
+use Rattle.peephole_graphs.proofs.Lists.{all_reverse, all_has, sum_by-reverse}
 use Rattle.peephole_graphs.proofs.Standing.{at_old, at_more, facts, taken_root}
 use Rattle.peephole_graphs.proofs.Sizes.{sizes_replicate, sizes_length}
 use Rattle.peephole_graphs.proofs.Totals.{kin_of, kins, new_kin, kins_step, sizes_grown, size_of_entry, stack_total}
@@ -27,51 +28,37 @@ use Rattle.peephole_graphs.proofs.Chains.{chain, ChainsOk, chains_from_order, or
 forward_down : (size color : ℕ → ℕ) (at b k : ℕ) (cs : List ℕ) → ((i : ℕ) → b ≤ i → i < b + k → color i ≡ 4294967295) →
     forward size color at (down b k ++ cs) ≡ forward size color at cs
 forward_down size color at b zero cs h = refl
-forward_down size color at b (suc k) cs h = cond-true _ _ _ (eq-eqb (color (b + k)) 4294967295
-    (h (b + k) (omega arith) (omega arith))) ∙ forward_down size color at b k cs (λ i m l. h i m (omega arith))
+forward_down size color at b (suc k) cs h =
+    grind (arith, nat_tests, h (b + k) (omega arith) (omega arith), forward_down size color at b k cs (λ i m l. h i m (omega arith)))
 
 -- of operators' entries alone
 abbrev Colors : (ℕ → ℕ) → List ℕ → Type 0
-Colors color [] = ⊤
-Colors color (c ∷ cs) = (color c < 4294967295) × Colors color cs
+Colors color cs = All (λ c. color c < 4294967295) cs
 
 forward_push : (size color : ℕ → ℕ) (at t : ℕ) (cs : List ℕ) → Colors color cs → color t < 4294967295 →
     forward size color at (cs ++ t ∷ []) ≡ (forward size color at cs && (suc t == (at + sum_by size cs) + size t))
-forward_push size color at t [] h l =
-    let e : at + size t ≡ (at + 0) + size t = omega arith in
-    cond-false _ _ _ (ne_eqb (color t) 4294967295 (λ w. omega arith)) ∙ (and-true (suc t == at + size t) ∙ ap (λ x. suc t == x) e)
+forward_push size color at t [] h l = grind (arith, nat_tests)
 forward_push size color at t (c ∷ cs) h l =
-    let other = ne_eqb (color c) 4294967295 (λ w. let a = h.0 in omega arith) in
+    let P : ℕ → Type 0 = λ c. color c < 4294967295 in
+    let own = All-head P c cs h in
     let e : (at + size c) + sum_by size cs ≡ at + sum_by size (c ∷ cs) = omega (arith, sum_by-cons size c cs) in
-    cond-false _ _ _ other ∙
-    (ap (λ x. (suc c == at + size c) && x) (forward_push size color (at + size c) t cs h.1 l) ∙
-    (sym (and_assoc (suc c == at + size c) (forward size color (at + size c) cs)
-    (suc t == ((at + size c) + sum_by size cs) + size t)) ∙
-    ap₂ (λ x y. x && (suc t == y + size t)) (sym (cond-false _ _ _ other)) e))
-
-Colors-reverse : (color : ℕ → ℕ) (cs : List ℕ) → Colors color cs → Colors color (reverse cs)
-Colors-reverse color [] h = tt
-Colors-reverse color (c ∷ cs) h = subst (Colors color) (sym (reverse-append (c ∷ []) cs))
-    (push (reverse cs) (Colors-reverse color cs h.1))
-  where
-    push : (ds : List ℕ) → Colors color ds → Colors color (ds ++ c ∷ [])
-    push [] g = (h.0, tt)
-    push (d ∷ ds) g = (g.0, push ds g.1)
+    grind (arith, nat_tests, forward_push size color (at + size c) t cs (All-tail P c cs h) l)
 
 forward_chain : (size color : ℕ → ℕ) (end : ℕ) (ts : List ℕ) → Colors color ts → sum_by size ts ≤ end →
     forward size color (end - sum_by size ts) (reverse ts) ≡ chain size end ts
 forward_chain size color end [] h l = refl
 forward_chain size color end (t ∷ ts) h l =
+    let P : ℕ → Type 0 = λ c. color c < 4294967295 in
+    let later = All-tail P t ts h in
+    let back = all_reverse P ts later in
     let at = end - sum_by size (t ∷ ts) in
     let s = sum_by-cons size t ts in
     let e : at ≡ (end - size t) - sum_by size ts = omega arith in
     let r = sum_by-reverse size ts in
     let f : (at + sum_by size (reverse ts)) + size t ≡ end = omega arith in
-    ap (forward size color at) (reverse-append (t ∷ []) ts) ∙
-    (forward_push size color at t (reverse ts) (Colors-reverse color ts h.1) h.0 ∙
-    (ap₂ (λ x y. x && (suc t == y)) (ap (λ a. forward size color a (reverse ts)) e ∙ forward_chain size color (end - size t) ts h.1
-    (omega arith)) f ∙
-    and_comm (chain size (end - size t) ts) (suc t == end)))
+    ap (forward size color at) (reverse-append (t ∷ []) ts) ∙ (forward_push size color at t (reverse ts) back (All-head P t ts h) ∙
+    (ap₂ (λ x y. x && (suc t == y)) (ap (λ a. forward size color a (reverse ts)) e ∙ forward_chain size color (end - size t) ts later
+    (omega arith)) f ∙ and_comm (chain size (end - size t) ts) (suc t == end)))
 
 forward_same : (f g h k : ℕ → ℕ) (at n : ℕ) (cs : List ℕ) → All (λ i. i < n) cs → ((i : ℕ) → i < n → f i ≡ g i) →
     ((i : ℕ) → i < n → h i ≡ k i) → forward f h at cs ≡ forward g k at cs
@@ -79,9 +66,7 @@ forward_same f g h k at n [] a p q = refl
 forward_same f g h k at n (c ∷ cs) a p q =
     let l = All-head (λ i. i < n) c cs a in
     let r = All-tail (λ i. i < n) c cs a in
-    (λ i. if q c l i == 4294967295 then forward_same f g h k at n cs r p q i else ((suc c == at + p c l i) && forward_same f g h k
-    (at + f c) n cs r p q i)) ∙
-    ap (λ x. if k c == 4294967295 then forward g k at cs else ((suc c == at + g c) && forward g k (at + x) cs)) (p c l)
+    grind (arith, p c l, q c l, forward_same f g h k at n cs r p q, forward_same f g h k (at + f c) n cs r p q)
 
 forwards_replicate : (u : Kin) (k : ℕ) (xs : List Kin) → u.children ≡ [] → forwards (replicate k u ++ xs) ≡ forwards xs
 forwards_replicate u zero xs e = refl
@@ -95,41 +80,20 @@ item_older d x ys i l = sym (cond-false _ _ _ (ne_eqb (length ys) i (λ w. omega
 
 pub kin_entry : (nodes : List GraphEntry) (i : ℕ) → i < length nodes → kin_at (kins nodes) i ≡ kin_of (entry_at nodes i)
 kin_entry [] i l = absurd (omega arith)
-kin_entry (e ∷ nodes) i l = ⊎_elim
-    (λ w. cond-true _ _ _ (eq-eqb (length (kins nodes)) i (length-map nodes kin_of ∙ w)) ∙
-    ap kin_of (sym (cond-true _ _ _ (eq-eqb (length nodes) i w))))
-    (λ w. cond-false _ _ _ (ne_eqb (length (kins nodes)) i (λ v. w (sym (length-map nodes kin_of) ∙ v))) ∙
-    (kin_entry nodes i (omega arith) ∙ ap kin_of (sym (cond-false _ _ _ (ne_eqb (length nodes) i w)))))
-    (cases_eq (length nodes) i)
+kin_entry (e ∷ nodes) i l = grind (arith, nat_tests, length-map nodes kin_of, kin_entry nodes i)
 
-pub color_small : (preserving : Bool) (block : List Shape) (n : ℕ) → IsSmall preserving block → n < length block →
-    color_at preserving block n < 4294967295
+pub color_small : (preserving : Bool) (block : List Shape) (n : ℕ) → IsSmall preserving block → n < length block → color_at preserving block n < 4294967295
 color_small preserving [] n h l = absurd (omega arith)
-color_small preserving (s ∷ earlier) n h l = ⊎_elim
-    (λ w. subst (λ x. x < 4294967295) (sym (cond-true _ _ _ (eq-eqb (length earlier) n w))) h.2)
-    (λ w. subst (λ x. x < 4294967295) (sym (cond-false _ _ _ (ne_eqb (length earlier) n w))) (color_small preserving earlier n h.0
-    (omega arith)))
-    (cases_eq (length earlier) n)
+color_small preserving (s ∷ earlier) n h l = let own = h.2 in grind (arith, nat_tests, color_small preserving earlier n h.0)
 
 pub operator_color : (preserving : Bool) (block : List Shape) (e : GraphEntry) (o : Option Shape) →
     IsOperator preserving block o e → is_operator o ≡ true → e.color ≡ color_at preserving block e.number
 operator_color preserving block e None h w = absurd (false≢true w)
 operator_color preserving block e (Some s) h w = h.1
 
-Colors_has : (color : ℕ → ℕ) (cs : List ℕ) → ((i : ℕ) → has i cs ≡ true → color i < 4294967295) → Colors color cs
-Colors_has color [] h = tt
-Colors_has color (c ∷ cs) h = (
-  h c (or_left (c == c) (has c cs) (eq-eqb c c refl)),
-  Colors_has color cs (λ i w. h i (or_right (c == i) (has i cs) w)),
-)
-
-head_same : (x y : ℕ) (xs ys : List ℕ) → x ∷ xs ≡ y ∷ ys → x ≡ y
-head_same x y xs ys e = cc
-
 forwards_step : (preserving : Bool) (s : Shape) (earlier : List Shape) → IsSmall preserving (s ∷ earlier) →
     forwards (kins (graph preserving (s ∷ earlier)).nodes) ≡ (forwards (kins (graph preserving earlier).nodes) &&
-    chain (size_of_entry (graph preserving earlier)) (length (graph preserving earlier).nodes)
-    (take s.operands (graph preserving earlier).stack))
+    chain (size_of_entry (graph preserving earlier)) (length (graph preserving earlier).nodes) (take s.operands (graph preserving earlier).stack))
 forwards_step preserving s earlier small =
     let g = graph preserving earlier in
     let ig = is_graph preserving earlier in
@@ -149,8 +113,8 @@ forwards_step preserving s earlier small =
     let below = taken_below earlier g ig s.operands in
     let sum : sum_by f taken ≤ base = let a = sum_by-take-le f g.stack s.operands in let b = stack_total preserving earlier in
     omega arith in
-    let size_is : length (downwards (new ∷ ys) (length ys)) ≡ suc (more + sum_by f taken) =
-    head_same _ _ _ _ (ap sizes_of (sym (kins_step s g n c)) ∙ sizes_grown s earlier g n c ig) in
+    let sizes = ap sizes_of (sym (kins_step s g n c)) ∙ sizes_grown s earlier g n c ig in
+    let size_is : length (downwards (new ∷ ys) (length ys)) ≡ suc (more + sum_by f taken) = cc in
     let start : suc (length ys) - length (downwards (new ∷ ys) (length ys)) ≡ base - sum_by f taken = omega arith in
     let sizes_ys : sizes_of ys ≡ replicate more 1 ++ sizes_of xs = sizes_replicate u more xs refl in
     let sl = sizes_length xs in
@@ -162,27 +126,23 @@ forwards_step preserving s earlier small =
     let color_more : (i : ℕ) → base ≤ i → i < base + more → (kin_at ys i).color ≡ 4294967295 =
     λ i m l. ap (λ (z : Kin). z.color) (item_older none new ys i (omega arith) ∙ at_more none new u more xs i (omega arith)
     (omega arith)) in
-    let colored : Colors (λ i. (kin_at xs i).color) taken = Colors_has (λ i. (kin_at xs i).color) taken (λ i h.
+    let colored : Colors (λ i. (kin_at xs i).color) taken = all_has (λ i. (kin_at xs i).color < 4294967295) taken (λ i h.
     let r = taken_root earlier g ig s.operands i h in
     let e = (facts preserving earlier).entries i r.1 in
     let d = operator_color preserving earlier (entry_at g.nodes i) (entry_at g.nodes i).shape e.1 r.2 in
     subst (λ x. x < 4294967295) (sym (ap (λ (z : Kin). z.color) (kin_entry g.nodes i r.1) ∙ d)) (color_small preserving earlier
     (entry_at g.nodes i).number small.0 e.0)) in
-    ap forwards (kins_step s g n c) ∙
-    ap₂ (λ a b. a && b) (forwards_replicate u more xs refl)
+    ap forwards (kins_step s g n c) ∙ ap₂ (λ a b. a && b) (forwards_replicate u more xs refl)
     (ap (λ x. forward (λ i. item 0 (sizes_of ys) i) (λ i. (kin_at ys i).color) x (down base more ++ reverse taken)) start ∙
-    (forward_down (λ i. item 0 (sizes_of ys) i) (λ i. (kin_at ys i).color) (base - sum_by f taken) base more
-    (reverse taken) color_more ∙
-    (forward_same (λ i. item 0 (sizes_of ys) i) f (λ i. (kin_at ys i).color) (λ i. (kin_at xs i).color)
-    (base - sum_by f taken) base
+    (forward_down (λ i. item 0 (sizes_of ys) i) (λ i. (kin_at ys i).color) (base - sum_by f taken) base more (reverse taken) color_more ∙
+    (forward_same (λ i. item 0 (sizes_of ys) i) f (λ i. (kin_at ys i).color) (λ i. (kin_at xs i).color) (base - sum_by f taken) base
     (reverse taken) (all_reverse (λ i. i < base) taken below) size_old color_old ∙
     forward_chain f (λ i. (kin_at xs i).color) base taken colored sum)))
 
 chains_forwards : (preserving : Bool) (block : List Shape) → IsSmall preserving block → ChainsOk preserving block →
     forwards (kins (graph preserving block).nodes) ≡ true
 chains_forwards preserving [] h o = refl
-chains_forwards preserving (s ∷ earlier) h o = forwards_step preserving s earlier h ∙
-    and_from _ _ (chains_forwards preserving earlier h.0 o.0) o.1
+chains_forwards preserving (s ∷ earlier) h o = forwards_step preserving s earlier h ∙ and_from _ _ (chains_forwards preserving earlier h.0 o.0) o.1
 
 forwards_chains : (preserving : Bool) (block : List Shape) → IsSmall preserving block →
     forwards (kins (graph preserving block).nodes) ≡ true → ChainsOk preserving block

@@ -94,7 +94,7 @@ operator_there info (o ∷ os) h n l = go (judge info o.0) refl (All-head (λ (o
 
 -- ---- children and parents
 
-children_seen : (info : Module) (first : ℕ) (es : List StackEntry) (p : ℕ) → (entry_at (graph_entries info first es) p).children ≡ children_at es p
+pub children_seen : (info : Module) (first : ℕ) (es : List StackEntry) (p : ℕ) → (entry_at (graph_entries info first es) p).children ≡ children_at es p
 children_seen info first es p =
     let kids : GraphEntry → List ℕ = λ e. e.children in
     let whole = map-map kids (graph_entry info first) (map entry_view es) ∙ map-map (λ v. kids (graph_entry info first v)) entry_view es in

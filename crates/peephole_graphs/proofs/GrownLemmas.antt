@@ -14,7 +14,8 @@ use Rattle.peephole_graphs.specs.declared.growing.Growing.{Growing}
 use Rattle.peephole_graphs.specs.Forest.{IsInOrder}
 use Rattle.peephole_graphs.specs.Graph.{GraphEntry}
 use Rattle.peephole_graphs.specs.Step.{Growth}
-use Rattle.peephole_graphs.specs.Downwards.{Kin, forwards}
+use Rattle.peephole_graphs.specs.Downwards.{Kin}
+use Rattle.peephole_graphs.specs.Measures.{forwards}
 use Rattle.peephole_graphs.specs.Source.{Source, shapes_in}
 use Rattle.peephole_graphs.specs.Entries.{kins_of, shape_of}
 use Rattle.peephole_graphs.specs.Growing.{undef_entry}
@@ -29,7 +30,7 @@ use Rattle.peephole_graphs.proofs.DfgLemmas.{nodes_length, kins_same, get_item, 
 use Rattle.peephole_graphs.proofs.Forwards.{order_forwards}
 use Rattle.peephole_graphs.proofs.Raising.{block_raises}
 use Rattle.peephole_graphs.proofs.Contiguous.{contiguous}
-use Rattle.peephole_graphs.proofs.GraphLemmas.{in_order}
+use Rattle.peephole_graphs.proofs.OrderLemmas.{in_order}
 use Rattle.peephole_graphs.proofs.GraphOfLemmas.{is_graph_of, entry_here}
 use Rattle.peephole_graphs.proofs.BuilderLemmas.{Kept, named, nodes_in, state_of, over, front, block_length, kept_parents}
 

@@ -54,7 +54,7 @@ one_of at i (j ∷ is) h = elim (or_cases (j == i) (has i is) h) [
   | inr e ↦ let rest = one_of at i is e in omega arith
 ]
 
--- a graph has at most 2^32 entries
-pub block_small : (preserving : Bool) (block : List Shape) → IsSmall preserving block → length block + lacking block ≤ 4294967296
+-- a block's forest has at most 2^32 operators and entry operands
+pub block_small : (preserving : Bool) (block : List Shape) → IsSmall preserving block → full_size (forest block) ≤ 4294967296
 block_small preserving [] h = omega arith
-block_small preserving (s ∷ earlier) h = let l = h.1 in let e = wholes-forest (s ∷ earlier) in omega arith
+block_small preserving (s ∷ earlier) h = h.1

@@ -13,21 +13,18 @@ use Rattle.peephole_lang.specs.laws.PlaceLemmas.{IsAt, last_or_before}
 use Rattle.peephole_lang.specs.laws.PlaceLemmas as place
 use Rattle.peephole_lang.specs.laws.PlaceLemmas.IsAt.{last, before}
 use Rattle.peephole_lang.specs.Term.{Term, Terms, absent, node, no_terms, ◌▸◌, Node, AreBelow, pick, tree_at, numbers_of}
-use Rattle.peephole_graphs.specs.Layout.{held_nodes, node_count_of, node_count, places, laid, laid_all, IsWhole, AreWhole}
+use Rattle.peephole_graphs.specs.Layout.{held_nodes, node_count_of, node_count, root_indexes, layout_from, layouts_from, IsWhole, AreWhole}
 use Rattle.peephole_graphs.specs.Rebuild.{Piece, child_count, in_postfix, all_in_postfix}
+use Rattle.peephole_graphs.specs.declared.postfix.Turn.{Turn}
 use Rattle.peephole_graphs.specs.declared.postfix.Turn.TheVariants.{Child, Own}
-use Rattle.peephole_graphs.specs.Postfix.{Stop, stop, GoesOn, left}
-use Rattle.peephole_graphs.specs.PostfixLemmas.{IsTreeOf, turns_left, goes_on, entered, child_comes, own_comes, nodes_on, child_on, own_on, entered_on}
+use Rattle.peephole_graphs.specs.Postfix.{turns_of}
+use Rattle.peephole_graphs.specs.PostfixLemmas.{left, IsTreeOf, turns_left, entered, child_comes, own_comes, AllOn, child_on, own_on, entered_on}
 use Rattle.peephole_graphs.proofs.LayoutLemmas.{length_laid, length_all}
 
 -- ---- the items that hold nodes, and what is left of a walk
 
 pub length-held : {A H : Type 0} (held : A → Node H) (items : List A) → length (held_nodes held items) ≡ length items
 length-held held items = length-reverse (map held items) ∙ length-map items held
-
-pub some_item : {A : Type 0} (items : List A) (i : ℕ) → i < length items → A
-some_item [] i l = absurd (omega arith)
-some_item (x ∷ items) i l = x
 
 -- the last of the finished ones, as many as there are ids, and those before them
 abbrev pub last_ones : List Id → List Id → List ℕ
@@ -44,7 +41,7 @@ drop_front d p n e = grind (arith, common_steps)
 take_front : (d p : List ℕ) (n : ℕ) → n ≡ length d → take n (d ++ p) ≡ d
 take_front d p n e = grind (arith, common_steps)
 
--- The nodes laid out, and the places of the finished ones that are no children yet.
+-- The nodes laid out, and the indexes of the finished ones that are no children yet.
 pub record Laying (H : Type 0) : Type 0 where
   pub nodes : List (Node H)
   pub done : List ℕ
@@ -87,9 +84,9 @@ module _ {H : Type 0} where
         | Some v ↦ make_all-append xs ys v
       ]
 
-  length_places : (first : ℕ) (ts : Terms H) → length (places first ts) ≡ child_count ts
-  length_places first no_terms = refl
-  length_places first (t ▸ ts) = ap (λ n. suc n) (length_places (first + node_count_of t) ts)
+  length_root_indexes : (first : ℕ) (ts : Terms H) → length (root_indexes first ts) ≡ child_count ts
+  length_root_indexes first no_terms = refl
+  length_root_indexes first (t ▸ ts) = ap (λ n. suc n) (length_root_indexes (first + node_count_of t) ts)
 
   make_is : (s : Piece H) (w : Laying H) → s.count ≤ length w.done → make s w ≡ Some (put s w)
   make_is s w l = cond-true (nat_le s.count (length w.done)) (some_laying (put s w)) None (grind arith)
@@ -106,31 +103,31 @@ module _ {H : Type 0} where
   mutual
     -- a term's steps lay it out and finish it
     laid_steps : (t : Term H) (ns : List (Node H)) (d : List ℕ) (first : ℕ) → length ns ≡ first → IsWhole t →
-        make_all (in_postfix t) (laying ns d) ≡ Some (laying (ns ++ laid first t) (d ++ (first + node_count_of t - 1) ∷ []))
+        make_all (in_postfix t) (laying ns d) ≡ Some (laying (ns ++ layout_from first t) (d ++ (first + node_count_of t - 1) ∷ []))
     laid_steps absent ns d first l w = absurd w
     laid_steps (node h kids) ns d first l w =
         let own = making h (child_count kids) in
         let at = first + suc (node_count kids) - 1 in
-        let earlier = laid_all first kids in
+        let earlier = layouts_from first kids in
         let n : length (ns ++ earlier) ≡ at = omega (arith, length-append ns earlier, length_all first kids) in
         make_all-append (all_in_postfix kids) (own ∷ []) (laying ns d)
         ∙ (ap (λ (r : Option (Laying H)). after r (make_all (own ∷ []))) (all_steps kids ns d first l w)
         ∙ (ap (λ (r : Option (Laying H)). after r some_laying)
-        (make_taken own (ns ++ earlier) d (places first kids) at (length_places first kids) n)
+        (make_taken own (ns ++ earlier) d (root_indexes first kids) at (length_root_indexes first kids) n)
         ∙ ap (λ (x : List (Node H)). some_laying (laying x (d ++ at ∷ []))) (append_assoc ns earlier _)))
 
     all_steps : (ts : Terms H) (ns : List (Node H)) (d : List ℕ) (first : ℕ) → length ns ≡ first → AreWhole ts →
-        make_all (all_in_postfix ts) (laying ns d) ≡ Some (laying (ns ++ laid_all first ts) (d ++ places first ts))
+        make_all (all_in_postfix ts) (laying ns d) ≡ Some (laying (ns ++ layouts_from first ts) (d ++ root_indexes first ts))
     all_steps no_terms ns d first l w =
         ap₂ (λ (x : List (Node H)) (y : List ℕ). some_laying (laying x y)) (sym (append-nil ns)) (sym (append-nil d))
     all_steps (t ▸ ts) ns d first l w =
         let next = first + node_count_of t in
-        let n : length (ns ++ laid first t) ≡ next = omega (arith, length-append ns (laid first t), length_laid first t) in
+        let n : length (ns ++ layout_from first t) ≡ next = omega (arith, length-append ns (layout_from first t), length_laid first t) in
         make_all-append (in_postfix t) (all_in_postfix ts) (laying ns d)
         ∙ (ap (λ (r : Option (Laying H)). after r (make_all (all_in_postfix ts))) (laid_steps t ns d first l w.0)
-        ∙ (all_steps ts (ns ++ laid first t) (d ++ (next - 1) ∷ []) next n w.1
-        ∙ ap₂ (λ (x : List (Node H)) (y : List ℕ). some_laying (laying x y)) (append_assoc ns (laid first t) (laid_all next ts))
-        (append_assoc d ((next - 1) ∷ []) (places next ts))))
+        ∙ (all_steps ts (ns ++ layout_from first t) (d ++ (next - 1) ∷ []) next n w.1
+        ∙ ap₂ (λ (x : List (Node H)) (y : List ℕ). some_laying (laying x y)) (append_assoc ns (layout_from first t) (layouts_from next ts))
+        (append_assoc d ((next - 1) ∷ []) (root_indexes next ts))))
 
   -- a step that is made found its children
   found_children : (s : Piece H) (ss : List (Piece H)) (w v : Laying H) → make_all (s ∷ ss) w ≡ Some v → s.count ≤ length w.done
@@ -150,7 +147,7 @@ module _ {H : Type 0} where
       let more = made_count ss (put s w) v (made_rest s ss w v e) in
       omega (arith, more, length-append w.nodes (record { head = s.head; children = drop (length w.done - s.count) w.done } ∷ []))
 
-  -- the finished places stay below the nodes laid out
+  -- the finished indexes stay below the nodes laid out
   put_below : (s : Piece H) (w : Laying H) → All (λ (k : ℕ). k < length w.nodes) w.done →
       All (λ (k : ℕ). k < length (put s w).nodes) (put s w).done
   put_below s w below =
@@ -163,9 +160,9 @@ module _ {H : Type 0} where
 
   -- the tree, laid out and finished
   abbrev pub whole_of : Term H → Laying H
-  whole_of t = laying (laid 0 t) ((0 + node_count_of t - 1) ∷ [])
+  whole_of t = laying (layout_from 0 t) ((0 + node_count_of t - 1) ∷ [])
 
-  -- What is left, made from here, gives the whole; the finished places are below the nodes laid out.
+  -- What is left, made from here, gives the whole; the finished indexes are below the nodes laid out.
   pub record IsLaying (t : Term H) (pieces : List (Piece H)) (w : Laying H) : Type 0 where
     pub same : make_all pieces w ≡ Some (whole_of t)
     pub below : All (λ (k : ℕ). k < length w.nodes) w.done
@@ -180,7 +177,7 @@ module _ {H : Type 0} where
     record { same = made_rest p pieces w (whole_of t) h.same; below = put_below p w h.below },
   )
 
-  pub laying_ends : {t : Term H} {w : Laying H} → IsLaying t [] w → w.nodes ≡ laid 0 t
+  pub laying_ends : {t : Term H} {w : Laying H} → IsLaying t [] w → w.nodes ≡ layout_from 0 t
   laying_ends {t} {w} h = same_laying w (whole_of t) h.same
 
   -- the next piece by the ids of the code: a node over the last of the finished ones
@@ -195,7 +192,8 @@ module _ {H : Type 0} where
     pub own_added : (nodes' : List (Node H)) (done' : List ℕ) → nodes' ≡ nodes ++ record { head = n.head; children = last_ones ids finished } ∷ [] →
         done' ≡ first_ones ids finished ++ length nodes ∷ [] → IsLaying t rest (laying nodes' done')
     own_added nodes' done' a d =
-        let at : length finished - length ids ≡ length (numbers_of finished) - length n.children = omega (arith, as_many, length-map finished (λ (x : Id). x.0)) in
+        let at : length finished - length ids ≡ length (numbers_of finished) - length n.children =
+        omega (arith, as_many, length-map finished (λ (x : Id). x.0)) in
         let children_from : ℕ → Node H = λ z. record { head = n.head; children = drop z (numbers_of finished) } in
         subst (λ w. IsLaying t rest w)
         (sym (ap₂ laying a d ∙ ap (λ z. laying (nodes ++ children_from z ∷ []) (take z (numbers_of finished) ++ length nodes ∷ [])) at))
@@ -260,18 +258,18 @@ module _ {H : Type 0} (missing : H) where
     abbrev kids_at : ℕ → List ℕ
     kids_at i = (node_at ns i).children
 
-    -- what the tree of a place brings, and what its own node does
+    -- what the tree of an index brings, and what its own node does
     abbrev pub pieces_at : ℕ → List (Piece H)
     pieces_at i = in_postfix (tree_at ns i)
 
     abbrev pub own_at : ℕ → Piece H
     own_at i = own_of (node_at ns i)
 
-    abbrev pub pieces_left : List Stop → List (Piece H)
-    pieces_left way = left pieces_at own_at way
+    abbrev pub pieces_left : List Turn → List (Piece H)
+    pieces_left turns = left pieces_at own_at turns
 
-    abbrev pub measure : List Stop → ℕ
-    measure way = turns_left pieces_at own_at way
+    abbrev pub measure : List Turn → ℕ
+    measure turns = turns_left pieces_at own_at turns
 
     all_picked : (is : List ℕ) → all_in_postfix (pick (tree_at ns) is) ≡ flat_map pieces_at is
     all_picked [] = refl
@@ -287,12 +285,12 @@ module _ {H : Type 0} (missing : H) where
 
     -- ---- the invariant
 
-    -- What is left of the tree at `root` is left of its pieces, and the nodes on the way are there.
-    pub record IsWalk (root : ℕ) (way : List Stop) (w : Laying H) : Type 0 where
-      pub made : IsLaying (tree_at ns root) (pieces_left way) w
-      pub inside : All Inside (nodes_on way)
+    -- What is left of the tree at `root` is left of its pieces, and the nodes of the turns are there.
+    pub record IsWalk (root : ℕ) (turns : List Turn) (w : Laying H) : Type 0 where
+      pub made : IsLaying (tree_at ns root) (pieces_left turns) w
+      pub inside : AllOn Inside turns
 
-    walk_start : (root : ℕ) → AreBelow ns → root < length ns → IsWalk root (stop root (kids_at root) ∷ []) (laying [] [])
+    walk_start : (root : ℕ) → AreBelow ns → root < length ns → IsWalk root (turns_of root (kids_at root) ++ []) (laying [] [])
     walk_start root b l =
         let t = tree_at ns root in
         let all = entered pieces_at own_at root (kids_at root) [] (is_tree root b l) ∙ append-nil (pieces_at root) in
@@ -301,20 +299,20 @@ module _ {H : Type 0} (missing : H) where
           inside = entered_on Inside root (kids_at root) [] l (kids_inside root b l) (All-nil Inside);
         }
 
-    walk_down : {root i : ℕ} {w : Laying H} {old new later : List Stop} → AreBelow ns → GoesOn old new (Some (Child i)) →
-        later ≡ stop i (kids_at i) ∷ new → IsWalk root old w → IsWalk root later w × (measure later < measure old)
+    walk_down : {root i : ℕ} {w : Laying H} {old new later : List Turn} → AreBelow ns → old ≡ Child i ∷ new →
+        later ≡ turns_of i (kids_at i) ++ new → IsWalk root old w → IsWalk root later w × (measure later < measure old)
     walk_down {root} {i} {w} {old} {new} {later} b g e h =
         let on = child_on Inside g h.inside in
         let comes = child_comes pieces_at own_at (kids_at i) g e (is_tree i b on.0) in (
           record {
             made = subst (λ x. IsLaying (tree_at ns root) x w) (sym comes.0) h.made;
-            inside = subst (λ x. All Inside (nodes_on x)) (sym e) (entered_on Inside i (kids_at i) new on.0 (kids_inside i b on.0) on.1);
+            inside = subst (AllOn Inside) (sym e) (entered_on Inside i (kids_at i) new on.0 (kids_inside i b on.0) on.1);
           },
           comes.1,
         )
 
     -- the node that comes is the next piece
-    next_piece : {root i : ℕ} {w : Laying H} {old new : List Stop} → GoesOn old new (Some (Own i)) → IsWalk root old w →
+    next_piece : {root i : ℕ} {w : Laying H} {old new : List Turn} → old ≡ Own i ∷ new → IsWalk root old w →
         IsLaying (tree_at ns root) (own_at i ∷ pieces_left new) w
     next_piece {root} {i} {w} g h = subst (λ x. IsLaying (tree_at ns root) x w) (own_comes pieces_at own_at g).0 h.made
 
@@ -345,40 +343,41 @@ module _ {H : Type 0} (missing : H) where
     kids_are items i x l is = ap (λ (n : Node H). n.children) (node_at_is items i x l is)
 
     -- the root that is entered
-    pub start : (items : List A) (root : ℕ) (way : List Stop) (w : Laying H) (x : A) → AreBelow (nodes_in items) → root < length items →
-        x ≡ get_or items root x → way ≡ stop root (held x).children ∷ [] → w ≡ laying [] [] → IsWalk (nodes_in items) root way w
-    start items root way w x b l is e v =
+    pub start : (items : List A) (root : ℕ) (turns : List Turn) (w : Laying H) (x : A) → AreBelow (nodes_in items) → root < length items →
+        x ≡ get_or items root x → turns ≡ turns_of root (held x).children ++ [] → w ≡ laying [] [] → IsWalk (nodes_in items) root turns w
+    start items root turns w x b l is e v =
         let ns = nodes_in items in
         let n = length-held held items in
-        let to = ap (λ k. stop root k ∷ []) (kids_are items root x l is) ∙ sym e in
-        subst (λ y. IsWalk ns root y w) to (subst (λ y. IsWalk ns root (stop root (kids_at ns root) ∷ []) y) (sym v) (walk_start ns root b (omega arith)))
+        let to = ap (λ k. turns_of root k ++ []) (kids_are items root x l is) ∙ sym e in
+        subst (λ y. IsWalk ns root y w) to (subst (λ y. IsWalk ns root (turns_of root (kids_at ns root) ++ []) y) (sym v) (walk_start ns root b (omega arith)))
 
-    module _ (items : List A) {root : ℕ} {old new : List Stop} {i : ℕ} where
-      pub child_inside : {w : Laying H} → GoesOn old new (Some (Child i)) → IsWalk (nodes_in items) root old w → i < length items
+    module _ (items : List A) {root : ℕ} {old new : List Turn} {i : ℕ} where
+      pub child_inside : {w : Laying H} → old ≡ Child i ∷ new → IsWalk (nodes_in items) root old w → i < length items
       child_inside g h = let l = (child_on (Inside (nodes_in items)) g h.inside).0 in let n = length-held held items in omega arith
 
-      pub own_inside : {w : Laying H} → GoesOn old new (Some (Own i)) → IsWalk (nodes_in items) root old w → i < length items
+      pub own_inside : {w : Laying H} → old ≡ Own i ∷ new → IsWalk (nodes_in items) root old w → i < length items
       own_inside g h = let l = (own_on (Inside (nodes_in items)) g h.inside).0 in let n = length-held held items in omega arith
 
-      pub down : {w : Laying H} {later : List Stop} (x : A) → AreBelow (nodes_in items) → GoesOn old new (Some (Child i)) →
-          x ≡ get_or items i x → later ≡ stop i (held x).children ∷ new → IsWalk (nodes_in items) root old w →
+      pub down : {w : Laying H} {later : List Turn} (x : A) → AreBelow (nodes_in items) → old ≡ Child i ∷ new →
+          x ≡ get_or items i x → later ≡ turns_of i (held x).children ++ new → IsWalk (nodes_in items) root old w →
           IsWalk (nodes_in items) root later w × (measure (nodes_in items) later < measure (nodes_in items) old)
       down x b g is e h =
-          walk_down (nodes_in items) b g (e ∙ ap (λ k. stop i k ∷ new) (sym (kids_are items i x (child_inside g h) is))) h
+          walk_down (nodes_in items) b g (e ∙ ap (λ k. turns_of i k ++ new) (sym (kids_are items i x (child_inside g h) is))) h
 
-      next_own : {w : Laying H} {x : A} → GoesOn old new (Some (Own i)) → x ≡ get_or items i x → IsWalk (nodes_in items) root old w →
+      next_own : {w : Laying H} {x : A} → old ≡ Own i ∷ new → x ≡ get_or items i x → IsWalk (nodes_in items) root old w →
           IsLaying (tree_at (nodes_in items) root) (own_of (held x) ∷ pieces_left (nodes_in items) new) w
       next_own {w} {x} g is h =
           subst (λ n. IsLaying (tree_at (nodes_in items) root) (own_of n ∷ pieces_left (nodes_in items) new) w)
           (node_at_is items i x (own_inside g h) is) (next_piece (nodes_in items) g h)
 
-      -- the finished places of which an item's children are the last ones
-      pub found : {nodes : List (Node H)} {x : A} (finished ids : List Id) → GoesOn old new (Some (Own i)) → x ≡ get_or items i x →
+      -- the finished indexes of which an item's children are the last ones
+      pub found : {nodes : List (Node H)} {x : A} (finished ids : List Id) → old ≡ Own i ∷ new → x ≡ get_or items i x →
           (held x).children ≡ numbers_of ids → IsWalk (nodes_in items) root old (laying nodes (numbers_of finished)) →
           length ids ≤ length finished
       found finished ids g is k h = enough_finished finished ids k (next_own g is h)
 
-      pub own_done : {nodes nodes' : List (Node H)} {x : A} (finished finished' ids : List Id) → GoesOn old new (Some (Own i)) → x ≡ get_or items i x → (held x).children ≡ numbers_of ids →
+      pub own_done : {nodes nodes' : List (Node H)} {x : A} (finished finished' ids : List Id) → old ≡ Own i ∷ new → x ≡ get_or items i x →
+          (held x).children ≡ numbers_of ids →
           nodes' ≡ nodes ++ record { head = (held x).head; children = last_ones ids finished } ∷ [] →
           numbers_of finished' ≡ first_ones ids finished ++ length nodes ∷ [] →
           IsWalk (nodes_in items) root old (laying nodes (numbers_of finished)) →
@@ -393,7 +392,7 @@ module _ {H : Type 0} (missing : H) where
           )
 
       -- as long as a node is to be made, those made are fewer than the tree's
-      pub still_more : {w : Laying H} → GoesOn old new (Some (Own i)) → IsWalk (nodes_in items) root old w →
+      pub still_more : {w : Laying H} → old ≡ Own i ∷ new → IsWalk (nodes_in items) root old w →
           length w.nodes < node_count_of (tree_at (nodes_in items) root)
       still_more {w} g h =
           let ns = nodes_in items in
@@ -402,11 +401,11 @@ module _ {H : Type 0} (missing : H) where
           omega (arith, n, length_laid 0 t)
 
     -- the expression at the end
-    pub end_laid : (items : List A) {root : ℕ} {old new : List Stop} {w : Laying H} → GoesOn old new None → IsWalk (nodes_in items) root old w →
-        w.nodes ≡ laid 0 (tree_at (nodes_in items) root)
-    end_laid items {root} {old} {new} {w} g h =
+    pub end_laid : (items : List A) {root : ℕ} {old : List Turn} {w : Laying H} → old ≡ [] → IsWalk (nodes_in items) root old w →
+        w.nodes ≡ layout_from 0 (tree_at (nodes_in items) root)
+    end_laid items {root} {old} {w} e h =
         let ns = nodes_in items in
-        laying_ends (subst (λ x. IsLaying (tree_at ns root) x w) (goes_on (pieces_at ns) (own_at ns) g) h.made)
+        laying_ends (subst (λ x. IsLaying (tree_at ns root) x w) (ap (pieces_left ns) e) h.made)
 
     pub end_whole : (items : List A) (root : ℕ) → AreBelow (nodes_in items) → root < length items → IsWhole (tree_at (nodes_in items) root)
     end_whole items root b l = let n = length-held held items in whole_at (nodes_in items) root b (omega arith)

@@ -37,7 +37,6 @@ pub mod Answering
 pub mod RebuildLayout
 pub mod ReachedOnce
 pub mod ToldTree
-pub mod RebuildResults
 pub mod TreeTextLemmas
 pub mod EntryTreeLemmas
 pub mod TreeColorLemmas

@@ -1,11 +1,10 @@
 -- Every operator without a result raises the colour.
-use Rattle.std.proofs.Common.{◌≡◌, ℕ, zero, suc, ◌<◌, Bool, true, false, cond, ltb, List, [], ◌∷◌, length, Option, None, Some, refl}
-use Rattle.std.proofs.Common.{sym, ap, ◌∙◌, subst, arith}
-use Rattle.std.specs.Prelude.{slice_get, reverse}
+use Rattle.std.proofs.Common.{◌≡◌, ℕ, zero, suc, ◌<◌, Bool, true, false, cond, ltb, List, [], ◌∷◌, length, Option, None, Some, refl, sym, ap, ◌∙◌, arith}
+use Rattle.std.specs.Prelude.{⊤, slice_get, reverse}
 use Rattle.std.specs.List.{All}
 use Rattle.std.proofs.lemmas.Bool.{ltb-true}
-use Rattle.std.proofs.lemmas.List.{reverse-append}
-use Rattle.std.proofs.lemmas.List.Elements.{All-head, All-tail, All-append, All-cons, All-nil}
+use Rattle.std.proofs.lemmas.List.Elements.{All-cons, All-nil}
+use Rattle.std.proofs.lemmas.List.Sorted.{All-permutation, IsPermutation-reverse}
 use Rattle.wasm_code.specs.Instruction.{Instruction}
 use Rattle.wasm_code.specs.Table.{table, row_at, info_in, row_info_of}
 use Rattle.wasm_code.specs.declared.immediate.Imm.{Imm}
@@ -18,8 +17,8 @@ use Rattle.mutate_base.specs.Module.{Module, function_type}
 use Rattle.mutate_base.specs.declared.types.PrimitiveTypeInfo.{PrimitiveTypeInfo}
 use Rattle.mutate_base.specs.declared.types.TypeInfo.{TypeInfo}
 use Rattle.mutate_base.specs.declared.types.TypeInfo.TheVariants.{Func}
-use Rattle.peephole_graphs.specs.Shape.{Shape, Judged, Fits, Unfit, Unknown, and_shape, operator_shapes, shapes_of_block}
-use Rattle.peephole_graphs.specs.Shape.{has_result, call_shape, judge_callee, judge_call, judge_row, judge_found, judge}
+use Rattle.peephole_graphs.specs.Shape.{Shape, Judged, Fits, and_shape, operator_shapes, shapes_of_block, has_result, call_shape, judge_callee, judge_call}
+use Rattle.peephole_graphs.specs.Shape.{judge_row, judge_found, judge}
 
 abbrev pub Raises : Shape → Type 0
 Raises s = s.has_result ≡ false → 0 < s.change
@@ -41,8 +40,7 @@ both : {a b : Bool} → cond a b false ≡ true → (a ≡ true) × (b ≡ true)
 both {a = true} {b} e = (refl, e)
 both {a = false} {b} e = absurd cc
 
-raise_at : (rows : List Row) (n : ℕ) (info : RowInfo) → all_raise rows ≡ true → info_in (slice_get rows n) ≡ Some info →
-    raises info ≡ true
+raise_at : (rows : List Row) (n : ℕ) (info : RowInfo) → all_raise rows ≡ true → info_in (slice_get rows n) ≡ Some info → raises info ≡ true
 unfolding all_raise
 raise_at [] n info h e = absurd cc
 raise_at (row ∷ rows) zero info h e =
@@ -56,50 +54,39 @@ row_raises r info e = raise_at table r info table_raises e
 
 -- ---- by what an operator is judged as
 
-fits_raises : (s t : Shape) → Raises s → Fits s ≡ Fits t → Raises t
-fits_raises s t h e = let same : s ≡ t = cc in subst Raises same h
+abbrev DoesRaise : Judged → Type 0
+DoesRaise (Fits s) = Raises s
+DoesRaise _ = ⊤
 
-unfit_raises : (s : Shape) → Unfit ≡ Fits s → Raises s
-unfit_raises s e = absurd cc
+results_raise : (i : Instruction) (parameters : ℕ) (returns : List PrimitiveTypeInfo) → DoesRaise (call_shape i parameters returns)
+results_raise i parameters [] = λ w. omega arith
+results_raise i parameters (one ∷ []) = λ w. omega arith
+results_raise i parameters (one ∷ other ∷ more) = tt
 
-unknown_raises : (function : ℕ) (s : Shape) → Unknown function ≡ Fits s → Raises s
-unknown_raises function s e = absurd cc
+callee_raises : (i : Instruction) (function : ℕ) (type : Option TypeInfo) → DoesRaise (judge_callee i function type)
+callee_raises i function None = tt
+callee_raises i function (Some (Func type)) = results_raise i (length type.params) type.returns
 
-results_raise : (i : Instruction) (parameters : ℕ) (returns : List PrimitiveTypeInfo) (s : Shape) →
-    call_shape i parameters returns ≡ Fits s → Raises s
-results_raise i parameters [] s e =
-    fits_raises (record { instr = i; operands = parameters; has_result = false; change = 2 }) s (λ w. omega arith) e
-results_raise i parameters (one ∷ []) s e =
-    fits_raises (record { instr = i; operands = parameters; has_result = true; change = 1 }) s (λ w. omega arith) e
-results_raise i parameters (one ∷ other ∷ more) s e = unfit_raises s e
+call_raises : (info : Module) (i : Instruction) (imm : Imm) → DoesRaise (judge_call info i imm)
+call_raises info i (Index function) = callee_raises i function (function_type info function)
+call_raises info i _ = tt
 
-callee_raises : (i : Instruction) (function : ℕ) (type : Option TypeInfo) (s : Shape) → judge_callee i function type ≡
-    Fits s → Raises s
-callee_raises i function None s e = unknown_raises function s e
-callee_raises i function (Some (Func type)) s e = results_raise i (length type.params) type.returns s e
-
-call_raises : (info : Module) (i : Instruction) (imm : Imm) (s : Shape) → judge_call info i imm ≡ Fits s → Raises s
-call_raises info i (Index function) s e = callee_raises i function (function_type info function) s e
-call_raises info i _ s e = unfit_raises s e
-
-row_shape_raises : (i : Instruction) (row : RowInfo) (k : ℕ) → raises row ≡ true →
-    Raises (record { instr = i; operands = k; has_result = has_result row.result; change = row.change })
+row_shape_raises : (row : RowInfo) → raises row ≡ true → has_result row.result ≡ false → 0 < row.change
 unfolding raises
-row_shape_raises i row k h e = ltb-true 0 row.change (sym (ap (λ b. cond b true (ltb 0 row.change)) e) ∙ h)
+row_shape_raises row h e = ltb-true 0 row.change (sym (ap (λ b. cond b true (ltb 0 row.change)) e) ∙ h)
 
-found_raises : (info : Module) (i : Instruction) (found : Option RowInfo) (s : Shape) → ((row : RowInfo) → found ≡ Some row →
-    raises row ≡ true) → judge_found info i found ≡ Fits s → Raises s
-found_raises info i None s h e = unfit_raises s e
-found_raises info i (Some row) s h e = go row.operands e
+found_raises : (info : Module) (i : Instruction) (found : Option RowInfo) → ((row : RowInfo) → found ≡ Some row → raises row ≡ true) →
+    DoesRaise (judge_found info i found)
+found_raises info i None h = tt
+found_raises info i (Some row) h = go row.operands
   where
-    go : (o : Option ℕ) → judge_row info i row o ≡ Fits s → Raises s
-    go None u = call_raises info i i.imm s u
-    go (Some k) u = fits_raises (record { instr = i; operands = k; has_result = has_result row.result; change = row.change }) s
-        (row_shape_raises i row k (h row refl)) u
+    go : (o : Option ℕ) → DoesRaise (judge_row info i row o)
+    go None = call_raises info i i.imm
+    go (Some k) = row_shape_raises row (h row refl)
 
-operator_raises : (info : Module) (o : Operator) (s : Shape) → judge info o ≡ Fits s → Raises s
-operator_raises info (Instr i) s e = found_raises info i (row_info_of i.row) s (row_raises i.row) e
-operator_raises info _ s e = unfit_raises s e
+operator_raises : (info : Module) (o : Operator) → DoesRaise (judge info o)
+operator_raises info (Instr i) = found_raises info i (row_info_of i.row) (row_raises i.row)
+operator_raises info _ = tt
 
 -- ---- in a block
 
@@ -107,16 +94,11 @@ shapes_raise : (info : Module) (os : List (Operator × ℕ)) → All Raises (ope
 shapes_raise info [] = All-nil Raises
 shapes_raise info (o ∷ os) = go (judge info o.0) (operator_raises info o.0) (shapes_raise info os)
   where
-    go : (j : Judged) → ((s : Shape) → j ≡ Fits s → Raises s) → All Raises (operator_shapes info os) →
-        All Raises (and_shape j (operator_shapes info os))
-    go (Fits s) h w = All-cons Raises s (operator_shapes info os) (h s refl) w
-    go _ h w = w
-
-turned : (ss : List Shape) → All Raises ss → All Raises (reverse ss)
-turned [] h = h
-turned (s ∷ ss) h = subst (All Raises) (sym (reverse-append (s ∷ []) ss))
-    (All-append Raises (reverse ss) (s ∷ []) (turned ss (All-tail Raises s ss h)) (All-cons Raises s [] (All-head Raises s ss h)
-    (All-nil Raises)))
+    go : (j : Judged) → DoesRaise j → All Raises (operator_shapes info os) → All Raises (and_shape j (operator_shapes info os))
+    go (Fits s) h later = All-cons Raises s (operator_shapes info os) h later
+    go _ h later = later
 
 pub block_raises : (info : Module) (operators : List (Operator × ℕ)) → All Raises (shapes_of_block info operators)
-block_raises info operators = turned (operator_shapes info operators) (shapes_raise info operators)
+block_raises info operators =
+    let shapes = operator_shapes info operators in
+    All-permutation Raises shapes (reverse shapes) (IsPermutation-reverse shapes) (shapes_raise info operators)

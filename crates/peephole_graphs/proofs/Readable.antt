@@ -1,6 +1,5 @@
 -- How entry operands stand in a forest: one is taken only while no open tree stands, and they are numbered as they are taken.
-use Rattle.std.proofs.Common.{◌≡◌, ℕ, zero, suc, ◌+◌, ◌-◌, ◌<◌, true, List, [], ◌∷◌}
-use Rattle.std.proofs.Common.{length, refl, sym, ap, ap₂, ◌∙◌, subst, subst₂, arith, inl, inr}
+use Rattle.std.proofs.Common.{◌≡◌, ℕ, zero, suc, ◌+◌, ◌-◌, ◌<◌, true, List, [], ◌∷◌, length, refl, sym, ap, ap₂, ◌∙◌, subst, subst₂, arith, inl, inr}
 use Rattle.std.specs.Prelude.{⊤}
 use Rattle.std.proofs.lemmas.Bool.{cases_Bool, cases_lt}
 use Rattle.peephole_graphs.specs.Shape.{Shape}
@@ -8,7 +7,7 @@ use Rattle.peephole_graphs.specs.Tree.{entry, node, Trees, no_trees, ◌▸◌, 
 use Rattle.peephole_graphs.proofs.Depth.{top}
 use Rattle.peephole_graphs.proofs.DepthLemmas.{top_same, top_first}
 use Rattle.peephole_graphs.proofs.Stacked.{is_open, opens, forest_value, kept, pulled, stacked, missing, forest_value_top, forest_value_under}
-use Rattle.peephole_graphs.proofs.Stacked.{forest_value_done, kept_open, kept_done, pulled_open, pulled_done, opens_open, opens_done}
+use Rattle.peephole_graphs.proofs.Stacked.{forest_value_done, kept_open, kept_done, pulled_open, pulled_done, opens_done}
 use Rattle.peephole_graphs.proofs.ForestLemmas.{rev, join_nil}
 
 -- how many trees
@@ -42,10 +41,7 @@ pub data Reads : ℕ → ℕ → Trees → ℕ → Type 0 where
 pub open_pulled : (forest : Trees) (k : ℕ) → AllOpen (pulled forest k)
 open_pulled no_trees k = tt
 open_pulled (t ▸ forest) zero = tt
-open_pulled (t ▸ forest) (suc k) = elim (cases_Bool (is_open t)) [
-  | inl e ↦ subst AllOpen (sym (pulled_open t forest k e)) (e, open_pulled forest k)
-  | inr e ↦ subst AllOpen (sym (pulled_done t forest (suc k) e)) (open_pulled forest (suc k))
-]
+open_pulled (t ▸ forest) (suc k) = elim (cases_Bool (is_open t)) [ inl e ↦ rw e (e, open_pulled forest k) | inr e ↦ rw e (open_pulled forest (suc k)) ]
 
 pub count_pulled : (forest : Trees) (k : ℕ) → (k - opens forest) + count (pulled forest k) ≡ k
 count_pulled no_trees k = omega arith
@@ -75,15 +71,10 @@ top_pulled (t ▸ forest) m (suc k) =
     let g = forest_value forest m in
     elim (cases_Bool (is_open t)) [
       | inl e ↦
-          let n : k - opens forest ≡ suc k - opens (t ▸ forest) = let o = opens_open t forest e in omega arith in
-          top_first f k ∙ (ap₂ (λ x y. join x (y ▸ no_trees))
-          (top_same (λ d. f (suc d)) g (λ d. forest_value_under t forest m d e) k ∙ top_pulled forest m k)
-          (forest_value_top t forest m e) ∙ (join_assoc (entries m (k - opens forest)) (rev (pulled forest k)) (t ▸ no_trees)
-          ∙ ap₂ (λ x y. join (entries m x) (rev y)) n (sym (pulled_open t forest k e))))
-      | inr e ↦
-          let n : suc k - opens forest ≡ suc k - opens (t ▸ forest) = let o = opens_done t forest e in omega arith in
-          top_same f g (λ d. forest_value_done t forest m d e) (suc k)
-          ∙ (top_pulled forest m (suc k) ∙ ap₂ (λ x y. join (entries m x) (rev y)) n (sym (pulled_done t forest (suc k) e)))
+          let n : suc k - suc (opens forest) ≡ k - opens forest = omega arith in
+          rw (e, n) (top_first f k ∙ (ap₂ (λ x y. join x (y ▸ no_trees)) (top_same (λ d. f (suc d)) g (λ d. forest_value_under t forest m d e) k
+          ∙ top_pulled forest m k) (forest_value_top t forest m e) ∙ join_assoc (entries m (k - opens forest)) (rev (pulled forest k)) (t ▸ no_trees)))
+      | inr e ↦ rw e (top_same f g (λ d. forest_value_done t forest m d e) (suc k) ∙ top_pulled forest m (suc k))
     ]
 
 no_more : (more n : ℕ) → 0 < n → (0 < more → n ≡ 0) → more ≡ 0
@@ -91,8 +82,7 @@ no_more more n l z = grind arith
 
 -- a tree that is read where an open one stands has no entry operand, and can be read anywhere
 moved : {n m1 m2 more : ℕ} {s : Shape} {kids operands : Trees} (i m0 : ℕ) → Operands n s kids operands m1 more m2 → 0 < n →
-    (m0 ≡ m1) × ((a b : ℕ) → Reads a b operands b) →
-    (m0 ≡ m2) × ((a b c : ℕ) (ts : Trees) → Reads a b ts c → Reads a b (node i s kids ▸ ts) c)
+    (m0 ≡ m1) × ((a b : ℕ) → Reads a b operands b) → (m0 ≡ m2) × ((a b c : ℕ) (ts : Trees) → Reads a b ts c → Reads a b (node i s kids ▸ ts) c)
 moved {n = n} {m1 = m1} {more = more} {s = s} {kids = kids} {operands = operands} i m0 o l q =
     let none = no_more more n l o.alone in
     let same = q.0 in
@@ -135,15 +125,13 @@ split_done : (stand m m0 k i : ℕ) {m1 m2 more : ℕ} {s : Shape} {kids operand
 split_done stand m m0 k i {m1} {m2} {more} {s} {kids} {operands} ts o q (a, A, B) = elim (cases_lt 0 (stand + opens ts)) [
   | inl l ↦
       let (v, rv) = moved i m0 o l (closed q l) in
-      (a, rv stand m a (kept ts (suc k)) A, subst (Reads (stand + opens (kept ts (suc k))) a (pulled ts (suc k))) v B)
+      (a, rv stand m a (kept ts (suc k)) A, rw v at B)
   | inr l ↦
       let none = pulled_none ts (suc k) (omega arith) in
       let left = opens_kept ts (suc k) in
       let n : stand + opens ts ≡ stand + opens (kept ts (suc k)) = omega arith in
-      let front = subst (λ x. Reads stand m (kept ts (suc k)) x) (read_none B none) A in
-      let one = one_more {m2 = m2} i s kids operands more front (subst (λ x. Reads x m0 operands m1) n q)
-      (subst (λ x. Operands x s kids operands m1 more m2) n o) in
-      (m2, one, subst (λ x. Reads (stand + opens (kept ts (suc k))) m2 x m2) (sym none) nothing)
+      let front = rw (read_none B none) at A in
+      (m2, one_more i s kids operands more front (rw n at q) (rw n at o), rw none nothing)
 ]
 
 split : {stand m m' : ℕ} {ts : Trees} (k : ℕ) → Reads stand m ts m' → AreRead stand m (kept ts k) (pulled ts k) m'
@@ -154,14 +142,12 @@ split {stand} {m} {m'} (suc k) (one_more {m0 = m0} {m1 = m1} {ts = ts} i s kids 
       let (a, A, B) = split k r in
       let both = opens_split ts k in
       let n : stand + opens ts ≡ (stand + opens (kept ts k)) + opens (pulled ts k) = omega arith in
-      let one = one_more {m2 = m'} i s kids operands more B (subst (λ x. Reads x m0 operands m1) n q)
-      (subst (λ x. Operands x s kids operands m1 more m') n o) in
+      let one = one_more {m2 = m'} i s kids operands more B (rw n at q) (rw n at o) in
       subst₂ (λ x y. AreRead stand m x y m') (sym (kept_open (node i s kids) ts k h)) (sym (pulled_open (node i s kids) ts k h)) (a, A, one)
   | inr h ↦
       let (b, C, D) = split_done stand m m0 k i ts o q (split (suc k) r) in
       let later = subst (λ x. Reads (stand + x) b (pulled ts (suc k)) m') (sym (opens_done (node i s kids) (kept ts (suc k)) h)) D in
-      subst₂ (λ x y. AreRead stand m x y m') (sym (kept_done (node i s kids) ts (suc k) h))
-      (sym (pulled_done (node i s kids) ts (suc k) h)) (b, C, later)
+      subst₂ (λ x y. AreRead stand m x y m') (sym (kept_done (node i s kids) ts (suc k) h)) (sym (pulled_done (node i s kids) ts (suc k) h)) (b, C, later)
 ]
 
 pub reads_stacked : (block : List Shape) → Reads 0 0 (stacked block) (missing block)

@@ -1,8 +1,7 @@
 -- Sizes and flags of a graph that grows.
-use Rattle.std.proofs.Common.{◌≡◌, ℕ, zero, suc, ◌+◌, ◌<◌, ◌≤◌, Bool, true, false, List, [], ◌∷◌, ◌++◌, length, refl, sym, ap, ap₂, ◌∙◌, arith, ⊎_elim}
+use Rattle.std.proofs.Common.{◌≡◌, ℕ, zero, suc, ◌+◌, ◌<◌, ◌≤◌, Bool, true, false, List, [], ◌∷◌, ◌++◌, length, refl, ap, ap₂, ◌∙◌, arith, ⊎_elim}
 use Rattle.std.specs.Prelude.{◌&&◌, ◌==◌, reverse, replicate}
 use Rattle.std.specs.List.{All, flat_map, sum_by}
-use Rattle.std.proofs.Math.Bool.{and-true, and-false, and_assoc, and_comm}
 use Rattle.std.proofs.lemmas.Bool.Decides.{nat_tests}
 use Rattle.std.proofs.lemmas.Bool.{cond-true, cond-false, cond_both, eq-eqb, ne_eqb, cases_eq}
 use Rattle.std.proofs.lemmas.Grind.{flat_map-append}
@@ -12,7 +11,8 @@ use Rattle.std.proofs.lemmas.List.Elements.{All-head, All-tail, All-nil, All-pus
 use Rattle.std.proofs.lemmas.List.Sums.{sum_by-append, sum_by-cons}
 use Rattle.peephole_graphs.specs.Graph.{item}
 use Rattle.peephole_graphs.specs.Step.{down}
-use Rattle.peephole_graphs.specs.Downwards.{Kin, downwards, kin_at, are_colored, sizes_of, flags_of, are_alike}
+use Rattle.peephole_graphs.specs.Downwards.{Kin, downwards, kin_at}
+use Rattle.peephole_graphs.specs.Measures.{are_colored, sizes_of, flags_of, are_alike}
 use Rattle.peephole_graphs.proofs.Lists.{all_reverse, all_flat_map, sum_by-reverse, sum_by_same}
 use Rattle.peephole_graphs.proofs.StackGraph.{behind}
 use Rattle.peephole_graphs.proofs.Standing.{at_old, at_more, item_last, item_before}
@@ -175,7 +175,8 @@ flags_step new u more xs taken e v l d h =
     (all_reverse (λ i. i < length xs) taken h)
     (λ i b. ap (are_colored zs c) (down_old u more xs i b) ∙ (colored_same zs xs c (length xs) (downwards xs i) (down_below xs i) old ∙ alike xs c i b)) ∙
     alike_reverse (item false (flags_of xs)) (λ i. (kin_at xs i).color) c taken in
-    let kids = ap (λ x. are_colored zs c (flat_map (downwards ys) x)) d ∙ ap (are_colored zs c) (flat_map-append (downwards ys) (down (length xs) more) (reverse taken)) in
+    let kids = ap (λ x. are_colored zs c (flat_map (downwards ys) x)) d ∙
+    ap (are_colored zs c) (flat_map-append (downwards ys) (down (length xs) more) (reverse taken)) in
     let own = ap (are_colored zs c) (down_own new ys) ∙ colored_append zs c (flat_map (downwards ys) new.children) (length ys ∷ []) in
     let parts = colored_append zs c (flat_map (downwards ys) (down (length xs) more)) (flat_map (downwards ys) (reverse taken)) in
     ap₂ (λ x y. x ∷ y) (grind (arith, nat_tests)) (flags_replicate u more xs e)

@@ -1,11 +1,11 @@
 -- A tree whose entries stand one behind another is laid out as these entries are, with lowered children.
-use Rattle.std.proofs.Common.{◌≡◌, ℕ, zero, suc, ◌+◌, ◌-◌, ◌<◌, ◌≤◌, ◌^◌, inl, inr, true, List, [], ◌∷◌, ◌++◌, length, get_or, take, drop, map, refl, sym, ap}
+use Rattle.std.proofs.Common.{◌≡◌, ℕ, zero, suc, ◌+◌, ◌-◌, ◌<◌, ◌≤◌, ◌^◌, true, List, [], ◌∷◌, ◌++◌, length, get_or, take, drop, map, refl, sym, ap}
 use Rattle.std.proofs.Common.{ap₂, subst, ◌∙◌, arith, slice_range}
 use Rattle.std.specs.Prelude.{◌==◌, reverse, slice_index}
 use Rattle.std.specs.List.{All, flat_map, sum_by}
 use Rattle.std.proofs.Math.Seq.{take-add, take-suc}
 use Rattle.std.proofs.lemmas.Bool.Decides.{nat_tests}
-use Rattle.std.proofs.lemmas.Bool.{cond-true, cond-false, eq-eqb, ne_eqb, cases_eq, eqb-true, and_parts}
+use Rattle.std.proofs.lemmas.Bool.{eqb-true, and_parts}
 use Rattle.std.proofs.lemmas.List.{map-append, map_more, length-append, length-map, length-drop, length-take, drop-drop, drop-map, take-map, get_or-take}
 use Rattle.std.proofs.lemmas.List.{get_or-map, get_or-drop, get_or_default}
 use Rattle.std.proofs.lemmas.List.Sums.{sum_by-cons}
@@ -16,10 +16,11 @@ use Rattle.peephole_lang.specs.declared.lang.Lang.TheVariants.{Undef}
 use Rattle.peephole_lang.specs.Node.{head_of, node_of, children_of}
 use Rattle.peephole_lang.specs.Term.{Term, node, Node, pick, tree_at}
 use Rattle.peephole_graphs.specs.declared.dfg.StackEntry.{StackEntry}
-use Rattle.peephole_graphs.specs.Downwards.{Kin, downwards, sizes_of}
+use Rattle.peephole_graphs.specs.Downwards.{Kin, downwards}
+use Rattle.peephole_graphs.specs.Measures.{sizes_of}
 use Rattle.peephole_graphs.specs.Entries.{kin, kins_of, children_at}
-use Rattle.peephole_graphs.specs.Layout.{node_count_of, node_count, places, laid, laid_all, entry_nodes, IsWhole}
-use Rattle.peephole_graphs.specs.Span.{lie_behind, IsSpan, HoldsItsChildren, lowered}
+use Rattle.peephole_graphs.specs.Layout.{node_count_of, node_count, root_indexes, layout_from, layouts_from, entry_nodes, IsWhole}
+use Rattle.peephole_graphs.specs.Span.{lie_behind, IsSpan, HoldsItsChildren, node_from}
 use Rattle.peephole_graphs.proofs.DfgLemmas.{map_reverse, size_read}
 use Rattle.peephole_graphs.proofs.LayoutWalk as walk
 use Rattle.peephole_graphs.proofs.LayoutLemmas.{some_nodes}
@@ -52,18 +53,18 @@ tree_size entries sizes h i l = ap (λ (x : List (Node Head)). node_count_of (tr
 
 -- ---- the layout of a tree whose entries stand one behind another
 
--- The trees of places up to `root`, of nodes whose trees have `size` nodes; `copy` is the nodes with lowered children.
+-- The trees of indexes up to `root`, of nodes whose trees have `size` nodes; `copy` is the nodes with lowered children.
 record Spanning {H : Type 0} (own : ℕ → Node H) (tree : ℕ → Term H) (size_at : ℕ → ℕ) (start root : ℕ) (copy : List (Node H)) : Type 0 where
   is : (i : ℕ) → i ≤ root → tree i ≡ node (own i).head (pick tree (own i).children)
   below : (i : ℕ) → i ≤ root → All (λ c. c < i) (own i).children
   count : (i : ℕ) → i ≤ root → node_count_of (tree i) ≡ size_at i
   behind : (i : ℕ) → start ≤ i → i ≤ root → lie_behind size_at (i + 1 - size_at i) (own i).children ≡ true
   long : root < length copy
-  copied : (i : ℕ) → i ≤ root → (d : Node H) → get_or copy i d ≡ lowered start (own i)
+  copied : (i : ℕ) → i ≤ root → (d : Node H) → get_or copy i d ≡ node_from start (own i)
 
--- what is laid out of the tree of a place is the copy of the nodes from `at` on
+-- what is laid out of the tree of an index is the copy of the nodes from `at` on
 abbrev IsCopied : {H : Type 0} → (ℕ → Term H) → (ℕ → ℕ) → ℕ → List (Node H) → ℕ → Type 0
-IsCopied tree size_at start copy c = laid ((c + 1 - size_at c) - start) (tree c) ≡ take (size_at c) (drop (c + 1 - size_at c) copy)
+IsCopied tree size_at start copy c = layout_from ((c + 1 - size_at c) - start) (tree c) ≡ take (size_at c) (drop (c + 1 - size_at c) copy)
 
 module _ {H : Type 0} (tree : ℕ → Term H) (size_at : ℕ → ℕ) (n : ℕ) (count : (i : ℕ) → i < n → node_count_of (tree i) ≡ size_at i) where
   total_size : (is : List ℕ) → All (λ i. i < n) is → node_count (pick tree is) ≡ sum_by size_at is
@@ -73,7 +74,8 @@ module _ {H : Type 0} (tree : ℕ → Term H) (size_at : ℕ → ℕ) (n : ℕ) 
 
   copied_all : (start : ℕ) (copy : List (Node H)) → ((c : ℕ) → c < n → start + size_at c ≤ c + 1 → IsCopied tree size_at start copy c) →
       (cs : List ℕ) (at : ℕ) → start ≤ at → All (λ c. c < n) cs → lie_behind size_at at cs ≡ true →
-      (laid_all (at - start) (pick tree cs) ≡ take (sum_by size_at cs) (drop at copy)) × (places (at - start) (pick tree cs) ≡ map (λ c. c - start) cs)
+      (layouts_from (at - start) (pick tree cs) ≡ take (sum_by size_at cs) (drop at copy))
+      × (root_indexes (at - start) (pick tree cs) ≡ map (λ c. c - start) cs)
   copied_all start copy older [] at l b h = (refl, refl)
   copied_all start copy older (c ∷ cs) at l b h =
       let p = and_parts (suc c == at + size_at c) (lie_behind size_at (suc c) cs) h in
@@ -85,12 +87,12 @@ module _ {H : Type 0} (tree : ℕ → Term H) (size_at : ℕ → ℕ) (n : ℕ) 
       let first : c + 1 - size ≡ at = omega arith in
       let next : (at - start) + node_count_of (tree c) ≡ suc c - start = omega arith in
       let own : (at - start) + node_count_of (tree c) - 1 ≡ c - start = omega arith in
-      let one = subst (λ a. laid (a - start) (tree c) ≡ take size (drop a copy)) first (older c m (omega arith)) in
+      let one = subst (λ a. layout_from (a - start) (tree c) ≡ take size (drop a copy)) first (older c m (omega arith)) in
       let rest = copied_all start copy older cs (suc c) (omega arith) (All-tail (λ c. c < n) c cs b) p.1 in (
-        ap₂ (λ x y. x ++ y) one (ap (λ f. laid_all f (pick tree cs)) next ∙ (rest.0 ∙ ap (λ a. take others (drop a copy)) e))
+        ap₂ (λ x y. x ++ y) one (ap (λ f. layouts_from f (pick tree cs)) next ∙ (rest.0 ∙ ap (λ a. take others (drop a copy)) e))
             ∙ (ap (λ x. take size (drop at copy) ++ take others x) (sym (drop-drop size at copy)) ∙
             (sym (take-add size others (drop at copy)) ∙ ap (λ k. take k (drop at copy)) (sym (sum_by-cons size_at c cs)))),
-        ap₂ (λ x y. x ∷ y) own (ap (λ f. places f (pick tree cs)) next ∙ rest.1),
+        ap₂ (λ x y. x ∷ y) own (ap (λ f. root_indexes f (pick tree cs)) next ∙ rest.1),
       )
 
 module _ {H : Type 0} (own : ℕ → Node H) (tree : ℕ → Term H) (size_at : ℕ → ℕ) (start root : ℕ) (copy : List (Node H))
@@ -111,7 +113,7 @@ module _ {H : Type 0} (own : ℕ → Node H) (tree : ℕ → Term H) (size_at : 
       let long = s.long in
       let there : k < length (drop at copy) = omega (arith, length-drop at copy) in
       let own_is = get_or-drop at copy k (own j) ∙ (ap (λ x. get_or copy x (own j)) last ∙ s.copied j r (own j)) in
-      ap (laid (at - start)) (s.is j r) ∙ (ap₂ (λ x y. x ++ made y ∷ []) all.0 all.1 ∙ (ap (λ x. take k (drop at copy) ++ x ∷ []) (sym own_is)
+      ap (layout_from (at - start)) (s.is j r) ∙ (ap₂ (λ x y. x ++ made y ∷ []) all.0 all.1 ∙ (ap (λ x. take k (drop at copy) ++ x ∷ []) (sym own_is)
       ∙ (sym (take-suc (drop at copy) k (own j) there) ∙ ap (λ x. take x (drop at copy)) (sym some))))
 
 -- ---- the entries of a graph
@@ -123,7 +125,7 @@ abbrev own_node : List StackEntry → ℕ → Node Head
 own_node entries i = node_of_entry (get_or entries i some_entry)
 
 abbrev copied_entry : ℕ → StackEntry → Node Head
-copied_entry start e = lowered start (node_of_entry e)
+copied_entry start e = node_from start (node_of_entry e)
 
 abbrev copy_of : ℕ → List StackEntry → List (Node Head)
 copy_of start entries = map (copied_entry start) entries
@@ -197,7 +199,7 @@ module _ (entries : List StackEntry) (sizes : List ℕ) (start root : ℕ) (c : 
       (l, omega arith)
 
   pub span_laid : {L : Type 0} (node_of : L → Node Head) (expr : List L) →
-      map node_of expr ≡ map (copied_entry start) (slice_range entries start (root + 1)) → map node_of expr ≡ laid 0 (tree_at (entry_nodes entries) root)
+      map node_of expr ≡ map (copied_entry start) (slice_range entries start (root + 1)) → map node_of expr ≡ layout_from 0 (tree_at (entry_nodes entries) root)
   span_laid node_of expr e =
       let f = copied_entry start in
       let k = root + 1 - start in
@@ -208,7 +210,7 @@ module _ (entries : List StackEntry) (sizes : List ℕ) (start root : ℕ) (c : 
       let long : k ≡ size = omega arith in
       let none : (root + 1 - size) - start ≡ 0 = omega arith in
       e ∙ (sym (take-map f k (drop start entries)) ∙ (ap (take k) (sym (drop-map f start entries))
-      ∙ (ap₂ (λ n a. take n (drop a (copy_of start entries))) long at ∙ (sym copied ∙ ap (λ a. laid a (tree_at (entry_nodes entries) root)) none))))
+      ∙ (ap₂ (λ n a. take n (drop a (copy_of start entries))) long at ∙ (sym copied ∙ ap (λ a. layout_from a (tree_at (entry_nodes entries) root)) none))))
 
   pub span_holds : HoldsItsChildren start (slice_range entries start (root + 1))
   span_holds k l =

@@ -1,6 +1,6 @@
 -- The forest of a block as it grows: an operator takes the last trees that stand open, or entry operands, and stands behind the others. The last tree is first.
-use Rattle.std.proofs.Common.{◌≡◌, ℕ, zero, suc, ◌+◌, ◌-◌, Bool, true, false, cond, List, [], ◌∷◌, length, refl, sym, ap, ap₂, ◌∙◌, arith, inl, inr}
-use Rattle.std.proofs.lemmas.Bool.{cond-true, cond-false, cases_Bool}
+use Rattle.std.proofs.Common.{◌≡◌, ℕ, zero, suc, ◌+◌, ◌-◌, Bool, true, false, cond, List, [], ◌∷◌, length, refl, sym, ap, ap₂, ◌∙◌, arith}
+use Rattle.std.proofs.lemmas.Bool.{cond-true, cond-false}
 use Rattle.peephole_graphs.specs.Shape.{Shape}
 use Rattle.peephole_graphs.specs.Tree.{Tree, entry, node, Trees, no_trees, ◌▸◌}
 use Rattle.peephole_graphs.proofs.Depth.{top, value}
@@ -49,9 +49,6 @@ kept_zero (t ▸ forest) = refl
 pub pulled_zero : (forest : Trees) → pulled forest 0 ≡ no_trees
 pulled_zero no_trees = refl
 pulled_zero (t ▸ forest) = refl
-
-pub opens_open : (t : Tree) (forest : Trees) → is_open t ≡ true → opens (t ▸ forest) ≡ suc (opens forest)
-opens_open t forest e = cond-true _ _ _ e
 
 pub opens_done : (t : Tree) (forest : Trees) → is_open t ≡ false → opens (t ▸ forest) ≡ opens forest
 opens_done t forest e = cond-false _ _ _ e

@@ -1,10 +1,10 @@
 -- The graph that is built stands for its block.
-use Rattle.std.proofs.Common.{◌≡◌, ℕ, zero, suc, ◌+◌, ◌-◌, ◌<◌, ◌≤◌, Bool, true, false, cond, List, [], ◌∷◌, ◌++◌, length, take, Option, None, Some, refl}
-use Rattle.std.proofs.Common.{sym, ap, ap₂, ◌∙◌, subst, arith, ⊎_elim, inl, inr}
+use Rattle.std.proofs.Common.{◌≡◌, ℕ, zero, suc, ◌+◌, ◌-◌, ◌<◌, ◌≤◌, Bool, true, false, List, [], ◌∷◌, ◌++◌, length, take, Option, None, Some, refl}
+use Rattle.std.proofs.Common.{sym, ap, ◌∙◌, subst, arith, ⊎_elim, inl, inr}
 use Rattle.std.specs.Prelude.{◌⊎◌, ◌==◌, reverse, replicate, if◌then◌else◌}
 use Rattle.std.specs.List.{filter}
 use Rattle.std.proofs.lemmas.Bool.Decides.{nat_tests}
-use Rattle.std.proofs.lemmas.Bool.{cond-true, cond-false, eq-eqb, ne_eqb, eqb-true, or_cases, or_left, or_right, cases_lt, cases_eq, cases_Bool, false≢true}
+use Rattle.std.proofs.lemmas.Bool.{cond-true, cond-false, eq-eqb, ne_eqb, or_left, or_right, cases_lt, cases_eq, cases_Bool, false≢true}
 use Rattle.std.proofs.lemmas.Bool.{false_from_ne_true}
 use Rattle.std.proofs.lemmas.List.Elements.{All-take, All-filter, filter_passes}
 use Rattle.peephole_graphs.specs.Shape.{Shape}
@@ -15,7 +15,7 @@ use Rattle.peephole_graphs.specs.Graph.{undef, GraphEntry, undefs, tree_at_entry
 use Rattle.peephole_graphs.proofs.Stands.{entry_at, parent_at, standing, lacking, IsOperator, IsEntryOf, is_operator, Stands}
 use Rattle.peephole_graphs.specs.Step.{down, mark, Growth, grown}
 use Rattle.peephole_graphs.proofs.Lists.{has_append, has_reverse, has_either, has_itself, has_each}
-use Rattle.peephole_graphs.proofs.Stacked.{is_open, opens, kept, stacked, opens_open, opens_done, kept_open, kept_done}
+use Rattle.peephole_graphs.proofs.Stacked.{is_open, opens, kept, stacked}
 use Rattle.peephole_graphs.proofs.Once.{children_once}
 use Rattle.peephole_graphs.proofs.StackGraph.{graph, IsGraph, is_graph, graph_forest, open_at, stack_length, length-mark, behind, more_of, place_of, taken_of}
 use Rattle.peephole_graphs.proofs.StackGraph.{new_entry}

@@ -1,29 +1,26 @@
 -- The trees are in order exactly if the operators of each tree have consecutive numbers.
-use Rattle.std.proofs.Common.{◌≡◌, ℕ, zero, suc, ◌+◌, ◌-◌, ◌<◌, ◌≤◌, true, false, List, [], ◌∷◌, ◌++◌}
-use Rattle.std.proofs.Common.{length, refl, sym, ap, ap₂, ◌∙◌, arith, ⊎_elim, inl, inr, append_assoc}
+use Rattle.std.proofs.Common.{◌≡◌, ℕ, zero, suc, ◌+◌, ◌-◌, ◌<◌, ◌≤◌, true, false, List, [], ◌∷◌, ◌++◌, length, refl, sym, ap, ap₂, ◌∙◌, arith, ⊎_elim, inl}
+use Rattle.std.proofs.Common.{inr, append_assoc}
 use Rattle.std.specs.Prelude.{◌⊎◌, ◌||◌, ◌==◌}
-use Rattle.std.proofs.lemmas.Bool.{eq-eqb, eqb-true, or_cases, or_left, or_right, cases_Bool, cases_eq, cases_lt, false≢true}
+use Rattle.std.proofs.lemmas.Bool.Decides.{nat_tests}
+use Rattle.std.proofs.lemmas.Bool.{eq-eqb, eqb-true, or_cases, or_left, or_right, cases_Bool, cases_lt, false≢true}
 use Rattle.std.proofs.lemmas.List.{append-nil, same_from_push, length-append}
 use Rattle.peephole_graphs.specs.Shape.{Shape}
-use Rattle.peephole_graphs.specs.Tree.{Tree, entry, node, Trees, no_trees, ◌▸◌, postfix_of, postfix, range_from}
+use Rattle.peephole_graphs.specs.Tree.{Tree, entry, node, Trees, no_trees, ◌▸◌, join, postfix_of, postfix, range_from}
 use Rattle.peephole_graphs.specs.Forest.{operator_tree, is_root, has, IsInOrder, AreTogether}
 use Rattle.peephole_graphs.proofs.Depth.{top}
 use Rattle.peephole_graphs.proofs.DepthLemmas.{numbers-join, range_more}
-use Rattle.peephole_graphs.proofs.Stacked.{is_open, opens, forest_value, kept, pulled, stacked, missing}
-use Rattle.peephole_graphs.proofs.Stacked.{kept_open, kept_done, pulled_open, pulled_done, operator}
-use Rattle.peephole_graphs.proofs.ForestLemmas.{rev, or_assoc, forest_is, Falling, Falling-stacked, tree_of_stacked, root_below}
-use Rattle.peephole_graphs.proofs.Readable.{entries, top_pulled, AllOpen, open_pulled}
+use Rattle.peephole_graphs.proofs.Stacked.{is_open, opens, forest_value, kept, pulled, stacked, missing, kept_open, kept_done, pulled_done, operator}
+use Rattle.peephole_graphs.proofs.ForestLemmas.{rev, join_nil, forest_is, Falling, Falling-stacked, tree_of_stacked, root_below}
+use Rattle.peephole_graphs.proofs.Readable.{join_assoc, entries, top_pulled, AllOpen, open_pulled}
 
 has_append : (j : ℕ) (is js : List ℕ) → has j (is ++ js) ≡ (has j is || has j js)
 has_append j [] js = refl
-has_append j (i ∷ is) js = ap (λ x. (i == j) || x) (has_append j is js) ∙ sym (or_assoc (i == j) (has j is) (has j js))
+has_append j (i ∷ is) js = grind (arith, has_append j is js)
 
 has_range : (j a n : ℕ) → a ≤ j → j < a + n → has j (range_from a n) ≡ true
 has_range j a zero l h = absurd (omega arith)
-has_range j a (suc n) l h = elim (cases_eq a j) [
-  | inl e ↦ or_left (a == j) _ (eq-eqb a j e)
-  | inr e ↦ or_right (a == j) _ (has_range j (suc a) n (omega arith) (omega arith))
-]
+has_range j a (suc n) l h = grind (arith, nat_tests, has_range j (suc a) n)
 
 range_has : (j a n : ℕ) → has j (range_from a n) ≡ true → (a ≤ j) × (j < a + n)
 range_has j a zero h = absurd (false≢true h)
@@ -74,17 +71,19 @@ kids_numbers : (s : Shape) (earlier : List Shape) →
     postfix (top (forest_value (stacked earlier) (missing earlier)) s.operands) ≡ numbers (pulled (stacked earlier) s.operands)
 kids_numbers s earlier =
     let taken = pulled (stacked earlier) s.operands in
-    let more = entries (missing earlier) (s.operands - opens (stacked earlier)) in
-    ap postfix (top_pulled (stacked earlier) (missing earlier) s.operands) ∙ (numbers-join more (rev taken)
-    ∙ ap (λ x. x ++ numbers taken) (numbers_entries (missing earlier) (s.operands - opens (stacked earlier))))
+    let more = s.operands - opens (stacked earlier) in
+    rw (
+      top_pulled (stacked earlier) (missing earlier) s.operands,
+      numbers-join (entries (missing earlier) more) (rev taken),
+      numbers_entries (missing earlier) more,
+    )
 
 -- the numbers of the forest as it grows
 pub forest_numbers : (s : Shape) (earlier : List Shape) → numbers (stacked (s ∷ earlier))
     ≡ (numbers (kept (stacked earlier) s.operands) ++ numbers (pulled (stacked earlier) s.operands)) ++ length earlier ∷ []
 forest_numbers s earlier =
     let rest = kept (stacked earlier) s.operands in
-    numbers_rev (operator s earlier) rest ∙ (ap (λ x. numbers rest ++ (x ++ length earlier ∷ [])) (kids_numbers s earlier)
-    ∙ sym (append_assoc (numbers rest) _ _))
+    rw (numbers_rev (operator s earlier) rest, kids_numbers s earlier, append_assoc (numbers rest))
 
 tree_numbers : (s : Shape) (earlier : List Shape) →
     postfix_of (operator_tree s earlier) ≡ numbers (pulled (stacked earlier) s.operands) ++ length earlier ∷ []
@@ -112,8 +111,7 @@ own_in i s kids is = in_right i is (postfix kids ++ i ∷ []) (in_right i (postf
 pub some_root : (ts : Trees) → AllOpen ts → (ts ≡ no_trees) ⊎ ((j : ℕ) × (is_root j ts ≡ true) × (has j (numbers ts) ≡ true))
 some_root no_trees h = inl refl
 some_root (entry m ▸ ts) h = absurd (false≢true h.0)
-some_root (node i s kids ▸ ts) h =
-    inr (i, or_left _ _ (eq-eqb i i refl), ap (has i) (numbers_rev (node i s kids) ts) ∙ own_in i s kids (numbers ts))
+some_root (node i s kids ▸ ts) h = inr (i, or_left _ _ (eq-eqb i i refl), ap (has i) (numbers_rev (node i s kids) ts) ∙ own_in i s kids (numbers ts))
 
 pub kept_if_none : (ts : Trees) (k : ℕ) → pulled ts (suc k) ≡ no_trees → kept ts (suc k) ≡ ts
 kept_if_none no_trees k e = refl
@@ -127,8 +125,7 @@ has_pulled j (t ▸ ts) (suc k) h = grind (arith, h, within ts, within (pulled t
     within : (us : Trees) → has j (numbers (t ▸ us)) ≡ (has j (numbers us) || has j (postfix_of t))
     within us = ap (has j) (numbers_rev t us) ∙ has_append j (numbers us) (postfix_of t)
 
-climb : (is : List ℕ) (b j d : ℕ) → ((j : ℕ) → suc j < b → has j is ≡ true → has (suc j) is ≡ true) → j + d < b → has j is ≡ true →
-    has (j + d) is ≡ true
+climb : (is : List ℕ) (b j d : ℕ) → ((j : ℕ) → suc j < b → has j is ≡ true → has (suc j) is ≡ true) → j + d < b → has j is ≡ true → has (j + d) is ≡ true
 climb is b j zero h l k = let e : j + 0 ≡ j = omega arith in ap (λ x. has x is) e ∙ k
 climb is b j (suc d) h l k =
     let e : j + suc d ≡ suc (j + d) = omega arith in ap (λ x. has x is) e ∙ h (j + d) (omega arith) (climb is b j d h (omega arith) k)
@@ -141,22 +138,29 @@ length-own t ts a z e = range_parts a z (numbers ts) (postfix_of t) (sym (number
 IsUpward : List ℕ → ℕ → Type 0
 IsUpward is end = (j : ℕ) → suc j < end → has j is ≡ true → has (suc j) is ≡ true
 
--- the kept trees and then the pulled ones are a range
-abbrev ArePart : Trees → ℕ → ℕ → ℕ → Type 0
-ArePart ts k a z = numbers (kept ts k) ++ numbers (pulled ts k) ≡ range_from a z
+-- the pulled trees stand on top of the kept ones
+abbrev pub AreOnTop : Trees → ℕ → Type 0
+AreOnTop ts k = join (pulled ts k) (kept ts k) ≡ ts
+
+pub rev_join : (ts us : Trees) → rev (join ts us) ≡ join (rev us) (rev ts)
+rev_join no_trees us = sym (join_nil (rev us))
+rev_join (t ▸ ts) us = ap (λ x. join x (t ▸ no_trees)) (rev_join ts us) ∙ join_assoc (rev us) (rev ts) (t ▸ no_trees)
+
+on_top-numbers : (ts : Trees) (k : ℕ) → AreOnTop ts k → numbers (kept ts k) ++ numbers (pulled ts k) ≡ numbers ts
+on_top-numbers ts k e = sym (numbers-join (rev (kept ts k)) (rev (pulled ts k))) ∙ ap postfix (sym (rev_join (pulled ts k) (kept ts k)) ∙ ap rev e)
+
+open_on_top : (t : Tree) (ts : Trees) (k : ℕ) → is_open t ≡ true → AreOnTop ts k → AreOnTop (t ▸ ts) (suc k)
+open_on_top t ts k w e = rw w (ap (λ x. t ▸ x) e)
+
+done_on_top : (t : Tree) (ts : Trees) (k : ℕ) → is_open t ≡ false → pulled ts (suc k) ≡ no_trees → AreOnTop (t ▸ ts) (suc k)
+done_on_top t ts k w x = rw (w, x) (ap (λ y. t ▸ y) (kept_if_none ts k x))
 
 pulled_top : (t : Tree) (ts : Trees) (k : ℕ) → is_open t ≡ true → numbers (pulled (t ▸ ts) (suc k)) ≡ numbers (pulled ts k) ++ postfix_of t
-pulled_top t ts k w = ap numbers (pulled_open t ts k w) ∙ numbers_rev t (pulled ts k)
-
-none_pulled : (t : Tree) (ts : Trees) (k : ℕ) → is_open t ≡ false → pulled ts (suc k) ≡ no_trees →
-    numbers (kept (t ▸ ts) (suc k)) ++ numbers (pulled (t ▸ ts) (suc k)) ≡ numbers (t ▸ ts)
-none_pulled t ts k w x =
-    ap₂ (λ x y. numbers x ++ numbers y) (kept_done t ts (suc k) w ∙ ap (λ x. t ▸ x) (kept_if_none ts k x)) (pulled_done t ts (suc k) w ∙ x)
-    ∙ append-nil (numbers (t ▸ ts))
+pulled_top t ts k w = rw w (numbers_rev t (pulled ts k))
 
 gather_open : (t : Tree) (ts : Trees) (a z k : ℕ) → is_open t ≡ true → numbers (t ▸ ts) ≡ range_from a z →
     IsUpward (numbers (pulled (t ▸ ts) (suc k))) (a + z) →
-    ((y : ℕ) → numbers ts ≡ range_from a y → IsUpward (numbers (pulled ts k)) (a + y) → ArePart ts k a y) → ArePart (t ▸ ts) (suc k) a z
+    ((y : ℕ) → numbers ts ≡ range_from a y → IsUpward (numbers (pulled ts k)) (a + y) → AreOnTop ts k) → AreOnTop (t ▸ ts) (suc k)
 unfolding IsUpward
 gather_open t ts a z k w e h ih =
     let Y = numbers (pulled ts k) in
@@ -169,11 +173,10 @@ gather_open t ts a z k w e h ih =
       | inl y ↦ y
       | inr y ↦ let (q, r) = range_has (suc j) (a + n) (length own) (sym (ap (has (suc j)) v) ∙ y) in absurd (omega arith)
     ] in
-    ap₂ (λ x y. numbers x ++ y) (kept_open t ts k w) p ∙ (sym (append_assoc (numbers (kept ts k)) Y own)
-    ∙ (ap (λ x. x ++ own) (ih n u up ∙ sym u) ∙ (sym (numbers_rev t ts) ∙ e)))
+    open_on_top t ts k w (ih n u up)
 
 gather_done : (t : Tree) (ts : Trees) (a z k : ℕ) → is_open t ≡ false → 0 < length (postfix_of t) → numbers (t ▸ ts) ≡ range_from a z →
-    IsUpward (numbers (pulled (t ▸ ts) (suc k))) (a + z) → ArePart (t ▸ ts) (suc k) a z
+    IsUpward (numbers (pulled (t ▸ ts) (suc k))) (a + z) → AreOnTop (t ▸ ts) (suc k)
 unfolding IsUpward
 gather_done t ts a z k w some e h =
     let Y = numbers (pulled ts (suc k)) in
@@ -181,7 +184,7 @@ gather_done t ts a z k w some e h =
     let (u, v, l) = length-own t ts a z e in
     let p = ap numbers (pulled_done t ts (suc k) w) in
     elim (some_root (pulled ts (suc k)) (open_pulled ts (suc k))) [
-      | inl x ↦ none_pulled t ts k w x ∙ e
+      | inl x ↦ done_on_top t ts k w x
       | inr x ↦
           let inside : (j : ℕ) → has j Y ≡ true → j < end =
           λ j y. (range_has j a (length (numbers ts)) (sym (ap (has j) u) ∙ has_pulled j ts (suc k) y)).1 in
@@ -192,23 +195,21 @@ gather_done t ts a z k w some e h =
           absurd (omega arith)
     ]
 
-gather : (ts : Trees) (a z n k : ℕ) → Falling ts n → numbers ts ≡ range_from a z → IsUpward (numbers (pulled ts k)) (a + z) →
-    ArePart ts k a z
-gather no_trees a z n k f e h = e
+gather : (ts : Trees) (a z n k : ℕ) → Falling ts n → numbers ts ≡ range_from a z → IsUpward (numbers (pulled ts k)) (a + z) → AreOnTop ts k
+gather no_trees a z n k f e h = refl
 gather (entry m ▸ ts) a z n k f e h = absurd f
-gather (node i s kids ▸ ts) a z n zero f e h = append-nil (numbers (node i s kids ▸ ts)) ∙ e
+gather (node i s kids ▸ ts) a z n zero f e h = refl
 gather (node i s kids ▸ ts) a z n (suc k) f e h = elim (cases_Bool s.has_result) [
   | inl w ↦ gather_open (node i s kids) ts a z k w e h (λ y. gather ts a y i k f.1)
   | inr w ↦ gather_done (node i s kids) ts a z k w (omega (arith, length-append (postfix kids) (i ∷ []))) e h
 ]
 
 -- and back
-pub spread : (ts : Trees) (a z n k : ℕ) → Falling ts n → numbers (kept ts k) ++ numbers (pulled ts k) ≡ range_from a z →
-    numbers ts ≡ range_from a z
-spread no_trees a z n k f e = e
-spread (entry m ▸ ts) a z n k f e = absurd f
-spread (node i s kids ▸ ts) a z n zero f e = sym (append-nil (numbers (node i s kids ▸ ts))) ∙ e
-spread (node i s kids ▸ ts) a z n (suc k) f e =
+on_top : (ts : Trees) (a z n k : ℕ) → Falling ts n → numbers (kept ts k) ++ numbers (pulled ts k) ≡ range_from a z → AreOnTop ts k
+on_top no_trees a z n k f e = refl
+on_top (entry m ▸ ts) a z n k f e = absurd f
+on_top (node i s kids ▸ ts) a z n zero f e = refl
+on_top (node i s kids ▸ ts) a z n (suc k) f e =
     let t = node i s kids in
     let own = postfix_of t in
     elim (cases_Bool s.has_result) [
@@ -216,10 +217,9 @@ spread (node i s kids ▸ ts) a z n (suc k) f e =
           let X = numbers (kept ts k) in
           let Y = numbers (pulled ts k) in
           let whole = append_assoc X Y own ∙ (sym (ap₂ (λ x y. numbers x ++ y) (kept_open t ts k w) (pulled_top t ts k w)) ∙ e) in
-          let (u, v, l) = range_parts a z (X ++ Y) own whole in
-          numbers_rev t ts ∙ (ap (λ x. x ++ own) (spread ts a (length (X ++ Y)) i k f.1 u ∙ sym u) ∙ whole)
+          open_on_top t ts k w (on_top ts a (length (X ++ Y)) i k f.1 (range_parts a z (X ++ Y) own whole).0)
       | inr w ↦ elim (some_root (pulled ts (suc k)) (open_pulled ts (suc k))) [
-        | inl x ↦ sym (none_pulled t ts k w x) ∙ e
+        | inl x ↦ done_on_top t ts k w x
         | inr x ↦
             let X = numbers (kept ts (suc k)) in
             let Y = numbers (pulled ts (suc k)) in
@@ -231,11 +231,24 @@ spread (node i s kids ▸ ts) a z n (suc k) f e =
       ]
     ]
 
+pub spread : (ts : Trees) (a z n k : ℕ) → Falling ts n → numbers (kept ts k) ++ numbers (pulled ts k) ≡ range_from a z → numbers ts ≡ range_from a z
+spread ts a z n k f e = sym (on_top-numbers ts k (on_top ts a z n k f e)) ∙ e
+
 pub order_stacked : (block : List Shape) → IsInOrder block → numbers (stacked block) ≡ range_from 0 (length block)
 order_stacked block o = sym (ap postfix (forest_is block)) ∙ o
 
 pub range_last : (n : ℕ) → range_from 0 (suc n) ≡ range_from 0 n ++ n ∷ []
 range_last n = sym (range_more 0 n) ∙ ap (λ x. range_from 0 n ++ x ∷ []) (omega arith)
+
+-- where a block is in order, so it is without its last operator, and that operator's operands stand on top
+pub order_before : (s : Shape) (earlier : List Shape) → IsInOrder (s ∷ earlier) → IsInOrder earlier × AreOnTop (stacked earlier) s.operands
+order_before s earlier o =
+    let n = length earlier in
+    let ts = stacked earlier in
+    let whole = sym (forest_numbers s earlier) ∙ (order_stacked (s ∷ earlier) o ∙ range_last n) in
+    let front = (same_from_push _ _ _ _ whole).0 in
+    let top = on_top ts 0 n n s.operands (Falling-stacked earlier) front in
+    (ap postfix (forest_is earlier) ∙ (sym (on_top-numbers ts s.operands top) ∙ front), top)
 
 pub together_from_order : (block : List Shape) → IsInOrder block → AreTogether block
 together_from_order [] o = tt
@@ -244,18 +257,15 @@ together_from_order (s ∷ earlier) o =
     let X = numbers (kept (stacked earlier) s.operands) in
     let Y = numbers (pulled (stacked earlier) s.operands) in
     let own = tree_numbers s earlier in
-    let whole = sym (forest_numbers s earlier) ∙ (order_stacked (s ∷ earlier) o ∙ range_last n) in
-    let front : X ++ Y ≡ range_from 0 n = (same_from_push _ _ _ _ whole).0 in
-    let back : IsInOrder earlier =
-    ap postfix (forest_is earlier) ∙ spread (stacked earlier) 0 n n s.operands (Falling-stacked earlier) front in
+    let (older, top) = order_before s earlier o in
+    let front = on_top-numbers (stacked earlier) s.operands top ∙ order_stacked earlier older in
     let (u, v, w) = range_parts 0 n X Y front in (
-      together_from_order earlier back,
+      together_from_order earlier older,
       λ j l h. ap (has (suc j)) own ∙ (elim (in_either j Y (n ∷ []) (sym (ap (has j) own) ∙ h)) [
         | inl x ↦
             let (p, q) = range_has j (0 + length X) (length Y) (sym (ap (has j) v) ∙ x) in
             elim (cases_lt (suc j) n) [
-              | inl y ↦
-                  in_left (suc j) Y (n ∷ []) (ap (has (suc j)) v ∙ has_range (suc j) (0 + length X) (length Y) (omega arith) (omega arith))
+              | inl y ↦ in_left (suc j) Y (n ∷ []) (ap (has (suc j)) v ∙ has_range (suc j) (0 + length X) (length Y) (omega arith) (omega arith))
               | inr y ↦ in_right (suc j) Y (n ∷ []) (or_left _ _ (eq-eqb n (suc j) (omega arith)))
             ]
         | inr x ↦ let e = in_one j n x in absurd (omega arith)
@@ -276,5 +286,5 @@ order_from_together (s ∷ earlier) o =
       | inl x ↦ x
       | inr x ↦ let e = in_one (suc j) n x in absurd (omega arith)
     ] in
-    ap postfix (forest_is (s ∷ earlier)) ∙ (forest_numbers s earlier
-    ∙ (ap (λ x. x ++ n ∷ []) (gather forest 0 n n s.operands (Falling-stacked earlier) before next) ∙ sym (range_last n)))
+    let all = on_top-numbers forest s.operands (gather forest 0 n n s.operands (Falling-stacked earlier) before next) ∙ before in
+    ap postfix (forest_is (s ∷ earlier)) ∙ (forest_numbers s earlier ∙ (ap (λ x. x ++ n ∷ []) all ∙ sym (range_last n)))

@@ -1,113 +1,96 @@
 -- Where nodes tell what is answered, each part of the tree lies within theirs.
-use Rattle.std.proofs.Common.{◌≡◌, ℕ, ◌<◌, ◌≤◌, inl, inr, List, [], ◌∷◌, length, get_or, refl, sym, ap, ap₂, subst, ◌∙◌, arith}
-use Rattle.std.specs.Prelude.{reverse, ⊤}
+use Rattle.std.proofs.Common.{◌≡◌, ℕ, ◌^◌, ◌<◌, ◌≤◌, List, [], ◌∷◌, length, refl, sym, ap, ap₂, subst, ◌∙◌, arith}
+use Rattle.std.specs.Prelude.{reverse}
 use Rattle.std.specs.List.{All, Contains}
-use Rattle.std.proofs.lemmas.List.{length-reverse, reverse-reverse}
-use Rattle.std.proofs.lemmas.List.Elements.{All-head, All-tail, All-weaker, All-contains_itself}
+use Rattle.std.proofs.lemmas.Bool.{cond-true, cond-false, eq-eqb, ne_eqb}
+use Rattle.std.proofs.lemmas.List.{map-id}
+use Rattle.std.proofs.lemmas.List.Elements.{All-head, All-tail, All-weaker, All-contains, All-contains_itself}
 use Rattle.peephole_lang.specs.Term.{Term, Terms, absent, node, no_terms, ◌▸◌, Node, pick, tree_at}
-use Rattle.peephole_lang.specs.laws.PlaceLemmas.{last_or_before}
+use Rattle.peephole_lang.specs.laws.PlaceLemmas.{IsAt, at_place}
+use Rattle.peephole_lang.specs.laws.PlaceLemmas.IsAt.{last, before}
 use Rattle.peephole_graphs.specs.Layout.{node_count_of, node_count, IsWhole, AreWhole}
-use Rattle.peephole_graphs.specs.Rebuild.{IsReached, IsPart, AreParts, IsTree, IsToldBy, told_tree}
+use Rattle.peephole_graphs.specs.Rebuild.{IsReached, IsPart, AreParts, IsTree, IsTooLong, IsToldBy, told_tree}
 use Rattle.peephole_graphs.specs.Rebuild.IsReached.{the_root, a_child}
-use Rattle.peephole_graphs.proofs.LayoutWalk.{some_item, node_at, node_at-reverse, node_before, node_last, tree_before, tree_last}
 
--- ---- the upper part of a term
+-- ---- the tree of a node whose children stand before it
 
-abbrev mutual
-  IsWithin : {H : Type 0} → Term H → Term H → Type 0
-  IsWithin absent u = ⊤
-  IsWithin (node h kids) absent = ⊥
-  IsWithin (node h kids) (node k us) = (h ≡ k) × AreWithin kids us
+picked_before : {H : Type 0} (e : Node H) (earlier : List (Node H)) (is : List ℕ) → All (λ k. k < length earlier) is →
+    pick (tree_at earlier) is ≡ pick (tree_at (e ∷ earlier)) is
+picked_before e earlier [] h = refl
+picked_before e earlier (i ∷ is) h =
+    let l = All-head (λ k. k < length earlier) i is h in
+    ap₂ (λ t ts. t ▸ ts) (sym (cond-false _ _ _ (ne_eqb (length earlier) i (omega arith))))
+    (picked_before e earlier is (All-tail (λ k. k < length earlier) i is h))
 
-  AreWithin : {H : Type 0} → Terms H → Terms H → Type 0
-  AreWithin no_terms no_terms = ⊤
-  AreWithin no_terms (u ▸ us) = ⊥
-  AreWithin (t ▸ ts) no_terms = ⊥
-  AreWithin (t ▸ ts) (u ▸ us) = IsWithin t u × AreWithin ts us
-
-mutual
-  size_within : {H : Type 0} (t u : Term H) → IsWithin t u → node_count_of t ≤ node_count_of u
-  size_within absent u w = omega arith
-  size_within (node h kids) absent w = absurd w
-  size_within (node h kids) (node k us) w = let e = sizes_within kids us w.1 in omega arith
-
-  sizes_within : {H : Type 0} (ts us : Terms H) → AreWithin ts us → node_count ts ≤ node_count us
-  sizes_within no_terms no_terms w = omega arith
-  sizes_within no_terms (u ▸ us) w = absurd w
-  sizes_within (t ▸ ts) no_terms w = absurd w
-  sizes_within (t ▸ ts) (u ▸ us) w = let e = size_within t u w.0 in let f = sizes_within ts us w.1 in omega arith
-
-mutual
-  whole_within : {H : Type 0} (t u : Term H) → IsWithin t u → IsWhole t → t ≡ u
-  whole_within absent u w v = absurd v
-  whole_within (node h kids) absent w v = absurd w
-  whole_within (node h kids) (node k us) w v = ap₂ (λ x y. node x y) w.0 (wholes_within kids us w.1 v)
-
-  wholes_within : {H : Type 0} (ts us : Terms H) → AreWithin ts us → AreWhole ts → ts ≡ us
-  wholes_within no_terms no_terms w v = refl
-  wholes_within no_terms (u ▸ us) w v = absurd w
-  wholes_within (t ▸ ts) no_terms w v = absurd w
-  wholes_within (t ▸ ts) (u ▸ us) w v = ap₂ (λ x y. x ▸ y) (whole_within t u w.0 v.0) (wholes_within ts us w.1 v.1)
+tree_of : {H : Type 0} {n : Node H} {ns : List (Node H)} {i : ℕ} → IsAt n ns i → All (λ k. k < i) n.children →
+    tree_at ns i ≡ node n.head (pick (tree_at ns) n.children)
+tree_of {H} {n} (last {earlier} {k} l) h =
+    cond-true _ _ _ (eq-eqb (length earlier) k l)
+    ∙ ap (node n.head) (picked_before n earlier n.children (All-weaker (λ c. c < k) (λ c. c < length earlier) (λ c m. omega arith) n.children h))
+tree_of {H} {n} (before {e} {earlier} {k} l a) h =
+    cond-false _ _ _ (ne_eqb (length earlier) k (omega arith)) ∙ (tree_of a h
+    ∙ ap (node n.head) (picked_before e earlier n.children (All-weaker (λ c. c < k) (λ c. c < length earlier) (λ c m. omega arith) n.children h)))
 
 -- ---- parts of trees within the tree that nodes tell
 
-module _ {H : Type 0} (Answers : ℕ → Node H → Type 0) (root : ℕ) (missing : H)
-    (below : (id : ℕ) (n : Node H) → IsReached Answers root id → Answers id n → All (λ child. child < id) n.children) where
-  -- the nodes, the last one first, are what is answered
-  abbrev Tell : List (Node H) → Type 0
-  Tell ns = (id : ℕ) (n : Node H) → IsReached Answers root id → Answers id n → id < length ns → node_at missing ns id ≡ n
-
-  abbrev Holds : List (Node H) → ℕ → Type 0
-  Holds ns id = (t : Term H) → IsReached Answers root id → IsPart Answers id t → IsWithin t (tree_at ns id)
-
-  all_within : (ns : List (Node H)) (count : ℕ) (is : List ℕ) (ts : Terms H) → ((id : ℕ) → id < count → Holds ns id) →
-      All (λ i. i < count) is →
-      All (IsReached Answers root) is → AreParts Answers is ts → AreWithin ts (pick (tree_at ns) is)
-  all_within ns count [] no_terms h l r p = tt
-  all_within ns count [] (t ▸ ts) h l r p = absurd p
-  all_within ns count (i ∷ is) no_terms h l r p = absurd p
-  all_within ns count (i ∷ is) (t ▸ ts) h l r p = (
-    h i (All-head (λ i. i < count) i is l) t (All-head (IsReached Answers root) i is r) p.0,
-    all_within ns count is ts h (All-tail (λ i. i < count) i is l) (All-tail (IsReached Answers root) i is r) p.1,
-  )
-
-  -- the last node's own part
-  own_within : (e : Node H) (earlier : List (Node H)) (id : ℕ) → length earlier ≡ id → Tell (e ∷ earlier) →
-      ((k : ℕ) → k < length earlier → Holds earlier k) →
-      (t : Term H) → IsReached Answers root id → IsPart Answers id t → IsWithin t (node e.head (pick (tree_at earlier) e.children))
-  own_within e earlier id at tell h absent r p = tt
-  own_within e earlier id at tell h (node g kids) r p =
-      let n : Node H = record { head = g; children = p.0 } in
-      let same : e ≡ n = sym (node_last missing e earlier id at) ∙ tell id n r p.1 (omega arith) in
-      let lower : All (λ k. k < length earlier) p.0 =
-      All-weaker (λ k. k < id) (λ k. k < length earlier) (λ k l. omega arith) p.0 (below id n r p.1) in
-      let reached : All (IsReached Answers root) p.0 = All-weaker (Contains p.0) (IsReached Answers root)
-      (λ k c. a_child id k n r p.1 c) p.0 (All-contains_itself p.0) in
-      subst (λ (x : Node H). IsWithin (node g kids) (node x.head (pick (tree_at earlier) x.children))) (sym same)
-      (refl, all_within earlier (length earlier) p.0 kids h lower reached p.2)
-
-  part_within : (ns : List (Node H)) (id : ℕ) → Tell ns → id < length ns → Holds ns id
-  part_within [] id tell l = absurd (omega arith)
-  part_within (e ∷ earlier) id tell l =
-      let less : Tell earlier = λ i n r a k. sym (node_before missing e earlier i k) ∙ tell i n r a (omega arith) in
-      elim (last_or_before (length earlier) id l) [
-        | inl h ↦ λ t r p. subst (λ u. IsWithin t u) (sym (tree_last missing e earlier id h))
-            (own_within e earlier id h tell (λ k m. part_within earlier k less m) t r p)
-        | inr h ↦ λ t r p. subst (λ u. IsWithin t u) (sym (tree_before missing e earlier id h)) (part_within earlier id less h t r p)
-      ]
-
 module _ {H : Type 0} (Answers : ℕ → Node H → Type 0) (root : ℕ) (nodes : List (Node H)) (told : IsToldBy Answers root nodes) where
-  within_told : (t : Term H) → IsPart Answers root t → IsWithin t (told_tree nodes root)
-  within_told t p =
-      let missing = (some_item nodes root told.there).head in
-      let many = length-reverse nodes in
+  abbrev From : ℕ → Type 0
+  From id = IsReached Answers root id
+
+  abbrev at : ℕ → Term H
+  at = tree_at (reverse nodes)
+
+  up_to_root : (id : ℕ) → From id → id ≤ root
+  up_to_root id the_root = omega arith
+  up_to_root id (a_child parent child n r answer is) =
+      let high = up_to_root parent r in
+      let low : id < parent = All-contains (λ c. c < parent) n.children id (told.below parent n r answer) is in
+      omega arith
+
+  -- the tree of a reached id is its node over the trees of its children
+  tree_here : (id : ℕ) (n : Node H) → From id → Answers id n → at id ≡ node n.head (pick at n.children)
+  tree_here id n r a =
+      let l = up_to_root id r in
       let there = told.there in
-      part_within Answers root missing told.below (reverse nodes) root (λ id n r a l.
-      node_at-reverse missing (reverse nodes) id n l ∙
-      (ap (λ (x : List (Node H)). get_or x id n) (reverse-reverse nodes) ∙ told.same id n r a)) (omega arith) t the_root p
+      let place = at_place (λ (x : Node H). x.head) (λ (x : Node H). x.children) nodes id n (omega arith) (sym (told.same id n r a)) in
+      tree_of (subst (λ (ns : List (Node H)). IsAt n (reverse ns) id) (map-id nodes) place) (told.below id n r a)
+
+  children_from : (id : ℕ) (n : Node H) → From id → Answers id n → All From n.children
+  children_from id n r a = All-weaker (Contains n.children) From (λ k c. a_child id k n r a c) n.children (All-contains_itself n.children)
+
+  mutual
+    whole : (id : ℕ) (t : Term H) → From id → IsPart Answers id t → IsWhole t → t ≡ at id
+    whole id absent r p w = absurd w
+    whole id (node h kids) r p w =
+        let n : Node H = record { head = h; children = p.0 } in
+        ap (node h) (wholes p.0 kids (children_from id n r p.1) p.2 w) ∙ sym (tree_here id n r p.1)
+
+    wholes : (is : List ℕ) (ts : Terms H) → All From is → AreParts Answers is ts → AreWhole ts → ts ≡ pick at is
+    wholes [] no_terms r p w = refl
+    wholes [] (t ▸ ts) r p w = absurd p
+    wholes (i ∷ is) no_terms r p w = absurd p
+    wholes (i ∷ is) (t ▸ ts) r p w = ap₂ (λ x y. x ▸ y) (whole i t (All-head From i is r) p.0 w.0) (wholes is ts (All-tail From i is r) p.1 w.1)
+
+  mutual
+    sized : (id : ℕ) (t : Term H) → From id → IsPart Answers id t → node_count_of t ≤ node_count_of (at id)
+    sized id absent r p = omega arith
+    sized id (node h kids) r p =
+        let n : Node H = record { head = h; children = p.0 } in
+        let more = sizes p.0 kids (children_from id n r p.1) p.2 in
+        let own = ap node_count_of (tree_here id n r p.1) in
+        omega arith
+
+    sizes : (is : List ℕ) (ts : Terms H) → All From is → AreParts Answers is ts → node_count ts ≤ node_count (pick at is)
+    sizes [] no_terms r p = omega arith
+    sizes [] (t ▸ ts) r p = absurd p
+    sizes (i ∷ is) no_terms r p = absurd p
+    sizes (i ∷ is) (t ▸ ts) r p =
+        let own = sized i t (All-head From i is r) p.0 in
+        let more = sizes is ts (All-tail From i is r) p.1 in
+        omega arith
 
   pub told_whole : (t : Term H) → IsTree Answers root t → t ≡ told_tree nodes root
-  told_whole t p = whole_within t (told_tree nodes root) (within_told t p.0) p.1
+  told_whole t p = whole root t the_root p.0 p.1
 
-  pub told_size : (t : Term H) → IsPart Answers root t → node_count_of t ≤ node_count_of (told_tree nodes root)
-  told_size t p = size_within t (told_tree nodes root) (within_told t p)
+  pub told_too_long : IsTooLong Answers root → 2 ^ 32 < node_count_of (told_tree nodes root)
+  told_too_long h = let more = sized root h.0 the_root h.1 in let many = h.2 in omega arith

@@ -1,5 +1,5 @@
 -- The entries from the roots downwards are all entries.
-use Rattle.std.proofs.Common.{◌≡◌, ℕ, zero, suc, ◌+◌, ◌<◌, ◌≤◌, Bool, true, false, cond, List, [], ◌∷◌, ◌++◌, length, take, map, refl, sym, ap, ap₂, ◌∙◌}
+use Rattle.std.proofs.Common.{◌≡◌, ℕ, zero, suc, ◌+◌, ◌<◌, ◌≤◌, Bool, true, false, List, [], ◌∷◌, ◌++◌, length, take, map, refl, sym, ap, ap₂, ◌∙◌}
 use Rattle.std.proofs.Common.{subst, arith}
 use Rattle.std.specs.Prelude.{◌==◌, ◌&&◌, replicate, reverse}
 use Rattle.std.specs.List.{filter, All, sum_by}
@@ -9,7 +9,8 @@ use Rattle.peephole_graphs.specs.Shape.{Shape}
 use Rattle.peephole_graphs.specs.Color.{color_after}
 use Rattle.peephole_graphs.specs.Graph.{GraphEntry, roots, tree_at_entry, undef, item}
 use Rattle.peephole_graphs.specs.Step.{Growth, grown, down}
-use Rattle.peephole_graphs.specs.Downwards.{Kin, sizes_of, flags_of, kin_at, are_alike}
+use Rattle.peephole_graphs.specs.Downwards.{Kin, kin_at}
+use Rattle.peephole_graphs.specs.Measures.{sizes_of, flags_of, are_alike}
 use Rattle.peephole_graphs.proofs.Lists.{sum_by_same}
 use Rattle.peephole_graphs.proofs.StackGraph.{graph, IsGraph, is_graph, FallingIds-kept, open_at, kept_ids, behind, roots_fall, falls_below, more_of}
 use Rattle.peephole_graphs.proofs.StackGraph.{place_of, taken_of, new_entry, taken_below, new_roots}

@@ -1,56 +1,46 @@
 -- The text of a graph is that of its forest.
-use Rattle.std.proofs.Common.{◌≡◌, ℕ, ◌+◌, ◌-◌, ◌<◌, ◌≤◌, inl, inr, Bool, true, false, List, [], ◌∷◌, ◌++◌, length, map}
-use Rattle.std.proofs.Common.{refl, sym, ap, ap₂, subst, ◌∙◌, arith, append_assoc, Option, Some, None}
-use Rattle.std.specs.Prelude.{reverse, codes, ◌==◌, ⊤}
+use Rattle.std.proofs.Common.{◌≡◌, ℕ, ◌+◌, ◌-◌, ◌<◌, ◌≤◌, inl, inr, Bool, true, false, List, [], ◌∷◌, ◌++◌, length, get_or, refl, sym, ap, ap₂, subst, ◌∙◌}
+use Rattle.std.proofs.Common.{arith, append_assoc, Some}
+use Rattle.std.specs.Prelude.{codes, slice_get}
 use Rattle.std.specs.List.{All}
-use Rattle.std.proofs.lemmas.Bool.{cond-true, cond-false, eq-eqb, ne_eqb, or_cases, eqb-true}
-use Rattle.std.proofs.lemmas.List.{length-reverse, length-map, append-nil}
-use Rattle.std.proofs.lemmas.List.Elements.{All-nil, All-cons, All-head, All-tail}
+use Rattle.std.proofs.lemmas.List.{append-nil}
+use Rattle.std.proofs.lemmas.List.Elements.{All-head, All-tail, All-weaker}
+use Rattle.std.proofs.lemmas.Option.{get_or_from_slice_get}
 use Rattle.wasm_code.specs.Instruction.{Instruction}
-use Rattle.mutate_base.specs.Module.{Module}
-use Rattle.peephole_lang.specs.laws.Fits.{fits_own}
-use Rattle.peephole_lang.specs.Lang.{place_of, payload_of, ids_of, count_of}
-use Rattle.peephole_nodes.specs.laws.VariantLemmas.{has_variant}
-use Rattle.peephole_lang.specs.Node.{head_of, instr_of, instr_of_head, children_of}
 use Rattle.peephole_nodes.specs.Payload.{imm_of}
-use Rattle.peephole_nodes.specs.laws.PayloadLemmas.{imm_back}
 use Rattle.peephole_nodes.specs.PayloadText.{payload_text}
-use Rattle.peephole_lang.specs.Text.{text_of}
 use Rattle.peephole_nodes.specs.Text.{name_in}
-use Rattle.peephole_lang.specs.Term.{Term, Node, node, pick, tree_at}
 use Rattle.peephole_nodes.specs.Variants.{variants, variant_at}
+use Rattle.peephole_nodes.specs.laws.PayloadLemmas.{imm_back}
+use Rattle.peephole_nodes.specs.laws.VariantLemmas.{has_variant}
+use Rattle.peephole_lang.specs.Lang.{place_of, payload_of, count_of}
+use Rattle.peephole_lang.specs.Node.{head_of, instr_of, instr_of_head, children_of}
+use Rattle.peephole_lang.specs.Term.{Term, node, pick}
+use Rattle.peephole_lang.specs.Text.{text_of}
 use Rattle.peephole_lang.specs.declared.lang.Head.{Head}
 use Rattle.peephole_lang.specs.declared.lang.Lang.{Lang}
 use Rattle.peephole_lang.specs.declared.lang.Lang.TheVariants.{Undef}
+use Rattle.peephole_lang.specs.laws.Fits.{fits_own}
 use Rattle.peephole_graphs.specs.declared.dfg.StackEntry.{StackEntry}
 use Rattle.peephole_graphs.specs.Shape.{Shape}
 use Rattle.peephole_graphs.specs.Tree as tree
 use Rattle.peephole_graphs.specs.Tree.{Tree, Trees, no_trees, ◌▸◌, join}
-use Rattle.peephole_graphs.specs.Forest.{has, is_operand, trees, operator_tree, without, forest}
+use Rattle.peephole_graphs.specs.Forest.{is_operand, trees, operator_tree, without, forest}
 use Rattle.peephole_graphs.specs.Color.{color_at}
 use Rattle.peephole_graphs.specs.Graph as graph
-use Rattle.peephole_graphs.specs.Graph.{GraphEntry, item, roots, tree_of_entry}
-use Rattle.peephole_graphs.proofs.Stands.{IsEntryOf, IsOperator, entry_at}
 use Rattle.peephole_graphs.specs.Growing.{undef_entry}
-use Rattle.peephole_graphs.specs.Entries.{shape_of, graph_entry, graph_entries, roots_of}
-use Rattle.peephole_graphs.specs.ForestText.{Line, line_text, is_followed, branch, edge, tree_lines}
-use Rattle.peephole_graphs.specs.ForestText.{child_lines, linked, root_lines, default_lines, default_text}
-use Rattle.peephole_graphs.specs.ForestText.{entry_text}
+use Rattle.peephole_graphs.specs.Source.{Source, shapes_in}
+use Rattle.peephole_graphs.specs.Entries.{Graph, shape_of, roots_of, entry_tree}
+use Rattle.peephole_graphs.specs.ForestText.{Line, line_text, is_followed, branch, edge, tree_lines, child_lines, root_lines, default_lines, entry_text}
 use Rattle.peephole_graphs.specs.ForestText as shown
-use Rattle.peephole_graphs.specs.GraphOf.{IsGraphOf}
-use Rattle.peephole_graphs.proofs.Represents.{IsOwnOrUndef}
-use Rattle.peephole_graphs.proofs.GraphOfLemmas.{represents}
+use Rattle.peephole_graphs.specs.GraphOf.{IsGraphOf, IsMissing}
 use Rattle.peephole_graphs.specs.Shown.{ShowsTheForest}
 use Rattle.peephole_graphs.specs.TreeText.{written_payload, variant_text, instruction_text, are_some, tree_text, operands_text, trees_text}
-use Rattle.peephole_graphs.proofs.DfgLemmas.{nodes_length, entry_seen, get_item}
-use Rattle.peephole_graphs.proofs.GraphLemmas.{parents_length, entry_later, all_has}
-use Rattle.peephole_graphs.proofs.Lists.{all_within}
 use Rattle.peephole_graphs.proofs.BuilderLemmas.{shape_instr}
-use Rattle.peephole_graphs.proofs.LayoutTrees.{node_of_entry, entries_below, view, Ordered, map_turned, map_twice, All_turned, last_or_before, has_trees}
-use Rattle.peephole_graphs.proofs.Standing.{has_root, has_back}
-use Rattle.peephole_lang.specs.Term.{AreBelow}
-use Rattle.peephole_graphs.specs.Source.{Source, shapes_in}
-use Rattle.peephole_graphs.specs.Entries.{Graph}
+use Rattle.peephole_graphs.proofs.GraphOfLemmas.{undef_children}
+use Rattle.peephole_graphs.proofs.GraphLemmas.{children_below}
+use Rattle.peephole_graphs.proofs.Lists.{has_itself}
+use Rattle.peephole_graphs.proofs.EntryTreeLemmas.{own_tree, entry_operand, by_children, nodes_below, term_at, roots_below}
 
 -- ---- the text of an instruction
 
@@ -67,8 +57,7 @@ node_text l i e =
     let own = has_variant (place_of l) (payload_of l) (count_of l) (fits_own l) in
     let h = head_of_instr (head_of l) i e in
     let v = own.variant in
-    ap (λ o. name_in o ++ payload_text (payload_of l)) own.at
-    ∙ (ap (λ o. v.name ++ written_payload o) (sym (imm_back v.payload (payload_of l) own.kind))
+    ap (λ o. name_in o ++ payload_text (payload_of l)) own.at ∙ (ap (λ o. v.name ++ written_payload o) (sym (imm_back v.payload (payload_of l) own.kind))
     ∙ sym (ap₂ variant_text (ap variant_at h.place ∙ own.at) (sym h.imm)))
 
 undef_text : text_of Undef ≡ codes "undef"
@@ -85,8 +74,7 @@ lines_append (l ∷ ls) ys =
 
 -- an entry and a tree have the same lines
 abbrev Shows : (ℕ → ℕ) → ℕ → ℕ → Term StackEntry → Tree → Type 0
-Shows color first taker t u = (prefix inner : List ℕ) →
-    default_lines (tree_lines prefix inner t) ≡ tree_text color first prefix inner taker u
+Shows color first taker t u = (prefix inner : List ℕ) → default_lines (tree_lines prefix inner t) ≡ tree_text color first prefix inner taker u
 
 followed : (f : ℕ → Term StackEntry) (g : ℕ → Tree) (is : List ℕ) → is_followed (pick f is) ≡ are_some (graph.trees_at g is)
 followed f g [] = refl
@@ -104,149 +92,66 @@ kids_shown color first taker f g (i ∷ is) h inner =
     ∙ ap₂ (λ x y. x ++ y) (All-head P i is h (inner ++ branch b) (inner ++ edge b) ∙ ap lines (followed f g is))
     (kids_shown color first taker f g is (All-tail P i is h) inner)
 
--- what an entry's line shows
-pub record IsShown (color : ℕ → ℕ) (first : ℕ) (e : StackEntry) : Type 0 where
-  pub own : IsOwnOrUndef e
-  pub later : first ≤ e.operator_idx
-  pub missing : instr_of e.operator ≡ None → e.color ≡ 4294967295
-  pub painted : (i : Instruction) → instr_of e.operator ≡ Some i → e.color ≡ color (e.operator_idx - first)
+-- ---- the trees of the entries
 
-abbrev pub shape_for : Module → ℕ → Option Instruction → Option Shape
-shape_for info first x = (graph_entry info first (record { instr = x; children = []; operator = 0; color = 0 })).shape
+-- An entry's lines are those of its tree, as an operand of `taker` if it is a missing operand.
+module _ (source : Source) (given : Graph) (h : IsGraphOf source given) where
+  abbrev color : ℕ → ℕ
+  color = color_at source.preserving (shapes_in source)
 
-module _ (info : Module) (color : ℕ → ℕ) (first : ℕ) where
-  -- an operator's line and those of its children, or a missing operand's line
-  own_shown : (e : StackEntry) (f : ℕ → Term StackEntry) (g : ℕ → Tree) (o : Option Instruction) → instr_of e.operator ≡ o →
-      IsShown color first e → ((inner : List ℕ) → default_lines (child_lines inner (pick f (children_of e.operator)))
-      ≡ operands_text color first inner e.operator_idx (graph.trees_at g (children_of e.operator))) →
-      (missing taker : ℕ) → (o ≡ None → e.operator_idx ≡ taker) → Shows color first taker (node e (pick f (children_of e.operator)))
-      (tree_of_entry (view info first e).shape (children_of e.operator) (view info first e).number missing g)
-  unfolding ids_of
-  own_shown e f g None is h kids missing taker taken prefix inner =
-      let text : text_of e.operator ≡ codes "undef" = ap text_of (h.own is) ∙ undef_text in
-      let tree : Option Shape → Tree = λ x. tree_of_entry x (children_of e.operator) (view info first e).number missing g in
-      ap₂ (λ (x t : List ℕ). (prefix ++ entry_text e t) ++ default_lines (child_lines inner (pick f x))) (ap children_of (h.own is)) text
-      ∙ (append-nil (prefix ++ entry_text e (codes "undef"))
-      ∙ (ap₂ (λ c at. prefix ++ line_text c at (codes "undef")) (h.missing is) (taken refl)
-      ∙ sym (ap (λ x. tree_text color first prefix inner taker (tree x)) (ap (shape_for info first) is))))
-  own_shown e f g (Some i) is h kids missing taker taken prefix inner =
-      let later = h.later in
-      let n = e.operator_idx - first in
-      let at : e.operator_idx ≡ first + n = omega arith in
-      let own = instruction_text (shape_of info i).instr in
-      let text : text_of e.operator ≡ own = node_text e.operator i is ∙ ap instruction_text (sym (shape_instr info i)) in
-      let trees = graph.trees_at g (children_of e.operator) in
-      let tree : Option Shape → Tree = λ x. tree_of_entry x (children_of e.operator) n missing g in
-      ap₂ (λ (t rest : List ℕ). (prefix ++ entry_text e t) ++ rest) text (kids inner)
-      ∙ (ap₂ (λ c at. (prefix ++ line_text c at own) ++ operands_text color first inner at trees) (h.painted i is) at
-      ∙ sym (ap (λ x. tree_text color first prefix inner taker (tree x)) (ap (shape_for info first) is)))
+  abbrev seen_term : ℕ → Term StackEntry
+  seen_term = shown.entry_term given.entries
 
--- ---- the trees of entries, the last entry first
+  abbrev seen_tree : ℕ → Tree
+  seen_tree = entry_tree source given
 
-abbrev link : StackEntry → Node StackEntry
-link e = record { head = e; children = children_of e.operator }
+  abbrev IsShownAt : ℕ → Type 0
+  IsShownAt i = (taker : ℕ) → ((e : StackEntry) → slice_get given.entries i ≡ Some e → IsMissing e → e.operator_idx ≡ taker) →
+      Shows color source.first taker (seen_term i) (seen_tree i)
 
-abbrev pub stack_at : List StackEntry → ℕ → StackEntry
-stack_at rs i = item (undef_entry 0) rs i
+  -- the children's lines
+  children_shown : (i : ℕ) (e : StackEntry) → slice_get given.entries i ≡ Some e → All IsShownAt (children_of e.operator) → (inner : List ℕ) →
+      default_lines (child_lines inner (pick seen_term (children_of e.operator)))
+      ≡ operands_text color source.first inner e.operator_idx (graph.trees_at seen_tree (children_of e.operator))
+  children_shown i e s kids = kids_shown color source.first e.operator_idx seen_term seen_tree (children_of e.operator)
+      (λ k d l. kids k d l e.operator_idx (λ x t m. h.taker i (get_or (children_of e.operator) k d) e x s t
+      (has_itself (children_of e.operator) k d l) m))
 
--- if the entry is a missing operand, then one of that operator
-abbrev IsTaken : List StackEntry → ℕ → ℕ → Type 0
-IsTaken rs at i = instr_of (stack_at rs i).operator ≡ None → (stack_at rs i).operator_idx ≡ at
+  -- an operator's line and those of its operands
+  operator_shown : (i : ℕ) (e : StackEntry) (instr : Instruction) → slice_get given.entries i ≡ Some e → instr_of e.operator ≡ Some instr →
+      source.first ≤ e.operator_idx → e.color ≡ color (e.operator_idx - source.first) → All IsShownAt (children_of e.operator) →
+      (taker : ℕ) → Shows color source.first taker (node e (pick seen_term (children_of e.operator))) (seen_tree i)
+  operator_shown i e instr s is later painted kids taker prefix inner =
+      let n = e.operator_idx - source.first in
+      let at : e.operator_idx ≡ source.first + n = omega arith in
+      let own = instruction_text (shape_of source.info instr).instr in
+      let text = node_text e.operator instr is ∙ ap instruction_text (sym (shape_instr source.info instr)) in
+      let operands = graph.trees_at seen_tree (children_of e.operator) in
+      ap₂ (λ (t rest : List ℕ). (prefix ++ entry_text e t) ++ rest) text (children_shown i e s kids inner)
+      ∙ (ap₂ (λ c k. (prefix ++ line_text c k own) ++ operands_text color source.first inner k operands) painted at
+      ∙ sym (ap (tree_text color source.first prefix inner taker) (own_tree source given h.forest_is i e instr s is)))
 
--- so are the children of each entry
-abbrev AreTaken : List StackEntry → Type 0
-AreTaken [] = ⊤
-AreTaken (e ∷ earlier) = All (λ c. IsTaken earlier e.operator_idx c) (children_of e.operator) × AreTaken earlier
+  -- a missing operand's line
+  missing_shown : (i : ℕ) (e : StackEntry) → slice_get given.entries i ≡ Some e → IsMissing e →
+      Shows color source.first e.operator_idx (node e (pick seen_term (children_of e.operator))) (seen_tree i)
+  missing_shown i e s m prefix inner =
+      let text = ap text_of m.0 ∙ undef_text in
+      ap₂ (λ (x t : List ℕ). (prefix ++ entry_text e t) ++ default_lines (child_lines inner (pick seen_term x))) (ap children_of m.0 ∙ undef_children) text
+      ∙ (append-nil (prefix ++ entry_text e (codes "undef")) ∙ (ap (λ c. prefix ++ line_text c e.operator_idx (codes "undef")) m.1
+      ∙ sym (ap (tree_text color source.first prefix inner e.operator_idx) (entry_operand source given i e s m.0).1)))
 
-pub stack_top : (e : StackEntry) (earlier : List StackEntry) (i : ℕ) → length earlier ≡ i → stack_at (e ∷ earlier) i ≡ e
-stack_top e earlier i h = cond-true _ _ _ (eq-eqb (length earlier) i h)
-
-pub stack_older : (e : StackEntry) (earlier : List StackEntry) (i : ℕ) → i < length earlier → stack_at (e ∷ earlier) i ≡ stack_at earlier i
-stack_older e earlier i l = cond-false _ _ _ (ne_eqb (length earlier) i (omega arith))
-
-entries_shown : (info : Module) (color : ℕ → ℕ) (first : ℕ) (rs : List StackEntry) → Ordered rs → All (IsShown color first) rs →
-    AreTaken rs → (i taker : ℕ) → i < length rs → IsTaken rs taker i →
-    Shows color first taker (tree_at (map link rs) i) (graph.tree_at_entry (map (view info first) rs) i)
-entries_shown info color first [] b m t i taker l own = absurd (omega arith)
-entries_shown info color first (e ∷ earlier) b m t i taker l own =
-    let f = tree_at (map link earlier) in
-    let gs = map (view info first) earlier in
-    let g = graph.tree_at_entry gs in
-    let kids = children_of e.operator in
-    let n = length-map earlier link in
-    let p = length-map earlier (view info first) in
-    let older = entries_shown info color first earlier b.1 (All-tail (IsShown color first) e earlier m) t.1 in
-    let below = subst (λ (k : ℕ). All (λ c. c < k) kids) (length-map earlier node_of_entry) b.0 in
-    let taken = all_within (length earlier) (λ c. IsTaken earlier e.operator_idx c) (λ c. Shows color first e.operator_idx (f c) (g c)) kids
-    (λ c w u. older c e.operator_idx w u) below t.0 in
-    let IsOf : StackEntry → Type 0 = λ x. instr_of x.operator ≡ None → x.operator_idx ≡ taker in
-    elim (last_or_before (length earlier) i l) [
-      | inl h ↦ λ prefix inner.
-          ap (λ (x : Term StackEntry). default_lines (tree_lines prefix inner x))
-          (cond-true _ _ _ (eq-eqb (length (map link earlier)) i (n ∙ h)))
-          ∙ (own_shown info color first e f g (instr_of e.operator) refl (All-head (IsShown color first) e earlier m)
-          (kids_shown color first e.operator_idx f g kids taken)
-          (graph.undefs gs) taker (subst IsOf (stack_top e earlier i h) own) prefix inner
-          ∙ sym (ap (tree_text color first prefix inner taker) (cond-true _ _ _ (eq-eqb (length gs) i (p ∙ h)))))
-      | inr h ↦ λ prefix inner.
-          ap (λ (x : Term StackEntry). default_lines (tree_lines prefix inner x))
-          (cond-false _ _ _ (ne_eqb (length (map link earlier)) i (omega arith)))
-          ∙ (older i taker h (subst IsOf (stack_older e earlier i h) own) prefix inner
-          ∙ sym (ap (tree_text color first prefix inner taker) (cond-false _ _ _ (ne_eqb (length gs) i (omega arith)))))
-    ]
-
--- ---- what holds of the entries of a block's graph
-
-has_all : (P : ℕ → Type 0) (is : List ℕ) → All P is → (i : ℕ) → has i is ≡ true → P i
-has_all P [] h i w = absurd (cc)
-has_all P (j ∷ is) h i w = elim (or_cases (j == i) (has i is) w) [
-  | inl e ↦ subst P (eqb-true j i e) (All-head P j is h)
-  | inr e ↦ has_all P is (All-tail P j is h) i e
-]
-
-abbrev TakesOwn : List StackEntry → Type 0
-TakesOwn rs = (p i : ℕ) → p < length rs → has i (children_of (stack_at rs p).operator) ≡ true → IsTaken rs (stack_at rs p).operator_idx i
-
-are_taken : (rs : List StackEntry) → Ordered rs → TakesOwn rs → AreTaken rs
-are_taken [] b t = tt
-are_taken (e ∷ earlier) b t =
-    let Has : ℕ → StackEntry → Type 0 = λ i x. has i (children_of x.operator) ≡ true in
-    let IsOf : ℕ → StackEntry → Type 0 = λ at x. instr_of x.operator ≡ None → x.operator_idx ≡ at in
-    let top = stack_top e earlier (length earlier) refl in
-    let below = subst (λ (k : ℕ). All (λ c. c < k) (children_of e.operator)) (length-map earlier node_of_entry) b.0 in (
-      all_has (λ c. IsTaken earlier e.operator_idx c) (children_of e.operator) (λ i w.
-          let own = t (length earlier) i (omega arith) (subst (Has i) (sym top) w) in
-          let low = has_all (λ c. c < length earlier) (children_of e.operator) below i w in
-          subst (IsOf e.operator_idx) (stack_older e earlier i low)
-          (subst (λ (x : StackEntry). IsTaken (e ∷ earlier) x.operator_idx i) top own)),
-      are_taken earlier b.1 (λ p i l w.
-          let older = stack_older e earlier p l in
-          let inside : i < p = has_below earlier b.1 p i l w in
-          let own = t p i (omega arith) (subst (Has i) (sym older) w) in
-          subst (IsOf (stack_at earlier p).operator_idx) (stack_older e earlier i (omega arith))
-          (subst (λ (x : StackEntry). IsTaken (e ∷ earlier) x.operator_idx i) older own)),
-    )
-  where
-    has_below : (rs : List StackEntry) → Ordered rs → (p i : ℕ) → p < length rs → has i (children_of (stack_at rs p).operator) ≡ true →
-        i < p
-    has_below [] b p i l w = absurd (omega arith)
-    has_below (e ∷ earlier) b p i l w =
-        let n = length-map earlier node_of_entry in
-        let Has : StackEntry → Type 0 = λ x. has i (children_of x.operator) ≡ true in
-        elim (last_or_before (length earlier) p l) [
-          | inl h ↦
-              let low =
-              has_all (λ c. c < length (map node_of_entry earlier))
-              (children_of e.operator) b.0 i (subst Has (stack_top e earlier p h) w) in
-              omega arith
-          | inr h ↦ has_below earlier b.1 p i h (subst Has (stack_older e earlier p h) w)
-        ]
-
-all_items : (P : StackEntry → Type 0) (rs : List StackEntry) → ((i : ℕ) → i < length rs → P (stack_at rs i)) → All P rs
-all_items P [] h = All-nil P
-all_items P (e ∷ earlier) h =
-    All-cons P e earlier (subst P (stack_top e earlier (length earlier) refl) (h (length earlier) (omega arith)))
-    (all_items P earlier (λ i l. subst P (stack_older e earlier i l) (h i (omega arith))))
+  shown_at : (i : ℕ) → i < length given.entries → IsShownAt i
+  shown_at = by_children given h.forest_is IsShownAt (λ i e s kids taker taken.
+      let own = term_at (λ (x : StackEntry). x) given.entries
+      (nodes_below (λ (x : StackEntry). x) given.entries (children_below source given h)) i e s in
+      let known = h.entry i e s in
+      subst (λ t. Shows color source.first taker t (seen_tree i)) (sym own) (elim known.3 [
+        | inl (instr, offset, there, is, painted) ↦
+            let number = known.2 in
+            let same : known.0 ≡ e.operator_idx - source.first = omega arith in
+            operator_shown i e instr s is (omega arith) (painted ∙ ap color same) kids taker
+        | inr m ↦ subst (λ k. Shows color source.first k (node e (pick seen_term (children_of e.operator))) (seen_tree i)) (taken e s m) (missing_shown i e s m)
+      ]))
 
 -- ---- the roots
 
@@ -269,7 +174,7 @@ nodes_trees : (block : List Shape) → are_nodes (trees block) ≡ true
 nodes_trees [] = refl
 nodes_trees (s ∷ earlier) = nodes_join (trees earlier) (operator_tree s earlier ▸ no_trees) (nodes_trees earlier) refl
 
-pub nodes_forest : (block : List Shape) → are_nodes (forest block) ≡ true
+nodes_forest : (block : List Shape) → are_nodes (forest block) ≡ true
 nodes_forest block = nodes_without (λ j. is_operand j (trees block)) (trees block) (nodes_trees block)
 
 first_node : (color : ℕ → ℕ) (first a : ℕ) (t : Tree) (ts : Trees) → are_nodes (t ▸ ts) ≡ true →
@@ -277,101 +182,28 @@ first_node : (color : ℕ → ℕ) (first a : ℕ) (t : Tree) (ts : Trees) → a
 first_node color first a (tree.entry m) ts h = absurd (cc)
 first_node color first a (tree.node i s kids) ts h = (refl, h)
 
-roots_shown : (color : ℕ → ℕ) (first : ℕ) (entries : List StackEntry) (g : ℕ → Tree) (at : ℕ → ℕ) (n : ℕ) →
-    ((i : ℕ) → i < n → Shows color first (at i) (shown.entry_term entries i) (g i)) → (is : List ℕ) → All (λ i. i < n) is →
+roots_shown : (color : ℕ → ℕ) (first : ℕ) (entries : List StackEntry) (g : ℕ → Tree) (is : List ℕ) →
+    All (λ i. (a : ℕ) × Shows color first a (shown.entry_term entries i) (g i)) is →
     are_nodes (graph.trees_at g is) ≡ true → default_lines (root_lines entries is) ≡ trees_text color first (graph.trees_at g is)
-roots_shown color first entries g at n h [] l k = refl
-roots_shown color first entries g at n h (i ∷ is) l k =
-    let own = first_node color first (at i) (g i) (graph.trees_at g is) k in
+roots_shown color first entries g [] l k = refl
+roots_shown color first entries g (i ∷ is) l k =
+    let P : ℕ → Type 0 = λ i. (a : ℕ) × Shows color first a (shown.entry_term entries i) (g i) in
+    let one = All-head P i is l in
+    let own = first_node color first one.0 (g i) (graph.trees_at g is) k in
     lines_append (tree_lines [] [] (shown.entry_term entries i)) (root_lines entries is)
-    ∙ ap₂ (λ x y. x ++ y) (h i (All-head (λ i. i < n) i is l) [] [] ∙ own.0)
-    (roots_shown color first entries g at n h is (All-tail (λ i. i < n) i is l) own.1)
-
-pub roots_below : (ps : List (Option ℕ)) → All (λ i. i < length ps) (reverse (roots ps))
-roots_below ps = all_has (λ i. i < length ps) (reverse (roots ps)) (λ i w. (has_root i ps (has_back i (roots ps) w)).1)
-
--- ---- the text of the graph
-
--- an entry of the graph, as what it stands for
-pub entry_is : (info : Module) (first : ℕ) (entries : List StackEntry) (i : ℕ) → i < length entries →
-    entry_at (graph_entries info first entries) i ≡ view info first (stack_at (reverse entries) i)
-entry_is info first entries i l =
-    entry_seen info first entries i (undef_entry 0) l ∙ ap (view info first) (get_item (undef_entry 0) entries i)
-
-entry_shown : (info : Module) (preserving : Bool) (first : ℕ) (block : List Shape) (e : StackEntry) →
-    IsEntryOf preserving block (view info first e) → first ≤ e.operator_idx → IsOwnOrUndef e → IsShown (color_at preserving block) first e
-entry_shown info preserving first block e h later own =
-    let seen = λ (o : Option Instruction) (is : instr_of e.operator ≡ o). subst
-    (λ (x : Option Shape). IsOperator preserving block x (view info first e)) (ap (shape_for info first) is) h.1 in
-    record { own = own; later = later; missing = λ is. (seen None is).1; painted = λ i is. (seen (Some i) is).1 }
-
-pub item_of : (P : StackEntry → Type 0) (rs : List StackEntry) → All P rs → (i : ℕ) → i < length rs → P (stack_at rs i)
-item_of P [] h i l = absurd (omega arith)
-item_of P (e ∷ earlier) h i l = elim (last_or_before (length earlier) i l) [
-  | inl w ↦ subst P (sym (stack_top e earlier i w)) (All-head P e earlier h)
-  | inr w ↦ subst P (sym (stack_older e earlier i w)) (item_of P earlier (All-tail P e earlier h) i w)
-]
-
-module _ (source : Source) (given : Graph) (h : IsGraphOf source given) where
-  abbrev rs : List StackEntry
-  rs = reverse given.entries
-
-  abbrev block : List Shape
-  block = shapes_in source
-
-  abbrev nodes : List GraphEntry
-  nodes = graph_entries source.info source.first given.entries
-
-  later_at : (i : ℕ) → i < length given.entries → source.first ≤ (stack_at rs i).operator_idx
-  later_at i l = subst (λ (e : StackEntry). source.first ≤ e.operator_idx) (get_item (undef_entry 0) given.entries i)
-      (entry_later source given h i (undef_entry 0) l).0
-
-  pub entries_all : All (IsShown (color_at source.preserving (shapes_in source)) source.first) (reverse given.entries)
-  entries_all =
-      let r = represents source given h in
-      let n = length-reverse given.entries in
-      let count = nodes_length source.info source.first given.entries in
-      let own = All_turned given.entries r.missing in
-      all_items (IsShown (color_at source.preserving block) source.first) rs (λ i l. entry_shown source.info source.preserving source.first block (stack_at rs i)
-      (subst (IsEntryOf source.preserving block) (entry_is source.info source.first given.entries i (omega arith)) (r.stands.entries i (omega arith)))
-      (later_at i (omega arith)) (item_of IsOwnOrUndef rs own i l))
-
-  -- a missing operand is one of the operator that takes it
-  takes_own : TakesOwn rs
-  takes_own p i l w none =
-      let st = (represents source given h).stands in
-      let n = length-reverse given.entries in
-      let entry_p = entry_is source.info source.first given.entries p (omega arith) in
-      let has_i = ap (λ (e : GraphEntry). has i e.children) entry_p ∙ w in
-      let lower = (st.parent p i has_i).1 in
-      let entry_i = entry_is source.info source.first given.entries i (omega arith) in
-      let same = st.taker p i has_i (ap (λ (e : GraphEntry). e.shape) entry_i ∙ ap (shape_for source.info source.first) none) in
-      let number_i = ap (λ (e : GraphEntry). e.number) entry_i in
-      let number_p = ap (λ (e : GraphEntry). e.number) entry_p in
-      let later_i = later_at i (omega arith) in
-      let later_p = later_at p (omega arith) in
-      omega arith
-
-  shows_all : default_text given.entries given.parents ≡ codes "DFG forest\n" ++ trees_text (color_at source.preserving block) source.first (forest block)
-  shows_all =
-      let color = color_at source.preserving block in
-      let n = length-reverse given.entries in
-      let below = subst AreBelow (map_turned node_of_entry given.entries)
-      (entries_below given.entries (has_trees source given h).below) in
-      let each = entries_shown source.info color source.first rs below entries_all (are_taken rs below takes_own) in
-      let g = graph.tree_at_entry nodes in
-      let at = λ (i : ℕ). (stack_at rs i).operator_idx in
-      let nodes_are = ap reverse (map_twice source.info source.first given.entries) ∙ map_turned (view source.info source.first) given.entries in
-      let shows : (i : ℕ) → i < length given.entries → Shows color source.first (at i) (shown.entry_term given.entries i) (g i) = λ i l prefix inner.
-      ap (λ (x : List (Node StackEntry)). default_lines (tree_lines prefix inner (tree_at x i))) (map_turned link given.entries)
-      ∙ (each i (at i) (omega arith) (λ _. refl) prefix inner
-      ∙ ap (λ (x : List GraphEntry). tree_text color source.first prefix inner (at i) (graph.tree_at_entry x i)) (sym nodes_are)) in
-      let parents_are = length-reverse given.parents ∙ parents_length source given h in
-      let inside = subst (λ (k : ℕ). All (λ i. i < k) (roots_of given.parents)) parents_are (roots_below (reverse given.parents)) in
-      let trees_are = (represents source given h).stands.trees in
-      ap (λ t. codes "DFG forest\n" ++ t)
-      (roots_shown color source.first given.entries g at (length given.entries) shows (roots_of given.parents) inside (ap are_nodes trees_are ∙ nodes_forest block)
-      ∙ ap (trees_text color source.first) trees_are)
+    ∙ ap₂ (λ x y. x ++ y) (one.1 [] [] ∙ own.0) (roots_shown color first entries g is (All-tail P i is l) own.1)
 
 pub shows_the_forest : ShowsTheForest
-shows_the_forest source given h = shows_all source given h
+shows_the_forest source given h =
+    let c = color_at source.preserving (shapes_in source) in
+    let is = roots_of given.parents in
+    let paired = h.forest_is.paired in
+    let each : (i : ℕ) → i < length given.parents → (a : ℕ) × Shows c source.first a (shown.entry_term given.entries i) (entry_tree source given i) =
+    λ i l. let e = get_or given.entries i (undef_entry 0) in (
+      e.operator_idx,
+      shown_at source given h i (omega arith) e.operator_idx
+          (λ x s m. sym (ap (λ (y : StackEntry). y.operator_idx) (get_or_from_slice_get given.entries i x (undef_entry 0) s))),
+    ) in
+    ap (λ t. codes "DFG forest\n" ++ t) (roots_shown c source.first given.entries (entry_tree source given) is
+    (All-weaker (λ i. i < length given.parents) (λ i. (a : ℕ) × Shows c source.first a (shown.entry_term given.entries i) (entry_tree source given i))
+    each is (roots_below given.parents)) (ap are_nodes h.trees ∙ nodes_forest (shapes_in source)) ∙ ap (trees_text c source.first) h.trees)

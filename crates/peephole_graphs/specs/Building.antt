@@ -4,8 +4,8 @@ use Rattle.std.specs.Bool.{nat_eq}
 use Rattle.std.specs.HashMap as hash
 use Rattle.peephole_graphs.specs.declared.growing.Growing.{Growing}
 use Rattle.peephole_graphs.specs.Source.{Source}
-use Rattle.peephole_graphs.specs.Entries.{Graph, Measured, kins_of}
-use Rattle.peephole_graphs.specs.Downwards.{forwards}
+use Rattle.peephole_graphs.specs.Entries.{Graph, kins_of}
+use Rattle.peephole_graphs.specs.Measures.{Measured, forwards}
 use Rattle.peephole_graphs.specs.Order.{AreInOrder}
 use Rattle.peephole_graphs.specs.Contiguous.{HasContiguousTrees}
 use Rattle.peephole_graphs.specs.GraphOf.{IsGraphOf}

@@ -3,13 +3,13 @@ use Rattle.std.specs.Prelude.{ℕ, ◌+◌, ◌==◌, Bool, List, [], ◌∷◌,
 use Rattle.peephole_graphs.specs.Shape.{Shape}
 
 -- the sum of the changes
-abbrev pub raised : List Shape → ℕ
-raised [] = 0
-raised (s ∷ earlier) = raised earlier + s.change
+abbrev pub total_change : List Shape → ℕ
+total_change [] = 0
+total_change (s ∷ earlier) = total_change earlier + s.change
 
 -- the colour behind a block
 abbrev pub color_after : Bool → List Shape → ℕ
-color_after preserving block = if preserving then raised block else 0
+color_after preserving block = if preserving then total_change block else 0
 
 -- an operator's colour: that behind the operators before it
 abbrev pub color_at : Bool → List Shape → ℕ → ℕ

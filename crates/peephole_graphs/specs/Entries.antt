@@ -1,18 +1,17 @@
 -- The entries of a graph, as what they stand for. The code's lists ascend; those of the theory have the last entry first. This project's rule.
-use Rattle.std.specs.Prelude.{ℕ, ◌-◌, ◌<◌, ◌≡◌, Bool, true, false, List, [], length, map, reverse, slice_get, slice_index, slice_index_or, Option, Some, option_map}
+use Rattle.std.specs.Prelude.{ℕ, ◌-◌, ◌<◌, ◌≡◌, true, false, List, [], length, map, reverse, slice_get, slice_index_or, Option, Some, option_map}
 use Rattle.std.specs.Bool.{nat_eq}
 use Rattle.std.specs.List.{IsDistinct}
 use Rattle.wasm_code.specs.Instruction.{Instruction}
 use Rattle.mutate_base.specs.Module.{Module}
 use Rattle.peephole_lang.specs.Node.{instr_of, children_of}
 use Rattle.peephole_graphs.specs.declared.dfg.StackEntry.{StackEntry}
-use Rattle.peephole_graphs.specs.declared.subtree.Subtree.{Subtree}
 use Rattle.peephole_graphs.specs.Shape.{Shape, Judged, Fits, judge_instruction}
 use Rattle.peephole_graphs.specs.Source.{Source}
 use Rattle.peephole_graphs.specs.Tree.{Tree, Trees}
 use Rattle.peephole_graphs.specs.Forest.{has}
 use Rattle.peephole_graphs.specs.Graph.{GraphEntry, trees_at, tree_at_entry, roots}
-use Rattle.peephole_graphs.specs.Downwards.{Kin, sizes_of, flags_of}
+use Rattle.peephole_graphs.specs.Downwards.{Kin}
 
 -- A graph: its entries, the parent of each, and where the own entry of an operator is found by the operator's index in the body.
 pub record Graph : Type 0 where
@@ -75,25 +74,3 @@ pub record IsForest (entries : List StackEntry) (parents : List (Option ℕ)) : 
   pub parent : (p i : ℕ) → has i (children_at entries p) ≡ true → (slice_get parents i ≡ Some (Some p)) × (i < p)
   pub child : (p i : ℕ) → slice_get parents i ≡ Some (Some p) → has i (children_at entries p) ≡ true
   pub once : (p : ℕ) → IsDistinct nat_eq (children_at entries p)
-
-abbrev pub colors : List StackEntry → List ℕ
-colors entries = map (λ (e : StackEntry). e.color) entries
-
--- what is kept of the entries from each one downwards: how many they are, and whether they have one colour
-abbrev pub sizes_kept : List Subtree → List ℕ
-sizes_kept subtrees = map (λ (t : Subtree). t.len) subtrees
-
-abbrev pub flags_kept : List Subtree → List Bool
-flags_kept subtrees = map (λ (t : Subtree). t.one_color) subtrees
-
--- of the entry with an index
-abbrev pub size_kept : List Subtree → ℕ → ℕ
-size_kept subtrees i = slice_index (sizes_kept subtrees) i
-
-abbrev pub flag_kept : List Subtree → ℕ → Bool
-flag_kept subtrees i = slice_index_or (flags_kept subtrees) i false
-
--- it is right
-pub record Measured (entries : List StackEntry) (subtrees : List Subtree) : Type 0 where
-  pub sizes_are : reverse (sizes_kept subtrees) ≡ sizes_of (kins_of entries)
-  pub flags_are : reverse (flags_kept subtrees) ≡ flags_of (kins_of entries)

@@ -40,8 +40,8 @@ unless None x = Ok x
 unless (Some fault) x = Err fault
 
 -- the block of operators that have a graph, as the theory has it, or their first fault
-abbrev pub graphed : Module → Bool → List (Operator × ℕ) → Result (List Shape) Fault
-graphed info preserving operators = unless (fault_of info preserving operators) (shapes_of_block info operators)
+abbrev pub shapes_or_fault : Module → Bool → List (Operator × ℕ) → Result (List Shape) Fault
+shapes_or_fault info preserving operators = unless (fault_of info preserving operators) (shapes_of_block info operators)
 
 -- ---- the function says what the relations say
 

@@ -47,12 +47,12 @@ abbrev mutual
   child_lines inner (t ▸ ts) = tree_lines (inner ++ branch (is_followed ts)) (inner ++ edge (is_followed ts)) t ++ child_lines inner ts
 
 -- the entries with their children, the last one first
-abbrev pub linked : List StackEntry → List (Node StackEntry)
-linked entries = nodes_of (λ e. e) (λ e. children_of e.operator) entries
+abbrev pub entries_as_nodes : List StackEntry → List (Node StackEntry)
+entries_as_nodes entries = nodes_of (λ e. e) (λ e. children_of e.operator) entries
 
 -- the tree of an entry: the entry and its children's trees
 abbrev pub entry_term : List StackEntry → ℕ → Term StackEntry
-entry_term entries i = tree_at (linked entries) i
+entry_term entries i = tree_at (entries_as_nodes entries) i
 
 -- the lines of the roots' trees, root by root
 abbrev pub root_lines : List StackEntry → List ℕ → List Line

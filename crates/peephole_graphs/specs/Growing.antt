@@ -9,9 +9,8 @@ use Rattle.peephole_graphs.specs.declared.dfg.StackEntry.{StackEntry}
 use Rattle.peephole_graphs.specs.declared.subtree.Subtree.{Subtree}
 use Rattle.peephole_graphs.specs.declared.growing.Growing.{Growing}
 use Rattle.peephole_graphs.specs.Shape.{Shape}
-use Rattle.peephole_graphs.specs.Downwards.{are_alike}
 use Rattle.peephole_graphs.specs.Step.{down}
-use Rattle.peephole_graphs.specs.Entries.{colors, size_kept, flag_kept}
+use Rattle.peephole_graphs.specs.Measures.{colors, size_kept, flag_kept, are_alike}
 
 -- the entry of a missing operand
 abbrev pub undef_entry : ℕ → StackEntry

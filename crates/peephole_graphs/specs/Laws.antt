@@ -1,25 +1,25 @@
 -- What holds of the forest of every block. Lists of operators have the last one first. This project's laws.
 use Rattle.std.specs.Prelude.{◌≡◌, ◌↔◌, List, reverse}
 use Rattle.peephole_graphs.specs.Shape.{Shape}
-use Rattle.peephole_graphs.specs.Tree.{shapes, renumbered}
+use Rattle.peephole_graphs.specs.Tree.{shapes, renumber}
 use Rattle.peephole_graphs.specs.Forest.{forest, IsInOrder, AreTogether}
 
 -- The block of instructions that is written with a block's own trees, the last instruction first.
-abbrev pub rewritten : List Shape → List Shape
-rewritten block = reverse (shapes (forest block))
+abbrev pub tree_order : List Shape → List Shape
+tree_order block = reverse (shapes (forest block))
 
 -- What was written has the same forest, but for the operators' numbers, which are those of the new places.
 abbrev pub HasSameTrees : Type 0
-HasSameTrees = (block : List Shape) → forest (rewritten block) ≡ renumbered 0 (forest block)
+HasSameTrees = (block : List Shape) → forest (tree_order block) ≡ renumber 0 (forest block)
 
 abbrev pub IsWrittenInOrder : Type 0
-IsWrittenInOrder = (block : List Shape) → IsInOrder (rewritten block)
+IsWrittenInOrder = (block : List Shape) → IsInOrder (tree_order block)
 
 abbrev pub StaysWhenWrittenAgain : Type 0
-StaysWhenWrittenAgain = (block : List Shape) → rewritten (rewritten block) ≡ rewritten block
+StaysWhenWrittenAgain = (block : List Shape) → tree_order (tree_order block) ≡ tree_order block
 
 abbrev pub OrderIsTogether : Type 0
 OrderIsTogether = (block : List Shape) → IsInOrder block ↔ AreTogether block
 
 abbrev pub OrderedIsPostfix : Type 0
-OrderedIsPostfix = (block : List Shape) → IsInOrder block → rewritten block ≡ block
+OrderedIsPostfix = (block : List Shape) → IsInOrder block → tree_order block ≡ block

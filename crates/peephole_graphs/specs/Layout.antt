@@ -1,5 +1,5 @@
 -- A term laid out in postfix: the layouts of its children one after another, and then its own node.
--- A node names each child by the place of that child's own node. This project.
+-- A node names each child by the index of that child's own node. This project.
 use Rattle.std.specs.Prelude.{ℕ, suc, ◌+◌, ◌-◌, ◌≡◌, List, [], ◌∷◌, ◌++◌, ◌<◌, ◌≤◌, ◌^◌, length, map, reverse, slice_index_or, Option, Some, ⊤, IsTrue}
 use Rattle.std.specs.Coded.{Coded-set}
 use Rattle.std.specs.List.{All}
@@ -12,7 +12,7 @@ use Rattle.peephole_lang.specs.Node.{node_of, children_of}
 use Rattle.peephole_lang.specs.Term.{Term, Terms, absent, node, no_terms, ◌▸◌, Node, tree_at}
 use Rattle.peephole_graphs.specs.declared.dfg.StackEntry.{StackEntry}
 
--- what a node is, and the places of its children, by the parts of its language
+-- what a node is, and the indexes of its children, by the parts of its language
 abbrev pub node_by : {L H : Type 0} → (L → H) → (L → List ℕ) → L → Node H
 node_by head children l = record { head = head l; children = children l }
 
@@ -31,19 +31,21 @@ abbrev mutual
   node_count (t ▸ ts) = node_count_of t + node_count ts
 
 -- where the terms' own nodes stand when the terms are laid out from `first` on: each is the last one of its term
-abbrev pub places : {H : Type 0} → ℕ → Terms H → List ℕ
-places first no_terms = []
-places first (t ▸ ts) = (first + node_count_of t - 1) ∷ places (first + node_count_of t) ts
+abbrev pub root_indexes : {H : Type 0} → ℕ → Terms H → List ℕ
+root_indexes first no_terms = []
+root_indexes first (t ▸ ts) = (first + node_count_of t - 1)
+    ∷ root_indexes (first + node_count_of t) ts
 
--- the nodes from the place `first` on
+-- the nodes from the index `first` on
 abbrev mutual
-  pub laid : {H : Type 0} → ℕ → Term H → List (Node H)
-  laid first absent = []
-  laid first (node h kids) = laid_all first kids ++ record { head = h; children = places first kids } ∷ []
+  pub layout_from : {H : Type 0} → ℕ → Term H → List (Node H)
+  layout_from first absent = []
+  layout_from first (node h kids) = layouts_from first kids
+      ++ record { head = h; children = root_indexes first kids } ∷ []
 
-  pub laid_all : {H : Type 0} → ℕ → Terms H → List (Node H)
-  laid_all first no_terms = []
-  laid_all first (t ▸ ts) = laid first t ++ laid_all (first + node_count_of t) ts
+  pub layouts_from : {H : Type 0} → ℕ → Terms H → List (Node H)
+  layouts_from first no_terms = []
+  layouts_from first (t ▸ ts) = layout_from first t ++ layouts_from (first + node_count_of t) ts
 
 -- every node is there
 abbrev mutual
@@ -57,7 +59,8 @@ abbrev mutual
 
 -- The term of what is laid out is the term.
 abbrev pub KeepsTheTerm : Type 0
-KeepsTheTerm = (t : Term Head) → IsWhole t → tree_at (reverse (laid 0 t)) (length (laid 0 t) - 1) ≡ t
+KeepsTheTerm = (t : Term Head) → IsWhole t →
+    tree_at (reverse (layout_from 0 t)) (length (layout_from 0 t) - 1) ≡ t
 
 -- the nodes of a graph's entries, the last one first
 abbrev pub entry_nodes : List StackEntry → List (Node Head)
@@ -67,11 +70,11 @@ entry_nodes entries = held_nodes (λ (e : StackEntry). node_of e.operator) entri
 abbrev pub AreWritable : List Lang → Type 0
 AreWritable nodes = All (λ l. IsTrue (is_writable (payload_of l))) nodes
 
--- What holds of the entries of every graph: each child stands below its parent, `look` finds entries, each entry's tree has
+-- What holds of the entries of every graph: each child stands below its parent, `own_entry` finds entries, each entry's tree has
 -- at most 2^32 nodes, and each entry's node can be written.
-pub record HasTrees (entries : List StackEntry) (look : ℕ → Option ℕ) : Type 0 where
+pub record HasTrees (entries : List StackEntry) (own_entry : ℕ → Option ℕ) : Type 0 where
   pub below : (i : ℕ) (d : StackEntry) → i < length entries → All (λ c. c < i) (children_of (slice_index_or entries i d).operator)
-  pub found : (k i : ℕ) → look k ≡ Some i → i < length entries
+  pub found : (k i : ℕ) → own_entry k ≡ Some i → i < length entries
   pub small : (i : ℕ) → i < length entries → node_count_of (tree_at (entry_nodes entries) i) ≤ 2 ^ 32
   pub writable : AreWritable (map (λ (e : StackEntry). e.operator) entries)
 

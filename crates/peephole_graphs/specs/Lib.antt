@@ -9,6 +9,7 @@ pub mod Laws
 pub mod Block
 pub mod Source
 pub mod Entries
+pub mod Measures
 pub mod Contiguous
 pub mod Order
 pub mod GraphOf

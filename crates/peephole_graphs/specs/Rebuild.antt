@@ -5,11 +5,11 @@ use Rattle.std.specs.Prelude.{ℕ, suc, ◌≡◌, ◌≢◌, ◌<◌, ◌^◌, 
 use Rattle.std.specs.List.{All, AllPairs, Contains}
 use Rattle.peephole_nodes.specs.declared.id.Id.{Id}
 use Rattle.peephole_lang.specs.Term.{Term, Terms, absent, node, no_terms, ◌▸◌, Node, tree_at, term_of}
-use Rattle.peephole_graphs.specs.Layout.{node_by, laid, node_count_of, IsWhole}
+use Rattle.peephole_graphs.specs.Layout.{node_by, layout_from, node_count_of, IsWhole}
 
 -- what a closure can answer for an id, told by its head and its children
-abbrev pub answered : {L H : Type 0} → (L → H) → (L → List ℕ) → (Id → Bor L → Type 0) → ℕ → Node H → Type 0
-answered {L} head children post id n = (given : Bor L) × post (record { 0 = id }) given × (node_by head children given.now ≡ n)
+abbrev pub CanAnswer : {L H : Type 0} → (L → H) → (L → List ℕ) → (Id → Bor L → Type 0) → ℕ → Node H → Type 0
+CanAnswer {L} head children post id n = (given : Bor L) × post (record { 0 = id }) given × (node_by head children given.now ≡ n)
 
 -- The root is reached, and so is each child of a node that can be answered for a reached id.
 pub data IsReached {H : Type 0} (Answers : ℕ → Node H → Type 0) (root : ℕ) : ℕ → Type 0 where
@@ -35,7 +35,7 @@ IsTree Answers id t = IsPart Answers id t × IsWhole t
 
 -- The expression is the tree laid out, and its term is that tree.
 pub record IsLaidOut {L H : Type 0} (head : L → H) (children : L → List ℕ) (t : Term H) (expr : List L) : Type 0 where
-  pub nodes_are : map (node_by head children) expr ≡ laid 0 t
+  pub nodes_are : map (node_by head children) expr ≡ layout_from 0 t
   pub term_is : term_of head children expr ≡ t
 
 -- a part of the tree has more nodes already than an expression holds
@@ -55,13 +55,13 @@ pub record IsToldBy {H : Type 0} (Answers : ℕ → Node H → Type 0) (root : �
   pub same : (id : ℕ) (n : Node H) → IsReached Answers root id → Answers id n → slice_index_or nodes id n ≡ n
   pub below : (id : ℕ) (n : Node H) → IsReached Answers root id → Answers id n → All (λ child. child < id) n.children
 
--- the tree of a place among nodes, ascending
+-- the tree of an index among nodes, ascending
 abbrev pub told_tree : {H : Type 0} → List (Node H) → ℕ → Term H
 told_tree nodes root = tree_at (reverse nodes) root
 
 -- ---- the order in which nodes are asked for
 
--- a node without its children's places: how many they are
+-- a node without its children's indexes: how many they are
 pub record Piece (H : Type 0) : Type 0 where
   pub head : H
   pub count : ℕ

@@ -5,8 +5,8 @@ use Rattle.peephole_lang.specs.Term.{Node}
 use Rattle.peephole_graphs.specs.declared.dfg.StackEntry.{StackEntry}
 use Rattle.peephole_graphs.specs.Entries.{children_at}
 
--- The entries from each of the places downwards, of which there are `size`, lie one place's behind another's from `at` on,
--- and end with the place itself.
+-- The entries from each of the indexes downwards, of which there are `size`, lie behind those from the index before it, the
+-- first ones from `at` on, and end with the entry at the index itself.
 abbrev pub lie_behind : (ℕ → ℕ) → ℕ → List ℕ → Bool
 lie_behind size at [] = true
 lie_behind size at (c ∷ cs) = (suc c == at + size c) && lie_behind size (suc c) cs
@@ -22,5 +22,5 @@ abbrev pub HoldsItsChildren : ℕ → List StackEntry → Type 0
 HoldsItsChildren start entries = (k : ℕ) → k < length entries → All (λ c. (start ≤ c) × (c < start + k)) (children_at entries k)
 
 -- the node with its children counted from `start` on
-abbrev pub lowered : {H : Type 0} → ℕ → Node H → Node H
-lowered start n = record { head = n.head; children = map (λ c. c - start) n.children }
+abbrev pub node_from : {H : Type 0} → ℕ → Node H → Node H
+node_from start n = record { head = n.head; children = map (λ c. c - start) n.children }

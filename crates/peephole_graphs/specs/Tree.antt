@@ -75,10 +75,10 @@ abbrev mutual
 
 -- the same trees, the operators numbered in postfix from `first` on
 abbrev mutual
-  pub renumbered_of : ℕ → Tree → Tree
-  renumbered_of first (entry m) = entry m
-  renumbered_of first (node i s kids) = node (first + size kids) s (renumbered first kids)
+  pub renumber_tree : ℕ → Tree → Tree
+  renumber_tree first (entry m) = entry m
+  renumber_tree first (node i s kids) = node (first + size kids) s (renumber first kids)
 
-  pub renumbered : ℕ → Trees → Trees
-  renumbered first no_trees = no_trees
-  renumbered first (t ▸ ts) = renumbered_of first t ▸ renumbered (first + size_of t) ts
+  pub renumber : ℕ → Trees → Trees
+  renumber first no_trees = no_trees
+  renumber first (t ▸ ts) = renumber_tree first t ▸ renumber (first + size_of t) ts

@@ -1,11 +1,12 @@
 //! The graph of a block.
 
-ghost use Rattle.std.specs.Prelude.{◌≡◌, ◌<◌, ◌-◌, ◌↔◌, ℕ, IsTrue, length, nat_eq};
+ghost use Rattle.std.specs.Prelude.{◌≡◌, ◌<◌, ◌+◌, ◌-◌, ◌↔◌, ◌&&◌, ℕ, IsTrue, length, take, nat_eq};
 ghost use Rattle.std.specs.HashMap as hash;
 ghost use Rattle.std.proofs.Props.{props};
 ghost use Rattle.std.proofs.lemmas.Map.Keys.{IsDistinct-prop};
-ghost use Rattle.peephole_graphs.specs.Downwards.{downwards, forwards, HasOneColor};
-ghost use Rattle.peephole_graphs.specs.Entries.{kins_of, Measured, IsForest};
+ghost use Rattle.peephole_graphs.specs.Downwards.{downwards, HasOneColor};
+ghost use Rattle.peephole_graphs.specs.Entries.{kins_of, IsForest};
+ghost use Rattle.peephole_graphs.specs.Measures.{Measured, forwards};
 ghost use Rattle.peephole_graphs.specs.Order.{AreInOrder};
 ghost use Rattle.peephole_graphs.specs.Layout.{HasTrees, Lang-set};
 
@@ -78,7 +79,7 @@ impl MiniDFG {
     ghost use Rattle.mutate_base.specs.declared.error.Error.{Error};
     ghost use Rattle.peephole_lang.specs.Node.{node_of, head_of, children_of};
     ghost use Rattle.peephole_lang.specs.Term.{tree_at, term_of};
-    ghost use Rattle.peephole_graphs.specs.Layout.{entry_nodes, laid, AreWritable};
+    ghost use Rattle.peephole_graphs.specs.Layout.{entry_nodes, layout_from, AreWritable};
     ghost use Rattle.peephole_graphs.specs.Dfg.{graph_of};
     ghost use Rattle.peephole_graphs.specs.ForestText.{forest_text, default_text, IsText, CanTell, Tells};
 
@@ -143,12 +144,12 @@ impl MiniDFG {
         self.parents.as_slice()
     }
 
-    /// The tree of the operator with the index `at` in the body, laid out in postfix: its operands' trees one after another, then its own node, the last one. Each node names its children by their places, and can be written; a missing operand is `Undef`. Refused for want of memory alone (`Memory`). Condition: `at` is a key of `map()`.
+    /// The tree of the operator with the index `at` in the body, laid out in postfix: its operands' trees one after another, then its own node, the last one. Each node names its children by their indexes, and can be written; a missing operand is `Undef`. Refused for want of memory alone (`Memory`). Condition: `at` is a key of `map()`.
     pub fn get_expr(&self, alloc: Global, at: usize) -> Result<RecExpr<Lang>, Error>
         requires { IsSome ((graph_of self.now).own_entry at) }
         ensures laid { let g = graph_of self.now in
             IfOk result (λ expr. IfSome (g.own_entry at) (λ i.
-            map node_of expr ≡ laid 0 (tree_at (entry_nodes g.entries) i))) }
+            map node_of expr ≡ layout_from 0 (tree_at (entry_nodes g.entries) i))) }
         ensures term { let g = graph_of self.now in
             IfOk result (λ expr. IfSome (g.own_entry at) (λ i.
             term_of head_of children_of expr ≡ tree_at (entry_nodes g.entries) i)) }
@@ -166,7 +167,8 @@ impl MiniDFG {
     fn lay_out_at(&self, alloc: Global, root: usize) -> Result<RecExpr<Lang>, Error>
         requires { root < length (graph_of self.now).entries }
         ensures laid { IfOk result (λ expr.
-            map node_of expr ≡ laid 0 (tree_at (entry_nodes (graph_of self.now).entries) root)) }
+            map node_of expr
+            ≡ layout_from 0 (tree_at (entry_nodes (graph_of self.now).entries) root)) }
         ensures refused { IfErr result (λ e. e ≡ Error.Memory) }
     {
         let end = root + 1;
@@ -203,19 +205,24 @@ impl MiniDFG {
         self.is_subtree_consistent(self.entries.len() - 1)
     }
 
-    // Whether the children of every entry lie one behind another, and end right before it.
+    // Whether the children of the entry at an index lie one behind another, and end right before it.
+    fn lies_forward_at(&self, i: usize) -> bool
+        requires { i < length (graph_of self.now).entries }
+        ensures { let entries = (graph_of self.now).entries in
+            forwards (kins_of (take (i + 1) entries))
+            ≡ (forwards (kins_of (take i entries)) && result) }
+    {
+        let from = (i + 1).saturating_sub(self.subtrees[i].len);
+        let ids = self.entries[i].operator.children();
+        lie_one_behind_another(&self.entries[..i], &self.subtrees[..i], ids, from, true)
+    }
+
+    // So it is of every entry.
     fn lies_forward(&self) -> bool
         ensures { result ≡ forwards (kins_of (graph_of self.now).entries) }
     {
         for i in 0..self.entries.len() {
-            let from = (i + 1).saturating_sub(self.subtrees[i].len);
-            if !lie_one_behind_another(
-                &self.entries[..i],
-                &self.subtrees[..i],
-                self.entries[i].operator.children(),
-                from,
-                true,
-            ) {
+            if !self.lies_forward_at(i) {
                 return false;
             }
         }

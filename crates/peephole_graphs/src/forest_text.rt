@@ -6,7 +6,7 @@ ghost use Rattle.mutate_base.specs.declared.error.Error.{Error};
 ghost use Rattle.peephole_lang.specs.Term.{AreBelow};
 ghost use Rattle.peephole_lang.specs.Text.{text_of};
 ghost use Rattle.peephole_graphs.specs.declared.dfg.StackEntry.{StackEntry};
-ghost use Rattle.peephole_graphs.specs.ForestText.{branch, edge, linked, entry_term, tree_lines, forest_lines, with_entry, with_lines, forest_text, IsText, IsWritten, CanTell, Tells};
+ghost use Rattle.peephole_graphs.specs.ForestText.{branch, edge, entries_as_nodes, entry_term, tree_lines, forest_lines, with_entry, with_lines, forest_text, IsText, IsWritten, CanTell, Tells};
 ghost use Rattle.peephole_graphs.specs.ForestSteps.{has_some, edges};
 
 use crate::dfg::StackEntry;
@@ -86,7 +86,7 @@ fn write_tree<F: Fn(&StackEntry) -> Result<String, Error>>(
 ) -> Result<(), Error>
     requires callable { All (CanTell F.Fn f.now) entries.now }
     requires root { root < length entries.now }
-    requires below { AreBelow (linked entries.now) }
+    requires below { AreBelow (entries_as_nodes entries.now) }
     ensures { (said : StackEntry → Result (List ℕ) Error) → All (Tells F.Fn f.now said) entries.now
         → IsWritten (with_lines said (string_bytes text.old)
         (tree_lines [] [] (entry_term entries.now root)))
@@ -116,7 +116,7 @@ fn write_roots<F: Fn(&StackEntry) -> Result<String, Error>>(
     f: &F,
 ) -> Result<(), Error>
     requires callable { All (CanTell F.Fn f.now) entries.now }
-    requires below { AreBelow (linked entries.now) }
+    requires below { AreBelow (entries_as_nodes entries.now) }
     requires paired { length parents.now ≡ length entries.now }
     ensures { (said : StackEntry → Result (List ℕ) Error) → All (Tells F.Fn f.now said) entries.now
         → IsWritten (with_lines said (string_bytes text.old) (forest_lines entries.now parents.now))
@@ -139,7 +139,7 @@ pub(crate) fn print_forest<F: Fn(&StackEntry) -> Result<String, Error>>(
     f: &F,
 ) -> Result<String, Error>
     requires callable { All (CanTell F.Fn f.now) entries.now }
-    requires below { AreBelow (linked entries.now) }
+    requires below { AreBelow (entries_as_nodes entries.now) }
     requires paired { length parents.now ≡ length entries.now }
     ensures { (said : StackEntry → Result (List ℕ) Error) → All (Tells F.Fn f.now said) entries.now
         → IsText (forest_text said entries.now parents.now) result }

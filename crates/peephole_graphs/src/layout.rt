@@ -3,7 +3,7 @@ ghost use Rattle.std.specs.Prelude.{◌≡◌, ℕ, ◌<◌, ◌≤◌, ◌-◌,
 ghost use Rattle.std.specs.List.{All};
 ghost use Rattle.peephole_lang.specs.Node.{node_of, head_of, children_of};
 ghost use Rattle.peephole_lang.specs.Term.{AreBelow, numbers_of, tree_at, term_of};
-ghost use Rattle.peephole_graphs.specs.Layout.{node_by, entry_nodes, laid, node_count_of};
+ghost use Rattle.peephole_graphs.specs.Layout.{node_by, entry_nodes, layout_from, node_count_of};
 
 use crate::dfg::StackEntry;
 use crate::postfix::{Postfix, Turn};
@@ -51,7 +51,7 @@ pub(crate) fn add_own<L: Language>(
 }
 
 /// The tree of the entry at `root`, laid out in postfix: the children's trees one after another, then the entry's own node,
-/// which names each child by its place.
+/// which names each child by its index.
 ///
 /// Memory is the result's and the tree's depth. `Memory` where an allocation was refused, `TooLarge` where the tree has more
 /// than 2^32 nodes.
@@ -63,7 +63,7 @@ pub(crate) fn lay_out(
     requires root { root < length entries.now }
     requires below { AreBelow (entry_nodes entries.now) }
     ensures laid { IfOk result (λ expr. map node_of expr
-        ≡ laid 0 (tree_at (entry_nodes entries.now) root)) }
+        ≡ layout_from 0 (tree_at (entry_nodes entries.now) root)) }
     ensures term { IfOk result (λ expr. term_of head_of children_of expr
         ≡ tree_at (entry_nodes entries.now) root) }
     ensures some { IfOk result (λ expr. 0 < length expr) }

@@ -1,8 +1,8 @@
 //! A walk over a tree in postfix that does not recurse.
 
-ghost use Rattle.std.specs.Prelude.{◌≡◌, ℕ, List, ◌∷◌, [], OnOk};
+ghost use Rattle.std.specs.Prelude.{◌≡◌, ◌∷◌, ◌++◌, [], OnOk, OnErr, MatchOption};
 ghost use Rattle.peephole_lang.specs.Term.{numbers_of};
-ghost use Rattle.peephole_graphs.specs.Postfix.{stop, GoesOn, left, coming};
+ghost use Rattle.peephole_graphs.specs.Postfix.{turns_of};
 
 use peephole_lang::Id;
 use std::alloc::{AllocError, Global};
@@ -27,20 +27,22 @@ struct Frame<'a> {
 /// A walk over a tree of nodes in postfix, with no recursion: it holds the way down to where it stands, so its memory is
 /// linear in the tree's depth. Who walks enters the root, and then each child that comes.
 ///
-/// A contract sees the way: its nodes, the last one first, each with its children that are still to come.
+/// A contract sees the turns that are left, the next one first.
 #[derive(Drop)]
 pub struct Postfix<'a> {
     frames: Vec<Frame<'a>>,
 }
 
 impl<'a> Model for Postfix<'a> {
-    ghost use Rattle.std.specs.Prelude.{List, map, reverse};
+    ghost use Rattle.std.specs.Prelude.{List, reverse};
+    ghost use Rattle.std.specs.List.{flat_map};
     ghost use Rattle.peephole_lang.specs.Term.{numbers_of};
-    ghost use Rattle.peephole_graphs.specs.Postfix.{Stop, stop};
+    ghost use Rattle.peephole_graphs.specs.declared.postfix.Turn.{Turn};
+    ghost use Rattle.peephole_graphs.specs.Postfix.{turns_of};
 
-    ghost Value = { List Stop };
+    ghost Value = { List Turn };
 
-    ghost view = { λ walk. reverse (map (λ frame. stop frame.node (numbers_of frame.rest.now)) walk.frames.items) };
+    ghost view = { λ walk. flat_map (λ frame. turns_of frame.node (numbers_of frame.rest.now)) (reverse walk.frames.items) };
 }
 
 impl<'a> Postfix<'a> {
@@ -53,9 +55,12 @@ impl<'a> Postfix<'a> {
         }
     }
 
-    /// Goes down to a node with these children.
+    /// Goes down to a node with these children: they come next, in order, and then the node itself. Refused for want of memory
+    /// alone (`AllocError`); the walk is then as it was.
     pub fn enter(&mut self, node: usize, children: &'a [Id]) -> Result<(), AllocError>
-        ensures { OnOk result (self.new ≡ stop node (numbers_of children.now) ∷ self.old) }
+        ensures entered { OnOk result
+            (self.new ≡ turns_of node (numbers_of children.now) ++ self.old) }
+        ensures refused { OnErr result (self.new ≡ self.old) }
     {
         self.frames.push(Frame {
             node,
@@ -64,12 +69,10 @@ impl<'a> Postfix<'a> {
         Ok(())
     }
 
-    /// Goes on to the last node's next child, or past that node where all of them have come; none at the end. What was left
-    /// is what comes, whatever the trees are, and then what is left now.
+    /// The turn that comes next, which is then no longer left; none at the end.
     pub fn advance(&mut self) -> Option<Turn>
-        ensures turn { GoesOn self.old self.new result }
-        ensures postfix { (tree : ℕ → List ℕ) → left tree (λ i. i) self.old
-            ≡ coming tree (λ i. i) result self.new }
+        ensures { MatchOption result ((self.old ≡ []) × (self.new ≡ []))
+            (λ turn. self.old ≡ turn ∷ self.new) }
     {
         let frame = self.frames.pop()?;
         match frame.rest {

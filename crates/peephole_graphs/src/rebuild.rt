@@ -4,7 +4,7 @@ ghost use Rattle.std.specs.Prelude.{◌≡◌, ◌<◌, ◌≤◌, ◌^◌, ◌�
 ghost use Rattle.peephole_nodes.specs.declared.id.Id.{Id};
 ghost use Rattle.peephole_lang.specs.Term.{Node, Term};
 ghost use Rattle.peephole_graphs.specs.Layout.{node_count_of, IsWhole};
-ghost use Rattle.peephole_graphs.specs.Rebuild.{answered, IsReached, IsReachedOnce, IsTooLong, IsTree};
+ghost use Rattle.peephole_graphs.specs.Rebuild.{CanAnswer, IsReached, IsReachedOnce, IsTooLong, IsTree};
 ghost use Rattle.peephole_graphs.specs.Rebuild.{told_tree, AreAsked, IsLaidOut, IsToldBy};
 
 use crate::layout::add_own;
@@ -18,15 +18,15 @@ fn ask_tree<'a, L: Language + 'a, F: Fn(Id) -> &'a L>(
     root: Id,
     id_to_lang: F,
 ) -> Result<Vec<&'a L>, Error>
-    requires { (id : Id) → IsReached (answered L.head L.children (F.post id_to_lang)) root.0 id.0
+    requires { (id : Id) → IsReached (CanAnswer L.head L.children (F.post id_to_lang)) root.0 id.0
         → F.pre id_to_lang id }
     ensures tree { IfOk result (λ nodes. (t : Term _)
-        × IsTree (answered L.head L.children (F.post id_to_lang)) root.0 t
+        × IsTree (CanAnswer L.head L.children (F.post id_to_lang)) root.0 t
         × AreAsked L.head L.children nodes.items t) }
     ensures few { IfOk result (λ nodes. length nodes.items ≤ 2 ^ 32) }
     ensures refused { IfErr result (λ e. (e ≡ Error.Memory)
         ⊎ ((e ≡ Error.TooLarge)
-        × IsTooLong (answered L.head L.children (F.post id_to_lang)) root.0)) }
+        × IsTooLong (CanAnswer L.head L.children (F.post id_to_lang)) root.0)) }
 {
     const LIMIT: usize = 4294967296;
     let mut nodes = Vec::new(alloc);
@@ -60,7 +60,7 @@ fn lay_asked<L: Language>(alloc: Global, mut asked: Vec<&L>) -> Result<RecExpr<L
 }
 
 /// The tree at `root` as an expression, where `id_to_lang` answers the node of each id: laid out in postfix, the root last,
-/// a node once for each time that it is named. A node's children keep their order, and name their new places. `id_to_lang`
+/// a node once for each time that it is named. A node's children keep their order, and name their new indexes. `id_to_lang`
 /// is called once for each node that is laid out, and memory is linear in them.
 ///
 /// Condition: `id_to_lang` may be called on each id that is reached from the root by children of its answers. `Memory` where
@@ -72,21 +72,21 @@ pub fn build_expr<'a, L: Language + 'a, F: Fn(Id) -> &'a L>(
     id_to_lang: F,
 ) -> Result<RecExpr<L>, Error>
     requires may { (id : Id)
-        → IsReached (answered L.head L.children (F.post id_to_lang)) root.0 id.0
+        → IsReached (CanAnswer L.head L.children (F.post id_to_lang)) root.0 id.0
         → F.pre id_to_lang id }
     ensures laid { IfOk result (λ expr. (t : Term _)
-        × IsTree (answered L.head L.children (F.post id_to_lang)) root.0 t
+        × IsTree (CanAnswer L.head L.children (F.post id_to_lang)) root.0 t
         × IsLaidOut L.head L.children t expr) }
     ensures told { (nodes : List _)
-        → IsToldBy (answered L.head L.children (F.post id_to_lang)) root.0 nodes
+        → IsToldBy (CanAnswer L.head L.children (F.post id_to_lang)) root.0 nodes
         → IfOk result (λ expr. IsLaidOut L.head L.children (told_tree nodes root.0) expr) }
     ensures refused { IfErr result (λ e. (e ≡ Error.Memory)
         ⊎ ((e ≡ Error.TooLarge)
-        × IsTooLong (answered L.head L.children (F.post id_to_lang)) root.0)) }
-    ensures once { IsReachedOnce (answered L.head L.children (F.post id_to_lang)) root.0
+        × IsTooLong (CanAnswer L.head L.children (F.post id_to_lang)) root.0)) }
+    ensures once { IsReachedOnce (CanAnswer L.head L.children (F.post id_to_lang)) root.0
         → IfErr result (λ e. e ≡ Error.Memory) }
     ensures too_large { (nodes : List _)
-        → IsToldBy (answered L.head L.children (F.post id_to_lang)) root.0 nodes
+        → IsToldBy (CanAnswer L.head L.children (F.post id_to_lang)) root.0 nodes
         → IfErr result (λ e. (e ≡ Error.Memory)
         ⊎ ((e ≡ Error.TooLarge) × (2 ^ 32 < node_count_of (told_tree nodes root.0)))) }
 {

@@ -4,9 +4,8 @@ ghost use Rattle.std.specs.List.{All};
 ghost use Rattle.mutate_base.specs.declared.error.Error.{Error};
 ghost use Rattle.peephole_lang.specs.Node.{node_of};
 ghost use Rattle.peephole_lang.specs.Term.{numbers_of};
-ghost use Rattle.peephole_graphs.specs.Downwards.{forward};
-ghost use Rattle.peephole_graphs.specs.Entries.{colors, size_kept, sizes_kept};
-ghost use Rattle.peephole_graphs.specs.Span.{lie_behind, lowered, IsSpan, HoldsItsChildren};
+ghost use Rattle.peephole_graphs.specs.Measures.{colors, sizes_kept, size_kept, forward};
+ghost use Rattle.peephole_graphs.specs.Span.{lie_behind, node_from, IsSpan, HoldsItsChildren};
 
 use crate::dfg::StackEntry;
 use crate::subtree::Subtree;
@@ -105,7 +104,7 @@ fn lower(ids: &mut [Id], by: usize)
 }
 
 // The same node, its children's ids made smaller.
-fn copy_lowered<L: Language>(node: &L, by: usize) -> Result<L, Error>
+fn copy_node<L: Language>(node: &L, by: usize) -> Result<L, Error>
     requires { All (λ i. by ≤ i) (L.children node.now) }
     ensures head { IfOk result (λ l. L.head l ≡ L.head node.now) }
     ensures children { IfOk result (λ l. L.children l ≡ map (λ i. i - by) (L.children node.now)) }
@@ -125,12 +124,12 @@ pub(crate) fn copy_span(
     requires inside { HoldsItsChildren start entries.now }
     requires small { length entries.now ≤ 2 ^ 32 }
     ensures nodes { IfOk result (λ expr. map node_of expr
-        ≡ map (λ (e : StackEntry). lowered start (node_of e.operator)) entries.now) }
+        ≡ map (λ (e : StackEntry). node_from start (node_of e.operator)) entries.now) }
     ensures refused { IfErr result (λ e. e ≡ Error.Memory) }
 {
     let mut expr = RecExpr::new(alloc);
     for entry in entries {
-        expr.add(copy_lowered(&entry.operator, start)?)?;
+        expr.add(copy_node(&entry.operator, start)?)?;
     }
     Ok(expr)
 }

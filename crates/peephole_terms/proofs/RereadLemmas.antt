@@ -19,7 +19,7 @@ use Rattle.peephole_graphs.specs.declared.shape.Judged.{Judged}
 use Rattle.peephole_graphs.specs.declared.shape.Judged.TheVariants.{Fits}
 use Rattle.peephole_graphs.specs.Shape.{IsFit, AreFit, judge, judge_instruction, and_shape, operator_shapes}
 use Rattle.peephole_graphs.specs.Tree.{Tree, Trees, entry, node, no_trees, ◌▸◌, join, postfix_of, postfix, shapes_of, shapes, instructions_of, instructions}
-use Rattle.peephole_graphs.specs.Tree.{renumbered}
+use Rattle.peephole_graphs.specs.Tree.{renumber}
 use Rattle.peephole_graphs.specs.Forest.{low, from_height, at_height, operator_tree, trees, is_operand, without, forest, IsInOrder}
 use Rattle.peephole_terms.specs.Written.{Site, site_at, block_operators, block_shapes, written_body, IsBodyIn, IsBlockIn}
 use Rattle.peephole_terms.specs.ReadAgain.{without_offsets, IsReread}
@@ -27,7 +27,7 @@ use Rattle.peephole_terms.proofs.RootTerms.{All-reverse, All-front, All-back}
 use Rattle.peephole_graphs.proofs.BuilderLemmas.{block_length, operator_fits}
 use Rattle.peephole_graphs.proofs.ForestLemmas.{forest_is}
 use Rattle.peephole_graphs.proofs.Rereading.{same_trees}
-use Rattle.peephole_graphs.proofs.Order.{written_in_order, shapes-renumbered}
+use Rattle.peephole_graphs.proofs.Order.{written_in_order, shapes-renumber}
 use Rattle.peephole_graphs.proofs.OrderLemmas.{count_all}
 use Rattle.peephole_terms.proofs.SpellingLemmas.{CodesSpell, Spelling, named_placed, length-with_offsets, spelling_of, coded}
 use Rattle.peephole_terms.proofs.ReadAgainLemmas.{alone_are, count_is, with_code, spelled_with, written_is, again_of, spells_again, spelled_in}
@@ -314,10 +314,10 @@ reread spell info site b k fit all =
     forest_holds (HasOwnShape info) shaped (All-reverse (HasOwnShape info) (operator_shapes info os) (own_shapes info os fit)) in
     let judged = judged_again info (shapes (forest shaped)) (slice_range again block.start block.end) owned ranged in
     let new : block_shapes info (site_at (bytes_of qs) again block site.at) ≡ reverse (shapes (forest shaped)) = ap reverse judged.0 in
-    let kept : forest (block_shapes info (site_at (bytes_of qs) again block site.at)) ≡ renumbered 0 (forest shaped) = ap forest new ∙ same_trees shaped in
+    let kept : forest (block_shapes info (site_at (bytes_of qs) again block site.at)) ≡ renumber 0 (forest shaped) = ap forest new ∙ same_trees shaped in
     let code_is : instructions (forest (block_shapes info (site_at (bytes_of qs) again block site.at))) ≡ code =
-    ap instructions kept ∙ (instructions_are (renumbered 0 (forest shaped))
-    ∙ (ap instr_of (shapes-renumbered 0 (forest shaped)) ∙ sym (instructions_are (forest shaped)))) in
+    ap instructions kept ∙ (instructions_are (renumber 0 (forest shaped))
+    ∙ (ap instr_of (shapes-renumber 0 (forest shaped)) ∙ sym (instructions_are (forest shaped)))) in
     record {
       again = again;
       spells = subst (λ (t : List ℕ). SpellsBody 0 t again) (sym text) (spells_again (bytes_of qs) (length (bytes_of qs)) qs again body refl);

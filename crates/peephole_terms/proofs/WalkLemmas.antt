@@ -15,9 +15,10 @@ use Rattle.peephole_lang.specs.Lang.{ids_of, payload_of}
 use Rattle.peephole_lang.specs.Node.{head_of, children_of}
 use Rattle.peephole_lang.specs.Term.{numbers_of, Term, Terms, absent, node, no_terms, ◌▸◌, Node, AreBelow, pick, tree_at}
 use Rattle.peephole_terms.specs.declared.encoder.request.ResourceRequest.{ResourceRequest}
+use Rattle.peephole_graphs.specs.declared.postfix.Turn.{Turn}
 use Rattle.peephole_graphs.specs.declared.postfix.Turn.TheVariants.{Child, Own}
-use Rattle.peephole_graphs.specs.Postfix.{Stop, stop, GoesOn, left}
-use Rattle.peephole_graphs.specs.PostfixLemmas.{IsTreeOf, turns_left, goes_on, entered, child_comes, own_comes, nodes_on, child_on, own_on, entered_on}
+use Rattle.peephole_graphs.specs.Postfix.{turns_of}
+use Rattle.peephole_graphs.specs.PostfixLemmas.{left, IsTreeOf, turns_left, entered, child_comes, own_comes, AllOn, child_on, own_on, entered_on}
 use Rattle.peephole_terms.specs.Kind.{IntegerType, node_kind, is_unfold}
 use Rattle.peephole_terms.specs.Expansion.{constant_in, constant_of}
 use Rattle.peephole_terms.specs.EncoderSteps.{Step, nothing, raw, around, Writing, writing_of, with_bytes, IsInRange, own_step, own_step_in, opened, steps_of, steps, take_step, take_steps, then_steps, IsRefusal, Does, nodes_in}
@@ -56,11 +57,11 @@ module _ (ns : List (Node Head)) where
   abbrev own_at : ℕ → Step
   own_at i = root_step (tree_at ns i)
 
-  abbrev steps_left : List Stop → List Step
-  steps_left way = left steps_at own_at way
+  abbrev steps_left : List Turn → List Step
+  steps_left turns = left steps_at own_at turns
 
-  abbrev pub measure : List Stop → ℕ
-  measure way = turns_left steps_at own_at way
+  abbrev pub measure : List Turn → ℕ
+  measure turns = turns_left steps_at own_at turns
 
   picked_steps : (is : List ℕ) → steps (pick (tree_at ns) is) ≡ flat_map steps_at is
   picked_steps [] = refl
@@ -134,12 +135,12 @@ every k = steps_of (tree_at (nodes k) k.root)
 abbrev Inside : List (Node Head) → ℕ → Type 0
 Inside ns i = i < length ns
 
--- What is left, done from here, is what the whole gives; where its instructions are in range, those of all steps are; and the nodes on the way are there.
-pub record IsUnderway {A : Type 0} (k : Walk A) (way : List Stop) (w : Writing) : Type 0 where
+-- What is left, done from here, is what the whole gives; where its instructions are in range, those of all steps are; and the nodes of the turns are there.
+pub record IsUnderway {A : Type 0} (k : Walk A) (turns : List Turn) (w : Writing) : Type 0 where
   pub below : AreBelow (nodes k)
-  pub same : take_steps k.count (steps_left (nodes k) way) w ≡ take_steps k.count (every k) k.start
-  pub in_range : All IsInRange (steps_left (nodes k) way) → All IsInRange (every k)
-  pub inside : All (Inside (nodes k)) (nodes_on way)
+  pub same : take_steps k.count (steps_left (nodes k) turns) w ≡ take_steps k.count (every k) k.start
+  pub in_range : All IsInRange (steps_left (nodes k) turns) → All IsInRange (every k)
+  pub inside : AllOn (Inside (nodes k)) turns
 
 pub length-nodes_in : {A : Type 0} (held : A → Lang) (items : List A) → length (nodes_in held items) ≡ length items
 length-nodes_in held items =
@@ -182,13 +183,13 @@ module _ {A : Type 0} {k : Walk A} {i : ℕ} {x : A} {l : Lang} (there : i < len
 -- ---- turns
 
 -- at the root
-pub start : {A : Type 0} {k : Walk A} {x : A} {l : Lang} {way : List Stop} (ids : List Id) → AreBelow (nodes k) → k.root < length k.items →
-    IsRead k k.root x l → numbers_of ids ≡ written_kids l → way ≡ stop k.root (numbers_of ids) ∷ [] → IsUnderway k way k.start
-start {A} {k} {x} {l} {way} ids b there r kids e =
+pub start : {A : Type 0} {k : Walk A} {x : A} {l : Lang} {turns : List Turn} (ids : List Id) → AreBelow (nodes k) → k.root < length k.items →
+    IsRead k k.root x l → numbers_of ids ≡ written_kids l → turns ≡ turns_of k.root (numbers_of ids) ++ [] → IsUnderway k turns k.start
+start {A} {k} {x} {l} {turns} ids b there r kids e =
     let ns = nodes k in
     let n = length-nodes_in k.held k.items in
     let whole = entered (steps_at ns) (own_at ns) k.root (written_kids l) [] (is_tree ns (read_at there r) b) ∙ append-nil (every k) in
-    subst (λ (y : List Stop). IsUnderway k y k.start) (sym (e ∙ ap (λ c. stop k.root c ∷ []) kids)) (record {
+    subst (λ (y : List Turn). IsUnderway k y k.start) (sym (e ∙ ap (λ c. turns_of k.root c ++ []) kids)) (record {
       below = b;
       same = ap (λ (y : List Step). take_steps k.count y k.start) whole;
       in_range = λ q. subst (All IsInRange) whole q;
@@ -196,10 +197,10 @@ start {A} {k} {x} {l} {way} ids b there r kids e =
     })
 
 -- at the end
-pub arrived : {A : Type 0} {k : Walk A} {old new : List Stop} {w : Writing} → IsUnderway k old w → GoesOn old new None →
+pub arrived : {A : Type 0} {k : Walk A} {old : List Turn} {w : Writing} → IsUnderway k old w → old ≡ [] →
     take (length k.start.bytes) w.bytes ≡ k.start.bytes → Does k.count (every k) k.start w (Ok tt)
-arrived {A} {k} {old} {new} {w} h g kept =
-    let none = goes_on (steps_at (nodes k)) (own_at (nodes k)) g in
+arrived {A} {k} {old} {w} h e kept =
+    let none = ap (steps_left (nodes k)) e in
     record {
       ok = sym h.same ∙ ap (λ (y : List Step). take_steps k.count y w) none;
       err = tt;
@@ -207,40 +208,40 @@ arrived {A} {k} {old} {new} {w} h g kept =
       kept = kept;
     }
 
-module _ {A : Type 0} {k : Walk A} {old new : List Stop} {i : ℕ} {w : Writing} (h : IsUnderway k old w) where
-  pub child_inside : GoesOn old new (Some (Child i)) → i < length k.items
+module _ {A : Type 0} {k : Walk A} {old new : List Turn} {i : ℕ} {w : Writing} (h : IsUnderway k old w) where
+  pub child_inside : old ≡ Child i ∷ new → i < length k.items
   child_inside g = let there = (child_on (Inside (nodes k)) g h.inside).0 in let n = length-nodes_in k.held k.items in omega arith
 
-  pub own_inside : GoesOn old new (Some (Own i)) → i < length k.items
+  pub own_inside : old ≡ Own i ∷ new → i < length k.items
   own_inside g = let there = (own_on (Inside (nodes k)) g h.inside).0 in let n = length-nodes_in k.held k.items in omega arith
 
   -- a child that is entered
-  pub down : {x : A} {l : Lang} {later : List Stop} (ids : List Id) → GoesOn old new (Some (Child i)) → IsRead k i x l →
-      numbers_of ids ≡ written_kids l → later ≡ stop i (numbers_of ids) ∷ new →
+  pub down : {x : A} {l : Lang} {later : List Turn} (ids : List Id) → old ≡ Child i ∷ new → IsRead k i x l →
+      numbers_of ids ≡ written_kids l → later ≡ turns_of i (numbers_of ids) ++ new →
       IsUnderway k later w × (measure (nodes k) later < measure (nodes k) old)
   down {x} {l} {later} ids g r kids e =
       let ns = nodes k in
-      let to : later ≡ stop i (written_kids l) ∷ new = e ∙ ap (λ c. stop i c ∷ new) kids in
+      let to : later ≡ turns_of i (written_kids l) ++ new = e ∙ ap (λ c. turns_of i c ++ new) kids in
       let on = child_on (Inside ns) g h.inside in
       let comes = child_comes (steps_at ns) (own_at ns) (written_kids l) g to (is_tree ns (read_at (child_inside g) r) h.below) in (
         record {
           below = h.below;
           same = ap (λ (y : List Step). take_steps k.count y w) comes.0 ∙ h.same;
           in_range = λ q. h.in_range (subst (All IsInRange) comes.0 q);
-          inside = subst (λ (y : List Stop). All (Inside ns) (nodes_on y)) (sym to)
+          inside = subst (AllOn (Inside ns)) (sym to)
               (entered_on (Inside ns) i (written_kids l) new on.0 (kids_inside (child_inside g) h.below r) on.1);
         },
         comes.1,
       )
 
   -- the node itself is the next step
-  own_next : {x : A} {l : Lang} → GoesOn old new (Some (Own i)) → IsRead k i x l →
+  own_next : {x : A} {l : Lang} → old ≡ Own i ∷ new → IsRead k i x l →
       steps_left (nodes k) old ≡ own_step_in (nodes k) l ∷ steps_left (nodes k) new
   own_next g r =
       let ns = nodes k in
       (own_comes (steps_at ns) (own_at ns) g).0 ∙ ap (λ (y : Term Head). root_step y ∷ steps_left ns new) (tree_is (read_at (own_inside g) r) h.below)
 
-  pub own_done : {x : A} {l : Lang} {v : Writing} → GoesOn old new (Some (Own i)) → IsRead k i x l →
+  pub own_done : {x : A} {l : Lang} {v : Writing} → old ≡ Own i ∷ new → IsRead k i x l →
       Does k.count (own_step_in (nodes k) l ∷ []) w v (Ok tt) → IsUnderway k new v × (measure (nodes k) new < measure (nodes k) old)
   own_done {x} {l} {v} g r own =
       let ns = nodes k in
@@ -258,7 +259,7 @@ module _ {A : Type 0} {k : Walk A} {old new : List Stop} {i : ℕ} {w : Writing}
         (own_comes (steps_at ns) (own_at ns) g).1,
       )
 
-  pub own_refused : {x : A} {l : Lang} (d : Error) → GoesOn old new (Some (Own i)) → IsRead k i x l →
+  pub own_refused : {x : A} {l : Lang} (d : Error) → old ≡ Own i ∷ new → IsRead k i x l →
       IsRefusal d (take_steps k.count (own_step_in (nodes k) l ∷ []) w) → IsRefusal d (take_steps k.count (every k) k.start)
   own_refused {x} {l} d g r q =
       let own = own_step_in (nodes k) l ∷ [] in

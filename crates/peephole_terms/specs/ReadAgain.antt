@@ -8,7 +8,7 @@ use Rattle.mutate_base.specs.Module.{Module}
 use Rattle.peephole_lang.specs.declared.lang.Head.{Head}
 use Rattle.peephole_lang.specs.Term.{Term, tree_at}
 use Rattle.peephole_graphs.specs.Shape.{AreFit}
-use Rattle.peephole_graphs.specs.Tree.{instructions, renumbered}
+use Rattle.peephole_graphs.specs.Tree.{instructions, renumber}
 use Rattle.peephole_graphs.specs.Entries.{Graph}
 use Rattle.peephole_graphs.specs.Forest.{forest, IsInOrder}
 use Rattle.peephole_graphs.specs.Layout.{entry_nodes}
@@ -52,7 +52,7 @@ pub record IsReread (info : Module) (site : Site) (text : List ℕ) : Type 0 whe
   pub there : IsBlockIn again site.block
   pub fit : AreFit info (block_operators (site_again site text again))
   -- it has the same trees, their operators numbered by the new places, and is in order
-  pub same : forest (block_shapes info (site_again site text again)) ≡ renumbered 0 (forest (block_shapes info site))
+  pub same : forest (block_shapes info (site_again site text again)) ≡ renumber 0 (forest (block_shapes info site))
   pub order : IsInOrder (block_shapes info (site_again site text again))
   -- written with its own trees, it leaves these bytes
   pub stays : written_body (site_again site text again) (instructions (forest (block_shapes info (site_again site text again)))) ≡ text

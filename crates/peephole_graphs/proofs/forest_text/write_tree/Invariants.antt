@@ -10,8 +10,7 @@ abbrev pub invariant-loop-ids : goal.invariant-loop-ids
 invariant-loop-ids g l = record {
   inside : IsInside l.entries l.levels.items;
   rest : (said : StackEntry → Result (List ℕ) Error) → All (Tells g.F.Fn l.f said) l.entries →
-      IsRest said l.entries (with_lines said (string_bytes l.fn.text) (tree_lines [] [] (entry_term l.entries l.root)))
-      l.levels.items (string_bytes l.text);
+      IsRest said l.entries (with_lines said (string_bytes l.fn.text) (tree_lines [] [] (entry_term l.entries l.root))) l.levels.items (string_bytes l.text);
 }
 
 abbrev pub decreases-loop-ids : goal.decreases-loop-ids

@@ -2,7 +2,7 @@ use Rattle.std.proofs.Common.{◌≡◌, ℕ, ◌-◌, ◌<◌, ◌++◌, ◌∷
 use Rattle.std.proofs.lemmas.Grind.{common_steps}
 use Rattle.std.proofs.lemmas.List.Elements.{All-drop}
 use Rattle.std.proofs.lemmas.List.Sums.{sum_by-take-drop}
-use Rattle.peephole_graphs.specs.Entries.{size_kept}
+use Rattle.peephole_graphs.specs.Measures.{size_kept}
 use Rattle.peephole_graphs.specs.Growing.{lacks, missing_subtree, own_subtree}
 use Rattle.peephole_graphs.specs.declared.subtree.Subtree.{Subtree}
 use Rattle.peephole_graphs.specs.declared.growing.Growing.{Growing}

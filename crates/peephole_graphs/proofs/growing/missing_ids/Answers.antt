@@ -1,5 +1,5 @@
 -- A step down.
-use Rattle.std.proofs.Common.{◌≡◌, ℕ, zero, suc, ◌+◌, ◌-◌, ◌<◌, ◌++◌, ◌∷◌, [], List, refl, sym, ap, ◌∙◌, arith, append_assoc}
+use Rattle.std.proofs.Common.{◌≡◌, ℕ, zero, suc, ◌+◌, ◌-◌, ◌<◌, ◌++◌, ◌∷◌, [], List, refl, sym, ap, arith, append_assoc}
 use Rattle.std.proofs.lemmas.List.{map_push}
 use Rattle.peephole_graphs.specs.Step.{down}
 use Rattle.peephole_lang.specs.Term.{numbers_of}

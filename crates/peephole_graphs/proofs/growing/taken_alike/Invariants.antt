@@ -1,7 +1,6 @@
 use Rattle.std.proofs.Common.{◌≡◌, drop}
 use Rattle.std.specs.Prelude.{slice_index}
-use Rattle.peephole_graphs.specs.Downwards.{are_alike}
-use Rattle.peephole_graphs.specs.Entries.{colors, flag_kept}
+use Rattle.peephole_graphs.specs.Measures.{colors, flag_kept, are_alike}
 use Rattle.peephole_graphs.proofs.growing.taken_alike.Given as goal
 
 abbrev pub invariant-loop-i : goal.invariant-loop-i

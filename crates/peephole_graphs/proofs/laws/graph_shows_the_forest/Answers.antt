@@ -1,4 +1,4 @@
-use Rattle.peephole_graphs.proofs.GraphLemmas.{in_order}
+use Rattle.peephole_graphs.proofs.OrderLemmas.{in_order}
 use Rattle.peephole_graphs.proofs.TreeTextLemmas.{shows_the_forest}
 use Rattle.peephole_graphs.proofs.TreeColorLemmas.{shows_the_color}
 use Rattle.peephole_graphs.proofs.laws.graph_shows_the_forest.Goals as goal

@@ -35,5 +35,4 @@ loop-id-preserved g c = (
 pub returns-clause-tree : goal.returns-clause-tree
 returns-clause-tree g c =
     answering_ends g.L.Language.head g.L.Language.children (λ id r. g.F.Fn.post c.args.id_to_lang (id, tt) r)
-    c.args.root.0 _ c.loop-id.ids.items c.loop-id.nodes.items
-    c.loop-id.ids.ok.0 c.in_default.ensures.cases.0 c.loop-id.invariant.0
+    c.args.root.0 _ c.loop-id.ids.items c.loop-id.nodes.items c.loop-id.ids.ok.0 c.in_default.ensures.cases.0 c.loop-id.invariant.0

@@ -1,7 +1,5 @@
-use Rattle.std.proofs.Common.{◌<◌, ◌∷◌, [], ap, subst, length, length-append, arith}
-use Rattle.std.specs.Prelude.{All}
+use Rattle.std.proofs.Common.{◌∷◌, [], ap, length, length-append, arith}
 use Rattle.std.proofs.lemmas.List.{length-map}
-use Rattle.peephole_lang.specs.Term.{numbers_of}
 use Rattle.peephole_graphs.specs.Layout.{node_by}
 use Rattle.peephole_graphs.proofs.RebuildLayout.{asked_begins, asked_enough, asked_goes_on, asked_laid, one_longer}
 use Rattle.peephole_graphs.proofs.rebuild.lay_asked.Goals as goal
@@ -22,8 +20,8 @@ add_own-requires-clause-enough g c =
 
 pub add_own-requires-clause-below : goal.add_own-requires-clause-below
 add_own-requires-clause-below g c =
-    subst (λ n. All (λ k. k < n) (numbers_of c.loop-node.finished.items)) (length-map c.loop-node.expr
-    (node_by g.L.Language.head g.L.Language.children)) (c.loop-node.invariant.0 c.requires.tree.0 c.requires.tree.1 c.requires.tree.2).below
+    rw (length-map c.loop-node.expr (node_by g.L.Language.head g.L.Language.children)) at
+    (c.loop-node.invariant.0 c.requires.tree.0 c.requires.tree.1 c.requires.tree.2).below
 
 pub loop-node-preserved : goal.loop-node-preserved
 loop-node-preserved g c = (
@@ -39,6 +37,5 @@ loop-node-preserved g c = (
 )
 
 pub returns-clause-laid : goal.returns-clause-laid
-returns-clause-laid g c = λ t w a.
-    asked_laid g.L.Language.head g.L.Language.children c.loop-node.asked.items _ t c.loop-node.expr c.loop-node.finished.items
+returns-clause-laid g c = λ t w a. asked_laid g.L.Language.head g.L.Language.children c.loop-node.asked.items _ t c.loop-node.expr c.loop-node.finished.items
     c.loop-node.asked.ok.0 c.in_default.ensures.cases.0 w (c.loop-node.invariant.0 t w a)

@@ -9,8 +9,7 @@ use Rattle.peephole_graphs.proofs.rebuild.lay_asked.Given as goal
 abbrev pub invariant-loop-node : goal.invariant-loop-node
 invariant-loop-node g l =
     ((t : _) → IsWhole t → AreAsked g.L.Language.head g.L.Language.children l.fn.asked.items t → IsLaying t
-    (pieces_of g.L.Language.head g.L.Language.children l.asked.items)
-    (now_laid g.L.Language.head g.L.Language.children l.expr l.finished.items))
+    (pieces_of g.L.Language.head g.L.Language.children l.asked.items) (now_laid g.L.Language.head g.L.Language.children l.expr l.finished.items))
     × (length l.expr + length l.asked.items ≡ length l.fn.asked.items)
 
 abbrev pub decreases-loop-node : goal.decreases-loop-node

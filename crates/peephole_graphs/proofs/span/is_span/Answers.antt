@@ -8,7 +8,8 @@ use Rattle.peephole_lang.specs.Node.{children_of}
 use Rattle.peephole_lang.specs.Term.{numbers_of}
 use Rattle.peephole_graphs.specs.declared.dfg.StackEntry.{StackEntry}
 use Rattle.peephole_graphs.specs.declared.subtree.Subtree.{Subtree}
-use Rattle.peephole_graphs.specs.Entries.{children_at, size_kept, sizes_kept}
+use Rattle.peephole_graphs.specs.Entries.{children_at}
+use Rattle.peephole_graphs.specs.Measures.{sizes_kept, size_kept}
 use Rattle.peephole_graphs.specs.Span.{lie_behind, IsSpan}
 use Rattle.peephole_graphs.proofs.span.is_span.Goals as goal
 

@@ -1,4 +1,4 @@
-use Rattle.peephole_graphs.specs.Entries.{sizes_kept}
+use Rattle.peephole_graphs.specs.Measures.{sizes_kept}
 use Rattle.peephole_graphs.specs.Span.{IsSpan}
 use Rattle.peephole_graphs.proofs.span.is_span.Given as goal
 

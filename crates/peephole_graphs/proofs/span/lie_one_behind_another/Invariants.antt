@@ -1,7 +1,6 @@
 use Rattle.std.proofs.Common.{◌≡◌, drop}
 use Rattle.std.specs.Prelude.{if◌then◌else◌, slice_index}
-use Rattle.peephole_graphs.specs.Downwards.{forward}
-use Rattle.peephole_graphs.specs.Entries.{colors, size_kept}
+use Rattle.peephole_graphs.specs.Measures.{colors, size_kept, forward}
 use Rattle.peephole_graphs.specs.Span.{lie_behind}
 use Rattle.peephole_lang.specs.Term.{numbers_of}
 use Rattle.peephole_graphs.proofs.span.lie_one_behind_another.Given as goal

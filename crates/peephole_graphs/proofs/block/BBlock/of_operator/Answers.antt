@@ -1,19 +1,17 @@
-use Rattle.std.proofs.Common.{◌≡◌, ℕ, ◌+◌, ◌<◌, ◌≤◌, List, Some, refl, sym, ap, ◌∙◌, subst, arith}
+use Rattle.std.proofs.Common.{◌≡◌, ℕ, ◌+◌, ◌<◌, ◌≤◌, List, refl, sym, ap, ◌∙◌, arith}
 use Rattle.std.specs.Prelude.{slice_get}
 use Rattle.std.proofs.lemmas.Bool.{true_from_ne_false}
+use Rattle.std.proofs.lemmas.Option.{same_Some}
 use Rattle.peephole_graphs.specs.Block.{BlockRange, HasNoDelimiter, IsDelimiterAt, IsBlockOf}
 use Rattle.wasm_code.specs.Operator.{is_delimiter}
 use Rattle.wasm_code.specs.declared.operator.Operator.{Operator}
 use Rattle.peephole_graphs.proofs.block.BBlock.of_operator.Goals as goal
 
-some_same : (o p : Operator × ℕ) → ◌≡◌ {A = _} (Some o) (Some p) → o ≡ p
-some_same o p e = cc
-
 delimiter : (operators : List (Operator × ℕ)) (index start : ℕ) → index < start →
     ((from : ℕ) → HasNoDelimiter operators from (index + 1) → start ≤ from) → IsDelimiterAt operators index
 delimiter operators index start l longest o e = true_from_ne_false (is_delimiter o.0) (λ f. absurd (
     let h = longest index (λ k p a b s. let w : k ≡ index = omega arith in ap (λ (x : Operator × ℕ). is_delimiter x.0)
-    (sym (some_same o p (sym e ∙ (ap (slice_get operators) (sym w) ∙ s)))) ∙ f) in omega arith))
+    (sym (same_Some o p (sym e ∙ (ap (slice_get operators) (sym w) ∙ s)))) ∙ f) in omega arith))
 
 pub returns-then-start-index-clause-none : goal.returns-then-start-index-clause-none
 returns-then-start-index-clause-none c = delimiter c.args.operators.now c.args.index _ c.if-start-index.true c.block_start-start.ensures.longest
@@ -21,9 +19,7 @@ returns-then-start-index-clause-none c = delimiter c.args.operators.now c.args.i
 block_is : (operators : List (Operator × ℕ)) (index start : ℕ) (b : BlockRange) → b ≡ record { start = start; end = index + 1 } →
     start ≤ index → HasNoDelimiter operators start (index + 1) → ((from : ℕ) → HasNoDelimiter operators from (index + 1) → start ≤ from) →
     IsBlockOf operators index b.start b.end
-block_is operators index start b e l none longest =
-    let P : BlockRange → Type 0 = λ x. IsBlockOf operators index x.start x.end in
-    subst P (sym e) (record { last = refl; some = l; none = none; longest = longest })
+block_is operators index start b e l none longest = rw e (record { last = refl; some = l; none = none; longest = longest })
 
 pub returns-clause-block : goal.returns-clause-block
 returns-clause-block c = block_is _ _ _ _ c.of_range.ensures c.if-start-index.false c.block_start-start.ensures.none c.block_start-start.ensures.longest

@@ -1,5 +1,5 @@
 -- What was built is the graph that is answered.
-use Rattle.std.proofs.Common.{Bool, ◌≡◌, ℕ, Option, Ok, Some, None, IfOk, IfSome, refl, sym, subst, ap₂, slice_range, MatchOption}
+use Rattle.std.proofs.Common.{Bool, ◌≡◌, ℕ, Option, Ok, Some, IfOk, IfSome, refl, sym, subst, ap₂, slice_range, MatchOption}
 use Rattle.std.proofs.Common.{Result, arith}
 use Rattle.std.specs.Prelude.{IsTrue}
 use Rattle.peephole_graphs.specs.Contiguous.{HasContiguousTrees}

@@ -1,6 +1,6 @@
 use Rattle.std.proofs.Common.{arith}
 use Rattle.std.proofs.lemmas.Grind.{common_steps}
-use Rattle.peephole_graphs.specs.Entries.{flags_kept}
+use Rattle.peephole_graphs.specs.Measures.{flags_kept}
 use Rattle.peephole_graphs.proofs.DfgLemmas.{kept_count, kept_flag, one_color}
 use Rattle.peephole_graphs.proofs.dfg.MiniDFG.is_subtree_consistent.Goals as goal
 

@@ -1,5 +1,5 @@
 use Rattle.std.proofs.Common.{◌≡◌, take, true}
-use Rattle.peephole_graphs.specs.Downwards.{forwards}
+use Rattle.peephole_graphs.specs.Measures.{forwards}
 use Rattle.peephole_graphs.specs.Entries.{kins_of}
 use Rattle.peephole_graphs.proofs.dfg.MiniDFG.lies_forward.Given as goal
 

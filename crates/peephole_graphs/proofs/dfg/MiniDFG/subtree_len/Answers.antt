@@ -1,6 +1,6 @@
 use Rattle.std.proofs.Common.{arith, ◌∙◌}
 use Rattle.std.proofs.lemmas.Grind.{common_steps}
-use Rattle.peephole_graphs.specs.Entries.{sizes_kept}
+use Rattle.peephole_graphs.specs.Measures.{sizes_kept}
 use Rattle.peephole_graphs.proofs.DfgLemmas.{kept_count, kept_size, size_read}
 use Rattle.peephole_graphs.proofs.dfg.MiniDFG.subtree_len.Goals as goal
 

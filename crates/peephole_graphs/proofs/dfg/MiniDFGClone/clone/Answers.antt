@@ -1,9 +1,6 @@
-use Rattle.std.proofs.Common.{List, ◌∙◌, sym, subst}
+use Rattle.std.proofs.Common.{◌∙◌}
 use Rattle.std.specs.Prelude.{nat_eq}
 use Rattle.std.specs.HashMap as hash
-use Rattle.std.specs.List.{AllZip}
-use Rattle.peephole_graphs.specs.declared.dfg.StackEntry.{StackEntry}
-use Rattle.peephole_graphs.specs.Dfg.{IsSameEntry}
 use Rattle.peephole_graphs.proofs.Copies.{found_same, copied_measured, copied_trees, copied_forest, copied_order}
 use Rattle.peephole_graphs.proofs.dfg.MiniDFGClone.clone.Goals as goal
 
@@ -27,8 +24,7 @@ of_parts-requires-clause-lies c = copied_order c.args.self.now.entries.items c.i
 pub returns : goal.returns
 returns c = record {
   cases = record {
-    entries = subst (λ (x : List StackEntry). AllZip IsSameEntry c.args.self.now.entries.items x)
-        (sym c.of_parts.ensures.entries) c.in_ok-entries.ensures.cases.0;
+    entries = rw c.of_parts.ensures.entries c.in_ok-entries.ensures.cases.0;
     parents = c.of_parts.ensures.parents ∙ c.in_ok-parents.ensures.items ∙ c.deref.ensures.value;
     map = λ k. c.of_parts.ensures.map k ∙ found_same (nat_eq k) c.args.self.now.map.entries c.in_ok-map.map.entries c.in_ok-map.ensures.cases;
   };

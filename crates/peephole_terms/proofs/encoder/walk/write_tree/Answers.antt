@@ -2,7 +2,8 @@ use Rattle.std.proofs.Common.{Err, ap, ◌∙◌, ◌∷◌, List, arith}
 use Rattle.std.proofs.lemmas.Grind.{common_steps}
 use Rattle.std.proofs.lemmas.Result.{err_from_is_err_and}
 use Rattle.peephole_lang.specs.Term.{numbers_of}
-use Rattle.peephole_graphs.specs.Postfix.{Stop, stop}
+use Rattle.peephole_graphs.specs.declared.postfix.Turn.{Turn}
+use Rattle.peephole_graphs.specs.Postfix.{turns_of}
 use Rattle.peephole_terms.specs.EncoderSteps.{writing_of}
 use Rattle.peephole_terms.proofs.WalkLemmas.{walk_of, start, child_inside, own_inside, down, own_done, own_refused, passed_on, kids_in, kept_more, arrived}
 use Rattle.peephole_terms.proofs.encoder.walk.write_tree.Goals as goal
@@ -12,43 +13,43 @@ loop-turn-init g c = record {
   walk = start {k = walk_of g.N.Holds.held c.args.nodes.now c.args.globals c.args.root
       (writing_of c.args.newfunc.now c.args.requests.now.items (g.R.Rng.stream c.args.rng.now))} c.opened.result.now c.requires.below c.requires.root
       (record { is = c.index-nodes-root.is; held_is = c.node-node.ensures }) c.opened.ensures
-      (c.in_ok-enter.ensures ∙ ap (λ (way : List Stop). stop c.args.root (numbers_of c.opened.result.now) ∷ way) c.new-walk.ensures);
+      (c.in_ok-enter.ensures.entered ∙ ap (λ (turns : List Turn). turns_of c.args.root (numbers_of c.opened.result.now) ++ turns) c.new-walk.ensures);
   kept = grind (arith, common_steps);
 }
 
 pub bounds-nodes-index : goal.bounds-nodes-index
-bounds-nodes-index g c = child_inside c.loop-turn.invariant.walk (rw c.in-Child.is at c.in-Some.ensures.turn)
+bounds-nodes-index g c = child_inside c.loop-turn.invariant.walk (rw c.in-Child.is at c.in-Some.ensures)
 
 pub offset_bounds-nodes-index : goal.offset_bounds-nodes-index
-offset_bounds-nodes-index g c = let there = child_inside c.loop-turn.invariant.walk (rw c.in-Child.is at c.in-Some.ensures.turn) in omega arith
+offset_bounds-nodes-index g c = let there = child_inside c.loop-turn.invariant.walk (rw c.in-Child.is at c.in-Some.ensures) in omega arith
 
 pub bounds-nodes-index-in-Own : goal.bounds-nodes-index-in-Own
-bounds-nodes-index-in-Own g c = own_inside c.loop-turn.invariant.walk (rw c.in-Own.is at c.in-Some.ensures.turn)
+bounds-nodes-index-in-Own g c = own_inside c.loop-turn.invariant.walk (rw c.in-Own.is at c.in-Some.ensures)
 
 pub offset_bounds-nodes-index-in-Own : goal.offset_bounds-nodes-index-in-Own
-offset_bounds-nodes-index-in-Own g c = let there = own_inside c.loop-turn.invariant.walk (rw c.in-Own.is at c.in-Some.ensures.turn) in omega arith
+offset_bounds-nodes-index-in-Own g c = let there = own_inside c.loop-turn.invariant.walk (rw c.in-Own.is at c.in-Some.ensures) in omega arith
 
 pub write_own-requires-clause-below : goal.write_own-requires-clause-below
 write_own-requires-clause-below g c = kids_in {k = walk_of g.N.Holds.held c.args.nodes.now c.args.globals c.args.root
     (writing_of c.args.newfunc.now c.args.requests.now.items (g.R.Rng.stream c.args.rng.now))}
-    (own_inside c.loop-turn.invariant.walk (rw c.in-Own.is at c.in-Some.ensures.turn)) c.requires.below
+    (own_inside c.loop-turn.invariant.walk (rw c.in-Own.is at c.in-Some.ensures)) c.requires.below
     (record { is = c.index-nodes-index-in-Own.is; held_is = c.node-node-in-Own.ensures })
 
 pub loop-turn-preserved-in-Continue-branch-2 : goal.loop-turn-preserved-in-Continue-branch-2
 loop-turn-preserved-in-Continue-branch-2 g c = record {
-  walk = (down c.loop-turn.invariant.walk c.opened-in-Child.result.now (rw c.in-Child.is at c.in-Some.ensures.turn)
-      (record { is = c.index-nodes-index.is; held_is = c.node-node-in-Child.ensures }) c.opened-in-Child.ensures c.in_ok-enter-in-Child.ensures).0;
+  walk = (down c.loop-turn.invariant.walk c.opened-in-Child.result.now (rw c.in-Child.is at c.in-Some.ensures)
+      (record { is = c.index-nodes-index.is; held_is = c.node-node-in-Child.ensures }) c.opened-in-Child.ensures c.in_ok-enter-in-Child.ensures.entered).0;
   kept = c.loop-turn.invariant.kept;
 }
 
 pub loop-turn-smaller-in-Continue-branch-2 : goal.loop-turn-smaller-in-Continue-branch-2
 loop-turn-smaller-in-Continue-branch-2 g c =
-    (down c.loop-turn.invariant.walk c.opened-in-Child.result.now (rw c.in-Child.is at c.in-Some.ensures.turn)
-    (record { is = c.index-nodes-index.is; held_is = c.node-node-in-Child.ensures }) c.opened-in-Child.ensures c.in_ok-enter-in-Child.ensures).1
+    (down c.loop-turn.invariant.walk c.opened-in-Child.result.now (rw c.in-Child.is at c.in-Some.ensures)
+    (record { is = c.index-nodes-index.is; held_is = c.node-node-in-Child.ensures }) c.opened-in-Child.ensures c.in_ok-enter-in-Child.ensures.entered).1
 
 pub loop-turn-preserved : goal.loop-turn-preserved
 loop-turn-preserved g c = record {
-  walk = (own_done c.loop-turn.invariant.walk (rw c.in-Own.is at c.in-Some.ensures.turn)
+  walk = (own_done c.loop-turn.invariant.walk (rw c.in-Own.is at c.in-Some.ensures)
       (record { is = c.index-nodes-index-in-Own.is; held_is = c.node-node-in-Own.ensures }) c.in_ok-write_own-in-Own.ensures).0;
   kept = kept_more _ _ _ c.loop-turn.invariant.kept c.in_ok-write_own-in-Own.ensures.kept;
 }
@@ -58,9 +59,9 @@ returns-in_err-write_own-in-Own g c =
     let result = c.from_residual-in_err-write_own-in-Own.result in
     let p = err_from_is_err_and result c.from_residual-in_err-write_own-in-Own.ensures.1 in
     passed_on result c.in_err-write_own-in-Own.field-0.0 (p.1 ∙ ap (λ x. Err x) p.2)
-    (own_refused c.loop-turn.invariant.walk c.in_err-write_own-in-Own.field-0.0 (rw c.in-Own.is at c.in-Some.ensures.turn)
+    (own_refused c.loop-turn.invariant.walk c.in_err-write_own-in-Own.field-0.0 (rw c.in-Own.is at c.in-Some.ensures)
     (record { is = c.index-nodes-index-in-Own.is; held_is = c.node-node-in-Own.ensures }) c.in_err-write_own-in-Own.ensures.err)
     (kept_more _ _ _ c.loop-turn.invariant.kept c.in_err-write_own-in-Own.ensures.kept)
 
 pub returns : goal.returns
-returns g c = arrived c.loop-turn.invariant.walk c.in_default.ensures.turn c.loop-turn.invariant.kept
+returns g c = arrived c.loop-turn.invariant.walk c.in_default.ensures.0 c.loop-turn.invariant.kept
