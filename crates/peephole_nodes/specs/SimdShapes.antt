@@ -45,11 +45,17 @@ is_simd_lane_two place = place == 224 || place == 227 || place == 229 || place =
 unfoldable pub is_simd_memory_lane_two : ℕ → Bool
 is_simd_memory_lane_two place = place == 285 || place == 286 || place == 287 || place == 288 || place == 289 || place == 290 || place == 291 || place == 292
 
+-- the place has a vector node without payload and with two children
+abbrev pub is_simd_plain_two : ℕ → Bool
+is_simd_plain_two place =
+    is_simd_plain_two_to_279 place || is_simd_plain_two_280_to_370 place
+    || is_simd_plain_two_371_to_428 place || is_simd_plain_two_from_429 place
+
 -- the place has a vector node without payload and with that many children
 abbrev pub is_simd_plain : ℕ → ℕ → Bool
 is_simd_plain place count =
     if count == 3 then is_simd_plain_three place else
-    if count == 2 then is_simd_plain_two_to_279 place || is_simd_plain_two_280_to_370 place || is_simd_plain_two_371_to_428 place || is_simd_plain_two_from_429 place else
+    if count == 2 then is_simd_plain_two place else
     if count == 1 then is_simd_plain_one_to_383 place || is_simd_plain_one_from_384 place else false
 
 -- the place has a vector node with that kind of payload and that many children

@@ -4,7 +4,7 @@ ghost use Rattle.peephole_nodes.specs.Numeric.{numeric_place_of, numeric_ids_of,
 ghost use Rattle.peephole_nodes.specs.NumericShapes.{is_numeric};
 ghost use Rattle.peephole_nodes.specs.Simd.{simd_place_of, simd_payload_of};
 ghost use Rattle.peephole_nodes.specs.SimdChildren.{simd_ids_of, simd_count_of};
-ghost use Rattle.peephole_nodes.specs.SimdShapes.{is_simd_plain_two_to_279, is_simd_plain_two_280_to_370, is_simd_plain_two_371_to_428, is_simd_plain_two_from_429, is_simd_plain, is_simd};
+ghost use Rattle.peephole_nodes.specs.SimdShapes.{is_simd_plain_two, is_simd_plain, is_simd};
 ghost use Rattle.peephole_nodes.specs.Made.{LacksNumeric, LacksSimd};
 ghost use Rattle.peephole_nodes.specs.declared.payload.Payload.TheVariants as P;
 
@@ -115,8 +115,7 @@ fn simd_two(place: u16, first: Id, second: Id) -> Option<Simd>
     ensures payload { IfSome result (λ l. simd_payload_of l ≡ P.Nothing) }
     ensures children { IfSome result (λ l. simd_ids_of l ≡ first ∷ second ∷ []) }
     ensures count { IfSome result (λ l. simd_count_of l ≡ 2) }
-    ensures complete { is_some result
-        ≡ is_simd_plain_two_to_279 place || is_simd_plain_two_280_to_370 place || is_simd_plain_two_371_to_428 place || is_simd_plain_two_from_429 place }
+    ensures complete { is_some result ≡ is_simd_plain_two place }
 {
     if let Some(node) = simd::simd_plain_two_to_279(place, first, second) {
         return Some(node);

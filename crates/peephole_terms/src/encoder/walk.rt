@@ -18,7 +18,8 @@ use wasm_code::Function;
 
 // The children that are written: not those of an unfold.
 fn children_to_write(node: &Lang) -> &[Id]
-    ensures { numbers_of result.now ≡ children_to_write (node_kind (head_of node.now)) (children_of node.now) }
+    ensures { numbers_of result.now
+        ≡ children_to_write (node_kind (head_of node.now)) (children_of node.now) }
 {
     match node.place() {
         5 | 6 => &[],
