@@ -51,13 +51,13 @@ fn numeric_of(place: u16, children: &[Id]) -> Option<Numeric>
     ensures complete { is_some result ≡ is_numeric place (length children.now) }
 {
     match children {
-        [child] => match numeric::numeric_plain_one_a(place, *child) {
+        [child] => match numeric::numeric_plain_one_to_171(place, *child) {
             Some(node) => Some(node),
-            None => numeric::numeric_plain_one_b(place, *child),
+            None => numeric::numeric_plain_one_from_172(place, *child),
         },
-        [first, second] => match numeric::numeric_plain_two_a(place, *first, *second) {
+        [first, second] => match numeric::numeric_plain_two_to_100(place, *first, *second) {
             Some(node) => Some(node),
-            None => numeric::numeric_plain_two_b(place, *first, *second),
+            None => numeric::numeric_plain_two_from_101(place, *first, *second),
         },
         _ => None,
     }
