@@ -31,7 +31,7 @@ use Rattle.peephole_graphs.specs.Block.{BlockRange, block_at}
 use Rattle.peephole_graphs.specs.Faults as graph
 use Rattle.peephole_graphs.specs.Tree as tree
 use Rattle.peephole_graphs.specs.Tree.{Tree, Trees}
-use Rattle.peephole_terms.specs.Expansion.{Setting, expanded}
+use Rattle.peephole_terms.specs.Expansion.{Setting, expansion_in}
 use Rattle.peephole_terms.specs.Laws.{RefusesByName}
 use Rattle.peephole_terms.specs.Written.{Site, is_written, term_code, term_requests, written_block, block_operators}
 use Rattle.peephole_script.specs.declared.command.Command.{Command}
@@ -232,7 +232,7 @@ term_never law s site t = go (is_written s.info site)
     other (inl e) = cc
     other (inr e) = cc
 
-    go : (b : Bool) → Refuses (if b then expanded s t else Ok [])
+    go : (b : Bool) → Refuses (if b then expansion_in s t else Ok [])
     go true e = other (law s t error.Memory e)
     go false e = cc
 

@@ -21,7 +21,7 @@ use Rattle.peephole_graphs.specs.TreeText.{block_text}
 use Rattle.peephole_commands.specs.declared.graphs.Refusal.{Refusal}
 use Rattle.peephole_commands.specs.declared.place.Place.{Place}
 use Rattle.peephole_commands.specs.Graphs.{of_graph, site_of, IsPlace, IsGraphIn}
-use Rattle.peephole_commands.specs.Show.{verdicts, is_consistent, shown_block, show_output}
+use Rattle.peephole_commands.specs.Show.{verdicts, is_consistent, block_with_verdicts, show_output}
 use Rattle.peephole_commands.proofs.Refusals.{shapes_found}
 
 length_range : (os : List (Operator × ℕ)) (start end : ℕ) → start ≤ end → end ≤ length os → length (slice_range os start end) ≡ end - start
@@ -61,7 +61,7 @@ shown_is fits decides text ordered color info preserving p graph in_order consis
     let same : consistent ≡ is_consistent preserving block =
     one_answer {P = HasOneColor (kins_of entries) (length entries - 1)} consistent (is_consistent preserving block) c
     (color s (graph_of graph) g (p.point - first) (place_length p place)) in
-    ap (λ (r : Result (List Shape) Refusal). of_graph r (λ block. Ok (shown_block preserving first block))) (shapes_found fits info preserving p graph g)
+    ap (λ (r : Result (List Shape) Refusal). of_graph r (λ block. Ok (block_with_verdicts preserving first block))) (shapes_found fits info preserving p graph g)
     ∙ ap (λ (t : List ℕ). let r : Result (List ℕ) Refusal = Ok t in r)
     (sym (ap₂ (λ t b. t ++ verdicts b consistent) (text s (graph_of graph) g) order
     ∙ ap (λ b. block_text preserving first block ++ verdicts (is_in_order block) b) same))

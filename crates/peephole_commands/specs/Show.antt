@@ -24,10 +24,10 @@ abbrev pub verdicts : (in_order consistent : Bool) → List ℕ
 verdicts in_order consistent = codes "in order " ++ (yes_or_no in_order ++ (codes "\nconsistent " ++ (yes_or_no consistent ++ codes "\n")))
 
 -- the forest's text, whether the block is in order, and whether the point's tree has one colour
-abbrev pub shown_block : Bool → (first : ℕ) → List Shape → List ℕ
-shown_block preserving first block = block_text preserving first block ++ verdicts (is_in_order block) (is_consistent preserving block)
+abbrev pub block_with_verdicts : Bool → (first : ℕ) → List Shape → List ℕ
+block_with_verdicts preserving first block = block_text preserving first block ++ verdicts (is_in_order block) (is_consistent preserving block)
 
 -- the same of a block of a body, in a module and a mode
 abbrev pub show_output : Module → Bool → Site → Result (List ℕ) Refusal
 show_output info preserving site =
-    of_graph (shapes_or_refusal info preserving site) (λ block. Ok (shown_block preserving site.block.start block))
+    of_graph (shapes_or_refusal info preserving site) (λ block. Ok (block_with_verdicts preserving site.block.start block))

@@ -11,7 +11,8 @@ use std::alloc::Global;
 
 /// The only word; `BadArgument` where there is none, or more than one.
 pub fn only<'a>(arguments: &[&'a str]) -> Result<&'a str, Fault>
-    ensures { MatchResult result (λ word. only_word (λ w. Some w) (texts arguments.now) ≡ Some word.now)
+    ensures { MatchResult result
+        (λ word. only_word (λ w. Some w) (texts arguments.now) ≡ Some word.now)
         (λ f. (f ≡ Fault.BadArgument) × (only_word (λ w. Some w) (texts arguments.now) ≡ None)) }
 {
     match arguments {

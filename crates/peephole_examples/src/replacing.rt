@@ -67,7 +67,8 @@ pub fn replace<R: Rng + Drop>(
     requires some { 0 < length term.now }
     requires writable { AreWritable term.now }
     // The new body is the old one with the term in it, and its block runs as before where the term evaluates as the tree.
-    ensures replaced { IfOk result (λ answer. IfSome answer (λ new. IfSome (setting_of R.stream config.old) (λ setting.
+    ensures replaced { IfOk result (λ answer. IfSome answer (λ new.
+        IfSome (setting_of R.stream config.old) (λ setting.
         IsReplaced setting config.old.preserving bytes.now point (term_in term.now)
         new.body new.requests.items))) }
     // None only where nothing is there to be replaced.

@@ -12,10 +12,13 @@ use std::alloc::Global;
 /// Condition: the node is there. `Memory` where an allocation was refused, `TooLarge` where the tree has more than 2^32 nodes.
 pub fn tree_of<L: Language>(alloc: Global, expr: &RecExpr<L>, root: Id) -> Result<RecExpr<L>, Error>
     requires { root.0 < length expr.now }
-    ensures laid { IfOk result (λ tree. map (node_by L.head L.children) tree ≡ layout_from 0 (tree_at (nodes_of L.head L.children expr.now) root.0)) }
-    ensures term { IfOk result (λ tree. term_of L.head L.children tree ≡ tree_at (nodes_of L.head L.children expr.now) root.0) }
+    ensures laid { IfOk result (λ tree. map (node_by L.head L.children) tree
+        ≡ layout_from 0 (tree_at (nodes_of L.head L.children expr.now) root.0)) }
+    ensures term { IfOk result (λ tree. term_of L.head L.children tree
+        ≡ tree_at (nodes_of L.head L.children expr.now) root.0) }
     ensures refused { IfErr result (λ e. (e ≡ Error.Memory)
-        ⊎ ((e ≡ Error.TooLarge) × (2 ^ 32 < node_count_of (tree_at (nodes_of L.head L.children expr.now) root.0)))) }
+        ⊎ ((e ≡ Error.TooLarge)
+            × (2 ^ 32 < node_count_of (tree_at (nodes_of L.head L.children expr.now) root.0)))) }
 {
     let nodes = expr.as_ref();
     build_expr(

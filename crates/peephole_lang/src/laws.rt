@@ -42,7 +42,8 @@ pub fn is_of_its_variant()
 /// Each variant of the table is made: where it has that place, that kind of payload and that many children, the makers of nodes
 /// (`Numeric::make`, `Simd::make`, and that of the others) answer a node.
 pub fn each_variant_is_made()
-    ensures { (place count : ℕ) (p : Payload) → fits place p count ≡ true → is_made place p count ≡ true }
+    ensures { (place count : ℕ) (p : Payload)
+        → fits place p count ≡ true → is_made place p count ≡ true }
 {}
 
 /// At most one variant fits a text: the whole text is its name, or its name and a dot begin the text where it has a payload.

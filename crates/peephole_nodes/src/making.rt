@@ -4,7 +4,7 @@ ghost use Rattle.peephole_nodes.specs.Numeric.{numeric_place_of, numeric_ids_of,
 ghost use Rattle.peephole_nodes.specs.NumericShapes.{is_numeric};
 ghost use Rattle.peephole_nodes.specs.Simd.{simd_place_of, simd_payload_of};
 ghost use Rattle.peephole_nodes.specs.SimdChildren.{simd_ids_of, simd_count_of};
-ghost use Rattle.peephole_nodes.specs.SimdShapes.{is_simd_plain_two_a, is_simd_plain_two_b, is_simd_plain_two_c, is_simd_plain_two_d, is_simd_plain, is_simd};
+ghost use Rattle.peephole_nodes.specs.SimdShapes.{is_simd_plain_two, is_simd_plain, is_simd};
 ghost use Rattle.peephole_nodes.specs.Made.{LacksNumeric, LacksSimd};
 ghost use Rattle.peephole_nodes.specs.declared.payload.Payload.TheVariants as P;
 
@@ -51,13 +51,13 @@ fn numeric_of(place: u16, children: &[Id]) -> Option<Numeric>
     ensures complete { is_some result ≡ is_numeric place (length children.now) }
 {
     match children {
-        [child] => match numeric::numeric_plain_one_a(place, *child) {
+        [child] => match numeric::numeric_plain_one_to_171(place, *child) {
             Some(node) => Some(node),
-            None => numeric::numeric_plain_one_b(place, *child),
+            None => numeric::numeric_plain_one_from_172(place, *child),
         },
-        [first, second] => match numeric::numeric_plain_two_a(place, *first, *second) {
+        [first, second] => match numeric::numeric_plain_two_to_100(place, *first, *second) {
             Some(node) => Some(node),
-            None => numeric::numeric_plain_two_b(place, *first, *second),
+            None => numeric::numeric_plain_two_from_101(place, *first, *second),
         },
         _ => None,
     }
@@ -99,9 +99,9 @@ fn simd_plain(place: u16, children: &[Id]) -> Option<Simd>
     ensures complete { is_some result ≡ is_simd_plain place (length children.now) }
 {
     match children {
-        [child] => match simd::simd_plain_one_a(place, *child) {
+        [child] => match simd::simd_plain_one_to_383(place, *child) {
             Some(node) => Some(node),
-            None => simd::simd_plain_one_b(place, *child),
+            None => simd::simd_plain_one_from_384(place, *child),
         },
         [first, second] => simd_two(place, *first, *second),
         [first, second, third] => simd::simd_plain_three(place, *first, *second, *third),
@@ -115,17 +115,16 @@ fn simd_two(place: u16, first: Id, second: Id) -> Option<Simd>
     ensures payload { IfSome result (λ l. simd_payload_of l ≡ P.Nothing) }
     ensures children { IfSome result (λ l. simd_ids_of l ≡ first ∷ second ∷ []) }
     ensures count { IfSome result (λ l. simd_count_of l ≡ 2) }
-    ensures complete { is_some result
-        ≡ is_simd_plain_two_a place || is_simd_plain_two_b place || is_simd_plain_two_c place || is_simd_plain_two_d place }
+    ensures complete { is_some result ≡ is_simd_plain_two place }
 {
-    if let Some(node) = simd::simd_plain_two_a(place, first, second) {
+    if let Some(node) = simd::simd_plain_two_to_279(place, first, second) {
         return Some(node);
     }
-    if let Some(node) = simd::simd_plain_two_b(place, first, second) {
+    if let Some(node) = simd::simd_plain_two_280_to_370(place, first, second) {
         return Some(node);
     }
-    if let Some(node) = simd::simd_plain_two_c(place, first, second) {
+    if let Some(node) = simd::simd_plain_two_371_to_428(place, first, second) {
         return Some(node);
     }
-    simd::simd_plain_two_d(place, first, second)
+    simd::simd_plain_two_from_429(place, first, second)
 }

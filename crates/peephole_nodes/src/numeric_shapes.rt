@@ -1,18 +1,18 @@
 //! Numeric nodes by place, one function for each kind of payload and number of children.
 ghost use Rattle.std.specs.Prelude.{◌≡◌, IfSome, is_some, [], ◌∷◌};
 ghost use Rattle.peephole_nodes.specs.Numeric.{numeric_place_of, numeric_ids_of, numeric_count_of};
-ghost use Rattle.peephole_nodes.specs.NumericShapes.{is_numeric_plain_one_a, is_numeric_plain_one_b, is_numeric_plain_two_a, is_numeric_plain_two_b};
+ghost use Rattle.peephole_nodes.specs.NumericShapes.{is_numeric_plain_one_to_171, is_numeric_plain_one_from_172, is_numeric_plain_two_to_100, is_numeric_plain_two_from_101};
 
 use crate::id::Id;
 use crate::numeric::Numeric;
 
 // The numeric node of a place up to 171, with one child; none at a place without one.
-#[tactic(auto, unfolding(crate::specs::NumericShapes::is_numeric_plain_one_a, crate::specs::Numeric::numeric_place_of, crate::specs::Numeric::numeric_ids_of, crate::specs::Numeric::numeric_count_of))]
-pub(crate) fn numeric_plain_one_a(place: u16, child: Id) -> Option<Numeric>
+#[tactic(auto, unfolding(crate::specs::NumericShapes::is_numeric_plain_one_to_171, crate::specs::Numeric::numeric_place_of, crate::specs::Numeric::numeric_ids_of, crate::specs::Numeric::numeric_count_of))]
+pub(crate) fn numeric_plain_one_to_171(place: u16, child: Id) -> Option<Numeric>
     ensures place { IfSome result (λ l. numeric_place_of l ≡ place) }
     ensures children { IfSome result (λ l. numeric_ids_of l ≡ child ∷ []) }
     ensures count { IfSome result (λ l. numeric_count_of l ≡ 1) }
-    ensures complete { is_some result ≡ is_numeric_plain_one_a place }
+    ensures complete { is_some result ≡ is_numeric_plain_one_to_171 place }
 {
     match place {
         52 => Some(Numeric::I32Eqz([child])),
@@ -64,12 +64,12 @@ pub(crate) fn numeric_plain_one_a(place: u16, child: Id) -> Option<Numeric>
 }
 
 // The numeric node of a place from 172 on, with one child; none at a place without one.
-#[tactic(auto, unfolding(crate::specs::NumericShapes::is_numeric_plain_one_b, crate::specs::Numeric::numeric_place_of, crate::specs::Numeric::numeric_ids_of, crate::specs::Numeric::numeric_count_of))]
-pub(crate) fn numeric_plain_one_b(place: u16, child: Id) -> Option<Numeric>
+#[tactic(auto, unfolding(crate::specs::NumericShapes::is_numeric_plain_one_from_172, crate::specs::Numeric::numeric_place_of, crate::specs::Numeric::numeric_ids_of, crate::specs::Numeric::numeric_count_of))]
+pub(crate) fn numeric_plain_one_from_172(place: u16, child: Id) -> Option<Numeric>
     ensures place { IfSome result (λ l. numeric_place_of l ≡ place) }
     ensures children { IfSome result (λ l. numeric_ids_of l ≡ child ∷ []) }
     ensures count { IfSome result (λ l. numeric_count_of l ≡ 1) }
-    ensures complete { is_some result ≡ is_numeric_plain_one_b place }
+    ensures complete { is_some result ≡ is_numeric_plain_one_from_172 place }
 {
     match place {
         172 => Some(Numeric::I64ReinterpretF64([child])),
@@ -93,12 +93,12 @@ pub(crate) fn numeric_plain_one_b(place: u16, child: Id) -> Option<Numeric>
 }
 
 // The numeric node of a place up to 100, with two children; none at a place without one.
-#[tactic(auto, unfolding(crate::specs::NumericShapes::is_numeric_plain_two_a, crate::specs::Numeric::numeric_place_of, crate::specs::Numeric::numeric_ids_of, crate::specs::Numeric::numeric_count_of))]
-pub(crate) fn numeric_plain_two_a(place: u16, first: Id, second: Id) -> Option<Numeric>
+#[tactic(auto, unfolding(crate::specs::NumericShapes::is_numeric_plain_two_to_100, crate::specs::Numeric::numeric_place_of, crate::specs::Numeric::numeric_ids_of, crate::specs::Numeric::numeric_count_of))]
+pub(crate) fn numeric_plain_two_to_100(place: u16, first: Id, second: Id) -> Option<Numeric>
     ensures place { IfSome result (λ l. numeric_place_of l ≡ place) }
     ensures children { IfSome result (λ l. numeric_ids_of l ≡ first ∷ second ∷ []) }
     ensures count { IfSome result (λ l. numeric_count_of l ≡ 2) }
-    ensures complete { is_some result ≡ is_numeric_plain_two_a place }
+    ensures complete { is_some result ≡ is_numeric_plain_two_to_100 place }
 {
     match place {
         53 => Some(Numeric::I32Eq([first, second])),
@@ -150,12 +150,12 @@ pub(crate) fn numeric_plain_two_a(place: u16, first: Id, second: Id) -> Option<N
 }
 
 // The numeric node of a place from 101 on, with two children; none at a place without one.
-#[tactic(auto, unfolding(crate::specs::NumericShapes::is_numeric_plain_two_b, crate::specs::Numeric::numeric_place_of, crate::specs::Numeric::numeric_ids_of, crate::specs::Numeric::numeric_count_of))]
-pub(crate) fn numeric_plain_two_b(place: u16, first: Id, second: Id) -> Option<Numeric>
+#[tactic(auto, unfolding(crate::specs::NumericShapes::is_numeric_plain_two_from_101, crate::specs::Numeric::numeric_place_of, crate::specs::Numeric::numeric_ids_of, crate::specs::Numeric::numeric_count_of))]
+pub(crate) fn numeric_plain_two_from_101(place: u16, first: Id, second: Id) -> Option<Numeric>
     ensures place { IfSome result (λ l. numeric_place_of l ≡ place) }
     ensures children { IfSome result (λ l. numeric_ids_of l ≡ first ∷ second ∷ []) }
     ensures count { IfSome result (λ l. numeric_count_of l ≡ 2) }
-    ensures complete { is_some result ≡ is_numeric_plain_two_b place }
+    ensures complete { is_some result ≡ is_numeric_plain_two_from_101 place }
 {
     match place {
         101 => Some(Numeric::I32ShrU([first, second])),

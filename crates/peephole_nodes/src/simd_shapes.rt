@@ -2,7 +2,7 @@
 ghost use Rattle.std.specs.Prelude.{◌≡◌, IfSome, is_some, [], ◌∷◌};
 ghost use Rattle.peephole_nodes.specs.Simd.{simd_place_of, simd_payload_of};
 ghost use Rattle.peephole_nodes.specs.SimdChildren.{simd_ids_of, simd_count_of};
-ghost use Rattle.peephole_nodes.specs.SimdShapes.{is_simd_memory_one, is_simd_memory_two, is_simd_v128_leaf, is_simd_shuffle_two, is_simd_plain_one_a, is_simd_plain_one_b, is_simd_plain_two_a, is_simd_plain_two_b, is_simd_plain_two_c, is_simd_plain_two_d, is_simd_plain_three, is_simd_lane_one, is_simd_lane_two, is_simd_memory_lane_two};
+ghost use Rattle.peephole_nodes.specs.SimdShapes.{is_simd_memory_one, is_simd_memory_two, is_simd_v128_leaf, is_simd_shuffle_two, is_simd_plain_one_to_383, is_simd_plain_one_from_384, is_simd_plain_two_to_279, is_simd_plain_two_280_to_370, is_simd_plain_two_371_to_428, is_simd_plain_two_from_429, is_simd_plain_three, is_simd_lane_one, is_simd_lane_two, is_simd_memory_lane_two};
 ghost use Rattle.peephole_nodes.specs.declared.payload.Payload.TheVariants as P;
 
 use crate::id::Id;
@@ -82,13 +82,13 @@ pub(crate) fn simd_shuffle_two(place: u16, payload: Shuffle, first: Id, second: 
 }
 
 // The vector node of a place up to 383, with one child and no payload; none at a place without one.
-#[tactic(auto, unfolding(crate::specs::SimdShapes::is_simd_plain_one_a, crate::specs::Simd::simd_place_of, crate::specs::Simd::simd_payload_of, crate::specs::SimdChildren::simd_ids_of, crate::specs::SimdChildren::simd_count_of))]
-pub(crate) fn simd_plain_one_a(place: u16, child: Id) -> Option<Simd>
+#[tactic(auto, unfolding(crate::specs::SimdShapes::is_simd_plain_one_to_383, crate::specs::Simd::simd_place_of, crate::specs::Simd::simd_payload_of, crate::specs::SimdChildren::simd_ids_of, crate::specs::SimdChildren::simd_count_of))]
+pub(crate) fn simd_plain_one_to_383(place: u16, child: Id) -> Option<Simd>
     ensures place { IfSome result (λ l. simd_place_of l ≡ place) }
     ensures payload { IfSome result (λ l. simd_payload_of l ≡ P.Nothing) }
     ensures children { IfSome result (λ l. simd_ids_of l ≡ child ∷ []) }
     ensures count { IfSome result (λ l. simd_count_of l ≡ 1) }
-    ensures complete { is_some result ≡ is_simd_plain_one_a place }
+    ensures complete { is_some result ≡ is_simd_plain_one_to_383 place }
 {
     match place {
         216 => Some(Simd::I8x16Splat([child])),
@@ -140,13 +140,13 @@ pub(crate) fn simd_plain_one_a(place: u16, child: Id) -> Option<Simd>
 }
 
 // The vector node of a place from 384 on, with one child and no payload; none at a place without one.
-#[tactic(auto, unfolding(crate::specs::SimdShapes::is_simd_plain_one_b, crate::specs::Simd::simd_place_of, crate::specs::Simd::simd_payload_of, crate::specs::SimdChildren::simd_ids_of, crate::specs::SimdChildren::simd_count_of))]
-pub(crate) fn simd_plain_one_b(place: u16, child: Id) -> Option<Simd>
+#[tactic(auto, unfolding(crate::specs::SimdShapes::is_simd_plain_one_from_384, crate::specs::Simd::simd_place_of, crate::specs::Simd::simd_payload_of, crate::specs::SimdChildren::simd_ids_of, crate::specs::SimdChildren::simd_count_of))]
+pub(crate) fn simd_plain_one_from_384(place: u16, child: Id) -> Option<Simd>
     ensures place { IfSome result (λ l. simd_place_of l ≡ place) }
     ensures payload { IfSome result (λ l. simd_payload_of l ≡ P.Nothing) }
     ensures children { IfSome result (λ l. simd_ids_of l ≡ child ∷ []) }
     ensures count { IfSome result (λ l. simd_count_of l ≡ 1) }
-    ensures complete { is_some result ≡ is_simd_plain_one_b place }
+    ensures complete { is_some result ≡ is_simd_plain_one_from_384 place }
 {
     match place {
         384 => Some(Simd::I64x2Neg([child])),
@@ -179,13 +179,13 @@ pub(crate) fn simd_plain_one_b(place: u16, child: Id) -> Option<Simd>
 }
 
 // The vector node of a place up to 279, with two children and no payload; none at a place without one.
-#[tactic(auto, unfolding(crate::specs::SimdShapes::is_simd_plain_two_a, crate::specs::Simd::simd_place_of, crate::specs::Simd::simd_payload_of, crate::specs::SimdChildren::simd_ids_of, crate::specs::SimdChildren::simd_count_of))]
-pub(crate) fn simd_plain_two_a(place: u16, first: Id, second: Id) -> Option<Simd>
+#[tactic(auto, unfolding(crate::specs::SimdShapes::is_simd_plain_two_to_279, crate::specs::Simd::simd_place_of, crate::specs::Simd::simd_payload_of, crate::specs::SimdChildren::simd_ids_of, crate::specs::SimdChildren::simd_count_of))]
+pub(crate) fn simd_plain_two_to_279(place: u16, first: Id, second: Id) -> Option<Simd>
     ensures place { IfSome result (λ l. simd_place_of l ≡ place) }
     ensures payload { IfSome result (λ l. simd_payload_of l ≡ P.Nothing) }
     ensures children { IfSome result (λ l. simd_ids_of l ≡ first ∷ second ∷ []) }
     ensures count { IfSome result (λ l. simd_count_of l ≡ 2) }
-    ensures complete { is_some result ≡ is_simd_plain_two_a place }
+    ensures complete { is_some result ≡ is_simd_plain_two_to_279 place }
 {
     match place {
         215 => Some(Simd::I8x16Swizzle([first, second])),
@@ -237,13 +237,13 @@ pub(crate) fn simd_plain_two_a(place: u16, first: Id, second: Id) -> Option<Simd
 }
 
 // The vector node of a place from 280 to 370, with two children and no payload; none at a place without one.
-#[tactic(auto, unfolding(crate::specs::SimdShapes::is_simd_plain_two_b, crate::specs::Simd::simd_place_of, crate::specs::Simd::simd_payload_of, crate::specs::SimdChildren::simd_ids_of, crate::specs::SimdChildren::simd_count_of))]
-pub(crate) fn simd_plain_two_b(place: u16, first: Id, second: Id) -> Option<Simd>
+#[tactic(auto, unfolding(crate::specs::SimdShapes::is_simd_plain_two_280_to_370, crate::specs::Simd::simd_place_of, crate::specs::Simd::simd_payload_of, crate::specs::SimdChildren::simd_ids_of, crate::specs::SimdChildren::simd_count_of))]
+pub(crate) fn simd_plain_two_280_to_370(place: u16, first: Id, second: Id) -> Option<Simd>
     ensures place { IfSome result (λ l. simd_place_of l ≡ place) }
     ensures payload { IfSome result (λ l. simd_payload_of l ≡ P.Nothing) }
     ensures children { IfSome result (λ l. simd_ids_of l ≡ first ∷ second ∷ []) }
     ensures count { IfSome result (λ l. simd_count_of l ≡ 2) }
-    ensures complete { is_some result ≡ is_simd_plain_two_b place }
+    ensures complete { is_some result ≡ is_simd_plain_two_280_to_370 place }
 {
     match place {
         280 => Some(Simd::V128AndNot([first, second])),
@@ -295,13 +295,13 @@ pub(crate) fn simd_plain_two_b(place: u16, first: Id, second: Id) -> Option<Simd
 }
 
 // The vector node of a place from 371 to 428, with two children and no payload; none at a place without one.
-#[tactic(auto, unfolding(crate::specs::SimdShapes::is_simd_plain_two_c, crate::specs::Simd::simd_place_of, crate::specs::Simd::simd_payload_of, crate::specs::SimdChildren::simd_ids_of, crate::specs::SimdChildren::simd_count_of))]
-pub(crate) fn simd_plain_two_c(place: u16, first: Id, second: Id) -> Option<Simd>
+#[tactic(auto, unfolding(crate::specs::SimdShapes::is_simd_plain_two_371_to_428, crate::specs::Simd::simd_place_of, crate::specs::Simd::simd_payload_of, crate::specs::SimdChildren::simd_ids_of, crate::specs::SimdChildren::simd_count_of))]
+pub(crate) fn simd_plain_two_371_to_428(place: u16, first: Id, second: Id) -> Option<Simd>
     ensures place { IfSome result (λ l. simd_place_of l ≡ place) }
     ensures payload { IfSome result (λ l. simd_payload_of l ≡ P.Nothing) }
     ensures children { IfSome result (λ l. simd_ids_of l ≡ first ∷ second ∷ []) }
     ensures count { IfSome result (λ l. simd_count_of l ≡ 2) }
-    ensures complete { is_some result ≡ is_simd_plain_two_c place }
+    ensures complete { is_some result ≡ is_simd_plain_two_371_to_428 place }
 {
     match place {
         371 => Some(Simd::I32x4Add([first, second])),
@@ -353,13 +353,13 @@ pub(crate) fn simd_plain_two_c(place: u16, first: Id, second: Id) -> Option<Simd
 }
 
 // The vector node of a place from 429 on, with two children and no payload; none at a place without one.
-#[tactic(auto, unfolding(crate::specs::SimdShapes::is_simd_plain_two_d, crate::specs::Simd::simd_place_of, crate::specs::Simd::simd_payload_of, crate::specs::SimdChildren::simd_ids_of, crate::specs::SimdChildren::simd_count_of))]
-pub(crate) fn simd_plain_two_d(place: u16, first: Id, second: Id) -> Option<Simd>
+#[tactic(auto, unfolding(crate::specs::SimdShapes::is_simd_plain_two_from_429, crate::specs::Simd::simd_place_of, crate::specs::Simd::simd_payload_of, crate::specs::SimdChildren::simd_ids_of, crate::specs::SimdChildren::simd_count_of))]
+pub(crate) fn simd_plain_two_from_429(place: u16, first: Id, second: Id) -> Option<Simd>
     ensures place { IfSome result (λ l. simd_place_of l ≡ place) }
     ensures payload { IfSome result (λ l. simd_payload_of l ≡ P.Nothing) }
     ensures children { IfSome result (λ l. simd_ids_of l ≡ first ∷ second ∷ []) }
     ensures count { IfSome result (λ l. simd_count_of l ≡ 2) }
-    ensures complete { is_some result ≡ is_simd_plain_two_d place }
+    ensures complete { is_some result ≡ is_simd_plain_two_from_429 place }
 {
     match place {
         437 => Some(Simd::I8x16RelaxedSwizzle([first, second])),

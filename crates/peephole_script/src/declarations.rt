@@ -32,7 +32,8 @@ pub fn declare(
     declaration: Declaration,
     words: &[&str],
 ) -> Result<(), Fault>
-    ensures { Declares (with_declaration declaration info.old (texts words.now)) info.old info.new result }
+    ensures { Declares (with_declaration declaration info.old (texts words.now)) info.old info.new
+        result }
 {
     match declaration {
         Declaration::Global => add_global(info, words),

@@ -13,7 +13,7 @@ use Rattle.peephole_graphs.specs.Forest.{forest}
 use Rattle.peephole_graphs.specs.GraphOf.{IsGraphOf}
 use Rattle.peephole_graphs.specs.Tree.{instructions_of, instructions}
 use Rattle.peephole_terms.specs.EncoderSteps.{Writing}
-use Rattle.peephole_terms.specs.Expansion.{Setting, drawn, draws_of, request}
+use Rattle.peephole_terms.specs.Expansion.{Setting, draw_words, draws_of, request}
 use Rattle.peephole_terms.specs.Laws.{WritesItsOwnTrees, OwnTreesAreKept, OperatorsHaveEntries}
 use Rattle.peephole_terms.specs.ReadAgain.{AppendsReadable, RereadsOwnTrees}
 use Rattle.peephole_terms.specs.Written.{Site, source_at, block_operators, is_written, block_shapes, written_block, written_body, IsBodyIn, IsBlockIn}
@@ -33,10 +33,10 @@ itself_kept s site t code h e =
     let form = written_where (is_written s.info site) s t in
     record {
       code = code;
-      expands = form.0 ∙ h.expands (length s.info.globals) (drawn (draws_of (term_where (is_written s.info site) t)) s.stream).0;
+      expands = form.0 ∙ h.expands (length s.info.globals) (draw_words (draws_of (term_where (is_written s.info site) t)) s.stream).0;
       trees = e;
       asks = form.1 ∙ ap (map request) h.asks;
-      draws = form.2 ∙ ap (λ ds. setting s.info (drawn ds s.stream).1) h.takes;
+      draws = form.2 ∙ ap (λ ds. setting s.info (draw_words ds s.stream).1) h.takes;
     }
 
 unwritten : (s : Setting) (site : Site) (t : Term Head) → is_written s.info site ≡ false → WritesItsOwnTrees s site t

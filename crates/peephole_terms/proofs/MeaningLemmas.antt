@@ -8,8 +8,8 @@ use Rattle.peephole_machine.specs.Values.{Value, type_of, same_types, types, Sta
 use Rattle.peephole_machine.specs.IntegerRow.{integer_row}
 use Rattle.peephole_machine.specs.RowLemmas.{some_if, and_then_some, map_some, same_types_is}
 use Rattle.peephole_machine.specs.TypeLemmas.{Fine, act_fine, then_above_fine}
-use Rattle.peephole_terms.specs.declared.encoder.kind.Kind.TheVariants.{Own, Random, Unfold, UseGlobal, Container}
-use Rattle.peephole_terms.specs.Kind.{IntegerType, Kind, node_kind}
+use Rattle.peephole_terms.specs.declared.encoder.node_kind.NodeKind.TheVariants.{Own, Random, Unfold, UseGlobal, Container}
+use Rattle.peephole_terms.specs.NodeKind.{IntegerType, NodeKind, node_kind}
 use Rattle.peephole_terms.specs.Expansion.{constant_in, draws_of, draws}
 use Rattle.peephole_terms.specs.Typing.{integer_type, if_that_type, own_types, with_own_types, joined_types, types_of, types_in}
 use Rattle.peephole_terms.specs.Meaning.{own_meaning, with_own_meaning, meaning_of, meaning}
@@ -42,7 +42,7 @@ module _ (locals globals : List PrimitiveTypeInfo) where
   then_fine ts Stuck f h next = h
 
   -- a node behind its children
-  own_fine : {ts : List PrimitiveTypeInfo} (words : List ℕ) (k : Kind) (vs : List Value) (s : State) → own_types locals globals k (types vs) ≡ Some ts →
+  own_fine : {ts : List PrimitiveTypeInfo} (words : List ℕ) (k : NodeKind) (vs : List Value) (s : State) → own_types locals globals k (types vs) ≡ Some ts →
       types s.locals ≡ locals → types s.globals ≡ globals → Fine locals globals ts (own_meaning words k vs s)
   own_fine {ts} words (Own i) vs s e hl hg = act_fine locals globals (types vs) ts (integer_row i) vs s refl hl hg e
   own_fine {ts} words (Random t) [] s e hl hg = let (u, a, b) = map_some (λ u. type_of u ∷ []) (integer_type t) ts e in rw a (b, hl, hg)
@@ -54,7 +54,7 @@ module _ (locals globals : List PrimitiveTypeInfo) where
   abbrev AreFine : List ℕ → Terms Head → State → Type 0
   AreFine words kids s = (us : List PrimitiveTypeInfo) → types_in locals globals kids ≡ Some us → Fine locals globals us (meaning words kids s)
 
-  node_fine : (ts : List PrimitiveTypeInfo) (words : List ℕ) (k : Kind) (kids : Terms Head) (s : State) → AreFine words kids s →
+  node_fine : (ts : List PrimitiveTypeInfo) (words : List ℕ) (k : NodeKind) (kids : Terms Head) (s : State) → AreFine words kids s →
       types s.locals ≡ locals → types s.globals ≡ globals → with_own_types locals globals k kids (types_in locals globals kids) ≡ Some ts →
       Fine locals globals ts (with_own_meaning words k kids (meaning words kids s) s)
   node_fine ts words (Unfold t) kids s below hl hg e =

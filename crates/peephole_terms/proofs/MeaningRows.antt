@@ -19,8 +19,8 @@ use Rattle.peephole_machine.specs.IntegerRow.{integer_row}
 use Rattle.peephole_machine.specs.Machine.{run}
 use Rattle.peephole_machine.specs.OutcomeLemmas.{run_one}
 use Rattle.peephole_machine.specs.RangeLemmas.{sum_split, run_op, run_sum, run_through}
-use Rattle.peephole_terms.specs.declared.encoder.kind.NumberType.TheVariants as number
-use Rattle.peephole_terms.specs.Kind.{NumberType, IntegerType, number_of, primitive_of}
+use Rattle.peephole_terms.specs.declared.encoder.node_kind.NumberType.TheVariants as number
+use Rattle.peephole_terms.specs.NodeKind.{NumberType, IntegerType, number_of, primitive_of}
 use Rattle.peephole_terms.specs.Expansion.{constant, rest_of, add_of, sum, set_global, get_global}
 use Rattle.peephole_terms.specs.Laws.{AddUpTo, UnfoldsAddUp}
 use Rattle.peephole_terms.specs.Typing.{integer_type}

@@ -14,13 +14,13 @@ use Rattle.peephole_lang.specs.declared.lang.Head.{Head}
 use Rattle.peephole_lang.specs.Term.{Term, Terms, absent, node, no_terms, ◌▸◌}
 use Rattle.peephole_graphs.specs.Tree.{Trees}
 use Rattle.peephole_machine.specs.declared.integer.IntegerType.TheVariants as integer
-use Rattle.peephole_terms.specs.declared.encoder.kind.NumberType.TheVariants as number
-use Rattle.peephole_terms.specs.declared.encoder.kind.Kind.TheVariants.{Own, Random, Unfold, UseGlobal}
-use Rattle.peephole_terms.specs.Kind.{NumberType, IntegerType, Kind, node_kind, number_of}
-use Rattle.peephole_terms.specs.EncoderSteps.{Step, IsInRange, split, store, own_step, opened, steps_of, steps}
+use Rattle.peephole_terms.specs.declared.encoder.node_kind.NumberType.TheVariants as number
+use Rattle.peephole_terms.specs.declared.encoder.node_kind.NodeKind.TheVariants.{Own, Random, Unfold, UseGlobal}
+use Rattle.peephole_terms.specs.NodeKind.{NumberType, IntegerType, NodeKind, node_kind, number_of}
+use Rattle.peephole_terms.specs.EncoderSteps.{Step, IsInRange, split, store, own_step, children_to_write, steps_of, steps}
 use Rattle.peephole_terms.specs.Expansion.{constant, rest_of, add_of, set_global, get_global, constant_in, sum_of, first_word, joined_code, own_code}
 use Rattle.peephole_terms.specs.Expansion.{with_own_code}
-use Rattle.peephole_terms.specs.Expansion.{requests_of, requests, draws_of, draws, drawn, expansion_of, expansion}
+use Rattle.peephole_terms.specs.Expansion.{requests_of, requests, draws_of, draws, draw_words, expansion_of, expansion}
 use Rattle.peephole_terms.specs.Laws.{RefusesByName}
 use Rattle.peephole_terms.specs.Written.{with_tree_replaced}
 use Rattle.peephole_terms.proofs.RowLemmas.{global_get_row, global_set_row, i32_const_row, i64_const_row, f32_const_row, f64_const_row, i32_add_row}
@@ -72,7 +72,7 @@ through_sound t g true e = λ r.
     (one_is (get_global g) (record { kind = global_get_row g; in_range = omega arith }))
 through_sound t g false e = inr refl
 
-own_sound : (k : Kind) (kids : Terms Head) (next : ℕ) (words : List ℕ) → IsSound (own_step k kids ∷ []) (own_code next words k)
+own_sound : (k : NodeKind) (kids : Terms Head) (next : ℕ) (words : List ℕ) → IsSound (own_step k kids ∷ []) (own_code next words k)
 own_sound (Own i) kids next words = λ r. one_is i (All-head IsInRange (own_step (Own i) kids) [] r)
 own_sound (Random t) kids next words = λ r. one_is (constant t (first_word words)) (constant_is t (first_word words))
 own_sound (UseGlobal t) kids next words = through_sound t next (nat_le next 4294967295) refl
@@ -89,8 +89,8 @@ joined_sound xs ys (Ok is) (Ok js) p q = λ r.
 abbrev AreSound : Terms Head → Type 0
 AreSound ts = (n : ℕ) (words : List ℕ) → IsSound (steps ts) (expansion n words ts)
 
-node_sound : (k : Kind) (kids : Terms Head) (n : ℕ) (words : List ℕ) → AreSound kids →
-    IsSound (opened k (steps kids) ++ own_step k kids ∷ []) (with_own_code n words k kids (expansion n words kids))
+node_sound : (k : NodeKind) (kids : Terms Head) (n : ℕ) (words : List ℕ) → AreSound kids →
+    IsSound (children_to_write k (steps kids) ++ own_step k kids ∷ []) (with_own_code n words k kids (expansion n words kids))
 node_sound (Unfold t) kids n words all = sum_sound t (first_word words) (constant_in t kids)
 node_sound k kids n words all =
     joined_sound (steps kids) (own_step k kids ∷ []) (expansion n words kids) (own_code (n + length (requests kids)) (drop (length (draws kids)) words) k)
@@ -110,7 +110,7 @@ mutual
 
 -- a term's expansion is refused for two reasons alone
 pub refuses_by_name : RefusesByName
-refuses_by_name s t e h = subst (IsSound (steps_of t)) h (term_sound t (length s.info.globals) (drawn (draws_of t) s.stream).0)
+refuses_by_name s t e h = subst (IsSound (steps_of t)) h (term_sound t (length s.info.globals) (draw_words (draws_of t) s.stream).0)
 
 -- what a block is written as is in range, where the steps of the roots' terms are
 pub block_in_range : {first at : ℕ} {t : Term Head} {ts : Trees} {us : Terms Head} (n : ℕ) (words : List ℕ) (code : List Instruction) →

@@ -31,7 +31,7 @@ use Rattle.peephole_graphs.proofs.ForestLemmas.{rev, forest_is, Falling, Falling
 use Rattle.peephole_graphs.proofs.Stacked.{stacked}
 use Rattle.peephole_terms.specs.EncoderSteps.{operator_of_entry, root_term, root_terms}
 use Rattle.peephole_terms.specs.Expansion.{then_code, joined_code, expansion_of, expansion, requests_of, requests, draws_of, draws}
-use Rattle.peephole_terms.specs.Kind.{NumberType}
+use Rattle.peephole_terms.specs.NodeKind.{NumberType}
 use Rattle.peephole_terms.specs.Written.{with_tree_replaced, has_root}
 use Rattle.peephole_terms.proofs.TermOfLemmas.{IsItself, AreThemselves, none_themselves, more_themselves, entry_itself}
 

@@ -6,7 +6,7 @@ use Rattle.mutate_base.specs.Module.{Module}
 use Rattle.mutate_base.specs.declared.error.Error.{Error}
 use Rattle.peephole_lang.specs.declared.lang.Head.{Head}
 use Rattle.peephole_lang.specs.Term.{Term}
-use Rattle.peephole_terms.specs.Expansion.{Setting, expansion_of, expanded}
+use Rattle.peephole_terms.specs.Expansion.{Setting, expansion_of, expansion_in}
 use Rattle.peephole_terms.specs.SameAnswers.{block_words, TermAnswersAreTheSame, BodyAnswersAreTheSame}
 use Rattle.peephole_terms.specs.StackCode.{words_for}
 use Rattle.peephole_terms.specs.Written.{Site, is_written, term_code, term_requests, written_block, written_body}
@@ -19,7 +19,7 @@ same_code c c' e = cc
 
 pub same_terms : TermAnswersAreTheSame
 same_terms s s' t old new old' new' answer answer' i w h h' =
-    let expands : expanded s t ≡ expanded s' t = ap₂ (λ (info : Module) (words : List ℕ). expansion_of (length info.globals) words t) i w in
+    let expands : expansion_in s t ≡ expansion_in s' t = ap₂ (λ (info : Module) (words : List ℕ). expansion_of (length info.globals) words t) i w in
     let same : h.written.0 ≡ h'.written.0 = same_code h.written.0 h'.written.0 (sym h.written.1 ∙ (expands ∙ h'.written.1)) in (
       (codes h.written.0, h.written.2, h'.written.2 ∙ ap (λ (c : List Instruction). old' ++ codes c) (sym same)),
       h.asks ∙ sym h'.asks,
@@ -37,7 +37,7 @@ same_term_code s s' site t i w =
     let b : is_written s.info site ≡ is_written s'.info site = ap (λ (info : Module). is_written info site) i in
     let words = w ∙ ap (λ (x : Bool). cond x (words_for s' t) []) (sym b) in
     chosen (is_written s.info site) (length s.info.globals) (length s'.info.globals) (words_for s t) (words_for s' t) t
-    (ap (λ (info : Module). length info.globals) i) words ∙ ap (λ (x : Bool). cond x (expanded s' t) (Ok [])) b
+    (ap (λ (info : Module). length info.globals) i) words ∙ ap (λ (x : Bool). cond x (expansion_in s' t) (Ok [])) b
 
 pub same_bodies : BodyAnswersAreTheSame
 same_bodies s s' site t old new old' new' answer answer' i w h h' =

@@ -33,8 +33,8 @@ use Rattle.peephole_machine.specs.SameLemmas.{rows_name, name_left, name_right, 
 use Rattle.peephole_machine.specs.SameLemmas.{run_alike, stays_alike}
 use Rattle.peephole_machine.specs.TypeLemmas.{Keeps, run_keeps}
 use Rattle.peephole_machine.specs.RangeLemmas.{AreValues, Leaves, run_leaves}
-use Rattle.peephole_terms.specs.Kind.{NumberType, primitive_of}
-use Rattle.peephole_terms.specs.Expansion.{Setting, requests_of, expansion_of, expanded}
+use Rattle.peephole_terms.specs.NodeKind.{NumberType, primitive_of}
+use Rattle.peephole_terms.specs.Expansion.{Setting, requests_of, expansion_of, expansion_in}
 use Rattle.peephole_terms.specs.Written.{Site, source_at, block_operators, is_written, term_code, written_block}
 use Rattle.peephole_terms.specs.EncoderSteps.{Writing}
 use Rattle.peephole_terms.specs.Meaning.{meaning_of}
@@ -181,7 +181,7 @@ module _ (s : Setting) (preserving : Bool) (site : Site) (g : Graph) (t : Term H
             sym (forest_instructions s.info (block_operators site) h.fit r.order) ∙ (sym (own_replaced source g site.at r.entry h r.own) ∙ sp.round own) in
             let written : AreWritten s.info.globals (words_for s t) (tree_at (entry_nodes g.entries) r.entry) t own code = record {
               itself = own_itself source g site.at r.entry h r.own;
-              expands = sym (cond-true (is_written s.info site) (expanded s t) (Ok []) r.root) ∙ e;
+              expands = sym (cond-true (is_written s.info site) (expansion_in s t) (Ok []) r.root) ∙ e;
             } in
             rw (old, sp.round code) (keeps_run more r.evaluates written sp.front sp.back
             (rw old at (integer_instructions locals s.info.globals (block_operators site) r.integer)) stack state others requested hs hv ho hr (rw old at n))

@@ -17,8 +17,8 @@ use Rattle.peephole_graphs.specs.Forest.{forest}
 use Rattle.peephole_graphs.specs.GraphOf.{IsGraphOf}
 use Rattle.peephole_terms.specs.declared.encoder.request.ResourceRequest.{ResourceRequest}
 use Rattle.peephole_terms.specs.EncoderSteps.{Writing, Does, around, with_bytes, writing_of, root_terms, root_steps, steps_of, steps}
-use Rattle.peephole_terms.specs.Expansion.{Setting, expanded, after_term, Refuses, then_code, expansion, requests_of, requests, request, draws_of, draws}
-use Rattle.peephole_terms.specs.Expansion.{drawn}
+use Rattle.peephole_terms.specs.Expansion.{Setting, expansion_in, after_term, Refuses, then_code, expansion, requests_of, requests, request, draws_of, draws}
+use Rattle.peephole_terms.specs.Expansion.{draw_words}
 use Rattle.peephole_terms.specs.Written.{Site, source_at, AppendsBody, RefusesBody, block_shapes, is_written, term_requests, after_block_term, before_block}
 use Rattle.peephole_terms.specs.Written.{after_block, written_block}
 use Rattle.peephole_terms.proofs.ExpansionLemmas.{IsFinished, finished, from_start, all_from_start, refused}
@@ -62,13 +62,13 @@ pub as_given : {count globals : ℕ} {read t : Term Head} {none : List ResourceR
 as_given c same empty d = rw (c, same, empty) at d
 
 pub term_done : (s : Setting) (t : Term Head) (old : List ℕ) (v : Writing) → DoesTerm s t old v (Ok tt) →
-    IsFinished old s.stream v (requests_of t) (draws_of t) (expanded s t)
+    IsFinished old s.stream v (requests_of t) (draws_of t) (expansion_in s t)
 term_done s t old v d =
-    finished old s.stream v (requests_of t) (draws_of t) (expanded s t) (sym (from_start t (length s.info.globals) old s.stream) ∙ d.ok)
+    finished old s.stream v (requests_of t) (draws_of t) (expansion_in s t) (sym (from_start t (length s.info.globals) old s.stream) ∙ d.ok)
 
-pub term_refused : (s : Setting) (t : Term Head) (old : List ℕ) (v : Writing) (e : Error) → DoesTerm s t old v (Err e) → Refuses (expanded s t) e
+pub term_refused : (s : Setting) (t : Term Head) (old : List ℕ) (v : Writing) (e : Error) → DoesTerm s t old v (Err e) → Refuses (expansion_in s t) e
 term_refused s t old v e d =
-    refused e (start_at s old) (requests_of t) (draws_of t) (expanded s t) (rw (from_start t (length s.info.globals) old s.stream) at d.err)
+    refused e (start_at s old) (requests_of t) (draws_of t) (expansion_in s t) (rw (from_start t (length s.info.globals) old s.stream) at d.err)
 
 -- ---- a body
 
@@ -97,7 +97,7 @@ pub record HasWritten (s : Setting) (site : Site) (t : Term Head) (old : List �
   pub in_range : All IsInstruction (written_block s.info site body.code)
 
 -- a term that isn't written is none
-pub written_where : (b : Bool) (s : Setting) (t : Term Head) → (cond b (expanded s t) (Ok []) ≡ expanded s (term_where b t))
+pub written_where : (b : Bool) (s : Setting) (t : Term Head) → (cond b (expansion_in s t) (Ok []) ≡ expansion_in s (term_where b t))
     × (cond b (map request (requests_of t)) [] ≡ map request (requests_of (term_where b t))) × (cond b (after_term s t) s ≡ after_term s (term_where b t))
 written_where true s t = (refl, refl, refl)
 written_where false s t = (refl, refl, refl)
@@ -129,15 +129,15 @@ module _ (s : Setting) (preserving : Bool) (site : Site) (g : Graph) (t : Term H
   written_as : IsWrittenAs site.block.start site.at own (forest (block_shapes s.info site)) us
   written_as = block_written_as (source_at s.info preserving site) g site.at t h
 
-  code_is : expansion count (drawn (draws us) s.stream).0 us ≡ then_code (expanded s own) (λ code. Ok (written_block s.info site code))
-  code_is = ap (λ ds. expansion count (drawn ds s.stream).0 us) written_as.takes ∙ written_as.code count (drawn (draws_of own) s.stream).0
+  code_is : expansion count (draw_words (draws us) s.stream).0 us ≡ then_code (expansion_in s own) (λ code. Ok (written_block s.info site code))
+  code_is = ap (λ ds. expansion count (draw_words ds s.stream).0 us) written_as.takes ∙ written_as.code count (draw_words (draws_of own) s.stream).0
 
   pub body_done : (old : List ℕ) (v : Writing) → DoesBody s site g t old v (Ok tt) → HasWritten s site t old v
   body_done old v d =
       let (m, e, f) = around_ok count (front_of site) (back_of site) (steps us) (start_at s old) v d.ok in
-      let all = finished (old ++ front_of site) s.stream m (requests us) (draws us) (expansion count (drawn (draws us) s.stream).0 us)
+      let all = finished (old ++ front_of site) s.stream m (requests us) (draws us) (expansion count (draw_words (draws us) s.stream).0 us)
       (sym (all_from_start us count (old ++ front_of site) s.stream) ∙ e) in
-      let (code, expands, is) = followed_ok (expanded s own) (λ code. written_block s.info site code) all.instructions (sym code_is ∙ all.expands) in
+      let (code, expands, is) = followed_ok (expansion_in s own) (λ code. written_block s.info site code) all.instructions (sym code_is ∙ all.expands) in
       let form = written_where (is_written s.info site) s t in
       record {
         body = record {
@@ -148,14 +148,14 @@ module _ (s : Setting) (preserving : Bool) (site : Site) (g : Graph) (t : Term H
         };
         asks = ap (λ (x : Writing). x.requests) f ∙ (all.asks ∙ (ap (map request) written_as.asks ∙ sym form.1));
         leaves = ap (λ (x : Writing). setting s.info x.stream) f
-            ∙ (ap (setting s.info) (all.leaves ∙ ap (λ ds. (drawn ds s.stream).1) written_as.takes) ∙ sym form.2);
-        in_range = block_in_range count (drawn (draws_of own) s.stream).0 code written_as
+            ∙ (ap (setting s.info) (all.leaves ∙ ap (λ ds. (draw_words ds s.stream).1) written_as.takes) ∙ sym form.2);
+        in_range = block_in_range count (draw_words (draws_of own) s.stream).0 code written_as
             (inside_in_range (front_of site) (back_of site) (steps us) d.in_range) expands;
       }
 
   pub body_refused : (old : List ℕ) (v : Writing) (e : Error) → DoesBody s site g t old v (Err e) → RefusesBody s site t e
   body_refused old v e d = λ other.
       let r = around_refused count (front_of site) (back_of site) (steps us) (start_at s old) e d.err in
-      let q = refused e (with_bytes (front_of site) (start_at s old)) (requests us) (draws us) (expansion count (drawn (draws us) s.stream).0 us)
+      let q = refused e (with_bytes (front_of site) (start_at s old)) (requests us) (draws us) (expansion count (draw_words (draws us) s.stream).0 us)
       (rw (all_from_start us count (old ++ front_of site) s.stream) at r) in
-      rw ((written_where (is_written s.info site) s t).0) (followed_err (expanded s own) (λ code. written_block s.info site code) e (rw code_is at q))
+      rw ((written_where (is_written s.info site) s t).0) (followed_err (expansion_in s own) (λ code. written_block s.info site code) e (rw code_is at q))

@@ -18,8 +18,8 @@ use Rattle.peephole_machine.specs.OutcomeLemmas.{above_above, run_append, run_on
 use Rattle.peephole_machine.specs.RowLemmas.{and_then_some, map_some, row_types_count, step_at}
 use Rattle.peephole_machine.specs.SameLemmas.{typed_names, Alike, same_from_alike, act_alike, above_alike}
 use Rattle.peephole_machine.specs.TypeLemmas.{Fine, Keeps, run_keeps}
-use Rattle.peephole_terms.specs.declared.encoder.kind.Kind.TheVariants.{Own, Random, Unfold, UseGlobal, Container}
-use Rattle.peephole_terms.specs.Kind.{NumberType, IntegerType, Kind, node_kind, primitive_of}
+use Rattle.peephole_terms.specs.declared.encoder.node_kind.NodeKind.TheVariants.{Own, Random, Unfold, UseGlobal, Container}
+use Rattle.peephole_terms.specs.NodeKind.{NumberType, IntegerType, NodeKind, node_kind, primitive_of}
 use Rattle.peephole_terms.specs.Expansion.{constant, sum, set_global, get_global, constant_in, sum_of, through_global, joined_code, first_word}
 use Rattle.peephole_terms.specs.Expansion.{own_code, with_own_code, own_requests, with_own_requests, requests_of, requests, draws_of, draws, expansion_of}
 use Rattle.peephole_terms.specs.Expansion.{expansion}
@@ -133,7 +133,7 @@ module _ (locals globals : List PrimitiveTypeInfo) where
   through_alike t g stack _ s m e there l h = absurd cc
 
   -- a node behind its children's values
-  own_alike : {ts : List PrimitiveTypeInfo} {next : ℕ} {code : List Instruction} {s m : State} (k : Kind) (words : List ℕ) (stack vs : List Value) →
+  own_alike : {ts : List PrimitiveTypeInfo} {next : ℕ} {code : List Instruction} {s m : State} (k : NodeKind) (words : List ℕ) (stack vs : List Value) →
       own_types locals globals k (types vs) ≡ Some ts → own_code next words k ≡ Ok code → Meet next (own_requests k) s m →
       Alike (length globals) (above stack (own_meaning words k vs s)) (run code (stack ++ vs) m)
   own_alike {ts} {next} {code} {s} {m} (Own i) words stack vs e x h =
@@ -176,7 +176,7 @@ module _ (locals globals : List PrimitiveTypeInfo) where
       types_in locals globals ts ≡ Some list → expansion next words ts ≡ Ok code → Meet next (requests ts) s m →
       Alike (length globals) (above stack (meaning words ts s)) (run code stack m)
 
-  node_alike : {list : List PrimitiveTypeInfo} {next : ℕ} {code : List Instruction} {s m : State} (k : Kind) (kids : Terms Head) (words : List ℕ)
+  node_alike : {list : List PrimitiveTypeInfo} {next : ℕ} {code : List Instruction} {s m : State} (k : NodeKind) (kids : Terms Head) (words : List ℕ)
       (stack : List Value) → AreAlike kids → with_own_types locals globals k kids (types_in locals globals kids) ≡ Some list →
       with_own_code next words k kids (expansion next words kids) ≡ Ok code → Meet next (with_own_requests k (requests kids)) s m →
       Alike (length globals) (above stack (with_own_meaning words k kids (meaning words kids s) s)) (run code stack m)

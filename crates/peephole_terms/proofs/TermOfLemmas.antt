@@ -20,9 +20,9 @@ use Rattle.peephole_graphs.specs.TermOf.{IsTermOf, AreTermsOf}
 use Rattle.peephole_graphs.specs.Tree as tree
 use Rattle.peephole_graphs.specs.Tree.{Tree, Trees, instructions_of, instructions}
 use Rattle.peephole_graphs.proofs.TermOfLemmas.{has_terms_of_trees}
-use Rattle.peephole_terms.specs.declared.encoder.kind.Kind.TheVariants.{Own}
-use Rattle.peephole_terms.specs.Kind.{Kind, NumberType, rowless, kind_found, node_kind, of_instruction}
-use Rattle.peephole_terms.specs.Expansion.{drawn, with_own_requests, requests_of, requests, with_own_draws, draws_of, draws, joined_code, with_own_code}
+use Rattle.peephole_terms.specs.declared.encoder.node_kind.NodeKind.TheVariants.{Own}
+use Rattle.peephole_terms.specs.NodeKind.{NodeKind, NumberType, rowless, kind_found, node_kind, of_instruction}
+use Rattle.peephole_terms.specs.Expansion.{draw_words, with_own_requests, requests_of, requests, with_own_draws, draws_of, draws, joined_code, with_own_code}
 use Rattle.peephole_terms.specs.Expansion.{expansion_of, expansion}
 use Rattle.peephole_terms.specs.Laws.{TreesAreWrittenAsTheyAre}
 
@@ -56,13 +56,13 @@ more_themselves {t} h k = record {
 row_kind : (h : Head) (i : Instruction) → instr_of_head h ≡ Some i → node_kind h ≡ Own i
 row_kind h i e =
     let past : slice_get rowless h.place ≡ None = slice_get_past rowless h.place (ltb-false h.place 12 (later (nat_lt h.place 12) _ e)) in
-    ap (λ (k : Option Kind). kind_found k (instr_of_head h)) past ∙ ap of_instruction e
+    ap (λ (k : Option NodeKind). kind_found k (instr_of_head h)) past ∙ ap of_instruction e
   where
     later : (b : Bool) (more : Option Instruction) → cond b None more ≡ Some i → b ≡ false
     later true more e = absurd cc
     later false more e = refl
 
-node_itself : (k : Kind) (i : Instruction) (kids : Terms Head) (code : List Instruction) → k ≡ Own i → AreThemselves kids code →
+node_itself : (k : NodeKind) (i : Instruction) (kids : Terms Head) (code : List Instruction) → k ≡ Own i → AreThemselves kids code →
     ((n : ℕ) (words : List ℕ) → with_own_code n words k kids (expansion n words kids) ≡ Ok (code ++ i ∷ []))
     × (with_own_requests k (requests kids) ≡ []) × (with_own_draws k (draws kids) ≡ [])
 node_itself k i kids code e h = rw e (
@@ -93,7 +93,7 @@ mutual
 pub as_they_are : TreesAreWrittenAsTheyAre
 as_they_are t u s =
     let own = itself t u s in
-    record { expands = λ s. own.expands (length s.info.globals) (drawn (draws_of t) s.stream).0; asks = own.asks; draws = own.takes }
+    record { expands = λ s. own.expands (length s.info.globals) (draw_words (draws_of t) s.stream).0; asks = own.asks; draws = own.takes }
 
 -- so is the term of an entry of a block's graph
 pub entry_itself : (s : Source) (g : Graph) → IsGraphOf s g → (i : ℕ) → i < length g.entries →

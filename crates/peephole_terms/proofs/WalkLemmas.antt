@@ -19,9 +19,9 @@ use Rattle.peephole_graphs.specs.declared.postfix.Turn.{Turn}
 use Rattle.peephole_graphs.specs.declared.postfix.Turn.TheVariants.{Child, Own}
 use Rattle.peephole_graphs.specs.Postfix.{turns_of}
 use Rattle.peephole_graphs.specs.PostfixLemmas.{left, IsTreeOf, turns_left, entered, child_comes, own_comes, AllOn, child_on, own_on, entered_on}
-use Rattle.peephole_terms.specs.Kind.{IntegerType, node_kind, is_unfold}
+use Rattle.peephole_terms.specs.NodeKind.{IntegerType, node_kind, is_unfold}
 use Rattle.peephole_terms.specs.Expansion.{constant_in, constant_of}
-use Rattle.peephole_terms.specs.EncoderSteps.{Step, nothing, raw, around, Writing, writing_of, with_bytes, IsInRange, own_step, own_step_in, opened, steps_of, steps, take_step, take_steps, then_steps, IsRefusal, Does, nodes_in}
+use Rattle.peephole_terms.specs.EncoderSteps.{Step, nothing, raw, around, Writing, writing_of, with_bytes, IsInRange, own_step, own_step_in, children_to_write, steps_of, steps, take_step, take_steps, then_steps, IsRefusal, Does, nodes_in}
 use Rattle.peephole_lang.specs.laws.PlaceLemmas.{IsAt, tree_is, children_in, at_place, view}
 
 -- ---- steps one after another
@@ -71,7 +71,7 @@ module _ (ns : List (Node Head)) where
   opened_steps true is = refl
   opened_steps false is = picked_steps is
 
-  is_tree : {n : Node Head} {i : ℕ} → IsAt n ns i → AreBelow ns → IsTreeOf steps_at own_at i (opened (node_kind n.head) n.children)
+  is_tree : {n : Node Head} {i : ℕ} → IsAt n ns i → AreBelow ns → IsTreeOf steps_at own_at i (children_to_write (node_kind n.head) n.children)
   is_tree {n} at b =
       ap steps_of (tree_is at b)
       ∙ ap₂ (λ (x : List Step) (y : Step). x ++ y ∷ []) (opened_steps (is_unfold (node_kind n.head)) n.children) (sym (ap root_step (tree_is at b)))
@@ -155,7 +155,7 @@ pub record IsRead {A : Type 0} (k : Walk A) (i : ℕ) (x : A) (l : Lang) : Type 
   pub held_is : l ≡ k.held x
 
 abbrev written_kids : Lang → List ℕ
-written_kids l = opened (node_kind (head_of l)) (children_of l)
+written_kids l = children_to_write (node_kind (head_of l)) (children_of l)
 
 module _ {A : Type 0} {k : Walk A} {i : ℕ} {x : A} {l : Lang} (there : i < length k.items) where
   read_at : IsRead k i x l → IsAt (view head_of children_of l) (nodes k) i

@@ -14,11 +14,11 @@ use Rattle.peephole_lang.specs.Node.{head_of, children_of}
 use Rattle.peephole_lang.specs.Term.{Term, Terms, absent, node, no_terms, ◌▸◌, Node, AreBelow, pick, tree_at, nodes_of}
 use Rattle.peephole_graphs.specs.declared.dfg.StackEntry.{StackEntry}
 use Rattle.peephole_terms.specs.declared.encoder.request.ResourceRequest.{ResourceRequest}
-use Rattle.peephole_terms.specs.declared.encoder.kind.Kind.TheVariants as kind
+use Rattle.peephole_terms.specs.declared.encoder.node_kind.NodeKind.TheVariants as kind
 use Rattle.peephole_graphs.specs.Block.{BlockRange}
 use Rattle.peephole_graphs.specs.Entries.{roots_of}
 use Rattle.peephole_graphs.specs.Layout.{entry_nodes}
-use Rattle.peephole_terms.specs.Kind.{NumberType, IntegerType, Kind, node_kind, is_unfold, number_of}
+use Rattle.peephole_terms.specs.NodeKind.{NumberType, IntegerType, NodeKind, node_kind, is_unfold, number_of}
 use Rattle.peephole_terms.specs.Expansion.{next_word, constant, rest_of, add_of, set_global, get_global, constant_in, request}
 use Rattle.peephole_terms.specs.Written.{offset_of}
 
@@ -38,7 +38,7 @@ IsInRange (emit i) = IsInstruction i
 IsInRange _ = ⊤
 
 -- what a node does behind its children
-abbrev pub own_step : Kind → Terms Head → Step
+abbrev pub own_step : NodeKind → Terms Head → Step
 own_step (kind.Own i) kids = emit i
 own_step (kind.Random t) kids = draw t
 own_step (kind.Unfold t) kids = split t (constant_in t kids)
@@ -47,14 +47,14 @@ own_step kind.Container kids = nothing
 own_step kind.Nothing kids = nothing
 
 -- the children that are written
-abbrev pub opened : {A : Type 0} → Kind → List A → List A
-opened k children = if is_unfold k then [] else children
+abbrev pub children_to_write : {A : Type 0} → NodeKind → List A → List A
+children_to_write k children = if is_unfold k then [] else children
 
 -- in postfix, and not below an unfold
 abbrev mutual
   pub steps_of : Term Head → List Step
   steps_of absent = []
-  steps_of (node h kids) = opened (node_kind h) (steps kids) ++ own_step (node_kind h) kids ∷ []
+  steps_of (node h kids) = children_to_write (node_kind h) (steps kids) ++ own_step (node_kind h) kids ∷ []
 
   pub steps : Terms Head → List Step
   steps no_terms = []

@@ -17,18 +17,18 @@ use Rattle.peephole_lang.specs.Node.{head_of, children_of}
 use Rattle.peephole_lang.specs.Term.{Term, Terms, absent, node, no_terms, ◌▸◌, term_of}
 use Rattle.peephole_terms.specs.declared.encoder.request.ResourceRequest.{ResourceRequest}
 use Rattle.peephole_terms.specs.declared.encoder.request.ResourceRequest.TheVariants.{Global}
-use Rattle.peephole_terms.specs.declared.encoder.kind.NumberType.TheVariants as number
+use Rattle.peephole_terms.specs.declared.encoder.node_kind.NumberType.TheVariants as number
 use Rattle.peephole_machine.specs.declared.integer.IntegerType.TheVariants as integer
-use Rattle.peephole_terms.specs.declared.encoder.kind.Kind.TheVariants as kind
-use Rattle.peephole_terms.specs.Kind.{NumberType, IntegerType, Kind, node_kind, primitive_of, number_of}
+use Rattle.peephole_terms.specs.declared.encoder.node_kind.NodeKind.TheVariants as kind
+use Rattle.peephole_terms.specs.NodeKind.{NumberType, IntegerType, NodeKind, node_kind, primitive_of, number_of}
 
 -- ---- the globals that a term asks for, children first, and none below an unfold
 
-abbrev pub own_requests : Kind → List NumberType
+abbrev pub own_requests : NodeKind → List NumberType
 own_requests (kind.UseGlobal t) = t ∷ []
 own_requests _ = []
 
-abbrev pub with_own_requests : Kind → List NumberType → List NumberType
+abbrev pub with_own_requests : NodeKind → List NumberType → List NumberType
 with_own_requests (kind.Unfold t) below = []
 with_own_requests k below = below ++ own_requests k
 
@@ -47,11 +47,11 @@ request t = Global (primitive_of t) true false
 
 -- ---- the types of the words that are drawn, likewise
 
-abbrev pub own_draws : Kind → List NumberType
+abbrev pub own_draws : NodeKind → List NumberType
 own_draws (kind.Random t) = t ∷ []
 own_draws _ = []
 
-abbrev pub with_own_draws : Kind → List NumberType → List NumberType
+abbrev pub with_own_draws : NodeKind → List NumberType → List NumberType
 with_own_draws (kind.Unfold t) below = number_of t ∷ []
 with_own_draws k below = below ++ own_draws k
 
@@ -72,9 +72,9 @@ next_word number.I64 s = next_u64 s
 next_word number.F64 s = next_u64 s
 
 -- a word for each type, and what the generator then gives
-abbrev pub drawn : List NumberType → Stream → List ℕ × Stream
-drawn [] s = ([], s)
-drawn (t ∷ ts) s = ((next_word t s).0 ∷ (drawn ts (next_word t s).1).0, (drawn ts (next_word t s).1).1)
+abbrev pub draw_words : List NumberType → Stream → List ℕ × Stream
+draw_words [] s = ([], s)
+draw_words (t ∷ ts) s = ((next_word t s).0 ∷ (draw_words ts (next_word t s).1).0, (draw_words ts (next_word t s).1).1)
 
 -- ---- the instructions of nodes without a row, by the rows of the table
 
@@ -139,14 +139,14 @@ first_word [] = 0
 first_word (word ∷ words) = word
 
 -- what a node adds behind its children
-abbrev pub own_code : ℕ → List ℕ → Kind → Result (List Instruction) Error
+abbrev pub own_code : ℕ → List ℕ → NodeKind → Result (List Instruction) Error
 own_code next words (kind.Own i) = Ok (i ∷ [])
 own_code next words (kind.Random t) = Ok (constant t (first_word words) ∷ [])
 own_code next words (kind.UseGlobal t) = through_global next
 own_code next words _ = Ok []
 
 -- an unfold stands for itself and its child; any other node comes behind its children's code
-abbrev pub with_own_code : ℕ → List ℕ → Kind → Terms Head → Result (List Instruction) Error → Result (List Instruction) Error
+abbrev pub with_own_code : ℕ → List ℕ → NodeKind → Terms Head → Result (List Instruction) Error → Result (List Instruction) Error
 with_own_code next words (kind.Unfold t) kids below = sum_of t (first_word words) (constant_in t kids)
 with_own_code next words k kids below = joined_code below (own_code (next + length (requests kids)) (drop (length (draws kids)) words) k)
 
@@ -176,12 +176,12 @@ abbrev pub setting_of : {R : Type 0} → (stream : R → Stream) → Config Modu
 setting_of stream c = option_map (λ s. record { info = s.info; stream = stream s.generator }) c.setup
 
 -- requested globals come behind the module's
-abbrev pub expanded : Setting → Term Head → Result (List Instruction) Error
-expanded s t = expansion_of (length s.info.globals) (drawn (draws_of t) s.stream).0 t
+abbrev pub expansion_in : Setting → Term Head → Result (List Instruction) Error
+expansion_in s t = expansion_of (length s.info.globals) (draw_words (draws_of t) s.stream).0 t
 
 -- the generator stands behind the last word of the term
 abbrev pub after_term : Setting → Term Head → Setting
-after_term s t = record { info = s.info; stream = (drawn (draws_of t) s.stream).1 }
+after_term s t = record { info = s.info; stream = (draw_words (draws_of t) s.stream).1 }
 
 -- A refusal is memory's, or that of the expansion.
 abbrev pub Refuses : Result (List Instruction) Error → Error → Type 0
@@ -192,4 +192,4 @@ Refuses expands _ = ⊥
 
 -- The sink has grown by the code of the term's expansion.
 abbrev pub AppendsCode : Setting → Term Head → (old new : List ℕ) → Type 0
-AppendsCode s t old new = (code : List Instruction) × (expanded s t ≡ Ok code) × (new ≡ old ++ codes code)
+AppendsCode s t old new = (code : List Instruction) × (expansion_in s t ≡ Ok code) × (new ≡ old ++ codes code)

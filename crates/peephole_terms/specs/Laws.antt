@@ -17,8 +17,8 @@ use Rattle.peephole_graphs.specs.Forest.{forest}
 use Rattle.peephole_graphs.specs.GraphOf.{IsGraphOf}
 use Rattle.peephole_graphs.specs.Tree.{Tree, instructions_of, instructions}
 use Rattle.peephole_machine.specs.declared.integer.IntegerType.TheVariants as integer
-use Rattle.peephole_terms.specs.declared.encoder.kind.NumberType.TheVariants as number
-use Rattle.peephole_terms.specs.Expansion.{Setting, constant, rest_of, add_of, set_global, get_global, expanded, requests_of, draws_of}
+use Rattle.peephole_terms.specs.declared.encoder.node_kind.NumberType.TheVariants as number
+use Rattle.peephole_terms.specs.Expansion.{Setting, constant, rest_of, add_of, set_global, get_global, expansion_in, requests_of, draws_of}
 use Rattle.peephole_terms.specs.ReadAgain.{KeepsTheTrees}
 use Rattle.peephole_graphs.specs.TermOf.{IsTermOf}
 use Rattle.peephole_terms.specs.Written.{Site, source_at, block_shapes, term_code, term_requests, written_block, after_block_term}
@@ -53,13 +53,13 @@ pub record UnfoldsAddUp : Type 0 where
 
 -- A term's expansion is refused where an unfold lacks its constant or a global's index doesn't fit, and for nothing else.
 abbrev pub RefusesByName : Type 0
-RefusesByName = (s : Setting) (t : Term Head) (e : Error) → expanded s t ≡ Err e → (e ≡ CannotUnfold) ⊎ (e ≡ GlobalIndex)
+RefusesByName = (s : Setting) (t : Term Head) (e : Error) → expansion_in s t ≡ Err e → (e ≡ CannotUnfold) ⊎ (e ≡ GlobalIndex)
 
 -- ---- terms that stand for trees
 
 -- What a term is written as in every setting: these instructions, with no word drawn and no global asked for.
 pub record IsAlwaysWrittenAs (t : Term Head) (code : List Instruction) : Type 0 where
-  pub expands : (s : Setting) → expanded s t ≡ Ok code
+  pub expands : (s : Setting) → expansion_in s t ≡ Ok code
   pub asks : requests_of t ≡ []
   pub draws : draws_of t ≡ []
 

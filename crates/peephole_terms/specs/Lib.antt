@@ -1,4 +1,4 @@
-pub mod Kind
+pub mod NodeKind
 pub mod Expansion
 pub mod Typing
 pub mod Meaning

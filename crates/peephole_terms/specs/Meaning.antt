@@ -8,8 +8,8 @@ use Rattle.peephole_lang.specs.Term.{Term, Terms, absent, node, no_terms, ◌▸
 use Rattle.peephole_machine.specs.Values.{Value, width_of, whole, State, Outcome, Ends, Stuck, then_run, above}
 use Rattle.peephole_machine.specs.IntegerRow.{integer_row}
 use Rattle.peephole_machine.specs.Machine.{act}
-use Rattle.peephole_terms.specs.declared.encoder.kind.Kind.TheVariants as kind
-use Rattle.peephole_terms.specs.Kind.{IntegerType, Kind, node_kind}
+use Rattle.peephole_terms.specs.declared.encoder.node_kind.NodeKind.TheVariants as kind
+use Rattle.peephole_terms.specs.NodeKind.{IntegerType, NodeKind, node_kind}
 use Rattle.peephole_terms.specs.Expansion.{constant_in, draws_of, draws, first_word}
 use Rattle.peephole_terms.specs.Typing.{integer_type}
 
@@ -24,7 +24,7 @@ number_meaning t (Some z) s = Ends (whole t (cast_unsigned (width_of t) z) ∷ [
 number_meaning t None s = Stuck
 
 -- what a node does behind its children, with their values
-abbrev pub own_meaning : List ℕ → Kind → List Value → State → Outcome
+abbrev pub own_meaning : List ℕ → NodeKind → List Value → State → Outcome
 own_meaning words (kind.Own i) vs s = act (integer_row i) vs s
 own_meaning words (kind.Random t) vs s = word_meaning (integer_type t) (first_word words) s
 own_meaning words (kind.UseGlobal t) vs s = Ends vs s
@@ -32,7 +32,7 @@ own_meaning words kind.Container vs s = Ends vs s
 own_meaning words _ vs s = Stuck
 
 -- an unfold means its constant; any other node comes behind its children
-abbrev pub with_own_meaning : List ℕ → Kind → Terms Head → Outcome → State → Outcome
+abbrev pub with_own_meaning : List ℕ → NodeKind → Terms Head → Outcome → State → Outcome
 with_own_meaning words (kind.Unfold t) kids below s = number_meaning t (constant_in t kids) s
 with_own_meaning words k kids below s = then_run below (own_meaning (drop (length (draws kids)) words) k)
 

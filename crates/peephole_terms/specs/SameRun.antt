@@ -16,7 +16,7 @@ use Rattle.peephole_machine.specs.IntegerRow.{integer_row}
 use Rattle.peephole_machine.specs.Machine.{run}
 use Rattle.peephole_machine.specs.Agreement.{with_globals, SameBelow}
 use Rattle.peephole_machine.specs.Laws.{IsIntegerRow}
-use Rattle.peephole_terms.specs.Kind.{primitive_of}
+use Rattle.peephole_terms.specs.NodeKind.{primitive_of}
 use Rattle.peephole_terms.specs.Expansion.{Setting, requests_of}
 use Rattle.peephole_terms.specs.Written.{Site, block_operators, block_shapes, is_written, term_code, written_block, written_body}
 use Rattle.peephole_terms.specs.Typing.{types_of}

@@ -8,8 +8,8 @@ use Rattle.peephole_lang.specs.Term.{Term}
 use Rattle.peephole_machine.specs.Values.{Value, types, State, HasTypes, above}
 use Rattle.peephole_machine.specs.Machine.{run}
 use Rattle.peephole_machine.specs.Agreement.{with_globals, SameBelow}
-use Rattle.peephole_terms.specs.Kind.{primitive_of}
-use Rattle.peephole_terms.specs.Expansion.{Setting, drawn, draws_of, requests_of, expansion_of, expanded}
+use Rattle.peephole_terms.specs.NodeKind.{primitive_of}
+use Rattle.peephole_terms.specs.Expansion.{Setting, draw_words, draws_of, requests_of, expansion_of, expansion_in}
 use Rattle.peephole_terms.specs.Typing.{types_of}
 use Rattle.peephole_terms.specs.Meaning.{meaning_of}
 
@@ -25,12 +25,12 @@ RunsAsItMeans globals words t code =
 
 -- the words that a term draws
 abbrev pub words_for : Setting → Term Head → List ℕ
-words_for s t = (drawn (draws_of t) s.stream).0
+words_for s t = (draw_words (draws_of t) s.stream).0
 
 -- The sink has grown by the code of the term's expansion, which runs as the term means.
 pub record AppendsStackCode (s : Setting) (t : Term Head) (old new : List ℕ) : Type 0 where
   pub code : List Instruction
-  pub expands : expanded s t ≡ Ok code
+  pub expands : expansion_in s t ≡ Ok code
   pub appended : new ≡ old ++ codes code
   pub runs : RunsAsItMeans s.info.globals (words_for s t) t code
 

@@ -7,9 +7,9 @@ use Rattle.peephole_lang.specs.Term.{Term, Terms, absent, node, no_terms, ◌▸
 use Rattle.peephole_machine.specs.declared.integer.IntegerType.TheVariants as integer
 use Rattle.peephole_machine.specs.Values.{type_of, same_types}
 use Rattle.peephole_machine.specs.IntegerRow.{if_typed, row_types, integer_row}
-use Rattle.peephole_terms.specs.declared.encoder.kind.NumberType.TheVariants as number
-use Rattle.peephole_terms.specs.declared.encoder.kind.Kind.TheVariants as kind
-use Rattle.peephole_terms.specs.Kind.{NumberType, IntegerType, Kind, node_kind}
+use Rattle.peephole_terms.specs.declared.encoder.node_kind.NumberType.TheVariants as number
+use Rattle.peephole_terms.specs.declared.encoder.node_kind.NodeKind.TheVariants as kind
+use Rattle.peephole_terms.specs.NodeKind.{NumberType, IntegerType, NodeKind, node_kind}
 use Rattle.peephole_terms.specs.Expansion.{constant_in}
 
 -- none for floats
@@ -29,7 +29,7 @@ if_that_type None ts = None
 if_that_type (Some t) ts = if_typed (same_types ts (type_of t ∷ [])) ts
 
 -- what a node gives, by the list of its children's types
-abbrev pub own_types : (locals globals : List PrimitiveTypeInfo) → Kind → List PrimitiveTypeInfo → Option (List PrimitiveTypeInfo)
+abbrev pub own_types : (locals globals : List PrimitiveTypeInfo) → NodeKind → List PrimitiveTypeInfo → Option (List PrimitiveTypeInfo)
 own_types locals globals (kind.Own i) ts = row_types locals globals (integer_row i) ts
 own_types locals globals (kind.Random t) [] = number_types (integer_type t)
 own_types locals globals (kind.UseGlobal t) ts = if_that_type (integer_type t) ts
@@ -37,7 +37,7 @@ own_types locals globals kind.Container ts = Some ts
 own_types locals globals _ ts = None
 
 -- an unfold has the type of its constant
-abbrev pub with_own_types : (locals globals : List PrimitiveTypeInfo) → Kind → Terms Head → Option (List PrimitiveTypeInfo) →
+abbrev pub with_own_types : (locals globals : List PrimitiveTypeInfo) → NodeKind → Terms Head → Option (List PrimitiveTypeInfo) →
     Option (List PrimitiveTypeInfo)
 with_own_types locals globals (kind.Unfold t) kids below = option_map (λ z. type_of t ∷ []) (constant_in t kids)
 with_own_types locals globals k kids below = option_and_then (own_types locals globals k) below

@@ -17,7 +17,7 @@ use Rattle.peephole_graphs.specs.Source.{Source, source_of}
 use Rattle.peephole_graphs.specs.Tree.{Trees, no_trees, entry, node, ◌▸◌, instructions_of}
 use Rattle.peephole_graphs.specs.Forest.{forest, IsInOrder}
 use Rattle.peephole_terms.specs.declared.encoder.request.ResourceRequest.{ResourceRequest}
-use Rattle.peephole_terms.specs.Expansion.{Setting, Refuses, expanded, after_term, requests_of, request}
+use Rattle.peephole_terms.specs.Expansion.{Setting, Refuses, expansion_in, after_term, requests_of, request}
 
 -- The instructions of the trees in postfix, those of the insertion point's tree replaced. The trees number operators from the block's first one on,
 -- whose index in the body is `first`.
@@ -65,7 +65,7 @@ is_written info site = has_root site.block.start site.at (forest (block_shapes i
 
 -- the term's instructions, or none where it isn't written
 abbrev pub term_code : Setting → Site → Term Head → Result (List Instruction) Error
-term_code s site term = if is_written s.info site then expanded s term else Ok []
+term_code s site term = if is_written s.info site then expansion_in s term else Ok []
 
 -- the globals that it asks for
 abbrev pub term_requests : Module → Site → Term Head → List ResourceRequest

@@ -15,7 +15,7 @@ ghost use Rattle.peephole_terms.specs.Written.{site_at, AppendsBody, IsBodyIn, I
 
 pub(crate) mod expr2wasm;
 mod holds;
-mod kind;
+mod node_kind;
 mod own;
 pub(crate) mod request;
 mod walk;

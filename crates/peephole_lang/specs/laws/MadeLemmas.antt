@@ -12,8 +12,8 @@ use Rattle.peephole_nodes.specs.declared.payload.PayloadKind.TheVariants as kind
 use Rattle.peephole_nodes.specs.declared.arity.Arity.{Arity}
 use Rattle.peephole_nodes.specs.declared.arity.Arity.TheVariants as arity
 use Rattle.peephole_lang.specs.LangShapes.{is_plain_leaf, is_plain_one, is_plain_three, is_index_leaf, is_index_one, is_index_two, is_index_three, is_memory_one, is_memory_two, is_i32_leaf, is_i64_leaf, is_f32_leaf, is_f64_leaf, is_ref_leaf, is_memory_init_three, is_memory_copy_three, is_table_init_three, is_table_copy_three, is_value_three}
-use Rattle.peephole_nodes.specs.NumericShapes.{is_numeric_plain_one_a, is_numeric_plain_one_b, is_numeric_plain_two_a, is_numeric_plain_two_b}
-use Rattle.peephole_nodes.specs.SimdShapes.{is_simd_memory_one, is_simd_memory_two, is_simd_v128_leaf, is_simd_shuffle_two, is_simd_plain_one_a, is_simd_plain_one_b, is_simd_plain_two_a, is_simd_plain_two_b, is_simd_plain_two_c, is_simd_plain_two_d, is_simd_plain_three, is_simd_lane_one, is_simd_lane_two, is_simd_memory_lane_two}
+use Rattle.peephole_nodes.specs.NumericShapes.{is_numeric_plain_one_to_171, is_numeric_plain_one_from_172, is_numeric_plain_two_to_100, is_numeric_plain_two_from_101}
+use Rattle.peephole_nodes.specs.SimdShapes.{is_simd_memory_one, is_simd_memory_two, is_simd_v128_leaf, is_simd_shuffle_two, is_simd_plain_one_to_383, is_simd_plain_one_from_384, is_simd_plain_two_to_279, is_simd_plain_two_280_to_370, is_simd_plain_two_371_to_428, is_simd_plain_two_from_429, is_simd_plain_three, is_simd_lane_one, is_simd_lane_two, is_simd_memory_lane_two}
 use Rattle.peephole_nodes.specs.Payload.{is_of}
 use Rattle.peephole_lang.specs.Making.{is_made}
 use Rattle.peephole_lang.specs.laws.TableLemmas.{place_is}
@@ -64,7 +64,7 @@ any_made arity.Any place = (place == 11) || (place == 13)
 any_made _ place = true
 
 pub variants_made : all_of (λ v. is_made v.place (example v.payload) (count_in v.children) && any_made v.children v.place) variants ≡ true
-unfolding all_of variants example count_in any_made is_plain_leaf is_plain_one is_plain_three is_index_leaf is_index_one is_index_two is_index_three is_memory_one is_memory_two is_i32_leaf is_i64_leaf is_f32_leaf is_f64_leaf is_ref_leaf is_memory_init_three is_memory_copy_three is_table_init_three is_table_copy_three is_value_three is_numeric_plain_one_a is_numeric_plain_one_b is_numeric_plain_two_a is_numeric_plain_two_b is_simd_memory_one is_simd_memory_two is_simd_v128_leaf is_simd_shuffle_two is_simd_plain_one_a is_simd_plain_one_b is_simd_plain_two_a is_simd_plain_two_b is_simd_plain_two_c is_simd_plain_two_d is_simd_plain_three is_simd_lane_one is_simd_lane_two is_simd_memory_lane_two
+unfolding all_of variants example count_in any_made is_plain_leaf is_plain_one is_plain_three is_index_leaf is_index_one is_index_two is_index_three is_memory_one is_memory_two is_i32_leaf is_i64_leaf is_f32_leaf is_f64_leaf is_ref_leaf is_memory_init_three is_memory_copy_three is_table_init_three is_table_copy_three is_value_three is_numeric_plain_one_to_171 is_numeric_plain_one_from_172 is_numeric_plain_two_to_100 is_numeric_plain_two_from_101 is_simd_memory_one is_simd_memory_two is_simd_v128_leaf is_simd_shuffle_two is_simd_plain_one_to_383 is_simd_plain_one_from_384 is_simd_plain_two_to_279 is_simd_plain_two_280_to_370 is_simd_plain_two_371_to_428 is_simd_plain_two_from_429 is_simd_plain_three is_simd_lane_one is_simd_lane_two is_simd_memory_lane_two
 variants_made = refl
 
 -- ---- what fits a variant

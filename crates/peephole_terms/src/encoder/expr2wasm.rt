@@ -3,7 +3,7 @@
 ghost use Rattle.std.specs.Prelude.{◌≡◌, ◌<◌, Some, IfOk, IfErr, IfSome, OnErr, IsTrue, length, map, is_some};
 ghost use Rattle.mutate_base.specs.Config.{ChangesGeneratorAlone};
 ghost use Rattle.peephole_graphs.specs.Layout.{AreWritable};
-ghost use Rattle.peephole_terms.specs.Expansion.{AppendsCode, Refuses, setting_of, expanded, after_term, request, requests_of, term_in};
+ghost use Rattle.peephole_terms.specs.Expansion.{AppendsCode, Refuses, setting_of, expansion_in, after_term, request, requests_of, term_in};
 ghost use Rattle.peephole_terms.specs.StackCode.{AppendsStackCode};
 
 use super::request::ResourceRequest;
@@ -49,7 +49,7 @@ pub fn expr2wasm<R: Rng + Drop>(
         setting_of R.stream config.new ≡ Some (after_term setting (term_in expr.now)))) }
     // The expansion refuses, or memory does.
     ensures refusal { IfErr result (λ e. IfSome (setting_of R.stream config.old) (λ setting.
-        Refuses (expanded setting (term_in expr.now)) e)) }
+        Refuses (expansion_in setting (term_in expr.now)) e)) }
     // After a refusal the sink holds its old bytes.
     ensures restored { OnErr result (newfunc.new ≡ newfunc.old) }
     // Of the configuration the generator alone changes.

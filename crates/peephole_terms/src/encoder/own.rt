@@ -11,7 +11,7 @@ ghost use Rattle.peephole_terms.specs.Expansion.{constant_of};
 ghost use Rattle.peephole_terms.specs.EncoderSteps.{Does, DoesAlone, draw, nodes_in, own_step_in, split, split_step_in, store, writing_of};
 
 use super::holds::Holds;
-use super::kind::{Kind, NumberType};
+use super::node_kind::{NodeKind, NumberType};
 use super::request::ResourceRequest;
 use mutate_base::Error;
 use peephole_lang::{Lang, Payload};
@@ -171,14 +171,14 @@ pub(crate) fn write_own<R: Rng, N: Holds>(
         (writing_of newfunc.old requests.old.items (R.stream rng.old))
         (writing_of newfunc.new requests.new.items (R.stream rng.new)) result }
 {
-    match Kind::of(node) {
-        Kind::Own(instr) => {
+    match NodeKind::of(node) {
+        NodeKind::Own(instr) => {
             newfunc.instruction(&instr)?;
             Ok(())
         }
-        Kind::Random(tpe) => write_random(tpe, rng, newfunc),
-        Kind::Unfold(tpe) => write_unfold(tpe, nodes, node, rng, newfunc),
-        Kind::UseGlobal(tpe) => write_through(globals, tpe, newfunc, requests),
-        Kind::Container | Kind::Nothing => Ok(()),
+        NodeKind::Random(tpe) => write_random(tpe, rng, newfunc),
+        NodeKind::Unfold(tpe) => write_unfold(tpe, nodes, node, rng, newfunc),
+        NodeKind::UseGlobal(tpe) => write_through(globals, tpe, newfunc, requests),
+        NodeKind::Container | NodeKind::Nothing => Ok(()),
     }
 }

@@ -3,8 +3,8 @@
 ghost use Rattle.std.specs.Prelude.{◌≡◌, ◌<◌, length};
 ghost use Rattle.peephole_lang.specs.Node.{head_of, children_of};
 ghost use Rattle.peephole_lang.specs.Term.{AreBelow, numbers_of, tree_at};
-ghost use Rattle.peephole_terms.specs.Kind.{node_kind};
-ghost use Rattle.peephole_terms.specs.EncoderSteps.{Does, nodes_in, opened, steps_of, writing_of};
+ghost use Rattle.peephole_terms.specs.NodeKind.{node_kind};
+ghost use Rattle.peephole_terms.specs.EncoderSteps.{Does, nodes_in, children_to_write, steps_of, writing_of};
 
 use super::holds::Holds;
 use super::own::write_own;
@@ -17,8 +17,9 @@ use std::alloc::Global;
 use wasm_code::Function;
 
 // The children that are written: not those of an unfold.
-fn opened(node: &Lang) -> &[Id]
-    ensures { numbers_of result.now ≡ opened (node_kind (head_of node.now)) (children_of node.now) }
+fn children_to_write(node: &Lang) -> &[Id]
+    ensures { numbers_of result.now
+        ≡ children_to_write (node_kind (head_of node.now)) (children_of node.now) }
 {
     match node.place() {
         5 | 6 => &[],
@@ -44,12 +45,12 @@ pub(crate) fn write_tree<R: Rng, N: Holds>(
 {
     let mut walk = Postfix::new(alloc);
     let node = nodes[root].node();
-    walk.enter(root, opened(node))?;
+    walk.enter(root, children_to_write(node))?;
     while let Some(turn) = walk.advance() {
         match turn {
             Turn::Child(index) => {
                 let node = nodes[index].node();
-                walk.enter(index, opened(node))?;
+                walk.enter(index, children_to_write(node))?;
             }
             Turn::Own(index) => {
                 let node = nodes[index].node();

@@ -11,9 +11,9 @@ use Rattle.peephole_terms.proofs.encoder.walk.write_tree.Goals as goal
 pub loop-turn-init : goal.loop-turn-init
 loop-turn-init g c = record {
   walk = start {k = walk_of g.N.Holds.held c.args.nodes.now c.args.globals c.args.root
-      (writing_of c.args.newfunc.now c.args.requests.now.items (g.R.Rng.stream c.args.rng.now))} c.opened.result.now c.requires.below c.requires.root
-      (record { is = c.index-nodes-root.is; held_is = c.node-node.ensures }) c.opened.ensures
-      (c.in_ok-enter.ensures.entered ∙ ap (λ (turns : List Turn). turns_of c.args.root (numbers_of c.opened.result.now) ++ turns) c.new-walk.ensures);
+      (writing_of c.args.newfunc.now c.args.requests.now.items (g.R.Rng.stream c.args.rng.now))} c.children_to_write.result.now c.requires.below c.requires.root
+      (record { is = c.index-nodes-root.is; held_is = c.node-node.ensures }) c.children_to_write.ensures
+      (c.in_ok-enter.ensures.entered ∙ ap (λ (turns : List Turn). turns_of c.args.root (numbers_of c.children_to_write.result.now) ++ turns) c.new-walk.ensures);
   kept = grind (arith, common_steps);
 }
 
@@ -37,15 +37,15 @@ write_own-requires-clause-below g c = kids_in {k = walk_of g.N.Holds.held c.args
 
 pub loop-turn-preserved-in-Continue-branch-2 : goal.loop-turn-preserved-in-Continue-branch-2
 loop-turn-preserved-in-Continue-branch-2 g c = record {
-  walk = (down c.loop-turn.invariant.walk c.opened-in-Child.result.now (rw c.in-Child.is at c.in-Some.ensures)
-      (record { is = c.index-nodes-index.is; held_is = c.node-node-in-Child.ensures }) c.opened-in-Child.ensures c.in_ok-enter-in-Child.ensures.entered).0;
+  walk = (down c.loop-turn.invariant.walk c.children_to_write-in-Child.result.now (rw c.in-Child.is at c.in-Some.ensures)
+      (record { is = c.index-nodes-index.is; held_is = c.node-node-in-Child.ensures }) c.children_to_write-in-Child.ensures c.in_ok-enter-in-Child.ensures.entered).0;
   kept = c.loop-turn.invariant.kept;
 }
 
 pub loop-turn-smaller-in-Continue-branch-2 : goal.loop-turn-smaller-in-Continue-branch-2
 loop-turn-smaller-in-Continue-branch-2 g c =
-    (down c.loop-turn.invariant.walk c.opened-in-Child.result.now (rw c.in-Child.is at c.in-Some.ensures)
-    (record { is = c.index-nodes-index.is; held_is = c.node-node-in-Child.ensures }) c.opened-in-Child.ensures c.in_ok-enter-in-Child.ensures.entered).1
+    (down c.loop-turn.invariant.walk c.children_to_write-in-Child.result.now (rw c.in-Child.is at c.in-Some.ensures)
+    (record { is = c.index-nodes-index.is; held_is = c.node-node-in-Child.ensures }) c.children_to_write-in-Child.ensures c.in_ok-enter-in-Child.ensures.entered).1
 
 pub loop-turn-preserved : goal.loop-turn-preserved
 loop-turn-preserved g c = record {

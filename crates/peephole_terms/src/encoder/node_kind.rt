@@ -19,7 +19,7 @@ pub(crate) enum NumberType {
 
 /// What a node is to the writer.
 #[derive(Clone, Copy)]
-pub(crate) enum Kind {
+pub(crate) enum NodeKind {
     /// An instruction, behind its operands.
     Own(Instr),
     /// A constant of a drawn word.
@@ -35,7 +35,7 @@ pub(crate) enum Kind {
 }
 
 impl NumberType {
-    ghost use Rattle.peephole_terms.specs.Kind.{primitive_of};
+    ghost use Rattle.peephole_terms.specs.NodeKind.{primitive_of};
 
     /// The type among those of values.
     pub fn primitive(self) -> PrimitiveTypeInfo
@@ -50,28 +50,28 @@ impl NumberType {
     }
 }
 
-impl Kind {
-    ghost use Rattle.peephole_terms.specs.Kind.{node_kind};
+impl NodeKind {
+    ghost use Rattle.peephole_terms.specs.NodeKind.{node_kind};
 
     /// The kind of a node. The nodes without a row have the first twelve places, in the order of `Lang`'s variants.
-    pub fn of(node: &Lang) -> Kind
+    pub fn of(node: &Lang) -> NodeKind
         ensures { result ≡ node_kind (head_of node.now) }
     {
         match node.place() {
-            0 => Kind::Random(NumberType::I32),
-            1 => Kind::Random(NumberType::I64),
-            2 => Kind::Random(NumberType::F32),
-            3 => Kind::Random(NumberType::F64),
-            5 => Kind::Unfold(IntegerType::I32),
-            6 => Kind::Unfold(IntegerType::I64),
-            7 => Kind::UseGlobal(NumberType::I32),
-            8 => Kind::UseGlobal(NumberType::I64),
-            9 => Kind::UseGlobal(NumberType::F32),
-            10 => Kind::UseGlobal(NumberType::F64),
-            11 => Kind::Container,
+            0 => NodeKind::Random(NumberType::I32),
+            1 => NodeKind::Random(NumberType::I64),
+            2 => NodeKind::Random(NumberType::F32),
+            3 => NodeKind::Random(NumberType::F64),
+            5 => NodeKind::Unfold(IntegerType::I32),
+            6 => NodeKind::Unfold(IntegerType::I64),
+            7 => NodeKind::UseGlobal(NumberType::I32),
+            8 => NodeKind::UseGlobal(NumberType::I64),
+            9 => NodeKind::UseGlobal(NumberType::F32),
+            10 => NodeKind::UseGlobal(NumberType::F64),
+            11 => NodeKind::Container,
             _ => match node.instr() {
-                Some(instr) => Kind::Own(instr),
-                None => Kind::Nothing,
+                Some(instr) => NodeKind::Own(instr),
+                None => NodeKind::Nothing,
             },
         }
     }

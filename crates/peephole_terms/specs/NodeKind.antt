@@ -6,15 +6,15 @@ use Rattle.mutate_base.specs.declared.types.PrimitiveTypeInfo.TheVariants as pri
 use Rattle.peephole_lang.specs.declared.lang.Head.{Head}
 use Rattle.peephole_lang.specs.Node.{instr_of_head}
 -- the types of numbers, those of whole numbers, and the kinds `Own`, `Random`, `Unfold`, `UseGlobal`, `Container` and `Nothing`
-pub use Rattle.peephole_terms.specs.declared.encoder.kind.NumberType.{NumberType}
+pub use Rattle.peephole_terms.specs.declared.encoder.node_kind.NumberType.{NumberType}
 pub use Rattle.peephole_machine.specs.declared.integer.IntegerType.{IntegerType}
-pub use Rattle.peephole_terms.specs.declared.encoder.kind.Kind.{Kind}
-use Rattle.peephole_terms.specs.declared.encoder.kind.NumberType.TheVariants as number
+pub use Rattle.peephole_terms.specs.declared.encoder.node_kind.NodeKind.{NodeKind}
+use Rattle.peephole_terms.specs.declared.encoder.node_kind.NumberType.TheVariants as number
 use Rattle.peephole_machine.specs.declared.integer.IntegerType.TheVariants as integer
-use Rattle.peephole_terms.specs.declared.encoder.kind.Kind.TheVariants as kind
+use Rattle.peephole_terms.specs.declared.encoder.node_kind.NodeKind.TheVariants as kind
 
 -- the nodes without a row, by place
-abbrev pub rowless : List Kind
+abbrev pub rowless : List NodeKind
 rowless =
     kind.Random number.I32  -- i32.rand
     ∷ kind.Random number.I64  -- i64.rand
@@ -30,19 +30,19 @@ rowless =
     ∷ kind.Container  -- container
     ∷ []
 
-abbrev pub of_instruction : Option Instruction → Kind
+abbrev pub of_instruction : Option Instruction → NodeKind
 of_instruction None = kind.Nothing
 of_instruction (Some i) = kind.Own i
 
-abbrev pub kind_found : Option Kind → Option Instruction → Kind
+abbrev pub kind_found : Option NodeKind → Option Instruction → NodeKind
 kind_found (Some k) i = k
 kind_found None i = of_instruction i
 
 -- what a node is; one that isn't writable is none of these, and stands for nothing here
-abbrev pub node_kind : Head → Kind
+abbrev pub node_kind : Head → NodeKind
 node_kind h = kind_found (slice_get rowless h.place) (instr_of_head h)
 
-abbrev pub is_unfold : Kind → Bool
+abbrev pub is_unfold : NodeKind → Bool
 is_unfold (kind.Unfold t) = true
 is_unfold _ = false
 
