@@ -64,7 +64,7 @@ without test no_trees = no_trees
 without test (entry m ▸ ts) = entry m ▸ without test ts
 without test (node i s kids ▸ ts) = if test i then without test ts else node i s kids ▸ without test ts
 
--- the row: the trees, ascending, of the operators that are no operator's operand
+-- the forest: the trees, ascending, of the operators that are no operator's operand
 abbrev pub forest : List Shape → Trees
 forest block = without (λ j. is_operand j (trees block)) (trees block)
 
