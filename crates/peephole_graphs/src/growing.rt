@@ -29,6 +29,8 @@ pub struct Growing {
     pub subtrees: Vec<Subtree>,
     pub stack: Vec<u32>,
     pub color: u64,
+    /// The children of the node that was made last: kept for their room alone.
+    pub children: Vec<Id>,
 }
 
 /// A graph without entries, with room for `count` of them.
@@ -47,6 +49,7 @@ pub fn start_graph(alloc: Global, count: usize) -> Result<Growing, AllocError>
         subtrees: Vec::with_capacity(alloc, count)?,
         stack: Vec::new(alloc),
         color: 0,
+        children: Vec::new(alloc),
     })
 }
 
@@ -60,18 +63,18 @@ fn mark(parents: &mut [Option<usize>], ids: &[u32], parent: usize)
     }
 }
 
-// The missing operands' indexes, the first one made last, with room for `more` indexes behind them.
-fn missing_ids(alloc: Global, base: u32, missing: u32, more: usize) -> Result<Vec<Id>, AllocError>
+// Puts the missing operands' indexes behind the others, the first one made last.
+fn push_missing(ids: &mut Vec<Id>, base: u32, missing: u32) -> Result<(), AllocError>
     requires { base + missing < 2 ^ 32 }
-    ensures { IfOk result (λ v. numbers_of v.items ≡ down base missing) }
+    ensures { OnOk result (numbers_of ids.new.items
+        ≡ numbers_of ids.old.items ++ down base missing) }
 {
-    let mut ids = Vec::with_capacity(alloc, more.saturating_add(missing as usize))?;
     let mut left = missing;
     while left > 0 {
         left -= 1;
         ids.push(Id(base + left))?;
     }
-    Ok(ids)
+    Ok(())
 }
 
 fn push_ids(ids: &mut Vec<Id>, taken: &[u32]) -> Result<(), AllocError>
@@ -83,9 +86,10 @@ fn push_ids(ids: &mut Vec<Id>, taken: &[u32]) -> Result<(), AllocError>
     Ok(())
 }
 
-// The node of an instruction on its missing operands and then those taken.
+// The node of an instruction on its missing operands and then those taken, which `ids` holds then.
 fn own_node(
     alloc: Global,
+    ids: &mut Vec<Id>,
     instr: Instr,
     base: u32,
     missing: u32,
@@ -97,9 +101,10 @@ fn own_node(
         (instr_of l ≡ Some instr) × (children_of l ≡ down base missing ++ taken.now)) }
     ensures refused { IfErr result (λ e. e ≡ Error.Memory) }
 {
-    let mut ids = missing_ids(alloc, base, missing, taken.len())?;
-    push_ids(&mut ids, taken)?;
-    match Lang::of_instr(&instr, ids) {
+    ids.clear();
+    push_missing(ids, base, missing)?;
+    push_ids(ids, taken)?;
+    match Lang::of_instr_in(alloc, &instr, ids)? {
         Some(node) => Ok(node),
         None => unreachable!(),
     }
@@ -272,7 +277,7 @@ pub fn add_operator(
     let base = own - missing;
     let subtree = measure(growing, operands, missing, color as u32);
     let taken = last_operands(&growing.stack, operands);
-    let operator = own_node(alloc, instr, base, missing, taken)?;
+    let operator = own_node(alloc, &mut growing.children, instr, base, missing, taken)?;
     mark(&mut growing.parents, taken, own as usize);
     let left = growing.stack.len().saturating_sub(operands);
     growing.stack.truncate(left);

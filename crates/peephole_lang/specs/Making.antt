@@ -6,6 +6,12 @@ use Rattle.peephole_lang.specs.LangShapes as lang
 use Rattle.peephole_nodes.specs.NumericShapes.{is_numeric}
 use Rattle.peephole_nodes.specs.SimdShapes.{is_simd, is_simd_plain}
 
+-- the children are a list: those of `container` and `call`
+abbrev pub has_list : ℕ → Payload → Bool
+has_list place payload.Nothing = place == 11
+has_list place (payload.Index _) = place == 13
+has_list _ _ = false
+
 abbrev pub is_few : ℕ → ℕ → Bool
 is_few place count =
     if count == 3 then lang.is_plain_three place else

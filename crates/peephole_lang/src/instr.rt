@@ -1,13 +1,14 @@
 //! A node's instruction, and the node of an instruction.
-ghost use Rattle.std.specs.Prelude.{◌≡◌, IfSome, Some, is_some, length};
+ghost use Rattle.std.specs.Prelude.{◌≡◌, IfOk, IfSome, Some, is_some, length};
 ghost use Rattle.peephole_lang.specs.Lang.{payload_of, ids_of};
 ghost use Rattle.peephole_lang.specs.Node.{instr_of, takes_children};
 ghost use Rattle.peephole_nodes.specs.Payload.{is_writable};
 
 use crate::lang::Lang;
-use crate::making::make;
+use crate::making::{make, make_in};
 use crate::names::variant_row_at;
 use peephole_nodes::Id;
+use std::alloc::{AllocError, Global};
 use wasm_code::Instr;
 
 impl Lang {
@@ -40,5 +41,25 @@ impl Lang {
         let variant = variant_row_at(12 + instr.row())?;
         let payload = variant.payload.of_imm(instr.imm())?;
         make(variant.place, payload, children)
+    }
+
+    /// As `of_instr`, with the children in a slice: memory is taken for the list of a `call` alone.
+    pub fn of_instr_in(
+        alloc: Global,
+        instr: &Instr,
+        children: &[Id],
+    ) -> Result<Option<Lang>, AllocError>
+        ensures instruction { IfOk result (λ made. IfSome made (λ l. instr_of l ≡ Some instr.now)) }
+        ensures children { IfOk result (λ made. IfSome made (λ l. ids_of l ≡ children.now)) }
+        ensures complete { IfOk result (λ made.
+            is_some made ≡ takes_children instr.now.row (length children.now)) }
+    {
+        let Some(variant) = variant_row_at(12 + instr.row()) else {
+            return Ok(None);
+        };
+        let Some(payload) = variant.payload.of_imm(instr.imm()) else {
+            return Ok(None);
+        };
+        make_in(alloc, variant.place, payload, children)
     }
 }

@@ -1,7 +1,7 @@
 //! Nodes made of a place, a payload and children.
-ghost use Rattle.std.specs.Prelude.{◌≡◌, ◌||◌, IfSome, is_some, length, [], ◌∷◌};
+ghost use Rattle.std.specs.Prelude.{◌≡◌, ◌==◌, ◌||◌, true, false, IfOk, IfSome, is_some, length, [], ◌∷◌};
 ghost use Rattle.peephole_lang.specs.Lang.{place_of, payload_of, ids_of, count_of};
-ghost use Rattle.peephole_lang.specs.Making.{is_few, is_plain, is_index, is_memory, is_single, is_made};
+ghost use Rattle.peephole_lang.specs.Making.{has_list, is_few, is_plain, is_index, is_memory, is_single, is_made};
 ghost use Rattle.peephole_nodes.specs.SimdShapes.{is_simd};
 ghost use Rattle.peephole_nodes.specs.declared.payload.Payload.TheVariants as P;
 
@@ -9,10 +9,10 @@ use crate::lang::Lang;
 use crate::lang_shapes as lang;
 use mutate_base::MemArg;
 use peephole_nodes::{Id, Numeric, Payload, Simd};
+use std::alloc::{AllocError, Global};
 
 /// The node with this place, payload and children, or None where no variant of the place has that kind of payload and
 /// that many children.
-#[tactic(auto, unfolding(crate::specs::Lang::place_of, crate::specs::Lang::payload_of, crate::specs::Lang::ids_of, crate::specs::Lang::count_of))]
 pub fn make(place: u16, payload: Payload, children: Vec<Id>) -> Option<Lang>
     ensures place { IfSome result (λ l. place_of l ≡ place) }
     ensures payload { IfSome result (λ l. payload_of l ≡ payload) }
@@ -20,36 +20,100 @@ pub fn make(place: u16, payload: Payload, children: Vec<Id>) -> Option<Lang>
     ensures count { IfSome result (λ l. count_of l ≡ length children.items) }
     ensures complete { is_some result ≡ is_made place payload (length children.items) }
 {
-    match payload {
-        Payload::Nothing => make_plain(place, children),
-        Payload::Index(index) => make_index(place, index, children),
-        Payload::Memory(memarg) => make_memory(place, memarg, &children),
-        Payload::Lane(_) | Payload::V128(_) | Payload::MemoryLane(_) | Payload::Shuffle(_) => {
-            Some(Lang::Simd(Simd::make(place, payload, &children)?))
-        }
-        _ => make_single(place, payload, &children),
+    if has_list(place, &payload) {
+        Some(make_with_list(place, &payload, children))
+    } else {
+        make_without_list(place, &payload, &children)
     }
 }
 
-// A node without payload.
+/// As `make`, with the children in a slice: a list is allocated for `container` and `call` alone.
+pub fn make_in(
+    alloc: Global,
+    place: u16,
+    payload: Payload,
+    children: &[Id],
+) -> Result<Option<Lang>, AllocError>
+    ensures place { IfOk result (λ made. IfSome made (λ l. place_of l ≡ place)) }
+    ensures payload { IfOk result (λ made. IfSome made (λ l. payload_of l ≡ payload)) }
+    ensures children { IfOk result (λ made. IfSome made (λ l. ids_of l ≡ children.now)) }
+    ensures count { IfOk result (λ made. IfSome made (λ l. count_of l ≡ length children.now)) }
+    ensures complete { IfOk result (λ made.
+        is_some made ≡ is_made place payload (length children.now)) }
+{
+    if has_list(place, &payload) {
+        Ok(Some(make_with_list(place, &payload, children.to_vec(alloc)?)))
+    } else {
+        Ok(make_without_list(place, &payload, children))
+    }
+}
+
+// Whether the children of a place's node with that payload are a list: those of `container` and `call`.
+fn has_list(place: u16, payload: &Payload) -> bool
+    ensures { result ≡ has_list place payload.now }
+{
+    match payload {
+        Payload::Nothing => place == 11,
+        Payload::Index(_) => place == 13,
+        _ => false,
+    }
+}
+
+// The node whose children are a list.
 #[tactic(auto, unfolding(crate::specs::Lang::place_of, crate::specs::Lang::payload_of, crate::specs::Lang::ids_of, crate::specs::Lang::count_of))]
-fn make_plain(place: u16, children: Vec<Id>) -> Option<Lang>
+fn make_with_list(place: u16, payload: &Payload, children: Vec<Id>) -> Lang
+    requires { has_list place payload.now ≡ true }
+    ensures place { place_of result ≡ place }
+    ensures payload { payload_of result ≡ payload.now }
+    ensures children { ids_of result ≡ children.items }
+    ensures count { count_of result ≡ length children.items }
+    ensures made { is_made place payload.now (length children.items) ≡ true }
+{
+    match payload {
+        Payload::Nothing => Lang::Container(children),
+        Payload::Index(index) => Lang::Call(*index, children),
+        _ => unreachable!(),
+    }
+}
+
+// A node whose children are no list.
+#[tactic(auto, unfolding(crate::specs::Lang::place_of, crate::specs::Lang::payload_of, crate::specs::Lang::ids_of, crate::specs::Lang::count_of))]
+fn make_without_list(place: u16, payload: &Payload, children: &[Id]) -> Option<Lang>
+    requires { has_list place payload.now ≡ false }
+    ensures place { IfSome result (λ l. place_of l ≡ place) }
+    ensures payload { IfSome result (λ l. payload_of l ≡ payload.now) }
+    ensures children { IfSome result (λ l. ids_of l ≡ children.now) }
+    ensures count { IfSome result (λ l. count_of l ≡ length children.now) }
+    ensures complete { is_some result ≡ is_made place payload.now (length children.now) }
+{
+    match payload {
+        Payload::Nothing => make_plain(place, children),
+        Payload::Index(index) => make_index(place, *index, children),
+        Payload::Memory(memarg) => make_memory(place, *memarg, children),
+        Payload::Lane(_) | Payload::V128(_) | Payload::MemoryLane(_) | Payload::Shuffle(_) => {
+            Some(Lang::Simd(Simd::make(place, *payload, children)?))
+        }
+        _ => make_single(place, *payload, children),
+    }
+}
+
+// A node without payload but `container`.
+#[tactic(auto, unfolding(crate::specs::Lang::place_of, crate::specs::Lang::payload_of, crate::specs::Lang::ids_of, crate::specs::Lang::count_of))]
+fn make_plain(place: u16, children: &[Id]) -> Option<Lang>
+    requires { place == 11 ≡ false }
     ensures place { IfSome result (λ l. place_of l ≡ place) }
     ensures payload { IfSome result (λ l. payload_of l ≡ P.Nothing) }
-    ensures children { IfSome result (λ l. ids_of l ≡ children.items) }
-    ensures count { IfSome result (λ l. count_of l ≡ length children.items) }
-    ensures complete { is_some result ≡ is_plain place (length children.items) }
+    ensures children { IfSome result (λ l. ids_of l ≡ children.now) }
+    ensures count { IfSome result (λ l. count_of l ≡ length children.now) }
+    ensures complete { is_some result ≡ is_plain place (length children.now) }
 {
-    if place == 11 {
-        return Some(Lang::Container(children));
-    }
-    if let Some(node) = Numeric::make(place, &children) {
+    if let Some(node) = Numeric::make(place, children) {
         return Some(Lang::Numeric(node));
     }
-    if let Some(node) = Simd::make(place, Payload::Nothing, &children) {
+    if let Some(node) = Simd::make(place, Payload::Nothing, children) {
         return Some(Lang::Simd(node));
     }
-    make_few(place, &children)
+    make_few(place, children)
 }
 
 // A node without payload that is neither numeric nor a vector node.
@@ -68,18 +132,16 @@ fn make_few(place: u16, children: &[Id]) -> Option<Lang>
     }
 }
 
-#[tactic(auto, unfolding(crate::specs::Lang::place_of, crate::specs::Lang::payload_of, crate::specs::Lang::ids_of, crate::specs::Lang::count_of))]
-fn make_index(place: u16, index: u32, children: Vec<Id>) -> Option<Lang>
+// A node with an index but `call`.
+fn make_index(place: u16, index: u32, children: &[Id]) -> Option<Lang>
+    requires { place == 13 ≡ false }
     ensures place { IfSome result (λ l. place_of l ≡ place) }
     ensures payload { IfSome result (λ l. payload_of l ≡ P.Index index) }
-    ensures children { IfSome result (λ l. ids_of l ≡ children.items) }
-    ensures count { IfSome result (λ l. count_of l ≡ length children.items) }
-    ensures complete { is_some result ≡ is_index place (length children.items) }
+    ensures children { IfSome result (λ l. ids_of l ≡ children.now) }
+    ensures count { IfSome result (λ l. count_of l ≡ length children.now) }
+    ensures complete { is_some result ≡ is_index place (length children.now) }
 {
-    if place == 13 {
-        return Some(Lang::Call(index, children));
-    }
-    match children.as_slice() {
+    match children {
         [] => lang::index_leaf(place, index),
         [child] => lang::index_one(place, index, *child),
         [first, second] => lang::index_two(place, index, *first, *second),

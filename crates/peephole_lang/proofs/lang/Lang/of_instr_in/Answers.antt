@@ -1,0 +1,26 @@
+use Rattle.std.proofs.Common.{◌∙◌, ap, length, arith}
+use Rattle.peephole_nodes.specs.Payload.{payload_of_imm}
+use Rattle.peephole_lang.proofs.InstrLemmas.{row_small, has_variant_row, payload_there, node_found, says_found, takes_found}
+use Rattle.peephole_lang.proofs.lang.Lang.of_instr_in.Goals as goal
+
+pub overflow_add-row : goal.overflow_add-row
+overflow_add-row c =
+    let small = row_small c.args.instr.now c.row.ensures.instruction in
+    let same = c.row.ensures.row in
+    omega (arith, small, same)
+
+pub returns-in_default-clause-complete : goal.returns-in_default-clause-complete
+returns-in_default-clause-complete c =
+    absurd (has_variant_row c.args.instr.now c.row.ensures.instruction c.row.result c.variant_row_at.result c.row.ensures.row c.variant_row_at.ensures c.in_None.was)
+
+pub returns-in_default-of_imm-clause-complete : goal.returns-in_default-of_imm-clause-complete
+returns-in_default-of_imm-clause-complete c =
+    absurd
+    (payload_there c.args.instr.now c.row.ensures.instruction c.row.result c.variant_row_at.result c.row.ensures.row c.variant_row_at.ensures c.in_Some.variant c.in_Some.was c.of_imm.result
+    (c.of_imm.ensures ∙ ap (payload_of_imm c.in_Some.variant.payload) c.imm.ensures) c.in_default.was)
+
+pub returns-clause-instruction : goal.returns-clause-instruction
+returns-clause-instruction c = 0
+
+pub returns-clause-complete : goal.returns-clause-complete
+returns-clause-complete c = 0
