@@ -12,14 +12,20 @@ length_down : (base missing : ℕ) → length (down base missing) ≡ missing
 length_down base zero = refl
 length_down base (suc missing) = ap suc (length_down base missing)
 
-length_ids : (ids old : List Id) (base missing : ℕ) (taken : List ℕ) → numbers_of ids ≡ numbers_of old ++ taken → numbers_of old ≡
+length_ids : (ids made : List Id) (base missing : ℕ) (taken : List ℕ) → numbers_of ids ≡ numbers_of made ++ taken → numbers_of made ≡
     down base missing → length ids ≡ missing + length taken
-length_ids ids old base missing taken e f =
+length_ids ids made base missing taken e f =
     let count = length-map ids (λ (i : Id). i.0) in
-    omega (arith, ap length e, ap length f, length-append (numbers_of old) taken, length_down base missing)
+    omega (arith, ap length e, ap length f, length-append (numbers_of made) taken, length_down base missing)
+
+-- what is pushed stands behind nothing
+alone : (ids made : List Id) (others : List ℕ) → ids ≡ [] → numbers_of made ≡ numbers_of ids ++ others → numbers_of made ≡ others
+alone ids made others e f = f ∙ ap (λ (x : List Id). numbers_of x ++ others) e
 
 pub unreachable-requires : goal.unreachable-requires
 unreachable-requires c =
-    let count = length_ids c.push_ids.new.ids.items c.in_ok-ids.ids.items c.args.base c.args.missing c.args.taken.now
-    c.in_ok-push_ids.ensures c.in_ok-ids.ensures in
+    let missing = alone c.clear-ids.new.self.items c.push_missing.new.ids.items (down c.args.base c.args.missing) c.clear-ids.ensures.items
+    c.in_ok-push_missing.ensures in
+    let count = length_ids c.push_ids.new.ids.items c.push_missing.new.ids.items c.args.base c.args.missing c.args.taken.now
+    c.in_ok-push_ids.ensures missing in
     false≢true (c.in-None.ensures.complete ∙ (ap (λ n. takes_children c.args.instr.row n) count ∙ c.requires.fits))
