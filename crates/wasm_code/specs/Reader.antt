@@ -160,6 +160,10 @@ imm_at kind.Shuffle bytes = bytes_at 16 bytes >>= λ b. Ok (imm.Shuffle b.0, b.1
 imm_at kind.Heap bytes = heap_type_at bytes >>= λ t. Ok (imm.Heap t.0, t.1)
 imm_at kind.Val bytes = Err BadImmediate
 
+-- the instruction of the row that has that number and that kind
+abbrev pub instr_at : ℕ → Kind → List ℕ → Result (Operator × List ℕ) Cause
+instr_at number kind bytes = imm_at kind bytes >>= λ i. Ok (op.Instr (record { row = number; imm = i.0 }), i.1)
+
 abbrev pub row_form : Option (ℕ × Row) → Option Form
 row_form None = None
 row_form (Some found) = Some (form.Row found.0 found.1)
@@ -188,7 +192,7 @@ select_of count None = op.TypedSelect count None
 select_of count (Some t) = if count == 1 then op.Instr (record { row = 445; imm = imm.Val t }) else op.TypedSelect count (Some t)
 
 unfoldable pub behind_at : Form → List ℕ → Result (Operator × List ℕ) Cause
-behind_at (form.Row number row) bytes = imm_at row.kind bytes >>= λ i. Ok (op.Instr (record { row = number; imm = i.0 }), i.1)
+behind_at (form.Row number row) bytes = instr_at number row.kind bytes
 behind_at form.Unreachable bytes = Ok (op.Unreachable, bytes)
 behind_at form.Block bytes = block_type_at bytes >>= λ t. Ok (op.Block t.0, t.1)
 behind_at form.Loop bytes = block_type_at bytes >>= λ t. Ok (op.Loop t.0, t.1)

@@ -79,6 +79,7 @@ impl Instr {
     }
 
     /// The instruction of row `row` with the immediate `imm`, which has to be of the row's kind.
+    #[inline(always)]
     pub(crate) fn of_row(row: u16, imm: Imm) -> Instr
         requires { IsInstruction (record { row = row; imm = imm }) }
         ensures { result ≡ record { row = row; imm = imm } }

@@ -46,6 +46,7 @@ pub fn v128_bytes(z: i128) -> [u8; 16]
 }
 
 /// The row and the immediate in few bytes.
+#[inline(always)]
 pub fn pack(row: u16, imm: Imm) -> Packed
     ensures { result ≡ packed_of row imm }
 {

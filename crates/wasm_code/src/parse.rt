@@ -8,7 +8,7 @@ use crate::fault::Cause;
 use crate::immediate::{Imm, ValType};
 use crate::number::u32_of;
 use crate::operator::{Instr, Operator};
-use crate::reading::{block_type_from, byte_of, imm_of, pair_of, val_type_from};
+use crate::reading::{block_type_from, byte_of, instr_of, pair_of, val_type_from};
 use crate::table::{Opcode, Row, row_by_opcode};
 
 /// What an opcode begins.
@@ -175,10 +175,7 @@ fn behind(form: Form, bytes: &[u8]) -> Result<(Operator, &[u8]), Cause>
     ensures { Gives (λ x. (x.0, x.1.now)) result (behind_at form bytes.now) }
 {
     match form {
-        Form::Row(number, row) => {
-            let (imm, rest) = imm_of(row.kind, bytes)?;
-            Ok((Operator::Instr(Instr::of_row(number, imm)), rest))
-        }
+        Form::Row(number, row) => instr_of(number, row, bytes),
         Form::Unreachable => Ok((Operator::Unreachable, bytes)),
         Form::Block => {
             let (t, rest) = block_type_from(bytes)?;

@@ -1,13 +1,16 @@
 //! Immediates from the front of bytes.
-ghost use Rattle.std.specs.Prelude.{◌≡◌, ◌≢◌, ◌<◌, IfOk, true};
+ghost use Rattle.std.specs.Prelude.{◌≡◌, ◌≢◌, ◌<◌, Some, IfOk, true};
 ghost use Rattle.wasm_code.specs.Instruction.{is_of_kind, InRange, MemArgInRange};
-ghost use Rattle.wasm_code.specs.Reader.{Gives, byte_at, bytes_at, val_type_of, heap_type_of, val_type_at, heap_type_at, block_type_at, block_type_of, memarg_at, offset_at, pair_at, imm_at};
+ghost use Rattle.wasm_code.specs.Table.{row_at};
+ghost use Rattle.wasm_code.specs.Reader.{Gives, byte_at, bytes_at, val_type_of, heap_type_of, val_type_at, heap_type_at, block_type_at, block_type_of, memarg_at, offset_at, pair_at, instr_at};
+ghost use Rattle.wasm_code.specs.declared.operator.Operator.TheVariants as op;
 ghost use Rattle.wasm_code.specs.declared.table.Kind.TheVariants as kinds;
 
 use crate::fault::Cause;
 use crate::immediate::{AbstractHeapType, BlockType, HeapType, Imm, MemArg, ValType};
 use crate::number::{i32_of, i33_of, i64_of, u32_of, u64_of};
-use crate::table::Kind;
+use crate::operator::{Instr, Operator};
+use crate::table::{Kind, Row};
 
 /// The first byte, and what follows it.
 pub fn byte_of(bytes: &[u8]) -> Result<(u8, &[u8]), Cause>
@@ -155,64 +158,75 @@ pub fn pair_of(bytes: &[u8]) -> Result<((u32, u32), &[u8]), Cause>
     Ok(((a, b), rest))
 }
 
-/// An immediate of that kind, and what follows it.
-#[tactic(auto, unfolding(crate::specs::Reader::imm_at))]
-pub fn imm_of(kind: Kind, bytes: &[u8]) -> Result<(Imm, &[u8]), Cause>
-    requires { kind ≢ kinds.Val }
-    ensures gives { Gives (λ x. (x.0, x.1.now)) result (imm_at kind bytes.now) }
-    ensures kind { IfOk result (λ x. is_of_kind kind x.0 ≡ true) }
-    ensures in_range { IfOk result (λ x. InRange x.0) }
+/// The instruction of that row, which has that number, with an immediate of its kind.
+#[inline(always)]
+fn instr(number: u16, row: Row, imm: Imm) -> Operator
+    requires row { row_at number ≡ Some row }
+    requires kind { is_of_kind row.kind imm ≡ true }
+    requires in_range { InRange imm }
+    ensures { result ≡ op.Instr (record { row = number; imm = imm }) }
 {
-    match kind {
-        Kind::Nothing => Ok((Imm::Nothing, bytes)),
+    Operator::Instr(Instr::of_row(number, imm))
+}
+
+/// The instruction of that row, which has that number, with the immediate that stands there, and what follows it.
+#[tactic(auto, unfolding(crate::specs::Reader::imm_at))]
+#[inline(always)]
+pub fn instr_of(number: u16, row: Row, bytes: &[u8]) -> Result<(Operator, &[u8]), Cause>
+    requires row { row_at number ≡ Some row }
+    requires kind { row.kind ≢ kinds.Val }
+    ensures { Gives (λ x. (x.0, x.1.now)) result (instr_at number row.kind bytes.now) }
+{
+    match row.kind {
+        Kind::Nothing => Ok((instr(number, row, Imm::Nothing), bytes)),
         Kind::Index => {
             let (n, rest) = u32_of(bytes)?;
-            Ok((Imm::Index(n), rest))
+            Ok((instr(number, row, Imm::Index(n)), rest))
         }
         Kind::Pair => {
             let ((a, b), rest) = pair_of(bytes)?;
-            Ok((Imm::Pair(a, b), rest))
+            Ok((instr(number, row, Imm::Pair(a, b)), rest))
         }
         Kind::Mem => {
             let (m, rest) = memarg_of(bytes)?;
-            Ok((Imm::Mem(m), rest))
+            Ok((instr(number, row, Imm::Mem(m)), rest))
         }
         Kind::MemLane => {
             let (m, rest) = memarg_of(bytes)?;
             let (lane, rest) = byte_of(rest)?;
-            Ok((Imm::MemLane(m, lane), rest))
+            Ok((instr(number, row, Imm::MemLane(m, lane)), rest))
         }
         Kind::Lane => {
             let (lane, rest) = byte_of(bytes)?;
-            Ok((Imm::Lane(lane), rest))
+            Ok((instr(number, row, Imm::Lane(lane)), rest))
         }
         Kind::I32 => {
             let (z, rest) = i32_of(bytes)?;
-            Ok((Imm::I32(z), rest))
+            Ok((instr(number, row, Imm::I32(z)), rest))
         }
         Kind::I64 => {
             let (z, rest) = i64_of(bytes)?;
-            Ok((Imm::I64(z), rest))
+            Ok((instr(number, row, Imm::I64(z)), rest))
         }
         Kind::F32 => {
             let (b, rest) = array_of::<4>(bytes)?;
-            Ok((Imm::F32(u32::from_le_bytes(b)), rest))
+            Ok((instr(number, row, Imm::F32(u32::from_le_bytes(b))), rest))
         }
         Kind::F64 => {
             let (b, rest) = array_of::<8>(bytes)?;
-            Ok((Imm::F64(u64::from_le_bytes(b)), rest))
+            Ok((instr(number, row, Imm::F64(u64::from_le_bytes(b))), rest))
         }
         Kind::V128 => {
             let (b, rest) = array_of::<16>(bytes)?;
-            Ok((Imm::V128(i128::from_le_bytes(b)), rest))
+            Ok((instr(number, row, Imm::V128(i128::from_le_bytes(b))), rest))
         }
         Kind::Shuffle => {
             let (b, rest) = array_of::<16>(bytes)?;
-            Ok((Imm::Shuffle(b), rest))
+            Ok((instr(number, row, Imm::Shuffle(b)), rest))
         }
         Kind::Heap => {
             let (t, rest) = heap_type_from(bytes)?;
-            Ok((Imm::Heap(t), rest))
+            Ok((instr(number, row, Imm::Heap(t)), rest))
         }
         Kind::Val => unreachable!(),
     }
