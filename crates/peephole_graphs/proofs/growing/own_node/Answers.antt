@@ -1,5 +1,6 @@
 -- So many children as the instruction takes.
-use Rattle.std.proofs.Common.{◌≡◌, ℕ, zero, suc, ◌+◌, ◌++◌, List, length, refl, ap, ◌∙◌, arith}
+use Rattle.std.proofs.Common.{◌≡◌, ℕ, zero, suc, ◌+◌, ◌++◌, [], List, length, refl, sym, ap, ◌∙◌, arith}
+use Rattle.std.specs.Prelude.{is_some}
 use Rattle.std.proofs.lemmas.Bool.{false≢true}
 use Rattle.std.proofs.lemmas.List.{length-append, length-map}
 use Rattle.peephole_lang.specs.Node.{takes_children}
@@ -24,8 +25,8 @@ alone ids made others e f = f ∙ ap (λ (x : List Id). numbers_of x ++ others) 
 
 pub unreachable-requires : goal.unreachable-requires
 unreachable-requires c =
-    let missing = alone c.clear-ids.new.self.items c.push_missing.new.ids.items (down c.args.base c.args.missing) c.clear-ids.ensures.items
+    let missing = alone c.clear.new.self.items c.push_missing.new.ids.items (down c.args.base c.args.missing) c.clear.ensures.items
     c.in_ok-push_missing.ensures in
     let count = length_ids c.push_ids.new.ids.items c.push_missing.new.ids.items c.args.base c.args.missing c.args.taken.now
     c.in_ok-push_ids.ensures missing in
-    false≢true (c.in-None.ensures.complete ∙ (ap (λ n. takes_children c.args.instr.row n) count ∙ c.requires.fits))
+    false≢true (sym (ap is_some c.in-None.is) ∙ (c.in_ok-node.ensures.complete ∙ (ap (λ n. takes_children c.args.instr.row n) (ap (λ (x : List Id). length x) c.deref.ensures.value ∙ count) ∙ c.requires.fits)))

@@ -1,4 +1,4 @@
-use Rattle.std.proofs.Common.{Err, ap, ◌∙◌, ◌∷◌, List, arith}
+use Rattle.std.proofs.Common.{Err, ap, ◌∙◌, ◌++◌, List, arith}
 use Rattle.std.proofs.lemmas.Grind.{common_steps}
 use Rattle.std.proofs.lemmas.Result.{err_from_is_err_and}
 use Rattle.peephole_lang.specs.Term.{numbers_of}
