@@ -11,7 +11,7 @@ mod input;
 mod tally;
 mod text;
 
-pub use arguments::{is_yes, join, type_of};
+pub use arguments::{is_yes, type_of};
 pub use command::{Command, command_of};
 pub use declarations::{Declaration, declare};
 pub use fault::{Fault, RunError};
