@@ -3,6 +3,7 @@ use Rattle.std.proofs.Common.{◌≡◌, ℕ, true, List, [], ◌∷◌, length,
 use Rattle.std.specs.Prelude.{Option, nat_lt}
 use Rattle.std.proofs.lemmas.Bool.Decides.{nat_tests}
 use Rattle.std.specs.List.{concat}
+use Rattle.std.specs.Result.{result_ok}
 use Rattle.hex.specs.Hex.{decode_of}
 use Rattle.std.proofs.lemmas.List.{length-map}
 use Rattle.peephole_nodes.specs.declared.id.Id.{Id}
@@ -22,7 +23,7 @@ only_is value [] word h = absurd (cc)
 only_is value (w ∷ []) word h = ap value (cc)
 only_is value (w ∷ other ∷ words) word h = absurd (cc)
 
-pub body_is : (s : SessionState) (words : List (List ℕ)) (bytes : List ℕ) (body : Contents) → decode_of (concat words) ≡ Ok bytes → body_of bytes ≡ Ok body →
+pub body_is : (s : SessionState) (words : List (List ℕ)) (bytes : List ℕ) (body : Contents) → result_ok (decode_of (concat words)) ≡ Some bytes → body_of bytes ≡ Ok body →
     body_step s words ≡ quiet (record s { body = Some body; point = None; nodes = [] })
 body_is s words bytes body h k = rw (h, k)
 

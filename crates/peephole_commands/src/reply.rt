@@ -8,7 +8,7 @@ ghost use Rattle.peephole_commands.specs.Writing.{output};
 
 use crate::graphs::Refusal;
 use mutate_base::{Error, PrimitiveTypeInfo};
-use peephole_script::Fault;
+use peephole_script::{Fault, digits_of};
 use peephole_terms::{BBlock, ResourceRequest};
 use std::alloc::Global;
 use wasm_code::Function;
@@ -40,11 +40,15 @@ pub fn type_line(alloc: Global, ty: PrimitiveTypeInfo) -> Result<Vec<u8>, Fault>
 fn bytes_line(alloc: Global, sink: &Function) -> Result<Vec<u8>, Fault>
     ensures { Prints (bytes_line sink.now) result }
 {
-    let Ok(digits) = hex::encode(alloc, sink.bytes()) else {
+    let digits = digits_of(alloc, sink.bytes())?;
+    let Some(length) = digits.len().checked_add(7) else {
         return Err(Fault::Memory);
     };
-    let text = format!(in alloc; "bytes {digits}\n")?;
-    Ok(text.into_bytes())
+    let mut line = Vec::with_capacity(alloc, length)?;
+    line.extend_from_slice(b"bytes ")?;
+    line.extend_from_slice(digits.as_slice())?;
+    line.push(b'\n')?;
+    Ok(line)
 }
 
 // The line that `write` prints of a requested global.

@@ -21,8 +21,8 @@ use crate::writing::write_answer;
 use mutate_base::{Error, ModuleInfo, PrimitiveTypeInfo, WasmMutate, Words};
 use peephole_lang::{Id, Lang, RecExpr};
 use peephole_script::{
-    Command, Declaration, Fault, command_of, declare, is_text, is_yes, join, number_of, type_of,
-    words_of,
+    Command, Declaration, Fault, bytes_of, command_of, declare, is_text, is_yes, number_of,
+    type_of, words_of,
 };
 use peephole_terms::laws::blocks_are_found;
 use std::alloc::{AllocError, Global};
@@ -161,14 +161,7 @@ impl Session {
     fn body(&mut self, arguments: &[&str]) -> Result<Vec<u8>, Fault>
         ensures { Steps (body_step self.old (texts arguments.now)) self.new result }
     {
-        let Ok(text) = join(self.alloc, arguments) else {
-            return Err(Fault::Memory);
-        };
-        let bytes = match hex::decode(self.alloc, text.as_slice()) {
-            Ok(bytes) => bytes,
-            Err(hex::FromHexError::OutOfMemory) => return Err(Fault::Memory),
-            Err(_) => return Err(Fault::BadArgument),
-        };
+        let bytes = bytes_of(self.alloc, arguments)?;
         match Body::read(self.alloc, bytes) {
             Ok(body) => {
                 self.body = Some(body);

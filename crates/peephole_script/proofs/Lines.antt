@@ -1,7 +1,8 @@
 -- Cutting the input into lines, and reading numbers.
 use Rattle.std.proofs.Common.{◌≡◌, ◌&&◌, ℕ, suc, zero, ◌+◌, ◌<◌, ◌≤◌, ◌^◌, ◌==◌, Bool, true, false, not, cond, List, [], ◌∷◌, length, take, drop, refl, arith, rules, get_or, length-drop, Ok, Err, Some, None}
 use Rattle.std.proofs.lemmas.Bool.Decides.{nat_tests}
-use Rattle.std.specs.Prelude.{Result, position}
+use Rattle.std.proofs.lemmas.List.Sums.{position_or_len_is}
+use Rattle.std.specs.Prelude.{Option, Result, position}
 use Rattle.std.specs.List.{onto_first, list_all, position_or_len, before_first, after_first}
 use Rattle.std.specs.Result.{result_ok}
 use Rattle.std.specs.Char.{is_ascii_digit}
@@ -9,6 +10,7 @@ use Rattle.std.specs.Str.Parse.{digits_value, ParsesUnsigned}
 use Rattle.std.proofs.lemmas.Str.Parse.{IsNumeralModel, IsDigitsTest, numerals_by_value, parse_digits}
 use Rattle.std.proofs.lemmas.Str.{IsUtf8-from_ascii}
 use Rattle.std.specs.Str.{IsUtf8}
+use Rattle.memchr.specs.Find.{IsFirstByte}
 use Rattle.peephole_script.specs.Text.{is_byte, is_text, is_text_byte, lines_of, number_of}
 
 pub position_or_len_le : {X : Type 0} (p : X → Bool) (xs : List X) → position_or_len p xs ≤ length xs
@@ -25,6 +27,20 @@ position_some bytes at h = grind (arith, nat_tests)
 
 pub position_none : (bytes : List ℕ) → position (is_byte 10) bytes ≡ None → position_or_len (is_byte 10) bytes ≡ length bytes
 position_none bytes h = grind (arith, nat_tests, position_or_len_le (is_byte 10) bytes)
+
+is_false : (b : Bool) → (b ≡ true → ⊥) → b ≡ false
+is_false true h = absurd (h refl)
+is_false false h = refl
+
+-- what a search for a line feed finds is its place
+pub line_end-found : (bytes : List ℕ) (r : Option ℕ) → IsFirstByte (is_byte 10) bytes r → r ≡ position (is_byte 10) bytes
+line_end-found bytes None h =
+    let e = position_or_len_is (is_byte 10) bytes (length bytes) 0 (omega arith) (λ k below. is_false _ (h k (omega arith) below)) (λ less. absurd (omega arith)) in
+    grind (arith, nat_tests, e)
+line_end-found bytes (Some at) h =
+    let below = h.0.high in
+    let e = position_or_len_is (is_byte 10) bytes at 0 (omega arith) (λ k less. is_false _ (h.0.before k (omega arith) less)) (λ _. h.1) in
+    grind (arith, nat_tests, e, below)
 
 pub ruleset places = (position_some, position_none)
 

@@ -6,14 +6,16 @@ mod arguments;
 mod command;
 mod declarations;
 mod fault;
+mod hexadecimal;
 mod input;
 mod tally;
 mod text;
 
-pub use arguments::{is_yes, join, type_of};
+pub use arguments::{is_yes, type_of};
 pub use command::{Command, command_of};
 pub use declarations::{Declaration, declare};
 pub use fault::{Fault, RunError};
+pub use hexadecimal::{bytes_of, digits_of};
 pub use input::{LIMIT, read_input};
 pub use tally::Tally;
 pub use text::{cut_line, is_text, number_of, words_of};

@@ -5,13 +5,14 @@ ghost use Rattle.std.specs.List.{before_first, after_first, list_all};
 ghost use Rattle.std.specs.Char.{is_ascii_digit};
 ghost use Rattle.peephole_script.specs.Text.{is_byte, is_text, words_of, number_of, texts};
 
+use memchr::memchr;
 use std::alloc::{AllocError, Global};
 
 /// Where the first line feed stands.
 fn line_end(bytes: &[u8]) -> Option<usize>
     ensures { result ≡ position (is_byte 10) bytes.now }
 {
-    bytes.iter().position(|b| *b == b'\n')
+    memchr(b'\n', bytes)
 }
 
 /// The bytes before the first line feed, and those after it; all of them and none where there is none.
@@ -30,7 +31,11 @@ pub fn cut_line(bytes: &[u8]) -> (&[u8], &[u8])
 pub fn is_text(line: &[u8]) -> bool
     ensures { result ≡ is_text line.now }
 {
-    line.iter().all(|b| 0x20 <= *b && *b <= 0x7e)
+    let mut text = true;
+    for b in line {
+        text &= 0x20 <= *b && *b <= 0x7e;
+    }
+    text
 }
 
 /// The words of a line, which spaces separate; an error for want of memory alone.

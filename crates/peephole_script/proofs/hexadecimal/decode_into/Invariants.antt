@@ -1,0 +1,9 @@
+use Rattle.std.proofs.Common.{◌≡◌, ◌*◌, take, drop}
+use Rattle.hex.specs.Hex.{decode_pairs}
+use Rattle.hex.proofs.Pairs.{prepend}
+use Rattle.peephole_script.proofs.hexadecimal.decode_into.Given as goal
+
+-- the bytes so far, and those of the digits that are left, are those of all digits
+abbrev pub invariant-bytes : goal.invariant-bytes
+invariant-bytes l =
+    decode_pairs 0 l.digits ≡ prepend (take l.i l.bytes) (decode_pairs (2 * l.i) (drop (2 * l.i) l.digits))
