@@ -8,7 +8,7 @@ ghost use Rattle.peephole_commands.specs.Writing.{output};
 
 use crate::graphs::Refusal;
 use mutate_base::{Error, PrimitiveTypeInfo};
-use peephole_script::{Fault, digits_of};
+use peephole_script::{Fault, write_digits};
 use peephole_terms::{BBlock, ResourceRequest};
 use std::alloc::Global;
 use wasm_code::Function;
@@ -40,7 +40,7 @@ pub fn type_line(alloc: Global, ty: PrimitiveTypeInfo) -> Result<Vec<u8>, Fault>
 fn bytes_line(alloc: Global, sink: &Function) -> Result<Vec<u8>, Fault>
     ensures { Prints (bytes_line sink.now) result }
 {
-    let digits = digits_of(alloc, sink.bytes())?;
+    let digits = write_digits(alloc, sink.bytes())?;
     let Some(length) = digits.len().checked_add(7) else {
         return Err(Fault::Memory);
     };

@@ -21,7 +21,7 @@ use crate::writing::write_answer;
 use mutate_base::{Error, ModuleInfo, PrimitiveTypeInfo, WasmMutate, Words};
 use peephole_lang::{Id, Lang, RecExpr};
 use peephole_script::{
-    Command, Declaration, Fault, bytes_of, command_of, declare, is_text, is_yes, number_of,
+    Command, Declaration, Fault, command_of, declare, is_text, is_yes, number_of, read_digits,
     type_of, words_of,
 };
 use peephole_terms::laws::blocks_are_found;
@@ -161,7 +161,7 @@ impl Session {
     fn body(&mut self, arguments: &[&str]) -> Result<Vec<u8>, Fault>
         ensures { Steps (body_step self.old (texts arguments.now)) self.new result }
     {
-        let bytes = bytes_of(self.alloc, arguments)?;
+        let bytes = read_digits(self.alloc, arguments)?;
         match Body::read(self.alloc, bytes) {
             Ok(body) => {
                 self.body = Some(body);

@@ -62,7 +62,7 @@ fn decode(alloc: Global, text: &[u8]) -> Result<Vec<u8>, Fault>
 
 /// The bytes that the words joined stand for; `BadArgument` where they have another sign than digits, or an odd number of
 /// them, `Memory` for want of memory.
-pub fn bytes_of(alloc: Global, words: &[&str]) -> Result<Vec<u8>, Fault>
+pub fn read_digits(alloc: Global, words: &[&str]) -> Result<Vec<u8>, Fault>
     ensures { Argument (result_ok (decode_of (concat (texts words.now)))) result }
 {
     match words {
@@ -99,7 +99,7 @@ fn encode_into(bytes: &[u8], digits: &mut [u8])
 }
 
 /// The digits of bytes, two for each; an error for want of memory alone.
-pub fn digits_of(alloc: Global, bytes: &[u8]) -> Result<Vec<u8>, AllocError>
+pub fn write_digits(alloc: Global, bytes: &[u8]) -> Result<Vec<u8>, AllocError>
     ensures { IfOk result (λ digits. digits.items ≡ encode_lower bytes.now) }
 {
     let Some(count) = bytes.len().checked_mul(2) else {

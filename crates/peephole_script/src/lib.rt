@@ -15,7 +15,7 @@ pub use arguments::{is_yes, type_of};
 pub use command::{Command, command_of};
 pub use declarations::{Declaration, declare};
 pub use fault::{Fault, RunError};
-pub use hexadecimal::{bytes_of, digits_of};
+pub use hexadecimal::{read_digits, write_digits};
 pub use input::{LIMIT, read_input};
 pub use tally::Tally;
 pub use text::{cut_line, is_text, number_of, words_of};
