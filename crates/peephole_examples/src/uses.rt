@@ -18,7 +18,7 @@ pub fn tree_of<L: Language>(alloc: Global, expr: &RecExpr<L>, root: Id) -> Resul
         ≡ tree_at (nodes_of L.head L.children expr.now) root.0) }
     ensures refused { IfErr result (λ e. (e ≡ Error.Memory)
         ⊎ ((e ≡ Error.TooLarge)
-            × (2 ^ 32 < node_count_of (tree_at (nodes_of L.head L.children expr.now) root.0)))) }
+        × (2 ^ 32 < node_count_of (tree_at (nodes_of L.head L.children expr.now) root.0)))) }
 {
     let nodes = expr.as_ref();
     build_expr(
