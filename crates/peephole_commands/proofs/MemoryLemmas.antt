@@ -30,7 +30,7 @@ use Rattle.peephole_graphs.specs.declared.shape.Shape.{Shape}
 use Rattle.peephole_graphs.specs.Block.{BlockRange, block_at}
 use Rattle.peephole_graphs.specs.Faults as graph
 use Rattle.peephole_graphs.specs.Tree as tree
-use Rattle.peephole_graphs.specs.Tree.{Tree, Trees}
+use Rattle.peephole_graphs.specs.Tree.{Tree}
 use Rattle.peephole_terms.specs.Expansion.{Setting, expansion_in}
 use Rattle.peephole_terms.specs.Laws.{RefusesByName}
 use Rattle.peephole_terms.specs.Written.{Site, is_written, term_code, term_requests, written_block, block_operators}
