@@ -103,7 +103,7 @@ fn lower(ids: &mut [Id], by: usize)
     }
 }
 
-// The same node, its children's ids made smaller.
+// The same node, its children's ids made smaller; those of a block's first tree stay.
 fn copy_node<L: Language>(node: &L, by: usize) -> Result<L, Error>
     requires { All (λ i. by ≤ i) (L.children node.now) }
     ensures head { IfOk result (λ l. L.head l ≡ L.head node.now) }
@@ -111,7 +111,9 @@ fn copy_node<L: Language>(node: &L, by: usize) -> Result<L, Error>
     ensures refused { IfErr result (λ e. e ≡ Error.Memory) }
 {
     let mut copy = node.clone_node()?;
-    lower(copy.children_mut(), by);
+    if by > 0 {
+        lower(copy.children_mut(), by);
+    }
     Ok(copy)
 }
 
