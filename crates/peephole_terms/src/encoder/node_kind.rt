@@ -57,6 +57,9 @@ impl NodeKind {
     pub fn of(node: &Lang) -> NodeKind
         ensures { result ≡ node_kind (head_of node.now) }
     {
+        if let Some(instr) = node.instr() {
+            return NodeKind::Own(instr);
+        }
         match node.place() {
             0 => NodeKind::Random(NumberType::I32),
             1 => NodeKind::Random(NumberType::I64),
@@ -69,10 +72,7 @@ impl NodeKind {
             9 => NodeKind::UseGlobal(NumberType::F32),
             10 => NodeKind::UseGlobal(NumberType::F64),
             11 => NodeKind::Container,
-            _ => match node.instr() {
-                Some(instr) => NodeKind::Own(instr),
-                None => NodeKind::Nothing,
-            },
+            _ => NodeKind::Nothing,
         }
     }
 }
