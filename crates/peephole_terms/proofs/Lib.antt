@@ -10,8 +10,8 @@ pub mod RangeLemmas
 pub mod RereadLemmas
 pub mod AgainLemmas
 pub mod MeaningRows
-pub mod MeaningLemmas
 pub mod StackCodeLemmas
+pub mod AgreesLemmas
 pub mod SameRunLemmas
 pub mod TermOfLemmas
 pub mod SameAnswersLemmas

@@ -90,9 +90,9 @@ module _ {locals globals : List PrimitiveTypeInfo} {words : List ℕ} {tree t : 
         global_values = All-take IsValue c s.globals hv.1;
       } in
       let twice = take-take c c s.globals (omega arith) in
-      let first = same_of locals globals a.list tree [] own a.tree_types (x.itself.expands c []) stack k s
+      let first = same_of locals globals a.list tree [] own a.first_types (x.itself.expands c []) stack k s
       (rw x.itself.asks (meets k s [] others hl kg (refl, twice) hg)) in
-      let second = same_of locals globals a.list t words code a.term_types x.expands stack k m
+      let second = same_of locals globals a.list t words code a.second_types x.expands stack k m
       (meets k m (requests_of t) more hl kg (hs.0, twice ∙ hs.1) hm) in
       let tree_end = above stack (meaning_of [] tree k) in
       let term_end = above stack (meaning_of words t k) in

@@ -5,7 +5,11 @@ pub mod Meaning
 pub mod StackCode
 pub mod Written
 pub mod ReadAgain
+pub mod Agrees
 pub mod SameRun
 pub mod SameAnswers
 pub mod Laws
 pub mod EncoderSteps
+pub mod MeaningLemmas
+pub mod ValueLemmas
+pub mod WordLemmas

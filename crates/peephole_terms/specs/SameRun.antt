@@ -19,16 +19,12 @@ use Rattle.peephole_machine.specs.Laws.{IsIntegerRow}
 use Rattle.peephole_terms.specs.NodeKind.{primitive_of}
 use Rattle.peephole_terms.specs.Expansion.{Setting, requests_of}
 use Rattle.peephole_terms.specs.Written.{Site, block_operators, block_shapes, is_written, term_code, written_block, written_body}
-use Rattle.peephole_terms.specs.Typing.{types_of}
-use Rattle.peephole_terms.specs.Meaning.{meaning_of}
+use Rattle.peephole_terms.specs.Agrees.{Agree}
 use Rattle.peephole_terms.specs.StackCode.{words_for}
 
 -- The term has the tree's types, and in every state means the same, with the words drawn; a tree of a graph draws none.
-pub record EvaluatesAs (locals globals : List PrimitiveTypeInfo) (words : List ℕ) (tree t : Term Head) : Type 0 where
-  pub list : List PrimitiveTypeInfo
-  pub tree_types : types_of locals globals tree ≡ Some list
-  pub term_types : types_of locals globals t ≡ Some list
-  pub means : (s : State) → HasTypes locals globals s → SameBelow (length globals) (meaning_of [] tree s) (meaning_of words t s)
+abbrev pub EvaluatesAs : (locals globals : List PrimitiveTypeInfo) (words : List ℕ) (tree t : Term Head) → Type 0
+EvaluatesAs locals globals words tree t = Agree locals globals [] words tree t
 
 -- an operator that is an integer row, its variable one of the lists and an integer
 abbrev pub IsIntegerOperator : (locals globals : List PrimitiveTypeInfo) → Operator → Type 0

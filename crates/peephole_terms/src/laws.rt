@@ -1,5 +1,6 @@
 //! What holds of written bodies, of runs, and of the forest of every block. A function here does nothing: its contract is the laws.
 
+ghost use Rattle.peephole_terms.specs.Agrees.{IsCongruence};
 ghost use Rattle.peephole_terms.specs.Laws.{HaveTheirOpcodes, UnfoldsAddUp, RefusesByName, TreesAreWrittenAsTheyAre, OwnTreesAreKept, OperatorsHaveEntries};
 ghost use Rattle.peephole_terms.specs.SameAnswers.{TermAnswersAreTheSame, BodyAnswersAreTheSame};
 ghost use Rattle.peephole_terms.specs.StackCode.{IsStackCode};
@@ -47,4 +48,9 @@ pub fn trees_are_written_as_they_are()
 pub fn own_trees_are_kept()
     ensures kept { OwnTreesAreKept }
     ensures entries { OperatorsHaveEntries }
+{}
+
+/// Terms agree as an equivalence, and agreeing terms agree in every place of a term that draws no other word.
+pub fn agreement_is_a_congruence()
+    ensures { IsCongruence }
 {}

@@ -42,7 +42,7 @@ module _ (locals globals : List PrimitiveTypeInfo) where
   then_fine ts Stuck f h next = h
 
   -- a node behind its children
-  own_fine : {ts : List PrimitiveTypeInfo} (words : List ℕ) (k : NodeKind) (vs : List Value) (s : State) → own_types locals globals k (types vs) ≡ Some ts →
+  pub own_fine : {ts : List PrimitiveTypeInfo} (words : List ℕ) (k : NodeKind) (vs : List Value) (s : State) → own_types locals globals k (types vs) ≡ Some ts →
       types s.locals ≡ locals → types s.globals ≡ globals → Fine locals globals ts (own_meaning words k vs s)
   own_fine {ts} words (Own i) vs s e hl hg = act_fine locals globals (types vs) ts (integer_row i) vs s refl hl hg e
   own_fine {ts} words (Random t) [] s e hl hg = let (u, a, b) = map_some (λ u. type_of u ∷ []) (integer_type t) ts e in rw a (b, hl, hg)

@@ -1,0 +1,57 @@
+-- When two terms agree: they have the same types, and mean the same in every state of the variables; and terms with a hole (this project).
+use Rattle.std.specs.Prelude.{◌≡◌, ℕ, List, [], length, Some}
+use Rattle.mutate_base.specs.declared.types.PrimitiveTypeInfo.{PrimitiveTypeInfo}
+use Rattle.peephole_lang.specs.declared.lang.Head.{Head}
+use Rattle.peephole_lang.specs.Term.{Term, Terms, absent, node, ◌▸◌}
+use Rattle.peephole_machine.specs.Values.{State, HasTypes}
+use Rattle.peephole_machine.specs.Agreement.{SameBelow}
+use Rattle.peephole_terms.specs.Expansion.{draws_of}
+use Rattle.peephole_terms.specs.Typing.{types_of}
+use Rattle.peephole_terms.specs.Meaning.{meaning_of}
+
+-- The first term with the words `us` and the second with the words `vs` have the same types, and in every state of the variables mean the same.
+pub record Agree (locals globals : List PrimitiveTypeInfo) (us vs : List ℕ) (t u : Term Head) : Type 0 where
+  pub list : List PrimitiveTypeInfo
+  pub first_types : types_of locals globals t ≡ Some list
+  pub second_types : types_of locals globals u ≡ Some list
+  pub means : (s : State) → HasTypes locals globals s → SameBelow (length globals) (meaning_of us t s) (meaning_of vs u s)
+
+-- ---- terms with a hole
+
+-- the hole itself, or a node with the hole in one of its children; children with the hole in the first, or in one behind the first
+mutual
+  pub data Context : Type 0 where
+    hole : Context
+    under : Head → Contexts → Context
+
+  pub data Contexts : Type 0 where
+    here : Context → Terms Head → Contexts
+    next : Term Head → Contexts → Contexts
+
+-- the term with another in the hole
+abbrev mutual
+  pub fill : Context → Term Head → Term Head
+  fill hole t = t
+  fill (under h cs) t = node h (fill_in cs t)
+
+  pub fill_in : Contexts → Term Head → Terms Head
+  fill_in (here c ts) t = fill c t ▸ ts
+  fill_in (next u cs) t = u ▸ fill_in cs t
+
+-- No word is drawn outside the hole; so the hole is below no unfold.
+abbrev pub DrawsNothing : Context → Type 0
+DrawsNothing c = draws_of (fill c absent) ≡ []
+
+-- ---- laws
+
+-- Agreement is an equivalence of typed terms, and agreeing terms agree in every place of a typed term that draws no other word.
+pub record IsCongruence : Type 0 where
+  pub reflexive : (locals globals list : List PrimitiveTypeInfo) (words : List ℕ) (t : Term Head) →
+      types_of locals globals t ≡ Some list → Agree locals globals words words t t
+  pub symmetric : (locals globals : List PrimitiveTypeInfo) (us vs : List ℕ) (t u : Term Head) →
+      Agree locals globals us vs t u → Agree locals globals vs us u t
+  pub transitive : (locals globals : List PrimitiveTypeInfo) (us vs ws : List ℕ) (t u v : Term Head) →
+      Agree locals globals us vs t u → Agree locals globals vs ws u v → Agree locals globals us ws t v
+  pub congruent : (locals globals list : List PrimitiveTypeInfo) (us vs : List ℕ) (c : Context) (t u : Term Head) →
+      DrawsNothing c → types_of locals globals (fill c t) ≡ Some list →
+      Agree locals globals us vs t u → Agree locals globals us vs (fill c t) (fill c u)
