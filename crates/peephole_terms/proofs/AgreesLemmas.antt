@@ -16,10 +16,10 @@ use Rattle.peephole_terms.specs.NodeKind.{NumberType, NodeKind, node_kind}
 use Rattle.peephole_terms.specs.Expansion.{own_draws, with_own_draws, draws_of, draws}
 use Rattle.peephole_terms.specs.Typing.{own_types, with_own_types, joined_types, types_of, types_in}
 use Rattle.peephole_terms.specs.Meaning.{own_meaning, with_own_meaning, meaning_of, meaning}
-use Rattle.peephole_terms.specs.Agrees.{Agree, Context, hole, under, Contexts, here, next, fill, fill_in, DrawsNothing, IsCongruence}
-use Rattle.peephole_terms.specs.MeaningLemmas.{parts_of_types, own_fine, fine_of, fine_in}
-use Rattle.peephole_terms.specs.ValueLemmas.{state_typed, leaves_of, leaves_in}
-use Rattle.peephole_terms.specs.WordLemmas.{both_empty, nothing_below, own_free, free_of, free_in}
+use Rattle.peephole_terms.specs.Agrees.{Agree, Context, hole, under, Contexts, here, next, fill, fill_in, DrawsNothing, EndsTyped, LeavesItsTypes, IsCongruence}
+use Rattle.peephole_terms.proofs.MeaningLemmas.{parts_of_types, own_fine, fine_of, fine_in}
+use Rattle.peephole_terms.proofs.ValueLemmas.{state_typed, leaves_of, leaves_in}
+use Rattle.peephole_terms.proofs.WordLemmas.{both_empty, nothing_below, own_free, free_of, free_in}
 
 -- ---- the same outcomes
 
@@ -196,7 +196,7 @@ mutual
 
 -- ---- the laws
 
-pub agrees_self : (locals globals list : List PrimitiveTypeInfo) (words : List ℕ) (t : Term Head) → types_of locals globals t ≡ Some list →
+agrees_self : (locals globals list : List PrimitiveTypeInfo) (words : List ℕ) (t : Term Head) → types_of locals globals t ≡ Some list →
     Agree locals globals words words t t
 agrees_self locals globals list words t e = record {
   list = list;
@@ -206,7 +206,7 @@ agrees_self locals globals list words t e = record {
       (fine_of locals globals list t words s e h.locals_are h.globals_are);
 }
 
-pub agrees_sym : (locals globals : List PrimitiveTypeInfo) (us vs : List ℕ) (t u : Term Head) → Agree locals globals us vs t u →
+agrees_sym : (locals globals : List PrimitiveTypeInfo) (us vs : List ℕ) (t u : Term Head) → Agree locals globals us vs t u →
     Agree locals globals vs us u t
 agrees_sym locals globals us vs t u a = record {
   list = a.list;
@@ -215,7 +215,7 @@ agrees_sym locals globals us vs t u a = record {
   means = λ s h. same_sym (length globals) (meaning_of us t s) (meaning_of vs u s) (a.means s h);
 }
 
-pub agrees_trans : (locals globals : List PrimitiveTypeInfo) (us vs ws : List ℕ) (t u v : Term Head) → Agree locals globals us vs t u →
+agrees_trans : (locals globals : List PrimitiveTypeInfo) (us vs ws : List ℕ) (t u v : Term Head) → Agree locals globals us vs t u →
     Agree locals globals vs ws u v → Agree locals globals us ws t v
 agrees_trans locals globals us vs ws t u v a b =
     let e : Some b.list ≡ Some a.list = sym b.first_types ∙ a.second_types in
@@ -226,7 +226,7 @@ agrees_trans locals globals us vs ws t u v a b =
       means = λ s h. same_trans (length globals) (meaning_of us t s) (meaning_of vs u s) (meaning_of ws v s) (a.means s h) (b.means s h);
     }
 
-pub agrees_within : (locals globals list : List PrimitiveTypeInfo) (us vs : List ℕ) (c : Context) (t u : Term Head) → DrawsNothing c →
+agrees_within : (locals globals list : List PrimitiveTypeInfo) (us vs : List ℕ) (c : Context) (t u : Term Head) → DrawsNothing c →
     types_of locals globals (fill c t) ≡ Some list → Agree locals globals us vs t u → Agree locals globals us vs (fill c t) (fill c u)
 agrees_within locals globals list us vs c t u d e a = record {
   list = list;
@@ -235,9 +235,30 @@ agrees_within locals globals list us vs c t u d e a = record {
   means = λ s h. meaning_same_of locals globals list us vs c t u d e a s h;
 }
 
+agrees_wordless : (locals globals list : List PrimitiveTypeInfo) (us vs : List ℕ) (t : Term Head) → draws_of t ≡ [] →
+    types_of locals globals t ≡ Some list → Agree locals globals us vs t t
+agrees_wordless locals globals list us vs t d e = record {
+  list = list;
+  first_types = e;
+  second_types = e;
+  means = λ s h. subst (λ o. SameBelow (length globals) (meaning_of us t s) o) (free_of us vs t s d)
+      (same_self locals globals list (length globals) (meaning_of us t s) (fine_of locals globals list t us s e h.locals_are h.globals_are));
+}
+
+-- what a typed term leaves
+pub leaves_its_types : LeavesItsTypes
+leaves_its_types locals globals list words t s e h =
+    go (meaning_of words t s) (fine_of locals globals list t words s e h.locals_are h.globals_are) (leaves_of locals globals list t words s e h)
+  where
+    go : (o : Outcome) → Fine locals globals list o → Leaves o → EndsTyped locals globals list o
+    go (Ends vs m) f l = (f.0, l.0, state_typed locals globals list vs m f l)
+    go (Traps gs) f l = tt
+    go Stuck f l = f
+
 pub congruence : IsCongruence
 congruence = record {
   reflexive = agrees_self;
+  wordless = agrees_wordless;
   symmetric = agrees_sym;
   transitive = agrees_trans;
   congruent = agrees_within;

@@ -27,7 +27,7 @@ use Rattle.peephole_terms.specs.Typing.{integer_type, own_types, with_own_types,
 use Rattle.peephole_terms.specs.Meaning.{word_meaning, number_meaning, own_meaning, with_own_meaning, meaning_of, meaning}
 use Rattle.peephole_terms.specs.StackCode.{IsStackCode}
 use Rattle.peephole_terms.proofs.MeaningRows.{number_type, run_word, run_sum_of, run_through_global}
-use Rattle.peephole_terms.specs.MeaningLemmas.{parts_of_types, that_type, fine_of, fine_in}
+use Rattle.peephole_terms.proofs.MeaningLemmas.{parts_of_types, that_type, fine_of, fine_in}
 
 -- ---- requested globals
 

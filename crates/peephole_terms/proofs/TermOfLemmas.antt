@@ -53,7 +53,7 @@ more_themselves {t} h k = record {
 }
 
 -- a node with an instruction has a row
-row_kind : (h : Head) (i : Instruction) → instr_of_head h ≡ Some i → node_kind h ≡ Own i
+pub row_kind : (h : Head) (i : Instruction) → instr_of_head h ≡ Some i → node_kind h ≡ Own i
 row_kind h i e =
     let past : slice_get rowless h.place ≡ None = slice_get_past rowless h.place (ltb-false h.place 12 (later (nat_lt h.place 12) _ e)) in
     ap (λ (k : Option NodeKind). kind_found k (instr_of_head h)) past ∙ ap of_instruction e

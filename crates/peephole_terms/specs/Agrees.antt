@@ -1,9 +1,10 @@
 -- When two terms agree: they have the same types, and mean the same in every state of the variables; and terms with a hole (this project).
-use Rattle.std.specs.Prelude.{◌≡◌, ℕ, List, [], length, Some}
+use Rattle.std.specs.Prelude.{◌≡◌, ℕ, List, [], length, Some, ⊤}
+use Rattle.std.specs.List.{All}
 use Rattle.mutate_base.specs.declared.types.PrimitiveTypeInfo.{PrimitiveTypeInfo}
 use Rattle.peephole_lang.specs.declared.lang.Head.{Head}
 use Rattle.peephole_lang.specs.Term.{Term, Terms, absent, node, ◌▸◌}
-use Rattle.peephole_machine.specs.Values.{State, HasTypes}
+use Rattle.peephole_machine.specs.Values.{IsValue, types, State, HasTypes, Outcome, Ends, Traps, Stuck}
 use Rattle.peephole_machine.specs.Agreement.{SameBelow}
 use Rattle.peephole_terms.specs.Expansion.{draws_of}
 use Rattle.peephole_terms.specs.Typing.{types_of}
@@ -44,10 +45,25 @@ DrawsNothing c = draws_of (fill c absent) ≡ []
 
 -- ---- laws
 
--- Agreement is an equivalence of typed terms, and agreeing terms agree in every place of a typed term that draws no other word.
+-- It ends with values of these types, in a state of the variables' types, or it traps; it is never stuck.
+abbrev pub EndsTyped : (locals globals list : List PrimitiveTypeInfo) → Outcome → Type 0
+EndsTyped locals globals list (Ends vs s) = (types vs ≡ list) × All IsValue vs × HasTypes locals globals s
+EndsTyped locals globals list (Traps gs) = ⊤
+EndsTyped locals globals list Stuck = ⊥
+
+-- A typed term leaves values of its types, in a state of the variables' types, or traps.
+abbrev pub LeavesItsTypes : Type 0
+LeavesItsTypes =
+    (locals globals list : List PrimitiveTypeInfo) (words : List ℕ) (t : Term Head) (s : State) →
+    types_of locals globals t ≡ Some list → HasTypes locals globals s → EndsTyped locals globals list (meaning_of words t s)
+
+-- Agreement is an equivalence of typed terms; a term that draws no word agrees with itself for all words; and agreeing terms agree in every place
+-- of a typed term that draws no other word.
 pub record IsCongruence : Type 0 where
   pub reflexive : (locals globals list : List PrimitiveTypeInfo) (words : List ℕ) (t : Term Head) →
       types_of locals globals t ≡ Some list → Agree locals globals words words t t
+  pub wordless : (locals globals list : List PrimitiveTypeInfo) (us vs : List ℕ) (t : Term Head) → draws_of t ≡ [] →
+      types_of locals globals t ≡ Some list → Agree locals globals us vs t t
   pub symmetric : (locals globals : List PrimitiveTypeInfo) (us vs : List ℕ) (t u : Term Head) →
       Agree locals globals us vs t u → Agree locals globals vs us u t
   pub transitive : (locals globals : List PrimitiveTypeInfo) (us vs ws : List ℕ) (t u v : Term Head) →

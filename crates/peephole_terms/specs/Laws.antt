@@ -1,6 +1,6 @@
 -- What holds of written instructions, and of terms that stand for trees: this project's laws. Which opcode a name has: WebAssembly Core Specification,
 -- Binary Format, Instructions.
-use Rattle.std.specs.Prelude.{ℕ, ℤ, ◌≡◌, ◌⊎◌, ◌≤◌, ◌<◌, Bool, List, [], length, Ok, Err, IsSome, FitsSigned}
+use Rattle.std.specs.Prelude.{ℕ, ℤ, ◌≡◌, ◌⊎◌, ◌≤◌, ◌<◌, Bool, List, [], length, Some, Ok, Err, IsSome, FitsSigned, option_and_then}
 use Rattle.std.specs.Int.{Width, w32, w64, int_wrapping_add}
 use Rattle.wasm_code.specs.Instruction.{Instruction}
 use Rattle.wasm_code.specs.Table.{HasOpcode}
@@ -8,17 +8,24 @@ use Rattle.wasm_code.specs.declared.immediate.Imm.{Imm}
 use Rattle.wasm_code.specs.declared.immediate.Imm.TheVariants as imm
 use Rattle.wasm_code.specs.declared.table.Opcode.TheVariants.{Byte}
 use Rattle.mutate_base.specs.Module.{Module}
+use Rattle.mutate_base.specs.declared.types.PrimitiveTypeInfo.{PrimitiveTypeInfo}
 use Rattle.mutate_base.specs.declared.error.Error.{Error}
 use Rattle.mutate_base.specs.declared.error.Error.TheVariants.{CannotUnfold, GlobalIndex}
 use Rattle.peephole_lang.specs.declared.lang.Head.{Head}
-use Rattle.peephole_lang.specs.Term.{Term}
+use Rattle.peephole_lang.specs.Node.{instr_of_head}
+use Rattle.peephole_lang.specs.Term.{Term, Terms, node}
 use Rattle.peephole_graphs.specs.Entries.{Graph}
 use Rattle.peephole_graphs.specs.Forest.{forest}
 use Rattle.peephole_graphs.specs.GraphOf.{IsGraphOf}
 use Rattle.peephole_graphs.specs.Tree.{Tree, instructions_of, instructions}
 use Rattle.peephole_machine.specs.declared.integer.IntegerType.TheVariants as integer
+use Rattle.peephole_machine.specs.Values.{State, then_run}
+use Rattle.peephole_machine.specs.IntegerRow.{row_types, integer_row}
+use Rattle.peephole_machine.specs.Machine.{act}
 use Rattle.peephole_terms.specs.declared.encoder.node_kind.NumberType.TheVariants as number
-use Rattle.peephole_terms.specs.Expansion.{Setting, constant, rest_of, add_of, set_global, get_global, expansion_in, requests_of, draws_of}
+use Rattle.peephole_terms.specs.Expansion.{Setting, constant, rest_of, add_of, set_global, get_global, expansion_in, requests_of, draws_of, draws}
+use Rattle.peephole_terms.specs.Typing.{types_of, types_in}
+use Rattle.peephole_terms.specs.Meaning.{meaning_of, meaning}
 use Rattle.peephole_terms.specs.ReadAgain.{KeepsTheTrees}
 use Rattle.peephole_graphs.specs.TermOf.{IsTermOf}
 use Rattle.peephole_terms.specs.Written.{Site, source_at, block_shapes, term_code, term_requests, written_block, after_block_term}
@@ -86,3 +93,13 @@ abbrev pub OperatorsHaveEntries : Type 0
 OperatorsHaveEntries =
     (info : Module) (preserving : Bool) (site : Site) (graph : Graph) → site.block.end ≤ length site.operators →
     IsGraphOf (source_at info preserving site) graph → (at : ℕ) → site.block.start ≤ at → at < site.block.end → IsSome (graph.own_entry at)
+
+-- ---- nodes with an instruction
+
+-- A node with an instruction is typed by its row on its children's types, and does with their values what the row does; it draws nothing itself.
+pub record MeanByTheirRows : Type 0 where
+  pub types : (locals globals : List PrimitiveTypeInfo) (h : Head) (kids : Terms Head) (i : Instruction) → instr_of_head h ≡ Some i →
+      types_of locals globals (node h kids) ≡ option_and_then (row_types locals globals (integer_row i)) (types_in locals globals kids)
+  pub means : (words : List ℕ) (h : Head) (kids : Terms Head) (i : Instruction) (s : State) → instr_of_head h ≡ Some i →
+      meaning_of words (node h kids) s ≡ then_run (meaning words kids s) (act (integer_row i))
+  pub draws : (h : Head) (kids : Terms Head) (i : Instruction) → instr_of_head h ≡ Some i → draws_of (node h kids) ≡ draws kids

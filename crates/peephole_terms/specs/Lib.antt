@@ -10,6 +10,3 @@ pub mod SameRun
 pub mod SameAnswers
 pub mod Laws
 pub mod EncoderSteps
-pub mod MeaningLemmas
-pub mod ValueLemmas
-pub mod WordLemmas

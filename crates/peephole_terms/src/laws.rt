@@ -1,7 +1,7 @@
 //! What holds of written bodies, of runs, and of the forest of every block. A function here does nothing: its contract is the laws.
 
-ghost use Rattle.peephole_terms.specs.Agrees.{IsCongruence};
-ghost use Rattle.peephole_terms.specs.Laws.{HaveTheirOpcodes, UnfoldsAddUp, RefusesByName, TreesAreWrittenAsTheyAre, OwnTreesAreKept, OperatorsHaveEntries};
+ghost use Rattle.peephole_terms.specs.Agrees.{IsCongruence, LeavesItsTypes};
+ghost use Rattle.peephole_terms.specs.Laws.{HaveTheirOpcodes, MeanByTheirRows, UnfoldsAddUp, RefusesByName, TreesAreWrittenAsTheyAre, OwnTreesAreKept, OperatorsHaveEntries};
 ghost use Rattle.peephole_terms.specs.SameAnswers.{TermAnswersAreTheSame, BodyAnswersAreTheSame};
 ghost use Rattle.peephole_terms.specs.StackCode.{IsStackCode};
 
@@ -50,7 +50,18 @@ pub fn own_trees_are_kept()
     ensures entries { OperatorsHaveEntries }
 {}
 
-/// Terms agree as an equivalence, and agreeing terms agree in every place of a term that draws no other word.
+/// A node with an instruction has the types that its row gives on its children's, and does with their values what its row does.
+pub fn nodes_mean_by_their_rows()
+    ensures { MeanByTheirRows }
+{}
+
+/// A typed term leaves values of its types, in a state of the variables' types, or traps; it is never stuck.
+pub fn typed_terms_leave_their_types()
+    ensures { LeavesItsTypes }
+{}
+
+/// Terms agree as an equivalence, a term that draws no word for all words; and agreeing terms agree in every place of a term
+/// that draws no other word.
 pub fn agreement_is_a_congruence()
     ensures { IsCongruence }
 {}

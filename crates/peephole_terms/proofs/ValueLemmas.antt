@@ -16,7 +16,7 @@ use Rattle.peephole_terms.specs.NodeKind.{IntegerType, NodeKind, node_kind}
 use Rattle.peephole_terms.specs.Expansion.{constant_in, draws_of, draws, first_word}
 use Rattle.peephole_terms.specs.Typing.{integer_type, own_types, with_own_types, types_of, types_in}
 use Rattle.peephole_terms.specs.Meaning.{word_meaning, number_meaning, own_meaning, with_own_meaning, meaning_of, meaning}
-use Rattle.peephole_terms.specs.MeaningLemmas.{parts_of_types, fine_of, fine_in}
+use Rattle.peephole_terms.proofs.MeaningLemmas.{parts_of_types, fine_of, fine_in}
 
 whole_leaves : (t : IntegerType) (n : ℕ) (s : State) → AreValues s → Leaves (Ends (whole t n ∷ []) s)
 whole_leaves t n s h = (All-cons IsValue (whole t n) [] (whole_is t n) (All-nil IsValue), h)
