@@ -1,7 +1,6 @@
 -- A typed term's meaning has values of its types.
 use Rattle.std.proofs.Common.{◌≡◌, ℕ, ℤ, List, [], ◌∷◌, length, drop, Option, Some, None}
 use Rattle.std.specs.Prelude.{option_and_then}
-use Rattle.std.specs.List.{All}
 use Rattle.std.proofs.lemmas.List.Elements.{All-nil, All-cons}
 use Rattle.mutate_base.specs.declared.types.PrimitiveTypeInfo.{PrimitiveTypeInfo}
 use Rattle.peephole_lang.specs.declared.lang.Head.{Head}
