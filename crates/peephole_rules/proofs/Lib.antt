@@ -1,0 +1,6 @@
+pub mod ByteLemmas
+pub mod RowLemmas
+pub mod PureLemmas
+pub mod OperandLemmas
+pub mod SwapLemmas
+pub mod OrderLemmas

@@ -1,0 +1,5 @@
+pub mod Lists
+pub mod Operator
+pub mod Effects
+pub mod Rewriting
+pub mod Laws

@@ -1,0 +1,135 @@
+-- Operators by the byte of their opcode, and the nodes that rules write
+-- (WebAssembly Core Specification 3.0, Binary Format, Instructions: numeric, parametric and variable instructions).
+use Rattle.std.specs.Prelude.{ℕ, ℤ, ◌+◌, ◌-◌, ◌==◌, ◌&&◌, ◌||◌, nat_le, nat_lt, not, Bool, true, false, List, [], ◌∷◌, Option, Some, None, slice_get, option_and_then, if◌then◌else◌}
+use Rattle.wasm_code.specs.declared.immediate.ValType.{ValType}
+use Rattle.wasm_code.specs.declared.immediate.ValType.TheVariants as val
+use Rattle.wasm_code.specs.Instruction.{Instruction}
+use Rattle.wasm_code.specs.declared.table.Opcode.{Opcode}
+use Rattle.wasm_code.specs.declared.table.Opcode.TheVariants.{Byte, Fc, Fd}
+use Rattle.wasm_code.specs.Table.{row_at, opcode_in}
+use Rattle.mutate_base.specs.declared.types.PrimitiveTypeInfo.{PrimitiveTypeInfo}
+use Rattle.mutate_base.specs.declared.types.PrimitiveTypeInfo.TheVariants as primitive
+use Rattle.peephole_nodes.specs.declared.payload.Payload.{Payload}
+use Rattle.peephole_nodes.specs.declared.payload.Payload.TheVariants as payload
+use Rattle.peephole_lang.specs.declared.lang.Head.{Head}
+use Rattle.peephole_lang.specs.Node.{instr_of_head}
+use Rattle.peephole_lang.specs.Term.{Term, Terms, absent, node, no_terms, ◌▸◌}
+use Rattle.peephole_machine.specs.declared.integer.IntegerType.{IntegerType}
+use Rattle.peephole_machine.specs.declared.integer.IntegerType.TheVariants as integer
+use Rattle.peephole_rules.specs.Lists.{Lists}
+
+-- ---- opcodes
+
+abbrev pub byte_of : Option Opcode → Option ℕ
+byte_of (Some (Byte byte)) = Some byte
+byte_of o = None
+
+abbrev pub instruction_byte : Option Instruction → Option ℕ
+instruction_byte (Some i) = byte_of (opcode_in (row_at i.row))
+instruction_byte None = None
+
+-- the opcode of a node's instruction, where that is one byte
+abbrev pub opcode_byte : Head → Option ℕ
+opcode_byte h = instruction_byte (instr_of_head h)
+
+-- one of the bytes
+abbrev pub is_in : List ℕ → ℕ → Bool
+is_in [] byte = false
+is_in (x ∷ xs) byte = byte == x || is_in xs byte
+
+abbrev pub is_of : List ℕ → Option ℕ → Bool
+is_of bytes (Some byte) = is_in bytes byte
+is_of bytes None = false
+
+abbrev pub between : (first last : ℕ) → ℕ → Bool
+between first last byte = nat_le first byte && nat_le byte last
+
+-- the operators whose operands may change places: eq and ne; add, mul, and, or, xor; of i32 and of i64
+abbrev pub commutative : List ℕ
+commutative =
+    0x46 ∷ 0x47 ∷ 0x51 ∷ 0x52
+    ∷ 0x6a ∷ 0x6c ∷ 0x71 ∷ 0x72 ∷ 0x73
+    ∷ 0x7c ∷ 0x7e ∷ 0x83 ∷ 0x84 ∷ 0x85 ∷ []
+
+-- add, mul, and, or, xor
+abbrev pub associative : List ℕ
+associative = 0x6a ∷ 0x6c ∷ 0x71 ∷ 0x72 ∷ 0x73 ∷ 0x7c ∷ 0x7e ∷ 0x83 ∷ 0x84 ∷ 0x85 ∷ []
+
+-- lt and le, signed and unsigned
+abbrev pub less : List ℕ
+less = 0x48 ∷ 0x49 ∷ 0x4c ∷ 0x4d ∷ 0x53 ∷ 0x54 ∷ 0x57 ∷ 0x58 ∷ []
+
+-- gt and ge
+abbrev pub greater : List ℕ
+greater = 0x4a ∷ 0x4b ∷ 0x4e ∷ 0x4f ∷ 0x55 ∷ 0x56 ∷ 0x59 ∷ 0x5a ∷ []
+
+-- the comparison that holds of the operands in the other order: gt for lt, ge for le, and back
+abbrev pub turned : ℕ → Option ℕ
+turned byte = if is_in less byte then Some (byte + 2) else (if is_in greater byte then Some (byte - 2) else None)
+
+-- local.set, local.tee, global.set
+abbrev pub writers : List ℕ
+writers = 0x21 ∷ 0x22 ∷ 0x24 ∷ []
+
+-- div_s, div_u, rem_s, rem_u
+abbrev pub divisions : List ℕ
+divisions = 0x6d ∷ 0x6e ∷ 0x6f ∷ 0x70 ∷ 0x7f ∷ 0x80 ∷ 0x81 ∷ 0x82 ∷ []
+
+-- ---- one value
+
+-- the integer rows that leave no value: nop, drop, local.set, global.set
+abbrev pub statements : List ℕ
+statements = 0x01 ∷ 0x1a ∷ 0x21 ∷ 0x24 ∷ []
+
+abbrev pub is_value : Option ℕ → Bool
+is_value (Some byte) = not (is_in statements byte)
+is_value None = false
+
+-- a typed term with such a node leaves one value
+abbrev pub has_one_value : Term Head → Bool
+has_one_value absent = false
+has_one_value (node h kids) = is_value (opcode_byte h)
+
+-- ---- nodes that rules write
+
+-- an operator without an immediate, by its opcode, of those from 45 to C4 (this project: the rows of these follow one another)
+abbrev pub operator : ℕ → Head
+operator byte = record { place = byte - 17; payload = payload.Nothing }
+
+-- an opcode of the second block of operators, those of i64, from that of i32
+abbrev pub of_type : IntegerType → (i32_opcode i64_opcode : ℕ) → ℕ
+of_type integer.I32 byte other = byte
+of_type integer.I64 byte other = other
+
+abbrev pub constant_head : IntegerType → ℤ → Head
+constant_head integer.I32 z = record { place = 48; payload = payload.I32 z }
+constant_head integer.I64 z = record { place = 49; payload = payload.I64 z }
+
+abbrev pub constant : IntegerType → ℤ → Term Head
+constant t z = node (constant_head t z) no_terms
+
+abbrev pub one : Head → Term Head → Term Head
+one h x = node h (x ▸ no_terms)
+
+abbrev pub two : Head → Term Head → Term Head → Term Head
+two h x y = node h (x ▸ y ▸ no_terms)
+
+abbrev pub three : Head → Term Head → Term Head → Term Head → Term Head
+three h x y z = node h (x ▸ y ▸ z ▸ no_terms)
+
+-- its children and their values
+abbrev pub container : Terms Head → Term Head
+container kids = node (record { place = 11; payload = payload.Nothing }) kids
+
+abbrev pub nop : Term Head
+nop = node (record { place = 12; payload = payload.Nothing }) no_terms
+
+-- the constant as a sum with a drawn word
+abbrev pub unfold_head : IntegerType → Head
+unfold_head integer.I32 = record { place = 5; payload = payload.Nothing }
+unfold_head integer.I64 = record { place = 6; payload = payload.Nothing }
+
+-- its child by way of a requested global
+abbrev pub use_global_head : IntegerType → Head
+use_global_head integer.I32 = record { place = 7; payload = payload.Nothing }
+use_global_head integer.I64 = record { place = 8; payload = payload.Nothing }

@@ -1,0 +1,13 @@
+//! What holds of the rules. A function here does nothing: its contract is the laws.
+
+ghost use Rattle.peephole_rules.specs.Laws.{RulesKeepMeaning};
+
+use peephole_terms::laws::{nodes_mean_by_their_rows, typed_terms_leave_their_types};
+
+/// What a rule makes of a term agrees with the term.
+pub fn rules_keep_meaning()
+    ensures { RulesKeepMeaning }
+{
+    nodes_mean_by_their_rows();
+    typed_terms_leave_their_types();
+}
