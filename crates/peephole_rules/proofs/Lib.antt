@@ -4,3 +4,5 @@ pub mod PureLemmas
 pub mod OperandLemmas
 pub mod SwapLemmas
 pub mod OrderLemmas
+pub mod NeutralLemmas
+pub mod WayLemmas

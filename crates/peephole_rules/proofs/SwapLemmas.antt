@@ -60,12 +60,12 @@ pub record Swap (t : IntegerType) (row turned : IntegerRow) : Type 0 where
 alike_types : (t : PrimitiveTypeInfo) → same_types (t ∷ t ∷ []) (t ∷ t ∷ []) ≡ true
 alike_types t = rw (same_type_self t) refl
 
-operator_types : (locals globals : List PrimitiveTypeInfo) (t : PrimitiveTypeInfo) (f : IntegerOperator) → f.operands ≡ t ∷ t ∷ [] →
+pub operator_types : (locals globals : List PrimitiveTypeInfo) (t : PrimitiveTypeInfo) (f : IntegerOperator) → f.operands ≡ t ∷ t ∷ [] →
     row_types locals globals (operation f) (t ∷ t ∷ []) ≡ Some (type_of f.result ∷ [])
 operator_types locals globals t f e =
     if_typed_is (same_types (t ∷ t ∷ []) f.operands) (type_of f.result ∷ []) (rw (e, same_type_self t) refl)
 
-act_two : (t : PrimitiveTypeInfo) (f : IntegerOperator) (v w : Value) (s : State) → f.operands ≡ t ∷ t ∷ [] → v.type ≡ t → w.type ≡ t →
+pub act_two : (t : PrimitiveTypeInfo) (f : IntegerOperator) (v w : Value) (s : State) → f.operands ≡ t ∷ t ∷ [] → v.type ≡ t → w.type ≡ t →
     act (operation f) (v ∷ w ∷ []) s ≡ given f.result (f.value (v.number ∷ w.number ∷ [])) s
 act_two t f v w s e hv hw = act_is (operation f) (v ∷ w ∷ []) (type_of f.result ∷ []) s
     (subst (λ us. row_types (types s.locals) (types s.globals) (operation f) us ≡ Some (type_of f.result ∷ []))

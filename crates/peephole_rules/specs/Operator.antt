@@ -121,8 +121,11 @@ three h x y z = node h (x ▸ y ▸ z ▸ no_terms)
 abbrev pub container : Terms Head → Term Head
 container kids = node (record { place = 11; payload = payload.Nothing }) kids
 
+abbrev pub nop_head : Head
+nop_head = record { place = 12; payload = payload.Nothing }
+
 abbrev pub nop : Term Head
-nop = node (record { place = 12; payload = payload.Nothing }) no_terms
+nop = node nop_head no_terms
 
 -- the constant as a sum with a drawn word
 abbrev pub unfold_head : IntegerType → Head

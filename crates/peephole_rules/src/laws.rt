@@ -2,7 +2,9 @@
 
 ghost use Rattle.peephole_rules.specs.Laws.{RulesKeepMeaning};
 
-use peephole_terms::laws::{nodes_mean_by_their_rows, typed_terms_leave_their_types};
+use peephole_terms::laws::{
+    agreement_is_a_congruence, nodes_mean_by_their_rows, typed_terms_leave_their_types,
+};
 
 /// What a rule makes of a term agrees with the term.
 pub fn rules_keep_meaning()
@@ -10,4 +12,5 @@ pub fn rules_keep_meaning()
 {
     nodes_mean_by_their_rows();
     typed_terms_leave_their_types();
+    agreement_is_a_congruence();
 }
