@@ -6,3 +6,4 @@ pub mod SwapLemmas
 pub mod OrderLemmas
 pub mod NeutralLemmas
 pub mod WayLemmas
+pub mod TwiceLemmas

@@ -38,11 +38,11 @@ pub record LeavesFirst (t : IntegerType) (f : IntegerOperator) (e : ℕ) : Type 
   pub value : (n : ℕ) → n < 2 ^ bits (width_of t) → (k : ℕ) × (f.value (n ∷ e ∷ []) ≡ Some k) × (k % 2 ^ bits (width_of t) ≡ n)
 
 -- what an operator gives is a value's number again
-again : (t : IntegerType) (v : Value) (k : ℕ) → v.type ≡ type_of t → k % 2 ^ bits (width_of t) ≡ v.number → whole t k ≡ v
+pub again : (t : IntegerType) (v : Value) (k : ℕ) → v.type ≡ type_of t → k % 2 ^ bits (width_of t) ≡ v.number → whole t k ≡ v
 again t v k e f = ap₂ (λ a b. record { type = a; number = b }) (sym e) f
 
 -- a value's number is below the size of its type
-below : (t : IntegerType) (v : Value) → v.type ≡ type_of t → IsValue v → v.number < 2 ^ bits (width_of t)
+pub below : (t : IntegerType) (v : Value) → v.type ≡ type_of t → IsValue v → v.number < 2 ^ bits (width_of t)
 below integer.I32 v e h = subst (λ (u : PrimitiveTypeInfo). IsOfType u v.number) e h
 below integer.I64 v e h = subst (λ (u : PrimitiveTypeInfo). IsOfType u v.number) e h
 

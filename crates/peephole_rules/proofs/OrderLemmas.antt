@@ -36,7 +36,7 @@ pub some_only_if : {A : Type 0} (b : Bool) (a x : A) → only_if b a ≡ Some x 
 some_only_if true a x e = (refl, cc)
 some_only_if false a x e = absurd cc
 
-is_not : (b : Bool) → not b ≡ true → b ≡ false
+pub is_not : (b : Bool) → not b ≡ true → b ≡ false
 is_not true e = absurd (false≢true e)
 is_not false e = refl
 

@@ -29,7 +29,7 @@ alone Stuck = refl
 
 module _ (rows : MeanByTheirRows) (sound : LeavesItsTypes) (laws : IsCongruence) where
   -- from a term with the same words on
-  after_itself : (locals globals list : List PrimitiveTypeInfo) (us vs : List ℕ) (x u : Term Head) → types_of locals globals x ≡ Some list →
+  pub after_itself : (locals globals list : List PrimitiveTypeInfo) (us vs : List ℕ) (x u : Term Head) → types_of locals globals x ≡ Some list →
       draws_of x ≡ [] → types_of locals globals u ≡ Some list →
       ((s : State) → HasTypes locals globals s → meaning_of vs x s ≡ meaning_of vs u s) → Agree locals globals us vs x u
   after_itself locals globals list us vs x u e d f k =

@@ -9,7 +9,7 @@ use Rattle.peephole_terms.specs.Expansion.{draws_of}
 use Rattle.peephole_terms.specs.Typing.{types_of}
 use Rattle.peephole_terms.specs.Agrees.{Agree}
 use Rattle.peephole_rules.specs.Operator.{constant}
-use Rattle.peephole_rules.specs.Rewriting.{commute, turn_comparison, add_zero, sub_zero, mul_one, or_zero, xor_zero, shift_by_zero, through_global, as_a_sum, with_nop}
+use Rattle.peephole_rules.specs.Rewriting.{commute, turn_comparison, add_zero, sub_zero, mul_one, or_zero, xor_zero, shift_by_zero, or_self, and_self, through_global, as_a_sum, with_nop}
 
 -- Where the first term has types and draws no word, the second has the same types, and means the same in every state, for all words that it draws.
 abbrev pub AgreeAlways : (before after : Term Head) → Type 0
@@ -31,6 +31,10 @@ AgreeOfType t before after =
 abbrev pub KeepsOfType : (IntegerType → Term Head → Term Head) → Type 0
 KeepsOfType rule = (t : IntegerType) (x : Term Head) → AgreeOfType t x (rule t x)
 
+-- And with what a rule makes of the terms of the type for which it has an answer.
+abbrev pub KeepsWhereItAnswers : (IntegerType → Term Head → Option (Term Head)) → Type 0
+KeepsWhereItAnswers rule = (t : IntegerType) (x u : Term Head) → rule t x ≡ Some u → AgreeOfType t x u
+
 pub record RulesKeepMeaning : Type 0 where
   pub commute_keeps : Keeps commute
   pub turn_comparison_keeps : Keeps turn_comparison
@@ -40,6 +44,8 @@ pub record RulesKeepMeaning : Type 0 where
   pub or_zero_keeps : KeepsOfType or_zero
   pub xor_zero_keeps : KeepsOfType xor_zero
   pub shift_by_zero_keeps : KeepsOfType shift_by_zero
+  pub or_self_keeps : KeepsWhereItAnswers or_self
+  pub and_self_keeps : KeepsWhereItAnswers and_self
   pub through_global_keeps : KeepsOfType through_global
   pub as_a_sum_keeps : (t : IntegerType) (z : ℤ) → AgreeOfType t (constant t z) (as_a_sum t z)
   pub with_nop_keeps : (x : Term Head) → AgreeAlways x (with_nop x)

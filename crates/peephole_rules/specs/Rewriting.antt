@@ -55,6 +55,16 @@ xor_zero t x = with_constant t 0x73 0x85 0 x
 abbrev pub shift_by_zero : IntegerType → Term Head → Term Head
 shift_by_zero t x = with_constant t 0x74 0x86 0 x
 
+-- x, of type t → or x x, and x x
+abbrev pub with_itself : IntegerType → (i32_opcode i64_opcode : ℕ) → Term Head → Option (Term Head)
+with_itself t a b x = only_if (not (writes x)) (two (operator (of_type t a b)) x x)
+
+abbrev pub or_self : IntegerType → Term Head → Option (Term Head)
+or_self t x = with_itself t 0x72 0x84 x
+
+abbrev pub and_self : IntegerType → Term Head → Option (Term Head)
+and_self t x = with_itself t 0x71 0x83 x
+
 -- ---- other ways to the same value
 
 -- x, of type t → x by way of a requested global

@@ -1,5 +1,6 @@
 use Rattle.peephole_rules.proofs.OrderLemmas.{commute_keeps, turn_comparison_keeps}
 use Rattle.peephole_rules.proofs.NeutralLemmas.{add_zero_keeps, sub_zero_keeps, mul_one_keeps, or_zero_keeps, xor_zero_keeps, shift_by_zero_keeps}
+use Rattle.peephole_rules.proofs.TwiceLemmas.{or_self_keeps, and_self_keeps}
 use Rattle.peephole_rules.proofs.WayLemmas.{through_global_keeps, as_a_sum_keeps, with_nop_keeps}
 use Rattle.peephole_rules.proofs.laws.rules_keep_meaning.Goals as goal
 
@@ -17,6 +18,8 @@ returns c =
       or_zero_keeps = or_zero_keeps rows sound agreement;
       xor_zero_keeps = xor_zero_keeps rows sound agreement;
       shift_by_zero_keeps = shift_by_zero_keeps rows sound agreement;
+      or_self_keeps = or_self_keeps rows sound agreement;
+      and_self_keeps = and_self_keeps rows sound agreement;
       through_global_keeps = through_global_keeps rows sound agreement;
       as_a_sum_keeps = as_a_sum_keeps rows sound agreement;
       with_nop_keeps = with_nop_keeps rows sound agreement;
