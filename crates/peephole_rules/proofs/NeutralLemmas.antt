@@ -1,6 +1,6 @@
 -- A constant that leaves the other operand as it is.
-use Rattle.std.proofs.Common.{◌≡◌, ℕ, ℤ, ◌+◌, ◌-◌, ◌*◌, ◌%◌, ◌^◌, ◌<◌, Bool, true, false, List, [], ◌∷◌, ◌++◌, length, drop, Option, Some, None, refl, sym, ap, ap₂, ◌∙◌, subst, arith}
-use Rattle.std.specs.Prelude.{pos, bit_or, bit_xor, option_and_then}
+use Rattle.std.proofs.Common.{◌≡◌, ℕ, ℤ, ◌+◌, ◌-◌, ◌*◌, ◌%◌, ◌^◌, ◌<◌, List, [], ◌∷◌, ◌++◌, length, drop, Option, Some, refl, sym, ap, ap₂, ◌∙◌, subst, arith}
+use Rattle.std.specs.Prelude.{pos, bit_or, bit_xor}
 use Rattle.std.specs.Int.{cast_unsigned}
 use Rattle.std.specs.Int.Bits.{or_zero_r, xor_zero_r}
 use Rattle.std.proofs.Math.Nat.{mod-eq_of_lt, add-mod_right, mul-one}
@@ -9,14 +9,13 @@ use mir.Val.{bits}
 use Rattle.wasm_code.specs.Table.{table, row_at}
 use Rattle.mutate_base.specs.declared.types.PrimitiveTypeInfo.{PrimitiveTypeInfo}
 use Rattle.peephole_lang.specs.declared.lang.Head.{Head}
-use Rattle.peephole_lang.specs.Term.{Term, Terms, node, no_terms, ◌▸◌}
+use Rattle.peephole_lang.specs.Term.{Term, node, no_terms, ◌▸◌}
 use Rattle.peephole_machine.specs.declared.integer.IntegerType.{IntegerType}
 use Rattle.peephole_machine.specs.declared.integer.IntegerType.TheVariants as integer
-use Rattle.peephole_machine.specs.Values.{type_of, width_of, Value, IsOfType, IsValue, whole, types, State, HasTypes, Outcome, Ends, Traps, Stuck, then_run, above}
+use Rattle.peephole_machine.specs.Values.{type_of, width_of, Value, IsOfType, IsValue, whole, State, Outcome, Ends, Traps, Stuck, then_run, above}
 use Rattle.peephole_machine.specs.Integer.{IntegerOperator, binary, add, sub, mul, or_, xor_, shl}
-use Rattle.peephole_machine.specs.IntegerRow.{IntegerRow, constant, operation, row_types, integer_row, bare_row}
+use Rattle.peephole_machine.specs.IntegerRow.{operation, integer_row, bare_row}
 use Rattle.peephole_machine.specs.Machine.{given, act}
-use Rattle.peephole_machine.specs.RowLemmas.{act_is}
 use Rattle.peephole_terms.specs.Expansion.{draws_of}
 use Rattle.peephole_terms.specs.Typing.{types_of, types_in}
 use Rattle.peephole_terms.specs.Meaning.{meaning_of, meaning}
@@ -85,8 +84,8 @@ module _ (rows : MeanByTheirRows) (sound : LeavesItsTypes) (locals globals : Lis
       let kids = x ▸ c ▸ no_terms in
       let both : types_in locals globals kids ≡ Some (type_of t ∷ type_of t ∷ []) = rw (typed, constant_types t (pos e)) refl in
       let second : types_of locals globals (node h kids) ≡ Some (type_of t ∷ []) =
-          rows.types locals globals h kids r.instr r.instr_is ∙ (rw (both, is) (operator_types locals globals (type_of t) f l.operands)
-          ∙ ap (λ u. Some (type_of u ∷ [])) l.result) in
+      rows.types locals globals h kids r.instr r.instr_is ∙ (rw (both, is) (operator_types locals globals (type_of t) f l.operands)
+      ∙ ap (λ u. Some (type_of u ∷ [])) l.result) in
       agree_equal rows sound locals globals (type_of t ∷ []) words words x (node h kids) typed second
       (λ s hs. sym (rows.means words h kids r.instr s r.instr_is ∙ (ap (λ row. then_run (meaning words kids s) (act row)) is
       ∙ (ap (λ o. then_run o (act (operation f))) (before_constant words t (pos e) x s (meaning_of words x s) refl)

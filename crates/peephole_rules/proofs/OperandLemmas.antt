@@ -1,18 +1,17 @@
 -- Operands of one value that write no variable: what they leave, one after another.
-use Rattle.std.proofs.Common.{◌≡◌, ℕ, Bool, true, false, List, [], ◌∷◌, ◌++◌, length, drop, Option, Some, None, inl, inr, refl, sym, ap, ◌∙◌, subst}
-use Rattle.std.specs.Prelude.{◌⊎◌, not, option_map, option_and_then}
-use Rattle.std.proofs.lemmas.Bool.{true≢false, false≢true}
+use Rattle.std.proofs.Common.{◌≡◌, ℕ, Bool, true, false, List, [], ◌∷◌, ◌++◌, length, Option, Some, None, inl, inr, refl, sym, ap, ◌∙◌, subst}
+use Rattle.std.specs.Prelude.{◌⊎◌, not, option_map}
+use Rattle.std.proofs.lemmas.Bool.{false≢true}
 use Rattle.std.proofs.lemmas.List.Elements.{All-head}
 use Rattle.mutate_base.specs.declared.types.PrimitiveTypeInfo.{PrimitiveTypeInfo}
 use Rattle.peephole_lang.specs.declared.lang.Head.{Head}
-use Rattle.peephole_lang.specs.Term.{Term, Terms, absent, node, no_terms, ◌▸◌}
-use Rattle.peephole_machine.specs.Values.{Value, IsValue, types, State, HasTypes, Outcome, Ends, Traps, Stuck, then_run, above}
-use Rattle.peephole_machine.specs.IntegerRow.{row_types, integer_row, byte_row}
+use Rattle.peephole_lang.specs.Term.{Term, absent, node}
+use Rattle.peephole_machine.specs.Values.{Value, IsValue, types, State, HasTypes, Outcome, Ends, Traps, Stuck}
+use Rattle.peephole_machine.specs.IntegerRow.{row_types, integer_row}
 use Rattle.peephole_machine.specs.Agreement.{SameBelow}
 use Rattle.peephole_machine.specs.RowLemmas.{and_then_some, map_some}
-use Rattle.peephole_terms.specs.Expansion.{draws_of}
 use Rattle.peephole_terms.specs.Typing.{joined_types, types_of, types_in}
-use Rattle.peephole_terms.specs.Meaning.{meaning_of, meaning}
+use Rattle.peephole_terms.specs.Meaning.{meaning_of}
 use Rattle.peephole_terms.specs.Agrees.{Agree, EndsTyped, LeavesItsTypes}
 use Rattle.peephole_terms.specs.Laws.{MeanByTheirRows}
 use Rattle.peephole_rules.specs.Operator.{opcode_byte, is_in, is_value, statements, has_one_value}
@@ -64,7 +63,7 @@ module _ (rows : MeanByTheirRows) (sound : LeavesItsTypes) where
       let (byte, is, none) = byte_of_value (opcode_byte hd) h in
       let r = row_of hd byte is in
       let (us, a, b) = and_then_some (row_types locals globals (integer_row r.instr)) (types_in locals globals kids) list
-          (sym (rows.types locals globals hd kids r.instr r.instr_is) ∙ e) in
+      (sym (rows.types locals globals hd kids r.instr r.instr_is) ∙ e) in
       typed_one locals globals us list byte r.instr.imm none (subst (λ row. row_types locals globals row us ≡ Some list) r.row_is b)
 
   -- what an operand of one value that writes nothing leaves, whatever the words: its value, or a trap with the state's globals

@@ -1,12 +1,11 @@
 -- Operands in another order.
-use Rattle.std.proofs.Common.{◌≡◌, ℕ, ◌+◌, ◌*◌, Bool, true, false, List, [], ◌∷◌, Option, Some, None, inl, inr, refl, sym, ap, ◌∙◌, subst}
+use Rattle.std.proofs.Common.{◌≡◌, ℕ, ◌+◌, Bool, true, false, List, [], ◌∷◌, Option, Some, None, inl, inr, refl, sym, ap, ◌∙◌, subst}
 use Rattle.std.specs.Prelude.{◌-◌, ◌==◌, ◌⊎◌, ◌≢◌, ◌&&◌, not, nat_lt, if◌then◌else◌, option_and_then}
 use Rattle.std.proofs.Math.Nat.{add_comm, mul_comm}
 use Rattle.std.proofs.lemmas.Nat.{and_comm, or_comm, xor_comm}
-use Rattle.std.proofs.lemmas.Bool.{and_parts, eq-eqb, true≢false, false≢true}
+use Rattle.std.proofs.lemmas.Bool.{and_parts, false≢true}
 use Rattle.std.proofs.lemmas.Bool.Decides.{eqb_tells}
 use Rattle.wasm_code.specs.Instruction.{Instruction}
-use Rattle.wasm_code.specs.declared.immediate.Imm.{Imm}
 use Rattle.wasm_code.specs.declared.immediate.Imm.TheVariants as imm
 use Rattle.wasm_code.specs.Table.{table, row_at}
 use Rattle.mutate_base.specs.declared.types.PrimitiveTypeInfo.{PrimitiveTypeInfo}
@@ -17,7 +16,7 @@ use Rattle.peephole_machine.specs.declared.integer.IntegerType.{IntegerType}
 use Rattle.peephole_machine.specs.declared.integer.IntegerType.TheVariants as integer
 use Rattle.peephole_machine.specs.Values.{type_of, width_of}
 use Rattle.peephole_machine.specs.Integer.{IntegerOperator, Comparison, holds, binary, compare, add, mul, and_, or_, xor_, eq, ne, lt_s, lt_u, gt_s, gt_u, le_s, le_u, ge_s, ge_u}
-use Rattle.peephole_machine.specs.IntegerRow.{IntegerRow, operation, row_types, integer_row, byte_row, bare_row}
+use Rattle.peephole_machine.specs.IntegerRow.{operation, row_types, integer_row, byte_row, bare_row}
 use Rattle.peephole_machine.specs.RowLemmas.{and_then_some}
 use Rattle.peephole_terms.specs.Typing.{types_of, types_in}
 use Rattle.peephole_terms.specs.Agrees.{Agree, LeavesItsTypes}
@@ -25,7 +24,7 @@ use Rattle.peephole_terms.specs.Laws.{MeanByTheirRows}
 use Rattle.peephole_rules.specs.Operator.{opcode_byte, is_in, is_of, commutative, less, greater, turned, has_one_value, operator, two}
 use Rattle.peephole_rules.specs.Effects.{writes}
 use Rattle.peephole_rules.specs.Rewriting.{only_if, undisturbed, commute, turn_comparison}
-use Rattle.peephole_rules.specs.Laws.{AgreeAlways, Keeps}
+use Rattle.peephole_rules.specs.Laws.{Keeps}
 use Rattle.peephole_rules.proofs.ByteLemmas.{AllOf, each, bare, with_immediate}
 use Rattle.peephole_rules.proofs.RowLemmas.{HasRow, row_of}
 use Rattle.peephole_rules.proofs.SwapLemmas.{Swap, swapped_agree}
@@ -76,7 +75,7 @@ module _ (rows : MeanByTheirRows) (sound : LeavesItsTypes) where
       is_in with_immediate byte ≡ false → types_of locals globals (node h kids) ≡ Some list → integer_row r.instr ≡ bare_row byte
   own_bare locals globals list h kids byte r none e =
       let (us, a, b) = and_then_some (row_types locals globals (integer_row r.instr)) (types_in locals globals kids) list
-          (sym (rows.types locals globals h kids r.instr r.instr_is) ∙ e) in
+      (sym (rows.types locals globals h kids r.instr r.instr_is) ∙ e) in
       r.row_is ∙ bare locals globals us list byte r.instr.imm none (subst (λ row. row_types locals globals row us ≡ Some list) r.row_is b)
 
   -- ---- commute
@@ -105,22 +104,49 @@ module _ (rows : MeanByTheirRows) (sound : LeavesItsTypes) where
       go (inr p) (inl q) = absurd (p.1 (sym q.1))
 
   all_commute : AllOf Commutes commutative
-  all_commute =
-      (commutes 0x46 integer.I32 (compare integer.I32 eq) refl refl refl (λ a b. ap (λ c. Some (if c then 1 else 0)) (eq_comm a b)),
-      (commutes 0x47 integer.I32 (compare integer.I32 ne) refl refl refl (λ a b. ap (λ c. Some (if not c then 1 else 0)) (eq_comm a b)),
-      (commutes 0x51 integer.I64 (compare integer.I64 eq) refl refl refl (λ a b. ap (λ c. Some (if c then 1 else 0)) (eq_comm a b)),
-      (commutes 0x52 integer.I64 (compare integer.I64 ne) refl refl refl (λ a b. ap (λ c. Some (if not c then 1 else 0)) (eq_comm a b)),
-      (commutes 0x6a integer.I32 (binary integer.I32 add) refl refl refl (λ a b. ap Some (add_comm a b)),
-      (commutes 0x6c integer.I32 (binary integer.I32 mul) refl refl refl (λ a b. ap Some (mul_comm a b)),
-      (commutes 0x71 integer.I32 (binary integer.I32 and_) refl refl refl (λ a b. ap Some (and_comm a b)),
-      (commutes 0x72 integer.I32 (binary integer.I32 or_) refl refl refl (λ a b. ap Some (or_comm a b)),
-      (commutes 0x73 integer.I32 (binary integer.I32 xor_) refl refl refl (λ a b. ap Some (xor_comm a b)),
-      (commutes 0x7c integer.I64 (binary integer.I64 add) refl refl refl (λ a b. ap Some (add_comm a b)),
-      (commutes 0x7e integer.I64 (binary integer.I64 mul) refl refl refl (λ a b. ap Some (mul_comm a b)),
-      (commutes 0x83 integer.I64 (binary integer.I64 and_) refl refl refl (λ a b. ap Some (and_comm a b)),
-      (commutes 0x84 integer.I64 (binary integer.I64 or_) refl refl refl (λ a b. ap Some (or_comm a b)),
-      (commutes 0x85 integer.I64 (binary integer.I64 xor_) refl refl refl (λ a b. ap Some (xor_comm a b)),
-      tt))))))))))))))
+  all_commute = (
+    commutes 0x46 integer.I32 (compare integer.I32 eq) refl refl refl (λ a b. ap (λ c. Some (if c then 1 else 0)) (eq_comm a b)),
+    (
+      commutes 0x47 integer.I32 (compare integer.I32 ne) refl refl refl (λ a b. ap (λ c. Some (if not c then 1 else 0)) (eq_comm a b)),
+      (
+        commutes 0x51 integer.I64 (compare integer.I64 eq) refl refl refl (λ a b. ap (λ c. Some (if c then 1 else 0)) (eq_comm a b)),
+        (
+          commutes 0x52 integer.I64 (compare integer.I64 ne) refl refl refl (λ a b. ap (λ c. Some (if not c then 1 else 0)) (eq_comm a b)),
+          (
+            commutes 0x6a integer.I32 (binary integer.I32 add) refl refl refl (λ a b. ap Some (add_comm a b)),
+            (
+              commutes 0x6c integer.I32 (binary integer.I32 mul) refl refl refl (λ a b. ap Some (mul_comm a b)),
+              (
+                commutes 0x71 integer.I32 (binary integer.I32 and_) refl refl refl (λ a b. ap Some (and_comm a b)),
+                (
+                  commutes 0x72 integer.I32 (binary integer.I32 or_) refl refl refl (λ a b. ap Some (or_comm a b)),
+                  (
+                    commutes 0x73 integer.I32 (binary integer.I32 xor_) refl refl refl (λ a b. ap Some (xor_comm a b)),
+                    (
+                      commutes 0x7c integer.I64 (binary integer.I64 add) refl refl refl (λ a b. ap Some (add_comm a b)),
+                      (
+                        commutes 0x7e integer.I64 (binary integer.I64 mul) refl refl refl (λ a b. ap Some (mul_comm a b)),
+                        (
+                          commutes 0x83 integer.I64 (binary integer.I64 and_) refl refl refl (λ a b. ap Some (and_comm a b)),
+                          (
+                            commutes 0x84 integer.I64 (binary integer.I64 or_) refl refl refl (λ a b. ap Some (or_comm a b)),
+                            (
+                              commutes 0x85 integer.I64 (binary integer.I64 xor_) refl refl refl (λ a b. ap Some (xor_comm a b)),
+                              tt,
+                            ),
+                          ),
+                        ),
+                      ),
+                    ),
+                  ),
+                ),
+              ),
+            ),
+          ),
+        ),
+      ),
+    ),
+  )
 
   byte_in : (bytes : List ℕ) (o : Option ℕ) → is_of bytes o ≡ true → (byte : ℕ) × (o ≡ Some byte) × (is_in bytes byte ≡ true)
   byte_in bytes (Some byte) e = (byte, refl, e)
@@ -177,29 +203,59 @@ module _ (rows : MeanByTheirRows) (sound : LeavesItsTypes) where
 
   less_turn : AllOf Turns less
   unfolding table row_at
-  less_turn =
-      (turns 0x48 0x4a integer.I32 lt_s gt_s refl refl refl refl refl (λ a b. refl),
-      (turns 0x49 0x4b integer.I32 lt_u gt_u refl refl refl refl refl (λ a b. refl),
-      (turns 0x4c 0x4e integer.I32 le_s ge_s refl refl refl refl refl (λ a b. refl),
-      (turns 0x4d 0x4f integer.I32 le_u ge_u refl refl refl refl refl (λ a b. refl),
-      (turns 0x53 0x55 integer.I64 lt_s gt_s refl refl refl refl refl (λ a b. refl),
-      (turns 0x54 0x56 integer.I64 lt_u gt_u refl refl refl refl refl (λ a b. refl),
-      (turns 0x57 0x59 integer.I64 le_s ge_s refl refl refl refl refl (λ a b. refl),
-      (turns 0x58 0x5a integer.I64 le_u ge_u refl refl refl refl refl (λ a b. refl),
-      tt))))))))
+  less_turn = (
+    turns 0x48 0x4a integer.I32 lt_s gt_s refl refl refl refl refl (λ a b. refl),
+    (
+      turns 0x49 0x4b integer.I32 lt_u gt_u refl refl refl refl refl (λ a b. refl),
+      (
+        turns 0x4c 0x4e integer.I32 le_s ge_s refl refl refl refl refl (λ a b. refl),
+        (
+          turns 0x4d 0x4f integer.I32 le_u ge_u refl refl refl refl refl (λ a b. refl),
+          (
+            turns 0x53 0x55 integer.I64 lt_s gt_s refl refl refl refl refl (λ a b. refl),
+            (
+              turns 0x54 0x56 integer.I64 lt_u gt_u refl refl refl refl refl (λ a b. refl),
+              (
+                turns 0x57 0x59 integer.I64 le_s ge_s refl refl refl refl refl (λ a b. refl),
+                (
+                  turns 0x58 0x5a integer.I64 le_u ge_u refl refl refl refl refl (λ a b. refl),
+                  tt,
+                ),
+              ),
+            ),
+          ),
+        ),
+      ),
+    ),
+  )
 
   greater_turn : AllOf Turns greater
   unfolding table row_at
-  greater_turn =
-      (turns 0x4a 0x48 integer.I32 gt_s lt_s refl refl refl refl refl (λ a b. refl),
-      (turns 0x4b 0x49 integer.I32 gt_u lt_u refl refl refl refl refl (λ a b. refl),
-      (turns 0x4e 0x4c integer.I32 ge_s le_s refl refl refl refl refl (λ a b. refl),
-      (turns 0x4f 0x4d integer.I32 ge_u le_u refl refl refl refl refl (λ a b. refl),
-      (turns 0x55 0x53 integer.I64 gt_s lt_s refl refl refl refl refl (λ a b. refl),
-      (turns 0x56 0x54 integer.I64 gt_u lt_u refl refl refl refl refl (λ a b. refl),
-      (turns 0x59 0x57 integer.I64 ge_s le_s refl refl refl refl refl (λ a b. refl),
-      (turns 0x5a 0x58 integer.I64 ge_u le_u refl refl refl refl refl (λ a b. refl),
-      tt))))))))
+  greater_turn = (
+    turns 0x4a 0x48 integer.I32 gt_s lt_s refl refl refl refl refl (λ a b. refl),
+    (
+      turns 0x4b 0x49 integer.I32 gt_u lt_u refl refl refl refl refl (λ a b. refl),
+      (
+        turns 0x4e 0x4c integer.I32 ge_s le_s refl refl refl refl refl (λ a b. refl),
+        (
+          turns 0x4f 0x4d integer.I32 ge_u le_u refl refl refl refl refl (λ a b. refl),
+          (
+            turns 0x55 0x53 integer.I64 gt_s lt_s refl refl refl refl refl (λ a b. refl),
+            (
+              turns 0x56 0x54 integer.I64 gt_u lt_u refl refl refl refl refl (λ a b. refl),
+              (
+                turns 0x59 0x57 integer.I64 ge_s le_s refl refl refl refl refl (λ a b. refl),
+                (
+                  turns 0x5a 0x58 integer.I64 ge_u le_u refl refl refl refl refl (λ a b. refl),
+                  tt,
+                ),
+              ),
+            ),
+          ),
+        ),
+      ),
+    ),
+  )
 
   turn_of : (byte other : ℕ) → turned byte ≡ Some other → Turns byte
   turn_of byte other e = go (is_in less byte) (is_in greater byte) refl refl e

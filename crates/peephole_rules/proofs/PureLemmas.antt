@@ -1,21 +1,19 @@
 -- A term that writes no variable leaves the state as it was, and means the same with all words.
-use Rattle.std.proofs.Common.{◌≡◌, ℕ, Bool, true, false, List, [], ◌∷◌, ◌++◌, length, drop, Option, Some, None, refl, sym, ap, ◌∙◌, subst}
-use Rattle.std.specs.Prelude.{◌||◌, ⊤, map, is_some, if◌then◌else◌, option_and_then}
+use Rattle.std.proofs.Common.{◌≡◌, ℕ, Bool, true, false, List, [], ◌∷◌, length, drop, Option, Some, None, refl, sym, ap, ◌∙◌, subst}
+use Rattle.std.specs.Prelude.{⊤, map, is_some}
 use Rattle.std.proofs.lemmas.Bool.{or_parts, true≢false}
-use Rattle.wasm_code.specs.declared.immediate.Imm.{Imm}
-use Rattle.mutate_base.specs.declared.types.PrimitiveTypeInfo.{PrimitiveTypeInfo}
 use Rattle.peephole_lang.specs.declared.lang.Head.{Head}
 use Rattle.peephole_lang.specs.Term.{Term, Terms, absent, node, no_terms, ◌▸◌}
 use Rattle.peephole_machine.specs.Values.{Value, types, State, Outcome, Ends, Traps, Stuck, then_run, above, read}
 use Rattle.peephole_machine.specs.IntegerRow.{IntegerRow, constant, operation, get, set, tee, discard, select, nop, other, row_types, integer_row, byte_row}
 use Rattle.peephole_machine.specs.Machine.{given, read_of, effect, only_if, act}
-use Rattle.peephole_terms.specs.Expansion.{draws_of, draws}
+use Rattle.peephole_terms.specs.Expansion.{draws_of}
 use Rattle.peephole_terms.specs.Meaning.{meaning_of, meaning}
 use Rattle.peephole_terms.specs.Laws.{MeanByTheirRows}
 use Rattle.peephole_rules.specs.Operator.{opcode_byte, is_in, writers}
 use Rattle.peephole_rules.specs.Effects.{is_writer, writes, any_writes}
 use Rattle.peephole_rules.proofs.ByteLemmas.{writes_row, no_writer}
-use Rattle.peephole_rules.proofs.RowLemmas.{HasRow, row_of}
+use Rattle.peephole_rules.proofs.RowLemmas.{row_of}
 
 -- where it ends the state is this one, and where it traps the globals are this one's
 abbrev pub IsPure : State → Outcome → Type 0

@@ -1,13 +1,13 @@
 -- An operator on two operands, and another on the same operands in the other order.
-use Rattle.std.proofs.Common.{◌≡◌, ℕ, Bool, true, false, List, [], ◌∷◌, ◌++◌, length, drop, Option, Some, None, inl, inr, refl, sym, ap, ap₂, ◌∙◌, subst}
+use Rattle.std.proofs.Common.{◌≡◌, ℕ, true, false, List, [], ◌∷◌, ◌++◌, length, drop, Some, inl, inr, refl, sym, ap, ap₂, ◌∙◌, subst}
 use Rattle.std.specs.Prelude.{◌⊎◌, option_and_then}
 use Rattle.mutate_base.specs.declared.types.PrimitiveTypeInfo.{PrimitiveTypeInfo}
 use Rattle.peephole_lang.specs.declared.lang.Head.{Head}
-use Rattle.peephole_lang.specs.Term.{Term, Terms, node, no_terms, ◌▸◌}
+use Rattle.peephole_lang.specs.Term.{Term, node, no_terms, ◌▸◌}
 use Rattle.peephole_machine.specs.declared.integer.IntegerType.{IntegerType}
-use Rattle.peephole_machine.specs.Values.{type_of, same_types, Value, types, State, HasTypes, Outcome, Ends, Traps, then_run, above}
+use Rattle.peephole_machine.specs.Values.{type_of, same_types, Value, types, State, HasTypes, Ends, Traps, then_run, above}
 use Rattle.peephole_machine.specs.Integer.{IntegerOperator}
-use Rattle.peephole_machine.specs.IntegerRow.{IntegerRow, operation, if_typed, row_types, integer_row}
+use Rattle.peephole_machine.specs.IntegerRow.{IntegerRow, operation, row_types, integer_row}
 use Rattle.peephole_machine.specs.Machine.{given, act}
 use Rattle.peephole_machine.specs.RowLemmas.{some_if, if_typed_is, and_then_some, same_type_self, same_types_is, act_is}
 use Rattle.peephole_terms.specs.Expansion.{draws_of}
@@ -138,12 +138,12 @@ module _ (rows : MeanByTheirRows) (sound : LeavesItsTypes) (locals globals : Lis
       let kids = x ▸ y ▸ no_terms in
       let others = y ▸ x ▸ no_terms in
       let (o, l) = two_operands (type_of t) k.one x y list k.one_operands hx hy
-          (subst (λ row. option_and_then (row_types locals globals row) (types_in locals globals kids) ≡ Some list) k.one_is
-          (sym (rows.types locals globals h kids r.instr r.instr_is) ∙ e)) in
+      (subst (λ row. option_and_then (row_types locals globals row) (types_in locals globals kids) ≡ Some list) k.one_is
+      (sym (rows.types locals globals h kids r.instr r.instr_is) ∙ e)) in
       let both : types_in locals globals others ≡ Some (type_of t ∷ type_of t ∷ []) = rw (o.second, o.first) refl in
       let second : types_of locals globals (node g others) ≡ Some list =
-          rows.types locals globals g others q.instr q.instr_is ∙ (rw (both, k.two_is)
-          (operator_types locals globals (type_of t) k.two k.two_operands) ∙ ap (λ r. Some (type_of r ∷ [])) (sym k.results) ∙ ap Some l) in
+      rows.types locals globals g others q.instr q.instr_is ∙ (rw (both, k.two_is)
+      (operator_types locals globals (type_of t) k.two k.two_operands) ∙ ap (λ r. Some (type_of r ∷ [])) (sym k.results) ∙ ap Some l) in
       agree_equal rows sound locals globals list us vs (node h kids) (node g others) e second
       (λ s hs. rows.means us h kids r.instr s r.instr_is
       ∙ (swapped_means t (integer_row r.instr) (integer_row q.instr) k x y us vs s o wx wy hs ∙ sym (rows.means vs g others q.instr s q.instr_is)))

@@ -1,22 +1,21 @@
 -- An operand twice.
-use Rattle.std.proofs.Common.{◌≡◌, ℕ, ◌%◌, ◌^◌, ◌<◌, Bool, true, false, List, [], ◌∷◌, ◌++◌, Option, Some, None, inl, inr, refl, sym, ap, ◌∙◌, subst}
+use Rattle.std.proofs.Common.{◌≡◌, ℕ, ◌^◌, ◌<◌, true, false, List, [], ◌∷◌, Option, Some, inl, inr, refl, sym, ap, ◌∙◌, subst}
 use Rattle.std.specs.Prelude.{◌⊎◌, not}
 use Rattle.std.specs.Int.Bits.{and_self as and_twice, or_self as or_twice}
 use Rattle.std.proofs.Math.Nat.{mod-eq_of_lt}
 use mir.Val.{bits}
 use Rattle.wasm_code.specs.Table.{table, row_at}
-use Rattle.mutate_base.specs.declared.types.PrimitiveTypeInfo.{PrimitiveTypeInfo}
 use Rattle.peephole_lang.specs.declared.lang.Head.{Head}
-use Rattle.peephole_lang.specs.Term.{Term, Terms, node, no_terms, ◌▸◌}
+use Rattle.peephole_lang.specs.Term.{Term, node, no_terms, ◌▸◌}
 use Rattle.peephole_machine.specs.declared.integer.IntegerType.{IntegerType}
 use Rattle.peephole_machine.specs.declared.integer.IntegerType.TheVariants as integer
-use Rattle.peephole_machine.specs.Values.{type_of, width_of, Value, State, HasTypes, Outcome, Ends, Traps, then_run}
+use Rattle.peephole_machine.specs.Values.{type_of, width_of, Value, State, Ends, Traps, then_run}
 use Rattle.peephole_machine.specs.Integer.{IntegerOperator, binary, and_, or_}
-use Rattle.peephole_machine.specs.IntegerRow.{operation, row_types, integer_row, bare_row}
+use Rattle.peephole_machine.specs.IntegerRow.{operation, integer_row, bare_row}
 use Rattle.peephole_machine.specs.Machine.{given, act}
-use Rattle.peephole_terms.specs.Typing.{types_of, types_in}
+use Rattle.peephole_terms.specs.Typing.{types_in}
 use Rattle.peephole_terms.specs.Meaning.{meaning_of, meaning}
-use Rattle.peephole_terms.specs.Agrees.{Agree, LeavesItsTypes, IsCongruence}
+use Rattle.peephole_terms.specs.Agrees.{LeavesItsTypes, IsCongruence}
 use Rattle.peephole_terms.specs.Laws.{MeanByTheirRows}
 use Rattle.peephole_rules.specs.Operator.{opcode_byte, operator, of_type, two}
 use Rattle.peephole_rules.specs.Effects.{writes}

@@ -1,25 +1,24 @@
 -- Other ways to the same value: by a requested global, by a sum, behind a nop.
-use Rattle.std.proofs.Common.{◌≡◌, ℕ, ℤ, List, [], ◌∷◌, ◌++◌, length, drop, Some, refl, sym, ap, ◌∙◌, subst}
-use Rattle.std.specs.Int.{cast_unsigned}
+use Rattle.std.proofs.Common.{◌≡◌, ℕ, ℤ, List, [], ◌∷◌, Some, refl, sym, ap}
 use Rattle.std.proofs.lemmas.List.{append-nil}
 use Rattle.wasm_code.specs.Table.{table, row_at}
 use Rattle.mutate_base.specs.declared.types.PrimitiveTypeInfo.{PrimitiveTypeInfo}
 use Rattle.peephole_lang.specs.declared.lang.Head.{Head}
-use Rattle.peephole_lang.specs.Term.{Term, Terms, node, no_terms, ◌▸◌}
+use Rattle.peephole_lang.specs.Term.{Term, no_terms}
 use Rattle.peephole_machine.specs.declared.integer.IntegerType.{IntegerType}
 use Rattle.peephole_machine.specs.declared.integer.IntegerType.TheVariants as integer
-use Rattle.peephole_machine.specs.Values.{type_of, Value, State, HasTypes, Outcome, Ends, Traps, Stuck, then_run, above}
+use Rattle.peephole_machine.specs.Values.{type_of, State, HasTypes, Outcome, Ends, Traps, Stuck, then_run, above}
 use Rattle.peephole_machine.specs.IntegerRow.{integer_row}
 use Rattle.peephole_terms.specs.Expansion.{draws_of}
-use Rattle.peephole_terms.specs.Typing.{types_of, types_in}
-use Rattle.peephole_terms.specs.Meaning.{meaning_of, meaning}
+use Rattle.peephole_terms.specs.Typing.{types_of}
+use Rattle.peephole_terms.specs.Meaning.{meaning_of}
 use Rattle.peephole_terms.specs.Agrees.{Agree, LeavesItsTypes, IsCongruence}
 use Rattle.peephole_terms.specs.Laws.{MeanByTheirRows}
 use Rattle.peephole_rules.specs.Operator.{constant, nop_head, nop}
 use Rattle.peephole_rules.specs.Rewriting.{through_global, as_a_sum, with_nop}
 use Rattle.peephole_rules.specs.Laws.{AgreeAlways, AgreeOfType}
 use Rattle.peephole_rules.proofs.OperandLemmas.{agree_equal}
-use Rattle.peephole_rules.proofs.NeutralLemmas.{constant_types, constant_means}
+use Rattle.peephole_rules.proofs.NeutralLemmas.{constant_means}
 
 -- the values of one term alone
 alone : (o : Outcome) → then_run (then_run o (λ vs m. above vs (Ends [] m))) Ends ≡ o

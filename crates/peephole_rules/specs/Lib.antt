@@ -1,4 +1,3 @@
-pub mod Lists
 pub mod Operator
 pub mod Effects
 pub mod Rewriting

@@ -1,22 +1,16 @@
 -- Operators by the byte of their opcode, and the nodes that rules write
 -- (WebAssembly Core Specification 3.0, Binary Format, Instructions: numeric, parametric and variable instructions).
-use Rattle.std.specs.Prelude.{ℕ, ℤ, ◌+◌, ◌-◌, ◌==◌, ◌&&◌, ◌||◌, nat_le, nat_lt, not, Bool, true, false, List, [], ◌∷◌, Option, Some, None, slice_get, option_and_then, if◌then◌else◌}
-use Rattle.wasm_code.specs.declared.immediate.ValType.{ValType}
-use Rattle.wasm_code.specs.declared.immediate.ValType.TheVariants as val
+use Rattle.std.specs.Prelude.{ℕ, ℤ, ◌+◌, ◌-◌, ◌==◌, ◌||◌, not, Bool, false, List, [], ◌∷◌, Option, Some, None, if◌then◌else◌}
 use Rattle.wasm_code.specs.Instruction.{Instruction}
 use Rattle.wasm_code.specs.declared.table.Opcode.{Opcode}
-use Rattle.wasm_code.specs.declared.table.Opcode.TheVariants.{Byte, Fc, Fd}
+use Rattle.wasm_code.specs.declared.table.Opcode.TheVariants.{Byte}
 use Rattle.wasm_code.specs.Table.{row_at, opcode_in}
-use Rattle.mutate_base.specs.declared.types.PrimitiveTypeInfo.{PrimitiveTypeInfo}
-use Rattle.mutate_base.specs.declared.types.PrimitiveTypeInfo.TheVariants as primitive
-use Rattle.peephole_nodes.specs.declared.payload.Payload.{Payload}
 use Rattle.peephole_nodes.specs.declared.payload.Payload.TheVariants as payload
 use Rattle.peephole_lang.specs.declared.lang.Head.{Head}
 use Rattle.peephole_lang.specs.Node.{instr_of_head}
 use Rattle.peephole_lang.specs.Term.{Term, Terms, absent, node, no_terms, ◌▸◌}
 use Rattle.peephole_machine.specs.declared.integer.IntegerType.{IntegerType}
 use Rattle.peephole_machine.specs.declared.integer.IntegerType.TheVariants as integer
-use Rattle.peephole_rules.specs.Lists.{Lists}
 
 -- ---- opcodes
 
@@ -41,19 +35,12 @@ abbrev pub is_of : List ℕ → Option ℕ → Bool
 is_of bytes (Some byte) = is_in bytes byte
 is_of bytes None = false
 
-abbrev pub between : (first last : ℕ) → ℕ → Bool
-between first last byte = nat_le first byte && nat_le byte last
-
 -- the operators whose operands may change places: eq and ne; add, mul, and, or, xor; of i32 and of i64
 abbrev pub commutative : List ℕ
 commutative =
     0x46 ∷ 0x47 ∷ 0x51 ∷ 0x52
     ∷ 0x6a ∷ 0x6c ∷ 0x71 ∷ 0x72 ∷ 0x73
     ∷ 0x7c ∷ 0x7e ∷ 0x83 ∷ 0x84 ∷ 0x85 ∷ []
-
--- add, mul, and, or, xor
-abbrev pub associative : List ℕ
-associative = 0x6a ∷ 0x6c ∷ 0x71 ∷ 0x72 ∷ 0x73 ∷ 0x7c ∷ 0x7e ∷ 0x83 ∷ 0x84 ∷ 0x85 ∷ []
 
 -- lt and le, signed and unsigned
 abbrev pub less : List ℕ
@@ -70,10 +57,6 @@ turned byte = if is_in less byte then Some (byte + 2) else (if is_in greater byt
 -- local.set, local.tee, global.set
 abbrev pub writers : List ℕ
 writers = 0x21 ∷ 0x22 ∷ 0x24 ∷ []
-
--- div_s, div_u, rem_s, rem_u
-abbrev pub divisions : List ℕ
-divisions = 0x6d ∷ 0x6e ∷ 0x6f ∷ 0x70 ∷ 0x7f ∷ 0x80 ∷ 0x81 ∷ 0x82 ∷ []
 
 -- ---- one value
 
@@ -96,7 +79,7 @@ has_one_value (node h kids) = is_value (opcode_byte h)
 abbrev pub operator : ℕ → Head
 operator byte = record { place = byte - 17; payload = payload.Nothing }
 
--- an opcode of the second block of operators, those of i64, from that of i32
+-- one of the two opcodes, by the type
 abbrev pub of_type : IntegerType → (i32_opcode i64_opcode : ℕ) → ℕ
 of_type integer.I32 byte other = byte
 of_type integer.I64 byte other = other
@@ -113,9 +96,6 @@ one h x = node h (x ▸ no_terms)
 
 abbrev pub two : Head → Term Head → Term Head → Term Head
 two h x y = node h (x ▸ y ▸ no_terms)
-
-abbrev pub three : Head → Term Head → Term Head → Term Head → Term Head
-three h x y z = node h (x ▸ y ▸ z ▸ no_terms)
 
 -- its children and their values
 abbrev pub container : Terms Head → Term Head

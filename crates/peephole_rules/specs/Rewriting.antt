@@ -1,10 +1,10 @@
--- What each rule makes of a term, and where: none where its pattern or its condition isn't met (this project).
--- Conditions go by opcodes alone; so a rule may be refused where it would keep the meaning, and is never had where it would not.
-use Rattle.std.specs.Prelude.{ℕ, ℤ, pos, ◌==◌, ◌&&◌, not, Bool, List, [], ◌∷◌, Option, Some, None, option_and_then, if◌then◌else◌}
+-- What each rule makes of a term: none where its pattern or its condition isn't met (this project).
+-- Conditions go by opcodes alone: a rule may have no answer where it would keep the meaning, and never has one where it would not.
+use Rattle.std.specs.Prelude.{ℕ, ℤ, pos, ◌&&◌, not, Bool, Option, Some, None, option_and_then, if◌then◌else◌}
 use Rattle.peephole_lang.specs.declared.lang.Head.{Head}
-use Rattle.peephole_lang.specs.Term.{Term, absent, node, no_terms, ◌▸◌}
+use Rattle.peephole_lang.specs.Term.{Term, node, no_terms, ◌▸◌}
 use Rattle.peephole_machine.specs.declared.integer.IntegerType.{IntegerType}
-use Rattle.peephole_rules.specs.Operator.{opcode_byte, is_of, commutative, associative, turned, has_one_value, operator, of_type, constant, one, two, container, nop, unfold_head, use_global_head}
+use Rattle.peephole_rules.specs.Operator.{opcode_byte, is_of, commutative, turned, has_one_value, operator, of_type, constant, one, two, container, nop, unfold_head, use_global_head}
 use Rattle.peephole_rules.specs.Effects.{writes}
 
 abbrev pub only_if : {A : Type 0} → Bool → A → Option A
@@ -13,6 +13,8 @@ only_if b a = if b then Some a else None
 -- Each of the two leaves one value, and neither writes a variable: in the other order they leave the same values, or trap the same way.
 abbrev pub undisturbed : Term Head → Term Head → Bool
 undisturbed x y = (has_one_value x && has_one_value y) && (not (writes x) && not (writes y))
+
+-- ---- operands in another order
 
 -- op x y → op y x
 abbrev pub commute : Term Head → Option (Term Head)
