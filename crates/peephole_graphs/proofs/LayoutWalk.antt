@@ -409,12 +409,3 @@ module _ {H : Type 0} (missing : H) where
 
     pub end_whole : (items : List A) (root : ℕ) → AreBelow (nodes_in items) → root < length items → IsWhole (tree_at (nodes_in items) root)
     end_whole items root b l = let n = length-held held items in whole_at (nodes_in items) root b (omega arith)
-
-  -- children that stand below their parents, of the nodes last first
-  pub below_all : (ns : List (Node H)) → ((p : ℕ) → p < length ns → All (λ k. k < p) (node_at ns p).children) → AreBelow ns
-  below_all [] h = tt
-  below_all (e ∷ earlier) h =
-      let at = length earlier in (
-        subst (λ (x : Node H). All (λ k. k < at) x.children) (node_last e earlier at refl) (h at (omega arith)),
-        below_all earlier (λ p l. subst (λ (x : Node H). All (λ k. k < p) x.children) (node_before e earlier p l) (h p (omega arith))),
-      )

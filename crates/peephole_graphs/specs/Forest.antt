@@ -1,5 +1,5 @@
 -- The forest of a block, by heights: which operator takes which results. Lists of operators have the last one first. This
--- project's rule, on the stack discipline of the WebAssembly Core Specification, "Execution, Instructions".
+-- project's rule, on the stack discipline of the WebAssembly Core Specification 3.0, Validation, Instructions.
 use Rattle.std.specs.Prelude.{ℕ, zero, suc, ◌<◌, ◌≡◌, Bool, false, ◌&&◌, ◌||◌, ◌==◌, IsTrue, ℤ, List, [], ◌∷◌, length, if◌then◌else◌, ⊤}
 use Rattle.std.specs.Bool.{Decides, nat_eq}
 use Rattle.std.specs.Cmp.Lexicographic.{pointwise}

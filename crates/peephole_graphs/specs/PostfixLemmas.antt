@@ -1,4 +1,4 @@
--- What is left of a walk in postfix, turn by turn. `tree` is what the tree of an index brings, `own` what its node itself brings.
+-- What is left of a walk in postfix, turn by turn (this project). `tree` is what the tree of an index brings, `own` what its node itself brings.
 use Rattle.std.proofs.Common.{◌≡◌, ℕ, ◌*◌, ◌<◌, List, [], ◌∷◌, ◌++◌, length, refl, sym, ap, subst, ◌∙◌, arith, append_assoc, length-append}
 use Rattle.std.specs.List.{All, flat_map}
 use Rattle.std.proofs.lemmas.List.Elements.{All-cons, All-head, All-tail}

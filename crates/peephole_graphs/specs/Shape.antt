@@ -1,6 +1,6 @@
 -- What an operator is to a graph under a module's information. Operands, result and change of the colour are those of the instruction table, and a call's
 -- those of its function's type. No graph holds a delimiter, `call_indirect`, a call with more than one result or a `select` that is no instruction. This
--- project's rule; a call's operands and results: WebAssembly Core Specification, "Validation, Instructions".
+-- project's rule; a call's operands and results: WebAssembly Core Specification 3.0, Validation, Instructions.
 use Rattle.std.specs.Prelude.{ℕ, Bool, true, false, List, [], ◌∷◌, length, Option, None, Some, reverse}
 use Rattle.std.specs.List.{All}
 use Rattle.wasm_code.specs.Instruction.{Instruction}

@@ -1,5 +1,5 @@
 -- The variants of nodes: place, name, kind of payload, number of children (this project; the names of instructions are
--- those of the WebAssembly Core Specification 3.0, Text Format, Instructions, but for a few that are named as upstream does).
+-- those of the WebAssembly Core Specification 3.0, Text Format, Instructions, but for a few that are named as the original does).
 use Rattle.std.specs.Prelude.{ℕ, ◌==◌, ◌&&◌, Bool, true, false, List, [], ◌∷◌, codes, Option, Some, None, slice_get}
 use Rattle.peephole_nodes.specs.declared.payload.Payload.{Payload}
 use Rattle.peephole_nodes.specs.declared.payload.PayloadKind.{PayloadKind}

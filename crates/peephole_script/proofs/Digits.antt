@@ -1,18 +1,12 @@
 -- Which texts are digits of bytes.
-use Rattle.std.proofs.Common.{◌≡◌, ℕ, true, ◌%◌, ◌*◌, ◌+◌, ◌<◌, List, length, slice_index, refl, arith, Ok, Err, None, Some}
+use Rattle.std.proofs.Common.{◌≡◌, ℕ, true, ◌%◌, ◌*◌, ◌+◌, ◌<◌, List, length, slice_index, refl, Ok, Err, None, Some}
 use Rattle.std.specs.Prelude.{Result}
 use Rattle.std.specs.List.{AllPass}
 use Rattle.std.specs.Result.{result_ok}
-use Rattle.std.specs.Char.{is_ascii_hexdigit}
-use Rattle.std.proofs.lemmas.Bool.Decides.{nat_tests}
 use Rattle.std.proofs.lemmas.List.Elements.{All-get_or}
 use Rattle.hex.specs.Hex.{decode_of, hex_digit_value, is_hex_digit, pair_value}
 use Rattle.hex.specs.declared.error.FromHexError.{FromHexError}
 use Rattle.hex.proofs.HexLemmas.{decode_of-ok}
-
--- the library's test of a digit is that of the decoding
-pub hexdigit_test : (c : ℕ) → is_ascii_hexdigit c ≡ is_hex_digit c
-hexdigit_test c = grind (arith, nat_tests)
 
 -- a digit of some
 pub digit_at : (s : List ℕ) (i : ℕ) → AllPass is_hex_digit s → i < length s → is_hex_digit (slice_index s i) ≡ true

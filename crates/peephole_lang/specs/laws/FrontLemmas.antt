@@ -115,8 +115,8 @@ dot_tested front r h =
 
 -- what the two tests of the code say
 module _ (front text : List ℕ) (ends : Bool) (tested : EndTested front ends) where
-  pub stands_equal : (starts : Bool) → starts ≡ starts_with eqb text front → ends ≡ true → starts ≡ true → Equal ≡ front_order front text
-  stands_equal starts e is_end is_start = rw (← dot_tested front ends tested, ← e, is_end, is_start) refl
+  pub front_equal : (starts : Bool) → starts ≡ starts_with eqb text front → ends ≡ true → starts ≡ true → Equal ≡ front_order front text
+  front_equal starts e is_end is_start = rw (← dot_tested front ends tested, ← e, is_end, is_start) refl
 
   pub stands_without_dot : ends ≡ false → slice_cmp nat_cmp front text ≡ front_order front text
   stands_without_dot is_end = rw (← dot_tested front ends tested, is_end) refl

@@ -67,11 +67,3 @@ at_place {L} {H} head children expr i l h e =
   where
     twice : (xs : List (Node H)) → reverse (reverse xs) ≡ xs
     twice xs = grind (arith, common_steps)
-
--- every place below the length has a node
-pub some_at : {H : Type 0} (ns : List (Node H)) (i : ℕ) → i < length ns → (n : Node H) × IsAt n ns i
-some_at [] i l = absurd (omega arith)
-some_at (x ∷ earlier) i l = elim (last_or_before (length earlier) i l) [
-  | inl h ↦ (x, last h)
-  | inr h ↦ let k = some_at earlier i h in (k.0, before h k.1)
-]
