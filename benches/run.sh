@@ -16,10 +16,13 @@ large=${LARGE:-1000000}
 work=$(mktemp -d)
 trap 'rm -rf "$work"' EXIT
 
-# A repository in which the program stands over these crates; what checks have kept of them is used, and no crate is copied.
+# A repository of copies, in which the program stands over the crates; what was proved of them here is used.
 mkdir -p "$work/crates/calls/src"
 for crate in crates/*/; do
-    ln -s "$PWD/${crate%/}" "$work/${crate%/}"
+    mkdir -p "$work/$crate/out"
+    for folder in src specs proofs out/rlib; do
+        if [ -d "$crate$folder" ]; then cp -r "$crate$folder" "$work/$crate$(dirname "$folder")"; fi
+    done
 done
 cp benches/main.rt.in "$work/crates/calls/src/main.rt"
 { cat crates.txt; echo "calls: mutate_base peephole_script peephole_terms peephole_examples"; } > "$work/crates.txt"

@@ -47,62 +47,62 @@ below integer.I64 v e h = subst (λ (u : PrimitiveTypeInfo). IsOfType u v.number
 
 module _ (rows : MeanByTheirRows) (sound : LeavesItsTypes) (locals globals : List PrimitiveTypeInfo) where
   -- a constant's types and meaning
-  pub constant_types : (t : IntegerType) (z : ℤ) → types_of locals globals (term.constant t z) ≡ Some (type_of t ∷ [])
+  pub constant_types : (t : IntegerType) (z : ℤ) → types_of locals globals (term.constant_term t z) ≡ Some (type_of t ∷ [])
   unfolding integer_row table row_at
   constant_types integer.I32 z = rows.types locals globals (term.constant_head integer.I32 z) no_terms _ refl
   constant_types integer.I64 z = rows.types locals globals (term.constant_head integer.I64 z) no_terms _ refl
 
   pub constant_means : (words : List ℕ) (t : IntegerType) (z : ℤ) (s : State) →
-      meaning_of words (term.constant t z) s ≡ Ends (whole t (cast_unsigned (width_of t) z) ∷ []) s
+      meaning_of words (term.constant_term t z) s ≡ Ends (whole t (cast_unsigned (width_of t) z) ∷ []) s
   unfolding integer_row table row_at
   constant_means words integer.I32 z s = rows.means words (term.constant_head integer.I32 z) no_terms _ s refl
   constant_means words integer.I64 z s = rows.means words (term.constant_head integer.I64 z) no_terms _ s refl
 
   -- an operand before a constant
-  before_constant : (words : List ℕ) (t : IntegerType) (z : ℤ) (x : Term Head) (s : State) (o : Outcome) → meaning_of words x s ≡ o →
-      meaning words (x ▸ term.constant t z ▸ no_terms) s ≡ then_run o (λ vs m. Ends (vs ++ whole t (cast_unsigned (width_of t) z) ∷ []) m)
+  pub before_constant : (words : List ℕ) (t : IntegerType) (z : ℤ) (x : Term Head) (s : State) (o : Outcome) → meaning_of words x s ≡ o →
+      meaning words (x ▸ term.constant_term t z ▸ no_terms) s ≡ then_run o (λ vs m. Ends (vs ++ whole t (cast_unsigned (width_of t) z) ∷ []) m)
   before_constant words t z x s o e =
       let n = length (draws_of x) in
-      ap (λ o. then_run o (λ vs m. above vs (meaning (drop n words) (term.constant t z ▸ no_terms) m))) e ∙ go o
+      ap (λ o. then_run o (λ vs m. above vs (meaning (drop n words) (term.constant_term t z ▸ no_terms) m))) e ∙ go o
     where
-      last : (us : List ℕ) (m : State) → meaning us (term.constant t z ▸ no_terms) m ≡ Ends (whole t (cast_unsigned (width_of t) z) ∷ []) m
+      last : (us : List ℕ) (m : State) → meaning us (term.constant_term t z ▸ no_terms) m ≡ Ends (whole t (cast_unsigned (width_of t) z) ∷ []) m
       last us m = ap (λ o. then_run o (λ vs m. above vs (Ends [] m))) (constant_means us t z m)
 
-      go : (o : Outcome) → then_run o (λ vs m. above vs (meaning (drop (length (draws_of x)) words) (term.constant t z ▸ no_terms) m))
+      go : (o : Outcome) → then_run o (λ vs m. above vs (meaning (drop (length (draws_of x)) words) (term.constant_term t z ▸ no_terms) m))
           ≡ then_run o (λ vs m. Ends (vs ++ whole t (cast_unsigned (width_of t) z) ∷ []) m)
       go (Ends vs m) = ap (above vs) (last (drop (length (draws_of x)) words) m)
       go (Traps gs) = refl
       go Stuck = refl
 
   -- the operator of a head, on an operand and the constant
-  pub neutral_agree : {byte : ℕ} {h : Head} (r : HasRow h byte) (t : IntegerType) (f : IntegerOperator) (e : ℕ) (x : Term Head) →
-      integer_row r.instr ≡ operation f → LeavesFirst t f (cast_unsigned (width_of t) (pos e) % 2 ^ bits (width_of t)) →
+  pub neutral_agree : {byte : ℕ} {h : Head} (r : HasRow h byte) (t : IntegerType) (f : IntegerOperator) (z : ℤ) (x : Term Head) →
+      integer_row r.instr ≡ operation f → LeavesFirst t f (cast_unsigned (width_of t) z % 2 ^ bits (width_of t)) →
       types_of locals globals x ≡ Some (type_of t ∷ []) → (words : List ℕ) →
-      Agree locals globals words words x (term.two h x (term.constant t (pos e)))
-  neutral_agree {h = h} r t f e x is l typed words =
-      let c = term.constant t (pos e) in
+      Agree locals globals words words x (term.two h x (term.constant_term t z))
+  neutral_agree {h = h} r t f z x is l typed words =
+      let c = term.constant_term t z in
       let kids = x ▸ c ▸ no_terms in
-      let both : types_in locals globals kids ≡ Some (type_of t ∷ type_of t ∷ []) = rw (typed, constant_types t (pos e)) refl in
+      let both : types_in locals globals kids ≡ Some (type_of t ∷ type_of t ∷ []) = rw (typed, constant_types t z) refl in
       let second : types_of locals globals (node h kids) ≡ Some (type_of t ∷ []) =
       rows.types locals globals h kids r.instr r.instr_is ∙ (rw (both, is) (operator_types locals globals (type_of t) f l.operands)
       ∙ ap (λ u. Some (type_of u ∷ [])) l.result) in
       agree_equal rows sound locals globals (type_of t ∷ []) words words x (node h kids) typed second
       (λ s hs. sym (rows.means words h kids r.instr s r.instr_is ∙ (ap (λ row. then_run (meaning words kids s) (act row)) is
-      ∙ (ap (λ o. then_run o (act (operation f))) (before_constant words t (pos e) x s (meaning_of words x s) refl)
+      ∙ (ap (λ o. then_run o (act (operation f))) (before_constant words t z x s (meaning_of words x s) refl)
       ∙ leaves (meaning_of words x s) (sound locals globals (type_of t ∷ []) words x s typed hs)))))
     where
       given_again : (v : Value) (m : State) (o : Option ℕ) (j : ℕ) → o ≡ Some j → v.type ≡ type_of t → j % 2 ^ bits (width_of t) ≡ v.number →
           given f.result o m ≡ Ends (v ∷ []) m
       given_again v m o j a b c = rw (a, l.result, again t v j b c) refl
 
-      one : (v : Value) (m : State) → v.type ≡ type_of t → IsValue v → act (operation f) (v ∷ whole t (cast_unsigned (width_of t) (pos e)) ∷ []) m ≡ Ends (v ∷ []) m
+      one : (v : Value) (m : State) → v.type ≡ type_of t → IsValue v → act (operation f) (v ∷ whole t (cast_unsigned (width_of t) z) ∷ []) m ≡ Ends (v ∷ []) m
       one v m a b =
           let (j, c, d) = l.value v.number (below t v a b) in
-          act_two (type_of t) f v (whole t (cast_unsigned (width_of t) (pos e))) m l.operands a refl
-          ∙ given_again v m (f.value (v.number ∷ (cast_unsigned (width_of t) (pos e) % 2 ^ bits (width_of t)) ∷ [])) j c a d
+          act_two (type_of t) f v (whole t (cast_unsigned (width_of t) z)) m l.operands a refl
+          ∙ given_again v m (f.value (v.number ∷ (cast_unsigned (width_of t) z % 2 ^ bits (width_of t)) ∷ [])) j c a d
 
       leaves : (o : Outcome) → EndsTyped locals globals (type_of t ∷ []) o →
-          then_run (then_run o (λ vs m. Ends (vs ++ whole t (cast_unsigned (width_of t) (pos e)) ∷ []) m)) (act (operation f)) ≡ o
+          then_run (then_run o (λ vs m. Ends (vs ++ whole t (cast_unsigned (width_of t) z) ∷ []) m)) (act (operation f)) ≡ o
       leaves (Ends [] m) a = absurd cc
       leaves (Ends (v ∷ []) m) a = one v m (cc) (All-head IsValue v [] a.1)
       leaves (Ends (v ∷ u ∷ vs) m) a = absurd cc
@@ -111,64 +111,73 @@ module _ (rows : MeanByTheirRows) (sound : LeavesItsTypes) (locals globals : Lis
 
 -- ---- the operators
 
+leaves : (t : IntegerType) (f : IntegerOperator) (e : ℕ) → f.operands ≡ type_of t ∷ type_of t ∷ [] → f.result ≡ t → (g : ℕ → ℕ) →
+    ((n : ℕ) → f.value (n ∷ e ∷ []) ≡ Some (g n)) → ((n : ℕ) → n < 2 ^ bits (width_of t) → g n % 2 ^ bits (width_of t) ≡ n) → LeavesFirst t f e
+leaves t f e o r g v m = record { operands = o; result = r; value = λ n l. (g n, v n, m n l) }
+
+same : (M n k : ℕ) → n < M → k ≡ n → k % M ≡ n
+same M n k l e = ap (λ x. x % M) e ∙ mod-eq_of_lt l
+
+round : (M n : ℕ) → n < M → (n + (M - 0)) % M ≡ n
+round M n l = let e : n + (M - 0) ≡ n + M = omega arith in ap (λ x. x % M) e ∙ (add-mod_right n M ∙ mod-eq_of_lt l)
+
+pub add_leaves : (t : IntegerType) → LeavesFirst t (binary t add) 0
+add_leaves t = leaves t (binary t add) 0 refl refl (λ n. n + 0) (λ n. refl) (λ n l. same (2 ^ bits (width_of t)) n (n + 0) l (omega arith))
+
+pub sub_leaves : (t : IntegerType) → LeavesFirst t (binary t sub) 0
+sub_leaves t = leaves t (binary t sub) 0 refl refl (λ n. n + (2 ^ bits (width_of t) - 0)) (λ n. refl) (λ n l. round (2 ^ bits (width_of t)) n l)
+
+pub mul_leaves : (t : IntegerType) → LeavesFirst t (binary t mul) 1
+mul_leaves t = leaves t (binary t mul) 1 refl refl (λ n. n * 1) (λ n. refl) (λ n l. same (2 ^ bits (width_of t)) n (n * 1) l (mul-one n))
+
+pub or_leaves : (t : IntegerType) → LeavesFirst t (binary t or_) 0
+or_leaves t = leaves t (binary t or_) 0 refl refl (λ n. bit_or n 0) (λ n. refl) (λ n l. same (2 ^ bits (width_of t)) n (bit_or n 0) l (or_zero_r n))
+
+pub xor_leaves : (t : IntegerType) → LeavesFirst t (binary t xor_) 0
+xor_leaves t = leaves t (binary t xor_) 0 refl refl (λ n. bit_xor n 0) (λ n. refl) (λ n l. same (2 ^ bits (width_of t)) n (bit_xor n 0) l (xor_zero_r n))
+
+pub shl_leaves : (t : IntegerType) → LeavesFirst t (binary t shl) 0
+shl_leaves integer.I32 =
+    leaves integer.I32 (binary integer.I32 shl) 0 refl refl (λ n. n * 2 ^ (0 % 32)) (λ n. refl) (λ n l. same (2 ^ 32) n (n * 2 ^ (0 % 32)) l (mul-one n))
+shl_leaves integer.I64 =
+    leaves integer.I64 (binary integer.I64 shl) 0 refl refl (λ n. n * 2 ^ (0 % 64)) (λ n. refl) (λ n l. same (2 ^ 64) n (n * 2 ^ (0 % 64)) l (mul-one n))
+
 module _ (rows : MeanByTheirRows) (sound : LeavesItsTypes) (laws : IsCongruence) where
   -- with an operator that is written by its opcode
-  written_agrees : (t : IntegerType) (byte e : ℕ) (f : IntegerOperator) (x : Term Head) → opcode_byte (operator byte) ≡ Some byte →
-      bare_row byte ≡ operation f → LeavesFirst t f (cast_unsigned (width_of t) (pos e) % 2 ^ bits (width_of t)) →
-      AgreeOfType t x (term.two (operator byte) x (term.constant t (pos e)))
-  written_agrees t byte e f x is row l locals globals typed d us vs =
-      laws.transitive locals globals us vs vs x x (term.two (operator byte) x (term.constant t (pos e)))
+  pub written_agrees : (t : IntegerType) (byte : ℕ) (z : ℤ) (f : IntegerOperator) (x : Term Head) → opcode_byte (operator byte) ≡ Some byte →
+      bare_row byte ≡ operation f → LeavesFirst t f (cast_unsigned (width_of t) z % 2 ^ bits (width_of t)) →
+      AgreeOfType t x (term.two (operator byte) x (term.constant_term t z))
+  written_agrees t byte z f x is row l locals globals typed d us vs =
+      laws.transitive locals globals us vs vs x x (term.two (operator byte) x (term.constant_term t z))
       (laws.wordless locals globals (type_of t ∷ []) us vs x d typed)
-      (neutral_agree rows sound locals globals (row_of (operator byte) byte is) t f e x (operator_bare byte is ∙ row) l typed vs)
-
-  leaves : (t : IntegerType) (f : IntegerOperator) (e : ℕ) → f.operands ≡ type_of t ∷ type_of t ∷ [] → f.result ≡ t → (g : ℕ → ℕ) →
-      ((n : ℕ) → f.value (n ∷ e ∷ []) ≡ Some (g n)) → ((n : ℕ) → n < 2 ^ bits (width_of t) → g n % 2 ^ bits (width_of t) ≡ n) → LeavesFirst t f e
-  leaves t f e o r g v m = record { operands = o; result = r; value = λ n l. (g n, v n, m n l) }
-
-  same : (M n k : ℕ) → n < M → k ≡ n → k % M ≡ n
-  same M n k l e = ap (λ x. x % M) e ∙ mod-eq_of_lt l
-
-  round : (M n : ℕ) → n < M → (n + (M - 0)) % M ≡ n
-  round M n l = let e : n + (M - 0) ≡ n + M = omega arith in ap (λ x. x % M) e ∙ (add-mod_right n M ∙ mod-eq_of_lt l)
+      (neutral_agree rows sound locals globals (row_of (operator byte) byte is) t f z x (operator_bare byte is ∙ row) l typed vs)
 
   pub add_zero_keeps : (t : IntegerType) (x : Term Head) → AgreeOfType t x (add_zero t x)
   unfolding table row_at
-  add_zero_keeps integer.I32 x = written_agrees integer.I32 0x6a 0 (binary integer.I32 add) x refl refl
-      (leaves integer.I32 (binary integer.I32 add) 0 refl refl (λ n. n + 0) (λ n. refl) (λ n l. same (2 ^ 32) n (n + 0) l (omega arith)))
-  add_zero_keeps integer.I64 x = written_agrees integer.I64 0x7c 0 (binary integer.I64 add) x refl refl
-      (leaves integer.I64 (binary integer.I64 add) 0 refl refl (λ n. n + 0) (λ n. refl) (λ n l. same (2 ^ 64) n (n + 0) l (omega arith)))
+  add_zero_keeps integer.I32 x = written_agrees integer.I32 0x6a (pos 0) (binary integer.I32 add) x refl refl (add_leaves integer.I32)
+  add_zero_keeps integer.I64 x = written_agrees integer.I64 0x7c (pos 0) (binary integer.I64 add) x refl refl (add_leaves integer.I64)
 
   pub sub_zero_keeps : (t : IntegerType) (x : Term Head) → AgreeOfType t x (sub_zero t x)
   unfolding table row_at
-  sub_zero_keeps integer.I32 x = written_agrees integer.I32 0x6b 0 (binary integer.I32 sub) x refl refl
-      (leaves integer.I32 (binary integer.I32 sub) 0 refl refl (λ n. n + (2 ^ 32 - 0)) (λ n. refl) (λ n l. round (2 ^ 32) n l))
-  sub_zero_keeps integer.I64 x = written_agrees integer.I64 0x7d 0 (binary integer.I64 sub) x refl refl
-      (leaves integer.I64 (binary integer.I64 sub) 0 refl refl (λ n. n + (2 ^ 64 - 0)) (λ n. refl) (λ n l. round (2 ^ 64) n l))
+  sub_zero_keeps integer.I32 x = written_agrees integer.I32 0x6b (pos 0) (binary integer.I32 sub) x refl refl (sub_leaves integer.I32)
+  sub_zero_keeps integer.I64 x = written_agrees integer.I64 0x7d (pos 0) (binary integer.I64 sub) x refl refl (sub_leaves integer.I64)
 
   pub mul_one_keeps : (t : IntegerType) (x : Term Head) → AgreeOfType t x (mul_one t x)
   unfolding table row_at
-  mul_one_keeps integer.I32 x = written_agrees integer.I32 0x6c 1 (binary integer.I32 mul) x refl refl
-      (leaves integer.I32 (binary integer.I32 mul) 1 refl refl (λ n. n * 1) (λ n. refl) (λ n l. same (2 ^ 32) n (n * 1) l (mul-one n)))
-  mul_one_keeps integer.I64 x = written_agrees integer.I64 0x7e 1 (binary integer.I64 mul) x refl refl
-      (leaves integer.I64 (binary integer.I64 mul) 1 refl refl (λ n. n * 1) (λ n. refl) (λ n l. same (2 ^ 64) n (n * 1) l (mul-one n)))
+  mul_one_keeps integer.I32 x = written_agrees integer.I32 0x6c (pos 1) (binary integer.I32 mul) x refl refl (mul_leaves integer.I32)
+  mul_one_keeps integer.I64 x = written_agrees integer.I64 0x7e (pos 1) (binary integer.I64 mul) x refl refl (mul_leaves integer.I64)
 
   pub or_zero_keeps : (t : IntegerType) (x : Term Head) → AgreeOfType t x (or_zero t x)
   unfolding table row_at
-  or_zero_keeps integer.I32 x = written_agrees integer.I32 0x72 0 (binary integer.I32 or_) x refl refl
-      (leaves integer.I32 (binary integer.I32 or_) 0 refl refl (λ n. bit_or n 0) (λ n. refl) (λ n l. same (2 ^ 32) n (bit_or n 0) l (or_zero_r n)))
-  or_zero_keeps integer.I64 x = written_agrees integer.I64 0x84 0 (binary integer.I64 or_) x refl refl
-      (leaves integer.I64 (binary integer.I64 or_) 0 refl refl (λ n. bit_or n 0) (λ n. refl) (λ n l. same (2 ^ 64) n (bit_or n 0) l (or_zero_r n)))
+  or_zero_keeps integer.I32 x = written_agrees integer.I32 0x72 (pos 0) (binary integer.I32 or_) x refl refl (or_leaves integer.I32)
+  or_zero_keeps integer.I64 x = written_agrees integer.I64 0x84 (pos 0) (binary integer.I64 or_) x refl refl (or_leaves integer.I64)
 
   pub xor_zero_keeps : (t : IntegerType) (x : Term Head) → AgreeOfType t x (xor_zero t x)
   unfolding table row_at
-  xor_zero_keeps integer.I32 x = written_agrees integer.I32 0x73 0 (binary integer.I32 xor_) x refl refl
-      (leaves integer.I32 (binary integer.I32 xor_) 0 refl refl (λ n. bit_xor n 0) (λ n. refl) (λ n l. same (2 ^ 32) n (bit_xor n 0) l (xor_zero_r n)))
-  xor_zero_keeps integer.I64 x = written_agrees integer.I64 0x85 0 (binary integer.I64 xor_) x refl refl
-      (leaves integer.I64 (binary integer.I64 xor_) 0 refl refl (λ n. bit_xor n 0) (λ n. refl) (λ n l. same (2 ^ 64) n (bit_xor n 0) l (xor_zero_r n)))
+  xor_zero_keeps integer.I32 x = written_agrees integer.I32 0x73 (pos 0) (binary integer.I32 xor_) x refl refl (xor_leaves integer.I32)
+  xor_zero_keeps integer.I64 x = written_agrees integer.I64 0x85 (pos 0) (binary integer.I64 xor_) x refl refl (xor_leaves integer.I64)
 
   pub shift_by_zero_keeps : (t : IntegerType) (x : Term Head) → AgreeOfType t x (shift_by_zero t x)
   unfolding table row_at
-  shift_by_zero_keeps integer.I32 x = written_agrees integer.I32 0x74 0 (binary integer.I32 shl) x refl refl
-      (leaves integer.I32 (binary integer.I32 shl) 0 refl refl (λ n. n * 2 ^ (0 % 32)) (λ n. refl) (λ n l. same (2 ^ 32) n (n * 2 ^ (0 % 32)) l (mul-one n)))
-  shift_by_zero_keeps integer.I64 x = written_agrees integer.I64 0x86 0 (binary integer.I64 shl) x refl refl
-      (leaves integer.I64 (binary integer.I64 shl) 0 refl refl (λ n. n * 2 ^ (0 % 64)) (λ n. refl) (λ n l. same (2 ^ 64) n (n * 2 ^ (0 % 64)) l (mul-one n)))
+  shift_by_zero_keeps integer.I32 x = written_agrees integer.I32 0x74 (pos 0) (binary integer.I32 shl) x refl refl (shl_leaves integer.I32)
+  shift_by_zero_keeps integer.I64 x = written_agrees integer.I64 0x86 (pos 0) (binary integer.I64 shl) x refl refl (shl_leaves integer.I64)

@@ -21,19 +21,19 @@ use Rattle.peephole_machine.specs.RowLemmas.{and_then_some}
 use Rattle.peephole_terms.specs.Typing.{types_of, types_in}
 use Rattle.peephole_terms.specs.Agrees.{Agree, LeavesItsTypes}
 use Rattle.peephole_terms.specs.Laws.{MeanByTheirRows}
-use Rattle.peephole_rules.specs.Operator.{opcode_byte, is_in, is_of, commutative, less, greater, turned, has_one_value, operator, two}
+use Rattle.peephole_rules.specs.Operator.{opcode_byte, is_in, is_among, commutative, less, greater, turned, has_one_value, operator, two}
 use Rattle.peephole_rules.specs.Effects.{writes}
-use Rattle.peephole_rules.specs.Rewriting.{only_if, undisturbed, commute, turn_comparison}
-use Rattle.peephole_rules.specs.Laws.{Keeps}
+use Rattle.peephole_rules.specs.Rewriting.{answer_if, undisturbed, commute, turn_comparison}
+use Rattle.peephole_rules.specs.Laws.{KeepsMeaning}
 use Rattle.peephole_rules.proofs.ByteLemmas.{AllOf, each, bare, with_immediate}
 use Rattle.peephole_rules.proofs.RowLemmas.{HasRow, row_of}
 use Rattle.peephole_rules.proofs.SwapLemmas.{Swap, swapped_agree}
 
 -- ---- conditions
 
-pub some_only_if : {A : Type 0} (b : Bool) (a x : A) → only_if b a ≡ Some x → (b ≡ true) × (a ≡ x)
-some_only_if true a x e = (refl, cc)
-some_only_if false a x e = absurd cc
+pub some_answer_if : {A : Type 0} (b : Bool) (a x : A) → answer_if b a ≡ Some x → (b ≡ true) × (a ≡ x)
+some_answer_if true a x e = (refl, cc)
+some_answer_if false a x e = absurd cc
 
 pub is_not : (b : Bool) → not b ≡ true → b ≡ false
 is_not true e = absurd (false≢true e)
@@ -148,14 +148,14 @@ module _ (rows : MeanByTheirRows) (sound : LeavesItsTypes) where
     ),
   )
 
-  byte_in : (bytes : List ℕ) (o : Option ℕ) → is_of bytes o ≡ true → (byte : ℕ) × (o ≡ Some byte) × (is_in bytes byte ≡ true)
+  byte_in : (bytes : List ℕ) (o : Option ℕ) → is_among bytes o ≡ true → (byte : ℕ) × (o ≡ Some byte) × (is_in bytes byte ≡ true)
   byte_in bytes (Some byte) e = (byte, refl, e)
   byte_in bytes None e = absurd (false≢true e)
 
-  pub commute_keeps : Keeps commute
+  pub commute_keeps : KeepsMeaning commute
   commute_keeps (node h (x ▸ y ▸ no_terms)) u e locals globals list typed d us vs =
-      let (c, made) = some_only_if (is_of commutative (opcode_byte h) && undisturbed x y) (two h y x) u e in
-      let p = and_parts (is_of commutative (opcode_byte h)) (undisturbed x y) c in
+      let (c, made) = some_answer_if (is_among commutative (opcode_byte h) && undisturbed x y) (two h y x) u e in
+      let p = and_parts (is_among commutative (opcode_byte h)) (undisturbed x y) c in
       let o = undisturbed_parts x y p.1 in
       let (byte, is, among) = byte_in commutative (opcode_byte h) p.0 in
       let k = each Commutes commutative all_commute byte among in
@@ -266,11 +266,11 @@ module _ (rows : MeanByTheirRows) (sound : LeavesItsTypes) where
       go false true a b f = each Turns greater greater_turn byte b
       go false false a b f = absurd cc
 
-  pub turn_comparison_keeps : Keeps turn_comparison
+  pub turn_comparison_keeps : KeepsMeaning turn_comparison
   turn_comparison_keeps (node h (x ▸ y ▸ no_terms)) u e locals globals list typed d us vs =
-      let (other, a, b) = and_then_some (λ other. only_if (undisturbed x y) (two (operator other) y x)) (option_and_then turned (opcode_byte h)) u e in
+      let (other, a, b) = and_then_some (λ other. answer_if (undisturbed x y) (two (operator other) y x)) (option_and_then turned (opcode_byte h)) u e in
       let (byte, is, to) = and_then_some turned (opcode_byte h) other a in
-      let (c, made) = some_only_if (undisturbed x y) (two (operator other) y x) u b in
+      let (c, made) = some_answer_if (undisturbed x y) (two (operator other) y x) u b in
       let o = undisturbed_parts x y c in
       let k = turn_of byte other to in
       let same : k.other ≡ other = some_is (sym k.other_is ∙ to) in

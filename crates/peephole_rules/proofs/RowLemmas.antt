@@ -1,5 +1,6 @@
 -- A node by the opcode of its instruction: its row.
-use Rattle.std.proofs.Common.{◌≡◌, ℕ, Option, Some, None, refl, ap}
+use Rattle.std.proofs.Common.{◌≡◌, ℕ, true, Option, Some, None, refl, ap}
+use Rattle.std.proofs.lemmas.Bool.{eqb-true, false≢true}
 use Rattle.wasm_code.specs.Instruction.{Instruction}
 use Rattle.wasm_code.specs.declared.table.Opcode.{Opcode}
 use Rattle.wasm_code.specs.declared.table.Opcode.TheVariants.{Byte, Fc, Fd}
@@ -7,7 +8,7 @@ use Rattle.wasm_code.specs.Table.{row_at, opcode_in}
 use Rattle.peephole_lang.specs.declared.lang.Head.{Head}
 use Rattle.peephole_lang.specs.Node.{instr_of_head}
 use Rattle.peephole_machine.specs.IntegerRow.{integer_row, byte_row, opcode_row}
-use Rattle.peephole_rules.specs.Operator.{byte_of, instruction_byte, opcode_byte}
+use Rattle.peephole_rules.specs.Operator.{byte_of, instruction_byte, opcode_byte, are_same}
 
 -- The node's instruction has the opcode.
 pub record HasRow (h : Head) (byte : ℕ) : Type 0 where
@@ -32,3 +33,8 @@ row_of h byte e = go (instr_of_head h) refl e
       instr_is = k;
       row_is = ap (λ o. opcode_row o i.imm) (byte_is (opcode_in (row_at i.row)) byte f);
     }
+
+pub same_is : (o r : Option ℕ) → are_same o r ≡ true → o ≡ r
+same_is (Some n) (Some m) e = ap Some (eqb-true n m e)
+same_is (Some n) None e = absurd (false≢true e)
+same_is None r e = absurd (false≢true e)

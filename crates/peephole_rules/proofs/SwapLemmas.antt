@@ -57,9 +57,6 @@ pub record Swap (t : IntegerType) (row turned : IntegerRow) : Type 0 where
   pub results : one.result ≡ two.result
   pub values : (a b : ℕ) → one.value (a ∷ b ∷ []) ≡ two.value (b ∷ a ∷ [])
 
-alike_types : (t : PrimitiveTypeInfo) → same_types (t ∷ t ∷ []) (t ∷ t ∷ []) ≡ true
-alike_types t = rw (same_type_self t) refl
-
 pub operator_types : (locals globals : List PrimitiveTypeInfo) (t : PrimitiveTypeInfo) (f : IntegerOperator) → f.operands ≡ t ∷ t ∷ [] →
     row_types locals globals (operation f) (t ∷ t ∷ []) ≡ Some (type_of f.result ∷ [])
 operator_types locals globals t f e =

@@ -24,7 +24,7 @@ use Rattle.peephole_rules.specs.Laws.{AgreeOfType}
 use Rattle.peephole_rules.proofs.RowLemmas.{row_of}
 use Rattle.peephole_rules.proofs.OperandLemmas.{LeavesValue, operand}
 use Rattle.peephole_rules.proofs.SwapLemmas.{both_leave, first_traps, operator_types, act_two}
-use Rattle.peephole_rules.proofs.OrderLemmas.{some_only_if, is_not, operator_bare}
+use Rattle.peephole_rules.proofs.OrderLemmas.{some_answer_if, is_not, operator_bare}
 use Rattle.peephole_rules.proofs.NeutralLemmas.{again, below}
 use Rattle.peephole_rules.proofs.WayLemmas.{after_itself}
 
@@ -69,7 +69,7 @@ module _ (rows : MeanByTheirRows) (sound : LeavesItsTypes) (laws : IsCongruence)
   pub or_self_keeps : (t : IntegerType) (x u : Term Head) → or_self t x ≡ Some u → AgreeOfType t x u
   unfolding table row_at
   or_self_keeps t x u e =
-      let (c, made) = some_only_if (not (writes x)) (two (operator (of_type t 0x72 0x84)) x x) u e in
+      let (c, made) = some_answer_if (not (writes x)) (two (operator (of_type t 0x72 0x84)) x x) u e in
       answered t x (two (operator (of_type t 0x72 0x84)) x x) u (go t) c made
     where
       go : (t : IntegerType) → writes x ≡ false → AgreeOfType t x (two (operator (of_type t 0x72 0x84)) x x)
@@ -81,7 +81,7 @@ module _ (rows : MeanByTheirRows) (sound : LeavesItsTypes) (laws : IsCongruence)
   pub and_self_keeps : (t : IntegerType) (x u : Term Head) → and_self t x ≡ Some u → AgreeOfType t x u
   unfolding table row_at
   and_self_keeps t x u e =
-      let (c, made) = some_only_if (not (writes x)) (two (operator (of_type t 0x71 0x83)) x x) u e in
+      let (c, made) = some_answer_if (not (writes x)) (two (operator (of_type t 0x71 0x83)) x x) u e in
       answered t x (two (operator (of_type t 0x71 0x83)) x x) u (go t) c made
     where
       go : (t : IntegerType) → writes x ≡ false → AgreeOfType t x (two (operator (of_type t 0x71 0x83)) x x)

@@ -14,8 +14,8 @@ use Rattle.peephole_terms.specs.Typing.{types_of}
 use Rattle.peephole_terms.specs.Meaning.{meaning_of}
 use Rattle.peephole_terms.specs.Agrees.{Agree, LeavesItsTypes, IsCongruence}
 use Rattle.peephole_terms.specs.Laws.{MeanByTheirRows}
-use Rattle.peephole_rules.specs.Operator.{constant, nop_head, nop}
-use Rattle.peephole_rules.specs.Rewriting.{through_global, as_a_sum, with_nop}
+use Rattle.peephole_rules.specs.Operator.{constant_term, nop_head, nop}
+use Rattle.peephole_rules.specs.Rewriting.{by_way_of_global, as_a_sum, with_nop}
 use Rattle.peephole_rules.specs.Laws.{AgreeAlways, AgreeOfType}
 use Rattle.peephole_rules.proofs.OperandLemmas.{agree_equal}
 use Rattle.peephole_rules.proofs.NeutralLemmas.{constant_means}
@@ -35,16 +35,16 @@ module _ (rows : MeanByTheirRows) (sound : LeavesItsTypes) (laws : IsCongruence)
       laws.transitive locals globals us vs vs x x u (laws.wordless locals globals list us vs x d e)
       (agree_equal rows sound locals globals list vs vs x u e f k)
 
-  pub through_global_keeps : (t : IntegerType) (x : Term Head) → AgreeOfType t x (through_global t x)
-  through_global_keeps integer.I32 x locals globals e d us vs = after_itself locals globals (type_of integer.I32 ∷ []) us vs x
-      (through_global integer.I32 x) e d (rw e refl) (λ s h. sym (alone (meaning_of vs x s)))
-  through_global_keeps integer.I64 x locals globals e d us vs = after_itself locals globals (type_of integer.I64 ∷ []) us vs x
-      (through_global integer.I64 x) e d (rw e refl) (λ s h. sym (alone (meaning_of vs x s)))
+  pub by_way_of_global_keeps : (t : IntegerType) (x : Term Head) → AgreeOfType t x (by_way_of_global t x)
+  by_way_of_global_keeps integer.I32 x locals globals e d us vs = after_itself locals globals (type_of integer.I32 ∷ []) us vs x
+      (by_way_of_global integer.I32 x) e d (rw e refl) (λ s h. sym (alone (meaning_of vs x s)))
+  by_way_of_global_keeps integer.I64 x locals globals e d us vs = after_itself locals globals (type_of integer.I64 ∷ []) us vs x
+      (by_way_of_global integer.I64 x) e d (rw e refl) (λ s h. sym (alone (meaning_of vs x s)))
 
-  pub as_a_sum_keeps : (t : IntegerType) (z : ℤ) → AgreeOfType t (constant t z) (as_a_sum t z)
-  as_a_sum_keeps integer.I32 z locals globals e d us vs = after_itself locals globals (type_of integer.I32 ∷ []) us vs (constant integer.I32 z)
+  pub as_a_sum_keeps : (t : IntegerType) (z : ℤ) → AgreeOfType t (constant_term t z) (as_a_sum t z)
+  as_a_sum_keeps integer.I32 z locals globals e d us vs = after_itself locals globals (type_of integer.I32 ∷ []) us vs (constant_term integer.I32 z)
       (as_a_sum integer.I32 z) e d refl (λ s h. constant_means rows sound locals globals vs integer.I32 z s)
-  as_a_sum_keeps integer.I64 z locals globals e d us vs = after_itself locals globals (type_of integer.I64 ∷ []) us vs (constant integer.I64 z)
+  as_a_sum_keeps integer.I64 z locals globals e d us vs = after_itself locals globals (type_of integer.I64 ∷ []) us vs (constant_term integer.I64 z)
       (as_a_sum integer.I64 z) e d refl (λ s h. constant_means rows sound locals globals vs integer.I64 z s)
 
   -- ---- nop

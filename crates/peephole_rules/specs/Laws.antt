@@ -1,15 +1,18 @@
 -- When a term may stand for another whatever words are drawn, and that rules make such terms (this project).
-use Rattle.std.specs.Prelude.{◌≡◌, ℕ, ℤ, List, [], ◌∷◌, Option, Some}
+use Rattle.std.specs.Prelude.{◌≡◌, ℕ, ℤ, false, List, [], ◌∷◌, Option, Some, ⊤}
 use Rattle.mutate_base.specs.declared.types.PrimitiveTypeInfo.{PrimitiveTypeInfo}
 use Rattle.peephole_lang.specs.declared.lang.Head.{Head}
 use Rattle.peephole_lang.specs.Term.{Term}
 use Rattle.peephole_machine.specs.declared.integer.IntegerType.{IntegerType}
-use Rattle.peephole_machine.specs.Values.{type_of}
+use Rattle.peephole_machine.specs.Values.{type_of, State, HasTypes, Outcome, Ends}
 use Rattle.peephole_terms.specs.Expansion.{draws_of}
 use Rattle.peephole_terms.specs.Typing.{types_of}
-use Rattle.peephole_terms.specs.Agrees.{Agree}
-use Rattle.peephole_rules.specs.Operator.{constant}
-use Rattle.peephole_rules.specs.Rewriting.{commute, turn_comparison, add_zero, sub_zero, mul_one, or_zero, xor_zero, shift_by_zero, or_self, and_self, through_global, as_a_sum, with_nop}
+use Rattle.peephole_terms.specs.Meaning.{meaning_of}
+use Rattle.peephole_terms.specs.Agrees.{Agree, StandsFor}
+use Rattle.peephole_rules.specs.declared.rule.Rule.{Rule}
+use Rattle.peephole_rules.specs.Operator.{constant_term}
+use Rattle.peephole_rules.specs.Effects.{may_trap}
+use Rattle.peephole_rules.specs.Rewriting.{commute, turn_comparison, add_zero, sub_zero, mul_one, or_zero, xor_zero, shift_by_zero, or_self, and_self, by_way_of_global, as_a_sum, with_nop, associate_left, associate_right, test_to_comparison, comparison_to_test, drop_add_zero, drop_sub_zero, drop_mul_one, drop_or_zero, drop_xor_zero, drop_shift_by_zero, and_ones, drop_and_ones, double_complement, difference_to_sum, sum_to_difference, shift_to_product, product_to_shift, turn_select, forget, fold, rewrite}
 
 -- Where the first term has types and draws no word, the second has the same types, and means the same in every state, for all words that it draws.
 abbrev pub AgreeAlways : (before after : Term Head) → Type 0
@@ -18,8 +21,8 @@ AgreeAlways before after =
     (us vs : List ℕ) → Agree locals globals us vs before after
 
 -- What a rule makes of a term agrees with it.
-abbrev pub Keeps : (Term Head → Option (Term Head)) → Type 0
-Keeps rule = (t u : Term Head) → rule t ≡ Some u → AgreeAlways t u
+abbrev pub KeepsMeaning : (Term Head → Option (Term Head)) → Type 0
+KeepsMeaning rule = (t u : Term Head) → rule t ≡ Some u → AgreeAlways t u
 
 -- Where the first term leaves one value of the type and draws no word, the second does the same, and means the same in every state, for all words.
 abbrev pub AgreeOfType : IntegerType → (before after : Term Head) → Type 0
@@ -28,24 +31,58 @@ AgreeOfType t before after =
     (us vs : List ℕ) → Agree locals globals us vs before after
 
 -- So it is with what a rule makes of every term of the type.
-abbrev pub KeepsOfType : (IntegerType → Term Head → Term Head) → Type 0
-KeepsOfType rule = (t : IntegerType) (x : Term Head) → AgreeOfType t x (rule t x)
+abbrev pub KeepsMeaningOfType : (IntegerType → Term Head → Term Head) → Type 0
+KeepsMeaningOfType rule = (t : IntegerType) (x : Term Head) → AgreeOfType t x (rule t x)
 
 -- And with what a rule makes of the terms of the type for which it has an answer.
-abbrev pub KeepsWhereItAnswers : (IntegerType → Term Head → Option (Term Head)) → Type 0
-KeepsWhereItAnswers rule = (t : IntegerType) (x u : Term Head) → rule t x ≡ Some u → AgreeOfType t x u
+abbrev pub KeepsMeaningWhereItAnswers : (IntegerType → Term Head → Option (Term Head)) → Type 0
+KeepsMeaningWhereItAnswers rule = (t : IntegerType) (x u : Term Head) → rule t x ≡ Some u → AgreeOfType t x u
+
+-- It ends: it neither traps nor is stuck.
+abbrev pub HasEnded : Outcome → Type 0
+HasEnded (Ends vs s) = ⊤
+HasEnded _ = ⊥
+
+-- A typed term ends where it has no node that may trap.
+abbrev pub EndsWithoutTrap : Type 0
+EndsWithoutTrap =
+    (locals globals list : List PrimitiveTypeInfo) (words : List ℕ) (t : Term Head) (s : State) →
+    types_of locals globals t ≡ Some list → HasTypes locals globals s → may_trap t ≡ false → HasEnded (meaning_of words t s)
 
 pub record RulesKeepMeaning : Type 0 where
-  pub commute_keeps : Keeps commute
-  pub turn_comparison_keeps : Keeps turn_comparison
-  pub add_zero_keeps : KeepsOfType add_zero
-  pub sub_zero_keeps : KeepsOfType sub_zero
-  pub mul_one_keeps : KeepsOfType mul_one
-  pub or_zero_keeps : KeepsOfType or_zero
-  pub xor_zero_keeps : KeepsOfType xor_zero
-  pub shift_by_zero_keeps : KeepsOfType shift_by_zero
-  pub or_self_keeps : KeepsWhereItAnswers or_self
-  pub and_self_keeps : KeepsWhereItAnswers and_self
-  pub through_global_keeps : KeepsOfType through_global
-  pub as_a_sum_keeps : (t : IntegerType) (z : ℤ) → AgreeOfType t (constant t z) (as_a_sum t z)
+  pub commute_keeps : KeepsMeaning commute
+  pub turn_comparison_keeps : KeepsMeaning turn_comparison
+  pub add_zero_keeps : KeepsMeaningOfType add_zero
+  pub sub_zero_keeps : KeepsMeaningOfType sub_zero
+  pub mul_one_keeps : KeepsMeaningOfType mul_one
+  pub or_zero_keeps : KeepsMeaningOfType or_zero
+  pub xor_zero_keeps : KeepsMeaningOfType xor_zero
+  pub shift_by_zero_keeps : KeepsMeaningOfType shift_by_zero
+  pub or_self_keeps : KeepsMeaningWhereItAnswers or_self
+  pub and_self_keeps : KeepsMeaningWhereItAnswers and_self
+  pub by_way_of_global_keeps : KeepsMeaningOfType by_way_of_global
+  pub as_a_sum_keeps : (t : IntegerType) (z : ℤ) → AgreeOfType t (constant_term t z) (as_a_sum t z)
   pub with_nop_keeps : (x : Term Head) → AgreeAlways x (with_nop x)
+  pub associate_left_keeps : KeepsMeaning associate_left
+  pub associate_right_keeps : KeepsMeaning associate_right
+  pub test_to_comparison_keeps : KeepsMeaning test_to_comparison
+  pub comparison_to_test_keeps : KeepsMeaning comparison_to_test
+  pub drop_add_zero_keeps : KeepsMeaning drop_add_zero
+  pub drop_sub_zero_keeps : KeepsMeaning drop_sub_zero
+  pub drop_mul_one_keeps : KeepsMeaning drop_mul_one
+  pub drop_or_zero_keeps : KeepsMeaning drop_or_zero
+  pub drop_xor_zero_keeps : KeepsMeaning drop_xor_zero
+  pub drop_shift_by_zero_keeps : KeepsMeaning drop_shift_by_zero
+  pub and_ones_keeps : KeepsMeaningOfType and_ones
+  pub drop_and_ones_keeps : KeepsMeaning drop_and_ones
+  pub double_complement_keeps : KeepsMeaningOfType double_complement
+  pub difference_to_sum_keeps : KeepsMeaning difference_to_sum
+  pub sum_to_difference_keeps : KeepsMeaning sum_to_difference
+  pub turn_select_keeps : KeepsMeaning turn_select
+  pub forget_keeps : KeepsMeaning forget
+  pub ends_without_trap : EndsWithoutTrap
+  pub shift_to_product_keeps : KeepsMeaning shift_to_product
+  pub product_to_shift_keeps : KeepsMeaning product_to_shift
+  pub fold_keeps : KeepsMeaning fold
+  pub rewrite_keeps : (locals globals : List PrimitiveTypeInfo) (rule : Rule) (x u : Term Head) →
+      rewrite locals globals rule x ≡ Some u → StandsFor locals globals x u

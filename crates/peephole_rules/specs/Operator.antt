@@ -1,16 +1,20 @@
 -- Operators by the byte of their opcode, and the nodes that rules write
 -- (WebAssembly Core Specification 3.0, Binary Format, Instructions: numeric, parametric and variable instructions).
-use Rattle.std.specs.Prelude.{ℕ, ℤ, ◌+◌, ◌-◌, ◌==◌, ◌||◌, not, Bool, false, List, [], ◌∷◌, Option, Some, None, if◌then◌else◌}
+use Rattle.std.specs.Prelude.{ℕ, ℤ, ◌+◌, ◌-◌, ◌%◌, ◌^◌, ◌==◌, ◌||◌, not, Bool, false, List, [], ◌∷◌, Option, Some, None, if◌then◌else◌}
+use Rattle.std.specs.Int.{w32, w64, cast_signed, cast_unsigned}
+use mir.Val.{bits}
 use Rattle.wasm_code.specs.Instruction.{Instruction}
 use Rattle.wasm_code.specs.declared.table.Opcode.{Opcode}
 use Rattle.wasm_code.specs.declared.table.Opcode.TheVariants.{Byte}
 use Rattle.wasm_code.specs.Table.{row_at, opcode_in}
+use Rattle.peephole_nodes.specs.declared.payload.Payload.{Payload}
 use Rattle.peephole_nodes.specs.declared.payload.Payload.TheVariants as payload
 use Rattle.peephole_lang.specs.declared.lang.Head.{Head}
 use Rattle.peephole_lang.specs.Node.{instr_of_head}
 use Rattle.peephole_lang.specs.Term.{Term, Terms, absent, node, no_terms, ◌▸◌}
 use Rattle.peephole_machine.specs.declared.integer.IntegerType.{IntegerType}
 use Rattle.peephole_machine.specs.declared.integer.IntegerType.TheVariants as integer
+use Rattle.peephole_machine.specs.Values.{width_of}
 
 -- ---- opcodes
 
@@ -31,9 +35,19 @@ abbrev pub is_in : List ℕ → ℕ → Bool
 is_in [] byte = false
 is_in (x ∷ xs) byte = byte == x || is_in xs byte
 
-abbrev pub is_of : List ℕ → Option ℕ → Bool
-is_of bytes (Some byte) = is_in bytes byte
-is_of bytes None = false
+abbrev pub is_among : List ℕ → Option ℕ → Bool
+is_among bytes (Some byte) = is_in bytes byte
+is_among bytes None = false
+
+-- both are there, and equal
+abbrev pub are_same : Option ℕ → Option ℕ → Bool
+are_same (Some n) (Some m) = n == m
+are_same o r = false
+
+-- the type whose opcode of the two it is
+abbrev pub type_by : (i32_opcode i64_opcode : ℕ) → Option ℕ → Option IntegerType
+type_by a b (Some byte) = if byte == a then Some integer.I32 else (if byte == b then Some integer.I64 else None)
+type_by a b None = None
 
 -- the operators whose operands may change places: eq and ne; add, mul, and, or, xor; of i32 and of i64
 abbrev pub commutative : List ℕ
@@ -53,6 +67,12 @@ greater = 0x4a ∷ 0x4b ∷ 0x4e ∷ 0x4f ∷ 0x55 ∷ 0x56 ∷ 0x59 ∷ 0x5a �
 -- the comparison that holds of the operands in the other order: gt for lt, ge for le, and back
 abbrev pub turned : ℕ → Option ℕ
 turned byte = if is_in less byte then Some (byte + 2) else (if is_in greater byte then Some (byte - 2) else None)
+
+-- the operators that may be grouped either way: add, mul, and, or, xor
+abbrev pub associative : List ℕ
+associative =
+    0x6a ∷ 0x6c ∷ 0x71 ∷ 0x72 ∷ 0x73
+    ∷ 0x7c ∷ 0x7e ∷ 0x83 ∷ 0x84 ∷ 0x85 ∷ []
 
 -- local.set, local.tee, global.set
 abbrev pub writers : List ℕ
@@ -88,8 +108,8 @@ abbrev pub constant_head : IntegerType → ℤ → Head
 constant_head integer.I32 z = record { place = 48; payload = payload.I32 z }
 constant_head integer.I64 z = record { place = 49; payload = payload.I64 z }
 
-abbrev pub constant : IntegerType → ℤ → Term Head
-constant t z = node (constant_head t z) no_terms
+abbrev pub constant_term : IntegerType → ℤ → Term Head
+constant_term t z = node (constant_head t z) no_terms
 
 abbrev pub one : Head → Term Head → Term Head
 one h x = node h (x ▸ no_terms)
@@ -107,7 +127,7 @@ nop_head = record { place = 12; payload = payload.Nothing }
 abbrev pub nop : Term Head
 nop = node nop_head no_terms
 
--- the constant as a sum with a drawn word
+-- the constant as the sum of a drawn word and the rest
 abbrev pub unfold_head : IntegerType → Head
 unfold_head integer.I32 = record { place = 5; payload = payload.Nothing }
 unfold_head integer.I64 = record { place = 6; payload = payload.Nothing }
@@ -116,3 +136,31 @@ unfold_head integer.I64 = record { place = 6; payload = payload.Nothing }
 abbrev pub use_global_head : IntegerType → Head
 use_global_head integer.I32 = record { place = 7; payload = payload.Nothing }
 use_global_head integer.I64 = record { place = 8; payload = payload.Nothing }
+
+-- ---- constants
+
+-- the number of the value that a constant of the type leaves
+abbrev pub low_bits : IntegerType → ℕ → ℕ
+low_bits t n = n % 2 ^ bits (width_of t)
+
+abbrev pub number_in : IntegerType → (place : ℕ) → Payload → Option ℕ
+number_in integer.I32 place (payload.I32 z) = if place == 48 then Some (low_bits integer.I32 (cast_unsigned w32 z)) else None
+number_in integer.I64 place (payload.I64 z) = if place == 49 then Some (low_bits integer.I64 (cast_unsigned w64 z)) else None
+number_in t place p = None
+
+-- that of a term that is such a constant
+abbrev pub number_of : IntegerType → Term Head → Option ℕ
+number_of t (node h no_terms) = number_in t h.place h.payload
+number_of t x = None
+
+abbrev pub or_number : Option ℕ → Option ℕ → Option ℕ
+or_number (Some n) o = Some n
+or_number None o = o
+
+-- that of a constant of either type
+abbrev pub own_number : Term Head → Option ℕ
+own_number x = or_number (number_of integer.I32 x) (number_of integer.I64 x)
+
+-- the constant whose value has the low bits of the number
+abbrev pub numbered : IntegerType → ℕ → Term Head
+numbered t n = constant_term t (cast_signed (width_of t) (low_bits t n))

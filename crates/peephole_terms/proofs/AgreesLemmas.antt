@@ -1,10 +1,10 @@
 -- Terms agree as an equivalence, and in every place of a term.
-use Rattle.std.proofs.Common.{◌≡◌, ℕ, List, [], ◌++◌, length, take, drop, Some, refl, sym, ap, ap₂, ◌∙◌, subst, arith}
+use Rattle.std.proofs.Common.{◌≡◌, ℕ, List, [], ◌++◌, length, take, drop, Option, Some, None, refl, sym, ap, ap₂, ◌∙◌, subst, arith}
 use Rattle.std.specs.Prelude.{option_and_then}
 use Rattle.std.proofs.lemmas.List.{take_all}
 use Rattle.mutate_base.specs.declared.types.PrimitiveTypeInfo.{PrimitiveTypeInfo}
 use Rattle.peephole_lang.specs.declared.lang.Head.{Head}
-use Rattle.peephole_lang.specs.Term.{Term, Terms, absent}
+use Rattle.peephole_lang.specs.Term.{Term, Terms, absent, node, no_terms, ◌▸◌}
 use Rattle.peephole_machine.specs.Values.{Value, types, State, HasTypes, Outcome, Ends, Traps, Stuck, then_run, above}
 use Rattle.peephole_machine.specs.Agreement.{SameState, SameBelow}
 use Rattle.peephole_machine.specs.OutcomeLemmas.{length_types}
@@ -16,7 +16,7 @@ use Rattle.peephole_terms.specs.NodeKind.{NumberType, NodeKind, node_kind}
 use Rattle.peephole_terms.specs.Expansion.{own_draws, with_own_draws, draws_of, draws}
 use Rattle.peephole_terms.specs.Typing.{own_types, with_own_types, joined_types, types_of, types_in}
 use Rattle.peephole_terms.specs.Meaning.{own_meaning, with_own_meaning, meaning_of, meaning}
-use Rattle.peephole_terms.specs.Agrees.{Agree, Context, hole, under, Contexts, here, next, fill, fill_in, DrawsNothing, EndsTyped, LeavesItsTypes, IsCongruence}
+use Rattle.peephole_terms.specs.Agrees.{Agree, Context, hole, under, Contexts, here, next, fill, fill_in, DrawsNothing, StandsFor, StandFor, EndsTyped, LeavesItsTypes, IsCongruence}
 use Rattle.peephole_terms.proofs.MeaningLemmas.{parts_of_types, own_fine, fine_of, fine_in}
 use Rattle.peephole_terms.proofs.ValueLemmas.{state_typed, leaves_of, leaves_in}
 use Rattle.peephole_terms.proofs.WordLemmas.{both_empty, nothing_below, own_free, free_of, free_in}
@@ -245,6 +245,71 @@ agrees_wordless locals globals list us vs t d e = record {
       (same_self locals globals list (length globals) (meaning_of us t s) (fine_of locals globals list t us s e h.locals_are h.globals_are));
 }
 
+-- ---- children that may stand for others
+
+kids_typed : (locals globals : List PrimitiveTypeInfo) (ts us : Terms Head) (list : List PrimitiveTypeInfo) → StandFor locals globals ts us →
+    draws ts ≡ [] → types_in locals globals ts ≡ Some list → types_in locals globals us ≡ Some list
+kids_typed locals globals no_terms no_terms list a d e = e
+kids_typed locals globals (t ▸ ts) (u ▸ us) list a d e =
+    let p = both_empty (draws_of t) (draws ts) d in
+    let (ks, js, b, r, w) = parts_of_types (types_of locals globals t) (types_in locals globals ts) list e in
+    let one = a.0 ks b p.0 [] [] in
+    let same : types_of locals globals u ≡ types_of locals globals t = one.second_types ∙ sym one.first_types in
+    let rest : types_in locals globals us ≡ types_in locals globals ts = kids_typed locals globals ts us js a.1 p.1 r ∙ sym r in
+    ap₂ joined_types same rest ∙ e
+kids_typed locals globals no_terms (u ▸ us) list a d e = absurd a
+kids_typed locals globals (t ▸ ts) no_terms list a d e = absurd a
+
+kids_mean : (locals globals : List PrimitiveTypeInfo) (ts os : Terms Head) (list : List PrimitiveTypeInfo) (us vs : List ℕ) →
+    StandFor locals globals ts os → draws ts ≡ [] → types_in locals globals ts ≡ Some list → (s : State) → HasTypes locals globals s →
+    SameBelow (length globals) (meaning us ts s) (meaning vs os s)
+kids_mean locals globals no_terms no_terms list us vs a d e s h = (refl, (refl, refl))
+kids_mean locals globals (t ▸ ts) (o ▸ os) list us vs a d e s h =
+    let n = length globals in
+    let p = both_empty (draws_of t) (draws ts) d in
+    let (ks, js, b, r, w) = parts_of_types (types_of locals globals t) (types_in locals globals ts) list e in
+    let one = a.0 ks b p.0 us vs in
+    let other : types_of locals globals o ≡ Some ks = one.second_types ∙ (sym one.first_types ∙ b) in
+    let left = drop (length (draws_of t)) us in
+    let right = drop (length (draws_of o)) vs in
+    then_same locals globals ks (meaning_of us t s) (meaning_of vs o s)
+    (λ xs m. above xs (meaning left ts m)) (λ xs m. above xs (meaning right os m))
+    (one.means s h)
+    (fine_of locals globals ks t us s b h.locals_are h.globals_are) (leaves_of locals globals ks t us s b h)
+    (fine_of locals globals ks o vs s other h.locals_are h.globals_are)
+    (λ xs m hx hm. above_same n xs (meaning left ts m) (meaning right os m)
+    (kids_mean locals globals ts os js left right a.1 p.1 r m hm))
+kids_mean locals globals no_terms (o ▸ os) list us vs a d e s h = absurd a
+kids_mean locals globals (t ▸ ts) no_terms list us vs a d e s h = absurd a
+
+kids_have : (locals globals list : List PrimitiveTypeInfo) (k : NodeKind) (kids : Terms Head) (below : List NumberType)
+    (o : Option (List PrimitiveTypeInfo)) → with_own_draws k below ≡ [] → with_own_types locals globals k kids o ≡ Some list →
+    (ks : List PrimitiveTypeInfo) × (o ≡ Some ks)
+kids_have locals globals list k kids below None d e = absurd (go k d e)
+  where
+    go : (k : NodeKind) → with_own_draws k below ≡ [] → with_own_types locals globals k kids None ≡ Some list → ⊥
+    go (Unfold t) d e = absurd cc
+    go (Own i) d e = absurd cc
+    go (Random t) d e = absurd cc
+    go (UseGlobal t) d e = absurd cc
+    go Container d e = absurd cc
+    go Nothing d e = absurd cc
+kids_have locals globals list k kids below (Some ks) d e = (ks, refl)
+
+stands_childwise : (locals globals : List PrimitiveTypeInfo) (x : Head) (ts os : Terms Head) → StandFor locals globals ts os →
+    StandsFor locals globals (node x ts) (node x os)
+stands_childwise locals globals x ts os a list e d us vs =
+    let none = (nothing_below (node_kind x) (draws ts) d).0 in
+    let (ks, b) = kids_have locals globals list (node_kind x) ts (draws ts) (types_in locals globals ts) d e in
+    let same : types_in locals globals ts ≡ types_in locals globals os = b ∙ sym (kids_typed locals globals ts os ks a none b) in
+    record {
+      list = list;
+      first_types = e;
+      second_types = sym (node_types_same locals globals (node_kind x) (draws ts) ts os d same) ∙ e;
+      means = λ s h. node_same locals globals list us vs (node_kind x) (draws ts) ts os s d same h
+          (λ js k. kids_mean locals globals ts os js us vs a none k s h) e;
+    }
+
 -- what a typed term leaves
 pub leaves_its_types : LeavesItsTypes
 leaves_its_types locals globals list words t s e h =
@@ -262,4 +327,5 @@ congruence = record {
   symmetric = agrees_sym;
   transitive = agrees_trans;
   congruent = agrees_within;
+  childwise = stands_childwise;
 }

@@ -3,7 +3,7 @@ use Rattle.std.specs.Prelude.{◌≡◌, ℕ, List, [], length, Some, ⊤}
 use Rattle.std.specs.List.{All}
 use Rattle.mutate_base.specs.declared.types.PrimitiveTypeInfo.{PrimitiveTypeInfo}
 use Rattle.peephole_lang.specs.declared.lang.Head.{Head}
-use Rattle.peephole_lang.specs.Term.{Term, Terms, absent, node, ◌▸◌}
+use Rattle.peephole_lang.specs.Term.{Term, Terms, absent, node, no_terms, ◌▸◌}
 use Rattle.peephole_machine.specs.Values.{IsValue, types, State, HasTypes, Outcome, Ends, Traps, Stuck}
 use Rattle.peephole_machine.specs.Agreement.{SameBelow}
 use Rattle.peephole_terms.specs.Expansion.{draws_of}
@@ -43,6 +43,19 @@ abbrev mutual
 abbrev pub DrawsNothing : Context → Type 0
 DrawsNothing c = draws_of (fill c absent) ≡ []
 
+-- ---- whatever words are drawn
+
+-- Where the first has types and draws no word, the second may stand for it: they agree, whatever words the second draws.
+abbrev pub StandsFor : (locals globals : List PrimitiveTypeInfo) → (t u : Term Head) → Type 0
+StandsFor locals globals t u =
+    (list : List PrimitiveTypeInfo) → types_of locals globals t ≡ Some list → draws_of t ≡ [] → (us vs : List ℕ) → Agree locals globals us vs t u
+
+-- and as many terms, one by one
+abbrev pub StandFor : (locals globals : List PrimitiveTypeInfo) → (ts us : Terms Head) → Type 0
+StandFor locals globals no_terms no_terms = ⊤
+StandFor locals globals (t ▸ ts) (u ▸ us) = StandsFor locals globals t u × StandFor locals globals ts us
+StandFor locals globals _ _ = ⊥
+
 -- ---- laws
 
 -- It ends with values of these types, in a state of the variables' types, or it traps; it is never stuck.
@@ -57,8 +70,8 @@ LeavesItsTypes =
     (locals globals list : List PrimitiveTypeInfo) (words : List ℕ) (t : Term Head) (s : State) →
     types_of locals globals t ≡ Some list → HasTypes locals globals s → EndsTyped locals globals list (meaning_of words t s)
 
--- Agreement is an equivalence of typed terms; a term that draws no word agrees with itself for all words; and agreeing terms agree in every place
--- of a typed term that draws no other word.
+-- Agreement is an equivalence of typed terms; a term that draws no word agrees with itself for all words; agreeing terms agree in every place
+-- of a typed term that draws no other word; and a node may stand for another with the same head where its children may stand for the other's.
 pub record IsCongruence : Type 0 where
   pub reflexive : (locals globals list : List PrimitiveTypeInfo) (words : List ℕ) (t : Term Head) →
       types_of locals globals t ≡ Some list → Agree locals globals words words t t
@@ -71,3 +84,5 @@ pub record IsCongruence : Type 0 where
   pub congruent : (locals globals list : List PrimitiveTypeInfo) (us vs : List ℕ) (c : Context) (t u : Term Head) →
       DrawsNothing c → types_of locals globals (fill c t) ≡ Some list →
       Agree locals globals us vs t u → Agree locals globals us vs (fill c t) (fill c u)
+  pub childwise : (locals globals : List PrimitiveTypeInfo) (h : Head) (ts us : Terms Head) →
+      StandFor locals globals ts us → StandsFor locals globals (node h ts) (node h us)

@@ -60,8 +60,8 @@ pub fn typed_terms_leave_their_types()
     ensures { LeavesItsTypes }
 {}
 
-/// Terms agree as an equivalence, a term that draws no word for all words; and agreeing terms agree in every place of a term
-/// that draws no other word.
+/// Terms agree as an equivalence, a term that draws no word for all words; agreeing terms agree in every place of a term that
+/// draws no other word; and a node may stand for another where its children may stand for the other's, one by one.
 pub fn agreement_is_a_congruence()
     ensures { IsCongruence }
 {}

@@ -1,7 +1,13 @@
 use Rattle.peephole_rules.proofs.OrderLemmas.{commute_keeps, turn_comparison_keeps}
 use Rattle.peephole_rules.proofs.NeutralLemmas.{add_zero_keeps, sub_zero_keeps, mul_one_keeps, or_zero_keeps, xor_zero_keeps, shift_by_zero_keeps}
 use Rattle.peephole_rules.proofs.TwiceLemmas.{or_self_keeps, and_self_keeps}
-use Rattle.peephole_rules.proofs.WayLemmas.{through_global_keeps, as_a_sum_keeps, with_nop_keeps}
+use Rattle.peephole_rules.proofs.WayLemmas.{by_way_of_global_keeps, as_a_sum_keeps, with_nop_keeps}
+use Rattle.peephole_rules.proofs.GroupLemmas.{associate_left_keeps, associate_right_keeps}
+use Rattle.peephole_rules.proofs.ConstantLemmas.{test_to_comparison_keeps, comparison_to_test_keeps, drop_add_zero_keeps, drop_sub_zero_keeps, drop_mul_one_keeps, drop_or_zero_keeps, drop_xor_zero_keeps, drop_shift_by_zero_keeps, and_ones_keeps, drop_and_ones_keeps, double_complement_keeps, difference_to_sum_keeps, sum_to_difference_keeps, shift_to_product_keeps, product_to_shift_keeps}
+use Rattle.peephole_rules.proofs.SelectLemmas.{turn_select_keeps}
+use Rattle.peephole_rules.proofs.TrapLemmas.{forget_keeps, ends_without_trap}
+use Rattle.peephole_rules.proofs.FoldLemmas.{fold_keeps}
+use Rattle.peephole_rules.proofs.RewriteLemmas.{rewrite_keeps}
 use Rattle.peephole_rules.proofs.laws.rules_keep_meaning.Goals as goal
 
 pub returns : goal.returns
@@ -20,7 +26,29 @@ returns c =
       shift_by_zero_keeps = shift_by_zero_keeps rows sound agreement;
       or_self_keeps = or_self_keeps rows sound agreement;
       and_self_keeps = and_self_keeps rows sound agreement;
-      through_global_keeps = through_global_keeps rows sound agreement;
+      by_way_of_global_keeps = by_way_of_global_keeps rows sound agreement;
       as_a_sum_keeps = as_a_sum_keeps rows sound agreement;
       with_nop_keeps = with_nop_keeps rows sound agreement;
+      associate_left_keeps = associate_left_keeps rows sound agreement;
+      associate_right_keeps = associate_right_keeps rows sound agreement;
+      test_to_comparison_keeps = test_to_comparison_keeps rows sound agreement;
+      comparison_to_test_keeps = comparison_to_test_keeps rows sound agreement;
+      drop_add_zero_keeps = drop_add_zero_keeps rows sound agreement;
+      drop_sub_zero_keeps = drop_sub_zero_keeps rows sound agreement;
+      drop_mul_one_keeps = drop_mul_one_keeps rows sound agreement;
+      drop_or_zero_keeps = drop_or_zero_keeps rows sound agreement;
+      drop_xor_zero_keeps = drop_xor_zero_keeps rows sound agreement;
+      drop_shift_by_zero_keeps = drop_shift_by_zero_keeps rows sound agreement;
+      and_ones_keeps = and_ones_keeps rows sound agreement;
+      drop_and_ones_keeps = drop_and_ones_keeps rows sound agreement;
+      double_complement_keeps = double_complement_keeps rows sound agreement;
+      difference_to_sum_keeps = difference_to_sum_keeps rows sound agreement;
+      sum_to_difference_keeps = sum_to_difference_keeps rows sound agreement;
+      turn_select_keeps = turn_select_keeps rows sound agreement;
+      forget_keeps = forget_keeps rows sound agreement;
+      ends_without_trap = ends_without_trap rows sound;
+      shift_to_product_keeps = shift_to_product_keeps rows sound agreement;
+      product_to_shift_keeps = product_to_shift_keeps rows sound agreement;
+      fold_keeps = fold_keeps rows sound agreement;
+      rewrite_keeps = rewrite_keeps rows sound agreement;
     }

@@ -1,0 +1,53 @@
+-- A rule at a node of an expression: the new term, and that it may stand for the old one.
+use Rattle.std.proofs.Common.{◌≡◌, ℕ, ◌-◌, ◌<◌, ◌≤◌, List, length, Option, Some, None, refl, sym, ap, ◌∙◌, subst}
+use Rattle.std.specs.Prelude.{option_map}
+use Rattle.std.proofs.lemmas.Bool.{lt-ltb, le-ltb}
+use Rattle.mutate_base.specs.declared.types.PrimitiveTypeInfo.{PrimitiveTypeInfo}
+use Rattle.peephole_lang.specs.declared.lang.Head.{Head}
+use Rattle.peephole_lang.specs.declared.lang.Lang.{Lang}
+use Rattle.peephole_lang.specs.Term.{Term}
+use Rattle.peephole_terms.specs.Agrees.{StandsFor, IsCongruence}
+use Rattle.peephole_terms.specs.Expansion.{term_in}
+use Rattle.peephole_rules.specs.declared.rule.Rule.{Rule}
+use Rattle.peephole_rules.specs.declared.replacement.Replacement.{Replacement}
+use Rattle.peephole_rules.specs.Rewriting.{rewrite, rewrite_at}
+use Rattle.peephole_rules.specs.Grafted.{nodes_in, term_at, grafted}
+use Rattle.peephole_rules.specs.Replacement.{term_by, IsAnswer}
+use Rattle.peephole_rules.specs.Laws.{RulesKeepMeaning}
+use Rattle.peephole_rules.proofs.StandingLemmas.{with_stands}
+
+module _ (locals globals : List PrimitiveTypeInfo) (r : Rule) (nodes : List Lang) (at : ℕ) where
+  pub none_past : (lent : List Lang) → lent ≡ nodes → length lent ≤ at → None ≡ option_map (grafted nodes at) (rewrite_at locals globals r nodes at)
+  none_past lent same l = subst (λ (ns : List Lang). None ≡ option_map (grafted ns at) (rewrite_at locals globals r ns at)) same
+      (rw (le-ltb at (length lent) l) refl)
+
+  inside : at < length nodes → rewrite_at locals globals r nodes at ≡ rewrite locals globals r (term_at nodes at)
+  inside l = rw (lt-ltb at (length nodes) l) refl
+
+  pub none_made : (o : Option Replacement) → at < length nodes → IsAnswer o nodes at (rewrite locals globals r (term_at nodes at)) → o ≡ None →
+      None ≡ option_map (grafted nodes at) (rewrite_at locals globals r nodes at)
+  none_made o l a e = ap (option_map (grafted nodes at)) (sym (inside l ∙ (sym a.term ∙ ap (option_map (λ p. term_by p (term_at nodes at))) e)))
+
+  pub made : (p : Replacement) (new : List Lang) → at < length nodes → IsAnswer (Some p) nodes at (rewrite locals globals r (term_at nodes at)) →
+      term_in new ≡ grafted nodes at (term_by p (term_at nodes at)) →
+      Some (term_in new) ≡ option_map (grafted nodes at) (rewrite_at locals globals r nodes at)
+  made p new l a e = ap (λ t. Some t) e ∙ ap (option_map (grafted nodes at)) (a.term ∙ sym (inside l))
+
+  pub stands : RulesKeepMeaning → IsCongruence → (p : Replacement) (new : List Lang) →
+      IsAnswer (Some p) nodes at (rewrite locals globals r (term_at nodes at)) → term_in new ≡ grafted nodes at (term_by p (term_at nodes at)) →
+      StandsFor locals globals (term_in nodes) (term_in new)
+  stands keep laws p new a e =
+      let u = term_by p (term_at nodes at) in
+      subst (λ t. StandsFor locals globals (term_in nodes) t) (sym e)
+      (with_stands laws locals globals at u (nodes_in nodes) (keep.rewrite_keeps locals globals r (term_at nodes at) u (sym a.term)) (length nodes - 1))
+
+pub over : (lent nodes : List Lang) (at : ℕ) (p : Replacement) (new : List Lang) → lent ≡ nodes →
+    term_in new ≡ grafted lent at (term_by p (term_at lent at)) → term_in new ≡ grafted nodes at (term_by p (term_at nodes at))
+over lent nodes at p new same e = subst (λ (ns : List Lang). term_in new ≡ grafted ns at (term_by p (term_at ns at))) same e
+
+pub some_answer : (nodes : List Lang) (at : ℕ) (u : Option (Term Head)) (o : Option Replacement) (p : Replacement) → o ≡ Some p →
+    IsAnswer o nodes at u → IsAnswer (Some p) nodes at u
+some_answer nodes at u o p e a = subst (λ v. IsAnswer v nodes at u) e a
+
+pub within : (lent nodes : List Lang) (at : ℕ) → lent ≡ nodes → at < length lent → at < length nodes
+within lent nodes at same l = subst (λ (ns : List Lang). at < length ns) same l

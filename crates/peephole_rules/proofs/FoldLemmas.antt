@@ -1,0 +1,123 @@
+-- An operator on constants.
+use Rattle.std.proofs.Common.{◌≡◌, ℕ, Bool, true, false, List, [], ◌∷◌, length, drop, Option, Some, None, refl, sym, ap, ap₂, ◌∙◌, subst}
+use Rattle.std.specs.Prelude.{◌==◌, map, option_and_then, option_map, if◌then◌else◌}
+use Rattle.std.specs.Int.{cast_signed, cast_unsigned}
+use Rattle.std.proofs.lemmas.Bool.{eqb-true}
+use Rattle.mutate_base.specs.declared.types.PrimitiveTypeInfo.{PrimitiveTypeInfo}
+use Rattle.peephole_lang.specs.declared.lang.Head.{Head}
+use Rattle.peephole_lang.specs.Term.{Term, Terms, absent, node, no_terms, ◌▸◌}
+use Rattle.peephole_machine.specs.declared.integer.IntegerType.{IntegerType}
+use Rattle.peephole_machine.specs.declared.integer.IntegerType.TheVariants as integer
+use Rattle.peephole_machine.specs.Values.{type_of, width_of, same_types, Value, whole, types, State, Ends, then_run, above}
+use Rattle.peephole_machine.specs.Integer.{IntegerOperator}
+use Rattle.peephole_machine.specs.IntegerRow.{nop, discard, select, operation, bare_operator, operator_row, bare_row, row_types}
+use Rattle.peephole_machine.specs.Machine.{given, act}
+use Rattle.peephole_machine.specs.RowLemmas.{some_if, and_then_some, map_some, if_typed_is, act_is}
+use Rattle.peephole_terms.specs.Expansion.{draws_of}
+use Rattle.peephole_terms.specs.Typing.{joined_types, types_of, types_in}
+use Rattle.peephole_terms.specs.Meaning.{meaning_of, meaning}
+use Rattle.peephole_terms.specs.Agrees.{Agree, LeavesItsTypes, IsCongruence}
+use Rattle.peephole_terms.specs.Laws.{MeanByTheirRows}
+use Rattle.peephole_rules.specs.Operator.{opcode_byte, is_in, low_bits, or_number, number_of, own_number, numbered}
+use Rattle.peephole_rules.specs.Rewriting.{numbers_in, fold}
+use Rattle.peephole_rules.specs.Laws.{KeepsMeaning}
+use Rattle.peephole_rules.proofs.NumberLemmas.{cast_back}
+use Rattle.peephole_rules.proofs.ByteLemmas.{AllOf, each, with_immediate}
+use Rattle.peephole_rules.proofs.NeutralLemmas.{constant_types, constant_means}
+use Rattle.peephole_rules.proofs.WayLemmas.{after_itself}
+use Rattle.peephole_rules.proofs.SequenceLemmas.{does_types, does_means, own_does}
+use Rattle.peephole_rules.proofs.ConstantLemmas.{constant_is}
+
+-- ---- the opcodes of operators
+
+-- one of some bytes that no operator has
+not_among : (bytes : List ℕ) (byte : ℕ) (f : IntegerOperator) → AllOf (λ b. bare_operator b ≡ None) bytes → bare_operator byte ≡ Some f →
+    is_in bytes byte ≡ false
+not_among bytes byte f all e = go (is_in bytes byte) refl
+  where
+    go : (b : Bool) → is_in bytes byte ≡ b → b ≡ false
+    go true k = absurd (none (sym (each (λ b. bare_operator b ≡ None) bytes all byte k) ∙ e))
+      where
+        none : None ≡ Some f → ⊥
+        none h = cc
+    go false k = refl
+
+bare_is : (byte : ℕ) (f : IntegerOperator) → bare_operator byte ≡ Some f → bare_row byte ≡ operation f
+bare_is byte f e = go (byte == 0x01) (byte == 0x1a) (byte == 0x1b) refl refl refl
+  where
+    other : (at : ℕ) → (byte == at) ≡ true → bare_operator at ≡ None → ⊥
+    other at k n = none (sym n ∙ (ap bare_operator (sym (eqb-true byte at k)) ∙ e))
+      where
+        none : None ≡ Some f → ⊥
+        none h = cc
+
+    go : (p q r : Bool) → (byte == 0x01) ≡ p → (byte == 0x1a) ≡ q → (byte == 0x1b) ≡ r →
+        (if p then nop else (if q then discard else (if r then select else operator_row (bare_operator byte)))) ≡ operation f
+    go true q r a b c = absurd (other 0x01 a refl)
+    go false true r a b c = absurd (other 0x1a b refl)
+    go false false true a b c = absurd (other 0x1b c refl)
+    go false false false a b c = ap operator_row e
+
+-- ---- constants one after another
+
+own_is : (x : Term Head) (n : ℕ) → own_number x ≡ Some n → (t : IntegerType) × (number_of t x ≡ Some n)
+own_is x n e = go (number_of integer.I32 x) refl e
+  where
+    go : (o : Option ℕ) → number_of integer.I32 x ≡ o → or_number o (number_of integer.I64 x) ≡ Some n → (t : IntegerType) × (number_of t x ≡ Some n)
+    go (Some m) k f = (integer.I32, k ∙ f)
+    go None k f = (integer.I64, f)
+
+module _ (rows : MeanByTheirRows) (sound : LeavesItsTypes) (locals globals : List PrimitiveTypeInfo) where
+  -- The terms leave values with these numbers, and nothing else happens.
+  record LeaveNumbers (kids : Terms Head) (ns : List ℕ) : Type 0 where
+    values : List Value
+    numbers : map (λ v. v.number) values ≡ ns
+    typed : types_in locals globals kids ≡ Some (types values)
+    means : (words : List ℕ) (s : State) → meaning words kids s ≡ Ends values s
+
+  numbers_left : (kids : Terms Head) (ns : List ℕ) → numbers_in kids ≡ Some ns → LeaveNumbers kids ns
+  numbers_left no_terms ns e = record { values = []; numbers = cc; typed = refl; means = λ words s. refl }
+  numbers_left (x ▸ xs) ns e =
+      let (n, a, b) = and_then_some (λ n. option_map (λ ns. n ∷ ns) (numbers_in xs)) (own_number x) ns e in
+      let (ms, c, d) = map_some (λ ns. n ∷ ns) (numbers_in xs) ns b in
+      let rest = numbers_left xs ms c in
+      let (t, k) = own_is x n a in
+      let (z, is, low) = constant_is t x n k in
+      let v = whole t (cast_unsigned (width_of t) z) in
+      record {
+        values = v ∷ rest.values;
+        numbers = ap₂ (λ m ms. m ∷ ms) low rest.numbers ∙ d;
+        typed = ap₂ joined_types (ap (types_of locals globals) is ∙ constant_types rows sound locals globals t z) rest.typed;
+        means = λ words s.
+            ap (λ o. then_run o (λ vs m. above vs (meaning (drop (length (draws_of x)) words) xs m)))
+            (ap (λ y. meaning_of words y s) is ∙ constant_means rows sound locals globals words t z s)
+            ∙ ap (above (v ∷ [])) (rest.means (drop (length (draws_of x)) words) s);
+      }
+
+-- ---- fold
+
+module _ (rows : MeanByTheirRows) (sound : LeavesItsTypes) (laws : IsCongruence) where
+  pub fold_keeps : KeepsMeaning fold
+  fold_keeps (node h kids) u e locals globals list typed d us vs =
+      let (f, a, b) = and_then_some (λ f. option_map (numbered f.result) (option_and_then f.value (numbers_in kids)))
+      (option_and_then bare_operator (opcode_byte h)) u e in
+      let (byte, is, op) = and_then_some bare_operator (opcode_byte h) f a in
+      let (n, value, made) = map_some (numbered f.result) (option_and_then f.value (numbers_in kids)) u b in
+      let (ns, numbers, gives) = and_then_some f.value (numbers_in kids) n value in
+      let k = numbers_left rows sound locals globals kids ns numbers in
+      let none = not_among with_immediate byte f (refl, (refl, (refl, (refl, (refl, (refl, (refl, (refl, tt)))))))) op in
+      let hd = own_does rows sound locals globals list h kids byte (operation f) is none (bare_is byte f op) typed in
+      let row : row_types locals globals (operation f) (types k.values) ≡ Some list =
+      sym (does_types rows locals globals hd kids ∙ ap (option_and_then (row_types locals globals (operation f))) k.typed) ∙ typed in
+      let (fits, result) = some_if (same_types (types k.values) f.operands) (type_of f.result ∷ []) list row in
+      let z = cast_signed (width_of f.result) (low_bits f.result n) in
+      subst (Agree locals globals us vs (node h kids)) made
+      (after_itself rows sound laws locals globals list us vs (node h kids) (numbered f.result n) typed d
+      (constant_types rows sound locals globals f.result z ∙ ap Some result)
+      (λ s hs. does_means rows vs hd kids s ∙ (ap (λ o. then_run o (act (operation f))) (k.means vs s)
+      ∙ (act_is (operation f) k.values (type_of f.result ∷ []) s
+      (if_typed_is (same_types (types k.values) f.operands) (type_of f.result ∷ []) fits)
+      ∙ (ap (λ o. given f.result o s) (ap f.value k.numbers ∙ gives)
+      ∙ (ap (λ (m : ℕ). Ends (record { type = type_of f.result; number = m } ∷ []) s) (sym (cast_back (width_of f.result) n))
+      ∙ sym (constant_means rows sound locals globals vs f.result z s)))))))
+  fold_keeps absent u e locals globals list typed d us vs = absurd cc

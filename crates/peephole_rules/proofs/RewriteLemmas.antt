@@ -1,0 +1,89 @@
+-- What a rule makes of a term may stand for it.
+use Rattle.std.proofs.Common.{◌≡◌, ℕ, ℤ, List, Option, Some, sym, ap, ◌∙◌, subst}
+use Rattle.std.specs.Prelude.{◌==◌}
+use Rattle.std.proofs.lemmas.Bool.{eqb-true}
+use Rattle.mutate_base.specs.declared.types.PrimitiveTypeInfo.{PrimitiveTypeInfo}
+use Rattle.peephole_nodes.specs.declared.payload.Payload.{Payload}
+use Rattle.peephole_nodes.specs.declared.payload.Payload.TheVariants as payload
+use Rattle.peephole_lang.specs.declared.lang.Head.{Head}
+use Rattle.peephole_lang.specs.Term.{Term, absent, node, no_terms, ◌▸◌}
+use Rattle.peephole_machine.specs.declared.integer.IntegerType.{IntegerType}
+use Rattle.peephole_machine.specs.declared.integer.IntegerType.TheVariants as integer
+use Rattle.peephole_machine.specs.RowLemmas.{and_then_some, map_some}
+use Rattle.peephole_terms.specs.Agrees.{StandsFor, LeavesItsTypes, IsCongruence}
+use Rattle.peephole_terms.specs.Laws.{MeanByTheirRows}
+use Rattle.peephole_rules.specs.declared.rule.Rule.{Rule}
+use Rattle.peephole_rules.specs.declared.rule.Rule.TheVariants as rule
+use Rattle.peephole_rules.specs.Operator.{constant_term, constant_head, one, unfold_head}
+use Rattle.peephole_rules.specs.ValueTypes.{value_type}
+use Rattle.peephole_rules.specs.Rewriting.{add_zero, sub_zero, mul_one, or_zero, xor_zero, shift_by_zero, or_self, and_self, by_way_of_global, as_a_sum, type_of_constant, unfold_constant, by_its_type, rewrite}
+use Rattle.peephole_rules.specs.Laws.{AgreeOfType, KeepsMeaningOfType, KeepsMeaningWhereItAnswers}
+use Rattle.peephole_rules.proofs.ValueTypeLemmas.{value_typed}
+use Rattle.peephole_rules.proofs.OrderLemmas.{some_answer_if, commute_keeps, turn_comparison_keeps}
+use Rattle.peephole_rules.proofs.NeutralLemmas.{constant_types, add_zero_keeps, sub_zero_keeps, mul_one_keeps, or_zero_keeps, xor_zero_keeps, shift_by_zero_keeps}
+use Rattle.peephole_rules.proofs.TwiceLemmas.{or_self_keeps, and_self_keeps}
+use Rattle.peephole_rules.proofs.WayLemmas.{by_way_of_global_keeps, as_a_sum_keeps, with_nop_keeps}
+
+module _ (rows : MeanByTheirRows) (sound : LeavesItsTypes) (laws : IsCongruence) where
+  -- a rule of a type, on a term whose type is known
+  of_its_type : (locals globals : List PrimitiveTypeInfo) (f : IntegerType → Term Head → Option (Term Head)) → KeepsMeaningWhereItAnswers f →
+      (x u : Term Head) → by_its_type locals globals f x ≡ Some u → StandsFor locals globals x u
+  of_its_type locals globals f keeps x u e list typed d us vs =
+      let (t, a, b) = and_then_some (λ t. f t x) (value_type locals globals x) u e in
+      keeps t x u b locals globals (typed ∙ ap Some (value_typed rows locals globals list x t a typed)) d us vs
+
+  always : (f : IntegerType → Term Head → Term Head) → KeepsMeaningOfType f → KeepsMeaningWhereItAnswers (λ t x. Some (f t x))
+  always f keeps t x u e = subst (λ y. AgreeOfType t x y) (cc) (keeps t x)
+
+  by_type : (f : IntegerType → Term Head → Term Head) → KeepsMeaningOfType f → (locals globals : List PrimitiveTypeInfo) (x u : Term Head) →
+      by_its_type locals globals (λ t y. Some (f t y)) x ≡ Some u → StandsFor locals globals x u
+  by_type f keeps locals globals x u e = of_its_type locals globals (λ t y. Some (f t y)) (always f keeps) x u e
+
+  -- ---- constants
+
+  known : (p : Payload) (place : ℕ) (t : IntegerType) → type_of_constant p place ≡ Some t →
+      (z : ℤ) × (record { place = place; payload = p } ≡ constant_head t z)
+  known (payload.I32 z) place t e =
+      let (a, b) = some_answer_if (place == 48) integer.I32 t e in (
+        z,
+        subst (λ u. record { place = place; payload = payload.I32 z } ≡ constant_head u z) b
+            (ap (λ (n : ℕ). record { place = n; payload = payload.I32 z }) (eqb-true place 48 a)),
+      )
+  known (payload.I64 z) place t e =
+      let (a, b) = some_answer_if (place == 49) integer.I64 t e in (
+        z,
+        subst (λ u. record { place = place; payload = payload.I64 z } ≡ constant_head u z) b
+            (ap (λ (n : ℕ). record { place = n; payload = payload.I64 z }) (eqb-true place 49 a)),
+      )
+  known p place t e = absurd cc
+
+  sum_stands : (locals globals : List PrimitiveTypeInfo) (t : IntegerType) (z : ℤ) → StandsFor locals globals (constant_term t z) (as_a_sum t z)
+  sum_stands locals globals t z list typed d us vs =
+      as_a_sum_keeps rows sound laws t z locals globals (constant_types rows sound locals globals t z) d us vs
+
+  unfold_stands : (locals globals : List PrimitiveTypeInfo) (x u : Term Head) → unfold_constant x ≡ Some u → StandsFor locals globals x u
+  unfold_stands locals globals absent u e = absurd cc
+  unfold_stands locals globals (node h (y ▸ ys)) u e = absurd cc
+  unfold_stands locals globals (node h no_terms) u e =
+      let (t, a, b) = map_some (λ t. one (unfold_head t) (node h no_terms)) (type_of_constant h.payload h.place) u e in
+      let (z, c) = known h.payload h.place t a in
+      subst (λ y. StandsFor locals globals (node h no_terms) y) b
+      (subst (λ (k : Head). StandsFor locals globals (node k no_terms) (one (unfold_head t) (node k no_terms))) (sym c) (sum_stands locals globals t z))
+
+  -- ---- every rule
+
+  pub rewrite_keeps : (locals globals : List PrimitiveTypeInfo) (r : Rule) (x u : Term Head) → rewrite locals globals r x ≡ Some u →
+      StandsFor locals globals x u
+  rewrite_keeps locals globals rule.Commute x u e = commute_keeps rows sound x u e locals globals
+  rewrite_keeps locals globals rule.TurnComparison x u e = turn_comparison_keeps rows sound x u e locals globals
+  rewrite_keeps locals globals rule.AddZero x u e = by_type add_zero (add_zero_keeps rows sound laws) locals globals x u e
+  rewrite_keeps locals globals rule.SubZero x u e = by_type sub_zero (sub_zero_keeps rows sound laws) locals globals x u e
+  rewrite_keeps locals globals rule.MulOne x u e = by_type mul_one (mul_one_keeps rows sound laws) locals globals x u e
+  rewrite_keeps locals globals rule.OrZero x u e = by_type or_zero (or_zero_keeps rows sound laws) locals globals x u e
+  rewrite_keeps locals globals rule.XorZero x u e = by_type xor_zero (xor_zero_keeps rows sound laws) locals globals x u e
+  rewrite_keeps locals globals rule.ShiftByZero x u e = by_type shift_by_zero (shift_by_zero_keeps rows sound laws) locals globals x u e
+  rewrite_keeps locals globals rule.OrSelf x u e = of_its_type locals globals or_self (or_self_keeps rows sound laws) x u e
+  rewrite_keeps locals globals rule.AndSelf x u e = of_its_type locals globals and_self (and_self_keeps rows sound laws) x u e
+  rewrite_keeps locals globals rule.Unfold x u e = unfold_stands locals globals x u e
+  rewrite_keeps locals globals rule.ThroughGlobal x u e = by_type by_way_of_global (by_way_of_global_keeps rows sound laws) locals globals x u e
+  rewrite_keeps locals globals rule.WithNop x u e = subst (λ y. StandsFor locals globals x y) (cc) (with_nop_keeps rows sound laws x locals globals)

@@ -1,0 +1,23 @@
+use Rattle.peephole_rules.proofs.ApplyLemmas.{none_past, made, stands, over, some_answer, within}
+use Rattle.peephole_rules.proofs.rule.Rule.apply.Goals as goal
+
+pub returns-then-at-nodes : goal.returns-then-at-nodes
+returns-then-at-nodes c = record {
+  rewritten = none_past c.args.locals.now c.args.info.now.globals c.args.self c.args.expr.now c.args.at c.as_ref-nodes.result.now
+      c.as_ref-nodes.ensures.nodes c.if-at-nodes.true;
+  stands = tt;
+  refused = tt;
+}
+
+pub returns : goal.returns
+returns c =
+    let a = some_answer c.args.expr.now c.args.at _ c.in_ok-replacement.field-0 c.in-Some.replacement c.in-Some.is c.in_ok-replacement.ensures.answer in
+    let e = over c.as_ref-nodes.result.now c.args.expr.now c.args.at c.in-Some.replacement c.in_ok-graft.field-0 c.as_ref-nodes.ensures.nodes
+    c.in_ok-graft.ensures.grafted in
+    record {
+      rewritten = made c.args.locals.now c.args.info.now.globals c.args.self c.args.expr.now c.args.at c.in-Some.replacement c.in_ok-graft.field-0
+          (within c.as_ref-nodes.result.now c.args.expr.now c.args.at c.as_ref-nodes.ensures.nodes c.if-at-nodes.false) a e;
+      stands = stands c.args.locals.now c.args.info.now.globals c.args.self c.args.expr.now c.args.at c.rules_keep_meaning.ensures
+          c.agreement_is_a_congruence.ensures c.in-Some.replacement c.in_ok-graft.field-0 a e;
+      refused = tt;
+    }

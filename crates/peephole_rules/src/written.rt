@@ -1,0 +1,166 @@
+//! The nodes of each replacement, written behind an expression.
+ghost use Rattle.std.specs.Prelude.{◌≡◌, ◌+◌, ◌<◌, ◌≤◌, ◌^◌, ℕ, [], ◌∷◌, length, IfOk, IfErr};
+ghost use Rattle.std.specs.List.{All};
+ghost use Rattle.mutate_base.specs.declared.error.Error.{Error};
+ghost use Rattle.peephole_lang.specs.Node.{node_of, children_of};
+ghost use Rattle.peephole_rules.specs.Grafted.{nodes_in};
+ghost use Rattle.peephole_rules.specs.Replacement.{Replaces, IsBinary};
+ghost use Rattle.peephole_rules.specs.declared.replacement.Replacement.TheVariants.{Swap, Turn, Constant, Twice, Unfold, UseGlobal, Nop};
+
+use crate::operator::{binary_node, constant_node, unfold_node, use_global_node};
+use mutate_base::Error;
+use peephole_lang::{Id, Lang, Language, RecExpr};
+use peephole_machine::IntegerType;
+use std::alloc::Global;
+
+// The node with its two children in the other order.
+fn swapped<L: Language>(node: &L) -> Result<L, Error>
+    requires { length (L.children node.now) ≡ 2 }
+    ensures head { IfOk result (λ l. L.head l ≡ L.head node.now) }
+    ensures children { IfOk result (λ l. (i j : ℕ)
+        → L.children node.now ≡ i ∷ j ∷ [] → L.children l ≡ j ∷ i ∷ []) }
+    ensures refused { IfErr result (λ e. e ≡ Error.Memory) }
+{
+    let mut copy = node.clone_node()?;
+    copy.children_mut().swap(0, 1);
+    Ok(copy)
+}
+
+// Puts the node behind the others, and answers its place.
+fn put(expr: &mut RecExpr<Lang>, node: Lang) -> Result<Id, Error>
+    requires below { All (λ i. i < length expr.old) (children_of node) }
+    requires few { length expr.old < 2 ^ 32 }
+    ensures place { IfOk result (λ id. id.0 ≡ length expr.old) }
+    ensures count { IfOk result (λ _. length expr.new ≡ length expr.old + 1) }
+    ensures nodes { IfOk result (λ _. nodes_in expr.new ≡ node_of node ∷ nodes_in expr.old) }
+    ensures refused { IfErr result (λ e. e ≡ Error.Memory) }
+{
+    expr.add(node)
+}
+
+// Puts a copy of the node there.
+fn put_copy(expr: &mut RecExpr<Lang>, node: &Lang) -> Result<Id, Error>
+    requires below { All (λ i. i < length expr.old) (children_of node.now) }
+    requires few { length expr.old < 2 ^ 32 }
+    ensures place { IfOk result (λ id. id.0 ≡ length expr.old) }
+    ensures count { IfOk result (λ _. length expr.new ≡ length expr.old + 1) }
+    ensures nodes { IfOk result (λ _. nodes_in expr.new ≡ node_of node.now ∷ nodes_in expr.old) }
+    ensures refused { IfErr result (λ e. e ≡ Error.Memory) }
+{
+    put(expr, node.clone_node()?)
+}
+
+/// The node with its two operands in the other order.
+pub(crate) fn write_swapped(expr: &mut RecExpr<Lang>, node: &Lang) -> Result<(), Error>
+    requires below { All (λ i. i < length expr.old) (children_of node.now) }
+    requires few { length expr.old + 3 ≤ 2 ^ 32 }
+    requires two { length (children_of node.now) ≡ 2 }
+    ensures nodes { IfOk result (λ _.
+        Replaces Swap (node_of node.now) (nodes_in expr.old) (nodes_in expr.new)) }
+    ensures refused { IfErr result (λ e. e ≡ Error.Memory) }
+{
+    put(expr, swapped(node)?)?;
+    Ok(())
+}
+
+/// An operator on the node's two operands in the other order.
+pub(crate) fn write_turned(expr: &mut RecExpr<Lang>, node: &Lang, byte: u8) -> Result<(), Error>
+    requires below { All (λ i. i < length expr.old) (children_of node.now) }
+    requires few { length expr.old + 3 ≤ 2 ^ 32 }
+    requires operator { IsBinary byte }
+    requires two { length (children_of node.now) ≡ 2 }
+    ensures nodes { IfOk result (λ _.
+        Replaces (Turn byte) (node_of node.now) (nodes_in expr.old) (nodes_in expr.new)) }
+    ensures refused { IfErr result (λ e. e ≡ Error.Memory) }
+{
+    let ids = node.children();
+    put(expr, binary_node(byte, ids[1], ids[0]))?;
+    Ok(())
+}
+
+/// The node, a number of the type, and an operator on both.
+pub(crate) fn write_constant(
+    expr: &mut RecExpr<Lang>,
+    node: &Lang,
+    byte: u8,
+    t: IntegerType,
+    number: u8,
+) -> Result<(), Error>
+    requires below { All (λ i. i < length expr.old) (children_of node.now) }
+    requires few { length expr.old + 3 ≤ 2 ^ 32 }
+    requires operator { IsBinary byte }
+    ensures nodes { IfOk result (λ _.
+        Replaces (Constant byte t number) (node_of node.now) (nodes_in expr.old) (nodes_in expr.new)) }
+    ensures refused { IfErr result (λ e. e ≡ Error.Memory) }
+{
+    let x = put_copy(expr, node)?;
+    let y = put(expr, constant_node(t, number))?;
+    put(expr, binary_node(byte, x, y))?;
+    Ok(())
+}
+
+/// The node, and an operator on it twice.
+pub(crate) fn write_twice(expr: &mut RecExpr<Lang>, node: &Lang, byte: u8) -> Result<(), Error>
+    requires below { All (λ i. i < length expr.old) (children_of node.now) }
+    requires few { length expr.old + 3 ≤ 2 ^ 32 }
+    requires operator { IsBinary byte }
+    ensures nodes { IfOk result (λ _.
+        Replaces (Twice byte) (node_of node.now) (nodes_in expr.old) (nodes_in expr.new)) }
+    ensures refused { IfErr result (λ e. e ≡ Error.Memory) }
+{
+    let x = put_copy(expr, node)?;
+    put(expr, binary_node(byte, x, x))?;
+    Ok(())
+}
+
+/// The node, and the sum of a drawn word and the rest of it.
+pub(crate) fn write_unfold(
+    expr: &mut RecExpr<Lang>,
+    node: &Lang,
+    t: IntegerType,
+) -> Result<(), Error>
+    requires below { All (λ i. i < length expr.old) (children_of node.now) }
+    requires few { length expr.old + 3 ≤ 2 ^ 32 }
+    ensures nodes { IfOk result (λ _.
+        Replaces (Unfold t) (node_of node.now) (nodes_in expr.old) (nodes_in expr.new)) }
+    ensures refused { IfErr result (λ e. e ≡ Error.Memory) }
+{
+    let x = put_copy(expr, node)?;
+    put(expr, unfold_node(t, x))?;
+    Ok(())
+}
+
+/// The node, and its value by way of a requested global.
+pub(crate) fn write_use_global(
+    expr: &mut RecExpr<Lang>,
+    node: &Lang,
+    t: IntegerType,
+) -> Result<(), Error>
+    requires below { All (λ i. i < length expr.old) (children_of node.now) }
+    requires few { length expr.old + 3 ≤ 2 ^ 32 }
+    ensures nodes { IfOk result (λ _.
+        Replaces (UseGlobal t) (node_of node.now) (nodes_in expr.old) (nodes_in expr.new)) }
+    ensures refused { IfErr result (λ e. e ≡ Error.Memory) }
+{
+    let x = put_copy(expr, node)?;
+    put(expr, use_global_node(t, x))?;
+    Ok(())
+}
+
+/// The node, a `nop`, and a container of both.
+#[tactic(auto, unfolding(peephole_lang::specs::Lang::place_of, peephole_lang::specs::Lang::payload_of, peephole_lang::specs::Lang::ids_of))]
+pub(crate) fn write_nop(alloc: Global, expr: &mut RecExpr<Lang>, node: &Lang) -> Result<(), Error>
+    requires below { All (λ i. i < length expr.old) (children_of node.now) }
+    requires few { length expr.old + 3 ≤ 2 ^ 32 }
+    ensures nodes { IfOk result (λ _.
+        Replaces Nop (node_of node.now) (nodes_in expr.old) (nodes_in expr.new)) }
+    ensures refused { IfErr result (λ e. e ≡ Error.Memory) }
+{
+    let x = put_copy(expr, node)?;
+    let nop = put(expr, Lang::Nop)?;
+    let mut ids = Vec::new(alloc);
+    ids.push(nop)?;
+    ids.push(x)?;
+    put(expr, Lang::Container(ids))?;
+    Ok(())
+}
