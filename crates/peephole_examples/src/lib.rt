@@ -25,6 +25,8 @@ mod replacements;
 #[cfg(test)]
 mod rereading;
 #[cfg(test)]
+mod rules;
+#[cfg(test)]
 mod running;
 #[cfg(test)]
 mod samples;

@@ -1,0 +1,477 @@
+//! Random blocks of integer instructions, rewritten by random rules, run before and afterwards.
+
+ghost use Rattle.std.specs.Prelude.{IsTrue, is_some};
+
+use super::running::{
+    EDGES, GLOBALS, LOCALS, Variables, code_of, config_of, end_the_same, value_of,
+};
+use crate::graphs::block_of;
+use crate::replacing::Replaced;
+use crate::terms::assert_writable;
+use crate::writing::{operators_of, term_at};
+use peephole_rules::{RULES, Rule};
+use peephole_terms::PrimitiveTypeInfo::{I32, I64};
+use peephole_terms::{
+    DFGBuilder, Encoder, Error, Function, Imm, Instr, Lang, MiniDFG, ModuleInfo, Opcode,
+    PrimitiveTypeInfo, RecExpr, ResourceRequest, ValType, WasmMutate, Words, row_of,
+};
+use peephole_vectors::Value;
+use std::alloc::{AllocError, Global};
+use std::process::Abort;
+use std::test::Fail;
+
+/// Numbers that look random, and are the same at each run (Marsaglia, Xorshift RNGs, Journal of Statistical Software 8).
+#[derive(Drop)]
+struct Draws {
+    state: u64,
+}
+
+impl Draws {
+    fn word(&mut self) -> u64 {
+        self.state ^= self.state << 13;
+        self.state ^= self.state >> 7;
+        self.state ^= self.state << 17;
+        self.state
+    }
+
+    /// A number below the bound, or 0 where that is 0.
+    fn below(&mut self, bound: usize) -> usize {
+        let number = self.word() >> 1;
+        number.checked_rem(bound as u64).unwrap_or(0) as usize
+    }
+
+    /// A number from 1 to the bound, or 1 where that is 0.
+    fn up_to(&mut self, bound: usize) -> usize {
+        self.below(bound).saturating_add(1)
+    }
+
+    /// A number of each type: an edge, a small one, or any.
+    fn numbers(&mut self) -> (u32, u64) {
+        let word = self.word();
+        match (self.below(3), EDGES.get(self.below(5))) {
+            (0, Some(edge)) => *edge,
+            (1, _) => ((word & 0x3f) as u32, word & 0x7f),
+            _ => ((word & 0xffff_ffff) as u32, word),
+        }
+    }
+}
+
+/// One of the items.
+fn pick<T: Copy>(rt: &impl Abort, draws: &mut Draws, items: &[T]) -> T {
+    match items.get(draws.below(items.len())) {
+        Some(item) => *item,
+        None => panic!(rt; "nothing to pick"),
+    }
+}
+
+/// The opcodes of operators with operands of these types.
+#[derive(Clone, Copy)]
+struct Shape {
+    operands: &'static [PrimitiveTypeInfo],
+    opcodes: &'static [u8],
+}
+
+/// The operators that leave an i32. What commutes, and `local.tee`, stand there twice.
+const OF_I32: [Shape; 9] = [
+    Shape {
+        operands: &[I32, I32],
+        opcodes: &[
+            0x6a, 0x6b, 0x6c, 0x6d, 0x6e, 0x6f, 0x70, 0x71, 0x72, 0x73, 0x74, 0x75, 0x76, 0x77,
+            0x78,
+        ],
+    },
+    Shape {
+        operands: &[I32, I32],
+        opcodes: &[0x6a, 0x6c, 0x71, 0x72, 0x73],
+    },
+    Shape {
+        operands: &[I32, I32],
+        opcodes: &[0x46, 0x47, 0x48, 0x49, 0x4a, 0x4b, 0x4c, 0x4d, 0x4e, 0x4f],
+    },
+    Shape {
+        operands: &[I64, I64],
+        opcodes: &[0x51, 0x52, 0x53, 0x54, 0x55, 0x56, 0x57, 0x58, 0x59, 0x5a],
+    },
+    Shape {
+        operands: &[I32],
+        opcodes: &[0x45, 0x67, 0x68, 0x69, 0xc0, 0xc1],
+    },
+    Shape {
+        operands: &[I64],
+        opcodes: &[0x50, 0xa7],
+    },
+    Shape {
+        operands: &[I32],
+        opcodes: &[0x22],
+    },
+    Shape {
+        operands: &[I32],
+        opcodes: &[0x22],
+    },
+    Shape {
+        operands: &[I32, I32, I32],
+        opcodes: &[0x1b, 0x1c],
+    },
+];
+
+/// The same of an i64.
+const OF_I64: [Shape; 7] = [
+    Shape {
+        operands: &[I64, I64],
+        opcodes: &[
+            0x7c, 0x7d, 0x7e, 0x7f, 0x80, 0x81, 0x82, 0x83, 0x84, 0x85, 0x86, 0x87, 0x88, 0x89,
+            0x8a,
+        ],
+    },
+    Shape {
+        operands: &[I64, I64],
+        opcodes: &[0x7c, 0x7e, 0x83, 0x84, 0x85],
+    },
+    Shape {
+        operands: &[I64],
+        opcodes: &[0x79, 0x7a, 0x7b, 0xc2, 0xc3, 0xc4],
+    },
+    Shape {
+        operands: &[I32],
+        opcodes: &[0xac, 0xad],
+    },
+    Shape {
+        operands: &[I64],
+        opcodes: &[0x22],
+    },
+    Shape {
+        operands: &[I64],
+        opcodes: &[0x22],
+    },
+    Shape {
+        operands: &[I64, I64, I32],
+        opcodes: &[0x1b, 0x1c],
+    },
+];
+
+/// One of the two locals of the type, the second one more often, so that reads and writes of it meet.
+fn local_of(draws: &mut Draws, t: PrimitiveTypeInfo) -> Imm {
+    match (t, draws.below(4)) {
+        (I64, 0) => Imm::Index(2),
+        (I64, _) => Imm::Index(3),
+        (_, 0) => Imm::Index(0),
+        _ => Imm::Index(1),
+    }
+}
+
+/// The module's global of the type.
+fn global_of(t: PrimitiveTypeInfo) -> Imm {
+    match t {
+        I64 => Imm::Index(1),
+        _ => Imm::Index(0),
+    }
+}
+
+/// The immediate of an operator that leaves the type.
+fn imm_of(draws: &mut Draws, opcode: u8, t: PrimitiveTypeInfo) -> Imm {
+    match (opcode, t) {
+        (0x22, _) => local_of(draws, t),
+        (0x1c, I64) => Imm::Val(ValType::I64),
+        (0x1c, _) => Imm::Val(ValType::I32),
+        _ => Imm::Nothing,
+    }
+}
+
+/// A constant of the type, or a read of a variable.
+fn leaf_of(draws: &mut Draws, t: PrimitiveTypeInfo) -> (u8, Imm) {
+    let (small, large) = draws.numbers();
+    match (draws.below(4), t) {
+        (0, _) => (0x23, global_of(t)),
+        (1, I64) => (0x42, Imm::I64(large.cast_signed())),
+        (1, _) => (0x41, Imm::I32(small.cast_signed())),
+        _ => (0x20, local_of(draws, t)),
+    }
+}
+
+/// What ends a statement over a value of the type, or nothing where the value is left.
+fn end_of(draws: &mut Draws, t: PrimitiveTypeInfo) -> Option<(u8, Imm)> {
+    match draws.below(4) {
+        0 => Some((0x1a, Imm::Nothing)),
+        1 => Some((0x21, local_of(draws, t))),
+        2 => Some((0x24, global_of(t))),
+        _ => None,
+    }
+}
+
+/// The instruction of an opcode.
+fn instr_of(rt: &impl Abort, opcode: u8, imm: Imm) -> Instr {
+    let Some(row) = row_of(Opcode::Byte(opcode)) else {
+        panic!(rt; "no row");
+    };
+    match Instr::new(row, imm) {
+        Some(instr) => instr,
+        None => panic!(rt; "another immediate"),
+    }
+}
+
+/// What is still to be written of a tree.
+#[derive(Clone, Copy)]
+enum Task {
+    /// An instruction.
+    Write(u8, Imm),
+    /// A tree that leaves the type, with so many operators one above another at most.
+    Make(PrimitiveTypeInfo, usize),
+}
+
+/// Puts what makes a tree before the other tasks: a leaf, or its operands and then its root. The next task stands last.
+fn plan(
+    rt: &impl Abort,
+    draws: &mut Draws,
+    tasks: &mut Vec<Task>,
+    t: PrimitiveTypeInfo,
+    depth: usize,
+) -> Result<(), AllocError> {
+    if depth == 0 || draws.below(4) == 0 {
+        let (opcode, imm) = leaf_of(draws, t);
+        tasks.push(Task::Write(opcode, imm))?;
+        return Ok(());
+    }
+    let shape = match t {
+        I64 => pick(rt, draws, &OF_I64),
+        _ => pick(rt, draws, &OF_I32),
+    };
+    let opcode = pick(rt, draws, shape.opcodes);
+    tasks.push(Task::Write(opcode, imm_of(draws, opcode, t)))?;
+    for operand in shape.operands.iter().rev() {
+        tasks.push(Task::Make(*operand, depth.saturating_sub(1)))?;
+    }
+    Ok(())
+}
+
+/// Writes a random tree that leaves the type, of five operators one above another and so of 364 nodes at most.
+fn write_tree(
+    rt: &impl Abort,
+    alloc: Global,
+    draws: &mut Draws,
+    t: PrimitiveTypeInfo,
+    sink: &mut Function,
+) -> Result<(), Fail> {
+    let mut tasks = Vec::new(alloc);
+    let depth = draws.up_to(5);
+    plan(rt, draws, &mut tasks, t, depth)?;
+    for _ in 0..1_000 {
+        match tasks.pop() {
+            Some(Task::Make(t, depth)) => plan(rt, draws, &mut tasks, t, depth)?,
+            Some(Task::Write(opcode, imm)) => sink.instruction(&instr_of(rt, opcode, imm))?,
+            None => return Ok(()),
+        }
+    }
+    panic!(rt; "a tree without an end")
+}
+
+/// A random body of one statement or two.
+fn random_body(rt: &impl Abort, alloc: Global, draws: &mut Draws) -> Result<Function, Fail> {
+    let mut sink = Function::new(alloc);
+    for _ in 0..draws.up_to(2) {
+        let t = pick(rt, draws, &[I32, I64]);
+        write_tree(rt, alloc, draws, t, &mut sink)?;
+        if let Some((opcode, imm)) = end_of(draws, t) {
+            sink.instruction(&instr_of(rt, opcode, imm))?;
+        }
+    }
+    sink.raw(&[0x0b])?;
+    Ok(sink)
+}
+
+/// The operators of the graph's roots.
+fn roots_of(alloc: Global, graph: &MiniDFG) -> Result<Vec<usize>, AllocError> {
+    let mut roots = Vec::new(alloc);
+    for (entry, parent) in graph.entries().iter().zip(graph.parents()) {
+        if parent.is_none() {
+            roots.push(entry.operator_idx)?;
+        }
+    }
+    Ok(roots)
+}
+
+/// The rules whose answers depend on what may write a variable.
+const CONDITIONAL: [Rule; 4] = [
+    Rule::Commute,
+    Rule::TurnComparison,
+    Rule::OrSelf,
+    Rule::AndSelf,
+];
+
+/// The term rewritten by the rule at a node, the first one from a random one down at which there is an answer, or none.
+fn rewritten_by(
+    alloc: Global,
+    draws: &mut Draws,
+    info: &ModuleInfo,
+    term: &RecExpr<Lang>,
+    rule: Rule,
+) -> Result<Option<RecExpr<Lang>>, Error> {
+    let count = term.len();
+    let behind = draws.below(count).min(draws.below(count));
+    for offset in behind..count.saturating_add(behind) {
+        let at = count.wrapping_mul(2).wrapping_sub(offset).wrapping_sub(1);
+        let at = at.checked_rem(count).unwrap_or(0);
+        if let Some(new) = rule.apply(alloc, &LOCALS, info, term, at)? {
+            return Ok(Some(new));
+        }
+    }
+    Ok(None)
+}
+
+/// The term rewritten by a random rule that has an answer somewhere in it. Adds the rule to the list.
+fn rewritten_term(
+    rt: &impl Abort,
+    alloc: Global,
+    draws: &mut Draws,
+    info: &ModuleInfo,
+    term: &RecExpr<Lang>,
+    rules: &mut Vec<Rule>,
+) -> Result<RecExpr<Lang>, Error> {
+    for _ in 0..1_000 {
+        let rule = match draws.below(2) {
+            0 => pick(rt, draws, &CONDITIONAL),
+            _ => pick(rt, draws, &RULES),
+        };
+        if let Some(new) = rewritten_by(alloc, draws, info, term, rule)? {
+            rules.push(rule)?;
+            return Ok(new);
+        }
+    }
+    panic!(rt; "no rule has an answer")
+}
+
+/// The body with the tree of a random root rewritten, or none where its block isn't in order. Adds the rule to the list.
+fn rewritten_body(
+    rt: &impl Abort,
+    alloc: Global,
+    draws: &mut Draws,
+    config: &mut WasmMutate<Words>,
+    bytes: &[u8],
+    rules: &mut Vec<Rule>,
+) -> Result<Option<Replaced>, Error>
+    requires { IsTrue (is_some config.old.setup) }
+{
+    let operators = operators_of(alloc, bytes)?;
+    let last = operators.len().saturating_sub(2);
+    let mut builder = DFGBuilder::new(config);
+    let block = block_of(rt, &builder, &operators, last);
+    let Some(graph) = builder.get_dfg(alloc, config.info(), &operators, &block)? else {
+        panic!(rt; "no graph");
+    };
+    if !graph.keeps_order() {
+        return Ok(None);
+    }
+    let point = pick(rt, draws, &roots_of(alloc, &graph)?);
+    let own = term_at(rt, alloc, &graph, point, &[])?;
+    let term = rewritten_term(rt, alloc, draws, config.info(), &own, rules)?;
+    assert_writable(rt, &term);
+    let mut body = Function::new(alloc);
+    let requests = Encoder::build_function(
+        alloc, config, point, &term, &operators, &block, &mut body, &graph, bytes,
+    )?;
+    Ok(Some(Replaced { body, requests }))
+}
+
+fn add_requests(
+    types: &mut Vec<PrimitiveTypeInfo>,
+    requests: &[ResourceRequest],
+) -> Result<(), AllocError> {
+    for request in requests {
+        let ResourceRequest::Global { tpe, .. } = request;
+        types.push(*tpe)?;
+    }
+    Ok(())
+}
+
+/// A body, and the types of the globals that were asked for.
+#[derive(Drop)]
+struct NewBody {
+    bytes: Vec<u8>,
+    requested: Vec<PrimitiveTypeInfo>,
+}
+
+/// The body after one to five rules, or fewer where a block isn't in order. Adds the rules to the list.
+fn rewritten(
+    rt: &impl Abort,
+    alloc: Global,
+    draws: &mut Draws,
+    body: &[u8],
+    rules: &mut Vec<Rule>,
+) -> Result<NewBody, Fail> {
+    let mut bytes = Vec::from_slice(alloc, body)?;
+    let mut requested = Vec::new(alloc);
+    let most = draws.up_to(5);
+    for _ in 0..draws.up_to(most) {
+        let word = draws.numbers().1;
+        let mut config = config_of(alloc, body, &requested, &[word])?;
+        let Some(new) = rewritten_body(rt, alloc, draws, &mut config, &bytes, rules)? else {
+            break;
+        };
+        add_requests(&mut requested, &new.requests)?;
+        bytes = Vec::from_slice(alloc, new.body.bytes())?;
+    }
+    Ok(NewBody { bytes, requested })
+}
+
+/// A random value of each type.
+fn values_of(
+    alloc: Global,
+    draws: &mut Draws,
+    types: &[PrimitiveTypeInfo],
+) -> Result<Vec<Value>, AllocError> {
+    let mut values = Vec::new(alloc);
+    for t in types {
+        values.push(value_of(*t, draws.numbers()))?;
+    }
+    Ok(values)
+}
+
+/// Over random values the bodies end the same. Answers whether they don't trap.
+fn is_same(
+    rt: &impl Abort,
+    alloc: Global,
+    draws: &mut Draws,
+    body: &[u8],
+    new: &NewBody,
+) -> Result<bool, Fail> {
+    let before = code_of(alloc, body)?;
+    let after = code_of(alloc, &new.bytes)?;
+    let locals = values_of(alloc, draws, &LOCALS)?;
+    let globals = values_of(alloc, draws, &GLOBALS)?;
+    let requested = values_of(alloc, draws, &new.requested)?;
+    let variables = Variables {
+        locals: &locals,
+        globals: &globals,
+        requested: &requested,
+    };
+    end_the_same(rt, alloc, &before, &after, variables)
+}
+
+/// Each rule was applied so often at least.
+fn are_used(rt: &impl Abort, rules: &[Rule], least: usize) {
+    for rule in RULES {
+        let count = rules.iter().filter(|one| **one == rule).count();
+        assert!(rt; count >= least, "{rule}: {count}");
+    }
+}
+
+/// A thousand blocks. Most don't trap, and each rule has its part.
+#[test]
+fn rewritten_blocks(rt: HostRuntime) -> Result<(), Fail> {
+    let alloc = rt.alloc();
+    let mut draws = Draws {
+        state: 88172645463325252,
+    };
+    let mut rules = Vec::new(alloc);
+    let mut ended = 0usize;
+    for _ in 0..1_000 {
+        let body = random_body(&rt, alloc, &mut draws)?;
+        let new = rewritten(&rt, alloc, &mut draws, body.bytes(), &mut rules)?;
+        if is_same(&rt, alloc, &mut draws, body.bytes(), &new)? {
+            ended = ended.saturating_add(1);
+        }
+    }
+    are_used(&rt, &rules, 25);
+    let count = rules.len();
+    assert!(rt; count > 1_500 && ended > 500, "{count} {ended}");
+    Ok(())
+}
