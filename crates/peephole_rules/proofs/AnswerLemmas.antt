@@ -17,9 +17,9 @@ use Rattle.peephole_rules.specs.declared.replacement.Replacement.{Replacement}
 use Rattle.peephole_rules.specs.declared.replacement.Replacement.TheVariants.{Swap, Turn, Constant, Twice, Unfold, UseGlobal}
 use Rattle.peephole_rules.specs.Operator.{opcode_byte, is_among, commutative, turned, operator, of_type, two}
 use Rattle.peephole_rules.specs.Effects.{writes}
-use Rattle.peephole_rules.specs.ValueTypes.{instruction_type, value_type}
+use Rattle.peephole_rules.specs.ValueTypes.{instruction_value, type_of_value}
 use Rattle.peephole_rules.specs.Rewriting.{answer_if, undisturbed, commute, turn_comparison, with_constant, with_itself, by_way_of_global, type_of_constant, unfold_constant, by_its_type}
-use Rattle.peephole_rules.specs.Grafted.{nodes_in, term_at}
+use Rattle.peephole_rules.specs.Grafted.{expression_nodes, term_at}
 use Rattle.peephole_rules.specs.Replacement.{IsBinary, CanReplace, CanReplaceAt, IsAnswer}
 
 -- ---- the node at a place
@@ -27,9 +27,9 @@ use Rattle.peephole_rules.specs.Replacement.{IsBinary, CanReplace, CanReplaceAt,
 pub record IsNodeAt (nodes : List Lang) (at : ℕ) (l : Lang) : Type 0 where
   pub inside : at < length nodes
   pub is : l ≡ get_or nodes at l
-  pub below : AreBelow (nodes_in nodes)
+  pub below : AreBelow (expression_nodes nodes)
 
-pub node_here : (nodes expr : List Lang) (at : ℕ) (l : Lang) → nodes ≡ expr → l ≡ get_or nodes at l → at < length expr → AreBelow (nodes_in expr) →
+pub node_here : (nodes expr : List Lang) (at : ℕ) (l : Lang) → nodes ≡ expr → l ≡ get_or nodes at l → at < length expr → AreBelow (expression_nodes expr) →
     IsNodeAt expr at l
 node_here nodes expr at l same is inside below = record {
   inside = inside;
@@ -145,11 +145,11 @@ module _ (nodes : List Lang) (at : ℕ) (l : Lang) (h : IsNodeAt nodes at l) whe
 -- ---- rules of a type
 
 pub value_told : (locals globals : List PrimitiveTypeInfo) (nodes : List Lang) (at : ℕ) (l : Lang) → IsNodeAt nodes at l →
-    option_and_then (instruction_type locals globals) (instr_of l) ≡ value_type locals globals (term_at nodes at)
-value_told locals globals nodes at l h = ap (value_type locals globals) (sym (root_at nodes at l h))
+    option_and_then (instruction_value locals globals) (instr_of l) ≡ type_of_value locals globals (term_at nodes at)
+value_told locals globals nodes at l h = ap (type_of_value locals globals) (sym (root_at nodes at l h))
 
 pub constant_answer : (locals globals : List PrimitiveTypeInfo) (nodes : List Lang) (at a b n : ℕ) (t : Option IntegerType) (o : Option Replacement) →
-    t ≡ value_type locals globals (term_at nodes at) → o ≡ option_map (λ t. Constant (of_type t a b) t n) t → IsBinary a → IsBinary b →
+    t ≡ type_of_value locals globals (term_at nodes at) → o ≡ option_map (λ t. Constant (of_type t a b) t n) t → IsBinary a → IsBinary b →
     IsAnswer o nodes at (by_its_type locals globals (λ t x. Some (with_constant t a b n x)) (term_at nodes at))
 constant_answer locals globals nodes at a b n t o e k p q =
     subst (λ v. IsAnswer o nodes at (option_and_then (λ t. Some (with_constant t a b n (term_at nodes at))) v)) e
@@ -162,7 +162,7 @@ constant_answer locals globals nodes at a b n t o e k p q =
     go (Some integer.I64) = record { term = refl; fits = λ m e. q }
 
 pub twice_answer : (locals globals : List PrimitiveTypeInfo) (nodes : List Lang) (at a b : ℕ) (t : Option IntegerType) (o : Option Replacement) →
-    t ≡ value_type locals globals (term_at nodes at) →
+    t ≡ type_of_value locals globals (term_at nodes at) →
     o ≡ option_and_then (λ t. answer_if (not (writes (term_at nodes at))) (Twice (of_type t a b))) t → IsBinary a → IsBinary b →
     IsAnswer o nodes at (by_its_type locals globals (λ t x. with_itself t a b x) (term_at nodes at))
 twice_answer locals globals nodes at a b t o e k p q =
@@ -181,7 +181,7 @@ twice_answer locals globals nodes at a b t o e k p q =
     go (Some integer.I64) = sure integer.I64 (writes (term_at nodes at)) q
 
 pub global_answer : (locals globals : List PrimitiveTypeInfo) (nodes : List Lang) (at : ℕ) (t : Option IntegerType) (o : Option Replacement) →
-    t ≡ value_type locals globals (term_at nodes at) → o ≡ option_map (λ t. UseGlobal t) t →
+    t ≡ type_of_value locals globals (term_at nodes at) → o ≡ option_map (λ t. UseGlobal t) t →
     IsAnswer o nodes at (by_its_type locals globals (λ t x. Some (by_way_of_global t x)) (term_at nodes at))
 global_answer locals globals nodes at t o e k =
     subst (λ v. IsAnswer o nodes at (option_and_then (λ t. Some (by_way_of_global t (term_at nodes at))) v)) e

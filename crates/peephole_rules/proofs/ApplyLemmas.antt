@@ -11,7 +11,7 @@ use Rattle.peephole_terms.specs.Expansion.{term_in}
 use Rattle.peephole_rules.specs.declared.rule.Rule.{Rule}
 use Rattle.peephole_rules.specs.declared.replacement.Replacement.{Replacement}
 use Rattle.peephole_rules.specs.Rewriting.{rewrite, rewrite_at}
-use Rattle.peephole_rules.specs.Grafted.{nodes_in, term_at, grafted}
+use Rattle.peephole_rules.specs.Grafted.{expression_nodes, term_at, grafted}
 use Rattle.peephole_rules.specs.Replacement.{term_by, IsAnswer}
 use Rattle.peephole_rules.specs.Laws.{RulesKeepMeaning}
 use Rattle.peephole_rules.proofs.StandingLemmas.{with_stands}
@@ -24,10 +24,6 @@ module _ (locals globals : List PrimitiveTypeInfo) (r : Rule) (nodes : List Lang
   inside : at < length nodes → rewrite_at locals globals r nodes at ≡ rewrite locals globals r (term_at nodes at)
   inside l = rw (lt-ltb at (length nodes) l) refl
 
-  pub none_made : (o : Option Replacement) → at < length nodes → IsAnswer o nodes at (rewrite locals globals r (term_at nodes at)) → o ≡ None →
-      None ≡ option_map (grafted nodes at) (rewrite_at locals globals r nodes at)
-  none_made o l a e = ap (option_map (grafted nodes at)) (sym (inside l ∙ (sym a.term ∙ ap (option_map (λ p. term_by p (term_at nodes at))) e)))
-
   pub made : (p : Replacement) (new : List Lang) → at < length nodes → IsAnswer (Some p) nodes at (rewrite locals globals r (term_at nodes at)) →
       term_in new ≡ grafted nodes at (term_by p (term_at nodes at)) →
       Some (term_in new) ≡ option_map (grafted nodes at) (rewrite_at locals globals r nodes at)
@@ -39,7 +35,7 @@ module _ (locals globals : List PrimitiveTypeInfo) (r : Rule) (nodes : List Lang
   stands keep laws p new a e =
       let u = term_by p (term_at nodes at) in
       subst (λ t. StandsFor locals globals (term_in nodes) t) (sym e)
-      (with_stands laws locals globals at u (nodes_in nodes) (keep.rewrite_keeps locals globals r (term_at nodes at) u (sym a.term)) (length nodes - 1))
+      (with_stands laws locals globals at u (expression_nodes nodes) (keep.rewrite_keeps locals globals r (term_at nodes at) u (sym a.term)) (length nodes - 1))
 
 pub over : (lent nodes : List Lang) (at : ℕ) (p : Replacement) (new : List Lang) → lent ≡ nodes →
     term_in new ≡ grafted lent at (term_by p (term_at lent at)) → term_in new ≡ grafted nodes at (term_by p (term_at nodes at))

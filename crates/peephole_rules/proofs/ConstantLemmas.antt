@@ -24,7 +24,7 @@ use Rattle.peephole_terms.specs.Typing.{types_of, types_in}
 use Rattle.peephole_terms.specs.Meaning.{meaning_of}
 use Rattle.peephole_terms.specs.Agrees.{Agree, LeavesItsTypes, IsCongruence}
 use Rattle.peephole_terms.specs.Laws.{MeanByTheirRows}
-use Rattle.peephole_rules.specs.Operator.{opcode_byte, is_in, type_by, operator, of_type, constant_head, constant_term, one, two, low_bits, number_in, number_of, numbered}
+use Rattle.peephole_rules.specs.Operator.{opcode_byte, is_in, type_by, operator, of_type, constant_head, constant_term, one, two, within_width, number_in, constant_number, numbered}
 use Rattle.peephole_rules.specs.Rewriting.{answer_if, with_constant, of_constant, test_to_comparison, comparison_to_test, without_constant, drop_add_zero, drop_sub_zero, drop_mul_one, drop_or_zero, drop_xor_zero, drop_shift_by_zero, all_ones, with_ones, and_ones, drop_and_ones, double_complement, negated, difference_to_sum, sum_to_difference, shift_to_product, lowest_bit, product_to_shift}
 use Rattle.peephole_rules.specs.Laws.{AgreeAlways, KeepsMeaning, KeepsMeaningOfType}
 use Rattle.peephole_rules.proofs.NumberLemmas.{and_ones_is, twice_complement, sum_is, difference_is, cast_back, product_is, shift_is}
@@ -38,8 +38,8 @@ use Rattle.peephole_rules.proofs.SequenceLemmas.{then_then, then_ends, then_same
 -- ---- constants
 
 -- a term with a number is the constant of a signed number with its low bits
-pub constant_is : (t : IntegerType) (x : Term Head) (n : ℕ) → number_of t x ≡ Some n →
-    (z : ℤ) × (x ≡ constant_term t z) × (low_bits t (cast_unsigned (width_of t) z) ≡ n)
+pub constant_is : (t : IntegerType) (x : Term Head) (n : ℕ) → constant_number t x ≡ Some n →
+    (z : ℤ) × (x ≡ constant_term t z) × (within_width t (cast_unsigned (width_of t) z) ≡ n)
 constant_is t (node h no_terms) n e =
     let (z, a, b) = known t h.place h.payload n e in
     (z, ap (λ k. node k no_terms) a, b)
@@ -52,12 +52,12 @@ constant_is t (node h no_terms) n e =
         go false k f = absurd cc
 
     known : (t : IntegerType) (place : ℕ) (p : Payload) (n : ℕ) → number_in t place p ≡ Some n →
-        (z : ℤ) × (record { place = place; payload = p } ≡ constant_head t z) × (low_bits t (cast_unsigned (width_of t) z) ≡ n)
+        (z : ℤ) × (record { place = place; payload = p } ≡ constant_head t z) × (within_width t (cast_unsigned (width_of t) z) ≡ n)
     known integer.I32 place (payload.I32 z) n e =
-        let (a, b) = at_place place 48 (low_bits integer.I32 (cast_unsigned (width_of integer.I32) z)) n e in
+        let (a, b) = at_place place 48 (within_width integer.I32 (cast_unsigned (width_of integer.I32) z)) n e in
         (z, ap (λ (n : ℕ). record { place = n; payload = payload.I32 z }) a, b)
     known integer.I64 place (payload.I64 z) n e =
-        let (a, b) = at_place place 49 (low_bits integer.I64 (cast_unsigned (width_of integer.I64) z)) n e in
+        let (a, b) = at_place place 49 (within_width integer.I64 (cast_unsigned (width_of integer.I64) z)) n e in
         (z, ap (λ (n : ℕ). record { place = n; payload = payload.I64 z }) a, b)
     known t place p n e = absurd cc
 constant_is t x n e = absurd cc
@@ -80,12 +80,12 @@ record Matched (a b : ℕ) (make : IntegerType → Term Head → ℕ → Option 
   number : ℤ
   is : two head operand (constant_term type number) ≡ t
   opcode : opcode_byte head ≡ Some (of_type type a b)
-  made : make type operand (low_bits type (cast_unsigned (width_of type) number)) ≡ Some u
+  made : make type operand (within_width type (cast_unsigned (width_of type) number)) ≡ Some u
 
 matched : (a b : ℕ) (make : IntegerType → Term Head → ℕ → Option (Term Head)) (t u : Term Head) → of_constant a b make t ≡ Some u → Matched a b make t u
 matched a b make (node h (x ▸ c ▸ no_terms)) u e =
-    let (t, p, q) = and_then_some (λ t. option_and_then (make t x) (number_of t c)) (type_by a b (opcode_byte h)) u e in
-    let (n, k, m) = and_then_some (make t x) (number_of t c) u q in
+    let (t, p, q) = and_then_some (λ t. option_and_then (make t x) (constant_number t c)) (type_by a b (opcode_byte h)) u e in
+    let (n, k, m) = and_then_some (make t x) (constant_number t c) u q in
     let (z, is, low) = constant_is t c n k in
     record {
       head = h;
@@ -180,7 +180,7 @@ module _ (rows : MeanByTheirRows) (sound : LeavesItsTypes) where
 
   with_value_is : (t : IntegerType) (f : IntegerOperator) (z : ℤ) (v : Value) (s : State) → f.operands ≡ type_of t ∷ type_of t ∷ [] →
       v.type ≡ type_of t →
-      with_value t f z (v ∷ []) s ≡ given f.result (f.value (v.number ∷ low_bits t (cast_unsigned (width_of t) z) ∷ [])) s
+      with_value t f z (v ∷ []) s ≡ given f.result (f.value (v.number ∷ within_width t (cast_unsigned (width_of t) z) ∷ [])) s
   unfolding with_value
   with_value_is t f z v s o e = act_two (type_of t) f v (whole t (cast_unsigned (width_of t) z)) s o e refl
 
@@ -196,7 +196,7 @@ module _ (rows : MeanByTheirRows) (sound : LeavesItsTypes) where
   module _ (laws : IsCongruence) where
     replaced : (locals globals list : List PrimitiveTypeInfo) (us vs : List ℕ) (t : IntegerType) (f : IntegerOperator) {h : Head}
         (d : Does h (operation f)) (x u : Term Head) (z : ℤ) → f.operands ≡ type_of t ∷ type_of t ∷ [] →
-        Replaces t f x (low_bits t (cast_unsigned (width_of t) z)) u → types_of locals globals (two h x (constant_term t z)) ≡ Some list →
+        Replaces t f x (within_width t (cast_unsigned (width_of t) z)) u → types_of locals globals (two h x (constant_term t z)) ≡ Some list →
         draws_of (two h x (constant_term t z)) ≡ [] → Agree locals globals us vs (two h x (constant_term t z)) u
     replaced locals globals list us vs t f {h = h} d x u z o r typed w =
         let c = constant_term t z in
@@ -225,7 +225,7 @@ module _ (rows : MeanByTheirRows) (sound : LeavesItsTypes) where
         (λ locals globals list typed w us vs. replaced locals globals list us vs m.type (f m.type)
         (own_does rows sound locals globals list m.head (m.operand ▸ c ▸ no_terms) (of_type m.type a b) (operation (f m.type)) m.opcode (k.none m.type)
         (k.row m.type) typed) m.operand u m.number (o m.type)
-        (r m.type m.operand u (low_bits m.type n) (mod-lt n (pow_pos (bits (width_of m.type)))) m.made) typed w)
+        (r m.type m.operand u (within_width m.type n) (mod-lt n (pow_pos (bits (width_of m.type)))) m.made) typed w)
 
     -- ---- tests
 
@@ -252,7 +252,7 @@ module _ (rows : MeanByTheirRows) (sound : LeavesItsTypes) where
         (λ s hs. one_means rows vs (eqz t) hd x s
         ∙ (then_same locals globals (type_of t) (meaning_of vs x s) (act (operation (eqz t))) (with_value t (compare t eq) (pos 0))
         (sound locals globals (type_of t ∷ []) vs x s operand hs)
-        (λ v m hv iv hm. zero_test t v (low_bits t 0) m (zero-mod (2 ^ bits (width_of t))) hv
+        (λ v m hv iv hm. zero_test t v (within_width t 0) m (zero-mod (2 ^ bits (width_of t))) hv
         ∙ sym (with_value_is t (compare t eq) (pos 0) v m refl hv))
         ∙ sym (with_constant_means locals globals vs t (compare t eq) qd x (pos 0) s))))
     test_to_comparison_keeps t u e locals globals list typed w us vs = absurd cc
@@ -331,7 +331,7 @@ module _ (rows : MeanByTheirRows) (sound : LeavesItsTypes) where
         (left (λ t. binary t and_) all_ones and_leaves)
 
     -- the number of the constant that rules write for it
-    ones_number : (t : IntegerType) → low_bits t (cast_unsigned (width_of t) (cast_signed (width_of t) (low_bits t (all_ones t)))) ≡ all_ones t
+    ones_number : (t : IntegerType) → within_width t (cast_unsigned (width_of t) (cast_signed (width_of t) (within_width t (all_ones t)))) ≡ all_ones t
     ones_number t =
         let p = pow_pos (bits (width_of t)) in
         cast_back (width_of t) (all_ones t) ∙ mod-eq_of_lt (below_power (2 ^ bits (width_of t)) p)
@@ -340,14 +340,14 @@ module _ (rows : MeanByTheirRows) (sound : LeavesItsTypes) where
         below_power M p = omega arith
 
     pub and_ones_keeps : KeepsMeaningOfType and_ones
-    and_ones_keeps t x = written_agrees rows sound laws t (of_type t 0x71 0x83) (cast_signed (width_of t) (low_bits t (all_ones t))) (binary t and_) x
+    and_ones_keeps t x = written_agrees rows sound laws t (of_type t 0x71 0x83) (cast_signed (width_of t) (within_width t (all_ones t))) (binary t and_) x
         (ands.written t) (ands.row t) (subst (LeavesFirst t (binary t and_)) (sym (ones_number t)) (and_leaves t))
 
     pub double_complement_keeps : KeepsMeaningOfType double_complement
     double_complement_keeps t x locals globals typed w us vs =
         let f = binary t xor_ in
         let d = written_does (of_type t 0x73 0x85) (operation f) (xors.written t) (xors.row t) in
-        let z = cast_signed (width_of t) (low_bits t (all_ones t)) in
+        let z = cast_signed (width_of t) (within_width t (all_ones t)) in
         let inner = with_ones t 0x73 0x85 x in
         after_itself rows sound laws locals globals (type_of t ∷ []) us vs x (double_complement t x) typed w
         (with_constant_types locals globals t f d inner z refl (with_constant_types locals globals t f d x z refl typed))
@@ -359,15 +359,15 @@ module _ (rows : MeanByTheirRows) (sound : LeavesItsTypes) where
         ∙ then_ends (meaning_of vs x s))))))
       where
         -- what one complement leaves, and the other of it
-        once : (z : ℤ) (n : ℕ) (v : Value) (m : State) → v.type ≡ type_of t → low_bits t (cast_unsigned (width_of t) z) ≡ n →
+        once : (z : ℤ) (n : ℕ) (v : Value) (m : State) → v.type ≡ type_of t → within_width t (cast_unsigned (width_of t) z) ≡ n →
             with_value t (binary t xor_) z (v ∷ []) m ≡ Ends (whole t (bit_xor v.number n) ∷ []) m
         once z n v m hv e = with_value_is t (binary t xor_) z v m refl hv ∙ ap (λ k. Ends (whole t (bit_xor v.number k) ∷ []) m) e
 
         back : (v : Value) (m : State) → v.type ≡ type_of t → v.number < 2 ^ bits (width_of t) →
-            then_run (with_value t (binary t xor_) (cast_signed (width_of t) (low_bits t (all_ones t))) (v ∷ []) m)
-            (with_value t (binary t xor_) (cast_signed (width_of t) (low_bits t (all_ones t)))) ≡ Ends (v ∷ []) m
+            then_run (with_value t (binary t xor_) (cast_signed (width_of t) (within_width t (all_ones t))) (v ∷ []) m)
+            (with_value t (binary t xor_) (cast_signed (width_of t) (within_width t (all_ones t)))) ≡ Ends (v ∷ []) m
         back v m hv l =
-            let z = cast_signed (width_of t) (low_bits t (all_ones t)) in
+            let z = cast_signed (width_of t) (within_width t (all_ones t)) in
             let first = whole t (bit_xor v.number (all_ones t)) in
             ap (λ o. then_run o (with_value t (binary t xor_) z)) (once z (all_ones t) v m hv (ones_number t))
             ∙ (once z (all_ones t) first m refl (ones_number t)
@@ -378,12 +378,12 @@ module _ (rows : MeanByTheirRows) (sound : LeavesItsTypes) where
     -- The two operators, with these numbers as second operands, have the same low bits.
     other_constant : (a b : ℕ) (f : IntegerOperator) (g : IntegerType → IntegerOperator) (k : AreOf a b g) (t : IntegerType) (x : Term Head) (n y : ℕ) →
         f.operands ≡ type_of t ∷ type_of t ∷ [] → f.result ≡ t → (g t).operands ≡ type_of t ∷ type_of t ∷ [] → (g t).result ≡ t → (F G : ℕ → ℕ) →
-        ((m : ℕ) → f.value (m ∷ n ∷ []) ≡ Some (F m)) → ((m : ℕ) → (g t).value (m ∷ low_bits t y ∷ []) ≡ Some (G m)) →
+        ((m : ℕ) → f.value (m ∷ n ∷ []) ≡ Some (F m)) → ((m : ℕ) → (g t).value (m ∷ within_width t y ∷ []) ≡ Some (G m)) →
         ((m : ℕ) → F m % 2 ^ bits (width_of t) ≡ G m % 2 ^ bits (width_of t)) →
         Replaces t f x n (two (operator (of_type t a b)) x (numbered t y))
     other_constant a b f g k t x n y fo fr go gr F G fv gv is =
         let d = written_does (of_type t a b) (operation (g t)) (k.written t) (k.row t) in
-        let z = cast_signed (width_of t) (low_bits t y) in
+        let z = cast_signed (width_of t) (within_width t y) in
         record {
           types = λ locals globals e. with_constant_types locals globals t (g t) d x z go e ∙ ap (λ r. Some (type_of r ∷ [])) (gr ∙ sym fr);
           next = with_value t (g t) z;

@@ -18,7 +18,7 @@ use Rattle.peephole_terms.specs.Typing.{joined_types, types_of, types_in}
 use Rattle.peephole_terms.specs.Meaning.{meaning_of, meaning}
 use Rattle.peephole_terms.specs.Agrees.{Agree, LeavesItsTypes, IsCongruence}
 use Rattle.peephole_terms.specs.Laws.{MeanByTheirRows}
-use Rattle.peephole_rules.specs.Operator.{opcode_byte, is_in, low_bits, or_number, number_of, own_number, numbered}
+use Rattle.peephole_rules.specs.Operator.{opcode_byte, is_in, within_width, or_number, constant_number, own_number, numbered}
 use Rattle.peephole_rules.specs.Rewriting.{numbers_in, fold}
 use Rattle.peephole_rules.specs.Laws.{KeepsMeaning}
 use Rattle.peephole_rules.proofs.NumberLemmas.{cast_back}
@@ -60,10 +60,10 @@ bare_is byte f e = go (byte == 0x01) (byte == 0x1a) (byte == 0x1b) refl refl ref
 
 -- ---- constants one after another
 
-own_is : (x : Term Head) (n : ℕ) → own_number x ≡ Some n → (t : IntegerType) × (number_of t x ≡ Some n)
-own_is x n e = go (number_of integer.I32 x) refl e
+own_is : (x : Term Head) (n : ℕ) → own_number x ≡ Some n → (t : IntegerType) × (constant_number t x ≡ Some n)
+own_is x n e = go (constant_number integer.I32 x) refl e
   where
-    go : (o : Option ℕ) → number_of integer.I32 x ≡ o → or_number o (number_of integer.I64 x) ≡ Some n → (t : IntegerType) × (number_of t x ≡ Some n)
+    go : (o : Option ℕ) → constant_number integer.I32 x ≡ o → or_number o (constant_number integer.I64 x) ≡ Some n → (t : IntegerType) × (constant_number t x ≡ Some n)
     go (Some m) k f = (integer.I32, k ∙ f)
     go None k f = (integer.I64, f)
 
@@ -110,7 +110,7 @@ module _ (rows : MeanByTheirRows) (sound : LeavesItsTypes) (laws : IsCongruence)
       let row : row_types locals globals (operation f) (types k.values) ≡ Some list =
       sym (does_types rows locals globals hd kids ∙ ap (option_and_then (row_types locals globals (operation f))) k.typed) ∙ typed in
       let (fits, result) = some_if (same_types (types k.values) f.operands) (type_of f.result ∷ []) list row in
-      let z = cast_signed (width_of f.result) (low_bits f.result n) in
+      let z = cast_signed (width_of f.result) (within_width f.result n) in
       subst (Agree locals globals us vs (node h kids)) made
       (after_itself rows sound laws locals globals list us vs (node h kids) (numbered f.result n) typed d
       (constant_types rows sound locals globals f.result z ∙ ap Some result)

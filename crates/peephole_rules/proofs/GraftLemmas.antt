@@ -11,14 +11,14 @@ use Rattle.peephole_lang.specs.Node.{head_of, children_of, node_of}
 use Rattle.peephole_lang.specs.Term.{Term, node, ◌▸◌, Node, pick, tree_at, AreBelow}
 use Rattle.peephole_lang.specs.laws.PlaceLemmas.{IsAt, at_place, children_in, tree_is}
 use Rattle.peephole_lang.specs.laws.PlaceLemmas.IsAt.{last, before}
-use Rattle.peephole_rules.specs.Grafted.{nodes_in, tree_with, raised, raised_node}
+use Rattle.peephole_rules.specs.Grafted.{expression_nodes, tree_with, raised, raised_node}
 use Rattle.peephole_rules.specs.Replacement.{term_by, more, CanReplace, CanReplaceAt, Replaces}
 use Rattle.peephole_rules.specs.declared.replacement.Replacement.{Replacement}
 use Rattle.peephole_rules.specs.declared.replacement.Replacement.TheVariants.{Swap, Turn, Constant, Twice, Unfold, UseGlobal, Nop}
 
 -- ---- one node more
 
-pub nodes_in_more : (expr : List Lang) (l : Lang) → nodes_in (expr ++ l ∷ []) ≡ node_of l ∷ nodes_in expr
+pub nodes_in_more : (expr : List Lang) (l : Lang) → expression_nodes (expr ++ l ∷ []) ≡ node_of l ∷ expression_nodes expr
 nodes_in_more expr l = ap reverse (map-append node_of expr (l ∷ [])) ∙ reverse-append (map node_of expr) (node_of l ∷ [])
 
 pub at_last : {H : Type 0} (n : Node H) (ns : List (Node H)) (i : ℕ) → length ns ≡ i → tree_at (n ∷ ns) i ≡ node n.head (pick (tree_at ns) n.children)
@@ -214,37 +214,37 @@ few_more (Unfold t) = omega arith
 few_more (UseGlobal t) = omega arith
 few_more Nop = omega arith
 
-pub count_of : (nodes : List Lang) → length (nodes_in nodes) ≡ length nodes
+pub count_of : (nodes : List Lang) → length (expression_nodes nodes) ≡ length nodes
 count_of nodes = length-reverse (map node_of nodes) ∙ length-map nodes node_of
 
 -- the node at an index of the old expression
 pub record IsOld (nodes : List Lang) (i : ℕ) (l : Lang) : Type 0 where
   pub inside : i < length nodes
   pub is : l ≡ get_or nodes i l
-  pub below : AreBelow (nodes_in nodes)
+  pub below : AreBelow (expression_nodes nodes)
 
-old_at : (nodes : List Lang) (i : ℕ) (l : Lang) → IsOld nodes i l → IsAt (node_of l) (nodes_in nodes) i
+old_at : (nodes : List Lang) (i : ℕ) (l : Lang) → IsOld nodes i l → IsAt (node_of l) (expression_nodes nodes) i
 old_at nodes i l h = at_place head_of children_of nodes i l h.inside h.is
 
 module _ (r : Replacement) (nodes : List Lang) (at : ℕ) (u : Term Head) where
   old_here : (i : ℕ) (l : Lang) → i ≡ at → IsOld nodes i l → IsOld nodes at l
   old_here i l e h = subst (λ k. IsOld nodes k l) e h
 
-  now_here : (expr : List Lang) (i : ℕ) → i ≡ at → IsGrafted at (more r) u (nodes_in nodes) (nodes_in expr) i →
-      IsGrafted at (more r) u (nodes_in nodes) (nodes_in expr) at
-  now_here expr i e g = subst (λ k. IsGrafted at (more r) u (nodes_in nodes) (nodes_in expr) k) e g
+  now_here : (expr : List Lang) (i : ℕ) → i ≡ at → IsGrafted at (more r) u (expression_nodes nodes) (expression_nodes expr) i →
+      IsGrafted at (more r) u (expression_nodes nodes) (expression_nodes expr) at
+  now_here expr i e g = subst (λ k. IsGrafted at (more r) u (expression_nodes nodes) (expression_nodes expr) k) e g
 
-  stands_here : (expr : List Lang) (i : ℕ) → i ≡ at → IsGrafted at (more r) u (nodes_in nodes) (nodes_in expr) i → length expr ≡ at
+  stands_here : (expr : List Lang) (i : ℕ) → i ≡ at → IsGrafted at (more r) u (expression_nodes nodes) (expression_nodes expr) i → length expr ≡ at
   stands_here expr i e g = sym (count_of expr) ∙ ((now_here expr i e g).count ∙ rw (le-ltb at at (omega arith)) refl)
 
   -- the replaced node's children stand before it
-  pub written_below : (expr : List Lang) (i : ℕ) (l : Lang) → i ≡ at → IsOld nodes i l → IsGrafted at (more r) u (nodes_in nodes) (nodes_in expr) i →
+  pub written_below : (expr : List Lang) (i : ℕ) (l : Lang) → i ≡ at → IsOld nodes i l → IsGrafted at (more r) u (expression_nodes nodes) (expression_nodes expr) i →
       All (λ c. c < length expr) (children_of l)
   written_below expr i l e h g = subst (λ m. All (λ c. c < m) (children_of l)) (sym (stands_here expr i e g))
       (children_in (old_at nodes at l (old_here i l e h)) h.below)
 
   pub written_few : (expr : List Lang) (i : ℕ) → i ≡ at → i < length nodes → length nodes + 2 ≤ 2 ^ 32 →
-      IsGrafted at (more r) u (nodes_in nodes) (nodes_in expr) i → length expr + 3 ≤ 2 ^ 32
+      IsGrafted at (more r) u (expression_nodes nodes) (expression_nodes expr) i → length expr + 3 ≤ 2 ^ 32
   written_few expr i e l few g = let n = stands_here expr i e g in omega arith
 
   pub written_fits : (i : ℕ) (l : Lang) → i ≡ at → IsOld nodes i l → CanReplaceAt r nodes at → CanReplace r (length (children_of l))
@@ -259,28 +259,28 @@ module _ (r : Replacement) (nodes : List Lang) (at : ℕ) (u : Term Head) where
       (children_of l) (children_in (old_at nodes i l h) h.below)
 
   pub copied_below : (expr : List Lang) (i : ℕ) (l copy : Lang) → IsOld nodes i l → i ≢ at → children_of copy ≡ map (raised at (more r)) (children_of l) →
-      IsGrafted at (more r) u (nodes_in nodes) (nodes_in expr) i → All (λ c. c < length expr) (children_of copy)
+      IsGrafted at (more r) u (expression_nodes nodes) (expression_nodes expr) i → All (λ c. c < length expr) (children_of copy)
   copied_below expr i l copy h d e g =
       subst (λ is. All (λ c. c < length expr) is) (sym e) (subst (λ n. All (λ c. c < n) (map (raised at (more r)) (children_of l))) (count_of expr)
-      (raised_children at (more r) u (nodes_in nodes) h.below (nodes_in expr) (node_of l) i (old_at nodes i l h) d g))
+      (raised_children at (more r) u (expression_nodes nodes) h.below (expression_nodes expr) (node_of l) i (old_at nodes i l h) d g))
 
   pub copied : (expr after : List Lang) (i : ℕ) (l copy : Lang) → IsOld nodes i l → i ≢ at → head_of copy ≡ head_of l →
       children_of copy ≡ map (raised at (more r)) (children_of l) → after ≡ expr ++ copy ∷ [] →
-      IsGrafted at (more r) u (nodes_in nodes) (nodes_in expr) i → IsGrafted at (more r) u (nodes_in nodes) (nodes_in after) (i + 1)
+      IsGrafted at (more r) u (expression_nodes nodes) (expression_nodes expr) i → IsGrafted at (more r) u (expression_nodes nodes) (expression_nodes after) (i + 1)
   copied expr after i l copy h d e k added g =
       let made : Head → List ℕ → Node Head = λ x is. record { head = x; children = is } in
-      let new : nodes_in after ≡ raised_node at (more r) (node_of l) ∷ nodes_in expr =
-      ap nodes_in added ∙ (nodes_in_more expr copy ∙ ap (λ n. n ∷ nodes_in expr) (ap₂ made e k)) in
+      let new : expression_nodes after ≡ raised_node at (more r) (node_of l) ∷ expression_nodes expr =
+      ap expression_nodes added ∙ (nodes_in_more expr copy ∙ ap (λ n. n ∷ expression_nodes expr) (ap₂ made e k)) in
       let next : suc i ≡ i + 1 = omega arith in
-      subst (λ ns. IsGrafted at (more r) u (nodes_in nodes) ns (i + 1)) (sym new)
-      (subst (λ m. IsGrafted at (more r) u (nodes_in nodes) (raised_node at (more r) (node_of l) ∷ nodes_in expr) m) next
-      (grafted_more at (more r) u (nodes_in nodes) h.below (nodes_in expr) (node_of l) i (old_at nodes i l h) d g))
+      subst (λ ns. IsGrafted at (more r) u (expression_nodes nodes) ns (i + 1)) (sym new)
+      (subst (λ m. IsGrafted at (more r) u (expression_nodes nodes) (raised_node at (more r) (node_of l) ∷ expression_nodes expr) m) next
+      (grafted_more at (more r) u (expression_nodes nodes) h.below (expression_nodes expr) (node_of l) i (old_at nodes i l h) d g))
 
-  pub written : (expr after : List Lang) (i : ℕ) (l : Lang) → i ≡ at → IsOld nodes i l → u ≡ term_by r (tree_at (nodes_in nodes) at) →
-      Replaces r (node_of l) (nodes_in expr) (nodes_in after) →
-      IsGrafted at (more r) u (nodes_in nodes) (nodes_in expr) i → IsGrafted at (more r) u (nodes_in nodes) (nodes_in after) (i + 1)
+  pub written : (expr after : List Lang) (i : ℕ) (l : Lang) → i ≡ at → IsOld nodes i l → u ≡ term_by r (tree_at (expression_nodes nodes) at) →
+      Replaces r (node_of l) (expression_nodes expr) (expression_nodes after) →
+      IsGrafted at (more r) u (expression_nodes nodes) (expression_nodes expr) i → IsGrafted at (more r) u (expression_nodes nodes) (expression_nodes after) (i + 1)
   written expr after i l e h is p g =
       let next : suc at ≡ i + 1 = omega arith in
-      subst (λ m. IsGrafted at (more r) u (nodes_in nodes) (nodes_in after) m) next
-      (grafted_here at (more r) u (nodes_in nodes) h.below (nodes_in expr) (nodes_in after) (node_of l) (old_at nodes at l (old_here i l e h))
+      subst (λ m. IsGrafted at (more r) u (expression_nodes nodes) (expression_nodes after) m) next
+      (grafted_here at (more r) u (expression_nodes nodes) h.below (expression_nodes expr) (expression_nodes after) (node_of l) (old_at nodes at l (old_here i l e h))
       (now_here expr i e g) p.count p.kept (λ k. p.root ∙ (ap (term_by r) k ∙ sym is)))

@@ -15,7 +15,7 @@ use Rattle.peephole_terms.specs.Laws.{MeanByTheirRows}
 use Rattle.peephole_rules.specs.declared.rule.Rule.{Rule}
 use Rattle.peephole_rules.specs.declared.rule.Rule.TheVariants as rule
 use Rattle.peephole_rules.specs.Operator.{constant_term, constant_head, one, unfold_head}
-use Rattle.peephole_rules.specs.ValueTypes.{value_type}
+use Rattle.peephole_rules.specs.ValueTypes.{type_of_value}
 use Rattle.peephole_rules.specs.Rewriting.{add_zero, sub_zero, mul_one, or_zero, xor_zero, shift_by_zero, or_self, and_self, by_way_of_global, as_a_sum, type_of_constant, unfold_constant, by_its_type, rewrite}
 use Rattle.peephole_rules.specs.Laws.{AgreeOfType, KeepsMeaningOfType, KeepsMeaningWhereItAnswers}
 use Rattle.peephole_rules.proofs.ValueTypeLemmas.{value_typed}
@@ -29,7 +29,7 @@ module _ (rows : MeanByTheirRows) (sound : LeavesItsTypes) (laws : IsCongruence)
   of_its_type : (locals globals : List PrimitiveTypeInfo) (f : IntegerType → Term Head → Option (Term Head)) → KeepsMeaningWhereItAnswers f →
       (x u : Term Head) → by_its_type locals globals f x ≡ Some u → StandsFor locals globals x u
   of_its_type locals globals f keeps x u e list typed d us vs =
-      let (t, a, b) = and_then_some (λ t. f t x) (value_type locals globals x) u e in
+      let (t, a, b) = and_then_some (λ t. f t x) (type_of_value locals globals x) u e in
       keeps t x u b locals globals (typed ∙ ap Some (value_typed rows locals globals list x t a typed)) d us vs
 
   always : (f : IntegerType → Term Head → Term Head) → KeepsMeaningOfType f → KeepsMeaningWhereItAnswers (λ t x. Some (f t x))

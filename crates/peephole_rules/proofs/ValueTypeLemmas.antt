@@ -26,7 +26,7 @@ use Rattle.peephole_machine.specs.RowLemmas.{some_if, and_then_some, same_type_i
 use Rattle.peephole_terms.specs.Typing.{types_of, types_in}
 use Rattle.peephole_terms.specs.Laws.{MeanByTheirRows}
 use Rattle.peephole_rules.specs.Operator.{is_in}
-use Rattle.peephole_rules.specs.ValueTypes.{integer_val, integer_of, column_type, instruction_type, value_type}
+use Rattle.peephole_rules.specs.ValueTypes.{integer_val, integer_of, column_type, instruction_value, type_of_value}
 use Rattle.peephole_rules.proofs.ByteLemmas.{with_immediate, bare}
 
 -- ---- the column fits the opcode, in each row of the table
@@ -225,7 +225,7 @@ module _ (locals globals : List PrimitiveTypeInfo) where
       go (Fc n) f g = absurd (no_row locals globals us list g)
       go (Fd n) f g = absurd (no_row locals globals us list g)
 
-  instruction_gives : (i : Instruction) (t : IntegerType) (us list : List PrimitiveTypeInfo) → instruction_type locals globals i ≡ Some t →
+  instruction_gives : (i : Instruction) (t : IntegerType) (us list : List PrimitiveTypeInfo) → instruction_value locals globals i ≡ Some t →
       row_types locals globals (integer_row i) us ≡ Some list → list ≡ type_of t ∷ []
   unfolding integer_row row_info_of row_at
   instruction_gives i t us list k e = go (slice_get table i.row) refl k e
@@ -238,10 +238,10 @@ module _ (locals globals : List PrimitiveTypeInfo) where
 
 -- the term's list is that type alone
 pub value_typed : MeanByTheirRows → (locals globals list : List PrimitiveTypeInfo) (x : Term Head) (t : IntegerType) →
-    value_type locals globals x ≡ Some t → types_of locals globals x ≡ Some list → list ≡ type_of t ∷ []
+    type_of_value locals globals x ≡ Some t → types_of locals globals x ≡ Some list → list ≡ type_of t ∷ []
 value_typed rows locals globals list absent t k e = absurd cc
 value_typed rows locals globals list (node h kids) t k e =
-    let (i, a, b) = and_then_some (instruction_type locals globals) (instr_of_head h) t k in
+    let (i, a, b) = and_then_some (instruction_value locals globals) (instr_of_head h) t k in
     let (us, c, d) = and_then_some (row_types locals globals (integer_row i)) (types_in locals globals kids) list
     (sym (rows.types locals globals h kids i a) ∙ e) in
     instruction_gives locals globals i t us list b d

@@ -6,12 +6,12 @@ use Rattle.peephole_lang.specs.Node.{head_of, children_of}
 use Rattle.peephole_lang.specs.Term.{Term, absent, node, Node, nodes_of, pick, tree_at}
 
 -- the nodes of an expression, the last one first
-abbrev pub nodes_in : List Lang → List (Node Head)
-nodes_in expr = nodes_of head_of children_of expr
+abbrev pub expression_nodes : List Lang → List (Node Head)
+expression_nodes expr = nodes_of head_of children_of expr
 
 -- the term of the node at a place
 abbrev pub term_at : List Lang → ℕ → Term Head
-term_at expr at = tree_at (nodes_in expr) at
+term_at expr at = tree_at (expression_nodes expr) at
 
 -- the term of a place, where that of place `at` is `u`
 abbrev pub tree_with : {H : Type 0} → (at : ℕ) → Term H → List (Node H) → ℕ → Term H
@@ -21,7 +21,7 @@ tree_with at u (n ∷ earlier) i =
 
 -- the term of an expression with `u` in the place of node `at`, wherever that is used
 abbrev pub grafted : List Lang → (at : ℕ) → Term Head → Term Head
-grafted expr at u = tree_with at u (nodes_in expr) (length expr - 1)
+grafted expr at u = tree_with at u (expression_nodes expr) (length expr - 1)
 
 -- where a place is when `by` nodes more stand at `at`
 abbrev pub raised : (at by : ℕ) → ℕ → ℕ

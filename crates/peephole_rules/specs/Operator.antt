@@ -140,18 +140,18 @@ use_global_head integer.I64 = record { place = 8; payload = payload.Nothing }
 -- ---- constants
 
 -- the number of the value that a constant of the type leaves
-abbrev pub low_bits : IntegerType → ℕ → ℕ
-low_bits t n = n % 2 ^ bits (width_of t)
+abbrev pub within_width : IntegerType → ℕ → ℕ
+within_width t n = n % 2 ^ bits (width_of t)
 
 abbrev pub number_in : IntegerType → (place : ℕ) → Payload → Option ℕ
-number_in integer.I32 place (payload.I32 z) = if place == 48 then Some (low_bits integer.I32 (cast_unsigned w32 z)) else None
-number_in integer.I64 place (payload.I64 z) = if place == 49 then Some (low_bits integer.I64 (cast_unsigned w64 z)) else None
+number_in integer.I32 place (payload.I32 z) = if place == 48 then Some (within_width integer.I32 (cast_unsigned w32 z)) else None
+number_in integer.I64 place (payload.I64 z) = if place == 49 then Some (within_width integer.I64 (cast_unsigned w64 z)) else None
 number_in t place p = None
 
 -- that of a term that is such a constant
-abbrev pub number_of : IntegerType → Term Head → Option ℕ
-number_of t (node h no_terms) = number_in t h.place h.payload
-number_of t x = None
+abbrev pub constant_number : IntegerType → Term Head → Option ℕ
+constant_number t (node h no_terms) = number_in t h.place h.payload
+constant_number t x = None
 
 abbrev pub or_number : Option ℕ → Option ℕ → Option ℕ
 or_number (Some n) o = Some n
@@ -159,8 +159,8 @@ or_number None o = o
 
 -- that of a constant of either type
 abbrev pub own_number : Term Head → Option ℕ
-own_number x = or_number (number_of integer.I32 x) (number_of integer.I64 x)
+own_number x = or_number (constant_number integer.I32 x) (constant_number integer.I64 x)
 
 -- the constant whose value has the low bits of the number
 abbrev pub numbered : IntegerType → ℕ → Term Head
-numbered t n = constant_term t (cast_signed (width_of t) (low_bits t n))
+numbered t n = constant_term t (cast_signed (width_of t) (within_width t n))

@@ -16,9 +16,9 @@ use Rattle.peephole_machine.specs.Values.{width_of}
 use Rattle.peephole_machine.specs.IntegerRow.{bare_operator}
 use Rattle.peephole_rules.specs.declared.rule.Rule.{Rule}
 use Rattle.peephole_rules.specs.declared.rule.Rule.TheVariants as rule
-use Rattle.peephole_rules.specs.Operator.{opcode_byte, is_among, are_same, type_by, commutative, turned, associative, has_one_value, operator, of_type, constant_term, one, two, container, nop, unfold_head, use_global_head, number_of, own_number, numbered}
+use Rattle.peephole_rules.specs.Operator.{opcode_byte, is_among, are_same, type_by, commutative, turned, associative, has_one_value, operator, of_type, constant_term, one, two, container, nop, unfold_head, use_global_head, constant_number, own_number, numbered}
 use Rattle.peephole_rules.specs.Effects.{writes, may_trap}
-use Rattle.peephole_rules.specs.ValueTypes.{value_type}
+use Rattle.peephole_rules.specs.ValueTypes.{type_of_value}
 use Rattle.peephole_rules.specs.Grafted.{term_at}
 
 abbrev pub answer_if : {A : Type 0} → Bool → A → Option A
@@ -115,7 +115,7 @@ associate_right t = None
 
 -- op x c → what is made of the type, of x and of the constant's number, with an operator by its opcodes of each type
 abbrev pub of_constant : (i32_opcode i64_opcode : ℕ) → (IntegerType → Term Head → ℕ → Option (Term Head)) → Term Head → Option (Term Head)
-of_constant a b make (node h (x ▸ c ▸ no_terms)) = option_and_then (λ t. option_and_then (make t x) (number_of t c)) (type_by a b (opcode_byte h))
+of_constant a b make (node h (x ▸ c ▸ no_terms)) = option_and_then (λ t. option_and_then (make t x) (constant_number t c)) (type_by a b (opcode_byte h))
 of_constant a b make t = None
 
 -- eqz x → eq x 0
@@ -241,7 +241,7 @@ unfold_constant x = None
 
 -- what a rule of a type makes of a term of that type
 abbrev pub by_its_type : (locals globals : List PrimitiveTypeInfo) → (IntegerType → Term Head → Option (Term Head)) → Term Head → Option (Term Head)
-by_its_type locals globals rule x = option_and_then (λ t. rule t x) (value_type locals globals x)
+by_its_type locals globals rule x = option_and_then (λ t. rule t x) (type_of_value locals globals x)
 
 -- what the rule makes of a term, for these types of locals and globals
 abbrev pub rewrite : (locals globals : List PrimitiveTypeInfo) → Rule → Term Head → Option (Term Head)

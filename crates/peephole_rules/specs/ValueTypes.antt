@@ -34,10 +34,10 @@ column_type locals globals results.Local (imm.Index x) = option_and_then integer
 column_type locals globals results.Global (imm.Index x) = option_and_then integer_of (slice_get globals x)
 column_type locals globals kind i = None
 
-abbrev pub instruction_type : (locals globals : List PrimitiveTypeInfo) → Instruction → Option IntegerType
-instruction_type locals globals i = option_and_then (λ info. column_type locals globals info.result i.imm) (row_info_of i.row)
+abbrev pub instruction_value : (locals globals : List PrimitiveTypeInfo) → Instruction → Option IntegerType
+instruction_value locals globals i = option_and_then (λ info. column_type locals globals info.result i.imm) (row_info_of i.row)
 
 -- that of the value which the term's root leaves
-abbrev pub value_type : (locals globals : List PrimitiveTypeInfo) → Term Head → Option IntegerType
-value_type locals globals absent = None
-value_type locals globals (node h kids) = option_and_then (instruction_type locals globals) (instr_of_head h)
+abbrev pub type_of_value : (locals globals : List PrimitiveTypeInfo) → Term Head → Option IntegerType
+type_of_value locals globals absent = None
+type_of_value locals globals (node h kids) = option_and_then (instruction_value locals globals) (instr_of_head h)

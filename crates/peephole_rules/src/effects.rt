@@ -3,7 +3,7 @@ ghost use Rattle.std.specs.Prelude.{◌≡◌, ◌<◌, ◌&&◌, ℕ, not, fals
 ghost use Rattle.std.specs.List.{All};
 ghost use Rattle.mutate_base.specs.declared.error.Error.{Error};
 ghost use Rattle.peephole_lang.specs.Term.{AreBelow, numbers_of};
-ghost use Rattle.peephole_rules.specs.Grafted.{nodes_in, term_at};
+ghost use Rattle.peephole_rules.specs.Grafted.{expression_nodes, term_at};
 ghost use Rattle.peephole_rules.specs.Effects.{writes, any_flag};
 ghost use Rattle.peephole_rules.specs.Rewriting.{undisturbed};
 
@@ -27,7 +27,7 @@ fn any_flag(flags: &[bool], ids: &[Id]) -> bool
 
 // Of each node, whether its term may write a variable.
 fn writing(alloc: Global, nodes: &[Lang]) -> Result<Vec<bool>, Error>
-    requires { AreBelow (nodes_in nodes.now) }
+    requires { AreBelow (expression_nodes nodes.now) }
     ensures count { IfOk result (λ flags. length flags.items ≡ length nodes.now) }
     ensures flags { IfOk result (λ flags. (i : ℕ) → i < length nodes.now
         → get_or flags.items i false ≡ writes (term_at nodes.now i)) }

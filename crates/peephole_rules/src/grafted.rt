@@ -5,7 +5,7 @@ ghost use Rattle.mutate_base.specs.declared.error.Error.{Error};
 ghost use Rattle.peephole_lang.specs.Node.{children_of, node_of};
 ghost use Rattle.peephole_lang.specs.Term.{numbers_of, AreBelow};
 ghost use Rattle.peephole_terms.specs.Expansion.{term_in};
-ghost use Rattle.peephole_rules.specs.Grafted.{nodes_in, term_at, grafted, raised, raised_node};
+ghost use Rattle.peephole_rules.specs.Grafted.{expression_nodes, term_at, grafted, raised, raised_node};
 ghost use Rattle.peephole_rules.specs.Replacement.{term_by, CanReplaceAt};
 
 use crate::replacement::Replacement;
@@ -56,7 +56,7 @@ pub(crate) fn graft(
     replacement: Replacement,
 ) -> Result<RecExpr<Lang>, Error>
     requires inside { at < length nodes.now }
-    requires below { AreBelow (nodes_in nodes.now) }
+    requires below { AreBelow (expression_nodes nodes.now) }
     requires few { length nodes.now + 2 ≤ 2 ^ 32 }
     requires fits { CanReplaceAt replacement nodes.now at }
     ensures grafted { IfOk result (λ expr.

@@ -3,7 +3,7 @@ ghost use Rattle.std.specs.Prelude.{◌≡◌, ◌+◌, ◌<◌, ◌≤◌, ◌^
 ghost use Rattle.std.specs.List.{All};
 ghost use Rattle.mutate_base.specs.declared.error.Error.{Error};
 ghost use Rattle.peephole_lang.specs.Node.{node_of, children_of};
-ghost use Rattle.peephole_rules.specs.Grafted.{nodes_in};
+ghost use Rattle.peephole_rules.specs.Grafted.{expression_nodes};
 
 use crate::written::{
     write_constant, write_nop, write_swapped, write_turned, write_twice, write_unfold,
@@ -53,7 +53,7 @@ impl Replacement {
         requires few { length expr.old + 3 ≤ 2 ^ 32 }
         requires fits { CanReplace self (length (children_of node.now)) }
         ensures nodes { IfOk result (λ _.
-            Replaces self (node_of node.now) (nodes_in expr.old) (nodes_in expr.new)) }
+            Replaces self (node_of node.now) (expression_nodes expr.old) (expression_nodes expr.new)) }
         ensures refused { IfErr result (λ e. e ≡ Error.Memory) }
     {
         match self {

@@ -1,7 +1,7 @@
 //! The type of the value that a node leaves.
 ghost use Rattle.std.specs.Prelude.{◌≡◌, slice_get, option_and_then};
 ghost use Rattle.peephole_lang.specs.Node.{instr_of};
-ghost use Rattle.peephole_rules.specs.ValueTypes.{integer_val, integer_of, column_type, instruction_type};
+ghost use Rattle.peephole_rules.specs.ValueTypes.{integer_val, integer_of, column_type, instruction_value};
 
 use mutate_base::{ModuleInfo, PrimitiveTypeInfo};
 use peephole_lang::Lang;
@@ -58,7 +58,7 @@ pub fn value_type(
     info: &ModuleInfo<'_>,
     node: &Lang,
 ) -> Option<IntegerType>
-    ensures { result ≡ option_and_then (instruction_type locals.now info.now.globals)
+    ensures { result ≡ option_and_then (instruction_value locals.now info.now.globals)
         (instr_of node.now) }
 {
     let instr = node.instr()?;

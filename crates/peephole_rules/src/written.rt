@@ -3,7 +3,7 @@ ghost use Rattle.std.specs.Prelude.{◌≡◌, ◌+◌, ◌<◌, ◌≤◌, ◌^
 ghost use Rattle.std.specs.List.{All};
 ghost use Rattle.mutate_base.specs.declared.error.Error.{Error};
 ghost use Rattle.peephole_lang.specs.Node.{node_of, children_of};
-ghost use Rattle.peephole_rules.specs.Grafted.{nodes_in};
+ghost use Rattle.peephole_rules.specs.Grafted.{expression_nodes};
 ghost use Rattle.peephole_rules.specs.Replacement.{Replaces, IsBinary};
 ghost use Rattle.peephole_rules.specs.declared.replacement.Replacement.TheVariants.{Swap, Turn, Constant, Twice, Unfold, UseGlobal, Nop};
 
@@ -32,7 +32,7 @@ fn put(expr: &mut RecExpr<Lang>, node: Lang) -> Result<Id, Error>
     requires few { length expr.old < 2 ^ 32 }
     ensures place { IfOk result (λ id. id.0 ≡ length expr.old) }
     ensures count { IfOk result (λ _. length expr.new ≡ length expr.old + 1) }
-    ensures nodes { IfOk result (λ _. nodes_in expr.new ≡ node_of node ∷ nodes_in expr.old) }
+    ensures nodes { IfOk result (λ _. expression_nodes expr.new ≡ node_of node ∷ expression_nodes expr.old) }
     ensures refused { IfErr result (λ e. e ≡ Error.Memory) }
 {
     expr.add(node)
@@ -44,7 +44,7 @@ fn put_copy(expr: &mut RecExpr<Lang>, node: &Lang) -> Result<Id, Error>
     requires few { length expr.old < 2 ^ 32 }
     ensures place { IfOk result (λ id. id.0 ≡ length expr.old) }
     ensures count { IfOk result (λ _. length expr.new ≡ length expr.old + 1) }
-    ensures nodes { IfOk result (λ _. nodes_in expr.new ≡ node_of node.now ∷ nodes_in expr.old) }
+    ensures nodes { IfOk result (λ _. expression_nodes expr.new ≡ node_of node.now ∷ expression_nodes expr.old) }
     ensures refused { IfErr result (λ e. e ≡ Error.Memory) }
 {
     put(expr, node.clone_node()?)
@@ -56,7 +56,7 @@ pub(crate) fn write_swapped(expr: &mut RecExpr<Lang>, node: &Lang) -> Result<(),
     requires few { length expr.old + 3 ≤ 2 ^ 32 }
     requires two { length (children_of node.now) ≡ 2 }
     ensures nodes { IfOk result (λ _.
-        Replaces Swap (node_of node.now) (nodes_in expr.old) (nodes_in expr.new)) }
+        Replaces Swap (node_of node.now) (expression_nodes expr.old) (expression_nodes expr.new)) }
     ensures refused { IfErr result (λ e. e ≡ Error.Memory) }
 {
     put(expr, swapped(node)?)?;
@@ -70,7 +70,7 @@ pub(crate) fn write_turned(expr: &mut RecExpr<Lang>, node: &Lang, byte: u8) -> R
     requires operator { IsBinary byte }
     requires two { length (children_of node.now) ≡ 2 }
     ensures nodes { IfOk result (λ _.
-        Replaces (Turn byte) (node_of node.now) (nodes_in expr.old) (nodes_in expr.new)) }
+        Replaces (Turn byte) (node_of node.now) (expression_nodes expr.old) (expression_nodes expr.new)) }
     ensures refused { IfErr result (λ e. e ≡ Error.Memory) }
 {
     let ids = node.children();
@@ -90,7 +90,7 @@ pub(crate) fn write_constant(
     requires few { length expr.old + 3 ≤ 2 ^ 32 }
     requires operator { IsBinary byte }
     ensures nodes { IfOk result (λ _.
-        Replaces (Constant byte t number) (node_of node.now) (nodes_in expr.old) (nodes_in expr.new)) }
+        Replaces (Constant byte t number) (node_of node.now) (expression_nodes expr.old) (expression_nodes expr.new)) }
     ensures refused { IfErr result (λ e. e ≡ Error.Memory) }
 {
     let x = put_copy(expr, node)?;
@@ -105,7 +105,7 @@ pub(crate) fn write_twice(expr: &mut RecExpr<Lang>, node: &Lang, byte: u8) -> Re
     requires few { length expr.old + 3 ≤ 2 ^ 32 }
     requires operator { IsBinary byte }
     ensures nodes { IfOk result (λ _.
-        Replaces (Twice byte) (node_of node.now) (nodes_in expr.old) (nodes_in expr.new)) }
+        Replaces (Twice byte) (node_of node.now) (expression_nodes expr.old) (expression_nodes expr.new)) }
     ensures refused { IfErr result (λ e. e ≡ Error.Memory) }
 {
     let x = put_copy(expr, node)?;
@@ -122,7 +122,7 @@ pub(crate) fn write_unfold(
     requires below { All (λ i. i < length expr.old) (children_of node.now) }
     requires few { length expr.old + 3 ≤ 2 ^ 32 }
     ensures nodes { IfOk result (λ _.
-        Replaces (Unfold t) (node_of node.now) (nodes_in expr.old) (nodes_in expr.new)) }
+        Replaces (Unfold t) (node_of node.now) (expression_nodes expr.old) (expression_nodes expr.new)) }
     ensures refused { IfErr result (λ e. e ≡ Error.Memory) }
 {
     let x = put_copy(expr, node)?;
@@ -139,7 +139,7 @@ pub(crate) fn write_use_global(
     requires below { All (λ i. i < length expr.old) (children_of node.now) }
     requires few { length expr.old + 3 ≤ 2 ^ 32 }
     ensures nodes { IfOk result (λ _.
-        Replaces (UseGlobal t) (node_of node.now) (nodes_in expr.old) (nodes_in expr.new)) }
+        Replaces (UseGlobal t) (node_of node.now) (expression_nodes expr.old) (expression_nodes expr.new)) }
     ensures refused { IfErr result (λ e. e ≡ Error.Memory) }
 {
     let x = put_copy(expr, node)?;
@@ -153,7 +153,7 @@ pub(crate) fn write_nop(alloc: Global, expr: &mut RecExpr<Lang>, node: &Lang) ->
     requires below { All (λ i. i < length expr.old) (children_of node.now) }
     requires few { length expr.old + 3 ≤ 2 ^ 32 }
     ensures nodes { IfOk result (λ _.
-        Replaces Nop (node_of node.now) (nodes_in expr.old) (nodes_in expr.new)) }
+        Replaces Nop (node_of node.now) (expression_nodes expr.old) (expression_nodes expr.new)) }
     ensures refused { IfErr result (λ e. e ≡ Error.Memory) }
 {
     let x = put_copy(expr, node)?;

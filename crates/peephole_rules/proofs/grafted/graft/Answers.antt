@@ -1,7 +1,7 @@
 use Rattle.std.proofs.Common.{map, refl, sym, ap, subst, ◌∙◌, ◌<◌, ◌^◌}
 use Rattle.std.specs.List.{All}
 use Rattle.peephole_lang.specs.Node.{children_of}
-use Rattle.peephole_rules.specs.Grafted.{nodes_in, term_at, raised}
+use Rattle.peephole_rules.specs.Grafted.{expression_nodes, term_at, raised}
 use Rattle.peephole_rules.specs.Replacement.{term_by, more}
 use Rattle.peephole_rules.proofs.GraftLemmas.{IsGrafted, written_below, written_few, written_fits, raised_small, copied_below, copied, written}
 use Rattle.peephole_rules.proofs.grafted.graft.Goals as goal
@@ -33,11 +33,11 @@ add-requires c = copied_below c.args.replacement c.args.nodes.now c.args.at (ter
 pub loop-i-preserved : goal.loop-i-preserved
 loop-i-preserved c = elim c.if-i-at.branch [
   | then-i-at+in_ok-write w ↦ subst (λ e. IsGrafted c.args.at (more c.args.replacement) (term_by c.args.replacement (term_at c.args.nodes.now c.args.at))
-      (nodes_in c.args.nodes.now) (nodes_in e) _) (sym w.expr-is) (written c.args.replacement c.args.nodes.now c.args.at (term_by c.args.replacement (term_at c.args.nodes.now c.args.at))
+      (expression_nodes c.args.nodes.now) (expression_nodes e) _) (sym w.expr-is) (written c.args.replacement c.args.nodes.now c.args.at (term_by c.args.replacement (term_at c.args.nodes.now c.args.at))
       c.loop-i.expr w.write.new.expr c.loop-i.i w.index-nodes-i.result w.if-i-at.true
       (record { inside = c.loop-i-test.true; is = w.index-nodes-i.is; below = c.requires.below }) refl w.in_ok-write.ensures.nodes c.loop-i.invariant)
   | else-i-at+in_ok-raised_copy+in_ok-add w ↦ subst (λ e. IsGrafted c.args.at (more c.args.replacement) (term_by c.args.replacement (term_at c.args.nodes.now c.args.at))
-      (nodes_in c.args.nodes.now) (nodes_in e) _) (sym w.expr-is) (copied c.args.replacement c.args.nodes.now c.args.at (term_by c.args.replacement (term_at c.args.nodes.now c.args.at))
+      (expression_nodes c.args.nodes.now) (expression_nodes e) _) (sym w.expr-is) (copied c.args.replacement c.args.nodes.now c.args.at (term_by c.args.replacement (term_at c.args.nodes.now c.args.at))
       c.loop-i.expr w.add.new.self c.loop-i.i w.index-nodes-i-else-i-at.result w.in_ok-raised_copy.field-0
       (record { inside = c.loop-i-test.true; is = w.index-nodes-i-else-i-at.is; below = c.requires.below }) w.if-i-at.false w.in_ok-raised_copy.ensures.head
       (w.in_ok-raised_copy.ensures.children ∙ ap (λ by. map (raised c.args.at by) (children_of w.index-nodes-i-else-i-at.result)) c.more-by.ensures)
