@@ -1,6 +1,6 @@
 -- A rule at a node of an expression: the new term, and that it may stand for the old one.
 use Rattle.std.proofs.Common.{◌≡◌, ℕ, ◌-◌, ◌<◌, ◌≤◌, List, length, Option, Some, None, refl, sym, ap, ◌∙◌, subst}
-use Rattle.std.specs.Prelude.{option_map}
+use Rattle.std.specs.Prelude.{false, option_map, is_some}
 use Rattle.std.proofs.lemmas.Bool.{lt-ltb, le-ltb}
 use Rattle.mutate_base.specs.declared.types.PrimitiveTypeInfo.{PrimitiveTypeInfo}
 use Rattle.peephole_lang.specs.declared.lang.Head.{Head}
@@ -12,7 +12,7 @@ use Rattle.peephole_rules.specs.declared.rule.Rule.{Rule}
 use Rattle.peephole_rules.specs.declared.replacement.Replacement.{Replacement}
 use Rattle.peephole_rules.specs.Rewriting.{rewrite, rewrite_at}
 use Rattle.peephole_rules.specs.Grafted.{expression_nodes, term_at, grafted}
-use Rattle.peephole_rules.specs.Replacement.{term_by, IsAnswer}
+use Rattle.peephole_rules.specs.Replacement.{term_by, CanReplace, IsAnswer}
 use Rattle.peephole_rules.specs.Laws.{RulesKeepMeaning}
 use Rattle.peephole_rules.proofs.StandingLemmas.{with_stands}
 
@@ -24,13 +24,13 @@ module _ (locals globals : List PrimitiveTypeInfo) (r : Rule) (nodes : List Lang
   inside : at < length nodes → rewrite_at locals globals r nodes at ≡ rewrite locals globals r (term_at nodes at)
   inside l = rw (lt-ltb at (length nodes) l) refl
 
-  pub made : (p : Replacement) (new : List Lang) → at < length nodes → IsAnswer (Some p) nodes at (rewrite locals globals r (term_at nodes at)) →
+  pub made : (p : Replacement) (new : List Lang) → at < length nodes → IsAnswer (Some p) (term_at nodes at) (rewrite locals globals r (term_at nodes at)) →
       term_in new ≡ grafted nodes at (term_by p (term_at nodes at)) →
       Some (term_in new) ≡ option_map (grafted nodes at) (rewrite_at locals globals r nodes at)
   made p new l a e = ap (λ t. Some t) e ∙ ap (option_map (grafted nodes at)) (a.term ∙ sym (inside l))
 
   pub stands : RulesKeepMeaning → IsCongruence → (p : Replacement) (new : List Lang) →
-      IsAnswer (Some p) nodes at (rewrite locals globals r (term_at nodes at)) → term_in new ≡ grafted nodes at (term_by p (term_at nodes at)) →
+      IsAnswer (Some p) (term_at nodes at) (rewrite locals globals r (term_at nodes at)) → term_in new ≡ grafted nodes at (term_by p (term_at nodes at)) →
       StandsFor locals globals (term_in nodes) (term_in new)
   stands keep laws p new a e =
       let u = term_by p (term_at nodes at) in
@@ -42,8 +42,26 @@ pub over : (lent nodes : List Lang) (at : ℕ) (p : Replacement) (new : List Lan
 over lent nodes at p new same e = subst (λ (ns : List Lang). term_in new ≡ grafted ns at (term_by p (term_at ns at))) same e
 
 pub some_answer : (nodes : List Lang) (at : ℕ) (u : Option (Term Head)) (o : Option Replacement) (p : Replacement) → o ≡ Some p →
-    IsAnswer o nodes at u → IsAnswer (Some p) nodes at u
-some_answer nodes at u o p e a = subst (λ v. IsAnswer v nodes at u) e a
+    IsAnswer o (term_at nodes at) u → IsAnswer (Some p) (term_at nodes at) u
+some_answer nodes at u o p e a = subst (λ v. IsAnswer v (term_at nodes at) u) e a
+
+pub fits : (lent nodes : List Lang) (at : ℕ) (u : Option (Term Head)) (p : Replacement) → lent ≡ nodes → IsAnswer (Some p) (term_at nodes at) u →
+    CanReplace p (term_at lent at)
+fits lent nodes at u p same a = subst (λ (ns : List Lang). CanReplace p (term_at ns at)) (sym same) a.fits
 
 pub within : (lent nodes : List Lang) (at : ℕ) → lent ≡ nodes → at < length lent → at < length nodes
 within lent nodes at same l = subst (λ (ns : List Lang). at < length ns) same l
+
+-- whether there is an answer
+pub is_answered : (locals globals : List PrimitiveTypeInfo) (r : Rule) (nodes : List Lang) (at : ℕ) (o : Option Replacement) → at < length nodes →
+    IsAnswer o (term_at nodes at) (rewrite locals globals r (term_at nodes at)) → is_some o ≡ is_some (rewrite_at locals globals r nodes at)
+is_answered locals globals r nodes at o l a =
+    mapped (λ p. term_by p (term_at nodes at)) o ∙ ap (λ (v : Option (Term Head)). is_some v) (a.term ∙ sym (inside locals globals r nodes at l))
+  where
+    mapped : {A B : Type 0} (f : A → B) (o : Option A) → is_some o ≡ is_some (option_map f o)
+    mapped f None = refl
+    mapped f (Some x) = refl
+
+pub not_answered : (locals globals : List PrimitiveTypeInfo) (r : Rule) (nodes : List Lang) (at : ℕ) → length nodes ≤ at →
+    false ≡ is_some (rewrite_at locals globals r nodes at)
+not_answered locals globals r nodes at l = rw (le-ltb at (length nodes) l) refl

@@ -5,6 +5,8 @@ use Rattle.std.specs.Int.{cast_signed, cast_unsigned}
 use Rattle.std.proofs.lemmas.Bool.{eqb-true}
 use Rattle.mutate_base.specs.declared.types.PrimitiveTypeInfo.{PrimitiveTypeInfo}
 use Rattle.peephole_lang.specs.declared.lang.Head.{Head}
+use Rattle.peephole_nodes.specs.declared.payload.Payload.{Payload}
+use Rattle.peephole_nodes.specs.declared.payload.Payload.TheVariants as payload
 use Rattle.peephole_lang.specs.Term.{Term, Terms, absent, node, no_terms, ◌▸◌}
 use Rattle.peephole_machine.specs.declared.integer.IntegerType.{IntegerType}
 use Rattle.peephole_machine.specs.declared.integer.IntegerType.TheVariants as integer
@@ -18,9 +20,10 @@ use Rattle.peephole_terms.specs.Typing.{joined_types, types_of, types_in}
 use Rattle.peephole_terms.specs.Meaning.{meaning_of, meaning}
 use Rattle.peephole_terms.specs.Agrees.{Agree, LeavesItsTypes, IsCongruence}
 use Rattle.peephole_terms.specs.Laws.{MeanByTheirRows}
-use Rattle.peephole_rules.specs.Operator.{opcode_byte, is_in, within_width, or_number, constant_number, own_number, numbered}
-use Rattle.peephole_rules.specs.Rewriting.{numbers_in, fold}
-use Rattle.peephole_rules.specs.Laws.{KeepsMeaning}
+use Rattle.peephole_rules.specs.Operator.{opcode_byte, is_in, within_width, number_in, constant_number, numbered}
+use Rattle.peephole_rules.specs.ValueTypes.{integer_of}
+use Rattle.peephole_rules.specs.Rewriting.{numbers_of_types, fold_over, fold}
+use Rattle.peephole_rules.specs.Laws.{AgreeAlways, KeepsMeaning}
 use Rattle.peephole_rules.proofs.NumberLemmas.{cast_back}
 use Rattle.peephole_rules.proofs.ByteLemmas.{AllOf, each, with_immediate}
 use Rattle.peephole_rules.proofs.NeutralLemmas.{constant_types, constant_means}
@@ -60,10 +63,46 @@ bare_is byte f e = go (byte == 0x01) (byte == 0x1a) (byte == 0x1b) refl refl ref
 
 -- ---- constants one after another
 
+abbrev or_number : Option ℕ → Option ℕ → Option ℕ
+or_number (Some n) o = Some n
+or_number None o = o
+
+-- the number of a constant of either type
+abbrev own_number : Term Head → Option ℕ
+own_number x = or_number (constant_number integer.I32 x) (constant_number integer.I64 x)
+
+-- the numbers of constants, each of either type
+abbrev numbers_in : Terms Head → Option (List ℕ)
+numbers_in no_terms = Some []
+numbers_in (t ▸ ts) = option_and_then (λ n. option_map (λ ns. n ∷ ns) (numbers_in ts)) (own_number t)
+
+own_from : (t : IntegerType) (x : Term Head) (n : ℕ) → constant_number t x ≡ Some n → own_number x ≡ Some n
+own_from integer.I32 x n e = ap (λ o. or_number o (constant_number integer.I64 x)) e
+own_from integer.I64 absent n e = absurd cc
+own_from integer.I64 (node h (y ▸ ys)) n e = absurd cc
+own_from integer.I64 (node h no_terms) n e = go h.place h.payload e
+  where
+    go : (place : ℕ) (p : Payload) → number_in integer.I64 place p ≡ Some n →
+        or_number (number_in integer.I32 place p) (number_in integer.I64 place p) ≡ Some n
+    go place (payload.I64 z) e = e
+    go place p e = absurd cc
+
+-- constants of these types are constants of either type
+typed_are : (us : List PrimitiveTypeInfo) (kids : Terms Head) (ns : List ℕ) → numbers_of_types us kids ≡ Some ns → numbers_in kids ≡ Some ns
+typed_are [] no_terms ns e = e
+typed_are [] (x ▸ xs) ns e = absurd cc
+typed_are (u ∷ us) no_terms ns e = absurd cc
+typed_are (u ∷ us) (x ▸ xs) ns e =
+    let (n, a, b) = and_then_some (λ n. option_map (λ ns. n ∷ ns) (numbers_of_types us xs)) (option_and_then (λ t. constant_number t x) (integer_of u)) ns e in
+    let (ms, c, d) = map_some (λ ns. n ∷ ns) (numbers_of_types us xs) ns b in
+    let (t, f, g) = and_then_some (λ t. constant_number t x) (integer_of u) n a in
+    rw (own_from t x n g, typed_are us xs ms c) (ap (λ (x : List ℕ). Some x) d)
+
 own_is : (x : Term Head) (n : ℕ) → own_number x ≡ Some n → (t : IntegerType) × (constant_number t x ≡ Some n)
 own_is x n e = go (constant_number integer.I32 x) refl e
   where
-    go : (o : Option ℕ) → constant_number integer.I32 x ≡ o → or_number o (constant_number integer.I64 x) ≡ Some n → (t : IntegerType) × (constant_number t x ≡ Some n)
+    go : (o : Option ℕ) → constant_number integer.I32 x ≡ o → or_number o (constant_number integer.I64 x) ≡ Some n → (t : IntegerType) ×
+        (constant_number t x ≡ Some n)
     go (Some m) k f = (integer.I32, k ∙ f)
     go None k f = (integer.I64, f)
 
@@ -97,14 +136,14 @@ module _ (rows : MeanByTheirRows) (sound : LeavesItsTypes) (locals globals : Lis
 -- ---- fold
 
 module _ (rows : MeanByTheirRows) (sound : LeavesItsTypes) (laws : IsCongruence) where
-  pub fold_keeps : KeepsMeaning fold
-  fold_keeps (node h kids) u e locals globals list typed d us vs =
-      let (f, a, b) = and_then_some (λ f. option_map (numbered f.result) (option_and_then f.value (numbers_in kids)))
+  fold_over_keeps : (h : Head) (kids : Terms Head) (u : Term Head) → fold_over h kids ≡ Some u → AgreeAlways (node h kids) u
+  fold_over_keeps h kids u e locals globals list typed d us vs =
+      let (f, a, b) = and_then_some (λ f. option_map (numbered f.result) (option_and_then f.value (numbers_of_types f.operands kids)))
       (option_and_then bare_operator (opcode_byte h)) u e in
       let (byte, is, op) = and_then_some bare_operator (opcode_byte h) f a in
-      let (n, value, made) = map_some (numbered f.result) (option_and_then f.value (numbers_in kids)) u b in
-      let (ns, numbers, gives) = and_then_some f.value (numbers_in kids) n value in
-      let k = numbers_left rows sound locals globals kids ns numbers in
+      let (n, value, made) = map_some (numbered f.result) (option_and_then f.value (numbers_of_types f.operands kids)) u b in
+      let (ns, numbers, gives) = and_then_some f.value (numbers_of_types f.operands kids) n value in
+      let k = numbers_left rows sound locals globals kids ns (typed_are f.operands kids ns numbers) in
       let none = not_among with_immediate byte f (refl, (refl, (refl, (refl, (refl, (refl, (refl, (refl, tt)))))))) op in
       let hd = own_does rows sound locals globals list h kids byte (operation f) is none (bare_is byte f op) typed in
       let row : row_types locals globals (operation f) (types k.values) ≡ Some list =
@@ -120,4 +159,10 @@ module _ (rows : MeanByTheirRows) (sound : LeavesItsTypes) (laws : IsCongruence)
       ∙ (ap (λ o. given f.result o s) (ap f.value k.numbers ∙ gives)
       ∙ (ap (λ (m : ℕ). Ends (record { type = type_of f.result; number = m } ∷ []) s) (sym (cast_back (width_of f.result) n))
       ∙ sym (constant_means rows sound locals globals vs f.result z s)))))))
-  fold_keeps absent u e locals globals list typed d us vs = absurd cc
+
+  pub fold_keeps : KeepsMeaning fold
+  fold_keeps absent u e = absurd cc
+  fold_keeps (node h no_terms) u e = absurd cc
+  fold_keeps (node h (x ▸ no_terms)) u e = fold_over_keeps h (x ▸ no_terms) u e
+  fold_keeps (node h (x ▸ y ▸ no_terms)) u e = fold_over_keeps h (x ▸ y ▸ no_terms) u e
+  fold_keeps (node h (x ▸ y ▸ z ▸ ts)) u e = absurd cc

@@ -1,9 +1,8 @@
 -- The nodes of an expression one by one, with others in the place of one: their terms are the grafted ones.
 use Rattle.std.proofs.Common.{◌≡◌, ℕ, suc, ◌+◌, ◌<◌, ◌≤◌, ◌^◌, Bool, true, false, List, [], ◌∷◌, ◌++◌, length, get_or, map, inl, inr, refl, sym, ap, ap₂, ◌∙◌, subst, arith}
-use Rattle.std.specs.Prelude.{◌==◌, ◌≢◌, nat_lt, reverse, All, if◌then◌else◌}
+use Rattle.std.specs.Prelude.{◌==◌, ◌≢◌, nat_lt, reverse, All, IsTrue, if◌then◌else◌}
 use Rattle.std.proofs.lemmas.Bool.{eqb-true, ltb-true, ltb-false, eq-eqb, ne_eqb, lt-ltb, le-ltb, cases_eq}
-use Rattle.std.proofs.lemmas.List.{map-append, reverse-append, length-reverse, length-map}
-use Rattle.std.proofs.lemmas.Option.{slice_get_read}
+use Rattle.std.proofs.lemmas.List.{get_or_default, map-append, reverse-append, length-reverse, length-map}
 use Rattle.std.proofs.lemmas.List.Elements.{All-head, All-tail, All-weaker, All-map}
 use Rattle.peephole_lang.specs.declared.lang.Lang.{Lang}
 use Rattle.peephole_lang.specs.declared.lang.Head.{Head}
@@ -11,10 +10,12 @@ use Rattle.peephole_lang.specs.Node.{head_of, children_of, node_of}
 use Rattle.peephole_lang.specs.Term.{Term, node, ◌▸◌, Node, pick, tree_at, AreBelow}
 use Rattle.peephole_lang.specs.laws.PlaceLemmas.{IsAt, at_place, children_in, tree_is}
 use Rattle.peephole_lang.specs.laws.PlaceLemmas.IsAt.{last, before}
+use Rattle.peephole_nodes.specs.Payload.{is_writable}
+use Rattle.peephole_graphs.specs.Layout.{AreWritable}
 use Rattle.peephole_rules.specs.Grafted.{expression_nodes, tree_with, raised, raised_node}
-use Rattle.peephole_rules.specs.Replacement.{term_by, more, CanReplace, CanReplaceAt, Replaces}
+use Rattle.peephole_rules.specs.Replacement.{term_by, more, CanReplace, CanBeWritten, CanAllBeWritten, Replaces}
 use Rattle.peephole_rules.specs.declared.replacement.Replacement.{Replacement}
-use Rattle.peephole_rules.specs.declared.replacement.Replacement.TheVariants.{Swap, Turn, Constant, Twice, Unfold, UseGlobal, Nop}
+use Rattle.peephole_rules.specs.declared.replacement.Replacement.TheVariants.{Swap, Turn, GroupLeft, GroupRight, Constant, Complements, Twice, First, FirstWith, FirstBy, TurnSelect, Unfold, UseGlobal, Nop, Empty, Number}
 
 -- ---- one node more
 
@@ -172,6 +173,14 @@ module _ {H : Type 0} (at by : ℕ) (u : Term H) (old : List (Node H)) (is_below
             ∙ g.terms j m
       ]
 
+  -- the node's term is the same over the new nodes before it
+  pub whole_here : (new : List (Node H)) (n : Node H) → IsAt n old at → IsGrafted at by u old new at →
+      node n.head (pick (tree_at new) n.children) ≡ tree_at old at
+  whole_here new n h g = ap (node n.head) (pick_alike (tree_at new) (tree_at old) at n.children (children_in h is_below) same) ∙ sym (tree_is h is_below)
+    where
+      same : (j : ℕ) → j < at → tree_at new j ≡ tree_at old j
+      same j l = ap (tree_at new) (sym (below_stays at by j l)) ∙ (g.terms j l ∙ with_below at u old is_below j l)
+
   pub grafted_here : (new after : List (Node H)) (n : Node H) → IsAt n old at → IsGrafted at by u old new at → length after ≡ length new + suc by →
       ((j : ℕ) → j < length new → tree_at after j ≡ tree_at new j) →
       (node n.head (pick (tree_at new) n.children) ≡ tree_at old at → tree_at after (length new + by) ≡ u) →
@@ -185,11 +194,8 @@ module _ {H : Type 0} (at by : ℕ) (u : Term H) (old : List (Node H)) (is_below
       stands : length new ≡ at
       stands = g.count ∙ rw (le-ltb at at (omega arith)) refl
 
-      same : (j : ℕ) → j < at → tree_at new j ≡ tree_at old j
-      same j l = ap (tree_at new) (sym (below_stays at by j l)) ∙ (g.terms j l ∙ with_below at u old is_below j l)
-
       whole : node n.head (pick (tree_at new) n.children) ≡ tree_at old at
-      whole = ap (node n.head) (pick_alike (tree_at new) (tree_at old) at n.children (children_in h is_below) same) ∙ sym (tree_is h is_below)
+      whole = whole_here new n h g
 
       own : tree_at after (raised at by at) ≡ tree_with at u old at
       own = ap (tree_at after) (above_rises at by at (omega arith) ∙ ap (λ k. k + by) (sym stands)) ∙ (root whole ∙ sym (with_here at u h refl))
@@ -205,14 +211,23 @@ module _ {H : Type 0} (at by : ℕ) (u : Term H) (old : List (Node H)) (is_below
 
 -- ---- the steps of the loop
 
-few_more : (r : Replacement) → more r ≤ 2
+few_more : (r : Replacement) → more r ≤ 3
 few_more Swap = omega arith
 few_more (Turn byte) = omega arith
+few_more GroupLeft = omega arith
+few_more GroupRight = omega arith
 few_more (Constant byte t number) = omega arith
+few_more (Complements byte t number) = omega arith
 few_more (Twice byte) = omega arith
+few_more First = omega arith
+few_more (FirstWith byte t number) = omega arith
+few_more (FirstBy byte) = omega arith
+few_more TurnSelect = omega arith
 few_more (Unfold t) = omega arith
 few_more (UseGlobal t) = omega arith
 few_more Nop = omega arith
+few_more Empty = omega arith
+few_more (Number t number) = omega arith
 
 pub count_of : (nodes : List Lang) → length (expression_nodes nodes) ≡ length nodes
 count_of nodes = length-reverse (map node_of nodes) ∙ length-map nodes node_of
@@ -238,21 +253,26 @@ module _ (r : Replacement) (nodes : List Lang) (at : ℕ) (u : Term Head) where
   stands_here expr i e g = sym (count_of expr) ∙ ((now_here expr i e g).count ∙ rw (le-ltb at at (omega arith)) refl)
 
   -- the replaced node's children stand before it
-  pub written_below : (expr : List Lang) (i : ℕ) (l : Lang) → i ≡ at → IsOld nodes i l → IsGrafted at (more r) u (expression_nodes nodes) (expression_nodes expr) i →
+  pub written_below : (expr : List Lang) (i : ℕ) (l : Lang) → i ≡ at → IsOld nodes i l → IsGrafted at (more r) u (expression_nodes nodes)
+      (expression_nodes expr) i →
       All (λ c. c < length expr) (children_of l)
   written_below expr i l e h g = subst (λ m. All (λ c. c < m) (children_of l)) (sym (stands_here expr i e g))
       (children_in (old_at nodes at l (old_here i l e h)) h.below)
 
-  pub written_few : (expr : List Lang) (i : ℕ) → i ≡ at → i < length nodes → length nodes + 2 ≤ 2 ^ 32 →
-      IsGrafted at (more r) u (expression_nodes nodes) (expression_nodes expr) i → length expr + 3 ≤ 2 ^ 32
+  pub written_few : (expr : List Lang) (i : ℕ) → i ≡ at → i < length nodes → length nodes + 3 ≤ 2 ^ 32 →
+      IsGrafted at (more r) u (expression_nodes nodes) (expression_nodes expr) i → length expr + 4 ≤ 2 ^ 32
   written_few expr i e l few g = let n = stands_here expr i e g in omega arith
 
-  pub written_fits : (i : ℕ) (l : Lang) → i ≡ at → IsOld nodes i l → CanReplaceAt r nodes at → CanReplace r (length (children_of l))
-  written_fits i l e h f =
-      let k = old_here i l e h in f l (slice_get_read nodes (length nodes) at l refl k.inside k.is)
+  -- over the new nodes its term is the old one
+  pub written_fits : (expr : List Lang) (i : ℕ) (l : Lang) → i ≡ at → IsOld nodes i l → CanReplace r (tree_at (expression_nodes nodes) at) →
+      IsGrafted at (more r) u (expression_nodes nodes) (expression_nodes expr) i →
+      CanReplace r (node (head_of l) (pick (tree_at (expression_nodes expr)) (children_of l)))
+  written_fits expr i l e h f g = subst (CanReplace r)
+      (sym (whole_here at (more r) u (expression_nodes nodes) h.below (expression_nodes expr) (node_of l) (old_at nodes at l (old_here i l e h))
+      (now_here expr i e g))) f
 
   -- raised ids are numbers of 32 bits
-  pub raised_small : (i : ℕ) (l : Lang) → IsOld nodes i l → length nodes + 2 ≤ 2 ^ 32 →
+  pub raised_small : (i : ℕ) (l : Lang) → IsOld nodes i l → length nodes + 3 ≤ 2 ^ 32 →
       All (λ c. raised at (more r) c < 2 ^ 32) (children_of l)
   raised_small i l h few = All-weaker (λ c. c < i) (λ c. raised at (more r) c < 2 ^ 32)
       (λ c m. let a = raised_below at (more r) c in let b = few_more r in let n = h.inside in omega arith)
@@ -266,7 +286,8 @@ module _ (r : Replacement) (nodes : List Lang) (at : ℕ) (u : Term Head) where
 
   pub copied : (expr after : List Lang) (i : ℕ) (l copy : Lang) → IsOld nodes i l → i ≢ at → head_of copy ≡ head_of l →
       children_of copy ≡ map (raised at (more r)) (children_of l) → after ≡ expr ++ copy ∷ [] →
-      IsGrafted at (more r) u (expression_nodes nodes) (expression_nodes expr) i → IsGrafted at (more r) u (expression_nodes nodes) (expression_nodes after) (i + 1)
+      IsGrafted at (more r) u (expression_nodes nodes) (expression_nodes expr) i → IsGrafted at (more r) u (expression_nodes nodes)
+      (expression_nodes after) (i + 1)
   copied expr after i l copy h d e k added g =
       let made : Head → List ℕ → Node Head = λ x is. record { head = x; children = is } in
       let new : expression_nodes after ≡ raised_node at (more r) (node_of l) ∷ expression_nodes expr =
@@ -278,9 +299,29 @@ module _ (r : Replacement) (nodes : List Lang) (at : ℕ) (u : Term Head) where
 
   pub written : (expr after : List Lang) (i : ℕ) (l : Lang) → i ≡ at → IsOld nodes i l → u ≡ term_by r (tree_at (expression_nodes nodes) at) →
       Replaces r (node_of l) (expression_nodes expr) (expression_nodes after) →
-      IsGrafted at (more r) u (expression_nodes nodes) (expression_nodes expr) i → IsGrafted at (more r) u (expression_nodes nodes) (expression_nodes after) (i + 1)
+      IsGrafted at (more r) u (expression_nodes nodes) (expression_nodes expr) i → IsGrafted at (more r) u (expression_nodes nodes)
+      (expression_nodes after) (i + 1)
   written expr after i l e h is p g =
       let next : suc at ≡ i + 1 = omega arith in
       subst (λ m. IsGrafted at (more r) u (expression_nodes nodes) (expression_nodes after) m) next
-      (grafted_here at (more r) u (expression_nodes nodes) h.below (expression_nodes expr) (expression_nodes after) (node_of l) (old_at nodes at l (old_here i l e h))
+      (grafted_here at (more r) u (expression_nodes nodes) h.below (expression_nodes expr) (expression_nodes after) (node_of l)
+      (old_at nodes at l (old_here i l e h))
       (now_here expr i e g) p.count p.kept (λ k. p.root ∙ (ap (term_by r) k ∙ sym is)))
+
+-- ---- nodes that can be written
+
+pub at_writable : {n : Node Head} {ns : List (Node Head)} {i : ℕ} → IsAt n ns i → CanAllBeWritten ns → CanBeWritten n
+at_writable (last l) h = h.0
+at_writable (before l k) h = at_writable k h.1
+
+pub from_nodes : (expr : List Lang) → CanAllBeWritten (expression_nodes expr) → AreWritable expr
+from_nodes expr h = λ i d l. at_writable (at_place head_of children_of expr i (get_or expr i d) l (get_or_default expr i d (get_or expr i d) l)) h
+
+pub old_writable : (nodes : List Lang) (i : ℕ) (l : Lang) → IsOld nodes i l → AreWritable nodes → CanBeWritten (node_of l)
+old_writable nodes i l h w = subst (λ (m : Lang). CanBeWritten (node_of m)) (sym h.is) (w i l h.inside)
+
+pub copied_writable : (expr after : List Lang) (l copy : Lang) → head_of copy ≡ head_of l → after ≡ expr ++ copy ∷ [] → CanBeWritten (node_of l) →
+    CanAllBeWritten (expression_nodes expr) → CanAllBeWritten (expression_nodes after)
+copied_writable expr after l copy d added w h =
+    subst CanAllBeWritten (sym (ap expression_nodes added ∙ nodes_in_more expr copy))
+    (subst (λ (x : Head). IsTrue (is_writable x.payload)) (sym d) w, h)

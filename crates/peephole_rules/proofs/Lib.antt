@@ -21,7 +21,8 @@ pub mod GraftLemmas
 pub mod OpcodeLemmas
 pub mod RaisingLemmas
 pub mod FlagLemmas
-pub mod AnswerLemmas
 pub mod TurnedLemmas
+pub mod ReadingLemmas
+pub mod ChoiceLemmas
 pub mod ApplyLemmas
 pub mod WrittenLemmas

@@ -16,12 +16,17 @@ use Rattle.peephole_rules.specs.declared.rule.Rule.{Rule}
 use Rattle.peephole_rules.specs.declared.rule.Rule.TheVariants as rule
 use Rattle.peephole_rules.specs.Operator.{constant_term, constant_head, one, unfold_head}
 use Rattle.peephole_rules.specs.ValueTypes.{type_of_value}
-use Rattle.peephole_rules.specs.Rewriting.{add_zero, sub_zero, mul_one, or_zero, xor_zero, shift_by_zero, or_self, and_self, by_way_of_global, as_a_sum, type_of_constant, unfold_constant, by_its_type, rewrite}
+use Rattle.peephole_rules.specs.Rewriting.{add_zero, sub_zero, mul_one, or_zero, xor_zero, shift_by_zero, or_self, and_self, by_way_of_global, as_a_sum, type_of_constant, unfold_constant, by_its_type, rewrite, and_ones, double_complement}
 use Rattle.peephole_rules.specs.Laws.{AgreeOfType, KeepsMeaningOfType, KeepsMeaningWhereItAnswers}
 use Rattle.peephole_rules.proofs.ValueTypeLemmas.{value_typed}
 use Rattle.peephole_rules.proofs.OrderLemmas.{some_answer_if, commute_keeps, turn_comparison_keeps}
 use Rattle.peephole_rules.proofs.NeutralLemmas.{constant_types, add_zero_keeps, sub_zero_keeps, mul_one_keeps, or_zero_keeps, xor_zero_keeps, shift_by_zero_keeps}
 use Rattle.peephole_rules.proofs.TwiceLemmas.{or_self_keeps, and_self_keeps}
+use Rattle.peephole_rules.proofs.GroupLemmas.{associate_left_keeps, associate_right_keeps}
+use Rattle.peephole_rules.proofs.ConstantLemmas.{test_to_comparison_keeps, comparison_to_test_keeps, drop_add_zero_keeps, drop_sub_zero_keeps, drop_mul_one_keeps, drop_or_zero_keeps, drop_xor_zero_keeps, drop_shift_by_zero_keeps, and_ones_keeps, drop_and_ones_keeps, double_complement_keeps, difference_to_sum_keeps, sum_to_difference_keeps, shift_to_product_keeps, product_to_shift_keeps}
+use Rattle.peephole_rules.proofs.SelectLemmas.{turn_select_keeps}
+use Rattle.peephole_rules.proofs.TrapLemmas.{forget_keeps}
+use Rattle.peephole_rules.proofs.FoldLemmas.{fold_keeps}
 use Rattle.peephole_rules.proofs.WayLemmas.{by_way_of_global_keeps, as_a_sum_keeps, with_nop_keeps}
 
 module _ (rows : MeanByTheirRows) (sound : LeavesItsTypes) (laws : IsCongruence) where
@@ -76,14 +81,34 @@ module _ (rows : MeanByTheirRows) (sound : LeavesItsTypes) (laws : IsCongruence)
       StandsFor locals globals x u
   rewrite_keeps locals globals rule.Commute x u e = commute_keeps rows sound x u e locals globals
   rewrite_keeps locals globals rule.TurnComparison x u e = turn_comparison_keeps rows sound x u e locals globals
+  rewrite_keeps locals globals rule.AssociateLeft x u e = associate_left_keeps rows sound laws x u e locals globals
+  rewrite_keeps locals globals rule.AssociateRight x u e = associate_right_keeps rows sound laws x u e locals globals
   rewrite_keeps locals globals rule.AddZero x u e = by_type add_zero (add_zero_keeps rows sound laws) locals globals x u e
   rewrite_keeps locals globals rule.SubZero x u e = by_type sub_zero (sub_zero_keeps rows sound laws) locals globals x u e
   rewrite_keeps locals globals rule.MulOne x u e = by_type mul_one (mul_one_keeps rows sound laws) locals globals x u e
   rewrite_keeps locals globals rule.OrZero x u e = by_type or_zero (or_zero_keeps rows sound laws) locals globals x u e
   rewrite_keeps locals globals rule.XorZero x u e = by_type xor_zero (xor_zero_keeps rows sound laws) locals globals x u e
+  rewrite_keeps locals globals rule.AndOnes x u e = by_type and_ones (and_ones_keeps rows sound laws) locals globals x u e
   rewrite_keeps locals globals rule.ShiftByZero x u e = by_type shift_by_zero (shift_by_zero_keeps rows sound laws) locals globals x u e
   rewrite_keeps locals globals rule.OrSelf x u e = of_its_type locals globals or_self (or_self_keeps rows sound laws) x u e
   rewrite_keeps locals globals rule.AndSelf x u e = of_its_type locals globals and_self (and_self_keeps rows sound laws) x u e
+  rewrite_keeps locals globals rule.DoubleComplement x u e = by_type double_complement (double_complement_keeps rows sound laws) locals globals x u e
+  rewrite_keeps locals globals rule.ShiftToProduct x u e = shift_to_product_keeps rows sound laws x u e locals globals
+  rewrite_keeps locals globals rule.ProductToShift x u e = product_to_shift_keeps rows sound laws x u e locals globals
+  rewrite_keeps locals globals rule.DifferenceToSum x u e = difference_to_sum_keeps rows sound laws x u e locals globals
+  rewrite_keeps locals globals rule.SumToDifference x u e = sum_to_difference_keeps rows sound laws x u e locals globals
+  rewrite_keeps locals globals rule.TestToComparison x u e = test_to_comparison_keeps rows sound laws x u e locals globals
+  rewrite_keeps locals globals rule.ComparisonToTest x u e = comparison_to_test_keeps rows sound laws x u e locals globals
+  rewrite_keeps locals globals rule.TurnSelect x u e = turn_select_keeps rows sound laws x u e locals globals
   rewrite_keeps locals globals rule.Unfold x u e = unfold_stands locals globals x u e
   rewrite_keeps locals globals rule.ThroughGlobal x u e = by_type by_way_of_global (by_way_of_global_keeps rows sound laws) locals globals x u e
   rewrite_keeps locals globals rule.WithNop x u e = subst (λ y. StandsFor locals globals x y) (cc) (with_nop_keeps rows sound laws x locals globals)
+  rewrite_keeps locals globals rule.Fold x u e = fold_keeps rows sound laws x u e locals globals
+  rewrite_keeps locals globals rule.DropAddZero x u e = drop_add_zero_keeps rows sound laws x u e locals globals
+  rewrite_keeps locals globals rule.DropSubZero x u e = drop_sub_zero_keeps rows sound laws x u e locals globals
+  rewrite_keeps locals globals rule.DropMulOne x u e = drop_mul_one_keeps rows sound laws x u e locals globals
+  rewrite_keeps locals globals rule.DropOrZero x u e = drop_or_zero_keeps rows sound laws x u e locals globals
+  rewrite_keeps locals globals rule.DropXorZero x u e = drop_xor_zero_keeps rows sound laws x u e locals globals
+  rewrite_keeps locals globals rule.DropAndOnes x u e = drop_and_ones_keeps rows sound laws x u e locals globals
+  rewrite_keeps locals globals rule.DropShiftByZero x u e = drop_shift_by_zero_keeps rows sound laws x u e locals globals
+  rewrite_keeps locals globals rule.Forget x u e = forget_keeps rows sound laws x u e locals globals

@@ -1,6 +1,6 @@
 -- What evaluating a term that has types may do besides leaving values, as far as its opcodes tell: more than this it does not do
 -- (WebAssembly Core Specification 3.0, Execution, Instructions: which of the integer rows write a variable, and which trap).
-use Rattle.std.specs.Prelude.{ℕ, Bool, true, false, ◌||◌, List, [], ◌∷◌, Option, Some, None, get_or}
+use Rattle.std.specs.Prelude.{ℕ, Bool, true, false, ◌||◌, List, [], ◌∷◌, Option, Some, None}
 use Rattle.peephole_lang.specs.declared.lang.Head.{Head}
 use Rattle.peephole_lang.specs.Term.{Term, Terms, absent, node, no_terms, ◌▸◌}
 use Rattle.peephole_rules.specs.Operator.{opcode_byte, is_in, writers}
@@ -38,8 +38,3 @@ abbrev mutual
   pub any_may_trap : Terms Head → Bool
   any_may_trap no_terms = false
   any_may_trap (t ▸ ts) = may_trap t || any_may_trap ts
-
--- one of the flags at these places is up
-abbrev pub any_flag : List Bool → List ℕ → Bool
-any_flag flags [] = false
-any_flag flags (i ∷ is) = get_or flags i false || any_flag flags is

@@ -9,6 +9,10 @@ use Rattle.peephole_lang.specs.Term.{Term, absent, node, Node, nodes_of, pick, t
 abbrev pub expression_nodes : List Lang → List (Node Head)
 expression_nodes expr = nodes_of head_of children_of expr
 
+-- the term of a node over the terms at its children's places
+abbrev pub term_over : (ℕ → Term Head) → Lang → Term Head
+term_over at l = node (head_of l) (pick at (children_of l))
+
 -- the term of the node at a place
 abbrev pub term_at : List Lang → ℕ → Term Head
 term_at expr at = tree_at (expression_nodes expr) at

@@ -4,5 +4,8 @@ pub mod ValueTypes
 pub mod Rule
 pub mod Grafted
 pub mod Rewriting
+pub mod Flags
+pub mod Shape
 pub mod Replacement
+pub mod Choice
 pub mod Laws

@@ -153,14 +153,6 @@ abbrev pub constant_number : IntegerType → Term Head → Option ℕ
 constant_number t (node h no_terms) = number_in t h.place h.payload
 constant_number t x = None
 
-abbrev pub or_number : Option ℕ → Option ℕ → Option ℕ
-or_number (Some n) o = Some n
-or_number None o = o
-
--- that of a constant of either type
-abbrev pub own_number : Term Head → Option ℕ
-own_number x = or_number (constant_number integer.I32 x) (constant_number integer.I64 x)
-
 -- the constant whose value has the low bits of the number
 abbrev pub numbered : IntegerType → ℕ → Term Head
 numbered t n = constant_term t (cast_signed (width_of t) (within_width t n))

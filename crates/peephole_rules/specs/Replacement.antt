@@ -1,61 +1,106 @@
 -- The nodes that a rule puts in the place of one (this project).
-use Rattle.std.specs.Prelude.{◌≡◌, ℕ, suc, ◌+◌, ◌-◌, ◌<◌, ◌≤◌, pos, true, Option, Some, List, length, slice_get, option_map, IfSome, ⊤}
+use Rattle.std.specs.Prelude.{◌≡◌, ℕ, suc, ◌+◌, ◌-◌, ◌<◌, ◌≤◌, true, Option, List, [], ◌∷◌, length, option_map, IfSome, ⊤, IsTrue}
 use Rattle.peephole_nodes.specs.NumericShapes.{is_numeric}
+use Rattle.peephole_nodes.specs.Payload.{is_writable}
 use Rattle.peephole_lang.specs.declared.lang.Head.{Head}
-use Rattle.peephole_lang.specs.declared.lang.Lang.{Lang}
-use Rattle.peephole_lang.specs.Node.{children_of}
 use Rattle.peephole_lang.specs.Term.{Term, node, no_terms, ◌▸◌, Node, pick, tree_at}
 use Rattle.peephole_rules.specs.declared.replacement.Replacement.{Replacement}
-use Rattle.peephole_rules.specs.declared.replacement.Replacement.TheVariants.{Swap, Turn, Constant, Twice, Unfold, UseGlobal, Nop}
-use Rattle.peephole_rules.specs.Operator.{operator, constant_term, one, two, unfold_head, use_global_head}
+use Rattle.peephole_rules.specs.declared.replacement.Replacement.TheVariants.{Swap, Turn, GroupLeft, GroupRight, Constant, Complements, Twice, First, FirstWith, FirstBy, TurnSelect, Unfold, UseGlobal, Nop, Empty, Number}
+use Rattle.peephole_rules.specs.Operator.{operator, numbered, one, two, container, unfold_head, use_global_head}
 use Rattle.peephole_rules.specs.Rewriting.{with_nop}
-use Rattle.peephole_rules.specs.Grafted.{term_at}
 
 -- what they make of the term of the node
 abbrev pub term_by : Replacement → Term Head → Term Head
 term_by Swap (node h (x ▸ y ▸ no_terms)) = two h y x
 term_by (Turn byte) (node h (x ▸ y ▸ no_terms)) = two (operator byte) y x
-term_by (Constant byte t number) x = two (operator byte) x (constant_term t (pos number))
+term_by GroupLeft (node h (x ▸ node g (y ▸ z ▸ no_terms) ▸ no_terms)) = two h (two g x y) z
+term_by GroupRight (node h (node g (x ▸ y ▸ no_terms) ▸ z ▸ no_terms)) = two h x (two g y z)
+term_by (Constant byte t number) x = two (operator byte) x (numbered t number)
+term_by (Complements byte t number) x = two (operator byte) (two (operator byte) x (numbered t number)) (numbered t number)
 term_by (Twice byte) x = two (operator byte) x x
+term_by First (node h (x ▸ ts)) = x
+term_by (FirstWith byte t number) (node h (x ▸ ts)) = two (operator byte) x (numbered t number)
+term_by (FirstBy byte) (node h (x ▸ ts)) = one (operator byte) x
+term_by TurnSelect (node h (x ▸ y ▸ c ▸ no_terms)) = node h (y ▸ x ▸ one (operator 0x45) c ▸ no_terms)
 term_by (Unfold t) x = one (unfold_head t) x
 term_by (UseGlobal t) x = one (use_global_head t) x
 term_by Nop x = with_nop x
+term_by Empty x = container no_terms
+term_by (Number t number) x = numbered t number
 term_by r x = x
 
 -- how many nodes there are more
 abbrev pub more : Replacement → ℕ
 more Swap = 0
 more (Turn byte) = 0
+more GroupLeft = 1
+more GroupRight = 1
 more (Constant byte t number) = 2
+more (Complements byte t number) = 3
 more (Twice byte) = 1
+more First = 0
+more (FirstWith byte t number) = 1
+more (FirstBy byte) = 0
+more TurnSelect = 1
 more (Unfold t) = 1
 more (UseGlobal t) = 1
 more Nop = 2
+more Empty = 0
+more (Number t number) = 0
 
 -- a binary operator has the opcode
 pub record IsBinary (byte : ℕ) : Type 0 where
   pub large : 17 ≤ byte
   pub numeric : is_numeric (byte - 17) 2 ≡ true
 
--- The node has the children that are asked for, and there is such an operator.
-abbrev pub CanReplace : Replacement → (children : ℕ) → Type 0
-CanReplace Swap children = children ≡ 2
-CanReplace (Turn byte) children = IsBinary byte × (children ≡ 2)
-CanReplace (Constant byte t number) children = IsBinary byte
-CanReplace (Twice byte) children = IsBinary byte
-CanReplace r children = ⊤
+-- a unary one
+pub record IsUnary (byte : ℕ) : Type 0 where
+  pub large : 17 ≤ byte
+  pub numeric : is_numeric (byte - 17) 1 ≡ true
 
--- The nodes stand behind the old ones, and the last one's term is what they make of the node's over the old ones.
+-- a node with two children
+abbrev pub HasTwo : Term Head → Type 0
+HasTwo (node h (x ▸ y ▸ no_terms)) = ⊤
+HasTwo x = ⊥
+
+-- The node has the children that are asked for, these have theirs, and there is such an operator.
+abbrev pub CanReplace : Replacement → Term Head → Type 0
+CanReplace Swap (node h (x ▸ y ▸ no_terms)) = ⊤
+CanReplace (Turn byte) (node h (x ▸ y ▸ no_terms)) = IsBinary byte
+CanReplace GroupLeft (node h (x ▸ y ▸ no_terms)) = HasTwo y
+CanReplace GroupRight (node h (x ▸ y ▸ no_terms)) = HasTwo x
+CanReplace (Constant byte t number) x = IsBinary byte
+CanReplace (Complements byte t number) x = IsBinary byte
+CanReplace (Twice byte) x = IsBinary byte
+CanReplace First (node h (x ▸ ts)) = ⊤
+CanReplace (FirstWith byte t number) (node h (x ▸ ts)) = IsBinary byte
+CanReplace (FirstBy byte) (node h (x ▸ ts)) = IsUnary byte
+CanReplace TurnSelect (node h (x ▸ y ▸ c ▸ no_terms)) = ⊤
+CanReplace (Unfold t) x = ⊤
+CanReplace (UseGlobal t) x = ⊤
+CanReplace Nop x = ⊤
+CanReplace Empty x = ⊤
+CanReplace (Number t number) x = ⊤
+CanReplace r x = ⊥
+
+-- an instruction says the node's payload
+abbrev pub CanBeWritten : Node Head → Type 0
+CanBeWritten n = IsTrue (is_writable n.head.payload)
+
+-- so it is of each of the nodes
+abbrev pub CanAllBeWritten : List (Node Head) → Type 0
+CanAllBeWritten [] = ⊤
+CanAllBeWritten (n ∷ ns) = CanBeWritten n × CanAllBeWritten ns
+
+-- The nodes stand behind the old ones, and the last one's term is what they make of the node's over the old ones. They can be
+-- written where the node and the old ones can.
 pub record Replaces (r : Replacement) (n : Node Head) (old new : List (Node Head)) : Type 0 where
   pub count : length new ≡ length old + suc (more r)
   pub root : tree_at new (length old + more r) ≡ term_by r (node n.head (pick (tree_at old) n.children))
   pub kept : (i : ℕ) → i < length old → tree_at new i ≡ tree_at old i
+  pub writable : CanBeWritten n → CanAllBeWritten old → CanAllBeWritten new
 
--- so it is of the node at a place
-abbrev pub CanReplaceAt : Replacement → List Lang → ℕ → Type 0
-CanReplaceAt r nodes at = (l : Lang) → slice_get nodes at ≡ Some l → CanReplace r (length (children_of l))
-
--- The replacement, if there is one, makes that term of the node's, and fits the node.
-pub record IsAnswer (o : Option Replacement) (nodes : List Lang) (at : ℕ) (u : Option (Term Head)) : Type 0 where
-  pub term : option_map (λ r. term_by r (term_at nodes at)) o ≡ u
-  pub fits : IfSome o (λ r. CanReplaceAt r nodes at)
+-- The replacement, if there is one, makes that of the term, and fits it.
+pub record IsAnswer (o : Option Replacement) (x : Term Head) (u : Option (Term Head)) : Type 0 where
+  pub term : option_map (λ r. term_by r x) o ≡ u
+  pub fits : IfSome o (λ r. CanReplace r x)

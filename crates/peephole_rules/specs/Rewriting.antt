@@ -9,16 +9,16 @@ use Rattle.peephole_nodes.specs.declared.payload.Payload.{Payload}
 use Rattle.peephole_nodes.specs.declared.payload.Payload.TheVariants as payload
 use Rattle.peephole_lang.specs.declared.lang.Head.{Head}
 use Rattle.peephole_lang.specs.declared.lang.Lang.{Lang}
-use Rattle.peephole_lang.specs.Term.{Term, Terms, absent, node, no_terms, ◌▸◌}
+use Rattle.peephole_lang.specs.Term.{Term, Terms, node, no_terms, ◌▸◌}
 use Rattle.peephole_machine.specs.declared.integer.IntegerType.{IntegerType}
 use Rattle.peephole_machine.specs.declared.integer.IntegerType.TheVariants as integer
 use Rattle.peephole_machine.specs.Values.{width_of}
 use Rattle.peephole_machine.specs.IntegerRow.{bare_operator}
 use Rattle.peephole_rules.specs.declared.rule.Rule.{Rule}
 use Rattle.peephole_rules.specs.declared.rule.Rule.TheVariants as rule
-use Rattle.peephole_rules.specs.Operator.{opcode_byte, is_among, are_same, type_by, commutative, turned, associative, has_one_value, operator, of_type, constant_term, one, two, container, nop, unfold_head, use_global_head, constant_number, own_number, numbered}
+use Rattle.peephole_rules.specs.Operator.{opcode_byte, is_among, are_same, type_by, commutative, turned, associative, has_one_value, operator, of_type, constant_term, one, two, container, nop, unfold_head, use_global_head, constant_number, numbered}
 use Rattle.peephole_rules.specs.Effects.{writes, may_trap}
-use Rattle.peephole_rules.specs.ValueTypes.{type_of_value}
+use Rattle.peephole_rules.specs.ValueTypes.{integer_of, type_of_value}
 use Rattle.peephole_rules.specs.Grafted.{term_at}
 
 abbrev pub answer_if : {A : Type 0} → Bool → A → Option A
@@ -215,16 +215,24 @@ forget (node h (x ▸ no_terms)) =
     answer_if (are_same (opcode_byte h) (Some 0x1a) && (not (writes x) && not (may_trap x))) (container no_terms)
 forget t = None
 
--- the numbers of constants, each of either type
-abbrev pub numbers_in : Terms Head → Option (List ℕ)
-numbers_in no_terms = Some []
-numbers_in (t ▸ ts) = option_and_then (λ n. option_map (λ ns. n ∷ ns) (numbers_in ts)) (own_number t)
+-- the numbers of constants of these types
+abbrev pub numbers_of_types : List PrimitiveTypeInfo → Terms Head → Option (List ℕ)
+numbers_of_types [] no_terms = Some []
+numbers_of_types (u ∷ us) (x ▸ xs) =
+    option_and_then (λ n. option_map (λ ns. n ∷ ns) (numbers_of_types us xs)) (option_and_then (λ t. constant_number t x) (integer_of u))
+numbers_of_types us xs = None
 
--- an operator on constants → the constant of its value, where it doesn't trap
+-- an operator on constants of its operand types → the constant of its value, where it doesn't trap
+abbrev pub fold_over : Head → Terms Head → Option (Term Head)
+fold_over h kids =
+    option_and_then (λ f. option_map (numbered f.result) (option_and_then f.value (numbers_of_types f.operands kids)))
+    (option_and_then bare_operator (opcode_byte h))
+
+-- an operator on one constant, or on two
 abbrev pub fold : Term Head → Option (Term Head)
-fold (node h kids) =
-    option_and_then (λ f. option_map (numbered f.result) (option_and_then f.value (numbers_in kids))) (option_and_then bare_operator (opcode_byte h))
-fold absent = None
+fold (node h (x ▸ no_terms)) = fold_over h (x ▸ no_terms)
+fold (node h (x ▸ y ▸ no_terms)) = fold_over h (x ▸ y ▸ no_terms)
+fold t = None
 
 -- ---- the rules by their names
 
@@ -247,17 +255,37 @@ by_its_type locals globals rule x = option_and_then (λ t. rule t x) (type_of_va
 abbrev pub rewrite : (locals globals : List PrimitiveTypeInfo) → Rule → Term Head → Option (Term Head)
 rewrite locals globals rule.Commute x = commute x
 rewrite locals globals rule.TurnComparison x = turn_comparison x
+rewrite locals globals rule.AssociateLeft x = associate_left x
+rewrite locals globals rule.AssociateRight x = associate_right x
 rewrite locals globals rule.AddZero x = by_its_type locals globals (λ t x. Some (add_zero t x)) x
 rewrite locals globals rule.SubZero x = by_its_type locals globals (λ t x. Some (sub_zero t x)) x
 rewrite locals globals rule.MulOne x = by_its_type locals globals (λ t x. Some (mul_one t x)) x
 rewrite locals globals rule.OrZero x = by_its_type locals globals (λ t x. Some (or_zero t x)) x
 rewrite locals globals rule.XorZero x = by_its_type locals globals (λ t x. Some (xor_zero t x)) x
+rewrite locals globals rule.AndOnes x = by_its_type locals globals (λ t x. Some (and_ones t x)) x
 rewrite locals globals rule.ShiftByZero x = by_its_type locals globals (λ t x. Some (shift_by_zero t x)) x
 rewrite locals globals rule.OrSelf x = by_its_type locals globals or_self x
 rewrite locals globals rule.AndSelf x = by_its_type locals globals and_self x
+rewrite locals globals rule.DoubleComplement x = by_its_type locals globals (λ t x. Some (double_complement t x)) x
+rewrite locals globals rule.ShiftToProduct x = shift_to_product x
+rewrite locals globals rule.ProductToShift x = product_to_shift x
+rewrite locals globals rule.DifferenceToSum x = difference_to_sum x
+rewrite locals globals rule.SumToDifference x = sum_to_difference x
+rewrite locals globals rule.TestToComparison x = test_to_comparison x
+rewrite locals globals rule.ComparisonToTest x = comparison_to_test x
+rewrite locals globals rule.TurnSelect x = turn_select x
 rewrite locals globals rule.Unfold x = unfold_constant x
 rewrite locals globals rule.ThroughGlobal x = by_its_type locals globals (λ t x. Some (by_way_of_global t x)) x
 rewrite locals globals rule.WithNop x = Some (with_nop x)
+rewrite locals globals rule.Fold x = fold x
+rewrite locals globals rule.DropAddZero x = drop_add_zero x
+rewrite locals globals rule.DropSubZero x = drop_sub_zero x
+rewrite locals globals rule.DropMulOne x = drop_mul_one x
+rewrite locals globals rule.DropOrZero x = drop_or_zero x
+rewrite locals globals rule.DropXorZero x = drop_xor_zero x
+rewrite locals globals rule.DropAndOnes x = drop_and_ones x
+rewrite locals globals rule.DropShiftByZero x = drop_shift_by_zero x
+rewrite locals globals rule.Forget x = forget x
 
 -- what it makes of the term of an expression's node; none where there is no such node
 abbrev pub rewrite_at : (locals globals : List PrimitiveTypeInfo) → Rule → List Lang → (at : ℕ) → Option (Term Head)

@@ -1,184 +1,118 @@
 //! A rule, applied to a node of an expression.
-ghost use Rattle.std.specs.Prelude.{◌≡◌, ◌⊎◌, ◌+◌, ◌<◌, ◌^◌, not, length, option_map, option_and_then, IfOk, IfErr, IfSome};
+ghost use Rattle.std.specs.Prelude.{◌≡◌, ◌⊎◌, ◌+◌, ◌<◌, ◌^◌, length, option_map, is_some, IfOk, IfErr, IfSome};
 ghost use Rattle.mutate_base.specs.declared.error.Error.{Error};
-ghost use Rattle.peephole_lang.specs.Lang.{place_of, payload_of};
+ghost use Rattle.peephole_graphs.specs.Layout.{AreWritable};
 ghost use Rattle.peephole_terms.specs.Agrees.{StandsFor};
 ghost use Rattle.peephole_terms.specs.Expansion.{term_in};
-ghost use Rattle.peephole_rules.specs.declared.replacement.Replacement.TheVariants.{Constant, Twice, Unfold, UseGlobal};
-ghost use Rattle.peephole_rules.specs.Operator.{of_type};
-ghost use Rattle.peephole_rules.specs.Effects.{writes};
-ghost use Rattle.peephole_rules.specs.Rewriting.{answer_if, commute, turn_comparison, type_of_constant, unfold_constant, rewrite, rewrite_at};
+ghost use Rattle.peephole_rules.specs.Rewriting.{rewrite, rewrite_at};
+ghost use Rattle.peephole_rules.specs.Flags.{AreEffects};
 ghost use Rattle.peephole_rules.specs.Grafted.{term_at, grafted};
+ghost use Rattle.peephole_rules.specs.Choice.{choice};
 ghost use Rattle.peephole_rules.specs.Replacement.{IsAnswer};
 
-use crate::effects::{undisturbed, writes};
+use crate::choice::{
+    comparison, complements, forgotten, group_left, group_right, number_behind, product, shift,
+    swap, test, through_global, turn, turn_select, twice, unfolded, with_all_ones, with_number,
+    with_opposite, without, without_all_ones,
+};
+use crate::effects::Effects;
+use crate::folding::folded;
 use crate::grafted::graft;
 use crate::laws::rules_keep_meaning;
-use crate::operator::{is_commutative, turned_opcode};
+use crate::reading::shape;
 use crate::replacement::Replacement;
 use crate::rule::Rule;
-use crate::value_types::value_type;
+use crate::shape::Shape;
 use mutate_base::{Error, ModuleInfo, PrimitiveTypeInfo};
-use peephole_lang::{Lang, Payload, RecExpr};
-use peephole_machine::IntegerType;
+use peephole_lang::{Lang, RecExpr};
 use peephole_terms::laws::agreement_is_a_congruence;
 use std::alloc::Global;
 
-// The opcode of the two that is for the type.
-fn of_type(t: IntegerType, i32_opcode: u8, i64_opcode: u8) -> u8
-    ensures { result ≡ of_type t i32_opcode i64_opcode }
-{
-    match t {
-        IntegerType::I32 => i32_opcode,
-        IntegerType::I64 => i64_opcode,
-    }
-}
-
-// A number behind the node, with the operator of its type.
-fn with_constant(
-    t: Option<IntegerType>,
-    i32_opcode: u8,
-    i64_opcode: u8,
-    number: u8,
-) -> Option<Replacement>
-    ensures { result
-        ≡ option_map (λ t. Constant (of_type t i32_opcode i64_opcode) t number) t }
-{
-    let t = t?;
-    Some(Replacement::Constant(of_type(t, i32_opcode, i64_opcode), t, number))
-}
-
-// The node twice, with the operator of its type, where it may write no variable.
-fn twice(
-    alloc: Global,
-    expr: &RecExpr<Lang>,
-    at: usize,
-    t: Option<IntegerType>,
-    i32_opcode: u8,
-    i64_opcode: u8,
-) -> Result<Option<Replacement>, Error>
-    ensures twice { IfOk result (λ o. o ≡ option_and_then (λ t.
-        answer_if (not (writes (term_at expr.now at))) (Twice (of_type t i32_opcode i64_opcode))) t) }
-    ensures refused { IfErr result (λ e. e ≡ Error.Memory) }
-{
-    let Some(t) = t else {
-        return Ok(None);
-    };
-    if writes(alloc, expr, at)? {
-        return Ok(None);
-    }
-    Ok(Some(Replacement::Twice(of_type(t, i32_opcode, i64_opcode))))
-}
-
-// The node with its operands in the other order, where its operator lets them change places and they don't disturb one another.
-fn swap(alloc: Global, expr: &RecExpr<Lang>, at: usize) -> Result<Option<Replacement>, Error>
-    requires { at < length expr.now }
-    ensures answer { IfOk result (λ o. IsAnswer o expr.now at (commute (term_at expr.now at))) }
-    ensures refused { IfErr result (λ e. e ≡ Error.Memory) }
-{
-    let node = &expr.as_ref()[at];
-    let ids = node.children();
-    if ids.len() != 2 {
-        return Ok(None);
-    }
-    if !is_commutative(node) {
-        return Ok(None);
-    }
-    if !undisturbed(alloc, expr, ids[0].0 as usize, ids[1].0 as usize)? {
-        return Ok(None);
-    }
-    Ok(Some(Replacement::Swap))
-}
-
-// The comparison that holds of the node's operands in the other order, where they don't disturb one another.
-fn turn(alloc: Global, expr: &RecExpr<Lang>, at: usize) -> Result<Option<Replacement>, Error>
-    requires { at < length expr.now }
-    ensures answer { IfOk result (λ o.
-        IsAnswer o expr.now at (turn_comparison (term_at expr.now at))) }
-    ensures refused { IfErr result (λ e. e ≡ Error.Memory) }
-{
-    let node = &expr.as_ref()[at];
-    let ids = node.children();
-    if ids.len() != 2 {
-        return Ok(None);
-    }
-    let Some(other) = turned_opcode(node) else {
-        return Ok(None);
-    };
-    if !undisturbed(alloc, expr, ids[0].0 as usize, ids[1].0 as usize)? {
-        return Ok(None);
-    }
-    Ok(Some(Replacement::Turn(other)))
-}
-
-// The type of a constant, by its place and payload.
-fn type_of_constant(node: &Lang) -> Option<IntegerType>
-    ensures { result ≡ type_of_constant (payload_of node.now) (place_of node.now) }
-{
-    match (node.payload(), node.place()) {
-        (Payload::I32(_), 48) => Some(IntegerType::I32),
-        (Payload::I64(_), 49) => Some(IntegerType::I64),
-        _ => None,
-    }
-}
-
-// The sum of a drawn word and the rest, of a constant of that type.
-fn unfolded(t: Option<IntegerType>) -> Option<Replacement>
-    ensures { result ≡ option_map (λ t. Unfold t) t }
-{
-    Some(Replacement::Unfold(t?))
-}
-
-// The value of that type by way of a requested global.
-fn by_way_of_global(t: Option<IntegerType>) -> Option<Replacement>
-    ensures { result ≡ option_map (λ t. UseGlobal t) t }
-{
-    Some(Replacement::UseGlobal(t?))
-}
-
-// The sum of a drawn word and the rest, where the node is a constant.
-fn sum(expr: &RecExpr<Lang>, at: usize) -> Option<Replacement>
-    requires { at < length expr.now }
-    ensures { IsAnswer result expr.now at (unfold_constant (term_at expr.now at)) }
-{
-    let node = &expr.as_ref()[at];
-    if !node.children().is_empty() {
-        return None;
-    }
-    unfolded(type_of_constant(node))
-}
-
 impl Rule {
+    // What the rule puts in the place of a node of the shape, where its pattern and its condition are met.
+    fn choice(self, shape: Shape) -> Option<Replacement>
+        ensures { result ≡ choice self shape }
+    {
+        let opcode = shape.root.opcode;
+        let operands = shape.operands;
+        let value = shape.value;
+        match self {
+            Rule::Commute => swap(opcode, operands),
+            Rule::TurnComparison => turn(opcode, operands),
+            Rule::AssociateLeft => group_left(opcode, operands),
+            Rule::AssociateRight => group_right(opcode, operands),
+            Rule::AddZero => with_number(0x6A, 0x7C, 0, value),
+            Rule::SubZero => with_number(0x6B, 0x7D, 0, value),
+            Rule::MulOne => with_number(0x6C, 0x7E, 1, value),
+            Rule::OrZero => with_number(0x72, 0x84, 0, value),
+            Rule::XorZero => with_number(0x73, 0x85, 0, value),
+            Rule::AndOnes => with_all_ones(0x71, 0x83, value),
+            Rule::ShiftByZero => with_number(0x74, 0x86, 0, value),
+            Rule::OrSelf => twice(0x72, 0x84, shape.root.writes, value),
+            Rule::AndSelf => twice(0x71, 0x83, shape.root.writes, value),
+            Rule::DoubleComplement => complements(0x73, 0x85, value),
+            Rule::ShiftToProduct => product(number_behind(0x74, 0x86, opcode, operands)),
+            Rule::ProductToShift => shift(number_behind(0x6C, 0x7E, opcode, operands)),
+            Rule::DifferenceToSum => {
+                with_opposite(0x6A, 0x7C, number_behind(0x6B, 0x7D, opcode, operands))
+            }
+            Rule::SumToDifference => {
+                with_opposite(0x6B, 0x7D, number_behind(0x6A, 0x7C, opcode, operands))
+            }
+            Rule::TestToComparison => comparison(opcode, operands),
+            Rule::ComparisonToTest => test(number_behind(0x46, 0x51, opcode, operands)),
+            Rule::TurnSelect => turn_select(opcode, operands),
+            Rule::Unfold => unfolded(shape.root.i32_number, shape.root.i64_number),
+            Rule::ThroughGlobal => through_global(value),
+            Rule::WithNop => Some(Replacement::Nop),
+            Rule::Fold => folded(opcode, operands),
+            Rule::DropAddZero => without(0, number_behind(0x6A, 0x7C, opcode, operands)),
+            Rule::DropSubZero => without(0, number_behind(0x6B, 0x7D, opcode, operands)),
+            Rule::DropMulOne => without(1, number_behind(0x6C, 0x7E, opcode, operands)),
+            Rule::DropOrZero => without(0, number_behind(0x72, 0x84, opcode, operands)),
+            Rule::DropXorZero => without(0, number_behind(0x73, 0x85, opcode, operands)),
+            Rule::DropAndOnes => without_all_ones(number_behind(0x71, 0x83, opcode, operands)),
+            Rule::DropShiftByZero => without(0, number_behind(0x74, 0x86, opcode, operands)),
+            Rule::Forget => forgotten(opcode, operands),
+        }
+    }
+
     // What the rule puts in the place of the node, where its pattern and its condition are met.
     fn replacement(
         self,
-        alloc: Global,
         locals: &[PrimitiveTypeInfo],
         info: &ModuleInfo<'_>,
+        effects: &Effects,
         expr: &RecExpr<Lang>,
         at: usize,
-    ) -> Result<Option<Replacement>, Error>
-        requires { at < length expr.now }
-        ensures answer { IfOk result (λ o. IsAnswer o expr.now at
-            (rewrite locals.now info.now.globals self (term_at expr.now at))) }
-        ensures refused { IfErr result (λ e. e ≡ Error.Memory) }
+    ) -> Option<Replacement>
+        requires inside { at < length expr.now }
+        requires effects { AreEffects effects.now expr.now }
+        ensures { IsAnswer result (term_at expr.now at)
+            (rewrite locals.now info.now.globals self (term_at expr.now at)) }
     {
-        let t = value_type(locals, info, &expr.as_ref()[at]);
-        match self {
-            Rule::Commute => swap(alloc, expr, at),
-            Rule::TurnComparison => turn(alloc, expr, at),
-            Rule::AddZero => Ok(with_constant(t, 0x6A, 0x7C, 0)),
-            Rule::SubZero => Ok(with_constant(t, 0x6B, 0x7D, 0)),
-            Rule::MulOne => Ok(with_constant(t, 0x6C, 0x7E, 1)),
-            Rule::OrZero => Ok(with_constant(t, 0x72, 0x84, 0)),
-            Rule::XorZero => Ok(with_constant(t, 0x73, 0x85, 0)),
-            Rule::ShiftByZero => Ok(with_constant(t, 0x74, 0x86, 0)),
-            Rule::OrSelf => twice(alloc, expr, at, t, 0x72, 0x84),
-            Rule::AndSelf => twice(alloc, expr, at, t, 0x71, 0x83),
-            Rule::Unfold => Ok(sum(expr, at)),
-            Rule::ThroughGlobal => Ok(by_way_of_global(t)),
-            Rule::WithNop => Ok(Some(Replacement::Nop)),
+        self.choice(shape(locals, info, effects, expr, at))
+    }
+
+    /// Whether `apply` has an answer: there is such a node, and the rule's pattern and condition are met. It takes no memory and
+    /// constant time.
+    ///
+    /// Condition: the effects are the expression's, those of `Effects::of`.
+    pub fn applies(
+        self,
+        locals: &[PrimitiveTypeInfo],
+        info: &ModuleInfo<'_>,
+        effects: &Effects,
+        expr: &RecExpr<Lang>,
+        at: usize,
+    ) -> bool
+        requires { AreEffects effects.now expr.now }
+        ensures { result ≡ is_some (rewrite_at locals.now info.now.globals self expr.now at) }
+    {
+        if at >= expr.len() {
+            return false;
         }
+        self.replacement(locals, info, effects, expr, at).is_some()
     }
 
     /// The expression with node `at` rewritten by the rule, wherever that is used, or None where the rule's pattern or its
@@ -187,9 +121,10 @@ impl Rule {
     ///
     /// Where the term has types under these and draws no word, the new term has the same types, and means the same in every
     /// state of the variables, whatever words are drawn; the globals that it asks for aside. Conditions go by opcodes alone, so
-    /// that there may be no answer where the rule would keep the meaning.
+    /// that there may be no answer where the rule would keep the meaning. The new expression has a node, and each of its nodes
+    /// can be written where each of the old ones can.
     ///
-    /// `TooLarge` where the expression has more than 2^32 - 2 nodes, `Memory` where an allocation was refused.
+    /// `TooLarge` where the expression has more than 2^32 - 3 nodes, `Memory` where an allocation was refused.
     pub fn apply(
         self,
         alloc: Global,
@@ -198,12 +133,15 @@ impl Rule {
         expr: &RecExpr<Lang>,
         at: usize,
     ) -> Result<Option<RecExpr<Lang>>, Error>
-        ensures rewritten { IfOk result (λ o. option_map term_in o ≡ option_map (grafted expr.now at)
-            (rewrite_at locals.now info.now.globals self expr.now at)) }
+        ensures rewritten { IfOk result (λ o. option_map term_in o
+            ≡ option_map (grafted expr.now at) (rewrite_at locals.now info.now.globals self expr.now at)) }
         ensures stands { IfOk result (λ o. IfSome o (λ new.
             StandsFor locals.now info.now.globals (term_in expr.now) (term_in new))) }
+        ensures some { IfOk result (λ o. IfSome o (λ new. 0 < length new)) }
+        ensures writable { AreWritable expr.now
+            → IfOk result (λ o. IfSome o (λ new. AreWritable new)) }
         ensures refused { IfErr result (λ e. (e ≡ Error.Memory)
-            ⊎ ((e ≡ Error.TooLarge) × (2 ^ 32 < length expr.now + 2))) }
+            ⊎ ((e ≡ Error.TooLarge) × (2 ^ 32 < length expr.now + 3))) }
     {
         rules_keep_meaning();
         agreement_is_a_congruence();
@@ -211,10 +149,11 @@ impl Rule {
         if at >= nodes.len() {
             return Ok(None);
         }
-        let Some(replacement) = self.replacement(alloc, locals, info, expr, at)? else {
+        let effects = Effects::of(alloc, expr)?;
+        let Some(replacement) = self.replacement(locals, info, &effects, expr, at) else {
             return Ok(None);
         };
-        if nodes.len() >= u32::MAX as usize {
+        if nodes.len() >= u32::MAX as usize - 1 {
             return Err(Error::TooLarge);
         }
         Ok(Some(graft(alloc, nodes, at, replacement)?))

@@ -1,44 +1,62 @@
 //! What evaluating a term may do besides leaving values.
-ghost use Rattle.std.specs.Prelude.{◌≡◌, ◌<◌, ◌&&◌, ℕ, not, false, length, get_or, IfOk, IfErr};
-ghost use Rattle.std.specs.List.{All};
+ghost use Rattle.std.specs.Prelude.{◌≡◌, ◌&&◌, not, IfOk, IfErr};
 ghost use Rattle.mutate_base.specs.declared.error.Error.{Error};
-ghost use Rattle.peephole_lang.specs.Term.{AreBelow, numbers_of};
-ghost use Rattle.peephole_rules.specs.Grafted.{expression_nodes, term_at};
-ghost use Rattle.peephole_rules.specs.Effects.{writes, any_flag};
+ghost use Rattle.peephole_rules.specs.Grafted.{term_at};
+ghost use Rattle.peephole_rules.specs.Effects.{writes, may_trap};
 ghost use Rattle.peephole_rules.specs.Rewriting.{undisturbed};
 
-use crate::operator::{has_one_value, is_writer};
+use crate::effect::Effect;
+use crate::flags::flags_of;
+use crate::operator::has_one_value;
 use mutate_base::Error;
-use peephole_lang::{Id, Lang, RecExpr};
+use peephole_lang::{Lang, RecExpr};
 use std::alloc::Global;
 
-// Whether one of the flags that the ids name is up.
-fn any_flag(flags: &[bool], ids: &[Id]) -> bool
-    requires { All (λ i. i < length flags.now) (numbers_of ids.now) }
-    ensures { result ≡ any_flag flags.now (numbers_of ids.now) }
-{
-    for id in ids {
-        if flags[id.0 as usize] {
-            return true;
-        }
-    }
-    false
+/// Of each node of an expression, what evaluating its term may do besides leaving values, as far as opcodes tell.
+#[derive(Drop)]
+pub struct Effects {
+    writing: Vec<bool>,
+    trapping: Vec<bool>,
 }
 
-// Of each node, whether its term may write a variable.
-fn writing(alloc: Global, nodes: &[Lang]) -> Result<Vec<bool>, Error>
-    requires { AreBelow (expression_nodes nodes.now) }
-    ensures count { IfOk result (λ flags. length flags.items ≡ length nodes.now) }
-    ensures flags { IfOk result (λ flags. (i : ℕ) → i < length nodes.now
-        → get_or flags.items i false ≡ writes (term_at nodes.now i)) }
-    ensures refused { IfErr result (λ e. e ≡ Error.Memory) }
-{
-    let mut flags = Vec::new(alloc);
-    for node in nodes {
-        let below = any_flag(&flags, node.children());
-        flags.push(is_writer(node) || below)?;
+impl Effects {
+    ghost use Rattle.std.specs.Prelude.{◌≡◌, List, IfOk, IfErr};
+    ghost use Rattle.mutate_base.specs.declared.error.Error.{Error};
+    ghost use Rattle.peephole_lang.specs.declared.lang.Lang.{Lang};
+    ghost use Rattle.peephole_rules.specs.Grafted.{term_at};
+    ghost use Rattle.peephole_rules.specs.Effects.{writes, may_trap};
+    ghost use Rattle.peephole_rules.specs.Flags.{AreEffects};
+
+    /// Those of the expression, in one walk over its nodes for each of the two.
+    ///
+    /// The only error is `Memory`: an allocation was refused.
+    pub fn of(alloc: Global, expr: &RecExpr<Lang>) -> Result<Effects, Error>
+        ensures effects { IfOk result (λ effects. AreEffects effects expr.now) }
+        ensures refused { IfErr result (λ e. e ≡ Error.Memory) }
+    {
+        let nodes = expr.as_ref();
+        let writing = flags_of(alloc, Effect::Write, nodes)?;
+        let trapping = flags_of(alloc, Effect::Trap, nodes)?;
+        Ok(Effects { writing, trapping })
     }
-    Ok(flags)
+
+    /// Whether the term of a node may write a variable: one of its nodes is `local.set`, `local.tee` or `global.set`, or has no
+    /// opcode of one byte. False for a place that isn't there.
+    pub fn writes(&self, at: usize) -> bool
+        ensures { (expr : List Lang) → AreEffects self.now expr
+            → result ≡ writes (term_at expr at) }
+    {
+        self.writing.get(at).copied().unwrap_or(false)
+    }
+
+    /// Whether the term of a node may trap: one of its nodes is a division or a remainder, or has no opcode of one byte. False
+    /// for a place that isn't there.
+    pub fn may_trap(&self, at: usize) -> bool
+        ensures { (expr : List Lang) → AreEffects self.now expr
+            → result ≡ may_trap (term_at expr at) }
+    {
+        self.trapping.get(at).copied().unwrap_or(false)
+    }
 }
 
 /// Whether the term of a node may write a variable, as far as its opcodes tell: one of its nodes is `local.set`, `local.tee`
@@ -49,12 +67,20 @@ pub fn writes(alloc: Global, expr: &RecExpr<Lang>, at: usize) -> Result<bool, Er
     ensures writes { IfOk result (λ b. b ≡ writes (term_at expr.now at)) }
     ensures refused { IfErr result (λ e. e ≡ Error.Memory) }
 {
-    let nodes = expr.as_ref();
-    if at >= nodes.len() {
-        return Ok(false);
-    }
-    let flags = writing(alloc, nodes)?;
-    Ok(flags[at])
+    let effects = Effects::of(alloc, expr)?;
+    Ok(effects.writes(at))
+}
+
+/// Whether the term of a node may trap, as far as its opcodes tell: one of its nodes is a division or a remainder, or has no
+/// opcode of one byte. False for a place that isn't there.
+///
+/// The only error is `Memory`: an allocation was refused.
+pub fn may_trap(alloc: Global, expr: &RecExpr<Lang>, at: usize) -> Result<bool, Error>
+    ensures may_trap { IfOk result (λ b. b ≡ may_trap (term_at expr.now at)) }
+    ensures refused { IfErr result (λ e. e ≡ Error.Memory) }
+{
+    let effects = Effects::of(alloc, expr)?;
+    Ok(effects.may_trap(at))
 }
 
 // Whether both have one value, and neither writes.
@@ -82,6 +108,6 @@ pub fn undisturbed(alloc: Global, expr: &RecExpr<Lang>, x: usize, y: usize) -> R
         return Ok(false);
     }
     let values = (has_one_value(&nodes[x]), has_one_value(&nodes[y]));
-    let flags = writing(alloc, nodes)?;
-    Ok(only_values(values, (flags[x], flags[y])))
+    let effects = Effects::of(alloc, expr)?;
+    Ok(only_values(values, (effects.writes(x), effects.writes(y))))
 }

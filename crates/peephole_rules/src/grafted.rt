@@ -6,7 +6,8 @@ ghost use Rattle.peephole_lang.specs.Node.{children_of, node_of};
 ghost use Rattle.peephole_lang.specs.Term.{numbers_of, AreBelow};
 ghost use Rattle.peephole_terms.specs.Expansion.{term_in};
 ghost use Rattle.peephole_rules.specs.Grafted.{expression_nodes, term_at, grafted, raised, raised_node};
-ghost use Rattle.peephole_rules.specs.Replacement.{term_by, CanReplaceAt};
+ghost use Rattle.peephole_graphs.specs.Layout.{AreWritable};
+ghost use Rattle.peephole_rules.specs.Replacement.{term_by, CanReplace};
 
 use crate::replacement::Replacement;
 use mutate_base::Error;
@@ -57,10 +58,12 @@ pub(crate) fn graft(
 ) -> Result<RecExpr<Lang>, Error>
     requires inside { at < length nodes.now }
     requires below { AreBelow (expression_nodes nodes.now) }
-    requires few { length nodes.now + 2 ≤ 2 ^ 32 }
-    requires fits { CanReplaceAt replacement nodes.now at }
+    requires few { length nodes.now + 3 ≤ 2 ^ 32 }
+    requires fits { CanReplace replacement (term_at nodes.now at) }
     ensures grafted { IfOk result (λ expr.
         term_in expr ≡ grafted nodes.now at (term_by replacement (term_at nodes.now at))) }
+    ensures some { IfOk result (λ expr. 0 < length expr) }
+    ensures writable { AreWritable nodes.now → IfOk result (λ expr. AreWritable expr) }
     ensures refused { IfErr result (λ e. e ≡ Error.Memory) }
 {
     let by = replacement.more();

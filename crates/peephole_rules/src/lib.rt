@@ -2,16 +2,24 @@
 #![tactic(auto)]
 
 mod apply;
+mod choice;
+mod constant;
+mod effect;
 mod effects;
+mod flags;
+mod folding;
 mod grafted;
 pub mod laws;
 mod operator;
+mod reading;
 mod replacement;
 mod rule;
+mod shape;
 mod value_types;
 mod written;
 
-pub use effects::{undisturbed, writes};
+pub use constant::constant_number;
+pub use effects::{Effects, may_trap, undisturbed, writes};
 pub use operator::{has_one_value, opcode_byte};
-pub use rule::{RULES, Rule};
+pub use rule::{RULES, Rule, UnknownRule};
 pub use value_types::value_type;

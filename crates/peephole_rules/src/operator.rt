@@ -1,12 +1,14 @@
 //! Nodes by the opcode of their instruction, and the nodes that rules write.
-ghost use Rattle.std.specs.Prelude.{◌≡◌, ◌-◌, ◌≤◌, [], ◌∷◌, true, pos, option_and_then, IfSome};
-ghost use Rattle.peephole_nodes.specs.NumericShapes.{is_numeric};
+ghost use Rattle.std.specs.Prelude.{◌≡◌, [], ◌∷◌, option_and_then};
+ghost use Rattle.std.specs.Int.{cast_signed};
+ghost use Rattle.peephole_machine.specs.Values.{width_of};
 ghost use Rattle.peephole_lang.specs.Lang.{ids_of};
 ghost use Rattle.peephole_lang.specs.Node.{head_of};
-ghost use Rattle.peephole_rules.specs.Operator.{opcode_byte, is_in, is_among, commutative, turned, writers, statements, is_value, of_type, operator, constant_head, unfold_head, use_global_head};
-ghost use Rattle.peephole_rules.specs.Effects.{is_writer};
-ghost use Rattle.peephole_rules.specs.Replacement.{IsBinary};
+ghost use Rattle.peephole_rules.specs.Operator.{opcode_byte, is_in, is_among, are_same, type_by, commutative, associative, turned, writers, statements, is_value, of_type, operator, constant_head, within_width, unfold_head, use_global_head};
+ghost use Rattle.peephole_rules.specs.Effects.{is_writer, is_trapper};
+ghost use Rattle.peephole_rules.specs.Replacement.{IsBinary, IsUnary};
 
+use crate::constant::low_half;
 use peephole_lang::{Id, Lang, Numeric};
 use peephole_machine::IntegerType;
 
@@ -21,11 +23,17 @@ const LESS: [u8; 8] = [0x48, 0x49, 0x4C, 0x4D, 0x53, 0x54, 0x57, 0x58];
 // gt and ge.
 const GREATER: [u8; 8] = [0x4A, 0x4B, 0x4E, 0x4F, 0x55, 0x56, 0x59, 0x5A];
 
+// The operators that may be grouped either way: add, mul, and, or, xor.
+const ASSOCIATIVE: [u8; 10] = [0x6A, 0x6C, 0x71, 0x72, 0x73, 0x7C, 0x7E, 0x83, 0x84, 0x85];
+
 // nop, drop, local.set, global.set: they leave no value.
 const STATEMENTS: [u8; 4] = [0x01, 0x1A, 0x21, 0x24];
 
 // local.set, local.tee, global.set.
 const WRITERS: [u8; 3] = [0x21, 0x22, 0x24];
+
+// div_s, div_u, rem_s, rem_u.
+const TRAPPERS: [u8; 8] = [0x6D, 0x6E, 0x6F, 0x70, 0x7F, 0x80, 0x81, 0x82];
 
 /// The opcode of a node's instruction, where the node has an instruction and its opcode is one byte (WebAssembly Core
 /// Specification 3.0, Binary Format, Instructions).
@@ -56,28 +64,74 @@ fn is_in(bytes: &[u8], byte: u8) -> bool
     false
 }
 
-/// Whether the node's opcode is that of an operator whose operands may change places.
-pub(crate) fn is_commutative(node: &Lang) -> bool
-    ensures { result ≡ is_among commutative (opcode_byte (head_of node.now)) }
+// Whether the opcode is one of these.
+fn is_among(bytes: &[u8], opcode: Option<u8>) -> bool
+    ensures { result ≡ is_among bytes.now opcode }
 {
-    match opcode_byte(node) {
-        Some(byte) => is_in(&COMMUTATIVE, byte),
+    match opcode {
+        Some(byte) => is_in(bytes, byte),
         None => false,
     }
 }
 
-/// Of a comparison the opcode of that which holds of the operands in the other order.
-pub(crate) fn turned_opcode(node: &Lang) -> Option<u8>
-    ensures told { result ≡ option_and_then turned (opcode_byte (head_of node.now)) }
-    ensures binary { IfSome result (λ byte. IsBinary byte) }
+/// Whether the opcode is that of an operator whose operands may change places.
+pub(crate) fn is_commutative(opcode: Option<u8>) -> bool
+    ensures { result ≡ is_among commutative opcode }
 {
-    turned(opcode_byte(node)?)
+    is_among(&COMMUTATIVE, opcode)
+}
+
+/// Whether the opcode is that of an operator that may be grouped either way.
+pub(crate) fn is_associative(opcode: Option<u8>) -> bool
+    ensures { result ≡ is_among associative opcode }
+{
+    is_among(&ASSOCIATIVE, opcode)
+}
+
+/// Whether both opcodes are there, and equal.
+pub(crate) fn are_same(x: Option<u8>, y: Option<u8>) -> bool
+    ensures { result ≡ are_same x y }
+{
+    match (x, y) {
+        (Some(one), Some(other)) => one == other,
+        _ => false,
+    }
+}
+
+/// The type whose opcode of the two it is.
+pub(crate) fn type_by(i32_opcode: u8, i64_opcode: u8, opcode: Option<u8>) -> Option<IntegerType>
+    ensures { result ≡ type_by i32_opcode i64_opcode opcode }
+{
+    let byte = opcode?;
+    if byte == i32_opcode {
+        Some(IntegerType::I32)
+    } else if byte == i64_opcode {
+        Some(IntegerType::I64)
+    } else {
+        None
+    }
+}
+
+/// The opcode of the two that is for the type.
+pub(crate) fn of_type(t: IntegerType, i32_opcode: u8, i64_opcode: u8) -> u8
+    ensures { result ≡ of_type t i32_opcode i64_opcode }
+{
+    match t {
+        IntegerType::I32 => i32_opcode,
+        IntegerType::I64 => i64_opcode,
+    }
+}
+
+/// Of a comparison the opcode of that which holds of the operands in the other order.
+pub(crate) fn turned_opcode(opcode: Option<u8>) -> Option<u8>
+    ensures { result ≡ option_and_then turned opcode }
+{
+    turned(opcode?)
 }
 
 // The comparison that holds of the operands in the other order.
 fn turned(byte: u8) -> Option<u8>
-    ensures told { result ≡ turned byte }
-    ensures binary { IfSome result (λ byte. IsBinary byte) }
+    ensures { result ≡ turned byte }
 {
     if is_in(&LESS, byte) {
         Some(byte + 2)
@@ -109,26 +163,54 @@ pub(crate) fn is_writer(node: &Lang) -> bool
     }
 }
 
+/// Whether the node may trap.
+pub(crate) fn is_trapper(node: &Lang) -> bool
+    ensures { result ≡ is_trapper (opcode_byte (head_of node.now)) }
+{
+    match opcode_byte(node) {
+        Some(byte) => is_in(&TRAPPERS, byte),
+        None => true,
+    }
+}
+
 /// An operator on two operands, by its opcode.
 #[tactic(auto, unfolding(peephole_lang::specs::Lang::place_of, peephole_lang::specs::Lang::payload_of, peephole_lang::specs::Lang::ids_of))]
 pub(crate) fn binary_node(byte: u8, x: Id, y: Id) -> Lang
-    requires some { 17 ≤ byte }
-    requires operator { is_numeric (byte - 17) 2 ≡ true }
+    requires { IsBinary byte }
     ensures head { head_of result ≡ operator byte }
     ensures children { ids_of result ≡ x ∷ y ∷ [] }
 {
     Numeric::make(byte as u16 - 17, &[x, y]).unwrap().into()
 }
 
-/// The constant of the type.
+/// An operator on one operand, by its opcode.
 #[tactic(auto, unfolding(peephole_lang::specs::Lang::place_of, peephole_lang::specs::Lang::payload_of, peephole_lang::specs::Lang::ids_of))]
-pub(crate) fn constant_node(t: IntegerType, number: u8) -> Lang
-    ensures head { head_of result ≡ constant_head t (pos number) }
+pub(crate) fn unary_node(byte: u8, x: Id) -> Lang
+    requires { IsUnary byte }
+    ensures head { head_of result ≡ operator byte }
+    ensures children { ids_of result ≡ x ∷ [] }
+{
+    Numeric::make(byte as u16 - 17, &[x]).unwrap().into()
+}
+
+/// The test of an i32.
+pub(crate) fn test_node(x: Id) -> Lang
+    ensures head { head_of result ≡ operator 0x45 }
+    ensures children { ids_of result ≡ x ∷ [] }
+{
+    unary_node(0x45, x)
+}
+
+/// The constant of the type whose value has the low bits of the number.
+#[tactic(auto, unfolding(peephole_lang::specs::Lang::place_of, peephole_lang::specs::Lang::payload_of, peephole_lang::specs::Lang::ids_of))]
+pub(crate) fn constant_node(t: IntegerType, number: u64) -> Lang
+    ensures head { head_of result
+        ≡ constant_head t (cast_signed (width_of t) (within_width t number)) }
     ensures children { ids_of result ≡ [] }
 {
     match t {
-        IntegerType::I32 => Lang::I32(number as i32),
-        IntegerType::I64 => Lang::I64(number as i64),
+        IntegerType::I32 => Lang::I32(low_half(number).cast_signed()),
+        IntegerType::I64 => Lang::I64(number.cast_signed()),
     }
 }
 

@@ -3,34 +3,54 @@ ghost use Rattle.std.specs.Prelude.{◌≡◌, ◌+◌, ◌<◌, ◌≤◌, ◌^
 ghost use Rattle.std.specs.List.{All};
 ghost use Rattle.mutate_base.specs.declared.error.Error.{Error};
 ghost use Rattle.peephole_lang.specs.Node.{node_of, children_of};
-ghost use Rattle.peephole_rules.specs.Grafted.{expression_nodes};
+ghost use Rattle.peephole_lang.specs.Term.{tree_at};
+ghost use Rattle.peephole_rules.specs.Grafted.{expression_nodes, term_over};
 
 use crate::written::{
-    write_constant, write_nop, write_swapped, write_turned, write_twice, write_unfold,
-    write_use_global,
+    write_complements, write_constant, write_empty, write_first, write_first_by, write_first_with,
+    write_grouped_left, write_grouped_right, write_nop, write_number, write_swapped, write_turned,
+    write_turned_select, write_twice, write_unfold, write_use_global,
 };
 use mutate_base::Error;
 use peephole_lang::{Lang, RecExpr};
 use peephole_machine::IntegerType;
 use std::alloc::Global;
 
-/// The nodes that a rule puts in the place of one. Operators are told by their opcodes.
+/// The nodes that a rule puts in the place of one. Operators are told by their opcodes, numbers by their low bits.
 #[derive(Clone, Copy)]
 pub(crate) enum Replacement {
     /// The node with its two operands in the other order.
     Swap,
     /// An operator on the node's two operands in the other order.
     Turn(u8),
+    /// The second operand's first operand grouped with the first operand.
+    GroupLeft,
+    /// The first operand's second operand grouped with the second operand.
+    GroupRight,
     /// The node, a number of the type, and an operator on both.
-    Constant(u8, IntegerType, u8),
+    Constant(u8, IntegerType, u64),
+    /// The node, a number of the type, an operator on both, and the same operator on that and the number.
+    Complements(u8, IntegerType, u64),
     /// The node, and an operator on it twice.
     Twice(u8),
+    /// The node's first operand.
+    First,
+    /// A number of the type, and an operator on the node's first operand and the number.
+    FirstWith(u8, IntegerType, u64),
+    /// An operator on the node's first operand.
+    FirstBy(u8),
+    /// The test of the node's third operand, and the node with its first two in the other order and that test.
+    TurnSelect,
     /// The node, and the sum of a drawn word and the rest of it.
     Unfold(IntegerType),
     /// The node, and its value by way of a requested global.
     UseGlobal(IntegerType),
     /// The node, a `nop`, and a container of both.
     Nop,
+    /// A container of nothing.
+    Empty,
+    /// A number of the type.
+    Number(IntegerType, u64),
 }
 
 impl Replacement {
@@ -41,29 +61,56 @@ impl Replacement {
         ensures { result ≡ more self }
     {
         match self {
-            Replacement::Swap | Replacement::Turn(_) => 0,
-            Replacement::Twice(_) | Replacement::Unfold(_) | Replacement::UseGlobal(_) => 1,
-            Replacement::Constant(..) | Replacement::Nop => 2,
+            Replacement::Swap => 0,
+            Replacement::Turn(_) => 0,
+            Replacement::GroupLeft => 1,
+            Replacement::GroupRight => 1,
+            Replacement::Constant(..) => 2,
+            Replacement::Complements(..) => 3,
+            Replacement::Twice(_) => 1,
+            Replacement::First => 0,
+            Replacement::FirstWith(..) => 1,
+            Replacement::FirstBy(_) => 0,
+            Replacement::TurnSelect => 1,
+            Replacement::Unfold(_) => 1,
+            Replacement::UseGlobal(_) => 1,
+            Replacement::Nop => 2,
+            Replacement::Empty => 0,
+            Replacement::Number(..) => 0,
         }
     }
 
     /// Puts the nodes behind those of the expression, which the node's children are among.
     pub fn write(self, alloc: Global, expr: &mut RecExpr<Lang>, node: &Lang) -> Result<(), Error>
         requires below { All (λ i. i < length expr.old) (children_of node.now) }
-        requires few { length expr.old + 3 ≤ 2 ^ 32 }
-        requires fits { CanReplace self (length (children_of node.now)) }
+        requires few { length expr.old + 4 ≤ 2 ^ 32 }
+        requires fits { CanReplace self (term_over (tree_at (expression_nodes expr.old)) node.now) }
         ensures nodes { IfOk result (λ _.
-            Replaces self (node_of node.now) (expression_nodes expr.old) (expression_nodes expr.new)) }
+            Replaces self (node_of node.now) (expression_nodes expr.old)
+            (expression_nodes expr.new)) }
         ensures refused { IfErr result (λ e. e ≡ Error.Memory) }
     {
         match self {
             Replacement::Swap => write_swapped(expr, node),
             Replacement::Turn(byte) => write_turned(expr, node, byte),
+            Replacement::GroupLeft => write_grouped_left(expr, node),
+            Replacement::GroupRight => write_grouped_right(expr, node),
             Replacement::Constant(byte, t, number) => write_constant(expr, node, byte, t, number),
+            Replacement::Complements(byte, t, number) => {
+                write_complements(expr, node, byte, t, number)
+            }
             Replacement::Twice(byte) => write_twice(expr, node, byte),
+            Replacement::First => write_first(expr, node),
+            Replacement::FirstWith(byte, t, number) => {
+                write_first_with(expr, node, byte, t, number)
+            }
+            Replacement::FirstBy(byte) => write_first_by(expr, node, byte),
+            Replacement::TurnSelect => write_turned_select(expr, node),
             Replacement::Unfold(t) => write_unfold(expr, node, t),
             Replacement::UseGlobal(t) => write_use_global(expr, node, t),
             Replacement::Nop => write_nop(alloc, expr, node),
+            Replacement::Empty => write_empty(alloc, expr, node),
+            Replacement::Number(t, number) => write_number(expr, node, t, number),
         }
     }
 }

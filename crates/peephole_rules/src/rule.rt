@@ -3,13 +3,21 @@ ghost use Rattle.std.specs.Prelude.{◌≡◌, ◌≢◌, IfSome, IfNone};
 ghost use Rattle.peephole_rules.specs.Rule.{rule_name};
 ghost use Rattle.peephole_rules.specs.declared.rule.Rule.{Rule};
 
-/// A way to rewrite a term, which keeps what it means. `x`, `y` are terms; an operator is that of the type of its operands.
+use std::str::FromStr;
+use thiserror::Error as ThisError;
+
+/// A way to rewrite a term, which keeps what it means. `x`, `y`, `z` are terms, `c` is a constant where that is said; an operator
+/// is that of the type of its operands.
 #[derive(Clone, Copy, Debug, PartialEq, Eq)]
 pub enum Rule {
     /// `op x y` to `op y x`: add, mul, and, or, xor, eq, ne.
     Commute,
     /// `lt x y` to `gt y x`, `le x y` to `ge y x`, and back, signed and unsigned.
     TurnComparison,
+    /// `op x (op y z)` to `op (op x y) z`: add, mul, and, or, xor.
+    AssociateLeft,
+    /// `op (op x y) z` to `op x (op y z)`.
+    AssociateRight,
     /// `x` to `add x 0`.
     AddZero,
     /// `x` to `sub x 0`.
@@ -20,36 +28,97 @@ pub enum Rule {
     OrZero,
     /// `x` to `xor x 0`.
     XorZero,
+    /// `x` to `and x -1`.
+    AndOnes,
     /// `x` to `shl x 0`.
     ShiftByZero,
     /// `x` to `or x x`.
     OrSelf,
     /// `x` to `and x x`.
     AndSelf,
+    /// `x` to `xor (xor x -1) -1`.
+    DoubleComplement,
+    /// `shl x c` to `mul x 2^c`, of a constant below the width.
+    ShiftToProduct,
+    /// `mul x 2^c` to `shl x c`, of a constant.
+    ProductToShift,
+    /// `sub x c` to `add x -c`, of a constant.
+    DifferenceToSum,
+    /// `add x c` to `sub x -c`, of a constant.
+    SumToDifference,
+    /// `eqz x` to `eq x 0`.
+    TestToComparison,
+    /// `eq x 0` to `eqz x`.
+    ComparisonToTest,
+    /// `select x y c` to `select y x (eqz c)`.
+    TurnSelect,
     /// A constant to the sum of a drawn word and the rest.
     Unfold,
     /// `x` to `x` by way of a requested global.
     ThroughGlobal,
     /// `x` to a container of `nop` and `x`.
     WithNop,
+    /// An operator on constants to the constant of its value, where it doesn't trap.
+    Fold,
+    /// `add x 0` to `x`.
+    DropAddZero,
+    /// `sub x 0` to `x`.
+    DropSubZero,
+    /// `mul x 1` to `x`.
+    DropMulOne,
+    /// `or x 0` to `x`.
+    DropOrZero,
+    /// `xor x 0` to `x`.
+    DropXorZero,
+    /// `and x -1` to `x`.
+    DropAndOnes,
+    /// `shl x 0` to `x`.
+    DropShiftByZero,
+    /// `drop x` to nothing, where `x` may neither write a variable nor trap.
+    Forget,
 }
 
 /// Every rule, in the order of the variants.
-pub const RULES: [Rule; 13] = [
+pub const RULES: [Rule; 33] = [
     Rule::Commute,
     Rule::TurnComparison,
+    Rule::AssociateLeft,
+    Rule::AssociateRight,
     Rule::AddZero,
     Rule::SubZero,
     Rule::MulOne,
     Rule::OrZero,
     Rule::XorZero,
+    Rule::AndOnes,
     Rule::ShiftByZero,
     Rule::OrSelf,
     Rule::AndSelf,
+    Rule::DoubleComplement,
+    Rule::ShiftToProduct,
+    Rule::ProductToShift,
+    Rule::DifferenceToSum,
+    Rule::SumToDifference,
+    Rule::TestToComparison,
+    Rule::ComparisonToTest,
+    Rule::TurnSelect,
     Rule::Unfold,
     Rule::ThroughGlobal,
     Rule::WithNop,
+    Rule::Fold,
+    Rule::DropAddZero,
+    Rule::DropSubZero,
+    Rule::DropMulOne,
+    Rule::DropOrZero,
+    Rule::DropXorZero,
+    Rule::DropAndOnes,
+    Rule::DropShiftByZero,
+    Rule::Forget,
 ];
+
+/// No rule has the name.
+#[derive(Clone, Copy, Debug, PartialEq, Eq, ThisError)]
+#[error("UnknownRule")]
+pub struct UnknownRule;
 
 impl Rule {
     /// The rule's name: the variant's words in lower case, with underscores between.
@@ -59,17 +128,37 @@ impl Rule {
         match self {
             Rule::Commute => "commute",
             Rule::TurnComparison => "turn_comparison",
+            Rule::AssociateLeft => "associate_left",
+            Rule::AssociateRight => "associate_right",
             Rule::AddZero => "add_zero",
             Rule::SubZero => "sub_zero",
             Rule::MulOne => "mul_one",
             Rule::OrZero => "or_zero",
             Rule::XorZero => "xor_zero",
+            Rule::AndOnes => "and_ones",
             Rule::ShiftByZero => "shift_by_zero",
             Rule::OrSelf => "or_self",
             Rule::AndSelf => "and_self",
+            Rule::DoubleComplement => "double_complement",
+            Rule::ShiftToProduct => "shift_to_product",
+            Rule::ProductToShift => "product_to_shift",
+            Rule::DifferenceToSum => "difference_to_sum",
+            Rule::SumToDifference => "sum_to_difference",
+            Rule::TestToComparison => "test_to_comparison",
+            Rule::ComparisonToTest => "comparison_to_test",
+            Rule::TurnSelect => "turn_select",
             Rule::Unfold => "unfold",
             Rule::ThroughGlobal => "through_global",
             Rule::WithNop => "with_nop",
+            Rule::Fold => "fold",
+            Rule::DropAddZero => "drop_add_zero",
+            Rule::DropSubZero => "drop_sub_zero",
+            Rule::DropMulOne => "drop_mul_one",
+            Rule::DropOrZero => "drop_or_zero",
+            Rule::DropXorZero => "drop_xor_zero",
+            Rule::DropAndOnes => "drop_and_ones",
+            Rule::DropShiftByZero => "drop_shift_by_zero",
+            Rule::Forget => "forget",
         }
     }
 
@@ -81,19 +170,51 @@ impl Rule {
         match name {
             "commute" => Some(Rule::Commute),
             "turn_comparison" => Some(Rule::TurnComparison),
+            "associate_left" => Some(Rule::AssociateLeft),
+            "associate_right" => Some(Rule::AssociateRight),
             "add_zero" => Some(Rule::AddZero),
             "sub_zero" => Some(Rule::SubZero),
             "mul_one" => Some(Rule::MulOne),
             "or_zero" => Some(Rule::OrZero),
             "xor_zero" => Some(Rule::XorZero),
+            "and_ones" => Some(Rule::AndOnes),
             "shift_by_zero" => Some(Rule::ShiftByZero),
             "or_self" => Some(Rule::OrSelf),
             "and_self" => Some(Rule::AndSelf),
+            "double_complement" => Some(Rule::DoubleComplement),
+            "shift_to_product" => Some(Rule::ShiftToProduct),
+            "product_to_shift" => Some(Rule::ProductToShift),
+            "difference_to_sum" => Some(Rule::DifferenceToSum),
+            "sum_to_difference" => Some(Rule::SumToDifference),
+            "test_to_comparison" => Some(Rule::TestToComparison),
+            "comparison_to_test" => Some(Rule::ComparisonToTest),
+            "turn_select" => Some(Rule::TurnSelect),
             "unfold" => Some(Rule::Unfold),
             "through_global" => Some(Rule::ThroughGlobal),
             "with_nop" => Some(Rule::WithNop),
+            "fold" => Some(Rule::Fold),
+            "drop_add_zero" => Some(Rule::DropAddZero),
+            "drop_sub_zero" => Some(Rule::DropSubZero),
+            "drop_mul_one" => Some(Rule::DropMulOne),
+            "drop_or_zero" => Some(Rule::DropOrZero),
+            "drop_xor_zero" => Some(Rule::DropXorZero),
+            "drop_and_ones" => Some(Rule::DropAndOnes),
+            "drop_shift_by_zero" => Some(Rule::DropShiftByZero),
+            "forget" => Some(Rule::Forget),
             _ => None,
         }
+    }
+}
+
+impl FromStr for Rule {
+    ghost use Rattle.peephole_rules.specs.Rule.{ReadsAs};
+
+    type Err = UnknownRule;
+
+    ghost from_str_gives = { λ text outcome. ReadsAs text outcome };
+
+    fn from_str(s: &str) -> Result<Rule, UnknownRule> {
+        Rule::from_name(s).ok_or(UnknownRule)
     }
 }
 

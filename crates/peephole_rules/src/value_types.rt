@@ -18,7 +18,8 @@ fn integer_val(t: ValType) -> Option<IntegerType>
     }
 }
 
-fn integer_of(t: PrimitiveTypeInfo) -> Option<IntegerType>
+/// The integer type that it is, or none.
+pub(crate) fn integer_of(t: PrimitiveTypeInfo) -> Option<IntegerType>
     ensures { result ≡ integer_of t }
 {
     match t {

@@ -3,11 +3,14 @@ ghost use Rattle.std.specs.Prelude.{◌≡◌, ◌+◌, ◌<◌, ◌≤◌, ◌^
 ghost use Rattle.std.specs.List.{All};
 ghost use Rattle.mutate_base.specs.declared.error.Error.{Error};
 ghost use Rattle.peephole_lang.specs.Node.{node_of, children_of};
-ghost use Rattle.peephole_rules.specs.Grafted.{expression_nodes};
-ghost use Rattle.peephole_rules.specs.Replacement.{Replaces, IsBinary};
-ghost use Rattle.peephole_rules.specs.declared.replacement.Replacement.TheVariants.{Swap, Turn, Constant, Twice, Unfold, UseGlobal, Nop};
+ghost use Rattle.peephole_lang.specs.Term.{AreBelow, numbers_of, tree_at};
+ghost use Rattle.peephole_rules.specs.Grafted.{expression_nodes, term_over};
+ghost use Rattle.peephole_rules.specs.Replacement.{CanReplace, Replaces, IsBinary, IsUnary};
+ghost use Rattle.peephole_rules.specs.declared.replacement.Replacement.TheVariants.{Swap, Turn, GroupLeft, GroupRight, Constant, Complements, Twice, First, FirstWith, FirstBy, TurnSelect, Unfold, UseGlobal, Nop, Empty, Number};
 
-use crate::operator::{binary_node, constant_node, unfold_node, use_global_node};
+use crate::operator::{
+    binary_node, constant_node, test_node, unary_node, unfold_node, use_global_node,
+};
 use mutate_base::Error;
 use peephole_lang::{Id, Lang, Language, RecExpr};
 use peephole_machine::IntegerType;
@@ -32,7 +35,8 @@ fn put(expr: &mut RecExpr<Lang>, node: Lang) -> Result<Id, Error>
     requires few { length expr.old < 2 ^ 32 }
     ensures place { IfOk result (λ id. id.0 ≡ length expr.old) }
     ensures count { IfOk result (λ _. length expr.new ≡ length expr.old + 1) }
-    ensures nodes { IfOk result (λ _. expression_nodes expr.new ≡ node_of node ∷ expression_nodes expr.old) }
+    ensures nodes { IfOk result (λ _.
+        expression_nodes expr.new ≡ node_of node ∷ expression_nodes expr.old) }
     ensures refused { IfErr result (λ e. e ≡ Error.Memory) }
 {
     expr.add(node)
@@ -44,16 +48,38 @@ fn put_copy(expr: &mut RecExpr<Lang>, node: &Lang) -> Result<Id, Error>
     requires few { length expr.old < 2 ^ 32 }
     ensures place { IfOk result (λ id. id.0 ≡ length expr.old) }
     ensures count { IfOk result (λ _. length expr.new ≡ length expr.old + 1) }
-    ensures nodes { IfOk result (λ _. expression_nodes expr.new ≡ node_of node.now ∷ expression_nodes expr.old) }
+    ensures nodes { IfOk result (λ _.
+        expression_nodes expr.new ≡ node_of node.now ∷ expression_nodes expr.old) }
     ensures refused { IfErr result (λ e. e ≡ Error.Memory) }
 {
     put(expr, node.clone_node()?)
 }
 
+// The node with other children.
+fn with_children<L: Language>(node: &L, ids: &[Id]) -> Result<L, Error>
+    requires { length ids.now ≡ length (L.children node.now) }
+    ensures head { IfOk result (λ l. L.head l ≡ L.head node.now) }
+    ensures children { IfOk result (λ l. L.children l ≡ numbers_of ids.now) }
+    ensures refused { IfErr result (λ e. e ≡ Error.Memory) }
+{
+    let mut copy = node.clone_node()?;
+    copy.children_mut().copy_from_slice(ids);
+    Ok(copy)
+}
+
+// The two children.
+fn both_children(node: &Lang) -> (Id, Id)
+    requires { length (children_of node.now) ≡ 2 }
+    ensures { children_of node.now ≡ result.0.0 ∷ result.1.0 ∷ [] }
+{
+    let ids = node.children();
+    (ids[0], ids[1])
+}
+
 /// The node with its two operands in the other order.
 pub(crate) fn write_swapped(expr: &mut RecExpr<Lang>, node: &Lang) -> Result<(), Error>
     requires below { All (λ i. i < length expr.old) (children_of node.now) }
-    requires few { length expr.old + 3 ≤ 2 ^ 32 }
+    requires few { length expr.old + 4 ≤ 2 ^ 32 }
     requires two { length (children_of node.now) ≡ 2 }
     ensures nodes { IfOk result (λ _.
         Replaces Swap (node_of node.now) (expression_nodes expr.old) (expression_nodes expr.new)) }
@@ -66,11 +92,12 @@ pub(crate) fn write_swapped(expr: &mut RecExpr<Lang>, node: &Lang) -> Result<(),
 /// An operator on the node's two operands in the other order.
 pub(crate) fn write_turned(expr: &mut RecExpr<Lang>, node: &Lang, byte: u8) -> Result<(), Error>
     requires below { All (λ i. i < length expr.old) (children_of node.now) }
-    requires few { length expr.old + 3 ≤ 2 ^ 32 }
+    requires few { length expr.old + 4 ≤ 2 ^ 32 }
     requires operator { IsBinary byte }
     requires two { length (children_of node.now) ≡ 2 }
     ensures nodes { IfOk result (λ _.
-        Replaces (Turn byte) (node_of node.now) (expression_nodes expr.old) (expression_nodes expr.new)) }
+        Replaces (Turn byte) (node_of node.now) (expression_nodes expr.old)
+        (expression_nodes expr.new)) }
     ensures refused { IfErr result (λ e. e ≡ Error.Memory) }
 {
     let ids = node.children();
@@ -84,13 +111,14 @@ pub(crate) fn write_constant(
     node: &Lang,
     byte: u8,
     t: IntegerType,
-    number: u8,
+    number: u64,
 ) -> Result<(), Error>
     requires below { All (λ i. i < length expr.old) (children_of node.now) }
-    requires few { length expr.old + 3 ≤ 2 ^ 32 }
+    requires few { length expr.old + 4 ≤ 2 ^ 32 }
     requires operator { IsBinary byte }
     ensures nodes { IfOk result (λ _.
-        Replaces (Constant byte t number) (node_of node.now) (expression_nodes expr.old) (expression_nodes expr.new)) }
+        Replaces (Constant byte t number) (node_of node.now) (expression_nodes expr.old)
+        (expression_nodes expr.new)) }
     ensures refused { IfErr result (λ e. e ≡ Error.Memory) }
 {
     let x = put_copy(expr, node)?;
@@ -102,10 +130,11 @@ pub(crate) fn write_constant(
 /// The node, and an operator on it twice.
 pub(crate) fn write_twice(expr: &mut RecExpr<Lang>, node: &Lang, byte: u8) -> Result<(), Error>
     requires below { All (λ i. i < length expr.old) (children_of node.now) }
-    requires few { length expr.old + 3 ≤ 2 ^ 32 }
+    requires few { length expr.old + 4 ≤ 2 ^ 32 }
     requires operator { IsBinary byte }
     ensures nodes { IfOk result (λ _.
-        Replaces (Twice byte) (node_of node.now) (expression_nodes expr.old) (expression_nodes expr.new)) }
+        Replaces (Twice byte) (node_of node.now) (expression_nodes expr.old)
+        (expression_nodes expr.new)) }
     ensures refused { IfErr result (λ e. e ≡ Error.Memory) }
 {
     let x = put_copy(expr, node)?;
@@ -120,9 +149,10 @@ pub(crate) fn write_unfold(
     t: IntegerType,
 ) -> Result<(), Error>
     requires below { All (λ i. i < length expr.old) (children_of node.now) }
-    requires few { length expr.old + 3 ≤ 2 ^ 32 }
+    requires few { length expr.old + 4 ≤ 2 ^ 32 }
     ensures nodes { IfOk result (λ _.
-        Replaces (Unfold t) (node_of node.now) (expression_nodes expr.old) (expression_nodes expr.new)) }
+        Replaces (Unfold t) (node_of node.now) (expression_nodes expr.old)
+        (expression_nodes expr.new)) }
     ensures refused { IfErr result (λ e. e ≡ Error.Memory) }
 {
     let x = put_copy(expr, node)?;
@@ -137,9 +167,10 @@ pub(crate) fn write_use_global(
     t: IntegerType,
 ) -> Result<(), Error>
     requires below { All (λ i. i < length expr.old) (children_of node.now) }
-    requires few { length expr.old + 3 ≤ 2 ^ 32 }
+    requires few { length expr.old + 4 ≤ 2 ^ 32 }
     ensures nodes { IfOk result (λ _.
-        Replaces (UseGlobal t) (node_of node.now) (expression_nodes expr.old) (expression_nodes expr.new)) }
+        Replaces (UseGlobal t) (node_of node.now) (expression_nodes expr.old)
+        (expression_nodes expr.new)) }
     ensures refused { IfErr result (λ e. e ≡ Error.Memory) }
 {
     let x = put_copy(expr, node)?;
@@ -151,7 +182,7 @@ pub(crate) fn write_use_global(
 #[tactic(auto, unfolding(peephole_lang::specs::Lang::place_of, peephole_lang::specs::Lang::payload_of, peephole_lang::specs::Lang::ids_of))]
 pub(crate) fn write_nop(alloc: Global, expr: &mut RecExpr<Lang>, node: &Lang) -> Result<(), Error>
     requires below { All (λ i. i < length expr.old) (children_of node.now) }
-    requires few { length expr.old + 3 ≤ 2 ^ 32 }
+    requires few { length expr.old + 4 ≤ 2 ^ 32 }
     ensures nodes { IfOk result (λ _.
         Replaces Nop (node_of node.now) (expression_nodes expr.old) (expression_nodes expr.new)) }
     ensures refused { IfErr result (λ e. e ≡ Error.Memory) }
@@ -162,5 +193,170 @@ pub(crate) fn write_nop(alloc: Global, expr: &mut RecExpr<Lang>, node: &Lang) ->
     ids.push(nop)?;
     ids.push(x)?;
     put(expr, Lang::Container(ids))?;
+    Ok(())
+}
+
+/// The node, a number of the type, an operator on both, and the same operator on that and the number.
+pub(crate) fn write_complements(
+    expr: &mut RecExpr<Lang>,
+    node: &Lang,
+    byte: u8,
+    t: IntegerType,
+    number: u64,
+) -> Result<(), Error>
+    requires below { All (λ i. i < length expr.old) (children_of node.now) }
+    requires few { length expr.old + 4 ≤ 2 ^ 32 }
+    requires operator { IsBinary byte }
+    ensures nodes { IfOk result (λ _.
+        Replaces (Complements byte t number) (node_of node.now) (expression_nodes expr.old)
+        (expression_nodes expr.new)) }
+    ensures refused { IfErr result (λ e. e ≡ Error.Memory) }
+{
+    let x = put_copy(expr, node)?;
+    let y = put(expr, constant_node(t, number))?;
+    let inner = put(expr, binary_node(byte, x, y))?;
+    put(expr, binary_node(byte, inner, y))?;
+    Ok(())
+}
+
+/// The node's first operand.
+pub(crate) fn write_first(expr: &mut RecExpr<Lang>, node: &Lang) -> Result<(), Error>
+    requires below { All (λ i. i < length expr.old) (children_of node.now) }
+    requires few { length expr.old + 4 ≤ 2 ^ 32 }
+    requires some { 0 < length (children_of node.now) }
+    ensures nodes { IfOk result (λ _.
+        Replaces First (node_of node.now) (expression_nodes expr.old) (expression_nodes expr.new)) }
+    ensures refused { IfErr result (λ e. e ≡ Error.Memory) }
+{
+    let first = node.children()[0];
+    let copy = expr.as_ref()[first.0 as usize].clone_node()?;
+    put(expr, copy)?;
+    Ok(())
+}
+
+/// A number of the type, and an operator on the node's first operand and the number.
+pub(crate) fn write_first_with(
+    expr: &mut RecExpr<Lang>,
+    node: &Lang,
+    byte: u8,
+    t: IntegerType,
+    number: u64,
+) -> Result<(), Error>
+    requires below { All (λ i. i < length expr.old) (children_of node.now) }
+    requires few { length expr.old + 4 ≤ 2 ^ 32 }
+    requires operator { IsBinary byte }
+    requires some { 0 < length (children_of node.now) }
+    ensures nodes { IfOk result (λ _.
+        Replaces (FirstWith byte t number) (node_of node.now) (expression_nodes expr.old)
+        (expression_nodes expr.new)) }
+    ensures refused { IfErr result (λ e. e ≡ Error.Memory) }
+{
+    let first = node.children()[0];
+    let y = put(expr, constant_node(t, number))?;
+    put(expr, binary_node(byte, first, y))?;
+    Ok(())
+}
+
+/// An operator on the node's first operand.
+pub(crate) fn write_first_by(expr: &mut RecExpr<Lang>, node: &Lang, byte: u8) -> Result<(), Error>
+    requires below { All (λ i. i < length expr.old) (children_of node.now) }
+    requires few { length expr.old + 4 ≤ 2 ^ 32 }
+    requires operator { IsUnary byte }
+    requires some { 0 < length (children_of node.now) }
+    ensures nodes { IfOk result (λ _.
+        Replaces (FirstBy byte) (node_of node.now) (expression_nodes expr.old)
+        (expression_nodes expr.new)) }
+    ensures refused { IfErr result (λ e. e ≡ Error.Memory) }
+{
+    let first = node.children()[0];
+    put(expr, unary_node(byte, first))?;
+    Ok(())
+}
+
+/// The second operand's first operand grouped with the first operand.
+pub(crate) fn write_grouped_left(expr: &mut RecExpr<Lang>, node: &Lang) -> Result<(), Error>
+    requires below { All (λ i. i < length expr.old) (children_of node.now) }
+    requires few { length expr.old + 4 ≤ 2 ^ 32 }
+    requires fits { CanReplace GroupLeft
+        (term_over (tree_at (expression_nodes expr.old)) node.now) }
+    ensures nodes { IfOk result (λ _.
+        Replaces GroupLeft (node_of node.now) (expression_nodes expr.old)
+        (expression_nodes expr.new)) }
+    ensures refused { IfErr result (λ e. e ≡ Error.Memory) }
+{
+    let (x, second) = both_children(node);
+    let inner = &expr.as_ref()[second.0 as usize];
+    let (y, z) = both_children(inner);
+    let group = with_children(inner, &[x, y])?;
+    let left = put(expr, group)?;
+    put(expr, with_children(node, &[left, z])?)?;
+    Ok(())
+}
+
+/// The first operand's second operand grouped with the second operand.
+pub(crate) fn write_grouped_right(expr: &mut RecExpr<Lang>, node: &Lang) -> Result<(), Error>
+    requires below { All (λ i. i < length expr.old) (children_of node.now) }
+    requires few { length expr.old + 4 ≤ 2 ^ 32 }
+    requires fits { CanReplace GroupRight
+        (term_over (tree_at (expression_nodes expr.old)) node.now) }
+    ensures nodes { IfOk result (λ _.
+        Replaces GroupRight (node_of node.now) (expression_nodes expr.old)
+        (expression_nodes expr.new)) }
+    ensures refused { IfErr result (λ e. e ≡ Error.Memory) }
+{
+    let (first, z) = both_children(node);
+    let inner = &expr.as_ref()[first.0 as usize];
+    let (x, y) = both_children(inner);
+    let group = with_children(inner, &[y, z])?;
+    let right = put(expr, group)?;
+    put(expr, with_children(node, &[x, right])?)?;
+    Ok(())
+}
+
+/// The test of the node's third operand, and the node with its first two in the other order and that test.
+pub(crate) fn write_turned_select(expr: &mut RecExpr<Lang>, node: &Lang) -> Result<(), Error>
+    requires below { All (λ i. i < length expr.old) (children_of node.now) }
+    requires few { length expr.old + 4 ≤ 2 ^ 32 }
+    requires three { length (children_of node.now) ≡ 3 }
+    ensures nodes { IfOk result (λ _.
+        Replaces TurnSelect (node_of node.now) (expression_nodes expr.old)
+        (expression_nodes expr.new)) }
+    ensures refused { IfErr result (λ e. e ≡ Error.Memory) }
+{
+    let ids = node.children();
+    let (x, y, condition) = (ids[0], ids[1], ids[2]);
+    let test = put(expr, test_node(condition))?;
+    put(expr, with_children(node, &[y, x, test])?)?;
+    Ok(())
+}
+
+/// A container of nothing.
+#[tactic(auto, unfolding(peephole_lang::specs::Lang::place_of, peephole_lang::specs::Lang::payload_of, peephole_lang::specs::Lang::ids_of))]
+pub(crate) fn write_empty(alloc: Global, expr: &mut RecExpr<Lang>, node: &Lang) -> Result<(), Error>
+    requires below { All (λ i. i < length expr.old) (children_of node.now) }
+    requires few { length expr.old + 4 ≤ 2 ^ 32 }
+    ensures nodes { IfOk result (λ _.
+        Replaces Empty (node_of node.now) (expression_nodes expr.old) (expression_nodes expr.new)) }
+    ensures refused { IfErr result (λ e. e ≡ Error.Memory) }
+{
+    put(expr, Lang::Container(Vec::new(alloc)))?;
+    Ok(())
+}
+
+/// A number of the type.
+pub(crate) fn write_number(
+    expr: &mut RecExpr<Lang>,
+    node: &Lang,
+    t: IntegerType,
+    number: u64,
+) -> Result<(), Error>
+    requires below { All (λ i. i < length expr.old) (children_of node.now) }
+    requires few { length expr.old + 4 ≤ 2 ^ 32 }
+    ensures nodes { IfOk result (λ _.
+        Replaces (Number t number) (node_of node.now) (expression_nodes expr.old)
+        (expression_nodes expr.new)) }
+    ensures refused { IfErr result (λ e. e ≡ Error.Memory) }
+{
+    put(expr, constant_node(t, number))?;
     Ok(())
 }

@@ -1,0 +1,6 @@
+-- Those of the nodes so far.
+use Rattle.peephole_rewrites.specs.Making.{Grows, IsAtNodeBefore}
+use Rattle.peephole_rewrites.proofs.rewrites.add_of_tree.Given as goal
+
+abbrev pub invariant-loop-node : goal.invariant-loop-node
+invariant-loop-node l = Grows l.initial.list.items l.list.items (IsAtNodeBefore l.locals l.info.globals l.rules l.at l.node l.tree)

@@ -1,0 +1,3 @@
+pub mod PlainTypes
+pub mod Rewriting
+pub mod Making

@@ -1,0 +1,165 @@
+-- What is read of a node is what its term says.
+use Rattle.std.proofs.Common.{◌≡◌, ℕ, ◌<◌, ◌≤◌, Bool, List, [], ◌∷◌, length, get_or, Option, Some, None, refl, sym, ap, ap₂, ◌∙◌, subst, arith}
+use Rattle.std.specs.Prelude.{◌≢◌, option_and_then}
+use Rattle.std.specs.List.{All}
+use Rattle.mutate_base.specs.declared.types.PrimitiveTypeInfo.{PrimitiveTypeInfo}
+use Rattle.peephole_nodes.specs.declared.id.Id.{Id}
+use Rattle.peephole_lang.specs.declared.lang.Head.{Head}
+use Rattle.peephole_lang.specs.declared.lang.Lang.{Lang}
+use Rattle.peephole_lang.specs.Lang.{place_of, payload_of, ids_of}
+use Rattle.peephole_lang.specs.Node.{head_of, children_of, instr_of}
+use Rattle.peephole_lang.specs.Term.{Term, node, AreBelow, pick, numbers_of}
+use Rattle.peephole_lang.specs.laws.PlaceLemmas.{tree_is, at_place, children_in}
+use Rattle.peephole_machine.specs.declared.integer.IntegerType.{IntegerType}
+use Rattle.peephole_machine.specs.declared.integer.IntegerType.TheVariants as integer
+use Rattle.peephole_rules.specs.declared.shape.Operand.{Operand}
+use Rattle.peephole_rules.specs.declared.shape.Operands.{Operands}
+use Rattle.peephole_rules.specs.declared.shape.Operands.TheVariants.{Leaf, One, Two, Three, More}
+use Rattle.peephole_rules.specs.Operator.{opcode_byte, is_value, has_one_value, number_in, constant_number}
+use Rattle.peephole_rules.specs.Effects.{writes, may_trap}
+use Rattle.peephole_rules.specs.ValueTypes.{instruction_value, type_of_value}
+use Rattle.peephole_rules.specs.Grafted.{expression_nodes, term_at, term_over}
+use Rattle.peephole_rules.specs.Shape.{values_in, operand_of, operands_in, operands_of, shape_of}
+
+pub root_at : (nodes : List Lang) (at : ℕ) (l : Lang) → at < length nodes → l ≡ get_or nodes at l → AreBelow (expression_nodes nodes) →
+    term_at nodes at ≡ term_over (term_at nodes) l
+root_at nodes at l inside is below = tree_is (at_place head_of children_of nodes at l inside is) below
+
+pub children_inside : (nodes : List Lang) (at : ℕ) (l : Lang) → at < length nodes → l ≡ get_or nodes at l → AreBelow (expression_nodes nodes) →
+    All (λ i. i < length nodes) (children_of l)
+children_inside nodes at l inside is below =
+    let h = children_in (at_place head_of children_of nodes at l inside is) below in
+    λ i d k. let m = h i d k in omega arith
+
+-- whether a node leaves one value
+pub value_of : (nodes : List Lang) (at : ℕ) (l : Lang) (b : Bool) → at < length nodes → l ≡ get_or nodes at l → AreBelow (expression_nodes nodes) →
+    b ≡ is_value (opcode_byte (head_of l)) → b ≡ has_one_value (term_at nodes at)
+value_of nodes at l b inside is below e = e ∙ ap has_one_value (sym (root_at nodes at l inside is below))
+
+pub value_told : (locals globals : List PrimitiveTypeInfo) (nodes : List Lang) (at : ℕ) (l : Lang) → at < length nodes → l ≡ get_or nodes at l →
+    AreBelow (expression_nodes nodes) → option_and_then (instruction_value locals globals) (instr_of l) ≡ type_of_value locals globals (term_at nodes at)
+value_told locals globals nodes at l inside is below = ap (type_of_value locals globals) (sym (root_at nodes at l inside is below))
+
+-- ---- children
+
+module _ (f : ℕ → Term Head) where
+  pub two_values : (ids : List Id) (d e : Id) (a b : Bool) → length ids ≡ 2 → a ≡ has_one_value (f (get_or ids 0 d).0) →
+      b ≡ has_one_value (f (get_or ids 1 e).0) → Some (a, b) ≡ values_in (pick f (numbers_of ids))
+  two_values [] d e a b h p q = absurd (omega arith)
+  two_values (x ∷ []) d e a b h p q = absurd (omega arith)
+  two_values (x ∷ y ∷ []) d e a b h p q = ap₂ (λ m n. Some (m, n)) p q
+  two_values (x ∷ y ∷ z ∷ ids) d e a b h p q = absurd (omega arith)
+
+-- ---- an operand
+
+pub operand_told : (nodes : List Lang) (at : ℕ) (l : Lang) (o : Operand) → at < length nodes → l ≡ get_or nodes at l →
+    AreBelow (expression_nodes nodes) → o.opcode ≡ opcode_byte (head_of l) → o.i32_number ≡ constant_number integer.I32 (term_over (term_at nodes) l) →
+    o.i64_number ≡ constant_number integer.I64 (term_over (term_at nodes) l) → o.one_value ≡ is_value (opcode_byte (head_of l)) →
+    o.writes ≡ writes (term_at nodes at) → o.may_trap ≡ may_trap (term_at nodes at) → o.values ≡ values_in (pick (term_at nodes) (children_of l)) →
+    o ≡ operand_of (term_at nodes at)
+operand_told nodes at l o inside is below p q r s w t v =
+    let k = root_at nodes at l inside is below in
+    rebuilt o ∙ (rw (p, q, r, s, w, t, v) (rw k refl))
+  where
+    rebuilt : (o : Operand) → o ≡ record {
+      opcode = o.opcode;
+      i32_number = o.i32_number;
+      i64_number = o.i64_number;
+      one_value = o.one_value;
+      writes = o.writes;
+      may_trap = o.may_trap;
+      values = o.values;
+    }
+    rebuilt o = refl
+
+-- ---- constants
+
+module _ (f : ℕ → Term Head) (t : IntegerType) (l : Lang) where
+  pub no_number : (ids : List Id) → ids ≡ ids_of l → length ids ≢ 0 → None ≡ constant_number t (term_over f l)
+  no_number ids e d = subst (λ (x : List Id). None ≡ constant_number t (node (head_of l) (pick f (numbers_of x)))) e (go t ids d)
+    where
+      go : (t : IntegerType) (ids : List Id) → length ids ≢ 0 → None ≡ constant_number t (node (head_of l) (pick f (numbers_of ids)))
+      go t [] d = absurd (d refl)
+      go t (x ∷ ids) d = refl
+
+pub ids_inside : (nodes : List Lang) (l : Lang) (ids : List Id) → ids ≡ ids_of l → All (λ i. i < length nodes) (children_of l) →
+    All (λ i. i < length nodes) (numbers_of ids)
+ids_inside nodes l ids e a = subst (λ (x : List Id). All (λ i. i < length nodes) (numbers_of x)) (sym e) a
+
+pub values_told : (f : ℕ → Term Head) (l : Lang) (ids : List Id) (d e : Id) (a b : Bool) → ids ≡ ids_of l → length ids ≡ 2 →
+    a ≡ has_one_value (f (get_or ids 0 d).0) → b ≡ has_one_value (f (get_or ids 1 e).0) → Some (a, b) ≡ values_in (pick f (children_of l))
+values_told f l ids d e a b same h p q = two_values f ids d e a b h p q ∙ ap (λ (x : List Id). values_in (pick f (numbers_of x))) same
+
+-- ---- all operands
+
+pub threes : {x x' y y' z z' : Operand} → x ≡ x' → y ≡ y' → z ≡ z' → Three x y z ≡ Three x' y' z'
+threes p q r = cc
+
+module _ (nodes : List Lang) (at : ℕ) (l : Lang) (ids : List Id) (inside : at < length nodes) (is : l ≡ get_or nodes at l)
+    (below : AreBelow (expression_nodes nodes)) (same : ids ≡ ids_of l) where
+  told : operands_in (pick (term_at nodes) (numbers_of ids)) ≡ operands_of (term_at nodes at)
+  told = ap (λ (x : List Id). operands_in (pick (term_at nodes) (numbers_of x))) same ∙ ap operands_of (sym (root_at nodes at l inside is below))
+
+  pub leaf_told : length ids < 1 → Leaf ≡ operands_of (term_at nodes at)
+  leaf_told h = go ids h ∙ told
+    where
+      go : (ids : List Id) → length ids < 1 → Leaf ≡ operands_in (pick (term_at nodes) (numbers_of ids))
+      go [] h = refl
+      go (x ∷ ids) h = absurd (omega arith)
+
+  pub one_told : (d : Id) → 1 ≤ length ids → length ids < 2 → One (operand_of (term_at nodes (get_or ids 0 d).0)) ≡ operands_of (term_at nodes at)
+  one_told d h k = go ids h k ∙ told
+    where
+      go : (ids : List Id) → 1 ≤ length ids → length ids < 2 →
+          One (operand_of (term_at nodes (get_or ids 0 d).0)) ≡ operands_in (pick (term_at nodes) (numbers_of ids))
+      go [] h k = absurd (omega arith)
+      go (x ∷ []) h k = refl
+      go (x ∷ y ∷ ids) h k = absurd (omega arith)
+
+  pub two_told : (d e : Id) → 2 ≤ length ids → length ids < 3 →
+      Two (operand_of (term_at nodes (get_or ids 0 d).0)) (operand_of (term_at nodes (get_or ids 1 e).0)) ≡ operands_of (term_at nodes at)
+  two_told d e h k = go ids h k ∙ told
+    where
+      go : (ids : List Id) → 2 ≤ length ids → length ids < 3 →
+          Two (operand_of (term_at nodes (get_or ids 0 d).0)) (operand_of (term_at nodes (get_or ids 1 e).0))
+          ≡ operands_in (pick (term_at nodes) (numbers_of ids))
+      go [] h k = absurd (omega arith)
+      go (x ∷ []) h k = absurd (omega arith)
+      go (x ∷ y ∷ []) h k = refl
+      go (x ∷ y ∷ z ∷ ids) h k = absurd (omega arith)
+
+  pub three_told : (d e f : Id) → 3 ≤ length ids → length ids < 4 →
+      Three (operand_of (term_at nodes (get_or ids 0 d).0)) (operand_of (term_at nodes (get_or ids 1 e).0)) (operand_of (term_at nodes (get_or ids 2 f).0))
+      ≡ operands_of (term_at nodes at)
+  three_told d e f h k = go ids h k ∙ told
+    where
+      go : (ids : List Id) → 3 ≤ length ids → length ids < 4 →
+          Three (operand_of (term_at nodes (get_or ids 0 d).0)) (operand_of (term_at nodes (get_or ids 1 e).0)) (operand_of (term_at nodes (get_or ids 2 f).0))
+          ≡ operands_in (pick (term_at nodes) (numbers_of ids))
+      go [] h k = absurd (omega arith)
+      go (x ∷ []) h k = absurd (omega arith)
+      go (x ∷ y ∷ []) h k = absurd (omega arith)
+      go (x ∷ y ∷ z ∷ []) h k = refl
+      go (x ∷ y ∷ z ∷ w ∷ ids) h k = absurd (omega arith)
+
+  pub more_told : 4 ≤ length ids → More ≡ operands_of (term_at nodes at)
+  more_told h = go ids h ∙ told
+    where
+      go : (ids : List Id) → 4 ≤ length ids → More ≡ operands_in (pick (term_at nodes) (numbers_of ids))
+      go [] h = absurd (omega arith)
+      go (x ∷ []) h = absurd (omega arith)
+      go (x ∷ y ∷ []) h = absurd (omega arith)
+      go (x ∷ y ∷ z ∷ []) h = absurd (omega arith)
+      go (x ∷ y ∷ z ∷ w ∷ ids) h = refl
+
+-- ---- the whole shape
+
+pub shape_told : (locals globals : List PrimitiveTypeInfo) (lent nodes : List Lang) (at : ℕ) (l : Lang) (t : Option IntegerType) (o : Operand) (os : Operands) →
+    lent ≡ nodes → at < length nodes → l ≡ get_or lent at l → AreBelow (expression_nodes nodes) →
+    t ≡ option_and_then (instruction_value locals globals) (instr_of l) → o ≡ operand_of (term_at lent at) → os ≡ operands_of (term_at lent at) →
+    record { value = t; root = o; operands = os } ≡ shape_of locals globals (term_at nodes at)
+shape_told locals globals lent nodes at l t o os same inside is below p q r =
+    let v = p ∙ value_told locals globals nodes at l inside (is ∙ ap (λ (x : List Lang). get_or x at l) same) below in
+    let w = q ∙ ap (λ (x : List Lang). operand_of (term_at x at)) same in
+    let u = r ∙ ap (λ (x : List Lang). operands_of (term_at x at)) same in
+    rw (v, w, u) refl

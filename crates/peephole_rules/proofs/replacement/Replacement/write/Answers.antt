@@ -1,0 +1,20 @@
+use Rattle.std.proofs.Common.{subst}
+use Rattle.peephole_lang.specs.Node.{head_of, children_of}
+use Rattle.peephole_lang.specs.Term.{tree_at}
+use Rattle.peephole_rules.specs.Grafted.{expression_nodes, term_over}
+use Rattle.peephole_rules.specs.Replacement.{CanReplace}
+use Rattle.peephole_rules.proofs.WrittenLemmas.{swap_two, turn_two, select_three}
+use Rattle.peephole_rules.proofs.replacement.Replacement.write.Goals as goal
+
+pub write_swapped-requires-clause-two : goal.write_swapped-requires-clause-two
+write_swapped-requires-clause-two c = swap_two (head_of c.args.node.now) (tree_at (expression_nodes c.args.expr.now)) (children_of c.args.node.now)
+    (subst (λ r. CanReplace r (term_over (tree_at (expression_nodes c.args.expr.now)) c.args.node.now)) c.in-Swap.is c.requires.fits)
+
+pub write_turned-requires-clause-two : goal.write_turned-requires-clause-two
+write_turned-requires-clause-two c = turn_two (head_of c.args.node.now) (tree_at (expression_nodes c.args.expr.now)) c.in-Turn.byte
+    (children_of c.args.node.now)
+    (subst (λ r. CanReplace r (term_over (tree_at (expression_nodes c.args.expr.now)) c.args.node.now)) c.in-Turn.is c.requires.fits)
+
+pub write_turned_select-requires-clause-three : goal.write_turned_select-requires-clause-three
+write_turned_select-requires-clause-three c = select_three (head_of c.args.node.now) (tree_at (expression_nodes c.args.expr.now)) (children_of c.args.node.now)
+    (subst (λ r. CanReplace r (term_over (tree_at (expression_nodes c.args.expr.now)) c.args.node.now)) c.in-TurnSelect.is c.requires.fits)

@@ -1,0 +1,77 @@
+//! What an operator on constants gives.
+ghost use Rattle.std.specs.Prelude.{◌≡◌, option_map, option_and_then, IfSome};
+ghost use Rattle.peephole_machine.specs.Values.{IsOfType};
+ghost use Rattle.peephole_machine.specs.IntegerRow.{bare_operator};
+ghost use Rattle.peephole_machine.specs.Operation.{operator_of};
+ghost use Rattle.peephole_rules.specs.Choice.{typed_number, folded_number, folded, on_one, on_two};
+ghost use Rattle.peephole_rules.specs.declared.replacement.Replacement.TheVariants.{Number};
+
+use crate::choice::number_of;
+use crate::constant::within_width;
+use crate::replacement::Replacement;
+use crate::shape::{Operand, Operands};
+use crate::value_types::integer_of;
+use mutate_base::PrimitiveTypeInfo;
+use peephole_machine::Operation;
+
+// The low bits of an operand's number, where the operand is a constant of the type.
+fn typed_number(t: PrimitiveTypeInfo, x: Operand) -> Option<u64>
+    ensures number { result ≡ typed_number t x }
+    ensures fits { IfSome result (λ n. IsOfType t n) }
+{
+    let integer = integer_of(t)?;
+    Some(within_width(integer, number_of(integer, x)?))
+}
+
+fn on_one(f: Operation, x: Operand) -> Option<u64>
+    ensures { result ≡ on_one (operator_of f) (operator_of f).operands x }
+{
+    let [t] = f.operands() else {
+        return None;
+    };
+    f.value(&[typed_number(*t, x)?])
+}
+
+fn on_two(f: Operation, x: Operand, y: Operand) -> Option<u64>
+    ensures { result ≡ on_two (operator_of f) (operator_of f).operands x y }
+{
+    let [t, u] = f.operands() else {
+        return None;
+    };
+    let n = typed_number(*t, x)?;
+    let m = typed_number(*u, y)?;
+    f.value(&[n, m])
+}
+
+fn folded_number(f: Operation, operands: Operands) -> Option<u64>
+    ensures { result ≡ folded_number (operator_of f) operands }
+{
+    match operands {
+        Operands::One(x) => on_one(f, x),
+        Operands::Two(x, y) => on_two(f, x, y),
+        _ => None,
+    }
+}
+
+// The operator of an opcode.
+fn operation_of(opcode: Option<u8>) -> Option<Operation>
+    ensures { option_map operator_of result ≡ option_and_then bare_operator opcode }
+{
+    Operation::from_byte(opcode?)
+}
+
+// The number that it gives.
+fn number_by(f: Operation, operands: Operands) -> Option<Replacement>
+    ensures { result ≡ option_map (λ n. Number (operator_of f).result n)
+        (folded_number (operator_of f) operands) }
+{
+    let number = folded_number(f, operands)?;
+    Some(Replacement::Number(f.result(), number))
+}
+
+/// The constant of what an operator on constants gives, where it doesn't trap.
+pub(crate) fn folded(opcode: Option<u8>, operands: Operands) -> Option<Replacement>
+    ensures { result ≡ folded opcode operands }
+{
+    number_by(operation_of(opcode)?, operands)
+}
