@@ -2,9 +2,11 @@
 //! examples of blocks, graphs, terms and written bodies, as tests.
 #![tactic(auto)]
 
+mod mutating;
 mod replacing;
 mod uses;
 
+pub use mutating::mutate;
 pub use replacing::{ReplaceError, Replaced, replace};
 pub use uses::tree_of;
 
@@ -21,9 +23,13 @@ mod memory;
 #[cfg(test)]
 mod refused;
 #[cfg(test)]
+mod refused_rewrites;
+#[cfg(test)]
 mod replacements;
 #[cfg(test)]
 mod rereading;
+#[cfg(test)]
+mod rewrites;
 #[cfg(test)]
 mod rules;
 #[cfg(test)]

@@ -4,10 +4,10 @@ ghost use Rattle.std.specs.Prelude.{◌≡◌, ◌<◌, length, IfOk};
 
 use crate::expansions::is_expanded;
 use crate::graphs::block_of;
-use crate::refused;
 use crate::terms::Outcome;
 use crate::uses::tree_of;
 use crate::writing::{at, is_written};
+use crate::{refused, refused_rewrites};
 use peephole_terms::{
     DFGBuilder, Error, Id, Language, MiniDFG, ModuleInfo, OperatorAndByteOffset, RecExpr,
     WasmMutate, Words, read_body,
@@ -251,4 +251,24 @@ fn codes(rt: HostRuntime) {
 #[test]
 fn bodies(rt: HostRuntime) {
     refused::bodies(&rt, rt.alloc());
+}
+
+#[test]
+fn rewritten_terms(rt: HostRuntime) {
+    refused_rewrites::terms(&rt, rt.alloc());
+}
+
+#[test]
+fn lists_of_rewrites(rt: HostRuntime) {
+    refused_rewrites::lists(&rt, rt.alloc());
+}
+
+#[test]
+fn rewritten_bodies(rt: HostRuntime) {
+    refused_rewrites::bodies(&rt, rt.alloc());
+}
+
+#[test]
+fn chosen_bodies(rt: HostRuntime) {
+    refused_rewrites::choices(&rt, rt.alloc());
 }

@@ -32,7 +32,7 @@ pub enum Refused {
 
 /// What was refused up to here: one request at most. `answer` is whether the last call answered `Memory`, or `Memory` where
 /// the test couldn't make that call.
-fn with_answer(rt: &impl Abort, before: Refused, answer: Result<bool, Error>) -> Refused {
+pub fn with_answer(rt: &impl Abort, before: Refused, answer: Result<bool, Error>) -> Refused {
     let now = match answer {
         Ok(false) => return before,
         Ok(true) => Refused::Call,
@@ -46,7 +46,7 @@ fn with_answer(rt: &impl Abort, before: Refused, answer: Result<bool, Error>) ->
 }
 
 /// Ends the test where a call refuses for something else than memory.
-fn is_memory(rt: &impl Abort, error: Error) -> bool {
+pub fn is_memory(rt: &impl Abort, error: Error) -> bool {
     assert!(rt; error == Error::Memory);
     true
 }
@@ -148,7 +148,7 @@ fn are_nodes(rt: &impl Abort, expr: &RecExpr<Lang>, wanted: &RecExpr<Lang>) {
 }
 
 /// Whether an expression is refused for memory; else it has these nodes.
-fn lacks_nodes(
+pub fn lacks_nodes(
     rt: &impl Abort,
     answer: Result<RecExpr<Lang>, Error>,
     wanted: &RecExpr<Lang>,

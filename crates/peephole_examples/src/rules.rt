@@ -1,10 +1,13 @@
 //! Rules: what they make of terms, told by hand; their names; and what their conditions go by.
 
 mod random_blocks;
-mod running;
+pub mod running;
 
 use crate::terms::term_of;
-use peephole_rules::{RULES, Rule, has_one_value, opcode_byte, undisturbed, value_type, writes};
+use peephole_rules::{
+    Effects, RULES, Rule, UnknownRule, constant_number, has_one_value, may_trap, opcode_byte,
+    undisturbed, value_type, writes,
+};
 use peephole_terms::peephole_machine::IntegerType;
 use peephole_terms::{Lang, ModuleInfo, PrimitiveTypeInfo, RecExpr};
 use std::alloc::{AllocError, Global};
@@ -46,6 +49,9 @@ fn is_applied(
 ) -> Result<(), Fail> {
     let info = module_of(alloc)?;
     let term = term_of(rt, alloc, lines)?;
+    let effects = Effects::of(alloc, &term)?;
+    let applies = rule.applies(&LOCALS, &info, &effects, &term, at);
+    assert!(rt; applies == wanted.is_some(), "{rule} at {at} of {lines:?}");
     let answer = rule.apply(alloc, &LOCALS, &info, &term, at)?;
     let Some(wanted) = wanted else {
         assert!(rt; answer.is_none(), "{rule} at {at} of {lines:?}");
@@ -67,7 +73,7 @@ type Answer = (
 );
 
 /// The root is rewritten.
-const ANSWERS: [Answer; 17] = [
+const ANSWERS: [Answer; 44] = [
     (
         Rule::Commute,
         &["local.get.0", "local.get.1", "wrap 1", "i32.xor 0 2"],
@@ -188,6 +194,232 @@ const ANSWERS: [Answer; 17] = [
         &["local.get.2", "drop 0"],
         1,
         &["local.get.2", "drop 0", "nop", "container 2 1"],
+    ),
+    // Operands in other groups.
+    (
+        Rule::AssociateLeft,
+        &[
+            "local.get.0",
+            "i32.const.5",
+            "global.get.0",
+            "i32.add 1 2",
+            "i32.add 0 3",
+        ],
+        4,
+        &[
+            "local.get.0",
+            "i32.const.5",
+            "global.get.0",
+            "i32.add 1 2",
+            "i32.add 0 1",
+            "i32.add 4 2",
+        ],
+    ),
+    (
+        Rule::AssociateRight,
+        &[
+            "local.get.1",
+            "i64.const.3",
+            "i64.xor 0 1",
+            "i64.const.-1",
+            "i64.xor 2 3",
+        ],
+        4,
+        &[
+            "local.get.1",
+            "i64.const.3",
+            "i64.xor 0 1",
+            "i64.const.-1",
+            "i64.xor 1 3",
+            "i64.xor 0 4",
+        ],
+    ),
+    (
+        Rule::AndOnes,
+        &["local.get.0"],
+        0,
+        &["local.get.0", "i32.const.-1", "i32.and 0 1"],
+    ),
+    (
+        Rule::DoubleComplement,
+        &["local.get.1"],
+        0,
+        &["local.get.1", "i64.const.-1", "i64.xor 0 1", "i64.xor 2 1"],
+    ),
+    // The greatest shifts, and the products that they are.
+    (
+        Rule::ShiftToProduct,
+        &["local.get.0", "i32.const.31", "i32.shl 0 1"],
+        2,
+        &[
+            "local.get.0",
+            "i32.const.31",
+            "i32.const.-2147483648",
+            "i32.mul 0 2",
+        ],
+    ),
+    (
+        Rule::ShiftToProduct,
+        &["local.get.1", "i64.const.63", "i64.shl 0 1"],
+        2,
+        &[
+            "local.get.1",
+            "i64.const.63",
+            "i64.const.-9223372036854775808",
+            "i64.mul 0 2",
+        ],
+    ),
+    (
+        Rule::ProductToShift,
+        &["local.get.0", "i32.const.-2147483648", "i32.mul 0 1"],
+        2,
+        &[
+            "local.get.0",
+            "i32.const.-2147483648",
+            "i32.const.31",
+            "i32.shl 0 2",
+        ],
+    ),
+    (
+        Rule::ProductToShift,
+        &["local.get.1", "i64.const.1", "i64.mul 0 1"],
+        2,
+        &["local.get.1", "i64.const.1", "i64.const.0", "i64.shl 0 2"],
+    ),
+    // Numbers negated: the least one is its own opposite, and so is 0.
+    (
+        Rule::DifferenceToSum,
+        &["local.get.0", "i32.const.-2147483648", "i32.sub 0 1"],
+        2,
+        &[
+            "local.get.0",
+            "i32.const.-2147483648",
+            "i32.const.-2147483648",
+            "i32.add 0 2",
+        ],
+    ),
+    (
+        Rule::DifferenceToSum,
+        &["local.get.1", "i64.const.7", "i64.sub 0 1"],
+        2,
+        &["local.get.1", "i64.const.7", "i64.const.-7", "i64.add 0 2"],
+    ),
+    (
+        Rule::SumToDifference,
+        &["local.get.1", "i64.const.0", "i64.add 0 1"],
+        2,
+        &["local.get.1", "i64.const.0", "i64.const.0", "i64.sub 0 2"],
+    ),
+    (
+        Rule::SumToDifference,
+        &["local.get.0", "i32.const.-1", "i32.add 0 1"],
+        2,
+        &["local.get.0", "i32.const.-1", "i32.const.1", "i32.sub 0 2"],
+    ),
+    (
+        Rule::TestToComparison,
+        &["local.get.1", "i64.eqz 0"],
+        1,
+        &["local.get.1", "i64.const.0", "i64.eq 0 1"],
+    ),
+    (
+        Rule::ComparisonToTest,
+        &["local.get.0", "i32.const.0", "i32.eq 0 1"],
+        2,
+        &["local.get.0", "i32.const.0", "i32.eqz 0"],
+    ),
+    (
+        Rule::TurnSelect,
+        &["local.get.0", "i32.const.5", "global.get.0", "select 0 1 2"],
+        3,
+        &[
+            "local.get.0",
+            "i32.const.5",
+            "global.get.0",
+            "i32.eqz 2",
+            "select 1 0 3",
+        ],
+    ),
+    // The first operand again, with its children.
+    (
+        Rule::DropAddZero,
+        &["local.get.0", "i32.clz 0", "i32.const.0", "i32.add 1 2"],
+        3,
+        &["local.get.0", "i32.clz 0", "i32.const.0", "i32.clz 0"],
+    ),
+    (
+        Rule::DropSubZero,
+        &["local.get.1", "i64.const.0", "i64.sub 0 1"],
+        2,
+        &["local.get.1", "i64.const.0", "local.get.1"],
+    ),
+    (
+        Rule::DropMulOne,
+        &["local.get.0", "i32.const.1", "i32.mul 0 1"],
+        2,
+        &["local.get.0", "i32.const.1", "local.get.0"],
+    ),
+    (
+        Rule::DropOrZero,
+        &["local.get.1", "i64.const.0", "i64.or 0 1"],
+        2,
+        &["local.get.1", "i64.const.0", "local.get.1"],
+    ),
+    (
+        Rule::DropXorZero,
+        &["local.get.0", "i32.const.0", "i32.xor 0 1"],
+        2,
+        &["local.get.0", "i32.const.0", "local.get.0"],
+    ),
+    (
+        Rule::DropAndOnes,
+        &["local.get.1", "i64.const.-1", "i64.and 0 1"],
+        2,
+        &["local.get.1", "i64.const.-1", "local.get.1"],
+    ),
+    (
+        Rule::DropShiftByZero,
+        &["local.get.0", "i32.const.0", "i32.shl 0 1"],
+        2,
+        &["local.get.0", "i32.const.0", "local.get.0"],
+    ),
+    (
+        Rule::Forget,
+        &["local.get.0", "i32.const.3", "i32.add 0 1", "drop 2"],
+        3,
+        &["local.get.0", "i32.const.3", "i32.add 0 1", "container"],
+    ),
+    (
+        Rule::Fold,
+        &["i32.const.5", "i32.const.-7", "i32.add 0 1"],
+        2,
+        &["i32.const.5", "i32.const.-7", "i32.const.-2"],
+    ),
+    (
+        Rule::Fold,
+        &["i64.const.-1", "i64.clz 0"],
+        1,
+        &["i64.const.-1", "i64.const.0"],
+    ),
+    (
+        Rule::Fold,
+        &[
+            "i64.const.-9223372036854775808",
+            "i64.const.2",
+            "i64.div_s 0 1",
+        ],
+        2,
+        &[
+            "i64.const.-9223372036854775808",
+            "i64.const.2",
+            "i64.const.-4611686018427387904",
+        ],
+    ),
+    (
+        Rule::Fold,
+        &["i64.const.4294967295", "wrap 0"],
+        1,
+        &["i64.const.4294967295", "i32.const.-1"],
     ),
 ];
 
@@ -380,7 +612,7 @@ fn answers(rt: HostRuntime) -> Result<(), Fail> {
 /// A rule, a term's nodes, and a node at which the rule has no answer.
 type NoAnswer = (Rule, &'static [&'static str], usize);
 
-const NO_ANSWERS: [NoAnswer; 22] = [
+const NO_ANSWERS: [NoAnswer; 52] = [
     // One operand; an operand that writes, itself or below; one without an opcode; one that leaves nothing.
     (Rule::Commute, &["local.get.0", "i32.eqz 0"], 1),
     (
@@ -451,6 +683,145 @@ const NO_ANSWERS: [NoAnswer; 22] = [
     (Rule::Unfold, &["f32.const.3f800000"], 0),
     (Rule::ThroughGlobal, &["local.get.2"], 0),
     (Rule::ThroughGlobal, &["local.get.0", "local.set.0 0"], 1),
+    // Two operators; one that may not be grouped.
+    (
+        Rule::AssociateLeft,
+        &["local.get.0", "i32.const.5", "i32.add 0 1", "i32.mul 0 2"],
+        3,
+    ),
+    (
+        Rule::AssociateLeft,
+        &["local.get.0", "i32.const.5", "i32.sub 0 1", "i32.sub 0 2"],
+        3,
+    ),
+    (
+        Rule::AssociateRight,
+        &["local.get.0", "i32.const.5", "i32.add 0 1", "i32.sub 2 1"],
+        3,
+    ),
+    (
+        Rule::AssociateRight,
+        &["local.get.0", "i32.const.5", "i32.add 0 1"],
+        2,
+    ),
+    // A float, and nothing.
+    (Rule::AndOnes, &["local.get.2"], 0),
+    (Rule::DoubleComplement, &["local.get.0", "drop 0"], 1),
+    // A shift by the width, and by more; no power of two.
+    (
+        Rule::ShiftToProduct,
+        &["local.get.0", "i32.const.32", "i32.shl 0 1"],
+        2,
+    ),
+    (
+        Rule::ShiftToProduct,
+        &["local.get.1", "i64.const.-1", "i64.shl 0 1"],
+        2,
+    ),
+    (
+        Rule::ProductToShift,
+        &["local.get.0", "i32.const.6", "i32.mul 0 1"],
+        2,
+    ),
+    (
+        Rule::ProductToShift,
+        &["local.get.1", "i64.const.0", "i64.mul 0 1"],
+        2,
+    ),
+    // The constant stands first, or is none.
+    (
+        Rule::DifferenceToSum,
+        &["i32.const.5", "local.get.0", "i32.sub 0 1"],
+        2,
+    ),
+    (
+        Rule::SumToDifference,
+        &["local.get.0", "local.get.0", "i32.add 0 1"],
+        2,
+    ),
+    (Rule::TestToComparison, &["local.get.0", "i32.clz 0"], 1),
+    (
+        Rule::ComparisonToTest,
+        &["local.get.0", "i32.const.1", "i32.eq 0 1"],
+        2,
+    ),
+    // An operand that writes; a select with its type written.
+    (
+        Rule::TurnSelect,
+        &[
+            "i32.const.5",
+            "local.tee.0 0",
+            "local.get.0",
+            "select 1 2 2",
+        ],
+        3,
+    ),
+    (Rule::TurnSelect, &["local.get.0", "select.i32 0 0 0"], 1),
+    // Other numbers, other places, and a constant of the other type.
+    (
+        Rule::DropAddZero,
+        &["local.get.0", "i32.const.1", "i32.add 0 1"],
+        2,
+    ),
+    (
+        Rule::DropSubZero,
+        &["i32.const.0", "local.get.0", "i32.sub 0 1"],
+        2,
+    ),
+    (
+        Rule::DropMulOne,
+        &["local.get.0", "i32.const.0", "i32.mul 0 1"],
+        2,
+    ),
+    (
+        Rule::DropOrZero,
+        &["local.get.0", "i64.const.0", "i32.or 0 1"],
+        2,
+    ),
+    (
+        Rule::DropXorZero,
+        &["local.get.0", "i32.const.-1", "i32.xor 0 1"],
+        2,
+    ),
+    (
+        Rule::DropAndOnes,
+        &["local.get.0", "i32.const.1", "i32.and 0 1"],
+        2,
+    ),
+    (
+        Rule::DropShiftByZero,
+        &["local.get.0", "i32.const.32", "i32.shl 0 1"],
+        2,
+    ),
+    // What may trap, or writes.
+    (Rule::Forget, &["local.get.0", "i32.div_u 0 0", "drop 1"], 2),
+    (Rule::Forget, &["i32.const.5", "local.tee.0 0", "drop 1"], 2),
+    (Rule::Forget, &["local.get.0", "local.set.0 0"], 1),
+    // Traps; an operand that is no constant, or one of the other type.
+    (
+        Rule::Fold,
+        &["i32.const.5", "i32.const.0", "i32.div_u 0 1"],
+        2,
+    ),
+    (
+        Rule::Fold,
+        &[
+            "i64.const.-9223372036854775808",
+            "i64.const.-1",
+            "i64.div_s 0 1",
+        ],
+        2,
+    ),
+    (
+        Rule::Fold,
+        &["i32.const.5", "local.get.0", "i32.add 0 1"],
+        2,
+    ),
+    (
+        Rule::Fold,
+        &["i32.const.5", "i64.const.0", "i32.add 0 1"],
+        2,
+    ),
 ];
 
 /// Places behind the nodes: for no rule there is an answer, though one writes a nop before any node.
@@ -474,20 +845,40 @@ fn no_answers(rt: HostRuntime) -> Result<(), Fail> {
     Ok(())
 }
 
-const NAMES: [&str; 13] = [
+const NAMES: [&str; 33] = [
     "commute",
     "turn_comparison",
+    "associate_left",
+    "associate_right",
     "add_zero",
     "sub_zero",
     "mul_one",
     "or_zero",
     "xor_zero",
+    "and_ones",
     "shift_by_zero",
     "or_self",
     "and_self",
+    "double_complement",
+    "shift_to_product",
+    "product_to_shift",
+    "difference_to_sum",
+    "sum_to_difference",
+    "test_to_comparison",
+    "comparison_to_test",
+    "turn_select",
     "unfold",
     "through_global",
     "with_nop",
+    "fold",
+    "drop_add_zero",
+    "drop_sub_zero",
+    "drop_mul_one",
+    "drop_or_zero",
+    "drop_xor_zero",
+    "drop_and_ones",
+    "drop_shift_by_zero",
+    "forget",
 ];
 
 #[test]
@@ -496,9 +887,13 @@ fn names(rt: HostRuntime) -> Result<(), Fail> {
         let text = format!(in rt.alloc(); "{rule}")?;
         assert!(rt; text.as_str() == *name && rule.name() == *name);
         assert!(rt; Rule::from_name(&text) == Some(*rule), "{name}");
+        let parsed: Rule = text.parse()?;
+        assert!(rt; parsed == *rule, "{name}");
     }
     for name in ["", "Commute", "commute ", "with nop", "add", "rule"] {
         assert!(rt; Rule::from_name(name).is_none(), "{name}");
+        let parsed: Result<Rule, UnknownRule> = name.parse();
+        assert!(rt; parsed == Err(UnknownRule), "{name}");
     }
     Ok(())
 }
@@ -634,6 +1029,47 @@ fn is_told(rt: &impl Abort, alloc: Global, told: &Told) -> Result<(), Fail> {
     assert!(rt; is_still == (has_one && !may_write), "{node}");
     assert!(rt; !undisturbed(alloc, &term, last, term.len())?, "{node}");
     assert!(rt; !undisturbed(alloc, &term, term.len(), last)?, "{node}");
+    Ok(())
+}
+
+/// A term's nodes, and whether the term may trap.
+const TRAPS: [(&[&str], bool); 5] = [
+    (&["local.get.0", "i32.rotl 0 0"], false),
+    (&["local.get.0", "i32.div_s 0 0"], true),
+    (&["local.get.0", "i32.rem_u 0 0", "i32.eqz 1"], true),
+    (&["local.get.1", "i64.div_u 0 0", "local.get.0"], false),
+    (&["local.get.0", "i32.use_of_global 0"], true),
+];
+
+/// A node, and its number as a constant of each type.
+const NUMBERS: [(&str, Option<u64>, Option<u64>); 5] = [
+    ("i32.const.7", Some(7), None),
+    ("i32.const.-1", Some(4294967295), None),
+    ("i64.const.-1", None, Some(18446744073709551615)),
+    (
+        "i64.const.-9223372036854775808",
+        None,
+        Some(9223372036854775808),
+    ),
+    ("i32.rand", None, None),
+];
+
+#[test]
+fn traps_and_numbers(rt: HostRuntime) -> Result<(), Fail> {
+    let alloc = rt.alloc();
+    for (lines, wanted) in TRAPS {
+        let term = term_of(&rt, alloc, lines)?;
+        let last = term.len().saturating_sub(1);
+        assert!(rt; may_trap(alloc, &term, last)? == wanted, "{lines:?}");
+        assert!(rt; !may_trap(alloc, &term, term.len())?, "{lines:?}");
+    }
+    for (line, small, large) in NUMBERS {
+        let term = term_of(&rt, alloc, &[line])?;
+        for node in term.as_ref() {
+            assert!(rt; constant_number(IntegerType::I32, node) == small, "{line}");
+            assert!(rt; constant_number(IntegerType::I64, node) == large, "{line}");
+        }
+    }
     Ok(())
 }
 

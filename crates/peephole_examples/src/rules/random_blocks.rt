@@ -5,15 +5,14 @@ ghost use Rattle.std.specs.Prelude.{IsTrue, is_some};
 use super::running::{
     EDGES, GLOBALS, LOCALS, Variables, code_of, config_of, end_the_same, value_of,
 };
-use crate::graphs::block_of;
 use crate::replacing::Replaced;
-use crate::terms::assert_writable;
-use crate::writing::{operators_of, term_at};
+use crate::writing::operators_of;
+use peephole_rewrites::rewrite_block_at_random;
 use peephole_rules::{RULES, Rule};
 use peephole_terms::PrimitiveTypeInfo::{I32, I64};
 use peephole_terms::{
-    DFGBuilder, Encoder, Error, Function, Imm, Instr, Lang, MiniDFG, ModuleInfo, Opcode,
-    PrimitiveTypeInfo, RecExpr, ResourceRequest, ValType, WasmMutate, Words, row_of,
+    BBlock, Error, Function, Imm, Instr, Opcode, PrimitiveTypeInfo, ResourceRequest, ValType,
+    WasmMutate, Words, row_of,
 };
 use peephole_vectors::Value;
 use std::alloc::{AllocError, Global};
@@ -48,9 +47,9 @@ impl Draws {
     /// A number of each type: an edge, a small one, or any.
     fn numbers(&mut self) -> (u32, u64) {
         let word = self.word();
-        match (self.below(3), EDGES.get(self.below(5))) {
-            (0, Some(edge)) => *edge,
-            (1, _) => ((word & 0x3f) as u32, word & 0x7f),
+        match (self.below(4), EDGES.get(self.below(5))) {
+            (0 | 1, Some(edge)) => *edge,
+            (2, _) => ((word & 0x3f) as u32, word & 0x7f),
             _ => ((word & 0xffff_ffff) as u32, word),
         }
     }
@@ -71,8 +70,8 @@ struct Shape {
     opcodes: &'static [u8],
 }
 
-/// The operators that leave an i32. What commutes, and `local.tee`, stand there twice.
-const OF_I32: [Shape; 9] = [
+/// The operators that leave an i32. What commutes, what has rules of its own, and `local.tee`, stand there twice.
+const OF_I32: [Shape; 12] = [
     Shape {
         operands: &[I32, I32],
         opcodes: &[
@@ -83,6 +82,18 @@ const OF_I32: [Shape; 9] = [
     Shape {
         operands: &[I32, I32],
         opcodes: &[0x6a, 0x6c, 0x71, 0x72, 0x73],
+    },
+    Shape {
+        operands: &[I32, I32],
+        opcodes: &[0x46, 0x6b, 0x6c, 0x74],
+    },
+    Shape {
+        operands: &[I32],
+        opcodes: &[0x45],
+    },
+    Shape {
+        operands: &[I64, I64],
+        opcodes: &[0x51],
     },
     Shape {
         operands: &[I32, I32],
@@ -115,7 +126,7 @@ const OF_I32: [Shape; 9] = [
 ];
 
 /// The same of an i64.
-const OF_I64: [Shape; 7] = [
+const OF_I64: [Shape; 8] = [
     Shape {
         operands: &[I64, I64],
         opcodes: &[
@@ -126,6 +137,10 @@ const OF_I64: [Shape; 7] = [
     Shape {
         operands: &[I64, I64],
         opcodes: &[0x7c, 0x7e, 0x83, 0x84, 0x85],
+    },
+    Shape {
+        operands: &[I64, I64],
+        opcodes: &[0x7d, 0x7e, 0x86],
     },
     Shape {
         operands: &[I64],
@@ -180,10 +195,10 @@ fn imm_of(draws: &mut Draws, opcode: u8, t: PrimitiveTypeInfo) -> Imm {
 /// A constant of the type, or a read of a variable.
 fn leaf_of(draws: &mut Draws, t: PrimitiveTypeInfo) -> (u8, Imm) {
     let (small, large) = draws.numbers();
-    match (draws.below(4), t) {
+    match (draws.below(5), t) {
         (0, _) => (0x23, global_of(t)),
-        (1, I64) => (0x42, Imm::I64(large.cast_signed())),
-        (1, _) => (0x41, Imm::I32(small.cast_signed())),
+        (1 | 2, I64) => (0x42, Imm::I64(large.cast_signed())),
+        (1 | 2, _) => (0x41, Imm::I32(small.cast_signed())),
         _ => (0x20, local_of(draws, t)),
     }
 }
@@ -278,97 +293,94 @@ fn random_body(rt: &impl Abort, alloc: Global, draws: &mut Draws) -> Result<Func
     Ok(sink)
 }
 
-/// The operators of the graph's roots.
-fn roots_of(alloc: Global, graph: &MiniDFG) -> Result<Vec<usize>, AllocError> {
-    let mut roots = Vec::new(alloc);
-    for (entry, parent) in graph.entries().iter().zip(graph.parents()) {
-        if parent.is_none() {
-            roots.push(entry.operator_idx)?;
-        }
-    }
-    Ok(roots)
-}
-
-/// The rules whose answers depend on what may write a variable.
-const CONDITIONAL: [Rule; 4] = [
+/// The rules whose answers depend on what may write a variable or trap, and one that has few other chances.
+const CONDITIONAL: [Rule; 8] = [
     Rule::Commute,
     Rule::TurnComparison,
     Rule::OrSelf,
     Rule::AndSelf,
+    Rule::TestToComparison,
+    Rule::TurnSelect,
+    Rule::Fold,
+    Rule::Forget,
 ];
 
-/// The term rewritten by the rule at a node, the first one from a random one down at which there is an answer, or none.
+/// The rules whose patterns a random tree seldom has.
+const SELDOM: [Rule; 14] = [
+    Rule::AssociateLeft,
+    Rule::AssociateRight,
+    Rule::ShiftToProduct,
+    Rule::ProductToShift,
+    Rule::DifferenceToSum,
+    Rule::SumToDifference,
+    Rule::ComparisonToTest,
+    Rule::DropAddZero,
+    Rule::DropSubZero,
+    Rule::DropMulOne,
+    Rule::DropOrZero,
+    Rule::DropXorZero,
+    Rule::DropAndOnes,
+    Rule::DropShiftByZero,
+];
+
+/// The body with a node of its block rewritten by one of the rules, or none where there is nothing to rewrite.
 fn rewritten_by(
     alloc: Global,
-    draws: &mut Draws,
-    info: &ModuleInfo,
-    term: &RecExpr<Lang>,
-    rule: Rule,
-) -> Result<Option<RecExpr<Lang>>, Error> {
-    let count = term.len();
-    let behind = draws.below(count).min(draws.below(count));
-    for offset in behind..count.saturating_add(behind) {
-        let at = count.wrapping_mul(2).wrapping_sub(offset).wrapping_sub(1);
-        let at = at.checked_rem(count).unwrap_or(0);
-        if let Some(new) = rule.apply(alloc, &LOCALS, info, term, at)? {
-            return Ok(Some(new));
-        }
-    }
-    Ok(None)
-}
-
-/// The term rewritten by a random rule that has an answer somewhere in it. Adds the rule to the list.
-fn rewritten_term(
-    rt: &impl Abort,
-    alloc: Global,
-    draws: &mut Draws,
-    info: &ModuleInfo,
-    term: &RecExpr<Lang>,
-    rules: &mut Vec<Rule>,
-) -> Result<RecExpr<Lang>, Error> {
-    for _ in 0..1_000 {
-        let rule = match draws.below(2) {
-            0 => pick(rt, draws, &CONDITIONAL),
-            _ => pick(rt, draws, &RULES),
-        };
-        if let Some(new) = rewritten_by(alloc, draws, info, term, rule)? {
-            rules.push(rule)?;
-            return Ok(new);
-        }
-    }
-    panic!(rt; "no rule has an answer")
-}
-
-/// The body with the tree of a random root rewritten, or none where its block isn't in order. Adds the rule to the list.
-fn rewritten_body(
-    rt: &impl Abort,
-    alloc: Global,
-    draws: &mut Draws,
     config: &mut WasmMutate<Words>,
     bytes: &[u8],
-    rules: &mut Vec<Rule>,
-) -> Result<Option<Replaced>, Error>
+    from: &[Rule],
+) -> Result<Option<(Rule, Replaced)>, Error>
     requires { IsTrue (is_some config.old.setup) }
 {
     let operators = operators_of(alloc, bytes)?;
     let last = operators.len().saturating_sub(2);
-    let mut builder = DFGBuilder::new(config);
-    let block = block_of(rt, &builder, &operators, last);
-    let Some(graph) = builder.get_dfg(alloc, config.info(), &operators, &block)? else {
-        panic!(rt; "no graph");
-    };
-    if !graph.keeps_order() {
+    if last >= operators.len() {
         return Ok(None);
     }
-    let point = pick(rt, draws, &roots_of(alloc, &graph)?);
-    let own = term_at(rt, alloc, &graph, point, &[])?;
-    let term = rewritten_term(rt, alloc, draws, config.info(), &own, rules)?;
-    assert_writable(rt, &term);
+    let Some(block) = BBlock::of_operator(last, &operators) else {
+        return Ok(None);
+    };
     let mut body = Function::new(alloc);
-    let requests = Encoder::build_function(
-        alloc, config, point, &term, &operators, &block, &mut body, &graph, bytes,
+    let made = rewrite_block_at_random(
+        alloc, config, &LOCALS, from, &operators, &block, &mut body, bytes,
     )?;
-    Ok(Some(Replaced { body, requests }))
+    match made {
+        Some(made) => {
+            let requests = made.requests;
+            Ok(Some((made.rewrite.rule, Replaced { body, requests })))
+        }
+        None => Ok(None),
+    }
+}
+
+/// A body, and the types of the globals that were asked for.
+#[derive(Drop)]
+struct NewBody {
+    bytes: Vec<u8>,
+    requested: Vec<PrimitiveTypeInfo>,
+}
+
+/// Rewrites a node of the body's block by a random rule, where there is an answer. Adds the rule to the list.
+fn rewrite_once(
+    alloc: Global,
+    draws: &mut Draws,
+    new: &mut NewBody,
+    rules: &mut Vec<Rule>,
+) -> Result<(), Fail> {
+    let from: &[Rule] = match draws.below(5) {
+        0 | 1 => &CONDITIONAL,
+        2 => &RULES,
+        _ => &SELDOM,
+    };
+    let words = [draws.word(), draws.word(), draws.word()];
+    let mut config = config_of(alloc, &[], &new.requested, &words)?;
+    let made = rewritten_by(alloc, &mut config, &new.bytes, from)?;
+    if let Some((rule, replaced)) = made {
+        rules.push(rule)?;
+        add_requests(&mut new.requested, &replaced.requests)?;
+        new.bytes = Vec::from_slice(alloc, replaced.body.bytes())?;
+    }
+    Ok(())
 }
 
 fn add_requests(
@@ -382,34 +394,24 @@ fn add_requests(
     Ok(())
 }
 
-/// A body, and the types of the globals that were asked for.
-#[derive(Drop)]
-struct NewBody {
-    bytes: Vec<u8>,
-    requested: Vec<PrimitiveTypeInfo>,
-}
-
-/// The body after one to five rules, or fewer where a block isn't in order. Adds the rules to the list.
+/// The body after one to five rules, or fewer where thirty random ones lack answers. Adds the rules to the list.
 fn rewritten(
-    rt: &impl Abort,
     alloc: Global,
     draws: &mut Draws,
     body: &[u8],
     rules: &mut Vec<Rule>,
 ) -> Result<NewBody, Fail> {
-    let mut bytes = Vec::from_slice(alloc, body)?;
-    let mut requested = Vec::new(alloc);
-    let most = draws.up_to(5);
-    for _ in 0..draws.up_to(most) {
-        let word = draws.numbers().1;
-        let mut config = config_of(alloc, body, &requested, &[word])?;
-        let Some(new) = rewritten_body(rt, alloc, draws, &mut config, &bytes, rules)? else {
-            break;
-        };
-        add_requests(&mut requested, &new.requests)?;
-        bytes = Vec::from_slice(alloc, new.body.bytes())?;
+    let mut new = NewBody {
+        bytes: Vec::from_slice(alloc, body)?,
+        requested: Vec::new(alloc),
+    };
+    let wanted = rules.len().saturating_add(draws.up_to(5));
+    for _ in 0..30 {
+        if rules.len() < wanted {
+            rewrite_once(alloc, draws, &mut new, rules)?;
+        }
     }
-    Ok(NewBody { bytes, requested })
+    Ok(new)
 }
 
 /// A random value of each type.
@@ -465,12 +467,12 @@ fn rewritten_blocks(rt: HostRuntime) -> Result<(), Fail> {
     let mut ended = 0usize;
     for _ in 0..1_000 {
         let body = random_body(&rt, alloc, &mut draws)?;
-        let new = rewritten(&rt, alloc, &mut draws, body.bytes(), &mut rules)?;
+        let new = rewritten(alloc, &mut draws, body.bytes(), &mut rules)?;
         if is_same(&rt, alloc, &mut draws, body.bytes(), &new)? {
             ended = ended.saturating_add(1);
         }
     }
-    are_used(&rt, &rules, 25);
+    are_used(&rt, &rules, 5);
     let count = rules.len();
     assert!(rt; count > 1_500 && ended > 500, "{count} {ended}");
     Ok(())

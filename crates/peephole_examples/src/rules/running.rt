@@ -4,12 +4,12 @@ ghost use Rattle.std.specs.Prelude.{IfOk, IsTrue, is_some};
 
 use crate::graphs::block_of;
 use crate::replacing::Replaced;
-use crate::terms::{are_globals, assert_writable};
-use crate::writing::{operators_of, term_at};
+use crate::terms::are_globals;
+use crate::writing::operators_of;
+use peephole_rewrites::{Rewrite, rewrite_block};
 use peephole_rules::Rule;
 use peephole_terms::{
-    DFGBuilder, Encoder, Error, Function, Instr, ModuleInfo, Operator, PrimitiveTypeInfo,
-    WasmMutate, Words,
+    DFGBuilder, Error, Function, Instr, ModuleInfo, Operator, PrimitiveTypeInfo, WasmMutate, Words,
 };
 use peephole_vectors::{Machine, Stop, Value};
 use std::alloc::{AllocError, Global};
@@ -54,42 +54,25 @@ pub fn config_of<'a>(
     Ok(config)
 }
 
-/// A rule, and where it is applied: at node `at` of the own tree of the operator `point`.
-#[derive(Clone, Copy)]
-pub struct Step {
-    pub rule: Rule,
-    pub point: usize,
-    pub at: usize,
-}
-
-/// A body that is one block, with the operator's tree rewritten, or none where the rule has no answer.
+/// A body that is one block, with a node rewritten, or none where the rule has no answer.
 pub fn rewritten(
     rt: &impl Abort,
     alloc: Global,
     config: &mut WasmMutate<Words>,
     bytes: &[u8],
-    step: Step,
+    rewrite: Rewrite,
 ) -> Result<Option<Replaced>, Error>
     requires { IsTrue (is_some config.old.setup) }
 {
-    let Step { rule, point, at } = step;
     let operators = operators_of(alloc, bytes)?;
     let last = operators.len().saturating_sub(2);
-    let mut builder = DFGBuilder::new(config);
+    let builder = DFGBuilder::new(config);
     let block = block_of(rt, &builder, &operators, last);
-    let Some(graph) = builder.get_dfg(alloc, config.info(), &operators, &block)? else {
-        panic!(rt; "no graph");
-    };
-    let own = term_at(rt, alloc, &graph, point, &[])?;
-    let Some(term) = rule.apply(alloc, &LOCALS, config.info(), &own, at)? else {
-        return Ok(None);
-    };
-    assert_writable(rt, &term);
     let mut body = Function::new(alloc);
-    let requests = Encoder::build_function(
-        alloc, config, point, &term, &operators, &block, &mut body, &graph, bytes,
+    let answer = rewrite_block(
+        alloc, config, &LOCALS, rewrite, &operators, &block, &mut body, bytes,
     )?;
-    Ok(Some(Replaced { body, requests }))
+    Ok(answer.map(|requests| Replaced { body, requests }))
 }
 
 /// The instructions of a body.
@@ -207,8 +190,12 @@ fn is_run(
 ) -> Result<(), Fail> {
     let (rule, before, point, at, after) = *run;
     let mut config = config_of(alloc, before, &[], &[1731343737])?;
-    let step = Step { rule, point, at };
-    let Some(new) = rewritten(rt, alloc, &mut config, before, step)? else {
+    let rewrite = Rewrite {
+        insertion_point: point,
+        node: at,
+        rule,
+    };
+    let Some(new) = rewritten(rt, alloc, &mut config, before, rewrite)? else {
         panic!(rt; "{rule}, no answer for {before:?}");
     };
     let found = new.body.bytes();

@@ -1,0 +1,142 @@
+//! The calls of rules that take memory, where a request for memory may be refused: then the call answers `Memory`, and what was
+//! lent to it is as it was. `tests/refused_memory.sh` refuses each request in turn.
+
+use crate::graphs::block_of;
+use crate::refused::{Refused, is_memory, lacks_nodes, with_answer};
+use crate::terms::{begun_sink, config_of, term_of};
+use crate::writing::operators_of;
+use peephole_rewrites::{Rewrite, rewrite_block, rewrite_block_at_random, rewrites_of_block};
+use peephole_rules::{RULES, Rule};
+use peephole_terms::{DFGBuilder, Error, ModuleInfo, PrimitiveTypeInfo};
+use std::alloc::Global;
+use std::process::Abort;
+
+/// The types of the function's locals.
+const LOCALS: [PrimitiveTypeInfo; 1] = [PrimitiveTypeInfo::I32];
+
+/// local.get 0, i32.const 2, i32.add, local.set 0
+const BYTES: [u8; 8] = [0x20, 0x00, 0x41, 0x02, 0x6a, 0x21, 0x00, 0x0b];
+
+/// The same with the operands of the sum in the other order.
+const SWAPPED: [u8; 8] = [0x41, 0x02, 0x20, 0x00, 0x6a, 0x21, 0x00, 0x0b];
+
+const SWAP: Rewrite = Rewrite {
+    insertion_point: 3,
+    node: 2,
+    rule: Rule::Commute,
+};
+
+/// Whether the rewritten term is refused for memory.
+fn lacks_term(rt: &impl Abort, alloc: Global) -> Result<bool, Error> {
+    let info = ModuleInfo::new(alloc, &[]);
+    let lines = &["local.get.0", "i32.const.2", "i32.add 0 1"];
+    let term = term_of(rt, alloc, lines)?;
+    let wanted = term_of(rt, alloc, &["local.get.0", "i32.const.2", "i32.add 1 0"])?;
+    match Rule::Commute.apply(alloc, &LOCALS, &info, &term, 2) {
+        Ok(Some(new)) => Ok(lacks_nodes(rt, Ok(new), &wanted)),
+        Ok(None) => panic!(rt; "no answer"),
+        Err(error) => Ok(is_memory(rt, error)),
+    }
+}
+
+/// `Rule::apply`
+pub fn terms(rt: &impl Abort, alloc: Global) -> Refused {
+    with_answer(rt, Refused::Nothing, lacks_term(rt, alloc))
+}
+
+/// Whether the list of rewrites is refused for memory.
+fn lacks_list(rt: &impl Abort, alloc: Global) -> Result<bool, Error> {
+    let operators = operators_of(alloc, &BYTES)?;
+    let config = config_of(alloc, &BYTES, &[])?;
+    let builder = DFGBuilder::new(&config);
+    let block = block_of(rt, &builder, &operators, 3);
+    match rewrites_of_block(
+        alloc,
+        &config,
+        &LOCALS,
+        &[Rule::Commute],
+        &operators,
+        &block,
+    ) {
+        Ok(list) => {
+            assert!(rt; list.len() == 1 && list.iter().all(|one| *one == SWAP));
+            Ok(false)
+        }
+        Err(error) => Ok(is_memory(rt, error)),
+    }
+}
+
+/// `rewrites_of_block`
+pub fn lists(rt: &impl Abort, alloc: Global) -> Refused {
+    with_answer(rt, Refused::Nothing, lacks_list(rt, alloc))
+}
+
+/// Whether the rewritten body is refused for memory, and the sink holds AA BB; else the body stands behind them.
+fn lacks_body(rt: &impl Abort, alloc: Global) -> Result<bool, Error> {
+    let operators = operators_of(alloc, &BYTES)?;
+    let mut config = config_of(alloc, &BYTES, &[])?;
+    let builder = DFGBuilder::new(&config);
+    let block = block_of(rt, &builder, &operators, 3);
+    let mut sink = begun_sink(alloc)?;
+    let answer = rewrite_block(
+        alloc,
+        &mut config,
+        &LOCALS,
+        SWAP,
+        &operators,
+        &block,
+        &mut sink,
+        &BYTES,
+    );
+    assert!(rt; sink.bytes().starts_with(&[0xaa, 0xbb]));
+    match answer {
+        Ok(Some(requests)) => {
+            assert!(rt; requests.is_empty());
+            assert!(rt; &sink.bytes()[2..] == SWAPPED.as_slice());
+            Ok(false)
+        }
+        Ok(None) => panic!(rt; "nothing to rewrite"),
+        Err(error) => {
+            assert!(rt; sink.len() == 2);
+            Ok(is_memory(rt, error))
+        }
+    }
+}
+
+/// `rewrite_block`
+pub fn bodies(rt: &impl Abort, alloc: Global) -> Refused {
+    with_answer(rt, Refused::Nothing, lacks_body(rt, alloc))
+}
+
+/// The same of a rewrite that is chosen.
+fn lacks_choice(rt: &impl Abort, alloc: Global) -> Result<bool, Error> {
+    let operators = operators_of(alloc, &BYTES)?;
+    let mut config = config_of(alloc, &BYTES, &[7])?;
+    let builder = DFGBuilder::new(&config);
+    let block = block_of(rt, &builder, &operators, 3);
+    let mut sink = begun_sink(alloc)?;
+    let answer = rewrite_block_at_random(
+        alloc,
+        &mut config,
+        &LOCALS,
+        &RULES,
+        &operators,
+        &block,
+        &mut sink,
+        &BYTES,
+    );
+    assert!(rt; sink.bytes().starts_with(&[0xaa, 0xbb]));
+    match answer {
+        Ok(Some(_)) => Ok(false),
+        Ok(None) => panic!(rt; "nothing to rewrite"),
+        Err(error) => {
+            assert!(rt; sink.len() == 2);
+            Ok(is_memory(rt, error))
+        }
+    }
+}
+
+/// `rewrite_block_at_random`
+pub fn choices(rt: &impl Abort, alloc: Global) -> Refused {
+    with_answer(rt, Refused::Nothing, lacks_choice(rt, alloc))
+}
