@@ -272,10 +272,13 @@ fn integer_instructions(rt: HostRuntime) -> Result<(), Fail> {
     let alloc = rt.alloc();
     let config = config_of(alloc, &[], &[], &[])?;
     let operators = operators_of(alloc, &PRODUCT)?;
-    assert!(rt; are_integer(&LOCALS, config.info(), &operators[..6]));
+    let Some((_, instructions)) = operators.as_slice().split_last() else {
+        panic!(rt; "no operators");
+    };
+    assert!(rt; are_integer(&LOCALS, config.info(), instructions));
     // The end of the body is no instruction, and local 0 isn't there.
     assert!(rt; !are_integer(&LOCALS, config.info(), &operators));
-    assert!(rt; !are_integer(&[], config.info(), &operators[..6]));
+    assert!(rt; !are_integer(&[], config.info(), instructions));
     Ok(())
 }
 
@@ -310,33 +313,27 @@ fn chosen_rewrites(rt: HostRuntime) -> Result<(), Fail> {
     Ok(())
 }
 
+/// What comes of mutating the block of an operator by the rules.
+fn mutated(
+    alloc: Global,
+    bytes: &[u8],
+    point: usize,
+    rules: &[Rule],
+) -> Result<Option<Replaced>, Fail> {
+    let mut config = config_of(alloc, bytes, &[], &[1])?;
+    Ok(mutate(alloc, &mut config, &LOCALS, rules, bytes, point)?)
+}
+
 /// The way from bytes to bytes: nothing to mutate past the operators, at a delimiter, and where no rule applies.
 #[test]
 fn mutated_bodies(rt: HostRuntime) -> Result<(), Fail> {
     let alloc = rt.alloc();
-    let mut config = config_of(alloc, &PRODUCT, &[], &[1])?;
     for point in [6, 7] {
-        let answer = mutate(alloc, &mut config, &LOCALS, &RULES, &PRODUCT, point)?;
-        assert!(rt; answer.is_none());
+        assert!(rt; mutated(alloc, &PRODUCT, point, &RULES)?.is_none());
     }
-    let answer = mutate(
-        alloc,
-        &mut config,
-        &LOCALS,
-        &[Rule::TurnComparison],
-        &PRODUCT,
-        5,
-    )?;
-    assert!(rt; answer.is_none());
-    let Some(new) = mutate(
-        alloc,
-        &mut config,
-        &LOCALS,
-        &[Rule::TestToComparison],
-        &[0x20, 0x00, 0x45, 0x0b],
-        1,
-    )?
-    else {
+    assert!(rt; mutated(alloc, &PRODUCT, 5, &[Rule::TurnComparison])?.is_none());
+    let test = [0x20, 0x00, 0x45, 0x0b];
+    let Some(new) = mutated(alloc, &test, 1, &[Rule::TestToComparison])? else {
         panic!(rt; "no new body");
     };
     // local.get 0, i32.eqz: the only test, as a comparison with 0.
