@@ -491,6 +491,194 @@ const THROUGH_I64: [Run; 1] = [
     ),
 ];
 
+const FORMS: [Run; 8] = [
+    // local.get 0, local.get 1, i32.const 5, i32.add, i32.add
+    (
+        Rule::AssociateLeft,
+        &[0x20, 0x00, 0x20, 0x01, 0x41, 0x05, 0x6a, 0x6a, 0x0b],
+        4,
+        4,
+        &[0x20, 0x00, 0x20, 0x01, 0x6a, 0x41, 0x05, 0x6a, 0x0b],
+    ),
+    // local.get 2, local.get 3, i64.mul, local.get 2, i64.mul
+    (
+        Rule::AssociateRight,
+        &[0x20, 0x02, 0x20, 0x03, 0x7e, 0x20, 0x02, 0x7e, 0x0b],
+        4,
+        4,
+        &[0x20, 0x02, 0x20, 0x03, 0x20, 0x02, 0x7e, 0x7e, 0x0b],
+    ),
+    // local.get 0, local.get 1, local.get 0, select
+    (
+        Rule::TurnSelect,
+        &[0x20, 0x00, 0x20, 0x01, 0x20, 0x00, 0x1b, 0x0b],
+        3,
+        3,
+        &[0x20, 0x01, 0x20, 0x00, 0x20, 0x00, 0x45, 0x1b, 0x0b],
+    ),
+    // local.get 0, drop, local.get 1
+    (
+        Rule::Forget,
+        &[0x20, 0x00, 0x1a, 0x20, 0x01, 0x0b],
+        1,
+        1,
+        &[0x20, 0x01, 0x0b],
+    ),
+    // i32.const 7, i32.const -2, i32.rem_s
+    (
+        Rule::Fold,
+        &[0x41, 0x07, 0x41, 0x7e, 0x6f, 0x0b],
+        2,
+        2,
+        &[0x41, 0x01, 0x0b],
+    ),
+    // i32.const -1, i64.extend_i32_u
+    (
+        Rule::Fold,
+        &[0x41, 0x7f, 0xad, 0x0b],
+        1,
+        1,
+        &[0x42, 0xff, 0xff, 0xff, 0xff, 0x0f, 0x0b],
+    ),
+    // local.get 2, i64.eqz
+    (
+        Rule::TestToComparison,
+        &[0x20, 0x02, 0x50, 0x0b],
+        1,
+        1,
+        &[0x20, 0x02, 0x42, 0x00, 0x51, 0x0b],
+    ),
+    // local.get 0, i32.const 0, i32.eq
+    (
+        Rule::ComparisonToTest,
+        &[0x20, 0x00, 0x41, 0x00, 0x46, 0x0b],
+        2,
+        2,
+        &[0x20, 0x00, 0x45, 0x0b],
+    ),
+];
+
+const NUMBERS: [Run; 7] = [
+    // local.get 0
+    (
+        Rule::AndOnes,
+        &[0x20, 0x00, 0x0b],
+        0,
+        0,
+        &[0x20, 0x00, 0x41, 0x7f, 0x71, 0x0b],
+    ),
+    // local.get 2
+    (
+        Rule::DoubleComplement,
+        &[0x20, 0x02, 0x0b],
+        0,
+        0,
+        &[0x20, 0x02, 0x42, 0x7f, 0x85, 0x42, 0x7f, 0x85, 0x0b],
+    ),
+    // local.get 0, i32.const 3, i32.shl
+    (
+        Rule::ShiftToProduct,
+        &[0x20, 0x00, 0x41, 0x03, 0x74, 0x0b],
+        2,
+        2,
+        &[0x20, 0x00, 0x41, 0x08, 0x6c, 0x0b],
+    ),
+    // local.get 2, i64.const 63, i64.shl
+    (
+        Rule::ShiftToProduct,
+        &[0x20, 0x02, 0x42, 0x3f, 0x86, 0x0b],
+        2,
+        2,
+        &[
+            0x20, 0x02, 0x42, 0x80, 0x80, 0x80, 0x80, 0x80, 0x80, 0x80, 0x80, 0x80, 0x7f, 0x7e,
+            0x0b,
+        ],
+    ),
+    // local.get 0, i32.const -2147483648, i32.mul
+    (
+        Rule::ProductToShift,
+        &[0x20, 0x00, 0x41, 0x80, 0x80, 0x80, 0x80, 0x78, 0x6c, 0x0b],
+        2,
+        2,
+        &[0x20, 0x00, 0x41, 0x1f, 0x74, 0x0b],
+    ),
+    // local.get 0, i32.const 5, i32.sub
+    (
+        Rule::DifferenceToSum,
+        &[0x20, 0x00, 0x41, 0x05, 0x6b, 0x0b],
+        2,
+        2,
+        &[0x20, 0x00, 0x41, 0x7b, 0x6a, 0x0b],
+    ),
+    // local.get 2, i64.const -1, i64.add
+    (
+        Rule::SumToDifference,
+        &[0x20, 0x02, 0x42, 0x7f, 0x7c, 0x0b],
+        2,
+        2,
+        &[0x20, 0x02, 0x42, 0x01, 0x7d, 0x0b],
+    ),
+];
+
+const DROPPED: [Run; 7] = [
+    // local.get 0, i32.const 0, i32.add
+    (
+        Rule::DropAddZero,
+        &[0x20, 0x00, 0x41, 0x00, 0x6a, 0x0b],
+        2,
+        2,
+        &[0x20, 0x00, 0x0b],
+    ),
+    // local.get 2, i64.const 0, i64.sub
+    (
+        Rule::DropSubZero,
+        &[0x20, 0x02, 0x42, 0x00, 0x7d, 0x0b],
+        2,
+        2,
+        &[0x20, 0x02, 0x0b],
+    ),
+    // local.get 0, i32.const 1, i32.mul
+    (
+        Rule::DropMulOne,
+        &[0x20, 0x00, 0x41, 0x01, 0x6c, 0x0b],
+        2,
+        2,
+        &[0x20, 0x00, 0x0b],
+    ),
+    // local.get 2, i64.const 0, i64.or
+    (
+        Rule::DropOrZero,
+        &[0x20, 0x02, 0x42, 0x00, 0x84, 0x0b],
+        2,
+        2,
+        &[0x20, 0x02, 0x0b],
+    ),
+    // local.get 0, i32.const 0, i32.xor
+    (
+        Rule::DropXorZero,
+        &[0x20, 0x00, 0x41, 0x00, 0x73, 0x0b],
+        2,
+        2,
+        &[0x20, 0x00, 0x0b],
+    ),
+    // local.get 0, i32.const -1, i32.and
+    (
+        Rule::DropAndOnes,
+        &[0x20, 0x00, 0x41, 0x7f, 0x71, 0x0b],
+        2,
+        2,
+        &[0x20, 0x00, 0x0b],
+    ),
+    // local.get 2, i64.const 0, i64.shl
+    (
+        Rule::DropShiftByZero,
+        &[0x20, 0x02, 0x42, 0x00, 0x86, 0x0b],
+        2,
+        2,
+        &[0x20, 0x02, 0x0b],
+    ),
+];
+
 fn are_run(
     rt: &impl Abort,
     alloc: Global,
@@ -509,6 +697,9 @@ fn blocks_of_each_rule(rt: HostRuntime) -> Result<(), Fail> {
     are_run(&rt, alloc, &ORDERS, &[])?;
     are_run(&rt, alloc, &CONSTANTS, &[])?;
     are_run(&rt, alloc, &OTHERS, &[])?;
+    are_run(&rt, alloc, &FORMS, &[])?;
+    are_run(&rt, alloc, &NUMBERS, &[])?;
+    are_run(&rt, alloc, &DROPPED, &[])?;
     are_run(&rt, alloc, &THROUGH_I32, &[PrimitiveTypeInfo::I32])?;
     are_run(&rt, alloc, &THROUGH_I64, &[PrimitiveTypeInfo::I64])
 }
