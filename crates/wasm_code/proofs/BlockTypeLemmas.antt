@@ -11,9 +11,9 @@ use Rattle.wasm_code.specs.declared.immediate.BlockType.TheVariants.{Empty, Valu
 use Rattle.wasm_code.specs.Number.{IsGroup, value, signed_value, SpellsSigned, FailsSigned}
 use Rattle.wasm_code.specs.Immediate.{val_type_code, SpellsBlockType, IsNoBlockType, FailsBlockType}
 use Rattle.wasm_code.specs.Reader.{group_at, within_at, signed_at, val_type_of, block_type_of, func_type_at, block_type_at}
-use Rattle.wasm_code.proofs.GrammarLemmas.{Exact, bind_ok, bind_err, ok_is, err_is}
-use Rattle.wasm_code.proofs.NumberExact.{signed_exact}
-use Rattle.wasm_code.proofs.ImmediateLemmas.{val_type_named, val_type_coded}
+use Rattle.wasm_code.specs.laws.GrammarLemmas.{Exact, bind_ok, bind_err, ok_is, err_is}
+use Rattle.wasm_code.specs.laws.NumberExact.{signed_exact}
+use Rattle.wasm_code.specs.laws.ValTypeLemmas.{val_type_named, val_type_coded}
 
 -- ---- the first byte of a number
 

@@ -1,47 +1,22 @@
 -- Immediates are read exactly.
-use Rattle.std.proofs.Common.{◌≡◌, ◌≢◌, ℕ, zero, suc, ◌+◌, ◌-◌, eqb, ltb, Bool, true, false, cond, sym, ap, ◌∙◌, Option, Some, None, refl, arith}
+use Rattle.std.proofs.Common.{◌≡◌, ◌≢◌, ℕ, zero, suc, ◌+◌, ◌-◌, eqb, ltb, false, Some, None, refl, arith}
 use Rattle.std.specs.Int.{w32, w64, w128, from_le_bytes, cast_signed}
-use Rattle.std.proofs.lemmas.Bool.{eqb-true, ne_eqb}
+use Rattle.std.proofs.lemmas.Bool.{ne_eqb}
 use Rattle.wasm_code.specs.declared.table.Kind.{Kind}
 use Rattle.wasm_code.specs.declared.table.Kind.TheVariants as kind
-use Rattle.wasm_code.specs.declared.immediate.ValType.{ValType}
-use Rattle.wasm_code.specs.declared.immediate.ValType.TheVariants.{I32, I64, F32, F64, V128, FuncRef, ExternRef}
 use Rattle.wasm_code.specs.declared.immediate.HeapType.{HeapType}
 use Rattle.wasm_code.specs.declared.immediate.HeapType.TheVariants.{Abstract}
 use Rattle.wasm_code.specs.declared.immediate.AbstractHeapType.TheVariants.{Func, Extern}
 use Rattle.wasm_code.specs.declared.immediate.Imm.TheVariants as imm
 use Rattle.wasm_code.specs.Grammar.{FailsTimes}
 use Rattle.wasm_code.specs.Number.{FailsUnsigned}
-use Rattle.wasm_code.specs.Immediate.{val_type_code, heap_type_code, SpellsValType, FailsValType, SpellsHeapType, FailsHeapType, SpellsOffset, SpellsMemArg, FailsMemArg, SpellsPair, FailsPair, SpellsLabels, FailsLabels, SpellsFirst, SpellsTypes, FailsTypes, SpellsImm, FailsImm}
-use Rattle.wasm_code.specs.Reader.{val_type_of, heap_type_of, val_type_at, heap_type_at, offset_at, memarg_at, pair_at, labels_at, first_at, types_at, imm_at}
-use Rattle.wasm_code.proofs.GrammarLemmas.{Exact, exact_ends, exact_never, exact_of, exact_choose, exact_then, exact_code, exact_times, exact_at, byte_exact, bytes_exact}
-use Rattle.wasm_code.proofs.NumberExact.{unsigned_exact, signed_exact}
+use Rattle.wasm_code.specs.Immediate.{heap_type_code, SpellsValType, FailsValType, SpellsHeapType, FailsHeapType, SpellsOffset, SpellsMemArg, FailsMemArg, SpellsPair, FailsPair, SpellsLabels, FailsLabels, SpellsFirst, SpellsTypes, FailsTypes, SpellsImm, FailsImm}
+use Rattle.wasm_code.specs.Reader.{heap_type_of, heap_type_at, offset_at, memarg_at, pair_at, labels_at, first_at, types_at, imm_at}
+use Rattle.wasm_code.specs.laws.GrammarLemmas.{Exact, exact_ends, exact_never, exact_of, exact_choose, exact_then, exact_code, exact_times, exact_at, byte_exact, bytes_exact}
+use Rattle.wasm_code.specs.laws.NumberExact.{unsigned_exact, signed_exact}
+use Rattle.wasm_code.specs.laws.ValTypeLemmas.{listed, val_type_exact}
 
 -- ---- types
-
--- the next code of a list of codes is the byte's, or it is one of those behind it
-listed : {A : Type 0} (code : A → ℕ) (v : Bool) (b k : ℕ) (x y : A) (rest : Option A) → eqb b k ≡ v → code y ≡ k → cond v (Some y) rest ≡ Some x →
-    (rest ≡ Some x → code x ≡ b) → code x ≡ b
-listed code true b k x y rest is named e more = let same : y ≡ x = cc in ap code (sym same) ∙ named ∙ sym (eqb-true b k is)
-listed code false b k x y rest is named e more = more e
-
-pub val_type_named : (b : ℕ) (t : ValType) → val_type_of b ≡ Some t → val_type_code t ≡ b
-unfolding val_type_of
-val_type_named b t e =
-    let code = val_type_code in
-    listed code _ b 127 t I32 _ refl refl e (λ e. listed code _ b 126 t I64 _ refl refl e (λ e. listed code _ b 125 t F32 _ refl refl e
-    (λ e. listed code _ b 124 t F64 _ refl refl e (λ e. listed code _ b 123 t V128 _ refl refl e (λ e. listed code _ b 112 t FuncRef _ refl refl e
-    (λ e. listed code _ b 111 t ExternRef _ refl refl e (λ e. absurd cc)))))))
-
-pub val_type_coded : (t : ValType) → val_type_of (val_type_code t) ≡ Some t
-unfolding val_type_of
-val_type_coded I32 = refl
-val_type_coded I64 = refl
-val_type_coded F32 = refl
-val_type_coded F64 = refl
-val_type_coded V128 = refl
-val_type_coded FuncRef = refl
-val_type_coded ExternRef = refl
 
 heap_type_named : (b : ℕ) (t : HeapType) → heap_type_of b ≡ Some t → heap_type_code t ≡ b
 unfolding heap_type_of
@@ -53,10 +28,6 @@ heap_type_coded : (t : HeapType) → heap_type_of (heap_type_code t) ≡ Some t
 unfolding heap_type_of
 heap_type_coded (Abstract Func) = refl
 heap_type_coded (Abstract Extern) = refl
-
-pub val_type_exact : Exact SpellsValType FailsValType val_type_at
-unfolding val_type_at
-val_type_exact = exact_code val_type_code val_type_of val_type_named val_type_coded
 
 heap_type_exact : Exact SpellsHeapType FailsHeapType heap_type_at
 unfolding heap_type_at

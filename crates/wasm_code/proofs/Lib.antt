@@ -1,9 +1,7 @@
 pub mod TableLemmas
 pub mod ShortestLemmas
-pub mod GrammarLemmas
 pub mod TimesLemmas
 pub mod NumberLemmas
-pub mod NumberExact
 pub mod ImmediateLemmas
 pub mod BlockTypeLemmas
 pub mod FormLemmas

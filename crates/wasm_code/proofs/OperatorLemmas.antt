@@ -19,8 +19,8 @@ use Rattle.wasm_code.specs.Number.{SpellsUnsigned, FailsUnsigned}
 use Rattle.wasm_code.specs.Immediate.{SpellsBlockType, FailsBlockType, SpellsPair, FailsPair, SpellsLabels, FailsLabels, SpellsFirst, SpellsTypes, FailsTypes, SpellsOneType, SpellsImm, FailsImm}
 use Rattle.wasm_code.specs.Operator.{SpellsOpcode, FailsOpcode, SpellsBehind, FailsRow, IsOneOf, IsUnknown, FailsControl, FailsBehindOpcode, Spells, Fails}
 use Rattle.wasm_code.specs.Reader.{opcode_at, form_of, IsForm, select_of, behind_at, formed_at, operator_at}
-use Rattle.wasm_code.proofs.GrammarLemmas.{Exact, ok_is, byte_exact, exact_ends, exact_of, exact_choose, exact_then, exact_same}
-use Rattle.wasm_code.proofs.NumberExact.{unsigned_exact}
+use Rattle.wasm_code.specs.laws.GrammarLemmas.{Exact, ok_is, byte_exact, exact_ends, exact_of, exact_choose, exact_then, exact_same}
+use Rattle.wasm_code.specs.laws.NumberExact.{unsigned_exact}
 use Rattle.wasm_code.proofs.ImmediateLemmas.{pair_exact, labels_exact, types_exact, imm_exact}
 use Rattle.wasm_code.proofs.BlockTypeLemmas.{block_type_exact}
 use Rattle.wasm_code.proofs.TableLemmas.{is_by_opcode, with_opcode, typed_select, select_row}

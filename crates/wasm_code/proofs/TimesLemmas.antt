@@ -2,7 +2,7 @@
 use Rattle.std.proofs.Common.{◌≡◌, ℕ, suc, ◌+◌, ◌-◌, ◌<◌, ◌≤◌, List, Ok, Err, refl, arith}
 use Rattle.wasm_code.specs.declared.fault.Cause.{Cause}
 use Rattle.wasm_code.specs.Reader.{times_at}
-use Rattle.wasm_code.proofs.GrammarLemmas.{Reader}
+use Rattle.wasm_code.specs.laws.GrammarLemmas.{Reader}
 
 pub goes_on : {A : Type 0} (at : Reader A) (count i : ℕ) (bytes after : List ℕ) (x : A) → i < count → at bytes ≡ Ok (x, after) →
     times_at (count - i) at bytes ≡ times_at (count - (i + 1)) at after

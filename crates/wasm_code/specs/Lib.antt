@@ -13,3 +13,4 @@ pub mod Body
 pub mod Code
 pub mod Packed
 pub mod Reader
+pub mod laws

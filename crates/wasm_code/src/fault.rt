@@ -6,7 +6,7 @@ ghost use Rattle.wasm_code.specs.declared.fault.SinkError.TheVariants.{Memory};
 use std::alloc::AllocError;
 use thiserror::Error;
 
-/// Why bytes begin with no operator.
+/// Why bytes begin with no operator, or with no number or value type.
 #[derive(Clone, Copy, Debug, PartialEq, Eq)]
 pub enum Cause {
     /// The bytes end inside the operator.

@@ -1,11 +1,13 @@
 //! Laws on spellings and on value types: functions that do nothing, and whose contracts hold for all values.
 ghost use Rattle.std.specs.Prelude.{◌≡◌, ◌≢◌, ◌<◌, ◌≤◌, ◌+◌, ◌-◌, ◌^◌, ◌≤ℤ◌, ◌<ℤ◌, ◌++◌, ℕ, ℤ, pos, neg_ℤ, List, length, Ok, Err};
 ghost use Rattle.wasm_code.specs.Instruction.{Instruction, IsInstruction};
-ghost use Rattle.wasm_code.specs.Operator.{Spells};
-ghost use Rattle.wasm_code.specs.Number.{SpellsUnsigned, SpellsSigned};
+ghost use Rattle.wasm_code.specs.Operator.{Spells, Fails};
+ghost use Rattle.wasm_code.specs.Number.{SpellsUnsigned, SpellsSigned, FailsUnsigned, FailsSigned};
+ghost use Rattle.wasm_code.specs.Immediate.{SpellsValType, FailsValType};
+ghost use Rattle.wasm_code.specs.laws.GrammarLemmas.{Exact};
 ghost use Rattle.wasm_code.specs.Code.{shortest, shortest_signed, code};
 ghost use Rattle.wasm_code.specs.Body.{SpellsBody, IsFault, SpellsAll, AreSpelled, bytes_of, with_offsets, move_by, IsCut};
-ghost use Rattle.wasm_code.specs.Reader.{body_at};
+ghost use Rattle.wasm_code.specs.Reader.{body_at, operator_at, unsigned_at, signed_at, val_type_at};
 ghost use Rattle.std.specs.Bool.{Decides};
 ghost use Rattle.wasm_code.specs.contracts.immediate.ValTypePartialEq.TheImpl as val_type_eq;
 ghost use Rattle.wasm_code.specs.declared.immediate.ValType.{ValType};
@@ -44,6 +46,16 @@ pub fn body_at_reads()
     ensures faults { (start : ℕ) (text : List ℕ) (kind : ReadKind) (offset : ℕ)
         → body_at start text ≡ Err (kind, offset)
         → IsFault start (start + length text) text kind offset × (kind ≢ Memory) }
+{}
+
+/// Reading a number, a value type or an operator as a function takes exactly what spells one, whatever follows it, and fails
+/// exactly where none begins the bytes.
+pub fn parts_are_read()
+    ensures unsigned { (bits : ℕ) → Exact (SpellsUnsigned bits) (FailsUnsigned bits)
+        (unsigned_at bits) }
+    ensures signed { (bits : ℕ) → Exact (SpellsSigned bits) (FailsSigned bits) (signed_at bits) }
+    ensures val_types { Exact SpellsValType FailsValType val_type_at }
+    ensures operators { Exact Spells Fails operator_at }
 {}
 
 /// A joined list of spelled operators is read as that list, with its offsets.

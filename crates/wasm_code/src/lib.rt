@@ -18,8 +18,12 @@ mod table;
 mod writing;
 
 pub use body::{OperatorAndByteOffset, read_body};
-pub use fault::{ReadError, ReadKind, SinkError};
+pub use fault::{Cause, ReadError, ReadKind, SinkError};
 pub use immediate::{AbstractHeapType, BlockType, HeapType, Imm, MemArg, ValType};
+pub use number::{u32_of, u64_of};
 pub use operator::{Instr, Operator};
+pub use parse::operator_from;
+pub use reading::{byte_of, val_type_from};
 pub use sink::Function;
 pub use table::{Opcode, ResultKind, RowInfo, row_info, row_of};
+pub use writing::put_unsigned;

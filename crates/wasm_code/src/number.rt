@@ -116,7 +116,8 @@ fn signed_of(bytes: &[u8], half: u64, most: usize) -> Result<(i64, &[u8]), Cause
     }
 }
 
-/// An unsigned number of 32 bits, and what follows it.
+/// An unsigned number of 32 bits, and what follows it. `Truncated` where the bytes end inside it, `BadInteger` where it has
+/// too many bytes or doesn't fit (WebAssembly Core Specification 3.0, Binary Format, Values, Integers).
 pub fn u32_of(bytes: &[u8]) -> Result<(u32, &[u8]), Cause>
     ensures { Gives (λ x. (x.0, x.1.now)) result (unsigned_at 32 bytes.now) }
 {
@@ -124,7 +125,7 @@ pub fn u32_of(bytes: &[u8]) -> Result<(u32, &[u8]), Cause>
     Ok((value as u32, rest))
 }
 
-/// An unsigned number of 64 bits, and what follows it.
+/// An unsigned number of 64 bits, and what follows it. Refused as `u32_of` refuses.
 pub fn u64_of(bytes: &[u8]) -> Result<(u64, &[u8]), Cause>
     ensures { Gives (λ x. (x.0, x.1.now)) result (unsigned_at 64 bytes.now) }
 {

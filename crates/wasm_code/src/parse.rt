@@ -221,7 +221,7 @@ fn behind(form: Form, bytes: &[u8]) -> Result<(Operator, &[u8]), Cause>
     }
 }
 
-/// The first operator, and what follows it.
+/// The first operator, and what follows it. Refused as `read_body` refuses at an operator.
 #[tactic(auto, unfolding(crate::specs::Reader::operator_at))]
 pub fn operator_from(bytes: &[u8]) -> Result<(Operator, &[u8]), Cause>
     ensures { Gives (λ x. (x.0, x.1.now)) result (operator_at bytes.now) }

@@ -12,7 +12,7 @@ use crate::number::{i32_of, i33_of, i64_of, u32_of, u64_of};
 use crate::operator::{Instr, Operator};
 use crate::table::{Kind, Row};
 
-/// The first byte, and what follows it.
+/// The first byte, and what follows it. `Truncated` where there is none.
 pub fn byte_of(bytes: &[u8]) -> Result<(u8, &[u8]), Cause>
     ensures { Gives (λ x. (x.0, x.1.now)) result (byte_at bytes.now) }
 {
@@ -67,7 +67,8 @@ fn heap_type(b: u8) -> Option<HeapType>
     }
 }
 
-/// A value type, and what follows it.
+/// A value type, and what follows it. `Truncated` where there is no byte, `BadImmediate` where the first one stands for none
+/// of `ValType`.
 #[tactic(auto, unfolding(crate::specs::Reader::val_type_at))]
 pub fn val_type_from(bytes: &[u8]) -> Result<(ValType, &[u8]), Cause>
     ensures { Gives (λ x. (x.0, x.1.now)) result (val_type_at bytes.now) }

@@ -9,7 +9,8 @@ use crate::packed::v128_bytes;
 use crate::table::{Opcode, find_row};
 use std::alloc::AllocError;
 
-fn put_unsigned(out: &mut Vec<u8>, n: u64) -> Result<(), AllocError>
+/// Appends the shortest spelling of the number. Where no memory was left, some of its bytes may have been appended.
+pub fn put_unsigned(out: &mut Vec<u8>, n: u64) -> Result<(), AllocError>
     ensures ok { OnOk result (out.new.items ≡ out.old.items ++ shortest n) }
     ensures err { OnErr result (BeginsWith out.new.items out.old.items) }
 {

@@ -1,5 +1,5 @@
 use Rattle.std.proofs.Common.{arith}
-use Rattle.wasm_code.proofs.GrammarLemmas.{bytes_small}
+use Rattle.wasm_code.specs.laws.GrammarLemmas.{bytes_small}
 use Rattle.wasm_code.proofs.reading.instr_of.Goals as goal
 
 pub instr-requires-in-Shuffle-clause-in_range : goal.instr-requires-in-Shuffle-clause-in_range

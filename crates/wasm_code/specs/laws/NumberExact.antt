@@ -6,7 +6,7 @@ use Rattle.wasm_code.specs.declared.fault.Cause.TheVariants.{Truncated, UnknownO
 use Rattle.wasm_code.specs.declared.fault.Cause.{Cause}
 use Rattle.wasm_code.specs.Number.{IsGroup, value, signed_value, most_bytes, SpellsUnsigned, SpellsSigned, AreHigh, EndsInside, GoesOn, FailsNumber, IsAbove, IsOutside, FailsUnsigned, FailsSigned}
 use Rattle.wasm_code.specs.Reader.{fits_half, group_at, below_at, within_at, unsigned_at, signed_at}
-use Rattle.wasm_code.proofs.GrammarLemmas.{Exact, bind_ok, bind_err, ok_is, err_is}
+use Rattle.wasm_code.specs.laws.GrammarLemmas.{Exact, bind_ok, bind_err, ok_is, err_is}
 
 more_group : (b : ℕ) (group : List ℕ) → 128 ≤ b → IsGroup group → IsGroup (b ∷ group)
 more_group b [] high g = absurd g
