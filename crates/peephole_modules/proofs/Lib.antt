@@ -1,0 +1,5 @@
+pub mod RunLemmas
+pub mod BodyLemmas
+pub mod FunctionLemmas
+pub mod MutationLemmas
+pub mod ModuleLemmas
