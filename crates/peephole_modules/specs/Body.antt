@@ -1,0 +1,34 @@
+-- A body with a node of one of its blocks rewritten (this project).
+use Rattle.std.specs.Prelude.{◌≡◌, ◌⊎◌, ℕ, Bool, List, [], Option}
+use Rattle.wasm_code.specs.declared.operator.Operator.{Operator}
+use Rattle.mutate_base.specs.Module.{Module}
+use Rattle.mutate_base.specs.declared.types.PrimitiveTypeInfo.{PrimitiveTypeInfo}
+use Rattle.mutate_base.specs.declared.error.Error.{Error}
+use Rattle.mutate_base.specs.declared.error.Error.TheVariants.{Memory}
+use Rattle.peephole_graphs.specs.Block.{BlockRange, IsBlockOf}
+use Rattle.peephole_graphs.specs.Source.{source_of}
+use Rattle.peephole_terms.specs.declared.encoder.request.ResourceRequest.{ResourceRequest}
+use Rattle.peephole_terms.specs.Expansion.{Setting}
+use Rattle.peephole_terms.specs.Written.{site_at, IsBlockIn}
+use Rattle.peephole_rules.specs.declared.rule.Rule.{Rule}
+use Rattle.peephole_rewrites.specs.declared.rewrite.Rewrite.{Rewrite}
+use Rattle.peephole_rewrites.specs.Rewriting.{AppendsChosen, AreTheRewrites, RefusesChosen}
+
+-- The sink has grown by the body with a node of a tree of one of its blocks rewritten by one of the rules; the block runs as before.
+pub record AppendsInBody (locals : List PrimitiveTypeInfo) (info : Module) (preserving : Bool) (rules : List Rule) (input : List ℕ)
+    (operators : List (Operator × ℕ)) (rewrite : Rewrite) (old new : List ℕ) (requests : List ResourceRequest) (left : Option Setting) : Type 0 where
+  pub block : BlockRange
+  pub is : IsBlockIn operators block
+  pub chosen : AppendsChosen locals info preserving rules (λ r. site_at input operators block r.insertion_point) rewrite old new requests left
+
+-- No rule has an answer for a node of a tree of the operator's block.
+abbrev pub HasNoRewrites : (locals : List PrimitiveTypeInfo) → Module → (preserving : Bool) → List Rule → List (Operator × ℕ) → (index : ℕ) → Type 0
+HasNoRewrites locals info preserving rules operators index =
+    (block : BlockRange) → IsBlockOf operators index block.start block.end →
+    AreTheRewrites locals (source_of info preserving operators block) rules []
+
+-- Why no body was written: as a rewrite of one of its blocks is refused, or for want of memory.
+abbrev pub RefusesInBody : (locals : List PrimitiveTypeInfo) → Module → (preserving : Bool) → (input : List ℕ) → List (Operator × ℕ) → Error → Type 0
+RefusesInBody locals info preserving input operators e =
+    (e ≡ Memory) ⊎ ((block : BlockRange) × IsBlockIn operators block
+    × RefusesChosen locals info preserving (λ r. site_at input operators block r.insertion_point) e)

@@ -1,0 +1,13 @@
+//! Modules rewritten by rules: a module in, and out comes one in which a node of a function's block is rewritten, so that the
+//! block runs as before.
+#![tactic(auto)]
+
+mod body;
+mod function;
+mod mutation;
+mod runs;
+
+pub use body::rewrite_body_at_random;
+pub use function::{FunctionBody, FunctionError, read_function};
+pub use mutation::{Mutated, MutationError, mutate_module};
+pub use runs::integer_runs;
