@@ -92,7 +92,7 @@ uint64_t EXPORTED(murmur_64)(uint64_t word)
 uint64_t EXPORTED(all)(void)
 {
     uint64_t digest = 0;
-    for (uint32_t i = 0; i < 64; i++) {
+    for (uint32_t i = 0; i < 40; i++) {
         digest = taken(digest, fnv_32(i, i));
         digest = taken(digest, fnv_64(i + 7, 2 * i));
         digest = taken(digest, crc_32(i * i, 3 * i));

@@ -145,7 +145,7 @@ uint32_t EXPORTED(mandelbrot_steps)(int32_t across, int32_t up)
 uint64_t EXPORTED(all)(void)
 {
     uint64_t digest = 0;
-    for (uint32_t i = 1; i < 100; i++) {
+    for (uint32_t i = 1; i < 60; i++) {
         digest = taken(digest, greatest_divisor(i * 84, 360));
         digest = taken(digest, power_modulo(digest, i, i * 1001));
         digest = taken(digest, square_root(digest >> (i & 31)));

@@ -159,12 +159,12 @@ uint32_t EXPORTED(primes_below)(uint32_t limit)
 uint64_t EXPORTED(all)(void)
 {
     uint64_t digest = 0;
-    for (uint32_t i = 1; i < 16; i++) {
+    for (uint32_t i = 1; i < 9; i++) {
         digest = taken(digest, sorted_by_insertion(i, 11 * i));
         digest = taken(digest, sorted_by_parts(i, 13 * i));
         digest = taken(digest, sorted_by_heap(i, 12 * i));
-        digest = taken(digest, (uint32_t)place_of(i, 100, (int32_t)i * 60 - 400));
-        digest = taken(digest, primes_below(i * 60));
+        digest = taken(digest, (uint32_t)place_of(i, 100, (int32_t)i * 110 - 400));
+        digest = taken(digest, primes_below(i * 100));
     }
     return digest;
 }
