@@ -1,23 +1,25 @@
 #!/usr/bin/env bash
 # Compiles each module here from its source, and makes the answers of its calls anew: gcc compiles the same source for this
 # machine, and a driver makes the calls of NAME.calls one after another. A call that divides by zero, whose quotient is too large
-# or that reaches a trap of its own has the answer `trap`. Fails where wabt's interpreter gives other answers. The files under
-# version control are those of clang and lld 14.0.6, gcc 12.2.0 and wabt 1.0.32 (Debian 12) on x86-64.
+# or that reaches a trap of its own has the answer `trap`. A module that is written by hand, NAME.wat, has a twin in C for its
+# answers. Fails where wabt's interpreter gives other answers. The files under version control are those of clang and lld 14.0.6,
+# gcc 12.2.0 and wabt 1.0.32 (Debian 12) on x86-64.
 set -euo pipefail
 cd "$(dirname "$0")"
 
 common="--target=wasm32 -std=c11 -Wall -Wextra -Werror -ffreestanding -fno-builtin -nostdlib -g0
-    -Wl,--no-entry -Wl,--strip-all -Wl,-z,stack-size=4096"
+    -Wl,--no-entry -Wl,-z,stack-size=4096"
 
 # Each module and what it is compiled with.
 modules="
-hashes: -O2
-sorting: -O2 -Wl,--compress-relocations
-numbers: -O1
+hashes: -O2 -Wl,--strip-all
+sorting: -O2 -Wl,--strip-all -Wl,--compress-relocations
+numbers: -O1 -Wl,--strip-all
 mixes: -O2
-text: -O1 -mbulk-memory -msign-ext
-machine: -O2
-plain: -O0
+text: -O1 -mbulk-memory -msign-ext -Wl,--strip-all
+machine: -O2 -Wl,--strip-all
+plain: -O0 -Wl,--strip-all
+outside:
 "
 
 work=$(mktemp -d)
@@ -39,13 +41,12 @@ static void trapped(int signal)
     siglongjmp(before, 1);
 }
 
-static void print_32(uint32_t value) { printf("i32:%u\n", value); }
-static void print_64(uint64_t value) { printf("i64:%llu\n", (unsigned long long)value); }
+static void print_32(const char *text, uint32_t value) { printf("%s => i32:%u\n", text, value); }
+static void print_64(const char *text, uint64_t value) { printf("%s => i64:%llu\n", text, (unsigned long long)value); }
 
-#define PRINT(value) _Generic((value), int32_t: print_32, uint32_t: print_32, int64_t: print_64, uint64_t: print_64)(value)
+#define PRINTER(call) _Generic((call), int32_t: print_32, uint32_t: print_32, int64_t: print_64, uint64_t: print_64)
 #define CALL(text, call) do { \\
-    fputs(text " => ", stdout); \\
-    if (sigsetjmp(before, 1) == 0) { PRINT(call); } else { puts("trap"); } \\
+    if (sigsetjmp(before, 1) == 0) { PRINTER(call)(text, call); } else { puts(text " => trap"); } \\
 } while (0)
 
 int main(void)
@@ -54,7 +55,7 @@ int main(void)
     signal(SIGILL, trapped);
     signal(SIGTRAP, trapped);
 END
-    awk '!/^#/ {
+    awk '!/^[#!]/ {
         arguments = ""
         text = $1
         for (i = 2; i <= NF && $i != "=>"; i++) {
@@ -69,8 +70,12 @@ END
 
 while IFS=: read -r name flags; do
     if [ -z "$name" ]; then continue; fi
-    # shellcheck disable=SC2086
-    clang $common $flags -o "$work/$name.wasm" "$name.c"
+    if [ -e "$name.wat" ]; then
+        wat2wasm --debug-names "$name.wat" -o "$work/$name.wasm"
+    else
+        # shellcheck disable=SC2086
+        clang $common $flags -o "$work/$name.wasm" "$name.c"
+    fi
     chmod 644 "$work/$name.wasm"
     driver "$name" > "$work/$name.driver.c"
     gcc -std=gnu11 -O0 -w -o "$work/$name" "$work/$name.driver.c"
@@ -81,5 +86,5 @@ while IFS=: read -r name flags; do
         exit 1
     fi
     mv "$work/$name.wasm" "$work/$name.calls" .
-    echo "$name: $(stat -c %s "$name.wasm") bytes, $(grep -vc '^#' "$name.calls") calls"
+    echo "$name: $(stat -c %s "$name.wasm") bytes, $(grep -vc '^[#!]' "$name.calls") calls"
 done <<< "$modules"
