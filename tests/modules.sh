@@ -13,6 +13,7 @@ seeds=${1:-200}
 program=${2:-${PEEPHOLE_MUTATE:-}}
 if [ -n "$program" ]; then program=$(realpath "$program"); fi
 cd "$(dirname "$0")/.."
+source tests/modules/calls.sh
 
 work=$(mktemp -d)
 trap 'rm -rf "$work"' EXIT
@@ -25,13 +26,6 @@ if [ -z "$program" ]; then
     fi
 fi
 
-# The answers of a module: those of the list's calls, and, where nothing is imported, what wasm-interp says of its exports that
-# take nothing.
-answers() {
-    timeout 10 tests/modules/answers.sh "$1" "tests/modules/$2.calls"
-    if grep -q '^all ' "tests/modules/$2.calls"; then timeout 10 wasm-interp --run-all-exports "$1"; fi
-}
-
 passed=0
 failed=0
 
@@ -41,9 +35,9 @@ pass() { passed=$((passed + 1)); }
 fail() {
     failed=$((failed + 1))
     echo "$1: $2" >&2
-    if [ -n "${KEEP:-}" ] && [ -f "$work/new.wasm" ]; then
+    if [ -n "${KEEP:-}" ] && [ -f "$work/module.wasm" ]; then
         mkdir -p "$KEEP"
-        cp "$work/new.wasm" "$KEEP/$1.wasm"
+        cp "$work/module.wasm" "$KEEP/$1.wasm"
     fi
 }
 
@@ -52,22 +46,22 @@ try_seed() {
     local name=$1 seed=$2 count=$(($2 % 8 + 1)) status=0
     local case=$name-$seed-$count
     timeout 10 "$program" --seed "$seed" --count "$count" \
-        < "tests/modules/$name.wasm" > "$work/new.wasm" 2> "$work/message" || status=$?
-    if [ "$status" -eq 2 ] && [ -s "$work/message" ] && [ ! -s "$work/new.wasm" ]; then
+        < "tests/modules/$name.wasm" > "$work/module.wasm" 2> "$work/message" || status=$?
+    if [ "$status" -eq 2 ] && [ -s "$work/message" ] && [ ! -s "$work/module.wasm" ]; then
         nothing=$((nothing + 1))
         pass
     elif [ "$status" -ne 0 ]; then
         fail "$case" "status $status: $(head -c 300 "$work/message")"
-    elif ! wasm-validate "$work/new.wasm" > "$work/message" 2>&1; then
+    elif ! wasm-validate "$work/module.wasm" > "$work/message" 2>&1; then
         fail "$case" "not valid: $(head -c 300 "$work/message")"
     else
         rewritten=$((rewritten + 1))
-        if ! cmp -s "$work/new.wasm" "tests/modules/$name.wasm"; then differ=$((differ + 1)); fi
-        answers "$work/new.wasm" "$name" > "$work/answers" 2>&1 || true
-        if cmp -s "$work/answers" "$work/$name.answers"; then
+        if ! cmp -s "$work/module.wasm" "tests/modules/$name.wasm"; then differ=$((differ + 1)); fi
+        answers_of "$work" > "$work/answers"
+        if cmp -s "$work/answers" "$work/wanted"; then
             pass
         else
-            fail "$case" "other answers: $(diff "$work/$name.answers" "$work/answers" | head -3 | tr '\n' ' ')"
+            fail "$case" "other answers: $(diff "$work/wanted" "$work/answers" | head -3 | tr '\n' ' ')"
         fi
     fi
 }
@@ -77,16 +71,17 @@ for module in tests/modules/*.wasm; do
     rewritten=0
     nothing=0
     differ=0
-    rm -f "$work/new.wasm"
-    answers "$module" "$name" > "$work/$name.answers"
-    if grep -v '^#' "tests/modules/$name.calls" | diff -q - <(tests/modules/answers.sh "$module" "tests/modules/$name.calls") > /dev/null; then
+    cp "$module" "$work/module.wasm"
+    commands_of "tests/modules/$name.calls" > "$work/calls.json"
+    answers_of "$work" > "$work/wanted"
+    if grep -v '^#' "tests/modules/$name.calls" | cmp -s - "$work/wanted"; then
         pass
     else
         fail "$name" "its own answers aren't those of its list"
     fi
     for seed in $(seq 0 $((seeds - 1))); do try_seed "$name" "$seed"; done
     echo "$name: $rewritten rewritten, $nothing with nothing to rewrite, $differ with other bytes"
-    rm -f "$work/new.wasm"
+    rm -f "$work/module.wasm"
     if [ "$rewritten" -eq 0 ]; then fail "$name" "no seed rewrites it"; fi
 done
 echo "$passed passed, $failed failed"

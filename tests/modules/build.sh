@@ -6,6 +6,7 @@
 # gcc 12.2.0 and wabt 1.0.32 (Debian 12) on x86-64.
 set -euo pipefail
 cd "$(dirname "$0")"
+source ./calls.sh
 
 common="--target=wasm32 -std=c11 -Wall -Wextra -Werror -ffreestanding -fno-builtin -nostdlib -g0
     -Wl,--no-entry -Wl,-z,stack-size=4096"
@@ -80,8 +81,9 @@ while IFS=: read -r name flags; do
     driver "$name" > "$work/$name.driver.c"
     gcc -std=gnu11 -O0 -w -o "$work/$name" "$work/$name.driver.c"
     { grep '^#' "$name.calls"; "$work/$name"; } > "$work/$name.calls"
-    ./answers.sh "$work/$name.wasm" "$name.calls" > "$work/$name.answers"
-    if ! diff <(grep -v '^#' "$work/$name.calls") "$work/$name.answers"; then
+    cp "$work/$name.wasm" "$work/module.wasm"
+    commands_of "$name.calls" > "$work/calls.json"
+    if ! diff <(grep -v '^#' "$work/$name.calls") <(answers_of "$work"); then
         echo "$name: the interpreter answers otherwise" >&2
         exit 1
     fi
