@@ -6,8 +6,8 @@
 # so is one whose own answers aren't those of its list, which gcc made.
 #
 # Usage: modules.sh [SEEDS [PROGRAM]]. The program is peephole_mutate; where neither an argument nor the variable PEEPHOLE_MUTATE
-# names one, it is proved and built from crates/peephole_mutate. Needs wabt (spectest-interp, wasm-interp, wasm-validate); some
-# four minutes for 200 seeds. A new module that fails is kept in the folder of the variable KEEP, where that is set.
+# names one, it is proved and built from crates/peephole_mutate. Needs wabt (spectest-interp, wasm-interp, wasm-validate); a
+# few minutes for 200 seeds. A new module that fails is kept in the folder of the variable KEEP, where that is set.
 set -euo pipefail
 seeds=${1:-200}
 program=${2:-${PEEPHOLE_MUTATE:-}}
