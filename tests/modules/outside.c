@@ -156,3 +156,27 @@ uint64_t rotated(uint64_t a, uint64_t by)
     uint64_t leading = a == 0 ? 64 : (uint64_t)__builtin_clzll(a);
     return turned - trailing + leading;
 }
+
+uint32_t short_forms_i32(uint32_t a, uint32_t b)
+{
+    b += 42;
+    a += b - 5 + 9;
+    a += b + 3;
+    a = (a << 3) ^ (b * 16);
+    b = (int32_t)a < 1000 ? a : b;
+    b = (a & 1) == 0 ? b : 12;
+    a = (b & 2) == 0 ? a : 7;
+    return a >= (b << 5 | b >> 27) ? a - b : b + 1;
+}
+
+uint64_t short_forms_i64(uint64_t a, uint64_t b)
+{
+    b += 42;
+    a += b - 5 + 9;
+    a += b + 3;
+    a = (a << 3) ^ (b * 16);
+    b = (int64_t)a < 1000 ? a : b;
+    b = (a & 1) == 0 ? b : 12;
+    a = (b & 2) == 0 ? a : 7;
+    return a >= (b << 5 | b >> 59) ? a - b : b + 1;
+}
