@@ -1,5 +1,5 @@
 // Generators and mixes of 64 bits: splitmix, xorshift, PCG, products of 128 bits. Two numbers of the state are globals of the
-// module, which have no place in memory.
+// module, which have no place in memory (both of 64 bits, since clang 14 reads a shorter one that it extends from memory).
 #include "module.h"
 
 #ifdef __wasm__
