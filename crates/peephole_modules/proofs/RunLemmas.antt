@@ -49,7 +49,27 @@ integer_one locals globals os n inside = (forth, back)
         let is : get_or (slice_range os n (n + 1)) k d ≡ get_or os n d = ap (λ i. get_or (slice_range os n (n + 1)) i d) at ∙ only_one os n d in
         subst (λ (x : Operator × ℕ). IsIntegerOperator locals globals x.0) (sym is) (h (get_or os n d) (slice_get-get_or os n d inside))
 
+-- the same by what the code reads there
+pub found_there : (os : Operators) (n : ℕ) (o : Operator × ℕ) → n < length os → o ≡ get_or os n o → slice_get os n ≡ Some o
+found_there os n o inside is = slice_get-get_or os n o inside ∙ ap (λ x. Some x) (sym is)
+
+pub passes_there : (os : Operators) (n : ℕ) (o : Operator × ℕ) → n < length os → o ≡ get_or os n o → is_delimiter o.0 ≡ false →
+    (p : Operator × ℕ) → slice_get os n ≡ Some p → is_delimiter p.0 ≡ false
+passes_there os n o inside is passed p at =
+    let same : o ≡ p = same_Some _ _ (sym (found_there os n o inside is) ∙ at) in
+    subst (λ (x : Operator × ℕ). is_delimiter x.0 ≡ false) same passed
+
 -- ---- a run goes on
+
+-- before the first operator
+pub first_run : (locals globals : Types) (os : Operators) → InRun locals globals os 0
+first_run locals globals os = record {
+  start = 0;
+  some = omega arith;
+  none = λ k p low high e. absurd (omega arith);
+  longest = λ from h. omega arith;
+  integer = λ k p low high e. absurd (omega arith);
+}
 
 -- behind a delimiter a block begins
 pub run_begins : (locals globals : Types) (os : Operators) (n : ℕ) (o : Operator × ℕ) → slice_get os n ≡ Some o → is_delimiter o.0 ≡ true →
