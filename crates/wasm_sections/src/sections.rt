@@ -121,12 +121,12 @@ fn next_section(last: u8, start: usize, bytes: &[u8]) -> Result<(Section, &[u8])
     Ok((section, after))
 }
 
-/// The sections behind the preamble.
+/// The sections of a module, one after another.
 fn sections_of(alloc: Global, bytes: &[u8]) -> Result<Vec<Section>, ModuleError>
-    requires { BeginsWith bytes.now preamble }
     ensures found { IfOk result (λ v. SpellsModule bytes.now v.items) }
     ensures fault { IfErr result (λ e. IsSectionFault bytes.now e.kind e.offset) }
 {
+    check_preamble(bytes)?;
     let mut found = Vec::new(alloc);
     let mut last: u8 = 0;
     let mut rest = &bytes[PREAMBLE.len()..];
@@ -171,6 +171,5 @@ pub fn read_sections(alloc: Global, bytes: &[u8]) -> Result<Vec<Section>, Module
     // What doesn't come from memory is the first fault.
     ensures fault { IfErr result (λ e. IsSectionFault bytes.now e.kind e.offset) }
 {
-    check_preamble(bytes)?;
     sections_of(alloc, bytes)
 }
