@@ -4,6 +4,7 @@
 mod fault;
 mod find;
 mod id;
+pub mod laws;
 mod linking;
 mod section;
 mod sections;
