@@ -1,6 +1,9 @@
 //! Laws on modules as sections: functions that do nothing, and whose contracts hold for all values.
 ghost use Rattle.std.specs.Prelude.{◌≡◌, ◌≢◌, ◌<◌, ◌^◌, ◌++◌, ℕ, List, ◌∷◌, length, take, drop, slice_index_or};
 ghost use Rattle.wasm_sections.specs.Section.{SpellsModule, parts_of};
+ghost use Rattle.wasm_sections.specs.Sections.{IsSectionFault};
+ghost use Rattle.wasm_sections.specs.declared.fault.ModuleFault.{ModuleFault};
+ghost use Rattle.wasm_sections.specs.declared.fault.ModuleFault.TheVariants.{Memory};
 ghost use Rattle.wasm_sections.specs.Find.{IsFirstWith, IsPlaceOf};
 ghost use Rattle.wasm_sections.specs.Writing.{section_code};
 ghost use Rattle.wasm_sections.specs.Laws.{SpellsParts, AreJoined, IsWithin};
@@ -14,6 +17,13 @@ use wasm_code::laws::shortest_is_a_spelling;
 pub fn one_module()
     ensures { (bytes : List ℕ) (xs ys : List Section) → SpellsModule bytes xs
         → SpellsModule bytes ys → xs ≡ ys }
+{}
+
+/// Bytes have one fault at most.
+pub fn one_fault()
+    ensures { (bytes : List ℕ) (one other : ModuleFault) (at place : ℕ) → IsSectionFault bytes one at
+        → IsSectionFault bytes other place → one ≢ Memory → other ≢ Memory
+        → (one ≡ other) × (at ≡ place) }
 {}
 
 /// The sections of a module fill it behind the preamble, one behind another, and so each lies within it.
