@@ -21,7 +21,10 @@ use Rattle.wasm_sections.proofs.PieceLemmas.{Piece, code_of, joined, AreCounted,
 -- ---- one id, one piece, one list of pieces
 
 abbrev id_at : ℕ → SectionId
-id_at n = get_or (ids.Custom ∷ ids.Type ∷ ids.Import ∷ ids.Function ∷ ids.Table ∷ ids.Memory ∷ ids.Global ∷ ids.Export ∷ ids.Start ∷ ids.Element ∷ ids.Code ∷ ids.Data ∷ ids.DataCount ∷ ids.Tag ∷ []) n ids.Custom
+id_at n = get_or
+    (ids.Custom ∷ ids.Type ∷ ids.Import ∷ ids.Function ∷ ids.Table ∷ ids.Memory ∷ ids.Global ∷ ids.Export ∷
+    ids.Start ∷ ids.Element ∷ ids.Code ∷ ids.Data ∷ ids.DataCount ∷ ids.Tag ∷ [])
+    n ids.Custom
 
 id_is : (id : SectionId) → id_at (id_code id) ≡ id
 id_is ids.Custom = refl
