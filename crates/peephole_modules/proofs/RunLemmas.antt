@@ -49,14 +49,10 @@ integer_one locals globals os n inside = (forth, back)
         let is : get_or (slice_range os n (n + 1)) k d ≡ get_or os n d = ap (λ i. get_or (slice_range os n (n + 1)) i d) at ∙ only_one os n d in
         subst (λ (x : Operator × ℕ). IsIntegerOperator locals globals x.0) (sym is) (h (get_or os n d) (slice_get-get_or os n d inside))
 
--- the same by what the code reads there
-pub found_there : (os : Operators) (n : ℕ) (o : Operator × ℕ) → n < length os → o ≡ get_or os n o → slice_get os n ≡ Some o
-found_there os n o inside is = slice_get-get_or os n o inside ∙ ap (λ x. Some x) (sym is)
-
-pub passes_there : (os : Operators) (n : ℕ) (o : Operator × ℕ) → n < length os → o ≡ get_or os n o → is_delimiter o.0 ≡ false →
+pub passes_there : (os : Operators) (n : ℕ) (d : Operator × ℕ) → n < length os → is_delimiter (get_or os n d).0 ≡ false →
     (p : Operator × ℕ) → slice_get os n ≡ Some p → is_delimiter p.0 ≡ false
-passes_there os n o inside is passed p at =
-    let same : o ≡ p = same_Some _ _ (sym (found_there os n o inside is) ∙ at) in
+passes_there os n d inside passed p at =
+    let same : get_or os n d ≡ p = stands_there os n d p inside at in
     subst (λ (x : Operator × ℕ). is_delimiter x.0 ≡ false) same passed
 
 -- ---- a run goes on
@@ -192,6 +188,6 @@ ends_kept locals globals os i ends before none n = (
   ],
 )
 
-pub all_ends : (locals globals : Types) (os : Operators) (ends : List ℕ) → AreEnds locals globals os (length os) ends → (n : ℕ) →
+pub all_ends : (locals globals : Types) (os : Operators) (i : ℕ) (ends : List ℕ) → length os ≤ i → AreEnds locals globals os i ends → (n : ℕ) →
     Contains ends n ↔ EndsRun locals globals os n
-all_ends locals globals os ends are n = (λ h. ((are n).0 h).1, λ e. (are n).1 (e.inside, e))
+all_ends locals globals os i ends past are n = (λ h. ((are n).0 h).1, λ e. (are n).1 (omega (arith, e.inside), e))
