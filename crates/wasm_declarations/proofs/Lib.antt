@@ -1,3 +1,4 @@
 pub mod ListLemmas
 pub mod ItemLemmas
 pub mod GlobalLemmas
+pub mod EntryLemmas

@@ -106,7 +106,7 @@ pub counted : {A : Type 0} (at : Reader A) (text rest : List ℕ) (n : ℕ) → 
 unfolding list_at
 counted at text rest n e = rw e refl
 
-empty_is : (text : List ℕ) → length text ≡ 0 → text ≡ []
+pub empty_is : (text : List ℕ) → length text ≡ 0 → text ≡ []
 empty_is [] e = refl
 empty_is (b ∷ text) e = absurd (omega (arith, e))
 
@@ -179,7 +179,7 @@ module _ {A : Type 0} {Spells : List ℕ → A → Type 0} {Fails : List ℕ →
         fails = one.stops s.stops.rest cause s.stops.fails;
       })
 
-  fault_is : (start : ℕ) (text : List ℕ) (e : ModuleError) → FailsWhole at start text e → IsListFault Spells Fails start text e.kind e.offset
+  pub fault_is : (start : ℕ) (text : List ℕ) (e : ModuleError) → FailsWhole at start text e → IsListFault Spells Fails start text e.kind e.offset
   fault_is start text e (inl s) =
       subst (λ (k : ModuleFault). IsListFault Spells Fails start text k e.offset) (sym s.1) (by_cause start text s.0 e.offset
       (elim s.2 [
@@ -211,7 +211,7 @@ module _ {A : Type 0} {Spells : List ℕ → A → Type 0} {Fails : List ℕ →
   fault start text (Err e) h = fault_is start text e h
 
   -- what is spelled is read, and nothing else
-  only_of : (start : ℕ) (text : List ℕ) (xs : List A) (e : ModuleError) → list_at at text ≡ Ok (xs, []) → FailsWhole at start text e →
+  pub only_of : (start : ℕ) (text : List ℕ) (xs : List A) (e : ModuleError) → list_at at text ≡ Ok (xs, []) → FailsWhole at start text e →
       e.kind ≡ faults.Memory
   unfolding list_at
   only_of start text xs e reads (inl s) =

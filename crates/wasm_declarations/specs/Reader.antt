@@ -21,6 +21,7 @@ use Rattle.wasm_declarations.specs.declared.entries.Entry.{Entry}
 use Rattle.wasm_declarations.specs.declared.list.Stop.{Stop}
 use Rattle.wasm_declarations.specs.declared.locals.GroupStop.{GroupStop}
 use Rattle.wasm_declarations.specs.declared.locals.GroupStop.TheVariants as stops
+use Rattle.wasm_declarations.specs.Entries.{entries_from}
 use Rattle.wasm_declarations.specs.List.{fault_of}
 use Rattle.wasm_declarations.specs.Locals.{types_of, locals_in, AreFew}
 use Rattle.wasm_declarations.specs.Types.{primitive}
@@ -188,6 +189,15 @@ entry_of start size = record { start = start; contents = start + size.1; end = s
 -- an entry, in bytes that end at the offset
 unfoldable pub entry_at : ℕ → List ℕ → Result (Entry × List ℕ) Cause
 entry_at to bytes = sized_at bytes >>= λ size. Ok (entry_of (to - length bytes) size.0, size.1)
+
+-- the entries that are read are those of a list of sizes
+pub record AreRead (start : ℕ) (text : List ℕ) (entries : List Entry) : Type 0 where
+  pub number : ℕ
+  pub rest : List ℕ
+  pub sizes : List (ℕ × ℕ)
+  pub counts : unsigned_at 32 text ≡ Ok (number, rest)
+  pub reads : list_at sized_at text ≡ Ok (sizes, [])
+  pub placed : entries ≡ entries_from (start + (length text - length rest)) sizes
 
 unfoldable pub group_at : List ℕ → Result ((ℕ × PrimitiveTypeInfo) × List ℕ) Cause
 group_at bytes = unsigned_at 32 bytes >>= λ n. primitive_at n.1 >>= λ type. Ok ((n.0, type.0), type.1)
