@@ -2,3 +2,4 @@ pub mod ListLemmas
 pub mod ItemLemmas
 pub mod GlobalLemmas
 pub mod EntryLemmas
+pub mod LocalLemmas
