@@ -1,11 +1,9 @@
 -- Entries of the code section: their sizes are read exactly, and their places follow from the sizes.
-use Rattle.std.proofs.Common.{◌≡◌, ◌⊎◌, inl, inr, ℕ, zero, suc, ◌+◌, ◌-◌, ◌<◌, ◌≤◌, List, [], ◌∷◌, ◌++◌, length, take, drop, cond, ltb, Bool, true, false, Result, Ok, Err, refl, sym, ap, subst, ◌∙◌, arith}
+use Rattle.std.proofs.Common.{◌≡◌, inl, inr, ℕ, zero, suc, ◌+◌, ◌-◌, ◌<◌, ◌≤◌, List, [], ◌∷◌, ◌++◌, length, Result, Ok, Err, refl, sym, ap, subst, ◌∙◌, arith}
 use Rattle.std.specs.Prelude.{IfOk, IfErr, MatchResult}
 use Rattle.std.specs.Global.{Vec}
-use Rattle.std.proofs.lemmas.List.{length-append, length-drop}
+use Rattle.std.proofs.lemmas.List.{length-append}
 use Rattle.wasm_code.specs.declared.fault.Cause.{Cause}
-use Rattle.wasm_code.specs.declared.fault.Cause.TheVariants.{Truncated}
-use Rattle.wasm_code.specs.Number.{SpellsUnsigned}
 use Rattle.wasm_code.specs.Reader.{◌>>=◌, unsigned_at, bytes_at}
 use Rattle.wasm_code.specs.laws.GrammarLemmas.{Reader, Exact, bind_ok, bind_err, ok_is, exact_of, exact_then, bytes_exact}
 use Rattle.wasm_code.specs.laws.NumberExact.{unsigned_exact}
@@ -16,7 +14,7 @@ use Rattle.wasm_declarations.specs.declared.refusal.Refusal.{Refusal}
 use Rattle.wasm_declarations.specs.declared.refusal.Refusal.TheVariants as refusals
 use Rattle.wasm_declarations.specs.List.{SpellsList, IsListFault}
 use Rattle.wasm_declarations.specs.Entries.{Measured, SpellsSized, FailsSized, entries_from, SpellsEntries}
-use Rattle.wasm_declarations.specs.Reader.{each_at, list_at, skip_at, measured_at, sized_at, entry_of, entry_at, StopsEach, StopsBy, FailsWhole, AreRead, error_at}
+use Rattle.wasm_declarations.specs.Reader.{each_at, skip_at, measured_at, sized_at, entry_of, entry_at, StopsBy, FailsWhole, AreRead, error_at}
 use Rattle.wasm_declarations.proofs.ListLemmas.{counted, item_fails, has_more, fault_is, whole_spells, whole_reads, only_of}
 
 measured_exact : {A : Type 0} {Spells : List ℕ → A → Type 0} {Fails : List ℕ → Cause → Type 0} {at : Reader A} → Exact Spells Fails at →

@@ -1,5 +1,5 @@
 -- The loop that reads a list's items, and that what it answers is what is spelled.
-use Rattle.std.proofs.Common.{◌≡◌, ◌⊎◌, inl, inr, ℕ, zero, suc, ◌+◌, ◌-◌, ◌<◌, ◌≤◌, List, [], ◌∷◌, ◌++◌, length, Result, Ok, Err, refl, sym, ap, subst, ◌∙◌, append_assoc, add-one, arith}
+use Rattle.std.proofs.Common.{◌≡◌, inl, inr, ℕ, zero, suc, ◌+◌, ◌-◌, ◌<◌, ◌≤◌, List, [], ◌∷◌, ◌++◌, length, Result, Ok, Err, refl, sym, ap, subst, ◌∙◌, add-one, arith}
 use Rattle.std.specs.Prelude.{IfOk, IfErr, MatchResult}
 use Rattle.std.specs.Global.{Vec}
 use Rattle.std.proofs.lemmas.List.{length-append, append-nil}
@@ -13,7 +13,7 @@ use Rattle.wasm_sections.specs.declared.fault.ModuleError.{ModuleError}
 use Rattle.wasm_sections.specs.declared.fault.ModuleFault.{ModuleFault}
 use Rattle.wasm_sections.specs.declared.fault.ModuleFault.TheVariants as faults
 use Rattle.wasm_declarations.specs.List.{Each, SpellsList, FailsList, StopsAt, IsListFault, fault_of}
-use Rattle.wasm_declarations.specs.Reader.{each_at, list_at, StopsEach, StopsList, GoesOn, FailsWhole, Answers, StopsBy, error_at}
+use Rattle.wasm_declarations.specs.Reader.{each_at, list_at, StopsEach, StopsList, FailsWhole, Answers, StopsBy, error_at}
 use Rattle.wasm_declarations.specs.declared.refusal.Refusal.{Refusal}
 use Rattle.wasm_declarations.specs.declared.refusal.Refusal.TheVariants as refusals
 

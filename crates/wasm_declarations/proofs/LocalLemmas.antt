@@ -1,7 +1,6 @@
 -- The loop over groups of locals, and that what it answers is what is spelled.
-use Rattle.std.proofs.Common.{◌≡◌, ◌⊎◌, inl, inr, ℕ, zero, suc, ◌+◌, ◌-◌, ◌<◌, ◌≤◌, List, [], ◌∷◌, ◌++◌, length, take, replicate, Result, Ok, Err, refl, sym, ap, subst, ◌∙◌, append_assoc, arith}
+use Rattle.std.proofs.Common.{◌≡◌, inl, inr, ℕ, zero, suc, ◌+◌, ◌-◌, ◌<◌, ◌≤◌, List, [], ◌∷◌, ◌++◌, length, take, replicate, Result, Ok, Err, refl, sym, ap, ◌∙◌, append_assoc, arith}
 use Rattle.std.specs.Prelude.{IfOk, IfErr, MatchResult}
-use Rattle.std.specs.Global.{Vec}
 use Rattle.std.proofs.lemmas.List.{length-append, append-nil, length-replicate, take_all}
 use Rattle.mutate_base.specs.declared.types.PrimitiveTypeInfo.{PrimitiveTypeInfo}
 use Rattle.wasm_code.specs.declared.fault.Cause.{Cause}
@@ -18,8 +17,8 @@ use Rattle.wasm_declarations.specs.declared.locals.GroupStop.TheVariants as stop
 use Rattle.wasm_declarations.specs.declared.locals.Locals.{Locals}
 use Rattle.wasm_declarations.specs.declared.refusal.Refusal.{Refusal}
 use Rattle.wasm_declarations.specs.declared.refusal.Refusal.TheVariants as refusals
-use Rattle.wasm_declarations.specs.List.{SpellsList, fault_of, CountFails}
-use Rattle.wasm_declarations.specs.Locals.{SpellsGroup, FailsGroup, types_of, locals_in, AreFew, SpellsLocals, IsAtGroup, GroupFails, StopsAtGroup, HasManyParameters, PassesBound, IsLocalsFault}
+use Rattle.wasm_declarations.specs.List.{fault_of}
+use Rattle.wasm_declarations.specs.Locals.{FailsGroup, types_of, locals_in, SpellsLocals, IsAtGroup, StopsAtGroup, IsLocalsFault}
 use Rattle.wasm_declarations.specs.Reader.{each_at, list_at, group_at, ReadsGroups, IsAfterGroups, FailsGroups, HasTooMany, FailsGroupsBy, StopsGroups, left_of, error_at, group_error_at}
 use Rattle.wasm_declarations.proofs.ListLemmas.{begins, goes_on, each_exact, list_exact, each_fails, counted}
 use Rattle.wasm_declarations.proofs.ItemLemmas.{group_exact}

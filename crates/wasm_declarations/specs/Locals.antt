@@ -3,7 +3,7 @@
 use Rattle.std.specs.Prelude.{◌≡◌, ◌⊎◌, ℕ, ◌+◌, ◌<◌, ◌≤◌, List, [], ◌∷◌, ◌++◌, length, replicate}
 use Rattle.mutate_base.specs.declared.types.PrimitiveTypeInfo.{PrimitiveTypeInfo}
 use Rattle.wasm_code.specs.declared.fault.Cause.{Cause}
-use Rattle.wasm_code.specs.declared.fault.Cause.TheVariants.{Truncated, UnknownOpcode, BadInteger, BadImmediate}
+use Rattle.wasm_code.specs.declared.fault.Cause.TheVariants.{Truncated, BadInteger, BadImmediate}
 use Rattle.wasm_code.specs.Grammar.{Of, Then, FailsThen}
 use Rattle.wasm_code.specs.Number.{SpellsUnsigned, FailsUnsigned}
 use Rattle.wasm_code.specs.Immediate.{FailsValType}

@@ -1,5 +1,5 @@
 -- Reading lists and their items as functions (this project): for proofs. The contracts of public calls go by the grammar.
-use Rattle.std.specs.Prelude.{◌≡◌, ◌⊎◌, ℕ, zero, suc, ◌+◌, ◌-◌, ◌≤◌, ◌<◌, ◌==◌, if◌then◌else◌, Bool, true, false, List, [], ◌∷◌, ◌++◌, length, Option, Some, None, Result, Ok, Err}
+use Rattle.std.specs.Prelude.{◌≡◌, ◌⊎◌, ℕ, zero, suc, ◌+◌, ◌-◌, ◌<◌, ◌==◌, if◌then◌else◌, Bool, true, false, List, [], ◌∷◌, ◌++◌, length, Option, Some, None, Result, Ok, Err}
 use Rattle.mutate_base.specs.declared.types.PrimitiveTypeInfo.{PrimitiveTypeInfo}
 use Rattle.mutate_base.specs.declared.types.ElementType.{ElementType}
 use Rattle.mutate_base.specs.declared.types.ElementType.TheVariants as elements
@@ -8,7 +8,7 @@ use Rattle.mutate_base.specs.declared.types.MemoryType.{MemoryType}
 use Rattle.mutate_base.specs.declared.types.TypeInfo.{TypeInfo}
 use Rattle.mutate_base.specs.declared.types.TypeInfo.TheVariants.{Func}
 use Rattle.wasm_code.specs.declared.fault.Cause.{Cause}
-use Rattle.wasm_code.specs.declared.fault.Cause.TheVariants.{Truncated, UnknownOpcode, BadInteger, BadImmediate}
+use Rattle.wasm_code.specs.declared.fault.Cause.TheVariants.{Truncated, BadImmediate}
 use Rattle.wasm_code.specs.Body.{is_end}
 use Rattle.wasm_code.specs.Reader.{◌>>=◌, byte_at, bytes_at, named_at, times_at, unsigned_at, val_type_at, operator_at}
 use Rattle.wasm_sections.specs.declared.fault.ModuleError.{ModuleError}
@@ -18,7 +18,6 @@ use Rattle.wasm_declarations.specs.declared.refusal.Refusal.TheVariants as refus
 use Rattle.wasm_declarations.specs.declared.import.Import.{Import}
 use Rattle.wasm_declarations.specs.declared.import.Import.TheVariants as imports
 use Rattle.wasm_declarations.specs.declared.entries.Entry.{Entry}
-use Rattle.wasm_declarations.specs.declared.list.Stop.{Stop}
 use Rattle.wasm_declarations.specs.declared.locals.GroupStop.{GroupStop}
 use Rattle.wasm_declarations.specs.declared.locals.GroupStop.TheVariants as stops
 use Rattle.wasm_declarations.specs.Entries.{entries_from}

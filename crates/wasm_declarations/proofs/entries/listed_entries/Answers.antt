@@ -1,7 +1,6 @@
-use Rattle.std.proofs.Common.{◌≤◌, ◌+◌, length, refl, arith}
+use Rattle.std.proofs.Common.{◌≤◌, length, refl, arith}
 use Rattle.std.proofs.lemmas.Grind.{common_steps}
 use Rattle.wasm_code.specs.laws.NumberExact.{unsigned_exact}
-use Rattle.wasm_declarations.specs.Reader.{sized_at}
 use Rattle.wasm_declarations.proofs.ListLemmas.{shorter, empty_is}
 use Rattle.wasm_declarations.proofs.EntryLemmas.{are_read, size_fails, more_sizes}
 use Rattle.wasm_declarations.proofs.entries.listed_entries.Goals as goal

@@ -1,4 +1,4 @@
-use Rattle.std.proofs.Common.{◌≤◌, length, refl, inl, arith}
+use Rattle.std.proofs.Common.{◌≤◌, length, arith}
 use Rattle.wasm_code.specs.laws.NumberExact.{unsigned_exact}
 use Rattle.wasm_declarations.proofs.ListLemmas.{shorter}
 use Rattle.wasm_declarations.proofs.LocalLemmas.{locals_found, count_stops, locals_fault}
