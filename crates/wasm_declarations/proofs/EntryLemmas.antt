@@ -126,6 +126,15 @@ sized_fails to bytes cause e =
       | inr there ↦ let f = there.2 in absurd cc
     ]
 
+-- one more entry in front
+one_more : (start next : ℕ) (size : ℕ × ℕ) (entry : Entry) (sizes : List (ℕ × ℕ)) (entries all : List Entry) → all ≡ entry ∷ entries →
+    entry_of start size ≡ entry → next ≡ start + size.1 + size.0 → entries ≡ entries_from next sizes → all ≡ entries_from start (size ∷ sizes)
+one_more start next size entry sizes entries all is first place rest =
+    let front : entry ∷ entries ≡ entry_of start size ∷ entries = ap (λ (x : Entry). x ∷ entries) (sym first) in
+    let back : entry_of start size ∷ entries ≡ entry_of start size ∷ entries_from next sizes = ap (λ (l : List Entry). entry_of start size ∷ l) rest in
+    let later : entry_of start size ∷ entries_from next sizes ≡ entries_from start (size ∷ sizes) = ap (λ (k : ℕ). entry_of start size ∷ entries_from k sizes) place in
+    is ∙ front ∙ back ∙ later
+
 sizes_of : (to n : ℕ) (bytes : List ℕ) (entries : List Entry) (rest : List ℕ) → length bytes ≤ to →
     each_at n (entry_at to) bytes ≡ Ok (entries, rest)
     → (sizes : List (ℕ × ℕ)) × (each_at n sized_at bytes ≡ Ok (sizes, rest)) × (entries ≡ entries_from (to - length bytes) sizes)
@@ -142,13 +151,10 @@ sizes_of to (suc n) bytes entries rest fits e =
     let later = sizes_of to n a.0.1 b.0.0 b.0.1 (omega (arith, fits, len)) b.1 in
     let place : to - length a.0.1 ≡ to - length bytes + s.0.1 + s.0.0 = omega (arith, fits, len) in
     let rest-is : b.0.1 ≡ rest = ap (λ (q : List Entry × List ℕ). q.1) p in
-    let all : entries ≡ a.0.0 ∷ b.0.0 = ap (λ (q : List Entry × List ℕ). q.0) (sym p) in
-    (
+    let all : entries ≡ a.0.0 ∷ b.0.0 = ap (λ (q : List Entry × List ℕ). q.0) (sym p) in (
       s.0 ∷ later.0,
       rw (s.1, later.1) (ap (λ (r : List ℕ). Ok (s.0 ∷ later.0, r)) rest-is),
-      all
-      ∙ ap (λ (x : Entry). x ∷ b.0.0) (sym s.2)
-      ∙ ap (λ (l : List Entry). entry_of (to - length bytes) s.0 ∷ l) (later.2 ∙ ap (λ (k : ℕ). entries_from k later.0) place),
+      one_more (to - length bytes) (to - length a.0.1) s.0 a.0.0 later.0 b.0.0 entries all s.2 place later.2,
     )
 
 pub sizes_stop : (to n : ℕ) (bytes : List ℕ) (refusal : Refusal) (left : ℕ) → length bytes ≤ to → StopsBy (entry_at to) n bytes refusal left →

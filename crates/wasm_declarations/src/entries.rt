@@ -80,11 +80,7 @@ fn entries_of(
 }
 
 /// The entries of a list that is the whole of a section's contents, whose first byte has the offset `start`.
-fn listed_entries(
-    alloc: Global,
-    contents: &[u8],
-    start: usize,
-) -> Result<Vec<Entry>, ModuleError>
+fn listed_entries(alloc: Global, contents: &[u8], start: usize) -> Result<Vec<Entry>, ModuleError>
     requires { start + length contents.now ≤ usize.MAX }
     ensures found { IfOk result (λ v. AreRead start contents.now v.items) }
     ensures fault { IfErr result (λ e. FailsWhole sized_at start contents.now e) }

@@ -60,9 +60,10 @@ fn with_groups(
     let mut rest = bytes;
     for _ in 0..count {
         let left = rest.len();
+        let room = MOST_LOCALS - types.len();
         match group_from(rest) {
             Ok(((number, ty), behind)) => {
-                if number as usize > MOST_LOCALS - types.len() {
+                if number as usize > room {
                     return Err(GroupStop::TooMany(left));
                 }
                 if types.resize(types.len() + number as usize, ty).is_err() {

@@ -13,7 +13,7 @@ loop-preserved c =
     let shorter : length c.in-Ok.behind.now ≤ length c.loop.rest.now = c.in-Ok.ensures.within in
     record {
       reads = rw items (goes_on (entry_at c.args.to) c.loop.counter c.args.bytes.now c.loop.entries.items c.loop.rest.now c.in-Ok.entry
-      c.in-Ok.behind.now c.loop.invariant.reads c.in-Ok.ensures.gives);
+          c.in-Ok.behind.now c.loop.invariant.reads c.in-Ok.ensures.gives);
       within = omega (arith, shorter, c.loop.invariant.within);
     }
 

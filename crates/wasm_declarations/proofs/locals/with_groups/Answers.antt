@@ -15,21 +15,21 @@ loop-preserved c =
     let made = rw ok at c.resize.ensures.items in
     let behind = shorter group_exact c.loop.rest.now (c.in-Ok.number, c.in-Ok.ty) c.in-Ok.behind.now c.in-Ok.ensures in
     record {
-      reads = rw (made, resized types c.len-in-Ok.result (vec_len c.loop.types) c.in-Ok.number c.in-Ok.ty (c.len-in-Ok.ensures ∙ c.loop.types.ok.0) c.loop.types.ok.0) (one_more c.args.types.items c.loop.counter c.args.bytes.now types
-      c.loop.rest.now (c.in-Ok.number, c.in-Ok.ty) c.in-Ok.behind.now c.loop.invariant.reads c.in-Ok.ensures
-      (omega (arith, c.if-number-len.false, c.len.ensures, c.loop.types.ok.0)));
+      reads = rw (made, resized types c.len.result (vec_len c.loop.types) c.in-Ok.number c.in-Ok.ty (c.len.ensures ∙ c.loop.types.ok.0) c.loop.types.ok.0) (one_more c.args.types.items c.loop.counter c.args.bytes.now types
+          c.loop.rest.now (c.in-Ok.number, c.in-Ok.ty) c.in-Ok.behind.now c.loop.invariant.reads c.in-Ok.ensures
+          (omega (arith, c.if-number-room.false, c.len-room.ensures, c.loop.types.ok.0)));
       within = omega (arith, behind, c.loop.invariant.within);
     }
 
-pub overflow_sub-len : goal.overflow_sub-len
-overflow_sub-len c =
+pub overflow_sub-room : goal.overflow_sub-room
+overflow_sub-room c =
     let few = few_types c.args.types.items c.loop.counter c.args.bytes.now c.loop.types.items c.loop.rest.now c.loop.invariant.reads in
-    omega (arith, c.len.ensures, c.loop.types.ok.0)
+    omega (arith, c.len-room.ensures, c.loop.types.ok.0)
 
-pub returns-then-number-len-clause-stops : goal.returns-then-number-len-clause-stops
-returns-then-number-len-clause-stops c =
+pub returns-then-number-room-clause-stops : goal.returns-then-number-room-clause-stops
+returns-then-number-room-clause-stops c =
     too_many c.args.types.items c.args.count c.loop.counter c.args.bytes.now c.loop.types.items c.loop.rest.now (c.in-Ok.number, c.in-Ok.ty)
-    c.in-Ok.behind.now c.loop-test.true c.loop.invariant.reads c.in-Ok.ensures (omega (arith, c.if-number-len.true, c.len.ensures, c.loop.types.ok.0))
+    c.in-Ok.behind.now c.loop-test.true c.loop.invariant.reads c.in-Ok.ensures (omega (arith, c.if-number-room.true, c.len-room.ensures, c.loop.types.ok.0))
 
 pub returns-in-Err-clause-stops : goal.returns-in-Err-clause-stops
 returns-in-Err-clause-stops c =
