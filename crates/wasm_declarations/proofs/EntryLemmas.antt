@@ -15,7 +15,7 @@ use Rattle.wasm_declarations.specs.declared.refusal.Refusal.TheVariants as refus
 use Rattle.wasm_declarations.specs.List.{SpellsList, IsListFault}
 use Rattle.wasm_declarations.specs.Entries.{Measured, SpellsSized, FailsSized, entries_from, SpellsEntries}
 use Rattle.wasm_declarations.specs.Reader.{each_at, skip_at, measured_at, sized_at, entry_of, entry_at, StopsBy, FailsWhole, AreRead, error_at}
-use Rattle.wasm_declarations.proofs.ListLemmas.{counted, item_fails, has_more, fault_is, whole_spells, whole_reads, only_of}
+use Rattle.wasm_declarations.proofs.ListLemmas.{counted, item_fails, has_more, fault_is, one_list, whole_spells, whole_reads, only_of}
 
 measured_exact : {A : Type 0} {Spells : List ℕ → A → Type 0} {Fails : List ℕ → Cause → Type 0} {at : Reader A} → Exact Spells Fails at →
     Exact (Measured Spells) Fails (measured_at at)
@@ -132,7 +132,8 @@ one_more : (start next : ℕ) (size : ℕ × ℕ) (entry : Entry) (sizes : List 
 one_more start next size entry sizes entries all is first place rest =
     let front : entry ∷ entries ≡ entry_of start size ∷ entries = ap (λ (x : Entry). x ∷ entries) (sym first) in
     let back : entry_of start size ∷ entries ≡ entry_of start size ∷ entries_from next sizes = ap (λ (l : List Entry). entry_of start size ∷ l) rest in
-    let later : entry_of start size ∷ entries_from next sizes ≡ entries_from start (size ∷ sizes) = ap (λ (k : ℕ). entry_of start size ∷ entries_from k sizes) place in
+    let later : entry_of start size ∷ entries_from next sizes ≡ entries_from start (size ∷ sizes) =
+    ap (λ (k : ℕ). entry_of start size ∷ entries_from k sizes) place in
     is ∙ front ∙ back ∙ later
 
 sizes_of : (to n : ℕ) (bytes : List ℕ) (entries : List Entry) (rest : List ℕ) → length bytes ≤ to →
@@ -221,6 +222,18 @@ entries_spell start text entries r =
       list = s;
       placed = r.placed ∙ ap (λ (k : ℕ). entries_from (start + k) r.sizes) (first_at text r.sizes r.number r.rest s r.counts);
     }
+
+-- a text has one list of entries
+pub one_list_of_entries : (start : ℕ) (text : List ℕ) (xs ys : List Entry) → SpellsEntries start text xs → SpellsEntries start text ys → xs ≡ ys
+one_list_of_entries start text xs ys s t =
+    let u = (unsigned_exact 32).again s.list.front s.list.back s.list.value s.list.first in
+    let counts : unsigned_at 32 text ≡ Ok (s.list.value, s.list.back) = ap (unsigned_at 32) s.list.parts ∙ u in
+    let here = first_at text s.sizes s.list.value s.list.back s.list counts in
+    let there = first_at text t.sizes s.list.value s.list.back t.list counts in
+    s.placed
+    ∙ ap (λ (k : ℕ). entries_from (start + k) s.sizes) (sym here ∙ there)
+    ∙ ap (λ (l : List (ℕ × ℕ)). entries_from (start + length t.list.front) l) (one_list sized_exact text s.sizes t.sizes s.list t.list)
+    ∙ sym t.placed
 
 pub entries_found : (start : ℕ) (text : List ℕ) (r : Result (Vec Entry) ModuleError) → IfOk r (λ v. AreRead start text v.items) →
     IfOk r (λ v. SpellsEntries start text v.items)

@@ -139,6 +139,11 @@ module _ {A : Type 0} {Spells : List ℕ → A → Type 0} {Fails : List ℕ →
   pub whole_reads : (text : List ℕ) (xs : List A) → SpellsList Spells text xs → list_at at text ≡ Ok (xs, [])
   whole_reads text xs s = ap (list_at at) (sym (append-nil text)) ∙ (list_exact one).again text [] xs s
 
+  -- a text spells one list
+  pub one_list : (text : List ℕ) (xs ys : List A) → SpellsList Spells text xs → SpellsList Spells text ys → xs ≡ ys
+  one_list text xs ys s t =
+      ap (λ (q : List A × List ℕ). q.0) (ok_is (xs, []) (ys, []) (sym (whole_reads text xs s) ∙ whole_reads text ys t))
+
   pub found : (text : List ℕ) (r : Result (Vec A) ModuleError) → IfOk r (λ v. list_at at text ≡ Ok (v.items, [])) →
       IfOk r (λ v. SpellsList Spells text v.items)
   found text (Ok v) e = whole_spells text v.items e

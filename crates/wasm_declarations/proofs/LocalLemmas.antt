@@ -215,7 +215,7 @@ is_read : (params : List PrimitiveTypeInfo) (start : ℕ) (text : List ℕ) (typ
 is_read params start text types expression s =
     ap (list_at group_at) s.parts ∙ (list_exact group_exact).again s.front s.back s.groups s.list
 
-same_locals : (params : List PrimitiveTypeInfo) (start : ℕ) (text : List ℕ) (types others : List PrimitiveTypeInfo) (expression place : ℕ) →
+pub same_locals : (params : List PrimitiveTypeInfo) (start : ℕ) (text : List ℕ) (types others : List PrimitiveTypeInfo) (expression place : ℕ) →
     SpellsLocals params start text types expression → SpellsLocals params start text others place → (types ≡ others) × (expression ≡ place)
 same_locals params start text types others expression place r s =
     let same = ok_is (r.groups, r.back) (s.groups, s.back) (sym (is_read params start text types expression r)

@@ -106,7 +106,9 @@ function_type_at bytes = mark_at 0x60 bytes >>= λ m. list_at primitive_at m.1 >
 
 -- the flag that has this byte
 abbrev pub flag_of : ℕ → Option (Bool × Bool)
-flag_of b = if b == 0 then Some (false, false) else if b == 1 then Some (false, true) else if b == 4 then Some (true, false) else if b == 5 then Some (true, true) else None
+flag_of b =
+    if b == 0 then Some (false, false) else if b == 1 then Some (false, true)
+    else if b == 4 then Some (true, false) else if b == 5 then Some (true, true) else None
 
 unfoldable pub flag_at : List ℕ → Result ((Bool × Bool) × List ℕ) Cause
 flag_at bytes = byte_at bytes >>= λ b. named_at (flag_of b.0) b.1
@@ -209,7 +211,8 @@ pub record ReadsGroups (before : List PrimitiveTypeInfo) (number : ℕ) (bytes :
   pub all : types ≡ before ++ types_of groups
 
 -- some groups are read, fewer than there are, and so many bytes are left
-pub record IsAfterGroups (before : List PrimitiveTypeInfo) (number : ℕ) (bytes : List ℕ) (left : ℕ) (groups : List (ℕ × PrimitiveTypeInfo)) (rest : List ℕ) : Type 0 where
+pub record IsAfterGroups (before : List PrimitiveTypeInfo) (number : ℕ) (bytes : List ℕ) (left : ℕ)
+    (groups : List (ℕ × PrimitiveTypeInfo)) (rest : List ℕ) : Type 0 where
   pub passed : ℕ
   pub fewer : passed < number
   pub reads : each_at passed group_at bytes ≡ Ok (groups, rest)

@@ -45,6 +45,14 @@ pub enum GroupStop {
     TooMany(usize),
 }
 
+/// For how many locals there is room behind so many.
+fn room_behind(taken: usize) -> usize
+    requires { taken ≤ 50000 }
+    ensures { result ≡ 50000 - taken }
+{
+    MOST_LOCALS - taken
+}
+
 /// The types with those of so many groups behind them, and what follows the groups.
 fn with_groups(
     mut types: Vec<PrimitiveTypeInfo>,
@@ -60,7 +68,7 @@ fn with_groups(
     let mut rest = bytes;
     for _ in 0..count {
         let left = rest.len();
-        let room = MOST_LOCALS - types.len();
+        let room = room_behind(types.len());
         match group_from(rest) {
             Ok(((number, ty), behind)) => {
                 if number as usize > room {

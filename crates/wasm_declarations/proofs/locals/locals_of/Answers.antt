@@ -6,7 +6,8 @@ use Rattle.wasm_declarations.proofs.locals.locals_of.Goals as goal
 
 pub returns-in-Err-clause-fault : goal.returns-in-Err-clause-fault
 returns-in-Err-clause-fault c =
-    rw c.fault.ensures (count_stops c.args.params.now c.args.start c.args.contents.now c.in-Err.cause (omega (arith, c.if-params-gt-MOST_LOCALS.false)) c.in-Err.ensures)
+    rw c.fault.ensures (count_stops c.args.params.now c.args.start c.args.contents.now c.in-Err.cause
+    (omega (arith, c.if-params-gt-MOST_LOCALS.false)) c.in-Err.ensures)
 
 pub overflow_sub-result : goal.overflow_sub-result
 overflow_sub-result c =
