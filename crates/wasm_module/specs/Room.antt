@@ -1,0 +1,36 @@
+-- Where globals may be appended before an offset of a module (this project): for proofs.
+use Rattle.std.specs.Prelude.{◌≡◌, ℕ, ◌≤◌, List, ◌++◌, length, slice_range}
+use Rattle.wasm_code.specs.Number.{SpellsUnsigned}
+use Rattle.wasm_sections.specs.declared.section.Section.{Section}
+use Rattle.wasm_sections.specs.declared.id.SectionId.TheVariants as ids
+use Rattle.wasm_sections.specs.Find.{IsFirstWith, IsPlaceOf, LackId}
+use Rattle.wasm_sections.specs.Section.{SpellsModule}
+use Rattle.wasm_module.specs.Module.{Layout}
+
+-- that number begins the text
+pub record HasCount (text : List ℕ) (n : ℕ) : Type 0 where
+  pub count : List ℕ
+  pub items : List ℕ
+  pub parts : text ≡ count ++ items
+  pub counts : SpellsUnsigned 32 count n
+
+-- the section ends before the offset, and begins with that number
+pub record HasGlobals (bytes : List ℕ) (own to : ℕ) (section : Section) : Type 0 where
+  pub start : section.start ≤ section.contents
+  pub order : section.contents ≤ section.end
+  pub before : section.end ≤ to
+  pub counted : HasCount (slice_range bytes section.contents section.end) own
+
+-- the global section, or the place of one, is before the offset
+pub record HasRoom (bytes : List ℕ) (layout : Layout) (to : ℕ) : Type 0 where
+  pub spells : SpellsModule bytes layout.sections
+  pub inside : to ≤ length bytes
+  pub globals : (s : Section) → IsFirstWith layout.sections ids.Global s → HasGlobals bytes layout.own_globals to s
+  pub place : (place : ℕ) → IsPlaceOf layout.sections ids.Global place → place ≤ to
+
+-- the entry lies in the code section
+pub record IsEntryOf (bytes : List ℕ) (code_contents start end code_end : ℕ) : Type 0 where
+  pub first : code_contents ≤ start
+  pub order : start ≤ end
+  pub last : end ≤ code_end
+  pub inside : code_end ≤ length bytes

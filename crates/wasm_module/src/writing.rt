@@ -1,0 +1,79 @@
+//! A module with another body and more globals.
+ghost use Rattle.std.specs.Prelude.{◌≡◌, ◌≢◌, ◌≤◌, ◌<◌, ◌^◌, ◌++◌, length, slice_range, Err, IfOk, OnOk};
+ghost use Rattle.std.specs.List.{All};
+ghost use Rattle.mutate_base.specs.Module.{Module};
+ghost use Rattle.mutate_base.specs.declared.types.PrimitiveTypeInfo.TheVariants.{Empty};
+ghost use Rattle.wasm_sections.specs.declared.writing.WriteError.TheVariants.{TooLarge};
+ghost use Rattle.wasm_module.specs.Module.{IsModule};
+ghost use Rattle.wasm_module.specs.Rewritten.{code_with, IsRewritten};
+ghost use Rattle.wasm_module.specs.Limits.{IsTooLarge};
+ghost use Rattle.wasm_module.specs.Room.{IsEntryOf};
+
+use crate::front::front_with;
+use crate::globals::sum;
+use crate::layout::Layout;
+use mutate_base::PrimitiveTypeInfo;
+use std::alloc::Global;
+use wasm_code::put_unsigned;
+use wasm_declarations::Entry;
+use wasm_sections::{Section, SectionId, WriteError, find_section, put_section};
+
+/// What the code section contains, with `locals` and `expression` behind one another in the entry.
+fn code_contents(
+    alloc: Global,
+    bytes: &[u8],
+    code: Section,
+    entry: Entry,
+    locals: &[u8],
+    expression: &[u8],
+) -> Result<Vec<u8>, WriteError>
+    requires { IsEntryOf bytes.now code.contents entry.start entry.end code.end }
+    ensures written { IfOk result (λ v.
+        v.items ≡ code_with bytes.now code entry (locals.now ++ expression.now)) }
+    ensures sized { OnOk result (length (locals.now ++ expression.now) < 2 ^ 32) }
+    ensures too_large { result ≡ Err TooLarge
+        → 2 ^ 32 ≤ length (locals.now ++ expression.now) }
+{
+    let size = sum(locals.len(), expression.len())?;
+    let mut contents = Vec::from_slice(alloc, &bytes[code.contents..entry.start])?;
+    put_unsigned(&mut contents, size as u64)?;
+    contents.extend_from_slice(locals)?;
+    contents.extend_from_slice(expression)?;
+    contents.extend_from_slice(&bytes[entry.end..code.end])?;
+    Ok(contents)
+}
+
+/// The module with `locals` and `expression` behind one another as the contents of its n-th code entry (n from 0), and with
+/// globals of the types appended to its own, each of which may be written and starts as zero, or null.
+///
+/// The sizes of the entry, of the code section and of the global section, and the number of the globals, are written in as few
+/// bytes as will do. Where there is no global section, one is written where the standard has it; where no globals are given, none
+/// is. Every other byte stands as it stood: custom sections, and the order of all.
+///
+/// `TooLarge` where 32 bits don't hold one of those sizes or the number; `Memory` where no memory was left.
+pub fn with_body(
+    alloc: Global,
+    bytes: &[u8],
+    layout: &Layout,
+    n: usize,
+    locals: &[u8],
+    expression: &[u8],
+    globals: &[PrimitiveTypeInfo],
+) -> Result<Vec<u8>, WriteError>
+    requires module { (info : Module) × IsModule bytes.now info layout.now }
+    requires inside { n < length layout.now.entries }
+    requires types { All (λ t. t ≢ Empty) globals.now }
+    ensures written { IfOk result (λ new. IsRewritten
+        bytes.now layout.now n (locals.now ++ expression.now) globals.now new.items) }
+    ensures too_large { result ≡ Err TooLarge → IsTooLarge
+        bytes.now layout.now n (locals.now ++ expression.now) globals.now }
+{
+    let Some(code) = find_section(&layout.sections, SectionId::Code) else {
+        unreachable!()
+    };
+    let contents = code_contents(alloc, bytes, code, layout.entries[n], locals, expression)?;
+    let mut new = front_with(alloc, bytes, layout, code.start, globals)?;
+    put_section(&mut new, SectionId::Code, &contents)?;
+    new.extend_from_slice(&bytes[code.end..])?;
+    Ok(new)
+}
