@@ -1,3 +1,4 @@
+pub mod ChangeLemmas
 pub mod CountedLemmas
 pub mod FindLemmas
 pub mod ModuleLemmas

@@ -1,11 +1,10 @@
 -- Bytes spell one module at most, and those that spell one have no fault.
-use Rattle.std.proofs.Common.{◌≡◌, ℕ, ◌+◌, ◌<◌, ◌≤◌, List, [], ◌∷◌, ◌++◌, length, take, drop, get_or, Result, Ok, Err, refl, sym, ap, subst, ◌∙◌, append_assoc, inl, inr, arith}
+use Rattle.std.proofs.Common.{◌≡◌, ℕ, ◌<◌, List, [], ◌∷◌, ◌++◌, length, take, drop, get_or, Result, Ok, Err, refl, sym, ap, subst, ◌∙◌, append_assoc, inl, inr, arith}
 use Rattle.std.specs.Prelude.{max, IfOk, IfErr, MatchResult}
 use Rattle.std.specs.Global.{Vec}
 use Rattle.std.proofs.lemmas.List.{length-append, take_at}
 use Rattle.wasm_code.specs.declared.fault.Cause.TheVariants as causes
 use Rattle.wasm_code.specs.Number.{SpellsUnsigned}
-use Rattle.wasm_code.specs.Code.{BeginsWith}
 use Rattle.wasm_sections.specs.declared.id.SectionId.{SectionId}
 use Rattle.wasm_sections.specs.declared.id.SectionId.TheVariants as ids
 use Rattle.wasm_sections.specs.declared.section.Section.{Section}
@@ -13,7 +12,7 @@ use Rattle.wasm_sections.specs.declared.fault.ModuleFault.{ModuleFault}
 use Rattle.wasm_sections.specs.declared.fault.ModuleFault.TheVariants as faults
 use Rattle.wasm_sections.specs.declared.fault.ModuleError.{ModuleError}
 use Rattle.wasm_sections.specs.Id.{id_code, rank_of}
-use Rattle.wasm_sections.specs.Section.{SpellsModule, IsLinkable, AreFinal, magic, preamble}
+use Rattle.wasm_sections.specs.Section.{SpellsModule, IsLinkable, AreFinal}
 use Rattle.wasm_sections.specs.Sections.{last_rank, FailsSection, StopsAt, IsSectionFault}
 use Rattle.wasm_sections.specs.Reader.{IsCounted}
 use Rattle.wasm_sections.proofs.CountedLemmas.{one_counted, no_short, no_fail}

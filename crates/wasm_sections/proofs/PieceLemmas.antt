@@ -1,13 +1,12 @@
 -- A module as a list of pieces: the ids, the sizes as they are spelled, and the contents; the offsets follow from these.
-use Rattle.std.proofs.Common.{◌≡◌, ℕ, ◌+◌, ◌-◌, ◌<◌, ◌≤◌, List, [], ◌∷◌, ◌++◌, length, take, drop, refl, sym, ap, subst, ◌∙◌, append_assoc, arith}
+use Rattle.std.proofs.Common.{◌≡◌, ℕ, ◌+◌, ◌-◌, ◌<◌, List, [], ◌∷◌, ◌++◌, length, take, drop, refl, sym, ap, subst, ◌∙◌, append_assoc, arith}
 use Rattle.std.specs.Prelude.{max, slice_range}
 use Rattle.std.proofs.lemmas.List.{length-append, append-nil, take_at, drop_at}
 use Rattle.wasm_code.specs.Number.{SpellsUnsigned}
 use Rattle.wasm_sections.specs.declared.id.SectionId.{SectionId}
-use Rattle.wasm_sections.specs.declared.id.SectionId.TheVariants as ids
 use Rattle.wasm_sections.specs.declared.section.Section.{Section}
 use Rattle.wasm_sections.specs.Id.{id_code, rank_of}
-use Rattle.wasm_sections.specs.Section.{IsNextSection, SpellsSections, AreInOrder, parts_of, IsLinkable, AreFinal, preamble, SpellsModule}
+use Rattle.wasm_sections.specs.Section.{SpellsSections, AreInOrder, parts_of, AreFinal, preamble, SpellsModule}
 use Rattle.wasm_sections.specs.Sections.{last_rank}
 use Rattle.wasm_sections.proofs.SectionLemmas.{section_of}
 

@@ -14,3 +14,10 @@ pub record SpellsParts (bytes : List ℕ) (parts : List (SectionId × List ℕ))
 abbrev pub AreJoined : ℕ → List Section → ℕ → Type 0
 AreJoined from [] to = from ≡ to
 AreJoined from (s ∷ ss) to = (s.start ≡ from) × (s.start < s.contents) × (s.contents ≤ s.end) × AreJoined s.end ss to
+
+-- The section stands between these offsets, and its contents within it.
+pub record IsWithin (from to : ℕ) (s : Section) : Type 0 where
+  pub first : from ≤ s.start
+  pub contents : s.start < s.contents
+  pub order : s.contents ≤ s.end
+  pub last : s.end ≤ to
