@@ -6,7 +6,6 @@ ghost use Rattle.wasm_module.specs.Contents.{AreContents};
 
 use wasm_sections::{Section, SectionId, find_section};
 
-
 /// What the section contains.
 pub fn contents_of(bytes: &[u8], section: Section) -> &[u8]
     requires order { section.contents ≤ section.end }

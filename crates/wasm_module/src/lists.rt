@@ -23,11 +23,7 @@ use wasm_declarations::{
 };
 use wasm_sections::{ModuleError, Section, SectionId};
 
-fn types_in(
-    alloc: Global,
-    bytes: &[u8],
-    sections: &[Section],
-) -> Result<Vec<TypeInfo>, ModuleError>
+fn types_in(alloc: Global, bytes: &[u8], sections: &[Section]) -> Result<Vec<TypeInfo>, ModuleError>
     requires { SpellsModule bytes.now sections.now }
     ensures found { IfOk result (λ v. Lists (λ _. SpellsList SpellsFunctionType)
         bytes.now sections.now ids.Type v.items) }
@@ -40,11 +36,7 @@ fn types_in(
     }
 }
 
-fn imports_in(
-    alloc: Global,
-    bytes: &[u8],
-    sections: &[Section],
-) -> Result<Vec<Import>, ModuleError>
+fn imports_in(alloc: Global, bytes: &[u8], sections: &[Section]) -> Result<Vec<Import>, ModuleError>
     requires { SpellsModule bytes.now sections.now }
     ensures found { IfOk result (λ v. Lists (λ _. SpellsList SpellsImport)
         bytes.now sections.now ids.Import v.items) }
@@ -57,11 +49,7 @@ fn imports_in(
     }
 }
 
-fn functions_in(
-    alloc: Global,
-    bytes: &[u8],
-    sections: &[Section],
-) -> Result<Vec<u32>, ModuleError>
+fn functions_in(alloc: Global, bytes: &[u8], sections: &[Section]) -> Result<Vec<u32>, ModuleError>
     requires { SpellsModule bytes.now sections.now }
     ensures found { IfOk result (λ v. Lists (λ _. SpellsList (SpellsUnsigned 32))
         bytes.now sections.now ids.Function v.items) }
@@ -125,11 +113,7 @@ fn globals_in(
     }
 }
 
-fn entries_in(
-    alloc: Global,
-    bytes: &[u8],
-    sections: &[Section],
-) -> Result<Vec<Entry>, ModuleError>
+fn entries_in(alloc: Global, bytes: &[u8], sections: &[Section]) -> Result<Vec<Entry>, ModuleError>
     requires { SpellsModule bytes.now sections.now }
     ensures found { IfOk result (λ v. Lists SpellsEntries
         bytes.now sections.now ids.Code v.items) }
@@ -143,11 +127,7 @@ fn entries_in(
 }
 
 /// What the sections of the module list.
-pub fn read_lists(
-    alloc: Global,
-    bytes: &[u8],
-    sections: &[Section],
-) -> Result<Listed, ModuleError>
+pub fn read_lists(alloc: Global, bytes: &[u8], sections: &[Section]) -> Result<Listed, ModuleError>
     requires { SpellsModule bytes.now sections.now }
     ensures found { IfOk result (λ l. AreListed bytes.now sections.now l) }
     ensures fault { IfErr result (λ e. HasListFault bytes.now e.kind e.offset) }
