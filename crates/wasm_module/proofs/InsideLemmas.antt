@@ -7,6 +7,7 @@ use Rattle.wasm_code.specs.Grammar.{Then, Of, AreBytes}
 use Rattle.wasm_code.specs.Number.{SpellsUnsigned, IsGroup}
 use Rattle.mutate_base.specs.Module.{Module}
 use Rattle.wasm_sections.specs.declared.section.Section.{Section}
+use Rattle.wasm_sections.specs.declared.id.SectionId.{SectionId}
 use Rattle.wasm_sections.specs.declared.id.SectionId.TheVariants as ids
 use Rattle.wasm_sections.specs.Laws.{IsWithin}
 use Rattle.wasm_sections.specs.Find.{IsFirstWith, LackId}
@@ -15,6 +16,7 @@ use Rattle.wasm_declarations.specs.List.{Each, SpellsList}
 use Rattle.wasm_declarations.specs.Entries.{Measured, SpellsSized, entries_from, SpellsEntries}
 use Rattle.wasm_module.specs.Module.{Layout, Lists, IsModule}
 use Rattle.wasm_module.specs.Inside.{IsInside}
+use Rattle.wasm_module.specs.Contents.{AreContents}
 use Rattle.wasm_module.proofs.FindLemmas.{lists_at}
 
 -- ---- an entry's text
@@ -116,3 +118,12 @@ entry_inside bytes sections entries n entry within l e =
           record { sized = i.sized; ordered = i.ordered; ends = omega (arith, i.last, w.last) }
       | inr p ↦ absurd (no_entry entries n entry p.1 e)
     ]
+
+-- ---- contents
+
+pub contents_are : (bytes : List ℕ) (sections : List Section) (id : SectionId) (s : Section) (text : List ℕ) → IsFirstWith sections id s →
+    IsWithin 8 (length bytes) s → text ≡ slice_range bytes s.contents s.end
+    → AreContents bytes sections id s.contents text
+contents_are bytes sections id s text is w e =
+    let long = range_long bytes s.contents s.end w.order w.last in
+    record { section = s; is = is; starts = refl; text_is = e; fits = omega (arith, ap length e, long, w.last) }

@@ -1,2 +1,3 @@
 pub mod FindLemmas
 pub mod InsideLemmas
+pub mod CountLemmas

@@ -4,6 +4,7 @@ ghost use Rattle.wasm_sections.specs.Section.{SpellsModule};
 ghost use Rattle.wasm_sections.specs.Find.{LackId};
 ghost use Rattle.wasm_module.specs.Contents.{AreContents};
 
+use wasm_sections::laws::sections_fill_the_module;
 use wasm_sections::{Section, SectionId, find_section};
 
 /// What the section contains.
@@ -25,6 +26,7 @@ pub fn contents_with<'a>(
     ensures found { IfSome result (λ x. AreContents bytes.now sections.now id x.1 x.0.now) }
     ensures none { IfNone result (LackId sections.now id) }
 {
+    sections_fill_the_module();
     let section = find_section(sections, id)?;
     Some((contents_of(bytes, section), section.contents))
 }
