@@ -11,7 +11,7 @@ use Rattle.wasm_sections.specs.Id.{rank_of}
 use Rattle.wasm_sections.specs.Section.{SpellsModule, AreFinal, parts_of, preamble}
 use Rattle.wasm_sections.specs.Find.{IsFirstWith, IsPlaceOf, end_of, AreBefore, AreBehind}
 use Rattle.wasm_sections.specs.Writing.{section_code}
-use Rattle.wasm_sections.specs.Laws.{SpellsParts, AreJoined, IsWithin}
+use Rattle.wasm_sections.specs.Laws.{SpellsParts, AreJoined, IsWithin, IsInOrderAt}
 use Rattle.wasm_sections.proofs.SectionLemmas.{has_rank}
 use Rattle.wasm_sections.proofs.PieceLemmas.{Piece, code_of, joined, AreCounted, AreSorted, end_at, placed, all_placed, part, parts, last_of, of_module, of_pieces, module_parts, parts_are, joined-append, parts-append, counted-append, counted_cut, sorted-append, sorted_cut, final-append, final_cut, length-code, end_is}
 
@@ -61,6 +61,52 @@ found_within bytes ss id s m f =
     let lt : length f.before < length ss = omega (arith, ap length f.parts, length-append f.before (s ∷ f.behind)) in
     subst (IsWithin 8 (length bytes)) (ap (λ (l : List Section). get_or l (length f.before) s) f.parts ∙ at_end f.before f.behind s)
     (each_within bytes ss m (length f.before) s lt)
+
+-- ---- places
+
+behind_at : (ss : List Section) (rank : ℕ) → AreBehind rank ss → (k : ℕ) (d : Section) → k < length ss → 0 < rank_of (get_or ss k d).id →
+    rank < rank_of (get_or ss k d).id
+behind_at [] rank b k d lt some = absurd (omega (arith, lt))
+behind_at (s ∷ ss) rank b zero d lt some = b.0 some
+behind_at (s ∷ ss) rank b (suc k) d lt some = behind_at ss rank b.1 k d (omega (arith, lt)) some
+
+-- where the sections are cut, the first of them end and the others begin
+joined_cut : (before behind : List Section) (from to : ℕ) → AreJoined from (before ++ behind) to → (from ≤ end_of from before)
+    × AreJoined (end_of from before) behind to
+joined_cut [] behind from to j = (omega arith, j)
+joined_cut (s ∷ before) behind from to j =
+    let c = joined_cut before behind s.end to j.3 in
+    (omega (arith, j.0, j.1, j.2, c.0), c.1)
+
+pub place_within : (bytes : List ℕ) (ss : List Section) (id : SectionId) (place : ℕ) → SpellsModule bytes ss → IsPlaceOf ss id place → (8 ≤ place)
+    × (place ≤ length bytes)
+place_within bytes ss id place m p =
+    let c = joined_cut p.before p.behind 8 (length bytes) (subst (λ (l : List Section). AreJoined 8 l (length bytes)) p.parts (all_joined bytes ss m)) in
+    let le = forwards p.behind (end_of 8 p.before) (length bytes) c.1 in
+    (omega (arith, c.0, p.at), omega (arith, le, p.at))
+
+in_order_at : (before behind : List Section) (from to : ℕ) (id : SectionId) → AreJoined from (before ++ behind) to → AreBefore (rank_of id) before →
+    AreBehind (rank_of id) behind → (k : ℕ) (d : Section)
+    → k < length (before ++ behind) → IsInOrderAt (end_of from before) id (get_or (before ++ behind) k d)
+in_order_at [] behind from to id j smaller greater k d lt = record {
+  precedes = λ some less. absurd (omega (arith, less, behind_at behind (rank_of id) greater k d lt some));
+  follows = λ more. (one_within behind from from to (omega arith) j k d lt).first;
+}
+in_order_at (s ∷ before) behind from to id j smaller greater zero d lt =
+    let c = joined_cut before behind s.end to j.3 in
+    record { precedes = λ some less. c.0; follows = λ more. absurd (omega (arith, more, smaller.0)) }
+in_order_at (s ∷ before) behind from to id j smaller greater (suc k) d lt =
+    in_order_at before behind s.end to id j.3 smaller.1 greater k d (omega (arith, lt))
+
+pub place_in_order : (bytes : List ℕ) (ss : List Section) (id : SectionId) (place : ℕ) → SpellsModule bytes ss → IsPlaceOf ss id place → (k : ℕ)
+    (d : Section) → k < length ss → IsInOrderAt place id (get_or ss k d)
+place_in_order bytes ss id place m p k d lt =
+    let all = p.before ++ p.behind in
+    let joined_is : AreJoined 8 all (length bytes) = subst (λ (l : List Section). AreJoined 8 l (length bytes)) p.parts (all_joined bytes ss m) in
+    let within : k < length all = omega (arith, lt, ap length p.parts) in
+    let here = in_order_at p.before p.behind 8 (length bytes) id joined_is p.smaller p.greater k d within in
+    subst (λ (l : List Section). IsInOrderAt place id (get_or l k d)) (sym p.parts)
+    (subst (λ (n : ℕ). IsInOrderAt n id (get_or all k d)) (sym p.at) here)
 
 -- ---- pieces of the sections before and behind
 

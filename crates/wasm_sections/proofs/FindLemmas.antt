@@ -33,7 +33,10 @@ first_with ss i d id lt none has = record {
 -- ---- places
 
 abbrev rank_id : ℕ → SectionId
-rank_id n = get_or (ids.Custom ∷ ids.Type ∷ ids.Import ∷ ids.Function ∷ ids.Table ∷ ids.Memory ∷ ids.Tag ∷ ids.Global ∷ ids.Export ∷ ids.Start ∷ ids.Element ∷ ids.DataCount ∷ ids.Code ∷ ids.Data ∷ []) n ids.Custom
+rank_id n = get_or
+    (ids.Custom ∷ ids.Type ∷ ids.Import ∷ ids.Function ∷ ids.Table ∷ ids.Memory ∷ ids.Tag ∷ ids.Global ∷
+    ids.Export ∷ ids.Start ∷ ids.Element ∷ ids.DataCount ∷ ids.Code ∷ ids.Data ∷ [])
+    n ids.Custom
 
 rank_is : (id : SectionId) → rank_id (rank_of id) ≡ id
 rank_is ids.Custom = refl

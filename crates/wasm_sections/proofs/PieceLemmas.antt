@@ -75,7 +75,8 @@ view (s ∷ ss) start text p =
       counted = (p.counts, v.counted);
       bytes = p.parts ∙ ap (λ (b : List ℕ). code_of x ++ b) v.bytes;
       are = ap (λ (l : List Section). s ∷ l) (v.are ∙ ap (λ (n : ℕ). all_placed n v.pieces) end)
-          ∙ ap (λ (z : Section). z ∷ all_placed (end_at start x) v.pieces) (section_is s start (contents_at start x) (end_at start x) p.starts p.contents_at end);
+          ∙ ap (λ (z : Section). z ∷ all_placed (end_at start x) v.pieces)
+          (section_is s start (contents_at start x) (end_at start x) p.starts p.contents_at end);
     }
 
 pub spelled : (xs : List Piece) (start : ℕ) → AreCounted xs → SpellsSections (all_placed start xs) start (joined xs)

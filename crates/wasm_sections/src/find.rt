@@ -6,10 +6,7 @@ ghost use Rattle.wasm_sections.specs.declared.id.SectionId.TheVariants as ids;
 ghost use Rattle.wasm_sections.specs.Reader.{comes_before_lem};
 
 use crate::id::SectionId;
-use crate::section::Section;
-
-/// The number of bytes before the first section.
-const PREAMBLE_LEN: usize = 8;
+use crate::section::{PREAMBLE, Section};
 
 /// The first section that has the id; `None` where none has it.
 pub fn find_section(sections: &[Section], id: SectionId) -> Option<Section>
@@ -39,7 +36,7 @@ pub fn place_of(sections: &[Section], id: SectionId) -> usize
     ensures { (bytes : List ℕ) → SpellsModule bytes sections.now → LackId sections.now id
         → id ≢ ids.Custom → IsPlaceOf sections.now id result }
 {
-    let mut place = PREAMBLE_LEN;
+    let mut place = PREAMBLE.len();
     for section in sections {
         if comes_before(section.id, id) {
             place = section.end;

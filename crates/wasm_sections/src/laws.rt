@@ -1,9 +1,12 @@
 //! Laws on modules as sections: functions that do nothing, and whose contracts hold for all values.
-ghost use Rattle.std.specs.Prelude.{◌≡◌, ◌≢◌, ◌<◌, ◌^◌, ◌++◌, ℕ, List, ◌∷◌, length, take, drop, slice_index_or};
+ghost use Rattle.std.specs.Prelude.{◌≡◌, ◌≢◌, ◌<◌, ◌≤◌, ◌^◌, ◌++◌, ℕ, List, ◌∷◌, length, take, drop, All};
 ghost use Rattle.wasm_sections.specs.Section.{SpellsModule, parts_of};
+ghost use Rattle.wasm_sections.specs.Sections.{IsSectionFault};
+ghost use Rattle.wasm_sections.specs.declared.fault.ModuleFault.{ModuleFault};
+ghost use Rattle.wasm_sections.specs.declared.fault.ModuleFault.TheVariants.{Memory};
 ghost use Rattle.wasm_sections.specs.Find.{IsFirstWith, IsPlaceOf};
 ghost use Rattle.wasm_sections.specs.Writing.{section_code};
-ghost use Rattle.wasm_sections.specs.Laws.{SpellsParts, AreJoined, IsWithin};
+ghost use Rattle.wasm_sections.specs.Laws.{SpellsParts, AreJoined, IsWithin, IsInOrderAt};
 ghost use Rattle.wasm_sections.specs.declared.section.Section.{Section};
 ghost use Rattle.wasm_sections.specs.declared.id.SectionId.{SectionId};
 ghost use Rattle.wasm_sections.specs.declared.id.SectionId.TheVariants as ids;
@@ -16,15 +19,32 @@ pub fn one_module()
         → SpellsModule bytes ys → xs ≡ ys }
 {}
 
+/// Bytes have one fault at most.
+pub fn one_fault()
+    ensures { (bytes : List ℕ) (one other : ModuleFault) (at to : ℕ) → IsSectionFault bytes one at
+        → IsSectionFault bytes other to → one ≢ Memory → other ≢ Memory
+        → (one ≡ other) × (at ≡ to) }
+{}
+
 /// The sections of a module fill it behind the preamble, one behind another, and so each lies within it.
 pub fn sections_fill_the_module()
     ensures joined { (bytes : List ℕ) (sections : List Section) → SpellsModule bytes sections
         → AreJoined 8 sections (length bytes) }
     ensures each { (bytes : List ℕ) (sections : List Section) → SpellsModule bytes sections
-        → (k : ℕ) (d : Section) → k < length sections
-        → IsWithin 8 (length bytes) (slice_index_or sections k d) }
+        → All (IsWithin 8 (length bytes)) sections }
     ensures found { (bytes : List ℕ) (sections : List Section) (id : SectionId) (s : Section)
         → SpellsModule bytes sections → IsFirstWith sections id s → IsWithin 8 (length bytes) s }
+{}
+
+/// A place for a section lies within the module, behind each section that has to precede it and before each that has to follow
+/// it; custom sections stand on either side.
+pub fn places_are_in_order()
+    ensures within { (bytes : List ℕ) (sections : List Section) (id : SectionId) (place : ℕ)
+        → SpellsModule bytes sections → IsPlaceOf sections id place
+        → (8 ≤ place) × (place ≤ length bytes) }
+    ensures order { (bytes : List ℕ) (sections : List Section) (id : SectionId) (place : ℕ)
+        → SpellsModule bytes sections → IsPlaceOf sections id place
+        → All (IsInOrderAt place id) sections }
 {}
 
 /// A module in which one section is written anew, with other contents, is a module with these contents in place of the old ones.
