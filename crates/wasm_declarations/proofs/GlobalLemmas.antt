@@ -1,14 +1,14 @@
 -- Initialisers and globals are read exactly.
-use Rattle.std.proofs.Common.{◌≡◌, ◌⊎◌, inl, inr, ℕ, zero, suc, ◌+◌, ◌<◌, Bool, true, false, cond, List, [], ◌∷◌, ◌++◌, length, Result, Ok, Err, refl, sym, ap, subst, ◌∙◌, arith}
+use Rattle.std.proofs.Common.{◌≡◌, inl, inr, ℕ, zero, suc, ◌<◌, Bool, true, false, cond, List, ◌++◌, length, Result, Ok, Err, refl, sym, ap, ◌∙◌, arith}
 use Rattle.std.proofs.lemmas.List.{length-append}
 use Rattle.wasm_code.specs.declared.fault.Cause.{Cause}
 use Rattle.wasm_code.specs.declared.fault.Cause.TheVariants.{Truncated}
 use Rattle.wasm_code.specs.declared.operator.Operator.{Operator}
 use Rattle.wasm_code.specs.Body.{is_end}
-use Rattle.wasm_code.specs.Grammar.{NoBytes, NeverFails, Choose, FailsChosen, FailsThen}
+use Rattle.wasm_code.specs.Grammar.{NeverFails, FailsChosen, FailsThen}
 use Rattle.wasm_code.specs.Operator.{Spells, Fails}
 use Rattle.wasm_code.specs.Reader.{◌>>=◌, operator_at}
-use Rattle.wasm_code.specs.laws.GrammarLemmas.{Reader, Exact, bind_ok, bind_err, err_is, exact_ends, exact_of, exact_then, exact_choose}
+use Rattle.wasm_code.specs.laws.GrammarLemmas.{Exact, bind_ok, bind_err, err_is, exact_ends, exact_of, exact_then, exact_choose}
 use Rattle.wasm_declarations.specs.Globals.{EndsWithin, FailsWithin, SpellsInitialiser, FailsInitialiser, SpellsGlobal, FailsGlobal}
 use Rattle.wasm_declarations.specs.Reader.{end_at, initialiser_at, global_at}
 use Rattle.wasm_declarations.proofs.ItemLemmas.{global_type_exact}

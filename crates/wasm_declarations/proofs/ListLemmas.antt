@@ -1,5 +1,5 @@
 -- The loop that reads a list's items, and that what it answers is what is spelled.
-use Rattle.std.proofs.Common.{◌≡◌, ◌⊎◌, inl, inr, ℕ, zero, suc, ◌+◌, ◌-◌, ◌<◌, ◌≤◌, List, [], ◌∷◌, ◌++◌, length, Result, Ok, Err, refl, sym, ap, subst, ◌∙◌, append_assoc, add-one, arith}
+use Rattle.std.proofs.Common.{◌≡◌, inl, inr, ℕ, zero, suc, ◌+◌, ◌-◌, ◌<◌, ◌≤◌, List, [], ◌∷◌, ◌++◌, length, Result, Ok, Err, refl, sym, ap, subst, ◌∙◌, add-one, arith}
 use Rattle.std.specs.Prelude.{IfOk, IfErr, MatchResult}
 use Rattle.std.specs.Global.{Vec}
 use Rattle.std.proofs.lemmas.List.{length-append, append-nil}
@@ -13,7 +13,7 @@ use Rattle.wasm_sections.specs.declared.fault.ModuleError.{ModuleError}
 use Rattle.wasm_sections.specs.declared.fault.ModuleFault.{ModuleFault}
 use Rattle.wasm_sections.specs.declared.fault.ModuleFault.TheVariants as faults
 use Rattle.wasm_declarations.specs.List.{Each, SpellsList, FailsList, StopsAt, IsListFault, fault_of}
-use Rattle.wasm_declarations.specs.Reader.{each_at, list_at, StopsEach, StopsList, GoesOn, FailsWhole, Answers, StopsBy, error_at}
+use Rattle.wasm_declarations.specs.Reader.{each_at, list_at, StopsEach, StopsList, FailsWhole, Answers, StopsBy, error_at}
 use Rattle.wasm_declarations.specs.declared.refusal.Refusal.{Refusal}
 use Rattle.wasm_declarations.specs.declared.refusal.Refusal.TheVariants as refusals
 
@@ -106,7 +106,7 @@ pub counted : {A : Type 0} (at : Reader A) (text rest : List ℕ) (n : ℕ) → 
 unfolding list_at
 counted at text rest n e = rw e refl
 
-empty_is : (text : List ℕ) → length text ≡ 0 → text ≡ []
+pub empty_is : (text : List ℕ) → length text ≡ 0 → text ≡ []
 empty_is [] e = refl
 empty_is (b ∷ text) e = absurd (omega (arith, e))
 
@@ -138,6 +138,11 @@ module _ {A : Type 0} {Spells : List ℕ → A → Type 0} {Fails : List ℕ →
 
   pub whole_reads : (text : List ℕ) (xs : List A) → SpellsList Spells text xs → list_at at text ≡ Ok (xs, [])
   whole_reads text xs s = ap (list_at at) (sym (append-nil text)) ∙ (list_exact one).again text [] xs s
+
+  -- a text spells one list
+  pub one_list : (text : List ℕ) (xs ys : List A) → SpellsList Spells text xs → SpellsList Spells text ys → xs ≡ ys
+  one_list text xs ys s t =
+      ap (λ (q : List A × List ℕ). q.0) (ok_is (xs, []) (ys, []) (sym (whole_reads text xs s) ∙ whole_reads text ys t))
 
   pub found : (text : List ℕ) (r : Result (Vec A) ModuleError) → IfOk r (λ v. list_at at text ≡ Ok (v.items, [])) →
       IfOk r (λ v. SpellsList Spells text v.items)
@@ -179,7 +184,7 @@ module _ {A : Type 0} {Spells : List ℕ → A → Type 0} {Fails : List ℕ →
         fails = one.stops s.stops.rest cause s.stops.fails;
       })
 
-  fault_is : (start : ℕ) (text : List ℕ) (e : ModuleError) → FailsWhole at start text e → IsListFault Spells Fails start text e.kind e.offset
+  pub fault_is : (start : ℕ) (text : List ℕ) (e : ModuleError) → FailsWhole at start text e → IsListFault Spells Fails start text e.kind e.offset
   fault_is start text e (inl s) =
       subst (λ (k : ModuleFault). IsListFault Spells Fails start text k e.offset) (sym s.1) (by_cause start text s.0 e.offset
       (elim s.2 [
@@ -211,7 +216,7 @@ module _ {A : Type 0} {Spells : List ℕ → A → Type 0} {Fails : List ℕ →
   fault start text (Err e) h = fault_is start text e h
 
   -- what is spelled is read, and nothing else
-  only_of : (start : ℕ) (text : List ℕ) (xs : List A) (e : ModuleError) → list_at at text ≡ Ok (xs, []) → FailsWhole at start text e →
+  pub only_of : (start : ℕ) (text : List ℕ) (xs : List A) (e : ModuleError) → list_at at text ≡ Ok (xs, []) → FailsWhole at start text e →
       e.kind ≡ faults.Memory
   unfolding list_at
   only_of start text xs e reads (inl s) =
