@@ -1,13 +1,12 @@
 -- Sections by their id: at most one is found, and those of smaller ranks end before those of greater ones start.
-use Rattle.std.proofs.Common.{◌≡◌, ◌⊎◌, inl, inr, ℕ, ◌+◌, ◌-◌, ◌<◌, ◌≤◌, List, [], ◌∷◌, ◌++◌, length, refl, sym, ap, subst, ◌∙◌, arith}
+use Rattle.std.proofs.Common.{◌≡◌, inl, inr, ℕ, ◌<◌, ◌≤◌, List, [], ◌∷◌, ◌++◌, sym, ap, subst, ◌∙◌, arith}
 use Rattle.std.specs.Prelude.{max, slice_range}
 use Rattle.wasm_sections.specs.declared.section.Section.{Section}
 use Rattle.wasm_sections.specs.declared.id.SectionId.{SectionId}
-use Rattle.wasm_sections.specs.declared.id.SectionId.TheVariants as ids
 use Rattle.wasm_sections.specs.Id.{rank_of}
-use Rattle.wasm_sections.specs.Section.{AreInOrder, SpellsModule}
+use Rattle.wasm_sections.specs.Section.{AreInOrder}
 use Rattle.wasm_sections.specs.Laws.{AreJoined}
-use Rattle.wasm_sections.specs.Find.{LackId, IsFirstWith, end_of, AreBefore, AreBehind, IsPlaceOf}
+use Rattle.wasm_sections.specs.Find.{LackId, IsFirstWith, end_of, AreBefore, IsPlaceOf}
 use Rattle.wasm_module.specs.Module.{Lists}
 
 -- ---- the first section with an id
