@@ -11,10 +11,10 @@ use Rattle.wasm_module.specs.Module.{Lists}
 
 -- ---- the first section with an id
 
-head_is : (s t : Section) (ss ts : List Section) → s ∷ ss ≡ t ∷ ts → s ≡ t
+pub head_is : (s t : Section) (ss ts : List Section) → s ∷ ss ≡ t ∷ ts → s ≡ t
 head_is s t ss ts e = cc
 
-tail_is : (s t : Section) (ss ts : List Section) → s ∷ ss ≡ t ∷ ts → ss ≡ ts
+pub tail_is : (s t : Section) (ss ts : List Section) → s ∷ ss ≡ t ∷ ts → ss ≡ ts
 tail_is s t ss ts e = cc
 
 firsts : (id : SectionId) (s t : Section) (before before' behind behind' : List Section) → before ++ s ∷ behind ≡ before' ++ t ∷ behind' → s.id ≡ id →
@@ -61,7 +61,7 @@ joined_behind (x ∷ before) behind s from to j =
     omega (arith, j.0, j.1, j.2, le)
 
 -- a section stands behind others that have ranks, and its own is greater
-ordered_behind : (before behind : List Section) (s : Section) (last : ℕ) → AreInOrder last (before ++ s ∷ behind) → 0 < rank_of s.id → last < rank_of s.id
+pub ordered_behind : (before behind : List Section) (s : Section) (last : ℕ) → AreInOrder last (before ++ s ∷ behind) → 0 < rank_of s.id → last < rank_of s.id
 ordered_behind [] behind s last o some = o.0 some
 ordered_behind (x ∷ before) behind s last o some =
     let lt : max last (rank_of x.id) < rank_of s.id = ordered_behind before behind s (max last (rank_of x.id)) o.1 some in
