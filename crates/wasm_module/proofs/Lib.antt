@@ -6,3 +6,4 @@ pub mod RoomLemmas
 pub mod RewrittenLemmas
 pub mod PieceLemmas
 pub mod AgainLemmas
+pub mod OneLemmas

@@ -9,7 +9,8 @@ ghost use Rattle.wasm_module.specs.Rewritten.{IsRewritten};
 ghost use Rattle.wasm_module.specs.Again.{IsModuleAgain};
 
 use wasm_code::laws::shortest_is_a_spelling;
-use wasm_sections::laws::sections_fill_the_module;
+use wasm_declarations::laws::one_list;
+use wasm_sections::laws::{one_module, sections_fill_the_module};
 
 /// Each entry of a module's code lies inside its bytes.
 pub fn entries_are_inside()
@@ -29,4 +30,14 @@ pub fn rewritten_module_is_a_module()
         → IsModuleAgain bytes layout n contents more new }
 {
     shortest_is_a_spelling();
+}
+
+/// Bytes are one module at most: what is known of it, and where things stand in it, follow from them.
+pub fn one_reading()
+    ensures { (bytes : List ℕ) (info other : Module) (layout place : Layout)
+        → IsModule bytes info layout → IsModule bytes other place
+        → (info ≡ other) × (layout ≡ place) }
+{
+    one_module();
+    one_list();
 }
