@@ -1,0 +1,9 @@
+pub mod FindLemmas
+pub mod InsideLemmas
+pub mod CountLemmas
+pub mod ModuleLemmas
+pub mod RoomLemmas
+pub mod RewrittenLemmas
+pub mod PieceLemmas
+pub mod AgainLemmas
+pub mod OneLemmas
