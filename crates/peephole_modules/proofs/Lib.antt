@@ -1,2 +1,3 @@
 pub mod RunLemmas
 pub mod BodyLemmas
+pub mod FunctionLemmas
