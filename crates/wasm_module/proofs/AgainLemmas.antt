@@ -1,6 +1,6 @@
 -- The new bytes are a module again.
-use Rattle.std.proofs.Common.{◌≡◌, ◌⊎◌, inl, inr, ℕ, ◌+◌, ◌-◌, ◌<◌, ◌≤◌, ◌^◌, List, [], ◌∷◌, ◌++◌, length, take, drop, Some, refl, sym, ap, subst, ◌∙◌, append_assoc, arith}
-use Rattle.std.specs.Prelude.{max, slice_get, slice_range}
+use Rattle.std.proofs.Common.{◌≡◌, inl, inr, ℕ, ◌+◌, ◌<◌, ◌^◌, List, [], ◌∷◌, ◌++◌, length, take, drop, refl, sym, ap, subst, ◌∙◌, append_assoc, arith}
+use Rattle.std.specs.Prelude.{max, slice_range}
 use Rattle.std.proofs.lemmas.List.{length-append, append-nil}
 use Rattle.wasm_code.specs.Number.{SpellsUnsigned}
 use Rattle.wasm_code.specs.Code.{shortest}
@@ -10,18 +10,17 @@ use Rattle.wasm_sections.specs.declared.id.SectionId.{SectionId}
 use Rattle.wasm_sections.specs.declared.id.SectionId.TheVariants as ids
 use Rattle.wasm_sections.specs.declared.section.Section.{Section}
 use Rattle.wasm_sections.specs.Id.{rank_of}
-use Rattle.wasm_sections.specs.Section.{SpellsModule, AreInOrder, AreFinal, parts_of, preamble}
-use Rattle.wasm_sections.specs.Find.{IsFirstWith, IsPlaceOf, LackId, end_of, AreBefore, AreBehind}
+use Rattle.wasm_sections.specs.Section.{SpellsModule, AreInOrder, parts_of, preamble}
+use Rattle.wasm_sections.specs.Find.{end_of, AreBefore, AreBehind}
 use Rattle.wasm_sections.specs.Writing.{section_code}
 use Rattle.wasm_sections.specs.Laws.{SpellsParts}
 use Rattle.wasm_sections.proofs.ChangeLemmas.{replaced}
-use Rattle.wasm_sections.proofs.PieceLemmas.{Piece, code_of, joined, end_at, placed, all_placed, part, parts, of_module, parts_are, joined-append, parts-append, length-code, end_is}
-use Rattle.wasm_declarations.specs.declared.entries.Entry.{Entry}
+use Rattle.wasm_sections.proofs.PieceLemmas.{Piece, code_of, joined, end_at, all_placed, part, parts, of_module, parts_are, joined-append, parts-append, length-code, end_is}
 use Rattle.wasm_module.specs.Module.{Layout, IsModule}
-use Rattle.wasm_module.specs.Rewritten.{new_globals, GrowsContents, GrowsGlobals, AddsGlobals, IsFront, code_with, IsRewritten}
-use Rattle.wasm_module.specs.Again.{GrowsPart, AddsPart, ArePartsWith, IsModuleAgain}
+use Rattle.wasm_module.specs.Rewritten.{new_globals, GrowsGlobals, AddsGlobals, code_with, IsRewritten}
+use Rattle.wasm_module.specs.Again.{IsModuleAgain}
 use Rattle.wasm_module.proofs.FindLemmas.{head_is, tail_is, ordered_behind}
-use Rattle.wasm_module.proofs.PieceLemmas.{written, AreWhole, spell, swapped, inserted, IsCut, cut, IsSplit, split, IsCutTwice, rejoined}
+use Rattle.wasm_module.proofs.PieceLemmas.{written, AreWhole, spell, swapped, inserted, cut, split, IsCutTwice, rejoined}
 
 abbrev Parts : Type 0
 Parts = List (SectionId × List ℕ)
@@ -196,7 +195,7 @@ grows bytes info layout n contents t ts new short m r g =
     let cend : r.code.end ≡ end_at (end_at from a.x + length (joined d.first)) d.x = ap (λ (z : Section). z.end) d.is in
     let place : IsCutTwice bytes s.start s.end r.code.start r.code.end a.first d.first d.second (code_of a.x) d.x = record {
       bytes_are = joined_pieces a.first d.first d.second (code_of a.x) d.x bytes (v.bytes_are
-      ∙ ap (λ (l : List Piece). preamble ++ joined l) pieces ∙ ap (λ (l : List ℕ). preamble ++ l) (three_joined a.first d.first d.second a.x d.x));
+          ∙ ap (λ (l : List Piece). preamble ++ joined l) pieces ∙ ap (λ (l : List ℕ). preamble ++ l) (three_joined a.first d.first d.second a.x d.x));
       from_is = gstart;
       to_is = omega (arith, gstart, gend, length-code a.x);
       start_is = omega (arith, cstart, gend);
@@ -223,8 +222,8 @@ grows bytes info layout n contents t ts new short m r g =
         parts_are = refl;
       });
       spells = again bytes new s.start s.end r.code.start r.code.end a.first d.first d.second (code_of a.x) d.x g.contents c gb b.mid cr place swap_is cid
-      (short (length c) r.code_sized) a.before_are (d.before_are ∙ ap (λ (k : ℕ). all_placed k d.first) (sym gend))
-      (d.behind_are ∙ ap (λ (k : ℕ). all_placed k d.second) (sym cend)) e;
+          (short (length c) r.code_sized) a.before_are (d.before_are ∙ ap (λ (k : ℕ). all_placed k d.first) (sym gend))
+          (d.behind_are ∙ ap (λ (k : ℕ). all_placed k d.second) (sym cend)) e;
     }
 
 -- a global section stands between the others
@@ -257,7 +256,7 @@ adds bytes info layout n contents t ts new short m r g =
     let cend : r.code.end ≡ end_at (from + length (joined d.first)) d.x = ap (λ (z : Section). z.end) d.is in
     let place : IsCutTwice bytes g.place g.place r.code.start r.code.end a.first d.first d.second [] d.x = record {
       bytes_are = joined_pieces a.first d.first d.second [] d.x bytes (v.bytes_are
-      ∙ ap (λ (l : List Piece). preamble ++ joined l) pieces ∙ ap (λ (l : List ℕ). preamble ++ l) (two_joined a.first d.first d.second d.x));
+          ∙ ap (λ (l : List Piece). preamble ++ joined l) pieces ∙ ap (λ (l : List ℕ). preamble ++ l) (two_joined a.first d.first d.second d.x));
       from_is = place_is;
       to_is = omega arith;
       start_is = omega (arith, cstart, place_is);
@@ -275,8 +274,8 @@ adds bytes info layout n contents t ts new short m r g =
       front = parts_of bytes p.before ++ (ids.Global, gc) ∷ parts_of bytes b.mid;
       front_is = inr (record { before = p.before; behind = b.mid; sections_are = b.whole_is; parts_are = refl });
       spells = again bytes new g.place g.place r.code.start r.code.end a.first d.first d.second [] d.x gc c p.before b.mid cr place insert cid
-      (short (length c) r.code_sized) a.before_are (d.before_are ∙ ap (λ (k : ℕ). all_placed k d.first) (sym place_is))
-      (d.behind_are ∙ ap (λ (k : ℕ). all_placed k d.second) (sym cend)) e;
+          (short (length c) r.code_sized) a.before_are (d.before_are ∙ ap (λ (k : ℕ). all_placed k d.first) (sym place_is))
+          (d.behind_are ∙ ap (λ (k : ℕ). all_placed k d.second) (sym cend)) e;
     }
 
 pub module_again : (bytes : List ℕ) (info : Module) (layout : Layout) (n : ℕ) (contents : List ℕ) (more : List PrimitiveTypeInfo) (new : List ℕ) → Short →

@@ -1,5 +1,5 @@
 -- Bytes are one module at most.
-use Rattle.std.proofs.Common.{◌≡◌, ◌⊎◌, inl, inr, ℕ, ◌+◌, List, [], ◌∷◌, ◌++◌, length, refl, sym, ap, subst, ◌∙◌, arith}
+use Rattle.std.proofs.Common.{◌≡◌, inl, inr, ℕ, List, ◌++◌, length, sym, ap, subst, ◌∙◌}
 use Rattle.wasm_code.specs.Number.{SpellsUnsigned}
 use Rattle.mutate_base.specs.Module.{Module}
 use Rattle.mutate_base.specs.declared.types.PrimitiveTypeInfo.{PrimitiveTypeInfo}
@@ -76,9 +76,9 @@ one_module bytes i j k l one same m n =
     let globals = one_listing (λ _. SpellsList SpellsGlobal) (λ _. one.globals) bytes k.sections l.sections ids.Global m.globals n.globals same m.globals_are n.globals_are in
     let entries = one_listing SpellsEntries one.entries bytes k.sections l.sections ids.Code k.entries l.entries same m.entries_are n.entries_are in (
       one_info i j (m.input ∙ sym n.input) (joined globals_of m.imports n.imports m.globals n.globals i.globals j.globals m.all_globals n.all_globals imports globals)
-      types (joined functions_of m.imports n.imports m.functions n.functions i.functions j.functions m.all_functions n.all_functions imports functions)
-      (joined tables_of m.imports n.imports m.tables n.tables i.tables j.tables m.all_tables n.all_tables imports tables)
-      (joined memories_of m.imports n.imports m.memories n.memories i.memories j.memories m.all_memories n.all_memories imports memories),
+          types (joined functions_of m.imports n.imports m.functions n.functions i.functions j.functions m.all_functions n.all_functions imports functions)
+          (joined tables_of m.imports n.imports m.tables n.tables i.tables j.tables m.all_tables n.all_tables imports tables)
+          (joined memories_of m.imports n.imports m.memories n.memories i.memories j.memories m.all_memories n.all_memories imports memories),
       one_layout k l same (m.imported ∙ ap (λ (x : List Import). length (functions_of x)) imports ∙ sym n.imported)
-      (m.own ∙ ap length globals ∙ sym n.own) entries,
+          (m.own ∙ ap length globals ∙ sym n.own) entries,
     )
