@@ -34,7 +34,7 @@ pub record AreOne : Type 0 where
   pub globals : IsOne (SpellsList SpellsGlobal)
   pub entries : (start : ℕ) → IsOne (SpellsEntries start)
 
-one_listing : {A : Type 0} (Spells : ℕ → List ℕ → List A → Type 0) → ((start : ℕ) → IsOne (Spells start)) → (bytes : List ℕ) (ss zs : List Section)
+pub one_listing : {A : Type 0} (Spells : ℕ → List ℕ → List A → Type 0) → ((start : ℕ) → IsOne (Spells start)) → (bytes : List ℕ) (ss zs : List Section)
     (id : SectionId) (xs ys : List A) → ss ≡ zs → Lists Spells bytes ss id xs → Lists Spells bytes zs id ys → xs ≡ ys
 one_listing {A} Spells one bytes ss zs id xs ys e p q =
     let same : Lists Spells bytes ss id ys = subst (λ (l : List Section). Lists Spells bytes l id ys) (sym e) q in
