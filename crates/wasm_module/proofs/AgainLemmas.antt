@@ -15,12 +15,12 @@ use Rattle.wasm_sections.specs.Find.{end_of, AreBefore, AreBehind}
 use Rattle.wasm_sections.specs.Writing.{section_code}
 use Rattle.wasm_sections.specs.Laws.{SpellsParts}
 use Rattle.wasm_sections.proofs.ChangeLemmas.{replaced}
-use Rattle.wasm_sections.proofs.PieceLemmas.{Piece, code_of, joined, end_at, all_placed, part, parts, of_module, parts_are, joined-append, parts-append, length-code, end_is}
+use Rattle.wasm_sections.proofs.PieceLemmas.{IsModuleView, Piece, code_of, joined, end_at, all_placed, part, parts, of_module, parts_are, joined-append, parts-append, length-code, end_is}
 use Rattle.wasm_module.specs.Module.{Layout, IsModule}
 use Rattle.wasm_module.specs.Rewritten.{new_globals, GrowsGlobals, AddsGlobals, code_with, IsRewritten}
 use Rattle.wasm_module.specs.Again.{IsModuleAgain}
 use Rattle.wasm_module.proofs.FindLemmas.{head_is, tail_is, ordered_behind}
-use Rattle.wasm_module.proofs.PieceLemmas.{written, AreWhole, spell, swapped, inserted, cut, split, IsCutTwice, rejoined}
+use Rattle.wasm_module.proofs.PieceLemmas.{written, AreWhole, spell, swapped, inserted, IsCut, cut, IsSplit, split, IsCutTwice, rejoined}
 
 abbrev Parts : Type 0
 Parts = List (SectionId × List ℕ)
@@ -68,7 +68,8 @@ behind_place (x ∷ pb) pr (y ∷ cb) cr code rank b e lt =
 
 -- ---- pieces with a global section and another code section
 
-joined_pieces : (first mid second : List Piece) (old : List ℕ) (x : Piece) (bytes : List ℕ) → bytes ≡ preamble ++ (joined first ++ (old ++ (joined mid ++ (code_of x ++ joined second)))) →
+joined_pieces : (first mid second : List Piece) (old : List ℕ) (x : Piece) (bytes : List ℕ) →
+    bytes ≡ preamble ++ (joined first ++ (old ++ (joined mid ++ (code_of x ++ joined second)))) →
     bytes ≡ (preamble ++ joined first) ++ (old ++ (joined mid ++ (code_of x ++ joined second)))
 joined_pieces first mid second old x bytes e = e ∙ sym (append_assoc preamble (joined first) (old ++ (joined mid ++ (code_of x ++ joined second))))
 
@@ -93,14 +94,16 @@ again bytes new from to start end first mid second old x gc c s1 s2 s3 p whole i
     let is = spell all new (e ∙ rejoined bytes from to start end first mid second old x g y p) all_whole in
     let front = preamble ++ joined first in
     let one : parts_of bytes s1 ≡ parts first = ap (parts_of bytes) e1
-    ∙ parts_are first 8 bytes preamble (old ++ (joined mid ++ (code_of x ++ joined second))) (p.bytes_are ∙ append_assoc preamble (joined first) (old ++ (joined mid ++ (code_of x ++ joined second)))) refl in
+    ∙ parts_are first 8 bytes preamble (old ++ (joined mid ++ (code_of x ++ joined second)))
+    (p.bytes_are ∙ append_assoc preamble (joined first) (old ++ (joined mid ++ (code_of x ++ joined second)))) refl in
     let at_mid : bytes ≡ (front ++ old) ++ (joined mid ++ (code_of x ++ joined second)) = p.bytes_are
     ∙ sym (append_assoc front old (joined mid ++ (code_of x ++ joined second))) in
     let mid_len : length (front ++ old) ≡ to = omega (arith, length-append front old, length-append preamble (joined first), p.from_is, p.to_is) in
     let two : parts_of bytes s2 ≡ parts mid = ap (parts_of bytes) e2
     ∙ parts_are mid to bytes (front ++ old) (code_of x ++ joined second) at_mid mid_len in
     let at_end : bytes ≡ (((front ++ old) ++ joined mid) ++ code_of x) ++ (joined second ++ []) = at_mid
-    ∙ sym (append_assoc (front ++ old) (joined mid) (code_of x ++ joined second)) ∙ sym (append_assoc ((front ++ old) ++ joined mid) (code_of x) (joined second))
+    ∙ sym (append_assoc (front ++ old) (joined mid) (code_of x ++ joined second))
+    ∙ sym (append_assoc ((front ++ old) ++ joined mid) (code_of x) (joined second))
     ∙ ap (λ (l : List ℕ). (((front ++ old) ++ joined mid) ++ code_of x) ++ l) (sym (append-nil (joined second))) in
     let end_len : length (((front ++ old) ++ joined mid) ++ code_of x) ≡ end = omega (
       arith,
@@ -148,7 +151,8 @@ alone bytes info layout n contents new short m r =
     let spelled = subst (SpellsModule bytes) r.code_is.parts m.spells in
     let other : r.code.id ≡ ids.Custom → ⊥ = λ custom. absurd (cc (r.code_is.has, custom)) in
     let is = replaced bytes c cb cr r.code spelled other (short (length c) r.code_sized) in
-    let P : SectionId → Type 0 = λ i. SpellsParts (take r.code.start bytes ++ section_code i c ++ drop r.code.end bytes) (parts_of bytes cb ++ (i, c) ∷ parts_of bytes cr) in
+    let P : SectionId → Type 0 = λ i. SpellsParts (take r.code.start bytes ++ section_code i c ++ drop r.code.end bytes)
+    (parts_of bytes cb ++ (i, c) ∷ parts_of bytes cr) in
     record {
       before = cb;
       code = r.code;
@@ -163,24 +167,18 @@ alone bytes info layout n contents new short m r =
     }
 
 -- the global section grows
-grows : (bytes : List ℕ) (info : Module) (layout : Layout) (n : ℕ) (contents : List ℕ) (t : PrimitiveTypeInfo) (ts : List PrimitiveTypeInfo) (new : List ℕ) →
-    Short → IsModule bytes info layout → (r : IsRewritten bytes layout n contents (t ∷ ts) new)
-    → GrowsGlobals bytes layout (t ∷ ts) r.code.start r.front → IsModuleAgain bytes layout n contents (t ∷ ts) new
-grows bytes info layout n contents t ts new short m r g =
+grows_at : (bytes : List ℕ) (layout : Layout) (n : ℕ) (contents : List ℕ) (t : PrimitiveTypeInfo) (ts : List PrimitiveTypeInfo) (new : List ℕ) → Short →
+    (r : IsRewritten bytes layout n contents (t ∷ ts) new) (g : GrowsGlobals bytes layout (t ∷ ts) r.code.start r.front)
+    (b : IsBetween (g.is.before ++ g.section ∷ []) g.is.behind r.code_is.before r.code r.code_is.behind) (v : IsModuleView bytes layout.sections)
+    (a : IsSplit g.is.before (b.mid ++ r.code ∷ r.code_is.behind) g.section 8 v.pieces)
+    (d : IsSplit b.mid r.code_is.behind r.code (end_at (8 + length (joined a.first)) a.x) a.second) → IsModuleAgain bytes layout n contents (t ∷ ts) new
+grows_at bytes layout n contents t ts new short r g b v a d =
     let cb = r.code_is.before in
     let cr = r.code_is.behind in
     let c = code_with bytes r.code r.entry contents in
     let gb = g.is.before in
     let s = g.section in
-    let grank = ap rank_of g.is.has in
-    let crank = ap rank_of r.code_is.has in
-    let b = behind_section gb g.is.behind cb cr s r.code 0 (subst (AreInOrder 0) g.is.parts m.spells.ordered) (sym g.is.parts ∙ r.code_is.parts)
-    (omega (arith, grank)) (omega (arith, grank, crank)) in
-    let v = of_module bytes layout.sections m.spells in
-    let a = split gb (b.mid ++ r.code ∷ cr) s 8 v.pieces
-    (sym (g.is.parts ∙ ap (λ (l : List Section). gb ++ s ∷ l) b.behind_is) ∙ v.are) in
     let from : ℕ = 8 + length (joined a.first) in
-    let d = split b.mid cr r.code (end_at from a.x) a.second a.behind_are in
     let pieces : v.pieces ≡ a.first ++ a.x ∷ (d.first ++ d.x ∷ d.second) = a.parts ∙ ap (λ (l : List Piece). a.first ++ a.x ∷ l) d.parts in
     let old : AreWhole v.pieces = record { counted = v.counted; sorted = v.sorted; final = v.final } in
     let whole = subst AreWhole pieces old in
@@ -226,23 +224,37 @@ grows bytes info layout n contents t ts new short m r g =
           (d.behind_are ∙ ap (λ (k : ℕ). all_placed k d.second) (sym cend)) e;
     }
 
--- a global section stands between the others
-adds : (bytes : List ℕ) (info : Module) (layout : Layout) (n : ℕ) (contents : List ℕ) (t : PrimitiveTypeInfo) (ts : List PrimitiveTypeInfo) (new : List ℕ) →
+grows : (bytes : List ℕ) (info : Module) (layout : Layout) (n : ℕ) (contents : List ℕ) (t : PrimitiveTypeInfo) (ts : List PrimitiveTypeInfo) (new : List ℕ) →
     Short → IsModule bytes info layout → (r : IsRewritten bytes layout n contents (t ∷ ts) new)
-    → AddsGlobals bytes layout (t ∷ ts) r.code.start r.front → IsModuleAgain bytes layout n contents (t ∷ ts) new
-adds bytes info layout n contents t ts new short m r g =
+    → GrowsGlobals bytes layout (t ∷ ts) r.code.start r.front → IsModuleAgain bytes layout n contents (t ∷ ts) new
+grows bytes info layout n contents t ts new short m r g =
+    let cb = r.code_is.before in
+    let cr = r.code_is.behind in
+    let gb = g.is.before in
+    let s = g.section in
+    let grank = ap rank_of g.is.has in
+    let crank = ap rank_of r.code_is.has in
+    let b = behind_section gb g.is.behind cb cr s r.code 0 (subst (AreInOrder 0) g.is.parts m.spells.ordered) (sym g.is.parts ∙ r.code_is.parts)
+    (omega (arith, grank)) (omega (arith, grank, crank)) in
+    let v = of_module bytes layout.sections m.spells in
+    let a = split gb (b.mid ++ r.code ∷ cr) s 8 v.pieces
+    (sym (g.is.parts ∙ ap (λ (l : List Section). gb ++ s ∷ l) b.behind_is) ∙ v.are) in
+    let d = split b.mid cr r.code (end_at (8 + length (joined a.first)) a.x) a.second a.behind_are in
+    grows_at bytes layout n contents t ts new short r g b v a d
+
+-- a global section stands between the others
+adds_at : (bytes : List ℕ) (layout : Layout) (n : ℕ) (contents : List ℕ) (t : PrimitiveTypeInfo) (ts : List PrimitiveTypeInfo) (new : List ℕ) → Short →
+    (r : IsRewritten bytes layout n contents (t ∷ ts) new) (g : AddsGlobals bytes layout (t ∷ ts) r.code.start r.front)
+    (b : IsBetween g.is.before g.is.behind r.code_is.before r.code r.code_is.behind) (v : IsModuleView bytes layout.sections)
+    (a : IsCut g.is.before (b.mid ++ r.code ∷ r.code_is.behind) 8 v.pieces)
+    (d : IsSplit b.mid r.code_is.behind r.code (8 + length (joined a.first)) a.second) → IsModuleAgain bytes layout n contents (t ∷ ts) new
+adds_at bytes layout n contents t ts new short r g b v a d =
     let cb = r.code_is.before in
     let cr = r.code_is.behind in
     let c = code_with bytes r.code r.entry contents in
     let gc = new_globals (t ∷ ts) in
     let p = g.is in
-    let crank = ap rank_of r.code_is.has in
-    let b = behind_place p.before p.behind cb cr r.code (rank_of ids.Global) p.smaller (sym p.parts ∙ r.code_is.parts) (omega (arith, crank)) in
-    let v = of_module bytes layout.sections m.spells in
-    let a = cut p.before (b.mid ++ r.code ∷ cr) 8 v.pieces
-    (sym (p.parts ∙ ap (λ (l : List Section). p.before ++ l) b.behind_is) ∙ v.are) in
     let from : ℕ = 8 + length (joined a.first) in
-    let d = split b.mid cr r.code from a.second a.behind_are in
     let pieces : v.pieces ≡ a.first ++ (d.first ++ d.x ∷ d.second) = a.parts ∙ ap (λ (l : List Piece). a.first ++ l) d.parts in
     let old : AreWhole v.pieces = record { counted = v.counted; sorted = v.sorted; final = v.final } in
     let whole = subst AreWhole pieces old in
@@ -277,6 +289,21 @@ adds bytes info layout n contents t ts new short m r g =
           (short (length c) r.code_sized) a.before_are (d.before_are ∙ ap (λ (k : ℕ). all_placed k d.first) (sym place_is))
           (d.behind_are ∙ ap (λ (k : ℕ). all_placed k d.second) (sym cend)) e;
     }
+
+adds : (bytes : List ℕ) (info : Module) (layout : Layout) (n : ℕ) (contents : List ℕ) (t : PrimitiveTypeInfo) (ts : List PrimitiveTypeInfo) (new : List ℕ) →
+    Short → IsModule bytes info layout → (r : IsRewritten bytes layout n contents (t ∷ ts) new)
+    → AddsGlobals bytes layout (t ∷ ts) r.code.start r.front → IsModuleAgain bytes layout n contents (t ∷ ts) new
+adds bytes info layout n contents t ts new short m r g =
+    let cb = r.code_is.before in
+    let cr = r.code_is.behind in
+    let p = g.is in
+    let crank = ap rank_of r.code_is.has in
+    let b = behind_place p.before p.behind cb cr r.code (rank_of ids.Global) p.smaller (sym p.parts ∙ r.code_is.parts) (omega (arith, crank)) in
+    let v = of_module bytes layout.sections m.spells in
+    let a = cut p.before (b.mid ++ r.code ∷ cr) 8 v.pieces
+    (sym (p.parts ∙ ap (λ (l : List Section). p.before ++ l) b.behind_is) ∙ v.are) in
+    let d = split b.mid cr r.code (8 + length (joined a.first)) a.second a.behind_are in
+    adds_at bytes layout n contents t ts new short r g b v a d
 
 pub module_again : (bytes : List ℕ) (info : Module) (layout : Layout) (n : ℕ) (contents : List ℕ) (more : List PrimitiveTypeInfo) (new : List ℕ) → Short →
     IsModule bytes info layout → IsRewritten bytes layout n contents more new → IsModuleAgain bytes layout n contents more new

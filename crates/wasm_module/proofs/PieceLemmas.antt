@@ -150,7 +150,8 @@ rejoined bytes from to start end first mid second old x g c p =
     let ranged : slice_range bytes to start ≡ joined mid = range_is bytes (front ++ old) (joined mid) (code_of x ++ joined second) to start at_mid mid_len
     (sym p.start_is) in
     let at_end : bytes ≡ (((front ++ old) ++ joined mid) ++ code_of x) ++ joined second = at_mid
-    ∙ sym (append_assoc (front ++ old) (joined mid) (code_of x ++ joined second)) ∙ sym (append_assoc ((front ++ old) ++ joined mid) (code_of x) (joined second)) in
+    ∙ sym (append_assoc (front ++ old) (joined mid) (code_of x ++ joined second))
+    ∙ sym (append_assoc ((front ++ old) ++ joined mid) (code_of x) (joined second)) in
     let end_len : length (((front ++ old) ++ joined mid) ++ code_of x) ≡ end = omega (
       arith,
       length-append ((front ++ old) ++ joined mid) (code_of x),

@@ -90,10 +90,14 @@ fn module_of<'a>(
 /// Reads what a module declares and where its functions' bodies stand (WebAssembly Core Specification 3.0, Binary Format,
 /// Modules).
 ///
-/// Sections are told apart by `read_sections`, and refused as it refuses. Then the sections of types, imports, functions, tables,
-/// memories, globals and code are read, each by the call of its name in `wasm_declarations`, and refused as that refuses; the
-/// others' contents aren't looked at. `CodeCount`, at the code section, or at the end of the bytes where there is none, where there
-/// are not as many code entries as functions of the module's own; `Memory` where no memory was left. The bodies aren't read.
+/// It accepts exactly modules of which these are known: the sections are told apart by `read_sections`; those of types, imports,
+/// functions, tables, memories, globals and code are read, each by the call of its name in `wasm_declarations`; and there are as
+/// many code entries as functions of the module's own. The contents of the other sections and the bodies aren't read, and whether
+/// the module is valid isn't asked.
+///
+/// It is refused as `read_sections` refuses it; else as one of those calls refuses its section; else with `CodeCount` where the
+/// numbers differ, at the start of the code section, or at the end of the bytes where there is none. `Memory` where no memory was
+/// left.
 pub fn read_module<'a>(alloc: Global, bytes: &'a [u8]) -> Result<Module<'a>, ModuleError>
     // What is read is declared so.
     ensures read { IfOk result (λ m. IsModule bytes.now m.info m.layout) }
