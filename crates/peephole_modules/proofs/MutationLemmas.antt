@@ -1,26 +1,20 @@
 -- One code entry of a module rewritten.
-use Rattle.std.proofs.Common.{◌≡◌, ◌≢◌, ◌⊎◌, inl, inr, ℕ, ◌+◌, ◌-◌, ◌<◌, ◌≤◌, List, [], ◌∷◌, ◌++◌, length, drop, map, Bool, true, false, cond, Option, Some, None, Result, Ok, Err, refl, sym, ap, subst, ◌∙◌, arith}
+use Rattle.std.proofs.Common.{◌≡◌, ℕ, ◌+◌, ◌-◌, ◌<◌, ◌≤◌, List, [], ◌∷◌, ◌++◌, length, drop, map, Bool, true, Option, Some, None, Result, Ok, Err, sym, ap, subst, ◌∙◌, arith}
 use Rattle.std.specs.Prelude.{IfOk, IfNone, IfSome, IsTrue, slice_get, slice_range}
-use Rattle.std.specs.List.{All}
 use Rattle.std.proofs.lemmas.List.{length-append, length-take, length-drop}
-use Rattle.std.proofs.lemmas.List.Elements.{All-map}
 use Rattle.std.proofs.lemmas.Option.{same_Some}
 use Rattle.wasm_code.specs.Body.{SpellsBody}
 use Rattle.wasm_code.specs.declared.operator.Operator.{Operator}
 use Rattle.mutate_base.specs.Module.{Module}
 use Rattle.mutate_base.specs.declared.error.Error.{Error}
 use Rattle.mutate_base.specs.declared.types.PrimitiveTypeInfo.{PrimitiveTypeInfo}
-use Rattle.mutate_base.specs.declared.types.PrimitiveTypeInfo.TheVariants.{Empty}
 use Rattle.wasm_declarations.specs.declared.entries.Entry.{Entry}
 use Rattle.wasm_declarations.specs.Locals.{SpellsLocals}
 use Rattle.wasm_module.specs.Module.{Layout, IsModule}
 use Rattle.wasm_module.specs.Inside.{IsInside}
 use Rattle.wasm_module.specs.Rewritten.{IsRewritten}
 use Rattle.peephole_terms.specs.declared.encoder.request.ResourceRequest.{ResourceRequest}
-use Rattle.peephole_terms.specs.NodeKind.{primitive_of}
-use Rattle.peephole_terms.specs.declared.encoder.node_kind.NumberType.{NumberType}
-use Rattle.peephole_terms.specs.declared.encoder.node_kind.NumberType.TheVariants as number
-use Rattle.peephole_terms.specs.Expansion.{Setting, request, requests_of}
+use Rattle.peephole_terms.specs.Expansion.{Setting}
 use Rattle.peephole_terms.specs.Written.{IsBodyIn}
 use Rattle.peephole_rules.specs.declared.rule.Rule.{Rule}
 use Rattle.peephole_rewrites.specs.declared.rewrite.Rewrite.{Rewrite}
@@ -117,30 +111,6 @@ refuses_entry bytes info layout n locals lent expression operators given preserv
     },
   ),
 )
-
--- ---- the globals that are asked for
-
-abbrev AreTypes : List PrimitiveTypeInfo → Type 0
-AreTypes = All (λ t. t ≢ Empty)
-
-number_type : (t : NumberType) → primitive_of t ≢ Empty
-number_type number.I32 e = absurd cc
-number_type number.I64 e = absurd cc
-number_type number.F32 e = absurd cc
-number_type number.F64 e = absurd cc
-
-asked_types : (ts : List NumberType) → AreTypes (map requested (map request ts))
-asked_types ts = All-map (λ t. t ≢ Empty) requested (map request ts) (All-map (λ r. requested r ≢ Empty) request ts (λ k d within. number_type _))
-
-asked_or_none : (b : Bool) (ts : List NumberType) → AreTypes (map requested (cond b (map request ts) []))
-asked_or_none true ts = asked_types ts
-asked_or_none false ts = λ k d within. absurd (omega (arith, within))
-
-pub types_of_requests : (locals : Types) (info : Module) (preserving : Bool) (rules : List Rule) (input : List ℕ) (operators : Operators)
-    (rewrite : Rewrite) (old new : List ℕ) (requests : List ResourceRequest) (left : Option Setting) (globals : Types) →
-    globals ≡ map requested requests → AppendsInBody locals info preserving rules input operators rewrite old new requests left → AreTypes globals
-types_of_requests locals info preserving rules input operators rewrite old new requests left globals is a =
-    subst AreTypes (sym (is ∙ ap (map requested) (a.chosen.1.2).asks)) (asked_or_none _ _)
 
 -- ---- the new module
 

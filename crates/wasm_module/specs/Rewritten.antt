@@ -1,6 +1,6 @@
 -- A module with another code entry, and with more globals: every other byte stands as it stood (this project;
 -- WebAssembly Core Specification 3.0, Binary Format, Modules, Code Section and Global Section).
-use Rattle.std.specs.Prelude.{◌≡◌, ◌⊎◌, ℕ, ◌+◌, ◌<◌, ◌^◌, List, [], ◌∷◌, ◌++◌, length, take, drop, Some, slice_get, slice_range}
+use Rattle.std.specs.Prelude.{◌≡◌, ◌⊎◌, ℕ, ◌+◌, ◌<◌, ◌^◌, List, [], ◌∷◌, ◌++◌, length, replicate, take, drop, Some, slice_get, slice_range}
 use Rattle.wasm_code.specs.Number.{SpellsUnsigned}
 use Rattle.wasm_code.specs.Code.{shortest}
 use Rattle.mutate_base.specs.declared.types.PrimitiveTypeInfo.{PrimitiveTypeInfo}
@@ -16,22 +16,22 @@ use Rattle.wasm_module.specs.Module.{Layout}
 
 -- so many zeros
 abbrev pub zeros : ℕ → List ℕ
-zeros n = Rattle.std.specs.Prelude.replicate n 0
+zeros n = replicate n 0
 
--- the byte of the type, and the instruction that gives its zero, or its null
-abbrev pub type_and_zero : PrimitiveTypeInfo → List ℕ × List ℕ
-type_and_zero primitives.I32 = (0x7f ∷ [], 0x41 ∷ 0x00 ∷ [])
-type_and_zero primitives.I64 = (0x7e ∷ [], 0x42 ∷ 0x00 ∷ [])
-type_and_zero primitives.F32 = (0x7d ∷ [], 0x43 ∷ zeros 4)
-type_and_zero primitives.F64 = (0x7c ∷ [], 0x44 ∷ zeros 8)
-type_and_zero primitives.V128 = (0x7b ∷ [], 0xfd ∷ 0x0c ∷ zeros 16)
-type_and_zero primitives.FuncRef = (0x70 ∷ [], 0xd0 ∷ 0x70 ∷ [])
-type_and_zero primitives.ExternRef = (0x6f ∷ [], 0xd0 ∷ 0x6f ∷ [])
-type_and_zero primitives.Empty = ([], [])
+-- a global that may be written: the byte of its type, and the instruction that it starts by
+abbrev pub global_of : (type : ℕ) → (start : List ℕ) → List ℕ
+global_of type start = type ∷ 0x01 ∷ start ++ 0x0b ∷ []
 
--- the global of a type: it may be written, and starts as zero, or null
+-- the global of a type starts as zero, or null; no global has the type `Empty`
 abbrev pub global_code : PrimitiveTypeInfo → List ℕ
-global_code t = (type_and_zero t).0 ++ 0x01 ∷ (type_and_zero t).1 ++ 0x0b ∷ []
+global_code primitives.I32 = global_of 0x7f (0x41 ∷ 0x00 ∷ [])
+global_code primitives.I64 = global_of 0x7e (0x42 ∷ 0x00 ∷ [])
+global_code primitives.F32 = global_of 0x7d (0x43 ∷ zeros 4)
+global_code primitives.F64 = global_of 0x7c (0x44 ∷ zeros 8)
+global_code primitives.V128 = global_of 0x7b (0xfd ∷ 0x0c ∷ zeros 16)
+global_code primitives.FuncRef = global_of 0x70 (0xd0 ∷ 0x70 ∷ [])
+global_code primitives.ExternRef = global_of 0x6f (0xd0 ∷ 0x6f ∷ [])
+global_code primitives.Empty = []
 
 abbrev pub globals_code : List PrimitiveTypeInfo → List ℕ
 globals_code [] = []

@@ -1,7 +1,5 @@
 //! The bytes of a module before an offset, with more globals.
-ghost use Rattle.std.specs.Prelude.{◌≡◌, ◌≢◌, ◌≤◌, ◌<◌, ◌+◌, ◌^◌, ◌++◌, ℕ, List, length, take, slice_range, Err, IfOk, OnOk};
-ghost use Rattle.std.specs.List.{All};
-ghost use Rattle.mutate_base.specs.declared.types.PrimitiveTypeInfo.TheVariants.{Empty};
+ghost use Rattle.std.specs.Prelude.{◌≡◌, ◌≤◌, ◌<◌, ◌+◌, ◌^◌, ◌++◌, ℕ, List, length, take, slice_range, Err, IfOk, OnOk};
 ghost use Rattle.wasm_code.specs.Number.{SpellsUnsigned};
 ghost use Rattle.wasm_sections.specs.declared.id.SectionId.TheVariants as ids;
 ghost use Rattle.wasm_sections.specs.Find.{IsFirstWith, LackId};
@@ -63,7 +61,6 @@ fn grown(
     to: usize,
     globals: &[PrimitiveTypeInfo],
 ) -> Result<Vec<u8>, WriteError>
-    requires types { All (λ t. t ≢ Empty) globals.now }
     requires room { HasRoom bytes.now layout.now to }
     requires section { IsFirstWith layout.now.sections ids.Global section }
     ensures written { IfOk result (λ v.
@@ -84,7 +81,6 @@ fn started(
     to: usize,
     globals: &[PrimitiveTypeInfo],
 ) -> Result<Vec<u8>, WriteError>
-    requires types { All (λ t. t ≢ Empty) globals.now }
     requires room { HasRoom bytes.now layout.now to }
     requires none { LackId layout.now.sections ids.Global }
     ensures written { IfOk result (λ v.
@@ -105,7 +101,6 @@ pub fn front_with(
     to: usize,
     globals: &[PrimitiveTypeInfo],
 ) -> Result<Vec<u8>, WriteError>
-    requires types { All (λ t. t ≢ Empty) globals.now }
     requires room { HasRoom bytes.now layout.now to }
     ensures written { IfOk result (λ v. IsFront bytes.now layout.now globals.now to v.items) }
     ensures too_large { result ≡ Err TooLarge

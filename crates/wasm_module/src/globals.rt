@@ -1,7 +1,5 @@
 //! Globals that are written: what a global section contains with more of them.
-ghost use Rattle.std.specs.Prelude.{◌≡◌, ◌≢◌, ◌≤◌, ◌<◌, ◌+◌, ◌^◌, ◌++◌, length, Err, IfOk, IfErr, OnOk};
-ghost use Rattle.std.specs.List.{All};
-ghost use Rattle.mutate_base.specs.declared.types.PrimitiveTypeInfo.TheVariants.{Empty};
+ghost use Rattle.std.specs.Prelude.{◌≡◌, ◌≤◌, ◌<◌, ◌+◌, ◌^◌, ◌++◌, length, Err, IfOk, IfErr, OnOk};
 ghost use Rattle.wasm_code.specs.Code.{shortest};
 ghost use Rattle.wasm_module.specs.Rewritten.{global_code, globals_code};
 ghost use Rattle.wasm_sections.specs.declared.writing.WriteError.TheVariants.{TooLarge};
@@ -11,9 +9,8 @@ use std::alloc::{AllocError, Global};
 use wasm_code::put_unsigned;
 use wasm_sections::WriteError;
 
-/// The global of the type: it may be written, and starts as zero, or null.
+/// The global of the type: it may be written, and starts as zero, or null. Nothing for `Empty`, which no global has.
 fn global_of(tpe: PrimitiveTypeInfo) -> &'static [u8]
-    requires { tpe ≢ Empty }
     ensures { result.now ≡ global_code tpe }
 {
     match tpe {
@@ -24,13 +21,12 @@ fn global_of(tpe: PrimitiveTypeInfo) -> &'static [u8]
         PrimitiveTypeInfo::V128 => b"\x7b\x01\xfd\x0c\0\0\0\0\0\0\0\0\0\0\0\0\0\0\0\0\x0b",
         PrimitiveTypeInfo::FuncRef => b"\x70\x01\xd0\x70\x0b",
         PrimitiveTypeInfo::ExternRef => b"\x6f\x01\xd0\x6f\x0b",
-        PrimitiveTypeInfo::Empty => unreachable!(),
+        PrimitiveTypeInfo::Empty => b"",
     }
 }
 
 /// Appends globals of the types.
 fn put_globals(out: &mut Vec<u8>, types: &[PrimitiveTypeInfo]) -> Result<(), AllocError>
-    requires { All (λ t. t ≢ Empty) types.now }
     ensures { OnOk result (out.new.items ≡ out.old.items ++ globals_code types.now) }
 {
     for tpe in types {
@@ -58,7 +54,6 @@ pub fn with_globals(
     items: &[u8],
     types: &[PrimitiveTypeInfo],
 ) -> Result<Vec<u8>, WriteError>
-    requires { All (λ t. t ≢ Empty) types.now }
     ensures written { IfOk result (λ v. v.items
         ≡ shortest (own + length types.now) ++ items.now ++ globals_code types.now) }
     ensures few { OnOk result (own + length types.now < 2 ^ 32) }

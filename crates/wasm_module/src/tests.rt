@@ -1,7 +1,5 @@
 //! Small modules by hand, in bytes as the standard gives them.
 ghost use Rattle.std.specs.Prelude.{◌≢◌};
-ghost use Rattle.std.specs.List.{All};
-ghost use Rattle.mutate_base.specs.declared.types.PrimitiveTypeInfo.TheVariants.{Empty};
 
 use crate::{Entry, ModuleFault, read_module, with_body};
 use mutate_base::{ElementType, PrimitiveTypeInfo};
@@ -60,9 +58,7 @@ fn later(
     n: usize,
     expression: &[u8],
     globals: &[PrimitiveTypeInfo],
-) -> Result<Vec<u8>, Fail>
-    requires { All (λ t. t ≢ Empty) globals.now }
-{
+) -> Result<Vec<u8>, Fail> {
     let module = read_module(alloc, bytes)?;
     assert!(rt; n < module.layout.entries.len());
     Ok(with_body(

@@ -1,8 +1,6 @@
 //! A module with another body and more globals.
-ghost use Rattle.std.specs.Prelude.{◌≡◌, ◌≢◌, ◌≤◌, ◌<◌, ◌^◌, ◌++◌, ℕ, List, length, slice_range, Err, IfOk, OnOk};
-ghost use Rattle.std.specs.List.{All};
+ghost use Rattle.std.specs.Prelude.{◌≡◌, ◌≤◌, ◌<◌, ◌^◌, ◌++◌, ℕ, List, length, slice_range, Err, IfOk, OnOk};
 ghost use Rattle.mutate_base.specs.Module.{Module};
-ghost use Rattle.mutate_base.specs.declared.types.PrimitiveTypeInfo.TheVariants.{Empty};
 ghost use Rattle.wasm_sections.specs.declared.writing.WriteError.TheVariants.{TooLarge};
 ghost use Rattle.wasm_module.specs.Module.{IsModule};
 ghost use Rattle.wasm_module.specs.Rewritten.{code_with, IsRewritten};
@@ -67,7 +65,6 @@ fn joined(
     contents: &[u8],
     globals: &[PrimitiveTypeInfo],
 ) -> Result<Vec<u8>, WriteError>
-    requires types { All (λ t. t ≢ Empty) globals.now }
     requires room { HasRoom bytes.now layout.now code.start }
     requires order { code.start ≤ code.end }
     requires inside { code.end ≤ length bytes.now }
@@ -84,7 +81,8 @@ fn joined(
 }
 
 /// The module with `locals` and `expression` behind one another as the contents of its n-th code entry (n from 0), and with
-/// globals of the types appended to its own, each of which may be written and starts as zero, or null.
+/// globals of the types appended to its own, each of which may be written and starts as zero, or null. (`Empty` is no type of a
+/// global: it should not be among them.)
 ///
 /// The sizes of the entry, of the code section and of the global section, and the number of the globals, are written in as few
 /// bytes as will do. Where there is no global section, one is written where the standard has it; where no globals are given, none
@@ -102,7 +100,6 @@ pub fn with_body(
 ) -> Result<Vec<u8>, WriteError>
     requires module { (info : Module) × IsModule bytes.now info layout.now }
     requires inside { n < length layout.now.entries }
-    requires types { All (λ t. t ≢ Empty) globals.now }
     ensures written { IfOk result (λ new. IsRewritten
         bytes.now layout.now n (locals.now ++ expression.now) globals.now new.items) }
     ensures too_large { result ≡ Err TooLarge → IsTooLarge

@@ -5,7 +5,7 @@ use Rattle.mutate_base.specs.Config.{info_of}
 use Rattle.peephole_terms.specs.Expansion.{setting_of}
 use Rattle.wasm_module.specs.Module.{IsModule}
 use Rattle.peephole_modules.specs.Mutated.{HasNoMutation, MutatesEntry, requested}
-use Rattle.peephole_modules.proofs.MutationLemmas.{behind_locals, body_in, lent_under, mutates, nothing_here, refuses_entry, types_of_requests, under_lent}
+use Rattle.peephole_modules.proofs.MutationLemmas.{behind_locals, body_in, lent_under, mutates, nothing_here, refuses_entry, under_lent}
 use Rattle.peephole_modules.proofs.mutation.mutate_entry.Goals as goal
 
 pub returns-in-Err-clause-none : goal.returns-in-Err-clause-none
@@ -52,13 +52,6 @@ locals_of-locals-requires g c =
     behind_locals c.args.bytes.now c.info.result.now c.args.layout.now c.args.n c.in-Ok.function.locals.items c.in-Ok.function.expression
     c.in-Ok.function.operators.items c.entry_at.result f
     (c.entries_are_inside.ensures c.args.bytes.now c.info.result.now c.args.layout.now c.args.n f.entry known f.is.at) c.entry_at.ensures
-
-pub with_body-requires-clause-types : goal.with_body-requires-clause-types
-with_body-requires-clause-types g c =
-    types_of_requests c.deref.result.now c.info.result.now c.args.config.now.preserving c.args.rules.now c.args.bytes.now c.deref-2.result.now
-    c.in-Ok-Some.made.rewrite _ _ c.in-Ok-Some.made.requests.items _ c.deref-4.result.now
-    (c.deref-4.ensures.value ∙ c.in_ok-globals.ensures ∙ ap (map requested) c.deref-3.ensures.value)
-    (rw c.info.ensures at (rw c.in-Ok-Some.field-0-is at c.in-Ok-Some.ensures.rewritten))
 
 pub returns-in-Ok-with_body-clause-mutated : goal.returns-in-Ok-with_body-clause-mutated
 returns-in-Ok-with_body-clause-mutated g c =
