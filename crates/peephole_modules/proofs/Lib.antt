@@ -2,3 +2,4 @@ pub mod RunLemmas
 pub mod BodyLemmas
 pub mod FunctionLemmas
 pub mod MutationLemmas
+pub mod ModuleLemmas

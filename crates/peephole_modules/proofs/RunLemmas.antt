@@ -1,6 +1,6 @@
 -- Integer runs, operator by operator.
-use Rattle.std.proofs.Common.{◌≡◌, ◌↔◌, ℕ, zero, suc, ◌+◌, ◌-◌, ◌<◌, ◌≤◌, ◌⊎◌, inl, inr, List, [], ◌∷◌, ◌++◌, length, take, drop, get_or, Bool, true, false, Some, refl, sym, ap, subst, ◌∙◌, arith}
-use Rattle.std.specs.Prelude.{Contains, IsTrue, slice_get, slice_range}
+use Rattle.std.proofs.Common.{◌≡◌, ◌↔◌, ℕ, ◌+◌, ◌-◌, ◌<◌, ◌≤◌, inl, inr, List, [], ◌∷◌, ◌++◌, length, drop, get_or, true, false, Some, refl, sym, ap, subst, ◌∙◌, arith}
+use Rattle.std.specs.Prelude.{Contains, slice_get, slice_range}
 use Rattle.std.proofs.lemmas.Bool.{both_ways, cases_eq, cases_lt}
 use Rattle.std.proofs.lemmas.List.{get_or-take, get_or-drop, length-take, length-drop}
 use Rattle.std.proofs.lemmas.List.Elements.{Contains-push, Contains-push_cases, Contains-append_left}
@@ -8,10 +8,10 @@ use Rattle.std.proofs.lemmas.Option.{same_Some, slice_get-get_or}
 use Rattle.wasm_code.specs.Operator.{is_delimiter}
 use Rattle.wasm_code.specs.declared.operator.Operator.{Operator}
 use Rattle.mutate_base.specs.declared.types.PrimitiveTypeInfo.{PrimitiveTypeInfo}
-use Rattle.peephole_graphs.specs.Block.{HasNoDelimiter, IsBlockOf}
+use Rattle.peephole_graphs.specs.Block.{HasNoDelimiter}
 use Rattle.peephole_terms.specs.SameRun.{IsIntegerOperator}
 use Rattle.peephole_rewrites.specs.Rewriting.{AreInteger}
-use Rattle.peephole_modules.specs.Runs.{AreIntegerWithin, EndsRun, InRun, IsIntegerAt, IsLast}
+use Rattle.peephole_modules.specs.Runs.{EndsRun, InRun, IsIntegerAt, IsLast}
 
 abbrev Types : Type 0
 Types = List PrimitiveTypeInfo

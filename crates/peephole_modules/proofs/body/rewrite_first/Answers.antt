@@ -1,8 +1,7 @@
-use Rattle.std.proofs.Common.{◌≤◌, Bool, get_or, length, ap, refl, ◌∙◌, arith}
+use Rattle.std.proofs.Common.{◌≤◌, get_or, length, ap, refl, ◌∙◌, arith}
 use Rattle.std.proofs.lemmas.Grind.{common_steps}
 use Rattle.std.proofs.lemmas.List.Elements.{Contains-get_or}
 use Rattle.mutate_base.specs.Config.{info_of}
-use Rattle.mutate_base.specs.Module.{Module}
 use Rattle.peephole_modules.specs.Body.{HasNoRewrites, RefusesInBody}
 use Rattle.peephole_modules.proofs.BodyLemmas.{nothing_all, nothing_more, under_same}
 use Rattle.peephole_modules.proofs.body.rewrite_first.Goals as goal

@@ -1,5 +1,5 @@
 -- At the module that was lent.
-use Rattle.std.proofs.Common.{◌≡◌, ◌+◌, inr, ap, refl, sym, ◌∙◌}
+use Rattle.std.proofs.Common.{◌≡◌, ◌+◌, inr, ap, ◌∙◌}
 use Rattle.std.specs.Prelude.{map}
 use Rattle.mutate_base.specs.Config.{info_of}
 use Rattle.peephole_terms.specs.Expansion.{setting_of}

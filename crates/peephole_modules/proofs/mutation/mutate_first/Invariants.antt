@@ -1,4 +1,4 @@
-use Rattle.std.proofs.Common.{◌≡◌, ◌≤◌, ◌<◌, ℕ}
+use Rattle.std.proofs.Common.{◌≤◌, ◌<◌, ℕ}
 use Rattle.std.specs.Prelude.{IfSome}
 use Rattle.mutate_base.specs.Config.{info_of, ChangesGeneratorAlone}
 use Rattle.peephole_modules.specs.Mutated.{HasNoMutation}

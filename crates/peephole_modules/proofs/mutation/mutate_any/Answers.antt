@@ -1,0 +1,20 @@
+use Rattle.std.proofs.Common.{◌≡◌, Option, length, ap, subst, ◌∙◌, arith}
+use Rattle.std.proofs.lemmas.Grind.{common_steps}
+use Rattle.mutate_base.specs.Config.{info_of}
+use Rattle.mutate_base.specs.Module.{Module}
+use Rattle.wasm_module.specs.Module.{Layout}
+use Rattle.peephole_modules.proofs.BodyLemmas.{none_map}
+use Rattle.peephole_modules.proofs.ModuleLemmas.{NoneWithin, none_in_all}
+use Rattle.peephole_modules.proofs.mutation.mutate_any.Goals as goal
+
+pub returns-clause-none : goal.returns-clause-none
+returns-clause-none g c =
+    let sized : c.len-count.result ≡ length c.layout.inside.entries.items = grind (arith, common_steps) in
+    let counted = sized ∙ ap (λ (l : Layout). length l.entries) c.layout.view_is in
+    let chosen = (c.choose_below-first.ensures.unchanged.1).0 in
+    let behind = subst (λ (u : Option Module). NoneWithin c.args.rules.now c.args.bytes.now u c.args.layout.now c.choose_below-first.result
+    c.len-count.result) chosen (rw c.in-Ok-None.field-0-is at c.in-Ok-None.ensures.none) in
+    none_map c.mutate_first-2.result (λ second.
+    none_in_all c.args.rules.now c.args.bytes.now (info_of c.args.config.now) c.args.layout.now c.choose_below-first.result c.len-count.result
+    counted behind (subst (λ (u : Option Module). NoneWithin c.args.rules.now c.args.bytes.now u c.args.layout.now 0
+    c.choose_below-first.result) ((c.mutate_first.ensures.unchanged.1).0 ∙ chosen) second)) c.mutate_first-2.ensures.none

@@ -1,0 +1,23 @@
+use Rattle.std.proofs.Common.{◌≤◌, Option, subst, ◌∙◌, arith}
+use Rattle.std.specs.Prelude.{IfSome}
+use Rattle.std.proofs.lemmas.Grind.{common_steps}
+use Rattle.mutate_base.specs.Config.{info_of}
+use Rattle.mutate_base.specs.Module.{Module}
+use Rattle.peephole_modules.specs.Mutated.{HasNoMutation}
+use Rattle.peephole_modules.proofs.ModuleLemmas.{none_next, none_to}
+use Rattle.peephole_modules.proofs.mutation.mutate_first.Goals as goal
+
+pub loop-n-preserved : goal.loop-n-preserved
+loop-n-preserved g c =
+    let before = c.loop-n.invariant.0 in
+    let more = c.mutate_entry.ensures.unchanged in
+    let none = subst (λ (u : Option Module). IfSome u (λ info. HasNoMutation c.args.rules.now c.args.bytes.now info c.args.layout.now c.loop-n.n))
+    before.1.0 (rw c.in-Ok-None.field-0-is at c.in-Ok-None.ensures.none) in (
+      (more.0 ∙ before.0, (more.1.0 ∙ before.1.0, more.1.1 ∙ before.1.1)),
+      none_next c.args.rules.now c.args.bytes.now (info_of c.args.config.now) c.args.layout.now c.args.from c.loop-n.n c.loop-n.invariant.1 none,
+    )
+
+pub returns-clause-none : goal.returns-clause-none
+returns-clause-none g c =
+    let past : c.args.to ≤ c.loop-n.n = grind (arith, common_steps) in
+    none_to c.args.rules.now c.args.bytes.now (info_of c.args.config.now) c.args.layout.now c.args.from c.loop-n.n c.args.to past c.loop-n.invariant.1

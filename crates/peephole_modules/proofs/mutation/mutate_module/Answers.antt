@@ -1,0 +1,33 @@
+use Rattle.std.proofs.Common.{◌≡◌, Some, refl}
+use Rattle.mutate_base.specs.Config.{info_of}
+use Rattle.peephole_modules.proofs.BodyLemmas.{none_map}
+use Rattle.peephole_modules.proofs.ModuleLemmas.{cannot_any, cannot_one, mutated_any, mutated_one, some_map}
+use Rattle.peephole_modules.proofs.mutation.mutate_module.Goals as goal
+
+pub returns-in-None-clause-mutated : goal.returns-in-None-clause-mutated
+returns-in-None-clause-mutated g c =
+    let under : info_of c.set_up.new.self ≡ Some c.in-Ok.module.info = rw c.set_up.ensures refl in
+    some_map c.mutate_any.result (λ m h.
+    mutated_any c.args.rules.now c.args.only c.args.bytes.now (info_of c.set_up.new.self) c.in-Ok.module.info c.in-Ok.module.layout c.in-None.is
+    under c.in-Ok.ensures.read m.function m.rewrite m.bytes.items h) c.mutate_any.ensures.mutated
+
+pub returns-in-None-clause-none : goal.returns-in-None-clause-none
+returns-in-None-clause-none g c =
+    let under : info_of c.set_up.new.self ≡ Some c.in-Ok.module.info = rw c.set_up.ensures refl in
+    none_map c.mutate_any.result
+    (cannot_any c.args.rules.now c.args.only c.args.bytes.now (info_of c.set_up.new.self) c.in-Ok.module.info c.in-Ok.module.layout under
+    c.in-Ok.ensures.read) c.mutate_any.ensures.none
+
+pub returns-clause-mutated : goal.returns-clause-mutated
+returns-clause-mutated g c =
+    let under : info_of c.set_up.new.self ≡ Some c.in-Ok.module.info = rw c.set_up.ensures refl in
+    some_map c.mutate_function.result (λ m h.
+    mutated_one c.args.rules.now c.args.only c.args.bytes.now (info_of c.set_up.new.self) c.in-Ok.module.info c.in-Ok.module.layout
+    c.in-Some.function c.in-Some.is under c.in-Ok.ensures.read m.function m.rewrite m.bytes.items h) c.mutate_function.ensures.mutated
+
+pub returns-clause-none : goal.returns-clause-none
+returns-clause-none g c =
+    let under : info_of c.set_up.new.self ≡ Some c.in-Ok.module.info = rw c.set_up.ensures refl in
+    none_map c.mutate_function.result
+    (cannot_one c.args.rules.now c.args.only c.args.bytes.now (info_of c.set_up.new.self) c.in-Ok.module.info c.in-Ok.module.layout
+    c.in-Some.function c.in-Some.is under c.in-Ok.ensures.read) c.mutate_function.ensures.none
