@@ -2,5 +2,16 @@
 #![tactic(auto)]
 
 mod fault;
+mod find;
+mod id;
+mod linking;
+mod section;
+mod sections;
+mod writing;
 
 pub use fault::{ModuleError, ModuleFault};
+pub use find::{find_section, place_of};
+pub use id::SectionId;
+pub use section::Section;
+pub use sections::read_sections;
+pub use writing::{WriteError, put_section};

@@ -1,0 +1,241 @@
+-- Reading lists and their items as functions (this project): for proofs. The contracts of public calls go by the grammar.
+use Rattle.std.specs.Prelude.{◌≡◌, ◌⊎◌, ℕ, zero, suc, ◌+◌, ◌-◌, ◌≤◌, ◌<◌, ◌==◌, if◌then◌else◌, Bool, true, false, List, [], ◌∷◌, ◌++◌, length, Option, Some, None, Result, Ok, Err}
+use Rattle.mutate_base.specs.declared.types.PrimitiveTypeInfo.{PrimitiveTypeInfo}
+use Rattle.mutate_base.specs.declared.types.ElementType.{ElementType}
+use Rattle.mutate_base.specs.declared.types.ElementType.TheVariants as elements
+use Rattle.mutate_base.specs.declared.types.TableType.{TableType}
+use Rattle.mutate_base.specs.declared.types.MemoryType.{MemoryType}
+use Rattle.mutate_base.specs.declared.types.TypeInfo.{TypeInfo}
+use Rattle.mutate_base.specs.declared.types.TypeInfo.TheVariants.{Func}
+use Rattle.wasm_code.specs.declared.fault.Cause.{Cause}
+use Rattle.wasm_code.specs.declared.fault.Cause.TheVariants.{Truncated, UnknownOpcode, BadInteger, BadImmediate}
+use Rattle.wasm_code.specs.Body.{is_end}
+use Rattle.wasm_code.specs.Reader.{◌>>=◌, byte_at, bytes_at, named_at, times_at, unsigned_at, val_type_at, operator_at}
+use Rattle.wasm_sections.specs.declared.fault.ModuleError.{ModuleError}
+use Rattle.wasm_sections.specs.declared.fault.ModuleFault.TheVariants as faults
+use Rattle.wasm_declarations.specs.declared.refusal.Refusal.{Refusal}
+use Rattle.wasm_declarations.specs.declared.refusal.Refusal.TheVariants as refusals
+use Rattle.wasm_declarations.specs.declared.import.Import.{Import}
+use Rattle.wasm_declarations.specs.declared.import.Import.TheVariants as imports
+use Rattle.wasm_declarations.specs.declared.entries.Entry.{Entry}
+use Rattle.wasm_declarations.specs.declared.list.Stop.{Stop}
+use Rattle.wasm_declarations.specs.declared.locals.GroupStop.{GroupStop}
+use Rattle.wasm_declarations.specs.declared.locals.GroupStop.TheVariants as stops
+use Rattle.wasm_declarations.specs.List.{fault_of}
+use Rattle.wasm_declarations.specs.Locals.{types_of, locals_in, AreFew}
+use Rattle.wasm_declarations.specs.Types.{primitive}
+use Rattle.wasm_declarations.specs.Tables.{bounds}
+
+-- what a call answered, seen by view, is what reading gives, unless memory ran out
+abbrev pub Answers : {X Y : Type 0} → (X → Y) → Result X Refusal → Result Y Cause → Type 0
+Answers view (Ok x) read = read ≡ Ok (view x)
+Answers view (Err (refusals.Bytes cause)) read = read ≡ Err cause
+Answers view (Err refusals.Memory) read = Unit {0}
+
+-- ---- lists
+
+-- so many values one after another
+unfoldable pub each_at : {A : Type 0} → ℕ → (List ℕ → Result (A × List ℕ) Cause) → List ℕ → Result (List A × List ℕ) Cause
+each_at zero at bytes = Ok ([], bytes)
+each_at (suc n) at bytes = at bytes >>= λ x. each_at n at x.1 >>= λ xs. Ok (x.0 ∷ xs.0, xs.1)
+
+-- a count, and as many values
+unfoldable pub list_at : {A : Type 0} → (List ℕ → Result (A × List ℕ) Cause) → List ℕ → Result (List A × List ℕ) Cause
+list_at at bytes = unsigned_at 32 bytes >>= λ n. each_at n.0 at n.1
+
+-- behind some of so many values reading fails, where so many bytes are left
+pub record StopsEach {A : Type 0} (at : List ℕ → Result (A × List ℕ) Cause) (number : ℕ) (bytes : List ℕ) (cause : Cause) (left : ℕ) : Type 0 where
+  pub before : ℕ
+  pub items : List A
+  pub rest : List ℕ
+  pub fewer : before < number
+  pub reads : each_at before at bytes ≡ Ok (items, rest)
+  pub fails : at rest ≡ Err cause
+  pub is_left : left ≡ length rest
+
+abbrev pub StopsBy : {A : Type 0} → (List ℕ → Result (A × List ℕ) Cause) → ℕ → List ℕ → Refusal → ℕ → Type 0
+StopsBy at number bytes (refusals.Bytes cause) left = StopsEach at number bytes cause left
+StopsBy at number bytes refusals.Memory left = Unit {0}
+
+-- the count fails, or one of the items
+pub record StopsList {A : Type 0} (at : List ℕ → Result (A × List ℕ) Cause) (start : ℕ) (text : List ℕ) (cause : Cause) (offset : ℕ) : Type 0 where
+  pub number : ℕ
+  pub rest : List ℕ
+  pub left : ℕ
+  pub counts : unsigned_at 32 text ≡ Ok (number, rest)
+  pub stops : StopsEach at number rest cause left
+  pub is_at : offset ≡ start + (length text - left)
+
+-- bytes stand behind the list
+pub record GoesOn {A : Type 0} (at : List ℕ → Result (A × List ℕ) Cause) (start : ℕ) (text : List ℕ) (offset : ℕ) : Type 0 where
+  pub items : List A
+  pub rest : List ℕ
+  pub reads : list_at at text ≡ Ok (items, rest)
+  pub some : 0 < length rest
+  pub is_at : offset ≡ start + (length text - length rest)
+
+-- the error of an item that was refused at that offset, in contents that start at the other one
+abbrev pub error_at : Refusal → ℕ → ℕ → ModuleError
+error_at (refusals.Bytes cause) offset start = record { kind = fault_of cause; offset = offset }
+error_at refusals.Memory offset start = record { kind = faults.Memory; offset = start }
+
+-- why a list that is the whole of the text isn't read
+abbrev pub FailsWhole : {A : Type 0} → (List ℕ → Result (A × List ℕ) Cause) → ℕ → List ℕ → ModuleError → Type 0
+FailsWhole at start text e =
+    ((cause : Cause) × (e.kind ≡ fault_of cause) × (((unsigned_at 32 text ≡ Err cause) × (e.offset ≡ start)) ⊎ StopsList at start text cause e.offset))
+    ⊎ ((e.kind ≡ faults.TrailingBytes) × GoesOn at start text e.offset)
+    ⊎ ((e.kind ≡ faults.Memory) × (e.offset ≡ start))
+
+-- ---- types
+
+unfoldable pub primitive_at : List ℕ → Result (PrimitiveTypeInfo × List ℕ) Cause
+primitive_at bytes = val_type_at bytes >>= λ t. Ok (primitive t.0, t.1)
+
+abbrev pub mark_of : ℕ → ℕ → Option (Unit {0})
+mark_of mark b = if b == mark then Some tt else None
+
+-- that byte
+unfoldable pub mark_at : ℕ → List ℕ → Result (Unit {0} × List ℕ) Cause
+mark_at mark bytes = byte_at bytes >>= λ b. named_at (mark_of mark b.0) b.1
+
+unfoldable pub function_type_at : List ℕ → Result (TypeInfo × List ℕ) Cause
+function_type_at bytes = mark_at 0x60 bytes >>= λ m. list_at primitive_at m.1 >>= λ params. list_at primitive_at params.1 >>= λ returns.
+    Ok (Func (record { params = params.0; returns = returns.0 }), returns.1)
+
+-- ---- tables and memories
+
+-- the flag that has this byte
+abbrev pub flag_of : ℕ → Option (Bool × Bool)
+flag_of b = if b == 0 then Some (false, false) else if b == 1 then Some (false, true) else if b == 4 then Some (true, false) else if b == 5 then Some (true, true) else None
+
+unfoldable pub flag_at : List ℕ → Result ((Bool × Bool) × List ℕ) Cause
+flag_at bytes = byte_at bytes >>= λ b. named_at (flag_of b.0) b.1
+
+unfoldable pub limits_at : List ℕ → Result (Bool × List ℕ) Cause
+limits_at bytes = flag_at bytes >>= λ flag. times_at (bounds flag.0) (unsigned_at 64) flag.1 >>= λ x. Ok (flag.0.0, x.1)
+
+unfoldable pub memory_type_at : List ℕ → Result (MemoryType × List ℕ) Cause
+memory_type_at bytes = limits_at bytes >>= λ wide. Ok (record { memory64 = wide.0 }, wide.1)
+
+-- the reference type that has this byte
+abbrev pub element_of : ℕ → Option ElementType
+element_of b = if b == 0x70 then Some elements.Func else if b == 0x6f then Some elements.Extern else None
+
+unfoldable pub element_at : List ℕ → Result (ElementType × List ℕ) Cause
+element_at bytes = byte_at bytes >>= λ b. named_at (element_of b.0) b.1
+
+unfoldable pub table_type_at : List ℕ → Result (TableType × List ℕ) Cause
+table_type_at bytes = element_at bytes >>= λ element. limits_at element.1 >>= λ wide. Ok (record { element_type = element.0; table64 = wide.0 }, wide.1)
+
+-- ---- globals
+
+-- whether the byte says that a global may be written
+abbrev pub mutable_of : ℕ → Option Bool
+mutable_of b = if b == 0 then Some false else if b == 1 then Some true else None
+
+unfoldable pub mutable_at : List ℕ → Result (Bool × List ℕ) Cause
+mutable_at bytes = byte_at bytes >>= λ b. named_at (mutable_of b.0) b.1
+
+unfoldable pub global_type_at : List ℕ → Result (PrimitiveTypeInfo × List ℕ) Cause
+global_type_at bytes = primitive_at bytes >>= λ type. mutable_at type.1 >>= λ m. Ok (type.0, m.1)
+
+-- at most so many operators, up to and with the first `end`
+unfoldable pub end_at : ℕ → List ℕ → Result (Unit {0} × List ℕ) Cause
+end_at zero bytes = Err Truncated
+end_at (suc most) bytes = operator_at bytes >>= λ x. if is_end x.0 then Ok (tt, x.1) else end_at most x.1
+
+-- (each operator has a byte or more)
+unfoldable pub initialiser_at : List ℕ → Result (Unit {0} × List ℕ) Cause
+initialiser_at bytes = end_at (suc (length bytes)) bytes
+
+unfoldable pub global_at : List ℕ → Result (PrimitiveTypeInfo × List ℕ) Cause
+global_at bytes = global_type_at bytes >>= λ type. initialiser_at type.1 >>= λ x. Ok (type.0, x.1)
+
+-- ---- imports
+
+-- what follows so many bytes
+unfoldable pub skip_at : ℕ → List ℕ → Result (Unit {0} × List ℕ) Cause
+skip_at n bytes = bytes_at n bytes >>= λ b. Ok (tt, b.1)
+
+unfoldable pub name_at : List ℕ → Result (Unit {0} × List ℕ) Cause
+name_at bytes = unsigned_at 32 bytes >>= λ n. skip_at n.0 n.1
+
+unfoldable pub external_at : List ℕ → Result (Import × List ℕ) Cause
+external_at bytes = byte_at bytes >>= λ b.
+    if b.0 == 0x00 then (unsigned_at 32 b.1 >>= λ n. Ok (imports.Function n.0, n.1))
+    else if b.0 == 0x01 then (table_type_at b.1 >>= λ t. Ok (imports.Table t.0, t.1))
+    else if b.0 == 0x02 then (memory_type_at b.1 >>= λ t. Ok (imports.Memory t.0, t.1))
+    else if b.0 == 0x03 then (global_type_at b.1 >>= λ t. Ok (imports.Global t.0, t.1))
+    else if b.0 == 0x04 then (mark_at 0x00 b.1 >>= λ m. unsigned_at 32 m.1 >>= λ n. Ok (imports.Tag n.0, n.1))
+    else Err BadImmediate
+
+unfoldable pub import_at : List ℕ → Result (Import × List ℕ) Cause
+import_at bytes = name_at bytes >>= λ first. name_at first.1 >>= λ name. external_at name.1
+
+-- ---- entries and groups of locals
+
+-- a number, and how many bytes spell it
+unfoldable pub measured_at : {A : Type 0} → (List ℕ → Result (A × List ℕ) Cause) → List ℕ → Result ((A × ℕ) × List ℕ) Cause
+measured_at at bytes = at bytes >>= λ x. Ok ((x.0, length bytes - length x.1), x.1)
+
+unfoldable pub sized_at : List ℕ → Result ((ℕ × ℕ) × List ℕ) Cause
+sized_at bytes = measured_at (unsigned_at 32) bytes >>= λ size. bytes_at size.0.0 size.1 >>= λ b. Ok (size.0, b.1)
+
+-- the entry of that size that starts at the offset
+abbrev pub entry_of : ℕ → ℕ × ℕ → Entry
+entry_of start size = record { start = start; contents = start + size.1; end = start + size.1 + size.0 }
+
+-- an entry, in bytes that end at the offset
+unfoldable pub entry_at : ℕ → List ℕ → Result (Entry × List ℕ) Cause
+entry_at to bytes = sized_at bytes >>= λ size. Ok (entry_of (to - length bytes) size.0, size.1)
+
+unfoldable pub group_at : List ℕ → Result ((ℕ × PrimitiveTypeInfo) × List ℕ) Cause
+group_at bytes = unsigned_at 32 bytes >>= λ n. primitive_at n.1 >>= λ type. Ok ((n.0, type.0), type.1)
+
+-- the groups are read, aren't too many with the types before them, and the types are with theirs
+pub record ReadsGroups (before : List PrimitiveTypeInfo) (number : ℕ) (bytes : List ℕ) (types : List PrimitiveTypeInfo) (rest : List ℕ) : Type 0 where
+  pub groups : List (ℕ × PrimitiveTypeInfo)
+  pub reads : each_at number group_at bytes ≡ Ok (groups, rest)
+  pub few : AreFew before groups
+  pub all : types ≡ before ++ types_of groups
+
+-- some groups are read, fewer than there are, and so many bytes are left
+pub record IsAfterGroups (before : List PrimitiveTypeInfo) (number : ℕ) (bytes : List ℕ) (left : ℕ) (groups : List (ℕ × PrimitiveTypeInfo)) (rest : List ℕ) : Type 0 where
+  pub passed : ℕ
+  pub fewer : passed < number
+  pub reads : each_at passed group_at bytes ≡ Ok (groups, rest)
+  pub few : AreFew before groups
+  pub is_left : left ≡ length rest
+
+-- the next one fails
+pub record FailsGroups (before : List PrimitiveTypeInfo) (number : ℕ) (bytes : List ℕ) (cause : Cause) (left : ℕ) : Type 0 where
+  pub groups : List (ℕ × PrimitiveTypeInfo)
+  pub rest : List ℕ
+  pub place : IsAfterGroups before number bytes left groups rest
+  pub fails : group_at rest ≡ Err cause
+
+-- with the next one there are too many
+pub record HasTooMany (before : List PrimitiveTypeInfo) (number : ℕ) (bytes : List ℕ) (left : ℕ) : Type 0 where
+  pub groups : List (ℕ × PrimitiveTypeInfo)
+  pub rest : List ℕ
+  pub place : IsAfterGroups before number bytes left groups rest
+  pub group : ℕ × PrimitiveTypeInfo
+  pub behind : List ℕ
+  pub next : group_at rest ≡ Ok (group, behind)
+  pub many : 50000 < length before + locals_in groups + group.0
+
+abbrev pub FailsGroupsBy : List PrimitiveTypeInfo → ℕ → List ℕ → Refusal → ℕ → Type 0
+FailsGroupsBy before number bytes (refusals.Bytes cause) left = FailsGroups before number bytes cause left
+FailsGroupsBy before number bytes refusals.Memory left = Unit {0}
+
+abbrev pub StopsGroups : List PrimitiveTypeInfo → ℕ → List ℕ → GroupStop → Type 0
+StopsGroups before number bytes (stops.Refused s) = FailsGroupsBy before number bytes s.refusal s.left
+StopsGroups before number bytes (stops.TooMany left) = HasTooMany before number bytes left
+
+abbrev pub left_of : GroupStop → ℕ
+left_of (stops.Refused s) = s.left
+left_of (stops.TooMany left) = left
+
+abbrev pub group_error_at : GroupStop → ℕ → ℕ → ModuleError
+group_error_at (stops.Refused s) offset start = error_at s.refusal offset start
+group_error_at (stops.TooMany left) offset start = record { kind = faults.TooManyLocals; offset = offset }

@@ -1,0 +1,44 @@
+-- Limits, table types and memory types (WebAssembly Core Specification 3.0, Binary Format, Types, Limits, Memory Types and
+-- Table Types).
+use Rattle.std.specs.Prelude.{ℕ, ◌+◌, List, Bool, true, false, if◌then◌else◌}
+use Rattle.mutate_base.specs.declared.types.ElementType.{ElementType}
+use Rattle.mutate_base.specs.declared.types.ElementType.TheVariants.{Func, Extern}
+use Rattle.mutate_base.specs.declared.types.TableType.{TableType}
+use Rattle.mutate_base.specs.declared.types.MemoryType.{MemoryType}
+use Rattle.wasm_code.specs.declared.fault.Cause.{Cause}
+use Rattle.wasm_code.specs.Grammar.{IsCode, FailsCode, Of, Then, FailsThen, Times, FailsTimes}
+use Rattle.wasm_code.specs.Number.{SpellsUnsigned, FailsUnsigned}
+
+-- the byte of a flag, which says whether 64 bits index (first), and whether a maximum follows the minimum (second)
+abbrev pub flag_code : Bool × Bool → ℕ
+flag_code flag = (if flag.0 then 4 else 0) + (if flag.1 then 1 else 0)
+
+-- how many numbers follow the flag
+abbrev pub bounds : Bool × Bool → ℕ
+bounds flag = if flag.1 then 2 else 1
+
+-- A flag, the minimum, and the maximum where the flag says so; kept is whether 64 bits index.
+abbrev pub SpellsLimits : List ℕ → Bool → Type 0
+SpellsLimits = Then (IsCode flag_code) (λ flag. Of (λ _. flag.0) (Times (bounds flag) (SpellsUnsigned 64)))
+
+abbrev pub FailsLimits : List ℕ → Cause → Type 0
+FailsLimits = FailsThen (FailsCode flag_code) (IsCode flag_code) (λ flag. FailsTimes (bounds flag) (FailsUnsigned 64) (SpellsUnsigned 64))
+
+-- The limits.
+abbrev pub SpellsMemoryType : List ℕ → MemoryType → Type 0
+SpellsMemoryType = Of (λ wide. record { memory64 = wide }) SpellsLimits
+
+abbrev pub FailsMemoryType : List ℕ → Cause → Type 0
+FailsMemoryType = FailsLimits
+
+-- the byte of a reference type
+abbrev pub element_code : ElementType → ℕ
+element_code Func = 0x70
+element_code Extern = 0x6f
+
+-- A reference type, and the limits.
+abbrev pub SpellsTableType : List ℕ → TableType → Type 0
+SpellsTableType = Then (IsCode element_code) (λ element. Of (λ wide. record { element_type = element; table64 = wide }) SpellsLimits)
+
+abbrev pub FailsTableType : List ℕ → Cause → Type 0
+FailsTableType = FailsThen (FailsCode element_code) (IsCode element_code) (λ _. FailsLimits)

@@ -1,0 +1,130 @@
+//! Globals.
+ghost use Rattle.std.specs.Prelude.{◌≡◌, ◌≤◌, ◌+◌, List, length, IfOk, IfErr, MatchResult};
+ghost use Rattle.mutate_base.specs.declared.types.PrimitiveTypeInfo.{PrimitiveTypeInfo};
+ghost use Rattle.wasm_code.specs.Body.{is_end};
+ghost use Rattle.wasm_code.specs.Reader.{Gives};
+ghost use Rattle.wasm_declarations.specs.Globals.{SpellsGlobal, FailsGlobal};
+ghost use Rattle.wasm_declarations.specs.List.{SpellsList, IsListFault};
+ghost use Rattle.wasm_declarations.specs.Reader.{mutable_of, mutable_at, global_type_at, initialiser_at, global_at};
+ghost use Rattle.wasm_sections.specs.declared.fault.ModuleFault.TheVariants.{Memory};
+
+use crate::item::Item;
+use crate::list::read_list;
+use crate::refusal::Refusal;
+use crate::types::primitive_from;
+use mutate_base::PrimitiveTypeInfo;
+use std::alloc::Global;
+use wasm_code::laws::parts_are_read;
+use wasm_code::{Cause, Operator, byte_of, operator_from};
+use wasm_sections::ModuleError;
+
+/// Whether a global may be written.
+fn mutable(b: u8) -> Option<bool>
+    ensures { result ≡ mutable_of b }
+{
+    match b {
+        0x00 => Some(false),
+        0x01 => Some(true),
+        _ => None,
+    }
+}
+
+#[tactic(auto, unfolding(crate::specs::Reader::mutable_at))]
+fn mutable_from(bytes: &[u8]) -> Result<(bool, &[u8]), Cause>
+    ensures { Gives (λ x. (x.0, x.1.now)) result (mutable_at bytes.now) }
+{
+    let (b, rest) = byte_of(bytes)?;
+    match mutable(b) {
+        Some(found) => Ok((found, rest)),
+        None => Err(Cause::BadImmediate),
+    }
+}
+
+/// A global type, and what follows it.
+#[tactic(auto, unfolding(crate::specs::Reader::global_type_at))]
+pub fn global_type_from(bytes: &[u8]) -> Result<(PrimitiveTypeInfo, &[u8]), Cause>
+    ensures { Gives (λ x. (x.0, x.1.now)) result (global_type_at bytes.now) }
+{
+    let (ty, rest) = primitive_from(bytes)?;
+    let (_mutable, rest) = mutable_from(rest)?;
+    Ok((ty, rest))
+}
+
+fn is_end_of(operator: &Operator) -> bool
+    ensures { result ≡ is_end operator.now }
+{
+    matches!(operator, Operator::End)
+}
+
+/// What follows an initialiser: the operators up to and with the first `end`.
+fn past_initialiser(bytes: &[u8]) -> Result<&[u8], Cause>
+    ensures { Gives (λ x. (tt, x.now)) result (initialiser_at bytes.now) }
+{
+    parts_are_read();
+    let mut rest = bytes;
+    loop {
+        match operator_from(rest) {
+            Ok((operator, behind)) => {
+                if is_end_of(&operator) {
+                    return Ok(behind);
+                }
+                rest = behind;
+            }
+            Err(cause) => return Err(cause),
+        }
+    }
+}
+
+/// The type of a global, and what follows its initialiser.
+#[tactic(auto, unfolding(crate::specs::Reader::global_at))]
+fn global_from(bytes: &[u8]) -> Result<(PrimitiveTypeInfo, &[u8]), Cause>
+    ensures { Gives (λ x. (x.0, x.1.now)) result (global_at bytes.now) }
+{
+    let (ty, rest) = global_type_from(bytes)?;
+    let rest = past_initialiser(rest)?;
+    Ok((ty, rest))
+}
+
+/// Globals.
+struct Globals;
+
+impl Item for Globals {
+    type Value = PrimitiveTypeInfo;
+
+    ghost at = { global_at };
+
+    fn read(_alloc: Global, bytes: &[u8]) -> Result<(PrimitiveTypeInfo, &[u8]), Refusal> {
+        parts_are_read();
+        Ok(global_from(bytes)?)
+    }
+}
+
+/// Reads the types of the globals that a global section lists. `contents` are the section's contents, whose first byte has the
+/// offset `start` in the module (WebAssembly Core Specification 3.0, Binary Format, Modules, Global Section).
+///
+/// It accepts exactly a list of globals with nothing behind it, each a global type and operators up to the first `end`, since a
+/// constant expression holds no block. The operators' types aren't checked, and neither is kept whether a global may be written.
+///
+/// An error names the first fault from the left and where the global at fault starts, or `start` where the number of the
+/// globals is at fault: `Truncated` where the contents end inside it, `BadInteger` where a number has too many bytes or
+/// doesn't fit, `UnknownForm` where a byte stands for no value type, another byte than 0 or 1 stands behind it, or an
+/// operator's whole immediate names nothing, `UnknownOpcode` where no operator has an opcode; `TrailingBytes` at the first
+/// byte behind the globals; `Memory` at `start` where no memory was left.
+pub fn read_globals(
+    alloc: Global,
+    contents: &[u8],
+    start: usize,
+) -> Result<Vec<PrimitiveTypeInfo>, ModuleError>
+    requires { start + length contents.now ≤ usize.MAX }
+    // What is read is spelled so.
+    ensures found { IfOk result (λ v. SpellsList SpellsGlobal contents.now v.items) }
+    // What is spelled so is read, unless memory runs out.
+    ensures only { (xs : List PrimitiveTypeInfo) → SpellsList SpellsGlobal contents.now xs
+        → MatchResult result (λ v. v.items ≡ xs) (λ e. e.kind ≡ Memory) }
+    // What doesn't come from memory is the first fault.
+    ensures fault { IfErr result (λ e.
+        IsListFault SpellsGlobal FailsGlobal start contents.now e.kind e.offset) }
+{
+    parts_are_read();
+    read_list::<Globals>(alloc, contents, start)
+}

@@ -1,0 +1,24 @@
+//! What the sections of a WebAssembly module list: types, imports, functions, tables, memories, globals, and the entries of
+//! the code with their locals.
+#![tactic(auto)]
+
+mod entries;
+mod globals;
+mod import;
+mod imports;
+mod item;
+mod list;
+mod locals;
+mod refusal;
+mod tables;
+#[cfg(test)]
+mod tests;
+mod types;
+
+pub use entries::{Entry, read_entries};
+pub use globals::read_globals;
+pub use import::Import;
+pub use imports::{read_functions, read_imports};
+pub use locals::{Locals, read_locals};
+pub use tables::{read_memories, read_tables};
+pub use types::read_types;

@@ -1,0 +1,182 @@
+//! Limits, tables and memories.
+ghost use Rattle.std.specs.Prelude.{◌≡◌, ◌≤◌, ◌+◌, List, length, IfOk, IfErr, MatchResult};
+ghost use Rattle.mutate_base.specs.declared.types.MemoryType.{MemoryType};
+ghost use Rattle.mutate_base.specs.declared.types.TableType.{TableType};
+ghost use Rattle.wasm_code.specs.Reader.{Gives};
+ghost use Rattle.wasm_declarations.specs.List.{SpellsList, IsListFault};
+ghost use Rattle.wasm_declarations.specs.Reader.{flag_of, flag_at, limits_at, element_of, element_at, table_type_at, memory_type_at};
+ghost use Rattle.wasm_declarations.specs.Tables.{SpellsTableType, FailsTableType, SpellsMemoryType, FailsMemoryType};
+ghost use Rattle.wasm_sections.specs.declared.fault.ModuleFault.TheVariants.{Memory};
+
+use crate::item::Item;
+use crate::list::read_list;
+use crate::refusal::Refusal;
+use mutate_base::{ElementType, MemoryType, TableType};
+use std::alloc::Global;
+use wasm_code::{Cause, byte_of, u64_of};
+use wasm_sections::ModuleError;
+
+/// Whether 64 bits index, and whether a maximum follows the minimum.
+fn flag(b: u8) -> Option<(bool, bool)>
+    ensures { result ≡ flag_of b }
+{
+    match b {
+        0x00 => Some((false, false)),
+        0x01 => Some((false, true)),
+        0x04 => Some((true, false)),
+        0x05 => Some((true, true)),
+        _ => None,
+    }
+}
+
+#[tactic(auto, unfolding(crate::specs::Reader::flag_at))]
+fn flag_from(bytes: &[u8]) -> Result<((bool, bool), &[u8]), Cause>
+    ensures { Gives (λ x. (x.0, x.1.now)) result (flag_at bytes.now) }
+{
+    let (b, rest) = byte_of(bytes)?;
+    match flag(b) {
+        Some(found) => Ok((found, rest)),
+        None => Err(Cause::BadImmediate),
+    }
+}
+
+/// Whether 64 bits index, as limits say, and what follows them.
+#[tactic(auto, unfolding(crate::specs::Reader::limits_at, wasm_code::specs::Reader::times_at))]
+fn limits_from(bytes: &[u8]) -> Result<(bool, &[u8]), Cause>
+    ensures { Gives (λ x. (x.0, x.1.now)) result (limits_at bytes.now) }
+{
+    let ((wide, bounded), rest) = flag_from(bytes)?;
+    let (_minimum, rest) = u64_of(rest)?;
+    if !bounded {
+        return Ok((wide, rest));
+    }
+    let (_maximum, rest) = u64_of(rest)?;
+    Ok((wide, rest))
+}
+
+fn element(b: u8) -> Option<ElementType>
+    ensures { result ≡ element_of b }
+{
+    match b {
+        0x70 => Some(ElementType::Func),
+        0x6f => Some(ElementType::Extern),
+        _ => None,
+    }
+}
+
+#[tactic(auto, unfolding(crate::specs::Reader::element_at))]
+fn element_from(bytes: &[u8]) -> Result<(ElementType, &[u8]), Cause>
+    ensures { Gives (λ x. (x.0, x.1.now)) result (element_at bytes.now) }
+{
+    let (b, rest) = byte_of(bytes)?;
+    match element(b) {
+        Some(found) => Ok((found, rest)),
+        None => Err(Cause::BadImmediate),
+    }
+}
+
+/// A table type, and what follows it.
+#[tactic(auto, unfolding(crate::specs::Reader::table_type_at))]
+pub fn table_type_from(bytes: &[u8]) -> Result<(TableType, &[u8]), Cause>
+    ensures { Gives (λ x. (x.0, x.1.now)) result (table_type_at bytes.now) }
+{
+    let (element_type, rest) = element_from(bytes)?;
+    let (table64, rest) = limits_from(rest)?;
+    Ok((
+        TableType {
+            element_type,
+            table64,
+        },
+        rest,
+    ))
+}
+
+/// A memory type, and what follows it.
+#[tactic(auto, unfolding(crate::specs::Reader::memory_type_at))]
+pub fn memory_type_from(bytes: &[u8]) -> Result<(MemoryType, &[u8]), Cause>
+    ensures { Gives (λ x. (x.0, x.1.now)) result (memory_type_at bytes.now) }
+{
+    let (memory64, rest) = limits_from(bytes)?;
+    Ok((MemoryType { memory64 }, rest))
+}
+
+/// Tables.
+struct Tables;
+
+impl Item for Tables {
+    type Value = TableType;
+
+    ghost at = { table_type_at };
+
+    fn read(_alloc: Global, bytes: &[u8]) -> Result<(TableType, &[u8]), Refusal> {
+        Ok(table_type_from(bytes)?)
+    }
+}
+
+/// Memories.
+struct Memories;
+
+impl Item for Memories {
+    type Value = MemoryType;
+
+    ghost at = { memory_type_at };
+
+    fn read(_alloc: Global, bytes: &[u8]) -> Result<(MemoryType, &[u8]), Refusal> {
+        Ok(memory_type_from(bytes)?)
+    }
+}
+
+/// Reads the tables that a table section lists. `contents` are the section's contents, whose first byte has the offset
+/// `start` in the module (WebAssembly Core Specification 3.0, Binary Format, Modules, Table Section).
+///
+/// It accepts exactly a list of table types of functions or of outer references, with nothing behind it: a table with an
+/// initialiser is not known here. The limits aren't kept.
+///
+/// An error names the first fault from the left and where the table at fault starts, or `start` where the number of the
+/// tables is at fault: `Truncated` where the contents end inside it, `BadInteger` where a number has too many bytes or doesn't
+/// fit, `UnknownForm` where a byte stands for no reference type or no limits; `TrailingBytes` at the first byte behind the
+/// tables; `Memory` at `start` where no memory was left.
+pub fn read_tables(
+    alloc: Global,
+    contents: &[u8],
+    start: usize,
+) -> Result<Vec<TableType>, ModuleError>
+    requires { start + length contents.now ≤ usize.MAX }
+    // What is read is spelled so.
+    ensures found { IfOk result (λ v. SpellsList SpellsTableType contents.now v.items) }
+    // What is spelled so is read, unless memory runs out.
+    ensures only { (xs : List TableType) → SpellsList SpellsTableType contents.now xs
+        → MatchResult result (λ v. v.items ≡ xs) (λ e. e.kind ≡ Memory) }
+    // What doesn't come from memory is the first fault.
+    ensures fault { IfErr result (λ e.
+        IsListFault SpellsTableType FailsTableType start contents.now e.kind e.offset) }
+{
+    read_list::<Tables>(alloc, contents, start)
+}
+
+/// Reads the memories that a memory section lists. `contents` are the section's contents, whose first byte has the offset
+/// `start` in the module (WebAssembly Core Specification 3.0, Binary Format, Modules, Memory Section).
+///
+/// It accepts exactly a list of memory types, with nothing behind it. The limits aren't kept.
+///
+/// An error names the first fault from the left and where the memory at fault starts, or `start` where the number of the
+/// memories is at fault: `Truncated` where the contents end inside it, `BadInteger` where a number has too many bytes or
+/// doesn't fit, `UnknownForm` where a byte stands for no limits; `TrailingBytes` at the first byte behind the memories;
+/// `Memory` at `start` where no memory was left.
+pub fn read_memories(
+    alloc: Global,
+    contents: &[u8],
+    start: usize,
+) -> Result<Vec<MemoryType>, ModuleError>
+    requires { start + length contents.now ≤ usize.MAX }
+    // What is read is spelled so.
+    ensures found { IfOk result (λ v. SpellsList SpellsMemoryType contents.now v.items) }
+    // What is spelled so is read, unless memory runs out.
+    ensures only { (xs : List MemoryType) → SpellsList SpellsMemoryType contents.now xs
+        → MatchResult result (λ v. v.items ≡ xs) (λ e. e.kind ≡ Memory) }
+    // What doesn't come from memory is the first fault.
+    ensures fault { IfErr result (λ e.
+        IsListFault SpellsMemoryType FailsMemoryType start contents.now e.kind e.offset) }
+{
+    read_list::<Memories>(alloc, contents, start)
+}

@@ -1,0 +1,230 @@
+//! Sections by hand, with values from the standard.
+use crate::{
+    Entry, Import, Locals, read_entries, read_functions, read_globals, read_imports, read_locals,
+    read_memories, read_tables, read_types,
+};
+use mutate_base::{ElementType, MemoryType, PrimitiveTypeInfo, TableType, TypeInfo};
+use std::test::Fail;
+use wasm_sections::{ModuleError, ModuleFault};
+
+fn error<T>(answer: Result<T, ModuleError>) -> Option<(ModuleFault, usize)>
+where
+    T: Drop,
+{
+    match answer {
+        Ok(_) => None,
+        Err(e) => Some((e.kind, e.offset)),
+    }
+}
+
+#[test]
+fn two_types(rt: HostRuntime) -> Result<(), Fail> {
+    // (func (param i32 i64) (result f32)) and (func)
+    let contents = [0x02, 0x60, 0x02, 0x7f, 0x7e, 0x01, 0x7d, 0x60, 0x00, 0x00];
+    let types = read_types(rt.alloc(), contents.as_slice(), 10)?;
+    assert_eq!(rt; types.len(), 2);
+    let TypeInfo::Func(first) = &types[0];
+    assert_eq!(rt;
+        first.params.as_slice(),
+        [PrimitiveTypeInfo::I32, PrimitiveTypeInfo::I64].as_slice()
+    );
+    assert_eq!(rt;
+        first.returns.as_slice(),
+        [PrimitiveTypeInfo::F32].as_slice()
+    );
+    let TypeInfo::Func(second) = &types[1];
+    assert_eq!(rt; second.params.len() + second.returns.len(), 0);
+    // a recursive group, and a value type that isn't one
+    assert_eq!(rt;
+        error(read_types(rt.alloc(), [0x01, 0x4e, 0x00].as_slice(), 10)),
+        Some((ModuleFault::UnknownForm, 11))
+    );
+    let bad = [0x02, 0x60, 0x00, 0x00, 0x60, 0x01, 0x40, 0x00];
+    assert_eq!(rt;
+        error(read_types(rt.alloc(), bad.as_slice(), 10)),
+        Some((ModuleFault::UnknownForm, 14))
+    );
+    Ok(())
+}
+
+#[test]
+fn imports_of_each_kind(rt: HostRuntime) -> Result<(), Fail> {
+    let contents = [
+        0x05, // "m" "f", the function of type 3
+        0x01, b'm', 0x01, b'f', 0x00, 0x03, // "" "t", a table of 2 to 5 functions
+        0x00, 0x01, b't', 0x01, 0x70, 0x01, 0x02, 0x05, // "" "", a memory that 64 bits index
+        0x00, 0x00, 0x02, 0x04, 0x80, 0x01, // "" "", a global of type i64 that may be written
+        0x00, 0x00, 0x03, 0x7e, 0x01, // "" "", a tag of type 9
+        0x00, 0x00, 0x04, 0x00, 0x09,
+    ];
+    let imports = read_imports(rt.alloc(), contents.as_slice(), 100)?;
+    let table = TableType {
+        element_type: ElementType::Func,
+        table64: false,
+    };
+    let expected = [
+        Import::Function(3),
+        Import::Table(table),
+        Import::Memory(MemoryType { memory64: true }),
+        Import::Global(PrimitiveTypeInfo::I64),
+        Import::Tag(9),
+    ];
+    assert!(rt; imports.as_slice() == expected.as_slice());
+    let unknown = [0x01, 0x00, 0x00, 0x05, 0x00];
+    assert_eq!(rt;
+        error(read_imports(rt.alloc(), unknown.as_slice(), 100)),
+        Some((ModuleFault::UnknownForm, 101))
+    );
+    Ok(())
+}
+
+#[test]
+fn limits_of_each_form(rt: HostRuntime) -> Result<(), Fail> {
+    let memories = [
+        0x04, 0x00, 0x01, 0x01, 0x01, 0x02, 0x04, 0x01, 0x05, 0x01, 0x02,
+    ];
+    let found = read_memories(rt.alloc(), memories.as_slice(), 0)?;
+    let narrow = MemoryType { memory64: false };
+    let wide = MemoryType { memory64: true };
+    assert!(rt; found.as_slice() == [narrow, narrow, wide, wide].as_slice());
+    // shared memories aren't known
+    assert_eq!(rt;
+        error(read_memories(rt.alloc(), [0x01, 0x03, 0x01, 0x02].as_slice(), 0)),
+        Some((ModuleFault::UnknownForm, 1))
+    );
+    let tables = [0x02, 0x70, 0x00, 0x00, 0x6f, 0x05, 0x01, 0x02];
+    let found = read_tables(rt.alloc(), tables.as_slice(), 0)?;
+    assert_eq!(rt; found.len(), 2);
+    assert!(rt; found[0].element_type == ElementType::Func && !found[0].table64);
+    assert!(rt; found[1].element_type == ElementType::Extern && found[1].table64);
+    // neither are tables with an initialiser
+    let filled = [0x01, 0x40, 0x00, 0x70, 0x00, 0x00, 0xd0, 0x70, 0x0b];
+    assert_eq!(rt;
+        error(read_tables(rt.alloc(), filled.as_slice(), 0)),
+        Some((ModuleFault::UnknownForm, 1))
+    );
+    Ok(())
+}
+
+#[test]
+fn globals_with_initialisers(rt: HostRuntime) -> Result<(), Fail> {
+    let contents = [
+        0x03, // i32, i32.const 5
+        0x7f, 0x00, 0x41, 0x05, 0x0b, // i64, to be written, global.get 0, i64.const 1, i64.add
+        0x7e, 0x01, 0x23, 0x00, 0x42, 0x01, 0x7c, 0x0b, // funcref, ref.null func
+        0x70, 0x00, 0xd0, 0x70, 0x0b,
+    ];
+    let globals = read_globals(rt.alloc(), contents.as_slice(), 7)?;
+    let expected = [
+        PrimitiveTypeInfo::I32,
+        PrimitiveTypeInfo::I64,
+        PrimitiveTypeInfo::FuncRef,
+    ];
+    assert!(rt; globals.as_slice() == expected.as_slice());
+    assert_eq!(rt;
+        error(read_globals(rt.alloc(), [0x01, 0x7f, 0x00, 0xff, 0x0b].as_slice(), 7)),
+        Some((ModuleFault::UnknownOpcode, 8))
+    );
+    assert_eq!(rt;
+        error(read_globals(rt.alloc(), [0x01, 0x7f, 0x00, 0x41, 0x05].as_slice(), 7)),
+        Some((ModuleFault::Truncated, 8))
+    );
+    assert_eq!(rt;
+        error(read_globals(rt.alloc(), [0x01, 0x7f, 0x02, 0x0b].as_slice(), 7)),
+        Some((ModuleFault::UnknownForm, 8))
+    );
+    Ok(())
+}
+
+#[test]
+fn entries_with_offsets(rt: HostRuntime) -> Result<(), Fail> {
+    // an empty body, and one whose size takes two bytes
+    let contents = [0x02, 0x02, 0x00, 0x0b, 0x83, 0x00, 0x00, 0x01, 0x0b];
+    let entries = read_entries(rt.alloc(), contents.as_slice(), 1000)?;
+    let first = Entry {
+        start: 1001,
+        contents: 1002,
+        end: 1004,
+    };
+    let second = Entry {
+        start: 1004,
+        contents: 1006,
+        end: 1009,
+    };
+    assert!(rt; entries.as_slice() == [first, second].as_slice());
+    assert_eq!(rt;
+        error(read_entries(rt.alloc(), [0x01, 0x02, 0x0b].as_slice(), 1000)),
+        Some((ModuleFault::Truncated, 1001))
+    );
+    Ok(())
+}
+
+#[test]
+fn locals_with_groups(rt: HostRuntime) -> Result<(), Fail> {
+    // two groups, (local i64 i64) (local f64), and `end`
+    let contents = [0x02, 0x02, 0x7e, 0x01, 0x7c, 0x0b];
+    let params = [PrimitiveTypeInfo::I32];
+    let Locals { types, expression } = read_locals(
+        rt.alloc(),
+        params.as_slice(),
+        contents.as_slice(),
+        20,
+    )?;
+    let expected = [
+        PrimitiveTypeInfo::I32,
+        PrimitiveTypeInfo::I64,
+        PrimitiveTypeInfo::I64,
+        PrimitiveTypeInfo::F64,
+    ];
+    assert!(rt; types.as_slice() == expected.as_slice());
+    assert_eq!(rt; expression, 25);
+    Ok(())
+}
+
+#[test]
+fn too_many_locals(rt: HostRuntime) -> Result<(), Fail> {
+    // one parameter, and 49,999 locals or one more, in two groups
+    let most = [0x02, 0x01, 0x7f, 0xce, 0x86, 0x03, 0x7f, 0x0b];
+    let params = [PrimitiveTypeInfo::I32];
+    let locals = read_locals(rt.alloc(), params.as_slice(), most.as_slice(), 20)?;
+    assert_eq!(rt; locals.types.len(), 50_000);
+    let more = [0x02, 0x01, 0x7f, 0xcf, 0x86, 0x03, 0x7f, 0x0b];
+    assert_eq!(rt;
+        error(read_locals(rt.alloc(), params.as_slice(), more.as_slice(), 20)),
+        Some((ModuleFault::TooManyLocals, 23))
+    );
+    let hostile = [0x01, 0xff, 0xff, 0xff, 0xff, 0x0f, 0x7f, 0x0b];
+    assert_eq!(rt;
+        error(read_locals(rt.alloc(), params.as_slice(), hostile.as_slice(), 20)),
+        Some((ModuleFault::TooManyLocals, 21))
+    );
+    Ok(())
+}
+
+#[test]
+fn counts_that_lie(rt: HostRuntime) -> Result<(), Fail> {
+    // more items than bytes, for which no memory is taken
+    let hostile = [0xff, 0xff, 0xff, 0xff, 0x0f];
+    assert_eq!(rt;
+        error(read_functions(rt.alloc(), hostile.as_slice(), 50)),
+        Some((ModuleFault::Truncated, 55))
+    );
+    // fewer than there are
+    assert_eq!(rt;
+        error(read_functions(rt.alloc(), [0x01, 0x00, 0x07].as_slice(), 50)),
+        Some((ModuleFault::TrailingBytes, 52))
+    );
+    // a count of six bytes, and none
+    let long = [0x80, 0x80, 0x80, 0x80, 0x80, 0x00];
+    assert_eq!(rt;
+        error(read_functions(rt.alloc(), long.as_slice(), 50)),
+        Some((ModuleFault::BadInteger, 50))
+    );
+    assert_eq!(rt;
+        error(read_functions(rt.alloc(), [].as_slice(), 50)),
+        Some((ModuleFault::Truncated, 50))
+    );
+    let functions = read_functions(rt.alloc(), [0x02, 0x00, 0x07].as_slice(), 50)?;
+    assert_eq!(rt; functions.as_slice(), [0, 7].as_slice());
+    Ok(())
+}

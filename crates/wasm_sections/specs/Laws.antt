@@ -1,0 +1,16 @@
+-- Modules by what their sections contain, and where their sections stand (this project).
+use Rattle.std.specs.Prelude.{◌≡◌, ℕ, ◌<◌, ◌≤◌, List, [], ◌∷◌}
+use Rattle.wasm_sections.specs.declared.id.SectionId.{SectionId}
+use Rattle.wasm_sections.specs.declared.section.Section.{Section}
+use Rattle.wasm_sections.specs.Section.{SpellsModule, parts_of}
+
+-- The bytes spell a module whose sections have these ids and contents.
+pub record SpellsParts (bytes : List ℕ) (parts : List (SectionId × List ℕ)) : Type 0 where
+  pub sections : List Section
+  pub spells : SpellsModule bytes sections
+  pub are : parts_of bytes sections ≡ parts
+
+-- The sections stand one behind another from `from` to `to`, with nothing between them, and each has its contents at its end.
+abbrev pub AreJoined : ℕ → List Section → ℕ → Type 0
+AreJoined from [] to = from ≡ to
+AreJoined from (s ∷ ss) to = (s.start ≡ from) × (s.start < s.contents) × (s.contents ≤ s.end) × AreJoined s.end ss to

@@ -1,0 +1,57 @@
+-- What the parts of a reader answer (this project): for proofs.
+use Rattle.std.specs.Prelude.{◌≡◌, ◌⊎◌, ℕ, ◌<◌, List, ◌++◌, length}
+use Rattle.wasm_code.specs.declared.fault.Cause.{Cause}
+use Rattle.wasm_code.specs.declared.fault.Cause.TheVariants as causes
+use Rattle.wasm_code.specs.Number.{SpellsUnsigned, FailsUnsigned}
+use Rattle.wasm_sections.specs.declared.id.SectionId.{SectionId}
+use Rattle.wasm_sections.specs.declared.id.SectionId.TheVariants as ids
+use Rattle.wasm_sections.specs.declared.section.Section.{Section}
+use Rattle.wasm_sections.specs.declared.fault.ModuleFault.{ModuleFault}
+use Rattle.wasm_sections.specs.declared.fault.ModuleFault.TheVariants as faults
+use Rattle.wasm_sections.specs.Id.{rank_of}
+use Rattle.wasm_sections.specs.Section.{IsNextSection, IsLinkable}
+use Rattle.wasm_sections.specs.Sections.{IsOutOfOrder, IsLinkableSection}
+
+-- the fault of a section whose size is no number for that cause; the last two causes no number has
+abbrev pub kind_of : Cause → ModuleFault
+kind_of causes.Truncated = faults.Truncated
+kind_of causes.BadInteger = faults.BadInteger
+kind_of causes.UnknownOpcode = faults.Truncated
+kind_of causes.BadImmediate = faults.Truncated
+
+-- bytes and the number of them begin the text, and the rest stands behind
+pub record IsCounted (bytes back text : List ℕ) : Type 0 where
+  pub size : List ℕ
+  pub parts : text ≡ size ++ bytes ++ back
+  pub counts : SpellsUnsigned 32 size (length bytes)
+
+-- a number begins the text, and fewer bytes stand behind it
+pub record IsShort (text : List ℕ) : Type 0 where
+  pub size : List ℕ
+  pub back : List ℕ
+  pub count : ℕ
+  pub parts : text ≡ size ++ back
+  pub counts : SpellsUnsigned 32 size count
+  pub short : length back < count
+
+-- no counted bytes begin the text: no number does, or fewer bytes follow it
+abbrev pub FailsCounted : ModuleFault → List ℕ → Type 0
+FailsCounted faults.Truncated text = FailsUnsigned 32 text causes.Truncated ⊎ IsShort text
+FailsCounted faults.BadInteger text = FailsUnsigned 32 text causes.BadInteger
+FailsCounted _ text = ⊥
+
+-- such a section may stand behind one of the rank `last`
+pub record IsAllowed (last : ℕ) (id : SectionId) (contents : List ℕ) : Type 0 where
+  pub ordered : 0 < rank_of id → last < rank_of id
+  pub final : id ≡ ids.Custom → IsLinkable contents → ⊥
+
+-- such a section may not stand there, for that cause
+abbrev pub IsForbidden : ModuleFault → ℕ → SectionId → List ℕ → Type 0
+IsForbidden faults.OutOfOrder last id contents = IsOutOfOrder last id contents
+IsForbidden faults.Linkable last id contents = IsLinkableSection id contents
+IsForbidden _ last id contents = ⊥
+
+-- the section begins the text, may stand there, and `after` stands behind it
+pub record IsAccepted (last start : ℕ) (text : List ℕ) (s : Section) (after : List ℕ) : Type 0 where
+  pub next : IsNextSection (λ end back. back ≡ after) start text s
+  pub allowed : IsAllowed last s.id next.contents
