@@ -1,0 +1,92 @@
+#!/usr/bin/env bash
+# Compiles each module here from its source, and makes the answers of its calls anew: gcc compiles the same source for this
+# machine, and a driver makes the calls of NAME.calls one after another. A call that divides by zero, whose quotient is too large
+# or that reaches a trap of its own has the answer `trap`. A module that is written by hand, NAME.wat, has a twin in C for its
+# answers. Fails where wabt's interpreter gives other answers. The files under version control are those of clang and lld 14.0.6,
+# gcc 12.2.0 and wabt 1.0.32 (Debian 12) on x86-64.
+set -euo pipefail
+cd "$(dirname "$0")"
+source ./calls.sh
+
+common="--target=wasm32 -std=c11 -Wall -Wextra -Werror -ffreestanding -fno-builtin -nostdlib -g0
+    -Wl,--no-entry -Wl,-z,stack-size=4096"
+
+# Each module and what it is compiled with.
+modules="
+hashes: -O2 -Wl,--strip-all
+sorting: -O2 -Wl,--strip-all -Wl,--compress-relocations
+numbers: -O1 -Wl,--strip-all
+mixes: -O2
+text: -O1 -mbulk-memory -msign-ext -Wl,--strip-all
+machine: -O2 -Wl,--strip-all
+plain: -O0 -Wl,--strip-all
+outside:
+"
+
+work=$(mktemp -d)
+trap 'rm -rf "$work"' EXIT
+
+# A program that makes the calls of a module and prints each with its answer.
+driver() {
+    cat <<END
+#include <setjmp.h>
+#include <signal.h>
+#include <stdio.h>
+#include "$PWD/$1.c"
+
+static sigjmp_buf before;
+
+static void trapped(int signal)
+{
+    (void)signal;
+    siglongjmp(before, 1);
+}
+
+static void print_32(const char *text, uint32_t value) { printf("%s => i32:%u\n", text, value); }
+static void print_64(const char *text, uint64_t value) { printf("%s => i64:%llu\n", text, (unsigned long long)value); }
+
+#define PRINTER(call) _Generic((call), int32_t: print_32, uint32_t: print_32, int64_t: print_64, uint64_t: print_64)
+#define CALL(text, call) do { \\
+    if (sigsetjmp(before, 1) == 0) { PRINTER(call)(text, call); } else { puts(text " => trap"); } \\
+} while (0)
+
+int main(void)
+{
+    signal(SIGFPE, trapped);
+    signal(SIGILL, trapped);
+    signal(SIGTRAP, trapped);
+END
+    awk '!/^[#!]/ {
+        arguments = ""
+        text = $1
+        for (i = 2; i <= NF && $i != "=>"; i++) {
+            split($i, part, ":")
+            text = text " " $i
+            arguments = arguments (i > 2 ? ", " : "") part[2] (part[1] == "i64" ? "ull" : "u")
+        }
+        printf "    CALL(\"%s\", %s(%s));\n", text, $1, arguments
+    }' "$1.calls"
+    echo "}"
+}
+
+while IFS=: read -r name flags; do
+    if [ -z "$name" ]; then continue; fi
+    if [ -e "$name.wat" ]; then
+        wat2wasm --debug-names "$name.wat" -o "$work/$name.wasm"
+    else
+        # shellcheck disable=SC2086
+        clang $common $flags -o "$work/$name.wasm" "$name.c"
+    fi
+    chmod 644 "$work/$name.wasm"
+    driver "$name" > "$work/$name.driver.c"
+    gcc -std=gnu11 -O0 -w -o "$work/$name" "$work/$name.driver.c"
+    { grep '^#' "$name.calls"; "$work/$name"; } > "$work/$name.calls"
+    cp "$work/$name.wasm" "$work/module.wasm"
+    commands_of "$name.calls" > "$work/calls.json"
+    if ! diff <(grep -v '^#' "$work/$name.calls") <(answers_of "$work"); then
+        echo "$name: the interpreter answers otherwise" >&2
+        exit 1
+    fi
+    mv "$work/$name.wasm" "$work/$name.calls" .
+    echo "$name: $(stat -c %s "$name.wasm") bytes, $(grep -vc '^[#!]' "$name.calls") calls"
+done <<< "$modules"

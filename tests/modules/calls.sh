@@ -1,0 +1,42 @@
+# Functions that make the calls of a list on a module, for build.sh here and for tests/modules.sh; it is read by `source`.
+#
+# A list has a line for each call with its answer, as `greatest_divisor i32:12 i32:18 => i32:6`, in the order in which they are made
+# on one instance; numbers are without a sign, and the answer is `trap` where the call traps. A line `! print_i32 i32:5` before it
+# says what the call called outside. Lines that begin with # are comments. The call `all`, the last one where it is there, takes
+# nothing and has the same answer on an instance of its own.
+
+# Prints the calls of a list but for `all` as commands for spectest-interp (wabt), which runs wasm-interp's interpreter and, unlike
+# it, takes arguments and has something to import. The module is to be module.wasm in the folder of the commands.
+commands_of() {
+    awk '
+        BEGIN {
+            print "{\"source_filename\": \"calls\", \"commands\": ["
+            print "{\"type\": \"module\", \"line\": 0, \"filename\": \"module.wasm\"}"
+        }
+        !/^[#!]/ && $1 != "all" {
+            arguments = ""
+            for (i = 2; i <= NF && $i != "=>"; i++) {
+                split($i, part, ":")
+                arguments = arguments (i > 2 ? ", " : "") "{\"type\": \"" part[1] "\", \"value\": \"" part[2] "\"}"
+            }
+            print ", {\"type\": \"action\", \"line\": " NR ","
+            print "   \"action\": {\"type\": \"invoke\", \"field\": \"" $1 "\", \"args\": [" arguments "]}, \"expected\": []}"
+        }
+        END { print "]}" }
+    ' "$1"
+}
+
+# Prints the calls of a folder's calls.json on its module.wasm, and the call `all` by wasm-interp where the module has one, with
+# their answers, in the form of a list without comments. What takes longer than ten seconds is stopped, and has no more lines.
+answers_of() {
+    {
+        timeout 10 spectest-interp "$1/calls.json" || true
+        timeout 10 wasm-interp --run-all-exports "$1/module.wasm" | grep '^all()' || true
+    } 2> /dev/null | sed -n -E '
+        s/^([A-Za-z0-9_]+)\((.*)\) => (.*)$/\1 \2 => \3/; t found
+        s/^called host spectest\.([a-z0-9_]+)\((.*)\) =>.*$/! \1 \2/; t found
+        b
+        :found
+        s/, / /g; s/  =>/ =>/; s/=> error:.*/=> trap/; p
+    '
+}
