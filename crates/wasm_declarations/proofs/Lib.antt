@@ -1,0 +1,5 @@
+pub mod ListLemmas
+pub mod ItemLemmas
+pub mod GlobalLemmas
+pub mod EntryLemmas
+pub mod LocalLemmas

@@ -25,7 +25,8 @@ entries_from start [] = []
 entries_from start (size ∷ sizes) =
     record { start = start; contents = start + size.1; end = start + size.1 + size.0 } ∷ entries_from (start + size.1 + size.0) sizes
 
--- The text is a list of sizes with their bytes, and these are its entries; the text's first byte has the offset `start`.
+-- The text is a list of sizes with their bytes, and these are its entries; the text's first byte has the offset `start`
+-- (`list.front` spells the number of the entries).
 pub record SpellsEntries (start : ℕ) (text : List ℕ) (entries : List Entry) : Type 0 where
   pub sizes : List (ℕ × ℕ)
   pub list : SpellsList SpellsSized text sizes

@@ -29,7 +29,8 @@ pub record CountFails (start : ℕ) (text : List ℕ) (cause : Cause) (offset : 
   pub at : offset ≡ start
 
 -- behind fewer whole items than the count says stand bytes that begin with none
-pub record ItemFails {A : Type 0} (Spells : List ℕ → A → Type 0) (Fails : List ℕ → Cause → Type 0) (start : ℕ) (text : List ℕ) (cause : Cause) (offset : ℕ) : Type 0 where
+pub record ItemFails {A : Type 0} (Spells : List ℕ → A → Type 0) (Fails : List ℕ → Cause → Type 0) (start : ℕ)
+    (text : List ℕ) (cause : Cause) (offset : ℕ) : Type 0 where
   pub number : ℕ
   pub count : List ℕ
   pub before : ℕ

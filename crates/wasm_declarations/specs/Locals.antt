@@ -3,7 +3,7 @@
 use Rattle.std.specs.Prelude.{◌≡◌, ◌⊎◌, ℕ, ◌+◌, ◌<◌, ◌≤◌, List, [], ◌∷◌, ◌++◌, length, replicate}
 use Rattle.mutate_base.specs.declared.types.PrimitiveTypeInfo.{PrimitiveTypeInfo}
 use Rattle.wasm_code.specs.declared.fault.Cause.{Cause}
-use Rattle.wasm_code.specs.declared.fault.Cause.TheVariants.{Truncated, UnknownOpcode, BadInteger, BadImmediate}
+use Rattle.wasm_code.specs.declared.fault.Cause.TheVariants.{Truncated, BadInteger, BadImmediate}
 use Rattle.wasm_code.specs.Grammar.{Of, Then, FailsThen}
 use Rattle.wasm_code.specs.Number.{SpellsUnsigned, FailsUnsigned}
 use Rattle.wasm_code.specs.Immediate.{FailsValType}
@@ -46,7 +46,8 @@ pub record SpellsLocals (params : List PrimitiveTypeInfo) (start : ℕ) (text : 
   pub at : expression ≡ start + length front
 
 -- behind fewer whole groups than the count says stand the bytes `back`; the groups aren't too many
-pub record IsAtGroup (params : List PrimitiveTypeInfo) (start : ℕ) (text : List ℕ) (offset : ℕ) (groups : List (ℕ × PrimitiveTypeInfo)) (back : List ℕ) : Type 0 where
+pub record IsAtGroup (params : List PrimitiveTypeInfo) (start : ℕ) (text : List ℕ) (offset : ℕ)
+    (groups : List (ℕ × PrimitiveTypeInfo)) (back : List ℕ) : Type 0 where
   pub number : ℕ
   pub count : List ℕ
   pub before : ℕ

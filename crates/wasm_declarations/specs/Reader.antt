@@ -1,5 +1,5 @@
 -- Reading lists and their items as functions (this project): for proofs. The contracts of public calls go by the grammar.
-use Rattle.std.specs.Prelude.{◌≡◌, ◌⊎◌, ℕ, zero, suc, ◌+◌, ◌-◌, ◌≤◌, ◌<◌, ◌==◌, if◌then◌else◌, Bool, true, false, List, [], ◌∷◌, ◌++◌, length, Option, Some, None, Result, Ok, Err}
+use Rattle.std.specs.Prelude.{◌≡◌, ◌⊎◌, ℕ, zero, suc, ◌+◌, ◌-◌, ◌<◌, ◌==◌, if◌then◌else◌, Bool, true, false, List, [], ◌∷◌, ◌++◌, length, Option, Some, None, Result, Ok, Err}
 use Rattle.mutate_base.specs.declared.types.PrimitiveTypeInfo.{PrimitiveTypeInfo}
 use Rattle.mutate_base.specs.declared.types.ElementType.{ElementType}
 use Rattle.mutate_base.specs.declared.types.ElementType.TheVariants as elements
@@ -8,7 +8,7 @@ use Rattle.mutate_base.specs.declared.types.MemoryType.{MemoryType}
 use Rattle.mutate_base.specs.declared.types.TypeInfo.{TypeInfo}
 use Rattle.mutate_base.specs.declared.types.TypeInfo.TheVariants.{Func}
 use Rattle.wasm_code.specs.declared.fault.Cause.{Cause}
-use Rattle.wasm_code.specs.declared.fault.Cause.TheVariants.{Truncated, UnknownOpcode, BadInteger, BadImmediate}
+use Rattle.wasm_code.specs.declared.fault.Cause.TheVariants.{Truncated, BadImmediate}
 use Rattle.wasm_code.specs.Body.{is_end}
 use Rattle.wasm_code.specs.Reader.{◌>>=◌, byte_at, bytes_at, named_at, times_at, unsigned_at, val_type_at, operator_at}
 use Rattle.wasm_sections.specs.declared.fault.ModuleError.{ModuleError}
@@ -18,9 +18,9 @@ use Rattle.wasm_declarations.specs.declared.refusal.Refusal.TheVariants as refus
 use Rattle.wasm_declarations.specs.declared.import.Import.{Import}
 use Rattle.wasm_declarations.specs.declared.import.Import.TheVariants as imports
 use Rattle.wasm_declarations.specs.declared.entries.Entry.{Entry}
-use Rattle.wasm_declarations.specs.declared.list.Stop.{Stop}
 use Rattle.wasm_declarations.specs.declared.locals.GroupStop.{GroupStop}
 use Rattle.wasm_declarations.specs.declared.locals.GroupStop.TheVariants as stops
+use Rattle.wasm_declarations.specs.Entries.{entries_from}
 use Rattle.wasm_declarations.specs.List.{fault_of}
 use Rattle.wasm_declarations.specs.Locals.{types_of, locals_in, AreFew}
 use Rattle.wasm_declarations.specs.Types.{primitive}
@@ -106,7 +106,9 @@ function_type_at bytes = mark_at 0x60 bytes >>= λ m. list_at primitive_at m.1 >
 
 -- the flag that has this byte
 abbrev pub flag_of : ℕ → Option (Bool × Bool)
-flag_of b = if b == 0 then Some (false, false) else if b == 1 then Some (false, true) else if b == 4 then Some (true, false) else if b == 5 then Some (true, true) else None
+flag_of b =
+    if b == 0 then Some (false, false) else if b == 1 then Some (false, true)
+    else if b == 4 then Some (true, false) else if b == 5 then Some (true, true) else None
 
 unfoldable pub flag_at : List ℕ → Result ((Bool × Bool) × List ℕ) Cause
 flag_at bytes = byte_at bytes >>= λ b. named_at (flag_of b.0) b.1
@@ -189,6 +191,15 @@ entry_of start size = record { start = start; contents = start + size.1; end = s
 unfoldable pub entry_at : ℕ → List ℕ → Result (Entry × List ℕ) Cause
 entry_at to bytes = sized_at bytes >>= λ size. Ok (entry_of (to - length bytes) size.0, size.1)
 
+-- the entries that are read are those of a list of sizes
+pub record AreRead (start : ℕ) (text : List ℕ) (entries : List Entry) : Type 0 where
+  pub number : ℕ
+  pub rest : List ℕ
+  pub sizes : List (ℕ × ℕ)
+  pub counts : unsigned_at 32 text ≡ Ok (number, rest)
+  pub reads : list_at sized_at text ≡ Ok (sizes, [])
+  pub placed : entries ≡ entries_from (start + (length text - length rest)) sizes
+
 unfoldable pub group_at : List ℕ → Result ((ℕ × PrimitiveTypeInfo) × List ℕ) Cause
 group_at bytes = unsigned_at 32 bytes >>= λ n. primitive_at n.1 >>= λ type. Ok ((n.0, type.0), type.1)
 
@@ -200,7 +211,8 @@ pub record ReadsGroups (before : List PrimitiveTypeInfo) (number : ℕ) (bytes :
   pub all : types ≡ before ++ types_of groups
 
 -- some groups are read, fewer than there are, and so many bytes are left
-pub record IsAfterGroups (before : List PrimitiveTypeInfo) (number : ℕ) (bytes : List ℕ) (left : ℕ) (groups : List (ℕ × PrimitiveTypeInfo)) (rest : List ℕ) : Type 0 where
+pub record IsAfterGroups (before : List PrimitiveTypeInfo) (number : ℕ) (bytes : List ℕ) (left : ℕ)
+    (groups : List (ℕ × PrimitiveTypeInfo)) (rest : List ℕ) : Type 0 where
   pub passed : ℕ
   pub fewer : passed < number
   pub reads : each_at passed group_at bytes ≡ Ok (groups, rest)

@@ -1,6 +1,6 @@
 -- Limits, table types and memory types (WebAssembly Core Specification 3.0, Binary Format, Types, Limits, Memory Types and
 -- Table Types).
-use Rattle.std.specs.Prelude.{ℕ, ◌+◌, List, Bool, true, false, if◌then◌else◌}
+use Rattle.std.specs.Prelude.{ℕ, ◌+◌, List, Bool, if◌then◌else◌}
 use Rattle.mutate_base.specs.declared.types.ElementType.{ElementType}
 use Rattle.mutate_base.specs.declared.types.ElementType.TheVariants.{Func, Extern}
 use Rattle.mutate_base.specs.declared.types.TableType.{TableType}

@@ -3,7 +3,7 @@ ghost use Rattle.std.specs.Prelude.{◌≡◌, ◌≤◌, ◌+◌, ◌-◌, ℕ,
 ghost use Rattle.wasm_code.specs.Reader.{Gives};
 ghost use Rattle.wasm_declarations.specs.Entries.{SpellsSized, FailsSized, SpellsEntries};
 ghost use Rattle.wasm_declarations.specs.List.{IsListFault};
-ghost use Rattle.wasm_declarations.specs.Reader.{StopsBy, each_at, entry_at};
+ghost use Rattle.wasm_declarations.specs.Reader.{StopsBy, FailsWhole, AreRead, each_at, sized_at, entry_at};
 ghost use Rattle.wasm_declarations.specs.declared.entries.Entry.{Entry};
 ghost use Rattle.wasm_sections.specs.declared.fault.ModuleFault.TheVariants.{Memory};
 
@@ -26,7 +26,6 @@ pub struct Entry {
 }
 
 /// The entry that begins the bytes, which end at the offset `to`, and what follows it.
-#[tactic(auto, unfolding(crate::specs::Reader::entry_at))]
 fn entry_from(bytes: &[u8], to: usize) -> Result<(Entry, &[u8]), Cause>
     requires { length bytes.now ≤ to }
     ensures gives { Gives (λ x. (x.0, x.1.now)) result (entry_at to bytes.now) }
@@ -80,24 +79,11 @@ fn entries_of(
     Ok((entries, rest))
 }
 
-/// Reads where the entries stand that a code section lists. `contents` are the section's contents, whose first byte has the
-/// offset `start` in the module (WebAssembly Core Specification 3.0, Binary Format, Modules, Code Section).
-///
-/// It accepts exactly a list with nothing behind it, each of its items a size and that many bytes, which aren't looked at.
-///
-/// An error names the first fault from the left and where the entry at fault starts, or `start` where the number of the
-/// entries is at fault: `Truncated` where the contents end inside it, `BadInteger` where its size has too many bytes or
-/// doesn't fit; `TrailingBytes` at the first byte behind the entries; `Memory` at `start` where no memory was left.
-pub fn read_entries(alloc: Global, contents: &[u8], start: usize) -> Result<Vec<Entry>, ModuleError>
+/// The entries of a list that is the whole of a section's contents, whose first byte has the offset `start`.
+fn listed_entries(alloc: Global, contents: &[u8], start: usize) -> Result<Vec<Entry>, ModuleError>
     requires { start + length contents.now ≤ usize.MAX }
-    // What is read is spelled so.
-    ensures found { IfOk result (λ v. SpellsEntries start contents.now v.items) }
-    // What is spelled so is read, unless memory runs out.
-    ensures only { (xs : List Entry) → SpellsEntries start contents.now xs
-        → MatchResult result (λ v. v.items ≡ xs) (λ e. e.kind ≡ Memory) }
-    // What doesn't come from memory is the first fault.
-    ensures fault { IfErr result (λ e.
-        IsListFault SpellsSized FailsSized start contents.now e.kind e.offset) }
+    ensures found { IfOk result (λ v. AreRead start contents.now v.items) }
+    ensures fault { IfErr result (λ e. FailsWhole sized_at start contents.now e) }
 {
     let (count, rest) = match u32_of(contents) {
         Ok(counted) => counted,
@@ -119,4 +105,26 @@ pub fn read_entries(alloc: Global, contents: &[u8], start: usize) -> Result<Vec<
         }
         Err(stop) => Err(error_of(stop, contents.len(), start)),
     }
+}
+
+/// Reads where the entries stand that a code section lists. `contents` are the section's contents, whose first byte has the
+/// offset `start` in the module (WebAssembly Core Specification 3.0, Binary Format, Modules, Code Section).
+///
+/// It accepts exactly a list with nothing behind it, each of its items a size and that many bytes, which aren't looked at.
+///
+/// An error names the first fault from the left and where the entry at fault starts, or `start` where the number of the
+/// entries is at fault: `Truncated` where the contents end inside it, `BadInteger` where its size has too many bytes or
+/// doesn't fit; `TrailingBytes` at the first byte behind the entries; `Memory` at `start` where no memory was left.
+pub fn read_entries(alloc: Global, contents: &[u8], start: usize) -> Result<Vec<Entry>, ModuleError>
+    requires { start + length contents.now ≤ usize.MAX }
+    // What is read is spelled so.
+    ensures found { IfOk result (λ v. SpellsEntries start contents.now v.items) }
+    // What is spelled so is read, unless memory runs out.
+    ensures only { (xs : List Entry) → SpellsEntries start contents.now xs
+        → MatchResult result (λ v. v.items ≡ xs) (λ e. e.kind ≡ Memory) }
+    // What doesn't come from memory is the first fault.
+    ensures fault { IfErr result (λ e.
+        IsListFault SpellsSized FailsSized start contents.now e.kind e.offset) }
+{
+    listed_entries(alloc, contents, start)
 }

@@ -7,6 +7,7 @@ mod globals;
 mod import;
 mod imports;
 mod item;
+pub mod laws;
 mod list;
 mod locals;
 mod refusal;

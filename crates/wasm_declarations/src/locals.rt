@@ -45,6 +45,14 @@ pub enum GroupStop {
     TooMany(usize),
 }
 
+/// For how many locals there is room behind so many.
+fn room_behind(taken: usize) -> usize
+    requires { taken ≤ 50000 }
+    ensures { result ≡ 50000 - taken }
+{
+    MOST_LOCALS - taken
+}
+
 /// The types with those of so many groups behind them, and what follows the groups.
 fn with_groups(
     mut types: Vec<PrimitiveTypeInfo>,
@@ -60,9 +68,10 @@ fn with_groups(
     let mut rest = bytes;
     for _ in 0..count {
         let left = rest.len();
+        let room = room_behind(types.len());
         match group_from(rest) {
             Ok(((number, ty), behind)) => {
-                if number as usize > MOST_LOCALS - types.len() {
+                if number as usize > room {
                     return Err(GroupStop::TooMany(left));
                 }
                 if types.resize(types.len() + number as usize, ty).is_err() {
@@ -97,32 +106,16 @@ fn group_error(stop: GroupStop, length: usize, start: usize) -> ModuleError
     }
 }
 
-/// Reads the types of a function's parameters and locals. `contents` are the bytes of its entry in the code section behind the
-/// entry's size, whose first byte has the offset `start` in the module (WebAssembly Core Specification 3.0, Binary Format,
-/// Modules, Code Section); `params` are the types of its parameters.
-///
-/// A list of groups begins them, each a number of locals and their type, and the expression follows, which isn't looked at.
-///
-/// An error names the first fault from the left and where the group at fault starts, or `start` where the number of the groups
-/// is at fault: `Truncated` where the contents end inside it, `BadInteger` where a number has too many bytes or doesn't fit,
-/// `UnknownForm` where a byte stands for no value type, `TooManyLocals` where with this group there are more than 50,000
-/// parameters and locals; that at `start` where the parameters alone are more; `Memory` at `start` where no memory was left.
-pub fn read_locals(
+/// The locals of a function, as `read_locals` says.
+fn locals_of(
     alloc: Global,
     params: &[PrimitiveTypeInfo],
     contents: &[u8],
     start: usize,
 ) -> Result<Locals, ModuleError>
     requires { start + length contents.now ≤ usize.MAX }
-    // What is read is spelled so.
     ensures found { IfOk result (λ l.
         SpellsLocals params.now start contents.now l.types.items l.expression) }
-    // What is spelled so is read, unless memory runs out.
-    ensures only { (types : List PrimitiveTypeInfo) (expression : ℕ)
-        → SpellsLocals params.now start contents.now types expression
-        → MatchResult result (λ l. (l.types.items ≡ types) × (l.expression ≡ expression))
-        (λ e. e.kind ≡ Memory) }
-    // What doesn't come from memory is the first fault.
     ensures fault { IfErr result (λ e.
         IsLocalsFault params.now start contents.now e.kind e.offset) }
 {
@@ -152,4 +145,36 @@ pub fn read_locals(
         }),
         Err(stop) => Err(group_error(stop, contents.len(), start)),
     }
+}
+
+/// Reads the types of a function's parameters and locals. `contents` are the bytes of its entry in the code section behind the
+/// entry's size, whose first byte has the offset `start` in the module (WebAssembly Core Specification 3.0, Binary Format,
+/// Modules, Code Section); `params` are the types of its parameters.
+///
+/// A list of groups begins them, each a number of locals and their type, and the expression follows, which isn't looked at.
+///
+/// An error names the first fault from the left and where the group at fault starts, or `start` where the number of the groups
+/// is at fault: `Truncated` where the contents end inside it, `BadInteger` where a number has too many bytes or doesn't fit,
+/// `UnknownForm` where a byte stands for no value type, `TooManyLocals` where with this group there are more than 50,000
+/// parameters and locals; that at `start` where the parameters alone are more; `Memory` at `start` where no memory was left.
+pub fn read_locals(
+    alloc: Global,
+    params: &[PrimitiveTypeInfo],
+    contents: &[u8],
+    start: usize,
+) -> Result<Locals, ModuleError>
+    requires { start + length contents.now ≤ usize.MAX }
+    // What is read is spelled so.
+    ensures found { IfOk result (λ l.
+        SpellsLocals params.now start contents.now l.types.items l.expression) }
+    // What is spelled so is read, unless memory runs out.
+    ensures only { (types : List PrimitiveTypeInfo) (expression : ℕ)
+        → SpellsLocals params.now start contents.now types expression
+        → MatchResult result (λ l. (l.types.items ≡ types) × (l.expression ≡ expression))
+        (λ e. e.kind ≡ Memory) }
+    // What doesn't come from memory is the first fault.
+    ensures fault { IfErr result (λ e.
+        IsLocalsFault params.now start contents.now e.kind e.offset) }
+{
+    locals_of(alloc, params, contents, start)
 }

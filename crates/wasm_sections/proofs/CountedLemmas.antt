@@ -1,6 +1,6 @@
 -- Bytes behind the number of them: what is read so, and that it is read so alone.
-use Rattle.std.proofs.Common.{◌≡◌, ℕ, ◌<◌, ◌⊎◌, List, ◌∷◌, ◌++◌, length, take, drop, Result, Ok, Err, refl, sym, ap, subst, ◌∙◌, append_assoc, inl, inr, arith}
-use Rattle.std.specs.Prelude.{◌↔◌, IsTrue, Bool, true, false}
+use Rattle.std.proofs.Common.{◌≡◌, ℕ, ◌<◌, List, ◌++◌, length, take, drop, Result, Ok, Err, refl, sym, ap, subst, ◌∙◌, append_assoc, inl, arith}
+use Rattle.std.specs.Prelude.{◌↔◌, IsTrue, Bool, false}
 use Rattle.std.specs.List.{IsSplitAt}
 use Rattle.std.proofs.lemmas.List.{length-append, take-append-drop, take_at, drop_at}
 use Rattle.wasm_code.specs.declared.fault.Cause.{Cause}
@@ -9,9 +9,7 @@ use Rattle.wasm_code.specs.Number.{SpellsUnsigned, FailsUnsigned}
 use Rattle.wasm_code.specs.Reader.{unsigned_at}
 use Rattle.wasm_code.specs.laws.GrammarLemmas.{ok_is}
 use Rattle.wasm_code.specs.laws.NumberExact.{unsigned_exact}
-use Rattle.wasm_sections.specs.declared.fault.ModuleFault.{ModuleFault}
-use Rattle.wasm_sections.specs.declared.fault.ModuleFault.TheVariants as faults
-use Rattle.wasm_sections.specs.Section.{BeginsWithName, IsLinkingName, IsLinkable}
+use Rattle.wasm_sections.specs.Section.{IsLinkingName, IsLinkable}
 use Rattle.wasm_sections.specs.Reader.{kind_of, IsCounted, IsShort, FailsCounted}
 
 split_is : (rest front back : List ℕ) (n : ℕ) → IsSplitAt rest n front back → rest ≡ front ++ back

@@ -1,5 +1,5 @@
 -- The loop that reads a module, and that what it answers is the only answer.
-use Rattle.std.proofs.Common.{◌≡◌, ℕ, ◌+◌, ◌-◌, ◌<◌, ◌≤◌, List, [], ◌∷◌, ◌++◌, length, drop, refl, sym, ap, subst, ◌∙◌, append_assoc, arith}
+use Rattle.std.proofs.Common.{◌≡◌, ℕ, ◌+◌, ◌-◌, ◌<◌, List, [], ◌∷◌, ◌++◌, length, drop, refl, sym, ap, subst, ◌∙◌, append_assoc, arith}
 use Rattle.std.specs.Prelude.{max}
 use Rattle.std.proofs.lemmas.List.{length-append, append-nil}
 use Rattle.wasm_code.specs.Code.{BeginsWith}
@@ -10,7 +10,6 @@ use Rattle.wasm_sections.specs.Id.{id_code, rank_of}
 use Rattle.wasm_sections.specs.Section.{SpellsModule, AreFinal, preamble}
 use Rattle.wasm_sections.specs.Sections.{last_rank, FailsSection, StopsAt, IsSectionFault}
 use Rattle.wasm_sections.specs.Reader.{IsAccepted}
-use Rattle.wasm_sections.proofs.SectionLemmas.{section_of}
 use Rattle.wasm_sections.proofs.PieceLemmas.{Piece, code_of, joined, placed, all_placed, contents_at, end_at, parts, of_module, of_pieces, section_is, joined-append, parts-append, counted-append, final-append, sorted-append, placed-append, last_of, last_is}
 
 pub record IsReadSoFar (bytes rest : List ℕ) (xs : List Section) (last : ℕ) : Type 0 where

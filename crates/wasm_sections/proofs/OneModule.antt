@@ -1,11 +1,10 @@
 -- Bytes spell one module at most, and those that spell one have no fault.
-use Rattle.std.proofs.Common.{◌≡◌, ℕ, ◌+◌, ◌<◌, ◌≤◌, List, [], ◌∷◌, ◌++◌, length, take, drop, get_or, Result, Ok, Err, refl, sym, ap, subst, ◌∙◌, append_assoc, inl, inr, arith}
+use Rattle.std.proofs.Common.{◌≡◌, ℕ, ◌<◌, List, [], ◌∷◌, ◌++◌, length, take, drop, get_or, Result, Ok, Err, refl, sym, ap, subst, ◌∙◌, append_assoc, inl, inr, arith}
 use Rattle.std.specs.Prelude.{max, IfOk, IfErr, MatchResult}
 use Rattle.std.specs.Global.{Vec}
 use Rattle.std.proofs.lemmas.List.{length-append, take_at}
 use Rattle.wasm_code.specs.declared.fault.Cause.TheVariants as causes
 use Rattle.wasm_code.specs.Number.{SpellsUnsigned}
-use Rattle.wasm_code.specs.Code.{BeginsWith}
 use Rattle.wasm_sections.specs.declared.id.SectionId.{SectionId}
 use Rattle.wasm_sections.specs.declared.id.SectionId.TheVariants as ids
 use Rattle.wasm_sections.specs.declared.section.Section.{Section}
@@ -13,7 +12,7 @@ use Rattle.wasm_sections.specs.declared.fault.ModuleFault.{ModuleFault}
 use Rattle.wasm_sections.specs.declared.fault.ModuleFault.TheVariants as faults
 use Rattle.wasm_sections.specs.declared.fault.ModuleError.{ModuleError}
 use Rattle.wasm_sections.specs.Id.{id_code, rank_of}
-use Rattle.wasm_sections.specs.Section.{SpellsModule, IsLinkable, AreFinal, magic, preamble}
+use Rattle.wasm_sections.specs.Section.{SpellsModule, IsLinkable, AreFinal}
 use Rattle.wasm_sections.specs.Sections.{last_rank, FailsSection, StopsAt, IsSectionFault}
 use Rattle.wasm_sections.specs.Reader.{IsCounted}
 use Rattle.wasm_sections.proofs.CountedLemmas.{one_counted, no_short, no_fail}
@@ -22,7 +21,10 @@ use Rattle.wasm_sections.proofs.PieceLemmas.{Piece, code_of, joined, AreCounted,
 -- ---- one id, one piece, one list of pieces
 
 abbrev id_at : ℕ → SectionId
-id_at n = get_or (ids.Custom ∷ ids.Type ∷ ids.Import ∷ ids.Function ∷ ids.Table ∷ ids.Memory ∷ ids.Global ∷ ids.Export ∷ ids.Start ∷ ids.Element ∷ ids.Code ∷ ids.Data ∷ ids.DataCount ∷ ids.Tag ∷ []) n ids.Custom
+id_at n = get_or
+    (ids.Custom ∷ ids.Type ∷ ids.Import ∷ ids.Function ∷ ids.Table ∷ ids.Memory ∷ ids.Global ∷ ids.Export ∷
+    ids.Start ∷ ids.Element ∷ ids.Code ∷ ids.Data ∷ ids.DataCount ∷ ids.Tag ∷ [])
+    n ids.Custom
 
 id_is : (id : SectionId) → id_at (id_code id) ≡ id
 id_is ids.Custom = refl
@@ -43,7 +45,7 @@ id_is ids.Tag = refl
 pub one_id : (a b : SectionId) → id_code a ≡ id_code b → a ≡ b
 one_id a b e = sym (id_is a) ∙ ap id_at e ∙ id_is b
 
-cons_is : (a b : ℕ) (s t : List ℕ) → a ∷ s ≡ b ∷ t → (a ≡ b) × (s ≡ t)
+pub cons_is : (a b : ℕ) (s t : List ℕ) → a ∷ s ≡ b ∷ t → (a ≡ b) × (s ≡ t)
 cons_is a b s t e = (cc, cc)
 
 abbrev piece : SectionId → (size contents : List ℕ) → Piece
@@ -52,7 +54,7 @@ piece id size contents = record { id = id; size = size; contents = contents }
 piece_is : (x y : Piece) → x.id ≡ y.id → x.size ≡ y.size → x.contents ≡ y.contents → x ≡ y
 piece_is x y p q r = ap (λ (i : SectionId). piece i x.size x.contents) p ∙ ap (λ (l : List ℕ). piece y.id l x.contents) q ∙ ap (piece y.id y.size) r
 
-next_is : (x y : Piece) (a b : List ℕ) → SpellsUnsigned 32 x.size (length x.contents) → SpellsUnsigned 32 y.size (length y.contents) →
+pub next_is : (x y : Piece) (a b : List ℕ) → SpellsUnsigned 32 x.size (length x.contents) → SpellsUnsigned 32 y.size (length y.contents) →
     code_of x ++ a ≡ code_of y ++ b → (x ≡ y) × (a ≡ b)
 next_is x y a b p q e =
     let c = cons_is (id_code x.id) (id_code y.id) (x.size ++ x.contents ++ a) (y.size ++ y.contents ++ b) e in
@@ -91,14 +93,14 @@ one_module bytes xs ys p q =
 -- ---- no fault
 
 -- what stands behind some pieces is pieces
-record IsRest (last : ℕ) (back : List ℕ) : Type 0 where
+pub record IsRest (last : ℕ) (back : List ℕ) : Type 0 where
   pub pieces : List Piece
   pub bytes : back ≡ joined pieces
   pub counted : AreCounted pieces
   pub sorted : AreSorted last pieces
   pub final : AreFinal (parts pieces)
 
-rest_is : (ys xs : List Piece) (last : ℕ) (back : List ℕ) → AreCounted ys → AreCounted xs → AreSorted last xs → AreFinal (parts xs) →
+pub rest_is : (ys xs : List Piece) (last : ℕ) (back : List ℕ) → AreCounted ys → AreCounted xs → AreSorted last xs → AreFinal (parts xs) →
     joined xs ≡ joined ys ++ back → IsRest (last_of last ys) back
 rest_is [] xs last back q p sorted final e = record { pieces = xs; bytes = sym e; counted = p; sorted = sorted; final = final }
 rest_is (y ∷ ys) [] last back q p sorted final e = absurd cc
@@ -107,7 +109,7 @@ rest_is (y ∷ ys) (x ∷ xs) last back q p sorted final e =
     rest_is ys xs (max last (rank_of y.id)) back q.1 p.1 (subst (λ (z : Piece). AreSorted (max last (rank_of z.id)) xs) n.0 sorted.1) final.1 n.1
 
 -- the piece begins the bytes, and may stand there
-record IsHere (last : ℕ) (x : Piece) (tail back : List ℕ) : Type 0 where
+pub record IsHere (last : ℕ) (x : Piece) (tail back : List ℕ) : Type 0 where
   pub bytes : back ≡ id_code x.id ∷ x.size ++ x.contents ++ tail
   pub counts : SpellsUnsigned 32 x.size (length x.contents)
   pub ordered : 0 < rank_of x.id → last < rank_of x.id
@@ -120,7 +122,7 @@ behind last x tail back code more h e =
     let c = cons_is (id_code x.id) code (x.size ++ x.contents ++ tail) more (sym h.bytes ∙ e) in
     (c.0, record { size = x.size; parts = sym c.1; counts = h.counts })
 
-here_fails : (fault : ModuleFault) (last : ℕ) (x : Piece) (tail back : List ℕ) → IsHere last x tail back → FailsSection fault last back → ⊥
+pub here_fails : (fault : ModuleFault) (last : ℕ) (x : Piece) (tail back : List ℕ) → IsHere last x tail back → FailsSection fault last back → ⊥
 here_fails faults.UnknownSection last x tail back h s = s.unknown x.id (behind last x tail back s.first s.back h s.parts).0
 here_fails faults.Truncated last x tail back h (inl s) =
     no_fail x.contents tail s.back causes.Truncated (behind last x tail back (id_code s.id) s.back h s.parts).1 s.fails
@@ -147,7 +149,7 @@ here_fails faults.Linkable last x tail back h s =
     h.final (one_id x.id s.id b.0 ∙ s.is.0) (subst IsLinkable (sym c.0) s.is.1)
 here_fails _ last x tail back h s = s
 
-none_fails : (fault : ModuleFault) (last : ℕ) (back : List ℕ) → back ≡ [] → FailsSection fault last back → ⊥
+pub none_fails : (fault : ModuleFault) (last : ℕ) (back : List ℕ) → back ≡ [] → FailsSection fault last back → ⊥
 none_fails faults.UnknownSection last back e s = let p = s.parts in absurd cc
 none_fails faults.Truncated last back e (inl s) = let p = s.parts in absurd cc
 none_fails faults.Truncated last back e (inr s) = let p = s.parts in absurd cc
@@ -156,7 +158,7 @@ none_fails faults.OutOfOrder last back e s = let p = s.parts in absurd cc
 none_fails faults.Linkable last back e s = let p = s.parts in absurd cc
 none_fails _ last back e s = s
 
-pieces_fail : (fault : ModuleFault) (last : ℕ) (back : List ℕ) (xs : List Piece) → back ≡ joined xs → AreCounted xs → AreSorted last xs →
+pub pieces_fail : (fault : ModuleFault) (last : ℕ) (back : List ℕ) (xs : List Piece) → back ≡ joined xs → AreCounted xs → AreSorted last xs →
     AreFinal (parts xs) → FailsSection fault last back → ⊥
 pieces_fail fault last back [] e p sorted final s = none_fails fault last back e s
 pieces_fail fault last back (x ∷ xs) e p sorted final s =

@@ -1,13 +1,12 @@
 -- A module as a list of pieces: the ids, the sizes as they are spelled, and the contents; the offsets follow from these.
-use Rattle.std.proofs.Common.{◌≡◌, ℕ, ◌+◌, ◌-◌, ◌<◌, ◌≤◌, List, [], ◌∷◌, ◌++◌, length, take, drop, refl, sym, ap, subst, ◌∙◌, append_assoc, arith}
+use Rattle.std.proofs.Common.{◌≡◌, ℕ, ◌+◌, ◌-◌, ◌<◌, List, [], ◌∷◌, ◌++◌, length, take, drop, refl, sym, ap, subst, ◌∙◌, append_assoc, arith}
 use Rattle.std.specs.Prelude.{max, slice_range}
 use Rattle.std.proofs.lemmas.List.{length-append, append-nil, take_at, drop_at}
 use Rattle.wasm_code.specs.Number.{SpellsUnsigned}
 use Rattle.wasm_sections.specs.declared.id.SectionId.{SectionId}
-use Rattle.wasm_sections.specs.declared.id.SectionId.TheVariants as ids
 use Rattle.wasm_sections.specs.declared.section.Section.{Section}
 use Rattle.wasm_sections.specs.Id.{id_code, rank_of}
-use Rattle.wasm_sections.specs.Section.{IsNextSection, SpellsSections, AreInOrder, parts_of, IsLinkable, AreFinal, preamble, SpellsModule}
+use Rattle.wasm_sections.specs.Section.{SpellsSections, AreInOrder, parts_of, AreFinal, preamble, SpellsModule}
 use Rattle.wasm_sections.specs.Sections.{last_rank}
 use Rattle.wasm_sections.proofs.SectionLemmas.{section_of}
 
@@ -76,7 +75,8 @@ view (s ∷ ss) start text p =
       counted = (p.counts, v.counted);
       bytes = p.parts ∙ ap (λ (b : List ℕ). code_of x ++ b) v.bytes;
       are = ap (λ (l : List Section). s ∷ l) (v.are ∙ ap (λ (n : ℕ). all_placed n v.pieces) end)
-          ∙ ap (λ (z : Section). z ∷ all_placed (end_at start x) v.pieces) (section_is s start (contents_at start x) (end_at start x) p.starts p.contents_at end);
+          ∙ ap (λ (z : Section). z ∷ all_placed (end_at start x) v.pieces)
+          (section_is s start (contents_at start x) (end_at start x) p.starts p.contents_at end);
     }
 
 pub spelled : (xs : List Piece) (start : ℕ) → AreCounted xs → SpellsSections (all_placed start xs) start (joined xs)

@@ -1,5 +1,5 @@
 -- Sections by their id, and where one would stand (this project).
-use Rattle.std.specs.Prelude.{◌≡◌, ◌≢◌, ◌⊎◌, ℕ, ◌<◌, List, [], ◌∷◌, ◌++◌}
+use Rattle.std.specs.Prelude.{◌≡◌, ◌≢◌, ℕ, ◌<◌, List, [], ◌∷◌, ◌++◌}
 use Rattle.wasm_sections.specs.declared.id.SectionId.{SectionId}
 use Rattle.wasm_sections.specs.declared.section.Section.{Section}
 use Rattle.wasm_sections.specs.Id.{rank_of}

@@ -1,5 +1,5 @@
 -- What the parts of a reader answer (this project): for proofs.
-use Rattle.std.specs.Prelude.{◌≡◌, ◌⊎◌, ℕ, ◌<◌, List, ◌++◌, length}
+use Rattle.std.specs.Prelude.{◌≡◌, ◌⊎◌, ℕ, ◌<◌, nat_lt, Bool, ◌&&◌, if◌then◌else◌, List, [], ◌∷◌, ◌++◌, length}
 use Rattle.wasm_code.specs.declared.fault.Cause.{Cause}
 use Rattle.wasm_code.specs.declared.fault.Cause.TheVariants as causes
 use Rattle.wasm_code.specs.Number.{SpellsUnsigned, FailsUnsigned}
@@ -55,3 +55,12 @@ IsForbidden _ last id contents = ⊥
 pub record IsAccepted (last start : ℕ) (text : List ℕ) (s : Section) (after : List ℕ) : Type 0 where
   pub next : IsNextSection (λ end back. back ≡ after) start text s
   pub allowed : IsAllowed last s.id next.contents
+
+-- whether a section of the first id has to stand before one of the second
+abbrev pub comes_before_lem : SectionId → SectionId → Bool
+comes_before_lem first second = nat_lt 0 (rank_of first) && nat_lt (rank_of first) (rank_of second)
+
+-- the end of the last of the sections that has to stand before one of the id, or else `place`
+abbrev pub place_from : ℕ → SectionId → List Section → ℕ
+place_from place id [] = place
+place_from place id (s ∷ ss) = place_from (if comes_before_lem s.id id then s.end else place) id ss

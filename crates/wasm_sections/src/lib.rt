@@ -4,6 +4,7 @@
 mod fault;
 mod find;
 mod id;
+pub mod laws;
 mod linking;
 mod section;
 mod sections;
@@ -15,3 +16,6 @@ pub use id::SectionId;
 pub use section::Section;
 pub use sections::read_sections;
 pub use writing::{WriteError, put_section};
+
+#[cfg(test)]
+mod tests;

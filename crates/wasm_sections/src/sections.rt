@@ -11,15 +11,12 @@ ghost use Rattle.wasm_sections.specs.declared.fault.ModuleFault.TheVariants.{Mem
 use crate::fault::{ModuleError, ModuleFault};
 use crate::id::SectionId;
 use crate::linking::is_linkable;
-use crate::section::Section;
+use crate::section::{PREAMBLE, Section};
 use std::alloc::Global;
 use wasm_code::{Cause, byte_of, u32_of};
 
 /// `\0asm`.
 const MAGIC: [u8; 4] = [0x00, 0x61, 0x73, 0x6d];
-
-/// The first eight bytes of a module: `\0asm`, and the version.
-const PREAMBLE: [u8; 8] = [0x00, 0x61, 0x73, 0x6d, 0x01, 0x00, 0x00, 0x00];
 
 fn kind(cause: Cause) -> ModuleFault
     ensures { result ≡ kind_of cause }

@@ -1,9 +1,9 @@
-use Rattle.std.proofs.Common.{◌≡◌, ◌-◌, ◌<◌, ◌≤◌, [], ◌∷◌, ◌++◌, length, take, drop, sym, ap, arith, subst}
+use Rattle.std.proofs.Common.{◌≡◌, ◌-◌, ◌≤◌, [], ◌∷◌, ◌++◌, length, take, drop, arith}
 use Rattle.std.specs.Prelude.{max}
 use Rattle.std.proofs.lemmas.Grind.{common_steps}
 use Rattle.std.proofs.lemmas.List.{take_all, length-take, length-drop}
 use Rattle.wasm_sections.specs.Id.{rank_of}
-use Rattle.wasm_sections.proofs.ModuleLemmas.{IsReadSoFar, begins, goes_on, shrinks, stops, done}
+use Rattle.wasm_sections.proofs.ModuleLemmas.{begins, goes_on, shrinks, stops}
 use Rattle.wasm_sections.proofs.sections.sections_of.Goals as goal
 
 pub loop-rest-init : goal.loop-rest-init

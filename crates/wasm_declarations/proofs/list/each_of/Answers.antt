@@ -1,0 +1,25 @@
+use Rattle.std.proofs.Common.{◌≡◌, ℕ, List, Bor, ◌++◌, ◌∷◌, [], ◌≤◌, length, arith}
+use Rattle.std.proofs.lemmas.Grind.{common_steps}
+use Rattle.wasm_declarations.proofs.ListLemmas.{begins, goes_on, stopped}
+use Rattle.wasm_declarations.proofs.list.each_of.Goals as goal
+
+pub loop-init : goal.loop-init
+loop-init g c = record { reads = rw c.new-items.ensures.items (begins g.T.Item.at c.args.bytes.now); within = omega arith }
+
+pub loop-preserved : goal.loop-preserved
+loop-preserved g c =
+    let items : c.push.new.self.items ≡ c.loop.items.items ++ c.in-Ok.item ∷ [] = grind (arith, common_steps) in
+    let shorter : length c.in-Ok.behind.now ≤ length c.loop.rest.now = c.in-Ok.ensures.within in
+    record {
+      reads = rw items (goes_on g.T.Item.at c.loop.counter c.args.bytes.now c.loop.items.items c.loop.rest.now c.in-Ok.item c.in-Ok.behind.now
+          c.loop.invariant.reads c.in-Ok.ensures.gives);
+      within = omega (arith, shorter, c.loop.invariant.within);
+    }
+
+pub returns-then-is_err-clause-left : goal.returns-then-is_err-clause-left
+returns-then-is_err-clause-left g c = c.loop.invariant.within
+
+pub returns-in-Err-clause-stops : goal.returns-in-Err-clause-stops
+returns-in-Err-clause-stops g c =
+    stopped {X = g.row.T-Value.Denot × Bor (List ℕ)} g.T.Item.at c.args.count c.loop.counter c.args.bytes.now c.loop.items.items c.loop.rest.now
+    c.in-Err.refusal (λ x. (x.0, x.1.now)) c.loop-test.true c.loop.invariant.reads c.in-Err.ensures.gives

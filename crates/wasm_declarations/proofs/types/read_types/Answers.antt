@@ -1,0 +1,13 @@
+use Rattle.wasm_declarations.proofs.ItemLemmas.{function_type_exact}
+use Rattle.wasm_declarations.proofs.ListLemmas.{found, fault, only}
+use Rattle.wasm_declarations.proofs.types.read_types.Goals as goal
+
+pub returns-clause-found : goal.returns-clause-found
+returns-clause-found c = found function_type_exact c.args.contents.now c.read_list.result c.read_list.ensures.found
+
+pub returns-clause-only : goal.returns-clause-only
+returns-clause-only c xs s =
+    only function_type_exact c.args.start c.args.contents.now c.read_list.result xs c.read_list.ensures.found c.read_list.ensures.fault s
+
+pub returns-clause-fault : goal.returns-clause-fault
+returns-clause-fault c = fault function_type_exact c.args.start c.args.contents.now c.read_list.result c.read_list.ensures.fault

@@ -1,0 +1,68 @@
+//! Laws on what sections list: functions that do nothing, and whose contracts hold for all values.
+ghost use Rattle.std.specs.Prelude.{◌≡◌, ℕ, List};
+ghost use Rattle.mutate_base.specs.declared.types.MemoryType.{MemoryType};
+ghost use Rattle.mutate_base.specs.declared.types.PrimitiveTypeInfo.{PrimitiveTypeInfo};
+ghost use Rattle.mutate_base.specs.declared.types.TableType.{TableType};
+ghost use Rattle.mutate_base.specs.declared.types.TypeInfo.{TypeInfo};
+ghost use Rattle.wasm_code.specs.Number.{SpellsUnsigned, FailsUnsigned};
+ghost use Rattle.wasm_code.specs.Reader.{unsigned_at};
+ghost use Rattle.wasm_code.specs.laws.GrammarLemmas.{Exact};
+ghost use Rattle.wasm_declarations.specs.Entries.{SpellsEntries, SpellsSized, FailsSized};
+ghost use Rattle.wasm_declarations.specs.Globals.{SpellsGlobal, FailsGlobal};
+ghost use Rattle.wasm_declarations.specs.Imports.{SpellsImport, FailsImport};
+ghost use Rattle.wasm_declarations.specs.List.{SpellsList, FailsList};
+ghost use Rattle.wasm_declarations.specs.Locals.{SpellsLocals, SpellsGroup, FailsGroup};
+ghost use Rattle.wasm_declarations.specs.Reader.{list_at, function_type_at, import_at, table_type_at, memory_type_at, global_at, sized_at, group_at};
+ghost use Rattle.wasm_declarations.specs.Tables.{SpellsTableType, FailsTableType, SpellsMemoryType, FailsMemoryType};
+ghost use Rattle.wasm_declarations.specs.Types.{SpellsFunctionType, FailsFunctionType};
+ghost use Rattle.wasm_declarations.specs.declared.entries.Entry.{Entry};
+ghost use Rattle.wasm_declarations.specs.declared.import.Import.{Import};
+
+use wasm_code::laws::parts_are_read;
+
+/// A text spells one list.
+pub fn one_list()
+    ensures types { (text : List ℕ) (xs ys : List TypeInfo) → SpellsList SpellsFunctionType text xs
+        → SpellsList SpellsFunctionType text ys → xs ≡ ys }
+    ensures imports { (text : List ℕ) (xs ys : List Import) → SpellsList SpellsImport text xs
+        → SpellsList SpellsImport text ys → xs ≡ ys }
+    ensures functions { (text xs ys : List ℕ) → SpellsList (SpellsUnsigned 32) text xs
+        → SpellsList (SpellsUnsigned 32) text ys → xs ≡ ys }
+    ensures tables { (text : List ℕ) (xs ys : List TableType) → SpellsList SpellsTableType text xs
+        → SpellsList SpellsTableType text ys → xs ≡ ys }
+    ensures memories { (text : List ℕ) (xs ys : List MemoryType)
+        → SpellsList SpellsMemoryType text xs → SpellsList SpellsMemoryType text ys → xs ≡ ys }
+    ensures globals { (text : List ℕ) (xs ys : List PrimitiveTypeInfo)
+        → SpellsList SpellsGlobal text xs → SpellsList SpellsGlobal text ys → xs ≡ ys }
+    ensures entries { (start : ℕ) (text : List ℕ) (xs ys : List Entry)
+        → SpellsEntries start text xs → SpellsEntries start text ys → xs ≡ ys }
+    ensures locals { (params : List PrimitiveTypeInfo) (start : ℕ) (text : List ℕ)
+        (types others : List PrimitiveTypeInfo) (expression place : ℕ)
+        → SpellsLocals params start text types expression
+        → SpellsLocals params start text others place → (types ≡ others) × (expression ≡ place) }
+{
+    parts_are_read();
+}
+
+/// Reading a list as a function takes exactly what spells one, whatever follows it, and fails exactly where none begins the
+/// bytes.
+pub fn lists_are_read()
+    ensures types { Exact (SpellsList SpellsFunctionType)
+        (FailsList SpellsFunctionType FailsFunctionType) (list_at function_type_at) }
+    ensures imports { Exact (SpellsList SpellsImport) (FailsList SpellsImport FailsImport)
+        (list_at import_at) }
+    ensures functions { Exact (SpellsList (SpellsUnsigned 32))
+        (FailsList (SpellsUnsigned 32) (FailsUnsigned 32)) (list_at (unsigned_at 32)) }
+    ensures tables { Exact (SpellsList SpellsTableType)
+        (FailsList SpellsTableType FailsTableType) (list_at table_type_at) }
+    ensures memories { Exact (SpellsList SpellsMemoryType)
+        (FailsList SpellsMemoryType FailsMemoryType) (list_at memory_type_at) }
+    ensures globals { Exact (SpellsList SpellsGlobal) (FailsList SpellsGlobal FailsGlobal)
+        (list_at global_at) }
+    ensures entries { Exact (SpellsList SpellsSized) (FailsList SpellsSized FailsSized)
+        (list_at sized_at) }
+    ensures groups { Exact (SpellsList SpellsGroup) (FailsList SpellsGroup FailsGroup)
+        (list_at group_at) }
+{
+    parts_are_read();
+}

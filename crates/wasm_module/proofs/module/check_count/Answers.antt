@@ -1,0 +1,21 @@
+use Rattle.std.proofs.Common.{◌≢◌, length, ap, arith}
+use Rattle.std.proofs.lemmas.Grind.{common_steps}
+use Rattle.wasm_module.specs.Lists.{Listed}
+use Rattle.wasm_module.specs.Fault.IsModuleFault.{of_the_count}
+use Rattle.wasm_module.proofs.module.check_count.Goals as goal
+
+pub returns-else-len-clause-fault : goal.returns-else-len-clause-fault
+returns-else-len-clause-fault c =
+    let differ : length c.listed.inside.entries.items ≢ length c.listed.inside.functions.items = grind (arith, common_steps) in
+    let entries = ap (λ (l : Listed). length l.entries) c.listed.view_is in
+    let functions = ap (λ (l : Listed). length l.functions) c.listed.view_is in
+    of_the_count (record {
+      sections = c.args.sections.now;
+      spells = c.requires.spells;
+      functions = _;
+      entries = _;
+      functions_are = c.requires.listed.functions_are;
+      entries_are = c.requires.listed.entries_are;
+      differ = λ e. omega (arith, entries, functions, e);
+      at = c.code_start.ensures;
+    })

@@ -1,0 +1,55 @@
+-- Where globals may be appended before an offset of a module, and where an entry of its code stands (this project): for proofs.
+use Rattle.std.specs.Prelude.{◌≡◌, ℕ, ◌≤◌, List, ◌++◌, length, drop, Some, slice_get, slice_range}
+use Rattle.mutate_base.specs.declared.types.PrimitiveTypeInfo.{PrimitiveTypeInfo}
+use Rattle.wasm_declarations.specs.declared.entries.Entry.{Entry}
+use Rattle.wasm_sections.specs.Writing.{section_code}
+use Rattle.wasm_module.specs.Rewritten.{IsFront}
+use Rattle.wasm_code.specs.Number.{SpellsUnsigned}
+use Rattle.wasm_sections.specs.declared.section.Section.{Section}
+use Rattle.wasm_sections.specs.declared.id.SectionId.TheVariants as ids
+use Rattle.wasm_sections.specs.Find.{IsFirstWith, IsPlaceOf, LackId}
+use Rattle.wasm_sections.specs.Section.{SpellsModule}
+use Rattle.wasm_module.specs.Module.{Layout}
+
+-- that number begins the text
+pub record HasCount (text : List ℕ) (n : ℕ) : Type 0 where
+  pub count : List ℕ
+  pub items : List ℕ
+  pub parts : text ≡ count ++ items
+  pub counts : SpellsUnsigned 32 count n
+
+-- the section ends before the offset, and begins with that number
+pub record HasGlobals (bytes : List ℕ) (own to : ℕ) (section : Section) : Type 0 where
+  pub start : section.start ≤ section.contents
+  pub order : section.contents ≤ section.end
+  pub before : section.end ≤ to
+  pub counted : HasCount (slice_range bytes section.contents section.end) own
+
+-- the global section, or the place of one, is before the offset
+pub record HasRoom (bytes : List ℕ) (layout : Layout) (to : ℕ) : Type 0 where
+  pub spells : SpellsModule bytes layout.sections
+  pub inside : to ≤ length bytes
+  pub globals : (s : Section) → IsFirstWith layout.sections ids.Global s → HasGlobals bytes layout.own_globals to s
+  pub place : (place : ℕ) → IsPlaceOf layout.sections ids.Global place → place ≤ to
+
+-- the entry lies in the code section
+pub record IsEntryOf (bytes : List ℕ) (code_contents start end code_end : ℕ) : Type 0 where
+  pub first : code_contents ≤ start
+  pub order : start ≤ end
+  pub last : end ≤ code_end
+  pub inside : code_end ≤ length bytes
+
+-- where the n-th entry of the code stands, and that globals may be appended before the code
+pub record IsCodePlace (bytes : List ℕ) (layout : Layout) (n : ℕ) (code : Section) (entry : Entry) : Type 0 where
+  pub code_is : IsFirstWith layout.sections ids.Code code
+  pub entry_is : slice_get layout.entries n ≡ Some entry
+  pub room : HasRoom bytes layout code.start
+  pub order : code.start ≤ code.end
+  pub inside : code.end ≤ length bytes
+  pub placed : IsEntryOf bytes code.contents entry.start entry.end code.end
+
+-- the bytes are those before the code section, with more globals, a code section with that contents, and what stands behind the code section
+pub record IsJoined (bytes : List ℕ) (layout : Layout) (more : List PrimitiveTypeInfo) (code : Section) (contents new : List ℕ) : Type 0 where
+  pub front : List ℕ
+  pub front_is : IsFront bytes layout more code.start front
+  pub new_is : new ≡ front ++ section_code ids.Code contents ++ drop code.end bytes

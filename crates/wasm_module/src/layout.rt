@@ -1,0 +1,41 @@
+//! Where things stand in a module.
+
+use mutate_base::ModuleInfo;
+use std::marker::Model;
+use wasm_declarations::Entry;
+use wasm_sections::Section;
+
+/// Where things stand in a module, and how many come from outside.
+#[derive(Drop)]
+pub struct Layout {
+    /// The sections, in order.
+    pub sections: Vec<Section>,
+    /// How many functions are imported. The function of the n-th code entry has the index n behind these.
+    pub imported_functions: usize,
+    /// How many globals the module's own section has.
+    pub own_globals: usize,
+    /// The entries of the code section.
+    pub entries: Vec<Entry>,
+}
+
+impl Model for Layout {
+    ghost use Rattle.wasm_module.specs.Module.{Layout};
+
+    ghost Value = { Layout };
+
+    ghost view = { λ l. record {
+      sections = l.sections.items;
+      imported_functions = l.imported_functions;
+      own_globals = l.own_globals;
+      entries = l.entries.items;
+    } };
+}
+
+/// A module: what it declares, and where it does.
+#[derive(Drop)]
+pub struct Module<'a> {
+    /// The types of its functions, globals, tables and memories, the imported ones first.
+    pub info: ModuleInfo<'a>,
+    /// Where its sections and its functions' bodies stand.
+    pub layout: Layout,
+}

@@ -1,0 +1,20 @@
+//! Modules of WebAssembly: what they declare, where their function bodies stand, and the module with another body and more
+//! globals.
+#![tactic(auto)]
+
+mod contents;
+mod front;
+mod globals;
+mod imports;
+pub mod laws;
+mod layout;
+mod listed;
+mod lists;
+mod module;
+mod writing;
+
+pub use layout::{Layout, Module};
+pub use module::read_module;
+pub use wasm_declarations::{Entry, Locals, read_locals};
+pub use wasm_sections::{ModuleError, ModuleFault, Section, SectionId, WriteError};
+pub use writing::with_body;

@@ -1,0 +1,144 @@
+//! What the sections of a module list.
+ghost use Rattle.std.specs.Prelude.{◌≡◌, IfOk, IfErr};
+ghost use Rattle.wasm_code.specs.Number.{SpellsUnsigned};
+ghost use Rattle.wasm_sections.specs.Section.{SpellsModule};
+ghost use Rattle.wasm_sections.specs.declared.id.SectionId.TheVariants as ids;
+ghost use Rattle.wasm_declarations.specs.List.{SpellsList};
+ghost use Rattle.wasm_declarations.specs.Types.{SpellsFunctionType};
+ghost use Rattle.wasm_declarations.specs.Imports.{SpellsImport};
+ghost use Rattle.wasm_declarations.specs.Tables.{SpellsTableType, SpellsMemoryType};
+ghost use Rattle.wasm_declarations.specs.Globals.{SpellsGlobal};
+ghost use Rattle.wasm_declarations.specs.Entries.{SpellsEntries};
+ghost use Rattle.wasm_module.specs.Module.{Lists};
+ghost use Rattle.wasm_module.specs.Lists.{AreListed};
+ghost use Rattle.wasm_module.specs.Fault.{HasFault, HasListFault};
+
+use crate::contents::contents_with;
+use crate::listed::Listed;
+use mutate_base::{MemoryType, PrimitiveTypeInfo, TableType, TypeInfo};
+use std::alloc::Global;
+use wasm_declarations::{
+    Entry, Import, read_entries, read_functions, read_globals, read_imports, read_memories,
+    read_tables, read_types,
+};
+use wasm_sections::{ModuleError, Section, SectionId};
+
+fn types_in(alloc: Global, bytes: &[u8], sections: &[Section]) -> Result<Vec<TypeInfo>, ModuleError>
+    requires { SpellsModule bytes.now sections.now }
+    ensures found { IfOk result (λ v. Lists (λ _. SpellsList SpellsFunctionType)
+        bytes.now sections.now ids.Type v.items) }
+    ensures fault { IfErr result (λ e.
+        HasFault bytes.now sections.now ids.Type e.kind e.offset) }
+{
+    match contents_with(bytes, sections, SectionId::Type) {
+        Some((contents, start)) => read_types(alloc, contents, start),
+        None => Ok(Vec::new(alloc)),
+    }
+}
+
+fn imports_in(alloc: Global, bytes: &[u8], sections: &[Section]) -> Result<Vec<Import>, ModuleError>
+    requires { SpellsModule bytes.now sections.now }
+    ensures found { IfOk result (λ v. Lists (λ _. SpellsList SpellsImport)
+        bytes.now sections.now ids.Import v.items) }
+    ensures fault { IfErr result (λ e.
+        HasFault bytes.now sections.now ids.Import e.kind e.offset) }
+{
+    match contents_with(bytes, sections, SectionId::Import) {
+        Some((contents, start)) => read_imports(alloc, contents, start),
+        None => Ok(Vec::new(alloc)),
+    }
+}
+
+fn functions_in(alloc: Global, bytes: &[u8], sections: &[Section]) -> Result<Vec<u32>, ModuleError>
+    requires { SpellsModule bytes.now sections.now }
+    ensures found { IfOk result (λ v. Lists (λ _. SpellsList (SpellsUnsigned 32))
+        bytes.now sections.now ids.Function v.items) }
+    ensures fault { IfErr result (λ e.
+        HasFault bytes.now sections.now ids.Function e.kind e.offset) }
+{
+    match contents_with(bytes, sections, SectionId::Function) {
+        Some((contents, start)) => read_functions(alloc, contents, start),
+        None => Ok(Vec::new(alloc)),
+    }
+}
+
+fn tables_in(
+    alloc: Global,
+    bytes: &[u8],
+    sections: &[Section],
+) -> Result<Vec<TableType>, ModuleError>
+    requires { SpellsModule bytes.now sections.now }
+    ensures found { IfOk result (λ v. Lists (λ _. SpellsList SpellsTableType)
+        bytes.now sections.now ids.Table v.items) }
+    ensures fault { IfErr result (λ e.
+        HasFault bytes.now sections.now ids.Table e.kind e.offset) }
+{
+    match contents_with(bytes, sections, SectionId::Table) {
+        Some((contents, start)) => read_tables(alloc, contents, start),
+        None => Ok(Vec::new(alloc)),
+    }
+}
+
+fn memories_in(
+    alloc: Global,
+    bytes: &[u8],
+    sections: &[Section],
+) -> Result<Vec<MemoryType>, ModuleError>
+    requires { SpellsModule bytes.now sections.now }
+    ensures found { IfOk result (λ v. Lists (λ _. SpellsList SpellsMemoryType)
+        bytes.now sections.now ids.Memory v.items) }
+    ensures fault { IfErr result (λ e.
+        HasFault bytes.now sections.now ids.Memory e.kind e.offset) }
+{
+    match contents_with(bytes, sections, SectionId::Memory) {
+        Some((contents, start)) => read_memories(alloc, contents, start),
+        None => Ok(Vec::new(alloc)),
+    }
+}
+
+fn globals_in(
+    alloc: Global,
+    bytes: &[u8],
+    sections: &[Section],
+) -> Result<Vec<PrimitiveTypeInfo>, ModuleError>
+    requires { SpellsModule bytes.now sections.now }
+    ensures found { IfOk result (λ v. Lists (λ _. SpellsList SpellsGlobal)
+        bytes.now sections.now ids.Global v.items) }
+    ensures fault { IfErr result (λ e.
+        HasFault bytes.now sections.now ids.Global e.kind e.offset) }
+{
+    match contents_with(bytes, sections, SectionId::Global) {
+        Some((contents, start)) => read_globals(alloc, contents, start),
+        None => Ok(Vec::new(alloc)),
+    }
+}
+
+fn entries_in(alloc: Global, bytes: &[u8], sections: &[Section]) -> Result<Vec<Entry>, ModuleError>
+    requires { SpellsModule bytes.now sections.now }
+    ensures found { IfOk result (λ v. Lists SpellsEntries
+        bytes.now sections.now ids.Code v.items) }
+    ensures fault { IfErr result (λ e.
+        HasFault bytes.now sections.now ids.Code e.kind e.offset) }
+{
+    match contents_with(bytes, sections, SectionId::Code) {
+        Some((contents, start)) => read_entries(alloc, contents, start),
+        None => Ok(Vec::new(alloc)),
+    }
+}
+
+/// What the sections of the module list.
+pub fn read_lists(alloc: Global, bytes: &[u8], sections: &[Section]) -> Result<Listed, ModuleError>
+    requires { SpellsModule bytes.now sections.now }
+    ensures found { IfOk result (λ l. AreListed bytes.now sections.now l) }
+    ensures fault { IfErr result (λ e. HasListFault bytes.now e.kind e.offset) }
+{
+    Ok(Listed {
+        types: types_in(alloc, bytes, sections)?,
+        imports: imports_in(alloc, bytes, sections)?,
+        functions: functions_in(alloc, bytes, sections)?,
+        tables: tables_in(alloc, bytes, sections)?,
+        memories: memories_in(alloc, bytes, sections)?,
+        globals: globals_in(alloc, bytes, sections)?,
+        entries: entries_in(alloc, bytes, sections)?,
+    })
+}

@@ -1,0 +1,107 @@
+//! What a module declares, and where its functions' bodies stand.
+ghost use Rattle.std.specs.Prelude.{◌≡◌, ◌≢◌, length, IfOk, IfErr, OnOk};
+ghost use Rattle.wasm_sections.specs.Section.{SpellsModule};
+ghost use Rattle.wasm_module.specs.Module.{IsModule};
+ghost use Rattle.wasm_module.specs.Lists.{AreListed};
+ghost use Rattle.wasm_module.specs.Fault.{IsCodeStart, HasOtherCount, IsModuleFault};
+ghost use Rattle.wasm_sections.specs.declared.fault.ModuleFault.TheVariants.{CodeCount};
+
+use crate::imports::{imported_functions, imported_globals, imported_memories, imported_tables};
+use crate::layout::{Layout, Module};
+use crate::listed::Listed;
+use crate::lists::read_lists;
+use mutate_base::ModuleInfo;
+use std::alloc::{AllocError, Global};
+use wasm_sections::{ModuleError, ModuleFault, Section, SectionId, find_section, read_sections};
+
+/// The start of the code section, or the end of the bytes where there is none.
+fn code_start(bytes: &[u8], sections: &[Section]) -> usize
+    ensures { IsCodeStart bytes.now sections.now result }
+{
+    match find_section(sections, SectionId::Code) {
+        Some(code) => code.start,
+        None => bytes.len(),
+    }
+}
+
+/// Whether there are as many code entries as functions.
+fn check_count(bytes: &[u8], sections: &[Section], listed: &Listed) -> Result<(), ModuleError>
+    requires spells { SpellsModule bytes.now sections.now }
+    requires listed { AreListed bytes.now sections.now listed.now }
+    ensures ok { OnOk result (length listed.now.entries ≡ length listed.now.functions) }
+    ensures fault { IfErr result (λ e. IsModuleFault bytes.now e.kind e.offset) }
+{
+    if listed.entries.len() == listed.functions.len() {
+        Ok(())
+    } else {
+        Err(ModuleError {
+            kind: ModuleFault::CodeCount,
+            offset: code_start(bytes, sections),
+        })
+    }
+}
+
+/// The module that lists these; in each index space what is imported comes first.
+fn module_of<'a>(
+    alloc: Global,
+    bytes: &'a [u8],
+    sections: Vec<Section>,
+    listed: Listed,
+) -> Result<Module<'a>, AllocError>
+    requires spells { SpellsModule bytes.now sections.items }
+    requires listed { AreListed bytes.now sections.items listed }
+    requires count { length listed.entries ≡ length listed.functions }
+    ensures { IfOk result (λ m. IsModule bytes.now m.info m.layout) }
+{
+    let mut functions = imported_functions(alloc, &listed.imports)?;
+    let imported = functions.len();
+    functions.extend_from_slice(&listed.functions)?;
+    let mut tables = imported_tables(alloc, &listed.imports)?;
+    tables.extend_from_slice(&listed.tables)?;
+    let mut memories = imported_memories(alloc, &listed.imports)?;
+    memories.extend_from_slice(&listed.memories)?;
+    let mut globals = imported_globals(alloc, &listed.imports)?;
+    globals.extend_from_slice(&listed.globals)?;
+    let own_globals = listed.globals.len();
+    Ok(Module {
+        info: ModuleInfo {
+            input_wasm: bytes,
+            global_types: globals,
+            types_map: listed.types,
+            function_map: functions,
+            table_types: tables,
+            memory_types: memories,
+        },
+        layout: Layout {
+            sections,
+            imported_functions: imported,
+            own_globals,
+            entries: listed.entries,
+        },
+    })
+}
+
+/// Reads what a module declares and where its functions' bodies stand (WebAssembly Core Specification 3.0, Binary Format,
+/// Modules).
+///
+/// Sections are told apart by `read_sections`, and refused as it refuses. Then the sections of types, imports, functions, tables,
+/// memories, globals and code are read, each by the call of its name in `wasm_declarations`, and refused as that refuses; the
+/// others' contents aren't looked at. `CodeCount`, at the code section, or at the end of the bytes where there is none, where there
+/// are not as many code entries as functions of the module's own; `Memory` where no memory was left. The bodies aren't read.
+pub fn read_module<'a>(alloc: Global, bytes: &'a [u8]) -> Result<Module<'a>, ModuleError>
+    // What is read is declared so.
+    ensures read { IfOk result (λ m. IsModule bytes.now m.info m.layout) }
+    // What doesn't come from memory is a fault of the bytes.
+    ensures fault { IfErr result (λ e. IsModuleFault bytes.now e.kind e.offset) }
+{
+    let sections = read_sections(alloc, bytes)?;
+    let listed = read_lists(alloc, bytes, &sections)?;
+    check_count(bytes, &sections, &listed)?;
+    match module_of(alloc, bytes, sections, listed) {
+        Ok(module) => Ok(module),
+        Err(_) => Err(ModuleError {
+            kind: ModuleFault::Memory,
+            offset: 0,
+        }),
+    }
+}

@@ -1,0 +1,70 @@
+//! Laws on modules as sections: functions that do nothing, and whose contracts hold for all values.
+ghost use Rattle.std.specs.Prelude.{◌≡◌, ◌≢◌, ◌<◌, ◌≤◌, ◌^◌, ◌++◌, ℕ, List, ◌∷◌, length, take, drop, All};
+ghost use Rattle.wasm_sections.specs.Section.{SpellsModule, parts_of};
+ghost use Rattle.wasm_sections.specs.Sections.{IsSectionFault};
+ghost use Rattle.wasm_sections.specs.declared.fault.ModuleFault.{ModuleFault};
+ghost use Rattle.wasm_sections.specs.declared.fault.ModuleFault.TheVariants.{Memory};
+ghost use Rattle.wasm_sections.specs.Find.{IsFirstWith, IsPlaceOf};
+ghost use Rattle.wasm_sections.specs.Writing.{section_code};
+ghost use Rattle.wasm_sections.specs.Laws.{SpellsParts, AreJoined, IsWithin, IsInOrderAt};
+ghost use Rattle.wasm_sections.specs.declared.section.Section.{Section};
+ghost use Rattle.wasm_sections.specs.declared.id.SectionId.{SectionId};
+ghost use Rattle.wasm_sections.specs.declared.id.SectionId.TheVariants as ids;
+
+use wasm_code::laws::shortest_is_a_spelling;
+
+/// Bytes spell one module at most.
+pub fn one_module()
+    ensures { (bytes : List ℕ) (xs ys : List Section) → SpellsModule bytes xs
+        → SpellsModule bytes ys → xs ≡ ys }
+{}
+
+/// Bytes have one fault at most.
+pub fn one_fault()
+    ensures { (bytes : List ℕ) (one other : ModuleFault) (at to : ℕ) → IsSectionFault bytes one at
+        → IsSectionFault bytes other to → one ≢ Memory → other ≢ Memory
+        → (one ≡ other) × (at ≡ to) }
+{}
+
+/// The sections of a module fill it behind the preamble, one behind another, and so each lies within it.
+pub fn sections_fill_the_module()
+    ensures joined { (bytes : List ℕ) (sections : List Section) → SpellsModule bytes sections
+        → AreJoined 8 sections (length bytes) }
+    ensures each { (bytes : List ℕ) (sections : List Section) → SpellsModule bytes sections
+        → All (IsWithin 8 (length bytes)) sections }
+    ensures found { (bytes : List ℕ) (sections : List Section) (id : SectionId) (s : Section)
+        → SpellsModule bytes sections → IsFirstWith sections id s → IsWithin 8 (length bytes) s }
+{}
+
+/// A place for a section lies within the module, behind each section that has to precede it and before each that has to follow
+/// it; custom sections stand on either side.
+pub fn places_are_in_order()
+    ensures within { (bytes : List ℕ) (sections : List Section) (id : SectionId) (place : ℕ)
+        → SpellsModule bytes sections → IsPlaceOf sections id place
+        → (8 ≤ place) × (place ≤ length bytes) }
+    ensures order { (bytes : List ℕ) (sections : List Section) (id : SectionId) (place : ℕ)
+        → SpellsModule bytes sections → IsPlaceOf sections id place
+        → All (IsInOrderAt place id) sections }
+{}
+
+/// A module in which one section is written anew, with other contents, is a module with these contents in place of the old ones.
+/// The section isn't custom, since other contents of a custom section might make the module a linkable object.
+pub fn replaced_section()
+    ensures { (bytes contents : List ℕ) (before behind : List Section) (s : Section)
+        → SpellsModule bytes (before ++ s ∷ behind) → s.id ≢ ids.Custom → length contents < 2 ^ 32
+        → SpellsParts (take s.start bytes ++ section_code s.id contents ++ drop s.end bytes)
+        (parts_of bytes before ++ (s.id, contents) ∷ parts_of bytes behind) }
+{
+    shortest_is_a_spelling();
+}
+
+/// A module with a section more, at a place of its id, is a module with this section between the others.
+pub fn added_section()
+    ensures { (bytes contents : List ℕ) (sections : List Section) (id : SectionId) (place : ℕ)
+        → SpellsModule bytes sections → (p : IsPlaceOf sections id place) → id ≢ ids.Custom
+        → length contents < 2 ^ 32
+        → SpellsParts (take place bytes ++ section_code id contents ++ drop place bytes)
+        (parts_of bytes p.before ++ (id, contents) ∷ parts_of bytes p.behind) }
+{
+    shortest_is_a_spelling();
+}
