@@ -1,0 +1,1 @@
+//! Options, and runs with devices that fail.
