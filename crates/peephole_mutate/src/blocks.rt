@@ -33,7 +33,7 @@ pub enum Unfit {
 }
 
 // Why no graph holds the only operator, or none where one does.
-fn unfit(
+fn unfit_operator(
     alloc: Global,
     config: &WasmMutate<'_, Words>,
     operator: &[OperatorAndByteOffset],
@@ -83,7 +83,7 @@ fn write_first_unfit<W: Write>(
     requires { IsTrue (is_some config.now.setup) }
 {
     for index in 0..operators.len() {
-        if let Some(unfit) = unfit(alloc, config, &operators[index..index + 1])? {
+        if let Some(unfit) = unfit_operator(alloc, config, &operators[index..index + 1])? {
             let operator = start.saturating_add(index);
             write!(output, ", no graph: operator {operator} {unfit}")?;
             return Ok(());
@@ -112,7 +112,10 @@ fn write_block<W: Write>(
     let behind = range.end;
     let operators = &function.operators[start..behind];
     let integer = integer_count(&function.locals, config.info(), operators);
-    write!(output, "function {index} block {start}..{behind} integer {integer}")?;
+    write!(
+        output,
+        "function {index} block {start}..{behind} integer {integer}"
+    )?;
     write_first_unfit(alloc, config, operators, start, output)?;
     writeln!(output)?;
     Ok(())

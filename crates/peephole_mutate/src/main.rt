@@ -21,10 +21,10 @@ mod tests;
 use options::{command, options_of, rule_names};
 use running::run;
 use std::alloc::Global;
-use std::env;
-use std::io;
+use std::env::Env;
 use std::io::BufWriter;
 use std::process::ExitCode;
+use std::{env, io};
 
 // The exit status where the options can't be read.
 const USAGE: u8 = 64;
@@ -61,7 +61,13 @@ fn main(rt: HostRuntime) -> ExitCode {
     let Ok(mut output) = BufWriter::new(alloc, rt.stdout()) else {
         return ExitCode::FAILURE;
     };
-    match run(alloc, &options, &mut rt.stdin(), &mut output, &mut rt.stderr()) {
+    match run(
+        alloc,
+        &options,
+        &mut rt.stdin(),
+        &mut output,
+        &mut rt.stderr(),
+    ) {
         Ok(()) => ExitCode::SUCCESS,
         Err(failure) => {
             let _ = eprintln!(rt; "{failure}");

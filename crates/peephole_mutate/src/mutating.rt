@@ -11,11 +11,7 @@ use std::alloc::Global;
 
 /// The module rewritten as many times as the options say, by their rules, with a generator made from their seed. `Nothing` only
 /// where no rule applies; `Refused` where the module, or one on the way, is refused.
-pub fn rewritten(
-    alloc: Global,
-    bytes: &[u8],
-    options: &Options,
-) -> Result<RewrittenModule, Failure>
+pub fn rewritten(alloc: Global, bytes: &[u8], options: &Options) -> Result<RewrittenModule, Failure>
     ensures mutated { IfOk result (λ m. Mutates options.now.rules.items options.now.function
         options.now.count bytes.now m.made.items m.bytes.items) }
     ensures nothing { result ≡ Err Nothing

@@ -76,7 +76,9 @@ fn rule_argument<'a>(alloc: Global, names: &'a [&'a str]) -> Arg<'a> {
         .value_name("NAME")
         .action(ArgAction::Append)
         .value_parser(names)
-        .help("Only the rules that are named so, each by an option of its own; all rules where none is named")
+        .help(
+            "Only the rules that are named so, each by an option of its own; all rules where none is named",
+        )
 }
 
 fn list_argument<'a>(alloc: Global) -> Arg<'a> {
@@ -106,7 +108,9 @@ fn stats_argument<'a>(alloc: Global) -> Result<Arg<'a>, AllocError> {
 pub fn command<'a>(alloc: Global, names: &'a [&'a str]) -> Result<Command<'a>, AllocError> {
     Command::new(alloc, "peephole_mutate")
         .version("1.0.0")
-        .about("Rewrites the WebAssembly module on standard input so that it runs as before, and writes it to standard output")
+        .about(
+            "Rewrites the WebAssembly module on standard input so that it runs as before, and writes it to standard output",
+        )
         .arg(seed_argument(alloc))?
         .arg(count_argument(alloc))?
         .arg(function_argument(alloc))?

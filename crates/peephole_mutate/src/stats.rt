@@ -39,11 +39,7 @@ fn report_function<W: Write>(
 
 // Writes a line for each function that can't be read, and how many functions the module has of its own, and of those how many
 // can't be read.
-fn report_functions<W: Write>(
-    alloc: Global,
-    bytes: &[u8],
-    notes: &mut W,
-) -> Result<(), Failure> {
+fn report_functions<W: Write>(alloc: Global, bytes: &[u8], notes: &mut W) -> Result<(), Failure> {
     let module = module_of(alloc, bytes)?;
     let count = module.layout.entries.len();
     let mut unreadable = 0usize;
