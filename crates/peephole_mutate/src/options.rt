@@ -5,6 +5,7 @@ use clap::error::ErrorKind;
 use clap::{Arg, ArgAction, ArgMatches, Command, Error, value_parser};
 use peephole_rules::{RULES, Rule};
 use std::alloc::{AllocError, Global};
+use std::convert::AsStr;
 
 /// What a run does with the module.
 #[derive(Clone, Copy, Debug, PartialEq, Eq)]
@@ -150,10 +151,10 @@ fn task_of(matches: &ArgMatches<'_>) -> Task {
 ///
 /// An error where they can't be read, with clap's text: an unknown rule is told with the names of all rules; and for `--help` and
 /// `--version`, with what is to be printed. A count of 0 is an error too.
-pub fn options_of<'a>(
+pub fn options_of<'a, S: AsStr>(
     alloc: Global,
     names: &'a [&'a str],
-    words: &'a [String],
+    words: &'a [S],
 ) -> Result<Options, Error> {
     let mut command = command(alloc, names)?;
     let matches = command.try_get_matches_from_mut(words)?;
