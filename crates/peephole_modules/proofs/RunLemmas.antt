@@ -49,7 +49,23 @@ integer_one locals globals os n inside = (forth, back)
         let is : get_or (slice_range os n (n + 1)) k d ≡ get_or os n d = ap (λ i. get_or (slice_range os n (n + 1)) i d) at ∙ only_one os n d in
         subst (λ (x : Operator × ℕ). IsIntegerOperator locals globals x.0) (sym is) (h (get_or os n d) (slice_get-get_or os n d inside))
 
+pub passes_there : (os : Operators) (n : ℕ) (d : Operator × ℕ) → n < length os → is_delimiter (get_or os n d).0 ≡ false →
+    (p : Operator × ℕ) → slice_get os n ≡ Some p → is_delimiter p.0 ≡ false
+passes_there os n d inside passed p at =
+    let same : get_or os n d ≡ p = stands_there os n d p inside at in
+    subst (λ (x : Operator × ℕ). is_delimiter x.0 ≡ false) same passed
+
 -- ---- a run goes on
+
+-- before the first operator
+pub first_run : (locals globals : Types) (os : Operators) → InRun locals globals os 0
+first_run locals globals os = record {
+  start = 0;
+  some = omega arith;
+  none = λ k p low high e. absurd (omega arith);
+  longest = λ from h. omega arith;
+  integer = λ k p low high e. absurd (omega arith);
+}
 
 -- behind a delimiter a block begins
 pub run_begins : (locals globals : Types) (os : Operators) (n : ℕ) (o : Operator × ℕ) → slice_get os n ≡ Some o → is_delimiter o.0 ≡ true →
@@ -172,6 +188,6 @@ ends_kept locals globals os i ends before none n = (
   ],
 )
 
-pub all_ends : (locals globals : Types) (os : Operators) (ends : List ℕ) → AreEnds locals globals os (length os) ends → (n : ℕ) →
+pub all_ends : (locals globals : Types) (os : Operators) (i : ℕ) (ends : List ℕ) → length os ≤ i → AreEnds locals globals os i ends → (n : ℕ) →
     Contains ends n ↔ EndsRun locals globals os n
-all_ends locals globals os ends are n = (λ h. ((are n).0 h).1, λ e. (are n).1 (e.inside, e))
+all_ends locals globals os i ends past are n = (λ h. ((are n).0 h).1, λ e. (are n).1 (omega (arith, e.inside), e))

@@ -1,4 +1,2 @@
 pub mod Runs
 pub mod Body
-pub mod Function
-pub mod Mutated

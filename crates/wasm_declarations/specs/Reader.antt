@@ -57,7 +57,7 @@ abbrev pub StopsBy : {A : Type 0} → (List ℕ → Result (A × List ℕ) Cause
 StopsBy at number bytes (refusals.Bytes cause) left = StopsEach at number bytes cause left
 StopsBy at number bytes refusals.Memory left = Unit {0}
 
--- the count fails, or one of the items
+-- one of the items that the count says fails
 pub record StopsList {A : Type 0} (at : List ℕ → Result (A × List ℕ) Cause) (start : ℕ) (text : List ℕ) (cause : Cause) (offset : ℕ) : Type 0 where
   pub number : ℕ
   pub rest : List ℕ

@@ -50,11 +50,15 @@ fn two_types(rt: HostRuntime) -> Result<(), Fail> {
 #[test]
 fn imports_of_each_kind(rt: HostRuntime) -> Result<(), Fail> {
     let contents = [
-        0x05, // "m" "f", the function of type 3
-        0x01, b'm', 0x01, b'f', 0x00, 0x03, // "" "t", a table of 2 to 5 functions
-        0x00, 0x01, b't', 0x01, 0x70, 0x01, 0x02, 0x05, // "" "", a memory that 64 bits index
-        0x00, 0x00, 0x02, 0x04, 0x80, 0x01, // "" "", a global of type i64 that may be written
-        0x00, 0x00, 0x03, 0x7e, 0x01, // "" "", a tag of type 9
+        // five imports: "m" "f", the function of type 3
+        0x05, 0x01, b'm', 0x01, b'f', 0x00, 0x03,
+        // "" "t", a table of 2 to 5 functions
+        0x00, 0x01, b't', 0x01, 0x70, 0x01, 0x02, 0x05,
+        // "" "", a memory of 128 pages or more that 64 bits index
+        0x00, 0x00, 0x02, 0x04, 0x80, 0x01,
+        // "" "", a global of type i64 that may be written
+        0x00, 0x00, 0x03, 0x7e, 0x01,
+        // "" "", a tag of type 9
         0x00, 0x00, 0x04, 0x00, 0x09,
     ];
     let imports = read_imports(rt.alloc(), contents.as_slice(), 100)?;
@@ -109,9 +113,11 @@ fn limits_of_each_form(rt: HostRuntime) -> Result<(), Fail> {
 #[test]
 fn globals_with_initialisers(rt: HostRuntime) -> Result<(), Fail> {
     let contents = [
-        0x03, // i32, i32.const 5
-        0x7f, 0x00, 0x41, 0x05, 0x0b, // i64, to be written, global.get 0, i64.const 1, i64.add
-        0x7e, 0x01, 0x23, 0x00, 0x42, 0x01, 0x7c, 0x0b, // funcref, ref.null func
+        // three globals: i32, i32.const 5
+        0x03, 0x7f, 0x00, 0x41, 0x05, 0x0b,
+        // i64 that may be written, global.get 0, i64.const 1, i64.add
+        0x7e, 0x01, 0x23, 0x00, 0x42, 0x01, 0x7c, 0x0b,
+        // funcref, ref.null func
         0x70, 0x00, 0xd0, 0x70, 0x0b,
     ];
     let globals = read_globals(rt.alloc(), contents.as_slice(), 7)?;

@@ -1,9 +1,9 @@
 -- The number that begins a text, and what follows it.
-use Rattle.std.proofs.Common.{◌≡◌, ℕ, ◌+◌, ◌<◌, List, [], ◌∷◌, ◌++◌, length, Result, Ok, Err, refl, sym, ap, ◌∙◌, arith}
+use Rattle.std.proofs.Common.{◌≡◌, ℕ, List, ◌++◌, Result, Ok, Err, sym, ap, ◌∙◌}
 use Rattle.wasm_code.specs.declared.fault.Cause.{Cause}
 use Rattle.wasm_code.specs.Number.{SpellsUnsigned}
 use Rattle.wasm_code.specs.Reader.{unsigned_at}
-use Rattle.wasm_code.specs.laws.GrammarLemmas.{Exact, ok_is}
+use Rattle.wasm_code.specs.laws.GrammarLemmas.{ok_is}
 use Rattle.wasm_code.specs.laws.NumberExact.{unsigned_exact}
 use Rattle.wasm_module.specs.Room.{HasCount}
 

@@ -1,21 +1,20 @@
 -- Sections by their id: at most one is found, and those of smaller ranks end before those of greater ones start.
-use Rattle.std.proofs.Common.{◌≡◌, ◌⊎◌, inl, inr, ℕ, ◌+◌, ◌-◌, ◌<◌, ◌≤◌, List, [], ◌∷◌, ◌++◌, length, refl, sym, ap, subst, ◌∙◌, arith}
+use Rattle.std.proofs.Common.{◌≡◌, inl, inr, ℕ, ◌<◌, ◌≤◌, List, [], ◌∷◌, ◌++◌, sym, ap, subst, ◌∙◌, arith}
 use Rattle.std.specs.Prelude.{max, slice_range}
 use Rattle.wasm_sections.specs.declared.section.Section.{Section}
 use Rattle.wasm_sections.specs.declared.id.SectionId.{SectionId}
-use Rattle.wasm_sections.specs.declared.id.SectionId.TheVariants as ids
 use Rattle.wasm_sections.specs.Id.{rank_of}
-use Rattle.wasm_sections.specs.Section.{AreInOrder, SpellsModule}
+use Rattle.wasm_sections.specs.Section.{AreInOrder}
 use Rattle.wasm_sections.specs.Laws.{AreJoined}
-use Rattle.wasm_sections.specs.Find.{LackId, IsFirstWith, end_of, AreBefore, AreBehind, IsPlaceOf}
+use Rattle.wasm_sections.specs.Find.{LackId, IsFirstWith, end_of, AreBefore, IsPlaceOf}
 use Rattle.wasm_module.specs.Module.{Lists}
 
 -- ---- the first section with an id
 
-head_is : (s t : Section) (ss ts : List Section) → s ∷ ss ≡ t ∷ ts → s ≡ t
+pub head_is : (s t : Section) (ss ts : List Section) → s ∷ ss ≡ t ∷ ts → s ≡ t
 head_is s t ss ts e = cc
 
-tail_is : (s t : Section) (ss ts : List Section) → s ∷ ss ≡ t ∷ ts → ss ≡ ts
+pub tail_is : (s t : Section) (ss ts : List Section) → s ∷ ss ≡ t ∷ ts → ss ≡ ts
 tail_is s t ss ts e = cc
 
 firsts : (id : SectionId) (s t : Section) (before before' behind behind' : List Section) → before ++ s ∷ behind ≡ before' ++ t ∷ behind' → s.id ≡ id →
@@ -62,7 +61,7 @@ joined_behind (x ∷ before) behind s from to j =
     omega (arith, j.0, j.1, j.2, le)
 
 -- a section stands behind others that have ranks, and its own is greater
-ordered_behind : (before behind : List Section) (s : Section) (last : ℕ) → AreInOrder last (before ++ s ∷ behind) → 0 < rank_of s.id → last < rank_of s.id
+pub ordered_behind : (before behind : List Section) (s : Section) (last : ℕ) → AreInOrder last (before ++ s ∷ behind) → 0 < rank_of s.id → last < rank_of s.id
 ordered_behind [] behind s last o some = o.0 some
 ordered_behind (x ∷ before) behind s last o some =
     let lt : max last (rank_of x.id) < rank_of s.id = ordered_behind before behind s (max last (rank_of x.id)) o.1 some in

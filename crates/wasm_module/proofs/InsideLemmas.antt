@@ -1,20 +1,18 @@
 -- Where code entries stand in a module's bytes.
-use Rattle.std.proofs.Common.{◌≡◌, ◌⊎◌, inl, inr, ℕ, zero, suc, ◌+◌, ◌-◌, ◌<◌, ◌≤◌, List, [], ◌∷◌, ◌++◌, length, take, drop, Option, Some, None, refl, sym, ap, subst, ◌∙◌, arith}
+use Rattle.std.proofs.Common.{◌≡◌, inl, inr, ℕ, zero, suc, ◌+◌, ◌<◌, ◌≤◌, List, [], ◌∷◌, length, Some, refl, sym, ap, subst, ◌∙◌, arith}
 use Rattle.std.specs.Prelude.{slice_get, slice_range}
-use Rattle.std.proofs.lemmas.List.{length-append, length-take, length-drop}
+use Rattle.std.proofs.lemmas.List.{length-append}
 use Rattle.std.proofs.lemmas.Grind.{common_steps}
-use Rattle.wasm_code.specs.Grammar.{Then, Of, AreBytes}
-use Rattle.wasm_code.specs.Number.{SpellsUnsigned, IsGroup}
-use Rattle.mutate_base.specs.Module.{Module}
+use Rattle.wasm_code.specs.Number.{IsGroup}
 use Rattle.wasm_sections.specs.declared.section.Section.{Section}
 use Rattle.wasm_sections.specs.declared.id.SectionId.{SectionId}
 use Rattle.wasm_sections.specs.declared.id.SectionId.TheVariants as ids
 use Rattle.wasm_sections.specs.Laws.{IsWithin}
-use Rattle.wasm_sections.specs.Find.{IsFirstWith, LackId}
+use Rattle.wasm_sections.specs.Find.{IsFirstWith}
 use Rattle.wasm_declarations.specs.declared.entries.Entry.{Entry}
-use Rattle.wasm_declarations.specs.List.{Each, SpellsList}
-use Rattle.wasm_declarations.specs.Entries.{Measured, SpellsSized, entries_from, SpellsEntries}
-use Rattle.wasm_module.specs.Module.{Layout, Lists, IsModule}
+use Rattle.wasm_declarations.specs.List.{Each}
+use Rattle.wasm_declarations.specs.Entries.{SpellsSized, entries_from, SpellsEntries}
+use Rattle.wasm_module.specs.Module.{Lists}
 use Rattle.wasm_module.specs.Inside.{IsInside}
 use Rattle.wasm_module.specs.Contents.{AreContents}
 use Rattle.wasm_module.proofs.FindLemmas.{lists_at}

@@ -4,3 +4,6 @@ pub mod CountLemmas
 pub mod ModuleLemmas
 pub mod RoomLemmas
 pub mod RewrittenLemmas
+pub mod PieceLemmas
+pub mod AgainLemmas
+pub mod OneLemmas

@@ -1,5 +1,5 @@
 -- Where globals may be appended before the code, and where an entry of the code stands.
-use Rattle.std.proofs.Common.{◌≡◌, ℕ, zero, suc, ◌+◌, ◌-◌, ◌<◌, ◌≤◌, ◌^◌, List, [], ◌∷◌, ◌++◌, length, take, Result, Ok, Err, Some, refl, sym, ap, subst, ◌∙◌, zero-add, arith}
+use Rattle.std.proofs.Common.{◌≡◌, ℕ, zero, suc, ◌+◌, ◌<◌, ◌^◌, List, [], ◌++◌, length, take, Result, Ok, Err, Some, sym, ap, subst, ◌∙◌, zero-add, arith}
 use Rattle.std.specs.Prelude.{IfOk, OnOk, slice_get, slice_range}
 use Rattle.std.proofs.lemmas.List.{append-nil}
 use Rattle.wasm_code.specs.Number.{SpellsUnsigned}
@@ -20,7 +20,7 @@ use Rattle.wasm_declarations.specs.Globals.{SpellsGlobal}
 use Rattle.wasm_declarations.specs.Entries.{SpellsEntries}
 use Rattle.wasm_module.specs.Module.{Layout, IsModule}
 use Rattle.wasm_module.specs.Rewritten.{globals_code, new_globals, AddsGlobals}
-use Rattle.wasm_module.specs.Room.{HasCount, HasGlobals, HasRoom, IsCodePlace}
+use Rattle.wasm_module.specs.Room.{HasCount, HasRoom, IsCodePlace}
 use Rattle.wasm_module.proofs.FindLemmas.{lists_at, lists_nothing, first_before, place_before}
 use Rattle.wasm_module.proofs.InsideLemmas.{code_entry}
 
@@ -87,7 +87,7 @@ room bytes info layout code joined within m is =
             order = v.order;
             before = first_before layout.sections ids.Global ids.Code s code (length bytes) m.spells.ordered joined g is (omega arith) (omega arith);
             counted = list_counted SpellsGlobal (slice_range bytes s.contents s.end) m.globals layout.own_globals
-            (lists_at (λ _. SpellsList SpellsGlobal) bytes layout.sections ids.Global m.globals s m.globals_are g) m.own;
+                (lists_at (λ _. SpellsList SpellsGlobal) bytes layout.sections ids.Global m.globals s m.globals_are g) m.own;
           };
       place = λ place p. place_before layout.sections ids.Global ids.Code place code (length bytes) joined p is (omega arith);
     }

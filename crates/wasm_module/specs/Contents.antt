@@ -1,15 +1,8 @@
 -- The contents of a module's section, and where they start (this project): for proofs.
-use Rattle.std.specs.Prelude.{◌≡◌, ℕ, ◌+◌, ◌≤◌, ◌<◌, List, length, slice_range}
+use Rattle.std.specs.Prelude.{◌≡◌, ℕ, ◌+◌, ◌≤◌, List, length, slice_range}
 use Rattle.wasm_sections.specs.declared.section.Section.{Section}
 use Rattle.wasm_sections.specs.declared.id.SectionId.{SectionId}
 use Rattle.wasm_sections.specs.Find.{IsFirstWith}
-
--- where the section stands in the bytes, of which there are so many
-pub record IsBounded (to : ℕ) (section : Section) : Type 0 where
-  pub first : 8 ≤ section.start
-  pub sized : section.start < section.contents
-  pub ordered : section.contents ≤ section.end
-  pub ends : section.end ≤ to
 
 -- the text is what the first section with the id contains, and its first byte has that offset
 pub record AreContents (bytes : List ℕ) (sections : List Section) (id : SectionId) (start : ℕ) (text : List ℕ) : Type 0 where

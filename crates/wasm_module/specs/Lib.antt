@@ -6,3 +6,4 @@ pub mod Limits
 pub mod Contents
 pub mod Lists
 pub mod Room
+pub mod Again

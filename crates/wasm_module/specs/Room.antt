@@ -7,7 +7,7 @@ use Rattle.wasm_module.specs.Rewritten.{IsFront}
 use Rattle.wasm_code.specs.Number.{SpellsUnsigned}
 use Rattle.wasm_sections.specs.declared.section.Section.{Section}
 use Rattle.wasm_sections.specs.declared.id.SectionId.TheVariants as ids
-use Rattle.wasm_sections.specs.Find.{IsFirstWith, IsPlaceOf, LackId}
+use Rattle.wasm_sections.specs.Find.{IsFirstWith, IsPlaceOf}
 use Rattle.wasm_sections.specs.Section.{SpellsModule}
 use Rattle.wasm_module.specs.Module.{Layout}
 

@@ -3,9 +3,14 @@ ghost use Rattle.std.specs.Prelude.{◌≡◌, ℕ, List, Some, slice_get};
 ghost use Rattle.mutate_base.specs.Module.{Module};
 ghost use Rattle.wasm_declarations.specs.declared.entries.Entry.{Entry};
 ghost use Rattle.wasm_module.specs.Module.{Layout, IsModule};
+ghost use Rattle.mutate_base.specs.declared.types.PrimitiveTypeInfo.{PrimitiveTypeInfo};
 ghost use Rattle.wasm_module.specs.Inside.{IsInside};
+ghost use Rattle.wasm_module.specs.Rewritten.{IsRewritten};
+ghost use Rattle.wasm_module.specs.Again.{IsModuleAgain};
 
-use wasm_sections::laws::sections_fill_the_module;
+use wasm_code::laws::shortest_is_a_spelling;
+use wasm_declarations::laws::one_list;
+use wasm_sections::laws::{one_module, sections_fill_the_module};
 
 /// Each entry of a module's code lies inside its bytes.
 pub fn entries_are_inside()
@@ -14,4 +19,25 @@ pub fn entries_are_inside()
         → IsInside bytes entry }
 {
     sections_fill_the_module();
+}
+
+/// The new bytes are a module again, whose sections stand in the same order and contain the same, but that the code section
+/// contains the other contents of the entry, and a global section before it the globals more.
+pub fn rewritten_module_is_a_module()
+    ensures { (bytes : List ℕ) (info : Module) (layout : Layout) (n : ℕ) (contents : List ℕ)
+        (more : List PrimitiveTypeInfo) (new : List ℕ) → IsModule bytes info layout
+        → IsRewritten bytes layout n contents more new
+        → IsModuleAgain bytes layout n contents more new }
+{
+    shortest_is_a_spelling();
+}
+
+/// Bytes are one module at most: what is known of it, and where things stand in it, follow from them.
+pub fn one_reading()
+    ensures { (bytes : List ℕ) (info other : Module) (layout place : Layout)
+        → IsModule bytes info layout → IsModule bytes other place
+        → (info ≡ other) × (layout ≡ place) }
+{
+    one_module();
+    one_list();
 }

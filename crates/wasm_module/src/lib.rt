@@ -11,6 +11,8 @@ mod layout;
 mod listed;
 mod lists;
 mod module;
+#[cfg(test)]
+mod tests;
 mod writing;
 
 pub use layout::{Layout, Module};

@@ -1,6 +1,4 @@
-use Rattle.std.proofs.Common.{◌≡◌, ◌≤◌, ◌<◌, ◌^◌, length, ap, arith}
-use Rattle.wasm_sections.specs.declared.id.SectionId.TheVariants as ids
-use Rattle.wasm_sections.specs.Find.{IsPlaceOf}
+use Rattle.std.proofs.Common.{◌≡◌, ◌<◌, ◌^◌, length, ap, arith}
 use Rattle.wasm_module.specs.Module.{Layout}
 use Rattle.wasm_module.specs.Rewritten.{new_globals}
 use Rattle.wasm_module.proofs.RoomLemmas.{place_at, new_is, adds}

@@ -1,5 +1,4 @@
-use Rattle.std.proofs.Common.{◌≡◌, ◌++◌, ◌∙◌}
-use Rattle.wasm_module.specs.Rewritten.{code_with}
+use Rattle.std.proofs.Common.{◌∙◌}
 use Rattle.wasm_module.proofs.RewrittenLemmas.{rewrites, too_large}
 use Rattle.wasm_module.proofs.writing.with_body.Goals as goal
 
