@@ -1,5 +1,11 @@
 -- A module rewritten by one rewrite.
-use Rattle.std.proofs.Common.{◌≡◌, ℕ, ◌<◌, ◌≤◌, List, [], ◌∷◌, ◌++◌, length, None, sym, ap, subst, arith, length-append}
+use Rattle.std.proofs.Common.{◌≡◌, ℕ, ◌<◌, ◌≤◌, List, [], ◌∷◌, ◌++◌, length, drop, None, sym, ap, subst, arith, length-append}
+use Rattle.wasm_code.specs.Code.{shortest}
+use Rattle.mutate_base.specs.declared.types.PrimitiveTypeInfo.{PrimitiveTypeInfo}
+use Rattle.wasm_sections.specs.declared.id.SectionId.TheVariants as ids
+use Rattle.wasm_sections.specs.Id.{id_code}
+use Rattle.wasm_module.specs.Module.{Layout}
+use Rattle.wasm_module.specs.Rewritten.{code_with, IsRewritten}
 use Rattle.peephole_rules.specs.declared.rule.Rule.{Rule}
 use Rattle.peephole_modules.specs.Mutated.{IsMutated}
 use Rattle.peephole_mutator.specs.declared.times.MadeRewrite.{MadeRewrite}
@@ -23,6 +29,12 @@ once rules bytes made new m = once_each rules bytes made new m.some m.most m.eac
 not_empty : (front size contents behind new : List ℕ) (id : ℕ) → new ≡ (front ++ (id ∷ size ++ contents)) ++ behind → 0 < length new
 not_empty front size contents behind new id is = omega (arith, simp length-append at (ap length is))
 
+length-rewritten : (bytes : List ℕ) (layout : Layout) (n : ℕ) (contents : List ℕ) (more : List PrimitiveTypeInfo) (new : List ℕ) →
+    IsRewritten bytes layout n contents more new → 0 < length new
+length-rewritten bytes layout n contents more new w =
+    let code = code_with bytes w.code w.entry contents in
+    not_empty w.front (shortest (length code)) code (drop w.code.end bytes) new (id_code ids.Code) w.new_is
+
 -- a module that was rewritten has bytes
 pub length-once : (rules : List Rule) (bytes new : List ℕ) → IsRewrittenOnce rules bytes new → 0 < length new
-length-once rules bytes new once = let written = once.mutated.mutates.2.written in not_empty _ _ _ _ new _ written.new_is
+length-once rules bytes new once = length-rewritten _ _ _ _ _ new once.mutated.mutates.2.written
