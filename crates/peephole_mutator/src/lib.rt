@@ -2,6 +2,8 @@
 #![tactic(auto)]
 
 mod mutator;
+#[cfg(test)]
+mod tests;
 mod times;
 
 pub use mutator::mutate_with_seed;
