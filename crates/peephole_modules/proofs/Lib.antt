@@ -1,2 +1,4 @@
 pub mod RunLemmas
 pub mod BodyLemmas
+pub mod FunctionLemmas
+pub mod MutationLemmas

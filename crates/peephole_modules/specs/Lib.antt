@@ -1,2 +1,4 @@
 pub mod Runs
 pub mod Body
+pub mod Function
+pub mod Mutated

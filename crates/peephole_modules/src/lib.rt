@@ -3,7 +3,11 @@
 #![tactic(auto)]
 
 mod body;
+mod function;
+mod mutation;
 mod runs;
 
 pub use body::rewrite_body_at_random;
+pub use function::{FunctionBody, FunctionError, read_function};
+pub use mutation::{Mutated, MutationError, mutate_module};
 pub use runs::integer_runs;

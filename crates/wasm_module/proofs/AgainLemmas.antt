@@ -1,6 +1,6 @@
 -- The new bytes are a module again.
-use Rattle.std.proofs.Common.{◌≡◌, ◌⊎◌, inl, inr, ℕ, ◌+◌, ◌-◌, ◌<◌, ◌≤◌, ◌^◌, List, [], ◌∷◌, ◌++◌, length, take, drop, Some, refl, sym, ap, subst, ◌∙◌, append_assoc, arith}
-use Rattle.std.specs.Prelude.{max, slice_get, slice_range}
+use Rattle.std.proofs.Common.{◌≡◌, inl, inr, ℕ, ◌+◌, ◌<◌, ◌^◌, List, [], ◌∷◌, ◌++◌, length, take, drop, refl, sym, ap, subst, ◌∙◌, append_assoc, arith}
+use Rattle.std.specs.Prelude.{max, slice_range}
 use Rattle.std.proofs.lemmas.List.{length-append, append-nil}
 use Rattle.wasm_code.specs.Number.{SpellsUnsigned}
 use Rattle.wasm_code.specs.Code.{shortest}
@@ -10,16 +10,15 @@ use Rattle.wasm_sections.specs.declared.id.SectionId.{SectionId}
 use Rattle.wasm_sections.specs.declared.id.SectionId.TheVariants as ids
 use Rattle.wasm_sections.specs.declared.section.Section.{Section}
 use Rattle.wasm_sections.specs.Id.{rank_of}
-use Rattle.wasm_sections.specs.Section.{SpellsModule, AreInOrder, AreFinal, parts_of, preamble}
-use Rattle.wasm_sections.specs.Find.{IsFirstWith, IsPlaceOf, LackId, end_of, AreBefore, AreBehind}
+use Rattle.wasm_sections.specs.Section.{SpellsModule, AreInOrder, parts_of, preamble}
+use Rattle.wasm_sections.specs.Find.{end_of, AreBefore, AreBehind}
 use Rattle.wasm_sections.specs.Writing.{section_code}
 use Rattle.wasm_sections.specs.Laws.{SpellsParts}
 use Rattle.wasm_sections.proofs.ChangeLemmas.{replaced}
-use Rattle.wasm_sections.proofs.PieceLemmas.{Piece, code_of, joined, end_at, placed, all_placed, part, parts, of_module, parts_are, joined-append, parts-append, length-code, end_is}
-use Rattle.wasm_declarations.specs.declared.entries.Entry.{Entry}
+use Rattle.wasm_sections.proofs.PieceLemmas.{IsModuleView, Piece, code_of, joined, end_at, all_placed, part, parts, of_module, parts_are, joined-append, parts-append, length-code, end_is}
 use Rattle.wasm_module.specs.Module.{Layout, IsModule}
-use Rattle.wasm_module.specs.Rewritten.{new_globals, GrowsContents, GrowsGlobals, AddsGlobals, IsFront, code_with, IsRewritten}
-use Rattle.wasm_module.specs.Again.{GrowsPart, AddsPart, ArePartsWith, IsModuleAgain}
+use Rattle.wasm_module.specs.Rewritten.{new_globals, GrowsGlobals, AddsGlobals, code_with, IsRewritten}
+use Rattle.wasm_module.specs.Again.{IsModuleAgain}
 use Rattle.wasm_module.proofs.FindLemmas.{head_is, tail_is, ordered_behind}
 use Rattle.wasm_module.proofs.PieceLemmas.{written, AreWhole, spell, swapped, inserted, IsCut, cut, IsSplit, split, IsCutTwice, rejoined}
 
@@ -69,7 +68,8 @@ behind_place (x ∷ pb) pr (y ∷ cb) cr code rank b e lt =
 
 -- ---- pieces with a global section and another code section
 
-joined_pieces : (first mid second : List Piece) (old : List ℕ) (x : Piece) (bytes : List ℕ) → bytes ≡ preamble ++ (joined first ++ (old ++ (joined mid ++ (code_of x ++ joined second)))) →
+joined_pieces : (first mid second : List Piece) (old : List ℕ) (x : Piece) (bytes : List ℕ) →
+    bytes ≡ preamble ++ (joined first ++ (old ++ (joined mid ++ (code_of x ++ joined second)))) →
     bytes ≡ (preamble ++ joined first) ++ (old ++ (joined mid ++ (code_of x ++ joined second)))
 joined_pieces first mid second old x bytes e = e ∙ sym (append_assoc preamble (joined first) (old ++ (joined mid ++ (code_of x ++ joined second))))
 
@@ -94,14 +94,16 @@ again bytes new from to start end first mid second old x gc c s1 s2 s3 p whole i
     let is = spell all new (e ∙ rejoined bytes from to start end first mid second old x g y p) all_whole in
     let front = preamble ++ joined first in
     let one : parts_of bytes s1 ≡ parts first = ap (parts_of bytes) e1
-    ∙ parts_are first 8 bytes preamble (old ++ (joined mid ++ (code_of x ++ joined second))) (p.bytes_are ∙ append_assoc preamble (joined first) (old ++ (joined mid ++ (code_of x ++ joined second)))) refl in
+    ∙ parts_are first 8 bytes preamble (old ++ (joined mid ++ (code_of x ++ joined second)))
+    (p.bytes_are ∙ append_assoc preamble (joined first) (old ++ (joined mid ++ (code_of x ++ joined second)))) refl in
     let at_mid : bytes ≡ (front ++ old) ++ (joined mid ++ (code_of x ++ joined second)) = p.bytes_are
     ∙ sym (append_assoc front old (joined mid ++ (code_of x ++ joined second))) in
     let mid_len : length (front ++ old) ≡ to = omega (arith, length-append front old, length-append preamble (joined first), p.from_is, p.to_is) in
     let two : parts_of bytes s2 ≡ parts mid = ap (parts_of bytes) e2
     ∙ parts_are mid to bytes (front ++ old) (code_of x ++ joined second) at_mid mid_len in
     let at_end : bytes ≡ (((front ++ old) ++ joined mid) ++ code_of x) ++ (joined second ++ []) = at_mid
-    ∙ sym (append_assoc (front ++ old) (joined mid) (code_of x ++ joined second)) ∙ sym (append_assoc ((front ++ old) ++ joined mid) (code_of x) (joined second))
+    ∙ sym (append_assoc (front ++ old) (joined mid) (code_of x ++ joined second))
+    ∙ sym (append_assoc ((front ++ old) ++ joined mid) (code_of x) (joined second))
     ∙ ap (λ (l : List ℕ). (((front ++ old) ++ joined mid) ++ code_of x) ++ l) (sym (append-nil (joined second))) in
     let end_len : length (((front ++ old) ++ joined mid) ++ code_of x) ≡ end = omega (
       arith,
@@ -149,7 +151,8 @@ alone bytes info layout n contents new short m r =
     let spelled = subst (SpellsModule bytes) r.code_is.parts m.spells in
     let other : r.code.id ≡ ids.Custom → ⊥ = λ custom. absurd (cc (r.code_is.has, custom)) in
     let is = replaced bytes c cb cr r.code spelled other (short (length c) r.code_sized) in
-    let P : SectionId → Type 0 = λ i. SpellsParts (take r.code.start bytes ++ section_code i c ++ drop r.code.end bytes) (parts_of bytes cb ++ (i, c) ∷ parts_of bytes cr) in
+    let P : SectionId → Type 0 = λ i. SpellsParts (take r.code.start bytes ++ section_code i c ++ drop r.code.end bytes)
+    (parts_of bytes cb ++ (i, c) ∷ parts_of bytes cr) in
     record {
       before = cb;
       code = r.code;
@@ -164,24 +167,18 @@ alone bytes info layout n contents new short m r =
     }
 
 -- the global section grows
-grows : (bytes : List ℕ) (info : Module) (layout : Layout) (n : ℕ) (contents : List ℕ) (t : PrimitiveTypeInfo) (ts : List PrimitiveTypeInfo) (new : List ℕ) →
-    Short → IsModule bytes info layout → (r : IsRewritten bytes layout n contents (t ∷ ts) new)
-    → GrowsGlobals bytes layout (t ∷ ts) r.code.start r.front → IsModuleAgain bytes layout n contents (t ∷ ts) new
-grows bytes info layout n contents t ts new short m r g =
+grows_at : (bytes : List ℕ) (layout : Layout) (n : ℕ) (contents : List ℕ) (t : PrimitiveTypeInfo) (ts : List PrimitiveTypeInfo) (new : List ℕ) → Short →
+    (r : IsRewritten bytes layout n contents (t ∷ ts) new) (g : GrowsGlobals bytes layout (t ∷ ts) r.code.start r.front)
+    (b : IsBetween (g.is.before ++ g.section ∷ []) g.is.behind r.code_is.before r.code r.code_is.behind) (v : IsModuleView bytes layout.sections)
+    (a : IsSplit g.is.before (b.mid ++ r.code ∷ r.code_is.behind) g.section 8 v.pieces)
+    (d : IsSplit b.mid r.code_is.behind r.code (end_at (8 + length (joined a.first)) a.x) a.second) → IsModuleAgain bytes layout n contents (t ∷ ts) new
+grows_at bytes layout n contents t ts new short r g b v a d =
     let cb = r.code_is.before in
     let cr = r.code_is.behind in
     let c = code_with bytes r.code r.entry contents in
     let gb = g.is.before in
     let s = g.section in
-    let grank = ap rank_of g.is.has in
-    let crank = ap rank_of r.code_is.has in
-    let b = behind_section gb g.is.behind cb cr s r.code 0 (subst (AreInOrder 0) g.is.parts m.spells.ordered) (sym g.is.parts ∙ r.code_is.parts)
-    (omega (arith, grank)) (omega (arith, grank, crank)) in
-    let v = of_module bytes layout.sections m.spells in
-    let a = split gb (b.mid ++ r.code ∷ cr) s 8 v.pieces
-    (sym (g.is.parts ∙ ap (λ (l : List Section). gb ++ s ∷ l) b.behind_is) ∙ v.are) in
     let from : ℕ = 8 + length (joined a.first) in
-    let d = split b.mid cr r.code (end_at from a.x) a.second a.behind_are in
     let pieces : v.pieces ≡ a.first ++ a.x ∷ (d.first ++ d.x ∷ d.second) = a.parts ∙ ap (λ (l : List Piece). a.first ++ a.x ∷ l) d.parts in
     let old : AreWhole v.pieces = record { counted = v.counted; sorted = v.sorted; final = v.final } in
     let whole = subst AreWhole pieces old in
@@ -196,7 +193,7 @@ grows bytes info layout n contents t ts new short m r g =
     let cend : r.code.end ≡ end_at (end_at from a.x + length (joined d.first)) d.x = ap (λ (z : Section). z.end) d.is in
     let place : IsCutTwice bytes s.start s.end r.code.start r.code.end a.first d.first d.second (code_of a.x) d.x = record {
       bytes_are = joined_pieces a.first d.first d.second (code_of a.x) d.x bytes (v.bytes_are
-      ∙ ap (λ (l : List Piece). preamble ++ joined l) pieces ∙ ap (λ (l : List ℕ). preamble ++ l) (three_joined a.first d.first d.second a.x d.x));
+          ∙ ap (λ (l : List Piece). preamble ++ joined l) pieces ∙ ap (λ (l : List ℕ). preamble ++ l) (three_joined a.first d.first d.second a.x d.x));
       from_is = gstart;
       to_is = omega (arith, gstart, gend, length-code a.x);
       start_is = omega (arith, cstart, gend);
@@ -223,27 +220,41 @@ grows bytes info layout n contents t ts new short m r g =
         parts_are = refl;
       });
       spells = again bytes new s.start s.end r.code.start r.code.end a.first d.first d.second (code_of a.x) d.x g.contents c gb b.mid cr place swap_is cid
-      (short (length c) r.code_sized) a.before_are (d.before_are ∙ ap (λ (k : ℕ). all_placed k d.first) (sym gend))
-      (d.behind_are ∙ ap (λ (k : ℕ). all_placed k d.second) (sym cend)) e;
+          (short (length c) r.code_sized) a.before_are (d.before_are ∙ ap (λ (k : ℕ). all_placed k d.first) (sym gend))
+          (d.behind_are ∙ ap (λ (k : ℕ). all_placed k d.second) (sym cend)) e;
     }
 
--- a global section stands between the others
-adds : (bytes : List ℕ) (info : Module) (layout : Layout) (n : ℕ) (contents : List ℕ) (t : PrimitiveTypeInfo) (ts : List PrimitiveTypeInfo) (new : List ℕ) →
+grows : (bytes : List ℕ) (info : Module) (layout : Layout) (n : ℕ) (contents : List ℕ) (t : PrimitiveTypeInfo) (ts : List PrimitiveTypeInfo) (new : List ℕ) →
     Short → IsModule bytes info layout → (r : IsRewritten bytes layout n contents (t ∷ ts) new)
-    → AddsGlobals bytes layout (t ∷ ts) r.code.start r.front → IsModuleAgain bytes layout n contents (t ∷ ts) new
-adds bytes info layout n contents t ts new short m r g =
+    → GrowsGlobals bytes layout (t ∷ ts) r.code.start r.front → IsModuleAgain bytes layout n contents (t ∷ ts) new
+grows bytes info layout n contents t ts new short m r g =
+    let cb = r.code_is.before in
+    let cr = r.code_is.behind in
+    let gb = g.is.before in
+    let s = g.section in
+    let grank = ap rank_of g.is.has in
+    let crank = ap rank_of r.code_is.has in
+    let b = behind_section gb g.is.behind cb cr s r.code 0 (subst (AreInOrder 0) g.is.parts m.spells.ordered) (sym g.is.parts ∙ r.code_is.parts)
+    (omega (arith, grank)) (omega (arith, grank, crank)) in
+    let v = of_module bytes layout.sections m.spells in
+    let a = split gb (b.mid ++ r.code ∷ cr) s 8 v.pieces
+    (sym (g.is.parts ∙ ap (λ (l : List Section). gb ++ s ∷ l) b.behind_is) ∙ v.are) in
+    let d = split b.mid cr r.code (end_at (8 + length (joined a.first)) a.x) a.second a.behind_are in
+    grows_at bytes layout n contents t ts new short r g b v a d
+
+-- a global section stands between the others
+adds_at : (bytes : List ℕ) (layout : Layout) (n : ℕ) (contents : List ℕ) (t : PrimitiveTypeInfo) (ts : List PrimitiveTypeInfo) (new : List ℕ) → Short →
+    (r : IsRewritten bytes layout n contents (t ∷ ts) new) (g : AddsGlobals bytes layout (t ∷ ts) r.code.start r.front)
+    (b : IsBetween g.is.before g.is.behind r.code_is.before r.code r.code_is.behind) (v : IsModuleView bytes layout.sections)
+    (a : IsCut g.is.before (b.mid ++ r.code ∷ r.code_is.behind) 8 v.pieces)
+    (d : IsSplit b.mid r.code_is.behind r.code (8 + length (joined a.first)) a.second) → IsModuleAgain bytes layout n contents (t ∷ ts) new
+adds_at bytes layout n contents t ts new short r g b v a d =
     let cb = r.code_is.before in
     let cr = r.code_is.behind in
     let c = code_with bytes r.code r.entry contents in
     let gc = new_globals (t ∷ ts) in
     let p = g.is in
-    let crank = ap rank_of r.code_is.has in
-    let b = behind_place p.before p.behind cb cr r.code (rank_of ids.Global) p.smaller (sym p.parts ∙ r.code_is.parts) (omega (arith, crank)) in
-    let v = of_module bytes layout.sections m.spells in
-    let a = cut p.before (b.mid ++ r.code ∷ cr) 8 v.pieces
-    (sym (p.parts ∙ ap (λ (l : List Section). p.before ++ l) b.behind_is) ∙ v.are) in
     let from : ℕ = 8 + length (joined a.first) in
-    let d = split b.mid cr r.code from a.second a.behind_are in
     let pieces : v.pieces ≡ a.first ++ (d.first ++ d.x ∷ d.second) = a.parts ∙ ap (λ (l : List Piece). a.first ++ l) d.parts in
     let old : AreWhole v.pieces = record { counted = v.counted; sorted = v.sorted; final = v.final } in
     let whole = subst AreWhole pieces old in
@@ -257,7 +268,7 @@ adds bytes info layout n contents t ts new short m r g =
     let cend : r.code.end ≡ end_at (from + length (joined d.first)) d.x = ap (λ (z : Section). z.end) d.is in
     let place : IsCutTwice bytes g.place g.place r.code.start r.code.end a.first d.first d.second [] d.x = record {
       bytes_are = joined_pieces a.first d.first d.second [] d.x bytes (v.bytes_are
-      ∙ ap (λ (l : List Piece). preamble ++ joined l) pieces ∙ ap (λ (l : List ℕ). preamble ++ l) (two_joined a.first d.first d.second d.x));
+          ∙ ap (λ (l : List Piece). preamble ++ joined l) pieces ∙ ap (λ (l : List ℕ). preamble ++ l) (two_joined a.first d.first d.second d.x));
       from_is = place_is;
       to_is = omega arith;
       start_is = omega (arith, cstart, place_is);
@@ -275,9 +286,24 @@ adds bytes info layout n contents t ts new short m r g =
       front = parts_of bytes p.before ++ (ids.Global, gc) ∷ parts_of bytes b.mid;
       front_is = inr (record { before = p.before; behind = b.mid; sections_are = b.whole_is; parts_are = refl });
       spells = again bytes new g.place g.place r.code.start r.code.end a.first d.first d.second [] d.x gc c p.before b.mid cr place insert cid
-      (short (length c) r.code_sized) a.before_are (d.before_are ∙ ap (λ (k : ℕ). all_placed k d.first) (sym place_is))
-      (d.behind_are ∙ ap (λ (k : ℕ). all_placed k d.second) (sym cend)) e;
+          (short (length c) r.code_sized) a.before_are (d.before_are ∙ ap (λ (k : ℕ). all_placed k d.first) (sym place_is))
+          (d.behind_are ∙ ap (λ (k : ℕ). all_placed k d.second) (sym cend)) e;
     }
+
+adds : (bytes : List ℕ) (info : Module) (layout : Layout) (n : ℕ) (contents : List ℕ) (t : PrimitiveTypeInfo) (ts : List PrimitiveTypeInfo) (new : List ℕ) →
+    Short → IsModule bytes info layout → (r : IsRewritten bytes layout n contents (t ∷ ts) new)
+    → AddsGlobals bytes layout (t ∷ ts) r.code.start r.front → IsModuleAgain bytes layout n contents (t ∷ ts) new
+adds bytes info layout n contents t ts new short m r g =
+    let cb = r.code_is.before in
+    let cr = r.code_is.behind in
+    let p = g.is in
+    let crank = ap rank_of r.code_is.has in
+    let b = behind_place p.before p.behind cb cr r.code (rank_of ids.Global) p.smaller (sym p.parts ∙ r.code_is.parts) (omega (arith, crank)) in
+    let v = of_module bytes layout.sections m.spells in
+    let a = cut p.before (b.mid ++ r.code ∷ cr) 8 v.pieces
+    (sym (p.parts ∙ ap (λ (l : List Section). p.before ++ l) b.behind_is) ∙ v.are) in
+    let d = split b.mid cr r.code (8 + length (joined a.first)) a.second a.behind_are in
+    adds_at bytes layout n contents t ts new short r g b v a d
 
 pub module_again : (bytes : List ℕ) (info : Module) (layout : Layout) (n : ℕ) (contents : List ℕ) (more : List PrimitiveTypeInfo) (new : List ℕ) → Short →
     IsModule bytes info layout → IsRewritten bytes layout n contents more new → IsModuleAgain bytes layout n contents more new

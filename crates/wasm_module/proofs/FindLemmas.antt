@@ -80,7 +80,8 @@ ends_before (x ∷ before) behind [] behind' s t last from to o j e some lt =
     let same = ap (λ (z : Section). rank_of z.id) (head_is x t (before ++ s ∷ behind) behind' e) in
     absurd (omega (arith, same, above))
 ends_before (x ∷ before) behind (y ∷ before') behind' s t last from to o j e some lt =
-    ends_before before behind before' behind' s t (max last (rank_of x.id)) x.end to o.1 j.3 (tail_is x y (before ++ s ∷ behind) (before' ++ t ∷ behind') e) some lt
+    ends_before before behind before' behind' s t (max last (rank_of x.id)) x.end to o.1
+    j.3 (tail_is x y (before ++ s ∷ behind) (before' ++ t ∷ behind') e) some lt
 
 -- of two sections with ranks, the one with the smaller rank ends before the other starts
 pub first_before : (ss : List Section) (i k : SectionId) (s t : Section) (to : ℕ) → AreInOrder 0 ss → AreJoined 8 ss to → IsFirstWith ss i s →

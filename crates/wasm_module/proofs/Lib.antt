@@ -7,3 +7,4 @@ pub mod RewrittenLemmas
 pub mod PieceLemmas
 pub mod AgainLemmas
 pub mod OneLemmas
+pub mod ListedLemmas

@@ -1,5 +1,5 @@
 -- Bytes are one module at most.
-use Rattle.std.proofs.Common.{◌≡◌, ◌⊎◌, inl, inr, ℕ, ◌+◌, List, [], ◌∷◌, ◌++◌, length, refl, sym, ap, subst, ◌∙◌, arith}
+use Rattle.std.proofs.Common.{◌≡◌, inl, inr, ℕ, List, ◌++◌, length, sym, ap, subst, ◌∙◌}
 use Rattle.wasm_code.specs.Number.{SpellsUnsigned}
 use Rattle.mutate_base.specs.Module.{Module}
 use Rattle.mutate_base.specs.declared.types.PrimitiveTypeInfo.{PrimitiveTypeInfo}
@@ -34,7 +34,7 @@ pub record AreOne : Type 0 where
   pub globals : IsOne (SpellsList SpellsGlobal)
   pub entries : (start : ℕ) → IsOne (SpellsEntries start)
 
-one_listing : {A : Type 0} (Spells : ℕ → List ℕ → List A → Type 0) → ((start : ℕ) → IsOne (Spells start)) → (bytes : List ℕ) (ss zs : List Section)
+pub one_listing : {A : Type 0} (Spells : ℕ → List ℕ → List A → Type 0) → ((start : ℕ) → IsOne (Spells start)) → (bytes : List ℕ) (ss zs : List Section)
     (id : SectionId) (xs ys : List A) → ss ≡ zs → Lists Spells bytes ss id xs → Lists Spells bytes zs id ys → xs ≡ ys
 one_listing {A} Spells one bytes ss zs id xs ys e p q =
     let same : Lists Spells bytes ss id ys = subst (λ (l : List Section). Lists Spells bytes l id ys) (sym e) q in
@@ -68,17 +68,25 @@ joined {A} f is js xs ys all other p q e d = p ∙ ap (λ (l : List Import). f l
 pub one_module : (bytes : List ℕ) (i j : Module) (k l : Layout) → AreOne → k.sections ≡ l.sections → IsModule bytes i k → IsModule bytes j l →
     (i ≡ j) × (k ≡ l)
 one_module bytes i j k l one same m n =
-    let types = one_listing (λ _. SpellsList SpellsFunctionType) (λ _. one.types) bytes k.sections l.sections ids.Type i.types j.types same m.types_are n.types_are in
-    let imports = one_listing (λ _. SpellsList SpellsImport) (λ _. one.imports) bytes k.sections l.sections ids.Import m.imports n.imports same m.imports_are n.imports_are in
-    let functions = one_listing (λ _. SpellsList (SpellsUnsigned 32)) (λ _. one.functions) bytes k.sections l.sections ids.Function m.functions n.functions same m.functions_are n.functions_are in
-    let tables = one_listing (λ _. SpellsList SpellsTableType) (λ _. one.tables) bytes k.sections l.sections ids.Table m.tables n.tables same m.tables_are n.tables_are in
-    let memories = one_listing (λ _. SpellsList SpellsMemoryType) (λ _. one.memories) bytes k.sections l.sections ids.Memory m.memories n.memories same m.memories_are n.memories_are in
-    let globals = one_listing (λ _. SpellsList SpellsGlobal) (λ _. one.globals) bytes k.sections l.sections ids.Global m.globals n.globals same m.globals_are n.globals_are in
-    let entries = one_listing SpellsEntries one.entries bytes k.sections l.sections ids.Code k.entries l.entries same m.entries_are n.entries_are in (
-      one_info i j (m.input ∙ sym n.input) (joined globals_of m.imports n.imports m.globals n.globals i.globals j.globals m.all_globals n.all_globals imports globals)
-      types (joined functions_of m.imports n.imports m.functions n.functions i.functions j.functions m.all_functions n.all_functions imports functions)
-      (joined tables_of m.imports n.imports m.tables n.tables i.tables j.tables m.all_tables n.all_tables imports tables)
-      (joined memories_of m.imports n.imports m.memories n.memories i.memories j.memories m.all_memories n.all_memories imports memories),
+    let types = one_listing (λ _. SpellsList SpellsFunctionType) (λ _. one.types) bytes k.sections l.sections
+    ids.Type i.types j.types same m.types_are n.types_are in
+    let imports = one_listing (λ _. SpellsList SpellsImport) (λ _. one.imports) bytes k.sections l.sections
+    ids.Import m.imports n.imports same m.imports_are n.imports_are in
+    let functions = one_listing (λ _. SpellsList (SpellsUnsigned 32)) (λ _. one.functions) bytes k.sections l.sections
+    ids.Function m.functions n.functions same m.functions_are n.functions_are in
+    let tables = one_listing (λ _. SpellsList SpellsTableType) (λ _. one.tables) bytes k.sections l.sections
+    ids.Table m.tables n.tables same m.tables_are n.tables_are in
+    let memories = one_listing (λ _. SpellsList SpellsMemoryType) (λ _. one.memories) bytes k.sections l.sections
+    ids.Memory m.memories n.memories same m.memories_are n.memories_are in
+    let globals = one_listing (λ _. SpellsList SpellsGlobal) (λ _. one.globals) bytes k.sections l.sections
+    ids.Global m.globals n.globals same m.globals_are n.globals_are in
+    let entries = one_listing SpellsEntries one.entries bytes k.sections l.sections
+    ids.Code k.entries l.entries same m.entries_are n.entries_are in (
+      one_info i j (m.input ∙ sym n.input)
+          (joined globals_of m.imports n.imports m.globals n.globals i.globals j.globals m.all_globals n.all_globals imports globals)
+          types (joined functions_of m.imports n.imports m.functions n.functions i.functions j.functions m.all_functions n.all_functions imports functions)
+          (joined tables_of m.imports n.imports m.tables n.tables i.tables j.tables m.all_tables n.all_tables imports tables)
+          (joined memories_of m.imports n.imports m.memories n.memories i.memories j.memories m.all_memories n.all_memories imports memories),
       one_layout k l same (m.imported ∙ ap (λ (x : List Import). length (functions_of x)) imports ∙ sym n.imported)
-      (m.own ∙ ap length globals ∙ sym n.own) entries,
+          (m.own ∙ ap length globals ∙ sym n.own) entries,
     )

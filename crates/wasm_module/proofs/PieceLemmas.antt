@@ -1,19 +1,18 @@
 -- Pieces of a module of which one is written anew, or stands between the others.
-use Rattle.std.proofs.Common.{◌≡◌, ℕ, ◌+◌, ◌-◌, ◌<◌, ◌≤◌, List, [], ◌∷◌, ◌++◌, length, take, drop, refl, sym, ap, subst, ◌∙◌, append_assoc, arith}
+use Rattle.std.proofs.Common.{◌≡◌, ℕ, ◌+◌, ◌<◌, List, [], ◌∷◌, ◌++◌, length, take, drop, refl, sym, ap, subst, ◌∙◌, append_assoc, arith}
 use Rattle.std.specs.Prelude.{max, slice_range}
-use Rattle.std.proofs.lemmas.List.{length-append, append-nil, take_at, drop_at}
+use Rattle.std.proofs.lemmas.List.{length-append, take_at, drop_at}
 use Rattle.wasm_code.specs.Number.{SpellsUnsigned}
 use Rattle.wasm_code.specs.Code.{shortest}
 use Rattle.wasm_sections.specs.declared.id.SectionId.{SectionId}
 use Rattle.wasm_sections.specs.declared.id.SectionId.TheVariants as ids
 use Rattle.wasm_sections.specs.declared.section.Section.{Section}
 use Rattle.wasm_sections.specs.Id.{rank_of}
-use Rattle.wasm_sections.specs.Section.{SpellsModule, AreFinal, parts_of, preamble}
-use Rattle.wasm_sections.specs.Find.{end_of, AreBefore, AreBehind}
-use Rattle.wasm_sections.specs.Writing.{section_code}
+use Rattle.wasm_sections.specs.Section.{SpellsModule, AreFinal, preamble}
+use Rattle.wasm_sections.specs.Find.{AreBefore, AreBehind}
 use Rattle.wasm_sections.specs.Laws.{SpellsParts}
 use Rattle.wasm_sections.proofs.SectionLemmas.{has_rank}
-use Rattle.wasm_sections.proofs.PieceLemmas.{Piece, code_of, joined, AreCounted, AreSorted, contents_at, end_at, placed, all_placed, part, parts, last_of, of_pieces, module_parts, parts_are, range_is, joined-append, parts-append, counted-append, counted_cut, sorted-append, sorted_cut, final-append, final_cut, length-code, end_is}
+use Rattle.wasm_sections.proofs.PieceLemmas.{Piece, code_of, joined, AreCounted, AreSorted, end_at, placed, all_placed, parts, last_of, of_pieces, module_parts, range_is, joined-append, parts-append, counted-append, counted_cut, sorted-append, sorted_cut, final-append, final_cut, end_is}
 
 abbrev pub written : SectionId → List ℕ → Piece
 written id contents = record { id = id; size = shortest (length contents); contents = contents }
@@ -151,7 +150,8 @@ rejoined bytes from to start end first mid second old x g c p =
     let ranged : slice_range bytes to start ≡ joined mid = range_is bytes (front ++ old) (joined mid) (code_of x ++ joined second) to start at_mid mid_len
     (sym p.start_is) in
     let at_end : bytes ≡ (((front ++ old) ++ joined mid) ++ code_of x) ++ joined second = at_mid
-    ∙ sym (append_assoc (front ++ old) (joined mid) (code_of x ++ joined second)) ∙ sym (append_assoc ((front ++ old) ++ joined mid) (code_of x) (joined second)) in
+    ∙ sym (append_assoc (front ++ old) (joined mid) (code_of x ++ joined second))
+    ∙ sym (append_assoc ((front ++ old) ++ joined mid) (code_of x) (joined second)) in
     let end_len : length (((front ++ old) ++ joined mid) ++ code_of x) ≡ end = omega (
       arith,
       length-append ((front ++ old) ++ joined mid) (code_of x),

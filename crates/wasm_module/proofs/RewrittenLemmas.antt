@@ -37,5 +37,7 @@ pub too_large : (bytes : List ℕ) (layout : Layout) (n : ℕ) (body : List ℕ)
 too_large bytes layout n body more code entry contents place e f =
     elim (cases_lt (length contents) (2 ^ 32)) [
       | inl lt ↦ by_globals (f lt)
-      | inr ge ↦ by_code (record { code = code; code_is = place.code_is; entry = entry; entry_is = place.entry_is; large = subst (λ (l : List ℕ). 2 ^ 32 ≤ length l) e ge })
+      | inr ge ↦
+          let large = subst (λ (l : List ℕ). 2 ^ 32 ≤ length l) e ge in
+          by_code (record { code = code; code_is = place.code_is; entry = entry; entry_is = place.entry_is; large = large })
     ]

@@ -43,10 +43,12 @@ pub place_at : (ss ss' : List Section) (bytes : List ℕ) (place : ℕ) → ss �
     ((b : List ℕ) → SpellsModule b ss → LackId ss ids.Global → (ids.Global ≡ ids.Custom → ⊥) → IsPlaceOf ss ids.Global place)
     → SpellsModule bytes ss' → LackId ss' ids.Global → IsPlaceOf ss' ids.Global place
 place_at ss ss' bytes place e f m lack =
-    subst (λ (l : List Section). (b : List ℕ) → SpellsModule b l → LackId l ids.Global → (ids.Global ≡ ids.Custom → ⊥) → IsPlaceOf l ids.Global place) e f bytes m
+    subst (λ (l : List Section). (b : List ℕ) → SpellsModule b l → LackId l ids.Global → (ids.Global ≡ ids.Custom → ⊥) → IsPlaceOf l ids.Global place)
+    e f bytes m
     lack (λ same. absurd cc)
 
-pub new_is : (contents : List ℕ) (more : List PrimitiveTypeInfo) → contents ≡ shortest (0 + length more) ++ [] ++ globals_code more → contents ≡ new_globals more
+pub new_is : (contents : List ℕ) (more : List PrimitiveTypeInfo) → contents ≡ shortest (0 + length more) ++ [] ++ globals_code more →
+    contents ≡ new_globals more
 new_is contents more e = e ∙ ap (λ (n : ℕ). shortest n ++ [] ++ globals_code more) (zero-add (length more))
     ∙ ap (λ (l : List ℕ). l ++ globals_code more) (append-nil (shortest (length more)))
 

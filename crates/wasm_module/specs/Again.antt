@@ -11,14 +11,14 @@ use Rattle.wasm_module.specs.Module.{Layout}
 use Rattle.wasm_module.specs.Rewritten.{new_globals, GrowsContents, code_with}
 
 -- the sections have those ids and contents, but that the global section contains more globals
-pub record GrowsPart (bytes : List ℕ) (layout : Layout) (more : List PrimitiveTypeInfo) (sections : List Section) (parts : List (SectionId × List ℕ)) : Type 0 where
+pub record GrowsPart (bytes : List ℕ) (own : ℕ) (more : List PrimitiveTypeInfo) (sections : List Section) (parts : List (SectionId × List ℕ)) : Type 0 where
   pub before : List Section
   pub section : Section
   pub behind : List Section
   pub sections_are : sections ≡ before ++ section ∷ behind
   pub is : section.id ≡ ids.Global
   pub contents : List ℕ
-  pub grown : GrowsContents layout.own_globals (slice_range bytes section.contents section.end) more contents
+  pub grown : GrowsContents own (slice_range bytes section.contents section.end) more contents
   pub parts_are : parts ≡ parts_of bytes before ++ (ids.Global, contents) ∷ parts_of bytes behind
 
 -- the same, but that a global section stands between them
@@ -32,7 +32,7 @@ pub record AddsPart (bytes : List ℕ) (more : List PrimitiveTypeInfo) (sections
 abbrev pub ArePartsWith : (bytes : List ℕ) → Layout → (more : List PrimitiveTypeInfo) → List Section → List (SectionId × List ℕ) → Type 0
 ArePartsWith bytes layout [] sections parts = parts ≡ parts_of bytes sections
 ArePartsWith bytes layout (t ∷ ts) sections parts =
-    GrowsPart bytes layout (t ∷ ts) sections parts ⊎ AddsPart bytes (t ∷ ts) sections parts
+    GrowsPart bytes layout.own_globals (t ∷ ts) sections parts ⊎ AddsPart bytes (t ∷ ts) sections parts
 
 -- The new bytes spell a module whose sections have the ids of the old one's, in their order, and contain what those contained; but the code section
 -- contains other contents of its n-th entry, and a global section before it more globals.

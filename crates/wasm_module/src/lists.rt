@@ -1,5 +1,5 @@
 //! What the sections of a module list.
-ghost use Rattle.std.specs.Prelude.{◌≡◌, IfOk, IfErr};
+ghost use Rattle.std.specs.Prelude.{◌≡◌, ℕ, List, IfOk, IfErr};
 ghost use Rattle.wasm_code.specs.Number.{SpellsUnsigned};
 ghost use Rattle.wasm_sections.specs.Section.{SpellsModule};
 ghost use Rattle.wasm_sections.specs.declared.id.SectionId.TheVariants as ids;
@@ -10,7 +10,14 @@ ghost use Rattle.wasm_declarations.specs.Tables.{SpellsTableType, SpellsMemoryTy
 ghost use Rattle.wasm_declarations.specs.Globals.{SpellsGlobal};
 ghost use Rattle.wasm_declarations.specs.Entries.{SpellsEntries};
 ghost use Rattle.wasm_module.specs.Module.{Lists};
-ghost use Rattle.wasm_module.specs.Lists.{AreListed};
+ghost use Rattle.wasm_module.specs.Lists.{Listed as Listing, AreListed};
+ghost use Rattle.wasm_sections.specs.declared.fault.ModuleFault.TheVariants.{Memory};
+ghost use Rattle.mutate_base.specs.declared.types.PrimitiveTypeInfo.{PrimitiveTypeInfo};
+ghost use Rattle.mutate_base.specs.declared.types.TypeInfo.{TypeInfo};
+ghost use Rattle.mutate_base.specs.declared.types.TableType.{TableType};
+ghost use Rattle.mutate_base.specs.declared.types.MemoryType.{MemoryType};
+ghost use Rattle.wasm_declarations.specs.declared.import.Import.{Import};
+ghost use Rattle.wasm_declarations.specs.declared.entries.Entry.{Entry};
 ghost use Rattle.wasm_module.specs.Fault.{HasFault, HasListFault};
 
 use crate::contents::contents_with;
@@ -27,6 +34,8 @@ fn types_in(alloc: Global, bytes: &[u8], sections: &[Section]) -> Result<Vec<Typ
     requires { SpellsModule bytes.now sections.now }
     ensures found { IfOk result (λ v. Lists (λ _. SpellsList SpellsFunctionType)
         bytes.now sections.now ids.Type v.items) }
+    ensures only { (xs : List TypeInfo) → Lists (λ _. SpellsList SpellsFunctionType) bytes.now sections.now ids.Type xs
+        → IfErr result (λ e. e.kind ≡ Memory) }
     ensures fault { IfErr result (λ e.
         HasFault bytes.now sections.now ids.Type e.kind e.offset) }
 {
@@ -40,6 +49,8 @@ fn imports_in(alloc: Global, bytes: &[u8], sections: &[Section]) -> Result<Vec<I
     requires { SpellsModule bytes.now sections.now }
     ensures found { IfOk result (λ v. Lists (λ _. SpellsList SpellsImport)
         bytes.now sections.now ids.Import v.items) }
+    ensures only { (xs : List Import) → Lists (λ _. SpellsList SpellsImport) bytes.now sections.now ids.Import xs
+        → IfErr result (λ e. e.kind ≡ Memory) }
     ensures fault { IfErr result (λ e.
         HasFault bytes.now sections.now ids.Import e.kind e.offset) }
 {
@@ -53,6 +64,8 @@ fn functions_in(alloc: Global, bytes: &[u8], sections: &[Section]) -> Result<Vec
     requires { SpellsModule bytes.now sections.now }
     ensures found { IfOk result (λ v. Lists (λ _. SpellsList (SpellsUnsigned 32))
         bytes.now sections.now ids.Function v.items) }
+    ensures only { (xs : List ℕ) → Lists (λ _. SpellsList (SpellsUnsigned 32)) bytes.now sections.now ids.Function xs
+        → IfErr result (λ e. e.kind ≡ Memory) }
     ensures fault { IfErr result (λ e.
         HasFault bytes.now sections.now ids.Function e.kind e.offset) }
 {
@@ -70,6 +83,8 @@ fn tables_in(
     requires { SpellsModule bytes.now sections.now }
     ensures found { IfOk result (λ v. Lists (λ _. SpellsList SpellsTableType)
         bytes.now sections.now ids.Table v.items) }
+    ensures only { (xs : List TableType) → Lists (λ _. SpellsList SpellsTableType) bytes.now sections.now ids.Table xs
+        → IfErr result (λ e. e.kind ≡ Memory) }
     ensures fault { IfErr result (λ e.
         HasFault bytes.now sections.now ids.Table e.kind e.offset) }
 {
@@ -87,6 +102,8 @@ fn memories_in(
     requires { SpellsModule bytes.now sections.now }
     ensures found { IfOk result (λ v. Lists (λ _. SpellsList SpellsMemoryType)
         bytes.now sections.now ids.Memory v.items) }
+    ensures only { (xs : List MemoryType) → Lists (λ _. SpellsList SpellsMemoryType) bytes.now sections.now ids.Memory xs
+        → IfErr result (λ e. e.kind ≡ Memory) }
     ensures fault { IfErr result (λ e.
         HasFault bytes.now sections.now ids.Memory e.kind e.offset) }
 {
@@ -104,6 +121,8 @@ fn globals_in(
     requires { SpellsModule bytes.now sections.now }
     ensures found { IfOk result (λ v. Lists (λ _. SpellsList SpellsGlobal)
         bytes.now sections.now ids.Global v.items) }
+    ensures only { (xs : List PrimitiveTypeInfo) → Lists (λ _. SpellsList SpellsGlobal) bytes.now sections.now ids.Global xs
+        → IfErr result (λ e. e.kind ≡ Memory) }
     ensures fault { IfErr result (λ e.
         HasFault bytes.now sections.now ids.Global e.kind e.offset) }
 {
@@ -117,6 +136,8 @@ fn entries_in(alloc: Global, bytes: &[u8], sections: &[Section]) -> Result<Vec<E
     requires { SpellsModule bytes.now sections.now }
     ensures found { IfOk result (λ v. Lists SpellsEntries
         bytes.now sections.now ids.Code v.items) }
+    ensures only { (xs : List Entry) → Lists SpellsEntries bytes.now sections.now ids.Code xs
+        → IfErr result (λ e. e.kind ≡ Memory) }
     ensures fault { IfErr result (λ e.
         HasFault bytes.now sections.now ids.Code e.kind e.offset) }
 {
@@ -130,6 +151,8 @@ fn entries_in(alloc: Global, bytes: &[u8], sections: &[Section]) -> Result<Vec<E
 pub fn read_lists(alloc: Global, bytes: &[u8], sections: &[Section]) -> Result<Listed, ModuleError>
     requires { SpellsModule bytes.now sections.now }
     ensures found { IfOk result (λ l. AreListed bytes.now sections.now l) }
+    ensures only { (listed : Listing) → AreListed bytes.now sections.now listed
+        → IfErr result (λ e. e.kind ≡ Memory) }
     ensures fault { IfErr result (λ e. HasListFault bytes.now e.kind e.offset) }
 {
     Ok(Listed {

@@ -1,17 +1,20 @@
 //! What a module declares, and where its functions' bodies stand.
-ghost use Rattle.std.specs.Prelude.{◌≡◌, ◌≢◌, length, IfOk, IfErr, OnOk};
+ghost use Rattle.std.specs.Prelude.{◌≡◌, ◌≢◌, length, IfOk, IfErr, IsOk, OnOk, MatchResult};
 ghost use Rattle.wasm_sections.specs.Section.{SpellsModule};
-ghost use Rattle.wasm_module.specs.Module.{IsModule};
+ghost use Rattle.wasm_module.specs.Module.{Layout as Place, IsModule};
+ghost use Rattle.mutate_base.specs.Module.{Module as Info};
 ghost use Rattle.wasm_module.specs.Lists.{AreListed};
 ghost use Rattle.wasm_module.specs.Fault.{IsCodeStart, HasOtherCount, IsModuleFault};
-ghost use Rattle.wasm_sections.specs.declared.fault.ModuleFault.TheVariants.{CodeCount};
+ghost use Rattle.wasm_sections.specs.declared.fault.ModuleFault.TheVariants.{CodeCount, Memory};
 
 use crate::imports::{imported_functions, imported_globals, imported_memories, imported_tables};
+use crate::laws::one_reading;
 use crate::layout::{Layout, Module};
 use crate::listed::Listed;
 use crate::lists::read_lists;
 use mutate_base::ModuleInfo;
 use std::alloc::{AllocError, Global};
+use wasm_declarations::laws::one_list;
 use wasm_sections::{ModuleError, ModuleFault, Section, SectionId, find_section, read_sections};
 
 /// The start of the code section, or the end of the bytes where there is none.
@@ -29,8 +32,11 @@ fn check_count(bytes: &[u8], sections: &[Section], listed: &Listed) -> Result<()
     requires spells { SpellsModule bytes.now sections.now }
     requires listed { AreListed bytes.now sections.now listed.now }
     ensures ok { OnOk result (length listed.now.entries ≡ length listed.now.functions) }
+    ensures only { (info : Info) (layout : Place) → IsModule bytes.now info layout
+        → layout.sections ≡ sections.now → IsOk result }
     ensures fault { IfErr result (λ e. IsModuleFault bytes.now e.kind e.offset) }
 {
+    one_list();
     if listed.entries.len() == listed.functions.len() {
         Ok(())
     } else {
@@ -84,16 +90,25 @@ fn module_of<'a>(
 /// Reads what a module declares and where its functions' bodies stand (WebAssembly Core Specification 3.0, Binary Format,
 /// Modules).
 ///
-/// Sections are told apart by `read_sections`, and refused as it refuses. Then the sections of types, imports, functions, tables,
-/// memories, globals and code are read, each by the call of its name in `wasm_declarations`, and refused as that refuses; the
-/// others' contents aren't looked at. `CodeCount`, at the code section, or at the end of the bytes where there is none, where there
-/// are not as many code entries as functions of the module's own; `Memory` where no memory was left. The bodies aren't read.
+/// It accepts exactly modules of which these are known: the sections are told apart by `read_sections`; those of types, imports,
+/// functions, tables, memories, globals and code are read, each by the call of its name in `wasm_declarations`; and there are as
+/// many code entries as functions of the module's own. The contents of the other sections and the bodies aren't read, and whether
+/// the module is valid isn't asked.
+///
+/// It is refused as `read_sections` refuses it; else as one of those calls refuses its section; else with `CodeCount` where the
+/// numbers differ, at the start of the code section, or at the end of the bytes where there is none. `Memory` where no memory was
+/// left.
 pub fn read_module<'a>(alloc: Global, bytes: &'a [u8]) -> Result<Module<'a>, ModuleError>
     // What is read is declared so.
     ensures read { IfOk result (λ m. IsModule bytes.now m.info m.layout) }
+    // What is declared so is read, unless memory runs out.
+    ensures only { (info : Info) (layout : Place) → IsModule bytes.now info layout
+        → MatchResult result (λ m. (m.info ≡ info) × (m.layout ≡ layout))
+        (λ e. e.kind ≡ Memory) }
     // What doesn't come from memory is a fault of the bytes.
     ensures fault { IfErr result (λ e. IsModuleFault bytes.now e.kind e.offset) }
 {
+    one_reading();
     let sections = read_sections(alloc, bytes)?;
     let listed = read_lists(alloc, bytes, &sections)?;
     check_count(bytes, &sections, &listed)?;

@@ -20,7 +20,8 @@ returns c bytes info m =
     let entries : c.layout.inside.entries.items ≡ c.args.layout.now.entries = ap (λ (l : Layout). l.entries) c.layout.view_is in
     let lt : c.args.n < length c.layout.inside.entries.items = omega (arith, ap length entries, c.requires.inside) in
     let is : slice_get c.args.layout.now.entries c.args.n ≡ Some c.index.result.now =
-    ap (λ (l : List Entry). slice_get l c.args.n) (sym entries) ∙ slice_get_read c.layout.inside.entries.items _ c.args.n c.index.result.now refl lt c.index.ensures in
+    ap (λ (l : List Entry). slice_get l c.args.n) (sym entries)
+    ∙ slice_get_read c.layout.inside.entries.items _ c.args.n c.index.result.now refl lt c.index.ensures in
     place_is bytes info c.args.layout.now c.args.n c.in-Some.code c.index.result.now
     (c.sections_fill_the_module.ensures.joined bytes c.args.layout.now.sections m.spells)
     (λ s id first. c.sections_fill_the_module.ensures.found bytes c.args.layout.now.sections id s m.spells first) m

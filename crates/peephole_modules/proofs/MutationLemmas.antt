@@ -1,0 +1,174 @@
+-- One code entry of a module rewritten.
+use Rattle.std.proofs.Common.{◌≡◌, ◌≢◌, ◌⊎◌, inl, inr, ℕ, ◌+◌, ◌-◌, ◌<◌, ◌≤◌, List, [], ◌∷◌, ◌++◌, length, drop, map, Bool, true, false, cond, Option, Some, None, Result, Ok, Err, refl, sym, ap, subst, ◌∙◌, arith}
+use Rattle.std.specs.Prelude.{IfOk, IfNone, IfSome, IsTrue, slice_get, slice_range}
+use Rattle.std.specs.List.{All}
+use Rattle.std.proofs.lemmas.List.{length-append, length-take, length-drop}
+use Rattle.std.proofs.lemmas.List.Elements.{All-map}
+use Rattle.std.proofs.lemmas.Option.{same_Some}
+use Rattle.wasm_code.specs.Body.{SpellsBody}
+use Rattle.wasm_code.specs.declared.operator.Operator.{Operator}
+use Rattle.mutate_base.specs.Module.{Module}
+use Rattle.mutate_base.specs.declared.error.Error.{Error}
+use Rattle.mutate_base.specs.declared.types.PrimitiveTypeInfo.{PrimitiveTypeInfo}
+use Rattle.mutate_base.specs.declared.types.PrimitiveTypeInfo.TheVariants.{Empty}
+use Rattle.wasm_declarations.specs.declared.entries.Entry.{Entry}
+use Rattle.wasm_declarations.specs.Locals.{SpellsLocals}
+use Rattle.wasm_module.specs.Module.{Layout, IsModule}
+use Rattle.wasm_module.specs.Inside.{IsInside}
+use Rattle.wasm_module.specs.Rewritten.{IsRewritten}
+use Rattle.peephole_terms.specs.declared.encoder.request.ResourceRequest.{ResourceRequest}
+use Rattle.peephole_terms.specs.NodeKind.{primitive_of}
+use Rattle.peephole_terms.specs.declared.encoder.node_kind.NumberType.{NumberType}
+use Rattle.peephole_terms.specs.declared.encoder.node_kind.NumberType.TheVariants as number
+use Rattle.peephole_terms.specs.Expansion.{Setting, request, requests_of}
+use Rattle.peephole_terms.specs.Written.{IsBodyIn}
+use Rattle.peephole_rules.specs.declared.rule.Rule.{Rule}
+use Rattle.peephole_rewrites.specs.declared.rewrite.Rewrite.{Rewrite}
+use Rattle.peephole_modules.specs.Body.{AppendsInBody, HasNoRewrites, RefusesInBody}
+use Rattle.peephole_modules.specs.Function.{IsFunction}
+use Rattle.peephole_modules.specs.Mutated.{HasNoMutation, IsBehindLocals, MutatesEntry, RefusesEntry, requested}
+use Rattle.peephole_modules.specs.Runs.{EndsRun}
+
+abbrev Types : Type 0
+Types = List PrimitiveTypeInfo
+
+abbrev Operators : Type 0
+Operators = List (Operator × ℕ)
+
+-- what holds of the module that was lent holds of that under the option
+pub under_lent : (P : Module → Type 0) (under : Option Module) (lent : Module) → under ≡ Some lent → P lent → IfSome under P
+under_lent P under lent is h = subst (λ (u : Option Module). IfSome u P) (sym is) h
+
+pub lent_under : (P : Module → Type 0) (under : Option Module) (lent : Module) → under ≡ Some lent → IfSome under P → P lent
+lent_under P under lent is h = subst (λ (u : Option Module). IfSome u P) is h
+
+-- ---- where a function stands
+
+-- its expression starts and ends inside its entry
+pub expression_inside : (bytes : List ℕ) (info : Module) (layout : Layout) (n : ℕ) (locals : Types) (expression : ℕ) (operators : Operators)
+    (f : IsFunction bytes info layout n locals expression operators) → IsInside bytes f.entry →
+    (f.entry.contents ≤ expression) × (expression ≤ f.entry.end)
+expression_inside bytes info layout n locals expression operators f inside =
+    let at = f.locals_are.at in
+    let parts = ap length f.locals_are.parts in
+    let sum = length-append f.locals_are.front f.locals_are.back in
+    let taken = length-take (f.entry.end - f.entry.contents) (drop f.entry.contents bytes) in
+    let left = length-drop f.entry.contents bytes in
+    let ordered = inside.ordered in
+    let ends = inside.ends in
+    (omega (arith, at), omega (arith, at, parts, sum, taken, left, ordered, ends))
+
+pub body_in : (bytes : List ℕ) (info : Module) (layout : Layout) (n : ℕ) (locals : Types) (expression : ℕ) (operators lent : Operators)
+    (f : IsFunction bytes info layout n locals expression operators) → IsInside bytes f.entry → lent ≡ operators → IsBodyIn bytes lent
+body_in bytes info layout n locals expression operators lent f inside is = subst (IsBodyIn bytes) (sym is) (record {
+  from = expression;
+  to = f.entry.end;
+  ordered = (expression_inside bytes info layout n locals expression operators f inside).1;
+  inside = inside.ends;
+  spells = f.body;
+})
+
+-- the same of the entry that was found
+pub behind_locals : (bytes : List ℕ) (info : Module) (layout : Layout) (n : ℕ) (locals : Types) (expression : ℕ) (operators : Operators)
+    (entry : Entry) (f : IsFunction bytes info layout n locals expression operators) → IsInside bytes f.entry →
+    slice_get layout.entries n ≡ Some entry → IsBehindLocals bytes entry expression
+behind_locals bytes info layout n locals expression operators entry f inside at =
+    let same : f.entry ≡ entry = same_Some _ _ (sym f.is.at ∙ at) in
+    let e = expression_inside bytes info layout n locals expression operators f inside in
+    subst (λ (x : Entry). IsBehindLocals bytes x expression) same
+    (record { behind = e.0; ends = omega (arith, e.1, inside.ends) })
+
+-- ---- nothing to rewrite
+
+pub nothing_here : (rules : List Rule) (bytes : List ℕ) (info : Module) (layout : Layout) (n : ℕ) (locals lent : Types) (operators given : Operators)
+    (preserving : Bool) → preserving ≡ true → lent ≡ locals → given ≡ operators →
+    ((l : Types) (x : ℕ) (o : Operators) → IsFunction bytes info layout n l x o → (locals ≡ l) × (operators ≡ o)) →
+    ((end : ℕ) → EndsRun lent info.globals given end → HasNoRewrites lent info preserving rules given end) →
+    HasNoMutation rules bytes info layout n
+nothing_here rules bytes info layout n locals lent operators given preserving is lent_is given_is only none l x o f end runs =
+    let s = only l x o f in
+    let own : lent ≡ l = lent_is ∙ s.0 in
+    let all : given ≡ o = given_is ∙ s.1 in
+    let run : EndsRun lent info.globals given end = subst (λ (ts : Types). EndsRun ts info.globals given end) (sym own)
+    (subst (λ (os : Operators). EndsRun l info.globals os end) (sym all) runs) in
+    subst (λ (p : Bool). HasNoRewrites l info p rules o end) is (subst (λ (ts : Types). HasNoRewrites ts info preserving rules o end) own
+    (subst (λ (os : Operators). HasNoRewrites lent info preserving rules os end) all (none end run)))
+
+-- ---- refusals
+
+pub refuses_entry : (bytes : List ℕ) (info : Module) (layout : Layout) (n : ℕ) (locals lent : Types) (expression : ℕ) (operators given : Operators)
+    (preserving : Bool) (e : Error) → IsModule bytes info layout → IsFunction bytes info layout n locals expression operators → preserving ≡ true →
+    lent ≡ locals → given ≡ operators → RefusesInBody lent info preserving bytes given e →
+    (i : Module) × ((l : Layout) × IsModule bytes i l × RefusesEntry bytes i l e)
+refuses_entry bytes info layout n locals lent expression operators given preserving e known f is lent_is given_is refused = (
+  info,
+  (
+    layout,
+    known,
+    record {
+      n = n;
+      locals = locals;
+      expression = expression;
+      operators = operators;
+      function = f;
+      refused = subst (λ (p : Bool). RefusesInBody locals info p bytes operators e) is
+          (subst (λ (ts : Types). RefusesInBody ts info preserving bytes operators e) lent_is
+          (subst (λ (os : Operators). RefusesInBody lent info preserving bytes os e) given_is refused));
+    },
+  ),
+)
+
+-- ---- the globals that are asked for
+
+abbrev AreTypes : List PrimitiveTypeInfo → Type 0
+AreTypes = All (λ t. t ≢ Empty)
+
+number_type : (t : NumberType) → primitive_of t ≢ Empty
+number_type number.I32 e = absurd cc
+number_type number.I64 e = absurd cc
+number_type number.F32 e = absurd cc
+number_type number.F64 e = absurd cc
+
+asked_types : (ts : List NumberType) → AreTypes (map requested (map request ts))
+asked_types ts = All-map (λ t. t ≢ Empty) requested (map request ts) (All-map (λ r. requested r ≢ Empty) request ts (λ k d within. number_type _))
+
+asked_or_none : (b : Bool) (ts : List NumberType) → AreTypes (map requested (cond b (map request ts) []))
+asked_or_none true ts = asked_types ts
+asked_or_none false ts = λ k d within. absurd (omega (arith, within))
+
+pub types_of_requests : (locals : Types) (info : Module) (preserving : Bool) (rules : List Rule) (input : List ℕ) (operators : Operators)
+    (rewrite : Rewrite) (old new : List ℕ) (requests : List ResourceRequest) (left : Option Setting) (globals : Types) →
+    globals ≡ map requested requests → AppendsInBody locals info preserving rules input operators rewrite old new requests left → AreTypes globals
+types_of_requests locals info preserving rules input operators rewrite old new requests left globals is a =
+    subst AreTypes (sym (is ∙ ap (map requested) (a.chosen.1.2).asks)) (asked_or_none _ _)
+
+-- ---- the new module
+
+pub mutates : (rules : List Rule) (bytes : List ℕ) (info : Module) (layout : Layout) (n : ℕ) (locals lent : Types) (expression : ℕ)
+    (operators given : Operators) (preserving : Bool) (entry : Entry) (rewrite : Rewrite) (old body : List ℕ) (requests : List ResourceRequest)
+    (left : Option Setting) (front written : List ℕ) (globals : Types) (new : List ℕ) → IsFunction bytes info layout n locals expression operators →
+    preserving ≡ true → lent ≡ locals → given ≡ operators → old ≡ [] →
+    AppendsInBody lent info preserving rules bytes given rewrite old body requests left → slice_get layout.entries n ≡ Some entry →
+    front ≡ slice_range bytes entry.contents expression → written ≡ body → globals ≡ map requested requests →
+    IsRewritten bytes layout n (front ++ written) globals new → MutatesEntry rules bytes info layout n rewrite new
+mutates rules bytes info layout n locals lent expression operators given preserving entry rewrite old body requests left front written globals new
+    f is lent_is given_is empty appended at front_is written_is globals_are rewritten =
+    let same : entry ≡ f.entry = same_Some _ _ (sym at ∙ f.is.at) in
+    let start : front ≡ slice_range bytes f.entry.contents expression =
+    front_is ∙ ap (λ (e : Entry). slice_range bytes e.contents expression) same in
+    record {
+      locals = locals;
+      expression = expression;
+      operators = operators;
+      function = f;
+      body = body;
+      requests = requests;
+      left = left;
+      rewritten = subst (λ (p : Bool). AppendsInBody locals info p rules bytes operators rewrite [] body requests left) is
+          (subst (λ (ts : Types). AppendsInBody ts info preserving rules bytes operators rewrite [] body requests left) lent_is
+          (subst (λ (os : Operators). AppendsInBody lent info preserving rules bytes os rewrite [] body requests left) given_is
+          (subst (λ (o : List ℕ). AppendsInBody lent info preserving rules bytes given rewrite o body requests left) empty appended)));
+      written = subst (λ (gs : Types). IsRewritten bytes layout n (slice_range bytes f.entry.contents expression ++ body) gs new) globals_are
+          (subst (λ (b : List ℕ). IsRewritten bytes layout n (slice_range bytes f.entry.contents expression ++ b) globals new) written_is
+          (subst (λ (a : List ℕ). IsRewritten bytes layout n (a ++ written) globals new) start rewritten));
+    }

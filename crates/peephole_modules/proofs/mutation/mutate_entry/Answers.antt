@@ -1,0 +1,77 @@
+-- At the module that was lent.
+use Rattle.std.proofs.Common.{◌≡◌, ◌+◌, inr, ap, refl, sym, ◌∙◌}
+use Rattle.std.specs.Prelude.{map}
+use Rattle.mutate_base.specs.Config.{info_of}
+use Rattle.peephole_terms.specs.Expansion.{setting_of}
+use Rattle.wasm_module.specs.Module.{IsModule}
+use Rattle.peephole_modules.specs.Mutated.{HasNoMutation, MutatesEntry, requested}
+use Rattle.peephole_modules.proofs.MutationLemmas.{behind_locals, body_in, lent_under, mutates, nothing_here, refuses_entry, types_of_requests, under_lent}
+use Rattle.peephole_modules.proofs.mutation.mutate_entry.Goals as goal
+
+pub returns-in-Err-clause-none : goal.returns-in-Err-clause-none
+returns-in-Err-clause-none g c =
+    under_lent (λ info. HasNoMutation c.args.rules.now c.args.bytes.now info c.args.layout.now c.args.n) (info_of c.args.config.now) c.info.result.now
+    c.info.ensures (λ l x o f.
+    let memory = c.is_memory.ensures.1 (c.in-Err.ensures.only l x o f) in
+    let other = c.if-is_memory.false in
+    absurd cc)
+
+pub rewrite_body_at_random-requires-clause-body : goal.rewrite_body_at_random-requires-clause-body
+rewrite_body_at_random-requires-clause-body g c =
+    let known = lent_under (λ info. IsModule c.args.bytes.now info c.args.layout.now) (info_of c.args.config.now) c.info.result.now c.info.ensures
+    c.requires.module in
+    let f = c.in-Ok.ensures.read in
+    body_in c.args.bytes.now c.info.result.now c.args.layout.now c.args.n c.in-Ok.function.locals.items c.in-Ok.function.expression
+    c.in-Ok.function.operators.items c.deref-2.result.now f
+    (c.entries_are_inside.ensures c.args.bytes.now c.info.result.now c.args.layout.now c.args.n f.entry known f.is.at) c.deref-2.ensures.value
+
+pub returns-in-Ok-None-clause-none : goal.returns-in-Ok-None-clause-none
+returns-in-Ok-None-clause-none g c =
+    under_lent (λ info. HasNoMutation c.args.rules.now c.args.bytes.now info c.args.layout.now c.args.n) (info_of c.args.config.now) c.info.result.now
+    c.info.ensures
+    (nothing_here c.args.rules.now c.args.bytes.now c.info.result.now c.args.layout.now c.args.n c.in-Ok.function.locals.items c.deref.result.now
+    c.in-Ok.function.operators.items c.deref-2.result.now c.args.config.now.preserving c.requires.preserving c.deref.ensures.value
+    c.deref-2.ensures.value c.in-Ok.ensures.only
+    (rw c.info.ensures at (rw c.in-Ok-None.field-0-is at c.in-Ok-None.ensures.none)))
+
+pub returns-in-Err-rewrite_body_at_random-clause-refused :
+    goal.returns-in-Err-rewrite_body_at_random-clause-refused
+returns-in-Err-rewrite_body_at_random-clause-refused g c =
+    let known = lent_under (λ info. IsModule c.args.bytes.now info c.args.layout.now) (info_of c.args.config.now) c.info.result.now c.info.ensures
+    c.requires.module in
+    inr (refuses_entry c.args.bytes.now c.info.result.now c.args.layout.now c.args.n c.in-Ok.function.locals.items c.deref.result.now
+    c.in-Ok.function.expression c.in-Ok.function.operators.items c.deref-2.result.now c.args.config.now.preserving
+    c.in-Err-rewrite_body_at_random.e known c.in-Ok.ensures.read c.requires.preserving c.deref.ensures.value c.deref-2.ensures.value
+    (rw c.info.ensures at c.in-Err-rewrite_body_at_random.ensures.refused))
+
+pub locals_of-locals-requires : goal.locals_of-locals-requires
+locals_of-locals-requires g c =
+    let known = lent_under (λ info. IsModule c.args.bytes.now info c.args.layout.now) (info_of c.args.config.now) c.info.result.now c.info.ensures
+    c.requires.module in
+    let f = c.in-Ok.ensures.read in
+    behind_locals c.args.bytes.now c.info.result.now c.args.layout.now c.args.n c.in-Ok.function.locals.items c.in-Ok.function.expression
+    c.in-Ok.function.operators.items c.entry_at.result f
+    (c.entries_are_inside.ensures c.args.bytes.now c.info.result.now c.args.layout.now c.args.n f.entry known f.is.at) c.entry_at.ensures
+
+pub with_body-requires-clause-types : goal.with_body-requires-clause-types
+with_body-requires-clause-types g c =
+    types_of_requests c.deref.result.now c.info.result.now c.args.config.now.preserving c.args.rules.now c.args.bytes.now c.deref-2.result.now
+    c.in-Ok-Some.made.rewrite _ _ c.in-Ok-Some.made.requests.items _ c.deref-4.result.now
+    (c.deref-4.ensures.value ∙ c.in_ok-globals.ensures ∙ ap (map requested) c.deref-3.ensures.value)
+    (rw c.info.ensures at (rw c.in-Ok-Some.field-0-is at c.in-Ok-Some.ensures.rewritten))
+
+pub returns-in-Ok-with_body-clause-mutated : goal.returns-in-Ok-with_body-clause-mutated
+returns-in-Ok-with_body-clause-mutated g c =
+    under_lent (λ info. (c.function_index.result ≡ c.args.layout.now.imported_functions + c.args.n)
+    × MutatesEntry c.args.rules.now c.args.bytes.now info c.args.layout.now c.args.n c.in-Ok-Some.made.rewrite c.in-Ok-with_body.new.items)
+    (info_of c.args.config.now) c.info.result.now c.info.ensures (
+      c.function_index.ensures,
+      mutates c.args.rules.now c.args.bytes.now c.info.result.now c.args.layout.now c.args.n c.in-Ok.function.locals.items c.deref.result.now
+          c.in-Ok.function.expression c.in-Ok.function.operators.items c.deref-2.result.now c.args.config.now.preserving c.entry_at.result
+          c.in-Ok-Some.made.rewrite c.new-body.result c.rewrite_body_at_random.new.newfunc c.in-Ok-Some.made.requests.items
+          (setting_of g.R.Rng.stream c.rewrite_body_at_random.new.config) c.locals_of-locals.result.now c.bytes.result.now c.deref-4.result.now
+          c.in-Ok-with_body.new.items c.in-Ok.ensures.read c.requires.preserving c.deref.ensures.value c.deref-2.ensures.value c.new-body.ensures
+          (rw c.info.ensures at (rw c.in-Ok-Some.field-0-is at c.in-Ok-Some.ensures.rewritten)) c.entry_at.ensures c.locals_of-locals.ensures
+          c.bytes.ensures (c.deref-4.ensures.value ∙ c.in_ok-globals.ensures ∙ ap (map requested) c.deref-3.ensures.value)
+          c.in-Ok-with_body.ensures.written,
+    )

@@ -1,0 +1,74 @@
+-- A function of a module: the types of its parameters and locals, and its body
+-- (WebAssembly Core Specification 3.0, Binary Format, Modules, Code Section).
+use Rattle.std.specs.Prelude.{◌≡◌, ℕ, ◌+◌, List, Option, Some, None, slice_get, slice_range}
+use Rattle.wasm_code.specs.Body.{SpellsBody, IsFault}
+use Rattle.wasm_code.specs.declared.operator.Operator.{Operator}
+use Rattle.wasm_code.specs.declared.fault.ReadKind.{ReadKind}
+use Rattle.wasm_code.specs.declared.fault.ReadKind.TheVariants as kinds
+use Rattle.mutate_base.specs.Module.{Module, function_type}
+use Rattle.mutate_base.specs.declared.types.PrimitiveTypeInfo.{PrimitiveTypeInfo}
+use Rattle.mutate_base.specs.declared.types.TypeInfo.{TypeInfo}
+use Rattle.mutate_base.specs.declared.types.TypeInfo.TheVariants.{Func}
+use Rattle.wasm_declarations.specs.declared.entries.Entry.{Entry}
+use Rattle.wasm_declarations.specs.Locals.{SpellsLocals, IsLocalsFault}
+use Rattle.wasm_sections.specs.declared.fault.ModuleFault.{ModuleFault}
+use Rattle.wasm_sections.specs.declared.fault.ModuleFault.TheVariants as faults
+use Rattle.wasm_module.specs.Module.{Layout}
+use Rattle.peephole_modules.specs.declared.function.FunctionError.{FunctionError}
+use Rattle.peephole_modules.specs.declared.function.FunctionError.TheVariants.{UnknownType, Locals, Body}
+
+-- the types of the parameters of a function's type
+abbrev pub parameters_in : Option TypeInfo → Option (List PrimitiveTypeInfo)
+parameters_in None = None
+parameters_in (Some (Func type)) = Some type.params
+
+-- those of the module's function with the index, where it has such a function and a type for it
+abbrev pub parameters_of : Module → ℕ → Option (List PrimitiveTypeInfo)
+parameters_of info index = parameters_in (function_type info index)
+
+-- Where the function of the n-th code entry stands, and the types of its parameters.
+pub record IsEntryOf (info : Module) (layout : Layout) (n : ℕ) (entry : Entry) (params : List PrimitiveTypeInfo) : Type 0 where
+  pub at : slice_get layout.entries n ≡ Some entry
+  pub parameters : parameters_of info (layout.imported_functions + n) ≡ Some params
+
+-- The n-th code entry spells these types of parameters and locals, and behind them, from `expression` on, a body of these operators.
+pub record IsFunction (bytes : List ℕ) (info : Module) (layout : Layout) (n : ℕ) (locals : List PrimitiveTypeInfo) (expression : ℕ)
+    (operators : List (Operator × ℕ)) : Type 0 where
+  pub entry : Entry
+  pub params : List PrimitiveTypeInfo
+  pub is : IsEntryOf info layout n entry params
+  pub locals_are : SpellsLocals params entry.contents (slice_range bytes entry.contents entry.end) locals expression
+  pub body : SpellsBody expression (slice_range bytes expression entry.end) operators
+
+-- ---- why it can't be read
+
+-- no memory was left
+abbrev pub IsWantOfMemory : FunctionError → Type 0
+IsWantOfMemory UnknownType = ⊥
+IsWantOfMemory (Locals e) = e.kind ≡ faults.Memory
+IsWantOfMemory (Body e) = e.kind ≡ kinds.Memory
+
+-- the entry's locals are refused
+pub record FailsLocals (bytes : List ℕ) (info : Module) (layout : Layout) (n : ℕ) (kind : ModuleFault)
+    (offset : ℕ) : Type 0 where
+  pub entry : Entry
+  pub params : List PrimitiveTypeInfo
+  pub is : IsEntryOf info layout n entry params
+  pub fault : IsLocalsFault params entry.contents (slice_range bytes entry.contents entry.end) kind offset
+
+-- behind its locals stands no body
+pub record FailsBody (bytes : List ℕ) (info : Module) (layout : Layout) (n : ℕ) (kind : ReadKind)
+    (offset : ℕ) : Type 0 where
+  pub entry : Entry
+  pub params : List PrimitiveTypeInfo
+  pub is : IsEntryOf info layout n entry params
+  pub locals : List PrimitiveTypeInfo
+  pub expression : ℕ
+  pub locals_are : SpellsLocals params entry.contents (slice_range bytes entry.contents entry.end) locals expression
+  pub fault : IsFault expression entry.end (slice_range bytes expression entry.end) kind offset
+
+-- An error of a function is right: the module has no type for it, or its locals or its body have that first fault.
+abbrev pub IsFunctionFault : (bytes : List ℕ) → Module → Layout → (n : ℕ) → FunctionError → Type 0
+IsFunctionFault bytes info layout n UnknownType = parameters_of info (layout.imported_functions + n) ≡ None
+IsFunctionFault bytes info layout n (Locals e) = FailsLocals bytes info layout n e.kind e.offset
+IsFunctionFault bytes info layout n (Body e) = FailsBody bytes info layout n e.kind e.offset

@@ -1,0 +1,106 @@
+-- A module with a node of a block of one of its functions rewritten by a rule (this project).
+use Rattle.std.specs.Prelude.{◌≡◌, ◌⊎◌, ℕ, ◌+◌, ◌<◌, ◌≤◌, List, [], ◌++◌, length, map, Bool, true, Option, Some, None, slice_range}
+use Rattle.wasm_code.specs.declared.operator.Operator.{Operator}
+use Rattle.mutate_base.specs.Module.{Module}
+use Rattle.mutate_base.specs.declared.types.PrimitiveTypeInfo.{PrimitiveTypeInfo}
+use Rattle.mutate_base.specs.declared.error.Error.TheVariants as errors
+use Rattle.wasm_declarations.specs.declared.entries.Entry.{Entry}
+use Rattle.wasm_module.specs.Module.{Layout, IsModule}
+use Rattle.wasm_module.specs.Fault.{IsModuleFault}
+use Rattle.wasm_module.specs.Limits.{IsTooLarge}
+use Rattle.wasm_module.specs.Rewritten.{IsRewritten}
+use Rattle.wasm_sections.specs.declared.writing.WriteError.{WriteError}
+use Rattle.wasm_sections.specs.declared.writing.WriteError.TheVariants as writes
+use Rattle.peephole_terms.specs.declared.encoder.request.ResourceRequest.{ResourceRequest}
+use Rattle.peephole_terms.specs.declared.encoder.request.ResourceRequest.TheVariants as requests
+use Rattle.peephole_terms.specs.Expansion.{Setting}
+use Rattle.peephole_rules.specs.declared.rule.Rule.{Rule}
+use Rattle.peephole_rewrites.specs.declared.rewrite.Rewrite.{Rewrite}
+use Rattle.peephole_modules.specs.Body.{AppendsInBody, HasNoRewrites, RefusesInBody}
+use Rattle.peephole_modules.specs.Function.{IsFunction}
+use Rattle.peephole_modules.specs.Runs.{EndsRun}
+use Rattle.peephole_modules.specs.declared.mutation.MutationError.{MutationError}
+use Rattle.peephole_modules.specs.declared.mutation.MutationError.TheVariants as mutations
+
+-- the type of a requested global
+abbrev pub requested : ResourceRequest → PrimitiveTypeInfo
+requested (requests.Global tpe mutable shared) = tpe
+
+-- the function with that index may be rewritten: it is the one that was named, or none was
+abbrev pub IsChosen : Option ℕ → ℕ → Type 0
+IsChosen None index = Unit {0}
+IsChosen (Some function) index = index ≡ function
+
+-- The new bytes are the module with a node of a tree of a block of its n-th code entry rewritten by one of the rules: its locals stand as they stood, the
+-- block runs as before, and the globals that it asks for are appended.
+pub record MutatesEntry (rules : List Rule) (bytes : List ℕ) (info : Module) (layout : Layout) (n : ℕ) (rewrite : Rewrite) (new : List ℕ) : Type 0 where
+  pub locals : List PrimitiveTypeInfo
+  pub expression : ℕ
+  pub operators : List (Operator × ℕ)
+  pub function : IsFunction bytes info layout n locals expression operators
+  pub body : List ℕ
+  pub requests : List ResourceRequest
+  pub left : Option Setting
+  pub rewritten : AppendsInBody locals info true rules bytes operators rewrite [] body requests left
+  pub written : IsRewritten bytes layout n (slice_range bytes function.entry.contents expression ++ body) (map requested requests) new
+
+-- The same of one of its code entries, that of the function with this index among all functions.
+abbrev pub MutatesOne : List Rule → (bytes : List ℕ) → Module → Layout → (function : ℕ) → Rewrite → (new : List ℕ) → Type 0
+MutatesOne rules bytes info layout function rewrite new =
+    (n : ℕ) × (function ≡ layout.imported_functions + n) × MutatesEntry rules bytes info layout n rewrite new
+
+-- The same of the bytes of a module, at a function that may be rewritten.
+pub record IsMutated (rules : List Rule) (only : Option ℕ) (bytes : List ℕ) (function : ℕ) (rewrite : Rewrite) (new : List ℕ) : Type 0 where
+  pub info : Module
+  pub layout : Layout
+  pub is : IsModule bytes info layout
+  pub chosen : IsChosen only function
+  pub mutates : MutatesOne rules bytes info layout function rewrite new
+
+-- No rule applies in the n-th code entry: it spells no function that can be read, or no rule has an answer in any of its integer runs.
+abbrev pub HasNoMutation : List Rule → (bytes : List ℕ) → Module → Layout → (n : ℕ) → Type 0
+HasNoMutation rules bytes info layout n =
+    (locals : List PrimitiveTypeInfo) (expression : ℕ) (operators : List (Operator × ℕ)) → IsFunction bytes info layout n locals expression operators →
+    (end : ℕ) → EndsRun locals info.globals operators end → HasNoRewrites locals info true rules operators end
+
+-- No rule applies in any function that may be rewritten.
+pub record CannotMutate (rules : List Rule) (only : Option ℕ) (bytes : List ℕ) : Type 0 where
+  pub info : Module
+  pub layout : Layout
+  pub is : IsModule bytes info layout
+  pub none : (n : ℕ) → n < length layout.entries → IsChosen only (layout.imported_functions + n) → HasNoMutation rules bytes info layout n
+
+-- for a private function: the offset lies in the entry, at or behind its contents' start
+pub record IsBehindLocals (bytes : List ℕ) (entry : Entry) (expression : ℕ) : Type 0 where
+  pub behind : entry.contents ≤ expression
+  pub ends : expression ≤ length bytes
+
+-- a rewrite of a function's block is refused
+pub record RefusesEntry (bytes : List ℕ) (info : Module) (layout : Layout) (e : Rattle.mutate_base.specs.declared.error.Error.Error) : Type 0 where
+  pub n : ℕ
+  pub locals : List PrimitiveTypeInfo
+  pub expression : ℕ
+  pub operators : List (Operator × ℕ)
+  pub function : IsFunction bytes info layout n locals expression operators
+  pub refused : RefusesInBody locals info true bytes operators e
+
+-- a code entry, with some contents, and some globals more don't fit
+pub record HasTooMuch (bytes : List ℕ) : Type 0 where
+  pub info : Module
+  pub layout : Layout
+  pub is : IsModule bytes info layout
+  pub n : ℕ
+  pub contents : List ℕ
+  pub more : List PrimitiveTypeInfo
+  pub large : IsTooLarge bytes layout n contents more
+
+abbrev pub RefusesWriting : (bytes : List ℕ) → WriteError → Type 0
+RefusesWriting bytes writes.TooLarge = HasTooMuch bytes
+RefusesWriting bytes writes.Memory = Unit {0}
+
+-- Why there is no new module: the bytes are none that can be read; a rewrite of a block is refused, or memory; or a size doesn't fit 32 bits.
+abbrev pub RefusesMutation : (bytes : List ℕ) → MutationError → Type 0
+RefusesMutation bytes (mutations.Read e) = IsModuleFault bytes e.kind e.offset
+RefusesMutation bytes (mutations.Rewrite e) =
+    (e ≡ errors.Memory) ⊎ ((info : Module) × ((layout : Layout) × IsModule bytes info layout × RefusesEntry bytes info layout e))
+RefusesMutation bytes (mutations.Write e) = RefusesWriting bytes e

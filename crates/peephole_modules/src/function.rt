@@ -1,0 +1,139 @@
+//! A function of a module: the types of its parameters and locals, and its body.
+ghost use Rattle.std.specs.Prelude.{◌≡◌, ◌↔◌, ◌<◌, ◌+◌, ℕ, List, length, Some, option_copied, option_map, slice_get, slice_range, IfOk, IfErr, IsTrue, MatchResult};
+ghost use Rattle.wasm_code.specs.declared.operator.Operator.{Operator};
+ghost use Rattle.mutate_base.specs.declared.types.PrimitiveTypeInfo.{PrimitiveTypeInfo};
+ghost use Rattle.mutate_base.specs.Module.{function_type};
+ghost use Rattle.peephole_modules.specs.Function.{IsFunction, IsFunctionFault, IsWantOfMemory, parameters_of};
+ghost use Rattle.wasm_module.specs.Inside.{IsInside};
+ghost use Rattle.wasm_module.specs.Module.{IsModule};
+
+use mutate_base::{ModuleInfo, PrimitiveTypeInfo, TypeInfo};
+use std::alloc::Global;
+use thiserror::Error;
+use wasm_code::{OperatorAndByteOffset, ReadError, ReadKind, read_body};
+use wasm_module::laws::entries_are_inside;
+use wasm_module::{Entry, Layout, ModuleError, ModuleFault, read_locals};
+
+/// Why a function can't be read.
+#[derive(Clone, Copy, Debug, PartialEq, Eq, Error)]
+pub enum FunctionError {
+    /// The module has no type for it.
+    #[error("UnknownType")]
+    UnknownType,
+    /// Its locals are refused.
+    #[error("{0}")]
+    Locals(ModuleError),
+    /// Its body is refused: it has an operator that isn't known here, or is no body.
+    #[error("{0}")]
+    Body(ReadError),
+}
+
+impl FunctionError {
+    /// Whether no memory was left.
+    pub fn is_memory(&self) -> bool
+        ensures { IsTrue result ↔ IsWantOfMemory self.now }
+    {
+        match self {
+            FunctionError::UnknownType => false,
+            FunctionError::Locals(e) => e.kind == ModuleFault::Memory,
+            FunctionError::Body(e) => e.kind == ReadKind::Memory,
+        }
+    }
+}
+
+/// A function of a module.
+#[derive(Drop)]
+pub struct FunctionBody {
+    /// The types of its parameters, and of its locals behind them.
+    pub locals: Vec<PrimitiveTypeInfo>,
+    /// Where its expression starts, counted in bytes from the start of the module.
+    pub expression: usize,
+    /// Its operators with their offsets in the module.
+    pub operators: Vec<OperatorAndByteOffset>,
+}
+
+// The type of the function with the index; none where the module has no such function, or no type for it.
+fn type_of<'a>(info: &'a ModuleInfo<'_>, index: usize) -> Option<&'a TypeInfo>
+    ensures { option_copied result ≡ function_type info.now index }
+{
+    let place = info.function_map.get(index)?;
+    info.types_map.get(*place as usize)
+}
+
+// The types of its parameters.
+fn parameters<'a>(info: &'a ModuleInfo<'_>, index: usize) -> Option<&'a [PrimitiveTypeInfo]>
+    ensures { option_map (λ params. params.now) result ≡ parameters_of info.now index }
+{
+    match type_of(info, index)? {
+        TypeInfo::Func(function) => Some(&function.params),
+    }
+}
+
+// The index, among all functions, of the one whose code is the n-th entry.
+pub(crate) fn function_index(info: &ModuleInfo<'_>, layout: &Layout, n: usize) -> usize
+    requires { layout.now.imported_functions + n < length info.now.functions }
+    ensures { result ≡ layout.now.imported_functions + n }
+{
+    let count = info.function_map.len();
+    let imported = layout.imported_functions;
+    prove!(imported < count);
+    imported + n
+}
+
+pub(crate) fn entry_at(layout: &Layout, n: usize) -> Entry
+    requires { n < length layout.now.entries }
+    ensures { slice_get layout.now.entries n ≡ Some result }
+{
+    layout.entries[n]
+}
+
+fn contents_of(bytes: &[u8], entry: Entry) -> &[u8]
+    requires { IsInside bytes.now entry }
+    ensures { result.now ≡ slice_range bytes.now entry.contents entry.end }
+{
+    &bytes[entry.contents..entry.end]
+}
+
+/// Reads the function of the module's n-th code entry, from 0: the types of its parameters and locals, and its body.
+///
+/// Refused with the first fault: `UnknownType` where the module has no type for it, `Locals` as `read_locals` refuses its locals, `Body`
+/// as `read_body` refuses what stands behind them; for want of memory as either refuses.
+pub fn read_function(
+    alloc: Global,
+    bytes: &[u8],
+    info: &ModuleInfo<'_>,
+    layout: &Layout,
+    n: usize,
+) -> Result<FunctionBody, FunctionError>
+    requires module { IsModule bytes.now info.now layout.now }
+    requires inside { n < length layout.now.entries }
+    // What is read is spelled so.
+    ensures read { IfOk result (λ f.
+        IsFunction bytes.now info.now layout.now n f.locals.items f.expression f.operators.items) }
+    // What is spelled so is read, unless memory runs out.
+    ensures only { (locals : List PrimitiveTypeInfo) (expression : ℕ) (operators : List (Operator × ℕ))
+        → IsFunction bytes.now info.now layout.now n locals expression operators
+        → MatchResult result (λ f. (f.locals.items ≡ locals) × (f.operators.items ≡ operators))
+        IsWantOfMemory }
+    // What doesn't come from memory is the first fault.
+    ensures fault { IfErr result (IsFunctionFault bytes.now info.now layout.now n) }
+{
+    entries_are_inside();
+    let entry = entry_at(layout, n);
+    let Some(params) = parameters(info, function_index(info, layout, n)) else {
+        return Err(FunctionError::UnknownType);
+    };
+    let contents = contents_of(bytes, entry);
+    let locals = match read_locals(alloc, params, contents, entry.contents) {
+        Ok(locals) => locals,
+        Err(e) => return Err(FunctionError::Locals(e)),
+    };
+    match read_body(alloc, bytes, locals.expression, entry.end) {
+        Ok(operators) => Ok(FunctionBody {
+            locals: locals.types,
+            expression: locals.expression,
+            operators,
+        }),
+        Err(e) => Err(FunctionError::Body(e)),
+    }
+}

@@ -1,0 +1,270 @@
+//! A module with a node of a block of one of its functions rewritten by a rule.
+ghost use Rattle.std.specs.Prelude.{◌≡◌, ◌<◌, ◌≤◌, ◌+◌, ℕ, true, length, map, slice_range, IfOk, IfErr, IfNone, IfSome, IsTrue, is_some};
+ghost use Rattle.mutate_base.specs.Config.{info_of, ChangesGeneratorAlone};
+ghost use Rattle.wasm_module.specs.Module.{IsModule};
+ghost use Rattle.peephole_modules.specs.Mutated.{CannotMutate, HasNoMutation, IsBehindLocals, IsMutated, MutatesEntry, MutatesOne, RefusesMutation, requested};
+
+use crate::body::{choose_below, rewrite_body_at_random};
+use crate::function::{entry_at, function_index, read_function};
+use mutate_base::{Error, PrimitiveTypeInfo, WasmMutate};
+use peephole_rewrites::Rewrite;
+use peephole_rules::Rule;
+use peephole_terms::ResourceRequest;
+use rand_core::Rng;
+use std::alloc::{AllocError, Global};
+use thiserror::Error as ErrorTexts;
+use wasm_code::Function;
+use wasm_module::laws::entries_are_inside;
+use wasm_module::{Entry, Layout, ModuleError, WriteError, read_module, with_body};
+
+/// Why there is no new module.
+#[derive(Clone, Copy, Debug, PartialEq, Eq, ErrorTexts)]
+pub enum MutationError {
+    /// The bytes are no module that can be read.
+    #[error("{0}")]
+    Read(ModuleError),
+    /// A block's graph, or the writer of its body, refused.
+    #[error("{0}")]
+    Rewrite(Error),
+    /// A section doesn't fit its size, or no memory was left for the module.
+    #[error("{0}")]
+    Write(WriteError),
+}
+
+/// A module with a node rewritten.
+#[derive(Drop)]
+pub struct Mutated {
+    /// The bytes of the new module.
+    pub bytes: Vec<u8>,
+    /// The function, by its index among all functions of the module, imported ones first.
+    pub function: usize,
+    /// The operator of its body, the node of the operator's tree, and the rule.
+    pub rewrite: Rewrite,
+}
+
+impl From<AllocError> for MutationError {
+    ghost use Rattle.std.specs.Prelude.{◌≡◌};
+    ghost use Rattle.mutate_base.specs.declared.error.Error.TheVariants as errors;
+    ghost use Rattle.peephole_modules.specs.declared.mutation.MutationError.TheVariants.{Rewrite};
+
+    ghost from_gives = { λ _ e. e ≡ Rewrite errors.Memory };
+
+    fn from(_e: AllocError) -> MutationError {
+        MutationError::Rewrite(Error::Memory)
+    }
+}
+
+// The types of the globals that are asked for.
+fn requested_types(
+    alloc: Global,
+    requests: &[ResourceRequest],
+) -> Result<Vec<PrimitiveTypeInfo>, AllocError>
+    ensures { IfOk result (λ types. types.items ≡ map requested requests.now) }
+{
+    let mut types = Vec::new(alloc);
+    for request in requests {
+        match request {
+            ResourceRequest::Global { tpe, .. } => types.push(*tpe)?,
+        }
+    }
+    Ok(types)
+}
+
+// What stands in an entry before its expression: the groups of its locals.
+fn locals_of(bytes: &[u8], entry: Entry, expression: usize) -> &[u8]
+    requires { IsBehindLocals bytes.now entry expression }
+    ensures { result.now ≡ slice_range bytes.now entry.contents expression }
+{
+    &bytes[entry.contents..expression]
+}
+
+// The module with a node of its n-th code entry rewritten; none where no rule applies there.
+fn mutate_entry<R: Rng + Drop>(
+    alloc: Global,
+    config: &mut WasmMutate<'_, R>,
+    rules: &[Rule],
+    bytes: &[u8],
+    layout: &Layout,
+    n: usize,
+) -> Result<Option<Mutated>, MutationError>
+    requires set_up { IsTrue (is_some config.old.setup) }
+    requires preserving { config.old.preserving ≡ true }
+    requires module { IfSome (info_of config.old) (λ info. IsModule bytes.now info layout.now) }
+    requires inside { n < length layout.now.entries }
+    ensures mutated { IfOk result (λ o. IfSome o (λ m. IfSome (info_of config.old) (λ info.
+        (m.function ≡ layout.now.imported_functions + n)
+        × MutatesEntry rules.now bytes.now info layout.now n m.rewrite m.bytes.items))) }
+    ensures none { IfOk result (λ o. IfNone o (IfSome (info_of config.old) (λ info.
+        HasNoMutation rules.now bytes.now info layout.now n))) }
+    ensures refused { IfErr result (RefusesMutation bytes.now) }
+    ensures unchanged { ChangesGeneratorAlone config.old config.new }
+{
+    entries_are_inside();
+    let function = match read_function(alloc, bytes, config.info(), layout, n) {
+        Ok(function) => function,
+        Err(e) => {
+            if e.is_memory() {
+                return Err(MutationError::Rewrite(Error::Memory));
+            }
+            return Ok(None);
+        }
+    };
+    let mut body = Function::new(alloc);
+    let made = match rewrite_body_at_random(
+        alloc,
+        config,
+        &function.locals,
+        rules,
+        &function.operators,
+        &mut body,
+        bytes,
+    ) {
+        Ok(Some(made)) => made,
+        Ok(None) => return Ok(None),
+        Err(e) => return Err(MutationError::Rewrite(e)),
+    };
+    let globals = requested_types(alloc, &made.requests)?;
+    let locals = locals_of(bytes, entry_at(layout, n), function.expression);
+    match with_body(alloc, bytes, layout, n, locals, body.bytes(), &globals) {
+        Ok(new) => Ok(Some(Mutated {
+            bytes: new,
+            function: function_index(config.info(), layout, n),
+            rewrite: made.rewrite,
+        })),
+        Err(e) => Err(MutationError::Write(e)),
+    }
+}
+
+// The same at the first code entry from `from` on, before `to`, where a rule applies.
+fn mutate_first<R: Rng + Drop>(
+    alloc: Global,
+    config: &mut WasmMutate<'_, R>,
+    rules: &[Rule],
+    bytes: &[u8],
+    layout: &Layout,
+    from: usize,
+    to: usize,
+) -> Result<Option<Mutated>, MutationError>
+    requires set_up { IsTrue (is_some config.old.setup) }
+    requires preserving { config.old.preserving ≡ true }
+    requires module { IfSome (info_of config.old) (λ info. IsModule bytes.now info layout.now) }
+    requires inside { to ≤ length layout.now.entries }
+    ensures mutated { IfOk result (λ o. IfSome o (λ m. IfSome (info_of config.old) (λ info.
+        MutatesOne rules.now bytes.now info layout.now m.function m.rewrite m.bytes.items))) }
+    ensures none { IfOk result (λ o. IfNone o (IfSome (info_of config.old) (λ info. (n : ℕ)
+        → from ≤ n → n < to → HasNoMutation rules.now bytes.now info layout.now n))) }
+    ensures refused { IfErr result (RefusesMutation bytes.now) }
+    ensures unchanged { ChangesGeneratorAlone config.old config.new }
+{
+    for n in from..to {
+        match mutate_entry(alloc, config, rules, bytes, layout, n) {
+            Ok(Some(made)) => return Ok(Some(made)),
+            Ok(None) => {}
+            Err(e) => return Err(e),
+        }
+    }
+    Ok(None)
+}
+
+// The same at any code entry: which one is tried first is chosen by a word drawn from the generator.
+fn mutate_any<R: Rng + Drop>(
+    alloc: Global,
+    config: &mut WasmMutate<'_, R>,
+    rules: &[Rule],
+    bytes: &[u8],
+    layout: &Layout,
+) -> Result<Option<Mutated>, MutationError>
+    requires set_up { IsTrue (is_some config.old.setup) }
+    requires preserving { config.old.preserving ≡ true }
+    requires module { IfSome (info_of config.old) (λ info. IsModule bytes.now info layout.now) }
+    ensures mutated { IfOk result (λ o. IfSome o (λ m. IfSome (info_of config.old) (λ info.
+        MutatesOne rules.now bytes.now info layout.now m.function m.rewrite m.bytes.items))) }
+    ensures none { IfOk result (λ o. IfNone o (IfSome (info_of config.old) (λ info. (n : ℕ)
+        → n < length layout.now.entries → HasNoMutation rules.now bytes.now info layout.now n))) }
+    ensures refused { IfErr result (RefusesMutation bytes.now) }
+{
+    let count = layout.entries.len();
+    if count == 0 {
+        return Ok(None);
+    }
+    let first = choose_below(config, count);
+    match mutate_first(alloc, config, rules, bytes, layout, first, count) {
+        Ok(Some(made)) => return Ok(Some(made)),
+        Ok(None) => {}
+        Err(e) => return Err(e),
+    }
+    mutate_first(alloc, config, rules, bytes, layout, 0, first)
+}
+
+// The same at the function with the index.
+fn mutate_function<R: Rng + Drop>(
+    alloc: Global,
+    config: &mut WasmMutate<'_, R>,
+    rules: &[Rule],
+    bytes: &[u8],
+    layout: &Layout,
+    function: usize,
+) -> Result<Option<Mutated>, MutationError>
+    requires set_up { IsTrue (is_some config.old.setup) }
+    requires preserving { config.old.preserving ≡ true }
+    requires module { IfSome (info_of config.old) (λ info. IsModule bytes.now info layout.now) }
+    ensures mutated { IfOk result (λ o. IfSome o (λ m. IfSome (info_of config.old) (λ info.
+        (m.function ≡ function)
+        × MutatesOne rules.now bytes.now info layout.now m.function m.rewrite m.bytes.items))) }
+    ensures none { IfOk result (λ o. IfNone o (IfSome (info_of config.old) (λ info. (n : ℕ)
+        → n < length layout.now.entries → layout.now.imported_functions + n ≡ function
+        → HasNoMutation rules.now bytes.now info layout.now n))) }
+    ensures refused { IfErr result (RefusesMutation bytes.now) }
+{
+    let imported = layout.imported_functions;
+    if function < imported {
+        return Ok(None);
+    }
+    let n = function - imported;
+    if n >= layout.entries.len() {
+        return Ok(None);
+    }
+    mutate_entry(alloc, config, rules, bytes, layout, n)
+}
+
+/// The module with a node of a block of one of its functions rewritten by one of the rules, so that the block runs as before:
+/// wherever the block's own run ends or traps the new one does the same, apart from the globals that are appended. None where no
+/// rule applies in any of its functions; with `only`, in the function of that index among all functions, imported ones first.
+/// A function that can't be read, since it has operators or forms that aren't known here, is left alone.
+///
+/// Which function is tried first is chosen by a word drawn from the generator, then come those behind it and those before it; the
+/// block and the rewrite are chosen likewise. So equal modules, generators, rules and `only` give equal bytes.
+///
+/// The new bytes differ from the old ones in that function's body, the globals that are appended, and the sizes and numbers that
+/// stand before them. It takes time linear in the module.
+///
+/// Refused with `Read` as `read_module` refuses; `Rewrite` as `rewrite_block` refuses, where an index doesn't fit or for want of
+/// memory; `Write` as `with_body` refuses.
+pub fn mutate_module<R: Rng + Drop>(
+    alloc: Global,
+    bytes: &[u8],
+    generator: R,
+    rules: &[Rule],
+    only: Option<usize>,
+) -> Result<Option<Mutated>, MutationError>
+    // The new module is the old one with a node rewritten, and its block runs as before.
+    ensures mutated { IfOk result (λ o. IfSome o (λ m.
+        IsMutated rules.now only bytes.now m.function m.rewrite m.bytes.items)) }
+    // None only where no rule applies.
+    ensures none { IfOk result (λ o. IfNone o (CannotMutate rules.now only bytes.now)) }
+    // Refused only as the module can't be read, or as a rewrite or its writing is refused.
+    ensures refused { IfErr result (RefusesMutation bytes.now) }
+{
+    let module = match read_module(alloc, bytes) {
+        Ok(module) => module,
+        Err(e) => return Err(MutationError::Read(e)),
+    };
+    let layout = module.layout;
+    let mut config = WasmMutate::new();
+    config.preserve_semantics(true);
+    config.set_up(module.info, generator);
+    match only {
+        None => mutate_any(alloc, &mut config, rules, bytes, &layout),
+        Some(function) => mutate_function(alloc, &mut config, rules, bytes, &layout, function),
+    }
+}
