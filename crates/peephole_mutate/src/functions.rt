@@ -1,0 +1,56 @@
+//! The functions of a module that are looked at.
+ghost use Rattle.std.specs.Prelude.{◌≡◌, ◌<◌, length, IfOk, IsTrue, is_some, IfSome};
+ghost use Rattle.mutate_base.specs.Config.{info_of};
+ghost use Rattle.wasm_module.specs.Module.{IsModule};
+
+use crate::failure::Failure;
+use mutate_base::{WasmMutate, Words};
+use peephole_modules::{FunctionBody, FunctionError, read_function};
+use peephole_mutator::MutationError;
+use std::alloc::Global;
+use wasm_module::{Layout, Module, read_module};
+
+/// Reads the module.
+pub fn module_of<'a>(alloc: Global, bytes: &'a [u8]) -> Result<Module<'a>, Failure>
+    ensures { IfOk result (λ m. IsModule bytes.now m.info m.layout) }
+{
+    match read_module(alloc, bytes) {
+        Ok(module) => Ok(module),
+        Err(e) => Err(Failure::Refused(MutationError::Read(e))),
+    }
+}
+
+/// The index, among all functions, of the n-th of the module's own.
+pub fn index_of(layout: &Layout, n: usize) -> usize {
+    layout.imported_functions.saturating_add(n)
+}
+
+/// Whether the function with the index is looked at.
+pub fn is_chosen(only: Option<usize>, index: usize) -> bool {
+    match only {
+        None => true,
+        Some(function) => function == index,
+    }
+}
+
+/// `NoFunction` where the only function that is to be looked at is none of the module's own.
+pub fn check_only(layout: &Layout, only: Option<usize>) -> Result<(), Failure> {
+    let Some(function) = only else {
+        return Ok(());
+    };
+    let imported = layout.imported_functions;
+    if function < imported || function - imported >= layout.entries.len() {
+        return Err(Failure::NoFunction(function));
+    }
+    Ok(())
+}
+
+/// Why a function can't be read: the name of the first fault, and its offset in the module. `start` is where the function's code
+/// entry starts.
+pub fn fault_of(error: &FunctionError, start: usize) -> (&'static str, usize) {
+    match error {
+        FunctionError::UnknownType => ("UnknownType", start),
+        FunctionError::Locals(e) => (e.kind.name(), e.offset),
+        FunctionError::Body(e) => (e.name(), e.offset),
+    }
+}
