@@ -3,7 +3,8 @@
  *
  *     mutate MODULE SEED NEW
  *
- * The status is 2 where there is nothing to rewrite or the file holds no module, and 1 where a file can't be read or written.
+ * The status is 2 where the library writes no module (the file holds none, nothing can be rewritten, the new one has no room),
+ * and 1 where a file can't be read or written.
  */
 #include "../teddertempo_mutate.h"
 
@@ -77,7 +78,7 @@ int main(int count, char **arguments)
     }
     size = teddertempo_mutate(data, size, size + EXTRA, seed);
     if (size == 0) {
-        fprintf(stderr, "mutate: nothing to rewrite\n");
+        fprintf(stderr, "mutate: not rewritten\n");
         status = 2;
     } else if (!write_file(arguments[3], data, size)) {
         fprintf(stderr, "mutate: %s can't be written\n", arguments[3]);

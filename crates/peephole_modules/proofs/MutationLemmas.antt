@@ -1,5 +1,5 @@
 -- One code entry of a module rewritten.
-use Rattle.std.proofs.Common.{◌≡◌, ℕ, ◌-◌, ◌≤◌, List, [], ◌++◌, length, drop, map, Bool, true, Option, Some, sym, ap, subst, ◌∙◌, arith}
+use Rattle.std.proofs.Common.{◌≡◌, ℕ, ◌-◌, ◌≤◌, List, [], ◌++◌, length, drop, map, Bool, true, Option, Some, sym, ap, subst, ◌∙◌, arith, refl}
 use Rattle.std.specs.Prelude.{IfSome, slice_get, slice_range}
 use Rattle.std.proofs.lemmas.List.{length-append, length-take, length-drop}
 use Rattle.std.proofs.lemmas.Option.{same_Some}
@@ -10,7 +10,10 @@ use Rattle.mutate_base.specs.declared.types.PrimitiveTypeInfo.{PrimitiveTypeInfo
 use Rattle.wasm_declarations.specs.declared.entries.Entry.{Entry}
 use Rattle.wasm_module.specs.Module.{Layout, IsModule}
 use Rattle.wasm_module.specs.Inside.{IsInside}
+use Rattle.wasm_module.specs.Limits.{IsTooLarge}
 use Rattle.wasm_module.specs.Rewritten.{IsRewritten}
+use Rattle.wasm_sections.specs.declared.writing.WriteError.{WriteError}
+use Rattle.wasm_sections.specs.declared.writing.WriteError.TheVariants.{TooLarge, Memory}
 use Rattle.peephole_terms.specs.declared.encoder.request.ResourceRequest.{ResourceRequest}
 use Rattle.peephole_terms.specs.Expansion.{Setting}
 use Rattle.peephole_terms.specs.Written.{IsBodyIn}
@@ -18,7 +21,7 @@ use Rattle.peephole_rules.specs.declared.rule.Rule.{Rule}
 use Rattle.peephole_rewrites.specs.declared.rewrite.Rewrite.{Rewrite}
 use Rattle.peephole_modules.specs.Body.{AppendsInBody, HasNoRewrites, RefusesInBody}
 use Rattle.peephole_modules.specs.Function.{IsFunction}
-use Rattle.peephole_modules.specs.Mutated.{HasNoMutation, IsBehindLocals, MutatesEntry, RefusesEntry, requested}
+use Rattle.peephole_modules.specs.Mutated.{HasNoMutation, IsBehindLocals, MutatesEntry, RefusesEntry, RefusesWriting, requested}
 use Rattle.peephole_modules.specs.Runs.{EndsRun}
 
 abbrev Types : Type 0
@@ -140,3 +143,43 @@ mutates rules bytes info layout n locals lent expression operators given preserv
           (subst (λ (b : List ℕ). IsRewritten bytes layout n (slice_range bytes f.entry.contents expression ++ b) globals new) written_is
           (subst (λ (a : List ℕ). IsRewritten bytes layout n (a ++ written) globals new) start rewritten));
     }
+
+-- the same where it doesn't fit
+pub refuses_writing : (rules : List Rule) (bytes : List ℕ) (info : Module) (layout : Layout) (n : ℕ) (locals lent : Types) (expression : ℕ)
+    (operators given : Operators) (preserving : Bool) (entry : Entry) (rewrite : Rewrite) (old body : List ℕ) (requests : List ResourceRequest)
+    (left : Option Setting) (front written : List ℕ) (globals : Types) (e : WriteError) → IsModule bytes info layout →
+    IsFunction bytes info layout n locals expression operators → preserving ≡ true → lent ≡ locals → given ≡ operators → old ≡ [] →
+    AppendsInBody lent info preserving rules bytes given rewrite old body requests left → slice_get layout.entries n ≡ Some entry →
+    front ≡ slice_range bytes entry.contents expression → written ≡ body → globals ≡ map requested requests →
+    (e ≡ TooLarge → IsTooLarge bytes layout n (front ++ written) globals) → RefusesWriting rules bytes e
+refuses_writing rules bytes info layout n locals lent expression operators given preserving entry rewrite old body requests left front written globals
+    Memory known f is lent_is given_is empty appended at front_is written_is globals_are large = tt
+refuses_writing rules bytes info layout n locals lent expression operators given preserving entry rewrite old body requests left front written globals
+    TooLarge known f is lent_is given_is empty appended at front_is written_is globals_are large =
+    let same : entry ≡ f.entry = same_Some _ _ (sym at ∙ f.is.at) in
+    let start : front ≡ slice_range bytes f.entry.contents expression =
+    front_is ∙ ap (λ (e : Entry). slice_range bytes e.contents expression) same in (
+      info,
+      (
+        layout,
+        known,
+        record {
+          n = n;
+          locals = locals;
+          expression = expression;
+          operators = operators;
+          function = f;
+          rewrite = rewrite;
+          body = body;
+          requests = requests;
+          left = left;
+          rewritten = subst (λ (p : Bool). AppendsInBody locals info p rules bytes operators rewrite [] body requests left) is
+              (subst (λ (ts : Types). AppendsInBody ts info preserving rules bytes operators rewrite [] body requests left) lent_is
+              (subst (λ (os : Operators). AppendsInBody lent info preserving rules bytes os rewrite [] body requests left) given_is
+              (subst (λ (o : List ℕ). AppendsInBody lent info preserving rules bytes given rewrite o body requests left) empty appended)));
+          large = subst (λ (gs : Types). IsTooLarge bytes layout n (slice_range bytes f.entry.contents expression ++ body) gs) globals_are
+              (subst (λ (b : List ℕ). IsTooLarge bytes layout n (slice_range bytes f.entry.contents expression ++ b) globals) written_is
+              (subst (λ (a : List ℕ). IsTooLarge bytes layout n (a ++ written) globals) start (large refl)));
+        },
+      ),
+    )

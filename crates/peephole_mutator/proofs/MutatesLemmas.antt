@@ -58,12 +58,12 @@ ends rules only count number bytes made new so some all = record {
 
 -- the module that the rewrites left is refused
 pub refused_next : (rules : List Rule) (only : Option ℕ) (count number : ℕ) (bytes : List ℕ) (made : List MadeRewrite) (last : List ℕ)
-    (e : MutationError) → SoFar rules only number bytes made last → number < count → RefusesMutation last e → RefusesMutations rules only count bytes e
+    (e : MutationError) → SoFar rules only number bytes made last → number < count → RefusesMutation rules last e → RefusesMutations rules only count bytes e
 refused_next rules only count number bytes made last e so below refused =
     inr (made, (last, omega (arith, so.number_is), so.each, refused))
 
 -- the module itself is refused
-pub refused_first : (rules : List Rule) (only : Option ℕ) (count : ℕ) (bytes : List ℕ) (e : MutationError) → 0 < count → RefusesMutation bytes e →
+pub refused_first : (rules : List Rule) (only : Option ℕ) (count : ℕ) (bytes : List ℕ) (e : MutationError) → 0 < count → RefusesMutation rules bytes e →
     RefusesMutations rules only count bytes e
 refused_first rules only count bytes e some refused = inr ([], (bytes, some, refl, refused))
 

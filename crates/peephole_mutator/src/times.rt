@@ -44,7 +44,7 @@ fn add_made(
 /// generator going on. Fewer times only where no rule applies any more; none where no rule applies at all.
 ///
 /// Each rewrite takes time linear in the module. Refused as `mutate_module` refuses the module, or one that the rewrites made of it
-/// before; for want of memory with `Rewrite`. Condition: `count` is not 0.
+/// before; for want of memory also with `Rewrite` of `Memory`. Condition: `count` is not 0.
 pub fn mutate_times<R: Rng + Drop>(
     alloc: Global,
     bytes: &[u8],

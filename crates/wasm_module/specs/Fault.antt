@@ -1,4 +1,4 @@
--- The first fault of bytes that are no module, or none of which everything can be read that is needed (this project; the rules that they break
+-- The faults of bytes that are no module, or none of which everything can be read that is needed (this project; the rules that they break
 -- are those of WebAssembly Core Specification 3.0, Binary Format, Modules).
 use Rattle.std.specs.Prelude.{◌≡◌, ◌≢◌, ◌⊎◌, ℕ, List, length, slice_range}
 use Rattle.wasm_code.specs.Number.{SpellsUnsigned, FailsUnsigned}
@@ -63,7 +63,7 @@ pub record HasOtherCount (bytes : List ℕ) (offset : ℕ) : Type 0 where
   pub differ : length entries ≢ length functions
   pub at : IsCodeStart bytes sections offset
 
--- ---- the first fault
+-- ---- faults
 
 -- An error's kind and offset are right.
 pub data IsModuleFault (bytes : List ℕ) : ModuleFault → ℕ → Type 0 where

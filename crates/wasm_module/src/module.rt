@@ -95,9 +95,9 @@ fn module_of<'a>(
 /// many code entries as functions of the module's own. The contents of the other sections and the bodies aren't read, and whether
 /// the module is valid isn't asked.
 ///
-/// It is refused as `read_sections` refuses it; else as one of those calls refuses its section; else with `CodeCount` where the
-/// numbers differ, at the start of the code section, or at the end of the bytes where there is none. `Memory` where no memory was
-/// left.
+/// An error names a fault that is there: as `read_sections` refuses the bytes; as one of those calls refuses its section; or
+/// `CodeCount` where the numbers differ, at the start of the code section, or at the end of the bytes where there is none. `Memory`
+/// where no memory was left.
 pub fn read_module<'a>(alloc: Global, bytes: &'a [u8]) -> Result<Module<'a>, ModuleError>
     // What is read is declared so.
     ensures read { IfOk result (λ m. IsModule bytes.now m.info m.layout) }

@@ -4,7 +4,8 @@
 //! teddertempo_mutate MODULE SEED NEW
 //! ```
 //!
-//! The status is 2 where there is nothing to rewrite or the file holds no module, and 1 where a file can't be read or written.
+//! The status is 2 where the library writes no module (the file holds none, nothing can be rewritten, the new one has no room),
+//! and 1 where a file can't be read or written.
 
 use std::process::ExitCode;
 use std::{env, fs};
@@ -33,7 +34,7 @@ fn main() -> ExitCode {
     match run(old, seed, new) {
         Ok(true) => ExitCode::SUCCESS,
         Ok(false) => {
-            eprintln!("teddertempo_mutate: nothing to rewrite");
+            eprintln!("teddertempo_mutate: not rewritten");
             ExitCode::from(2)
         }
         Err(message) => {

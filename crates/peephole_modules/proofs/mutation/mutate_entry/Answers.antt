@@ -1,11 +1,11 @@
 -- At the module that was lent.
-use Rattle.std.proofs.Common.{◌≡◌, ◌+◌, inr, ap, ◌∙◌}
+use Rattle.std.proofs.Common.{Err, ◌≡◌, ◌+◌, inr, ap, ◌∙◌}
 use Rattle.std.specs.Prelude.{map}
 use Rattle.mutate_base.specs.Config.{info_of}
 use Rattle.peephole_terms.specs.Expansion.{setting_of}
 use Rattle.wasm_module.specs.Module.{IsModule}
 use Rattle.peephole_modules.specs.Mutated.{HasNoMutation, MutatesEntry, requested}
-use Rattle.peephole_modules.proofs.MutationLemmas.{behind_locals, body_in, lent_under, mutates, nothing_here, refuses_entry, under_lent}
+use Rattle.peephole_modules.proofs.MutationLemmas.{behind_locals, body_in, lent_under, mutates, nothing_here, refuses_entry, refuses_writing, under_lent}
 use Rattle.peephole_modules.proofs.mutation.mutate_entry.Goals as goal
 
 pub returns-in-Err-clause-none : goal.returns-in-Err-clause-none
@@ -68,3 +68,16 @@ returns-in-Ok-with_body-clause-mutated g c =
           c.bytes.ensures (c.deref-4.ensures.value ∙ c.in_ok-globals.ensures ∙ ap (map requested) c.deref-3.ensures.value)
           c.in-Ok-with_body.ensures.written,
     )
+
+pub returns-clause-refused : goal.returns-clause-refused
+returns-clause-refused g c =
+    let known = lent_under (λ info. IsModule c.args.bytes.now info c.args.layout.now) (info_of c.args.config.now) c.info.result.now c.info.ensures
+    c.requires.module in
+    refuses_writing c.args.rules.now c.args.bytes.now c.info.result.now c.args.layout.now c.args.n c.in-Ok.function.locals.items c.deref.result.now
+    c.in-Ok.function.expression c.in-Ok.function.operators.items c.deref-2.result.now c.args.config.now.preserving c.entry_at.result
+    c.in-Ok-Some.made.rewrite c.new-body.result c.rewrite_body_at_random.new.newfunc c.in-Ok-Some.made.requests.items
+    (setting_of g.R.Rng.stream c.rewrite_body_at_random.new.config) c.locals_of-locals.result.now c.bytes.result.now c.deref-4.result.now
+    c.in-Err-with_body.e known c.in-Ok.ensures.read c.requires.preserving c.deref.ensures.value c.deref-2.ensures.value c.new-body.ensures
+    (rw c.info.ensures at (rw c.in-Ok-Some.field-0-is at c.in-Ok-Some.ensures.rewritten)) c.entry_at.ensures c.locals_of-locals.ensures
+    c.bytes.ensures (c.deref-4.ensures.value ∙ c.in_ok-globals.ensures ∙ ap (map requested) c.deref-3.ensures.value)
+    (λ e. c.in-Err-with_body.ensures.too_large (ap (λ x. Err x) e))
