@@ -1,5 +1,5 @@
 //! The blocks of a module's functions.
-ghost use Rattle.std.specs.Prelude.{◌≡◌, ◌<◌, ◌≤◌, length, IsTrue, is_some, IfSome};
+ghost use Rattle.std.specs.Prelude.{◌≡◌, ◌<◌, length, IsTrue, is_some, IfSome};
 ghost use Rattle.mutate_base.specs.Config.{info_of};
 ghost use Rattle.wasm_module.specs.Module.{IsModule};
 

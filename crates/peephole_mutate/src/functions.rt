@@ -1,11 +1,9 @@
 //! The functions of a module that are looked at.
-ghost use Rattle.std.specs.Prelude.{◌≡◌, ◌<◌, length, IfOk, IsTrue, is_some, IfSome};
-ghost use Rattle.mutate_base.specs.Config.{info_of};
+ghost use Rattle.std.specs.Prelude.{IfOk};
 ghost use Rattle.wasm_module.specs.Module.{IsModule};
 
 use crate::failure::Failure;
-use mutate_base::{WasmMutate, Words};
-use peephole_modules::{FunctionBody, FunctionError, read_function};
+use peephole_modules::FunctionError;
 use peephole_mutator::MutationError;
 use std::alloc::Global;
 use wasm_module::{Layout, Module, read_module};

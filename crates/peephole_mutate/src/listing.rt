@@ -1,5 +1,5 @@
 //! The rewrites that there are of a module.
-ghost use Rattle.std.specs.Prelude.{◌≡◌, ◌<◌, length, IsTrue, is_some, IfSome};
+ghost use Rattle.std.specs.Prelude.{◌<◌, length, IsTrue, is_some, IfSome};
 ghost use Rattle.mutate_base.specs.Config.{info_of};
 ghost use Rattle.wasm_module.specs.Module.{IsModule};
 
@@ -8,7 +8,6 @@ use crate::functions::{check_only, index_of, is_chosen, module_of};
 use mutate_base::{WasmMutate, Words};
 use peephole_graphs::BBlock;
 use peephole_modules::{FunctionBody, integer_runs, read_function};
-use peephole_mutator::MadeRewrite;
 use peephole_rewrites::{Rewrite, rewrites_of_block};
 use peephole_rules::Rule;
 use std::alloc::Global;

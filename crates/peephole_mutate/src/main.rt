@@ -18,9 +18,8 @@ mod stats;
 #[cfg(test)]
 mod tests;
 
-use options::{command, options_of, rule_names};
+use options::{options_of, rule_names};
 use running::run;
-use std::alloc::Global;
 use std::env::Env;
 use std::io::BufWriter;
 use std::process::ExitCode;

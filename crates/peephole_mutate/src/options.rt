@@ -105,8 +105,8 @@ fn stats_argument<'a>(alloc: Global) -> Result<Arg<'a>, AllocError> {
     argument.conflicts_with("list")?.conflicts_with("blocks")
 }
 
-/// The command line, with the names of the rules.
-pub fn command<'a>(alloc: Global, names: &'a [&'a str]) -> Result<Command<'a>, AllocError> {
+// The command line, with the names of the rules.
+fn command<'a>(alloc: Global, names: &'a [&'a str]) -> Result<Command<'a>, AllocError> {
     Command::new(alloc, "peephole_mutate")
         .version("1.0.0")
         .about(
