@@ -92,11 +92,6 @@ abbrev pub NothingTo : (locals : Types) (under : Option Module) (preserving : Bo
 NothingTo locals under preserving rules os ends i =
     IfSome under (λ info. (n : ℕ) → Contains (take i ends) n → HasNoRewrites locals info preserving rules os n)
 
-pub nothing_begins : (locals : Types) (under : Option Module) (preserving : Bool) (rules : List Rule) (os : Operators) (ends : List ℕ) →
-    NothingTo locals under preserving rules os ends 0
-nothing_begins locals None preserving rules os ends = tt
-nothing_begins locals (Some info) preserving rules os ends = λ n h. let past = h.1 in absurd (omega arith)
-
 pub nothing_more : (locals : Types) (under : Option Module) (preserving : Bool) (rules : List Rule) (os : Operators) (ends : List ℕ) (i end : ℕ) →
     i < length ends → end ≡ get_or ends i 0 → NothingTo locals under preserving rules os ends i →
     IfSome under (λ info. HasNoRewrites locals info preserving rules os end) → NothingTo locals under preserving rules os ends (i + 1)

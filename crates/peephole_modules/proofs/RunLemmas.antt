@@ -57,16 +57,6 @@ passes_there os n d inside passed p at =
 
 -- ---- a run goes on
 
--- before the first operator
-pub first_run : (locals globals : Types) (os : Operators) → InRun locals globals os 0
-first_run locals globals os = record {
-  start = 0;
-  some = omega arith;
-  none = λ k p low high e. absurd (omega arith);
-  longest = λ from h. omega arith;
-  integer = λ k p low high e. absurd (omega arith);
-}
-
 -- behind a delimiter a block begins
 pub run_begins : (locals globals : Types) (os : Operators) (n : ℕ) (o : Operator × ℕ) → slice_get os n ≡ Some o → is_delimiter o.0 ≡ true →
     InRun locals globals os (n + 1)
@@ -161,9 +151,6 @@ run_of_end locals globals os n e = (
 -- those of the first operators
 abbrev pub AreEnds : (locals globals : Types) → Operators → ℕ → List ℕ → Type 0
 AreEnds locals globals os i ends = (n : ℕ) → Contains ends n ↔ ((n < i) × EndsRun locals globals os n)
-
-pub no_ends : (locals globals : Types) (os : Operators) → AreEnds locals globals os 0 []
-no_ends locals globals os n = (λ h. let past = h.1 in absurd (omega arith), λ h. absurd (omega (arith, h.0)))
 
 pub ends_pushed : (locals globals : Types) (os : Operators) (i : ℕ) (ends : List ℕ) → AreEnds locals globals os i ends →
     EndsRun locals globals os i → AreEnds locals globals os (i + 1) (ends ++ i ∷ [])
