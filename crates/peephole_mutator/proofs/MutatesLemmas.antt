@@ -62,11 +62,6 @@ pub refused_next : (rules : List Rule) (only : Option ℕ) (count number : ℕ) 
 refused_next rules only count number bytes made last e so below refused =
     inr (made, (last, omega (arith, so.number_is), so.each, refused))
 
--- the module itself is refused
-pub refused_first : (rules : List Rule) (only : Option ℕ) (count : ℕ) (bytes : List ℕ) (e : MutationError) → 0 < count → RefusesMutation rules bytes e →
-    RefusesMutations rules only count bytes e
-refused_first rules only count bytes e some refused = inr ([], (bytes, some, refl, refused))
-
 -- the error is passed on
 pub passed_on : {A : Type 0} (rules : List Rule) (only : Option ℕ) (count : ℕ) (bytes : List ℕ) (e : MutationError) (result : Result A MutationError) →
     result ≡ Err e → RefusesMutations rules only count bytes e → IfErr result (RefusesMutations rules only count bytes)
