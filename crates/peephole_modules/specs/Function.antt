@@ -11,11 +11,12 @@ use Rattle.mutate_base.specs.declared.types.TypeInfo.{TypeInfo}
 use Rattle.mutate_base.specs.declared.types.TypeInfo.TheVariants.{Func}
 use Rattle.wasm_declarations.specs.declared.entries.Entry.{Entry}
 use Rattle.wasm_declarations.specs.Locals.{SpellsLocals, IsLocalsFault}
+use Rattle.wasm_sections.specs.declared.fault.ModuleError.{ModuleError}
 use Rattle.wasm_sections.specs.declared.fault.ModuleFault.{ModuleFault}
 use Rattle.wasm_sections.specs.declared.fault.ModuleFault.TheVariants as faults
 use Rattle.wasm_module.specs.Module.{Layout}
 use Rattle.peephole_modules.specs.declared.function.FunctionError.{FunctionError}
-use Rattle.peephole_modules.specs.declared.function.FunctionError.TheVariants.{UnknownType, Locals, Body}
+use Rattle.peephole_modules.specs.declared.function.FunctionError.TheVariants.{Unknown, UnknownType, Locals, Body}
 
 -- the types of the parameters of a function's type
 abbrev pub parameters_in : Option TypeInfo → Option (List PrimitiveTypeInfo)
@@ -26,8 +27,14 @@ parameters_in (Some (Func type)) = Some type.params
 abbrev pub parameters_of : Module → ℕ → Option (List PrimitiveTypeInfo)
 parameters_of info index = parameters_in (function_type info index)
 
--- Where the function of the n-th code entry stands, and the types of its parameters.
+-- every import and every global is of a form that is known, so that indices are
+pub record KnowsIndices (layout : Layout) : Type 0 where
+  pub imports : layout.unknown.imports ≡ None
+  pub globals : layout.unknown.globals ≡ None
+
+-- Where the function of the n-th code entry stands, and the types of its parameters; the module's indices are known.
 pub record IsEntryOf (info : Module) (layout : Layout) (n : ℕ) (entry : Entry) (params : List PrimitiveTypeInfo) : Type 0 where
+  pub indices : KnowsIndices layout
   pub at : slice_get layout.entries n ≡ Some entry
   pub parameters : parameters_of info (layout.imported_functions + n) ≡ Some params
 
@@ -44,6 +51,7 @@ pub record IsFunction (bytes : List ℕ) (info : Module) (layout : Layout) (n : 
 
 -- no memory was left
 abbrev pub IsWantOfMemory : FunctionError → Type 0
+IsWantOfMemory (Unknown e) = ⊥
 IsWantOfMemory UnknownType = ⊥
 IsWantOfMemory (Locals e) = e.kind ≡ faults.Memory
 IsWantOfMemory (Body e) = e.kind ≡ kinds.Memory
@@ -67,8 +75,26 @@ pub record FailsBody (bytes : List ℕ) (info : Module) (layout : Layout) (n : �
   pub locals_are : SpellsLocals params entry.contents (slice_range bytes entry.contents entry.end) locals expression
   pub fault : IsFault expression entry.end (slice_range bytes expression entry.end) kind offset
 
--- An error of a function is right: the module has no type for it, or its locals or its body have that first fault.
+-- the module has no type for the function of the n-th code entry
+abbrev pub HasNoType : Module → Layout → ℕ → Type 0
+HasNoType info layout n = parameters_of info (layout.imported_functions + n) ≡ None
+
+-- An import has that fault, a global where every import is known, or a type where indices are known and the function has no type that is.
+pub data IsUnknown (info : Module) (layout : Layout) (n : ℕ) (e : ModuleError) : Type 0 where
+  by_import : layout.unknown.imports ≡ Some e → IsUnknown info layout n e
+  by_global : layout.unknown.imports ≡ None → layout.unknown.globals ≡ Some e → IsUnknown info layout n e
+  by_type : KnowsIndices layout → layout.unknown.types ≡ Some e → HasNoType info layout n → IsUnknown info layout n e
+
+-- every type is known, and so are indices, but the module has no type for the function
+pub record LacksType (info : Module) (layout : Layout) (n : ℕ) : Type 0 where
+  pub indices : KnowsIndices layout
+  pub types : layout.unknown.types ≡ None
+  pub none : HasNoType info layout n
+
+-- An error of a function is right: what it needs of the module is of an unknown form, the module has no type for it, or its locals or its body have that
+-- first fault.
 abbrev pub IsFunctionFault : (bytes : List ℕ) → Module → Layout → (n : ℕ) → FunctionError → Type 0
-IsFunctionFault bytes info layout n UnknownType = parameters_of info (layout.imported_functions + n) ≡ None
+IsFunctionFault bytes info layout n (Unknown e) = IsUnknown info layout n e
+IsFunctionFault bytes info layout n UnknownType = LacksType info layout n
 IsFunctionFault bytes info layout n (Locals e) = FailsLocals bytes info layout n e.kind e.offset
 IsFunctionFault bytes info layout n (Body e) = FailsBody bytes info layout n e.kind e.offset

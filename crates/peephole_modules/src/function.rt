@@ -1,9 +1,9 @@
 //! A function of a module: the types of its parameters and locals, and its body.
-ghost use Rattle.std.specs.Prelude.{◌≡◌, ◌↔◌, ◌<◌, ◌+◌, ℕ, List, length, Some, option_copied, option_map, slice_get, slice_range, IfOk, IfErr, IsTrue, MatchResult};
+ghost use Rattle.std.specs.Prelude.{◌≡◌, ◌↔◌, ◌<◌, ◌+◌, ℕ, List, length, Some, option_copied, option_map, slice_get, slice_range, IfOk, IfErr, IfNone, IfSome, IsTrue, MatchResult};
 ghost use Rattle.wasm_code.specs.declared.operator.Operator.{Operator};
 ghost use Rattle.mutate_base.specs.declared.types.PrimitiveTypeInfo.{PrimitiveTypeInfo};
-ghost use Rattle.mutate_base.specs.Module.{function_type};
-ghost use Rattle.peephole_modules.specs.Function.{IsFunction, IsFunctionFault, IsWantOfMemory, parameters_of};
+ghost use Rattle.mutate_base.specs.Module.{Module, function_type};
+ghost use Rattle.peephole_modules.specs.Function.{HasNoType, IsFunction, IsFunctionFault, IsUnknown, IsWantOfMemory, KnowsIndices, parameters_of};
 ghost use Rattle.wasm_module.specs.Inside.{IsInside};
 ghost use Rattle.wasm_module.specs.Module.{IsModule};
 
@@ -17,6 +17,9 @@ use wasm_module::{Entry, Layout, ModuleError, ModuleFault, read_locals};
 /// Why a function can't be read.
 #[derive(Clone, Copy, Debug, PartialEq, Eq, Error)]
 pub enum FunctionError {
+    /// An import, a global or its type is of a form that isn't known here: what the function needs of the module isn't known.
+    #[error("{0}")]
+    Unknown(ModuleError),
     /// The module has no type for it.
     #[error("UnknownType")]
     UnknownType,
@@ -34,7 +37,7 @@ impl FunctionError {
         ensures { IsTrue result ↔ IsWantOfMemory self.now }
     {
         match self {
-            FunctionError::UnknownType => false,
+            FunctionError::Unknown(_) | FunctionError::UnknownType => false,
             FunctionError::Locals(e) => e.kind == ModuleFault::Memory,
             FunctionError::Body(e) => e.kind == ReadKind::Memory,
         }
@@ -94,10 +97,34 @@ fn contents_of(bytes: &[u8], entry: Entry) -> &[u8]
     &bytes[entry.contents..entry.end]
 }
 
+// The first import, or else the first global, of a form that isn't known.
+fn unknown_index(layout: &Layout) -> Option<ModuleError>
+    ensures none { IfNone result (KnowsIndices layout.now) }
+    ensures some { (info : Module) (n : ℕ) → IfSome result (IsUnknown info layout.now n) }
+{
+    match layout.unknown.imports {
+        Some(error) => Some(error),
+        None => layout.unknown.globals,
+    }
+}
+
+// Why a function has no type that is known.
+fn without_type(layout: &Layout) -> FunctionError
+    requires indices { KnowsIndices layout.now }
+    ensures { (bytes : List ℕ) (info : Module) (n : ℕ) → HasNoType info layout.now n
+        → IsFunctionFault bytes info layout.now n result }
+{
+    match layout.unknown.types {
+        Some(error) => FunctionError::Unknown(error),
+        None => FunctionError::UnknownType,
+    }
+}
+
 /// Reads the function of the module's n-th code entry, from 0: the types of its parameters and locals, and its body.
 ///
-/// Refused with the first fault: `UnknownType` where the module has no type for it, `Locals` as `read_locals` refuses its locals, `Body`
-/// as `read_body` refuses what stands behind them; for want of memory as either refuses.
+/// Refused with the first fault: `Unknown` where an import or a global is of a form that isn't known here, so that indices aren't
+/// known, or where such a type stands before the function's; `UnknownType` where the module has no type for it; `Locals` as
+/// `read_locals` refuses its locals; `Body` as `read_body` refuses what stands behind them; for want of memory as either refuses.
 pub fn read_function(
     alloc: Global,
     bytes: &[u8],
@@ -111,7 +138,8 @@ pub fn read_function(
     ensures read { IfOk result (λ f.
         IsFunction bytes.now info.now layout.now n f.locals.items f.expression f.operators.items) }
     // What is spelled so is read, unless memory runs out.
-    ensures only { (locals : List PrimitiveTypeInfo) (expression : ℕ) (operators : List (Operator × ℕ))
+    ensures only { (locals : List PrimitiveTypeInfo) (expression : ℕ)
+        (operators : List (Operator × ℕ))
         → IsFunction bytes.now info.now layout.now n locals expression operators
         → MatchResult result (λ f. (f.locals.items ≡ locals) × (f.operators.items ≡ operators))
         IsWantOfMemory }
@@ -119,9 +147,12 @@ pub fn read_function(
     ensures fault { IfErr result (IsFunctionFault bytes.now info.now layout.now n) }
 {
     entries_are_inside();
+    if let Some(error) = unknown_index(layout) {
+        return Err(FunctionError::Unknown(error));
+    }
     let entry = entry_at(layout, n);
     let Some(params) = parameters(info, function_index(info, layout, n)) else {
-        return Err(FunctionError::UnknownType);
+        return Err(without_type(layout));
     };
     let contents = contents_of(bytes, entry);
     let locals = match read_locals(alloc, params, contents, entry.contents) {

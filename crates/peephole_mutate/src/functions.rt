@@ -47,6 +47,7 @@ pub fn check_only(layout: &Layout, only: Option<usize>) -> Result<(), Failure> {
 /// entry starts.
 pub fn fault_of(error: &FunctionError, start: usize) -> (&'static str, usize) {
     match error {
+        FunctionError::Unknown(e) => (e.kind.name(), e.offset),
         FunctionError::UnknownType => ("UnknownType", start),
         FunctionError::Locals(e) => (e.kind.name(), e.offset),
         FunctionError::Body(e) => (e.name(), e.offset),

@@ -1,5 +1,5 @@
 -- The items are read exactly.
-use Rattle.std.proofs.Common.{◌≡◌, ℕ, eqb, Bool, true, false, cond, Some, None, refl, sym}
+use Rattle.std.proofs.Common.{◌≡◌, ℕ, eqb, Bool, true, false, cond, Option, Some, None, refl, sym}
 use Rattle.std.proofs.lemmas.Bool.{eqb-true, eq-eqb}
 use Rattle.mutate_base.specs.declared.types.ElementType.{ElementType}
 use Rattle.mutate_base.specs.declared.types.ElementType.TheVariants as elements
@@ -49,15 +49,21 @@ flag_exact : Exact (IsCode flag_code) (FailsCode flag_code) flag_at
 unfolding flag_at
 flag_exact = exact_code flag_code flag_of named coded
   where
-    named : (b : ℕ) (x : Bool × Bool) → flag_of b ≡ Some x → flag_code x ≡ b
-    named b x e = listed flag_code (eqb b 0) b 0 x (false, false) _ refl refl e (λ e. listed flag_code (eqb b 1) b 1 x (false, true) _ refl refl e
-        (λ e. listed flag_code (eqb b 4) b 4 x (true, false) _ refl refl e (λ e. listed flag_code (eqb b 5) b 5 x (true, true) _ refl refl e (λ e. absurd cc))))
+    named : (b : ℕ) (x : Bool × Option Bool) → flag_of b ≡ Some x → flag_code x ≡ b
+    named b x e = listed flag_code (eqb b 0) b 0 x (false, None) _ refl refl e
+        (λ e. listed flag_code (eqb b 1) b 1 x (false, Some false) _ refl refl e
+        (λ e. listed flag_code (eqb b 3) b 3 x (false, Some true) _ refl refl e
+        (λ e. listed flag_code (eqb b 4) b 4 x (true, None) _ refl refl e
+        (λ e. listed flag_code (eqb b 5) b 5 x (true, Some false) _ refl refl e
+        (λ e. listed flag_code (eqb b 7) b 7 x (true, Some true) _ refl refl e (λ e. absurd cc))))))
 
-    coded : (x : Bool × Bool) → flag_of (flag_code x) ≡ Some x
-    coded (false, false) = refl
-    coded (false, true) = refl
-    coded (true, false) = refl
-    coded (true, true) = refl
+    coded : (x : Bool × Option Bool) → flag_of (flag_code x) ≡ Some x
+    coded (false, None) = refl
+    coded (false, Some false) = refl
+    coded (false, Some true) = refl
+    coded (true, None) = refl
+    coded (true, Some false) = refl
+    coded (true, Some true) = refl
 
 limits_exact : Exact SpellsLimits FailsLimits limits_at
 unfolding limits_at

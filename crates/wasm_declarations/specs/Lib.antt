@@ -1,4 +1,5 @@
 pub mod List
+pub mod Known
 pub mod Types
 pub mod Tables
 pub mod Globals

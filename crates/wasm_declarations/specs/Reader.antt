@@ -21,6 +21,7 @@ use Rattle.wasm_declarations.specs.declared.entries.Entry.{Entry}
 use Rattle.wasm_declarations.specs.declared.locals.GroupStop.{GroupStop}
 use Rattle.wasm_declarations.specs.declared.locals.GroupStop.TheVariants as stops
 use Rattle.wasm_declarations.specs.Entries.{entries_from}
+use Rattle.wasm_declarations.specs.Known.{IsUnknown}
 use Rattle.wasm_declarations.specs.List.{fault_of}
 use Rattle.wasm_declarations.specs.Locals.{types_of, locals_in, AreFew}
 use Rattle.wasm_declarations.specs.Types.{primitive}
@@ -43,6 +44,14 @@ each_at (suc n) at bytes = at bytes >>= λ x. each_at n at x.1 >>= λ xs. Ok (x.
 unfoldable pub list_at : {A : Type 0} → (List ℕ → Result (A × List ℕ) Cause) → List ℕ → Result (List A × List ℕ) Cause
 list_at at bytes = unsigned_at 32 bytes >>= λ n. each_at n.0 at n.1
 
+-- behind these of so many values reading fails
+pub record FailsBehind {A : Type 0} (at : List ℕ → Result (A × List ℕ) Cause) (number : ℕ) (bytes : List ℕ) (cause : Cause)
+    (items : List A) (rest : List ℕ) : Type 0 where
+  pub before : ℕ
+  pub fewer : before < number
+  pub reads : each_at before at bytes ≡ Ok (items, rest)
+  pub fails : at rest ≡ Err cause
+
 -- behind some of so many values reading fails, where so many bytes are left
 pub record StopsEach {A : Type 0} (at : List ℕ → Result (A × List ℕ) Cause) (number : ℕ) (bytes : List ℕ) (cause : Cause) (left : ℕ) : Type 0 where
   pub before : ℕ
@@ -56,6 +65,12 @@ pub record StopsEach {A : Type 0} (at : List ℕ → Result (A × List ℕ) Caus
 abbrev pub StopsBy : {A : Type 0} → (List ℕ → Result (A × List ℕ) Cause) → ℕ → List ℕ → Refusal → ℕ → Type 0
 StopsBy at number bytes (refusals.Bytes cause) left = StopsEach at number bytes cause left
 StopsBy at number bytes refusals.Memory left = Unit {0}
+
+-- these of so many values are read: all, or those before the one that is refused
+abbrev pub RunsTo : {A : Type 0} → (List ℕ → Result (A × List ℕ) Cause) → ℕ → List ℕ → List A → List ℕ → Option Refusal → Type 0
+RunsTo at number bytes items rest None = each_at number at bytes ≡ Ok (items, rest)
+RunsTo at number bytes items rest (Some (refusals.Bytes cause)) = FailsBehind at number bytes cause items rest
+RunsTo at number bytes items rest (Some refusals.Memory) = Unit {0}
 
 -- one of the items that the count says fails
 pub record StopsList {A : Type 0} (at : List ℕ → Result (A × List ℕ) Cause) (start : ℕ) (text : List ℕ) (cause : Cause) (offset : ℕ) : Type 0 where
@@ -86,6 +101,41 @@ FailsWhole at start text e =
     ⊎ ((e.kind ≡ faults.TrailingBytes) × GoesOn at start text e.offset)
     ⊎ ((e.kind ≡ faults.Memory) × (e.offset ≡ start))
 
+-- ---- lists with items of unknown forms
+
+abbrev pub IsUnknownBy : Refusal → Type 0
+IsUnknownBy (refusals.Bytes cause) = IsUnknown cause
+IsUnknownBy refusals.Memory = ⊥
+
+pub record ReadsWhole {A : Type 0} (at : List ℕ → Result (A × List ℕ) Cause) (text : List ℕ) (count : ℕ) (items : List A) : Type 0 where
+  pub rest : List ℕ
+  pub counts : unsigned_at 32 text ≡ Ok (count, rest)
+  pub reads : list_at at text ≡ Ok (items, [])
+
+pub record ReadsCut {A : Type 0} (at : List ℕ → Result (A × List ℕ) Cause) (start : ℕ) (text : List ℕ) (count : ℕ) (items : List A)
+    (e : ModuleError) : Type 0 where
+  pub cause : Cause
+  pub unknown : IsUnknown cause
+  pub kind : e.kind ≡ fault_of cause
+  pub rest : List ℕ
+  pub back : List ℕ
+  pub counts : unsigned_at 32 text ≡ Ok (count, rest)
+  pub fails : FailsBehind at count rest cause items back
+  pub is_at : e.offset ≡ start + (length text - length back)
+
+-- what is read of a list that is the whole of the text
+abbrev pub ReadsKnown : {A : Type 0} → (List ℕ → Result (A × List ℕ) Cause) → ℕ → List ℕ → ℕ → List A → Option ModuleError → Type 0
+ReadsKnown at start text count items None = ReadsWhole at text count items
+ReadsKnown at start text count items (Some e) = ReadsCut at start text count items e
+
+-- why nothing is known of it
+abbrev pub FailsKnown : {A : Type 0} → (List ℕ → Result (A × List ℕ) Cause) → ℕ → List ℕ → ModuleError → Type 0
+FailsKnown at start text e =
+    ((cause : Cause) × (e.kind ≡ fault_of cause) × (unsigned_at 32 text ≡ Err cause) × (e.offset ≡ start))
+    ⊎ ((cause : Cause) × (IsUnknown cause → ⊥) × (e.kind ≡ fault_of cause) × StopsList at start text cause e.offset)
+    ⊎ ((e.kind ≡ faults.TrailingBytes) × GoesOn at start text e.offset)
+    ⊎ ((e.kind ≡ faults.Memory) × (e.offset ≡ start))
+
 -- ---- types
 
 unfoldable pub primitive_at : List ℕ → Result (PrimitiveTypeInfo × List ℕ) Cause
@@ -105,12 +155,12 @@ function_type_at bytes = mark_at 0x60 bytes >>= λ m. list_at primitive_at m.1 >
 -- ---- tables and memories
 
 -- the flag that has this byte
-abbrev pub flag_of : ℕ → Option (Bool × Bool)
+abbrev pub flag_of : ℕ → Option (Bool × Option Bool)
 flag_of b =
-    if b == 0 then Some (false, false) else if b == 1 then Some (false, true)
-    else if b == 4 then Some (true, false) else if b == 5 then Some (true, true) else None
+    if b == 0 then Some (false, None) else if b == 1 then Some (false, Some false) else if b == 3 then Some (false, Some true)
+    else if b == 4 then Some (true, None) else if b == 5 then Some (true, Some false) else if b == 7 then Some (true, Some true) else None
 
-unfoldable pub flag_at : List ℕ → Result ((Bool × Bool) × List ℕ) Cause
+unfoldable pub flag_at : List ℕ → Result ((Bool × Option Bool) × List ℕ) Cause
 flag_at bytes = byte_at bytes >>= λ b. named_at (flag_of b.0) b.1
 
 unfoldable pub limits_at : List ℕ → Result (Bool × List ℕ) Cause

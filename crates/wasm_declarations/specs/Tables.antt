@@ -1,6 +1,6 @@
 -- Limits, table types and memory types (WebAssembly Core Specification 3.0, Binary Format, Types, Limits, Memory Types and
 -- Table Types).
-use Rattle.std.specs.Prelude.{ℕ, ◌+◌, List, Bool, if◌then◌else◌}
+use Rattle.std.specs.Prelude.{ℕ, ◌+◌, List, Bool, true, false, Option, Some, None, is_some, if◌then◌else◌}
 use Rattle.mutate_base.specs.declared.types.ElementType.{ElementType}
 use Rattle.mutate_base.specs.declared.types.ElementType.TheVariants.{Func, Extern}
 use Rattle.mutate_base.specs.declared.types.TableType.{TableType}
@@ -9,13 +9,19 @@ use Rattle.wasm_code.specs.declared.fault.Cause.{Cause}
 use Rattle.wasm_code.specs.Grammar.{IsCode, FailsCode, Of, Then, FailsThen, Times, FailsTimes}
 use Rattle.wasm_code.specs.Number.{SpellsUnsigned, FailsUnsigned}
 
--- the byte of a flag, which says whether 64 bits index (first), and whether a maximum follows the minimum (second)
-abbrev pub flag_code : Bool × Bool → ℕ
-flag_code flag = (if flag.0 then 4 else 0) + (if flag.1 then 1 else 0)
+-- what a flag says of the maximum: there is none, or it follows the minimum, and then whether what has these limits is shared
+abbrev pub maximum_code : Option Bool → ℕ
+maximum_code None = 0
+maximum_code (Some false) = 1
+maximum_code (Some true) = 3
+
+-- the byte of a flag, which says whether 64 bits index (first), and of the maximum (second); shared limits are of the threads proposal
+abbrev pub flag_code : Bool × Option Bool → ℕ
+flag_code flag = (if flag.0 then 4 else 0) + maximum_code flag.1
 
 -- how many numbers follow the flag
-abbrev pub bounds : Bool × Bool → ℕ
-bounds flag = if flag.1 then 2 else 1
+abbrev pub bounds : Bool × Option Bool → ℕ
+bounds flag = if is_some flag.1 then 2 else 1
 
 -- A flag, the minimum, and the maximum where the flag says so; kept is whether 64 bits index.
 abbrev pub SpellsLimits : List ℕ → Bool → Type 0

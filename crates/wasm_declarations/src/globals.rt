@@ -4,12 +4,13 @@ ghost use Rattle.mutate_base.specs.declared.types.PrimitiveTypeInfo.{PrimitiveTy
 ghost use Rattle.wasm_code.specs.Body.{is_end};
 ghost use Rattle.wasm_code.specs.Reader.{Gives};
 ghost use Rattle.wasm_declarations.specs.Globals.{SpellsGlobal, FailsGlobal};
-ghost use Rattle.wasm_declarations.specs.List.{SpellsList, IsListFault};
+ghost use Rattle.wasm_declarations.specs.Known.{Known as Knowledge, SpellsKnown, IsKnownFault};
 ghost use Rattle.wasm_declarations.specs.Reader.{mutable_of, mutable_at, global_type_at, initialiser_at, global_at};
 ghost use Rattle.wasm_sections.specs.declared.fault.ModuleFault.TheVariants.{Memory};
 
 use crate::item::Item;
-use crate::list::read_list;
+use crate::known::Known;
+use crate::list::read_known;
 use crate::refusal::Refusal;
 use crate::types::primitive_from;
 use mutate_base::PrimitiveTypeInfo;
@@ -102,29 +103,31 @@ impl Item for Globals {
 /// Reads the types of the globals that a global section lists. `contents` are the section's contents, whose first byte has the
 /// offset `start` in the module (WebAssembly Core Specification 3.0, Binary Format, Modules, Global Section).
 ///
-/// It accepts exactly a list of globals with nothing behind it, each a global type and operators up to the first `end`, since a
-/// constant expression holds no block. The operators' types aren't checked, and neither is kept whether a global may be written.
+/// It reads exactly a list of globals with nothing behind it, each a global type and operators up to the first `end`, since a
+/// constant expression holds no block. The operators' types aren't checked, and neither is kept whether a global may be written. A
+/// value type that isn't known here, another byte than 0 or 1 behind it, and an operator's whole immediate that names nothing are an
+/// unknown form, an operator that isn't known an unknown opcode: what is known are then the globals before the first such one, and
+/// `unknown` says with `UnknownForm` or `UnknownOpcode` where that one starts. What stands behind it isn't looked at.
 ///
 /// An error names the first fault from the left and where the global at fault starts, or `start` where the number of the
 /// globals is at fault: `Truncated` where the contents end inside it, `BadInteger` where a number has too many bytes or
-/// doesn't fit, `UnknownForm` where a byte stands for no value type, another byte than 0 or 1 stands behind it, or an
-/// operator's whole immediate names nothing, `UnknownOpcode` where no operator has an opcode; `TrailingBytes` at the first
-/// byte behind the globals; `Memory` at `start` where no memory was left.
+/// doesn't fit; `TrailingBytes` at the first byte behind the globals; `Memory` at `start` where no memory was left.
 pub fn read_globals(
     alloc: Global,
     contents: &[u8],
     start: usize,
-) -> Result<Vec<PrimitiveTypeInfo>, ModuleError>
+) -> Result<Known<PrimitiveTypeInfo>, ModuleError>
     requires { start + length contents.now ≤ usize.MAX }
     // What is read is spelled so.
-    ensures found { IfOk result (λ v. SpellsList SpellsGlobal contents.now v.items) }
+    ensures found { IfOk result (SpellsKnown SpellsGlobal FailsGlobal start contents.now) }
     // What is spelled so is read, unless memory runs out.
-    ensures only { (xs : List PrimitiveTypeInfo) → SpellsList SpellsGlobal contents.now xs
-        → MatchResult result (λ v. v.items ≡ xs) (λ e. e.kind ≡ Memory) }
+    ensures only { (known : Knowledge PrimitiveTypeInfo)
+        → SpellsKnown SpellsGlobal FailsGlobal start contents.now known
+        → MatchResult result (λ k. k ≡ known) (λ e. e.kind ≡ Memory) }
     // What doesn't come from memory is the first fault.
     ensures fault { IfErr result (λ e.
-        IsListFault SpellsGlobal FailsGlobal start contents.now e.kind e.offset) }
+        IsKnownFault SpellsGlobal FailsGlobal start contents.now e.kind e.offset) }
 {
     parts_are_read();
-    read_list::<Globals>(alloc, contents, start)
+    read_known::<Globals>(alloc, contents, start)
 }

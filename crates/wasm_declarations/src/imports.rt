@@ -3,6 +3,7 @@ ghost use Rattle.std.specs.Prelude.{◌≡◌, ◌≤◌, ◌+◌, ℕ, List, le
 ghost use Rattle.wasm_code.specs.Number.{SpellsUnsigned, FailsUnsigned};
 ghost use Rattle.wasm_code.specs.Reader.{Gives, unsigned_at};
 ghost use Rattle.wasm_declarations.specs.Imports.{SpellsImport, FailsImport};
+ghost use Rattle.wasm_declarations.specs.Known.{Known as Knowledge, SpellsKnown, IsKnownFault};
 ghost use Rattle.wasm_declarations.specs.List.{SpellsList, IsListFault};
 ghost use Rattle.wasm_declarations.specs.Reader.{skip_at, name_at, external_at, import_at};
 ghost use Rattle.wasm_declarations.specs.declared.import.Import.{Import};
@@ -11,7 +12,8 @@ ghost use Rattle.wasm_sections.specs.declared.fault.ModuleFault.TheVariants.{Mem
 use crate::globals::global_type_from;
 use crate::import::Import;
 use crate::item::Item;
-use crate::list::read_list;
+use crate::known::Known;
+use crate::list::{read_known, read_list};
 use crate::refusal::Refusal;
 use crate::tables::{memory_type_from, table_type_from};
 use crate::types::past_mark;
@@ -111,29 +113,31 @@ impl Item for Indices {
 /// Reads the imports that an import section lists. `contents` are the section's contents, whose first byte has the offset
 /// `start` in the module (WebAssembly Core Specification 3.0, Binary Format, Modules, Import Section).
 ///
-/// It accepts exactly a list of imports with nothing behind it, each two names and a function, a table, a memory, a global or
-/// a tag. Neither are names kept, nor is it asked whether they are UTF-8.
+/// It reads exactly a list of imports with nothing behind it, each two names and a function, a table, a memory, a global or a tag.
+/// Neither are names kept, nor is it asked whether they are UTF-8. An import of another kind, and one of a table, a memory or a
+/// global whose type isn't known here, is of an unknown form: what is known are then the imports before the first such one, and
+/// `unknown` says with `UnknownForm` where that one starts. What stands behind it isn't looked at.
 ///
 /// An error names the first fault from the left and where the import at fault starts, or `start` where the number of the
 /// imports is at fault: `Truncated` where the contents end inside it, `BadInteger` where a number has too many bytes or
-/// doesn't fit, `UnknownForm` where a byte stands for no kind of import, no value type, no reference type or no limits;
-/// `TrailingBytes` at the first byte behind the imports; `Memory` at `start` where no memory was left.
+/// doesn't fit; `TrailingBytes` at the first byte behind the imports; `Memory` at `start` where no memory was left.
 pub fn read_imports(
     alloc: Global,
     contents: &[u8],
     start: usize,
-) -> Result<Vec<Import>, ModuleError>
+) -> Result<Known<Import>, ModuleError>
     requires { start + length contents.now ≤ usize.MAX }
     // What is read is spelled so.
-    ensures found { IfOk result (λ v. SpellsList SpellsImport contents.now v.items) }
+    ensures found { IfOk result (SpellsKnown SpellsImport FailsImport start contents.now) }
     // What is spelled so is read, unless memory runs out.
-    ensures only { (xs : List Import) → SpellsList SpellsImport contents.now xs
-        → MatchResult result (λ v. v.items ≡ xs) (λ e. e.kind ≡ Memory) }
+    ensures only { (known : Knowledge Import)
+        → SpellsKnown SpellsImport FailsImport start contents.now known
+        → MatchResult result (λ k. k ≡ known) (λ e. e.kind ≡ Memory) }
     // What doesn't come from memory is the first fault.
     ensures fault { IfErr result (λ e.
-        IsListFault SpellsImport FailsImport start contents.now e.kind e.offset) }
+        IsKnownFault SpellsImport FailsImport start contents.now e.kind e.offset) }
 {
-    read_list::<Imports>(alloc, contents, start)
+    read_known::<Imports>(alloc, contents, start)
 }
 
 /// Reads the types of functions, by their indices, that a function section lists. `contents` are the section's contents, whose

@@ -10,6 +10,7 @@ ghost use Rattle.wasm_code.specs.laws.GrammarLemmas.{Exact};
 ghost use Rattle.wasm_declarations.specs.Entries.{SpellsEntries, SpellsSized, FailsSized};
 ghost use Rattle.wasm_declarations.specs.Globals.{SpellsGlobal, FailsGlobal};
 ghost use Rattle.wasm_declarations.specs.Imports.{SpellsImport, FailsImport};
+ghost use Rattle.wasm_declarations.specs.Known.{Known, SpellsKnown};
 ghost use Rattle.wasm_declarations.specs.List.{SpellsList, FailsList};
 ghost use Rattle.wasm_declarations.specs.Locals.{SpellsLocals, SpellsGroup, FailsGroup};
 ghost use Rattle.wasm_declarations.specs.Reader.{list_at, function_type_at, import_at, table_type_at, memory_type_at, global_at, sized_at, group_at};
@@ -20,20 +21,25 @@ ghost use Rattle.wasm_declarations.specs.declared.import.Import.{Import};
 
 use wasm_code::laws::parts_are_read;
 
-/// A text spells one list.
+/// Of a text one list is known.
 pub fn one_list()
-    ensures types { (text : List ℕ) (xs ys : List TypeInfo) → SpellsList SpellsFunctionType text xs
-        → SpellsList SpellsFunctionType text ys → xs ≡ ys }
-    ensures imports { (text : List ℕ) (xs ys : List Import) → SpellsList SpellsImport text xs
-        → SpellsList SpellsImport text ys → xs ≡ ys }
+    ensures types { (start : ℕ) (text : List ℕ) (known other : Known TypeInfo)
+        → SpellsKnown SpellsFunctionType FailsFunctionType start text known
+        → SpellsKnown SpellsFunctionType FailsFunctionType start text other → known ≡ other }
+    ensures imports { (start : ℕ) (text : List ℕ) (known other : Known Import)
+        → SpellsKnown SpellsImport FailsImport start text known
+        → SpellsKnown SpellsImport FailsImport start text other → known ≡ other }
     ensures functions { (text xs ys : List ℕ) → SpellsList (SpellsUnsigned 32) text xs
         → SpellsList (SpellsUnsigned 32) text ys → xs ≡ ys }
-    ensures tables { (text : List ℕ) (xs ys : List TableType) → SpellsList SpellsTableType text xs
-        → SpellsList SpellsTableType text ys → xs ≡ ys }
-    ensures memories { (text : List ℕ) (xs ys : List MemoryType)
-        → SpellsList SpellsMemoryType text xs → SpellsList SpellsMemoryType text ys → xs ≡ ys }
-    ensures globals { (text : List ℕ) (xs ys : List PrimitiveTypeInfo)
-        → SpellsList SpellsGlobal text xs → SpellsList SpellsGlobal text ys → xs ≡ ys }
+    ensures tables { (start : ℕ) (text : List ℕ) (known other : Known TableType)
+        → SpellsKnown SpellsTableType FailsTableType start text known
+        → SpellsKnown SpellsTableType FailsTableType start text other → known ≡ other }
+    ensures memories { (start : ℕ) (text : List ℕ) (known other : Known MemoryType)
+        → SpellsKnown SpellsMemoryType FailsMemoryType start text known
+        → SpellsKnown SpellsMemoryType FailsMemoryType start text other → known ≡ other }
+    ensures globals { (start : ℕ) (text : List ℕ) (known other : Known PrimitiveTypeInfo)
+        → SpellsKnown SpellsGlobal FailsGlobal start text known
+        → SpellsKnown SpellsGlobal FailsGlobal start text other → known ≡ other }
     ensures entries { (start : ℕ) (text : List ℕ) (xs ys : List Entry)
         → SpellsEntries start text xs → SpellsEntries start text ys → xs ≡ ys }
     ensures locals { (params : List PrimitiveTypeInfo) (start : ℕ) (text : List ℕ)

@@ -1,11 +1,12 @@
 //! Lists: the number of the items, and the items, one after another.
-ghost use Rattle.std.specs.Prelude.{◌≡◌, ◌≤◌, ◌+◌, ◌-◌, List, [], length, Ok, IfOk, IfErr};
-ghost use Rattle.wasm_declarations.specs.Reader.{Answers, StopsBy, each_at, list_at, error_at, FailsWhole};
+ghost use Rattle.std.specs.Prelude.{◌≡◌, ◌↔◌, ◌≤◌, ◌+◌, ◌-◌, List, [], length, Ok, IfOk, IfErr, IsTrue};
+ghost use Rattle.wasm_declarations.specs.Reader.{Answers, RunsTo, IsUnknownBy, list_at, error_at, FailsWhole, ReadsKnown, FailsKnown};
 
 use crate::item::Item;
+use crate::known::Known;
 use crate::refusal::{Refusal, fault};
 use std::alloc::Global;
-use wasm_code::u32_of;
+use wasm_code::{Cause, u32_of};
 use wasm_sections::{ModuleError, ModuleFault};
 
 /// Why a list wasn't read to its end, and how many bytes were left at the item that wasn't read.
@@ -17,12 +18,14 @@ pub struct Stop {
     pub left: usize,
 }
 
-/// So many items, one after another, and what follows them.
-fn each_of<T: Item>(alloc: Global, count: u32, bytes: &[u8]) -> Result<(Vec<T::Value>, &[u8]), Stop>
-    ensures found { IfOk result (λ x. each_at count T.at bytes.now ≡ Ok (x.0.items, x.1.now)) }
-    ensures within { IfOk result (λ x. length x.1.now ≤ length bytes.now) }
-    ensures stops { IfErr result (λ s. StopsBy T.at count bytes.now s.refusal s.left) }
-    ensures left { IfErr result (λ s. s.left ≤ length bytes.now) }
+/// So many items, one after another, what follows them, and why the next one wasn't read where there are fewer.
+fn each_of<T: Item>(
+    alloc: Global,
+    count: u32,
+    bytes: &[u8],
+) -> (Vec<T::Value>, &[u8], Option<Refusal>)
+    ensures runs { RunsTo T.at count bytes.now result.0.items result.1.now result.2 }
+    ensures within { length result.1.now ≤ length bytes.now }
 {
     let mut items = Vec::new(alloc);
     let mut rest = bytes;
@@ -30,20 +33,14 @@ fn each_of<T: Item>(alloc: Global, count: u32, bytes: &[u8]) -> Result<(Vec<T::V
         match T::read(alloc, rest) {
             Ok((item, behind)) => {
                 if items.push(item).is_err() {
-                    return Err(Stop {
-                        refusal: Refusal::Memory,
-                        left: rest.len(),
-                    });
+                    return (items, rest, Some(Refusal::Memory));
                 }
                 rest = behind;
             }
-            Err(refusal) => return Err(Stop {
-                refusal,
-                left: rest.len(),
-            }),
+            Err(refusal) => return (items, rest, Some(refusal)),
         }
     }
-    Ok((items, rest))
+    (items, rest, None)
 }
 
 /// A list that begins the bytes, and what follows it.
@@ -52,9 +49,10 @@ pub fn list_of<T: Item>(alloc: Global, bytes: &[u8]) -> Result<(Vec<T::Value>, &
     ensures { Answers (λ x. (x.0.items, x.1.now)) result (list_at T.at bytes.now) }
 {
     let (count, rest) = u32_of(bytes)?;
-    match each_of::<T>(alloc, count, rest) {
-        Ok(found) => Ok(found),
-        Err(stop) => Err(stop.refusal),
+    let (items, behind, refused) = each_of::<T>(alloc, count, rest);
+    match refused {
+        None => Ok((items, behind)),
+        Some(refusal) => Err(refusal),
     }
 }
 
@@ -76,6 +74,61 @@ pub fn error_of(stop: Stop, length: usize, start: usize) -> ModuleError
     }
 }
 
+/// Whether bytes name nothing that is known here: a form, or an operator.
+fn is_unknown(refusal: Refusal) -> bool
+    ensures { IsTrue result ↔ IsUnknownBy refusal }
+{
+    matches!(
+        refusal,
+        Refusal::Bytes(Cause::UnknownOpcode | Cause::BadImmediate)
+    )
+}
+
+/// What is known of a list that is the whole of a section's contents, whose first byte has the offset `start`.
+pub fn read_known<T: Item>(
+    alloc: Global,
+    contents: &[u8],
+    start: usize,
+) -> Result<Known<T::Value>, ModuleError>
+    requires { start + length contents.now ≤ usize.MAX }
+    ensures found { IfOk result (λ k.
+        ReadsKnown T.at start contents.now k.count k.items k.unknown) }
+    ensures fault { IfErr result (λ e. FailsKnown T.at start contents.now e) }
+{
+    let (count, rest) = match u32_of(contents) {
+        Ok(counted) => counted,
+        Err(cause) => return Err(ModuleError {
+            kind: fault(cause),
+            offset: start,
+        }),
+    };
+    let (items, behind, refused) = each_of::<T>(alloc, count, rest);
+    let left = behind.len();
+    match refused {
+        Some(refusal) => {
+            let error = error_of(Stop { refusal, left }, contents.len(), start);
+            if is_unknown(refusal) {
+                Ok(Known {
+                    count,
+                    items,
+                    unknown: Some(error),
+                })
+            } else {
+                Err(error)
+            }
+        }
+        None if left > 0 => Err(ModuleError {
+            kind: ModuleFault::TrailingBytes,
+            offset: start + (contents.len() - left),
+        }),
+        None => Ok(Known {
+            count,
+            items,
+            unknown: None,
+        }),
+    }
+}
+
 /// The items of a list that is the whole of a section's contents, whose first byte has the offset `start`.
 pub fn read_list<T: Item>(
     alloc: Global,
@@ -86,24 +139,9 @@ pub fn read_list<T: Item>(
     ensures found { IfOk result (λ v. list_at T.at contents.now ≡ Ok (v.items, [])) }
     ensures fault { IfErr result (λ e. FailsWhole T.at start contents.now e) }
 {
-    let (count, rest) = match u32_of(contents) {
-        Ok(counted) => counted,
-        Err(cause) => return Err(ModuleError {
-            kind: fault(cause),
-            offset: start,
-        }),
-    };
-    match each_of::<T>(alloc, count, rest) {
-        Ok((items, behind)) => {
-            if behind.is_empty() {
-                Ok(items)
-            } else {
-                Err(ModuleError {
-                    kind: ModuleFault::TrailingBytes,
-                    offset: start + (contents.len() - behind.len()),
-                })
-            }
-        }
-        Err(stop) => Err(error_of(stop, contents.len(), start)),
+    let known = read_known::<T>(alloc, contents, start)?;
+    match known.unknown {
+        None => Ok(known.items),
+        Some(error) => Err(error),
     }
 }

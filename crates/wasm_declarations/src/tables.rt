@@ -3,34 +3,37 @@ ghost use Rattle.std.specs.Prelude.{◌≡◌, ◌≤◌, ◌+◌, List, length,
 ghost use Rattle.mutate_base.specs.declared.types.MemoryType.{MemoryType};
 ghost use Rattle.mutate_base.specs.declared.types.TableType.{TableType};
 ghost use Rattle.wasm_code.specs.Reader.{Gives};
-ghost use Rattle.wasm_declarations.specs.List.{SpellsList, IsListFault};
+ghost use Rattle.wasm_declarations.specs.Known.{Known as Knowledge, SpellsKnown, IsKnownFault};
 ghost use Rattle.wasm_declarations.specs.Reader.{flag_of, flag_at, limits_at, element_of, element_at, table_type_at, memory_type_at};
 ghost use Rattle.wasm_declarations.specs.Tables.{SpellsTableType, FailsTableType, SpellsMemoryType, FailsMemoryType};
 ghost use Rattle.wasm_sections.specs.declared.fault.ModuleFault.TheVariants.{Memory};
 
 use crate::item::Item;
-use crate::list::read_list;
+use crate::known::Known;
+use crate::list::read_known;
 use crate::refusal::Refusal;
 use mutate_base::{ElementType, MemoryType, TableType};
 use std::alloc::Global;
 use wasm_code::{Cause, byte_of, u64_of};
 use wasm_sections::ModuleError;
 
-/// Whether 64 bits index, and whether a maximum follows the minimum.
-fn flag(b: u8) -> Option<(bool, bool)>
+/// Whether 64 bits index, and whether a maximum follows the minimum, in limits that are shared or not.
+fn flag(b: u8) -> Option<(bool, Option<bool>)>
     ensures { result ≡ flag_of b }
 {
     match b {
-        0x00 => Some((false, false)),
-        0x01 => Some((false, true)),
-        0x04 => Some((true, false)),
-        0x05 => Some((true, true)),
+        0x00 => Some((false, None)),
+        0x01 => Some((false, Some(false))),
+        0x03 => Some((false, Some(true))),
+        0x04 => Some((true, None)),
+        0x05 => Some((true, Some(false))),
+        0x07 => Some((true, Some(true))),
         _ => None,
     }
 }
 
 #[tactic(auto, unfolding(crate::specs::Reader::flag_at))]
-fn flag_from(bytes: &[u8]) -> Result<((bool, bool), &[u8]), Cause>
+fn flag_from(bytes: &[u8]) -> Result<((bool, Option<bool>), &[u8]), Cause>
     ensures { Gives (λ x. (x.0, x.1.now)) result (flag_at bytes.now) }
 {
     let (b, rest) = byte_of(bytes)?;
@@ -45,9 +48,9 @@ fn flag_from(bytes: &[u8]) -> Result<((bool, bool), &[u8]), Cause>
 fn limits_from(bytes: &[u8]) -> Result<(bool, &[u8]), Cause>
     ensures { Gives (λ x. (x.0, x.1.now)) result (limits_at bytes.now) }
 {
-    let ((wide, bounded), rest) = flag_from(bytes)?;
+    let ((wide, shared), rest) = flag_from(bytes)?;
     let (_minimum, rest) = u64_of(rest)?;
-    if !bounded {
+    if shared.is_none() {
         return Ok((wide, rest));
     }
     let (_maximum, rest) = u64_of(rest)?;
@@ -129,54 +132,57 @@ impl Item for Memories {
 /// Reads the tables that a table section lists. `contents` are the section's contents, whose first byte has the offset
 /// `start` in the module (WebAssembly Core Specification 3.0, Binary Format, Modules, Table Section).
 ///
-/// It accepts exactly a list of table types of functions or of outer references, with nothing behind it: a table with an
-/// initialiser is not known here. The limits aren't kept.
+/// It reads exactly a list of table types of functions or of outer references, with nothing behind it. The limits aren't kept.
+/// Tables with an initialiser, of other references or of other limits are not known here: what is known are then the tables before
+/// the first such one, and `unknown` says with `UnknownForm` where that one starts. What stands behind it isn't looked at.
 ///
 /// An error names the first fault from the left and where the table at fault starts, or `start` where the number of the
 /// tables is at fault: `Truncated` where the contents end inside it, `BadInteger` where a number has too many bytes or doesn't
-/// fit, `UnknownForm` where a byte stands for no reference type or no limits; `TrailingBytes` at the first byte behind the
-/// tables; `Memory` at `start` where no memory was left.
+/// fit; `TrailingBytes` at the first byte behind the tables; `Memory` at `start` where no memory was left.
 pub fn read_tables(
     alloc: Global,
     contents: &[u8],
     start: usize,
-) -> Result<Vec<TableType>, ModuleError>
+) -> Result<Known<TableType>, ModuleError>
     requires { start + length contents.now ≤ usize.MAX }
     // What is read is spelled so.
-    ensures found { IfOk result (λ v. SpellsList SpellsTableType contents.now v.items) }
+    ensures found { IfOk result (SpellsKnown SpellsTableType FailsTableType start contents.now) }
     // What is spelled so is read, unless memory runs out.
-    ensures only { (xs : List TableType) → SpellsList SpellsTableType contents.now xs
-        → MatchResult result (λ v. v.items ≡ xs) (λ e. e.kind ≡ Memory) }
+    ensures only { (known : Knowledge TableType)
+        → SpellsKnown SpellsTableType FailsTableType start contents.now known
+        → MatchResult result (λ k. k ≡ known) (λ e. e.kind ≡ Memory) }
     // What doesn't come from memory is the first fault.
     ensures fault { IfErr result (λ e.
-        IsListFault SpellsTableType FailsTableType start contents.now e.kind e.offset) }
+        IsKnownFault SpellsTableType FailsTableType start contents.now e.kind e.offset) }
 {
-    read_list::<Tables>(alloc, contents, start)
+    read_known::<Tables>(alloc, contents, start)
 }
 
 /// Reads the memories that a memory section lists. `contents` are the section's contents, whose first byte has the offset
 /// `start` in the module (WebAssembly Core Specification 3.0, Binary Format, Modules, Memory Section).
 ///
-/// It accepts exactly a list of memory types, with nothing behind it. The limits aren't kept.
+/// It reads exactly a list of memory types, with nothing behind it, shared ones of the threads proposal among them. The limits
+/// aren't kept. Memories of other limits are not known here: what is known are then the memories before the first such one, and
+/// `unknown` says with `UnknownForm` where that one starts. What stands behind it isn't looked at.
 ///
 /// An error names the first fault from the left and where the memory at fault starts, or `start` where the number of the
 /// memories is at fault: `Truncated` where the contents end inside it, `BadInteger` where a number has too many bytes or
-/// doesn't fit, `UnknownForm` where a byte stands for no limits; `TrailingBytes` at the first byte behind the memories;
-/// `Memory` at `start` where no memory was left.
+/// doesn't fit; `TrailingBytes` at the first byte behind the memories; `Memory` at `start` where no memory was left.
 pub fn read_memories(
     alloc: Global,
     contents: &[u8],
     start: usize,
-) -> Result<Vec<MemoryType>, ModuleError>
+) -> Result<Known<MemoryType>, ModuleError>
     requires { start + length contents.now ≤ usize.MAX }
     // What is read is spelled so.
-    ensures found { IfOk result (λ v. SpellsList SpellsMemoryType contents.now v.items) }
+    ensures found { IfOk result (SpellsKnown SpellsMemoryType FailsMemoryType start contents.now) }
     // What is spelled so is read, unless memory runs out.
-    ensures only { (xs : List MemoryType) → SpellsList SpellsMemoryType contents.now xs
-        → MatchResult result (λ v. v.items ≡ xs) (λ e. e.kind ≡ Memory) }
+    ensures only { (known : Knowledge MemoryType)
+        → SpellsKnown SpellsMemoryType FailsMemoryType start contents.now known
+        → MatchResult result (λ k. k ≡ known) (λ e. e.kind ≡ Memory) }
     // What doesn't come from memory is the first fault.
     ensures fault { IfErr result (λ e.
-        IsListFault SpellsMemoryType FailsMemoryType start contents.now e.kind e.offset) }
+        IsKnownFault SpellsMemoryType FailsMemoryType start contents.now e.kind e.offset) }
 {
-    read_list::<Memories>(alloc, contents, start)
+    read_known::<Memories>(alloc, contents, start)
 }

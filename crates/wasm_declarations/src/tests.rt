@@ -1,7 +1,7 @@
 //! Sections by hand, with values from the standard.
 use crate::{
-    Entry, Import, Locals, read_entries, read_functions, read_globals, read_imports, read_locals,
-    read_memories, read_tables, read_types,
+    Entry, Import, Known, Locals, read_entries, read_functions, read_globals, read_imports,
+    read_locals, read_memories, read_tables, read_types,
 };
 use mutate_base::{ElementType, MemoryType, PrimitiveTypeInfo, TableType, TypeInfo};
 use std::test::Fail;
@@ -17,11 +17,28 @@ where
     }
 }
 
+/// How many items are known of a list that gives another number of them, and where and why the next one isn't.
+fn unknown<T>(
+    answer: Result<Known<T>, ModuleError>,
+) -> Result<(u32, usize, Option<(ModuleFault, usize)>), Fail>
+where
+    T: Drop,
+{
+    let known = answer?;
+    let form = match known.unknown {
+        None => None,
+        Some(e) => Some((e.kind, e.offset)),
+    };
+    Ok((known.count, known.items.len(), form))
+}
+
 #[test]
 fn two_types(rt: HostRuntime) -> Result<(), Fail> {
     // (func (param i32 i64) (result f32)) and (func)
     let contents = [0x02, 0x60, 0x02, 0x7f, 0x7e, 0x01, 0x7d, 0x60, 0x00, 0x00];
     let types = read_types(rt.alloc(), contents.as_slice(), 10)?;
+    assert!(rt; types.count == 2 && types.unknown.is_none());
+    let types = types.items;
     assert_eq!(rt; types.len(), 2);
     let TypeInfo::Func(first) = &types[0];
     assert_eq!(rt;
@@ -36,13 +53,17 @@ fn two_types(rt: HostRuntime) -> Result<(), Fail> {
     assert_eq!(rt; second.params.len() + second.returns.len(), 0);
     // a recursive group, and a value type that isn't one
     assert_eq!(rt;
-        error(read_types(rt.alloc(), [0x01, 0x4e, 0x00].as_slice(), 10)),
-        Some((ModuleFault::UnknownForm, 11))
+        unknown(read_types(rt.alloc(), [0x01, 0x4e, 0x00].as_slice(), 10))?,
+        (1, 0, Some((ModuleFault::UnknownForm, 11)))
     );
-    let bad = [0x02, 0x60, 0x00, 0x00, 0x60, 0x01, 0x40, 0x00];
+    let bad = [0x03, 0x60, 0x00, 0x00, 0x60, 0x01, 0x40, 0x00, 0x60];
     assert_eq!(rt;
-        error(read_types(rt.alloc(), bad.as_slice(), 10)),
-        Some((ModuleFault::UnknownForm, 14))
+        unknown(read_types(rt.alloc(), bad.as_slice(), 10))?,
+        (3, 1, Some((ModuleFault::UnknownForm, 14)))
+    );
+    assert_eq!(rt;
+        error(read_types(rt.alloc(), [0x01, 0x60, 0x00].as_slice(), 10)),
+        Some((ModuleFault::Truncated, 11))
     );
     Ok(())
 }
@@ -73,39 +94,45 @@ fn imports_of_each_kind(rt: HostRuntime) -> Result<(), Fail> {
         Import::Global(PrimitiveTypeInfo::I64),
         Import::Tag(9),
     ];
-    assert!(rt; imports.as_slice() == expected.as_slice());
-    let unknown = [0x01, 0x00, 0x00, 0x05, 0x00];
+    assert!(rt; imports.items.as_slice() == expected.as_slice());
+    let other = [0x02, 0x00, 0x00, 0x00, 0x03, 0x00, 0x00, 0x05, 0x00];
     assert_eq!(rt;
-        error(read_imports(rt.alloc(), unknown.as_slice(), 100)),
-        Some((ModuleFault::UnknownForm, 101))
+        unknown(read_imports(rt.alloc(), other.as_slice(), 100))?,
+        (2, 1, Some((ModuleFault::UnknownForm, 105)))
     );
     Ok(())
 }
 
 #[test]
 fn limits_of_each_form(rt: HostRuntime) -> Result<(), Fail> {
+    // with and without a maximum, that 32 or 64 bits index, and shared ones of either width
     let memories = [
-        0x04, 0x00, 0x01, 0x01, 0x01, 0x02, 0x04, 0x01, 0x05, 0x01, 0x02,
+        0x06, 0x00, 0x01, 0x01, 0x01, 0x02, 0x04, 0x01, 0x05, 0x01, 0x02, 0x03, 0x01, 0x02, 0x07,
+        0x01, 0x02,
     ];
-    let found = read_memories(rt.alloc(), memories.as_slice(), 0)?;
+    let found = read_memories(rt.alloc(), memories.as_slice(), 0)?.items;
     let narrow = MemoryType { memory64: false };
     let wide = MemoryType { memory64: true };
-    assert!(rt; found.as_slice() == [narrow, narrow, wide, wide].as_slice());
-    // shared memories aren't known
+    assert!(rt; found.as_slice() == [narrow, narrow, wide, wide, narrow, wide].as_slice());
+    // neither are shared memories without a maximum known, nor pages of other sizes
     assert_eq!(rt;
-        error(read_memories(rt.alloc(), [0x01, 0x03, 0x01, 0x02].as_slice(), 0)),
-        Some((ModuleFault::UnknownForm, 1))
+        unknown(read_memories(rt.alloc(), [0x02, 0x00, 0x01, 0x02, 0x01].as_slice(), 0))?,
+        (2, 1, Some((ModuleFault::UnknownForm, 3)))
+    );
+    assert_eq!(rt;
+        unknown(read_memories(rt.alloc(), [0x01, 0x08, 0x01, 0x00].as_slice(), 0))?,
+        (1, 0, Some((ModuleFault::UnknownForm, 1)))
     );
     let tables = [0x02, 0x70, 0x00, 0x00, 0x6f, 0x05, 0x01, 0x02];
-    let found = read_tables(rt.alloc(), tables.as_slice(), 0)?;
+    let found = read_tables(rt.alloc(), tables.as_slice(), 0)?.items;
     assert_eq!(rt; found.len(), 2);
     assert!(rt; found[0].element_type == ElementType::Func && !found[0].table64);
     assert!(rt; found[1].element_type == ElementType::Extern && found[1].table64);
-    // neither are tables with an initialiser
+    // tables with an initialiser aren't known
     let filled = [0x01, 0x40, 0x00, 0x70, 0x00, 0x00, 0xd0, 0x70, 0x0b];
     assert_eq!(rt;
-        error(read_tables(rt.alloc(), filled.as_slice(), 0)),
-        Some((ModuleFault::UnknownForm, 1))
+        unknown(read_tables(rt.alloc(), filled.as_slice(), 0))?,
+        (1, 0, Some((ModuleFault::UnknownForm, 1)))
     );
     Ok(())
 }
@@ -126,18 +153,20 @@ fn globals_with_initialisers(rt: HostRuntime) -> Result<(), Fail> {
         PrimitiveTypeInfo::I64,
         PrimitiveTypeInfo::FuncRef,
     ];
-    assert!(rt; globals.as_slice() == expected.as_slice());
+    assert!(rt; globals.items.as_slice() == expected.as_slice());
     assert_eq!(rt;
-        error(read_globals(rt.alloc(), [0x01, 0x7f, 0x00, 0xff, 0x0b].as_slice(), 7)),
-        Some((ModuleFault::UnknownOpcode, 8))
+        unknown(read_globals(rt.alloc(), [0x01, 0x7f, 0x00, 0xff, 0x0b].as_slice(), 7))?,
+        (1, 0, Some((ModuleFault::UnknownOpcode, 8)))
     );
     assert_eq!(rt;
         error(read_globals(rt.alloc(), [0x01, 0x7f, 0x00, 0x41, 0x05].as_slice(), 7)),
         Some((ModuleFault::Truncated, 8))
     );
+    // a global of a reference that may not be null, behind one of a known type
+    let reference = [0x02, 0x7f, 0x00, 0x41, 0x05, 0x0b, 0x64, 0x70, 0x00, 0x0b];
     assert_eq!(rt;
-        error(read_globals(rt.alloc(), [0x01, 0x7f, 0x02, 0x0b].as_slice(), 7)),
-        Some((ModuleFault::UnknownForm, 8))
+        unknown(read_globals(rt.alloc(), reference.as_slice(), 7))?,
+        (2, 1, Some((ModuleFault::UnknownForm, 13)))
     );
     Ok(())
 }

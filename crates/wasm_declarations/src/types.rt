@@ -2,13 +2,14 @@
 ghost use Rattle.std.specs.Prelude.{◌≡◌, ◌≤◌, ◌+◌, List, length, IfOk, IfErr, MatchResult};
 ghost use Rattle.mutate_base.specs.declared.types.TypeInfo.{TypeInfo};
 ghost use Rattle.wasm_code.specs.Reader.{Gives};
-ghost use Rattle.wasm_declarations.specs.List.{SpellsList, IsListFault};
+ghost use Rattle.wasm_declarations.specs.Known.{Known as Knowledge, SpellsKnown, IsKnownFault};
 ghost use Rattle.wasm_declarations.specs.Reader.{primitive_at, mark_at, function_type_at};
 ghost use Rattle.wasm_declarations.specs.Types.{primitive, SpellsFunctionType, FailsFunctionType};
 ghost use Rattle.wasm_sections.specs.declared.fault.ModuleFault.TheVariants.{Memory};
 
 use crate::item::Item;
-use crate::list::{list_of, read_list};
+use crate::known::Known;
+use crate::list::{list_of, read_known};
 use crate::refusal::Refusal;
 use mutate_base::{FuncInfo, PrimitiveTypeInfo, TypeInfo};
 use std::alloc::Global;
@@ -87,27 +88,28 @@ impl Item for FunctionTypes {
 /// Reads the types that a type section lists. `contents` are the section's contents, whose first byte has the offset `start`
 /// in the module (WebAssembly Core Specification 3.0, Binary Format, Modules, Type Section).
 ///
-/// It accepts exactly a list of function types with nothing behind it: recursive groups, subtypes, arrays and structures are
-/// not known here.
+/// It reads exactly a list of function types with nothing behind it. Recursive groups, subtypes, arrays, structures, and reference
+/// types but `funcref` and `externref` are not known here: what is known are then the types before the first of such a form, and
+/// `unknown` says with `UnknownForm` where that one starts. What stands behind it isn't looked at.
 ///
 /// An error names the first fault from the left and where the type at fault starts, or `start` where the number of the types
-/// is at fault: `Truncated` where the contents end inside it, `BadInteger` where a number has too many bytes or doesn't fit,
-/// `UnknownForm` where another byte than 60 begins a type or a byte stands for no value type; `TrailingBytes` at the first
-/// byte behind the types; `Memory` at `start` where no memory was left.
+/// is at fault: `Truncated` where the contents end inside it, `BadInteger` where a number has too many bytes or doesn't fit;
+/// `TrailingBytes` at the first byte behind the types; `Memory` at `start` where no memory was left.
 pub fn read_types(
     alloc: Global,
     contents: &[u8],
     start: usize,
-) -> Result<Vec<TypeInfo>, ModuleError>
+) -> Result<Known<TypeInfo>, ModuleError>
     requires { start + length contents.now ≤ usize.MAX }
     // What is read is spelled so.
-    ensures found { IfOk result (λ v. SpellsList SpellsFunctionType contents.now v.items) }
+    ensures found { IfOk result (SpellsKnown SpellsFunctionType FailsFunctionType start contents.now) }
     // What is spelled so is read, unless memory runs out.
-    ensures only { (xs : List TypeInfo) → SpellsList SpellsFunctionType contents.now xs
-        → MatchResult result (λ v. v.items ≡ xs) (λ e. e.kind ≡ Memory) }
+    ensures only { (known : Knowledge TypeInfo)
+        → SpellsKnown SpellsFunctionType FailsFunctionType start contents.now known
+        → MatchResult result (λ k. k ≡ known) (λ e. e.kind ≡ Memory) }
     // What doesn't come from memory is the first fault.
     ensures fault { IfErr result (λ e.
-        IsListFault SpellsFunctionType FailsFunctionType start contents.now e.kind e.offset) }
+        IsKnownFault SpellsFunctionType FailsFunctionType start contents.now e.kind e.offset) }
 {
-    read_list::<FunctionTypes>(alloc, contents, start)
+    read_known::<FunctionTypes>(alloc, contents, start)
 }

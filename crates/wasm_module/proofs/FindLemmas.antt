@@ -7,7 +7,7 @@ use Rattle.wasm_sections.specs.Id.{rank_of}
 use Rattle.wasm_sections.specs.Section.{AreInOrder}
 use Rattle.wasm_sections.specs.Laws.{AreJoined}
 use Rattle.wasm_sections.specs.Find.{LackId, IsFirstWith, end_of, AreBefore, IsPlaceOf}
-use Rattle.wasm_module.specs.Module.{Lists}
+use Rattle.wasm_module.specs.Module.{Holds}
 
 -- ---- the first section with an id
 
@@ -37,18 +37,18 @@ pub not_lacking : (ss : List Section) (id : SectionId) (s : Section) → IsFirst
 not_lacking ss id s p l = lacks_none p.before p.behind s id (subst (λ (l : List Section). LackId l id) p.parts l) p.has
 
 -- what a section that is there lists
-pub lists_at : {A : Type 0} (Spells : ℕ → List ℕ → List A → Type 0) (bytes : List ℕ) (ss : List Section) (id : SectionId) (xs : List A) (s : Section) →
-    Lists Spells bytes ss id xs → IsFirstWith ss id s → Spells s.contents (slice_range bytes s.contents s.end) xs
-lists_at Spells bytes ss id xs s l is =
+pub lists_at : {X : Type 0} (none : X) (Spells : ℕ → List ℕ → X → Type 0) (bytes : List ℕ) (ss : List Section) (id : SectionId) (x : X) (s : Section) →
+    Holds none Spells bytes ss id x → IsFirstWith ss id s → Spells s.contents (slice_range bytes s.contents s.end) x
+lists_at none Spells bytes ss id x s l is =
     elim l [
-      | inl p ↦ subst (λ (z : Section). Spells z.contents (slice_range bytes z.contents z.end) xs) (first_unique ss id p.0 s p.1 is) p.2
+      | inl p ↦ subst (λ (z : Section). Spells z.contents (slice_range bytes z.contents z.end) x) (first_unique ss id p.0 s p.1 is) p.2
       | inr p ↦ absurd (not_lacking ss id s is p.0)
     ]
 
 -- what a section that isn't there lists
-pub lists_nothing : {A : Type 0} (Spells : ℕ → List ℕ → List A → Type 0) (bytes : List ℕ) (ss : List Section) (id : SectionId) (xs : List A) →
-    Lists Spells bytes ss id xs → LackId ss id → xs ≡ []
-lists_nothing Spells bytes ss id xs l lack =
+pub lists_nothing : {X : Type 0} (none : X) (Spells : ℕ → List ℕ → X → Type 0) (bytes : List ℕ) (ss : List Section) (id : SectionId) (x : X) →
+    Holds none Spells bytes ss id x → LackId ss id → x ≡ none
+lists_nothing none Spells bytes ss id x l lack =
     elim l [ inl p ↦ absurd (not_lacking ss id p.0 p.1 lack) | inr p ↦ p.1 ]
 
 -- ---- sections in their order

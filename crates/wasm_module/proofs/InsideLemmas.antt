@@ -96,7 +96,7 @@ pub code_entry : (bytes : List ℕ) (sections : List Section) (entries : List En
     Lists SpellsEntries bytes sections ids.Code entries → IsFirstWith sections ids.Code code → IsWithin 8 (length bytes) code
     → slice_get entries n ≡ Some entry → IsEntryWithin code.contents code.end entry
 code_entry bytes sections entries code n entry l is w e =
-    let p = lists_at SpellsEntries bytes sections ids.Code entries code l is in
+    let p = lists_at [] SpellsEntries bytes sections ids.Code entries code l is in
     let long : code.contents + length (slice_range bytes code.contents code.end) ≡ code.end = range_long bytes code.contents code.end w.order w.last in
     subst (λ (to : ℕ). IsEntryWithin code.contents to entry) long
     (listed_within code.contents (slice_range bytes code.contents code.end) entries n entry p e)

@@ -1,5 +1,5 @@
 -- What a section lists is read, unless memory runs out.
-use Rattle.std.proofs.Common.{◌≡◌, ℕ, List, length, Result, Ok, Err, sym, ap, subst, ◌∙◌}
+use Rattle.std.proofs.Common.{◌≡◌, ℕ, List, [], length, Result, Ok, Err, sym, ap, subst, ◌∙◌}
 use Rattle.std.specs.Prelude.{IfErr, MatchResult}
 use Rattle.wasm_sections.specs.declared.section.Section.{Section}
 use Rattle.wasm_sections.specs.declared.id.SectionId.{SectionId}
@@ -10,7 +10,7 @@ use Rattle.mutate_base.specs.Module.{Module}
 use Rattle.wasm_sections.specs.declared.id.SectionId.TheVariants as ids
 use Rattle.wasm_declarations.specs.List.{SpellsList}
 use Rattle.wasm_declarations.specs.Entries.{SpellsEntries}
-use Rattle.wasm_module.specs.Module.{Layout, Lists, IsModule}
+use Rattle.wasm_module.specs.Module.{Layout, Holds, IsModule}
 use Rattle.wasm_module.specs.Lists.{Listed, AreListed}
 use Rattle.wasm_module.proofs.OneLemmas.{AreOne, one_listing}
 use Rattle.wasm_module.specs.Contents.{AreContents}
@@ -20,19 +20,19 @@ pub err_of : {V : Type 0} (P : V → Type 0) (r : Result V ModuleError) → Matc
 err_of P (Ok v) p = tt
 err_of P (Err e) p = p
 
-pub only_memory : {V A : Type 0} (Spells : ℕ → List ℕ → List A → Type 0) (items : V → List A) (bytes : List ℕ) (ss : List Section) (id : SectionId)
-    (start : ℕ) (text : List ℕ) (xs : List A) (r : Result V ModuleError) → AreContents bytes ss id start text → Lists Spells bytes ss id xs
-    → ((ys : List A) → Spells start text ys → MatchResult r (λ v. items v ≡ ys) (λ e. e.kind ≡ Memory)) → IfErr r (λ e. e.kind ≡ Memory)
-only_memory Spells items bytes ss id start text xs r a l f =
-    let s = lists_at Spells bytes ss id xs a.section l a.is in
-    let here = subst (λ (t : List ℕ). Spells a.section.contents t xs) (sym a.text_is) s in
-    err_of (λ v. items v ≡ xs) r (f xs (subst (λ (k : ℕ). Spells k text xs) (sym a.starts) here))
+pub only_memory : {V X : Type 0} (none : X) (Spells : ℕ → List ℕ → X → Type 0) (value : V → X) (bytes : List ℕ) (ss : List Section) (id : SectionId)
+    (start : ℕ) (text : List ℕ) (x : X) (r : Result V ModuleError) → AreContents bytes ss id start text → Holds none Spells bytes ss id x
+    → ((y : X) → Spells start text y → MatchResult r (λ v. value v ≡ y) (λ e. e.kind ≡ Memory)) → IfErr r (λ e. e.kind ≡ Memory)
+only_memory none Spells value bytes ss id start text x r a l f =
+    let s = lists_at none Spells bytes ss id x a.section l a.is in
+    let here = subst (λ (t : List ℕ). Spells a.section.contents t x) (sym a.text_is) s in
+    err_of (λ v. value v ≡ x) r (f x (subst (λ (k : ℕ). Spells k text x) (sym a.starts) here))
 
 -- ---- what a module lists
 
 abbrev pub listing : (bytes : List ℕ) (info : Module) (layout : Layout) → IsModule bytes info layout → Listed
 listing bytes info layout m = record {
-  types = info.types;
+  types = m.types;
   imports = m.imports;
   functions = m.functions;
   tables = m.tables;
@@ -58,7 +58,7 @@ listed bytes ss info layout m same =
 pub one_count : (bytes : List ℕ) (ss : List Section) (l : Listed) (info : Module) (layout : Layout) → AreOne → IsModule bytes info layout →
     layout.sections ≡ ss → AreListed bytes ss l → length l.entries ≡ length l.functions
 one_count bytes ss l info layout one m same a =
-    let e = one_listing SpellsEntries one.entries bytes ss layout.sections ids.Code l.entries layout.entries (sym same) a.entries_are m.entries_are in
-    let f = one_listing (λ _. SpellsList (SpellsUnsigned 32)) (λ _. one.functions) bytes ss layout.sections ids.Function l.functions m.functions (sym same)
+    let e = one_listing [] SpellsEntries one.entries bytes ss layout.sections ids.Code l.entries layout.entries (sym same) a.entries_are m.entries_are in
+    let f = one_listing [] (λ _. SpellsList (SpellsUnsigned 32)) (λ _. one.functions) bytes ss layout.sections ids.Function l.functions m.functions (sym same)
     a.functions_are m.functions_are in
     ap length e ∙ m.entry_each ∙ sym (ap length f)

@@ -1,32 +1,45 @@
 -- A module from what its sections list.
-use Rattle.std.proofs.Common.{◌≡◌, ℕ, List, ◌++◌, length, refl}
+use Rattle.std.proofs.Common.{◌≡◌, ℕ, List, length, Option, refl, sym, ap, subst, ◌∙◌}
 use Rattle.mutate_base.specs.Module.{Module}
 use Rattle.mutate_base.specs.declared.types.PrimitiveTypeInfo.{PrimitiveTypeInfo}
 use Rattle.mutate_base.specs.declared.types.TypeInfo.{TypeInfo}
 use Rattle.mutate_base.specs.declared.types.TableType.{TableType}
 use Rattle.mutate_base.specs.declared.types.MemoryType.{MemoryType}
 use Rattle.wasm_sections.specs.declared.section.Section.{Section}
+use Rattle.wasm_sections.specs.declared.fault.ModuleError.{ModuleError}
+use Rattle.wasm_sections.specs.declared.id.SectionId.TheVariants as ids
 use Rattle.wasm_sections.specs.Section.{SpellsModule}
+use Rattle.wasm_declarations.specs.Entries.{SpellsEntries}
 use Rattle.wasm_declarations.specs.declared.entries.Entry.{Entry}
-use Rattle.wasm_module.specs.Module.{Layout, functions_of, tables_of, memories_of, globals_of, IsModule}
-use Rattle.wasm_module.specs.Lists.{Listed, AreListed}
+use Rattle.wasm_module.specs.declared.unknown.Unknown.{Unknown}
+use Rattle.wasm_module.specs.Module.{Layout, Lists, space, functions_of, tables_of, memories_of, globals_of, IsModule}
+use Rattle.wasm_module.specs.Lists.{Listed, AreListed, unknown_in}
 
 abbrev pub info_of : (bytes : List ℕ) → List TypeInfo → List ℕ → List TableType → List MemoryType → List PrimitiveTypeInfo → Module
 info_of bytes types functions tables memories globals =
     record { input = bytes; globals = globals; types = types; functions = functions; tables = tables; memories = memories }
 
-abbrev pub layout_of : List Section → ℕ → ℕ → List Entry → Layout
-layout_of sections imported own entries =
-    record { sections = sections; imported_functions = imported; own_globals = own; entries = entries }
+abbrev pub unknown_of : Option ModuleError → Option ModuleError → Option ModuleError → Option ModuleError → Option ModuleError → Unknown
+unknown_of types imports tables memories globals =
+    record { types = types; imports = imports; tables = tables; memories = memories; globals = globals }
 
-pub module_is : (bytes : List ℕ) (sections : List Section) (l : Listed) (functions : List ℕ) (tables : List TableType) (memories : List MemoryType)
-    (globals : List PrimitiveTypeInfo) (imported own : ℕ) → SpellsModule bytes sections → AreListed bytes sections l
-    → length l.entries ≡ length l.functions → functions ≡ functions_of l.imports ++ l.functions → tables ≡ tables_of l.imports ++ l.tables
-    → memories ≡ memories_of l.imports ++ l.memories → globals ≡ globals_of l.imports ++ l.globals → imported ≡ length (functions_of l.imports)
-    → own ≡ length l.globals → IsModule bytes (info_of bytes l.types functions tables memories globals) (layout_of sections imported own l.entries)
-module_is bytes sections l functions tables memories globals imported own spells listed count f t m g i o = record {
+abbrev pub layout_of : List Section → ℕ → ℕ → List Entry → Unknown → Layout
+layout_of sections imported own entries unknown =
+    record { sections = sections; imported_functions = imported; own_globals = own; entries = entries; unknown = unknown }
+
+pub module_is : (bytes : List ℕ) (sections : List Section) (l : Listed) (types : List TypeInfo) (functions : List ℕ) (tables : List TableType)
+    (memories : List MemoryType) (globals : List PrimitiveTypeInfo) (imported own : ℕ) (entries : List Entry) (unknown : Unknown)
+    → SpellsModule bytes sections → AreListed bytes sections l → length l.entries ≡ length l.functions → types ≡ l.types.items
+    → functions ≡ space (functions_of l.imports.items) l.imports.unknown l.functions
+    → tables ≡ space (tables_of l.imports.items) l.imports.unknown l.tables.items
+    → memories ≡ space (memories_of l.imports.items) l.imports.unknown l.memories.items
+    → globals ≡ space (globals_of l.imports.items) l.imports.unknown l.globals.items → imported ≡ length (functions_of l.imports.items)
+    → own ≡ l.globals.count → entries ≡ l.entries → unknown ≡ unknown_in l
+    → IsModule bytes (info_of bytes types functions tables memories globals) (layout_of sections imported own entries unknown)
+module_is bytes sections l types functions tables memories globals imported own entries unknown spells listed count y f t m g i o e u = record {
   spells = spells;
   input = refl;
+  types = l.types;
   imports = l.imports;
   functions = l.functions;
   tables = l.tables;
@@ -38,12 +51,18 @@ module_is bytes sections l functions tables memories globals imported own spells
   tables_are = listed.tables_are;
   memories_are = listed.memories_are;
   globals_are = listed.globals_are;
-  entries_are = listed.entries_are;
+  entries_are = subst (Lists SpellsEntries bytes sections ids.Code) (sym e) listed.entries_are;
+  all_types = y;
   all_functions = f;
   all_tables = t;
   all_memories = m;
   all_globals = g;
   imported = i;
   own = o;
-  entry_each = count;
+  entry_each = ap length e ∙ count;
+  unknown_types = ap (λ (v : Unknown). v.types) u;
+  unknown_imports = ap (λ (v : Unknown). v.imports) u;
+  unknown_tables = ap (λ (v : Unknown). v.tables) u;
+  unknown_memories = ap (λ (v : Unknown). v.memories) u;
+  unknown_globals = ap (λ (v : Unknown). v.globals) u;
 }

@@ -1,7 +1,8 @@
 -- Where globals may be appended before the code, and where an entry of the code stands.
-use Rattle.std.proofs.Common.{◌≡◌, ℕ, zero, suc, ◌+◌, ◌<◌, ◌^◌, List, [], ◌++◌, length, take, Result, Ok, Err, Some, sym, ap, subst, ◌∙◌, zero-add, arith}
+use Rattle.std.proofs.Common.{◌≡◌, ℕ, zero, suc, ◌+◌, ◌<◌, ◌^◌, List, [], ◌++◌, length, take, Option, Result, Ok, Err, Some, None, sym, ap, subst, ◌∙◌, zero-add, arith}
 use Rattle.std.specs.Prelude.{IfOk, OnOk, slice_get, slice_range}
 use Rattle.std.proofs.lemmas.List.{append-nil}
+use Rattle.wasm_code.specs.declared.fault.Cause.{Cause}
 use Rattle.wasm_code.specs.Number.{SpellsUnsigned}
 use Rattle.wasm_code.specs.Code.{shortest}
 use Rattle.mutate_base.specs.Module.{Module}
@@ -9,14 +10,16 @@ use Rattle.mutate_base.specs.declared.types.PrimitiveTypeInfo.{PrimitiveTypeInfo
 use Rattle.wasm_sections.specs.declared.section.Section.{Section}
 use Rattle.wasm_sections.specs.declared.id.SectionId.{SectionId}
 use Rattle.wasm_sections.specs.declared.id.SectionId.TheVariants as ids
+use Rattle.wasm_sections.specs.declared.fault.ModuleError.{ModuleError}
 use Rattle.wasm_sections.specs.declared.writing.WriteError.{WriteError}
 use Rattle.wasm_sections.specs.Section.{SpellsModule}
 use Rattle.wasm_sections.specs.Find.{LackId, IsFirstWith, IsPlaceOf}
 use Rattle.wasm_sections.specs.Laws.{IsWithin, AreJoined}
 use Rattle.wasm_sections.specs.Writing.{section_code}
 use Rattle.wasm_declarations.specs.declared.entries.Entry.{Entry}
-use Rattle.wasm_declarations.specs.List.{Each, SpellsList}
-use Rattle.wasm_declarations.specs.Globals.{SpellsGlobal}
+use Rattle.wasm_declarations.specs.Known.{nothing, IsKnown, SpellsKnown}
+use Rattle.wasm_declarations.specs.List.{Each}
+use Rattle.wasm_declarations.specs.Globals.{SpellsGlobal, FailsGlobal}
 use Rattle.wasm_declarations.specs.Entries.{SpellsEntries}
 use Rattle.wasm_module.specs.Module.{Layout, IsModule}
 use Rattle.wasm_module.specs.Rewritten.{globals_code, new_globals, AddsGlobals}
@@ -26,18 +29,29 @@ use Rattle.wasm_module.proofs.InsideLemmas.{code_entry}
 
 -- ---- the global section
 
-each_length : {A : Type 0} (Spells : List ℕ → A → Type 0) (n : ℕ) (text : List ℕ) (xs : List A) → Each n Spells text xs → n ≡ length xs
-each_length Spells zero text xs p = ap length p.1
-each_length Spells (suc n) text xs p =
-    let less = each_length Spells n p.back p.second.value p.second.spells in omega (arith, less, ap length p.second.made)
-
-list_counted : {A : Type 0} (Spells : List ℕ → A → Type 0) (text : List ℕ) (xs : List A) (n : ℕ) → SpellsList Spells text xs → n ≡ length xs → HasCount text n
-list_counted Spells text xs n p e = record {
-  count = p.front;
-  items = p.back;
-  parts = p.parts;
-  counts = subst (SpellsUnsigned 32 p.front) (each_length Spells p.value p.back xs p.second ∙ sym e) p.first;
-}
+known_counted : {A : Type 0} (Spells : List ℕ → A → Type 0) (Fails : List ℕ → Cause → Type 0) (start : ℕ) (text : List ℕ) (n m : ℕ) (xs : List A)
+    (o : Option ModuleError) → IsKnown Spells Fails start text n xs o → m ≡ n → HasCount text m
+known_counted Spells Fails start text n m xs None k e =
+    let l = k.list in
+    record {
+      count = l.front;
+      items = l.back;
+      parts = l.parts;
+      counts = subst (SpellsUnsigned 32 l.front) (each_length Spells l.value l.back xs l.second ∙ sym k.counted ∙ sym e) l.first;
+    }
+  where
+    each_length : {A : Type 0} (Spells : List ℕ → A → Type 0) (n : ℕ) (text : List ℕ) (xs : List A) → Each n Spells text xs → n ≡ length xs
+    each_length Spells zero text xs p = ap length p.1
+    each_length Spells (suc n) text xs p =
+        let less = each_length Spells n p.back p.second.value p.second.spells in omega (arith, less, ap length p.second.made)
+known_counted Spells Fails start text n m xs (Some u) k e =
+    let i = k.item in
+    record {
+      count = i.count;
+      items = i.front ++ i.back;
+      parts = i.parts;
+      counts = subst (SpellsUnsigned 32 i.count) (sym (e ∙ k.counted)) i.counts;
+    }
 
 pub place_at : (ss ss' : List Section) (bytes : List ℕ) (place : ℕ) → ss ≡ ss' →
     ((b : List ℕ) → SpellsModule b ss → LackId ss ids.Global → (ids.Global ≡ ids.Custom → ⊥) → IsPlaceOf ss ids.Global place)
@@ -72,7 +86,7 @@ adds items bytes layout more to place contents (Err e') none is e few sized w = 
 pub no_code : (bytes : List ℕ) (info : Module) (layout : Layout) (n : ℕ) → IsModule bytes info layout → n < length layout.entries →
     LackId layout.sections ids.Code → ⊥
 no_code bytes info layout n m lt lack =
-    let e = lists_nothing SpellsEntries bytes layout.sections ids.Code layout.entries m.entries_are lack in omega (arith, ap length e, lt)
+    let e = lists_nothing [] SpellsEntries bytes layout.sections ids.Code layout.entries m.entries_are lack in omega (arith, ap length e, lt)
 
 room : (bytes : List ℕ) (info : Module) (layout : Layout) (code : Section) → AreJoined 8 layout.sections (length bytes) →
     ((s : Section) (id : SectionId) → IsFirstWith layout.sections id s → IsWithin 8 (length bytes) s) → IsModule bytes info layout
@@ -88,8 +102,9 @@ room bytes info layout code joined within m is =
             start = omega (arith, v.contents);
             order = v.order;
             before = first_before layout.sections ids.Global ids.Code s code (length bytes) m.spells.ordered joined g is (omega arith) (omega arith);
-            counted = list_counted SpellsGlobal (slice_range bytes s.contents s.end) m.globals layout.own_globals
-                (lists_at (λ _. SpellsList SpellsGlobal) bytes layout.sections ids.Global m.globals s m.globals_are g) m.own;
+            counted = known_counted SpellsGlobal FailsGlobal s.contents (slice_range bytes s.contents s.end) m.globals.count layout.own_globals
+                m.globals.items m.globals.unknown
+                (lists_at nothing (SpellsKnown SpellsGlobal FailsGlobal) bytes layout.sections ids.Global m.globals s m.globals_are g) m.own;
           };
       place = λ place p. place_before layout.sections ids.Global ids.Code place code (length bytes) joined p is (omega arith);
     }

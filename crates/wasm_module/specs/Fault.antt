@@ -1,4 +1,4 @@
--- The faults of bytes that are no module, or none of which everything can be read that is needed (this project; the rules that they break
+-- The faults of bytes that are no module, or whose sections list something that can't be told apart (this project; the rules that they break
 -- are those of WebAssembly Core Specification 3.0, Binary Format, Modules).
 use Rattle.std.specs.Prelude.{◌≡◌, ◌≢◌, ◌⊎◌, ℕ, List, length, slice_range}
 use Rattle.wasm_code.specs.Number.{SpellsUnsigned, FailsUnsigned}
@@ -11,6 +11,7 @@ use Rattle.wasm_sections.specs.Section.{SpellsModule}
 use Rattle.wasm_sections.specs.Sections.{IsSectionFault}
 use Rattle.wasm_sections.specs.Find.{IsFirstWith, LackId}
 use Rattle.wasm_declarations.specs.declared.entries.Entry.{Entry}
+use Rattle.wasm_declarations.specs.Known.{IsKnownFault}
 use Rattle.wasm_declarations.specs.List.{SpellsList, IsListFault}
 use Rattle.wasm_declarations.specs.Types.{SpellsFunctionType, FailsFunctionType}
 use Rattle.wasm_declarations.specs.Imports.{SpellsImport, FailsImport}
@@ -23,12 +24,12 @@ use Rattle.wasm_module.specs.Module.{Lists}
 
 -- The contents of a section with the id, whose first byte has the offset `start`, have that fault. Of other sections the contents aren't read.
 abbrev pub IsFaultOf : SectionId → (start : ℕ) → List ℕ → ModuleFault → (offset : ℕ) → Type 0
-IsFaultOf ids.Type = IsListFault SpellsFunctionType FailsFunctionType
-IsFaultOf ids.Import = IsListFault SpellsImport FailsImport
+IsFaultOf ids.Type = IsKnownFault SpellsFunctionType FailsFunctionType
+IsFaultOf ids.Import = IsKnownFault SpellsImport FailsImport
 IsFaultOf ids.Function = IsListFault (SpellsUnsigned 32) (FailsUnsigned 32)
-IsFaultOf ids.Table = IsListFault SpellsTableType FailsTableType
-IsFaultOf ids.Memory = IsListFault SpellsMemoryType FailsMemoryType
-IsFaultOf ids.Global = IsListFault SpellsGlobal FailsGlobal
+IsFaultOf ids.Table = IsKnownFault SpellsTableType FailsTableType
+IsFaultOf ids.Memory = IsKnownFault SpellsMemoryType FailsMemoryType
+IsFaultOf ids.Global = IsKnownFault SpellsGlobal FailsGlobal
 IsFaultOf ids.Code = IsListFault SpellsSized FailsSized
 IsFaultOf _ = λ start text fault offset. ⊥
 

@@ -9,29 +9,41 @@ use Rattle.wasm_sections.specs.declared.section.Section.{Section}
 use Rattle.wasm_sections.specs.declared.id.SectionId.TheVariants as ids
 use Rattle.wasm_declarations.specs.declared.import.Import.{Import}
 use Rattle.wasm_declarations.specs.declared.entries.Entry.{Entry}
+use Rattle.wasm_declarations.specs.Known.{Known}
 use Rattle.wasm_declarations.specs.List.{SpellsList}
-use Rattle.wasm_declarations.specs.Types.{SpellsFunctionType}
-use Rattle.wasm_declarations.specs.Imports.{SpellsImport}
-use Rattle.wasm_declarations.specs.Tables.{SpellsTableType, SpellsMemoryType}
-use Rattle.wasm_declarations.specs.Globals.{SpellsGlobal}
+use Rattle.wasm_declarations.specs.Types.{SpellsFunctionType, FailsFunctionType}
+use Rattle.wasm_declarations.specs.Imports.{SpellsImport, FailsImport}
+use Rattle.wasm_declarations.specs.Tables.{SpellsTableType, FailsTableType, SpellsMemoryType, FailsMemoryType}
+use Rattle.wasm_declarations.specs.Globals.{SpellsGlobal, FailsGlobal}
 use Rattle.wasm_declarations.specs.Entries.{SpellsEntries}
-use Rattle.wasm_module.specs.Module.{Lists}
+use Rattle.wasm_module.specs.declared.unknown.Unknown.{Unknown}
+use Rattle.wasm_module.specs.Module.{Lists, Knows}
 
 pub record Listed : Type 0 where
-  pub types : List TypeInfo
-  pub imports : List Import
+  pub types : Known TypeInfo
+  pub imports : Known Import
   pub functions : List ℕ
-  pub tables : List TableType
-  pub memories : List MemoryType
-  pub globals : List PrimitiveTypeInfo
+  pub tables : Known TableType
+  pub memories : Known MemoryType
+  pub globals : Known PrimitiveTypeInfo
   pub entries : List Entry
 
 -- each section lists these
 pub record AreListed (bytes : List ℕ) (sections : List Section) (l : Listed) : Type 0 where
-  pub types_are : Lists (λ _. SpellsList SpellsFunctionType) bytes sections ids.Type l.types
-  pub imports_are : Lists (λ _. SpellsList SpellsImport) bytes sections ids.Import l.imports
+  pub types_are : Knows SpellsFunctionType FailsFunctionType bytes sections ids.Type l.types
+  pub imports_are : Knows SpellsImport FailsImport bytes sections ids.Import l.imports
   pub functions_are : Lists (λ _. SpellsList (SpellsUnsigned 32)) bytes sections ids.Function l.functions
-  pub tables_are : Lists (λ _. SpellsList SpellsTableType) bytes sections ids.Table l.tables
-  pub memories_are : Lists (λ _. SpellsList SpellsMemoryType) bytes sections ids.Memory l.memories
-  pub globals_are : Lists (λ _. SpellsList SpellsGlobal) bytes sections ids.Global l.globals
+  pub tables_are : Knows SpellsTableType FailsTableType bytes sections ids.Table l.tables
+  pub memories_are : Knows SpellsMemoryType FailsMemoryType bytes sections ids.Memory l.memories
+  pub globals_are : Knows SpellsGlobal FailsGlobal bytes sections ids.Global l.globals
   pub entries_are : Lists SpellsEntries bytes sections ids.Code l.entries
+
+-- what isn't known of them
+abbrev pub unknown_in : Listed → Unknown
+unknown_in l = record {
+  types = l.types.unknown;
+  imports = l.imports.unknown;
+  tables = l.tables.unknown;
+  memories = l.memories.unknown;
+  globals = l.globals.unknown;
+}

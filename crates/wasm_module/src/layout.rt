@@ -1,11 +1,12 @@
 //! Where things stand in a module.
 
+use crate::unknown::Unknown;
 use mutate_base::ModuleInfo;
 use std::marker::Model;
 use wasm_declarations::Entry;
 use wasm_sections::Section;
 
-/// Where things stand in a module, and how many come from outside.
+/// Where things stand in a module, how many come from outside, and what isn't known.
 #[derive(Drop)]
 pub struct Layout {
     /// The sections, in order.
@@ -16,6 +17,8 @@ pub struct Layout {
     pub own_globals: usize,
     /// The entries of the code section.
     pub entries: Vec<Entry>,
+    /// Where forms stand that aren't known here.
+    pub unknown: Unknown,
 }
 
 impl Model for Layout {
@@ -28,6 +31,7 @@ impl Model for Layout {
       imported_functions = l.imported_functions;
       own_globals = l.own_globals;
       entries = l.entries.items;
+      unknown = l.unknown;
     } };
 }
 

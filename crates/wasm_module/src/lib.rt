@@ -11,12 +11,15 @@ mod layout;
 mod listed;
 mod lists;
 mod module;
+mod spaces;
 #[cfg(test)]
 mod tests;
+mod unknown;
 mod writing;
 
 pub use layout::{Layout, Module};
 pub use module::read_module;
+pub use unknown::Unknown;
 pub use wasm_declarations::{Entry, Locals, read_locals};
 pub use wasm_sections::{ModuleError, ModuleFault, Section, SectionId, WriteError};
 pub use writing::with_body;

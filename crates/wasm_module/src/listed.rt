@@ -1,23 +1,23 @@
 //! What the sections of a module list, as values.
 use mutate_base::{MemoryType, PrimitiveTypeInfo, TableType, TypeInfo};
 use std::marker::Model;
-use wasm_declarations::{Entry, Import};
+use wasm_declarations::{Entry, Import, Known};
 
-/// What the sections of a module list, each in its order; nothing for a section that isn't there.
+/// What is known of the lists of a module's sections; nothing is listed where a section isn't there.
 #[derive(Drop)]
 pub struct Listed {
     /// The types.
-    pub types: Vec<TypeInfo>,
+    pub types: Known<TypeInfo>,
     /// The imports.
-    pub imports: Vec<Import>,
+    pub imports: Known<Import>,
     /// Of each function of the module's own the index of its type.
     pub functions: Vec<u32>,
     /// The tables of its own.
-    pub tables: Vec<TableType>,
+    pub tables: Known<TableType>,
     /// The memories of its own.
-    pub memories: Vec<MemoryType>,
+    pub memories: Known<MemoryType>,
     /// The types of the globals of its own.
-    pub globals: Vec<PrimitiveTypeInfo>,
+    pub globals: Known<PrimitiveTypeInfo>,
     /// Where the entries of the code stand.
     pub entries: Vec<Entry>,
 }
@@ -28,12 +28,12 @@ impl Model for Listed {
     ghost Value = { Listed };
 
     ghost view = { λ l. record {
-      types = l.types.items;
-      imports = l.imports.items;
+      types = l.types;
+      imports = l.imports;
       functions = l.functions.items;
-      tables = l.tables.items;
-      memories = l.memories.items;
-      globals = l.globals.items;
+      tables = l.tables;
+      memories = l.memories;
+      globals = l.globals;
       entries = l.entries.items;
     } };
 }

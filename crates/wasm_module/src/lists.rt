@@ -3,13 +3,14 @@ ghost use Rattle.std.specs.Prelude.{◌≡◌, ℕ, List, IfOk, IfErr};
 ghost use Rattle.wasm_code.specs.Number.{SpellsUnsigned};
 ghost use Rattle.wasm_sections.specs.Section.{SpellsModule};
 ghost use Rattle.wasm_sections.specs.declared.id.SectionId.TheVariants as ids;
+ghost use Rattle.wasm_declarations.specs.Known.{Known as Knowledge};
 ghost use Rattle.wasm_declarations.specs.List.{SpellsList};
-ghost use Rattle.wasm_declarations.specs.Types.{SpellsFunctionType};
-ghost use Rattle.wasm_declarations.specs.Imports.{SpellsImport};
-ghost use Rattle.wasm_declarations.specs.Tables.{SpellsTableType, SpellsMemoryType};
-ghost use Rattle.wasm_declarations.specs.Globals.{SpellsGlobal};
+ghost use Rattle.wasm_declarations.specs.Types.{SpellsFunctionType, FailsFunctionType};
+ghost use Rattle.wasm_declarations.specs.Imports.{SpellsImport, FailsImport};
+ghost use Rattle.wasm_declarations.specs.Tables.{SpellsTableType, FailsTableType, SpellsMemoryType, FailsMemoryType};
+ghost use Rattle.wasm_declarations.specs.Globals.{SpellsGlobal, FailsGlobal};
 ghost use Rattle.wasm_declarations.specs.Entries.{SpellsEntries};
-ghost use Rattle.wasm_module.specs.Module.{Lists};
+ghost use Rattle.wasm_module.specs.Module.{Lists, Knows};
 ghost use Rattle.wasm_module.specs.Lists.{Listed as Listing, AreListed};
 ghost use Rattle.wasm_sections.specs.declared.fault.ModuleFault.TheVariants.{Memory};
 ghost use Rattle.mutate_base.specs.declared.types.PrimitiveTypeInfo.{PrimitiveTypeInfo};
@@ -25,38 +26,48 @@ use crate::listed::Listed;
 use mutate_base::{MemoryType, PrimitiveTypeInfo, TableType, TypeInfo};
 use std::alloc::Global;
 use wasm_declarations::{
-    Entry, Import, read_entries, read_functions, read_globals, read_imports, read_memories,
+    Entry, Import, Known, read_entries, read_functions, read_globals, read_imports, read_memories,
     read_tables, read_types,
 };
 use wasm_sections::{ModuleError, Section, SectionId};
 
-fn types_in(alloc: Global, bytes: &[u8], sections: &[Section]) -> Result<Vec<TypeInfo>, ModuleError>
+fn types_in(
+    alloc: Global,
+    bytes: &[u8],
+    sections: &[Section],
+) -> Result<Known<TypeInfo>, ModuleError>
     requires { SpellsModule bytes.now sections.now }
-    ensures found { IfOk result (λ v. Lists (λ _. SpellsList SpellsFunctionType)
-        bytes.now sections.now ids.Type v.items) }
-    ensures only { (xs : List TypeInfo) → Lists (λ _. SpellsList SpellsFunctionType) bytes.now sections.now ids.Type xs
+    ensures found { IfOk result (Knows SpellsFunctionType FailsFunctionType
+        bytes.now sections.now ids.Type) }
+    ensures only { (known : Knowledge TypeInfo)
+        → Knows SpellsFunctionType FailsFunctionType bytes.now sections.now ids.Type known
         → IfErr result (λ e. e.kind ≡ Memory) }
     ensures fault { IfErr result (λ e.
         HasFault bytes.now sections.now ids.Type e.kind e.offset) }
 {
     match contents_with(bytes, sections, SectionId::Type) {
         Some((contents, start)) => read_types(alloc, contents, start),
-        None => Ok(Vec::new(alloc)),
+        None => Ok(Known::none(alloc)),
     }
 }
 
-fn imports_in(alloc: Global, bytes: &[u8], sections: &[Section]) -> Result<Vec<Import>, ModuleError>
+fn imports_in(
+    alloc: Global,
+    bytes: &[u8],
+    sections: &[Section],
+) -> Result<Known<Import>, ModuleError>
     requires { SpellsModule bytes.now sections.now }
-    ensures found { IfOk result (λ v. Lists (λ _. SpellsList SpellsImport)
-        bytes.now sections.now ids.Import v.items) }
-    ensures only { (xs : List Import) → Lists (λ _. SpellsList SpellsImport) bytes.now sections.now ids.Import xs
+    ensures found { IfOk result (Knows SpellsImport FailsImport
+        bytes.now sections.now ids.Import) }
+    ensures only { (known : Knowledge Import)
+        → Knows SpellsImport FailsImport bytes.now sections.now ids.Import known
         → IfErr result (λ e. e.kind ≡ Memory) }
     ensures fault { IfErr result (λ e.
         HasFault bytes.now sections.now ids.Import e.kind e.offset) }
 {
     match contents_with(bytes, sections, SectionId::Import) {
         Some((contents, start)) => read_imports(alloc, contents, start),
-        None => Ok(Vec::new(alloc)),
+        None => Ok(Known::none(alloc)),
     }
 }
 
@@ -79,18 +90,19 @@ fn tables_in(
     alloc: Global,
     bytes: &[u8],
     sections: &[Section],
-) -> Result<Vec<TableType>, ModuleError>
+) -> Result<Known<TableType>, ModuleError>
     requires { SpellsModule bytes.now sections.now }
-    ensures found { IfOk result (λ v. Lists (λ _. SpellsList SpellsTableType)
-        bytes.now sections.now ids.Table v.items) }
-    ensures only { (xs : List TableType) → Lists (λ _. SpellsList SpellsTableType) bytes.now sections.now ids.Table xs
+    ensures found { IfOk result (Knows SpellsTableType FailsTableType
+        bytes.now sections.now ids.Table) }
+    ensures only { (known : Knowledge TableType)
+        → Knows SpellsTableType FailsTableType bytes.now sections.now ids.Table known
         → IfErr result (λ e. e.kind ≡ Memory) }
     ensures fault { IfErr result (λ e.
         HasFault bytes.now sections.now ids.Table e.kind e.offset) }
 {
     match contents_with(bytes, sections, SectionId::Table) {
         Some((contents, start)) => read_tables(alloc, contents, start),
-        None => Ok(Vec::new(alloc)),
+        None => Ok(Known::none(alloc)),
     }
 }
 
@@ -98,18 +110,19 @@ fn memories_in(
     alloc: Global,
     bytes: &[u8],
     sections: &[Section],
-) -> Result<Vec<MemoryType>, ModuleError>
+) -> Result<Known<MemoryType>, ModuleError>
     requires { SpellsModule bytes.now sections.now }
-    ensures found { IfOk result (λ v. Lists (λ _. SpellsList SpellsMemoryType)
-        bytes.now sections.now ids.Memory v.items) }
-    ensures only { (xs : List MemoryType) → Lists (λ _. SpellsList SpellsMemoryType) bytes.now sections.now ids.Memory xs
+    ensures found { IfOk result (Knows SpellsMemoryType FailsMemoryType
+        bytes.now sections.now ids.Memory) }
+    ensures only { (known : Knowledge MemoryType)
+        → Knows SpellsMemoryType FailsMemoryType bytes.now sections.now ids.Memory known
         → IfErr result (λ e. e.kind ≡ Memory) }
     ensures fault { IfErr result (λ e.
         HasFault bytes.now sections.now ids.Memory e.kind e.offset) }
 {
     match contents_with(bytes, sections, SectionId::Memory) {
         Some((contents, start)) => read_memories(alloc, contents, start),
-        None => Ok(Vec::new(alloc)),
+        None => Ok(Known::none(alloc)),
     }
 }
 
@@ -117,18 +130,19 @@ fn globals_in(
     alloc: Global,
     bytes: &[u8],
     sections: &[Section],
-) -> Result<Vec<PrimitiveTypeInfo>, ModuleError>
+) -> Result<Known<PrimitiveTypeInfo>, ModuleError>
     requires { SpellsModule bytes.now sections.now }
-    ensures found { IfOk result (λ v. Lists (λ _. SpellsList SpellsGlobal)
-        bytes.now sections.now ids.Global v.items) }
-    ensures only { (xs : List PrimitiveTypeInfo) → Lists (λ _. SpellsList SpellsGlobal) bytes.now sections.now ids.Global xs
+    ensures found { IfOk result (Knows SpellsGlobal FailsGlobal
+        bytes.now sections.now ids.Global) }
+    ensures only { (known : Knowledge PrimitiveTypeInfo)
+        → Knows SpellsGlobal FailsGlobal bytes.now sections.now ids.Global known
         → IfErr result (λ e. e.kind ≡ Memory) }
     ensures fault { IfErr result (λ e.
         HasFault bytes.now sections.now ids.Global e.kind e.offset) }
 {
     match contents_with(bytes, sections, SectionId::Global) {
         Some((contents, start)) => read_globals(alloc, contents, start),
-        None => Ok(Vec::new(alloc)),
+        None => Ok(Known::none(alloc)),
     }
 }
 

@@ -7,11 +7,13 @@ ghost use Rattle.wasm_module.specs.Lists.{AreListed};
 ghost use Rattle.wasm_module.specs.Fault.{IsCodeStart, HasOtherCount, IsModuleFault};
 ghost use Rattle.wasm_sections.specs.declared.fault.ModuleFault.TheVariants.{CodeCount, Memory};
 
-use crate::imports::{imported_functions, imported_globals, imported_memories, imported_tables};
 use crate::laws::one_reading;
 use crate::layout::{Layout, Module};
 use crate::listed::Listed;
 use crate::lists::read_lists;
+use crate::spaces::{
+    function_space, global_count, global_space, memory_space, table_space, unknown_of,
+};
 use mutate_base::ModuleInfo;
 use std::alloc::{AllocError, Global};
 use wasm_declarations::laws::one_list;
@@ -59,30 +61,27 @@ fn module_of<'a>(
     requires count { length listed.entries ≡ length listed.functions }
     ensures { IfOk result (λ m. IsModule bytes.now m.info m.layout) }
 {
-    let mut functions = imported_functions(alloc, &listed.imports)?;
-    let imported = functions.len();
-    functions.extend_from_slice(&listed.functions)?;
-    let mut tables = imported_tables(alloc, &listed.imports)?;
-    tables.extend_from_slice(&listed.tables)?;
-    let mut memories = imported_memories(alloc, &listed.imports)?;
-    memories.extend_from_slice(&listed.memories)?;
-    let mut globals = imported_globals(alloc, &listed.imports)?;
-    globals.extend_from_slice(&listed.globals)?;
-    let own_globals = listed.globals.len();
+    let (function_map, imported_functions) = function_space(alloc, &listed)?;
+    let table_types = table_space(alloc, &listed)?;
+    let memory_types = memory_space(alloc, &listed)?;
+    let global_types = global_space(alloc, &listed)?;
+    let own_globals = global_count(&listed);
+    let unknown = unknown_of(&listed);
     Ok(Module {
         info: ModuleInfo {
             input_wasm: bytes,
-            global_types: globals,
-            types_map: listed.types,
-            function_map: functions,
-            table_types: tables,
-            memory_types: memories,
+            global_types,
+            types_map: listed.types.into_items(),
+            function_map,
+            table_types,
+            memory_types,
         },
         layout: Layout {
             sections,
-            imported_functions: imported,
+            imported_functions,
             own_globals,
             entries: listed.entries,
+            unknown,
         },
     })
 }
@@ -94,6 +93,9 @@ fn module_of<'a>(
 /// functions, tables, memories, globals and code are read, each by the call of its name in `wasm_declarations`; and there are as
 /// many code entries as functions of the module's own. The contents of the other sections and the bodies aren't read, and whether
 /// the module is valid isn't asked.
+///
+/// A type, an import, a table, a memory or a global of a form that isn't known here is no error: what its section lists from there on
+/// isn't known, and the layout's `unknown` says so.
 ///
 /// An error names a fault that is there: as `read_sections` refuses the bytes; as one of those calls refuses its section; or
 /// `CodeCount` where the numbers differ, at the start of the code section, or at the end of the bytes where there is none. `Memory`

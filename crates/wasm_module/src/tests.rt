@@ -1,7 +1,7 @@
 //! Small modules by hand, in bytes as the standard gives them.
 ghost use Rattle.std.specs.Prelude.{◌≢◌};
 
-use crate::{Entry, ModuleFault, read_module, with_body};
+use crate::{Entry, ModuleError, ModuleFault, read_module, with_body};
 use mutate_base::{ElementType, PrimitiveTypeInfo};
 use std::alloc::Global;
 use std::process::Abort;
@@ -76,6 +76,13 @@ fn fault(alloc: Global, bytes: &[u8]) -> Option<(ModuleFault, usize)> {
     match read_module(alloc, bytes) {
         Ok(_) => None,
         Err(error) => Some((error.kind, error.offset)),
+    }
+}
+
+fn unknown_at(offset: usize) -> ModuleError {
+    ModuleError {
+        kind: ModuleFault::UnknownForm,
+        offset,
     }
 }
 
@@ -164,14 +171,31 @@ fn faults(rt: HostRuntime) {
     );
     let two = b"\0asm\x01\0\0\0\x01\x04\x01\x60\0\0\x03\x03\x02\0\0\x0a\x04\x01\x02\0\x0b";
     assert_eq!(rt; fault(alloc, two), Some((ModuleFault::CodeCount, 19)));
-    // A recursive type; an entry that is longer than the section.
-    let recursive = b"\0asm\x01\0\0\0\x01\x05\x01\x4e\x01\x60\0";
-    assert_eq!(rt;
-        fault(alloc, recursive),
-        Some((ModuleFault::UnknownForm, 11))
-    );
+    // An entry that is longer than the section.
     let long = b"\0asm\x01\0\0\0\x01\x04\x01\x60\0\0\x03\x02\x01\0\x0a\x04\x01\x03\0\x0b";
     assert_eq!(rt; fault(alloc, long), Some((ModuleFault::Truncated, 21)));
+}
+
+#[test]
+fn unknown_forms(rt: HostRuntime) -> Result<(), Fail> {
+    // A function type, and a structure of an i32; a function of the former.
+    let types = b"\0asm\x01\0\0\0\x01\x08\x02\x60\0\0\x5f\x01\x7f\0\x03\x02\x01\0\x0a\x04\x01\x02\0\x0b";
+    let module = read_module(rt.alloc(), types)?;
+    assert!(rt; module.info.types_map.len() == 1 && module.info.function_map.len() == 1);
+    assert_eq!(rt; module.layout.unknown.types, Some(unknown_at(14)));
+    assert!(rt; module.layout.unknown.imports.is_none());
+    // A function and a table of another reference are imported; a function, and a global of a type that isn't known.
+    let imports = b"\0asm\x01\0\0\0\x01\x04\x01\x60\0\0\x02\x0b\x02\0\0\0\0\0\0\x01\x6e\0\0\x03\x02\x01\0\x06\x0b\x02\x7f\0\x41\0\x0b\x6e\0\xd0\x6e\x0b\x0a\x04\x01\x02\0\x0b";
+    let module = read_module(rt.alloc(), imports)?;
+    assert_eq!(rt; module.info.function_map.as_slice(), [0].as_slice());
+    assert_eq!(rt;
+        (module.layout.imported_functions, module.layout.own_globals),
+        (1, 2)
+    );
+    assert!(rt; module.info.global_types.is_empty() && module.layout.entries.len() == 1);
+    assert_eq!(rt; module.layout.unknown.imports, Some(unknown_at(21)));
+    assert_eq!(rt; module.layout.unknown.globals, Some(unknown_at(39)));
+    Ok(())
 }
 
 #[test]

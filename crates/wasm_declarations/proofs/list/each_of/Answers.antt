@@ -1,6 +1,6 @@
-use Rattle.std.proofs.Common.{◌≡◌, ℕ, List, Bor, ◌++◌, ◌∷◌, [], ◌≤◌, length, arith}
+use Rattle.std.proofs.Common.{◌≡◌, ◌++◌, ◌∷◌, [], ◌≤◌, length, arith}
 use Rattle.std.proofs.lemmas.Grind.{common_steps}
-use Rattle.wasm_declarations.proofs.ListLemmas.{begins, goes_on, stopped}
+use Rattle.wasm_declarations.proofs.ListLemmas.{begins, goes_on}
 use Rattle.wasm_declarations.proofs.list.each_of.Goals as goal
 
 pub loop-init : goal.loop-init
@@ -15,11 +15,3 @@ loop-preserved g c =
           c.loop.invariant.reads c.in-Ok.ensures.gives);
       within = omega (arith, shorter, c.loop.invariant.within);
     }
-
-pub returns-then-is_err-clause-left : goal.returns-then-is_err-clause-left
-returns-then-is_err-clause-left g c = c.loop.invariant.within
-
-pub returns-in-Err-clause-stops : goal.returns-in-Err-clause-stops
-returns-in-Err-clause-stops g c =
-    stopped {X = g.row.T-Value.Denot × Bor (List ℕ)} g.T.Item.at c.args.count c.loop.counter c.args.bytes.now c.loop.items.items c.loop.rest.now
-    c.in-Err.refusal (λ x. (x.0, x.1.now)) c.loop-test.true c.loop.invariant.reads c.in-Err.ensures.gives
