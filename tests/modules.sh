@@ -53,7 +53,7 @@ try_case() {
         pass
     elif [ "$status" -ne 0 ]; then
         fail "$case" "status $status: $(head -c 300 "$work/message")"
-    elif ! wasm-validate "$work/module.wasm" > "$work/message" 2>&1; then
+    elif ! wasm-validate --enable-threads "$work/module.wasm" > "$work/message" 2>&1; then
         fail "$case" "not valid: $(head -c 300 "$work/message")"
     else
         rewritten=$((rewritten + 1))

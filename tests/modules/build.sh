@@ -21,6 +21,7 @@ text: -O1 -mbulk-memory -msign-ext -Wl,--strip-all
 machine: -O2 -Wl,--strip-all
 plain: -O0 -Wl,--strip-all
 outside:
+shared:
 "
 
 work=$(mktemp -d)
@@ -72,7 +73,7 @@ END
 while IFS=: read -r name flags; do
     if [ -z "$name" ]; then continue; fi
     if [ -e "$name.wat" ]; then
-        wat2wasm --debug-names "$name.wat" -o "$work/$name.wasm"
+        wat2wasm --enable-threads --debug-names "$name.wat" -o "$work/$name.wasm"
     else
         # shellcheck disable=SC2086
         clang $common $flags -o "$work/$name.wasm" "$name.c"

@@ -30,8 +30,8 @@ commands_of() {
 # their answers, in the form of a list without comments. What takes longer than ten seconds is stopped, and has no more lines.
 answers_of() {
     {
-        timeout 10 spectest-interp "$1/calls.json" || true
-        timeout 10 wasm-interp --run-all-exports "$1/module.wasm" | grep '^all()' || true
+        timeout 10 spectest-interp --enable-threads "$1/calls.json" || true
+        timeout 10 wasm-interp --enable-threads --run-all-exports "$1/module.wasm" | grep '^all()' || true
     } 2> /dev/null | sed -n -E '
         s/^([A-Za-z0-9_]+)\((.*)\) => (.*)$/\1 \2 => \3/; t found
         s/^called host spectest\.([a-z0-9_]+)\((.*)\) =>.*$/! \1 \2/; t found
