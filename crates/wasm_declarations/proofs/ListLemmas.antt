@@ -184,6 +184,10 @@ none_fails {A} at j bytes rest ys cause start xs p f q =
     never : {X : Type 0} (r : Result X Cause) (x : X) (cause : Cause) → r ≡ Ok x → r ≡ Err cause → ⊥
     never r x cause e f = cc
 
+one_more : {A : Type 0} (x y : A) (xs ys : List A) (p q : List ℕ) → x ≡ y → ◌≡◌ {A = List A × List ℕ} (xs, p) (ys, q) →
+    ◌≡◌ {A = List A × List ℕ} (x ∷ xs, p) (y ∷ ys, q)
+one_more {A} x y xs ys p q e f = ap (λ (z : List A × List ℕ). (x ∷ z.0, z.1)) f ∙ ap (λ (z : A). (z ∷ ys, q)) e
+
 -- behind one list of items reading fails
 behind_one : {A : Type 0} (at : Reader A) (i j : ℕ) (bytes : List ℕ) (xs ys : List A) (back rest : List ℕ) (cause other : Cause) →
     each_at i at bytes ≡ Ok (xs, back) → at back ≡ Err cause → each_at j at bytes ≡ Ok (ys, rest) → at rest ≡ Err other
@@ -203,7 +207,7 @@ behind_one {A} at (suc i) (suc j) bytes xs ys back rest cause other p f q g =
     let from : each_at j at a.0.1 ≡ Ok d.0 = ap (λ (z : A × List ℕ). each_at j at z.1) same ∙ d.1 in
     let late = behind_one at i j a.0.1 c.0.0 d.0.0 c.0.1 d.0.1 cause other c.1 (ap (λ (z : List A × List ℕ). at z.1) e ∙ f) from
     (ap (λ (z : List A × List ℕ). at z.1) h ∙ g) in
-    sym e ∙ ap (λ (z : List A × List ℕ). (a.0.0 ∷ z.0, z.1)) late ∙ ap (λ (z : A × List ℕ). (z.0 ∷ d.0.0, d.0.1)) same ∙ h
+    sym e ∙ one_more a.0.0 b.0.0 c.0.0 d.0.0 c.0.1 d.0.1 (ap (λ (z : A × List ℕ). z.0) same) late ∙ h
 
 err_is : {X : Type 0} (r : Result X Cause) (c d : Cause) → r ≡ Err c → r ≡ Err d → c ≡ d
 err_is r c d e f = cc
