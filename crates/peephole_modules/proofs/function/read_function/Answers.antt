@@ -11,9 +11,9 @@ contents_of-contents-requires c = c.entries_are_inside.ensures c.args.bytes.now 
 
 pub returns-in-Err-clause-only : goal.returns-in-Err-clause-only
 returns-in-Err-clause-only c locals expression operators f =
-    let s = spelled_there c.args.bytes.now c.args.info.now c.args.layout.now c.args.n c.entry_at-entry.result c.in-Some.params.now
+    let s = spelled_there c.args.bytes.now c.args.info.now c.args.layout.now c.args.n c.entry_at-entry.result c.in-Some-parameters.params.now
     c.contents_of-contents.result.now c.entry_at-entry.ensures
-    (sym (c.in-Some.ensures ∙ ap (parameters_of c.args.info.now) c.function_index.ensures)) c.contents_of-contents.ensures locals expression operators
+    (sym (c.in-Some-parameters.ensures ∙ ap (parameters_of c.args.info.now) c.function_index.ensures)) c.contents_of-contents.ensures locals expression operators
     f in
     c.in-Err.ensures.only locals expression s.0
 
@@ -23,9 +23,9 @@ read_body-requires-clause-bounds c = (c.entries_are_inside.ensures c.args.bytes.
 
 pub returns-in-Ok-read_body-clause-only : goal.returns-in-Ok-read_body-clause-only
 returns-in-Ok-read_body-clause-only c locals expression operators f =
-    let s = spelled_there c.args.bytes.now c.args.info.now c.args.layout.now c.args.n c.entry_at-entry.result c.in-Some.params.now
+    let s = spelled_there c.args.bytes.now c.args.info.now c.args.layout.now c.args.n c.entry_at-entry.result c.in-Some-parameters.params.now
     c.contents_of-contents.result.now c.entry_at-entry.ensures
-    (sym (c.in-Some.ensures ∙ ap (parameters_of c.args.info.now) c.function_index.ensures)) c.contents_of-contents.ensures locals expression operators
+    (sym (c.in-Some-parameters.ensures ∙ ap (parameters_of c.args.info.now) c.function_index.ensures)) c.contents_of-contents.ensures locals expression operators
     f in
     let l = c.in-Ok.ensures.only locals expression s.0 in (
       l.0,
@@ -35,10 +35,15 @@ returns-in-Ok-read_body-clause-only c locals expression operators f =
 
 pub returns-in-Err-read_body-clause-only : goal.returns-in-Err-read_body-clause-only
 returns-in-Err-read_body-clause-only c locals expression operators f =
-    let s = spelled_there c.args.bytes.now c.args.info.now c.args.layout.now c.args.n c.entry_at-entry.result c.in-Some.params.now
+    let s = spelled_there c.args.bytes.now c.args.info.now c.args.layout.now c.args.n c.entry_at-entry.result c.in-Some-parameters.params.now
     c.contents_of-contents.result.now c.entry_at-entry.ensures
-    (sym (c.in-Some.ensures ∙ ap (parameters_of c.args.info.now) c.function_index.ensures)) c.contents_of-contents.ensures locals expression operators
+    (sym (c.in-Some-parameters.ensures ∙ ap (parameters_of c.args.info.now) c.function_index.ensures)) c.contents_of-contents.ensures locals expression operators
     f in
     let l = c.in-Ok.ensures.only locals expression s.0 in
     c.in-Err-read_body.ensures.only operators (subst (λ (from : ℕ).
     SpellsBody from (slice_range c.args.bytes.now from c.entry_at-entry.result.end) operators) (sym l.1) s.1)
+
+pub returns-in_default-parameters-clause-fault : goal.returns-in_default-parameters-clause-fault
+returns-in_default-parameters-clause-fault c =
+    c.without_type.ensures c.args.bytes.now c.args.info.now c.args.n
+    (sym (c.in_default-parameters.ensures ∙ ap (parameters_of c.args.info.now) c.function_index.ensures))
