@@ -1,7 +1,6 @@
 -- A function of a module: what is spelled at its entry.
-use Rattle.std.proofs.Common.{◌≡◌, ℕ, ◌+◌, ◌<◌, List, ◌++◌, length, Option, Some, None, sym, ap, subst, ◌∙◌, arith}
+use Rattle.std.proofs.Common.{◌≡◌, ℕ, ◌+◌, List, Some, sym, subst, ◌∙◌}
 use Rattle.std.specs.Prelude.{slice_get, slice_range}
-use Rattle.std.proofs.lemmas.List.{length-append}
 use Rattle.std.proofs.lemmas.Option.{same_Some}
 use Rattle.wasm_code.specs.Body.{SpellsBody}
 use Rattle.wasm_code.specs.declared.operator.Operator.{Operator}
@@ -9,9 +8,8 @@ use Rattle.mutate_base.specs.Module.{Module}
 use Rattle.mutate_base.specs.declared.types.PrimitiveTypeInfo.{PrimitiveTypeInfo}
 use Rattle.wasm_declarations.specs.declared.entries.Entry.{Entry}
 use Rattle.wasm_declarations.specs.Locals.{SpellsLocals}
-use Rattle.wasm_sections.specs.declared.fault.ModuleError.{ModuleError}
-use Rattle.wasm_module.specs.Module.{Layout, IsModule, functions_of, space}
-use Rattle.peephole_modules.specs.Function.{IsFunction, KnowsIndices, parameters_of}
+use Rattle.wasm_module.specs.Module.{Layout}
+use Rattle.peephole_modules.specs.Function.{IsFunction, parameters_of}
 
 -- what a function's entry spells, with the entry and the parameters that were found
 pub spelled_there : (bytes : List ℕ) (info : Module) (layout : Layout) (n : ℕ) (entry : Entry) (params : List PrimitiveTypeInfo) (contents : List ℕ)
@@ -28,12 +26,3 @@ spelled_there bytes info layout n entry params contents at pars are locals expre
           alike f.locals_are)),
       subst (λ (e : Entry). SpellsBody expression (slice_range bytes expression e.end) operators) same f.body,
     )
-
--- the function of a code entry has an index where indices are known
-pub indexed : (bytes : List ℕ) (info : Module) (layout : Layout) (n : ℕ) → IsModule bytes info layout → KnowsIndices layout → n < length layout.entries →
-    layout.imported_functions + n < length info.functions
-indexed bytes info layout n m known lt =
-    let none : m.imports.unknown ≡ None = sym m.unknown_imports ∙ known.imports in
-    let all : info.functions ≡ functions_of m.imports.items ++ m.functions =
-        m.all_functions ∙ ap (λ (o : Option ModuleError). space (functions_of m.imports.items) o m.functions) none in
-    omega (arith, lt, m.imported, m.entry_each, ap length all, length-append (functions_of m.imports.items) m.functions)
