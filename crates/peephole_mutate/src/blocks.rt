@@ -1,5 +1,6 @@
 //! The blocks of a module's functions.
-ghost use Rattle.std.specs.Prelude.{◌≡◌, ◌<◌, length, IsTrue, is_some, IfSome};
+ghost use Rattle.std.specs.Prelude.{◌≡◌, ◌≢◌, ◌<◌, length, IsTrue, is_some, IfErr, IfSome};
+ghost use Rattle.peephole_mutate.specs.declared.failure.Failure.TheVariants.{Nothing};
 ghost use Rattle.mutate_base.specs.Config.{info_of};
 ghost use Rattle.wasm_module.specs.Module.{IsModule};
 
@@ -159,7 +160,9 @@ pub fn write_fault<W: Write>(
     index: usize,
     error: &FunctionError,
     start: usize,
-) -> Result<(), Failure> {
+) -> Result<(), Failure>
+    ensures { IfErr result (λ e. e ≢ Nothing) }
+{
     let (name, offset) = fault_of(error, start);
     writeln!(output, "function {index} {name} at {offset}")?;
     Ok(())

@@ -47,12 +47,22 @@ impl Failure {
 }
 
 impl From<AllocError> for Failure {
+    ghost use Rattle.std.specs.Prelude.{◌≡◌};
+    ghost use Rattle.peephole_mutate.specs.declared.failure.Failure.TheVariants.{Memory};
+
+    ghost from_gives = { λ _ failure. failure ≡ Memory };
+
     fn from(_error: AllocError) -> Failure {
         Failure::Memory
     }
 }
 
 impl From<io::Error> for Failure {
+    ghost use Rattle.std.specs.Prelude.{◌≡◌};
+    ghost use Rattle.peephole_mutate.specs.declared.failure.Failure.TheVariants.{Output};
+
+    ghost from_gives = { λ _ failure. failure ≡ Output };
+
     fn from(_error: io::Error) -> Failure {
         Failure::Output
     }

@@ -1,5 +1,6 @@
 //! The functions of a module that are looked at.
-ghost use Rattle.std.specs.Prelude.{IfOk};
+ghost use Rattle.std.specs.Prelude.{◌≢◌, IfOk, IfErr};
+ghost use Rattle.peephole_mutate.specs.declared.failure.Failure.TheVariants.{Nothing};
 ghost use Rattle.wasm_module.specs.Module.{IsModule};
 
 use crate::failure::Failure;
@@ -10,7 +11,8 @@ use wasm_module::{Layout, Module, read_module};
 
 /// Reads the module.
 pub fn module_of<'a>(alloc: Global, bytes: &'a [u8]) -> Result<Module<'a>, Failure>
-    ensures { IfOk result (λ m. IsModule bytes.now m.info m.layout) }
+    ensures read { IfOk result (λ m. IsModule bytes.now m.info m.layout) }
+    ensures fault { IfErr result (λ e. e ≢ Nothing) }
 {
     match read_module(alloc, bytes) {
         Ok(module) => Ok(module),

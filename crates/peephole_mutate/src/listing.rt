@@ -1,5 +1,6 @@
 //! The rewrites that there are of a module.
-ghost use Rattle.std.specs.Prelude.{◌<◌, length, IsTrue, is_some, IfSome};
+ghost use Rattle.std.specs.Prelude.{◌<◌, ◌≢◌, length, IsTrue, is_some, IfErr, IfSome};
+ghost use Rattle.peephole_mutate.specs.declared.failure.Failure.TheVariants.{Nothing};
 ghost use Rattle.mutate_base.specs.Config.{info_of};
 ghost use Rattle.wasm_module.specs.Module.{IsModule};
 
@@ -19,7 +20,9 @@ pub fn write_rewrite<W: Write>(
     output: &mut W,
     function: usize,
     rewrite: &Rewrite,
-) -> Result<(), Failure> {
+) -> Result<(), Failure>
+    ensures { IfErr result (λ e. e ≢ Nothing) }
+{
     let operator = rewrite.insertion_point;
     let node = rewrite.node;
     let rule = rewrite.rule.name();

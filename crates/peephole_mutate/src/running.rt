@@ -1,5 +1,7 @@
 //! A run: a module in, and out goes what the options ask for.
-ghost use Rattle.std.specs.Prelude.{◌≡◌, OnOk, IfSome};
+ghost use Rattle.std.specs.Prelude.{◌≡◌, Err, OnOk, IfSome};
+ghost use Rattle.peephole_modules.specs.Mutated.{CannotMutate};
+ghost use Rattle.peephole_mutate.specs.declared.failure.Failure.TheVariants.{Nothing};
 ghost use Rattle.peephole_mutate.specs.Writes.{WritesMutated};
 
 use crate::blocks::list_blocks;
@@ -20,8 +22,10 @@ fn rewrite<W: Write, E: Write>(
     output: &mut W,
     notes: &mut E,
 ) -> Result<(), Failure>
-    ensures { OnOk result (WritesMutated options.now.rules.items options.now.function
+    ensures written { OnOk result (WritesMutated options.now.rules.items options.now.function
         options.now.count bytes.now (W.contents output.old) (W.contents output.new)) }
+    ensures nothing { result ≡ Err Nothing
+        → CannotMutate options.now.rules.items options.now.function bytes.now }
 {
     let module = rewritten(alloc, bytes, options)?;
     output.write_all(&module.bytes)?;
@@ -42,10 +46,14 @@ pub fn run<R: Read, W: Write, E: Write>(
     notes: &mut E,
 ) -> Result<(), Failure>
     // What is written is the input rewritten, each block of it running as before.
-    ensures { options.now.task ≡ Task.Rewrite → OnOk result
+    ensures written { options.now.task ≡ Task.Rewrite → OnOk result
         (IfSome (R.remaining input.old) (λ bytes. WritesMutated options.now.rules.items
         options.now.function options.now.count bytes (W.contents output.old)
         (W.contents output.new))) }
+    // It fails with `Nothing` only where no rule applies.
+    ensures nothing { options.now.task ≡ Task.Rewrite → result ≡ Err Nothing
+        → IfSome (R.remaining input.old) (CannotMutate options.now.rules.items
+        options.now.function) }
 {
     let bytes = read_input(alloc, input)?;
     match options.task {

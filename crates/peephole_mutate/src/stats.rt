@@ -1,5 +1,6 @@
 //! What a run reports of a module and its rewrites.
-ghost use Rattle.std.specs.Prelude.{◌<◌, length};
+ghost use Rattle.std.specs.Prelude.{◌<◌, ◌≢◌, length, IfErr};
+ghost use Rattle.peephole_mutate.specs.declared.failure.Failure.TheVariants.{Nothing};
 ghost use Rattle.wasm_module.specs.Module.{IsModule};
 
 use crate::blocks::write_fault;
@@ -24,6 +25,7 @@ fn report_function<W: Write>(
 ) -> Result<bool, Failure>
     requires module { IsModule bytes.now info.now layout.now }
     requires inside { n < length layout.now.entries }
+    ensures { IfErr result (λ e. e ≢ Nothing) }
 {
     match read_function(alloc, bytes, info, layout, n) {
         Ok(_) => Ok(false),
@@ -39,7 +41,9 @@ fn report_function<W: Write>(
 
 // Writes a line for each function that can't be read, and how many functions the module has of its own, and of those how many
 // can't be read.
-fn report_functions<W: Write>(alloc: Global, bytes: &[u8], notes: &mut W) -> Result<(), Failure> {
+fn report_functions<W: Write>(alloc: Global, bytes: &[u8], notes: &mut W) -> Result<(), Failure>
+    ensures { IfErr result (λ e. e ≢ Nothing) }
+{
     let module = module_of(alloc, bytes)?;
     let count = module.layout.entries.len();
     let mut unreadable = 0usize;
@@ -60,7 +64,9 @@ pub fn report<W: Write>(
     bytes: &[u8],
     new: &RewrittenModule,
     notes: &mut W,
-) -> Result<(), Failure> {
+) -> Result<(), Failure>
+    ensures { IfErr result (λ e. e ≢ Nothing) }
+{
     report_functions(alloc, bytes, notes)?;
     for made in &new.made {
         write_rewrite(notes, made.function, &made.rewrite)?;

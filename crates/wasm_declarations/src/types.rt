@@ -102,7 +102,8 @@ pub fn read_types(
 ) -> Result<Known<TypeInfo>, ModuleError>
     requires { start + length contents.now ≤ usize.MAX }
     // What is read is spelled so.
-    ensures found { IfOk result (SpellsKnown SpellsFunctionType FailsFunctionType start contents.now) }
+    ensures found { IfOk result
+        (SpellsKnown SpellsFunctionType FailsFunctionType start contents.now) }
     // What is spelled so is read, unless memory runs out.
     ensures only { (known : Knowledge TypeInfo)
         → SpellsKnown SpellsFunctionType FailsFunctionType start contents.now known

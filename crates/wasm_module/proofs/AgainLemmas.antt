@@ -14,8 +14,8 @@ use Rattle.wasm_sections.specs.Section.{SpellsModule, AreInOrder, parts_of, prea
 use Rattle.wasm_sections.specs.Find.{end_of, AreBefore, AreBehind}
 use Rattle.wasm_sections.specs.Writing.{section_code}
 use Rattle.wasm_sections.specs.Laws.{SpellsParts}
-use Rattle.wasm_sections.proofs.ChangeLemmas.{replaced}
-use Rattle.wasm_sections.proofs.PieceLemmas.{IsModuleView, Piece, code_of, joined, end_at, all_placed, part, parts, of_module, parts_are, joined-append, parts-append, length-code, end_is}
+use Rattle.wasm_sections.specs.lemmas.ChangeLemmas.{replaced}
+use Rattle.wasm_sections.specs.lemmas.PieceLemmas.{IsModuleView, Piece, code_of, joined, end_at, all_placed, part, parts, of_module, parts_are, joined-append, parts-append, length-code, end_is}
 use Rattle.wasm_module.specs.Module.{Layout, IsModule}
 use Rattle.wasm_module.specs.Rewritten.{new_globals, GrowsGlobals, AddsGlobals, code_with, IsRewritten}
 use Rattle.wasm_module.specs.Again.{IsModuleAgain}

@@ -75,7 +75,8 @@ fn functions_in(alloc: Global, bytes: &[u8], sections: &[Section]) -> Result<Vec
     requires { SpellsModule bytes.now sections.now }
     ensures found { IfOk result (λ v. Lists (λ _. SpellsList (SpellsUnsigned 32))
         bytes.now sections.now ids.Function v.items) }
-    ensures only { (xs : List ℕ) → Lists (λ _. SpellsList (SpellsUnsigned 32)) bytes.now sections.now ids.Function xs
+    ensures only { (xs : List ℕ)
+        → Lists (λ _. SpellsList (SpellsUnsigned 32)) bytes.now sections.now ids.Function xs
         → IfErr result (λ e. e.kind ≡ Memory) }
     ensures fault { IfErr result (λ e.
         HasFault bytes.now sections.now ids.Function e.kind e.offset) }

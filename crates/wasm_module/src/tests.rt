@@ -51,6 +51,20 @@ const NO_GLOBALS_NOP: [u8; 40] = [
     0x03, 0x00, 0x01, 0x0b, 0x00, 0x02, 0x01, 0x62,
 ];
 
+/// A function type, and a structure of an i32; a function of the former.
+const STRUCTURE: [u8; 28] = [
+    0x00, 0x61, 0x73, 0x6d, 0x01, 0x00, 0x00, 0x00, 0x01, 0x08, 0x02, 0x60, 0x00, 0x00, 0x5f, 0x01,
+    0x7f, 0x00, 0x03, 0x02, 0x01, 0x00, 0x0a, 0x04, 0x01, 0x02, 0x00, 0x0b,
+];
+
+/// A function is imported, and a table of any references; a function, a global of the type i32, and one of any reference.
+const REFERENCES: [u8; 50] = [
+    0x00, 0x61, 0x73, 0x6d, 0x01, 0x00, 0x00, 0x00, 0x01, 0x04, 0x01, 0x60, 0x00, 0x00, 0x02, 0x0b,
+    0x02, 0x00, 0x00, 0x00, 0x00, 0x00, 0x00, 0x01, 0x6e, 0x00, 0x00, 0x03, 0x02, 0x01, 0x00, 0x06,
+    0x0b, 0x02, 0x7f, 0x00, 0x41, 0x00, 0x0b, 0x6e, 0x00, 0xd0, 0x6e, 0x0b, 0x0a, 0x04, 0x01, 0x02,
+    0x00, 0x0b,
+];
+
 fn later(
     rt: &impl Abort,
     alloc: Global,
@@ -178,15 +192,11 @@ fn faults(rt: HostRuntime) {
 
 #[test]
 fn unknown_forms(rt: HostRuntime) -> Result<(), Fail> {
-    // A function type, and a structure of an i32; a function of the former.
-    let types = b"\0asm\x01\0\0\0\x01\x08\x02\x60\0\0\x5f\x01\x7f\0\x03\x02\x01\0\x0a\x04\x01\x02\0\x0b";
-    let module = read_module(rt.alloc(), types)?;
+    let module = read_module(rt.alloc(), &STRUCTURE)?;
     assert!(rt; module.info.types_map.len() == 1 && module.info.function_map.len() == 1);
     assert_eq!(rt; module.layout.unknown.types, Some(unknown_at(14)));
     assert!(rt; module.layout.unknown.imports.is_none());
-    // A function and a table of another reference are imported; a function, and a global of a type that isn't known.
-    let imports = b"\0asm\x01\0\0\0\x01\x04\x01\x60\0\0\x02\x0b\x02\0\0\0\0\0\0\x01\x6e\0\0\x03\x02\x01\0\x06\x0b\x02\x7f\0\x41\0\x0b\x6e\0\xd0\x6e\x0b\x0a\x04\x01\x02\0\x0b";
-    let module = read_module(rt.alloc(), imports)?;
+    let module = read_module(rt.alloc(), &REFERENCES)?;
     assert_eq!(rt; module.info.function_map.as_slice(), [0].as_slice());
     assert_eq!(rt;
         (module.layout.imported_functions, module.layout.own_globals),

@@ -10,7 +10,7 @@ use Rattle.wasm_sections.specs.Id.{rank_of}
 use Rattle.wasm_sections.specs.Section.{AreInOrder, SpellsModule}
 use Rattle.wasm_sections.specs.Find.{LackId, IsFirstWith, end_of, AreBefore, AreBehind, IsPlaceOf}
 use Rattle.wasm_sections.specs.Reader.{comes_before_lem, place_from}
-use Rattle.wasm_sections.proofs.SectionLemmas.{has_rank}
+use Rattle.wasm_sections.specs.lemmas.SectionLemmas.{has_rank}
 
 lack_more : (before : List Section) (s : Section) (id : SectionId) → LackId before id → (s.id ≡ id → ⊥) → LackId (before ++ s ∷ []) id
 lack_more [] s id none other = (other, tt)

@@ -10,7 +10,7 @@ use Rattle.wasm_sections.specs.Id.{id_code, rank_of}
 use Rattle.wasm_sections.specs.Section.{SpellsModule, AreFinal, preamble}
 use Rattle.wasm_sections.specs.Sections.{last_rank, FailsSection, StopsAt, IsSectionFault}
 use Rattle.wasm_sections.specs.Reader.{IsAccepted}
-use Rattle.wasm_sections.proofs.PieceLemmas.{Piece, code_of, joined, placed, all_placed, contents_at, end_at, parts, of_module, of_pieces, section_is, joined-append, parts-append, counted-append, final-append, sorted-append, placed-append, last_of, last_is}
+use Rattle.wasm_sections.specs.lemmas.PieceLemmas.{Piece, code_of, joined, placed, all_placed, contents_at, end_at, parts, of_module, of_pieces, section_is, joined-append, parts-append, counted-append, final-append, sorted-append, placed-append, last_of, last_is}
 
 pub record IsReadSoFar (bytes rest : List ℕ) (xs : List Section) (last : ℕ) : Type 0 where
   pub front : List ℕ

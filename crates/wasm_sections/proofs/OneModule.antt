@@ -16,7 +16,7 @@ use Rattle.wasm_sections.specs.Section.{SpellsModule, IsLinkable, AreFinal}
 use Rattle.wasm_sections.specs.Sections.{last_rank, FailsSection, StopsAt, IsSectionFault}
 use Rattle.wasm_sections.specs.Reader.{IsCounted}
 use Rattle.wasm_sections.proofs.CountedLemmas.{one_counted, no_short, no_fail}
-use Rattle.wasm_sections.proofs.PieceLemmas.{Piece, code_of, joined, AreCounted, AreSorted, all_placed, parts, last_of, last_is, of_module}
+use Rattle.wasm_sections.specs.lemmas.PieceLemmas.{Piece, code_of, joined, AreCounted, AreSorted, all_placed, parts, last_of, last_is, of_module}
 
 -- ---- one id, one piece, one list of pieces
 

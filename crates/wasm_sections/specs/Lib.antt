@@ -6,3 +6,4 @@ pub mod Reader
 pub mod Section
 pub mod Sections
 pub mod Writing
+pub mod lemmas

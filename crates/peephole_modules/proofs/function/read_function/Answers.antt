@@ -13,8 +13,8 @@ pub returns-in-Err-clause-only : goal.returns-in-Err-clause-only
 returns-in-Err-clause-only c locals expression operators f =
     let s = spelled_there c.args.bytes.now c.args.info.now c.args.layout.now c.args.n c.entry_at-entry.result c.in-Some-parameters.params.now
     c.contents_of-contents.result.now c.entry_at-entry.ensures
-    (sym (c.in-Some-parameters.ensures ∙ ap (parameters_of c.args.info.now) c.function_index.ensures)) c.contents_of-contents.ensures locals expression operators
-    f in
+    (sym (c.in-Some-parameters.ensures ∙ ap (parameters_of c.args.info.now) c.function_index.ensures)) c.contents_of-contents.ensures locals expression
+    operators f in
     c.in-Err.ensures.only locals expression s.0
 
 pub read_body-requires-clause-bounds : goal.read_body-requires-clause-bounds
@@ -25,8 +25,8 @@ pub returns-in-Ok-read_body-clause-only : goal.returns-in-Ok-read_body-clause-on
 returns-in-Ok-read_body-clause-only c locals expression operators f =
     let s = spelled_there c.args.bytes.now c.args.info.now c.args.layout.now c.args.n c.entry_at-entry.result c.in-Some-parameters.params.now
     c.contents_of-contents.result.now c.entry_at-entry.ensures
-    (sym (c.in-Some-parameters.ensures ∙ ap (parameters_of c.args.info.now) c.function_index.ensures)) c.contents_of-contents.ensures locals expression operators
-    f in
+    (sym (c.in-Some-parameters.ensures ∙ ap (parameters_of c.args.info.now) c.function_index.ensures)) c.contents_of-contents.ensures locals expression
+    operators f in
     let l = c.in-Ok.ensures.only locals expression s.0 in (
       l.0,
       c.in-Ok-read_body.ensures.only operators (subst (λ (from : ℕ).
@@ -37,8 +37,8 @@ pub returns-in-Err-read_body-clause-only : goal.returns-in-Err-read_body-clause-
 returns-in-Err-read_body-clause-only c locals expression operators f =
     let s = spelled_there c.args.bytes.now c.args.info.now c.args.layout.now c.args.n c.entry_at-entry.result c.in-Some-parameters.params.now
     c.contents_of-contents.result.now c.entry_at-entry.ensures
-    (sym (c.in-Some-parameters.ensures ∙ ap (parameters_of c.args.info.now) c.function_index.ensures)) c.contents_of-contents.ensures locals expression operators
-    f in
+    (sym (c.in-Some-parameters.ensures ∙ ap (parameters_of c.args.info.now) c.function_index.ensures)) c.contents_of-contents.ensures locals expression
+    operators f in
     let l = c.in-Ok.ensures.only locals expression s.0 in
     c.in-Err-read_body.ensures.only operators (subst (λ (from : ℕ).
     SpellsBody from (slice_range c.args.bytes.now from c.entry_at-entry.result.end) operators) (sym l.1) s.1)

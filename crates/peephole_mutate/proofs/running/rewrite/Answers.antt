@@ -2,8 +2,8 @@
 use Rattle.peephole_mutate.proofs.WritesLemmas.{writes_mutated}
 use Rattle.peephole_mutate.proofs.running.rewrite.Goals as goal
 
-pub returns : goal.returns
-returns g c =
+pub returns-clause-written : goal.returns-clause-written
+returns-clause-written g c =
     writes_mutated c.args.options.now.rules.items c.args.options.now.function c.args.options.now.count c.args.bytes.now
     c.in_ok-module.module.made.items c.in_ok-module.module.bytes.items c.deref.result.now (g.W.Write.contents c.args.output.now)
     (g.W.Write.contents c.write_all.new.self) (g.W.Write.contents c.flush.new.self) c.in_ok-module.ensures.mutated c.deref.ensures.value

@@ -6,4 +6,5 @@ use Rattle.wasm_module.proofs.lists.memories_in.Goals as goal
 
 pub returns-in-Some-clause-only : goal.returns-in-Some-clause-only
 returns-in-Some-clause-only c known l =
-    only_memory nothing (SpellsKnown SpellsMemoryType FailsMemoryType) (λ k. k) _ _ ids.Memory _ _ known _ c.in-Some.ensures.found l c.read_memories.ensures.only
+    only_memory nothing (SpellsKnown SpellsMemoryType FailsMemoryType) (λ k. k) _ _ ids.Memory _ _ known _
+    c.in-Some.ensures.found l c.read_memories.ensures.only

@@ -1,4 +1,4 @@
-use Rattle.wasm_sections.proofs.ChangeLemmas.{place_within, place_in_order}
+use Rattle.wasm_sections.specs.lemmas.ChangeLemmas.{place_within, place_in_order}
 use Rattle.wasm_sections.proofs.laws.places_are_in_order.Goals as goal
 
 pub returns-clause-within : goal.returns-clause-within

@@ -1,5 +1,5 @@
 use Rattle.std.proofs.Common.{length, arith}
-use Rattle.wasm_sections.proofs.ChangeLemmas.{replaced}
+use Rattle.wasm_sections.specs.lemmas.ChangeLemmas.{replaced}
 use Rattle.wasm_sections.proofs.laws.replaced_section.Goals as goal
 
 pub returns : goal.returns

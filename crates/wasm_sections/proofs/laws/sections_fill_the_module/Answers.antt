@@ -1,4 +1,4 @@
-use Rattle.wasm_sections.proofs.ChangeLemmas.{all_joined, each_within, found_within}
+use Rattle.wasm_sections.specs.lemmas.ChangeLemmas.{all_joined, each_within, found_within}
 use Rattle.wasm_sections.proofs.laws.sections_fill_the_module.Goals as goal
 
 pub returns-clause-joined : goal.returns-clause-joined

@@ -1,4 +1,4 @@
-use Rattle.wasm_sections.proofs.SectionLemmas.{accepted}
+use Rattle.wasm_sections.specs.lemmas.SectionLemmas.{accepted}
 use Rattle.wasm_sections.proofs.sections.next_section.Goals as goal
 
 pub returns-clause-found : goal.returns-clause-found

@@ -8,7 +8,7 @@ use Rattle.wasm_sections.specs.declared.section.Section.{Section}
 use Rattle.wasm_sections.specs.Id.{id_code, rank_of}
 use Rattle.wasm_sections.specs.Section.{SpellsSections, AreInOrder, parts_of, AreFinal, preamble, SpellsModule}
 use Rattle.wasm_sections.specs.Sections.{last_rank}
-use Rattle.wasm_sections.proofs.SectionLemmas.{section_of}
+use Rattle.wasm_sections.specs.lemmas.SectionLemmas.{section_of}
 
 pub record Piece : Type 0 where
   pub id : SectionId

@@ -12,8 +12,8 @@ use Rattle.wasm_sections.specs.Section.{SpellsModule, AreFinal, parts_of, preamb
 use Rattle.wasm_sections.specs.Find.{IsFirstWith, IsPlaceOf, end_of, AreBefore, AreBehind}
 use Rattle.wasm_sections.specs.Writing.{section_code}
 use Rattle.wasm_sections.specs.Laws.{SpellsParts, AreJoined, IsWithin, IsInOrderAt}
-use Rattle.wasm_sections.proofs.SectionLemmas.{has_rank}
-use Rattle.wasm_sections.proofs.PieceLemmas.{Piece, code_of, joined, AreCounted, AreSorted, end_at, placed, all_placed, part, parts, last_of, of_module, of_pieces, module_parts, parts_are, joined-append, parts-append, counted-append, counted_cut, sorted-append, sorted_cut, final-append, final_cut, length-code, end_is}
+use Rattle.wasm_sections.specs.lemmas.SectionLemmas.{has_rank}
+use Rattle.wasm_sections.specs.lemmas.PieceLemmas.{Piece, code_of, joined, AreCounted, AreSorted, end_at, placed, all_placed, part, parts, last_of, of_module, of_pieces, module_parts, parts_are, joined-append, parts-append, counted-append, counted_cut, sorted-append, sorted_cut, final-append, final_cut, length-code, end_is}
 
 -- ---- where sections stand
 
