@@ -3,7 +3,7 @@ use Rattle.std.proofs.Common.{◌≡◌, ◌↔◌, ℕ, ◌+◌, ◌<◌, ◌�
 use Rattle.std.specs.Prelude.{Contains, IfOk, IfErr, IfNone, IfSome}
 use Rattle.std.proofs.lemmas.Bool.{both_ways}
 use Rattle.std.proofs.lemmas.List.{take_more, take_all, take-append-drop}
-use Rattle.std.proofs.lemmas.List.Elements.{Contains-push_cases, Contains-append_cases, Contains-append_left, Contains-append_right}
+use Rattle.std.proofs.lemmas.List.Elements.{Contains-get_or, Contains-push_cases, Contains-append_cases, Contains-append_left, Contains-append_right}
 use Rattle.std.proofs.lemmas.Option.{same_Some, slice_get_cases}
 use Rattle.wasm_code.specs.declared.operator.Operator.{Operator}
 use Rattle.mutate_base.specs.Module.{Module}
@@ -58,6 +58,29 @@ no_block os n a inside delimits p = elim (slice_get_cases os n).1 [
   | inl h ↦ both_ways _ (p.none n h.0 p.some (omega (arith, p.last)) h.2) (delimits h.0 h.2)
   | inr h ↦ absurd (omega (arith, h.0))
 ]
+
+-- ---- a run's block rewritten, or refused
+
+-- what an answer of some says
+pub some_map : {X E : Type 0} {P Q : X → Type 0} (r : Result (Option X) E) → ((x : X) → P x → Q x) → IfOk r (λ o. IfSome o P) →
+    IfOk r (λ o. IfSome o Q)
+some_map (Ok None) f h = h
+some_map (Ok (Some x)) f h = f x h
+some_map (Err e) f h = h
+
+-- what holds of the module and the mode at one of some operators
+abbrev pub AtOne : (Module → Bool → ℕ → Type 0) → List ℕ → Module → Bool → Type 0
+AtOne P ends info preserving = (n : ℕ) × Contains ends n × P info preserving n
+
+-- the same at one that ends an integer run
+abbrev pub AtRun : (Module → Bool → ℕ → Type 0) → (locals : Types) → Operators → Module → Bool → Type 0
+AtRun P locals os info preserving = (n : ℕ) × EndsRun locals info.globals os n × P info preserving n
+
+pub at_one : (P : Module → Bool → ℕ → Type 0) (a b : Option Module) (p q : Bool) (ends : List ℕ) (i : ℕ) → a ≡ b → p ≡ q → i < length ends →
+    IfSome a (λ info. P info p (get_or ends i 0)) → IfSome b (λ info. AtOne P ends info q)
+at_one P a b p q ends i e f inside h =
+    under_map b (λ info here. (get_or ends i 0, Contains-get_or ends i 0 inside, here))
+    (under_same (λ info preserving. P info preserving (get_or ends i 0)) a b p q e f h)
 
 -- ---- nothing to rewrite
 
@@ -141,12 +164,19 @@ nothing_by_runs locals (Some info) lent preserving rules os ends is runs h = λ 
 pub parts_are : (all slice front back : List ℕ) (m : ℕ) → slice ≡ all → front ≡ take m slice → back ≡ drop m slice → all ≡ front ++ back
 parts_are all slice front back m is f b = rw (f, b) (sym is ∙ sym (take-append-drop m slice))
 
-pub inside_front : (locals globals : Types) (os : Operators) (all front back : List ℕ) → all ≡ front ++ back → AreRuns locals globals os all →
-    (n : ℕ) → Contains front n → n < length os
-inside_front locals globals os all front back is runs n h =
-    ((runs n).0 (subst (λ (l : List ℕ). Contains l n) (sym is) (Contains-append_left front back n h))).inside
+pub front_in : (all front back : List ℕ) → all ≡ front ++ back → (n : ℕ) → Contains front n → Contains all n
+front_in all front back is n h = subst (λ (l : List ℕ). Contains l n) (sym is) (Contains-append_left front back n h)
 
-pub inside_back : (locals globals : Types) (os : Operators) (all front back : List ℕ) → all ≡ front ++ back → AreRuns locals globals os all →
-    (n : ℕ) → Contains back n → n < length os
-inside_back locals globals os all front back is runs n h =
-    ((runs n).0 (subst (λ (l : List ℕ). Contains l n) (sym is) (Contains-append_right front back n h))).inside
+pub back_in : (all front back : List ℕ) → all ≡ front ++ back → (n : ℕ) → Contains back n → Contains all n
+back_in all front back is n h = subst (λ (l : List ℕ). Contains l n) (sym is) (Contains-append_right front back n h)
+
+-- what holds at one of some of the runs' ends holds at an end of a run
+pub at_run : (P : Module → Bool → ℕ → Type 0) (locals : Types) (a b : Option Module) (p q : Bool) (lent : Module) (os : Operators)
+    (ends part : List ℕ) → a ≡ b → p ≡ q → b ≡ Some lent → AreRuns locals lent.globals os ends → ((n : ℕ) → Contains part n → Contains ends n) →
+    IfSome a (λ info. AtOne P part info p) → IfSome b (λ info. AtRun P locals os info q)
+at_run P locals a None p q lent os ends part e f is runs within h = tt
+at_run P locals a (Some info) p q lent os ends part e f is runs within h =
+    let one : AtOne P part info q = under_same (AtOne P part) a (Some info) p q e f h in
+    let same : info ≡ lent = same_Some _ _ is in
+    let run : EndsRun locals lent.globals os one.0 = (runs one.0).0 (within one.0 one.1) in
+    (one.0, subst (λ (m : Module). EndsRun locals m.globals os one.0) (sym same) run, one.2)

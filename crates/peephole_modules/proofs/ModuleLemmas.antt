@@ -1,19 +1,14 @@
 -- The code entries of a module, one after another, and the module.
-use Rattle.std.proofs.Common.{◌≡◌, inl, inr, ℕ, ◌+◌, ◌-◌, ◌<◌, ◌≤◌, List, length, Option, Some, None, Result, Ok, Err, sym, subst, arith}
-use Rattle.std.specs.Prelude.{IfOk, IfSome}
+use Rattle.std.proofs.Common.{◌≡◌, inl, inr, ℕ, ◌+◌, ◌-◌, ◌<◌, ◌≤◌, List, length, Option, Some, None, sym, subst, arith}
+use Rattle.std.specs.Prelude.{IfSome}
 use Rattle.std.proofs.lemmas.Bool.{cases_eq, cases_lt}
 use Rattle.mutate_base.specs.Module.{Module}
 use Rattle.wasm_module.specs.Module.{Layout, IsModule}
 use Rattle.peephole_rules.specs.declared.rule.Rule.{Rule}
-use Rattle.peephole_rewrites.specs.declared.rewrite.Rewrite.{Rewrite}
-use Rattle.peephole_modules.specs.Mutated.{CannotMutate, HasNoMutation, IsChosen, IsMutated, MutatesOne}
-
--- what an answer of some says
-pub some_map : {X E : Type 0} {P Q : X → Type 0} (r : Result (Option X) E) → ((x : X) → P x → Q x) → IfOk r (λ o. IfSome o P) →
-    IfOk r (λ o. IfSome o Q)
-some_map (Ok None) f h = h
-some_map (Ok (Some x)) f h = f x h
-some_map (Err e) f h = h
+use Rattle.peephole_rewrites.specs.declared.rewrite.Rewrite.{Rewrite as MadeRewrite}
+use Rattle.peephole_modules.specs.Mutated.{CannotMutate, HasNoMutation, IsChosen, IsMutated, MutatesOne, RefusesChosenEntry, RefusesEntry, RefusesMutation}
+use Rattle.peephole_modules.specs.declared.mutation.MutationError.{MutationError}
+use Rattle.peephole_modules.specs.declared.mutation.MutationError.TheVariants.{Read, Rewrite, Write}
 
 -- ---- no rule applies in some of the entries
 
@@ -53,10 +48,54 @@ none_at rules bytes (Some info) layout function imported k is at here = λ n ins
     let same : k ≡ n = omega (arith, is, at, e) in
     subst (λ m. HasNoMutation rules bytes info layout m) same here
 
+-- ---- one of the entries is refused
+
+-- one from `from` on, before `to`
+abbrev pub RefusesWithin : (rules : List Rule) (bytes : List ℕ) (layout : Layout) (from to : ℕ) → MutationError → Module → Type 0
+RefusesWithin rules bytes layout from to e info = (n : ℕ) × (from ≤ n) × (n < to) × RefusesEntry rules bytes info layout n e
+
 -- ---- the module
 
+refuses : (rules : List Rule) (only : Option ℕ) (bytes : List ℕ) (e : MutationError) → RefusesChosenEntry rules only bytes e →
+    RefusesMutation rules only bytes e
+refuses rules only bytes (Read fault) h = absurd h.refuses
+refuses rules only bytes (Rewrite error) h = h
+refuses rules only bytes (Write error) h = h
+
+pub refuses_any : (rules : List Rule) (only : Option ℕ) (bytes : List ℕ) (under : Option Module) (info : Module) (layout : Layout) → only ≡ None →
+    under ≡ Some info → IsModule bytes info layout → (e : MutationError) →
+    IfSome under (λ i. (n : ℕ) × (n < length layout.entries) × RefusesEntry rules bytes i layout n e) → RefusesMutation rules only bytes e
+refuses_any rules only bytes under info layout any is known e h =
+    let one = subst (λ (u : Option Module). IfSome u (λ i. (n : ℕ) × (n < length layout.entries) × RefusesEntry rules bytes i layout n e)) is h in
+    refuses rules only bytes e (record {
+      info = info;
+      layout = layout;
+      is = known;
+      n = one.0;
+      inside = one.1;
+      chosen = subst (λ (o : Option ℕ). IsChosen o (layout.imported_functions + one.0)) (sym any) tt;
+      refuses = one.2;
+    })
+
+pub refuses_one : (rules : List Rule) (only : Option ℕ) (bytes : List ℕ) (under : Option Module) (info : Module) (layout : Layout) (named : ℕ) →
+    only ≡ Some named → under ≡ Some info → IsModule bytes info layout → (e : MutationError) →
+    IfSome under (λ i. (n : ℕ) × (n < length layout.entries) × (layout.imported_functions + n ≡ named) × RefusesEntry rules bytes i layout n e) →
+    RefusesMutation rules only bytes e
+refuses_one rules only bytes under info layout named one is known e h =
+    let at = subst (λ (u : Option Module). IfSome u (λ i. (n : ℕ) × (n < length layout.entries) × (layout.imported_functions + n ≡ named)
+    × RefusesEntry rules bytes i layout n e)) is h in
+    refuses rules only bytes e (record {
+      info = info;
+      layout = layout;
+      is = known;
+      n = at.0;
+      inside = at.1;
+      chosen = subst (λ (o : Option ℕ). IsChosen o (layout.imported_functions + at.0)) (sym one) at.2;
+      refuses = at.3;
+    })
+
 pub mutated_any : (rules : List Rule) (only : Option ℕ) (bytes : List ℕ) (under : Option Module) (info : Module) (layout : Layout) → only ≡ None →
-    under ≡ Some info → IsModule bytes info layout → (function : ℕ) (rewrite : Rewrite) (new : List ℕ) →
+    under ≡ Some info → IsModule bytes info layout → (function : ℕ) (rewrite : MadeRewrite) (new : List ℕ) →
     IfSome under (λ i. MutatesOne rules bytes i layout function rewrite new) → IsMutated rules only bytes function rewrite new
 mutated_any rules only bytes under info layout any is known function rewrite new h = record {
   info = info;
@@ -67,7 +106,7 @@ mutated_any rules only bytes under info layout any is known function rewrite new
 }
 
 pub mutated_one : (rules : List Rule) (only : Option ℕ) (bytes : List ℕ) (under : Option Module) (info : Module) (layout : Layout) (named : ℕ) →
-    only ≡ Some named → under ≡ Some info → IsModule bytes info layout → (function : ℕ) (rewrite : Rewrite) (new : List ℕ) →
+    only ≡ Some named → under ≡ Some info → IsModule bytes info layout → (function : ℕ) (rewrite : MadeRewrite) (new : List ℕ) →
     IfSome under (λ i. (function ≡ named) × MutatesOne rules bytes i layout function rewrite new) → IsMutated rules only bytes function rewrite new
 mutated_one rules only bytes under info layout named one is known function rewrite new h =
     let both = subst (λ (u : Option Module). IfSome u (λ i. (function ≡ named) × MutatesOne rules bytes i layout function rewrite new)) is h in

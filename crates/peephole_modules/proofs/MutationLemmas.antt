@@ -8,7 +8,7 @@ use Rattle.mutate_base.specs.Module.{Module}
 use Rattle.mutate_base.specs.declared.error.Error.{Error}
 use Rattle.mutate_base.specs.declared.types.PrimitiveTypeInfo.{PrimitiveTypeInfo}
 use Rattle.wasm_declarations.specs.declared.entries.Entry.{Entry}
-use Rattle.wasm_module.specs.Module.{Layout, IsModule}
+use Rattle.wasm_module.specs.Module.{Layout}
 use Rattle.wasm_module.specs.Inside.{IsInside}
 use Rattle.wasm_module.specs.Limits.{IsTooLarge}
 use Rattle.wasm_module.specs.Rewritten.{IsRewritten}
@@ -21,7 +21,8 @@ use Rattle.peephole_rules.specs.declared.rule.Rule.{Rule}
 use Rattle.peephole_rewrites.specs.declared.rewrite.Rewrite.{Rewrite}
 use Rattle.peephole_modules.specs.Body.{AppendsInBody, HasNoRewrites, RefusesInBody}
 use Rattle.peephole_modules.specs.Function.{IsFunction}
-use Rattle.peephole_modules.specs.Mutated.{HasNoMutation, IsBehindLocals, MutatesEntry, RefusesEntry, RefusesWriting, requested}
+use Rattle.peephole_modules.specs.Mutated.{HasNoMutation, IsBehindLocals, MutatesEntry, RefusesEntry, RefusesFunction, requested}
+use Rattle.peephole_modules.specs.declared.mutation.MutationError.TheVariants.{Write}
 use Rattle.peephole_modules.specs.Runs.{EndsRun}
 
 abbrev Types : Type 0
@@ -91,27 +92,19 @@ nothing_here rules bytes info layout n locals lent operators given preserving is
 
 -- ---- refusals
 
-pub refuses_entry : (bytes : List ℕ) (info : Module) (layout : Layout) (n : ℕ) (locals lent : Types) (expression : ℕ) (operators given : Operators)
-    (preserving : Bool) (e : Error) → IsModule bytes info layout → IsFunction bytes info layout n locals expression operators → preserving ≡ true →
-    lent ≡ locals → given ≡ operators → RefusesInBody lent info preserving bytes given e →
-    (i : Module) × ((l : Layout) × IsModule bytes i l × RefusesEntry bytes i l e)
-refuses_entry bytes info layout n locals lent expression operators given preserving e known f is lent_is given_is refused = (
-  info,
-  (
-    layout,
-    known,
-    record {
-      n = n;
-      locals = locals;
-      expression = expression;
-      operators = operators;
-      function = f;
-      refused = subst (λ (p : Bool). RefusesInBody locals info p bytes operators e) is
-          (subst (λ (ts : Types). RefusesInBody ts info preserving bytes operators e) lent_is
-          (subst (λ (os : Operators). RefusesInBody lent info preserving bytes os e) given_is refused));
-    },
-  ),
-)
+pub refuses_function : (rules : List Rule) (bytes : List ℕ) (info : Module) (layout : Layout) (n : ℕ) (locals lent : Types) (expression : ℕ)
+    (operators given : Operators) (preserving : Bool) (e : Error) → IsFunction bytes info layout n locals expression operators →
+    preserving ≡ true → lent ≡ locals → given ≡ operators → RefusesInBody lent info preserving rules bytes given e →
+    RefusesFunction rules bytes info layout n e
+refuses_function rules bytes info layout n locals lent expression operators given preserving e f is lent_is given_is refused = record {
+  locals = locals;
+  expression = expression;
+  operators = operators;
+  function = f;
+  refused = subst (λ (p : Bool). RefusesInBody locals info p rules bytes operators e) is
+      (subst (λ (ts : Types). RefusesInBody ts info preserving rules bytes operators e) lent_is
+      (subst (λ (os : Operators). RefusesInBody lent info preserving rules bytes os e) given_is refused));
+}
 
 -- ---- the new module
 
@@ -147,39 +140,32 @@ mutates rules bytes info layout n locals lent expression operators given preserv
 -- the same where it doesn't fit
 pub refuses_writing : (rules : List Rule) (bytes : List ℕ) (info : Module) (layout : Layout) (n : ℕ) (locals lent : Types) (expression : ℕ)
     (operators given : Operators) (preserving : Bool) (entry : Entry) (rewrite : Rewrite) (old body : List ℕ) (requests : List ResourceRequest)
-    (left : Option Setting) (front written : List ℕ) (globals : Types) (e : WriteError) → IsModule bytes info layout →
+    (left : Option Setting) (front written : List ℕ) (globals : Types) (e : WriteError) →
     IsFunction bytes info layout n locals expression operators → preserving ≡ true → lent ≡ locals → given ≡ operators → old ≡ [] →
     AppendsInBody lent info preserving rules bytes given rewrite old body requests left → slice_get layout.entries n ≡ Some entry →
     front ≡ slice_range bytes entry.contents expression → written ≡ body → globals ≡ map requested requests →
-    (e ≡ TooLarge → IsTooLarge bytes layout n (front ++ written) globals) → RefusesWriting rules bytes e
+    (e ≡ TooLarge → IsTooLarge bytes layout n (front ++ written) globals) → RefusesEntry rules bytes info layout n (Write e)
 refuses_writing rules bytes info layout n locals lent expression operators given preserving entry rewrite old body requests left front written globals
-    Memory known f is lent_is given_is empty appended at front_is written_is globals_are large = tt
+    Memory f is lent_is given_is empty appended at front_is written_is globals_are large = tt
 refuses_writing rules bytes info layout n locals lent expression operators given preserving entry rewrite old body requests left front written globals
-    TooLarge known f is lent_is given_is empty appended at front_is written_is globals_are large =
+    TooLarge f is lent_is given_is empty appended at front_is written_is globals_are large =
     let same : entry ≡ f.entry = same_Some _ _ (sym at ∙ f.is.at) in
     let start : front ≡ slice_range bytes f.entry.contents expression =
-    front_is ∙ ap (λ (e : Entry). slice_range bytes e.contents expression) same in (
-      info,
-      (
-        layout,
-        known,
-        record {
-          n = n;
-          locals = locals;
-          expression = expression;
-          operators = operators;
-          function = f;
-          rewrite = rewrite;
-          body = body;
-          requests = requests;
-          left = left;
-          rewritten = subst (λ (p : Bool). AppendsInBody locals info p rules bytes operators rewrite [] body requests left) is
-              (subst (λ (ts : Types). AppendsInBody ts info preserving rules bytes operators rewrite [] body requests left) lent_is
-              (subst (λ (os : Operators). AppendsInBody lent info preserving rules bytes os rewrite [] body requests left) given_is
-              (subst (λ (o : List ℕ). AppendsInBody lent info preserving rules bytes given rewrite o body requests left) empty appended)));
-          large = subst (λ (gs : Types). IsTooLarge bytes layout n (slice_range bytes f.entry.contents expression ++ body) gs) globals_are
-              (subst (λ (b : List ℕ). IsTooLarge bytes layout n (slice_range bytes f.entry.contents expression ++ b) globals) written_is
-              (subst (λ (a : List ℕ). IsTooLarge bytes layout n (a ++ written) globals) start (large refl)));
-        },
-      ),
-    )
+    front_is ∙ ap (λ (e : Entry). slice_range bytes e.contents expression) same in
+    record {
+      locals = locals;
+      expression = expression;
+      operators = operators;
+      function = f;
+      rewrite = rewrite;
+      body = body;
+      requests = requests;
+      left = left;
+      rewritten = subst (λ (p : Bool). AppendsInBody locals info p rules bytes operators rewrite [] body requests left) is
+          (subst (λ (ts : Types). AppendsInBody ts info preserving rules bytes operators rewrite [] body requests left) lent_is
+          (subst (λ (os : Operators). AppendsInBody lent info preserving rules bytes os rewrite [] body requests left) given_is
+          (subst (λ (o : List ℕ). AppendsInBody lent info preserving rules bytes given rewrite o body requests left) empty appended)));
+      large = subst (λ (gs : Types). IsTooLarge bytes layout n (slice_range bytes f.entry.contents expression ++ body) gs) globals_are
+          (subst (λ (b : List ℕ). IsTooLarge bytes layout n (slice_range bytes f.entry.contents expression ++ b) globals) written_is
+          (subst (λ (a : List ℕ). IsTooLarge bytes layout n (a ++ written) globals) start (large refl)));
+    }

@@ -9,7 +9,6 @@ use Rattle.wasm_module.specs.Module.{Layout, IsModule}
 use Rattle.wasm_module.specs.Fault.{IsModuleFault}
 use Rattle.wasm_module.specs.Limits.{IsTooLarge}
 use Rattle.wasm_module.specs.Rewritten.{IsRewritten}
-use Rattle.wasm_sections.specs.declared.writing.WriteError.{WriteError}
 use Rattle.wasm_sections.specs.declared.writing.WriteError.TheVariants as writes
 use Rattle.peephole_terms.specs.declared.encoder.request.ResourceRequest.{ResourceRequest}
 use Rattle.peephole_terms.specs.declared.encoder.request.ResourceRequest.TheVariants as requests
@@ -75,18 +74,17 @@ pub record IsBehindLocals (bytes : List ℕ) (entry : Entry) (expression : ℕ) 
   pub behind : entry.contents ≤ expression
   pub ends : expression ≤ length bytes
 
--- a rewrite of a function's block is refused
-pub record RefusesEntry (bytes : List ℕ) (info : Module) (layout : Layout) (e : Rattle.mutate_base.specs.declared.error.Error.Error) : Type 0 where
-  pub n : ℕ
+-- a rewrite of the n-th code entry's function by one of the rules is refused
+pub record RefusesFunction (rules : List Rule) (bytes : List ℕ) (info : Module) (layout : Layout) (n : ℕ)
+    (e : Rattle.mutate_base.specs.declared.error.Error.Error) : Type 0 where
   pub locals : List PrimitiveTypeInfo
   pub expression : ℕ
   pub operators : List (Operator × ℕ)
   pub function : IsFunction bytes info layout n locals expression operators
-  pub refused : RefusesInBody locals info true bytes operators e
+  pub refused : RefusesInBody locals info true rules bytes operators e
 
--- a rewritten entry of the module, with the globals that it asks for, doesn't fit 32 bits
-pub record HasNoRoom (rules : List Rule) (bytes : List ℕ) (info : Module) (layout : Layout) : Type 0 where
-  pub n : ℕ
+-- the n-th code entry, rewritten by one of the rules, with the globals that it asks for doesn't fit 32 bits
+pub record HasNoRoom (rules : List Rule) (bytes : List ℕ) (info : Module) (layout : Layout) (n : ℕ) : Type 0 where
   pub locals : List PrimitiveTypeInfo
   pub expression : ℕ
   pub operators : List (Operator × ℕ)
@@ -98,14 +96,24 @@ pub record HasNoRoom (rules : List Rule) (bytes : List ℕ) (info : Module) (lay
   pub rewritten : AppendsInBody locals info true rules bytes operators rewrite [] body requests left
   pub large : IsTooLarge bytes layout n (slice_range bytes function.entry.contents expression ++ body) (map requested requests)
 
-abbrev pub RefusesWriting : List Rule → (bytes : List ℕ) → WriteError → Type 0
-RefusesWriting rules bytes writes.TooLarge =
-    (info : Module) × ((layout : Layout) × IsModule bytes info layout × HasNoRoom rules bytes info layout)
-RefusesWriting rules bytes writes.Memory = Unit {0}
+-- Why there is no module with the n-th code entry rewritten: a rewrite is refused, what it writes doesn't fit 32 bits, or for want of memory.
+abbrev pub RefusesEntry : List Rule → (bytes : List ℕ) → Module → Layout → (n : ℕ) → MutationError → Type 0
+RefusesEntry rules bytes info layout n (mutations.Read e) = ⊥
+RefusesEntry rules bytes info layout n (mutations.Rewrite e) = (e ≡ errors.Memory) ⊎ RefusesFunction rules bytes info layout n e
+RefusesEntry rules bytes info layout n (mutations.Write writes.TooLarge) = HasNoRoom rules bytes info layout n
+RefusesEntry rules bytes info layout n (mutations.Write writes.Memory) = Unit {0}
 
--- Why there is no new module: the bytes are none that can be read; a rewrite of a block is refused, or memory; or what a rewrite writes doesn't fit 32 bits.
-abbrev pub RefusesMutation : List Rule → (bytes : List ℕ) → MutationError → Type 0
-RefusesMutation rules bytes (mutations.Read e) = IsModuleFault bytes e.kind e.offset
-RefusesMutation rules bytes (mutations.Rewrite e) =
-    (e ≡ errors.Memory) ⊎ ((info : Module) × ((layout : Layout) × IsModule bytes info layout × RefusesEntry bytes info layout e))
-RefusesMutation rules bytes (mutations.Write e) = RefusesWriting rules bytes e
+-- The same of the bytes of a module, at a function that may be rewritten.
+pub record RefusesChosenEntry (rules : List Rule) (only : Option ℕ) (bytes : List ℕ) (e : MutationError) : Type 0 where
+  pub info : Module
+  pub layout : Layout
+  pub is : IsModule bytes info layout
+  pub n : ℕ
+  pub inside : n < length layout.entries
+  pub chosen : IsChosen only (layout.imported_functions + n)
+  pub refuses : RefusesEntry rules bytes info layout n e
+
+-- Why there is no new module: the bytes are none that can be read, or a code entry that may be rewritten is refused.
+abbrev pub RefusesMutation : List Rule → (only : Option ℕ) → (bytes : List ℕ) → MutationError → Type 0
+RefusesMutation rules only bytes (mutations.Read e) = IsModuleFault bytes e.kind e.offset
+RefusesMutation rules only bytes e = RefusesChosenEntry rules only bytes e

@@ -4,7 +4,7 @@ ghost use Rattle.mutate_base.specs.Config.{info_of, ChangesGeneratorAlone};
 ghost use Rattle.peephole_graphs.specs.Block.{BlockRange, IsBlockOf};
 ghost use Rattle.peephole_terms.specs.Expansion.{setting_of};
 ghost use Rattle.peephole_terms.specs.Written.{IsBodyIn};
-ghost use Rattle.peephole_modules.specs.Body.{AppendsInBody, HasNoRewrites, RefusesInBody};
+ghost use Rattle.peephole_modules.specs.Body.{AppendsInBlock, AppendsInBody, HasNoRewrites, RefusesInBlock, RefusesInBody};
 ghost use Rattle.peephole_modules.specs.Runs.{EndsRun};
 
 use crate::runs::integer_runs;
@@ -42,15 +42,16 @@ fn rewrite_run<R: Rng + Drop>(
     requires body { IsBodyIn input_wasm.now operators.now }
     requires inside { end < length operators.now }
     ensures rewritten { IfOk result (λ o. IfSome o (λ made. IfSome (info_of config.old) (λ info.
-        AppendsInBody locals.now info config.old.preserving rules.now input_wasm.now operators.now
-        made.rewrite newfunc.old newfunc.new made.requests.items
+        AppendsInBlock locals.now info config.old.preserving rules.now input_wasm.now operators.now
+        end made.rewrite newfunc.old newfunc.new made.requests.items
         (setting_of R.stream config.new)))) }
     ensures none { IfOk result (λ o. IfNone o (IfSome (info_of config.old) (λ info.
         HasNoRewrites locals.now info config.old.preserving rules.now operators.now end))) }
     ensures kept { IfOk result (λ o.
         IfNone o ((newfunc.new ≡ newfunc.old) × (config.new ≡ config.old))) }
     ensures refused { IfErr result (λ e. IfSome (info_of config.old) (λ info.
-        RefusesInBody locals.now info config.old.preserving input_wasm.now operators.now e)) }
+        RefusesInBlock locals.now info config.old.preserving rules.now input_wasm.now operators.now
+        end e)) }
     ensures restored { OnErr result (newfunc.new ≡ newfunc.old) }
     ensures unchanged { ChangesGeneratorAlone config.old config.new }
 {
@@ -77,16 +78,19 @@ fn rewrite_first<R: Rng + Drop>(
     requires body { IsBodyIn input_wasm.now operators.now }
     requires inside { (n : ℕ) → Contains ends.now n → n < length operators.now }
     ensures rewritten { IfOk result (λ o. IfSome o (λ made. IfSome (info_of config.old) (λ info.
-        AppendsInBody locals.now info config.old.preserving rules.now input_wasm.now operators.now
-        made.rewrite newfunc.old newfunc.new made.requests.items
+        (n : ℕ) × Contains ends.now n
+        × AppendsInBlock locals.now info config.old.preserving rules.now input_wasm.now
+        operators.now n made.rewrite newfunc.old newfunc.new made.requests.items
         (setting_of R.stream config.new)))) }
     ensures none { IfOk result (λ o. IfNone o (IfSome (info_of config.old) (λ info. (n : ℕ)
         → Contains ends.now n
         → HasNoRewrites locals.now info config.old.preserving rules.now operators.now n))) }
     ensures kept { IfOk result (λ o.
         IfNone o ((newfunc.new ≡ newfunc.old) × (config.new ≡ config.old))) }
-    ensures refused { IfErr result (λ e. IfSome (info_of config.old) (λ info.
-        RefusesInBody locals.now info config.old.preserving input_wasm.now operators.now e)) }
+    ensures refused { IfErr result (λ e. IfSome (info_of config.old) (λ info. (n : ℕ)
+        × Contains ends.now n
+        × RefusesInBlock locals.now info config.old.preserving rules.now input_wasm.now
+        operators.now n e)) }
     ensures restored { OnErr result (newfunc.new ≡ newfunc.old) }
     ensures unchanged { ChangesGeneratorAlone config.old config.new }
 {
@@ -121,7 +125,7 @@ pub fn rewrite_body_at_random<R: Rng + Drop>(
 ) -> Result<Option<Rewritten>, Error>
     requires set_up { IsTrue (is_some config.old.setup) }
     requires body { IsBodyIn input_wasm.now operators.now }
-    // The body with a node of a block's tree rewritten, and the block runs as before.
+    // The body with a node of a tree of an integer run's block rewritten, and the block runs as before.
     ensures rewritten { IfOk result (λ o. IfSome o (λ made. IfSome (info_of config.old) (λ info.
         AppendsInBody locals.now info config.old.preserving rules.now input_wasm.now operators.now
         made.rewrite newfunc.old newfunc.new made.requests.items
@@ -131,9 +135,10 @@ pub fn rewrite_body_at_random<R: Rng + Drop>(
         → EndsRun locals.now info.globals operators.now n
         → HasNoRewrites locals.now info config.old.preserving rules.now operators.now n))) }
     ensures kept { IfOk result (λ o. IfNone o (newfunc.new ≡ newfunc.old)) }
-    // Refused as a rewrite of one of its blocks is refused.
+    // Refused as a rewrite of an integer run's block is refused.
     ensures refused { IfErr result (λ e. IfSome (info_of config.old) (λ info.
-        RefusesInBody locals.now info config.old.preserving input_wasm.now operators.now e)) }
+        RefusesInBody locals.now info config.old.preserving rules.now input_wasm.now operators.now
+        e)) }
     ensures restored { OnErr result (newfunc.new ≡ newfunc.old) }
     ensures unchanged { ChangesGeneratorAlone config.old config.new }
 {

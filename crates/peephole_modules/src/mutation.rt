@@ -2,7 +2,7 @@
 ghost use Rattle.std.specs.Prelude.{◌≡◌, ◌<◌, ◌≤◌, ◌+◌, ℕ, true, length, map, slice_range, IfOk, IfErr, IfNone, IfSome, IsTrue, is_some};
 ghost use Rattle.mutate_base.specs.Config.{info_of, ChangesGeneratorAlone};
 ghost use Rattle.wasm_module.specs.Module.{IsModule};
-ghost use Rattle.peephole_modules.specs.Mutated.{CannotMutate, HasNoMutation, IsBehindLocals, IsMutated, MutatesEntry, MutatesOne, RefusesMutation, requested};
+ghost use Rattle.peephole_modules.specs.Mutated.{CannotMutate, HasNoMutation, IsBehindLocals, IsMutated, MutatesEntry, MutatesOne, RefusesEntry, RefusesMutation, requested};
 
 use crate::body::{choose_below, rewrite_body_at_random};
 use crate::function::{entry_at, function_index, read_function};
@@ -96,7 +96,8 @@ fn mutate_entry<R: Rng + Drop>(
         × MutatesEntry rules.now bytes.now info layout.now n m.rewrite m.bytes.items))) }
     ensures none { IfOk result (λ o. IfNone o (IfSome (info_of config.old) (λ info.
         HasNoMutation rules.now bytes.now info layout.now n))) }
-    ensures refused { IfErr result (RefusesMutation rules.now bytes.now) }
+    ensures refused { IfErr result (λ e. IfSome (info_of config.old) (λ info.
+        RefusesEntry rules.now bytes.now info layout.now n e)) }
     ensures unchanged { ChangesGeneratorAlone config.old config.new }
 {
     entries_are_inside();
@@ -153,7 +154,8 @@ fn mutate_first<R: Rng + Drop>(
         MutatesOne rules.now bytes.now info layout.now m.function m.rewrite m.bytes.items))) }
     ensures none { IfOk result (λ o. IfNone o (IfSome (info_of config.old) (λ info. (n : ℕ)
         → from ≤ n → n < to → HasNoMutation rules.now bytes.now info layout.now n))) }
-    ensures refused { IfErr result (RefusesMutation rules.now bytes.now) }
+    ensures refused { IfErr result (λ e. IfSome (info_of config.old) (λ info. (n : ℕ)
+        × (from ≤ n) × (n < to) × RefusesEntry rules.now bytes.now info layout.now n e)) }
     ensures unchanged { ChangesGeneratorAlone config.old config.new }
 {
     for n in from..to {
@@ -181,7 +183,9 @@ fn mutate_any<R: Rng + Drop>(
         MutatesOne rules.now bytes.now info layout.now m.function m.rewrite m.bytes.items))) }
     ensures none { IfOk result (λ o. IfNone o (IfSome (info_of config.old) (λ info. (n : ℕ)
         → n < length layout.now.entries → HasNoMutation rules.now bytes.now info layout.now n))) }
-    ensures refused { IfErr result (RefusesMutation rules.now bytes.now) }
+    ensures refused { IfErr result (λ e. IfSome (info_of config.old) (λ info. (n : ℕ)
+        × (n < length layout.now.entries)
+        × RefusesEntry rules.now bytes.now info layout.now n e)) }
 {
     let count = layout.entries.len();
     if count == 0 {
@@ -214,7 +218,9 @@ fn mutate_function<R: Rng + Drop>(
     ensures none { IfOk result (λ o. IfNone o (IfSome (info_of config.old) (λ info. (n : ℕ)
         → n < length layout.now.entries → layout.now.imported_functions + n ≡ function
         → HasNoMutation rules.now bytes.now info layout.now n))) }
-    ensures refused { IfErr result (RefusesMutation rules.now bytes.now) }
+    ensures refused { IfErr result (λ e. IfSome (info_of config.old) (λ info. (n : ℕ)
+        × (n < length layout.now.entries) × (layout.now.imported_functions + n ≡ function)
+        × RefusesEntry rules.now bytes.now info layout.now n e)) }
 {
     let imported = layout.imported_functions;
     if function < imported {
@@ -252,8 +258,8 @@ pub fn mutate_module<R: Rng + Drop>(
         IsMutated rules.now only bytes.now m.function m.rewrite m.bytes.items)) }
     // None only where no rule applies.
     ensures none { IfOk result (λ o. IfNone o (CannotMutate rules.now only bytes.now)) }
-    // Refused only as the module can't be read, or as a rewrite or its writing is refused.
-    ensures refused { IfErr result (RefusesMutation rules.now bytes.now) }
+    // Refused only as the module can't be read, or as a rewrite of a function that may be rewritten is refused, or its writing.
+    ensures refused { IfErr result (RefusesMutation rules.now only bytes.now) }
 {
     let module = match read_module(alloc, bytes) {
         Ok(module) => module,

@@ -58,7 +58,8 @@ ends rules only count number bytes made new so some all = record {
 
 -- the module that the rewrites left is refused
 pub refused_next : (rules : List Rule) (only : Option ℕ) (count number : ℕ) (bytes : List ℕ) (made : List MadeRewrite) (last : List ℕ)
-    (e : MutationError) → SoFar rules only number bytes made last → number < count → RefusesMutation rules last e → RefusesMutations rules only count bytes e
+    (e : MutationError) → SoFar rules only number bytes made last → number < count → RefusesMutation rules only last e →
+    RefusesMutations rules only count bytes e
 refused_next rules only count number bytes made last e so below refused =
     inr (made, (last, omega (arith, so.number_is), so.each, refused))
 

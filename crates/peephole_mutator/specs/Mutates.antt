@@ -24,4 +24,4 @@ pub record Mutates (rules : List Rule) (only : Option ℕ) (count : ℕ) (bytes 
 abbrev pub RefusesMutations : List Rule → (only : Option ℕ) → (count : ℕ) → (bytes : List ℕ) → MutationError → Type 0
 RefusesMutations rules only count bytes e =
     (e ≡ Rewrite Memory)
-    ⊎ ((made : List MadeRewrite) × ((last : List ℕ) × (length made < count) × RewritesEach rules only bytes made last × RefusesMutation rules last e))
+    ⊎ ((made : List MadeRewrite) × ((last : List ℕ) × (length made < count) × RewritesEach rules only bytes made last × RefusesMutation rules only last e))

@@ -1,5 +1,5 @@
 -- A rewrite that was chosen can be made, by one of the rules, in the configuration that is left behind the choice.
-use Rattle.std.proofs.Common.{◌≡◌, ℕ, ◌⊎◌, inl, inr, List, [], Bool, Option, Some, None, refl, sym, subst, arith}
+use Rattle.std.proofs.Common.{◌≡◌, ℕ, ◌⊎◌, inl, inr, List, [], Bool, Option, Some, None, sym, subst, arith}
 use Rattle.std.specs.Prelude.{Contains, IfSome, option_map}
 use Rattle.rand_core.specs.Stream.{Stream}
 use Rattle.wasm_code.specs.declared.operator.Operator.{Operator}
@@ -17,11 +17,10 @@ use Rattle.peephole_graphs.specs.GraphOf.{IsRefused}
 use Rattle.peephole_graphs.specs.Source.{source_of}
 use Rattle.peephole_terms.specs.declared.encoder.request.ResourceRequest.{ResourceRequest}
 use Rattle.peephole_terms.specs.Expansion.{Setting}
-use Rattle.peephole_terms.specs.Written.{Site, site_at}
+use Rattle.peephole_terms.specs.Written.{Site, site_at, source_at}
 use Rattle.peephole_rules.specs.declared.rule.Rule.{Rule}
-use Rattle.peephole_rules.specs.declared.rule.Rule.TheVariants.{Commute}
 use Rattle.peephole_rewrites.specs.declared.rewrite.Rewrite.{Rewrite}
-use Rattle.peephole_rewrites.specs.Rewriting.{Makes, CannotRewrite, AppendsRewritten, AppendsChosen, RefusesRewrite, RefusesChosen}
+use Rattle.peephole_rewrites.specs.Rewriting.{Makes, AreTheRewrites, CannotRewrite, AppendsRewritten, AppendsChosen, RefusesRewrite, RefusesChosen}
 use Rattle.peephole_rewrites.specs.Making.{IsOrderedGraph, HasNoOrderedGraph, Grows, IsOfRoot, IsInRange}
 use Rattle.peephole_rewrites.proofs.RootLemmas.{rewritable}
 
@@ -98,34 +97,37 @@ chosen_appended stream (Some s) (Some t) locals rules old new site_of r was is_n
 )
 
 pub chosen_refused : {R : Type 0} (stream : R → Stream) (before after : Option (Setup Module R)) (locals : List PrimitiveTypeInfo)
-    (old new : Bool) (site_of : Rewrite → Site) (r : Rewrite) (e : Error) → info_in after ≡ info_in before → new ≡ old →
+    (rules : List Rule) (old new : Bool) (site_of : Rewrite → Site) (list : List Rewrite) (r : Rewrite) (e : Error) →
+    info_in after ≡ info_in before → new ≡ old → Contains rules r.rule →
+    IfSome (info_in before) (λ info. AreTheRewrites locals (source_at info old (site_of r)) rules list) → Contains list r →
     IfSome (set_up stream after) (λ s. RefusesRewrite locals s new (site_of r) r e) →
-    IfSome (info_in before) (λ info. RefusesChosen locals info old site_of e)
-chosen_refused stream None after locals old new site_of r e same mode w = tt
-chosen_refused stream (Some s) None locals old new site_of r e same mode w = absurd cc
-chosen_refused stream (Some s) (Some t) locals old new site_of r e same mode w = (
-  r,
-  (
-    record { info = t.info; stream = stream t.generator },
-    some_inj t.info s.info same,
-    subst (λ b. RefusesRewrite locals (record { info = t.info; stream = stream t.generator }) b (site_of r) r e) mode w,
-  ),
-)
+    IfSome (info_in before) (λ info. RefusesChosen locals info old rules site_of e)
+chosen_refused stream None after locals rules old new site_of list r e same mode rule all listed w = tt
+chosen_refused stream (Some s) None locals rules old new site_of list r e same mode rule all listed w = absurd cc
+chosen_refused stream (Some s) (Some t) locals rules old new site_of list r e same mode rule all listed w = inr (record {
+  rewrite = r;
+  rule = rule;
+  list = list;
+  list_is = all;
+  listed = listed;
+  setting = record { info = t.info; stream = stream t.generator };
+  info_is = some_inj t.info s.info same;
+  refused = subst (λ b. RefusesRewrite locals (record { info = t.info; stream = stream t.generator }) b (site_of r) r e) mode w;
+})
 
 -- the block's graph is refused whatever is rewritten
-pub graph_refused : {R : Type 0} (stream : R → Stream) (setup : Option (Setup Module R)) (locals : List PrimitiveTypeInfo) (preserving : Bool)
+pub graph_refused : {R : Type 0} (setup : Option (Setup Module R)) (locals : List PrimitiveTypeInfo) (preserving : Bool) (rules : List Rule)
     (input : List ℕ) (operators : List (Operator × ℕ)) (block : BlockRange) (e : Error) →
     IfSome (info_in setup) (λ info. IsRefused (source_of info preserving operators block) e) →
-    IfSome (info_in setup) (λ info. RefusesChosen locals info preserving (λ r. site_at input operators block r.insertion_point) e)
-graph_refused stream None locals preserving input operators block e h = tt
-graph_refused stream (Some s) locals preserving input operators block e h =
-    (record { insertion_point = 0; node = 0; rule = Commute }, (record { info = s.info; stream = stream s.generator }, refl, inl h))
+    IfSome (info_in setup) (λ info. RefusesChosen locals info preserving rules (λ r. site_at input operators block r.insertion_point) e)
+graph_refused None locals preserving rules input operators block e h = tt
+graph_refused (Some s) locals preserving rules input operators block e h = inl (λ r. h)
 
-pub memory_refused : {R : Type 0} (stream : R → Stream) (setup : Option (Setup Module R)) (locals : List PrimitiveTypeInfo) (preserving : Bool)
+pub memory_refused : {R : Type 0} (setup : Option (Setup Module R)) (locals : List PrimitiveTypeInfo) (preserving : Bool) (rules : List Rule)
     (input : List ℕ) (operators : List (Operator × ℕ)) (block : BlockRange) (e : Error) → e ≡ Memory →
-    IfSome (info_in setup) (λ info. RefusesChosen locals info preserving (λ r. site_at input operators block r.insertion_point) e)
-memory_refused {R = R} stream setup locals preserving input operators block e is =
-    graph_refused stream setup locals preserving input operators block e (wanting setup)
+    IfSome (info_in setup) (λ info. RefusesChosen locals info preserving rules (λ r. site_at input operators block r.insertion_point) e)
+memory_refused {R = R} setup locals preserving rules input operators block e is =
+    graph_refused setup locals preserving rules input operators block e (wanting setup)
   where
     wanting : (setup : Option (Setup Module R)) → IfSome (info_in setup) (λ info. IsRefused (source_of info preserving operators block) e)
     wanting None = tt

@@ -133,7 +133,19 @@ AppendsChosen locals info preserving rules site_of r old new requests left =
     Contains rules r.rule
     × ((s : Setting) × (s.info ≡ info) × AppendsRewritten locals s preserving (site_of r) r old new requests left)
 
--- Why none was written: as that of one of them is refused.
-abbrev pub RefusesChosen : (locals : List PrimitiveTypeInfo) → Module → (preserving : Bool) → (Rewrite → Site) → Error → Type 0
-RefusesChosen locals info preserving site_of e =
-    (r : Rewrite) × ((s : Setting) × (s.info ≡ info) × RefusesRewrite locals s preserving (site_of r) r e)
+-- A rewrite is refused that was chosen among all that there are of its block: it is by one of the rules, and the generator stands behind the choice.
+pub record RefusesListed (locals : List PrimitiveTypeInfo) (info : Module) (preserving : Bool) (rules : List Rule) (site_of : Rewrite → Site)
+    (e : Error) : Type 0 where
+  pub rewrite : Rewrite
+  pub rule : Contains rules rewrite.rule
+  pub list : List Rewrite
+  pub list_is : AreTheRewrites locals (source_at info preserving (site_of rewrite)) rules list
+  pub listed : Contains list rewrite
+  pub setting : Setting
+  pub info_is : setting.info ≡ info
+  pub refused : RefusesRewrite locals setting preserving (site_of rewrite) rewrite e
+
+-- Why none was written: the block's graph is refused, whichever would be chosen, or the one that was chosen is.
+abbrev pub RefusesChosen : (locals : List PrimitiveTypeInfo) → Module → (preserving : Bool) → List Rule → (Rewrite → Site) → Error → Type 0
+RefusesChosen locals info preserving rules site_of e =
+    ((r : Rewrite) → IsRefused (source_at info preserving (site_of r)) e) ⊎ RefusesListed locals info preserving rules site_of e

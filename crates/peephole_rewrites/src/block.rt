@@ -181,7 +181,7 @@ pub fn rewrite_block_at_random<R: Rng + Drop>(
     ensures kept { IfOk result (λ o.
         IfNone o ((newfunc.new ≡ newfunc.old) × (config.new ≡ config.old))) }
     ensures refused { IfErr result (λ e. IfSome (info_of config.old) (λ info.
-        RefusesChosen locals.now info config.old.preserving
+        RefusesChosen locals.now info config.old.preserving rules.now
         (λ r. site_at input_wasm.now operators.now block.now r.insertion_point) e)) }
     ensures restored { OnErr result (newfunc.new ≡ newfunc.old) }
     ensures unchanged { ChangesGeneratorAlone config.old config.new }

@@ -1,11 +1,30 @@
 use Rattle.std.proofs.Common.{◌≡◌, Option, length, ap, subst, ◌∙◌, arith}
+use Rattle.std.specs.Prelude.{IfSome}
 use Rattle.std.proofs.lemmas.Grind.{common_steps}
 use Rattle.mutate_base.specs.Config.{info_of}
 use Rattle.mutate_base.specs.Module.{Module}
 use Rattle.wasm_module.specs.Module.{Layout}
-use Rattle.peephole_modules.proofs.BodyLemmas.{none_map}
-use Rattle.peephole_modules.proofs.ModuleLemmas.{NoneWithin, none_in_all}
+use Rattle.peephole_modules.proofs.BodyLemmas.{err_map, none_map, under_map}
+use Rattle.peephole_modules.proofs.ModuleLemmas.{NoneWithin, RefusesWithin, none_in_all}
 use Rattle.peephole_modules.proofs.mutation.mutate_any.Goals as goal
+
+pub returns-in-Err-clause-refused : goal.returns-in-Err-clause-refused
+returns-in-Err-clause-refused g c =
+    let sized : c.len-count.result ≡ length c.layout.inside.entries.items = grind (arith, common_steps) in
+    let counted = sized ∙ ap (λ (l : Layout). length l.entries) c.layout.view_is in
+    under_map (info_of c.args.config.now) (λ info h. (h.0, omega (arith, counted, h.2), h.3))
+    (subst (λ (u : Option Module). IfSome u (RefusesWithin c.args.rules.now c.args.bytes.now c.args.layout.now c.choose_below-first.result
+    c.len-count.result c.in-Err.e)) (c.choose_below-first.ensures.unchanged.1).0 c.in-Err.ensures.refused)
+
+pub returns-clause-refused : goal.returns-clause-refused
+returns-clause-refused g c =
+    let sized : c.len-count.result ≡ length c.layout.inside.entries.items = grind (arith, common_steps) in
+    let counted = sized ∙ ap (λ (l : Layout). length l.entries) c.layout.view_is in
+    let below = c.choose_below-first.ensures.below in
+    err_map c.mutate_first-2.result (λ e refused.
+    under_map (info_of c.args.config.now) (λ info h. (h.0, omega (arith, counted, below, h.2), h.3))
+    (subst (λ (u : Option Module). IfSome u (RefusesWithin c.args.rules.now c.args.bytes.now c.args.layout.now 0 c.choose_below-first.result e))
+    ((c.mutate_first.ensures.unchanged.1).0 ∙ (c.choose_below-first.ensures.unchanged.1).0) refused)) c.mutate_first-2.ensures.refused
 
 pub returns-clause-none : goal.returns-clause-none
 returns-clause-none g c =

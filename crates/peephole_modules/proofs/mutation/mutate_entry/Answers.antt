@@ -1,12 +1,20 @@
 -- At the module that was lent.
-use Rattle.std.proofs.Common.{Err, ◌≡◌, ◌+◌, inr, ap, ◌∙◌}
+use Rattle.std.proofs.Common.{Err, ◌≡◌, ◌+◌, inl, inr, ap, refl, ◌∙◌}
 use Rattle.std.specs.Prelude.{map}
+use Rattle.std.proofs.lemmas.Result.{err_from_is_err_and}
 use Rattle.mutate_base.specs.Config.{info_of}
+use Rattle.mutate_base.specs.declared.error.Error.TheVariants as errors
 use Rattle.peephole_terms.specs.Expansion.{setting_of}
 use Rattle.wasm_module.specs.Module.{IsModule}
-use Rattle.peephole_modules.specs.Mutated.{HasNoMutation, MutatesEntry, requested}
-use Rattle.peephole_modules.proofs.MutationLemmas.{behind_locals, body_in, lent_under, mutates, nothing_here, refuses_entry, refuses_writing, under_lent}
+use Rattle.peephole_modules.specs.Mutated.{HasNoMutation, MutatesEntry, RefusesEntry, requested}
+use Rattle.peephole_modules.specs.declared.mutation.MutationError.TheVariants.{Rewrite, Write}
+use Rattle.peephole_modules.proofs.MutationLemmas.{behind_locals, body_in, lent_under, mutates, nothing_here, refuses_function, refuses_writing, under_lent}
 use Rattle.peephole_modules.proofs.mutation.mutate_entry.Goals as goal
+
+pub returns-then-is_memory-clause-refused : goal.returns-then-is_memory-clause-refused
+returns-then-is_memory-clause-refused g c =
+    under_lent (λ info. RefusesEntry c.args.rules.now c.args.bytes.now info c.args.layout.now c.args.n (Rewrite errors.Memory))
+    (info_of c.args.config.now) c.info.result.now c.info.ensures (inl refl)
 
 pub returns-in-Err-clause-none : goal.returns-in-Err-clause-none
 returns-in-Err-clause-none g c =
@@ -37,12 +45,19 @@ returns-in-Ok-None-clause-none g c =
 pub returns-in-Err-rewrite_body_at_random-clause-refused :
     goal.returns-in-Err-rewrite_body_at_random-clause-refused
 returns-in-Err-rewrite_body_at_random-clause-refused g c =
-    let known = lent_under (λ info. IsModule c.args.bytes.now info c.args.layout.now) (info_of c.args.config.now) c.info.result.now c.info.ensures
-    c.requires.module in
-    inr (refuses_entry c.args.bytes.now c.info.result.now c.args.layout.now c.args.n c.in-Ok.function.locals.items c.deref.result.now
-    c.in-Ok.function.expression c.in-Ok.function.operators.items c.deref-2.result.now c.args.config.now.preserving
-    c.in-Err-rewrite_body_at_random.e known c.in-Ok.ensures.read c.requires.preserving c.deref.ensures.value c.deref-2.ensures.value
-    (rw c.info.ensures at c.in-Err-rewrite_body_at_random.ensures.refused))
+    under_lent (λ info. RefusesEntry c.args.rules.now c.args.bytes.now info c.args.layout.now c.args.n (Rewrite c.in-Err-rewrite_body_at_random.e))
+    (info_of c.args.config.now) c.info.result.now c.info.ensures
+    (inr (refuses_function c.args.rules.now c.args.bytes.now c.info.result.now c.args.layout.now c.args.n c.in-Ok.function.locals.items
+    c.deref.result.now c.in-Ok.function.expression c.in-Ok.function.operators.items c.deref-2.result.now c.args.config.now.preserving
+    c.in-Err-rewrite_body_at_random.e c.in-Ok.ensures.read c.requires.preserving c.deref.ensures.value c.deref-2.ensures.value
+    (rw c.info.ensures at c.in-Err-rewrite_body_at_random.ensures.refused)))
+
+pub returns-in_err-globals-clause-refused : goal.returns-in_err-globals-clause-refused
+returns-in_err-globals-clause-refused g c =
+    let p = err_from_is_err_and c.from_residual.result c.from_residual.ensures.1 in
+    rw (p.1 ∙ ap (λ x. Err x) p.2)
+    (under_lent (λ info. RefusesEntry c.args.rules.now c.args.bytes.now info c.args.layout.now c.args.n (Rewrite errors.Memory))
+    (info_of c.args.config.now) c.info.result.now c.info.ensures (inl refl))
 
 pub locals_of-locals-requires : goal.locals_of-locals-requires
 locals_of-locals-requires g c =
@@ -71,13 +86,13 @@ returns-in-Ok-with_body-clause-mutated g c =
 
 pub returns-clause-refused : goal.returns-clause-refused
 returns-clause-refused g c =
-    let known = lent_under (λ info. IsModule c.args.bytes.now info c.args.layout.now) (info_of c.args.config.now) c.info.result.now c.info.ensures
-    c.requires.module in
-    refuses_writing c.args.rules.now c.args.bytes.now c.info.result.now c.args.layout.now c.args.n c.in-Ok.function.locals.items c.deref.result.now
+    under_lent (λ info. RefusesEntry c.args.rules.now c.args.bytes.now info c.args.layout.now c.args.n (Write c.in-Err-with_body.e))
+    (info_of c.args.config.now) c.info.result.now c.info.ensures
+    (refuses_writing c.args.rules.now c.args.bytes.now c.info.result.now c.args.layout.now c.args.n c.in-Ok.function.locals.items c.deref.result.now
     c.in-Ok.function.expression c.in-Ok.function.operators.items c.deref-2.result.now c.args.config.now.preserving c.entry_at.result
     c.in-Ok-Some.made.rewrite c.new-body.result c.rewrite_body_at_random.new.newfunc c.in-Ok-Some.made.requests.items
     (setting_of g.R.Rng.stream c.rewrite_body_at_random.new.config) c.locals_of-locals.result.now c.bytes.result.now c.deref-4.result.now
-    c.in-Err-with_body.e known c.in-Ok.ensures.read c.requires.preserving c.deref.ensures.value c.deref-2.ensures.value c.new-body.ensures
+    c.in-Err-with_body.e c.in-Ok.ensures.read c.requires.preserving c.deref.ensures.value c.deref-2.ensures.value c.new-body.ensures
     (rw c.info.ensures at (rw c.in-Ok-Some.field-0-is at c.in-Ok-Some.ensures.rewritten)) c.entry_at.ensures c.locals_of-locals.ensures
     c.bytes.ensures (c.deref-4.ensures.value ∙ c.in_ok-globals.ensures ∙ ap (map requested) c.deref-3.ensures.value)
-    (λ e. c.in-Err-with_body.ensures.too_large (ap (λ x. Err x) e))
+    (λ e. c.in-Err-with_body.ensures.too_large (ap (λ x. Err x) e)))

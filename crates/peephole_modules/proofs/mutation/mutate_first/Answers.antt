@@ -3,9 +3,16 @@ use Rattle.std.specs.Prelude.{IfSome}
 use Rattle.std.proofs.lemmas.Grind.{common_steps}
 use Rattle.mutate_base.specs.Config.{info_of}
 use Rattle.mutate_base.specs.Module.{Module}
-use Rattle.peephole_modules.specs.Mutated.{HasNoMutation}
+use Rattle.peephole_modules.specs.Mutated.{HasNoMutation, RefusesEntry}
+use Rattle.peephole_modules.proofs.BodyLemmas.{under_map}
 use Rattle.peephole_modules.proofs.ModuleLemmas.{none_next, none_to}
 use Rattle.peephole_modules.proofs.mutation.mutate_first.Goals as goal
+
+pub returns-in-Err-clause-refused : goal.returns-in-Err-clause-refused
+returns-in-Err-clause-refused g c =
+    under_map (info_of c.args.config.now) (λ info h. (c.loop-n.n, c.loop-n.auto.n, c.loop-n-test.true, h))
+    (subst (λ (u : Option Module). IfSome u (λ info. RefusesEntry c.args.rules.now c.args.bytes.now info c.args.layout.now c.loop-n.n c.in-Err.e))
+    c.loop-n.invariant.0.1.0 c.in-Err.ensures.refused)
 
 pub loop-n-preserved : goal.loop-n-preserved
 loop-n-preserved g c =

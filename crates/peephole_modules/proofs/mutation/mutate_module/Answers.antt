@@ -1,7 +1,7 @@
 use Rattle.std.proofs.Common.{◌≡◌, Some, refl}
 use Rattle.mutate_base.specs.Config.{info_of}
-use Rattle.peephole_modules.proofs.BodyLemmas.{none_map}
-use Rattle.peephole_modules.proofs.ModuleLemmas.{cannot_any, cannot_one, mutated_any, mutated_one, some_map}
+use Rattle.peephole_modules.proofs.BodyLemmas.{err_map, none_map, some_map}
+use Rattle.peephole_modules.proofs.ModuleLemmas.{cannot_any, cannot_one, mutated_any, mutated_one, refuses_any, refuses_one}
 use Rattle.peephole_modules.proofs.mutation.mutate_module.Goals as goal
 
 pub returns-in-None-clause-mutated : goal.returns-in-None-clause-mutated
@@ -18,6 +18,13 @@ returns-in-None-clause-none g c =
     (cannot_any c.args.rules.now c.args.only c.args.bytes.now (info_of c.set_up.new.self) c.in-Ok.module.info c.in-Ok.module.layout under
     c.in-Ok.ensures.read) c.mutate_any.ensures.none
 
+pub returns-in-None-clause-refused : goal.returns-in-None-clause-refused
+returns-in-None-clause-refused g c =
+    let under : info_of c.set_up.new.self ≡ Some c.in-Ok.module.info = rw c.set_up.ensures refl in
+    err_map c.mutate_any.result
+    (refuses_any c.args.rules.now c.args.only c.args.bytes.now (info_of c.set_up.new.self) c.in-Ok.module.info c.in-Ok.module.layout c.in-None.is
+    under c.in-Ok.ensures.read) c.mutate_any.ensures.refused
+
 pub returns-clause-mutated : goal.returns-clause-mutated
 returns-clause-mutated g c =
     let under : info_of c.set_up.new.self ≡ Some c.in-Ok.module.info = rw c.set_up.ensures refl in
@@ -31,3 +38,10 @@ returns-clause-none g c =
     none_map c.mutate_function.result
     (cannot_one c.args.rules.now c.args.only c.args.bytes.now (info_of c.set_up.new.self) c.in-Ok.module.info c.in-Ok.module.layout
     c.in-Some.function c.in-Some.is under c.in-Ok.ensures.read) c.mutate_function.ensures.none
+
+pub returns-clause-refused : goal.returns-clause-refused
+returns-clause-refused g c =
+    let under : info_of c.set_up.new.self ≡ Some c.in-Ok.module.info = rw c.set_up.ensures refl in
+    err_map c.mutate_function.result
+    (refuses_one c.args.rules.now c.args.only c.args.bytes.now (info_of c.set_up.new.self) c.in-Ok.module.info c.in-Ok.module.layout
+    c.in-Some.function c.in-Some.is under c.in-Ok.ensures.read) c.mutate_function.ensures.refused

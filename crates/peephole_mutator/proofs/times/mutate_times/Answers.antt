@@ -24,8 +24,8 @@ pub returns-in_err-next-clause-refused : goal.returns-in_err-next-clause-refused
 returns-in_err-next-clause-refused g c =
     let below : c.rewrites.counter < c.args.count = c.rewrites-test.true in
     let p = err_from_is_err_and c.from_residual-in_err-next.result c.from_residual-in_err-next.ensures.1 in
-    let refused : RefusesMutation c.args.rules.now c.rewrites.module.bytes.items c.in_err-next.field-0.0 =
-    subst (λ (b : List ℕ). RefusesMutation c.args.rules.now b c.in_err-next.field-0.0) c.deref.ensures.value c.in_err-next.ensures.refused in
+    let refused : RefusesMutation c.args.rules.now c.args.only c.rewrites.module.bytes.items c.in_err-next.field-0.0 =
+    subst (λ (b : List ℕ). RefusesMutation c.args.rules.now c.args.only b c.in_err-next.field-0.0) c.deref.ensures.value c.in_err-next.ensures.refused in
     passed_on c.args.rules.now c.args.only c.args.count c.args.bytes.now c.in_err-next.field-0.0 c.from_residual-in_err-next.result
     (p.1 ∙ ap (λ x. Err x) p.2)
     (refused_next c.args.rules.now c.args.only c.args.count c.rewrites.counter c.args.bytes.now c.rewrites.module.made.items c.rewrites.module.bytes.items

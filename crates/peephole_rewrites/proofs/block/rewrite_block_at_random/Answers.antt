@@ -18,15 +18,15 @@ pub returns-in_err-graph-clause-refused : goal.returns-in_err-graph-clause-refus
 returns-in_err-graph-clause-refused g c =
     let p = err_from_is_err_and c.from_residual.result c.from_residual.ensures.1 in
     rw (p.1 ∙ ap (λ x. Err x) p.2)
-    (graph_refused g.R.Rng.stream c.args.config.now.setup c.args.locals.now c.args.config.now.preserving c.args.input_wasm.now c.args.operators.now
-    c.args.block.now c.in_err-graph.field-0.0 c.in_err-graph.ensures.refused)
+    (graph_refused c.args.config.now.setup c.args.locals.now c.args.config.now.preserving c.args.rules.now c.args.input_wasm.now
+    c.args.operators.now c.args.block.now c.in_err-graph.field-0.0 c.in_err-graph.ensures.refused)
 
 pub returns-in_err-list-clause-refused : goal.returns-in_err-list-clause-refused
 returns-in_err-list-clause-refused g c =
     let p = err_from_is_err_and c.from_residual-in_err-list.result c.from_residual-in_err-list.ensures.1 in
     rw (p.1 ∙ ap (λ x. Err x) p.2)
-    (memory_refused g.R.Rng.stream c.args.config.now.setup c.args.locals.now c.args.config.now.preserving c.args.input_wasm.now c.args.operators.now
-    c.args.block.now c.in_err-list.field-0.0 c.in_err-list.ensures.refused)
+    (memory_refused c.args.config.now.setup c.args.locals.now c.args.config.now.preserving c.args.rules.now c.args.input_wasm.now
+    c.args.operators.now c.args.block.now c.in_err-list.field-0.0 c.in_err-list.ensures.refused)
 
 pub returns-in_default-choose-clause-none : goal.returns-in_default-choose-clause-none
 returns-in_default-choose-clause-none g c =
@@ -42,10 +42,19 @@ returns-in_default-choose-clause-none g c =
 pub returns-in_err-requests-clause-refused : goal.returns-in_err-requests-clause-refused
 returns-in_err-requests-clause-refused g c =
     let p = err_from_is_err_and c.from_residual-in_err-requests.result c.from_residual-in_err-requests.ensures.1 in
+    let h = rw c.in-Some-choose.is at c.choose.ensures.chosen in
+    let listed = subst (λ (list : List Rewrite). Contains list c.in-Some-choose.rewrite) c.deref.ensures.value h in
     rw (p.1 ∙ ap (λ x. Err x) p.2)
-    (chosen_refused g.R.Rng.stream c.args.config.now.setup c.choose.new.config.setup c.args.locals.now c.args.config.now.preserving
-    c.choose.new.config.preserving (λ (r : Rewrite). site_at c.args.input_wasm.now c.args.operators.now c.args.block.now r.insertion_point)
+    (chosen_refused g.R.Rng.stream c.args.config.now.setup c.choose.new.config.setup c.args.locals.now c.args.rules.now
+    c.args.config.now.preserving c.choose.new.config.preserving
+    (λ (r : Rewrite). site_at c.args.input_wasm.now c.args.operators.now c.args.block.now r.insertion_point) c.in_ok-list.list.items
     c.in-Some-choose.rewrite c.in_err-requests.field-0.0 (c.choose.ensures.unchanged.1).0 c.choose.ensures.unchanged.0
+    (rule_in_list c.args.locals.now c.info.result.now.globals c.args.rules.now (graph_of c.in-Some.graph) c.range-range.result.start
+    c.range-range.result.end c.in_ok-list.list.items c.in-Some-choose.rewrite c.in_ok-list.ensures.rewrites listed)
+    (block_rewrites c.entries_have_trees.ensures.own c.entries_have_trees.ensures.missing c.args.locals.now c.info.result.now
+    (info_of c.args.config.now) c.args.config.now.preserving c.args.operators.now c.args.block.now (graph_of c.in-Some.graph) c.args.rules.now
+    c.range-range.result.start c.range-range.result.end c.in_ok-list.list.items c.requires.block c.info.ensures c.range-range.ensures.start
+    c.range-range.ensures.end (rw c.in-Some.is at c.in_ok-graph.ensures.graph) c.in_ok-list.ensures.rewrites) listed
     c.in_err-requests.ensures.refused)
 
 pub unreachable-requires : goal.unreachable-requires
