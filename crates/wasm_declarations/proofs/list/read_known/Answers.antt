@@ -34,7 +34,7 @@ returns-in-None-2-clause-found g c =
 pub returns-then-is_unknown-clause-found : goal.returns-then-is_unknown-clause-found
 returns-then-is_unknown-clause-found g c =
     let runs = subst (λ (o : Option Refusal). RunsTo g.T.Item.at c.in-Ok.counted.0 c.in-Ok.counted.1.now c.each_of-items.result.0.items
-        c.each_of-items.result.1.now o) c.in-Some.is c.each_of-items.ensures.runs in
+    c.each_of-items.result.1.now o) c.in-Some.is c.each_of-items.ensures.runs in
     rw c.error_of-error.ensures (some_known g.T.Item.at c.args.start c.args.contents.now c.in-Ok.counted.1.now c.each_of-items.result.1.now
     c.in-Ok.counted.0 c.each_of-items.result.0.items c.in-Some.refusal c.in-Ok.ensures runs
     (c.is_unknown.ensures.0 c.if-is_unknown.true))
@@ -42,7 +42,7 @@ returns-then-is_unknown-clause-found g c =
 pub returns-else-is_unknown-clause-fault : goal.returns-else-is_unknown-clause-fault
 returns-else-is_unknown-clause-fault g c =
     let runs = subst (λ (o : Option Refusal). RunsTo g.T.Item.at c.in-Ok.counted.0 c.in-Ok.counted.1.now c.each_of-items.result.0.items
-        c.each_of-items.result.1.now o) c.in-Some.is c.each_of-items.ensures.runs in
+    c.each_of-items.result.1.now o) c.in-Some.is c.each_of-items.ensures.runs in
     rw c.error_of-error.ensures (none_known g.T.Item.at c.args.start c.args.contents.now c.in-Ok.counted.1.now c.each_of-items.result.1.now
     c.in-Ok.counted.0 c.each_of-items.result.0.items c.in-Some.refusal c.in-Ok.ensures runs
     (λ unknown. let yes = c.is_unknown.ensures.1 unknown in let no = c.if-is_unknown.false in absurd cc))
