@@ -1,5 +1,5 @@
 -- A mutated body is what the writer of rewritten blocks says of it, with the block that it was written from.
-use Rattle.std.proofs.Common.{◌≡◌, ℕ, inr, List, [], length, Bool, Option, Some, None, subst}
+use Rattle.std.proofs.Common.{◌≡◌, ℕ, inr, List, [], Bool, Option, Some, None, subst}
 use Rattle.std.specs.Prelude.{Result, Err, IfErr, IfSome}
 use Rattle.wasm_code.specs.declared.operator.Operator.{Operator}
 use Rattle.mutate_base.specs.Module.{Module}
@@ -48,12 +48,12 @@ module _ (locals : List PrimitiveTypeInfo) (preserving : Bool) (rules : List Rul
   }
 
   not_mutated : (under : Option Module) (e : Error) →
-      IfSome under (λ info. RefusesChosen locals info preserving (λ r. site_at bytes operators block r.insertion_point) e) →
-      IfSome under (λ info. IsNotMutated locals info preserving bytes point (Write e))
+      IfSome under (λ info. RefusesChosen locals info preserving rules (λ r. site_at bytes operators block r.insertion_point) e) →
+      IfSome under (λ info. IsNotMutated locals info preserving rules bytes point (Write e))
   not_mutated None e h = tt
   not_mutated (Some info) e h = (operators, (block, at.spelled, at.block_is, h))
 
   pub passed_on : {A : Type 0} (under : Option Module) (e : Error) (answer : Result A ReplaceError) → answer ≡ Err (Write e) →
-      IfSome under (λ info. RefusesChosen locals info preserving (λ r. site_at bytes operators block r.insertion_point) e) →
-      IfErr answer (λ x. IfSome under (λ info. IsNotMutated locals info preserving bytes point x))
+      IfSome under (λ info. RefusesChosen locals info preserving rules (λ r. site_at bytes operators block r.insertion_point) e) →
+      IfErr answer (λ x. IfSome under (λ info. IsNotMutated locals info preserving rules bytes point x))
   passed_on under e answer is h = rw is (not_mutated under e h)

@@ -37,8 +37,8 @@ pub record HasNothingToMutate (locals : List PrimitiveTypeInfo) (info : Module) 
       × AreTheRewrites locals (source_of info preserving operators block) rules []))
 
 -- Why there is no new body: the bytes are none, with their first fault, or a rewrite of the point's block is refused.
-abbrev pub IsNotMutated : (locals : List PrimitiveTypeInfo) → Module → (preserving : Bool) → List ℕ → (point : ℕ) → ReplaceError → Type 0
-IsNotMutated locals info preserving bytes point (Read fault) = IsFault 0 (length bytes) bytes fault.kind fault.offset
-IsNotMutated locals info preserving bytes point (Write e) =
+abbrev pub IsNotMutated : (locals : List PrimitiveTypeInfo) → Module → (preserving : Bool) → List Rule → List ℕ → (point : ℕ) → ReplaceError → Type 0
+IsNotMutated locals info preserving rules bytes point (Read fault) = IsFault 0 (length bytes) bytes fault.kind fault.offset
+IsNotMutated locals info preserving rules bytes point (Write e) =
     (operators : List (Operator × ℕ)) × ((block : BlockRange) × SpellsBody 0 bytes operators × IsBlockOf operators point block.start block.end
-    × RefusesChosen locals info preserving (λ r. site_at bytes operators block r.insertion_point) e)
+    × RefusesChosen locals info preserving rules (λ r. site_at bytes operators block r.insertion_point) e)

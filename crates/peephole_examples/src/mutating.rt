@@ -37,7 +37,7 @@ pub fn mutate<R: Rng + Drop>(
         HasNothingToMutate locals.now info config.old.preserving rules.now bytes.now point))) }
     // Refused only for the body's first fault, or as a rewrite is refused.
     ensures refused { IfErr result (λ e. IfSome (info_of config.old) (λ info.
-        IsNotMutated locals.now info config.old.preserving bytes.now point e)) }
+        IsNotMutated locals.now info config.old.preserving rules.now bytes.now point e)) }
     // Of the configuration the generator alone changes.
     ensures unchanged { ChangesGeneratorAlone config.old config.new }
 {
