@@ -1,7 +1,6 @@
 //! A body with a node of one of its blocks rewritten, chosen at random.
-ghost use Rattle.std.specs.Prelude.{◌≡◌, ◌<◌, ◌≤◌, ℕ, length, Contains, IfOk, IfErr, IfNone, IfSome, OnErr, IsTrue, is_some};
+ghost use Rattle.std.specs.Prelude.{◌≡◌, ◌<◌, ℕ, length, Contains, IfOk, IfErr, IfNone, IfSome, OnErr, IsTrue, is_some};
 ghost use Rattle.mutate_base.specs.Config.{info_of, ChangesGeneratorAlone};
-ghost use Rattle.peephole_graphs.specs.Block.{BlockRange, IsBlockOf};
 ghost use Rattle.peephole_terms.specs.Expansion.{setting_of};
 ghost use Rattle.peephole_terms.specs.Written.{IsBodyIn};
 ghost use Rattle.peephole_modules.specs.Body.{AppendsInBlock, AppendsInBody, HasNoRewrites, RefusesInBlock, RefusesInBody};

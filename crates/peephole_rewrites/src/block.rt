@@ -1,12 +1,12 @@
 //! A block with a node of one of its trees rewritten by a rule, written so that it runs as before.
-ghost use Rattle.std.specs.Prelude.{◌≡◌, ◌⊎◌, [], IfOk, IfErr, IfNone, IfSome, OnErr, IsTrue, is_some, Contains, Option, MatchResult};
+ghost use Rattle.std.specs.Prelude.{◌≡◌, [], IfOk, IfErr, IfNone, IfSome, OnErr, IsTrue, is_some, Contains, Option};
 ghost use Rattle.mutate_base.specs.Config.{info_of, ChangesGeneratorAlone};
 ghost use Rattle.mutate_base.specs.declared.error.Error.{Error};
 ghost use Rattle.peephole_lang.specs.declared.lang.Head.{Head};
 ghost use Rattle.peephole_lang.specs.Term.{Term};
 ghost use Rattle.peephole_graphs.specs.Dfg.{graph_of};
 ghost use Rattle.peephole_graphs.specs.Source.{source_of};
-ghost use Rattle.peephole_terms.specs.Expansion.{setting_of, Setting};
+ghost use Rattle.peephole_terms.specs.Expansion.{setting_of};
 ghost use Rattle.peephole_terms.specs.Written.{site_at, IsBodyIn, IsBlockIn};
 ghost use Rattle.peephole_rewrites.specs.Making.{IsOrderedGraph};
 ghost use Rattle.peephole_rewrites.specs.Rewriting.{AppendsRewritten, AppendsChosen, AreTheRewrites, CannotRewrite, Makes, RefusesChosen, RefusesRewrite};

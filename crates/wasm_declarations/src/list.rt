@@ -1,5 +1,5 @@
 //! Lists: the number of the items, and the items, one after another.
-ghost use Rattle.std.specs.Prelude.{◌≡◌, ◌↔◌, ◌≤◌, ◌+◌, ◌-◌, List, [], length, Ok, IfOk, IfErr, IsTrue};
+ghost use Rattle.std.specs.Prelude.{◌≡◌, ◌↔◌, ◌≤◌, ◌+◌, ◌-◌, [], length, Ok, IfOk, IfErr, IsTrue};
 ghost use Rattle.wasm_declarations.specs.Reader.{Answers, RunsTo, IsUnknownBy, list_at, error_at, FailsWhole, ReadsKnown, FailsKnown};
 
 use crate::item::Item;

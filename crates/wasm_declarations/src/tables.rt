@@ -1,5 +1,5 @@
 //! Limits, tables and memories.
-ghost use Rattle.std.specs.Prelude.{◌≡◌, ◌≤◌, ◌+◌, List, length, IfOk, IfErr, MatchResult};
+ghost use Rattle.std.specs.Prelude.{◌≡◌, ◌≤◌, ◌+◌, length, IfOk, IfErr, MatchResult};
 ghost use Rattle.mutate_base.specs.declared.types.MemoryType.{MemoryType};
 ghost use Rattle.mutate_base.specs.declared.types.TableType.{TableType};
 ghost use Rattle.wasm_code.specs.Reader.{Gives};

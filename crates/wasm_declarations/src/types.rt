@@ -1,5 +1,5 @@
 //! Value types and function types.
-ghost use Rattle.std.specs.Prelude.{◌≡◌, ◌≤◌, ◌+◌, List, length, IfOk, IfErr, MatchResult};
+ghost use Rattle.std.specs.Prelude.{◌≡◌, ◌≤◌, ◌+◌, length, IfOk, IfErr, MatchResult};
 ghost use Rattle.mutate_base.specs.declared.types.TypeInfo.{TypeInfo};
 ghost use Rattle.wasm_code.specs.Reader.{Gives};
 ghost use Rattle.wasm_declarations.specs.Known.{Known as Knowledge, SpellsKnown, IsKnownFault};

@@ -1,10 +1,10 @@
 //! What a module declares, and where its functions' bodies stand.
-ghost use Rattle.std.specs.Prelude.{◌≡◌, ◌≢◌, length, IfOk, IfErr, IsOk, OnOk, MatchResult};
+ghost use Rattle.std.specs.Prelude.{◌≡◌, length, IfOk, IfErr, IsOk, OnOk, MatchResult};
 ghost use Rattle.wasm_sections.specs.Section.{SpellsModule};
 ghost use Rattle.wasm_module.specs.Module.{Layout as Place, IsModule};
 ghost use Rattle.mutate_base.specs.Module.{Module as Info};
 ghost use Rattle.wasm_module.specs.Lists.{AreListed};
-ghost use Rattle.wasm_module.specs.Fault.{IsCodeStart, HasOtherCount, IsModuleFault};
+ghost use Rattle.wasm_module.specs.Fault.{IsCodeStart, IsModuleFault};
 ghost use Rattle.wasm_sections.specs.declared.fault.ModuleFault.TheVariants.{CodeCount, Memory};
 
 use crate::laws::one_reading;
