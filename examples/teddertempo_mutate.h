@@ -1,5 +1,5 @@
 /*
- * Rewrites a WebAssembly module so that it runs as before: the C interface of the static library peephole_mutate_c.
+ * Rewrites a block of a WebAssembly module so that it runs as before: the C interface of the static library peephole_mutate_c.
  *
  * Link out/libpeephole_mutate_c.a of the crate peephole_mutate_c, and the Rattle kit's c/liblibc_c.a, by which it takes memory
  * from malloc. examples/run.sh shows how.
@@ -28,9 +28,12 @@ size_t teddertempo_mutate_module(uint8_t *data, size_t max_size, size_t size, ui
  * Returns 0, and leaves data as it was,
  *   - where the bytes are no module that can be read,
  *   - where nothing in it can be rewritten,
- *   - where the new module has more than max_size bytes,
+ *   - where the new module has more than max_size bytes, or a section that 32 bits can't count,
  *   - where size is above max_size,
  *   - where no memory is left.
+ *
+ * Bytes of data behind the new module stay as they were. A valid module stays valid, since a rewrite keeps the types of what it
+ * replaces; the library doesn't check it. A rewrite may append globals, so that many of them may pass an engine's limits.
  *
  * The caller sees to it that
  *   - data points to max_size bytes that may be read and written (it is not null, even where max_size is 0), and

@@ -1,9 +1,11 @@
 -- Integer runs, operator by operator.
 use Rattle.std.proofs.Common.{◌≡◌, ◌↔◌, ℕ, ◌+◌, ◌-◌, ◌<◌, ◌≤◌, inl, inr, List, [], ◌∷◌, ◌++◌, length, drop, get_or, true, false, Some, refl, sym, ap, subst, ◌∙◌, arith}
+use Rattle.std.specs.List.Sorted.{IsStrictlyIncreasing}
 use Rattle.std.specs.Prelude.{Contains, slice_get, slice_range}
 use Rattle.std.proofs.lemmas.Bool.{both_ways, cases_eq, cases_lt}
-use Rattle.std.proofs.lemmas.List.{get_or-take, get_or-drop, length-take, length-drop}
-use Rattle.std.proofs.lemmas.List.Elements.{Contains-push, Contains-push_cases, Contains-append_left}
+use Rattle.std.proofs.Math.Seq.{get_or-append_seam}
+use Rattle.std.proofs.lemmas.List.{get_or-take, get_or-drop, get_or_append_left, length-append, length-take, length-drop}
+use Rattle.std.proofs.lemmas.List.Elements.{Contains-get_or, Contains-push, Contains-push_cases, Contains-append_left}
 use Rattle.std.proofs.lemmas.Option.{same_Some, slice_get-get_or}
 use Rattle.wasm_code.specs.Operator.{is_delimiter}
 use Rattle.wasm_code.specs.declared.operator.Operator.{Operator}
@@ -148,33 +150,55 @@ run_of_end locals globals os n e = (
 
 -- ---- the list of ends as it grows
 
--- those of the first operators
+-- those of the first operators, in order
 abbrev pub AreEnds : (locals globals : Types) → Operators → ℕ → List ℕ → Type 0
-AreEnds locals globals os i ends = (n : ℕ) → Contains ends n ↔ ((n < i) × EndsRun locals globals os n)
+AreEnds locals globals os i ends = ((n : ℕ) → Contains ends n ↔ ((n < i) × EndsRun locals globals os n)) × IsStrictlyIncreasing ends
+
+-- a larger number behind them
+increasing_pushed : (ends : List ℕ) (i : ℕ) → IsStrictlyIncreasing ends → ((n : ℕ) → Contains ends n → n < i) → IsStrictlyIncreasing (ends ++ i ∷ [])
+increasing_pushed ends i before below k inside =
+    let long : length (ends ++ i ∷ []) ≡ length ends + 1 = length-append ends (i ∷ []) in elim (cases_lt (k + 1) (length ends)) [
+      | inl earlier ↦ omega (
+        arith,
+        get_or_append_left ends (i ∷ []) 0 k (omega arith),
+        get_or_append_left ends (i ∷ []) 0 (k + 1) earlier,
+        before k earlier,
+      )
+      | inr last ↦
+          let at : k + 1 ≡ length ends = omega (arith, long) in
+          let seam : get_or (ends ++ i ∷ []) (k + 1) 0 ≡ i = ap (λ n. get_or (ends ++ i ∷ []) n 0) at ∙ get_or-append_seam ends i [] 0 in
+          omega (arith, get_or_append_left ends (i ∷ []) 0 k (omega arith), seam, below (get_or ends k 0) (Contains-get_or ends k 0 (omega arith)))
+    ]
 
 pub ends_pushed : (locals globals : Types) (os : Operators) (i : ℕ) (ends : List ℕ) → AreEnds locals globals os i ends →
     EndsRun locals globals os i → AreEnds locals globals os (i + 1) (ends ++ i ∷ [])
-ends_pushed locals globals os i ends before here n = (
-  λ h. elim (Contains-push_cases ends i n h) [
-    | inl c ↦ let b = (before n).0 c in (omega (arith, b.0), b.1)
-    | inr e ↦ (omega (arith, e), subst (EndsRun locals globals os) e here)
-  ],
-  λ h. elim (cases_eq n i) [
-    | inl same ↦ subst (Contains (ends ++ i ∷ [])) (sym same) (Contains-push ends i)
-    | inr other ↦ Contains-append_left ends (i ∷ []) n ((before n).1 (omega (arith, h.0), h.1))
-  ],
+ends_pushed locals globals os i ends before here = (
+  λ n. (
+    λ h. elim (Contains-push_cases ends i n h) [
+      | inl c ↦ let b = (before.0 n).0 c in (omega (arith, b.0), b.1)
+      | inr e ↦ (omega (arith, e), subst (EndsRun locals globals os) e here)
+    ],
+    λ h. elim (cases_eq n i) [
+      | inl same ↦ subst (Contains (ends ++ i ∷ [])) (sym same) (Contains-push ends i)
+      | inr other ↦ Contains-append_left ends (i ∷ []) n ((before.0 n).1 (omega (arith, h.0), h.1))
+    ],
+  ),
+  increasing_pushed ends i before.1 (λ n c. ((before.0 n).0 c).0),
 )
 
 pub ends_kept : (locals globals : Types) (os : Operators) (i : ℕ) (ends : List ℕ) → AreEnds locals globals os i ends →
     ¬ (EndsRun locals globals os i) → AreEnds locals globals os (i + 1) ends
-ends_kept locals globals os i ends before none n = (
-  λ h. let b = (before n).0 h in (omega (arith, b.0), b.1),
-  λ h. elim (cases_eq n i) [
-    | inl same ↦ absurd (none (subst (EndsRun locals globals os) same h.1))
-    | inr other ↦ (before n).1 (omega (arith, h.0), h.1)
-  ],
+ends_kept locals globals os i ends before none = (
+  λ n. (
+    λ h. let b = (before.0 n).0 h in (omega (arith, b.0), b.1),
+    λ h. elim (cases_eq n i) [
+      | inl same ↦ absurd (none (subst (EndsRun locals globals os) same h.1))
+      | inr other ↦ (before.0 n).1 (omega (arith, h.0), h.1)
+    ],
+  ),
+  before.1,
 )
 
 pub all_ends : (locals globals : Types) (os : Operators) (i : ℕ) (ends : List ℕ) → length os ≤ i → AreEnds locals globals os i ends → (n : ℕ) →
     Contains ends n ↔ EndsRun locals globals os n
-all_ends locals globals os i ends past are n = (λ h. ((are n).0 h).1, λ e. (are n).1 (omega (arith, e.inside), e))
+all_ends locals globals os i ends past are n = (λ h. ((are.0 n).0 h).1, λ e. (are.0 n).1 (omega (arith, e.inside), e))

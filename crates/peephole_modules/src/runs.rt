@@ -1,5 +1,6 @@
 //! The integer runs of a body: of each block the integer instructions that it begins with.
 ghost use Rattle.std.specs.Prelude.{◌≡◌, ◌↔◌, ◌+◌, ◌<◌, ℕ, length, Contains, IfOk, IsTrue};
+ghost use Rattle.std.specs.List.Sorted.{IsStrictlyIncreasing};
 ghost use Rattle.peephole_modules.specs.Runs.{EndsRun, InRun, IsIntegerAt, IsLast};
 
 use mutate_base::{ModuleInfo, PrimitiveTypeInfo};
@@ -67,8 +68,9 @@ pub fn integer_runs(
     info: &ModuleInfo<'_>,
     operators: &[OperatorAndByteOffset],
 ) -> Result<Vec<usize>, AllocError>
-    ensures { IfOk result (λ ends. (n : ℕ) → Contains ends.items n
+    ensures ends { IfOk result (λ ends. (n : ℕ) → Contains ends.items n
         ↔ EndsRun locals.now info.now.globals operators.now n) }
+    ensures in_order { IfOk result (λ ends. IsStrictlyIncreasing ends.items) }
 {
     let mut ends = Vec::new(alloc);
     let mut so_far = true;

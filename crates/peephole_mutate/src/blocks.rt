@@ -1,11 +1,11 @@
 //! The blocks of a module's functions.
-ghost use Rattle.std.specs.Prelude.{◌≡◌, ◌≢◌, ◌<◌, length, IsTrue, is_some, IfErr, IfSome};
-ghost use Rattle.peephole_mutate.specs.declared.failure.Failure.TheVariants.{Nothing};
+ghost use Rattle.std.specs.Prelude.{◌≡◌, ◌<◌, length, IsTrue, is_some, IfErr, IfSome};
+ghost use Rattle.peephole_mutate.specs.declared.failure.Failure.TheVariants.{Output};
 ghost use Rattle.mutate_base.specs.Config.{info_of};
 ghost use Rattle.wasm_module.specs.Module.{IsModule};
 
 use crate::failure::Failure;
-use crate::functions::{check_only, fault_of, index_of, is_chosen, module_of};
+use crate::functions::{chosen_entries, fault_of, index_of, module_of};
 use mutate_base::{Error, ModuleInfo, PrimitiveTypeInfo, WasmMutate, Words};
 use peephole_graphs::{BBlock, DFGBuilder};
 use peephole_modules::{FunctionBody, FunctionError, read_function};
@@ -153,18 +153,24 @@ fn write_blocks<W: Write>(
     Ok(())
 }
 
-/// Writes the line of a function that can't be read: the name of its first fault, and where that is in the module. `start` is where
-/// the function's code entry starts.
+/// Writes the line of the n-th of the module's own functions, which can't be read: the name of its first fault, and where that is in
+/// the module. Where an import isn't known, and so no function's index is, the line names the code entry.
 pub fn write_fault<W: Write>(
     output: &mut W,
-    index: usize,
+    layout: &Layout,
+    n: usize,
     error: &FunctionError,
-    start: usize,
 ) -> Result<(), Failure>
-    ensures { IfErr result (λ e. e ≢ Nothing) }
+    requires inside { n < length layout.now.entries }
+    ensures { IfErr result (λ e. e ≡ Output) }
 {
-    let (name, offset) = fault_of(error, start);
-    writeln!(output, "function {index} {name} at {offset}")?;
+    let (name, offset) = fault_of(error, layout.entries[n].start);
+    if layout.unknown.imports.is_some() {
+        writeln!(output, "entry {n} {name} at {offset}")?;
+    } else {
+        let index = index_of(layout, n);
+        writeln!(output, "function {index} {name} at {offset}")?;
+    }
     Ok(())
 }
 
@@ -181,22 +187,22 @@ fn write_function<W: Write>(
     requires module { IfSome (info_of config.now) (λ info. IsModule bytes.now info layout.now) }
     requires inside { n < length layout.now.entries }
 {
-    let index = index_of(layout, n);
     match read_function(alloc, bytes, config.info(), layout, n) {
-        Ok(function) => write_blocks(alloc, config, &function, index, output),
+        Ok(function) => write_blocks(alloc, config, &function, index_of(layout, n), output),
         Err(e) => {
             if e.is_memory() {
                 return Err(Failure::Memory);
             }
-            write_fault(output, index, &e, layout.entries[n].start)
+            write_fault(output, layout, n, &e)
         }
     }
 }
 
 /// Writes a line for each block of each function of the module: the longest ranges of operators that hold no delimiter. It says how
 /// many integer instructions the block begins with, and which of its operators is the first that no graph holds, if one isn't. A
-/// function that can't be read has a line that says why. With `only`, the function with that index alone; `NoFunction` where that
-/// is none of the module's own.
+/// function that can't be read has a line that says why. With `only`, the function with that index alone.
+///
+/// Fails as the module can't be read, and as `chosen_entries` finds no such function.
 pub fn list_blocks<W: Write>(
     alloc: Global,
     bytes: &[u8],
@@ -205,14 +211,12 @@ pub fn list_blocks<W: Write>(
 ) -> Result<(), Failure> {
     let module = module_of(alloc, bytes)?;
     let layout = module.layout;
-    check_only(&layout, only)?;
+    let chosen = chosen_entries(&layout, only)?;
     let mut config = WasmMutate::new();
     config.preserve_semantics(true);
     config.set_up(module.info, Words::new(Vec::new(alloc)));
-    for n in 0..layout.entries.len() {
-        if is_chosen(only, index_of(&layout, n)) {
-            write_function(alloc, &config, bytes, &layout, n, output)?;
-        }
+    for n in chosen.start..chosen.end {
+        write_function(alloc, &config, bytes, &layout, n, output)?;
     }
     Ok(())
 }

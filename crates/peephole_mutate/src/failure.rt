@@ -7,6 +7,7 @@ use peephole_mutator::MutationError;
 use std::alloc::AllocError;
 use std::io;
 use thiserror::Error as ErrorTexts;
+use wasm_module::ModuleError;
 
 /// Why a run has no success. Its text is the message on standard error.
 #[derive(Clone, Copy, Debug, PartialEq, Eq, ErrorTexts)]
@@ -17,6 +18,9 @@ pub enum Failure {
     /// The module has no function of its own with this index.
     #[error("the module has no function {0} of its own")]
     NoFunction(usize),
+    /// An import isn't known, and so no function's index is.
+    #[error("an import isn't known, and so no function's index is: {0}")]
+    UnknownImport(ModuleError),
     /// The module, or a rewrite of it, is refused.
     #[error("{0}")]
     Refused(MutationError),
@@ -40,7 +44,7 @@ impl Failure {
         ensures { result ≡ status_of self.now }
     {
         match self {
-            Failure::Nothing | Failure::NoFunction(_) => 2,
+            Failure::Nothing | Failure::NoFunction(_) | Failure::UnknownImport(_) => 2,
             _ => 1,
         }
     }

@@ -1,6 +1,6 @@
 //! Reads the whole input.
-ghost use Rattle.std.specs.Prelude.{◌≤◌, ◌≢◌, length, IfOk, IfErr, OnOk};
-ghost use Rattle.peephole_mutate.specs.declared.failure.Failure.TheVariants.{Nothing};
+ghost use Rattle.std.specs.Prelude.{◌≤◌, length, IfOk, IfErr, OnOk};
+ghost use Rattle.peephole_mutate.specs.Failures.{FailsToTake};
 ghost use Rattle.std.specs.Io.KnownBytes.{Consumes, IsAtEnd};
 
 use crate::failure::Failure;
@@ -17,7 +17,7 @@ pub fn read_input<R: Read>(alloc: Global, input: &mut R) -> Result<Vec<u8>, Fail
         Consumes (R.remaining input.old) (R.remaining input.new) text.items) }
     ensures end { OnOk result (IsAtEnd (R.remaining input.new)) }
     ensures length { IfOk result (λ text. length text.items ≤ LIMIT) }
-    ensures fault { IfErr result (λ e. e ≢ Nothing) }
+    ensures fails { IfErr result (FailsToTake (R.remaining input.old)) }
 {
     let mut text = Vec::new(alloc);
     let mut piece = [0u8; 8192];

@@ -1,11 +1,11 @@
 //! The rewrites that there are of a module.
-ghost use Rattle.std.specs.Prelude.{◌<◌, ◌≢◌, length, IsTrue, is_some, IfErr, IfSome};
-ghost use Rattle.peephole_mutate.specs.declared.failure.Failure.TheVariants.{Nothing};
+ghost use Rattle.std.specs.Prelude.{◌≡◌, ◌<◌, length, IsTrue, is_some, IfErr, IfSome};
+ghost use Rattle.peephole_mutate.specs.declared.failure.Failure.TheVariants.{Output};
 ghost use Rattle.mutate_base.specs.Config.{info_of};
 ghost use Rattle.wasm_module.specs.Module.{IsModule};
 
 use crate::failure::Failure;
-use crate::functions::{check_only, index_of, is_chosen, module_of};
+use crate::functions::{chosen_entries, index_of, module_of};
 use mutate_base::{WasmMutate, Words};
 use peephole_graphs::BBlock;
 use peephole_modules::{FunctionBody, integer_runs, read_function};
@@ -21,7 +21,7 @@ pub fn write_rewrite<W: Write>(
     function: usize,
     rewrite: &Rewrite,
 ) -> Result<(), Failure>
-    ensures { IfErr result (λ e. e ≢ Nothing) }
+    ensures { IfErr result (λ e. e ≡ Output) }
 {
     let operator = rewrite.insertion_point;
     let node = rewrite.node;
@@ -91,7 +91,9 @@ fn list_function<W: Write>(
 }
 
 /// Writes a line for each rewrite by one of the rules that there is in a function of the module that can be read; with `only`, in
-/// the function with that index alone. `NoFunction` where that is none of the module's own.
+/// the function with that index alone.
+///
+/// Fails as the module can't be read, and as `chosen_entries` finds no such function.
 pub fn list_rewrites<W: Write>(
     alloc: Global,
     bytes: &[u8],
@@ -101,14 +103,12 @@ pub fn list_rewrites<W: Write>(
 ) -> Result<(), Failure> {
     let module = module_of(alloc, bytes)?;
     let layout = module.layout;
-    check_only(&layout, only)?;
+    let chosen = chosen_entries(&layout, only)?;
     let mut config = WasmMutate::new();
     config.preserve_semantics(true);
     config.set_up(module.info, Words::new(Vec::new(alloc)));
-    for n in 0..layout.entries.len() {
-        if is_chosen(only, index_of(&layout, n)) {
-            list_function(alloc, &config, bytes, &layout, n, rules, output)?;
-        }
+    for n in chosen.start..chosen.end {
+        list_function(alloc, &config, bytes, &layout, n, rules, output)?;
     }
     Ok(())
 }

@@ -1,8 +1,8 @@
-//! Rewrites a WebAssembly module so that it runs as before: a module comes in on standard input, and a rewritten one goes to
-//! standard output. `--list` and `--blocks` write lines about the module instead.
+//! Rewrites blocks of a WebAssembly module so that they run as before: a module comes in on standard input, and a rewritten one goes
+//! to standard output. `--list` and `--blocks` write lines about the module instead.
 //!
 //! Exit status: 0 on success, and for `--help` and `--version`; 2 where nothing applies, also where `--function` names no function
-//! of the module's own; 1 where the module is refused, the input can't be read, the output can't be written, or no memory is left;
+//! of the module's own, or an import isn't known and so no function's index is; 1 where the module is refused, the input can't be read, the output can't be written, or no memory is left;
 //! 64 where the options can't be read.
 #![tactic(auto)]
 
@@ -13,6 +13,8 @@ mod input;
 mod listing;
 mod mutating;
 mod options;
+#[cfg(test)]
+mod refused_modules;
 mod running;
 mod stats;
 #[cfg(test)]

@@ -1,7 +1,6 @@
 //! The module rewritten as the options say.
-ghost use Rattle.std.specs.Prelude.{◌≡◌, Err, IfOk};
-ghost use Rattle.peephole_mutate.specs.declared.failure.Failure.TheVariants.{Nothing};
-ghost use Rattle.peephole_modules.specs.Mutated.{CannotMutate};
+ghost use Rattle.std.specs.Prelude.{IfOk, IfErr};
+ghost use Rattle.peephole_mutate.specs.Failures.{FailsToRewrite};
 ghost use Rattle.peephole_mutator.specs.Mutates.{Mutates};
 
 use crate::failure::Failure;
@@ -14,8 +13,8 @@ use std::alloc::Global;
 pub fn rewritten(alloc: Global, bytes: &[u8], options: &Options) -> Result<RewrittenModule, Failure>
     ensures mutated { IfOk result (λ m. Mutates options.now.rules.items options.now.function
         options.now.count bytes.now m.made.items m.bytes.items) }
-    ensures nothing { result ≡ Err Nothing
-        → CannotMutate options.now.rules.items options.now.function bytes.now }
+    ensures fails { IfErr result (FailsToRewrite options.now.rules.items options.now.function
+        options.now.count bytes.now) }
 {
     match mutate_with_seed(
         alloc,

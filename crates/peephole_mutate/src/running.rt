@@ -1,20 +1,22 @@
 //! A run: a module in, and out goes what the options ask for.
-ghost use Rattle.std.specs.Prelude.{◌≡◌, Err, OnOk, IfSome};
-ghost use Rattle.peephole_modules.specs.Mutated.{CannotMutate};
-ghost use Rattle.peephole_mutate.specs.declared.failure.Failure.TheVariants.{Nothing};
+ghost use Rattle.std.specs.Prelude.{◌≡◌, ◌≢◌, OnOk, IfErr, IfSome};
+ghost use Rattle.peephole_mutate.specs.Failures.{FailsToRewrite};
+ghost use Rattle.peephole_mutate.specs.declared.failure.Failure.TheVariants.{Output};
 ghost use Rattle.peephole_mutate.specs.Writes.{WritesMutated};
 
 use crate::blocks::list_blocks;
 use crate::failure::Failure;
+use crate::functions::module_of;
 use crate::input::read_input;
 use crate::listing::list_rewrites;
 use crate::mutating::rewritten;
 use crate::options::{Options, Task};
-use crate::stats::report;
+use crate::stats::{report_functions, report_rewrites};
 use std::alloc::Global;
 use std::io::{Read, Write};
 
-// Writes the module rewritten, and reports on it where the options ask for that.
+// Writes the module rewritten. Where the options ask for that, reports on its functions first, so also where no rule applies, and
+// on the rewrites behind that.
 fn rewrite<W: Write, E: Write>(
     alloc: Global,
     options: &Options,
@@ -24,14 +26,20 @@ fn rewrite<W: Write, E: Write>(
 ) -> Result<(), Failure>
     ensures written { OnOk result (WritesMutated options.now.rules.items options.now.function
         options.now.count bytes.now (W.contents output.old) (W.contents output.new)) }
-    ensures nothing { result ≡ Err Nothing
-        → CannotMutate options.now.rules.items options.now.function bytes.now }
+    ensures fails { IfErr result (FailsToRewrite options.now.rules.items options.now.function
+        options.now.count bytes.now) }
+    ensures kept { IfErr result (λ e. e ≢ Output
+        → W.contents output.new ≡ W.contents output.old) }
 {
-    let module = rewritten(alloc, bytes, options)?;
-    output.write_all(&module.bytes)?;
+    if options.stats {
+        let module = module_of(alloc, bytes)?;
+        report_functions(alloc, bytes, &module.info, &module.layout, notes)?;
+    }
+    let new = rewritten(alloc, bytes, options)?;
+    output.write_all(&new.bytes)?;
     output.flush()?;
     if options.stats {
-        report(alloc, bytes, &module, notes)?;
+        report_rewrites(bytes, &new, notes)?;
     }
     Ok(())
 }
@@ -50,10 +58,13 @@ pub fn run<R: Read, W: Write, E: Write>(
         (IfSome (R.remaining input.old) (λ bytes. WritesMutated options.now.rules.items
         options.now.function options.now.count bytes (W.contents output.old)
         (W.contents output.new))) }
-    // It fails with `Nothing` only where no rule applies.
-    ensures nothing { options.now.task ≡ Task.Rewrite → result ≡ Err Nothing
-        → IfSome (R.remaining input.old) (CannotMutate options.now.rules.items
-        options.now.function) }
+    // Why it fails: with `Nothing`, only where no rule applies.
+    ensures fails { options.now.task ≡ Task.Rewrite → IfErr result (λ e.
+        IfSome (R.remaining input.old) (λ bytes. FailsToRewrite options.now.rules.items
+        options.now.function options.now.count bytes e)) }
+    // Nothing is written then, unless the output, or the notes, can't be written.
+    ensures kept { options.now.task ≡ Task.Rewrite → IfErr result (λ e. e ≢ Output
+        → W.contents output.new ≡ W.contents output.old) }
 {
     let bytes = read_input(alloc, input)?;
     match options.task {

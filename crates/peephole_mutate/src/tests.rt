@@ -10,6 +10,7 @@ use std::io;
 use std::io::{Read, Write};
 use std::process::Abort;
 use std::test::Fail;
+use wasm_module::{ModuleError, ModuleFault};
 
 // A function of two i32 that answers their sum.
 const SUM: [u8; 32] = [
@@ -233,11 +234,11 @@ fn unknown_forms(rt: HostRuntime) -> Result<(), Fail> {
     runs(
         &rt,
         alloc,
-        &["peephole_mutate"],
+        &["peephole_mutate", "--stats"],
         &REFERENCE,
         Err(Failure::Nothing),
         b"",
-        "",
+        "entry 0 UnknownForm at 20\nfunctions 1 unreadable 1\n",
     )?;
     runs(
         &rt,
@@ -245,7 +246,19 @@ fn unknown_forms(rt: HostRuntime) -> Result<(), Fail> {
         &["peephole_mutate", "--blocks"],
         &REFERENCE,
         Ok(()),
-        b"function 0 UnknownForm at 20\n",
+        b"entry 0 UnknownForm at 20\n",
+        "",
+    )?;
+    runs(
+        &rt,
+        alloc,
+        &["peephole_mutate", "--list", "--function", "0"],
+        &REFERENCE,
+        Err(Failure::UnknownImport(ModuleError {
+            kind: ModuleFault::UnknownForm,
+            offset: 20,
+        })),
+        b"",
         "",
     )
 }

@@ -1,4 +1,4 @@
-//! The call by which C and other languages rewrite a module so that it runs as before.
+//! The call by which C and other languages rewrite a block of a module so that it runs as before.
 #![tactic(auto)]
 
 ghost use Rattle.std.specs.Prelude.{◌≡◌, ◌≢◌, ◌<◌, ◌≤◌, length, take, drop, IfSome};

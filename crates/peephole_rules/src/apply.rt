@@ -134,7 +134,8 @@ impl Rule {
         at: usize,
     ) -> Result<Option<RecExpr<Lang>>, Error>
         ensures rewritten { IfOk result (λ o. option_map term_in o
-            ≡ option_map (grafted expr.now at) (rewrite_at locals.now info.now.globals self expr.now at)) }
+            ≡ option_map (grafted expr.now at)
+            (rewrite_at locals.now info.now.globals self expr.now at)) }
         ensures stands { IfOk result (λ o. IfSome o (λ new.
             StandsFor locals.now info.now.globals (term_in expr.now) (term_in new))) }
         ensures some { IfOk result (λ o. IfSome o (λ new. 0 < length new)) }

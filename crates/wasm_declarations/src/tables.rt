@@ -17,7 +17,7 @@ use std::alloc::Global;
 use wasm_code::{Cause, byte_of, u64_of};
 use wasm_sections::ModuleError;
 
-/// Whether 64 bits index, and whether a maximum follows the minimum, in limits that are shared or not.
+/// Whether 64 bits index, and, where a maximum follows the minimum, whether the limits are shared.
 fn flag(b: u8) -> Option<(bool, Option<bool>)>
     ensures { result ≡ flag_of b }
 {
@@ -48,9 +48,9 @@ fn flag_from(bytes: &[u8]) -> Result<((bool, Option<bool>), &[u8]), Cause>
 fn limits_from(bytes: &[u8]) -> Result<(bool, &[u8]), Cause>
     ensures { Gives (λ x. (x.0, x.1.now)) result (limits_at bytes.now) }
 {
-    let ((wide, shared), rest) = flag_from(bytes)?;
+    let ((wide, maximum), rest) = flag_from(bytes)?;
     let (_minimum, rest) = u64_of(rest)?;
-    if shared.is_none() {
+    if maximum.is_none() {
         return Ok((wide, rest));
     }
     let (_maximum, rest) = u64_of(rest)?;

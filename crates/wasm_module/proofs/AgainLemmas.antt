@@ -18,7 +18,7 @@ use Rattle.wasm_sections.specs.lemmas.ChangeLemmas.{replaced}
 use Rattle.wasm_sections.specs.lemmas.PieceLemmas.{IsModuleView, Piece, code_of, joined, end_at, all_placed, part, parts, of_module, parts_are, joined-append, parts-append, length-code, end_is}
 use Rattle.wasm_module.specs.Module.{Layout, IsModule}
 use Rattle.wasm_module.specs.Rewritten.{new_globals, GrowsGlobals, AddsGlobals, code_with, IsRewritten}
-use Rattle.wasm_module.specs.Again.{IsModuleAgain}
+use Rattle.wasm_module.specs.Again.{AreSectionsAgain}
 use Rattle.wasm_module.proofs.FindLemmas.{head_is, tail_is, ordered_behind}
 use Rattle.wasm_module.proofs.PieceLemmas.{written, AreWhole, spell, swapped, inserted, IsCut, cut, IsSplit, split, IsCutTwice, rejoined}
 
@@ -141,7 +141,7 @@ ends_at (x ∷ u) start = ends_at u (end_at start x) ∙ end_is start x u
 
 -- no globals more
 alone : (bytes : List ℕ) (info : Module) (layout : Layout) (n : ℕ) (contents new : List ℕ) → Short → IsModule bytes info layout →
-    IsRewritten bytes layout n contents [] new → IsModuleAgain bytes layout n contents [] new
+    IsRewritten bytes layout n contents [] new → AreSectionsAgain bytes layout n contents [] new
 alone bytes info layout n contents new short m r =
     let cb = r.code_is.before in
     let cr = r.code_is.behind in
@@ -171,7 +171,7 @@ grows_at : (bytes : List ℕ) (layout : Layout) (n : ℕ) (contents : List ℕ) 
     (r : IsRewritten bytes layout n contents (t ∷ ts) new) (g : GrowsGlobals bytes layout (t ∷ ts) r.code.start r.front)
     (b : IsBetween (g.is.before ++ g.section ∷ []) g.is.behind r.code_is.before r.code r.code_is.behind) (v : IsModuleView bytes layout.sections)
     (a : IsSplit g.is.before (b.mid ++ r.code ∷ r.code_is.behind) g.section 8 v.pieces)
-    (d : IsSplit b.mid r.code_is.behind r.code (end_at (8 + length (joined a.first)) a.x) a.second) → IsModuleAgain bytes layout n contents (t ∷ ts) new
+    (d : IsSplit b.mid r.code_is.behind r.code (end_at (8 + length (joined a.first)) a.x) a.second) → AreSectionsAgain bytes layout n contents (t ∷ ts) new
 grows_at bytes layout n contents t ts new short r g b v a d =
     let cb = r.code_is.before in
     let cr = r.code_is.behind in
@@ -226,7 +226,7 @@ grows_at bytes layout n contents t ts new short r g b v a d =
 
 grows : (bytes : List ℕ) (info : Module) (layout : Layout) (n : ℕ) (contents : List ℕ) (t : PrimitiveTypeInfo) (ts : List PrimitiveTypeInfo) (new : List ℕ) →
     Short → IsModule bytes info layout → (r : IsRewritten bytes layout n contents (t ∷ ts) new)
-    → GrowsGlobals bytes layout (t ∷ ts) r.code.start r.front → IsModuleAgain bytes layout n contents (t ∷ ts) new
+    → GrowsGlobals bytes layout (t ∷ ts) r.code.start r.front → AreSectionsAgain bytes layout n contents (t ∷ ts) new
 grows bytes info layout n contents t ts new short m r g =
     let cb = r.code_is.before in
     let cr = r.code_is.behind in
@@ -247,7 +247,7 @@ adds_at : (bytes : List ℕ) (layout : Layout) (n : ℕ) (contents : List ℕ) (
     (r : IsRewritten bytes layout n contents (t ∷ ts) new) (g : AddsGlobals bytes layout (t ∷ ts) r.code.start r.front)
     (b : IsBetween g.is.before g.is.behind r.code_is.before r.code r.code_is.behind) (v : IsModuleView bytes layout.sections)
     (a : IsCut g.is.before (b.mid ++ r.code ∷ r.code_is.behind) 8 v.pieces)
-    (d : IsSplit b.mid r.code_is.behind r.code (8 + length (joined a.first)) a.second) → IsModuleAgain bytes layout n contents (t ∷ ts) new
+    (d : IsSplit b.mid r.code_is.behind r.code (8 + length (joined a.first)) a.second) → AreSectionsAgain bytes layout n contents (t ∷ ts) new
 adds_at bytes layout n contents t ts new short r g b v a d =
     let cb = r.code_is.before in
     let cr = r.code_is.behind in
@@ -292,7 +292,7 @@ adds_at bytes layout n contents t ts new short r g b v a d =
 
 adds : (bytes : List ℕ) (info : Module) (layout : Layout) (n : ℕ) (contents : List ℕ) (t : PrimitiveTypeInfo) (ts : List PrimitiveTypeInfo) (new : List ℕ) →
     Short → IsModule bytes info layout → (r : IsRewritten bytes layout n contents (t ∷ ts) new)
-    → AddsGlobals bytes layout (t ∷ ts) r.code.start r.front → IsModuleAgain bytes layout n contents (t ∷ ts) new
+    → AddsGlobals bytes layout (t ∷ ts) r.code.start r.front → AreSectionsAgain bytes layout n contents (t ∷ ts) new
 adds bytes info layout n contents t ts new short m r g =
     let cb = r.code_is.before in
     let cr = r.code_is.behind in
@@ -306,7 +306,7 @@ adds bytes info layout n contents t ts new short m r g =
     adds_at bytes layout n contents t ts new short r g b v a d
 
 pub module_again : (bytes : List ℕ) (info : Module) (layout : Layout) (n : ℕ) (contents : List ℕ) (more : List PrimitiveTypeInfo) (new : List ℕ) → Short →
-    IsModule bytes info layout → IsRewritten bytes layout n contents more new → IsModuleAgain bytes layout n contents more new
+    IsModule bytes info layout → IsRewritten bytes layout n contents more new → AreSectionsAgain bytes layout n contents more new
 module_again bytes info layout n contents [] new short m r = alone bytes info layout n contents new short m r
 module_again bytes info layout n contents (t ∷ ts) new short m r =
     elim r.front_is [ inl g ↦ grows bytes info layout n contents t ts new short m r g | inr g ↦ adds bytes info layout n contents t ts new short m r g ]

@@ -34,9 +34,9 @@ ArePartsWith bytes layout [] sections parts = parts ≡ parts_of bytes sections
 ArePartsWith bytes layout (t ∷ ts) sections parts =
     GrowsPart bytes layout.own_globals (t ∷ ts) sections parts ⊎ AddsPart bytes (t ∷ ts) sections parts
 
--- The new bytes spell a module whose sections have the ids of the old one's, in their order, and contain what those contained; but the code section
--- contains other contents of its n-th entry, and a global section before it more globals.
-pub record IsModuleAgain (bytes : List ℕ) (layout : Layout) (n : ℕ) (contents : List ℕ) (more : List PrimitiveTypeInfo) (new : List ℕ) : Type 0 where
+-- The new bytes spell sections that have the ids of the module's, in their order, and contain what those contained; but the code section contains other
+-- contents of its n-th entry, and a global section before it more globals.
+pub record AreSectionsAgain (bytes : List ℕ) (layout : Layout) (n : ℕ) (contents : List ℕ) (more : List PrimitiveTypeInfo) (new : List ℕ) : Type 0 where
   pub before : List Section
   pub code : Section
   pub behind : List Section

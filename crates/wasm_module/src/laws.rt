@@ -6,7 +6,7 @@ ghost use Rattle.wasm_module.specs.Module.{Layout, IsModule};
 ghost use Rattle.mutate_base.specs.declared.types.PrimitiveTypeInfo.{PrimitiveTypeInfo};
 ghost use Rattle.wasm_module.specs.Inside.{IsInside};
 ghost use Rattle.wasm_module.specs.Rewritten.{IsRewritten};
-ghost use Rattle.wasm_module.specs.Again.{IsModuleAgain};
+ghost use Rattle.wasm_module.specs.Again.{AreSectionsAgain};
 
 use wasm_code::laws::shortest_is_a_spelling;
 use wasm_declarations::laws::one_list;
@@ -21,13 +21,13 @@ pub fn entries_are_inside()
     sections_fill_the_module();
 }
 
-/// The new bytes are a module again, whose sections stand in the same order and contain the same, but that the code section
-/// contains the other contents of the entry, and a global section before it the globals more.
-pub fn rewritten_module_is_a_module()
+/// The new bytes are sections in order again: those of the module, which contain the same, but that the code section contains the
+/// other contents of the entry, and a global section before it the globals more.
+pub fn rewritten_bytes_are_sections()
     ensures { (bytes : List ℕ) (info : Module) (layout : Layout) (n : ℕ) (contents : List ℕ)
         (more : List PrimitiveTypeInfo) (new : List ℕ) → IsModule bytes info layout
         → IsRewritten bytes layout n contents more new
-        → IsModuleAgain bytes layout n contents more new }
+        → AreSectionsAgain bytes layout n contents more new }
 {
     shortest_is_a_spelling();
 }

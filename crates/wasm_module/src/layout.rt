@@ -11,7 +11,8 @@ use wasm_sections::Section;
 pub struct Layout {
     /// The sections, in order.
     pub sections: Vec<Section>,
-    /// How many functions are imported. The function of the n-th code entry has the index n behind these.
+    /// How many functions are imported, as far as imports are known. Where all are, the function of the n-th code entry has the index
+    /// n behind these.
     pub imported_functions: usize,
     /// How many globals the module's own section has.
     pub own_globals: usize,

@@ -28,7 +28,7 @@ pub enum ModuleFault {
     /// A custom section makes the module a linkable object, whose relocations name places in the code.
     #[error("Linkable")]
     Linkable,
-    /// A type, an import or a limit is of a form that isn't known here.
+    /// A type, an import, a limit or an immediate of an initialiser is of a form that isn't known here.
     #[error("UnknownForm")]
     UnknownForm,
     /// An initialiser has an operator that isn't known here.

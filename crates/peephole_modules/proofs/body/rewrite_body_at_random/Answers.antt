@@ -11,7 +11,7 @@ pub returns-then-is_empty-clause-none : goal.returns-then-is_empty-clause-none
 returns-then-is_empty-clause-none g c =
     let none : length c.in_ok-ends.ends.items ≡ 0 = grind (arith, common_steps) in
     nothing_by_runs c.args.locals.now (info_of c.args.config.now) c.info.result.now c.args.config.now.preserving c.args.rules.now
-    c.args.operators.now c.in_ok-ends.ends.items c.info.ensures c.in_ok-ends.ensures
+    c.args.operators.now c.in_ok-ends.ends.items c.info.ensures c.in_ok-ends.ensures.ends
     (nothing_in_none c.args.locals.now (info_of c.args.config.now) c.args.config.now.preserving c.args.rules.now c.args.operators.now
     c.in_ok-ends.ends.items none)
 
@@ -19,7 +19,7 @@ pub rewrite_first-requires-clause-inside : goal.rewrite_first-requires-clause-in
 rewrite_first-requires-clause-inside g c =
     let parts = parts_are c.in_ok-ends.ends.items c.as_slice.result.now c.split_at.result.0.now c.split_at.result.1.now c.choose_below-first.result
     c.as_slice.ensures.value c.split_at.ensures.front c.split_at.ensures.back in
-    λ n h. ((c.in_ok-ends.ensures n).0 (back_in c.in_ok-ends.ends.items c.split_at.result.0.now c.split_at.result.1.now parts n h)).inside
+    λ n h. ((c.in_ok-ends.ensures.ends n).0 (back_in c.in_ok-ends.ends.items c.split_at.result.0.now c.split_at.result.1.now parts n h)).inside
 
 pub returns-in-Ok-Some-clause-rewritten : goal.returns-in-Ok-Some-clause-rewritten
 returns-in-Ok-Some-clause-rewritten g c =
@@ -30,7 +30,7 @@ returns-in-Ok-Some-clause-rewritten g c =
     (setting_of g.R.Rng.stream c.rewrite_first.new.config)) c.args.locals.now (info_of c.choose_below-first.new.config)
     (info_of c.args.config.now) c.choose_below-first.new.config.preserving c.args.config.now.preserving c.info.result.now c.args.operators.now
     c.in_ok-ends.ends.items c.split_at.result.1.now (c.choose_below-first.ensures.unchanged.1).0 c.choose_below-first.ensures.unchanged.0
-    c.info.ensures c.in_ok-ends.ensures (back_in c.in_ok-ends.ends.items c.split_at.result.0.now c.split_at.result.1.now parts)
+    c.info.ensures c.in_ok-ends.ensures.ends (back_in c.in_ok-ends.ends.items c.split_at.result.0.now c.split_at.result.1.now parts)
     (rw c.in-Ok-Some.field-0-is at c.in-Ok-Some.ensures.rewritten)
 
 pub returns-in-Err-clause-refused : goal.returns-in-Err-clause-refused
@@ -42,13 +42,13 @@ returns-in-Err-clause-refused g c =
     c.in-Err.e) c.args.locals.now (info_of c.choose_below-first.new.config) (info_of c.args.config.now)
     c.choose_below-first.new.config.preserving c.args.config.now.preserving c.info.result.now c.args.operators.now c.in_ok-ends.ends.items
     c.split_at.result.1.now (c.choose_below-first.ensures.unchanged.1).0 c.choose_below-first.ensures.unchanged.0 c.info.ensures
-    c.in_ok-ends.ensures (back_in c.in_ok-ends.ends.items c.split_at.result.0.now c.split_at.result.1.now parts) c.in-Err.ensures.refused)
+    c.in_ok-ends.ensures.ends (back_in c.in_ok-ends.ends.items c.split_at.result.0.now c.split_at.result.1.now parts) c.in-Err.ensures.refused)
 
 pub rewrite_first-requires-2-clause-inside : goal.rewrite_first-requires-2-clause-inside
 rewrite_first-requires-2-clause-inside g c =
     let parts = parts_are c.in_ok-ends.ends.items c.as_slice.result.now c.split_at.result.0.now c.split_at.result.1.now c.choose_below-first.result
     c.as_slice.ensures.value c.split_at.ensures.front c.split_at.ensures.back in
-    λ n h. ((c.in_ok-ends.ensures n).0 (front_in c.in_ok-ends.ends.items c.split_at.result.0.now c.split_at.result.1.now parts n h)).inside
+    λ n h. ((c.in_ok-ends.ensures.ends n).0 (front_in c.in_ok-ends.ends.items c.split_at.result.0.now c.split_at.result.1.now parts n h)).inside
 
 pub returns-clause-rewritten : goal.returns-clause-rewritten
 returns-clause-rewritten g c =
@@ -61,7 +61,7 @@ returns-clause-rewritten g c =
     (setting_of g.R.Rng.stream c.rewrite_first-2.new.config)) c.args.locals.now (info_of c.rewrite_first.new.config)
     (info_of c.args.config.now) c.rewrite_first.new.config.preserving c.args.config.now.preserving c.info.result.now c.args.operators.now
     c.in_ok-ends.ends.items c.split_at.result.0.now ((c.rewrite_first.ensures.unchanged.1).0 ∙ (c.choose_below-first.ensures.unchanged.1).0)
-    (c.rewrite_first.ensures.unchanged.0 ∙ c.choose_below-first.ensures.unchanged.0) c.info.ensures c.in_ok-ends.ensures
+    (c.rewrite_first.ensures.unchanged.0 ∙ c.choose_below-first.ensures.unchanged.0) c.info.ensures c.in_ok-ends.ensures.ends
     (front_in c.in_ok-ends.ends.items c.split_at.result.0.now c.split_at.result.1.now parts) (rw (sym kept.0) h))
     c.rewrite_first-2.ensures.rewritten
 
@@ -81,7 +81,7 @@ returns-clause-none g c =
     ((c.rewrite_first.ensures.unchanged.1).0 ∙ (c.choose_below-first.ensures.unchanged.1).0)
     (c.rewrite_first.ensures.unchanged.0 ∙ c.choose_below-first.ensures.unchanged.0) second in
     nothing_by_runs c.args.locals.now (info_of c.args.config.now) c.info.result.now c.args.config.now.preserving c.args.rules.now
-    c.args.operators.now c.in_ok-ends.ends.items c.info.ensures c.in_ok-ends.ensures
+    c.args.operators.now c.in_ok-ends.ends.items c.info.ensures c.in_ok-ends.ensures.ends
     (nothing_in_parts c.args.locals.now (info_of c.args.config.now) c.args.config.now.preserving c.args.rules.now c.args.operators.now
     c.split_at.result.0.now c.split_at.result.1.now c.in_ok-ends.ends.items parts before behind)) c.rewrite_first-2.ensures.none
 
@@ -95,5 +95,5 @@ returns-clause-refused g c =
     e) c.args.locals.now (info_of c.rewrite_first.new.config) (info_of c.args.config.now) c.rewrite_first.new.config.preserving
     c.args.config.now.preserving c.info.result.now c.args.operators.now c.in_ok-ends.ends.items c.split_at.result.0.now
     ((c.rewrite_first.ensures.unchanged.1).0 ∙ (c.choose_below-first.ensures.unchanged.1).0)
-    (c.rewrite_first.ensures.unchanged.0 ∙ c.choose_below-first.ensures.unchanged.0) c.info.ensures c.in_ok-ends.ensures
+    (c.rewrite_first.ensures.unchanged.0 ∙ c.choose_below-first.ensures.unchanged.0) c.info.ensures c.in_ok-ends.ensures.ends
     (front_in c.in_ok-ends.ends.items c.split_at.result.0.now c.split_at.result.1.now parts) h)) c.rewrite_first-2.ensures.refused

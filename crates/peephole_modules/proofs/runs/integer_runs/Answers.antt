@@ -40,7 +40,10 @@ loop-index-preserved c =
       ],
     )
 
-pub returns : goal.returns
-returns c =
+pub returns-clause-ends : goal.returns-clause-ends
+returns-clause-ends c =
     let past : length c.args.operators.now ≤ c.loop-index.index = grind (arith, common_steps) in
     all_ends c.args.locals.now c.args.info.now.globals c.args.operators.now c.loop-index.index c.loop-index.ends.items past c.loop-index.invariant.1
+
+pub returns-clause-in_order : goal.returns-clause-in_order
+returns-clause-in_order c = c.loop-index.invariant.1.1

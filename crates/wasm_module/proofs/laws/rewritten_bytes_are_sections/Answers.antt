@@ -1,6 +1,6 @@
 use Rattle.std.proofs.Common.{arith}
 use Rattle.wasm_module.proofs.AgainLemmas.{module_again}
-use Rattle.wasm_module.proofs.laws.rewritten_module_is_a_module.Goals as goal
+use Rattle.wasm_module.proofs.laws.rewritten_bytes_are_sections.Goals as goal
 
 pub returns : goal.returns
 returns c bytes info layout n contents more new m r =
