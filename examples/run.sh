@@ -58,7 +58,7 @@ compare() {
     fi
     test "$by_c" -eq 0 && cmp "$work/c.wasm" "$work/rust.wasm" || return 1
     echo rewritten >> "$work/count"
-    if command -v wasm-validate > /dev/null; then wasm-validate "$work/c.wasm"; fi
+    if command -v wasm-validate > /dev/null; then wasm-validate --enable-threads "$work/c.wasm"; fi
 }
 
 # shellcheck disable=SC2086
