@@ -22,7 +22,7 @@ pub fn module_of<'a>(alloc: Global, bytes: &'a [u8]) -> Result<Module<'a>, Failu
     }
 }
 
-/// The index, among all functions, of the one whose code is the n-th entry. Only where all imports are known has it one.
+/// The index, among all functions, of the one whose code is the n-th entry. It has one only where all imports are known.
 pub fn index_of(layout: &Layout, n: usize) -> usize
     ensures { layout.now.imported_functions + n < 2 ^ 64
         → result ≡ layout.now.imported_functions + n }

@@ -2,8 +2,8 @@
 //! to standard output. `--list` and `--blocks` write lines about the module instead.
 //!
 //! Exit status: 0 on success, and for `--help` and `--version`; 2 where nothing applies, also where `--function` names no function
-//! of the module's own, or an import isn't known and so no function's index is; 1 where the module is refused, the input can't be read, the output can't be written, or no memory is left;
-//! 64 where the options can't be read.
+//! of the module's own, or an import isn't known and so no function's index is; 1 where the module is refused, the input can't be
+//! read, the output can't be written, or no memory is left; 64 where the options can't be read.
 #![tactic(auto)]
 
 mod blocks;
