@@ -1,3 +1,4 @@
 pub mod Trees
 pub mod ReplacingLemmas
 pub mod MutatingLemmas
+pub mod ArithLemmas

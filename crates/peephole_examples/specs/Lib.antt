@@ -1,2 +1,3 @@
 pub mod Replacing
 pub mod Mutating
+pub mod Arith

@@ -1,44 +1,15 @@
-//! The whole way from a body to the body with a term in it, and a tree of any kind of nodes laid out, as callers write them; and
-//! examples of blocks, graphs, terms and written bodies, as tests.
+//! Callers of the library, to be read: the whole way from a body to the body with a term in it, and to one with a node rewritten
+//! by a rule; a tree laid out; and a second small kind of nodes, with callers that know no more than the trait says.
 #![tactic(auto)]
 
+mod arith;
+mod callers;
 mod mutating;
 mod replacing;
-mod uses;
+mod tree;
 
+pub use arith::{Arith, ArithHead};
+pub use callers::{all_first, read_again, set_first};
 pub use mutating::mutate;
 pub use replacing::{ReplaceError, Replaced, replace};
-pub use uses::tree_of;
-
-#[cfg(test)]
-mod deep;
-#[cfg(test)]
-mod expansions;
-#[cfg(test)]
-mod graphs;
-#[cfg(test)]
-mod layouts;
-#[cfg(test)]
-mod memory;
-#[cfg(test)]
-mod refused;
-#[cfg(test)]
-mod refused_rewrites;
-#[cfg(test)]
-mod replacements;
-#[cfg(test)]
-mod rereading;
-#[cfg(test)]
-mod rewrites;
-#[cfg(test)]
-mod rules;
-#[cfg(test)]
-mod running;
-#[cfg(test)]
-mod samples;
-#[cfg(test)]
-mod terms;
-#[cfg(test)]
-mod types;
-#[cfg(test)]
-mod writing;
+pub use tree::tree_of;

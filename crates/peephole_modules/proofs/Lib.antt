@@ -3,3 +3,4 @@ pub mod BodyLemmas
 pub mod FunctionLemmas
 pub mod MutationLemmas
 pub mod ModuleLemmas
+pub mod MutatesLemmas

@@ -2,3 +2,4 @@ pub mod Runs
 pub mod Body
 pub mod Function
 pub mod Mutated
+pub mod Mutates

@@ -6,22 +6,14 @@
 //! read, the output can't be written, or no memory is left; 64 where the options can't be read.
 #![tactic(auto)]
 
-mod blocks;
-mod failure;
-mod functions;
-mod input;
-mod listing;
-mod mutating;
-mod options;
 #[cfg(test)]
 mod refused_modules;
-mod running;
-mod stats;
+#[cfg(test)]
+mod repeats;
 #[cfg(test)]
 mod tests;
 
-use options::{options_of, rule_names};
-use running::run;
+use peephole_module_commands::{options_of, rule_names, run};
 use std::env::Env;
 use std::io::BufWriter;
 use std::process::ExitCode;

@@ -2,7 +2,7 @@
 //! request in turn.
 
 use mutate_base::{Error, PrimitiveTypeInfo};
-use peephole_mutator::{MutationError, mutate_with_seed};
+use peephole_modules::{MutationError, mutate_with_seed};
 use peephole_rules::Rule;
 use std::alloc::Global;
 use std::process::Abort;

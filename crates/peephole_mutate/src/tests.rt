@@ -1,330 +1,187 @@
 //! Options, and runs on small modules and with devices that fail.
 
-use crate::failure::Failure;
-use crate::options::{Options, Task, options_of, rule_names};
 use crate::refused_modules::{SUM, TURNED};
-use crate::running::run;
-use clap::error::ErrorKind;
-use peephole_rules::Rule;
+use failing_devices::{FailingReader, FailingWriter};
+use peephole_module_commands::{Failure, Options, options_of, rule_names, run};
 use std::alloc::Global;
-use std::io;
-use std::io::{Read, Write};
+use std::io::Write;
 use std::process::Abort;
+use std::str::Lines;
 use std::test::Fail;
-use wasm_module::{ModuleError, ModuleFault};
 
-// The sum, and a function whose type is a structure.
-const STRUCTURE: [u8; 40] = [
-    0x00, 0x61, 0x73, 0x6d, 0x01, 0x00, 0x00, 0x00, 0x01, 0x0b, 0x02, 0x60, 0x02, 0x7f, 0x7f, 0x01,
-    0x7f, 0x5f, 0x01, 0x7f, 0x00, 0x03, 0x03, 0x02, 0x00, 0x01, 0x0a, 0x0c, 0x02, 0x07, 0x00, 0x20,
-    0x00, 0x20, 0x01, 0x6a, 0x0b, 0x02, 0x00, 0x0b,
-];
+/// The sum, and a function whose type is a structure.
+const STRUCTURE: &[u8] = b"\0asm\x01\0\0\0\x01\x0b\x02\x60\x02\x7f\x7f\x01\x7f\x5f\x01\x7f\0\
+    \x03\x03\x02\0\x01\x0a\x0c\x02\x07\0\x20\0\x20\x01\x6a\x0b\x02\0\x0b";
 
-// The same with the sum's operands the other way round.
-const STRUCTURE_TURNED: [u8; 40] = [
-    0x00, 0x61, 0x73, 0x6d, 0x01, 0x00, 0x00, 0x00, 0x01, 0x0b, 0x02, 0x60, 0x02, 0x7f, 0x7f, 0x01,
-    0x7f, 0x5f, 0x01, 0x7f, 0x00, 0x03, 0x03, 0x02, 0x00, 0x01, 0x0a, 0x0c, 0x02, 0x07, 0x00, 0x20,
-    0x01, 0x20, 0x00, 0x6a, 0x0b, 0x02, 0x00, 0x0b,
-];
+/// The same with the sum's operands the other way round.
+const STRUCTURE_TURNED: &[u8] = b"\0asm\x01\0\0\0\x01\x0b\x02\x60\x02\x7f\x7f\x01\x7f\x5f\x01\x7f\0\
+    \x03\x03\x02\0\x01\x0a\x0c\x02\x07\0\x20\x01\x20\0\x6a\x0b\x02\0\x0b";
 
-// The sum, and an imported global that is any reference of the garbage collector.
-const REFERENCE: [u8; 42] = [
-    0x00, 0x61, 0x73, 0x6d, 0x01, 0x00, 0x00, 0x00, 0x01, 0x07, 0x01, 0x60, 0x02, 0x7f, 0x7f, 0x01,
-    0x7f, 0x02, 0x08, 0x01, 0x01, 0x6d, 0x01, 0x67, 0x03, 0x6e, 0x00, 0x03, 0x02, 0x01, 0x00, 0x0a,
-    0x09, 0x01, 0x07, 0x00, 0x20, 0x00, 0x20, 0x01, 0x6a, 0x0b,
-];
+/// The sum, and an imported global that is any reference of the garbage collector.
+const REFERENCE: &[u8] = b"\0asm\x01\0\0\0\x01\x07\x01\x60\x02\x7f\x7f\x01\x7f\
+    \x02\x08\x01\x01m\x01g\x03\x6e\0\x03\x02\x01\0\x0a\x09\x01\x07\0\x20\0\x20\x01\x6a\x0b";
 
-/// Gives some bytes, one at a time, and then an error.
-#[derive(Drop)]
-struct FailingReader {
-    bytes: &'static [u8],
-}
+/// Words of the command line, and the task, the seed, the count, the function, whether there are statistics, and of the rules
+/// the number, the first and the last; or the kind of the error.
+const OPTIONS: &str = "
+| Rewrite 0 1 None false 33 Some(Commute) Some(Forget)
+--seed=7 --count 3 --function 2 --rule fold --rule commute --stats | Rewrite 7 3 Some(2) true 2 Some(Fold) Some(Commute)
+--list | List 0 1 None false 33 Some(Commute) Some(Forget)
+--blocks | Blocks 0 1 None false 33 Some(Commute) Some(Forget)
+--rule melt | InvalidValue
+--count 0 | ValueValidation
+--list --blocks | ArgumentConflict
+--melt | UnknownArgument
+";
 
-impl Read for FailingReader {
-    fn read(&mut self, buf: &mut [u8]) -> io::Result<usize> {
-        if self.bytes.is_empty() || buf.is_empty() {
-            return Err(io::ErrorKind::Other.into());
-        }
-        buf[0] = self.bytes[0];
-        self.bytes = &self.bytes[1..];
-        Ok(1)
+/// Runs: the words of the command line, the module, and the outcome; then what is written behind `>`, a module or a line, and
+/// behind `!` the lines that are reported.
+const RUNS: &str = "
+--rule commute --stats | SUM | Ok(())
+> TURNED
+! functions 1 unreadable 0
+! function 0 operator 2 node 2 rule commute
+! bytes 32 new 32
+
+--rule commute --count 2 | SUM | Ok(())
+> SUM
+
+--list --rule commute | SUM | Ok(())
+> function 0 operator 2 node 2 rule commute
+
+--blocks | SUM | Ok(())
+> function 0 block 0..3 integer 3
+
+--rule commute --stats | STRUCTURE | Ok(())
+> STRUCTURE_TURNED
+! function 1 UnknownForm at 17
+! functions 2 unreadable 1
+! function 0 operator 2 node 2 rule commute
+! bytes 40 new 40
+
+--stats | REFERENCE | Err(Nothing)
+! entry 0 UnknownForm at 20
+! functions 1 unreadable 1
+
+--blocks | REFERENCE | Ok(())
+> entry 0 UnknownForm at 20
+
+--list --function 0 | REFERENCE | Err(UnknownImport(ModuleError { kind: UnknownForm, offset: 20 }))
+
+--rule fold | SUM | Err(Nothing)
+
+--function 1 | SUM | Err(Nothing)
+
+--list --function 1 | SUM | Err(NoFunction(1))
+";
+
+/// The module of a name.
+fn module_of(name: &str) -> Option<&'static [u8]> {
+    match name {
+        "SUM" => Some(&SUM),
+        "TURNED" => Some(&TURNED),
+        "STRUCTURE" => Some(STRUCTURE),
+        "STRUCTURE_TURNED" => Some(STRUCTURE_TURNED),
+        "REFERENCE" => Some(REFERENCE),
+        _ => None,
     }
 }
 
-/// Takes some bytes, one at a time, and then refuses.
-#[derive(Drop)]
-struct FailingWriter {
-    room: u32,
-}
-
-impl Write for FailingWriter {
-    fn write(&mut self, buf: &[u8]) -> io::Result<usize> {
-        if self.room == 0 {
-            return Err(io::ErrorKind::Other.into());
-        }
-        if buf.is_empty() {
-            return Ok(0);
-        }
-        self.room -= 1;
-        Ok(1)
+/// The options of the words of a command line behind the program's name.
+fn options(alloc: Global, line: &str) -> Result<Options, clap::Error> {
+    let mut words: Vec<&str> = Vec::new(alloc);
+    words.push("peephole_mutate")?;
+    for word in line.split_whitespace() {
+        words.push(word)?;
     }
-
-    fn flush(&mut self) -> io::Result<()> {
-        Ok(())
-    }
-}
-
-// The options of these words.
-fn options(alloc: Global, words: &[&str]) -> Result<Options, clap::Error> {
-    let names = rule_names(alloc)?;
-    options_of(alloc, &names, words)
-}
-
-// What a run writes and reports, and how it ends.
-fn runs(
-    rt: &impl Abort,
-    alloc: Global,
-    words: &[&str],
-    module: &[u8],
-    outcome: Result<(), Failure>,
-    written: &[u8],
-    reported: &str,
-) -> Result<(), Fail> {
-    let options = options(alloc, words)?;
-    let mut input = module;
-    let mut output = Vec::new(alloc);
-    let mut notes = Vec::new(alloc);
-    let result = run(alloc, &options, &mut input, &mut output, &mut notes);
-    assert!(rt; result == outcome);
-    assert_eq!(rt; output.as_slice(), written);
-    assert_eq!(rt; notes.as_slice(), reported.as_bytes());
-    Ok(())
+    options_of(alloc, &rule_names(alloc)?, &words)
 }
 
 #[test]
 fn reads_options(rt: HostRuntime) -> Result<(), Fail> {
     let alloc = rt.alloc();
-    let plain = options(alloc, &["peephole_mutate"])?;
-    assert!(rt; plain.task == Task::Rewrite);
-    assert!(rt; plain.seed == 0 && plain.count == 1 && !plain.stats);
-    assert!(rt; plain.function == None);
-    assert_eq!(rt; plain.rules.len(), 33);
-    let full = options(
-        alloc,
-        &[
-            "peephole_mutate",
-            "--seed=7",
-            "--count",
-            "3",
-            "--function",
-            "2",
-            "--rule",
-            "fold",
-            "--rule",
-            "commute",
-            "--stats",
-        ],
-    )?;
-    assert!(rt; full.seed == 7 && full.count == 3 && full.stats);
-    assert!(rt; full.function == Some(2));
-    assert_eq!(rt; full.rules.len(), 2);
-    assert!(rt; full.rules[0] == Rule::Fold && full.rules[1] == Rule::Commute);
-    let list = options(alloc, &["peephole_mutate", "--list"])?;
-    assert!(rt; list.task == Task::List);
-    let blocks = options(alloc, &["peephole_mutate", "--blocks"])?;
-    assert!(rt; blocks.task == Task::Blocks);
+    for case in OPTIONS.trim().lines() {
+        let (line, wanted) = case.split_once('|').ok_or("no options")?;
+        let text = match options(alloc, line) {
+            Ok(found) => {
+                let (rules, stats) = (&found.rules, found.stats);
+                format!(in alloc;
+                    "{:?} {} {} {:?} {stats} {} {:?} {:?}",
+                    found.task,
+                    found.seed,
+                    found.count,
+                    found.function,
+                    rules.len(),
+                    rules.first(),
+                    rules.last()
+                )?
+            }
+            Err(error) => format!(in alloc; "{:?}", error.kind())?,
+        };
+        assert!(rt; text.as_str() == wanted.trim(), "{case}");
+    }
+    Ok(())
+}
+
+/// What a run writes and reports, by the lines of its case.
+fn wanted_of(alloc: Global, lines: Lines) -> Result<(Vec<u8>, Vec<u8>), Fail> {
+    let mut written = Vec::new(alloc);
+    let mut reported = Vec::new(alloc);
+    for line in lines {
+        let (mark, text) = line.split_once(' ').ok_or("no mark")?;
+        match module_of(text) {
+            Some(module) => written.extend_from_slice(module)?,
+            None if mark == ">" => writeln!(written, "{text}")?,
+            None => writeln!(reported, "{text}")?,
+        }
+    }
+    Ok((written, reported))
+}
+
+/// A run of the case ends so, and writes and reports this.
+fn is_run(rt: &impl Abort, alloc: Global, case: &str) -> Result<(), Fail> {
+    let mut lines = case.lines();
+    let head = lines.next().ok_or("no case")?;
+    let (line, rest) = head.split_once('|').ok_or("no module")?;
+    let (name, outcome) = rest.split_once('|').ok_or("no outcome")?;
+    let options = options(alloc, line)?;
+    let mut module = module_of(name.trim()).ok_or("no such module")?;
+    let (mut output, mut notes) = (Vec::new(alloc), Vec::new(alloc));
+    let result = run(alloc, &options, &mut module, &mut output, &mut notes);
+    let ended = format!(in alloc; "{result:?}")?;
+    assert!(rt; ended.as_str() == outcome.trim(), "{case}");
+    let (written, reported) = wanted_of(alloc, lines)?;
+    assert!(rt; output == written && notes == reported, "{case}");
     Ok(())
 }
 
 #[test]
-fn refuses_options(rt: HostRuntime) {
-    let alloc = rt.alloc();
-    let cases: [(&[&str], ErrorKind); 4] = [
-        (
-            &["peephole_mutate", "--rule", "melt"],
-            ErrorKind::InvalidValue,
-        ),
-        (
-            &["peephole_mutate", "--count", "0"],
-            ErrorKind::ValueValidation,
-        ),
-        (
-            &["peephole_mutate", "--list", "--blocks"],
-            ErrorKind::ArgumentConflict,
-        ),
-        (&["peephole_mutate", "--melt"], ErrorKind::UnknownArgument),
-    ];
-    for (words, kind) in cases {
-        match options(alloc, words) {
-            Ok(_) => assert!(rt; false),
-            Err(error) => assert!(rt; error.kind() == kind),
-        }
+fn runs(rt: HostRuntime) -> Result<(), Fail> {
+    for case in RUNS.trim().split("\n\n") {
+        is_run(&rt, rt.alloc(), case)?;
     }
-}
-
-#[test]
-fn rewrites(rt: HostRuntime) -> Result<(), Fail> {
-    let alloc = rt.alloc();
-    runs(
-        &rt,
-        alloc,
-        &["peephole_mutate", "--rule", "commute", "--stats"],
-        &SUM,
-        Ok(()),
-        &TURNED,
-        "functions 1 unreadable 0\nfunction 0 operator 2 node 2 rule commute\nbytes 32 new 32\n",
-    )?;
-    runs(
-        &rt,
-        alloc,
-        &["peephole_mutate", "--rule", "commute", "--count", "2"],
-        &SUM,
-        Ok(()),
-        &SUM,
-        "",
-    )
-}
-
-#[test]
-fn lists(rt: HostRuntime) -> Result<(), Fail> {
-    let alloc = rt.alloc();
-    runs(
-        &rt,
-        alloc,
-        &["peephole_mutate", "--list", "--rule", "commute"],
-        &SUM,
-        Ok(()),
-        b"function 0 operator 2 node 2 rule commute\n",
-        "",
-    )?;
-    runs(
-        &rt,
-        alloc,
-        &["peephole_mutate", "--blocks"],
-        &SUM,
-        Ok(()),
-        b"function 0 block 0..3 integer 3\n",
-        "",
-    )
-}
-
-#[test]
-fn unknown_forms(rt: HostRuntime) -> Result<(), Fail> {
-    let alloc = rt.alloc();
-    runs(
-        &rt,
-        alloc,
-        &["peephole_mutate", "--rule", "commute", "--stats"],
-        &STRUCTURE,
-        Ok(()),
-        &STRUCTURE_TURNED,
-        "function 1 UnknownForm at 17\nfunctions 2 unreadable 1\nfunction 0 operator 2 node 2 rule commute\nbytes 40 new 40\n",
-    )?;
-    runs(
-        &rt,
-        alloc,
-        &["peephole_mutate", "--stats"],
-        &REFERENCE,
-        Err(Failure::Nothing),
-        b"",
-        "entry 0 UnknownForm at 20\nfunctions 1 unreadable 1\n",
-    )?;
-    runs(
-        &rt,
-        alloc,
-        &["peephole_mutate", "--blocks"],
-        &REFERENCE,
-        Ok(()),
-        b"entry 0 UnknownForm at 20\n",
-        "",
-    )?;
-    runs(
-        &rt,
-        alloc,
-        &["peephole_mutate", "--list", "--function", "0"],
-        &REFERENCE,
-        Err(Failure::UnknownImport(ModuleError {
-            kind: ModuleFault::UnknownForm,
-            offset: 20,
-        })),
-        b"",
-        "",
-    )
+    Ok(())
 }
 
 #[test]
 fn fails(rt: HostRuntime) -> Result<(), Fail> {
     let alloc = rt.alloc();
-    runs(
-        &rt,
-        alloc,
-        &["peephole_mutate", "--rule", "fold"],
-        &SUM,
-        Err(Failure::Nothing),
-        b"",
-        "",
-    )?;
-    runs(
-        &rt,
-        alloc,
-        &["peephole_mutate", "--function", "1"],
-        &SUM,
-        Err(Failure::Nothing),
-        b"",
-        "",
-    )?;
-    runs(
-        &rt,
-        alloc,
-        &["peephole_mutate", "--list", "--function", "1"],
-        &SUM,
-        Err(Failure::NoFunction(1)),
-        b"",
-        "",
-    )?;
-    assert!(rt; Failure::Nothing.status() == 2 && Failure::Input.status() == 1);
-    let options = options(alloc, &["peephole_mutate"])?;
-    let mut input: &[u8] = b"\0asn\x01\0\0\0";
-    match run(
-        alloc,
-        &options,
-        &mut input,
-        &mut Vec::new(alloc),
-        &mut Vec::new(alloc),
-    ) {
-        Ok(()) => assert!(rt; false),
-        Err(failure) => {
-            assert_eq!(rt; failure.to_string(alloc)?.as_str(), "BadMagic at 0");
-            assert!(rt; failure.status() == 1);
-        }
-    }
-    Ok(())
-}
-
-#[test]
-fn failing_devices(rt: HostRuntime) -> Result<(), Fail> {
-    let alloc = rt.alloc();
-    let options = options(alloc, &["peephole_mutate", "--rule", "commute"])?;
-    let mut input = FailingReader { bytes: &SUM };
+    let options = options(alloc, "--rule commute")?;
+    let mut notes = Vec::new(alloc);
     let mut output = Vec::new(alloc);
-    let result = run(
-        alloc,
-        &options,
-        &mut input,
-        &mut output,
-        &mut Vec::new(alloc),
-    );
-    assert!(rt; result == Err(Failure::Input));
-    assert!(rt; output.is_empty());
+    let mut input = FailingReader::new(&SUM);
+    let result = run(alloc, &options, &mut input, &mut output, &mut notes);
+    assert!(rt; result == Err(Failure::Input) && output.is_empty());
     let mut module: &[u8] = &SUM;
-    let mut sink = FailingWriter { room: 20 };
-    let result = run(
-        alloc,
-        &options,
-        &mut module,
-        &mut sink,
-        &mut Vec::new(alloc),
-    );
+    let mut sink = FailingWriter::refusing(20);
+    let result = run(alloc, &options, &mut module, &mut sink, &mut notes);
     assert!(rt; result == Err(Failure::Output));
+    let mut bad: &[u8] = b"\0asn\x01\0\0\0";
+    let Err(failure) = run(alloc, &options, &mut bad, &mut output, &mut notes) else {
+        panic!(rt; "a module of another magic number");
+    };
+    let text = format!(in alloc; "{failure} {}", failure.status())?;
+    assert!(rt; text.as_str() == "BadMagic at 0 1");
+    assert!(rt; Failure::Nothing.status() == 2 && Failure::Input.status() == 1);
     Ok(())
 }

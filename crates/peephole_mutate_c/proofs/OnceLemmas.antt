@@ -8,8 +8,8 @@ use Rattle.wasm_module.specs.Module.{Layout}
 use Rattle.wasm_module.specs.Rewritten.{code_with, IsRewritten}
 use Rattle.peephole_rules.specs.declared.rule.Rule.{Rule}
 use Rattle.peephole_modules.specs.Mutated.{IsMutated}
-use Rattle.peephole_mutator.specs.declared.times.MadeRewrite.{MadeRewrite}
-use Rattle.peephole_mutator.specs.Mutates.{Mutates, RewritesEach}
+use Rattle.peephole_modules.specs.declared.times.MadeRewrite.{MadeRewrite}
+use Rattle.peephole_modules.specs.Mutates.{Mutates, RewritesEach}
 use Rattle.peephole_mutate_c.specs.Writes.{IsRewrittenOnce}
 
 -- rewrites, of which there is one

@@ -4,7 +4,7 @@
 ghost use Rattle.std.specs.Prelude.{◌≡◌, ◌≢◌, ◌<◌, ◌≤◌, length, take, drop, IfSome};
 ghost use Rattle.peephole_mutate_c.specs.Writes.{IsRewrittenOnce};
 
-use peephole_mutator::mutate_with_seed;
+use peephole_modules::mutate_with_seed;
 use peephole_rules::RULES;
 use std::alloc::Global;
 

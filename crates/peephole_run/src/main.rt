@@ -4,7 +4,7 @@
 #[cfg(test)]
 mod refused_memory;
 #[cfg(test)]
-mod results;
+mod runs;
 #[cfg(test)]
 mod tests;
 

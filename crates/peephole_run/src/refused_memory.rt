@@ -52,109 +52,120 @@ impl Write for Page {
     }
 }
 
-/// What is written where the line `number` ends for want of memory: what the lines before it print, and then its fault.
-fn cut_at(lines: &[(&str, &str)], number: usize) -> Page {
+/// Runs as transcripts: the lines of an input behind `>`, and behind each what it prints.
+const RUNS: &str = "
+> body 412a41016a0b
+> at 2
+block 0..3
+> node i32.const.1
+> node i32.const.42
+> node i32.add 0 1
+> write
+bytes 4101412a6a0b
+
+> word 1731343737
+> body 41380b
+> at 0
+block 0..1
+> node i32.const.56
+> node i32.unfold 0
+> write
+bytes 41f9eac8b90641bf95b7c6796a0b
+
+> body 200002400b41016a0b
+> at 4
+block 3..5
+> write
+bytes 200002400b41016a0b
+
+> global i32
+> global i32
+> body 410741086a0b
+> at 2
+block 0..3
+> node i32.const.7
+> node i32.use_of_global 0
+> node i32.const.8
+> node i32.use_of_global 2
+> node i32.add 1 3
+> write
+bytes 4107240223024108240323036a0b
+global i32
+global i32
+
+> body 410a1a0b
+> at 0
+block 0..1
+> node i32.const.10
+> node i32.or 0 0
+> write
+bytes 410a410a721a0b
+
+> body 200002400b41016a0b
+> at 4
+block 3..5
+> show
+DFG forest
+(0)(at 4) i32.add
+├──(4294967295)(at 4) undef
+└──(0)(at 3) i32.const.1
+in order yes
+consistent no
+";
+
+/// The input of a transcript.
+fn input_of(transcript: &str) -> Page {
     let mut page = Page::new();
-    for (at, (_, printed)) in lines.iter().enumerate() {
-        if at + 1 < number {
-            page.add(printed.as_bytes());
+    for line in transcript.lines() {
+        if let Some(command) = line.strip_prefix("> ") {
+            page.add(command.as_bytes());
+            page.add(b"\n");
         }
     }
-    page.add(b"line ");
-    if number > 9 {
-        page.add(&[b'0' + (number / 10 % 10) as u8]);
-    }
-    page.add(&[b'0' + (number % 10) as u8]);
-    page.add(b": Memory\n");
     page
 }
 
-/// The lines of an input, each with what it prints.
-type Lines = &'static [(&'static str, &'static str)];
-
-const RUNS: [Lines; 6] = [
-    &[
-        ("body 412a41016a0b", ""),
-        ("at 2", "block 0..3\n"),
-        ("node i32.const.1", ""),
-        ("node i32.const.42", ""),
-        ("node i32.add 0 1", ""),
-        ("write", "bytes 4101412a6a0b\n"),
-    ],
-    &[
-        ("word 1731343737", ""),
-        ("body 41380b", ""),
-        ("at 0", "block 0..1\n"),
-        ("node i32.const.56", ""),
-        ("node i32.unfold 0", ""),
-        ("write", "bytes 41f9eac8b90641bf95b7c6796a0b\n"),
-    ],
-    &[
-        ("body 200002400b41016a0b", ""),
-        ("at 4", "block 3..5\n"),
-        ("write", "bytes 200002400b41016a0b\n"),
-    ],
-    &[
-        ("global i32", ""),
-        ("global i32", ""),
-        ("body 410741086a0b", ""),
-        ("at 2", "block 0..3\n"),
-        ("node i32.const.7", ""),
-        ("node i32.use_of_global 0", ""),
-        ("node i32.const.8", ""),
-        ("node i32.use_of_global 2", ""),
-        ("node i32.add 1 3", ""),
-        (
-            "write",
-            "bytes 4107240223024108240323036a0b\nglobal i32\nglobal i32\n",
-        ),
-    ],
-    &[
-        ("body 410a1a0b", ""),
-        ("at 0", "block 0..1\n"),
-        ("node i32.const.10", ""),
-        ("node i32.or 0 0", ""),
-        ("write", "bytes 410a410a721a0b\n"),
-    ],
-    &[
-        ("body 200002400b41016a0b", ""),
-        ("at 4", "block 3..5\n"),
-        (
-            "show",
-            "DFG forest\n\
-             (0)(at 4) i32.add\n\
-             ├──(4294967295)(at 4) undef\n\
-             └──(0)(at 3) i32.const.1\n\
-             in order yes\n\
-             consistent no\n",
-        ),
-    ],
-];
-
-/// Whether memory was refused to the run of some lines: while the input was read, and then nothing is printed, or at one of the
-/// lines. Else all is printed.
-fn lacks_memory(rt: &impl Abort, alloc: Global, lines: &[(&str, &str)]) -> bool {
-    let mut text = Page::new();
-    let mut whole = Page::new();
-    for (line, printed) in lines {
-        text.add(line.as_bytes());
-        text.add(b"\n");
-        whole.add(printed.as_bytes());
+/// What is written where the line `number` ends for want of memory: what the lines before it print, and then its fault. All
+/// that is printed, where there is no such line.
+fn cut_at(transcript: &str, number: u8) -> Page {
+    let mut page = Page::new();
+    let mut left = number;
+    for line in transcript.lines() {
+        if line.starts_with("> ") {
+            left = left.saturating_sub(1);
+        } else if left > 0 {
+            page.add(line.as_bytes());
+            page.add(b"\n");
+        }
     }
-    let mut input = Tally::new(text.text());
+    if left == 0 {
+        page.add(b"line ");
+        if number > 9 {
+            page.add(&[b'0' + number / 10 % 10]);
+        }
+        page.add(&[b'0' + number % 10]);
+        page.add(b": Memory\n");
+    }
+    page
+}
+
+/// Whether memory was refused to the run of a transcript: while the input was read, and then nothing is printed, or at one of
+/// the lines. Else all is printed.
+fn lacks_memory(rt: &impl Abort, alloc: Global, transcript: &str) -> bool {
+    let page = input_of(transcript);
+    let mut input = Tally::new(page.text());
     let mut output = Tally::new(Page::new());
     let result = run(alloc, &mut input, &mut output);
     assert!(rt; !input.failed() && !output.failed());
     let written = output.into_inner();
     match result {
         Ok(true) => {
-            assert!(rt; written.text() == whole.text());
+            assert!(rt; written.text() == cut_at(transcript, 255).text());
             false
         }
         Ok(false) => {
-            assert!(rt;
-                (1..=lines.len()).any(|number| written.text() == cut_at(lines, number).text())
-            );
+            assert!(rt; written.text().ends_with(b": Memory\n"));
+            assert!(rt; (1..=10).any(|number| written.text() == cut_at(transcript, number).text()));
             true
         }
         Err(error) => {
@@ -167,8 +178,8 @@ fn lacks_memory(rt: &impl Abort, alloc: Global, lines: &[(&str, &str)]) -> bool 
 /// Whether memory was refused to one of the runs: one request at most.
 pub fn runs(rt: &impl Abort, alloc: Global) -> bool {
     let mut lacks = false;
-    for lines in RUNS {
-        if lacks_memory(rt, alloc, lines) {
+    for transcript in RUNS.trim().split("\n\n") {
+        if lacks_memory(rt, alloc, transcript) {
             assert!(rt; !lacks);
             lacks = true;
         }

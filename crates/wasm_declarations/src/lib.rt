@@ -13,8 +13,6 @@ mod list;
 mod locals;
 mod refusal;
 mod tables;
-#[cfg(test)]
-mod tests;
 mod types;
 
 pub use entries::{Entry, read_entries};

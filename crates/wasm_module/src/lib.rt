@@ -12,8 +12,6 @@ mod listed;
 mod lists;
 mod module;
 mod spaces;
-#[cfg(test)]
-mod tests;
 mod unknown;
 mod writing;
 

@@ -16,6 +16,3 @@ pub use id::SectionId;
 pub use section::Section;
 pub use sections::read_sections;
 pub use writing::{WriteError, put_section};
-
-#[cfg(test)]
-mod tests;

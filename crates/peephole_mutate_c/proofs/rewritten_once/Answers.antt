@@ -1,7 +1,7 @@
 -- One rewrite of the module.
 use Rattle.std.proofs.Common.{None, rules}
 use Rattle.peephole_rules.specs.declared.rule.TheConstants.{RULES}
-use Rattle.peephole_mutator.specs.Mutates.{Mutates}
+use Rattle.peephole_modules.specs.Mutates.{Mutates}
 use Rattle.peephole_mutate_c.proofs.OnceLemmas.{length-once, once}
 use Rattle.peephole_mutate_c.proofs.rewritten_once.Goals as goal
 

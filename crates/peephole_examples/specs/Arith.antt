@@ -1,0 +1,152 @@
+-- Numbers, their negatives and sums, as nodes and as texts: `num.1`, `neg`, `add`, `sum` (this project).
+use Rattle.std.specs.Prelude.{◌≡◌, ℕ, ◌==◌, ◌^◌, ℤ, pos, neg_ℤ, ◌≤ℤ◌, ◌<ℤ◌, nat_eq, List, [], ◌++◌, length, Bool, true, false, Option, Some, None, Result, Ok, Err, codes, if◌then◌else◌, refl}
+use Rattle.std.specs.Bool.{Decides}
+use Rattle.std.specs.Cmp.{IsEquivalence, unsigned_Decides, signed_Decides}
+use Rattle.std.specs.Ordering.{int_eq}
+use Rattle.std.specs.Cmp.Lexicographic.{pointwise}
+use Rattle.std.specs.Fmt.{signed_decimal}
+use Rattle.std.specs.Option.{ok_or}
+use Rattle.std.specs.Vec.{with_items}
+use Rattle.std.proofs.Common.{true≢false, ap, sym, lit≤}
+use Rattle.mutate_base.specs.declared.term_error.TermError.{TermError}
+use Rattle.mutate_base.specs.declared.term_error.TermError.TheVariants.{InvalidToken, ExpectedZeroChildren, ExpectedChildren, BadInteger}
+use Rattle.peephole_nodes.specs.declared.id.Id.{Id}
+use Rattle.peephole_lang.specs.Language.{IsAlike, alike_equivalence}
+use Rattle.mutate_base.specs.Number.{read_signed}
+use Rattle.mutate_base.specs.laws.NumberBack.{signed_in_range_back}
+use Rattle.peephole_lang.specs.Term.{numbers_of}
+use Rattle.peephole_lang.specs.Names.{rest_after}
+use Rattle.peephole_nodes.specs.Written.{none_written, any_written}
+use Rattle.peephole_examples.specs.declared.arith.Arith.{Arith}
+use Rattle.peephole_examples.specs.declared.arith.Arith.TheVariants.{Num, Neg, Add, Sum}
+use Rattle.peephole_examples.specs.declared.arith.ArithHead.{ArithHead}
+use Rattle.peephole_examples.specs.declared.arith.ArithHead.TheVariants as head
+
+abbrev pub head_of : Arith → ArithHead
+head_of (Num z) = head.Num z
+head_of (Neg _) = head.Neg
+head_of (Add _) = head.Add
+head_of (Sum _) = head.Sum
+
+abbrev pub ids_of : Arith → List Id
+ids_of (Num _) = []
+ids_of (Neg children) = children
+ids_of (Add children) = children
+ids_of (Sum children) = children.items
+
+abbrev pub children_of : Arith → List ℕ
+children_of a = numbers_of (ids_of a)
+
+abbrev pub with_ids : Arith → List Id → Arith
+with_ids (Num z) _ = Num z
+with_ids (Neg _) w = Neg w
+with_ids (Add _) w = Add w
+with_ids (Sum children) w = Sum (with_items children w)
+
+-- equal, but for how much memory a list of children keeps for more
+abbrev pub IsEqual : Arith → Arith → Type 0
+IsEqual (Sum a) (Sum b) = a.items ≡ b.items
+IsEqual a b = a ≡ b
+
+abbrev pub IsNode : Arith → Type 0
+IsNode (Num z) = (neg_ℤ (pos (2 ^ 31)) ≤ℤ z) × (z <ℤ pos (2 ^ 31))
+IsNode (Neg children) = length children ≡ 1
+IsNode (Add children) = length children ≡ 2
+IsNode (Sum _) = Unit {0}
+
+abbrev pub arith_matches : Arith → Arith → Bool
+arith_matches (Num z) (Num y) = int_eq z y
+arith_matches (Neg a) (Neg b) = length a == length b
+arith_matches (Add a) (Add b) = length a == length b
+arith_matches (Sum a) (Sum b) = length a.items == length b.items
+arith_matches _ _ = false
+
+-- ---- texts
+
+-- the text of what a node is
+abbrev pub head_text : ArithHead → List ℕ
+head_text (head.Num z) = codes "num." ++ signed_decimal z
+head_text head.Neg = codes "neg"
+head_text head.Add = codes "add"
+head_text head.Sum = codes "sum"
+
+abbrev pub text_of : Arith → List ℕ
+text_of a = head_text (head_of a)
+
+abbrev pub numbered : Result ℤ TermError → Result ArithHead TermError
+numbered (Ok z) = Ok (head.Num z)
+numbered (Err e) = Err e
+
+-- the head of the number that the digits write, or the refusal
+abbrev pub read_number : List ℕ → Result ArithHead TermError
+read_number digits = numbered (ok_or (read_signed 32 digits) BadInteger)
+
+abbrev pub read_num : Option (List ℕ) → ℕ → Result ArithHead TermError
+read_num None count = Err InvalidToken
+read_num (Some digits) count = if count == 0 then read_number digits else Err ExpectedZeroChildren
+
+-- the head, where there are as many children as it takes
+abbrev pub counted : ArithHead → ℕ → ℕ → Result ArithHead TermError
+counted h wanted count = if count == wanted then Ok h else Err (ExpectedChildren wanted)
+
+-- the head that the text reads as, given that many children, or the first refusal
+abbrev pub reads : List ℕ → ℕ → Result ArithHead TermError
+reads text count =
+    if pointwise nat_eq text (codes "neg") then counted head.Neg 1 count
+    else if pointwise nat_eq text (codes "add") then counted head.Add 2 count
+    else if pointwise nat_eq text (codes "sum") then Ok head.Sum
+    else read_num (rest_after (codes "num.") text) count
+
+-- a node's text is its head's
+pub says : (a b : Arith) → head_of a ≡ head_of b → text_of a ≡ text_of b
+says a b e = ap head_text e
+
+pub reads_back : (a : Arith) → IsNode a → reads (text_of a) (length (ids_of a)) ≡ Ok (head_of a)
+reads_back (Num z) fits = rw (signed_in_range_back 32 z (lit≤ tt) fits.0 fits.1) refl
+reads_back (Neg _) given = rw given refl
+reads_back (Add _) given = rw given refl
+reads_back (Sum _) fits = refl
+
+-- what a node is and its children decide the node
+pub determined : (a b : Arith) → head_of a ≡ head_of b → ids_of a ≡ ids_of b → IsEqual a b
+determined (Num z) (Num y) says same = cc
+determined (Neg a) (Neg b) says same = ap (λ (w : List Id). Neg w) same
+determined (Add a) (Add b) says same = ap (λ (w : List Id). Add w) same
+determined (Sum a) (Sum b) says same = same
+determined _ _ says same = absurd cc
+
+-- ---- children that are written
+
+pub keeps_head : (a : Arith) (w : List Id) → head_of (with_ids a w) ≡ head_of a
+keeps_head (Num _) w = refl
+keeps_head (Neg _) w = refl
+keeps_head (Add _) w = refl
+keeps_head (Sum _) w = refl
+
+pub has_written : (a : Arith) (w : List Id) → length w ≡ length (ids_of a) → ids_of (with_ids a w) ≡ w
+has_written (Num _) w e = none_written w e
+has_written (Neg _) w e = refl
+has_written (Add _) w e = refl
+has_written (Sum children) w e = any_written children w e
+
+-- ---- matching
+
+matches_says : (a b : Arith) → arith_matches a b ≡ true → IsAlike head_of ids_of a b
+matches_says (Num z) (Num y) e = (ap (λ k. head.Num k) ((signed_Decides z y).0 e), refl)
+matches_says (Neg a) (Neg b) e = (refl, (unsigned_Decides (length a) (length b)).0 e)
+matches_says (Add a) (Add b) e = (refl, (unsigned_Decides (length a) (length b)).0 e)
+matches_says (Sum a) (Sum b) e = (refl, (unsigned_Decides (length a.items) (length b.items)).0 e)
+matches_says _ _ e = absurd (true≢false (sym e))
+
+alike_matches : (a b : Arith) → IsAlike head_of ids_of a b → arith_matches a b ≡ true
+alike_matches (Num z) (Num y) s = (signed_Decides z y).1 (let same = s.0 in cc)
+alike_matches (Neg a) (Neg b) s = (unsigned_Decides (length a) (length b)).1 s.1
+alike_matches (Add a) (Add b) s = (unsigned_Decides (length a) (length b)).1 s.1
+alike_matches (Sum a) (Sum b) s = (unsigned_Decides (length a.items) (length b.items)).1 s.1
+alike_matches _ _ s = let same = s.0 in absurd cc
+
+pub matches_exactly : (a b : Arith) → Decides (arith_matches a b) (IsAlike head_of ids_of a b)
+matches_exactly a b = (matches_says a b, alike_matches a b)
+
+pub matches_equivalence : IsEquivalence arith_matches
+matches_equivalence = alike_equivalence head_of ids_of arith_matches matches_exactly

@@ -1,0 +1,222 @@
+//! The blocks of a module's functions.
+ghost use Rattle.std.specs.Prelude.{◌≡◌, ◌<◌, length, IsTrue, is_some, IfErr, IfSome};
+ghost use Rattle.peephole_module_commands.specs.declared.failure.Failure.TheVariants.{Output};
+ghost use Rattle.mutate_base.specs.Config.{info_of};
+ghost use Rattle.wasm_module.specs.Module.{IsModule};
+
+use crate::failure::Failure;
+use crate::functions::{chosen_entries, fault_of, index_of, module_of};
+use mutate_base::{Error, ModuleInfo, PrimitiveTypeInfo, WasmMutate, Words};
+use peephole_graphs::{BBlock, DFGBuilder};
+use peephole_modules::{FunctionBody, FunctionError, read_function};
+use peephole_rewrites::are_integer;
+use std::alloc::Global;
+use std::io::Write;
+use thiserror::Error as ErrorTexts;
+use wasm_code::{Operator, OperatorAndByteOffset};
+use wasm_module::Layout;
+
+/// Why no graph holds an operator.
+#[derive(Clone, Copy, Debug, PartialEq, Eq, ErrorTexts)]
+pub enum Unfit {
+    /// It calls through a table.
+    #[error("call_indirect")]
+    CallIndirect,
+    /// It selects with so many types.
+    #[error("select of {0} types")]
+    TypedSelect(u32),
+    /// It calls a function that has several results.
+    #[error("call of a function with several results")]
+    SeveralResults,
+    /// It calls a function with this index, which the module doesn't have, or has no type for.
+    #[error("call of the unknown function {0}")]
+    UnknownFunction(u32),
+}
+
+// Why no graph holds the only operator, or none where one does.
+fn unfit_operator(
+    alloc: Global,
+    config: &WasmMutate<'_, Words>,
+    operator: &[OperatorAndByteOffset],
+) -> Result<Option<Unfit>, Failure>
+    requires set_up { IsTrue (is_some config.now.setup) }
+    requires one { length operator.now ≡ 1 }
+{
+    match operator[0].0 {
+        Operator::CallIndirect { .. } => return Ok(Some(Unfit::CallIndirect)),
+        Operator::TypedSelect { count, .. } => return Ok(Some(Unfit::TypedSelect(count))),
+        _ => {}
+    }
+    let Some(block) = BBlock::of_operator(0, operator) else {
+        return Ok(None);
+    };
+    let mut builder = DFGBuilder::new(config);
+    match builder.get_dfg(alloc, config.info(), operator, &block) {
+        Ok(Some(_)) => Ok(None),
+        Ok(None) => Ok(Some(Unfit::SeveralResults)),
+        Err(Error::UnknownFunction(function)) => Ok(Some(Unfit::UnknownFunction(function))),
+        Err(e) => Err(Failure::from(e)),
+    }
+}
+
+// How many of the operators, from the first on, are integer instructions.
+fn integer_count(
+    locals: &[PrimitiveTypeInfo],
+    info: &ModuleInfo<'_>,
+    operators: &[OperatorAndByteOffset],
+) -> usize {
+    for index in 0..operators.len() {
+        if !are_integer(locals, info, &operators[index..index + 1]) {
+            return index;
+        }
+    }
+    operators.len()
+}
+
+// Writes what the first of a block's operators is that no graph holds, where there is one. The block starts at `start`.
+fn write_first_unfit<W: Write>(
+    alloc: Global,
+    config: &WasmMutate<'_, Words>,
+    operators: &[OperatorAndByteOffset],
+    start: usize,
+    output: &mut W,
+) -> Result<(), Failure>
+    requires { IsTrue (is_some config.now.setup) }
+{
+    for index in 0..operators.len() {
+        if let Some(unfit) = unfit_operator(alloc, config, &operators[index..index + 1])? {
+            let operator = start.saturating_add(index);
+            write!(output, ", no graph: operator {operator} {unfit}")?;
+            return Ok(());
+        }
+    }
+    Ok(())
+}
+
+// Writes the line of the block that ends with the operator.
+fn write_block<W: Write>(
+    alloc: Global,
+    config: &WasmMutate<'_, Words>,
+    function: &FunctionBody,
+    index: usize,
+    end: usize,
+    output: &mut W,
+) -> Result<(), Failure>
+    requires set_up { IsTrue (is_some config.now.setup) }
+    requires inside { end < length function.now.operators.items }
+{
+    let Some(block) = BBlock::of_operator(end, &function.operators) else {
+        return Ok(());
+    };
+    let range = block.range();
+    let start = range.start;
+    let behind = range.end;
+    let operators = &function.operators[start..behind];
+    let integer = integer_count(&function.locals, config.info(), operators);
+    write!(
+        output,
+        "function {index} block {start}..{behind} integer {integer}"
+    )?;
+    write_first_unfit(alloc, config, operators, start, output)?;
+    writeln!(output)?;
+    Ok(())
+}
+
+// Whether the operator is the last one of a block.
+fn ends_block(operators: &[OperatorAndByteOffset], index: usize) -> bool
+    requires { index < length operators.now }
+{
+    if operators[index].0.is_delimiter() {
+        return false;
+    }
+    if index + 1 == operators.len() {
+        return true;
+    }
+    operators[index + 1].0.is_delimiter()
+}
+
+// Writes the lines of the blocks of a function.
+fn write_blocks<W: Write>(
+    alloc: Global,
+    config: &WasmMutate<'_, Words>,
+    function: &FunctionBody,
+    index: usize,
+    output: &mut W,
+) -> Result<(), Failure>
+    requires { IsTrue (is_some config.now.setup) }
+{
+    for end in 0..function.operators.len() {
+        if ends_block(&function.operators, end) {
+            write_block(alloc, config, function, index, end, output)?;
+        }
+    }
+    Ok(())
+}
+
+/// Writes the line of the n-th of the module's own functions, which can't be read: the name of its first fault, and where that is in
+/// the module. Where an import isn't known, and so no function's index is, the line names the code entry.
+pub fn write_fault<W: Write>(
+    output: &mut W,
+    layout: &Layout,
+    n: usize,
+    error: &FunctionError,
+) -> Result<(), Failure>
+    requires inside { n < length layout.now.entries }
+    ensures { IfErr result (λ e. e ≡ Output) }
+{
+    let (name, offset) = fault_of(error, layout.entries[n].start);
+    if layout.unknown.imports.is_some() {
+        writeln!(output, "entry {n} {name} at {offset}")?;
+    } else {
+        let index = index_of(layout, n);
+        writeln!(output, "function {index} {name} at {offset}")?;
+    }
+    Ok(())
+}
+
+// Writes the lines of the n-th of the module's own functions.
+fn write_function<W: Write>(
+    alloc: Global,
+    config: &WasmMutate<'_, Words>,
+    bytes: &[u8],
+    layout: &Layout,
+    n: usize,
+    output: &mut W,
+) -> Result<(), Failure>
+    requires set_up { IsTrue (is_some config.now.setup) }
+    requires module { IfSome (info_of config.now) (λ info. IsModule bytes.now info layout.now) }
+    requires inside { n < length layout.now.entries }
+{
+    match read_function(alloc, bytes, config.info(), layout, n) {
+        Ok(function) => write_blocks(alloc, config, &function, index_of(layout, n), output),
+        Err(e) => {
+            if e.is_memory() {
+                return Err(Failure::Memory);
+            }
+            write_fault(output, layout, n, &e)
+        }
+    }
+}
+
+/// Writes a line for each block of each function of the module: the longest ranges of operators that hold no delimiter. It says how
+/// many integer instructions the block begins with, and which of its operators is the first that no graph holds, if one isn't. A
+/// function that can't be read has a line that says why. With `only`, the function with that index alone.
+///
+/// Fails as the module can't be read, and as `chosen_entries` finds no such function.
+pub fn list_blocks<W: Write>(
+    alloc: Global,
+    bytes: &[u8],
+    only: Option<usize>,
+    output: &mut W,
+) -> Result<(), Failure> {
+    let module = module_of(alloc, bytes)?;
+    let layout = module.layout;
+    let chosen = chosen_entries(&layout, only)?;
+    let mut config = WasmMutate::new();
+    config.preserve_semantics(true);
+    config.set_up(module.info, Words::new(Vec::new(alloc)));
+    for n in chosen.start..chosen.end {
+        write_function(alloc, &config, bytes, &layout, n, output)?;
+    }
+    Ok(())
+}

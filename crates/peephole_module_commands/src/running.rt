@@ -1,0 +1,83 @@
+//! A run: a module in, and out goes what the options ask for.
+ghost use Rattle.std.specs.Prelude.{◌≡◌, ◌≢◌, OnOk, IfErr, IfSome};
+ghost use Rattle.peephole_module_commands.specs.Failures.{FailsToRewrite};
+ghost use Rattle.peephole_module_commands.specs.declared.failure.Failure.TheVariants.{Output};
+ghost use Rattle.peephole_module_commands.specs.Writes.{WritesMutated};
+
+use crate::blocks::list_blocks;
+use crate::failure::Failure;
+use crate::functions::module_of;
+use crate::input::read_input;
+use crate::listing::list_rewrites;
+use crate::mutating::rewritten;
+use crate::options::{Options, Task};
+use crate::stats::{report_functions, report_rewrites};
+use std::alloc::Global;
+use std::io::{Read, Write};
+
+// Writes the module rewritten. Where the options ask for that, reports on its functions first, so also where no rule applies, and
+// on the rewrites behind that.
+fn rewrite<W: Write, E: Write>(
+    alloc: Global,
+    options: &Options,
+    bytes: &[u8],
+    output: &mut W,
+    notes: &mut E,
+) -> Result<(), Failure>
+    ensures written { OnOk result (WritesMutated options.now.rules.items options.now.function
+        options.now.count bytes.now (W.contents output.old) (W.contents output.new)) }
+    ensures fails { IfErr result (FailsToRewrite options.now.rules.items options.now.function
+        options.now.count bytes.now) }
+    ensures kept { IfErr result (λ e. e ≢ Output
+        → W.contents output.new ≡ W.contents output.old) }
+{
+    if options.stats {
+        let module = module_of(alloc, bytes)?;
+        report_functions(alloc, bytes, &module.info, &module.layout, notes)?;
+    }
+    let new = rewritten(alloc, bytes, options)?;
+    output.write_all(&new.bytes)?;
+    output.flush()?;
+    if options.stats {
+        report_rewrites(bytes, &new, notes)?;
+    }
+    Ok(())
+}
+
+/// Reads all of the input, and does what the options ask for: what it writes goes to the output, and what it reports to the notes.
+/// Fails as the task fails, and as the input can't be read or the output written.
+pub fn run<R: Read, W: Write, E: Write>(
+    alloc: Global,
+    options: &Options,
+    input: &mut R,
+    output: &mut W,
+    notes: &mut E,
+) -> Result<(), Failure>
+    // What is written is the input rewritten, each block of it running as before.
+    ensures written { options.now.task ≡ Task.Rewrite → OnOk result
+        (IfSome (R.remaining input.old) (λ bytes. WritesMutated options.now.rules.items
+        options.now.function options.now.count bytes (W.contents output.old)
+        (W.contents output.new))) }
+    // Why it fails: with `Nothing`, only where no rule applies.
+    ensures fails { options.now.task ≡ Task.Rewrite → IfErr result (λ e.
+        IfSome (R.remaining input.old) (λ bytes. FailsToRewrite options.now.rules.items
+        options.now.function options.now.count bytes e)) }
+    // Nothing is written then, unless the output, or the notes, can't be written.
+    ensures kept { options.now.task ≡ Task.Rewrite → IfErr result (λ e. e ≢ Output
+        → W.contents output.new ≡ W.contents output.old) }
+{
+    let bytes = read_input(alloc, input)?;
+    match options.task {
+        Task::Rewrite => rewrite(alloc, options, &bytes, output, notes),
+        Task::List => {
+            list_rewrites(alloc, &bytes, &options.rules, options.function, output)?;
+            output.flush()?;
+            Ok(())
+        }
+        Task::Blocks => {
+            list_blocks(alloc, &bytes, options.function, output)?;
+            output.flush()?;
+            Ok(())
+        }
+    }
+}

@@ -1,0 +1,114 @@
+//! Sections by hand, with values from the standard.
+
+use crate::table::{bytes_of, fields_of};
+use mutate_base::PrimitiveTypeInfo;
+use std::alloc::Global;
+use std::fmt::Debug;
+use std::process::Abort;
+use std::test::Fail;
+use wasm_declarations::{
+    Known, Locals, read_entries, read_functions, read_globals, read_imports, read_locals,
+    read_memories, read_tables, read_types,
+};
+use wasm_sections::ModuleError;
+
+/// What a section lists, the offset of its contents, these, and what they are read as; in brackets, what it is.
+const SECTIONS: &str = "
+types | 10 | 02 60 02 7f7e 01 7d 60 00 00 | [Func(FuncInfo { params: [I32, I64], returns: [F32] }), Func(FuncInfo { params: [], returns: [] })] | (func (param i32 i64) (result f32)) and (func)
+types | 10 | 01 4e 00 | 0 of 1, then UnknownForm at 11 | a recursive group
+types | 10 | 03 60 00 00 60 01 40 00 60 | 1 of 3, then UnknownForm at 14 | a value type that isn't one
+types | 10 | 01 60 00 | Truncated at 11 | a type that is cut
+imports | 100 | 05 01 6d 01 66 00 03 00 01 74 01 70 01 02 05 00 00 02 04 8001 00 00 03 7e 01 00 00 04 00 09 | [Function(3), Table(TableType { element_type: Func, table64: false }), Memory(MemoryType { memory64: true }), Global(I64), Tag(9)] | a function of type 3, a table of 2 to 5 functions, a memory of 128 pages or more that 64 bits index, a global that may be written, and a tag of type 9
+imports | 100 | 02 00 00 00 03 00 00 05 00 | 1 of 2, then UnknownForm at 105 | another kind of import
+memories | 0 | 06 00 01 01 01 02 04 01 05 01 02 03 01 02 07 01 02 | [MemoryType { memory64: false }, MemoryType { memory64: false }, MemoryType { memory64: true }, MemoryType { memory64: true }, MemoryType { memory64: false }, MemoryType { memory64: true }] | with and without a maximum, that 32 or 64 bits index, and shared ones of either width
+memories | 0 | 02 00 01 02 01 | 1 of 2, then UnknownForm at 3 | a shared memory without a maximum
+memories | 0 | 01 08 01 00 | 0 of 1, then UnknownForm at 1 | pages of another size
+tables | 0 | 02 70 00 00 6f 05 01 02 | [TableType { element_type: Func, table64: false }, TableType { element_type: Extern, table64: true }] | of functions, and of references from outside that 64 bits index
+tables | 0 | 01 40 00 70 00 00 d0 70 0b | 0 of 1, then UnknownForm at 1 | a table with an initialiser
+globals | 7 | 03 7f 00 4105 0b 7e 01 2300 4201 7c 0b 70 00 d070 0b | [I32, I64, FuncRef] | i32.const 5; one that may be written, global.get 0, i64.const 1, i64.add; ref.null func
+globals | 7 | 01 7f 00 ff 0b | 0 of 1, then UnknownOpcode at 8 | an opcode that there isn't
+globals | 7 | 01 7f 00 4105 | Truncated at 8 | an initialiser without an end
+globals | 7 | 02 7f 00 4105 0b 64 70 00 0b | 1 of 2, then UnknownForm at 13 | a reference that may not be null, behind a known type
+entries | 1000 | 02 02 00 0b 8300 00 01 0b | [Entry { start: 1001, contents: 1002, end: 1004 }, Entry { start: 1004, contents: 1006, end: 1009 }] | an empty body, and one whose size takes two bytes
+entries | 1000 | 01 02 0b | Truncated at 1001 | a size that is more than there is
+locals | 20 | 02 02 7e 01 7c 0b | Locals { types: [I32, I64, I64, F64], expression: 25 } | behind the parameter, two groups, (local i64 i64) (local f64), and `end`
+locals | 20 | 02 01 7f cf8603 7f 0b | TooManyLocals at 23 | a parameter and 50,000 locals in two groups
+locals | 20 | 01 ffffffff0f 7f 0b | TooManyLocals at 21 | more locals than memory has room for
+functions | 50 | ffffffff0f | Truncated at 55 | more items than bytes, for which no memory is taken
+functions | 50 | 01 00 07 | TrailingBytes at 52 | fewer than there are
+functions | 50 | 808080808000 | BadInteger at 50 | a count of six bytes
+functions | 50 | | Truncated at 50 | no count
+functions | 50 | 02 00 07 | [0, 7] | two functions
+";
+
+/// What is read, or why nothing is.
+fn shown<T>(alloc: Global, answer: Result<T, ModuleError>) -> Result<String, Fail>
+where
+    T: Debug + Drop,
+{
+    match answer {
+        Ok(found) => Ok(format!(in alloc; "{found:?}")?),
+        Err(error) => Ok(format!(in alloc; "{error}")?),
+    }
+}
+
+/// The items, or how many are known of how many, and where and why the next one isn't.
+fn shown_items<T>(alloc: Global, answer: Result<Known<T>, ModuleError>) -> Result<String, Fail>
+where
+    T: Debug + Drop,
+{
+    let known = match answer {
+        Ok(known) => known,
+        Err(error) => return Ok(format!(in alloc; "{error}")?),
+    };
+    let (count, found) = (known.count, known.items.len());
+    match known.unknown {
+        Some(error) => Ok(format!(in alloc; "{found} of {count}, then {error}")?),
+        None if usize::try_from(count) == Ok(found) => shown(alloc, Ok(known.items)),
+        None => Err("another number of items")?,
+    }
+}
+
+/// What is read of a list, or of the locals behind a parameter of the type i32.
+fn read_as(alloc: Global, list: &str, contents: &[u8], start: u16) -> Result<String, Fail> {
+    let start = usize::from(start);
+    match list {
+        "types" => shown_items(alloc, read_types(alloc, contents, start)),
+        "imports" => shown_items(alloc, read_imports(alloc, contents, start)),
+        "memories" => shown_items(alloc, read_memories(alloc, contents, start)),
+        "tables" => shown_items(alloc, read_tables(alloc, contents, start)),
+        "globals" => shown_items(alloc, read_globals(alloc, contents, start)),
+        "entries" => shown(alloc, read_entries(alloc, contents, start)),
+        "functions" => shown(alloc, read_functions(alloc, contents, start)),
+        "locals" => {
+            let params = [PrimitiveTypeInfo::I32];
+            shown(alloc, read_locals(alloc, &params, contents, start))
+        }
+        _ => Err("no such list")?,
+    }
+}
+
+#[test]
+fn sections(rt: HostRuntime) -> Result<(), Fail> {
+    let alloc = rt.alloc();
+    for line in SECTIONS.trim().lines() {
+        let fields = fields_of(alloc, line)?;
+        let [list, start, digits, wanted, _] = fields.as_slice() else {
+            panic!(rt; "{line}");
+        };
+        let contents = bytes_of(alloc, digits)?;
+        let text = read_as(alloc, list, &contents, start.parse::<u16>()?)?;
+        assert!(rt; text.as_str() == *wanted, "{line}");
+    }
+    Ok(())
+}
+
+/// One parameter, and 49,999 locals in two groups.
+#[test]
+fn most_locals(rt: HostRuntime) -> Result<(), Fail> {
+    let contents = bytes_of(rt.alloc(), "02 01 7f ce8603 7f 0b")?;
+    let params = [PrimitiveTypeInfo::I32];
+    let Locals { types, .. } = read_locals(rt.alloc(), &params, &contents, 20)?;
+    assert!(rt; types.len() == 50_000);
+    Ok(())
+}

@@ -1,0 +1,20 @@
+//! Tests by vectors from outside: of bytes and operators, of modules, their sections and what these declare, of what is known of
+//! a module, of scripts and of every node.
+#![tactic(auto)]
+
+#[cfg(test)]
+mod base;
+#[cfg(test)]
+mod code;
+#[cfg(test)]
+mod declarations;
+#[cfg(test)]
+mod module;
+#[cfg(test)]
+mod nodes;
+#[cfg(test)]
+mod script;
+#[cfg(test)]
+mod sections;
+#[cfg(test)]
+mod table;

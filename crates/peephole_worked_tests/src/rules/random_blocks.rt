@@ -1,0 +1,366 @@
+//! Random blocks of integer instructions, rewritten by random rules, run before and afterwards.
+
+use super::running::{
+    EDGES, GLOBALS, LOCALS, Variables, config_of, end_the_same, rewritten_at_random, value_of,
+};
+use crate::machine::{Value, code_of};
+use crate::table::bytes_of;
+use peephole_rules::{RULES, Rule};
+use peephole_terms::PrimitiveTypeInfo::{I32, I64};
+use peephole_terms::{
+    Function, Imm, Instr, Opcode, PrimitiveTypeInfo, ResourceRequest, ValType, row_of,
+};
+use std::alloc::{AllocError, Global};
+use std::process::Abort;
+use std::test::Fail;
+
+/// Numbers that look random, and are the same at each run (Marsaglia, Xorshift RNGs, Journal of Statistical Software 8).
+#[derive(Drop)]
+struct Draws {
+    state: u64,
+}
+
+impl Draws {
+    fn word(&mut self) -> u64 {
+        self.state ^= self.state << 13;
+        self.state ^= self.state >> 7;
+        self.state ^= self.state << 17;
+        self.state
+    }
+
+    /// A number below the bound, or 0 where that is 0.
+    fn below(&mut self, bound: usize) -> usize {
+        let number = self.word() >> 1;
+        number.checked_rem(bound as u64).unwrap_or(0) as usize
+    }
+
+    /// A number from 1 to the bound, or 1 where that is 0.
+    fn up_to(&mut self, bound: usize) -> usize {
+        self.below(bound).saturating_add(1)
+    }
+
+    /// A number of each type: an edge, a small one, or any.
+    fn numbers(&mut self) -> (u32, u64) {
+        let word = self.word();
+        match (self.below(4), EDGES.get(self.below(5))) {
+            (0 | 1, Some(edge)) => *edge,
+            (2, _) => ((word & 0x3f) as u32, word & 0x7f),
+            _ => ((word & 0xffff_ffff) as u32, word),
+        }
+    }
+}
+
+/// One of the items.
+fn pick<T: Copy>(rt: &impl Abort, draws: &mut Draws, items: &[T]) -> T {
+    match items.get(draws.below(items.len())) {
+        Some(item) => *item,
+        None => panic!(rt; "nothing to pick"),
+    }
+}
+
+/// The types of the operands, and the opcodes, of operators that leave an i32. What commutes, what has rules of its own, and
+/// `local.tee`, stand there twice.
+const OF_I32: &str = "
+i32 i32 | 6a 6b 6c 6d 6e 6f 70 71 72 73 74 75 76 77 78
+i32 i32 | 6a 6c 71 72 73
+i32 i32 | 46 6b 6c 74
+i32 | 45
+i64 i64 | 51
+i32 i32 | 46 47 48 49 4a 4b 4c 4d 4e 4f
+i64 i64 | 51 52 53 54 55 56 57 58 59 5a
+i32 | 45 67 68 69 c0 c1
+i64 | 50 a7
+i32 | 22
+i32 | 22
+i32 i32 i32 | 1b 1c
+";
+
+/// The same of an i64.
+const OF_I64: &str = "
+i64 i64 | 7c 7d 7e 7f 80 81 82 83 84 85 86 87 88 89 8a
+i64 i64 | 7c 7e 83 84 85
+i64 i64 | 7d 7e 86
+i64 | 79 7a 7b c2 c3 c4
+i32 | ac ad
+i64 | 22
+i64 | 22
+i64 i64 i32 | 1b 1c
+";
+
+/// One of the two locals of the type, the second one more often, so that reads and writes of it meet.
+fn local_of(draws: &mut Draws, t: PrimitiveTypeInfo) -> Imm {
+    match (t, draws.below(4)) {
+        (I64, 0) => Imm::Index(2),
+        (I64, _) => Imm::Index(3),
+        (_, 0) => Imm::Index(0),
+        _ => Imm::Index(1),
+    }
+}
+
+/// The module's global of the type.
+fn global_of(t: PrimitiveTypeInfo) -> Imm {
+    match t {
+        I64 => Imm::Index(1),
+        _ => Imm::Index(0),
+    }
+}
+
+/// The immediate of an operator that leaves the type.
+fn imm_of(draws: &mut Draws, opcode: u8, t: PrimitiveTypeInfo) -> Imm {
+    match (opcode, t) {
+        (0x22, _) => local_of(draws, t),
+        (0x1c, I64) => Imm::Val(ValType::I64),
+        (0x1c, _) => Imm::Val(ValType::I32),
+        _ => Imm::Nothing,
+    }
+}
+
+/// A constant of the type, or a read of a variable.
+fn leaf_of(draws: &mut Draws, t: PrimitiveTypeInfo) -> (u8, Imm) {
+    let (small, large) = draws.numbers();
+    match (draws.below(5), t) {
+        (0, _) => (0x23, global_of(t)),
+        (1 | 2, I64) => (0x42, Imm::I64(large.cast_signed())),
+        (1 | 2, _) => (0x41, Imm::I32(small.cast_signed())),
+        _ => (0x20, local_of(draws, t)),
+    }
+}
+
+/// What ends a statement over a value of the type, or nothing where the value is left.
+fn end_of(draws: &mut Draws, t: PrimitiveTypeInfo) -> Option<(u8, Imm)> {
+    match draws.below(4) {
+        0 => Some((0x1a, Imm::Nothing)),
+        1 => Some((0x21, local_of(draws, t))),
+        2 => Some((0x24, global_of(t))),
+        _ => None,
+    }
+}
+
+/// The instruction of an opcode.
+fn instr_of(rt: &impl Abort, opcode: u8, imm: Imm) -> Instr {
+    let Some(row) = row_of(Opcode::Byte(opcode)) else {
+        panic!(rt; "no row");
+    };
+    match Instr::new(row, imm) {
+        Some(instr) => instr,
+        None => panic!(rt; "another immediate"),
+    }
+}
+
+/// What is still to be written of a tree.
+#[derive(Clone, Copy)]
+enum Task {
+    /// An instruction.
+    Write(u8, Imm),
+    /// A tree that leaves the type, with so many operators one above another at most.
+    Make(PrimitiveTypeInfo, usize),
+}
+
+/// Puts what makes a tree before the other tasks: a leaf, or its operands and then its root. The next task stands last.
+fn plan(
+    rt: &impl Abort,
+    draws: &mut Draws,
+    tasks: &mut Vec<Task>,
+    t: PrimitiveTypeInfo,
+    depth: usize,
+) -> Result<(), Fail> {
+    if depth == 0 || draws.below(4) == 0 {
+        let (opcode, imm) = leaf_of(draws, t);
+        tasks.push(Task::Write(opcode, imm))?;
+        return Ok(());
+    }
+    let alloc = *tasks.allocator();
+    let table = match t {
+        I64 => OF_I64,
+        _ => OF_I32,
+    };
+    let lines: Vec<&str> = table.trim().lines().collect(alloc)?;
+    let Some((types, opcodes)) = pick(rt, draws, &lines).split_once(" | ") else {
+        panic!(rt; "no opcodes");
+    };
+    let opcode = pick(rt, draws, &bytes_of(alloc, opcodes)?);
+    tasks.push(Task::Write(opcode, imm_of(draws, opcode, t)))?;
+    for operand in types.rsplit(' ') {
+        let t = if operand == "i64" { I64 } else { I32 };
+        tasks.push(Task::Make(t, depth.saturating_sub(1)))?;
+    }
+    Ok(())
+}
+
+/// Writes a random tree that leaves the type, of five operators one above another and so of 364 nodes at most.
+fn write_tree(
+    rt: &impl Abort,
+    alloc: Global,
+    draws: &mut Draws,
+    t: PrimitiveTypeInfo,
+    sink: &mut Function,
+) -> Result<(), Fail> {
+    let mut tasks = Vec::new(alloc);
+    let depth = draws.up_to(5);
+    plan(rt, draws, &mut tasks, t, depth)?;
+    for _ in 0..1_000 {
+        match tasks.pop() {
+            Some(Task::Make(t, depth)) => plan(rt, draws, &mut tasks, t, depth)?,
+            Some(Task::Write(opcode, imm)) => sink.instruction(&instr_of(rt, opcode, imm))?,
+            None => return Ok(()),
+        }
+    }
+    panic!(rt; "a tree without an end")
+}
+
+/// A random body of one statement or two.
+fn random_body(rt: &impl Abort, alloc: Global, draws: &mut Draws) -> Result<Function, Fail> {
+    let mut sink = Function::new(alloc);
+    for _ in 0..draws.up_to(2) {
+        let t = pick(rt, draws, &[I32, I64]);
+        write_tree(rt, alloc, draws, t, &mut sink)?;
+        if let Some((opcode, imm)) = end_of(draws, t) {
+            sink.instruction(&instr_of(rt, opcode, imm))?;
+        }
+    }
+    sink.raw(&[0x0b])?;
+    Ok(sink)
+}
+
+/// The rules whose answers depend on what may write a variable or trap, and one that has few other chances.
+const CONDITIONAL: [Rule; 8] = [
+    Rule::Commute,
+    Rule::TurnComparison,
+    Rule::OrSelf,
+    Rule::AndSelf,
+    Rule::TestToComparison,
+    Rule::TurnSelect,
+    Rule::Fold,
+    Rule::Forget,
+];
+
+/// The rules whose patterns a random tree seldom has.
+const SELDOM: [Rule; 14] = [
+    Rule::AssociateLeft,
+    Rule::AssociateRight,
+    Rule::ShiftToProduct,
+    Rule::ProductToShift,
+    Rule::DifferenceToSum,
+    Rule::SumToDifference,
+    Rule::ComparisonToTest,
+    Rule::DropAddZero,
+    Rule::DropSubZero,
+    Rule::DropMulOne,
+    Rule::DropOrZero,
+    Rule::DropXorZero,
+    Rule::DropAndOnes,
+    Rule::DropShiftByZero,
+];
+
+/// A body, and the types of the globals that were asked for.
+#[derive(Drop)]
+struct NewBody {
+    bytes: Vec<u8>,
+    requested: Vec<PrimitiveTypeInfo>,
+}
+
+/// Rewrites a node of the body's block by a random rule, where there is an answer. Adds the rule to the list.
+fn rewrite_once(
+    alloc: Global,
+    draws: &mut Draws,
+    new: &mut NewBody,
+    rules: &mut Vec<Rule>,
+) -> Result<(), Fail> {
+    let from: &[Rule] = match draws.below(5) {
+        0 | 1 => &CONDITIONAL,
+        2 => &RULES,
+        _ => &SELDOM,
+    };
+    let words = [draws.word(), draws.word(), draws.word()];
+    let mut config = config_of(alloc, &[], &new.requested, &words)?;
+    let made = rewritten_at_random(alloc, &mut config, &new.bytes, from)?;
+    let Some((rewrite, replaced)) = made else {
+        return Ok(());
+    };
+    rules.push(rewrite.rule)?;
+    new.bytes = Vec::from_slice(alloc, replaced.body.bytes())?;
+    for request in &replaced.requests {
+        let ResourceRequest::Global { tpe, .. } = request;
+        new.requested.push(*tpe)?;
+    }
+    Ok(())
+}
+
+/// The body after one to five rules, or fewer where thirty random ones lack answers. Adds the rules to the list.
+fn rewritten(
+    alloc: Global,
+    draws: &mut Draws,
+    body: &[u8],
+    rules: &mut Vec<Rule>,
+) -> Result<NewBody, Fail> {
+    let mut new = NewBody {
+        bytes: Vec::from_slice(alloc, body)?,
+        requested: Vec::new(alloc),
+    };
+    let wanted = rules.len().saturating_add(draws.up_to(5));
+    for _ in 0..30 {
+        if rules.len() < wanted {
+            rewrite_once(alloc, draws, &mut new, rules)?;
+        }
+    }
+    Ok(new)
+}
+
+/// A random value of each type.
+fn values_of(
+    alloc: Global,
+    draws: &mut Draws,
+    types: &[PrimitiveTypeInfo],
+) -> Result<Vec<Value>, AllocError> {
+    let mut values = Vec::new(alloc);
+    for t in types {
+        values.push(value_of(*t, draws.numbers()))?;
+    }
+    Ok(values)
+}
+
+/// Over random values the bodies end the same. Answers whether they don't trap.
+fn is_same(
+    rt: &impl Abort,
+    alloc: Global,
+    draws: &mut Draws,
+    body: &[u8],
+    new: &NewBody,
+) -> Result<bool, Fail> {
+    let before = code_of(alloc, body)?;
+    let after = code_of(alloc, &new.bytes)?;
+    let locals = values_of(alloc, draws, &LOCALS)?;
+    let globals = values_of(alloc, draws, &GLOBALS)?;
+    let requested = values_of(alloc, draws, &new.requested)?;
+    let variables = Variables {
+        locals: &locals,
+        globals: &globals,
+        requested: &requested,
+    };
+    end_the_same(rt, alloc, &before, &after, variables)
+}
+
+/// A thousand blocks. Most don't trap, and each rule has its part.
+#[test]
+fn rewritten_blocks(rt: HostRuntime) -> Result<(), Fail> {
+    let alloc = rt.alloc();
+    let mut draws = Draws {
+        state: 88172645463325252,
+    };
+    let mut rules = Vec::new(alloc);
+    let mut ended = 0usize;
+    for _ in 0..1_000 {
+        let body = random_body(&rt, alloc, &mut draws)?;
+        let new = rewritten(alloc, &mut draws, body.bytes(), &mut rules)?;
+        if is_same(&rt, alloc, &mut draws, body.bytes(), &new)? {
+            ended = ended.saturating_add(1);
+        }
+    }
+    for rule in RULES {
+        let count = rules.iter().filter(|one| **one == rule).count();
+        assert!(rt; count >= 5, "{rule}: {count}");
+    }
+    let count = rules.len();
+    assert!(rt; count > 1_500 && ended > 500, "{count} {ended}");
+    Ok(())
+}

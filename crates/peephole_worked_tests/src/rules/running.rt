@@ -1,0 +1,367 @@
+//! Blocks in which a rule rewrites a tree, run on a plain machine before and afterwards.
+
+ghost use Rattle.std.specs.Prelude.{IfOk, IsTrue, is_some};
+
+use crate::graphs::block_of;
+use crate::machine::{Machine, Stop, Value, code_of};
+use crate::table::{bytes_of, fields_of};
+use crate::terms::are_globals;
+use crate::writing::operators_of;
+use peephole_examples::Replaced;
+use peephole_rewrites::{Rewrite, rewrite_block, rewrite_block_at_random};
+use peephole_rules::Rule;
+use peephole_terms::{
+    BBlock, DFGBuilder, Error, Function, Instr, ModuleInfo, PrimitiveTypeInfo, WasmMutate, Words,
+};
+use std::alloc::{AllocError, Global};
+use std::process::Abort;
+use std::test::Fail;
+
+/// The types of a function's locals.
+pub const LOCALS: [PrimitiveTypeInfo; 4] = [
+    PrimitiveTypeInfo::I32,
+    PrimitiveTypeInfo::I32,
+    PrimitiveTypeInfo::I64,
+    PrimitiveTypeInfo::I64,
+];
+
+/// The types of a module's globals.
+pub const GLOBALS: [PrimitiveTypeInfo; 2] = [PrimitiveTypeInfo::I32, PrimitiveTypeInfo::I64];
+
+/// Zero, one, minus one, the least number and the greatest.
+pub const EDGES: [(u32, u64); 5] = [
+    (0, 0),
+    (1, 1),
+    (4294967295, 18446744073709551615),
+    (2147483648, 9223372036854775808),
+    (2147483647, 9223372036854775807),
+];
+
+/// A configuration that preserves the meaning, of a module with these globals behind its own, whose generator gives the words.
+pub fn config_of<'a>(
+    alloc: Global,
+    bytes: &'a [u8],
+    requested: &[PrimitiveTypeInfo],
+    words: &[u64],
+) -> Result<WasmMutate<'a, Words>, AllocError>
+    ensures { IfOk result (λ config. IsTrue (is_some config.setup)) }
+{
+    let mut info = ModuleInfo::new(alloc, bytes);
+    info.global_types.extend_from_slice(&GLOBALS)?;
+    info.global_types.extend_from_slice(requested)?;
+    let mut config = WasmMutate::new();
+    config.set_up(info, Words::new(Vec::from_slice(alloc, words)?));
+    config.preserve_semantics(true);
+    Ok(config)
+}
+
+/// A body that is one block, with a node rewritten, or none where the rule has no answer.
+pub fn rewritten(
+    rt: &impl Abort,
+    alloc: Global,
+    config: &mut WasmMutate<Words>,
+    bytes: &[u8],
+    rewrite: Rewrite,
+) -> Result<Option<Replaced>, Error>
+    requires { IsTrue (is_some config.old.setup) }
+{
+    let operators = operators_of(alloc, bytes)?;
+    let last = operators.len().saturating_sub(2);
+    let builder = DFGBuilder::new(config);
+    let block = block_of(rt, &builder, &operators, last);
+    let mut body = Function::new(alloc);
+    let answer = rewrite_block(
+        alloc, config, &LOCALS, rewrite, &operators, &block, &mut body, bytes,
+    )?;
+    Ok(answer.map(|requests| Replaced { body, requests }))
+}
+
+/// A body that is one block, with a node rewritten by one of the rules, or none where there is nothing to rewrite.
+pub fn rewritten_at_random(
+    alloc: Global,
+    config: &mut WasmMutate<Words>,
+    bytes: &[u8],
+    rules: &[Rule],
+) -> Result<Option<(Rewrite, Replaced)>, Error>
+    requires { IsTrue (is_some config.old.setup) }
+{
+    let operators = operators_of(alloc, bytes)?;
+    let last = operators.len().saturating_sub(2);
+    if last >= operators.len() {
+        return Ok(None);
+    }
+    let Some(block) = BBlock::of_operator(last, &operators) else {
+        return Ok(None);
+    };
+    let mut body = Function::new(alloc);
+    let made = rewrite_block_at_random(
+        alloc, config, &LOCALS, rules, &operators, &block, &mut body, bytes,
+    )?;
+    match made {
+        Some(made) => {
+            let requests = made.requests;
+            Ok(Some((made.rewrite, Replaced { body, requests })))
+        }
+        None => Ok(None),
+    }
+}
+
+/// What a body runs over: the locals, the module's globals, and those that were asked for.
+#[derive(Clone, Copy)]
+pub struct Variables<'a> {
+    pub locals: &'a [Value],
+    pub globals: &'a [Value],
+    pub requested: &'a [Value],
+}
+
+/// A machine with these variables.
+fn machine_of(alloc: Global, locals: &[Value], globals: &[Value]) -> Result<Machine, AllocError> {
+    let mut machine = Machine::new(alloc);
+    machine.locals.extend_from_slice(locals)?;
+    machine.globals.extend_from_slice(globals)?;
+    Ok(machine)
+}
+
+/// The codes run to the same end: the same stack, or a trap, with the same locals and the same globals of the module. Answers
+/// whether it isn't a trap.
+pub fn end_the_same(
+    rt: &impl Abort,
+    alloc: Global,
+    before: &[Instr],
+    after: &[Instr],
+    variables: Variables,
+) -> Result<bool, Fail> {
+    let Variables {
+        locals,
+        globals,
+        requested,
+    } = variables;
+    let mut old = machine_of(alloc, locals, globals)?;
+    let mut new = machine_of(alloc, locals, globals)?;
+    new.globals.extend_from_slice(requested)?;
+    let end = old.run(before);
+    let has_ended = end.is_ok();
+    assert!(rt; has_ended || end == Err(Stop::Trapped), "{before:?}");
+    let is_same = new.run(after) == end
+        && (!has_ended || new.stack.as_slice() == old.stack.as_slice())
+        && new.locals.as_slice() == old.locals.as_slice()
+        && new.globals.as_slice().starts_with(old.globals.as_slice());
+    assert!(rt; is_same, "{before:?}, {after:?}");
+    Ok(has_ended)
+}
+
+/// The value of a type that a number of each type gives.
+pub fn value_of(t: PrimitiveTypeInfo, numbers: (u32, u64)) -> Value {
+    match t {
+        PrimitiveTypeInfo::I32 => Value::I32(numbers.0),
+        PrimitiveTypeInfo::I64 => Value::I64(numbers.1),
+        _ => Value::Other,
+    }
+}
+
+/// The codes end the same over these numbers, of which one is in the first local of each type and the other in the second one.
+/// The second one has asked for globals of these types.
+fn end_the_same_over(
+    rt: &impl Abort,
+    alloc: Global,
+    codes: (&[Instr], &[Instr]),
+    types: &[PrimitiveTypeInfo],
+    numbers: [(u32, u64); 2],
+) -> Result<(), Fail> {
+    let [first, second] = numbers;
+    let mut requested = Vec::new(alloc);
+    for t in types {
+        requested.push(value_of(*t, second))?;
+    }
+    let variables = Variables {
+        locals: &[
+            Value::I32(first.0),
+            Value::I32(second.0),
+            Value::I64(first.1),
+            Value::I64(second.1),
+        ],
+        globals: &[Value::I32(second.0), Value::I64(first.1)],
+        requested: &requested,
+    };
+    end_the_same(rt, alloc, codes.0, codes.1, variables)?;
+    Ok(())
+}
+
+/// A rule, a body, the operator whose tree is rewritten, the node there, the new body, and the type of the global that is asked
+/// for. The drawn word is 1731343737.
+const RUNS: &str = "
+# local.get 0, local.get 1, i32.add, local.set 0, local.get 0, global.set 0
+commute | 20 00 20 01 6a 21 00 20 00 24 00 0b | 3 | 2 | 20 01 20 00 6a 21 00 20 00 24 00 0b | -
+# local.get 0, local.get 1, i32.div_s, local.get 1, local.get 0, i32.rem_u, i32.xor: either operand may trap.
+commute | 20 00 20 01 6d 20 01 20 00 70 73 0b | 6 | 6 | 20 01 20 00 70 20 00 20 01 6d 73 0b | -
+# The same of i64: div_s, rem_u, mul.
+commute | 20 02 20 03 7f 20 03 20 02 82 7e 0b | 6 | 6 | 20 03 20 02 82 20 02 20 03 7f 7e 0b | -
+# local.get 2, local.get 3, i64.ne, drop, local.get 0
+commute | 20 02 20 03 52 1a 20 00 0b | 3 | 2 | 20 03 20 02 52 1a 20 00 0b | -
+# local.get 0, local.get 1, i32.lt_s; i64.le_u.
+turn_comparison | 20 00 20 01 48 0b | 2 | 2 | 20 01 20 00 4a 0b | -
+turn_comparison | 20 02 20 03 58 0b | 2 | 2 | 20 03 20 02 5a 0b | -
+# local.get 0, local.set 1
+add_zero | 20 00 21 01 0b | 1 | 0 | 20 00 41 00 6a 21 01 0b | -
+# global.get 1, local.get 2, i64.mul, global.set 1
+add_zero | 23 01 20 02 7e 24 01 0b | 3 | 0 | 23 01 42 00 7c 20 02 7e 24 01 0b | -
+# local.get 0, local.tee 1
+sub_zero | 20 00 22 01 0b | 1 | 1 | 20 00 22 01 41 00 6b 0b | -
+# local.get 2
+sub_zero | 20 02 0b | 0 | 0 | 20 02 42 00 7d 0b | -
+# local.get 0, local.get 1, i32.div_u
+mul_one | 20 00 20 01 6e 0b | 2 | 2 | 20 00 20 01 6e 41 01 6c 0b | -
+# local.get 2, local.get 3, i64.div_u
+mul_one | 20 02 20 03 80 0b | 2 | 2 | 20 02 20 03 80 42 01 7e 0b | -
+# local.get 2, i64.eqz
+or_zero | 20 02 50 0b | 1 | 1 | 20 02 50 41 00 72 0b | -
+# local.get 0, i64.extend_i32_s
+or_zero | 20 00 ac 0b | 1 | 1 | 20 00 ac 42 00 84 0b | -
+# local.get 0, i32.extend8_s
+xor_zero | 20 00 c0 0b | 1 | 1 | 20 00 c0 41 00 73 0b | -
+# local.get 2, i64.clz
+xor_zero | 20 02 79 0b | 1 | 1 | 20 02 79 42 00 85 0b | -
+# local.get 0, local.get 1, i32.rotl
+shift_by_zero | 20 00 20 01 77 0b | 2 | 0 | 20 00 41 00 74 20 01 77 0b | -
+# local.get 2, local.get 3, i64.shr_u
+shift_by_zero | 20 02 20 03 88 0b | 2 | 1 | 20 02 20 03 42 00 86 88 0b | -
+# local.get 0, local.get 1, i32.rem_s
+or_self | 20 00 20 01 6f 0b | 2 | 2 | 20 00 20 01 6f 20 00 20 01 6f 72 0b | -
+# global.get 1, global.set 1
+or_self | 23 01 24 01 0b | 1 | 0 | 23 01 23 01 84 24 01 0b | -
+# global.get 0, i32.popcnt, local.set 0
+and_self | 23 00 69 21 00 0b | 2 | 1 | 23 00 69 23 00 69 71 21 00 0b | -
+# local.get 3, local.get 2, i64.rem_s, local.set 2
+and_self | 20 03 20 02 81 21 02 0b | 3 | 2 | 20 03 20 02 81 20 03 20 02 81 83 21 02 0b | -
+# i32.const 56, local.get 0, i32.mul
+unfold | 41 38 20 00 6c 0b | 2 | 0 | 41 f9 ea c8 b9 06 41 bf 95 b7 c6 79 6a 20 00 6c 0b | -
+# i64.const 10, local.set 2
+unfold | 42 0a 21 02 0b | 1 | 0 | 42 f9 ea c8 b9 06 42 91 95 b7 c6 79 7c 21 02 0b | -
+# local.get 0, local.get 1, i32.shr_s
+with_nop | 20 00 20 01 75 0b | 2 | 1 | 20 00 01 20 01 75 0b | -
+# local.get 2, local.set 3, local.get 3
+with_nop | 20 02 21 03 20 03 0b | 1 | 1 | 01 20 02 21 03 20 03 0b | -
+# local.get 2, global.set 1, nop, local.get 3, i64.eqz, global.set 0: behind a write of its own.
+with_nop | 20 02 24 01 01 20 03 50 24 00 0b | 5 | 0 | 20 02 24 01 01 01 20 03 50 24 00 0b | -
+# local.get 0, local.get 1, i32.const 5, i32.add, i32.add
+associate_left | 20 00 20 01 41 05 6a 6a 0b | 4 | 4 | 20 00 20 01 6a 41 05 6a 0b | -
+# local.get 2, local.get 3, i64.mul, local.get 2, i64.mul
+associate_right | 20 02 20 03 7e 20 02 7e 0b | 4 | 4 | 20 02 20 03 20 02 7e 7e 0b | -
+# local.get 0, local.get 1, local.get 0, select
+turn_select | 20 00 20 01 20 00 1b 0b | 3 | 3 | 20 01 20 00 20 00 45 1b 0b | -
+# local.get 0, drop, local.get 1
+forget | 20 00 1a 20 01 0b | 1 | 1 | 20 01 0b | -
+# i32.const 7, i32.const -2, i32.rem_s
+fold | 41 07 41 7e 6f 0b | 2 | 2 | 41 01 0b | -
+# i32.const -1, i64.extend_i32_u
+fold | 41 7f ad 0b | 1 | 1 | 42 ff ff ff ff 0f 0b | -
+# local.get 2, i64.eqz
+test_to_comparison | 20 02 50 0b | 1 | 1 | 20 02 42 00 51 0b | -
+# local.get 0, i32.const 0, i32.eq
+comparison_to_test | 20 00 41 00 46 0b | 2 | 2 | 20 00 45 0b | -
+# local.get 0
+and_ones | 20 00 0b | 0 | 0 | 20 00 41 7f 71 0b | -
+# local.get 2
+double_complement | 20 02 0b | 0 | 0 | 20 02 42 7f 85 42 7f 85 0b | -
+# local.get 0, i32.const 3, i32.shl
+shift_to_product | 20 00 41 03 74 0b | 2 | 2 | 20 00 41 08 6c 0b | -
+# local.get 2, i64.const 63, i64.shl
+shift_to_product | 20 02 42 3f 86 0b | 2 | 2 | 20 02 42 80 80 80 80 80 80 80 80 80 7f 7e 0b | -
+# local.get 0, i32.const -2147483648, i32.mul
+product_to_shift | 20 00 41 80 80 80 80 78 6c 0b | 2 | 2 | 20 00 41 1f 74 0b | -
+# local.get 0, i32.const 5, i32.sub
+difference_to_sum | 20 00 41 05 6b 0b | 2 | 2 | 20 00 41 7b 6a 0b | -
+# local.get 2, i64.const -1, i64.add
+sum_to_difference | 20 02 42 7f 7c 0b | 2 | 2 | 20 02 42 01 7d 0b | -
+# local.get 0, i32.const 0, i32.add
+drop_add_zero | 20 00 41 00 6a 0b | 2 | 2 | 20 00 0b | -
+# local.get 2, i64.const 0, i64.sub
+drop_sub_zero | 20 02 42 00 7d 0b | 2 | 2 | 20 02 0b | -
+# local.get 0, i32.const 1, i32.mul
+drop_mul_one | 20 00 41 01 6c 0b | 2 | 2 | 20 00 0b | -
+# local.get 2, i64.const 0, i64.or
+drop_or_zero | 20 02 42 00 84 0b | 2 | 2 | 20 02 0b | -
+# local.get 0, i32.const 0, i32.xor
+drop_xor_zero | 20 00 41 00 73 0b | 2 | 2 | 20 00 0b | -
+# local.get 0, i32.const -1, i32.and
+drop_and_ones | 20 00 41 7f 71 0b | 2 | 2 | 20 00 0b | -
+# local.get 2, i64.const 0, i64.shl
+drop_shift_by_zero | 20 02 42 00 86 0b | 2 | 2 | 20 02 0b | -
+# local.get 0, local.get 1, i32.div_s
+through_global | 20 00 20 01 6d 0b | 2 | 2 | 20 00 20 01 6d 24 02 23 02 0b | i32
+# The same: the second operand, between the first one and the division.
+through_global | 20 00 20 01 6d 0b | 2 | 1 | 20 00 20 01 24 02 23 02 6d 0b | i32
+# local.get 3, local.set 2
+through_global | 20 03 21 02 0b | 1 | 0 | 20 03 24 02 23 02 21 02 0b | i64
+# local.get 0, i32.const 2, i32.add, local.get 0, i32.mul, local.set 0
+commute | 20 00 41 02 6a 20 00 6c 21 00 0b | 5 | 4 | 20 00 20 00 41 02 6a 6c 21 00 0b | -
+through_global | 20 00 41 02 6a 20 00 6c 21 00 0b | 5 | 0 | 20 00 24 02 23 02 41 02 6a 20 00 6c 21 00 0b | i32
+# local.get 0, drop, local.get 2, global.set 1: the first tree stands as it was.
+mul_one | 20 00 1a 20 02 24 01 0b | 3 | 0 | 20 00 1a 20 02 42 01 7e 24 01 0b | -
+";
+
+/// A body that is rewritten so, and asks for globals of these types.
+#[derive(Clone, Copy)]
+struct Run<'a> {
+    line: &'a str,
+    rewrite: Rewrite,
+    before: &'a [u8],
+    after: &'a [u8],
+    types: &'a [PrimitiveTypeInfo],
+}
+
+/// The body is rewritten so, with the word 1731343737; and both end the same over all edges.
+fn is_run(rt: &impl Abort, alloc: Global, run: &Run) -> Result<(), Fail> {
+    let mut config = config_of(alloc, run.before, &[], &[1731343737])?;
+    let Some(new) = rewritten(rt, alloc, &mut config, run.before, run.rewrite)? else {
+        panic!(rt; "{}", run.line);
+    };
+    let found = new.body.bytes();
+    assert!(rt; found == run.after, "{}: {found:?}", run.line);
+    are_globals(rt, &new.requests, run.types);
+    let codes = (code_of(alloc, run.before)?, code_of(alloc, run.after)?);
+    for first in EDGES {
+        for second in EDGES {
+            end_the_same_over(rt, alloc, (&codes.0, &codes.1), run.types, [first, second])?;
+        }
+    }
+    Ok(())
+}
+
+/// The run of a line.
+fn is_told(rt: &impl Abort, alloc: Global, line: &str) -> Result<(), Fail> {
+    let fields = fields_of(alloc, line)?;
+    let [rule, before, point, node, after, requested] = fields.as_slice() else {
+        panic!(rt; "{line}");
+    };
+    let types: &[PrimitiveTypeInfo] = match *requested {
+        "i32" => &[PrimitiveTypeInfo::I32],
+        "i64" => &[PrimitiveTypeInfo::I64],
+        _ => &[],
+    };
+    let rewrite = Rewrite {
+        insertion_point: point.parse()?,
+        node: node.parse()?,
+        rule: rule.parse()?,
+    };
+    let before = bytes_of(alloc, before)?;
+    let after = bytes_of(alloc, after)?;
+    let run = Run {
+        line,
+        rewrite,
+        before: &before,
+        after: &after,
+        types,
+    };
+    is_run(rt, alloc, &run)
+}
+
+#[test]
+fn blocks_of_each_rule(rt: HostRuntime) -> Result<(), Fail> {
+    for line in RUNS.trim().lines() {
+        if !line.starts_with('#') {
+            is_told(&rt, rt.alloc(), line)?;
+        }
+    }
+    Ok(())
+}
