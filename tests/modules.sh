@@ -70,7 +70,7 @@ try_case() {
 # Makes a module the one that is tried: its calls, and the answers that are wanted.
 take() {
     cp "tests/modules/$1.wasm" "$work/module.wasm"
-    commands_of "tests/modules/$1.calls" > "$work/calls.json"
+    commands_of "tests/modules/$(source_of "$1").calls" > "$work/calls.json"
     answers_of "$work" > "$work/wanted"
 }
 
@@ -81,7 +81,7 @@ for name in $modules; do
     nothing=0
     differ=0
     take "$name"
-    if grep -v '^#' "tests/modules/$name.calls" | cmp -s - "$work/wanted"; then
+    if grep -v '^#' "tests/modules/$(source_of "$name").calls" | cmp -s - "$work/wanted"; then
         pass
     else
         fail "$name" "its own answers aren't those of its list"

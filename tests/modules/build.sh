@@ -20,6 +20,8 @@ mixes: -O2
 text: -O1 -mbulk-memory -msign-ext -Wl,--strip-all
 machine: -O2 -Wl,--strip-all
 plain: -O0 -Wl,--strip-all
+shapes: -O2 -Wl,--strip-all
+shapes_plain: -O0 -Wl,--strip-all
 outside:
 shared:
 "
@@ -72,22 +74,23 @@ END
 
 while IFS=: read -r name flags; do
     if [ -z "$name" ]; then continue; fi
+    source=$(source_of "$name")
     if [ -e "$name.wat" ]; then
         wat2wasm --enable-threads --debug-names "$name.wat" -o "$work/$name.wasm"
     else
         # shellcheck disable=SC2086
-        clang $common $flags -o "$work/$name.wasm" "$name.c"
+        clang $common $flags -o "$work/$name.wasm" "$source.c"
     fi
     chmod 644 "$work/$name.wasm"
-    driver "$name" > "$work/$name.driver.c"
-    gcc -std=gnu11 -O0 -w -o "$work/$name" "$work/$name.driver.c"
-    { grep '^#' "$name.calls"; "$work/$name"; } > "$work/$name.calls"
+    driver "$source" > "$work/$source.driver.c"
+    gcc -std=gnu11 -O0 -w -o "$work/$source" "$work/$source.driver.c" -lm
+    { grep '^#' "$source.calls"; "$work/$source"; } > "$work/$source.calls"
     cp "$work/$name.wasm" "$work/module.wasm"
-    commands_of "$name.calls" > "$work/calls.json"
-    if ! diff <(grep -v '^#' "$work/$name.calls") <(answers_of "$work"); then
+    commands_of "$source.calls" > "$work/calls.json"
+    if ! diff <(grep -v '^#' "$work/$source.calls") <(answers_of "$work"); then
         echo "$name: the interpreter answers otherwise" >&2
         exit 1
     fi
-    mv "$work/$name.wasm" "$work/$name.calls" .
-    echo "$name: $(stat -c %s "$name.wasm") bytes, $(grep -vc '^[#!]' "$name.calls") calls"
+    mv "$work/$name.wasm" "$work/$source.calls" .
+    echo "$name: $(stat -c %s "$name.wasm") bytes, $(grep -vc '^[#!]' "$source.calls") calls"
 done <<< "$modules"

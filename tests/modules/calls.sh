@@ -5,6 +5,11 @@
 # says what the call called outside. Lines that begin with # are comments. The call `all`, the last one where it is there, takes
 # nothing and has the same answer on an instance of its own.
 
+# Prints the name of a module's source and list: NAME_plain is built of the source of NAME, and has its list.
+source_of() {
+    echo "${1%_plain}"
+}
+
 # Prints the calls of a list but for `all` as commands for spectest-interp (wabt), which runs wasm-interp's interpreter and, unlike
 # it, takes arguments and has something to import. The module is to be module.wasm in the folder of the commands.
 commands_of() {

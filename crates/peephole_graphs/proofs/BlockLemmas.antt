@@ -5,7 +5,7 @@ use Rattle.std.proofs.lemmas.Bool.{both_ways, cases_Bool, cases_eq, cases_lt, fa
 use Rattle.std.proofs.lemmas.Option.{slice_get_cases}
 use Rattle.wasm_code.specs.Operator.{is_delimiter}
 use Rattle.wasm_code.specs.declared.operator.Operator.{Operator}
-use Rattle.peephole_graphs.specs.Block.{BlockRange, HasNoDelimiter, IsBlockOf, delimits, is_delimiter_of, block_start, block_at, FindsTheBlock, FindsNoBlock}
+use Rattle.peephole_graphs.specs.Block.{BlockRange, HasNoDelimiter, IsBlockIn, IsBlockOf, delimits, is_delimiter_of, block_start, block_at, FindsTheBlock, FindsNoBlock}
 
 abbrev Operators : Type 0
 Operators = List (Operator × ℕ)
@@ -52,6 +52,14 @@ free os n h = false_from_ne_true (delimits os n) (λ d. let found = some_of (sli
 
 same_start : (os : Operators) (n : ℕ) → delimits os n ≡ false → block_start os (suc n) ≡ block_start os n
 same_start os n h = rw h
+
+-- the block of an operator that is there
+pub block_is_in : (os : Operators) (n : ℕ) (b : BlockRange) → n < length os → IsBlockOf os n b.start b.end → IsBlockIn os b
+block_is_in os n b inside h = record {
+  some = omega (arith, h.some, h.last);
+  inside = omega (arith, inside, h.last);
+  none = h.none;
+}
 
 -- ---- the function and the relation
 

@@ -16,6 +16,12 @@ IsDelimiterAt operators k = (o : Operator × ℕ) → slice_get operators k ≡ 
 abbrev pub HasNoDelimiter : List (Operator × ℕ) → ℕ → ℕ → Type 0
 HasNoDelimiter operators start end = (k : ℕ) (o : Operator × ℕ) → start ≤ k → k < end → slice_get operators k ≡ Some o → is_delimiter o.0 ≡ false
 
+-- A range of a body's operators, one at least, none of which is a delimiter.
+pub record IsBlockIn (operators : List (Operator × ℕ)) (block : BlockRange) : Type 0 where
+  pub some : block.start < block.end
+  pub inside : block.end ≤ length operators
+  pub none : HasNoDelimiter operators block.start block.end
+
 -- the longest range of operators that ends with the one at the index and holds no delimiter
 pub record IsBlockOf (operators : List (Operator × ℕ)) (index start end : ℕ) : Type 0 where
   pub last : end ≡ index + 1

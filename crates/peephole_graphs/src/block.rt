@@ -1,7 +1,7 @@
 //! Basic blocks.
 
-ghost use Rattle.std.specs.Prelude.{◌≡◌, ◌+◌, ◌<◌, ◌≤◌, ℕ, length, IfSome, IfNone};
-ghost use Rattle.peephole_graphs.specs.Block.{HasNoDelimiter, IsDelimiterAt, IsBlockOf};
+ghost use Rattle.std.specs.Prelude.{◌≡◌, ◌↔◌, ◌+◌, ◌<◌, ◌≤◌, ℕ, length, IsTrue, IfSome, IfNone};
+ghost use Rattle.peephole_graphs.specs.Block.{HasNoDelimiter, IsDelimiterAt, IsBlockIn, IsBlockOf};
 
 use std::marker::Model;
 use std::ops::Range;
@@ -42,13 +42,43 @@ fn block_start(index: usize, operators: &[OperatorAndByteOffset]) -> usize
     start
 }
 
+// Whether none of the operators of the range is a delimiter.
+fn has_no_delimiter(start: usize, end: usize, operators: &[OperatorAndByteOffset]) -> bool
+    requires { end ≤ length operators.now }
+    ensures { IsTrue result ↔ HasNoDelimiter operators.now start end }
+{
+    for index in start..end {
+        if operators[index].0.is_delimiter() {
+            return false;
+        }
+    }
+    true
+}
+
 impl BBlock {
-    // The block of these operators.
-    fn of_range(start: usize, end: usize) -> BBlock
+    // The range from `start` to `end`.
+    fn between(start: usize, end: usize) -> BBlock
         requires { start ≤ end }
         ensures { result ≡ record { start = start; end = end } }
     {
         BBlock { start, end }
+    }
+
+    /// The block with the range from `start` to `end`, the operator at `end` no longer of it. None exactly where the range is
+    /// empty, passes the operators' end, or holds a delimiter. It takes time linear in the range.
+    pub fn of_range(start: usize, end: usize, operators: &[OperatorAndByteOffset]) -> Option<BBlock>
+        ensures block { IfSome result (λ b. (b ≡ record { start = start; end = end })
+            × IsBlockIn operators.now b) }
+        ensures none { IfNone result
+            (¬ (IsBlockIn operators.now (record { start = start; end = end }))) }
+    {
+        if start >= end || end > operators.len() {
+            return None;
+        }
+        if !has_no_delimiter(start, end, operators) {
+            return None;
+        }
+        Some(BBlock::between(start, end))
     }
 
     /// The block of the operator at `index`: the longest range of operators that ends with it and holds no delimiter. None
@@ -56,13 +86,14 @@ impl BBlock {
     pub fn of_operator(index: usize, operators: &[OperatorAndByteOffset]) -> Option<BBlock>
         requires { index < length operators.now }
         ensures block { IfSome result (λ b. IsBlockOf operators.now index b.start b.end) }
+        ensures inside { IfSome result (λ b. IsBlockIn operators.now b) }
         ensures none { IfNone result (IsDelimiterAt operators.now index) }
     {
         let start = block_start(index, operators);
         if start > index {
             return None;
         }
-        Some(BBlock::of_range(start, index + 1))
+        Some(BBlock::between(start, index + 1))
     }
 
     /// The indexes, in the body, of the block's operators.

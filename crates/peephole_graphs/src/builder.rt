@@ -2,7 +2,7 @@
 
 ghost use Rattle.std.specs.Prelude.{◌≡◌, ◌+◌, ◌^◌, ◌<◌, ◌≤◌, ℕ, length, IsTrue, IfOk, IfSome, IfNone, IfErr, MatchOption, MatchResult};
 ghost use Rattle.std.specs.HashMap as hash;
-ghost use Rattle.peephole_graphs.specs.Block.{IsDelimiterAt, IsBlockOf};
+ghost use Rattle.peephole_graphs.specs.Block.{IsDelimiterAt, IsBlockIn, IsBlockOf};
 ghost use Rattle.peephole_graphs.specs.Source.{Source, source_of};
 ghost use Rattle.peephole_graphs.specs.Dfg.{graph_of};
 ghost use Rattle.peephole_graphs.specs.Contiguous.{HasContiguousTrees};
@@ -84,6 +84,7 @@ impl DFGBuilder {
     ) -> Option<BBlock>
         requires { index < length operators.now }
         ensures block { IfSome result (λ b. IsBlockOf operators.now index b.start b.end) }
+        ensures inside { IfSome result (λ b. IsBlockIn operators.now b) }
         ensures none { IfNone result (IsDelimiterAt operators.now index) }
     {
         BBlock::of_operator(index, operators)

@@ -19,3 +19,4 @@ pub use builder::DFGBuilder;
 pub use dfg::{MiniDFG, StackEntry};
 pub use postfix::{Postfix, Turn};
 pub use rebuild::build_expr;
+pub use shape::fits_graph;

@@ -1,8 +1,8 @@
 //! What an operator is to a graph.
 
-ghost use Rattle.std.specs.Prelude.{◌≡◌, length};
+ghost use Rattle.std.specs.Prelude.{◌≡◌, ◌↔◌, IsTrue, length};
 ghost use Rattle.wasm_code.specs.Table.{row_info_of};
-ghost use Rattle.peephole_graphs.specs.Shape.{has_result, call_shape, judge_call, judge_found, judge};
+ghost use Rattle.peephole_graphs.specs.Shape.{IsFit, has_result, call_shape, judge_call, judge_found, judge};
 
 use mutate_base::{FuncInfo, ModuleInfo, TypeInfo};
 use wasm_code::{Imm, Instr, Operator, ResultKind, row_info};
@@ -91,5 +91,17 @@ pub fn judge_operator(info: &ModuleInfo, operator: &Operator) -> Judged
     match operator {
         Operator::Instr(instr) => judge_instr(info, *instr),
         _ => Judged::Unfit,
+    }
+}
+
+/// Whether a graph holds the operator under a module's information: no graph holds a delimiter, `call_indirect`, a call of a
+/// function that isn't known or has more than one result, or a `select` that is no instruction.
+pub fn fits_graph(info: &ModuleInfo<'_>, operator: &Operator) -> bool
+    ensures { IsTrue result ↔ IsFit (judge info.now operator.now) }
+{
+    match judge_operator(info, operator) {
+        Judged::Fits(_) => true,
+        Judged::Unfit => false,
+        Judged::Unknown(_) => false,
     }
 }

@@ -1,34 +1,41 @@
 -- The rows of the code, as the integer rows that they stand for, and what a list of types is as one type or none (this project).
-use Rattle.std.specs.Prelude.{ℕ, List, [], ◌∷◌, Option, Some, None, option_and_then}
+use Rattle.std.specs.Prelude.{ℕ, Bool, false, List, [], ◌∷◌, Option, Some, None, option_map, option_and_then, slice_get}
 use Rattle.wasm_code.specs.declared.table.Opcode.{Opcode}
 use Rattle.wasm_code.specs.declared.table.Opcode.TheVariants.{Byte, Fc, Fd}
 use Rattle.wasm_code.specs.Instruction.{Instruction}
 use Rattle.wasm_code.specs.Table.{row_at, opcode_in}
+use Rattle.mutate_base.specs.Module.{module_of}
 use Rattle.mutate_base.specs.declared.types.PrimitiveTypeInfo.{PrimitiveTypeInfo}
+use Rattle.mutate_base.specs.declared.types.TableType.{TableType}
+use Rattle.mutate_base.specs.declared.types.TypeInfo.{TypeInfo}
+use Rattle.mutate_base.specs.declared.types.TypeInfo.TheVariants.{Func}
+use Rattle.peephole_machine.specs.declared.operand.OperandColumn.{OperandColumn}
+use Rattle.peephole_machine.specs.OtherRow.{element_type, Named, Operand, operands_in}
 use Rattle.peephole_machine.specs.declared.row.Variable.{Variable as CodeVariable}
 use Rattle.peephole_machine.specs.declared.row.Variable.TheVariants as variable
 use Rattle.peephole_machine.specs.declared.row.Row.{Row}
 use Rattle.peephole_machine.specs.declared.row.Row.TheVariants as row
-use Rattle.peephole_machine.specs.Values.{Variable, local, global, same_type}
+use Rattle.peephole_machine.specs.Values.{Context, Variable, local, global, same_type, same_types, accept}
 use Rattle.peephole_machine.specs.Integer.{select_operator}
-use Rattle.peephole_machine.specs.IntegerRow.{IntegerRow, constant, operation, get, set, tee, discard, select, nop, other, if_typed, row_types}
+use Rattle.peephole_machine.specs.IntegerRow.{IntegerRow, constant, operation, get, set, tee, discard, select, nop, if_typed, row_types, integer_row}
 use Rattle.peephole_machine.specs.Operation.{operator_of}
 
 abbrev pub variable_of : CodeVariable → Variable
 variable_of (variable.Local n) = local n
 variable_of (variable.Global n) = global n
 
-abbrev pub row_of : Row → IntegerRow
-row_of (row.Constant t n) = constant t n
-row_of (row.Operation f) = operation (operator_of f)
-row_of (row.TypedSelect t) = operation (select_operator t)
-row_of (row.Get x) = get (variable_of x)
-row_of (row.Set x) = set (variable_of x)
-row_of (row.Tee x) = tee (variable_of x)
-row_of row.Drop = discard
-row_of row.Select = select
-row_of row.Nop = nop
-row_of row.Other = other
+-- none for another instruction
+abbrev pub row_of : Row → Option IntegerRow
+row_of (row.Constant t n) = Some (constant t n)
+row_of (row.Operation f) = Some (operation (operator_of f))
+row_of (row.TypedSelect t) = Some (operation (select_operator t))
+row_of (row.Get x) = Some (get (variable_of x))
+row_of (row.Set x) = Some (set (variable_of x))
+row_of (row.Tee x) = Some (tee (variable_of x))
+row_of row.Drop = Some discard
+row_of row.Select = Some select
+row_of row.Nop = Some nop
+row_of row.Other = None
 
 -- the opcode, where it is one byte
 abbrev pub byte_of : Option Opcode → Option ℕ
@@ -59,8 +66,39 @@ abbrev pub tee_types : Option PrimitiveTypeInfo → List PrimitiveTypeInfo → O
 tee_types o (t ∷ []) = option_and_then (λ u. if_typed (same_type t u) (t ∷ [])) o
 tee_types o ts = None
 
+-- without variables
+abbrev pub no_variables : Context
+no_variables = record { info = module_of []; locals = [] }
+
 abbrev pub drop_types : List PrimitiveTypeInfo → Option (List PrimitiveTypeInfo)
-drop_types ts = row_types [] [] discard ts
+drop_types ts = row_types no_variables discard ts
 
 abbrev pub select_types : List PrimitiveTypeInfo → Option (List PrimitiveTypeInfo)
-select_types ts = row_types [] [] select ts
+select_types ts = row_types no_variables select ts
+
+-- ---- what other rows give
+
+-- one type, or none; not of several results
+abbrev pub at_most_one : List PrimitiveTypeInfo → Option (Option PrimitiveTypeInfo)
+at_most_one [] = Some None
+at_most_one (t ∷ []) = Some (Some t)
+at_most_one ts = None
+
+abbrev pub element_in : List TableType → ℕ → Option PrimitiveTypeInfo
+element_in tables i = option_map (λ x. element_type x.element_type) (slice_get tables i)
+
+abbrev pub accept_parameters : Option TypeInfo → List PrimitiveTypeInfo → Bool
+accept_parameters None ts = false
+accept_parameters (Some (Func t)) ts = same_types t.params ts
+
+abbrev pub accept_some : Option (List Operand) → List PrimitiveTypeInfo → Bool
+accept_some None ts = false
+accept_some (Some os) ts = accept os ts
+
+-- the operands may have these types
+abbrev pub accept_in : Named → OperandColumn → List PrimitiveTypeInfo → Bool
+accept_in n column ts = accept_some (operands_in n column) ts
+
+-- what an instruction gives, one type or none
+abbrev pub instruction_types : Context → Instruction → List PrimitiveTypeInfo → Option (Option PrimitiveTypeInfo)
+instruction_types context i ts = option_and_then at_most_one (row_types context (integer_row i) ts)

@@ -1,11 +1,15 @@
--- Typed values, the state of the variables, and how a run ends: with values and a state, in a trap, or stuck
--- (WebAssembly Core Specification 3.0, Execution, Runtime Structure; a stuck run is this project's word).
-use Rattle.std.specs.Prelude.{◌≡◌, ℕ, ◌%◌, ◌^◌, ◌<◌, Bool, true, false, ◌==◌, ◌&&◌, List, [], ◌∷◌, ◌++◌, map, slice_get, set as slice_set, Option, ⊤}
+-- Typed values, the state that instructions run in, and how a run ends: with values and a state, in a trap, or stuck
+-- (WebAssembly Core Specification 3.0, Execution, Runtime Structure, and Validation, Conventions, Contexts; a stuck run, the rest and the world are
+-- this project's words).
+use Rattle.std.specs.Prelude.{◌≡◌, ℕ, ◌%◌, ◌^◌, ◌<◌, Bool, true, false, ◌==◌, ◌&&◌, List, [], ◌∷◌, ◌++◌, length, map, take, drop, slice_get, set as slice_set, Option, Some, None, option_and_then, if◌then◌else◌, ⊤}
 use Rattle.std.specs.Int.{Width, w32, w64}
 use Rattle.std.specs.List.{All}
 use mir.Val.{bits}
+use Rattle.wasm_code.specs.Instruction.{Instruction}
+use Rattle.mutate_base.specs.Module.{Module}
 use Rattle.mutate_base.specs.declared.types.PrimitiveTypeInfo.{PrimitiveTypeInfo}
 use Rattle.mutate_base.specs.declared.types.PrimitiveTypeInfo.TheVariants as primitive
+use Rattle.peephole_machine.specs.OtherRow.{Operand, typed, reference, OtherType, names_in, other_type, changes, may_trap}
 -- the types of whole numbers
 pub use Rattle.peephole_machine.specs.declared.integer.IntegerType.{IntegerType}
 use Rattle.peephole_machine.specs.declared.integer.IntegerType.TheVariants as integer
@@ -20,11 +24,6 @@ type_of integer.I64 = primitive.I64
 abbrev pub width_of : IntegerType → Width
 width_of integer.I32 = w32
 width_of integer.I64 = w64
-
-abbrev pub is_integer : PrimitiveTypeInfo → Bool
-is_integer primitive.I32 = true
-is_integer primitive.I64 = true
-is_integer _ = false
 
 -- the place of a type among the eight
 abbrev pub type_number : PrimitiveTypeInfo → ℕ
@@ -44,6 +43,29 @@ abbrev pub same_types : List PrimitiveTypeInfo → List PrimitiveTypeInfo → Bo
 same_types [] [] = true
 same_types (t ∷ ts) (u ∷ us) = same_type t u && same_types ts us
 same_types ts us = false
+
+-- the types of what references point to
+abbrev pub is_reference : PrimitiveTypeInfo → Bool
+is_reference primitive.FuncRef = true
+is_reference primitive.ExternRef = true
+is_reference _ = false
+
+abbrev pub accepts : Operand → PrimitiveTypeInfo → Bool
+accepts (typed (Some t)) u = same_type t u
+accepts (typed None) u = false
+accepts reference u = is_reference u
+
+abbrev pub accept : List Operand → List PrimitiveTypeInfo → Bool
+accept [] [] = true
+accept (o ∷ os) (t ∷ ts) = accepts o t && accept os ts
+accept os ts = false
+
+abbrev pub results_on : List PrimitiveTypeInfo → OtherType → Option (List PrimitiveTypeInfo)
+results_on ts t = if accept t.operands ts then Some t.results else None
+
+-- what an instruction that is no integer row gives on operands of these types, where these are its own
+abbrev pub other_types : Module → Instruction → List PrimitiveTypeInfo → Option (List PrimitiveTypeInfo)
+other_types info i ts = option_and_then (results_on ts) (other_type (names_in info i.imm) i)
 
 -- ---- values
 
@@ -68,11 +90,46 @@ whole t n = record { type = type_of t; number = n % 2 ^ bits (width_of t) }
 abbrev pub types : List Value → List PrimitiveTypeInfo
 types vs = map (λ v. v.type) vs
 
--- ---- variables
+-- ---- states
 
+-- what code is typed in: a module, and the types of a function's locals
+pub record Context : Type 0 where
+  pub info : Module
+  pub locals : List PrimitiveTypeInfo
+
+abbrev pub context_in : Module → (locals : List PrimitiveTypeInfo) → Context
+context_in info locals = record { info = info; locals = locals }
+
+-- why code traps: a division by zero, a quotient that is too large, or what an instruction of the world's has met, by a mark
+pub data Cause : Type 0 where
+  divide_by_zero overflow : Cause
+  met : (mark : ℕ) → Cause
+
+-- What an instruction leaves: values, the module's globals and the rest; or a trap with its cause, and both.
+pub data Answer : Type 0 where
+  Gives : (values globals : List Value) → (rest : ℕ) → Answer
+  Fails : Cause → (globals : List Value) → (rest : ℕ) → Answer
+
+-- The module that code runs in; what those instructions do that are no integer rows, with operands, the module's globals and the rest; and what becomes
+-- of requested globals meanwhile, as where a call comes back into the function.
+pub record World : Type 0 where
+  pub info : Module
+  pub answer : Instruction → (operands globals : List Value) → (rest : ℕ) → Answer
+  pub others : Instruction → (operands globals : List Value) → (rest : ℕ) → List Value → List Value
+
+-- `rest` is a mark of all else: memories, tables, segments, and what lies outside the module
 pub record State : Type 0 where
   pub locals : List Value
   pub globals : List Value
+  pub rest : ℕ
+  pub world : World
+
+-- those of the module; requested ones stand behind them
+abbrev pub own_globals : State → List Value
+own_globals s = take (length s.world.info.globals) s.globals
+
+abbrev pub further_globals : State → List Value
+further_globals s = drop (length s.world.info.globals) s.globals
 
 pub data Variable : Type 0 where
   local global : ℕ → Variable
@@ -85,24 +142,43 @@ abbrev pub write : Variable → Value → State → State
 write (local i) v s = record s { locals = slice_set s.locals i v }
 write (global i) v s = record s { globals = slice_set s.globals i v }
 
--- a value of its type for each variable
-pub record HasTypes (locals globals : List PrimitiveTypeInfo) (s : State) : Type 0 where
-  pub locals_are : types s.locals ≡ locals
-  pub globals_are : types s.globals ≡ globals
+-- ---- typed states
+
+-- Values of the results' types, and globals of their types, or a trap where the instruction may trap; an instruction that changes nothing leaves the
+-- globals and the rest as they are.
+abbrev pub IsAnswer : Module → Instruction → (results : List PrimitiveTypeInfo) → (globals : List Value) → (rest : ℕ) → Answer → Type 0
+IsAnswer info i results globals rest (Gives vs gs r) =
+    (types vs ≡ results) × All IsValue vs × (types gs ≡ info.globals) × All IsValue gs × (changes i ≡ false → (gs ≡ globals) × (r ≡ rest))
+IsAnswer info i results globals rest (Fails cause gs r) = (may_trap i ≡ true) × (changes i ≡ false → (gs ≡ globals) × (r ≡ rest))
+
+-- What the world does on operands of an instruction's types is such an answer; requested globals keep their types.
+pub record IsSound (w : World) : Type 0 where
+  pub answers : (i : Instruction) (results : List PrimitiveTypeInfo) (operands globals : List Value) (rest : ℕ) →
+      other_types w.info i (types operands) ≡ Some results → All IsValue operands → types globals ≡ w.info.globals → All IsValue globals →
+      IsAnswer w.info i results globals rest (w.answer i operands globals rest)
+  pub kept : (i : Instruction) (operands globals : List Value) (rest : ℕ) (others : List Value) →
+      types (w.others i operands globals rest others) ≡ types others
+
+-- a value of its type for each variable of the context, in a sound world of its module
+pub record HasTypes (context : Context) (s : State) : Type 0 where
+  pub locals_are : types s.locals ≡ context.locals
+  pub globals_are : types s.globals ≡ context.info.globals
+  pub info_is : s.world.info ≡ context.info
   pub local_values : All IsValue s.locals
   pub global_values : All IsValue s.globals
+  pub sound : IsSound s.world
 
 -- ---- outcomes
 
--- it ends with values and a state, traps with its globals, or is stuck
+-- it ends with values and a state, traps for a cause with the module's globals and the rest, or is stuck
 pub data Outcome : Type 0 where
   Ends : List Value → State → Outcome
-  Traps : List Value → Outcome
+  Traps : Cause → (globals : List Value) → (rest : ℕ) → Outcome
   Stuck : Outcome
 
 abbrev pub then_run : Outcome → (List Value → State → Outcome) → Outcome
 then_run (Ends vs s) next = next vs s
-then_run (Traps globals) next = Traps globals
+then_run (Traps cause globals rest) next = Traps cause globals rest
 then_run Stuck next = Stuck
 
 -- the values stand above others

@@ -1,15 +1,15 @@
 //! What an instruction is to the machine, and the types that it takes and gives.
-ghost use Rattle.std.specs.Prelude.{◌≡◌, ◌↔◌, ◌&&◌, [], ◌∷◌, IsTrue, slice_get, option_map};
+ghost use Rattle.std.specs.Prelude.{◌≡◌, ◌&&◌, [], ◌∷◌, IfSome, option_map};
 ghost use Rattle.mutate_base.specs.declared.types.PrimitiveTypeInfo.TheVariants.{I32};
-ghost use Rattle.peephole_machine.specs.Values.{type_of, is_integer, same_type, same_types};
+ghost use Rattle.peephole_machine.specs.Values.{context_in, type_of, same_type, same_types};
 ghost use Rattle.peephole_machine.specs.Integer.{select_operator};
-ghost use Rattle.peephole_machine.specs.IntegerRow.{bare_row, variable_row, typed_select, byte_row, integer_row, if_typed, integer_only, variable_type, row_types};
-ghost use Rattle.peephole_machine.specs.Laws.{IsIntegerRow};
-ghost use Rattle.peephole_machine.specs.Row.{variable_of, row_of, list_of, instruction_byte, get_types, set_types, tee_types, drop_types, select_types};
+ghost use Rattle.peephole_machine.specs.IntegerRow.{bare_row, variable_row, typed_select, byte_row, row_or_other, integer_row, is_other, if_typed, variable_type, is_numeric, row_types};
+ghost use Rattle.peephole_machine.specs.Row.{instruction_types, variable_of, row_of, list_of, instruction_byte, get_types, set_types, tee_types, drop_types, select_types};
 
 use crate::integer::IntegerType;
 use crate::operation::Operation;
-use mutate_base::PrimitiveTypeInfo;
+use crate::other_types::other_types;
+use mutate_base::{ModuleInfo, PrimitiveTypeInfo};
 use wasm_code::{Imm, Instr, ValType};
 
 /// A variable, by its number.
@@ -67,11 +67,22 @@ pub fn opcode_byte(instr: &Instr) -> Option<u8>
 /// What an instruction is to the machine. A constant's number is in two's complement.
 #[tactic(auto, unfolding(crate::specs::IntegerRow::integer_row))]
 pub fn integer_row(instr: &Instr) -> Row
-    ensures { row_of result ≡ integer_row instr.now }
+    ensures { row_or_other instr.now (row_of result) ≡ integer_row instr.now }
 {
     match opcode_byte(instr) {
         Some(byte) => byte_row(byte, instr.imm()),
         None => Row::Other,
+    }
+}
+
+/// Whether an instruction is no integer row, and so does as the world says: a load, a store, a call, one on floats or vectors, and
+/// every other that is not among those of `Row`.
+pub fn asks_world(instr: &Instr) -> bool
+    ensures { result ≡ is_other (integer_row instr.now) }
+{
+    match integer_row(instr) {
+        Row::Other => true,
+        _ => false,
     }
 }
 
@@ -156,47 +167,41 @@ fn type_of(t: IntegerType) -> PrimitiveTypeInfo
     }
 }
 
-fn is_integer(t: PrimitiveTypeInfo) -> bool
-    ensures { result ≡ is_integer t }
+// A number's or a vector's.
+fn is_numeric(t: PrimitiveTypeInfo) -> bool
+    ensures { result ≡ is_numeric t }
 {
     match t {
-        PrimitiveTypeInfo::I32 => true,
-        PrimitiveTypeInfo::I64 => true,
-        _ => false,
+        PrimitiveTypeInfo::FuncRef => false,
+        PrimitiveTypeInfo::ExternRef => false,
+        PrimitiveTypeInfo::Empty => false,
+        _ => true,
     }
 }
 
-fn same_type(t: PrimitiveTypeInfo, u: PrimitiveTypeInfo) -> bool
+pub(crate) fn same_type(t: PrimitiveTypeInfo, u: PrimitiveTypeInfo) -> bool
     ensures { result ≡ same_type t u }
 {
     t == u
 }
 
-fn same_types(types: &[PrimitiveTypeInfo], others: &[PrimitiveTypeInfo]) -> bool
+pub(crate) fn same_types(types: &[PrimitiveTypeInfo], others: &[PrimitiveTypeInfo]) -> bool
     ensures { result ≡ same_types types.now others.now }
 {
     types == others
 }
 
-// The type at an index, where it is there and an integer.
-fn integer_at(types: &[PrimitiveTypeInfo], index: u32) -> Option<PrimitiveTypeInfo>
-    ensures { result ≡ integer_only (slice_get types.now index) }
-{
-    let t = types.get(index as usize).copied()?;
-    if is_integer(t) { Some(t) } else { None }
-}
-
-// The type of a variable, where it is there and an integer.
+// The type of a variable, where it is there.
 fn variable_type(
+    info: &ModuleInfo<'_>,
     locals: &[PrimitiveTypeInfo],
-    globals: &[PrimitiveTypeInfo],
     variable: Variable,
 ) -> Option<PrimitiveTypeInfo>
-    ensures { result ≡ variable_type locals.now globals.now (variable_of variable) }
+    ensures { result ≡ variable_type (context_in info.now locals.now) (variable_of variable) }
 {
     match variable {
-        Variable::Local(index) => integer_at(locals, index),
-        Variable::Global(index) => integer_at(globals, index),
+        Variable::Local(index) => locals.get(index as usize).copied(),
+        Variable::Global(index) => info.global_types.get(index as usize).copied(),
     }
 }
 
@@ -218,17 +223,17 @@ fn select_operands(t: IntegerType) -> &'static [PrimitiveTypeInfo]
     }
 }
 
-/// The type that a row gives on operands of these types, or `Some(None)` where it gives nothing; none where these are
-/// not the row's operand types, or its variable isn't there or no integer (WebAssembly Core Specification 3.0,
-/// Validation, Instructions). An `Other` has no types.
+/// The type that an integer row gives on operands of these types, or `Some(None)` where it gives nothing; none where these
+/// are not the row's operand types, or its variable isn't there (WebAssembly Core Specification 3.0, Validation,
+/// Instructions).
 pub fn row_types(
+    info: &ModuleInfo<'_>,
     locals: &[PrimitiveTypeInfo],
-    globals: &[PrimitiveTypeInfo],
     row: Row,
     operands: &[PrimitiveTypeInfo],
 ) -> Option<Option<PrimitiveTypeInfo>>
-    ensures { option_map list_of result
-        ≡ row_types locals.now globals.now (row_of row) operands.now }
+    ensures { IfSome (row_of row) (λ r.
+        option_map list_of result ≡ row_types (context_in info.now locals.now) r operands.now) }
 {
     match row {
         Row::Constant(t, _) => operands.is_empty().then_some(Some(type_of(t))),
@@ -236,9 +241,9 @@ pub fn row_types(
             operator_types(operation.operands(), operation.result(), operands)
         }
         Row::TypedSelect(t) => operator_types(select_operands(t), t, operands),
-        Row::Get(variable) => get_types(variable_type(locals, globals, variable), operands),
-        Row::Set(variable) => set_types(variable_type(locals, globals, variable), operands),
-        Row::Tee(variable) => tee_types(variable_type(locals, globals, variable), operands),
+        Row::Get(variable) => get_types(variable_type(info, locals, variable), operands),
+        Row::Set(variable) => set_types(variable_type(info, locals, variable), operands),
+        Row::Tee(variable) => tee_types(variable_type(info, locals, variable), operands),
         Row::Drop => drop_types(operands),
         Row::Select => select_types(operands),
         Row::Nop => operands.is_empty().then_some(None),
@@ -296,7 +301,7 @@ fn drop_types(operands: &[PrimitiveTypeInfo]) -> Option<Option<PrimitiveTypeInfo
     ensures { option_map list_of result ≡ drop_types operands.now }
 {
     match operands {
-        [t] => is_integer(*t).then_some(None),
+        [_] => Some(None),
         _ => None,
     }
 }
@@ -316,21 +321,25 @@ fn has_select_types(
     u: PrimitiveTypeInfo,
     condition: PrimitiveTypeInfo,
 ) -> bool
-    ensures { result ≡ (is_integer t && same_types (u ∷ condition ∷ []) (t ∷ I32 ∷ [])) }
+    ensures { result ≡ (is_numeric t && same_types (u ∷ condition ∷ []) (t ∷ I32 ∷ [])) }
 {
-    is_integer(t) && same_types(&[u, condition], &[t, PrimitiveTypeInfo::I32])
+    is_numeric(t) && same_types(&[u, condition], &[t, PrimitiveTypeInfo::I32])
 }
 
-/// Whether an instruction that is this to the machine is an integer instruction, where the variables have these types:
-/// not an `Other`, and its variable, if it has one, is there and an integer.
-pub fn is_integer_row(locals: &[PrimitiveTypeInfo], globals: &[PrimitiveTypeInfo], row: Row) -> bool
-    ensures { IsTrue result ↔ IsIntegerRow locals.now globals.now (row_of row) }
+/// The type that an instruction gives on operands of these types, or `Some(None)` where it gives nothing; none where these are
+/// not its operand types, where what it names isn't there, and for a call with several results (WebAssembly Core Specification
+/// 3.0, Validation, Instructions).
+pub fn instruction_types(
+    info: &ModuleInfo<'_>,
+    locals: &[PrimitiveTypeInfo],
+    instr: &Instr,
+    operands: &[PrimitiveTypeInfo],
+) -> Option<Option<PrimitiveTypeInfo>>
+    ensures { result ≡ instruction_types (context_in info.now locals.now) instr.now operands.now }
 {
+    let row = integer_row(instr);
     match row {
-        Row::Get(variable) => variable_type(locals, globals, variable).is_some(),
-        Row::Set(variable) => variable_type(locals, globals, variable).is_some(),
-        Row::Tee(variable) => variable_type(locals, globals, variable).is_some(),
-        Row::Other => false,
-        _ => true,
+        Row::Other => other_types(info, instr, operands),
+        _ => row_types(info, locals, row, operands),
     }
 }

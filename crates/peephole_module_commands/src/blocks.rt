@@ -6,10 +6,9 @@ ghost use Rattle.wasm_module.specs.Module.{IsModule};
 
 use crate::failure::Failure;
 use crate::functions::{chosen_entries, fault_of, index_of, module_of};
-use mutate_base::{Error, ModuleInfo, PrimitiveTypeInfo, WasmMutate, Words};
+use mutate_base::{Error, WasmMutate, Words};
 use peephole_graphs::{BBlock, DFGBuilder};
 use peephole_modules::{FunctionBody, FunctionError, read_function};
-use peephole_rewrites::are_integer;
 use std::alloc::Global;
 use std::io::Write;
 use thiserror::Error as ErrorTexts;
@@ -59,20 +58,6 @@ fn unfit_operator(
     }
 }
 
-// How many of the operators, from the first on, are integer instructions.
-fn integer_count(
-    locals: &[PrimitiveTypeInfo],
-    info: &ModuleInfo<'_>,
-    operators: &[OperatorAndByteOffset],
-) -> usize {
-    for index in 0..operators.len() {
-        if !are_integer(locals, info, &operators[index..index + 1]) {
-            return index;
-        }
-    }
-    operators.len()
-}
-
 // Writes what the first of a block's operators is that no graph holds, where there is one. The block starts at `start`.
 fn write_first_unfit<W: Write>(
     alloc: Global,
@@ -112,11 +97,7 @@ fn write_block<W: Write>(
     let start = range.start;
     let behind = range.end;
     let operators = &function.operators[start..behind];
-    let integer = integer_count(&function.locals, config.info(), operators);
-    write!(
-        output,
-        "function {index} block {start}..{behind} integer {integer}"
-    )?;
+    write!(output, "function {index} block {start}..{behind}")?;
     write_first_unfit(alloc, config, operators, start, output)?;
     writeln!(output)?;
     Ok(())
@@ -198,9 +179,9 @@ fn write_function<W: Write>(
     }
 }
 
-/// Writes a line for each block of each function of the module: the longest ranges of operators that hold no delimiter. It says how
-/// many integer instructions the block begins with, and which of its operators is the first that no graph holds, if one isn't. A
-/// function that can't be read has a line that says why. With `only`, the function with that index alone.
+/// Writes a line for each block of each function of the module: the longest ranges of operators that hold no delimiter. It says
+/// which of the block's operators is the first that no graph holds, if one isn't. A function that can't be read has a line that
+/// says why. With `only`, the function with that index alone.
 ///
 /// Fails as the module can't be read, and as `chosen_entries` finds no such function.
 pub fn list_blocks<W: Write>(

@@ -2,13 +2,14 @@
 ghost use Rattle.std.specs.Prelude.{◌≡◌, ◌<◌, length, IsTrue, is_some, IfErr, IfSome};
 ghost use Rattle.peephole_module_commands.specs.declared.failure.Failure.TheVariants.{Output};
 ghost use Rattle.mutate_base.specs.Config.{info_of};
+ghost use Rattle.peephole_graphs.specs.Block.{IsBlockIn};
 ghost use Rattle.wasm_module.specs.Module.{IsModule};
 
 use crate::failure::Failure;
 use crate::functions::{chosen_entries, index_of, module_of};
 use mutate_base::{WasmMutate, Words};
 use peephole_graphs::BBlock;
-use peephole_modules::{FunctionBody, integer_runs, read_function};
+use peephole_modules::{FunctionBody, graph_stretches, read_function};
 use peephole_rewrites::{Rewrite, rewrites_of_block};
 use peephole_rules::Rule;
 use std::alloc::Global;
@@ -33,26 +34,21 @@ pub fn write_rewrite<W: Write>(
     Ok(())
 }
 
-// Writes the lines of the integer run that ends with the operator.
-fn list_run<W: Write>(
+// Writes the lines of a stretch of the function with the index.
+fn list_stretch<W: Write>(
     alloc: Global,
     config: &WasmMutate<'_, Words>,
     rules: &[Rule],
     index: usize,
     function: &FunctionBody,
-    end: usize,
+    block: &BBlock,
     output: &mut W,
 ) -> Result<(), Failure>
-    requires { IsTrue (is_some config.now.setup) }
+    requires set_up { IsTrue (is_some config.now.setup) }
+    requires block { IsBlockIn function.now.operators.items block.now }
 {
     let operators = function.operators.as_slice();
-    if end >= operators.len() {
-        return Ok(());
-    }
-    let Some(block) = BBlock::of_operator(end, operators) else {
-        return Ok(());
-    };
-    let rewrites = rewrites_of_block(alloc, config, &function.locals, rules, operators, &block)?;
+    let rewrites = rewrites_of_block(alloc, config, &function.locals, rules, operators, block)?;
     for rewrite in &rewrites {
         write_rewrite(output, index, rewrite)?;
     }
@@ -82,10 +78,10 @@ fn list_function<W: Write>(
             return Ok(());
         }
     };
-    let ends = integer_runs(alloc, &function.locals, config.info(), &function.operators)?;
+    let stretches = graph_stretches(alloc, config.info(), &function.operators)?;
     let index = index_of(layout, n);
-    for end in &ends {
-        list_run(alloc, config, rules, index, &function, *end, output)?;
+    for block in &stretches {
+        list_stretch(alloc, config, rules, index, &function, block, output)?;
     }
     Ok(())
 }

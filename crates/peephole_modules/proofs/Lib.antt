@@ -1,4 +1,4 @@
-pub mod RunLemmas
+pub mod StretchLemmas
 pub mod BodyLemmas
 pub mod FunctionLemmas
 pub mod MutationLemmas

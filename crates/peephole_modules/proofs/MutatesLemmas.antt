@@ -1,7 +1,7 @@
 -- Rewrites made one after another.
-use Rattle.std.proofs.Common.{◌≡◌, ℕ, ◌+◌, ◌<◌, ◌≤◌, List, [], ◌∷◌, ◌++◌, length, Option, Result, Err, IfErr, refl, sym, ◌∙◌, ap, subst, inr, arith, length-append}
+use Rattle.std.proofs.Common.{◌≡◌, ℕ, ◌+◌, ◌<◌, List, [], ◌∷◌, ◌++◌, length, Option, Result, Err, IfErr, refl, sym, ◌∙◌, ap, subst, inr, arith, length-append}
 use Rattle.peephole_rules.specs.declared.rule.Rule.{Rule}
-use Rattle.peephole_modules.specs.Mutated.{CannotMutate, IsMutated, RefusesMutation}
+use Rattle.peephole_modules.specs.Mutated.{IsMutated, RefusesMutation}
 use Rattle.peephole_modules.specs.declared.mutation.MutationError.{MutationError}
 use Rattle.peephole_modules.specs.Mutates.{Mutates, RefusesMutations, RewritesEach}
 use Rattle.peephole_modules.specs.declared.times.MadeRewrite.{MadeRewrite}
@@ -35,16 +35,6 @@ next rules only number bytes old last m made new so e mutated =
       each = each_more rules only bytes old last m new so.each mutated;
       number_is = length-append old (m ∷ []) ∙ ap (λ (n : ℕ). n + 1) so.number_is;
     })
-
--- no rule applies any more
-pub stops : (rules : List Rule) (only : Option ℕ) (count number : ℕ) (bytes : List ℕ) (made : List MadeRewrite) (new : List ℕ) →
-    SoFar rules only number bytes made new → 0 < number → number ≤ count → CannotMutate rules only new → Mutates rules only count bytes made new
-stops rules only count number bytes made new so some most none = record {
-  some = omega (arith, so.number_is);
-  most = omega (arith, so.number_is);
-  each = so.each;
-  fewer = λ _. none;
-}
 
 -- as many rewrites as were asked for
 pub ends : (rules : List Rule) (only : Option ℕ) (count number : ℕ) (bytes : List ℕ) (made : List MadeRewrite) (new : List ℕ) →

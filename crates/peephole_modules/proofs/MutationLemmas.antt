@@ -23,7 +23,6 @@ use Rattle.peephole_modules.specs.Body.{AppendsInBody, HasNoRewrites, RefusesInB
 use Rattle.peephole_modules.specs.Function.{IsFunction}
 use Rattle.peephole_modules.specs.Mutated.{HasNoMutation, IsBehindLocals, MutatesEntry, RefusesEntry, RefusesFunction, requested}
 use Rattle.peephole_modules.specs.declared.mutation.MutationError.TheVariants.{Write}
-use Rattle.peephole_modules.specs.Runs.{EndsRun}
 
 abbrev Types : Type 0
 Types = List PrimitiveTypeInfo
@@ -79,16 +78,13 @@ behind_locals bytes info layout n locals expression operators entry f inside at 
 pub nothing_here : (rules : List Rule) (bytes : List ℕ) (info : Module) (layout : Layout) (n : ℕ) (locals lent : Types) (operators given : Operators)
     (preserving : Bool) → preserving ≡ true → lent ≡ locals → given ≡ operators →
     ((l : Types) (x : ℕ) (o : Operators) → IsFunction bytes info layout n l x o → (locals ≡ l) × (operators ≡ o)) →
-    ((end : ℕ) → EndsRun lent info.globals given end → HasNoRewrites lent info preserving rules given end) →
-    HasNoMutation rules bytes info layout n
-nothing_here rules bytes info layout n locals lent operators given preserving is lent_is given_is only none l x o f end runs =
+    HasNoRewrites lent info preserving rules given → HasNoMutation rules bytes info layout n
+nothing_here rules bytes info layout n locals lent operators given preserving is lent_is given_is only none l x o f =
     let s = only l x o f in
     let own : lent ≡ l = lent_is ∙ s.0 in
     let all : given ≡ o = given_is ∙ s.1 in
-    let run : EndsRun lent info.globals given end = subst (λ (ts : Types). EndsRun ts info.globals given end) (sym own)
-    (subst (λ (os : Operators). EndsRun l info.globals os end) (sym all) runs) in
-    subst (λ (p : Bool). HasNoRewrites l info p rules o end) is (subst (λ (ts : Types). HasNoRewrites ts info preserving rules o end) own
-    (subst (λ (os : Operators). HasNoRewrites lent info preserving rules os end) all (none end run)))
+    subst (λ (p : Bool). HasNoRewrites l info p rules o) is (subst (λ (ts : Types). HasNoRewrites ts info preserving rules o) own
+    (subst (λ (os : Operators). HasNoRewrites lent info preserving rules os) all none))
 
 -- ---- refusals
 

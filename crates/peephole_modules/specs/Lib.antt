@@ -1,4 +1,4 @@
-pub mod Runs
+pub mod Stretches
 pub mod Body
 pub mod Function
 pub mod Mutated

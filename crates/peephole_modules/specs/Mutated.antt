@@ -1,4 +1,4 @@
--- A module with a node of a block of one of its functions rewritten by a rule (this project).
+-- A module with a node of a stretch of one of its functions rewritten by a rule (this project).
 use Rattle.std.specs.Prelude.{◌≡◌, ◌⊎◌, ℕ, ◌+◌, ◌<◌, ◌≤◌, List, [], ◌++◌, length, map, true, Option, Some, None, slice_range}
 use Rattle.wasm_code.specs.declared.operator.Operator.{Operator}
 use Rattle.mutate_base.specs.Module.{Module}
@@ -17,7 +17,6 @@ use Rattle.peephole_rules.specs.declared.rule.Rule.{Rule}
 use Rattle.peephole_rewrites.specs.declared.rewrite.Rewrite.{Rewrite}
 use Rattle.peephole_modules.specs.Body.{AppendsInBody, HasNoRewrites, RefusesInBody}
 use Rattle.peephole_modules.specs.Function.{IsFunction}
-use Rattle.peephole_modules.specs.Runs.{EndsRun}
 use Rattle.peephole_modules.specs.declared.mutation.MutationError.{MutationError}
 use Rattle.peephole_modules.specs.declared.mutation.MutationError.TheVariants as mutations
 
@@ -30,8 +29,8 @@ abbrev pub IsChosen : Option ℕ → ℕ → Type 0
 IsChosen None index = Unit {0}
 IsChosen (Some function) index = index ≡ function
 
--- The new bytes are the module with a node of a tree of a block of its n-th code entry rewritten by one of the rules: its locals stand as they stood, the
--- block runs as before, and the globals that it asks for are appended.
+-- The new bytes are the module with a node of a tree of a stretch of its n-th code entry rewritten by one of the rules: its locals stand as they stood,
+-- the stretch runs as before, and the globals that it asks for are appended.
 pub record MutatesEntry (rules : List Rule) (bytes : List ℕ) (info : Module) (layout : Layout) (n : ℕ) (rewrite : Rewrite) (new : List ℕ) : Type 0 where
   pub locals : List PrimitiveTypeInfo
   pub expression : ℕ
@@ -56,20 +55,20 @@ pub record IsMutated (rules : List Rule) (only : Option ℕ) (bytes : List ℕ) 
   pub chosen : IsChosen only function
   pub mutates : MutatesOne rules bytes info layout function rewrite new
 
--- No rule applies in the n-th code entry: it spells no function that can be read, or no rule has an answer in any of its integer runs.
+-- No rewrite can be made in the n-th code entry: it spells no function that can be read, or one with no rewrite in any of its stretches.
 abbrev pub HasNoMutation : List Rule → (bytes : List ℕ) → Module → Layout → (n : ℕ) → Type 0
 HasNoMutation rules bytes info layout n =
     (locals : List PrimitiveTypeInfo) (expression : ℕ) (operators : List (Operator × ℕ)) → IsFunction bytes info layout n locals expression operators →
-    (end : ℕ) → EndsRun locals info.globals operators end → HasNoRewrites locals info true rules operators end
+    HasNoRewrites locals info true rules operators
 
--- No rule applies in any function that may be rewritten.
+-- No rewrite can be made in any function that may be rewritten.
 pub record CannotMutate (rules : List Rule) (only : Option ℕ) (bytes : List ℕ) : Type 0 where
   pub info : Module
   pub layout : Layout
   pub is : IsModule bytes info layout
   pub none : (n : ℕ) → n < length layout.entries → IsChosen only (layout.imported_functions + n) → HasNoMutation rules bytes info layout n
 
--- for a private function: the offset lies in the entry, at or behind its contents' start
+-- for a private function: the offset lies in the bytes, at or behind the start of the entry's contents
 pub record IsBehindLocals (bytes : List ℕ) (entry : Entry) (expression : ℕ) : Type 0 where
   pub behind : entry.contents ≤ expression
   pub ends : expression ≤ length bytes

@@ -1,4 +1,4 @@
-//! A module with a node of a block of one of its functions rewritten by a rule.
+//! A module with a node of a stretch of one of its functions rewritten by a rule.
 ghost use Rattle.std.specs.Prelude.{◌≡◌, ◌<◌, ◌≤◌, ◌+◌, ℕ, true, length, map, slice_range, IfOk, IfErr, IfNone, IfSome, IsTrue, is_some};
 ghost use Rattle.mutate_base.specs.Config.{info_of, ChangesGeneratorAlone};
 ghost use Rattle.wasm_module.specs.Module.{IsModule};
@@ -23,7 +23,7 @@ pub enum MutationError {
     /// The bytes are no module that can be read.
     #[error("{0}")]
     Read(ModuleError),
-    /// A block's graph, or the writer of its body, refused.
+    /// A stretch's graph, or the writer of its body, refused.
     #[error("{0}")]
     Rewrite(Error),
     /// A section doesn't fit its size, or no memory was left for the module.
@@ -233,13 +233,13 @@ fn mutate_function<R: Rng + Drop>(
     mutate_entry(alloc, config, rules, bytes, layout, n)
 }
 
-/// The module with a node of a block of one of its functions rewritten by one of the rules, so that the block runs as before:
-/// wherever the block's own run ends or traps the new one does the same, apart from the globals that are appended. None where no
+/// The module with a node of a stretch of one of its functions rewritten by one of the rules, so that the stretch runs as before:
+/// wherever its own run ends or traps the new one does the same, apart from the globals that are appended. None where no
 /// rule applies in any of its functions; with `only`, in the function of that index among all functions, imported ones first.
 /// A function that can't be read, since it has operators or forms that aren't known here, is left alone.
 ///
 /// Which function is tried first is chosen by a word drawn from the generator, then come those behind it and those before it; the
-/// block and the rewrite are chosen likewise. So equal modules, generators, rules and `only` give equal bytes.
+/// stretch and the rewrite are chosen likewise. So equal modules, generators, rules and `only` give equal bytes.
 ///
 /// The new bytes differ from the old ones in that function's body, the globals that are appended, and the sizes and numbers that
 /// stand before them. It takes time linear in the module.
@@ -253,10 +253,10 @@ pub fn mutate_module<R: Rng + Drop>(
     rules: &[Rule],
     only: Option<usize>,
 ) -> Result<Option<Mutated>, MutationError>
-    // The new module is the old one with a node rewritten, and its block runs as before.
+    // The new module is the old one with a node rewritten, and its stretch runs as before.
     ensures mutated { IfOk result (λ o. IfSome o (λ m.
         IsMutated rules.now only bytes.now m.function m.rewrite m.bytes.items)) }
-    // None only where no rule applies.
+    // None only where no rewrite can be made.
     ensures none { IfOk result (λ o. IfNone o (CannotMutate rules.now only bytes.now)) }
     // Refused only as the module can't be read, or as a rewrite of a function that may be rewritten is refused, or its writing.
     ensures refused { IfErr result (RefusesMutation rules.now only bytes.now) }

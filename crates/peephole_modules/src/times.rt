@@ -54,7 +54,7 @@ pub fn mutate_times<R: Rng + Drop>(
     count: usize,
 ) -> Result<Option<RewrittenModule>, MutationError>
     requires some { 0 < count }
-    // The new module is the old one rewritten once or more, at most `count` times, each block of it running as before.
+    // The new module is the old one rewritten once or more, at most `count` times, each stretch of it running as before.
     ensures mutated { IfOk result (λ o. IfSome o (λ m.
         Mutates rules.now only count bytes.now m.made.items m.bytes.items)) }
     // None only where no rule applies.

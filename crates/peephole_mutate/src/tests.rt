@@ -21,6 +21,11 @@ const STRUCTURE_TURNED: &[u8] = b"\0asm\x01\0\0\0\x01\x0b\x02\x60\x02\x7f\x7f\x0
 const REFERENCE: &[u8] = b"\0asm\x01\0\0\0\x01\x07\x01\x60\x02\x7f\x7f\x01\x7f\
     \x02\x08\x01\x01m\x01g\x03\x6e\0\x03\x02\x01\0\x0a\x09\x01\x07\0\x20\0\x20\x01\x6a\x0b";
 
+/// A function of two i32 that drops their sum, calls through a table, and drops the double of the first.
+const TABLE: &[u8] =
+    b"\0asm\x01\0\0\0\x01\x09\x02\x60\0\0\x60\x02\x7f\x7f\0\x03\x02\x01\x01\x04\x04\x01\x70\0\x01\
+    \x0a\x15\x01\x13\0\x20\0\x20\x01\x6a\x1a\x41\0\x11\0\0\x20\0\x41\x02\x6c\x1a\x0b";
+
 /// Words of the command line, and the task, the seed, the count, the function, whether there are statistics, and of the rules
 /// the number, the first and the last; or the kind of the error.
 const OPTIONS: &str = "
@@ -50,7 +55,14 @@ const RUNS: &str = "
 > function 0 operator 2 node 2 rule commute
 
 --blocks | SUM | Ok(())
-> function 0 block 0..3 integer 3
+> function 0 block 0..3
+
+--list --rule commute | TABLE | Ok(())
+> function 0 operator 3 node 2 rule commute
+> function 0 operator 9 node 2 rule commute
+
+--blocks | TABLE | Ok(())
+> function 0 block 0..10, no graph: operator 5 call_indirect
 
 --rule commute --stats | STRUCTURE | Ok(())
 > STRUCTURE_TURNED
@@ -80,6 +92,7 @@ fn module_of(name: &str) -> Option<&'static [u8]> {
     match name {
         "SUM" => Some(&SUM),
         "TURNED" => Some(&TURNED),
+        "TABLE" => Some(TABLE),
         "STRUCTURE" => Some(STRUCTURE),
         "STRUCTURE_TURNED" => Some(STRUCTURE_TURNED),
         "REFERENCE" => Some(REFERENCE),

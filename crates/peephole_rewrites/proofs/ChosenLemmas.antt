@@ -15,6 +15,7 @@ use Rattle.peephole_graphs.specs.EntryTrees.{HasOwnTree}
 use Rattle.peephole_graphs.specs.Entries.{Graph}
 use Rattle.peephole_graphs.specs.GraphOf.{IsRefused}
 use Rattle.peephole_graphs.specs.Source.{source_of}
+use Rattle.peephole_machine.specs.Values.{Context, context_in}
 use Rattle.peephole_terms.specs.declared.encoder.request.ResourceRequest.{ResourceRequest}
 use Rattle.peephole_terms.specs.Expansion.{Setting}
 use Rattle.peephole_terms.specs.Written.{Site, site_at, source_at}
@@ -37,7 +38,7 @@ some_inj x y e = cc
 -- a block without an ordered graph has nothing to rewrite
 pub cannot_rewrite : {R : Type 0} (setup : Option (Setup Module R)) (locals : List PrimitiveTypeInfo) (preserving : Bool)
     (operators : List (Operator × ℕ)) (block : BlockRange) (r : Rewrite) →
-    IfSome (info_in setup) (λ info. HasNoOrderedGraph locals (source_of info preserving operators block)) →
+    IfSome (info_in setup) (λ info. HasNoOrderedGraph (source_of info preserving operators block)) →
     IfSome (info_in setup) (λ info. CannotRewrite locals (source_of info preserving operators block) r)
 cannot_rewrite None locals preserving operators block r h = tt
 cannot_rewrite (Some s) locals preserving operators block r (inl h) = inl h
@@ -45,30 +46,30 @@ cannot_rewrite (Some s) locals preserving operators block r (inr (graph, is, out
     inr (graph, is, λ new makes. absurd (out makes.rewritable.order))
 
 -- what is in the list is of a root's tree
-in_list : (locals globals : List PrimitiveTypeInfo) (rules : List Rule) (graph : Graph) (start end : ℕ) (list : List Rewrite) (r : Rewrite) →
-    Grows [] list (IsInRange locals globals rules graph start end) → Contains list r → IsOfRoot locals globals rules graph r
-in_list locals globals rules graph start end list r grows h = go ((grows.has r).0 h)
+in_list : (context : Context) (rules : List Rule) (graph : Graph) (start end : ℕ) (list : List Rewrite) (r : Rewrite) →
+    Grows [] list (IsInRange context rules graph start end) → Contains list r → IsOfRoot context rules graph r
+in_list context rules graph start end list r grows h = go ((grows.has r).0 h)
   where
-    go : Contains [] r ⊎ IsInRange locals globals rules graph start end r → IsOfRoot locals globals rules graph r
+    go : Contains [] r ⊎ IsInRange context rules graph start end r → IsOfRoot context rules graph r
     go (inl none) = let l = none.1 in absurd (omega arith)
     go (inr p) = p.of
 
-pub rule_in_list : (locals globals : List PrimitiveTypeInfo) (rules : List Rule) (graph : Graph) (start end : ℕ) (list : List Rewrite) (r : Rewrite) →
-    Grows [] list (IsInRange locals globals rules graph start end) → Contains list r → Contains rules r.rule
-rule_in_list locals globals rules graph start end list r grows h = (in_list locals globals rules graph start end list r grows h).rule
+pub rule_in_list : (context : Context) (rules : List Rule) (graph : Graph) (start end : ℕ) (list : List Rewrite) (r : Rewrite) →
+    Grows [] list (IsInRange context rules graph start end) → Contains list r → Contains rules r.rule
+rule_in_list context rules graph start end list r grows h = (in_list context rules graph start end list r grows h).rule
 
 -- so it can be made, in the configuration as it is left
 pub can_be_made : {R : Type 0} (before after : Option (Setup Module R)) → HasOwnTree → (locals : List PrimitiveTypeInfo) (m : Module)
     (rules : List Rule) (old new : Bool) (operators : List (Operator × ℕ)) (block : BlockRange) (graph : Graph) (start end : ℕ)
     (list : List Rewrite) (r : Rewrite) → info_in before ≡ Some m → info_in after ≡ info_in before → new ≡ old →
-    IfSome (info_in before) (λ info. IsOrderedGraph locals (source_of info old operators block) graph) →
-    Grows [] list (IsInRange locals m.globals rules graph start end) → Contains list r →
+    IfSome (info_in before) (λ info. IsOrderedGraph (source_of info old operators block) graph) →
+    Grows [] list (IsInRange (context_in m locals) rules graph start end) → Contains list r →
     IfSome (info_in after) (λ info. (u : Term Head) → Makes locals (source_of info new operators block) graph r u → ⊥) → ⊥
 can_be_made None after own locals m rules old new operators block graph start end list r is same mode ordered grows h never = absurd cc
 can_be_made (Some s) None own locals m rules old new operators block graph start end list r is same mode ordered grows h never = absurd cc
 can_be_made (Some s) (Some t) own locals m rules old new operators block graph start end list r is same mode ordered grows h never =
-    let p : IsOfRoot locals s.info.globals rules graph r = in_list locals s.info.globals rules graph start end list r
-    (subst (λ (k : Module). Grows [] list (IsInRange locals k.globals rules graph start end)) (sym (some_inj s.info m is)) grows) h in
+    let p : IsOfRoot (context_in s.info locals) rules graph r = in_list (context_in s.info locals) rules graph start end list r
+    (subst (λ (k : Module). Grows [] list (IsInRange (context_in k locals) rules graph start end)) (sym (some_inj s.info m is)) grows) h in
     let there : (u : Term Head) → Makes locals (source_of s.info old operators block) graph r u → ⊥ =
     subst (λ b. (u : Term Head) → Makes locals (source_of s.info b operators block) graph r u → ⊥) mode
     (subst (λ (k : Module). (u : Term Head) → Makes locals (source_of k new operators block) graph r u → ⊥) (some_inj t.info s.info same) never) in

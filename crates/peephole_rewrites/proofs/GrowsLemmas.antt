@@ -14,9 +14,9 @@ use Rattle.peephole_lang.specs.Term.{Term}
 use Rattle.peephole_graphs.specs.EntryTrees.{HasOwnTree, IsEntryOperand}
 use Rattle.peephole_graphs.specs.Entries.{Graph}
 use Rattle.peephole_graphs.specs.GraphOf.{IsGraphOf, IsOwnEntry, IsEntryOf}
-use Rattle.peephole_graphs.specs.Block.{BlockRange}
+use Rattle.peephole_graphs.specs.Block.{BlockRange, IsBlockIn}
 use Rattle.peephole_graphs.specs.Source.{Source, source_of}
-use Rattle.peephole_terms.specs.Written.{IsBlockIn}
+use Rattle.peephole_machine.specs.Values.{Context, context_in}
 use Rattle.peephole_rules.specs.declared.rule.Rule.{Rule}
 use Rattle.peephole_rules.specs.Rewriting.{rewrite, rewrite_at}
 use Rattle.peephole_rules.specs.Grafted.{term_at, grafted}
@@ -75,27 +75,27 @@ same_rewrite r at node rule p n u =
     ap (λ k. make k node rule) (sym p) ∙ (ap (λ k. make r.insertion_point k rule) (sym n) ∙ ap (λ k. make r.insertion_point r.node k) (sym u))
 
 -- with one rule more: one of those before, or it is the new one
-module _ (locals globals : List PrimitiveTypeInfo) (rules : List Rule) (at node : ℕ) (nodes : List Lang) (i : ℕ) (rule : Rule)
+module _ (context : Context) (rules : List Rule) (at node : ℕ) (nodes : List Lang) (i : ℕ) (rule : Rule)
     (l : i < length rules) (e : rule ≡ get_or rules i rule) where
   abbrev new : Rewrite
   new = make at node rule
 
   abbrev IsBefore : Rewrite → Type 0
-  IsBefore r = IsAtNode locals globals (take i rules) at node nodes r
+  IsBefore r = IsAtNode context (take i rules) at node nodes r
 
   abbrev IsNow : Rewrite → Type 0
-  IsNow r = IsAtNode locals globals (take (i + 1) rules) at node nodes r
+  IsNow r = IsAtNode context (take (i + 1) rules) at node nodes r
 
   abbrev IsNew : Rewrite → Type 0
-  IsNew r = (new ≡ r) × (is_some (rewrite_at locals globals rule nodes node) ≡ true)
+  IsNew r = (new ≡ r) × (is_some (rewrite_at context rule nodes node) ≡ true)
 
   now_cases : (r : Rewrite) → IsNow r → IsBefore r ⊎ IsNew r
   now_cases r h = elim (Contains-push_cases (take i rules) rule r.rule (subst (λ rs. Contains rs r.rule) (rules_more rules i rule l e) h.rule)) [
     | inl c ↦ inl (record { point = h.point; place = h.place; rule = c; applies = h.applies })
     | inr same ↦ inr (
       same_rewrite r at node rule h.point h.place (sym same),
-      subst (λ u. is_some (rewrite_at locals globals u nodes node) ≡ true) (sym same)
-          (subst (λ n. is_some (rewrite_at locals globals r.rule nodes n) ≡ true) h.place h.applies),
+      subst (λ u. is_some (rewrite_at context u nodes node) ≡ true) (sym same)
+          (subst (λ n. is_some (rewrite_at context r.rule nodes n) ≡ true) h.place h.applies),
     )
   ]
 
@@ -115,63 +115,63 @@ module _ (locals globals : List PrimitiveTypeInfo) (rules : List Rule) (at node 
     applies = applies;
   })
 
-  pub node_kept : (a b : List Rewrite) → is_some (rewrite_at locals globals rule nodes node) ≡ false → Grows a b IsBefore → Grows a b IsNow
+  pub node_kept : (a b : List Rewrite) → is_some (rewrite_at context rule nodes node) ≡ false → Grows a b IsBefore → Grows a b IsNow
   node_kept a b kept g =
       grows_more a b b IsBefore IsNew IsNow now_cases before_now new_now g (grows_none b IsNew (λ r h. false≢true (sym kept ∙ h.1)))
 
-  pub node_pushed : (a b : List Rewrite) → is_some (rewrite_at locals globals rule nodes node) ≡ true → Grows a b IsBefore →
+  pub node_pushed : (a b : List Rewrite) → is_some (rewrite_at context rule nodes node) ≡ true → Grows a b IsBefore →
       Grows a (b ++ new ∷ []) IsNow
   node_pushed a b pushed g =
       grows_more a b (b ++ new ∷ []) IsBefore IsNew IsNow now_cases before_now new_now g
       (grows_as b (b ++ new ∷ []) (λ r. new ≡ r) IsNew (λ r h. (h, pushed)) (λ r h. h.0) (grows_push b new))
 
 -- so it is of the rule at the index, read with any default
-pub kept_at : (locals globals : List PrimitiveTypeInfo) (rules : List Rule) (at node : ℕ) (nodes : List Lang) (i : ℕ) (d : Rule) (a b : List Rewrite) →
-    i < length rules → is_some (rewrite_at locals globals (get_or rules i d) nodes node) ≡ false →
-    Grows a b (IsAtNode locals globals (take i rules) at node nodes) → Grows a b (IsAtNode locals globals (take (i + 1) rules) at node nodes)
-kept_at locals globals rules at node nodes i d a b l kept g =
-    node_kept locals globals rules at node nodes i (get_or rules i d) l (get_or_default rules i d (get_or rules i d) l) a b kept g
+pub kept_at : (context : Context) (rules : List Rule) (at node : ℕ) (nodes : List Lang) (i : ℕ) (d : Rule) (a b : List Rewrite) →
+    i < length rules → is_some (rewrite_at context (get_or rules i d) nodes node) ≡ false →
+    Grows a b (IsAtNode context (take i rules) at node nodes) → Grows a b (IsAtNode context (take (i + 1) rules) at node nodes)
+kept_at context rules at node nodes i d a b l kept g =
+    node_kept context rules at node nodes i (get_or rules i d) l (get_or_default rules i d (get_or rules i d) l) a b kept g
 
-pub pushed_at : (locals globals : List PrimitiveTypeInfo) (rules : List Rule) (at node : ℕ) (nodes : List Lang) (i : ℕ) (d : Rule) (a b c : List Rewrite) →
-    i < length rules → c ≡ b ++ make at node (get_or rules i d) ∷ [] → is_some (rewrite_at locals globals (get_or rules i d) nodes node) ≡ true →
-    Grows a b (IsAtNode locals globals (take i rules) at node nodes) → Grows a c (IsAtNode locals globals (take (i + 1) rules) at node nodes)
-pushed_at locals globals rules at node nodes i d a b c l e pushed g =
-    subst (λ c. Grows a c (IsAtNode locals globals (take (i + 1) rules) at node nodes)) (sym e)
-    (node_pushed locals globals rules at node nodes i (get_or rules i d) l (get_or_default rules i d (get_or rules i d) l) a b pushed g)
+pub pushed_at : (context : Context) (rules : List Rule) (at node : ℕ) (nodes : List Lang) (i : ℕ) (d : Rule) (a b c : List Rewrite) →
+    i < length rules → c ≡ b ++ make at node (get_or rules i d) ∷ [] → is_some (rewrite_at context (get_or rules i d) nodes node) ≡ true →
+    Grows a b (IsAtNode context (take i rules) at node nodes) → Grows a c (IsAtNode context (take (i + 1) rules) at node nodes)
+pushed_at context rules at node nodes i d a b c l e pushed g =
+    subst (λ c. Grows a c (IsAtNode context (take (i + 1) rules) at node nodes)) (sym e)
+    (node_pushed context rules at node nodes i (get_or rules i d) l (get_or_default rules i d (get_or rules i d) l) a b pushed g)
 
 -- of no rule, and of all
-pub node_start : (locals globals : List PrimitiveTypeInfo) (rules : List Rule) (at node : ℕ) (nodes : List Lang) (a : List Rewrite) →
-    Grows a a (IsAtNode locals globals (take 0 rules) at node nodes)
-node_start locals globals rules at node nodes a =
-    grows_none a (IsAtNode locals globals (take 0 rules) at node nodes)
+pub node_start : (context : Context) (rules : List Rule) (at node : ℕ) (nodes : List Lang) (a : List Rewrite) →
+    Grows a a (IsAtNode context (take 0 rules) at node nodes)
+node_start context rules at node nodes a =
+    grows_none a (IsAtNode context (take 0 rules) at node nodes)
     (λ r h. let in_none : h.rule.0 < length (take 0 rules) = h.rule.1 in grind (arith, common_steps))
 
 -- ---- node by node
 
-pub tree_start : (locals globals : List PrimitiveTypeInfo) (rules : List Rule) (at : ℕ) (nodes : List Lang) (a : List Rewrite) →
-    Grows a a (IsAtNodeBefore locals globals rules at 0 nodes)
-tree_start locals globals rules at nodes a =
-    grows_none a (IsAtNodeBefore locals globals rules at 0 nodes) (λ r h. let l = h.place in absurd (omega arith))
+pub tree_start : (context : Context) (rules : List Rule) (at : ℕ) (nodes : List Lang) (a : List Rewrite) →
+    Grows a a (IsAtNodeBefore context rules at 0 nodes)
+tree_start context rules at nodes a =
+    grows_none a (IsAtNodeBefore context rules at 0 nodes) (λ r h. let l = h.place in absurd (omega arith))
 
-pub tree_step : (locals globals : List PrimitiveTypeInfo) (rules : List Rule) (at n : ℕ) (nodes : List Lang) (a b c : List Rewrite) →
-    Grows a b (IsAtNodeBefore locals globals rules at n nodes) → Grows b c (IsAtNode locals globals rules at n nodes) →
-    Grows a c (IsAtNodeBefore locals globals rules at (n + 1) nodes)
-tree_step locals globals rules at n nodes a b c g h = grows_more a b c _ _ _ cases first second g h
+pub tree_step : (context : Context) (rules : List Rule) (at n : ℕ) (nodes : List Lang) (a b c : List Rewrite) →
+    Grows a b (IsAtNodeBefore context rules at n nodes) → Grows b c (IsAtNode context rules at n nodes) →
+    Grows a c (IsAtNodeBefore context rules at (n + 1) nodes)
+tree_step context rules at n nodes a b c g h = grows_more a b c _ _ _ cases first second g h
   where
     last_or_before : (i : ℕ) → i < n + 1 → (i < n) ⊎ (i ≡ n)
     last_or_before i l = grind arith
 
-    cases : (r : Rewrite) → IsAtNodeBefore locals globals rules at (n + 1) nodes r →
-        IsAtNodeBefore locals globals rules at n nodes r ⊎ IsAtNode locals globals rules at n nodes r
+    cases : (r : Rewrite) → IsAtNodeBefore context rules at (n + 1) nodes r →
+        IsAtNodeBefore context rules at n nodes r ⊎ IsAtNode context rules at n nodes r
     cases r h = elim (last_or_before r.node h.place) [
       | inl l ↦ inl (record { point = h.point; place = l; rule = h.rule; applies = h.applies })
       | inr e ↦ inr (record { point = h.point; place = e; rule = h.rule; applies = h.applies })
     ]
 
-    first : (r : Rewrite) → IsAtNodeBefore locals globals rules at n nodes r → IsAtNodeBefore locals globals rules at (n + 1) nodes r
+    first : (r : Rewrite) → IsAtNodeBefore context rules at n nodes r → IsAtNodeBefore context rules at (n + 1) nodes r
     first r h = let l = h.place in record { point = h.point; place = omega arith; rule = h.rule; applies = h.applies }
 
-    second : (r : Rewrite) → IsAtNode locals globals rules at n nodes r → IsAtNodeBefore locals globals rules at (n + 1) nodes r
+    second : (r : Rewrite) → IsAtNode context rules at n nodes r → IsAtNodeBefore context rules at (n + 1) nodes r
     second r h = let e = h.place in record { point = h.point; place = omega arith; rule = h.rule; applies = h.applies }
 
 -- ---- a root's tree
@@ -185,74 +185,69 @@ is_of f None b e = absurd cc
 is_of f (Some a) b e = refl
 
 -- where the rule has an answer there is such a node
-node_is_there : (locals globals : List PrimitiveTypeInfo) (rule : Rule) (nodes : List Lang) (n : ℕ) →
-    is_some (rewrite_at locals globals rule nodes n) ≡ true → n < length nodes
-node_is_there locals globals rule nodes n e = go (nat_lt n (length nodes)) refl e
+node_is_there : (context : Context) (rule : Rule) (nodes : List Lang) (n : ℕ) →
+    is_some (rewrite_at context rule nodes n) ≡ true → n < length nodes
+node_is_there context rule nodes n e = go (nat_lt n (length nodes)) refl e
   where
-    go : (b : Bool) → nat_lt n (length nodes) ≡ b → is_some (if b then rewrite locals globals rule (term_at nodes n) else None) ≡ true → n < length nodes
+    go : (b : Bool) → nat_lt n (length nodes) ≡ b → is_some (if b then rewrite context rule (term_at nodes n) else None) ≡ true → n < length nodes
     go true l e = ltb-true n (length nodes) l
     go false l e = absurd (false≢true e)
 
-module _ (locals globals : List PrimitiveTypeInfo) (rules : List Rule) (graph : Graph) (at : ℕ) where
-  pub root_laid : (nodes : List Lang) (a b : List Rewrite) → IsRootLaidOut locals globals graph at nodes →
-      Grows a b (IsAtNodeBefore locals globals rules at (length nodes) nodes) → Grows a b (IsAtRoot locals globals rules graph at)
+module _ (context : Context) (rules : List Rule) (graph : Graph) (at : ℕ) where
+  pub root_laid : (nodes : List Lang) (a b : List Rewrite) → IsRootLaidOut context graph at nodes →
+      Grows a b (IsAtNodeBefore context rules at (length nodes) nodes) → Grows a b (IsAtRoot context rules graph at)
   root_laid nodes a b root g = grows_as a b _ _ to from g
     where
-      to : (r : Rewrite) → IsAtNodeBefore locals globals rules at (length nodes) nodes r → IsAtRoot locals globals rules graph at r
+      to : (r : Rewrite) → IsAtNodeBefore context rules at (length nodes) nodes r → IsAtRoot context rules graph at r
       to r h =
-          let (new, is) = some_of (grafted nodes r.node) (rewrite_at locals globals r.rule nodes r.node) h.applies in
+          let (new, is) = some_of (grafted nodes r.node) (rewrite_at context r.rule nodes r.node) h.applies in
           record {
             point = h.point;
             of = record {
               rule = h.rule;
               tree = root.tree;
-              root = subst (λ k. IsTypedRoot locals globals graph k root.tree) (sym h.point) root.root;
+              root = subst (λ k. IsTypedRoot context graph k root.tree) (sym h.point) root.root;
               new = new;
-              makes = rewritten_is locals globals r.rule root.tree nodes r.node root.is ∙ is;
+              makes = rewritten_is context r.rule root.tree nodes r.node root.is ∙ is;
             };
           }
 
-      from : (r : Rewrite) → IsAtRoot locals globals rules graph at r → IsAtNodeBefore locals globals rules at (length nodes) nodes r
+      from : (r : Rewrite) → IsAtRoot context rules graph at r → IsAtNodeBefore context rules at (length nodes) nodes r
       from r h =
-          let own = subst (λ k. IsTypedRoot locals globals graph k h.of.tree) h.point h.of.root in
-          let same = same_tree locals globals graph at root.tree h.of.tree root.root own in
-          let makes = ap (λ (t : Term Head). rewritten locals globals r.rule t r.node) same ∙ h.of.makes in
-          let applies = is_of (grafted nodes r.node) (rewrite_at locals globals r.rule nodes r.node) h.of.new
-          (sym (rewritten_is locals globals r.rule root.tree nodes r.node root.is) ∙ makes) in
-          record { point = h.point; place = node_is_there locals globals r.rule nodes r.node applies; rule = h.of.rule; applies = applies }
+          let own = subst (λ k. IsTypedRoot context graph k h.of.tree) h.point h.of.root in
+          let same = same_tree context graph at root.tree h.of.tree root.root own in
+          let makes = ap (λ (t : Term Head). rewritten context r.rule t r.node) same ∙ h.of.makes in
+          let applies = is_of (grafted nodes r.node) (rewrite_at context r.rule nodes r.node) h.of.new
+          (sym (rewritten_is context r.rule root.tree nodes r.node root.is) ∙ makes) in
+          record { point = h.point; place = node_is_there context r.rule nodes r.node applies; rule = h.of.rule; applies = applies }
 
-  pub root_missing : (a : List Rewrite) → ((tree : Term Head) → IsTypedRoot locals globals graph at tree → ⊥) →
-      Grows a a (IsAtRoot locals globals rules graph at)
+  pub root_missing : (a : List Rewrite) → ((tree : Term Head) → IsTypedRoot context graph at tree → ⊥) →
+      Grows a a (IsAtRoot context rules graph at)
   root_missing a never =
-      grows_none a (IsAtRoot locals globals rules graph at)
-      (λ r h. never h.of.tree (subst (λ k. IsTypedRoot locals globals graph k h.of.tree) h.point h.of.root))
+      grows_none a (IsAtRoot context rules graph at)
+      (λ r h. never h.of.tree (subst (λ k. IsTypedRoot context graph k h.of.tree) h.point h.of.root))
 
 -- ---- root by root
 
-pub range_start : (locals globals : List PrimitiveTypeInfo) (rules : List Rule) (graph : Graph) (start : ℕ) (a : List Rewrite) →
-    Grows a a (IsInRange locals globals rules graph start start)
-range_start locals globals rules graph start a =
-    grows_none a (IsInRange locals globals rules graph start start) (λ r h. let l = h.from in let m = h.to in absurd (omega arith))
-
-pub range_step : (locals globals : List PrimitiveTypeInfo) (rules : List Rule) (graph : Graph) (start at : ℕ) (a b c : List Rewrite) → start ≤ at →
-    Grows a b (IsInRange locals globals rules graph start at) → Grows b c (IsAtRoot locals globals rules graph at) →
-    Grows a c (IsInRange locals globals rules graph start (at + 1))
-range_step locals globals rules graph start at a b c above g h = grows_more a b c _ _ _ cases first second g h
+pub range_step : (context : Context) (rules : List Rule) (graph : Graph) (start at : ℕ) (a b c : List Rewrite) → start ≤ at →
+    Grows a b (IsInRange context rules graph start at) → Grows b c (IsAtRoot context rules graph at) →
+    Grows a c (IsInRange context rules graph start (at + 1))
+range_step context rules graph start at a b c above g h = grows_more a b c _ _ _ cases first second g h
   where
     last_or_before : (i : ℕ) → i < at + 1 → (i < at) ⊎ (i ≡ at)
     last_or_before i l = grind arith
 
-    cases : (r : Rewrite) → IsInRange locals globals rules graph start (at + 1) r →
-        IsInRange locals globals rules graph start at r ⊎ IsAtRoot locals globals rules graph at r
+    cases : (r : Rewrite) → IsInRange context rules graph start (at + 1) r →
+        IsInRange context rules graph start at r ⊎ IsAtRoot context rules graph at r
     cases r h = elim (last_or_before r.insertion_point h.to) [
       | inl l ↦ inl (record { from = h.from; to = l; of = h.of })
       | inr e ↦ inr (record { point = e; of = h.of })
     ]
 
-    first : (r : Rewrite) → IsInRange locals globals rules graph start at r → IsInRange locals globals rules graph start (at + 1) r
+    first : (r : Rewrite) → IsInRange context rules graph start at r → IsInRange context rules graph start (at + 1) r
     first r h = let l = h.to in record { from = h.from; to = omega arith; of = h.of }
 
-    second : (r : Rewrite) → IsAtRoot locals globals rules graph at r → IsInRange locals globals rules graph start (at + 1) r
+    second : (r : Rewrite) → IsAtRoot context rules graph at r → IsInRange context rules graph start (at + 1) r
     second r h = let e = h.point in record { from = omega arith; to = omega arith; of = h.of }
 
 -- ---- all of a block
@@ -274,8 +269,8 @@ empty_has : (r : Rewrite) → Contains [] r → ⊥
 empty_has r h = let l : h.0 < 0 = h.1 in absurd (omega arith)
 
 pub rewrites_are : HasOwnTree → IsEntryOperand → (locals : List PrimitiveTypeInfo) (s : Source) (g : Graph) (rules : List Rule) (end : ℕ)
-    (list : List Rewrite) → s.first + length s.operators ≤ end → IsOrderedGraph locals s g →
-    Grows [] list (IsInRange locals s.info.globals rules g s.first end) → AreTheRewrites locals s rules list
+    (list : List Rewrite) → s.first + length s.operators ≤ end → IsOrderedGraph s g →
+    Grows [] list (IsInRange (context_in s.info locals) rules g s.first end) → AreTheRewrites locals s rules list
 rewrites_are own missing locals s g rules end list fits o grows = inr (g, o.graph_is, λ r. (forth r, back r))
   where
     forth : (r : Rewrite) → Contains list r → Contains rules r.rule × ((new : Term Head) × Makes locals s g r new)
@@ -308,7 +303,7 @@ rewrites_are own missing locals s g rules end list fits o grows = inr (g, o.grap
         }))
 
 -- a block without such a graph has none
-pub no_rewrites : (locals : List PrimitiveTypeInfo) (s : Source) (rules : List Rule) → HasNoOrderedGraph locals s → AreTheRewrites locals s rules []
+pub no_rewrites : (locals : List PrimitiveTypeInfo) (s : Source) (rules : List Rule) → HasNoOrderedGraph s → AreTheRewrites locals s rules []
 no_rewrites locals s rules (inl h) = inl (h, refl)
 no_rewrites locals s rules (inr (g, is, out)) = inr (g, is, λ r. (λ h. absurd (empty_has r h), λ h. absurd (out (h.1).1.rewritable.order)))
 
@@ -316,8 +311,7 @@ no_rewrites locals s rules (inr (g, is, out)) = inr (g, is, λ r. (λ h. absurd 
 pub block_fits : (operators : List (Operator × ℕ)) (b : BlockRange) → IsBlockIn operators b → b.start + length (slice_range operators b.start b.end) ≤ b.end
 block_fits operators b h =
     let inside = h.inside in
-    let last = h.is.last in
-    let some = h.is.some in
+    let some = h.some in
     let long : length (slice_range operators b.start b.end) ≡ b.end - b.start = grind (arith, common_steps) in
     omega arith
 
@@ -325,12 +319,12 @@ block_fits operators b h =
 pub block_rewrites : HasOwnTree → IsEntryOperand → (locals : List PrimitiveTypeInfo) (m : Module) (under : Option Module) (preserving : Bool)
     (operators : List (Operator × ℕ)) (b : BlockRange) (g : Graph) (rules : List Rule) (start end : ℕ) (list : List Rewrite) →
     IsBlockIn operators b → under ≡ Some m → start ≡ b.start → end ≡ b.end →
-    IfSome under (λ info. IsOrderedGraph locals (source_of info preserving operators b) g) →
-    Grows [] list (IsInRange locals m.globals rules g start end) →
+    IfSome under (λ info. IsOrderedGraph (source_of info preserving operators b) g) →
+    Grows [] list (IsInRange (context_in m locals) rules g start end) →
     IfSome under (λ info. AreTheRewrites locals (source_of info preserving operators b) rules list)
 block_rewrites own missing locals m None preserving operators b g rules start end list at is s e o grows = tt
 block_rewrites own missing locals m (Some n) preserving operators b g rules start end list at is s e o grows =
     rewrites_are own missing locals (source_of n preserving operators b) g rules b.end list (block_fits operators b at) o
-    (subst (λ (k : Module). Grows [] list (IsInRange locals k.globals rules g b.start b.end)) (sym (some_inj n m is))
-    (subst (λ k. Grows [] list (IsInRange locals m.globals rules g k b.end)) s
-    (subst (λ k. Grows [] list (IsInRange locals m.globals rules g start k)) e grows)))
+    (subst (λ (k : Module). Grows [] list (IsInRange (context_in k locals) rules g b.start b.end)) (sym (some_inj n m is))
+    (subst (λ k. Grows [] list (IsInRange (context_in m locals) rules g k b.end)) s
+    (subst (λ k. Grows [] list (IsInRange (context_in m locals) rules g start k)) e grows)))

@@ -1,4 +1,3 @@
-pub mod IntegerLemmas
 pub mod TreeTypeLemmas
 pub mod TypeLemmas
 pub mod MadeLemmas

@@ -2,7 +2,6 @@
 use Rattle.std.proofs.Common.{◌≡◌, ℕ, ◌+◌, ◌-◌, ◌<◌, ◌⊎◌, inl, inr, List, length, map, Bool, true, false, Option, Some, None, refl, sym, ap, subst, ◌∙◌}
 use Rattle.std.specs.Prelude.{◌^◌, nat_lt, reverse, option_map, IfSome, IfNone, if◌then◌else◌}
 use Rattle.std.proofs.lemmas.List.{length-map}
-use Rattle.mutate_base.specs.declared.types.PrimitiveTypeInfo.{PrimitiveTypeInfo}
 use Rattle.mutate_base.specs.declared.error.Error.{Error}
 use Rattle.mutate_base.specs.declared.error.Error.TheVariants.{Memory, TooLarge}
 use Rattle.peephole_lang.specs.declared.lang.Head.{Head}
@@ -11,6 +10,7 @@ use Rattle.peephole_lang.specs.Node.{node_of}
 use Rattle.peephole_lang.specs.Term.{Term, Node, tree_at}
 use Rattle.peephole_graphs.specs.Entries.{Graph}
 use Rattle.peephole_graphs.specs.Layout.{entry_nodes, AreWritable}
+use Rattle.peephole_machine.specs.Values.{Context}
 use Rattle.peephole_terms.specs.Agrees.{StandsFor}
 use Rattle.peephole_terms.specs.Expansion.{term_in}
 use Rattle.peephole_rules.specs.declared.rule.Rule.{Rule}
@@ -26,65 +26,65 @@ under_test true f o = refl
 under_test false f o = refl
 
 -- the nodes of a layout, the term that stands at one of them, and what the rule makes of that
-abbrev rewritten_in : (locals globals : List PrimitiveTypeInfo) → Rule → ℕ → List (Node Head) → Option (Term Head)
-rewritten_in locals globals rule n ns =
-    if nat_lt n (length ns) then option_map (λ u. tree_with n u (reverse ns) (length ns - 1)) (rewrite locals globals rule (tree_at (reverse ns) n)) else None
+abbrev rewritten_in : (context : Context) → Rule → ℕ → List (Node Head) → Option (Term Head)
+rewritten_in context rule n ns =
+    if nat_lt n (length ns) then option_map (λ u. tree_with n u (reverse ns) (length ns - 1)) (rewrite context rule (tree_at (reverse ns) n)) else None
 
-of_count : (locals globals : List PrimitiveTypeInfo) (rule : Rule) (nodes : List Lang) (n count : ℕ) → count ≡ length nodes →
+of_count : (context : Context) (rule : Rule) (nodes : List Lang) (n count : ℕ) → count ≡ length nodes →
     (if nat_lt n count then option_map (λ u. tree_with n u (reverse (map node_of nodes)) (count - 1))
-    (rewrite locals globals rule (tree_at (reverse (map node_of nodes)) n)) else None)
-    ≡ option_map (grafted nodes n) (rewrite_at locals globals rule nodes n)
-of_count locals globals rule nodes n count e =
-    rw e (under_test (nat_lt n (length nodes)) (grafted nodes n) (rewrite locals globals rule (tree_at (reverse (map node_of nodes)) n)))
+    (rewrite context rule (tree_at (reverse (map node_of nodes)) n)) else None)
+    ≡ option_map (grafted nodes n) (rewrite_at context rule nodes n)
+of_count context rule nodes n count e =
+    rw e (under_test (nat_lt n (length nodes)) (grafted nodes n) (rewrite context rule (tree_at (reverse (map node_of nodes)) n)))
 
-pub rewritten_is : (locals globals : List PrimitiveTypeInfo) (rule : Rule) (tree : Term Head) (nodes : List Lang) (n : ℕ) → IsLaidOut tree nodes →
-    rewritten locals globals rule tree n ≡ option_map (grafted nodes n) (rewrite_at locals globals rule nodes n)
-rewritten_is locals globals rule tree nodes n l =
-    ap (rewritten_in locals globals rule n) (sym l.laid) ∙ of_count locals globals rule nodes n (length (map node_of nodes)) (length-map nodes node_of)
+pub rewritten_is : (context : Context) (rule : Rule) (tree : Term Head) (nodes : List Lang) (n : ℕ) → IsLaidOut tree nodes →
+    rewritten context rule tree n ≡ option_map (grafted nodes n) (rewrite_at context rule nodes n)
+rewritten_is context rule tree nodes n l =
+    ap (rewritten_in context rule n) (sym l.laid) ∙ of_count context rule nodes n (length (map node_of nodes)) (length-map nodes node_of)
 
 some_inj : {A : Type 0} (x y : A) → Some x ≡ Some y → x ≡ y
 some_inj x y e = cc
 
 -- a root has one tree
-pub same_tree : (locals globals : List PrimitiveTypeInfo) (graph : Graph) (at : ℕ) (t u : Term Head) →
-    IsTypedRoot locals globals graph at t → IsTypedRoot locals globals graph at u → t ≡ u
-same_tree locals globals graph at t u a b =
+pub same_tree : (context : Context) (graph : Graph) (at : ℕ) (t u : Term Head) →
+    IsTypedRoot context graph at t → IsTypedRoot context graph at u → t ≡ u
+same_tree context graph at t u a b =
     a.tree_is ∙ (ap (tree_at (entry_nodes graph.entries)) (some_inj a.entry b.entry (sym a.own ∙ b.own)) ∙ sym b.tree_is)
 
 -- what the rule made
-pub made_is : (locals globals : List PrimitiveTypeInfo) (graph : Graph) (r : Rewrite) (nodes : List Lang) (o : Option (List Lang)) →
-    IsRootLaidOut locals globals graph r.insertion_point nodes →
-    option_map term_in o ≡ option_map (grafted nodes r.node) (rewrite_at locals globals r.rule nodes r.node) →
-    IfSome o (λ new. StandsFor locals globals (term_in nodes) (term_in new)) → IfSome o (λ new. 0 < length new) →
-    (AreWritable nodes → IfSome o (λ new. AreWritable new)) → IfSome o (λ new. IsMade locals globals graph r new)
-made_is locals globals graph r nodes None root e stands some writable = tt
-made_is locals globals graph r nodes (Some new) root e stands some writable = record {
+pub made_is : (context : Context) (graph : Graph) (r : Rewrite) (nodes : List Lang) (o : Option (List Lang)) →
+    IsRootLaidOut context graph r.insertion_point nodes →
+    option_map term_in o ≡ option_map (grafted nodes r.node) (rewrite_at context r.rule nodes r.node) →
+    IfSome o (λ new. StandsFor context (term_in nodes) (term_in new)) → IfSome o (λ new. 0 < length new) →
+    (AreWritable nodes → IfSome o (λ new. AreWritable new)) → IfSome o (λ new. IsMade context graph r new)
+made_is context graph r nodes None root e stands some writable = tt
+made_is context graph r nodes (Some new) root e stands some writable = record {
   tree = root.tree;
   root = root.root;
-  makes = rewritten_is locals globals r.rule root.tree nodes r.node root.is ∙ sym e;
-  stands = subst (λ (t : Term Head). StandsFor locals globals t (term_in new)) root.is.term stands;
+  makes = rewritten_is context r.rule root.tree nodes r.node root.is ∙ sym e;
+  stands = subst (λ (t : Term Head). StandsFor context t (term_in new)) root.is.term stands;
   some = some;
   writable = writable root.is.writable;
 }
 
 -- it made nothing
-pub nothing_is : (locals globals : List PrimitiveTypeInfo) (graph : Graph) (r : Rewrite) (nodes : List Lang) (o : Option (List Lang)) →
-    IsRootLaidOut locals globals graph r.insertion_point nodes →
-    option_map term_in o ≡ option_map (grafted nodes r.node) (rewrite_at locals globals r.rule nodes r.node) →
-    IfNone o (MakesNothing locals globals graph r)
-nothing_is locals globals graph r nodes (Some new) root e = tt
-nothing_is locals globals graph r nodes None root e = λ tree u own makes.
-    let same = same_tree locals globals graph r.insertion_point tree root.tree own root.root in
-    let none = ap (λ (t : Term Head). rewritten locals globals r.rule t r.node) same ∙
-    (rewritten_is locals globals r.rule root.tree nodes r.node root.is ∙ sym e) in
+pub nothing_is : (context : Context) (graph : Graph) (r : Rewrite) (nodes : List Lang) (o : Option (List Lang)) →
+    IsRootLaidOut context graph r.insertion_point nodes →
+    option_map term_in o ≡ option_map (grafted nodes r.node) (rewrite_at context r.rule nodes r.node) →
+    IfNone o (MakesNothing context graph r)
+nothing_is context graph r nodes (Some new) root e = tt
+nothing_is context graph r nodes None root e = λ tree u own makes.
+    let same = same_tree context graph r.insertion_point tree root.tree own root.root in
+    let none = ap (λ (t : Term Head). rewritten context r.rule t r.node) same ∙
+    (rewritten_is context r.rule root.tree nodes r.node root.is ∙ sym e) in
     absurd cc
 
 -- the tree was too large
-pub large_is : (locals globals : List PrimitiveTypeInfo) (graph : Graph) (r : Rewrite) (nodes : List Lang) (e : Error) →
-    IsRootLaidOut locals globals graph r.insertion_point nodes →
-    (e ≡ Memory) ⊎ ((e ≡ TooLarge) × (2 ^ 32 < length nodes + 3)) → (e ≡ Memory) ⊎ HasLargeTree locals globals graph r e
-large_is locals globals graph r nodes e root (inl h) = inl h
-large_is locals globals graph r nodes e root (inr h) = inr (root.tree, root.root, h.0, subst (λ n. 2 ^ 32 < n + 3) count h.1)
+pub large_is : (context : Context) (graph : Graph) (r : Rewrite) (nodes : List Lang) (e : Error) →
+    IsRootLaidOut context graph r.insertion_point nodes →
+    (e ≡ Memory) ⊎ ((e ≡ TooLarge) × (2 ^ 32 < length nodes + 3)) → (e ≡ Memory) ⊎ HasLargeTree context graph r e
+large_is context graph r nodes e root (inl h) = inl h
+large_is context graph r nodes e root (inr h) = inr (root.tree, root.root, h.0, subst (λ n. 2 ^ 32 < n + 3) count h.1)
   where
     count : length nodes ≡ laid_count root.tree
     count = sym (length-map nodes node_of) ∙ ap (λ ns. length ns) root.is.laid

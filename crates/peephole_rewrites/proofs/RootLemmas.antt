@@ -19,6 +19,7 @@ use Rattle.peephole_graphs.specs.Graph.{trees_at, roots}
 use Rattle.peephole_graphs.specs.GraphOf.{IsGraphOf, IsEntryOf, IsOwnEntry}
 use Rattle.peephole_graphs.specs.Source.{Source, shapes_in}
 use Rattle.peephole_graphs.specs.Tree.{Tree, entry, node, no_trees, ◌▸◌}
+use Rattle.peephole_machine.specs.Values.{context_in}
 use Rattle.peephole_terms.specs.Written.{has_root}
 use Rattle.peephole_rewrites.specs.Rewriting.{IsRewritable}
 use Rattle.peephole_rewrites.specs.Making.{IsOrderedGraph, IsTypedRoot, IsRootIn}
@@ -188,9 +189,8 @@ some_inj : {A : Type 0} (x y : A) → Some x ≡ Some y → x ≡ y
 some_inj x y e = cc
 
 pub rewritable : HasOwnTree → (locals : List PrimitiveTypeInfo) (s : Source) (g : Graph) (at : ℕ) (tree : Term Head) →
-    IsOrderedGraph locals s g → IsTypedRoot locals s.info.globals g at tree → IsRewritable locals s g at tree
+    IsOrderedGraph s g → IsTypedRoot (context_in s.info locals) g at tree → IsRewritable locals s g at tree
 rewritable own locals s g at tree o t = record {
-  integer = o.integer;
   order = o.order;
   root = is_root own s g at t.entry o.graph_is t.own t.root;
   entry = t.entry;
@@ -200,7 +200,7 @@ rewritable own locals s g at tree o t = record {
 }
 
 pub typed_root : HasOwnTree → IsEntryOperand → (locals : List PrimitiveTypeInfo) (s : Source) (g : Graph) (at : ℕ) (tree : Term Head) →
-    IsGraphOf s g → IsRewritable locals s g at tree → IsTypedRoot locals s.info.globals g at tree
+    IsGraphOf s g → IsRewritable locals s g at tree → IsTypedRoot (context_in s.info locals) g at tree
 typed_root own missing locals s g at tree h r =
     let root = root_is own missing s g at h r.root in
     let same : root.entry ≡ r.entry = some_inj root.entry r.entry (sym root.own ∙ r.own) in

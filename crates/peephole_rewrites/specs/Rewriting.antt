@@ -2,7 +2,6 @@
 use Rattle.std.specs.Prelude.{◌≡◌, ◌≢◌, ◌⊎◌, ◌↔◌, ◌<◌, ◌+◌, ◌-◌, ◌^◌, nat_lt, ℕ, Bool, true, List, [], ◌++◌, length, map, reverse, Option, Some, None, option_map, IsSome, Contains, Ok, if◌then◌else◌}
 use Rattle.std.specs.List.{All}
 use Rattle.wasm_code.specs.Instruction.{Instruction}
-use Rattle.wasm_code.specs.declared.operator.Operator.{Operator}
 use Rattle.mutate_base.specs.Module.{Module}
 use Rattle.mutate_base.specs.declared.types.PrimitiveTypeInfo.{PrimitiveTypeInfo}
 use Rattle.mutate_base.specs.declared.error.Error.{Error}
@@ -14,15 +13,15 @@ use Rattle.peephole_graphs.specs.Forest.{forest, IsInOrder}
 use Rattle.peephole_graphs.specs.GraphOf.{IsGraphOf, HasNoGraph, IsRefused}
 use Rattle.peephole_graphs.specs.Layout.{layout_from, entry_nodes}
 use Rattle.peephole_graphs.specs.Source.{Source, shapes_in}
-use Rattle.peephole_machine.specs.Values.{Value, IsValue, types, State, HasTypes, Stuck}
+use Rattle.peephole_machine.specs.Values.{Value, IsValue, types, State, HasTypes, Stuck, Context, context_in}
 use Rattle.peephole_machine.specs.Machine.{run}
-use Rattle.peephole_machine.specs.Agreement.{with_globals, SameBelow}
+use Rattle.peephole_machine.specs.Agreement.{with_globals, SameOutcome}
 use Rattle.peephole_terms.specs.declared.encoder.request.ResourceRequest.{ResourceRequest}
 use Rattle.peephole_terms.specs.NodeKind.{primitive_of}
 use Rattle.peephole_terms.specs.Expansion.{Setting, Refuses, requests_of}
 use Rattle.peephole_terms.specs.Typing.{types_of}
 use Rattle.peephole_terms.specs.Written.{Site, source_at, block_operators, has_root, term_code, term_requests, after_block_term, written_block, written_body}
-use Rattle.peephole_terms.specs.SameRun.{IsIntegerOperator, instructions_in}
+use Rattle.peephole_terms.specs.SameRun.{instructions_in}
 use Rattle.peephole_rules.specs.declared.rule.Rule.{Rule}
 use Rattle.peephole_rules.specs.Rewriting.{rewrite}
 use Rattle.peephole_rules.specs.Grafted.{tree_with}
@@ -44,59 +43,49 @@ abbrev pub with_node : Term Head → (n : ℕ) → Term Head → Term Head
 with_node t n u = tree_with n u (laid_nodes t) (laid_count t - 1)
 
 -- the term in which the rule has rewritten node `n`, where it has an answer for that
-abbrev pub rewritten : (locals globals : List PrimitiveTypeInfo) → Rule → Term Head → (n : ℕ) → Option (Term Head)
-rewritten locals globals rule t n =
-    if nat_lt n (laid_count t) then option_map (with_node t n) (rewrite locals globals rule (tree_at (laid_nodes t) n)) else None
+abbrev pub rewritten : (context : Context) → Rule → Term Head → (n : ℕ) → Option (Term Head)
+rewritten context rule t n =
+    if nat_lt n (laid_count t) then option_map (with_node t n) (rewrite context rule (tree_at (laid_nodes t) n)) else None
 
 -- ---- when a rule may rewrite
 
--- every operator is an integer instruction, its variable one of the lists and an integer
-abbrev pub AreInteger : (locals globals : List PrimitiveTypeInfo) → List (Operator × ℕ) → Type 0
-AreInteger locals globals operators = All (λ (o : Operator × ℕ). IsIntegerOperator locals globals o.0) operators
-
--- The block is of integer instructions and in order, the operator at `at` is a root, and `tree` is its tree in the block's graph, which has types.
+-- The block is in order, the operator at `at` is a root, and `tree` is its tree in the block's graph, which has types.
 pub record IsRewritable (locals : List PrimitiveTypeInfo) (s : Source) (graph : Graph) (at : ℕ) (tree : Term Head) : Type 0 where
-  pub integer : AreInteger locals s.info.globals s.operators
   pub order : IsInOrder (shapes_in s)
   pub root : has_root s.first at (forest (shapes_in s)) ≡ true
   pub entry : ℕ
   pub own : graph.own_entry at ≡ Some entry
   pub tree_is : tree ≡ tree_at (entry_nodes graph.entries) entry
-  pub typed : IsSome (plain_types locals s.info.globals tree)
+  pub typed : IsSome (plain_types (context_in s.info locals) tree)
 
 -- and the rule makes this of the tree
 pub record Makes (locals : List PrimitiveTypeInfo) (s : Source) (graph : Graph) (r : Rewrite) (new : Term Head) : Type 0 where
   pub tree : Term Head
   pub rewritable : IsRewritable locals s graph r.insertion_point tree
-  pub makes : rewritten locals s.info.globals r.rule tree r.node ≡ Some new
+  pub makes : rewritten (context_in s.info locals) r.rule tree r.node ≡ Some new
 
--- The block isn't of integer instructions alone, or has no graph.
-abbrev pub HasNoIntegerGraph : (locals : List PrimitiveTypeInfo) → Source → Type 0
-HasNoIntegerGraph locals s = ¬ (AreInteger locals s.info.globals s.operators) ⊎ HasNoGraph s
-
--- Nothing is rewritten: the block has no graph of integer instructions, or the rule makes nothing of the node in its graph.
+-- Nothing is rewritten: the block has no graph, or the rule makes nothing of the node in its graph.
 abbrev pub CannotRewrite : (locals : List PrimitiveTypeInfo) → Source → Rewrite → Type 0
 CannotRewrite locals s r =
-    HasNoIntegerGraph locals s ⊎ ((graph : Graph) × IsGraphOf s graph × ((new : Term Head) → ¬ (Makes locals s graph r new)))
+    HasNoGraph s ⊎ ((graph : Graph) × IsGraphOf s graph × ((new : Term Head) → ¬ (Makes locals s graph r new)))
 
--- The list has exactly those rewrites by one of the rules that can be made; none where the block has no graph of integer instructions.
+-- The list has exactly those rewrites by one of the rules that can be made; none where the block has no graph.
 abbrev pub AreTheRewrites : (locals : List PrimitiveTypeInfo) → Source → List Rule → List Rewrite → Type 0
 AreTheRewrites locals s rules list =
-    (HasNoIntegerGraph locals s × (list ≡ []))
+    (HasNoGraph s × (list ≡ []))
     ⊎ ((graph : Graph) × IsGraphOf s graph
     × ((r : Rewrite) → Contains list r ↔ (Contains rules r.rule × ((new : Term Head) × Makes locals s graph r new))))
 
 -- ---- the written block
 
--- Wherever the block's own run ends or traps, the written one does the same, apart from requested globals: from every stack, in every state of the
--- variables' types. Behind the module's globals the old run may find any values, and the new one values of the requested types and any others.
+-- Wherever the block's own run ends or traps with the module's globals alone, the written one does the same, apart from requested globals: from every
+-- stack, in every state of the context's types. Behind the module's globals the old run may find any values, and the new one values of the requested types and any others.
 abbrev pub KeepsItsRun : (locals : List PrimitiveTypeInfo) → Setting → Site → Term Head → (written : List Instruction) → Type 0
 KeepsItsRun locals s site new written =
     let old = instructions_in (block_operators site) in
     (more : List PrimitiveTypeInfo) (stack : List Value) (state : State) (others requested : List Value) → All IsValue stack →
-    HasTypes locals s.info.globals state → All IsValue others → types requested ≡ map primitive_of (requests_of new) ++ more →
-    run old stack (with_globals others state) ≢ Stuck →
-    SameBelow (length s.info.globals) (run old stack (with_globals others state)) (run written stack (with_globals requested state))
+    HasTypes (context_in s.info locals) state → types requested ≡ map primitive_of (requests_of new) ++ more → run old stack state ≢ Stuck →
+    SameOutcome (run old stack (with_globals others state)) (run written stack (with_globals requested state))
 
 -- The sink has grown by the body with the operator's tree rewritten, which leaves the same types and whose block runs as before; the globals that it
 -- asks for; and what is left to be drawn.
@@ -107,7 +96,7 @@ pub record AppendsRewritten (locals : List PrimitiveTypeInfo) (s : Setting) (pre
   pub term : Term Head
   pub makes : Makes locals (source_at s.info preserving site) graph r term
   -- it leaves values of the types of the tree
-  pub typed_alike : types_of locals s.info.globals term ≡ types_of locals s.info.globals makes.tree
+  pub typed_alike : types_of (context_in s.info locals) term ≡ types_of (context_in s.info locals) makes.tree
   pub code : List Instruction
   pub expands : term_code s site term ≡ Ok code
   pub appended : new ≡ old ++ written_body site (written_block s.info site code)
@@ -126,14 +115,14 @@ RefusesRewrite locals s preserving site r e =
 
 -- ---- a rewrite that was chosen
 
--- It is by one of the rules, and the sink has grown by the body with it, the generator standing where it stood behind the choice.
+-- It is by one of the rules, and the sink has grown by the body with it, by the words of some generator.
 abbrev pub AppendsChosen : (locals : List PrimitiveTypeInfo) → Module → (preserving : Bool) → List Rule → (Rewrite → Site) → Rewrite →
     (old new : List ℕ) → List ResourceRequest → (left : Option Setting) → Type 0
 AppendsChosen locals info preserving rules site_of r old new requests left =
     Contains rules r.rule
     × ((s : Setting) × (s.info ≡ info) × AppendsRewritten locals s preserving (site_of r) r old new requests left)
 
--- A rewrite is refused that was chosen among all that there are of its block: it is by one of the rules, and the generator stands behind the choice.
+-- A rewrite is refused that was chosen among all that there are of its block: it is by one of the rules, with the words of some generator.
 pub record RefusesListed (locals : List PrimitiveTypeInfo) (info : Module) (preserving : Bool) (rules : List Rule) (site_of : Rewrite → Site)
     (e : Error) : Type 0 where
   pub rewrite : Rewrite

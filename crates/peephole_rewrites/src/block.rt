@@ -4,10 +4,11 @@ ghost use Rattle.mutate_base.specs.Config.{info_of, ChangesGeneratorAlone};
 ghost use Rattle.mutate_base.specs.declared.error.Error.{Error};
 ghost use Rattle.peephole_lang.specs.declared.lang.Head.{Head};
 ghost use Rattle.peephole_lang.specs.Term.{Term};
+ghost use Rattle.peephole_graphs.specs.Block.{IsBlockIn};
 ghost use Rattle.peephole_graphs.specs.Dfg.{graph_of};
 ghost use Rattle.peephole_graphs.specs.Source.{source_of};
 ghost use Rattle.peephole_terms.specs.Expansion.{setting_of};
-ghost use Rattle.peephole_terms.specs.Written.{site_at, IsBodyIn, IsBlockIn};
+ghost use Rattle.peephole_terms.specs.Written.{site_at, IsBodyIn};
 ghost use Rattle.peephole_rewrites.specs.Making.{IsOrderedGraph};
 ghost use Rattle.peephole_rewrites.specs.Rewriting.{AppendsRewritten, AppendsChosen, AreTheRewrites, CannotRewrite, Makes, RefusesChosen, RefusesRewrite};
 
@@ -41,8 +42,9 @@ fn rewrite_in_graph<R: Rng + Drop>(
     requires set_up { IsTrue (is_some config.old.setup) }
     requires body { IsBodyIn input_wasm.now operators.now }
     requires block { IsBlockIn operators.now block.now }
-    requires graph { IfSome (info_of config.old) (λ info. IsOrderedGraph locals.now
-        (source_of info config.old.preserving operators.now block.now) (graph_of graph.now)) }
+    requires graph { IfSome (info_of config.old) (λ info. IsOrderedGraph
+        (source_of info config.old.preserving operators.now block.now)
+        (graph_of graph.now)) }
     ensures rewritten { IfOk result (λ o. IfSome o (λ requests.
         IfSome (setting_of R.stream config.old) (λ s.
         AppendsRewritten locals.now s config.old.preserving
@@ -96,13 +98,12 @@ fn choose<R: Rng + Drop>(config: &mut WasmMutate<'_, R>, list: &[Rewrite]) -> Op
 
 /// Writes a body behind what the sink holds, as `build_function` does, with a node of the tree at the insertion point
 /// rewritten by a rule. Answers what the written instructions need from outside the function, or none, and the sink as it
-/// was, where something isn't met: each of the block's operators is an integer instruction, its variable, where it names one,
-/// among `locals` or the module's globals; the trees lie one after another; the operator at the insertion point is a root,
-/// and its whole tree is in the block and has types; the rule has an answer for the node.
+/// was, where something isn't met: the trees lie one after another; the operator at the insertion point is a root, and its
+/// whole tree is in the block and has types; the rule has an answer for the node. The block may hold any instructions.
 ///
 /// Wherever the block's own run ends or traps the written one does the same, from every stack and in every state of the
 /// variables, apart from requested globals: nothing is left to the caller but that `operators` with their offsets are those
-/// of a body in `input_wasm`, and `block` the block of one of them.
+/// of a body in `input_wasm`, and `block` a range of them without a delimiter, such as the block of one of them.
 ///
 /// Refused as `get_dfg` and `build_function` refuse: `TooLarge` where an index, a colour or the tree doesn't fit,
 /// `GlobalIndex` where a requested global's index doesn't, and `Memory`. The sink then holds its old bytes.
@@ -138,7 +139,7 @@ pub fn rewrite_block<R: Rng + Drop>(
     ensures restored { OnErr result (newfunc.new ≡ newfunc.old) }
     ensures unchanged { ChangesGeneratorAlone config.old config.new }
 {
-    let Some(graph) = ordered_graph(alloc, config, locals, operators, block)? else {
+    let Some(graph) = ordered_graph(alloc, config, operators, block)? else {
         return Ok(None);
     };
     rewrite_in_graph(
@@ -186,7 +187,7 @@ pub fn rewrite_block_at_random<R: Rng + Drop>(
     ensures restored { OnErr result (newfunc.new ≡ newfunc.old) }
     ensures unchanged { ChangesGeneratorAlone config.old config.new }
 {
-    let Some(graph) = ordered_graph(alloc, config, locals, operators, block)? else {
+    let Some(graph) = ordered_graph(alloc, config, operators, block)? else {
         return Ok(None);
     };
     entries_have_trees();

@@ -3,7 +3,6 @@
 
 mod block;
 mod graph;
-mod integer_block;
 pub mod laws;
 mod rewrite;
 mod rewrites;
@@ -11,7 +10,6 @@ mod tree;
 mod tree_types;
 
 pub use block::{Rewritten, rewrite_block, rewrite_block_at_random};
-pub use integer_block::are_integer;
 pub use rewrite::Rewrite;
 pub use rewrites::rewrites_of_block;
 pub use tree_types::plain_types;

@@ -2,10 +2,11 @@
 ghost use Rattle.std.specs.Prelude.{◌≡◌, ◌≤◌, [], length, IfOk, IfErr, IfSome, IsTrue, is_some};
 ghost use Rattle.mutate_base.specs.Config.{info_of};
 ghost use Rattle.mutate_base.specs.declared.error.Error.{Error};
+ghost use Rattle.peephole_graphs.specs.Block.{IsBlockIn};
 ghost use Rattle.peephole_graphs.specs.Dfg.{graph_of};
 ghost use Rattle.peephole_graphs.specs.GraphOf.{IsRefused};
 ghost use Rattle.peephole_graphs.specs.Source.{source_of};
-ghost use Rattle.peephole_terms.specs.Written.{IsBlockIn};
+ghost use Rattle.peephole_machine.specs.Values.{context_in};
 ghost use Rattle.peephole_rules.specs.Flags.{AreEffects};
 ghost use Rattle.peephole_rewrites.specs.Making.{Grows, IsAtNode, IsAtNodeBefore, IsAtRoot, IsInRange};
 ghost use Rattle.peephole_rewrites.specs.Rewriting.{AreTheRewrites};
@@ -34,7 +35,7 @@ fn add_of_node(
 ) -> Result<(), Error>
     requires effects { AreEffects effects.now tree.now }
     ensures grown { IfOk result (λ _. Grows list.old.items list.new.items
-        (IsAtNode locals.now info.now.globals rules.now at node tree.now)) }
+        (IsAtNode (context_in info.now locals.now) rules.now at node tree.now)) }
     ensures refused { IfErr result (λ e. e ≡ Error.Memory) }
 {
     for rule in rules {
@@ -60,7 +61,7 @@ fn add_of_tree(
     list: &mut Vec<Rewrite>,
 ) -> Result<(), Error>
     ensures grown { IfOk result (λ _. Grows list.old.items list.new.items
-        (IsAtNodeBefore locals.now info.now.globals rules.now at (length tree.now) tree.now)) }
+        (IsAtNodeBefore (context_in info.now locals.now) rules.now at (length tree.now) tree.now)) }
     ensures refused { IfErr result (λ e. e ≡ Error.Memory) }
 {
     let effects = Effects::of(alloc, tree)?;
@@ -81,7 +82,7 @@ fn add_of_root(
     list: &mut Vec<Rewrite>,
 ) -> Result<(), Error>
     ensures grown { IfOk result (λ _. Grows list.old.items list.new.items
-        (IsAtRoot locals.now info.now.globals rules.now (graph_of graph.now) at)) }
+        (IsAtRoot (context_in info.now locals.now) rules.now (graph_of graph.now) at)) }
     ensures refused { IfErr result (λ e. e ≡ Error.Memory) }
 {
     let Some(tree) = typed_tree(alloc, locals, info, graph, at)? else {
@@ -103,7 +104,7 @@ pub(crate) fn rewrites_in_range(
 ) -> Result<Vec<Rewrite>, Error>
     requires { start ≤ end }
     ensures rewrites { IfOk result (λ list. Grows [] list.items
-        (IsInRange locals.now info.now.globals rules.now (graph_of graph.now) start end)) }
+        (IsInRange (context_in info.now locals.now) rules.now (graph_of graph.now) start end)) }
     ensures refused { IfErr result (λ e. e ≡ Error.Memory) }
 {
     let mut list = Vec::new(alloc);
@@ -113,11 +114,11 @@ pub(crate) fn rewrites_in_range(
     Ok(list)
 }
 
-/// Every rewrite of the block by one of the rules, in the order of the insertion points, the nodes and the rules. `locals` are
-/// the types of the function's locals, and the configuration is set up with what is known of the body's module.
+/// Every rewrite of the block by one of the rules, in the order of the insertion points, the nodes and the rules. `block` is a
+/// range of the body's operators without a delimiter, such as the block of one of them. `locals` are the types of the function's
+/// locals, and the configuration is set up with what is known of the body's module.
 ///
-/// There are none where the block has an operator that is no integer instruction, or where its trees don't lie one after
-/// another. The list has at most as many rewrites as there are operators, times rules.
+/// There are none where the block's trees don't lie one after another. The list has at most as many rewrites as there are operators, times rules.
 ///
 /// Refused as `get_dfg` refuses, where an index or a colour doesn't fit (`TooLarge`), and for want of memory (`Memory`).
 pub fn rewrites_of_block<R: Drop>(
@@ -137,7 +138,7 @@ pub fn rewrites_of_block<R: Drop>(
         IsRefused (source_of info config.now.preserving operators.now block.now) e)) }
 {
     entries_have_trees();
-    let Some(graph) = ordered_graph(alloc, config, locals, operators, block)? else {
+    let Some(graph) = ordered_graph(alloc, config, operators, block)? else {
         return Ok(Vec::new(alloc));
     };
     let range = block.range();

@@ -4,6 +4,7 @@ ghost use Rattle.mutate_base.specs.declared.error.Error.{Error};
 ghost use Rattle.peephole_lang.specs.declared.lang.Head.{Head};
 ghost use Rattle.peephole_lang.specs.Term.{Term};
 ghost use Rattle.peephole_graphs.specs.Dfg.{graph_of};
+ghost use Rattle.peephole_machine.specs.Values.{context_in};
 ghost use Rattle.peephole_rewrites.specs.Making.{HasLargeTree, IsMade, IsRootIn, IsRootLaidOut, IsTypedRoot, MakesNothing};
 
 use crate::rewrite::Rewrite;
@@ -32,9 +33,9 @@ pub(crate) fn typed_tree(
     at: usize,
 ) -> Result<Option<RecExpr<Lang>>, Error>
     ensures some { IfOk result (λ o. IfSome o (λ expr.
-        IsRootLaidOut locals.now info.now.globals (graph_of graph.now) at expr)) }
+        IsRootLaidOut (context_in info.now locals.now) (graph_of graph.now) at expr)) }
     ensures none { IfOk result (λ o. IfNone o ((tree : Term Head)
-        → ¬ (IsTypedRoot locals.now info.now.globals (graph_of graph.now) at tree))) }
+        → ¬ (IsTypedRoot (context_in info.now locals.now) (graph_of graph.now) at tree))) }
     ensures refused { IfErr result (λ e. e ≡ Error.Memory) }
 {
     if !is_root(graph, at) {
@@ -56,11 +57,11 @@ pub(crate) fn rewritten_tree(
     rewrite: Rewrite,
 ) -> Result<Option<RecExpr<Lang>>, Error>
     ensures made { IfOk result (λ o. IfSome o (λ new.
-        IsMade locals.now info.now.globals (graph_of graph.now) rewrite new)) }
+        IsMade (context_in info.now locals.now) (graph_of graph.now) rewrite new)) }
     ensures none { IfOk result (λ o. IfNone o (
-        MakesNothing locals.now info.now.globals (graph_of graph.now) rewrite)) }
+        MakesNothing (context_in info.now locals.now) (graph_of graph.now) rewrite)) }
     ensures refused { IfErr result (λ e. (e ≡ Error.Memory)
-        ⊎ HasLargeTree locals.now info.now.globals (graph_of graph.now) rewrite e) }
+        ⊎ HasLargeTree (context_in info.now locals.now) (graph_of graph.now) rewrite e) }
 {
     let Some(tree) = typed_tree(alloc, locals, info, graph, rewrite.insertion_point)? else {
         return Ok(None);

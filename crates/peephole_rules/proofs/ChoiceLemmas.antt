@@ -12,7 +12,7 @@ use Rattle.peephole_lang.specs.declared.lang.Head.{Head}
 use Rattle.peephole_lang.specs.Term.{Term, Terms, absent, node, no_terms, ◌▸◌}
 use Rattle.peephole_machine.specs.declared.integer.IntegerType.{IntegerType}
 use Rattle.peephole_machine.specs.declared.integer.IntegerType.TheVariants as integer
-use Rattle.peephole_machine.specs.Values.{width_of}
+use Rattle.peephole_machine.specs.Values.{width_of, Context}
 use Rattle.peephole_machine.specs.Integer.{IntegerOperator}
 use Rattle.peephole_machine.specs.IntegerRow.{bare_operator}
 use Rattle.peephole_machine.specs.Computed.{kept, computed}
@@ -21,7 +21,7 @@ use Rattle.peephole_rules.specs.declared.rule.Rule.TheVariants as rule
 use Rattle.peephole_rules.specs.declared.replacement.Replacement.{Replacement}
 use Rattle.peephole_rules.specs.declared.replacement.Replacement.TheVariants.{Swap, Turn, GroupLeft, GroupRight, Twice, First, FirstWith, FirstBy, TurnSelect, Empty, Number}
 use Rattle.peephole_rules.specs.Operator.{opcode_byte, type_by, turned, of_type, operator, constant_number, number_in, within_width, constant_term, numbered, one, two, unfold_head}
-use Rattle.peephole_rules.specs.Effects.{writes}
+use Rattle.peephole_rules.specs.Effects.{writes, asks}
 use Rattle.peephole_rules.specs.Rewriting.{answer_if, commute, turn_comparison, turn_select, associate_left, associate_right, with_constant, with_ones, with_itself, all_ones, lowest_bit, of_constant, by_its_type, by_way_of_global, unfold_constant, type_of_constant, forget, numbers_of_types, fold, test_to_comparison, comparison_to_test, negated, rewrite}
 use Rattle.peephole_rules.specs.ValueTypes.{integer_of, type_of_value}
 use Rattle.peephole_rules.specs.Shape.{operand_of, operands_of, opcode_of, shape_of}
@@ -147,33 +147,33 @@ one_constant : (t : IntegerType) (a b : ℕ) (x : Term Head) → two (operator (
 one_constant integer.I32 a b x = refl
 one_constant integer.I64 a b x = refl
 
-module _ (locals globals : List PrimitiveTypeInfo) (x : Term Head) where
+module _ (context : Context) (x : Term Head) where
   numbered_behind : (a b e : ℕ) → IsBinary a → IsBinary b →
       ((t : IntegerType) → two (operator (of_type t a b)) x (numbered t e) ≡ with_constant t a b e x) →
-      IsAnswer (with_number a b e (type_of_value locals globals x)) x (by_its_type locals globals (λ t y. Some (with_constant t a b e y)) x)
-  numbered_behind a b e p q k = each_mapped (type_of_value locals globals x) x _ _
+      IsAnswer (with_number a b e (type_of_value context x)) x (by_its_type context (λ t y. Some (with_constant t a b e y)) x)
+  numbered_behind a b e p q k = each_mapped (type_of_value context x) x _ _
       (λ t. record { term = ap (λ (y : Term Head). Some y) (k t); fits = typed_binary t a b p q })
 
   zero_behind : (a b : ℕ) → IsBinary a → IsBinary b →
-      IsAnswer (with_number a b 0 (type_of_value locals globals x)) x (by_its_type locals globals (λ t y. Some (with_constant t a b 0 y)) x)
+      IsAnswer (with_number a b 0 (type_of_value context x)) x (by_its_type context (λ t y. Some (with_constant t a b 0 y)) x)
   zero_behind a b p q = numbered_behind a b 0 p q (λ t. small_constant t a b 0 x refl)
 
   ones_behind : (a b : ℕ) → IsBinary a → IsBinary b →
-      IsAnswer (with_all_ones a b (type_of_value locals globals x)) x (by_its_type locals globals (λ t y. Some (with_ones t a b y)) x)
-  ones_behind a b p q = each_mapped (type_of_value locals globals x) x _ _ (λ t. record { term = refl; fits = typed_binary t a b p q })
+      IsAnswer (with_all_ones a b (type_of_value context x)) x (by_its_type context (λ t y. Some (with_ones t a b y)) x)
+  ones_behind a b p q = each_mapped (type_of_value context x) x _ _ (λ t. record { term = refl; fits = typed_binary t a b p q })
 
   complemented : (a b : ℕ) → IsBinary a → IsBinary b →
-      IsAnswer (complements a b (type_of_value locals globals x)) x
-      (by_its_type locals globals (λ t y. Some (with_ones t a b (with_ones t a b y))) x)
-  complemented a b p q = each_mapped (type_of_value locals globals x) x _ _ (λ t. record { term = refl; fits = typed_binary t a b p q })
+      IsAnswer (complements a b (type_of_value context x)) x
+      (by_its_type context (λ t y. Some (with_ones t a b (with_ones t a b y))) x)
+  complemented a b p q = each_mapped (type_of_value context x) x _ _ (λ t. record { term = refl; fits = typed_binary t a b p q })
 
   doubled : (a b : ℕ) → IsBinary a → IsBinary b →
-      IsAnswer (twice a b (writes x) (type_of_value locals globals x)) x (by_its_type locals globals (λ t y. with_itself t a b y) x)
-  doubled a b p q = each_some (type_of_value locals globals x) x _ _
+      IsAnswer (twice a b (writes x) (asks x) (type_of_value context x)) x (by_its_type context (λ t y. with_itself t a b y) x)
+  doubled a b p q = each_some (type_of_value context x) x _ _
       (λ t e. answered_if _ (Twice (of_type t a b)) x (typed_binary t a b p q))
 
-  by_global : IsAnswer (through_global (type_of_value locals globals x)) x (by_its_type locals globals (λ t y. Some (by_way_of_global t y)) x)
-  by_global = each_mapped (type_of_value locals globals x) x _ _ (λ t. record { term = refl; fits = tt })
+  by_global : IsAnswer (through_global (type_of_value context x)) x (by_its_type context (λ t y. Some (by_way_of_global t y)) x)
+  by_global = each_mapped (type_of_value context x) x _ _ (λ t. record { term = refl; fits = tt })
 
 -- ---- an operand that is a constant
 
@@ -427,39 +427,39 @@ computed_folded (node h (x ▸ y ▸ z ▸ w ▸ ts)) =
 
 -- ---- every rule
 
-pub chosen : (locals globals : List PrimitiveTypeInfo) (r : Rule) (x : Term Head) →
-    IsAnswer (choice r (shape_of locals globals x)) x (rewrite locals globals r x)
-chosen locals globals rule.Commute x = swapped x
-chosen locals globals rule.TurnComparison x = turned_over x
-chosen locals globals rule.AssociateLeft x = grouped_left x
-chosen locals globals rule.AssociateRight x = grouped_right x
-chosen locals globals rule.AddZero x = zero_behind locals globals x 0x6a 0x7c (is_written 0x6a refl) (is_written 0x7c refl)
-chosen locals globals rule.SubZero x = zero_behind locals globals x 0x6b 0x7d (is_written 0x6b refl) (is_written 0x7d refl)
-chosen locals globals rule.MulOne x = numbered_behind locals globals x 0x6c 0x7e 1 (is_written 0x6c refl) (is_written 0x7e refl)
+pub chosen : (context : Context) (r : Rule) (x : Term Head) →
+    IsAnswer (choice r (shape_of context x)) x (rewrite context r x)
+chosen context rule.Commute x = swapped x
+chosen context rule.TurnComparison x = turned_over x
+chosen context rule.AssociateLeft x = grouped_left x
+chosen context rule.AssociateRight x = grouped_right x
+chosen context rule.AddZero x = zero_behind context x 0x6a 0x7c (is_written 0x6a refl) (is_written 0x7c refl)
+chosen context rule.SubZero x = zero_behind context x 0x6b 0x7d (is_written 0x6b refl) (is_written 0x7d refl)
+chosen context rule.MulOne x = numbered_behind context x 0x6c 0x7e 1 (is_written 0x6c refl) (is_written 0x7e refl)
     (λ t. one_constant t 0x6c 0x7e x)
-chosen locals globals rule.OrZero x = zero_behind locals globals x 0x72 0x84 (is_written 0x72 refl) (is_written 0x84 refl)
-chosen locals globals rule.XorZero x = zero_behind locals globals x 0x73 0x85 (is_written 0x73 refl) (is_written 0x85 refl)
-chosen locals globals rule.AndOnes x = ones_behind locals globals x 0x71 0x83 (is_written 0x71 refl) (is_written 0x83 refl)
-chosen locals globals rule.ShiftByZero x = zero_behind locals globals x 0x74 0x86 (is_written 0x74 refl) (is_written 0x86 refl)
-chosen locals globals rule.OrSelf x = doubled locals globals x 0x72 0x84 (is_written 0x72 refl) (is_written 0x84 refl)
-chosen locals globals rule.AndSelf x = doubled locals globals x 0x71 0x83 (is_written 0x71 refl) (is_written 0x83 refl)
-chosen locals globals rule.DoubleComplement x = complemented locals globals x 0x73 0x85 (is_written 0x73 refl) (is_written 0x85 refl)
-chosen locals globals rule.ShiftToProduct x = multiplied x
-chosen locals globals rule.ProductToShift x = shifted x
-chosen locals globals rule.DifferenceToSum x = opposite_behind 0x6b 0x7d 0x6a 0x7c (is_written 0x6a refl) (is_written 0x7c refl) x
-chosen locals globals rule.SumToDifference x = opposite_behind 0x6a 0x7c 0x6b 0x7d (is_written 0x6b refl) (is_written 0x7d refl) x
-chosen locals globals rule.TestToComparison x = compared x
-chosen locals globals rule.ComparisonToTest x = tested x
-chosen locals globals rule.TurnSelect x = select_turned x
-chosen locals globals rule.Unfold x = summed x
-chosen locals globals rule.ThroughGlobal x = by_global locals globals x
-chosen locals globals rule.WithNop x = record { term = refl; fits = tt }
-chosen locals globals rule.Fold x = computed_folded x
-chosen locals globals rule.DropAddZero x = dropped 0x6a 0x7c 0 x
-chosen locals globals rule.DropSubZero x = dropped 0x6b 0x7d 0 x
-chosen locals globals rule.DropMulOne x = dropped 0x6c 0x7e 1 x
-chosen locals globals rule.DropOrZero x = dropped 0x72 0x84 0 x
-chosen locals globals rule.DropXorZero x = dropped 0x73 0x85 0 x
-chosen locals globals rule.DropAndOnes x = dropped_ones 0x71 0x83 x
-chosen locals globals rule.DropShiftByZero x = dropped 0x74 0x86 0 x
-chosen locals globals rule.Forget x = emptied x
+chosen context rule.OrZero x = zero_behind context x 0x72 0x84 (is_written 0x72 refl) (is_written 0x84 refl)
+chosen context rule.XorZero x = zero_behind context x 0x73 0x85 (is_written 0x73 refl) (is_written 0x85 refl)
+chosen context rule.AndOnes x = ones_behind context x 0x71 0x83 (is_written 0x71 refl) (is_written 0x83 refl)
+chosen context rule.ShiftByZero x = zero_behind context x 0x74 0x86 (is_written 0x74 refl) (is_written 0x86 refl)
+chosen context rule.OrSelf x = doubled context x 0x72 0x84 (is_written 0x72 refl) (is_written 0x84 refl)
+chosen context rule.AndSelf x = doubled context x 0x71 0x83 (is_written 0x71 refl) (is_written 0x83 refl)
+chosen context rule.DoubleComplement x = complemented context x 0x73 0x85 (is_written 0x73 refl) (is_written 0x85 refl)
+chosen context rule.ShiftToProduct x = multiplied x
+chosen context rule.ProductToShift x = shifted x
+chosen context rule.DifferenceToSum x = opposite_behind 0x6b 0x7d 0x6a 0x7c (is_written 0x6a refl) (is_written 0x7c refl) x
+chosen context rule.SumToDifference x = opposite_behind 0x6a 0x7c 0x6b 0x7d (is_written 0x6b refl) (is_written 0x7d refl) x
+chosen context rule.TestToComparison x = compared x
+chosen context rule.ComparisonToTest x = tested x
+chosen context rule.TurnSelect x = select_turned x
+chosen context rule.Unfold x = summed x
+chosen context rule.ThroughGlobal x = by_global context x
+chosen context rule.WithNop x = record { term = refl; fits = tt }
+chosen context rule.Fold x = computed_folded x
+chosen context rule.DropAddZero x = dropped 0x6a 0x7c 0 x
+chosen context rule.DropSubZero x = dropped 0x6b 0x7d 0 x
+chosen context rule.DropMulOne x = dropped 0x6c 0x7e 1 x
+chosen context rule.DropOrZero x = dropped 0x72 0x84 0 x
+chosen context rule.DropXorZero x = dropped 0x73 0x85 0 x
+chosen context rule.DropAndOnes x = dropped_ones 0x71 0x83 x
+chosen context rule.DropShiftByZero x = dropped 0x74 0x86 0 x
+chosen context rule.Forget x = emptied x

@@ -14,10 +14,10 @@ use Rattle.peephole_lang.specs.declared.lang.Head.{Head}
 use Rattle.peephole_lang.specs.Term.{Term, node, no_terms, ◌▸◌}
 use Rattle.peephole_machine.specs.declared.integer.IntegerType.{IntegerType}
 use Rattle.peephole_machine.specs.declared.integer.IntegerType.TheVariants as integer
-use Rattle.peephole_machine.specs.Values.{type_of, width_of, same_types, Value, whole, State, Outcome, Ends, then_run}
+use Rattle.peephole_machine.specs.Values.{type_of, width_of, same_types, Value, whole, State, Outcome, Ends, then_run, Context}
 use Rattle.peephole_machine.specs.Integer.{IntegerOperator, binary, compare, eqz, add, sub, mul, and_, or_, xor_, shl, eq}
 use Rattle.peephole_machine.specs.IntegerRow.{operation, bare_row, row_types}
-use Rattle.peephole_machine.specs.Machine.{given, act}
+use Rattle.peephole_machine.specs.Machine.{cause_of, given, applied, act}
 use Rattle.peephole_machine.specs.RowLemmas.{some_if, and_then_some, map_some, same_types_is}
 use Rattle.peephole_terms.specs.Expansion.{draws_of}
 use Rattle.peephole_terms.specs.Typing.{types_of, types_in}
@@ -103,7 +103,7 @@ matched a b make t u e = absurd cc
 -- The two opcodes are those of the operator of each type.
 record AreOf (a b : ℕ) (f : IntegerType → IntegerOperator) : Type 0 where
   none : (t : IntegerType) → is_in with_immediate (of_type t a b) ≡ false
-  row : (t : IntegerType) → bare_row (of_type t a b) ≡ operation (f t)
+  row : (t : IntegerType) → bare_row (of_type t a b) ≡ Some (operation (f t))
   written : (t : IntegerType) → opcode_byte (operator (of_type t a b)) ≡ Some (of_type t a b)
 
 by_type : (P : IntegerType → Type 0) → P integer.I32 → P integer.I64 → (t : IntegerType) → P t
@@ -111,11 +111,11 @@ by_type P p q integer.I32 = p
 by_type P p q integer.I64 = q
 
 are_of : (a b : ℕ) (f : IntegerType → IntegerOperator) → is_in with_immediate a ≡ false → is_in with_immediate b ≡ false →
-    bare_row a ≡ operation (f integer.I32) → bare_row b ≡ operation (f integer.I64) → opcode_byte (operator a) ≡ Some a →
+    bare_row a ≡ Some (operation (f integer.I32)) → bare_row b ≡ Some (operation (f integer.I64)) → opcode_byte (operator a) ≡ Some a →
     opcode_byte (operator b) ≡ Some b → AreOf a b f
 are_of a b f n m r q w v = record {
   none = by_type (λ t. is_in with_immediate (of_type t a b) ≡ false) n m;
-  row = by_type (λ t. bare_row (of_type t a b) ≡ operation (f t)) r q;
+  row = by_type (λ t. bare_row (of_type t a b) ≡ Some (operation (f t))) r q;
   written = by_type (λ t. opcode_byte (operator (of_type t a b)) ≡ Some (of_type t a b)) w v;
 }
 
@@ -159,55 +159,55 @@ shls = are_of 0x74 0x86 (λ t. binary t shl) refl refl refl refl refl refl
 
 module _ (rows : MeanByTheirRows) (sound : LeavesItsTypes) where
   -- the node's types and meaning
-  with_constant_types : (locals globals : List PrimitiveTypeInfo) (t : IntegerType) (f : IntegerOperator) {h : Head} (d : Does h (operation f))
-      (x : Term Head) (z : ℤ) → f.operands ≡ type_of t ∷ type_of t ∷ [] → types_of locals globals x ≡ Some (type_of t ∷ []) →
-      types_of locals globals (two h x (constant_term t z)) ≡ Some (type_of f.result ∷ [])
-  with_constant_types locals globals t f d x z o e =
-      two_types rows locals globals (type_of t) f d x (constant_term t z) o e (constant_types rows sound locals globals t z)
+  with_constant_types : (context : Context) (t : IntegerType) (f : IntegerOperator) {h : Head} (d : Does h (operation f))
+      (x : Term Head) (z : ℤ) → f.operands ≡ type_of t ∷ type_of t ∷ [] → types_of context x ≡ Some (type_of t ∷ []) →
+      types_of context (two h x (constant_term t z)) ≡ Some (type_of f.result ∷ [])
+  with_constant_types context t f d x z o e =
+      two_types rows context (type_of t) f d x (constant_term t z) o e (constant_types rows sound context t z)
 
   -- the operator's row on the operand's value and the constant's
   with_value : (t : IntegerType) (f : IntegerOperator) (z : ℤ) → List Value → State → Outcome
   with_value t f z vs s = act (operation f) (vs ++ whole t (cast_unsigned (width_of t) z) ∷ []) s
 
-  with_constant_means : (locals globals : List PrimitiveTypeInfo) (words : List ℕ) (t : IntegerType) (f : IntegerOperator) {h : Head}
+  with_constant_means : (context : Context) (words : List ℕ) (t : IntegerType) (f : IntegerOperator) {h : Head}
       (d : Does h (operation f)) (x : Term Head) (z : ℤ) (s : State) →
       meaning_of words (two h x (constant_term t z)) s ≡ then_run (meaning_of words x s) (with_value t f z)
   unfolding with_value
-  with_constant_means locals globals words t f d x z s =
+  with_constant_means context words t f d x z s =
       does_means rows words d (x ▸ constant_term t z ▸ no_terms) s
-      ∙ (ap (λ o. then_run o (act (operation f))) (before_constant rows sound locals globals words t z x s (meaning_of words x s) refl)
+      ∙ (ap (λ o. then_run o (act (operation f))) (before_constant rows sound context words t z x s (meaning_of words x s) refl)
       ∙ then_then (meaning_of words x s) (λ vs m. Ends (vs ++ whole t (cast_unsigned (width_of t) z) ∷ []) m) (act (operation f)))
 
   with_value_is : (t : IntegerType) (f : IntegerOperator) (z : ℤ) (v : Value) (s : State) → f.operands ≡ type_of t ∷ type_of t ∷ [] →
       v.type ≡ type_of t →
-      with_value t f z (v ∷ []) s ≡ given f.result (f.value (v.number ∷ within_width t (cast_unsigned (width_of t) z) ∷ [])) s
+      with_value t f z (v ∷ []) s ≡ applied f (v.number ∷ within_width t (cast_unsigned (width_of t) z) ∷ []) s
   unfolding with_value
   with_value_is t f z v s o e = act_two (type_of t) f v (whole t (cast_unsigned (width_of t) z)) s o e refl
 
   -- The term may stand for the operator on the operand and a constant with the number: it has the types, and does the same with the operand's value.
   record Replaces (t : IntegerType) (f : IntegerOperator) (x : Term Head) (n : ℕ) (u : Term Head) : Type 0 where
-    types : (locals globals : List PrimitiveTypeInfo) → types_of locals globals x ≡ Some (type_of t ∷ []) →
-        types_of locals globals u ≡ Some (type_of f.result ∷ [])
+    types : (context : Context) → types_of context x ≡ Some (type_of t ∷ []) →
+        types_of context u ≡ Some (type_of f.result ∷ [])
     next : List Value → State → Outcome
-    means : (locals globals : List PrimitiveTypeInfo) (words : List ℕ) (s : State) → meaning_of words u s ≡ then_run (meaning_of words x s) next
+    means : (context : Context) (words : List ℕ) (s : State) → meaning_of words u s ≡ then_run (meaning_of words x s) next
     same : (v : Value) (s : State) → v.type ≡ type_of t → v.number < 2 ^ bits (width_of t) →
-        given f.result (f.value (v.number ∷ n ∷ [])) s ≡ next (v ∷ []) s
+        applied f (v.number ∷ n ∷ []) s ≡ next (v ∷ []) s
 
   module _ (laws : IsCongruence) where
-    replaced : (locals globals list : List PrimitiveTypeInfo) (us vs : List ℕ) (t : IntegerType) (f : IntegerOperator) {h : Head}
+    replaced : (context : Context) (list : List PrimitiveTypeInfo) (us vs : List ℕ) (t : IntegerType) (f : IntegerOperator) {h : Head}
         (d : Does h (operation f)) (x u : Term Head) (z : ℤ) → f.operands ≡ type_of t ∷ type_of t ∷ [] →
-        Replaces t f x (within_width t (cast_unsigned (width_of t) z)) u → types_of locals globals (two h x (constant_term t z)) ≡ Some list →
-        draws_of (two h x (constant_term t z)) ≡ [] → Agree locals globals us vs (two h x (constant_term t z)) u
-    replaced locals globals list us vs t f {h = h} d x u z o r typed w =
+        Replaces t f x (within_width t (cast_unsigned (width_of t) z)) u → types_of context (two h x (constant_term t z)) ≡ Some list →
+        draws_of (two h x (constant_term t z)) ≡ [] → Agree context us vs (two h x (constant_term t z)) u
+    replaced context list us vs t f {h = h} d x u z o r typed w =
         let c = constant_term t z in
-        let k = takes_two rows locals globals list (type_of t) f d x c o typed in
-        let of_constant : type_of t ∷ [] ≡ k.second = some_list (sym (constant_types rows sound locals globals t z) ∙ k.second_is) in
+        let k = takes_two rows context list (type_of t) f d x c o typed in
+        let of_constant : type_of t ∷ [] ≡ k.second = some_list (sym (constant_types rows sound context t z) ∙ k.second_is) in
         let (is, same) = front_is k.first (type_of t) (ap (λ l. k.first ++ l) of_constant ∙ k.whole) in
-        let tx : types_of locals globals x ≡ Some (type_of t ∷ []) = k.first_is ∙ ap Some is in
-        after_itself rows sound laws locals globals list us vs (two h x c) u typed w (r.types locals globals tx ∙ ap Some k.gives)
-        (λ s hs. with_constant_means locals globals vs t f d x z s
-        ∙ (then_same locals globals (type_of t) (meaning_of vs x s) (with_value t f z) r.next (sound locals globals (type_of t ∷ []) vs x s tx hs)
-        (λ v m hv iv hm. with_value_is t f z v m o hv ∙ r.same v m hv (below t v hv iv)) ∙ sym (r.means locals globals vs s)))
+        let tx : types_of context x ≡ Some (type_of t ∷ []) = k.first_is ∙ ap Some is in
+        after_itself rows sound laws context list us vs (two h x c) u typed w (r.types context tx ∙ ap Some k.gives)
+        (λ s hs. with_constant_means context vs t f d x z s
+        ∙ (then_same context (type_of t) (meaning_of vs x s) (with_value t f z) r.next (sound context (type_of t ∷ []) vs x s tx hs)
+        (λ v m hv iv hm. with_value_is t f z v m o hv ∙ r.same v m hv (below t v hv iv)) ∙ sym (r.means context vs s)))
       where
         some_list : {ks js : List PrimitiveTypeInfo} → Some ks ≡ Some js → ks ≡ js
         some_list e = cc
@@ -222,8 +222,8 @@ module _ (rows : MeanByTheirRows) (sound : LeavesItsTypes) where
         let c = constant_term m.type m.number in
         let n = cast_unsigned (width_of m.type) m.number in
         subst (λ y. AgreeAlways y u) m.is
-        (λ locals globals list typed w us vs. replaced locals globals list us vs m.type (f m.type)
-        (own_does rows sound locals globals list m.head (m.operand ▸ c ▸ no_terms) (of_type m.type a b) (operation (f m.type)) m.opcode (k.none m.type)
+        (λ context list typed w us vs. replaced context list us vs m.type (f m.type)
+        (own_does rows sound context list m.head (m.operand ▸ c ▸ no_terms) (of_type m.type a b) (operation (f m.type)) m.opcode (k.none m.type)
         (k.row m.type) typed) m.operand u m.number (o m.type)
         (r m.type m.operand u (within_width m.type n) (mod-lt n (pow_pos (bits (width_of m.type)))) m.made) typed w)
 
@@ -231,31 +231,31 @@ module _ (rows : MeanByTheirRows) (sound : LeavesItsTypes) where
 
     -- eqz is the comparison with 0
     zero_test : (t : IntegerType) (v : Value) (n : ℕ) (s : State) → n ≡ 0 → v.type ≡ type_of t →
-        act (operation (eqz t)) (v ∷ []) s ≡ given integer.I32 ((compare t eq).value (v.number ∷ n ∷ [])) s
+        act (operation (eqz t)) (v ∷ []) s ≡ applied (compare t eq) (v.number ∷ n ∷ []) s
     zero_test t v n s e hv =
-        act_one (type_of t) (eqz t) v s refl hv ∙ sym (ap (λ m. given integer.I32 (Some (if v.number == m then 1 else 0)) s) e)
+        act_one (type_of t) (eqz t) v s refl hv ∙ sym (ap (λ m. Ends (whole integer.I32 (if v.number == m then 1 else 0) ∷ []) s) e)
 
     pub test_to_comparison_keeps : KeepsMeaning test_to_comparison
-    test_to_comparison_keeps (node h (x ▸ no_terms)) u e locals globals list typed w us vs =
+    test_to_comparison_keeps (node h (x ▸ no_terms)) u e context list typed w us vs =
         let (t, a, made) = map_some (λ t. with_constant t 0x46 0x51 0 x) (type_by 0x45 0x50 (opcode_byte h)) u e in
-        let hd = own_does rows sound locals globals list h (x ▸ no_terms) (of_type t 0x45 0x50) (operation (eqz t))
+        let hd = own_does rows sound context list h (x ▸ no_terms) (of_type t 0x45 0x50) (operation (eqz t))
         (type_by_is 0x45 0x50 (opcode_byte h) t a) (tests.none t) (tests.row t) typed in
-        let (ks, tx, b) = and_then_some (row_types locals globals (operation (eqz t))) (types_in locals globals (x ▸ no_terms)) list
-        (sym (does_types rows locals globals hd (x ▸ no_terms)) ∙ typed) in
+        let (ks, tx, b) = and_then_some (row_types context (operation (eqz t))) (types_in context (x ▸ no_terms)) list
+        (sym (does_types rows context hd (x ▸ no_terms)) ∙ typed) in
         let (is, gives) = some_if (same_types ks (type_of t ∷ [])) (type_of integer.I32 ∷ []) list b in
-        let operand : types_of locals globals x ≡ Some (type_of t ∷ []) =
-        alone_types locals globals ks x tx ∙ ap Some (same_types_is ks (type_of t ∷ []) is) in
+        let operand : types_of context x ≡ Some (type_of t ∷ []) =
+        alone_types context ks x tx ∙ ap Some (same_types_is ks (type_of t ∷ []) is) in
         let qd = written_does (of_type t 0x46 0x51) (operation (compare t eq)) (equals.written t) (equals.row t) in
-        subst (Agree locals globals us vs (node h (x ▸ no_terms))) made
-        (after_itself rows sound laws locals globals list us vs (node h (x ▸ no_terms)) (with_constant t 0x46 0x51 0 x) typed w
-        (with_constant_types locals globals t (compare t eq) qd x (pos 0) refl operand ∙ ap Some gives)
+        subst (Agree context us vs (node h (x ▸ no_terms))) made
+        (after_itself rows sound laws context list us vs (node h (x ▸ no_terms)) (with_constant t 0x46 0x51 0 x) typed w
+        (with_constant_types context t (compare t eq) qd x (pos 0) refl operand ∙ ap Some gives)
         (λ s hs. one_means rows vs (eqz t) hd x s
-        ∙ (then_same locals globals (type_of t) (meaning_of vs x s) (act (operation (eqz t))) (with_value t (compare t eq) (pos 0))
-        (sound locals globals (type_of t ∷ []) vs x s operand hs)
+        ∙ (then_same context (type_of t) (meaning_of vs x s) (act (operation (eqz t))) (with_value t (compare t eq) (pos 0))
+        (sound context (type_of t ∷ []) vs x s operand hs)
         (λ v m hv iv hm. zero_test t v (within_width t 0) m (zero-mod (2 ^ bits (width_of t))) hv
         ∙ sym (with_value_is t (compare t eq) (pos 0) v m refl hv))
-        ∙ sym (with_constant_means locals globals vs t (compare t eq) qd x (pos 0) s))))
-    test_to_comparison_keeps t u e locals globals list typed w us vs = absurd cc
+        ∙ sym (with_constant_means context vs t (compare t eq) qd x (pos 0) s))))
+    test_to_comparison_keeps t u e context list typed w us vs = absurd cc
 
     pub comparison_to_test_keeps : KeepsMeaning comparison_to_test
     comparison_to_test_keeps =
@@ -265,9 +265,9 @@ module _ (rows : MeanByTheirRows) (sound : LeavesItsTypes) where
         made t x n z =
             let d = written_does (of_type t 0x45 0x50) (operation (eqz t)) (tests.written t) (tests.row t) in
             record {
-              types = λ locals globals e. one_types rows locals globals (type_of t) (eqz t) d x refl e;
+              types = λ context e. one_types rows context (type_of t) (eqz t) d x refl e;
               next = act (operation (eqz t));
-              means = λ locals globals words s. one_means rows words (eqz t) d x s;
+              means = λ context words s. one_means rows words (eqz t) d x s;
               same = λ v s hv l. sym (zero_test t v n s z hv);
             }
 
@@ -286,13 +286,13 @@ module _ (rows : MeanByTheirRows) (sound : LeavesItsTypes) where
         let k = leaves t in
         let number = eqb-true n (elements t) c in
         subst (Replaces t (f t) x n) is (record {
-          types = λ locals globals e. e ∙ ap (λ r. Some (type_of r ∷ [])) (sym k.result);
+          types = λ context e. e ∙ ap (λ r. Some (type_of r ∷ [])) (sym k.result);
           next = Ends;
-          means = λ locals globals words s. sym (then_ends (meaning_of words x s));
+          means = λ context words s. sym (then_ends (meaning_of words x s));
           same = λ v s hv l.
               let (j, a, b) = k.value v.number l in
-              ap (λ m. given (f t).result ((f t).value (v.number ∷ m ∷ [])) s) number
-              ∙ (ap₂ (λ r o. given r o s) k.result a ∙ ap (λ y. Ends (y ∷ []) s) (again t v j hv b));
+              ap (λ m. applied (f t) (v.number ∷ m ∷ []) s) number
+              ∙ (ap₂ (λ r o. given r o (cause_of (v.number ∷ elements t ∷ [])) s) k.result a ∙ ap (λ y. Ends (y ∷ []) s) (again t v j hv b));
         })
 
     without : (a b e : ℕ) (f : IntegerType → IntegerOperator) (k : AreOf a b f) → ((t : IntegerType) → LeavesFirst t (f t) e) →
@@ -344,18 +344,18 @@ module _ (rows : MeanByTheirRows) (sound : LeavesItsTypes) where
         (ands.written t) (ands.row t) (subst (LeavesFirst t (binary t and_)) (sym (ones_number t)) (and_leaves t))
 
     pub double_complement_keeps : KeepsMeaningOfType double_complement
-    double_complement_keeps t x locals globals typed w us vs =
+    double_complement_keeps t x context typed w us vs =
         let f = binary t xor_ in
         let d = written_does (of_type t 0x73 0x85) (operation f) (xors.written t) (xors.row t) in
         let z = cast_signed (width_of t) (within_width t (all_ones t)) in
         let inner = with_ones t 0x73 0x85 x in
-        after_itself rows sound laws locals globals (type_of t ∷ []) us vs x (double_complement t x) typed w
-        (with_constant_types locals globals t f d inner z refl (with_constant_types locals globals t f d x z refl typed))
-        (λ s hs. sym (with_constant_means locals globals vs t f d inner z s
-        ∙ (ap (λ o. then_run o (with_value t f z)) (with_constant_means locals globals vs t f d x z s)
+        after_itself rows sound laws context (type_of t ∷ []) us vs x (double_complement t x) typed w
+        (with_constant_types context t f d inner z refl (with_constant_types context t f d x z refl typed))
+        (λ s hs. sym (with_constant_means context vs t f d inner z s
+        ∙ (ap (λ o. then_run o (with_value t f z)) (with_constant_means context vs t f d x z s)
         ∙ (then_then (meaning_of vs x s) (with_value t f z) (with_value t f z)
-        ∙ (then_same locals globals (type_of t) (meaning_of vs x s) (λ us m. then_run (with_value t f z us m) (with_value t f z)) Ends
-        (sound locals globals (type_of t ∷ []) vs x s typed hs) (λ v m hv iv hm. back v m hv (below t v hv iv))
+        ∙ (then_same context (type_of t) (meaning_of vs x s) (λ us m. then_run (with_value t f z us m) (with_value t f z)) Ends
+        (sound context (type_of t ∷ []) vs x s typed hs) (λ v m hv iv hm. back v m hv (below t v hv iv))
         ∙ then_ends (meaning_of vs x s))))))
       where
         -- what one complement leaves, and the other of it
@@ -385,14 +385,14 @@ module _ (rows : MeanByTheirRows) (sound : LeavesItsTypes) where
         let d = written_does (of_type t a b) (operation (g t)) (k.written t) (k.row t) in
         let z = cast_signed (width_of t) (within_width t y) in
         record {
-          types = λ locals globals e. with_constant_types locals globals t (g t) d x z go e ∙ ap (λ r. Some (type_of r ∷ [])) (gr ∙ sym fr);
+          types = λ context e. with_constant_types context t (g t) d x z go e ∙ ap (λ r. Some (type_of r ∷ [])) (gr ∙ sym fr);
           next = with_value t (g t) z;
-          means = λ locals globals words s. with_constant_means locals globals words t (g t) d x z s;
+          means = λ context words s. with_constant_means context words t (g t) d x z s;
           same = λ v s hv l.
-              ap₂ (λ r o. given r o s) fr (fv v.number)
+              ap₂ (λ r o. given r o (cause_of (v.number ∷ n ∷ [])) s) fr (fv v.number)
               ∙ (ap (λ (m : ℕ). Ends (record { type = type_of t; number = m } ∷ []) s) (is v.number)
-              ∙ sym (with_value_is t (g t) z v s go hv ∙ (ap (λ m. given (g t).result ((g t).value (v.number ∷ m ∷ [])) s) (cast_back (width_of t) y)
-              ∙ ap₂ (λ r o. given r o s) gr (gv v.number))));
+              ∙ sym (with_value_is t (g t) z v s go hv ∙ (ap (λ m. applied (g t) (v.number ∷ m ∷ []) s) (cast_back (width_of t) y)
+              ∙ ap₂ (λ r o. given r o (cause_of (v.number ∷ within_width t y ∷ [])) s) gr (gv v.number))));
         }
 
     pub difference_to_sum_keeps : KeepsMeaning difference_to_sum

@@ -10,10 +10,10 @@ use Rattle.peephole_nodes.specs.declared.payload.Payload.TheVariants as payload
 use Rattle.peephole_lang.specs.Term.{Term, Terms, absent, node, no_terms, ◌▸◌}
 use Rattle.peephole_machine.specs.declared.integer.IntegerType.{IntegerType}
 use Rattle.peephole_machine.specs.declared.integer.IntegerType.TheVariants as integer
-use Rattle.peephole_machine.specs.Values.{type_of, width_of, same_types, Value, whole, types, State, Ends, then_run, above}
+use Rattle.peephole_machine.specs.Values.{type_of, width_of, same_types, Value, whole, types, State, Ends, then_run, above, Context}
 use Rattle.peephole_machine.specs.Integer.{IntegerOperator}
 use Rattle.peephole_machine.specs.IntegerRow.{nop, discard, select, operation, bare_operator, operator_row, bare_row, row_types}
-use Rattle.peephole_machine.specs.Machine.{given, act}
+use Rattle.peephole_machine.specs.Machine.{cause_of, given, act}
 use Rattle.peephole_machine.specs.RowLemmas.{some_if, and_then_some, map_some, if_typed_is, act_is}
 use Rattle.peephole_terms.specs.Expansion.{draws_of}
 use Rattle.peephole_terms.specs.Typing.{joined_types, types_of, types_in}
@@ -45,7 +45,7 @@ not_among bytes byte f all e = go (is_in bytes byte) refl
         none h = cc
     go false k = refl
 
-bare_is : (byte : ℕ) (f : IntegerOperator) → bare_operator byte ≡ Some f → bare_row byte ≡ operation f
+bare_is : (byte : ℕ) (f : IntegerOperator) → bare_operator byte ≡ Some f → bare_row byte ≡ Some (operation f)
 bare_is byte f e = go (byte == 0x01) (byte == 0x1a) (byte == 0x1b) refl refl refl
   where
     other : (at : ℕ) → (byte == at) ≡ true → bare_operator at ≡ None → ⊥
@@ -55,7 +55,7 @@ bare_is byte f e = go (byte == 0x01) (byte == 0x1a) (byte == 0x1b) refl refl ref
         none h = cc
 
     go : (p q r : Bool) → (byte == 0x01) ≡ p → (byte == 0x1a) ≡ q → (byte == 0x1b) ≡ r →
-        (if p then nop else (if q then discard else (if r then select else operator_row (bare_operator byte)))) ≡ operation f
+        (if p then Some nop else (if q then Some discard else (if r then Some select else operator_row (bare_operator byte)))) ≡ Some (operation f)
     go true q r a b c = absurd (other 0x01 a refl)
     go false true r a b c = absurd (other 0x1a b refl)
     go false false true a b c = absurd (other 0x1b c refl)
@@ -106,12 +106,12 @@ own_is x n e = go (constant_number integer.I32 x) refl e
     go (Some m) k f = (integer.I32, k ∙ f)
     go None k f = (integer.I64, f)
 
-module _ (rows : MeanByTheirRows) (sound : LeavesItsTypes) (locals globals : List PrimitiveTypeInfo) where
+module _ (rows : MeanByTheirRows) (sound : LeavesItsTypes) (context : Context) where
   -- The terms leave values with these numbers, and nothing else happens.
   record LeaveNumbers (kids : Terms Head) (ns : List ℕ) : Type 0 where
     values : List Value
     numbers : map (λ v. v.number) values ≡ ns
-    typed : types_in locals globals kids ≡ Some (types values)
+    typed : types_in context kids ≡ Some (types values)
     means : (words : List ℕ) (s : State) → meaning words kids s ≡ Ends values s
 
   numbers_left : (kids : Terms Head) (ns : List ℕ) → numbers_in kids ≡ Some ns → LeaveNumbers kids ns
@@ -126,10 +126,10 @@ module _ (rows : MeanByTheirRows) (sound : LeavesItsTypes) (locals globals : Lis
       record {
         values = v ∷ rest.values;
         numbers = ap₂ (λ m ms. m ∷ ms) low rest.numbers ∙ d;
-        typed = ap₂ joined_types (ap (types_of locals globals) is ∙ constant_types rows sound locals globals t z) rest.typed;
+        typed = ap₂ joined_types (ap (types_of context) is ∙ constant_types rows sound context t z) rest.typed;
         means = λ words s.
             ap (λ o. then_run o (λ vs m. above vs (meaning (drop (length (draws_of x)) words) xs m)))
-            (ap (λ y. meaning_of words y s) is ∙ constant_means rows sound locals globals words t z s)
+            (ap (λ y. meaning_of words y s) is ∙ constant_means rows sound context words t z s)
             ∙ ap (above (v ∷ [])) (rest.means (drop (length (draws_of x)) words) s);
       }
 
@@ -137,28 +137,28 @@ module _ (rows : MeanByTheirRows) (sound : LeavesItsTypes) (locals globals : Lis
 
 module _ (rows : MeanByTheirRows) (sound : LeavesItsTypes) (laws : IsCongruence) where
   fold_over_keeps : (h : Head) (kids : Terms Head) (u : Term Head) → fold_over h kids ≡ Some u → AgreeAlways (node h kids) u
-  fold_over_keeps h kids u e locals globals list typed d us vs =
+  fold_over_keeps h kids u e context list typed d us vs =
       let (f, a, b) = and_then_some (λ f. option_map (numbered f.result) (option_and_then f.value (numbers_of_types f.operands kids)))
       (option_and_then bare_operator (opcode_byte h)) u e in
       let (byte, is, op) = and_then_some bare_operator (opcode_byte h) f a in
       let (n, value, made) = map_some (numbered f.result) (option_and_then f.value (numbers_of_types f.operands kids)) u b in
       let (ns, numbers, gives) = and_then_some f.value (numbers_of_types f.operands kids) n value in
-      let k = numbers_left rows sound locals globals kids ns (typed_are f.operands kids ns numbers) in
+      let k = numbers_left rows sound context kids ns (typed_are f.operands kids ns numbers) in
       let none = not_among with_immediate byte f (refl, (refl, (refl, (refl, (refl, (refl, (refl, (refl, tt)))))))) op in
-      let hd = own_does rows sound locals globals list h kids byte (operation f) is none (bare_is byte f op) typed in
-      let row : row_types locals globals (operation f) (types k.values) ≡ Some list =
-      sym (does_types rows locals globals hd kids ∙ ap (option_and_then (row_types locals globals (operation f))) k.typed) ∙ typed in
+      let hd = own_does rows sound context list h kids byte (operation f) is none (bare_is byte f op) typed in
+      let row : row_types context (operation f) (types k.values) ≡ Some list =
+      sym (does_types rows context hd kids ∙ ap (option_and_then (row_types context (operation f))) k.typed) ∙ typed in
       let (fits, result) = some_if (same_types (types k.values) f.operands) (type_of f.result ∷ []) list row in
       let z = cast_signed (width_of f.result) (within_width f.result n) in
-      subst (Agree locals globals us vs (node h kids)) made
-      (after_itself rows sound laws locals globals list us vs (node h kids) (numbered f.result n) typed d
-      (constant_types rows sound locals globals f.result z ∙ ap Some result)
+      subst (Agree context us vs (node h kids)) made
+      (after_itself rows sound laws context list us vs (node h kids) (numbered f.result n) typed d
+      (constant_types rows sound context f.result z ∙ ap Some result)
       (λ s hs. does_means rows vs hd kids s ∙ (ap (λ o. then_run o (act (operation f))) (k.means vs s)
       ∙ (act_is (operation f) k.values (type_of f.result ∷ []) s
       (if_typed_is (same_types (types k.values) f.operands) (type_of f.result ∷ []) fits)
-      ∙ (ap (λ o. given f.result o s) (ap f.value k.numbers ∙ gives)
+      ∙ (ap (λ o. given f.result o (cause_of (map (λ v. v.number) k.values)) s) (ap f.value k.numbers ∙ gives)
       ∙ (ap (λ (m : ℕ). Ends (record { type = type_of f.result; number = m } ∷ []) s) (sym (cast_back (width_of f.result) n))
-      ∙ sym (constant_means rows sound locals globals vs f.result z s)))))))
+      ∙ sym (constant_means rows sound context vs f.result z s)))))))
 
   pub fold_keeps : KeepsMeaning fold
   fold_keeps absent u e = absurd cc

@@ -3,15 +3,14 @@ use Rattle.std.proofs.Common.{◌≡◌, ℕ, ◌+◌, ◌*◌, ◌^◌, true, f
 use Rattle.std.specs.Prelude.{◌&&◌, bit_and, bit_or, bit_xor}
 use Rattle.std.proofs.lemmas.Bool.{and_parts, false≢true}
 use mir.Val.{bits}
-use Rattle.mutate_base.specs.declared.types.PrimitiveTypeInfo.{PrimitiveTypeInfo}
 use Rattle.peephole_lang.specs.declared.lang.Head.{Head}
 use Rattle.peephole_lang.specs.Term.{Term, node, no_terms, ◌▸◌}
 use Rattle.peephole_machine.specs.declared.integer.IntegerType.{IntegerType}
 use Rattle.peephole_machine.specs.declared.integer.IntegerType.TheVariants as integer
-use Rattle.peephole_machine.specs.Values.{type_of, width_of, Value, whole, State, HasTypes, Outcome, Ends, then_run}
+use Rattle.peephole_machine.specs.Values.{type_of, width_of, Value, whole, State, HasTypes, Outcome, Ends, then_run, Context}
 use Rattle.peephole_machine.specs.Integer.{IntegerOperator, binary, add, mul, and_, or_, xor_}
 use Rattle.peephole_machine.specs.IntegerRow.{operation, bare_row}
-use Rattle.peephole_machine.specs.Machine.{given, act}
+use Rattle.peephole_machine.specs.Machine.{cause_of, given, act}
 use Rattle.peephole_terms.specs.Expansion.{draws_of}
 use Rattle.peephole_terms.specs.Typing.{types_of}
 use Rattle.peephole_terms.specs.Meaning.{meaning_of, meaning}
@@ -44,10 +43,10 @@ record GroupsByte (byte : ℕ) : Type 0 where
   type : IntegerType
   operator : IntegerOperator
   none : is_in with_immediate byte ≡ false
-  row : bare_row byte ≡ operation operator
+  row : bare_row byte ≡ Some (operation operator)
   groups : Groups type operator
 
-groups_byte : (byte : ℕ) (t : IntegerType) (f : IntegerOperator) (g : ℕ → ℕ → ℕ) → is_in with_immediate byte ≡ false → bare_row byte ≡ operation f →
+groups_byte : (byte : ℕ) (t : IntegerType) (f : IntegerOperator) (g : ℕ → ℕ → ℕ) → is_in with_immediate byte ≡ false → bare_row byte ≡ Some (operation f) →
     f.operands ≡ type_of t ∷ type_of t ∷ [] → f.result ≡ t → ((a b : ℕ) → f.value (a ∷ b ∷ []) ≡ Some (g a b)) → IsGrouped (2 ^ bits (width_of t)) g →
     GroupsByte byte
 groups_byte byte t f g none row o r v is = record {
@@ -100,7 +99,7 @@ shared None r e = absurd (false≢true e)
 
 -- ---- three operands
 
-module _ (rows : MeanByTheirRows) (sound : LeavesItsTypes) (locals globals : List PrimitiveTypeInfo) (t : IntegerType) (f : IntegerOperator)
+module _ (rows : MeanByTheirRows) (sound : LeavesItsTypes) (context : Context) (t : IntegerType) (f : IntegerOperator)
     (k : Groups t f) where
   -- what the operator leaves
   abbrev left_by : Value → Value → Value
@@ -108,7 +107,7 @@ module _ (rows : MeanByTheirRows) (sound : LeavesItsTypes) (locals globals : Lis
 
   act_leaves : (v w : Value) (s : State) → v.type ≡ type_of t → w.type ≡ type_of t → act (operation f) (v ∷ w ∷ []) s ≡ Ends (left_by v w ∷ []) s
   act_leaves v w s hv hw =
-      act_two (type_of t) f v w s k.operands hv hw ∙ (ap (λ o. given f.result o s) (k.value v.number w.number)
+      act_two (type_of t) f v w s k.operands hv hw ∙ (ap (λ o. given f.result o (cause_of (v.number ∷ w.number ∷ [])) s) (k.value v.number w.number)
       ∙ ap (λ r. Ends (whole r (k.number v.number w.number) ∷ []) s) k.result)
 
   act_grouped : (v w u : Value) (s : State) → v.type ≡ type_of t → w.type ≡ type_of t → u.type ≡ type_of t →
@@ -120,15 +119,15 @@ module _ (rows : MeanByTheirRows) (sound : LeavesItsTypes) (locals globals : Lis
       ∙ sym (act_leaves (left_by v w) u s refl hu)))
 
   -- behind the last operand
-  third : (z : Term Head) (words : List ℕ) (v w : Value) (s : State) → types_of locals globals z ≡ Some (type_of t ∷ []) → HasTypes locals globals s →
+  third : (z : Term Head) (words : List ℕ) (v w : Value) (s : State) → types_of context z ≡ Some (type_of t ∷ []) → HasTypes context s →
       v.type ≡ type_of t → w.type ≡ type_of t →
       then_run (meaning words (z ▸ no_terms) s) (λ us m. then_run (act (operation f) (w ∷ us) m) (λ us m. act (operation f) (v ∷ us) m))
       ≡ then_run (meaning words (z ▸ no_terms) s) (λ us m. act (operation f) (left_by v w ∷ us) m)
   third z words v w s tz hs hv hw =
       behind_one words z s (λ us m. then_run (act (operation f) (w ∷ us) m) (λ us m. act (operation f) (v ∷ us) m))
-      ∙ (then_same locals globals (type_of t) (meaning_of words z s)
+      ∙ (then_same context (type_of t) (meaning_of words z s)
       (λ us m. then_run (act (operation f) (w ∷ us) m) (λ us m. act (operation f) (v ∷ us) m)) (λ us m. act (operation f) (left_by v w ∷ us) m)
-      (sound locals globals (type_of t ∷ []) words z s tz hs) (λ u m hu iu hm. act_grouped v w u m hv hw hu)
+      (sound context (type_of t ∷ []) words z s tz hs) (λ u m hu iu hm. act_grouped v w u m hv hw hu)
       ∙ sym (behind_one words z s (λ us m. act (operation f) (left_by v w ∷ us) m)))
 
   -- what comes behind the two first, with these words for the last
@@ -137,7 +136,7 @@ module _ (rows : MeanByTheirRows) (sound : LeavesItsTypes) (locals globals : Lis
 
   -- behind the first operand
   second : {g : Head} (gd : Does g (operation f)) (y z : Term Head) (words : List ℕ) (v : Value) (s : State) →
-      types_of locals globals y ≡ Some (type_of t ∷ []) → types_of locals globals z ≡ Some (type_of t ∷ []) → HasTypes locals globals s →
+      types_of context y ≡ Some (type_of t ∷ []) → types_of context z ≡ Some (type_of t ∷ []) → HasTypes context s →
       v.type ≡ type_of t →
       then_run (meaning words (two g y z ▸ no_terms) s) (λ us m. act (operation f) (v ∷ us) m)
       ≡ then_run (meaning words (y ▸ no_terms) s) (λ us m. then_run (act (operation f) (v ∷ us) m) (last z (drop (length (draws_of y)) words)))
@@ -148,15 +147,15 @@ module _ (rows : MeanByTheirRows) (sound : LeavesItsTypes) (locals globals : Lis
       ∙ (ap (λ o. then_run o (λ us m. act (operation f) (v ∷ us) m)) (does_means rows words gd (y ▸ z ▸ no_terms) s)
       ∙ (then_then (meaning words (y ▸ z ▸ no_terms) s) (act (operation f)) (λ us m. act (operation f) (v ∷ us) m)
       ∙ (behind words y (z ▸ no_terms) s (λ us m. then_run (act (operation f) us m) (λ us m. act (operation f) (v ∷ us) m))
-      ∙ (then_same locals globals (type_of t) (meaning_of words y s)
+      ∙ (then_same context (type_of t) (meaning_of words y s)
       (λ ws m. then_run (meaning more (z ▸ no_terms) m) (λ us l. then_run (act (operation f) (ws ++ us) l) (λ us l. act (operation f) (v ∷ us) l)))
-      (λ us m. then_run (act (operation f) (v ∷ us) m) (last z more)) (sound locals globals (type_of t ∷ []) words y s ty hs)
+      (λ us m. then_run (act (operation f) (v ∷ us) m) (last z more)) (sound context (type_of t ∷ []) words y s ty hs)
       (λ w m hw iw hm. third z more v w m tz hm hv hw ∙ sym (ap (λ o. then_run o (last z more)) (act_leaves v w m hv hw)))
       ∙ sym (behind_one words y s (λ us m. then_run (act (operation f) (v ∷ us) m) (last z more)))))))
 
   grouped_means : {h g p q : Head} (hd : Does h (operation f)) (gd : Does g (operation f)) (pd : Does p (operation f)) (qd : Does q (operation f))
-      (x y z : Term Head) (words : List ℕ) (s : State) → HasTypes locals globals s → types_of locals globals x ≡ Some (type_of t ∷ []) →
-      types_of locals globals y ≡ Some (type_of t ∷ []) → types_of locals globals z ≡ Some (type_of t ∷ []) →
+      (x y z : Term Head) (words : List ℕ) (s : State) → HasTypes context s → types_of context x ≡ Some (type_of t ∷ []) →
+      types_of context y ≡ Some (type_of t ∷ []) → types_of context z ≡ Some (type_of t ∷ []) →
       meaning_of words (two h x (two g y z)) s ≡ meaning_of words (two p (two q x y) z) s
   unfolding last
   grouped_means {h = h} {g = g} {p = p} {q = q} hd gd pd qd x y z words s hs tx ty tz =
@@ -165,10 +164,10 @@ module _ (rows : MeanByTheirRows) (sound : LeavesItsTypes) (locals globals : Lis
       let more = drop (length (draws_of x)) words in
       let rest = drop (length (draws_of y)) more in
       does_means rows words hd (x ▸ inner ▸ no_terms) s ∙ (behind words x (inner ▸ no_terms) s (act (operation f))
-      ∙ (then_same locals globals (type_of t) (meaning_of words x s)
+      ∙ (then_same context (type_of t) (meaning_of words x s)
       (λ vs m. then_run (meaning more (inner ▸ no_terms) m) (λ us l. act (operation f) (vs ++ us) l))
       (λ vs m. then_run (meaning more (y ▸ no_terms) m) (λ us l. then_run (act (operation f) (vs ++ us) l) (last z rest)))
-      (sound locals globals (type_of t ∷ []) words x s tx hs) (λ v m hv iv hm. second gd y z more v m ty tz hm hv)
+      (sound context (type_of t ∷ []) words x s tx hs) (λ v m hv iv hm. second gd y z more v m ty tz hm hv)
       ∙ sym (does_means rows words pd (front ▸ z ▸ no_terms) s ∙ (behind words front (z ▸ no_terms) s (act (operation f))
       ∙ (ap (λ us. then_run (meaning_of words front s) (last z us)) (words_behind rows qd x y words)
       ∙ (ap (λ o. then_run o (last z rest)) (does_means rows words qd (x ▸ y ▸ no_terms) s)
@@ -186,55 +185,55 @@ module _ (rows : MeanByTheirRows) (sound : LeavesItsTypes) (laws : IsCongruence)
       (byte, a, b, k, p.1)
 
   pub associate_left_keeps : KeepsMeaning associate_left
-  associate_left_keeps (node h (x ▸ node g (y ▸ z ▸ no_terms) ▸ no_terms)) u e locals globals list typed d us vs =
+  associate_left_keeps (node h (x ▸ node g (y ▸ z ▸ no_terms) ▸ no_terms)) u e context list typed d us vs =
       let t = two h x (two g y z) in
       let v = two h (two g x y) z in
       let (c, made) = some_answer_if (same_group h g && has_one_value y) v u e in
       let (byte, a, b, k, one) = group_parts h g y c in
       let f = k.operator in
       let m = k.groups in
-      let hd = own_does rows sound locals globals list h (x ▸ two g y z ▸ no_terms) byte (operation f) a k.none k.row typed in
-      let outer = takes_two rows locals globals list (type_of k.type) f hd x (two g y z) m.operands typed in
-      let gd = own_does rows sound locals globals outer.second g (y ▸ z ▸ no_terms) byte (operation f) b k.none k.row outer.second_is in
-      let inner = takes_two rows locals globals outer.second (type_of k.type) f gd y z m.operands outer.second_is in
+      let hd = own_does rows sound context list h (x ▸ two g y z ▸ no_terms) byte (operation f) a k.none k.row typed in
+      let outer = takes_two rows context list (type_of k.type) f hd x (two g y z) m.operands typed in
+      let gd = own_does rows sound context outer.second g (y ▸ z ▸ no_terms) byte (operation f) b k.none k.row outer.second_is in
+      let inner = takes_two rows context outer.second (type_of k.type) f gd y z m.operands outer.second_is in
       let result : type_of f.result ≡ type_of k.type = ap type_of m.result in
       let (x_list, same) = front_is outer.first (type_of f.result) (ap (λ l. outer.first ++ l) inner.gives ∙ outer.whole) in
-      let (ty, y_list) = one_of rows sound locals globals inner.first y one inner.first_is in
+      let (ty, y_list) = one_of rows sound context inner.first y one inner.first_is in
       let (y_type, z_list) = rest_is ty inner.second (ap (λ l. l ++ inner.second) (sym y_list) ∙ inner.whole) in
-      let tx : types_of locals globals x ≡ Some (type_of k.type ∷ []) = outer.first_is ∙ ap Some x_list in
-      let typed_y : types_of locals globals y ≡ Some (type_of k.type ∷ []) = inner.first_is ∙ ap Some (y_list ∙ ap (λ w. w ∷ []) y_type) in
-      let tz : types_of locals globals z ≡ Some (type_of k.type ∷ []) = inner.second_is ∙ ap Some z_list in
-      let front : types_of locals globals (two g x y) ≡ Some (type_of k.type ∷ []) =
-      two_types rows locals globals (type_of k.type) f gd x y m.operands tx typed_y ∙ ap (λ w. Some (w ∷ [])) result in
-      subst (Agree locals globals us vs t) made
-      (after_itself rows sound laws locals globals list us vs t v typed d
-      (two_types rows locals globals (type_of k.type) f hd (two g x y) z m.operands front tz ∙ ap Some outer.gives)
-      (λ s hs. grouped_means rows sound locals globals k.type f m hd gd hd gd x y z vs s hs tx typed_y tz))
-  associate_left_keeps t u e locals globals list typed d us vs = absurd cc
+      let tx : types_of context x ≡ Some (type_of k.type ∷ []) = outer.first_is ∙ ap Some x_list in
+      let typed_y : types_of context y ≡ Some (type_of k.type ∷ []) = inner.first_is ∙ ap Some (y_list ∙ ap (λ w. w ∷ []) y_type) in
+      let tz : types_of context z ≡ Some (type_of k.type ∷ []) = inner.second_is ∙ ap Some z_list in
+      let front : types_of context (two g x y) ≡ Some (type_of k.type ∷ []) =
+      two_types rows context (type_of k.type) f gd x y m.operands tx typed_y ∙ ap (λ w. Some (w ∷ [])) result in
+      subst (Agree context us vs t) made
+      (after_itself rows sound laws context list us vs t v typed d
+      (two_types rows context (type_of k.type) f hd (two g x y) z m.operands front tz ∙ ap Some outer.gives)
+      (λ s hs. grouped_means rows sound context k.type f m hd gd hd gd x y z vs s hs tx typed_y tz))
+  associate_left_keeps t u e context list typed d us vs = absurd cc
 
   pub associate_right_keeps : KeepsMeaning associate_right
-  associate_right_keeps (node h (node g (x ▸ y ▸ no_terms) ▸ z ▸ no_terms)) u e locals globals list typed d us vs =
+  associate_right_keeps (node h (node g (x ▸ y ▸ no_terms) ▸ z ▸ no_terms)) u e context list typed d us vs =
       let t = two h (two g x y) z in
       let v = two h x (two g y z) in
       let (c, made) = some_answer_if (same_group h g && has_one_value y) v u e in
       let (byte, a, b, k, one) = group_parts h g y c in
       let f = k.operator in
       let m = k.groups in
-      let hd = own_does rows sound locals globals list h (two g x y ▸ z ▸ no_terms) byte (operation f) a k.none k.row typed in
-      let outer = takes_two rows locals globals list (type_of k.type) f hd (two g x y) z m.operands typed in
-      let gd = own_does rows sound locals globals outer.first g (x ▸ y ▸ no_terms) byte (operation f) b k.none k.row outer.first_is in
-      let inner = takes_two rows locals globals outer.first (type_of k.type) f gd x y m.operands outer.first_is in
+      let hd = own_does rows sound context list h (two g x y ▸ z ▸ no_terms) byte (operation f) a k.none k.row typed in
+      let outer = takes_two rows context list (type_of k.type) f hd (two g x y) z m.operands typed in
+      let gd = own_does rows sound context outer.first g (x ▸ y ▸ no_terms) byte (operation f) b k.none k.row outer.first_is in
+      let inner = takes_two rows context outer.first (type_of k.type) f gd x y m.operands outer.first_is in
       let result : type_of f.result ≡ type_of k.type = ap type_of m.result in
       let (same, z_list) = rest_is (type_of f.result) outer.second (ap (λ l. l ++ outer.second) inner.gives ∙ outer.whole) in
-      let (ty, y_list) = one_of rows sound locals globals inner.second y one inner.second_is in
+      let (ty, y_list) = one_of rows sound context inner.second y one inner.second_is in
       let (x_list, y_type) = front_is inner.first ty (ap (λ l. inner.first ++ l) (sym y_list) ∙ inner.whole) in
-      let tx : types_of locals globals x ≡ Some (type_of k.type ∷ []) = inner.first_is ∙ ap Some x_list in
-      let typed_y : types_of locals globals y ≡ Some (type_of k.type ∷ []) = inner.second_is ∙ ap Some (y_list ∙ ap (λ w. w ∷ []) y_type) in
-      let tz : types_of locals globals z ≡ Some (type_of k.type ∷ []) = outer.second_is ∙ ap Some z_list in
-      let back : types_of locals globals (two g y z) ≡ Some (type_of k.type ∷ []) =
-      two_types rows locals globals (type_of k.type) f gd y z m.operands typed_y tz ∙ ap (λ w. Some (w ∷ [])) result in
-      subst (Agree locals globals us vs t) made
-      (after_itself rows sound laws locals globals list us vs t v typed d
-      (two_types rows locals globals (type_of k.type) f hd x (two g y z) m.operands tx back ∙ ap Some outer.gives)
-      (λ s hs. sym (grouped_means rows sound locals globals k.type f m hd gd hd gd x y z vs s hs tx typed_y tz)))
-  associate_right_keeps t u e locals globals list typed d us vs = absurd cc
+      let tx : types_of context x ≡ Some (type_of k.type ∷ []) = inner.first_is ∙ ap Some x_list in
+      let typed_y : types_of context y ≡ Some (type_of k.type ∷ []) = inner.second_is ∙ ap Some (y_list ∙ ap (λ w. w ∷ []) y_type) in
+      let tz : types_of context z ≡ Some (type_of k.type ∷ []) = outer.second_is ∙ ap Some z_list in
+      let back : types_of context (two g y z) ≡ Some (type_of k.type ∷ []) =
+      two_types rows context (type_of k.type) f gd y z m.operands typed_y tz ∙ ap (λ w. Some (w ∷ [])) result in
+      subst (Agree context us vs t) made
+      (after_itself rows sound laws context list us vs t v typed d
+      (two_types rows context (type_of k.type) f hd x (two g y z) m.operands tx back ∙ ap Some outer.gives)
+      (λ s hs. sym (grouped_means rows sound context k.type f m hd gd hd gd x y z vs s hs tx typed_y tz)))
+  associate_right_keeps t u e context list typed d us vs = absurd cc

@@ -13,6 +13,7 @@ pub mod GroupLemmas
 pub mod ConstantLemmas
 pub mod SelectLemmas
 pub mod TrapLemmas
+pub mod ForgetLemmas
 pub mod FoldLemmas
 pub mod ValueTypeLemmas
 pub mod RewriteLemmas

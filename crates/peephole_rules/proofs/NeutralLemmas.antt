@@ -12,14 +12,15 @@ use Rattle.peephole_lang.specs.declared.lang.Head.{Head}
 use Rattle.peephole_lang.specs.Term.{Term, node, no_terms, ◌▸◌}
 use Rattle.peephole_machine.specs.declared.integer.IntegerType.{IntegerType}
 use Rattle.peephole_machine.specs.declared.integer.IntegerType.TheVariants as integer
-use Rattle.peephole_machine.specs.Values.{type_of, width_of, Value, IsOfType, IsValue, whole, State, Outcome, Ends, Traps, Stuck, then_run, above}
+use Rattle.peephole_machine.specs.Values.{type_of, width_of, Value, IsOfType, IsValue, whole, Cause, State, Outcome, Ends, Traps, Stuck, then_run, above, Context}
 use Rattle.peephole_machine.specs.Integer.{IntegerOperator, binary, add, sub, mul, or_, xor_, shl}
 use Rattle.peephole_machine.specs.IntegerRow.{operation, integer_row, bare_row}
 use Rattle.peephole_machine.specs.Machine.{given, act}
+use Rattle.peephole_machine.specs.Agreement.{EndsTyped}
 use Rattle.peephole_terms.specs.Expansion.{draws_of}
 use Rattle.peephole_terms.specs.Typing.{types_of, types_in}
 use Rattle.peephole_terms.specs.Meaning.{meaning_of, meaning}
-use Rattle.peephole_terms.specs.Agrees.{Agree, EndsTyped, LeavesItsTypes, IsCongruence}
+use Rattle.peephole_terms.specs.Agrees.{Agree, LeavesItsTypes, IsCongruence}
 use Rattle.peephole_rules.specs.Laws.{AgreeOfType}
 use Rattle.peephole_rules.specs.Rewriting.{add_zero, sub_zero, mul_one, or_zero, xor_zero, shift_by_zero}
 use Rattle.peephole_rules.proofs.OrderLemmas.{operator_bare}
@@ -45,12 +46,12 @@ pub below : (t : IntegerType) (v : Value) → v.type ≡ type_of t → IsValue v
 below integer.I32 v e h = subst (λ (u : PrimitiveTypeInfo). IsOfType u v.number) e h
 below integer.I64 v e h = subst (λ (u : PrimitiveTypeInfo). IsOfType u v.number) e h
 
-module _ (rows : MeanByTheirRows) (sound : LeavesItsTypes) (locals globals : List PrimitiveTypeInfo) where
+module _ (rows : MeanByTheirRows) (sound : LeavesItsTypes) (context : Context) where
   -- a constant's types and meaning
-  pub constant_types : (t : IntegerType) (z : ℤ) → types_of locals globals (term.constant_term t z) ≡ Some (type_of t ∷ [])
+  pub constant_types : (t : IntegerType) (z : ℤ) → types_of context (term.constant_term t z) ≡ Some (type_of t ∷ [])
   unfolding integer_row table row_at
-  constant_types integer.I32 z = rows.types locals globals (term.constant_head integer.I32 z) no_terms _ refl
-  constant_types integer.I64 z = rows.types locals globals (term.constant_head integer.I64 z) no_terms _ refl
+  constant_types integer.I32 z = rows.types context (term.constant_head integer.I32 z) no_terms _ refl
+  constant_types integer.I64 z = rows.types context (term.constant_head integer.I64 z) no_terms _ refl
 
   pub constant_means : (words : List ℕ) (t : IntegerType) (z : ℤ) (s : State) →
       meaning_of words (term.constant_term t z) s ≡ Ends (whole t (cast_unsigned (width_of t) z) ∷ []) s
@@ -71,42 +72,42 @@ module _ (rows : MeanByTheirRows) (sound : LeavesItsTypes) (locals globals : Lis
       go : (o : Outcome) → then_run o (λ vs m. above vs (meaning (drop (length (draws_of x)) words) (term.constant_term t z ▸ no_terms) m))
           ≡ then_run o (λ vs m. Ends (vs ++ whole t (cast_unsigned (width_of t) z) ∷ []) m)
       go (Ends vs m) = ap (above vs) (last (drop (length (draws_of x)) words) m)
-      go (Traps gs) = refl
+      go (Traps c gs _) = refl
       go Stuck = refl
 
   -- the operator of a head, on an operand and the constant
   pub neutral_agree : {byte : ℕ} {h : Head} (r : HasRow h byte) (t : IntegerType) (f : IntegerOperator) (z : ℤ) (x : Term Head) →
       integer_row r.instr ≡ operation f → LeavesFirst t f (cast_unsigned (width_of t) z % 2 ^ bits (width_of t)) →
-      types_of locals globals x ≡ Some (type_of t ∷ []) → (words : List ℕ) →
-      Agree locals globals words words x (term.two h x (term.constant_term t z))
+      types_of context x ≡ Some (type_of t ∷ []) → (words : List ℕ) →
+      Agree context words words x (term.two h x (term.constant_term t z))
   neutral_agree {h = h} r t f z x is l typed words =
       let c = term.constant_term t z in
       let kids = x ▸ c ▸ no_terms in
-      let both : types_in locals globals kids ≡ Some (type_of t ∷ type_of t ∷ []) = rw (typed, constant_types t z) refl in
-      let second : types_of locals globals (node h kids) ≡ Some (type_of t ∷ []) =
-      rows.types locals globals h kids r.instr r.instr_is ∙ (rw (both, is) (operator_types locals globals (type_of t) f l.operands)
+      let both : types_in context kids ≡ Some (type_of t ∷ type_of t ∷ []) = rw (typed, constant_types t z) refl in
+      let second : types_of context (node h kids) ≡ Some (type_of t ∷ []) =
+      rows.types context h kids r.instr r.instr_is ∙ (rw (both, is) (operator_types context (type_of t) f l.operands)
       ∙ ap (λ u. Some (type_of u ∷ [])) l.result) in
-      agree_equal rows sound locals globals (type_of t ∷ []) words words x (node h kids) typed second
+      agree_equal rows sound context (type_of t ∷ []) words words x (node h kids) typed second
       (λ s hs. sym (rows.means words h kids r.instr s r.instr_is ∙ (ap (λ row. then_run (meaning words kids s) (act row)) is
       ∙ (ap (λ o. then_run o (act (operation f))) (before_constant words t z x s (meaning_of words x s) refl)
-      ∙ leaves (meaning_of words x s) (sound locals globals (type_of t ∷ []) words x s typed hs)))))
+      ∙ leaves (meaning_of words x s) (sound context (type_of t ∷ []) words x s typed hs)))))
     where
-      given_again : (v : Value) (m : State) (o : Option ℕ) (j : ℕ) → o ≡ Some j → v.type ≡ type_of t → j % 2 ^ bits (width_of t) ≡ v.number →
-          given f.result o m ≡ Ends (v ∷ []) m
-      given_again v m o j a b c = rw (a, l.result, again t v j b c) refl
+      given_again : (cause : Cause) (v : Value) (m : State) (o : Option ℕ) (j : ℕ) → o ≡ Some j → v.type ≡ type_of t → j % 2 ^ bits (width_of t) ≡ v.number →
+          given f.result o cause m ≡ Ends (v ∷ []) m
+      given_again cause v m o j a b c = rw (a, l.result, again t v j b c) refl
 
       one : (v : Value) (m : State) → v.type ≡ type_of t → IsValue v → act (operation f) (v ∷ whole t (cast_unsigned (width_of t) z) ∷ []) m ≡ Ends (v ∷ []) m
       one v m a b =
           let (j, c, d) = l.value v.number (below t v a b) in
           act_two (type_of t) f v (whole t (cast_unsigned (width_of t) z)) m l.operands a refl
-          ∙ given_again v m (f.value (v.number ∷ (cast_unsigned (width_of t) z % 2 ^ bits (width_of t)) ∷ [])) j c a d
+          ∙ given_again _ v m (f.value (v.number ∷ (cast_unsigned (width_of t) z % 2 ^ bits (width_of t)) ∷ [])) j c a d
 
-      leaves : (o : Outcome) → EndsTyped locals globals (type_of t ∷ []) o →
+      leaves : (o : Outcome) → EndsTyped context (type_of t ∷ []) o →
           then_run (then_run o (λ vs m. Ends (vs ++ whole t (cast_unsigned (width_of t) z) ∷ []) m)) (act (operation f)) ≡ o
       leaves (Ends [] m) a = absurd cc
       leaves (Ends (v ∷ []) m) a = one v m (cc) (All-head IsValue v [] a.1)
       leaves (Ends (v ∷ u ∷ vs) m) a = absurd cc
-      leaves (Traps gs) a = refl
+      leaves (Traps c gs _) a = refl
       leaves Stuck a = refl
 
 -- ---- the operators
@@ -145,12 +146,12 @@ shl_leaves integer.I64 =
 module _ (rows : MeanByTheirRows) (sound : LeavesItsTypes) (laws : IsCongruence) where
   -- with an operator that is written by its opcode
   pub written_agrees : (t : IntegerType) (byte : ℕ) (z : ℤ) (f : IntegerOperator) (x : Term Head) → opcode_byte (operator byte) ≡ Some byte →
-      bare_row byte ≡ operation f → LeavesFirst t f (cast_unsigned (width_of t) z % 2 ^ bits (width_of t)) →
+      bare_row byte ≡ Some (operation f) → LeavesFirst t f (cast_unsigned (width_of t) z % 2 ^ bits (width_of t)) →
       AgreeOfType t x (term.two (operator byte) x (term.constant_term t z))
-  written_agrees t byte z f x is row l locals globals typed d us vs =
-      laws.transitive locals globals us vs vs x x (term.two (operator byte) x (term.constant_term t z))
-      (laws.wordless locals globals (type_of t ∷ []) us vs x d typed)
-      (neutral_agree rows sound locals globals (row_of (operator byte) byte is) t f z x (operator_bare byte is ∙ row) l typed vs)
+  written_agrees t byte z f x is row l context typed d us vs =
+      laws.transitive context us vs vs x x (term.two (operator byte) x (term.constant_term t z))
+      (laws.wordless context (type_of t ∷ []) us vs x d typed)
+      (neutral_agree rows sound context (row_of (operator byte) byte is) t f z x (operator_bare byte (operation f) is row) l typed vs)
 
   pub add_zero_keeps : (t : IntegerType) (x : Term Head) → AgreeOfType t x (add_zero t x)
   unfolding table row_at

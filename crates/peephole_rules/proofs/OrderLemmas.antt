@@ -1,6 +1,6 @@
 -- Operands in another order.
 use Rattle.std.proofs.Common.{◌≡◌, ℕ, ◌+◌, Bool, true, false, List, [], ◌∷◌, Option, Some, None, inl, inr, refl, sym, ap, ◌∙◌, subst}
-use Rattle.std.specs.Prelude.{◌-◌, ◌==◌, ◌⊎◌, ◌≢◌, ◌&&◌, not, nat_lt, if◌then◌else◌, option_and_then}
+use Rattle.std.specs.Prelude.{◌-◌, ◌==◌, ◌⊎◌, ◌≢◌, ◌&&◌, not, nat_lt, if◌then◌else◌, option_and_then, is_some}
 use Rattle.std.proofs.Math.Nat.{add_comm, mul_comm}
 use Rattle.std.proofs.lemmas.Nat.{and_comm, or_comm, xor_comm}
 use Rattle.std.proofs.lemmas.Bool.{and_parts, false≢true}
@@ -14,18 +14,18 @@ use Rattle.peephole_lang.specs.Node.{instr_of_head}
 use Rattle.peephole_lang.specs.Term.{Term, Terms, absent, node, no_terms, ◌▸◌}
 use Rattle.peephole_machine.specs.declared.integer.IntegerType.{IntegerType}
 use Rattle.peephole_machine.specs.declared.integer.IntegerType.TheVariants as integer
-use Rattle.peephole_machine.specs.Values.{type_of, width_of}
+use Rattle.peephole_machine.specs.Values.{type_of, width_of, Context}
 use Rattle.peephole_machine.specs.Integer.{IntegerOperator, Comparison, holds, binary, compare, add, mul, and_, or_, xor_, eq, ne, lt_s, lt_u, gt_s, gt_u, le_s, le_u, ge_s, ge_u}
-use Rattle.peephole_machine.specs.IntegerRow.{operation, row_types, integer_row, byte_row, bare_row}
+use Rattle.peephole_machine.specs.IntegerRow.{IntegerRow, operation, row_types, row_or_other, integer_row, byte_row, bare_row}
 use Rattle.peephole_machine.specs.RowLemmas.{and_then_some}
 use Rattle.peephole_terms.specs.Typing.{types_of, types_in}
 use Rattle.peephole_terms.specs.Agrees.{Agree, LeavesItsTypes}
 use Rattle.peephole_terms.specs.Laws.{MeanByTheirRows}
 use Rattle.peephole_rules.specs.Operator.{opcode_byte, is_in, is_among, commutative, less, greater, turned, has_one_value, operator, two}
-use Rattle.peephole_rules.specs.Effects.{writes}
+use Rattle.peephole_rules.specs.Effects.{writes, may_trap}
 use Rattle.peephole_rules.specs.Rewriting.{answer_if, undisturbed, commute, turn_comparison}
 use Rattle.peephole_rules.specs.Laws.{KeepsMeaning}
-use Rattle.peephole_rules.proofs.ByteLemmas.{AllOf, each, bare, with_immediate}
+use Rattle.peephole_rules.proofs.ByteLemmas.{AllOf, each, row_is, typed_bare, with_immediate}
 use Rattle.peephole_rules.proofs.RowLemmas.{HasRow, row_of}
 use Rattle.peephole_rules.proofs.SwapLemmas.{Swap, swapped_agree}
 
@@ -39,19 +39,28 @@ pub is_not : (b : Bool) → not b ≡ true → b ≡ false
 is_not true e = absurd (false≢true e)
 is_not false e = refl
 
--- both leave one value and write nothing
+-- both leave one value and write nothing, and at most one may trap
 pub record AreUndisturbed (x y : Term Head) : Type 0 where
   pub first : has_one_value x ≡ true
   pub second : has_one_value y ≡ true
   pub first_writes : writes x ≡ false
   pub second_writes : writes y ≡ false
+  pub one_traps : (may_trap x && may_trap y) ≡ false
 
 pub undisturbed_parts : (x y : Term Head) → undisturbed x y ≡ true → AreUndisturbed x y
 undisturbed_parts x y e =
-    let p = and_parts (has_one_value x && has_one_value y) (not (writes x) && not (writes y)) e in
+    let write = not (writes x) && not (writes y) in
+    let p = and_parts (has_one_value x && has_one_value y) (write && not (may_trap x && may_trap y)) e in
     let q = and_parts (has_one_value x) (has_one_value y) p.0 in
-    let r = and_parts (not (writes x)) (not (writes y)) p.1 in
-    record { first = q.0; second = q.1; first_writes = is_not (writes x) r.0; second_writes = is_not (writes y) r.1 }
+    let t = and_parts write (not (may_trap x && may_trap y)) p.1 in
+    let r = and_parts (not (writes x)) (not (writes y)) t.0 in
+    record {
+      first = q.0;
+      second = q.1;
+      first_writes = is_not (writes x) r.0;
+      second_writes = is_not (writes y) r.1;
+      one_traps = is_not (may_trap x && may_trap y) t.1;
+    }
 
 -- ---- operators that a rule writes
 
@@ -62,36 +71,54 @@ imm_of_operator byte i e = go (nat_lt (operator byte).place 12) e
     go true k = absurd cc
     go false k = cc
 
-pub operator_bare : (byte : ℕ) (e : opcode_byte (operator byte) ≡ Some byte) → integer_row (row_of (operator byte) byte e).instr ≡ bare_row byte
-operator_bare byte e =
+pub operator_bare : (byte : ℕ) (row : IntegerRow) (e : opcode_byte (operator byte) ≡ Some byte) → bare_row byte ≡ Some row →
+    integer_row (row_of (operator byte) byte e).instr ≡ row
+operator_bare byte row e is =
     let r = row_of (operator byte) byte e in
-    r.row_is ∙ ap (byte_row byte) (imm_of_operator byte r.instr r.instr_is)
+    row_is r.instr byte r.opcode_is ∙
+    ap (row_or_other r.instr) (ap (byte_row byte) (imm_of_operator byte r.instr r.instr_is) ∙ is)
 
 -- ---- a rule of two operands
 
 module _ (rows : MeanByTheirRows) (sound : LeavesItsTypes) where
   -- the own row of a typed node whose opcode has no immediate
-  pub own_bare : (locals globals list : List PrimitiveTypeInfo) (h : Head) (kids : Terms Head) (byte : ℕ) (r : HasRow h byte) →
-      is_in with_immediate byte ≡ false → types_of locals globals (node h kids) ≡ Some list → integer_row r.instr ≡ bare_row byte
-  own_bare locals globals list h kids byte r none e =
-      let (us, a, b) = and_then_some (row_types locals globals (integer_row r.instr)) (types_in locals globals kids) list
-      (sym (rows.types locals globals h kids r.instr r.instr_is) ∙ e) in
-      r.row_is ∙ bare locals globals us list byte r.instr.imm none (subst (λ row. row_types locals globals row us ≡ Some list) r.row_is b)
+  pub own_bare : (context : Context) (list : List PrimitiveTypeInfo) (h : Head) (kids : Terms Head) (byte : ℕ) (r : HasRow h byte) →
+      (row : IntegerRow) → is_in with_immediate byte ≡ false → bare_row byte ≡ Some row → types_of context (node h kids) ≡ Some list →
+      integer_row r.instr ≡ row
+  own_bare context list h kids byte r row none is e =
+      let (us, a, b) = and_then_some (row_types context (integer_row r.instr)) (types_in context kids) list
+      (sym (rows.types context h kids r.instr r.instr_is) ∙ e) in
+      typed_bare context us list r.instr byte row r.opcode_is none is b
 
   -- ---- commute
 
   -- an operator whose operands may change places
   record Commutes (byte : ℕ) : Type 0 where
     type : IntegerType
+    operator : IntegerOperator
     none : is_in with_immediate byte ≡ false
-    swap : Swap type (bare_row byte) (bare_row byte)
+    row : bare_row byte ≡ Some (operation operator)
+    swap : Swap type (operation operator) (operation operator)
 
-  commutes : (byte : ℕ) (t : IntegerType) (f : IntegerOperator) → is_in with_immediate byte ≡ false → bare_row byte ≡ operation f →
-      f.operands ≡ type_of t ∷ type_of t ∷ [] → ((a b : ℕ) → f.value (a ∷ b ∷ []) ≡ f.value (b ∷ a ∷ [])) → Commutes byte
-  commutes byte t f none is o v = record {
+  commutes : (byte : ℕ) (t : IntegerType) (f : IntegerOperator) → is_in with_immediate byte ≡ false → bare_row byte ≡ Some (operation f) →
+      f.operands ≡ type_of t ∷ type_of t ∷ [] → ((a b : ℕ) → is_some (f.value (a ∷ b ∷ [])) ≡ true) →
+      ((a b : ℕ) → f.value (a ∷ b ∷ []) ≡ f.value (b ∷ a ∷ [])) → Commutes byte
+  commutes byte t f none is o some v = record {
     type = t;
+    operator = f;
     none = none;
-    swap = record { one = f; two = f; one_is = is; two_is = is; one_operands = o; two_operands = o; results = refl; values = v };
+    row = is;
+    swap = record {
+      one = f;
+      two = f;
+      one_is = refl;
+      two_is = refl;
+      one_operands = o;
+      two_operands = o;
+      results = refl;
+      values = v;
+      total = some;
+    };
   }
 
   eq_comm : (a b : ℕ) → (a == b) ≡ (b == a)
@@ -105,33 +132,33 @@ module _ (rows : MeanByTheirRows) (sound : LeavesItsTypes) where
 
   all_commute : AllOf Commutes commutative
   all_commute = (
-    commutes 0x46 integer.I32 (compare integer.I32 eq) refl refl refl (λ a b. ap (λ c. Some (if c then 1 else 0)) (eq_comm a b)),
+    commutes 0x46 integer.I32 (compare integer.I32 eq) refl refl refl (λ a b. refl) (λ a b. ap (λ c. Some (if c then 1 else 0)) (eq_comm a b)),
     (
-      commutes 0x47 integer.I32 (compare integer.I32 ne) refl refl refl (λ a b. ap (λ c. Some (if not c then 1 else 0)) (eq_comm a b)),
+      commutes 0x47 integer.I32 (compare integer.I32 ne) refl refl refl (λ a b. refl) (λ a b. ap (λ c. Some (if not c then 1 else 0)) (eq_comm a b)),
       (
-        commutes 0x51 integer.I64 (compare integer.I64 eq) refl refl refl (λ a b. ap (λ c. Some (if c then 1 else 0)) (eq_comm a b)),
+        commutes 0x51 integer.I64 (compare integer.I64 eq) refl refl refl (λ a b. refl) (λ a b. ap (λ c. Some (if c then 1 else 0)) (eq_comm a b)),
         (
-          commutes 0x52 integer.I64 (compare integer.I64 ne) refl refl refl (λ a b. ap (λ c. Some (if not c then 1 else 0)) (eq_comm a b)),
+          commutes 0x52 integer.I64 (compare integer.I64 ne) refl refl refl (λ a b. refl) (λ a b. ap (λ c. Some (if not c then 1 else 0)) (eq_comm a b)),
           (
-            commutes 0x6a integer.I32 (binary integer.I32 add) refl refl refl (λ a b. ap Some (add_comm a b)),
+            commutes 0x6a integer.I32 (binary integer.I32 add) refl refl refl (λ a b. refl) (λ a b. ap Some (add_comm a b)),
             (
-              commutes 0x6c integer.I32 (binary integer.I32 mul) refl refl refl (λ a b. ap Some (mul_comm a b)),
+              commutes 0x6c integer.I32 (binary integer.I32 mul) refl refl refl (λ a b. refl) (λ a b. ap Some (mul_comm a b)),
               (
-                commutes 0x71 integer.I32 (binary integer.I32 and_) refl refl refl (λ a b. ap Some (and_comm a b)),
+                commutes 0x71 integer.I32 (binary integer.I32 and_) refl refl refl (λ a b. refl) (λ a b. ap Some (and_comm a b)),
                 (
-                  commutes 0x72 integer.I32 (binary integer.I32 or_) refl refl refl (λ a b. ap Some (or_comm a b)),
+                  commutes 0x72 integer.I32 (binary integer.I32 or_) refl refl refl (λ a b. refl) (λ a b. ap Some (or_comm a b)),
                   (
-                    commutes 0x73 integer.I32 (binary integer.I32 xor_) refl refl refl (λ a b. ap Some (xor_comm a b)),
+                    commutes 0x73 integer.I32 (binary integer.I32 xor_) refl refl refl (λ a b. refl) (λ a b. ap Some (xor_comm a b)),
                     (
-                      commutes 0x7c integer.I64 (binary integer.I64 add) refl refl refl (λ a b. ap Some (add_comm a b)),
+                      commutes 0x7c integer.I64 (binary integer.I64 add) refl refl refl (λ a b. refl) (λ a b. ap Some (add_comm a b)),
                       (
-                        commutes 0x7e integer.I64 (binary integer.I64 mul) refl refl refl (λ a b. ap Some (mul_comm a b)),
+                        commutes 0x7e integer.I64 (binary integer.I64 mul) refl refl refl (λ a b. refl) (λ a b. ap Some (mul_comm a b)),
                         (
-                          commutes 0x83 integer.I64 (binary integer.I64 and_) refl refl refl (λ a b. ap Some (and_comm a b)),
+                          commutes 0x83 integer.I64 (binary integer.I64 and_) refl refl refl (λ a b. refl) (λ a b. ap Some (and_comm a b)),
                           (
-                            commutes 0x84 integer.I64 (binary integer.I64 or_) refl refl refl (λ a b. ap Some (or_comm a b)),
+                            commutes 0x84 integer.I64 (binary integer.I64 or_) refl refl refl (λ a b. refl) (λ a b. ap Some (or_comm a b)),
                             (
-                              commutes 0x85 integer.I64 (binary integer.I64 xor_) refl refl refl (λ a b. ap Some (xor_comm a b)),
+                              commutes 0x85 integer.I64 (binary integer.I64 xor_) refl refl refl (λ a b. refl) (λ a b. ap Some (xor_comm a b)),
                               tt,
                             ),
                           ),
@@ -153,21 +180,21 @@ module _ (rows : MeanByTheirRows) (sound : LeavesItsTypes) where
   byte_in bytes None e = absurd (false≢true e)
 
   pub commute_keeps : KeepsMeaning commute
-  commute_keeps (node h (x ▸ y ▸ no_terms)) u e locals globals list typed d us vs =
+  commute_keeps (node h (x ▸ y ▸ no_terms)) u e context list typed d us vs =
       let (c, made) = some_answer_if (is_among commutative (opcode_byte h) && undisturbed x y) (two h y x) u e in
       let p = and_parts (is_among commutative (opcode_byte h)) (undisturbed x y) c in
       let o = undisturbed_parts x y p.1 in
       let (byte, is, among) = byte_in commutative (opcode_byte h) p.0 in
       let k = each Commutes commutative all_commute byte among in
       let r = row_of h byte is in
-      let row = own_bare locals globals list h (x ▸ y ▸ no_terms) byte r k.none typed in
-      subst (Agree locals globals us vs (node h (x ▸ y ▸ no_terms))) made
-      (swapped_agree rows sound locals globals r r k.type (subst (λ q. Swap k.type q q) (sym row) k.swap) x y o.first o.second
-      o.first_writes o.second_writes list typed us vs)
-  commute_keeps absent u e locals globals list typed d us vs = absurd cc
-  commute_keeps (node h no_terms) u e locals globals list typed d us vs = absurd cc
-  commute_keeps (node h (x ▸ no_terms)) u e locals globals list typed d us vs = absurd cc
-  commute_keeps (node h (x ▸ y ▸ z ▸ zs)) u e locals globals list typed d us vs = absurd cc
+      let row = own_bare context list h (x ▸ y ▸ no_terms) byte r (operation k.operator) k.none k.row typed in
+      subst (Agree context us vs (node h (x ▸ y ▸ no_terms))) made
+      (swapped_agree rows sound context r r k.type (subst (λ q. Swap k.type q q) (sym row) k.swap) x y o.first o.second
+      o.first_writes o.second_writes o.one_traps list typed us vs)
+  commute_keeps absent u e context list typed d us vs = absurd cc
+  commute_keeps (node h no_terms) u e context list typed d us vs = absurd cc
+  commute_keeps (node h (x ▸ no_terms)) u e context list typed d us vs = absurd cc
+  commute_keeps (node h (x ▸ y ▸ z ▸ zs)) u e context list typed d us vs = absurd cc
 
   -- ---- turn_comparison
 
@@ -178,10 +205,14 @@ module _ (rows : MeanByTheirRows) (sound : LeavesItsTypes) where
     other_is : turned byte ≡ Some other
     none : is_in with_immediate byte ≡ false
     written : opcode_byte (operator other) ≡ Some other
-    swap : Swap type (bare_row byte) (bare_row other)
+    before : IntegerOperator
+    after : IntegerOperator
+    row : bare_row byte ≡ Some (operation before)
+    other_row : bare_row other ≡ Some (operation after)
+    swap : Swap type (operation before) (operation after)
 
   turns : (byte other : ℕ) (t : IntegerType) (c d : Comparison) → turned byte ≡ Some other → is_in with_immediate byte ≡ false →
-      opcode_byte (operator other) ≡ Some other → bare_row byte ≡ operation (compare t c) → bare_row other ≡ operation (compare t d) →
+      opcode_byte (operator other) ≡ Some other → bare_row byte ≡ Some (operation (compare t c)) → bare_row other ≡ Some (operation (compare t d)) →
       ((a b : ℕ) → holds (width_of t) c a b ≡ holds (width_of t) d b a) → Turns byte
   turns byte other t c d to none written is other_is v = record {
     type = t;
@@ -189,15 +220,20 @@ module _ (rows : MeanByTheirRows) (sound : LeavesItsTypes) where
     other_is = to;
     none = none;
     written = written;
+    before = compare t c;
+    after = compare t d;
+    row = is;
+    other_row = other_is;
     swap = record {
       one = compare t c;
       two = compare t d;
-      one_is = is;
-      two_is = other_is;
+      one_is = refl;
+      two_is = refl;
       one_operands = refl;
       two_operands = refl;
       results = refl;
       values = λ a b. ap (λ h. Some (if h then 1 else 0)) (v a b);
+      total = λ a b. refl;
     };
   }
 
@@ -267,7 +303,7 @@ module _ (rows : MeanByTheirRows) (sound : LeavesItsTypes) where
       go false false a b f = absurd cc
 
   pub turn_comparison_keeps : KeepsMeaning turn_comparison
-  turn_comparison_keeps (node h (x ▸ y ▸ no_terms)) u e locals globals list typed d us vs =
+  turn_comparison_keeps (node h (x ▸ y ▸ no_terms)) u e context list typed d us vs =
       let (other, a, b) = and_then_some (λ other. answer_if (undisturbed x y) (two (operator other) y x)) (option_and_then turned (opcode_byte h)) u e in
       let (byte, is, to) = and_then_some turned (opcode_byte h) other a in
       let (c, made) = some_answer_if (undisturbed x y) (two (operator other) y x) u b in
@@ -275,16 +311,17 @@ module _ (rows : MeanByTheirRows) (sound : LeavesItsTypes) where
       let k = turn_of byte other to in
       let same : k.other ≡ other = some_is (sym k.other_is ∙ to) in
       let r = row_of h byte is in
-      let row = own_bare locals globals list h (x ▸ y ▸ no_terms) byte r k.none typed in
+      let row = own_bare context list h (x ▸ y ▸ no_terms) byte r (operation k.before) k.none k.row typed in
       let q = row_of (operator k.other) k.other k.written in
-      subst (Agree locals globals us vs (node h (x ▸ y ▸ no_terms))) (ap (λ n. two (operator n) y x) same ∙ made)
-      (swapped_agree rows sound locals globals r q k.type
-      (subst (λ v. Swap k.type v (integer_row q.instr)) (sym row) (subst (λ v. Swap k.type (bare_row byte) v) (sym (operator_bare k.other k.written)) k.swap))
-      x y o.first o.second o.first_writes o.second_writes list typed us vs)
+      subst (Agree context us vs (node h (x ▸ y ▸ no_terms))) (ap (λ n. two (operator n) y x) same ∙ made)
+      (swapped_agree rows sound context r q k.type
+      (subst (λ v. Swap k.type v (integer_row q.instr)) (sym row)
+      (subst (λ v. Swap k.type (operation k.before) v) (sym (operator_bare k.other (operation k.after) k.written k.other_row)) k.swap))
+      x y o.first o.second o.first_writes o.second_writes o.one_traps list typed us vs)
     where
       some_is : {n m : ℕ} → Some n ≡ Some m → n ≡ m
       some_is e = cc
-  turn_comparison_keeps absent u e locals globals list typed d us vs = absurd cc
-  turn_comparison_keeps (node h no_terms) u e locals globals list typed d us vs = absurd cc
-  turn_comparison_keeps (node h (x ▸ no_terms)) u e locals globals list typed d us vs = absurd cc
-  turn_comparison_keeps (node h (x ▸ y ▸ z ▸ zs)) u e locals globals list typed d us vs = absurd cc
+  turn_comparison_keeps absent u e context list typed d us vs = absurd cc
+  turn_comparison_keeps (node h no_terms) u e context list typed d us vs = absurd cc
+  turn_comparison_keeps (node h (x ▸ no_terms)) u e context list typed d us vs = absurd cc
+  turn_comparison_keeps (node h (x ▸ y ▸ z ▸ zs)) u e context list typed d us vs = absurd cc

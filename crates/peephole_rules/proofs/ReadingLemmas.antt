@@ -1,24 +1,29 @@
 -- What is read of a node is what its term says.
 use Rattle.std.proofs.Common.{◌≡◌, ℕ, ◌<◌, ◌≤◌, Bool, List, [], ◌∷◌, length, get_or, Option, Some, None, refl, sym, ap, ap₂, ◌∙◌, subst, arith}
-use Rattle.std.specs.Prelude.{◌≢◌, option_and_then}
+use Rattle.std.specs.Prelude.{◌==◌, ◌≢◌, false, option_and_then}
+use Rattle.std.proofs.lemmas.Bool.{true≢false}
 use Rattle.std.specs.List.{All}
 use Rattle.mutate_base.specs.declared.types.PrimitiveTypeInfo.{PrimitiveTypeInfo}
 use Rattle.peephole_nodes.specs.declared.id.Id.{Id}
 use Rattle.peephole_lang.specs.declared.lang.Head.{Head}
 use Rattle.peephole_lang.specs.declared.lang.Lang.{Lang}
-use Rattle.peephole_lang.specs.Lang.{place_of, payload_of, ids_of}
-use Rattle.peephole_lang.specs.Node.{head_of, children_of, instr_of}
-use Rattle.peephole_lang.specs.Term.{Term, node, AreBelow, pick, numbers_of}
+use Rattle.peephole_lang.specs.Lang.{ids_of}
+use Rattle.peephole_lang.specs.Node.{head_of, children_of, instr_of_head}
+use Rattle.peephole_lang.specs.Term.{Term, node, ◌▸◌, AreBelow, pick, numbers_of}
 use Rattle.peephole_lang.specs.laws.PlaceLemmas.{tree_is, at_place, children_in}
 use Rattle.peephole_machine.specs.declared.integer.IntegerType.{IntegerType}
+use Rattle.peephole_machine.specs.Row.{list_of}
+use Rattle.peephole_machine.specs.Values.{Context}
 use Rattle.peephole_machine.specs.declared.integer.IntegerType.TheVariants as integer
 use Rattle.peephole_rules.specs.declared.shape.Operand.{Operand}
 use Rattle.peephole_rules.specs.declared.shape.Operands.{Operands}
 use Rattle.peephole_rules.specs.declared.shape.Operands.TheVariants.{Leaf, One, Two, Three, More}
-use Rattle.peephole_rules.specs.Operator.{opcode_byte, is_value, has_one_value, number_in, constant_number}
-use Rattle.peephole_rules.specs.Effects.{writes, may_trap}
-use Rattle.peephole_rules.specs.ValueTypes.{instruction_value, type_of_value}
+use Rattle.peephole_rules.specs.Operator.{opcode_byte, is_value, has_one_value, constant_number}
+use Rattle.peephole_rules.specs.Effects.{writes, may_trap, asks}
+use Rattle.peephole_rules.specs.ValueTypes.{integer_of, head_type, first_types, type_of_value}
 use Rattle.peephole_rules.specs.Grafted.{expression_nodes, term_at, term_over}
+use Rattle.peephole_rules.proofs.StandingLemmas.{past_end}
+use Rattle.peephole_rules.proofs.FlagLemmas.{count_of}
 use Rattle.peephole_rules.specs.Shape.{values_in, operand_of, operands_in, operands_of, shape_of}
 
 pub root_at : (nodes : List Lang) (at : ℕ) (l : Lang) → at < length nodes → l ≡ get_or nodes at l → AreBelow (expression_nodes nodes) →
@@ -33,12 +38,39 @@ children_inside nodes at l inside is below =
 
 -- whether a node leaves one value
 pub value_of : (nodes : List Lang) (at : ℕ) (l : Lang) (b : Bool) → at < length nodes → l ≡ get_or nodes at l → AreBelow (expression_nodes nodes) →
-    b ≡ is_value (opcode_byte (head_of l)) → b ≡ has_one_value (term_at nodes at)
+    b ≡ is_value (instr_of_head (head_of l)) → b ≡ has_one_value (term_at nodes at)
 value_of nodes at l b inside is below e = e ∙ ap has_one_value (sym (root_at nodes at l inside is below))
 
-pub value_told : (locals globals : List PrimitiveTypeInfo) (nodes : List Lang) (at : ℕ) (l : Lang) → at < length nodes → l ≡ get_or nodes at l →
-    AreBelow (expression_nodes nodes) → option_and_then (instruction_value locals globals) (instr_of l) ≡ type_of_value locals globals (term_at nodes at)
-value_told locals globals nodes at l inside is below = ap (type_of_value locals globals) (sym (root_at nodes at l inside is below))
+pub has_children : (ids : List Id) (empty : Bool) → empty ≡ (length ids == 0) → empty ≡ false → 0 < length ids
+has_children [] empty e f = absurd (true≢false (sym e ∙ f))
+has_children (x ∷ ids) empty e f = omega arith
+
+pub first_told : (context : Context) (nodes : List Lang) (l child : Lang) (ids : List Id) (d : Id) (t : Option PrimitiveTypeInfo) →
+    AreBelow (expression_nodes nodes) → ids ≡ ids_of l → 0 < length ids → (get_or ids 0 d).0 < length nodes →
+    child ≡ get_or nodes (get_or ids 0 d).0 child → t ≡ head_type context [] (head_of child) →
+    list_of t ≡ first_types context (pick (term_at nodes) (children_of l))
+first_told context nodes l child ids d t below same some inside is told =
+    ap list_of told ∙ (go ids some is inside ∙ ap (λ (x : List Id). first_types context (pick (term_at nodes) (numbers_of x))) same)
+  where
+    go : (ids : List Id) → 0 < length ids → child ≡ get_or nodes (get_or ids 0 d).0 child → (get_or ids 0 d).0 < length nodes →
+        list_of (head_type context [] (head_of child)) ≡ first_types context (pick (term_at nodes) (numbers_of ids))
+    go [] l is inside = absurd (omega arith)
+    go (x ∷ ids) l is inside =
+        ap (λ (y : Term Head). first_types context (y ▸ pick (term_at nodes) (numbers_of ids))) (sym (root_at nodes x.0 child inside is below))
+
+pub value_told : (context : Context) (lent nodes : List Lang) (at : ℕ) (l : Lang) (first t : Option PrimitiveTypeInfo) → lent ≡ nodes →
+    at < length lent → l ≡ get_or lent at l → AreBelow (expression_nodes nodes) →
+    list_of first ≡ first_types context (pick (term_at lent) (children_of l)) → t ≡ head_type context (list_of first) (head_of l) →
+    option_and_then integer_of t ≡ type_of_value context (term_at nodes at)
+value_told context lent nodes at l first t same inside is below known told =
+    let held = subst (λ (x : List Lang). AreBelow (expression_nodes x)) (sym same) below in
+    ap (option_and_then integer_of) (told ∙ ap (λ (x : List PrimitiveTypeInfo). head_type context x (head_of l)) known)
+    ∙ (ap (type_of_value context) (sym (root_at lent at l inside is held)) ∙ ap (λ (x : List Lang). type_of_value context (term_at x at)) same)
+
+pub no_value : (context : Context) (lent nodes : List Lang) (at : ℕ) → lent ≡ nodes → length lent ≤ at → None ≡ type_of_value context (term_at nodes at)
+no_value context lent nodes at same l =
+    ap (type_of_value context) (sym (past_end (expression_nodes lent) at (omega (arith, count_of lent, l))))
+    ∙ ap (λ (x : List Lang). type_of_value context (term_at x at)) same
 
 -- ---- children
 
@@ -54,12 +86,13 @@ module _ (f : ℕ → Term Head) where
 
 pub operand_told : (nodes : List Lang) (at : ℕ) (l : Lang) (o : Operand) → at < length nodes → l ≡ get_or nodes at l →
     AreBelow (expression_nodes nodes) → o.opcode ≡ opcode_byte (head_of l) → o.i32_number ≡ constant_number integer.I32 (term_over (term_at nodes) l) →
-    o.i64_number ≡ constant_number integer.I64 (term_over (term_at nodes) l) → o.one_value ≡ is_value (opcode_byte (head_of l)) →
-    o.writes ≡ writes (term_at nodes at) → o.may_trap ≡ may_trap (term_at nodes at) → o.values ≡ values_in (pick (term_at nodes) (children_of l)) →
+    o.i64_number ≡ constant_number integer.I64 (term_over (term_at nodes) l) → o.one_value ≡ is_value (instr_of_head (head_of l)) →
+    o.writes ≡ writes (term_at nodes at) → o.may_trap ≡ may_trap (term_at nodes at) → o.asks ≡ asks (term_at nodes at) →
+    o.values ≡ values_in (pick (term_at nodes) (children_of l)) →
     o ≡ operand_of (term_at nodes at)
-operand_told nodes at l o inside is below p q r s w t v =
+operand_told nodes at l o inside is below p q r s w t a v =
     let k = root_at nodes at l inside is below in
-    rebuilt o ∙ (rw (p, q, r, s, w, t, v) (rw k refl))
+    rebuilt o ∙ (rw (p, q, r, s, w, t, a, v) (rw k refl))
   where
     rebuilt : (o : Operand) → o ≡ record {
       opcode = o.opcode;
@@ -68,6 +101,7 @@ operand_told nodes at l o inside is below p q r s w t v =
       one_value = o.one_value;
       writes = o.writes;
       may_trap = o.may_trap;
+      asks = o.asks;
       values = o.values;
     }
     rebuilt o = refl
@@ -154,12 +188,10 @@ module _ (nodes : List Lang) (at : ℕ) (l : Lang) (ids : List Id) (inside : at 
 
 -- ---- the whole shape
 
-pub shape_told : (locals globals : List PrimitiveTypeInfo) (lent nodes : List Lang) (at : ℕ) (l : Lang) (t : Option IntegerType) (o : Operand) (os : Operands) →
-    lent ≡ nodes → at < length nodes → l ≡ get_or lent at l → AreBelow (expression_nodes nodes) →
-    t ≡ option_and_then (instruction_value locals globals) (instr_of l) → o ≡ operand_of (term_at lent at) → os ≡ operands_of (term_at lent at) →
-    record { value = t; root = o; operands = os } ≡ shape_of locals globals (term_at nodes at)
-shape_told locals globals lent nodes at l t o os same inside is below p q r =
-    let v = p ∙ value_told locals globals nodes at l inside (is ∙ ap (λ (x : List Lang). get_or x at l) same) below in
+pub shape_told : (context : Context) (lent nodes : List Lang) (at : ℕ) (t : Option IntegerType) (o : Operand) (os : Operands) → lent ≡ nodes →
+    t ≡ type_of_value context (term_at nodes at) → o ≡ operand_of (term_at lent at) → os ≡ operands_of (term_at lent at) →
+    record { value = t; root = o; operands = os } ≡ shape_of context (term_at nodes at)
+shape_told context lent nodes at t o os same p q r =
     let w = q ∙ ap (λ (x : List Lang). operand_of (term_at x at)) same in
     let u = r ∙ ap (λ (x : List Lang). operands_of (term_at x at)) same in
-    rw (v, w, u) refl
+    rw (p, w, u) refl

@@ -1,12 +1,12 @@
 -- What a rule makes of a term may stand for it.
-use Rattle.std.proofs.Common.{◌≡◌, ℕ, ℤ, List, Option, Some, sym, ap, ◌∙◌, subst}
+use Rattle.std.proofs.Common.{◌≡◌, ℕ, ℤ, Option, Some, sym, ap, ◌∙◌, subst}
 use Rattle.std.specs.Prelude.{◌==◌}
 use Rattle.std.proofs.lemmas.Bool.{eqb-true}
-use Rattle.mutate_base.specs.declared.types.PrimitiveTypeInfo.{PrimitiveTypeInfo}
 use Rattle.peephole_nodes.specs.declared.payload.Payload.{Payload}
 use Rattle.peephole_nodes.specs.declared.payload.Payload.TheVariants as payload
 use Rattle.peephole_lang.specs.declared.lang.Head.{Head}
 use Rattle.peephole_lang.specs.Term.{Term, absent, node, no_terms, ◌▸◌}
+use Rattle.peephole_machine.specs.Values.{Context}
 use Rattle.peephole_machine.specs.declared.integer.IntegerType.{IntegerType}
 use Rattle.peephole_machine.specs.declared.integer.IntegerType.TheVariants as integer
 use Rattle.peephole_machine.specs.RowLemmas.{and_then_some, map_some}
@@ -25,24 +25,24 @@ use Rattle.peephole_rules.proofs.TwiceLemmas.{or_self_keeps, and_self_keeps}
 use Rattle.peephole_rules.proofs.GroupLemmas.{associate_left_keeps, associate_right_keeps}
 use Rattle.peephole_rules.proofs.ConstantLemmas.{test_to_comparison_keeps, comparison_to_test_keeps, drop_add_zero_keeps, drop_sub_zero_keeps, drop_mul_one_keeps, drop_or_zero_keeps, drop_xor_zero_keeps, drop_shift_by_zero_keeps, and_ones_keeps, drop_and_ones_keeps, double_complement_keeps, difference_to_sum_keeps, sum_to_difference_keeps, shift_to_product_keeps, product_to_shift_keeps}
 use Rattle.peephole_rules.proofs.SelectLemmas.{turn_select_keeps}
-use Rattle.peephole_rules.proofs.TrapLemmas.{forget_keeps}
+use Rattle.peephole_rules.proofs.ForgetLemmas.{forget_keeps}
 use Rattle.peephole_rules.proofs.FoldLemmas.{fold_keeps}
 use Rattle.peephole_rules.proofs.WayLemmas.{by_way_of_global_keeps, as_a_sum_keeps, with_nop_keeps}
 
 module _ (rows : MeanByTheirRows) (sound : LeavesItsTypes) (laws : IsCongruence) where
   -- a rule of a type, on a term whose type is known
-  of_its_type : (locals globals : List PrimitiveTypeInfo) (f : IntegerType → Term Head → Option (Term Head)) → KeepsMeaningWhereItAnswers f →
-      (x u : Term Head) → by_its_type locals globals f x ≡ Some u → StandsFor locals globals x u
-  of_its_type locals globals f keeps x u e list typed d us vs =
-      let (t, a, b) = and_then_some (λ t. f t x) (type_of_value locals globals x) u e in
-      keeps t x u b locals globals (typed ∙ ap Some (value_typed rows locals globals list x t a typed)) d us vs
+  of_its_type : (context : Context) (f : IntegerType → Term Head → Option (Term Head)) → KeepsMeaningWhereItAnswers f →
+      (x u : Term Head) → by_its_type context f x ≡ Some u → StandsFor context x u
+  of_its_type context f keeps x u e list typed d us vs =
+      let (t, a, b) = and_then_some (λ t. f t x) (type_of_value context x) u e in
+      keeps t x u b context (typed ∙ ap Some (value_typed rows context list x t a typed)) d us vs
 
   always : (f : IntegerType → Term Head → Term Head) → KeepsMeaningOfType f → KeepsMeaningWhereItAnswers (λ t x. Some (f t x))
   always f keeps t x u e = subst (λ y. AgreeOfType t x y) (cc) (keeps t x)
 
-  by_type : (f : IntegerType → Term Head → Term Head) → KeepsMeaningOfType f → (locals globals : List PrimitiveTypeInfo) (x u : Term Head) →
-      by_its_type locals globals (λ t y. Some (f t y)) x ≡ Some u → StandsFor locals globals x u
-  by_type f keeps locals globals x u e = of_its_type locals globals (λ t y. Some (f t y)) (always f keeps) x u e
+  by_type : (f : IntegerType → Term Head → Term Head) → KeepsMeaningOfType f → (context : Context) (x u : Term Head) →
+      by_its_type context (λ t y. Some (f t y)) x ≡ Some u → StandsFor context x u
+  by_type f keeps context x u e = of_its_type context (λ t y. Some (f t y)) (always f keeps) x u e
 
   -- ---- constants
 
@@ -62,53 +62,53 @@ module _ (rows : MeanByTheirRows) (sound : LeavesItsTypes) (laws : IsCongruence)
       )
   known p place t e = absurd cc
 
-  sum_stands : (locals globals : List PrimitiveTypeInfo) (t : IntegerType) (z : ℤ) → StandsFor locals globals (constant_term t z) (as_a_sum t z)
-  sum_stands locals globals t z list typed d us vs =
-      as_a_sum_keeps rows sound laws t z locals globals (constant_types rows sound locals globals t z) d us vs
+  sum_stands : (context : Context) (t : IntegerType) (z : ℤ) → StandsFor context (constant_term t z) (as_a_sum t z)
+  sum_stands context t z list typed d us vs =
+      as_a_sum_keeps rows sound laws t z context (constant_types rows sound context t z) d us vs
 
-  unfold_stands : (locals globals : List PrimitiveTypeInfo) (x u : Term Head) → unfold_constant x ≡ Some u → StandsFor locals globals x u
-  unfold_stands locals globals absent u e = absurd cc
-  unfold_stands locals globals (node h (y ▸ ys)) u e = absurd cc
-  unfold_stands locals globals (node h no_terms) u e =
+  unfold_stands : (context : Context) (x u : Term Head) → unfold_constant x ≡ Some u → StandsFor context x u
+  unfold_stands context absent u e = absurd cc
+  unfold_stands context (node h (y ▸ ys)) u e = absurd cc
+  unfold_stands context (node h no_terms) u e =
       let (t, a, b) = map_some (λ t. one (unfold_head t) (node h no_terms)) (type_of_constant h.payload h.place) u e in
       let (z, c) = known h.payload h.place t a in
-      subst (λ y. StandsFor locals globals (node h no_terms) y) b
-      (subst (λ (k : Head). StandsFor locals globals (node k no_terms) (one (unfold_head t) (node k no_terms))) (sym c) (sum_stands locals globals t z))
+      subst (λ y. StandsFor context (node h no_terms) y) b
+      (subst (λ (k : Head). StandsFor context (node k no_terms) (one (unfold_head t) (node k no_terms))) (sym c) (sum_stands context t z))
 
   -- ---- every rule
 
-  pub rewrite_keeps : (locals globals : List PrimitiveTypeInfo) (r : Rule) (x u : Term Head) → rewrite locals globals r x ≡ Some u →
-      StandsFor locals globals x u
-  rewrite_keeps locals globals rule.Commute x u e = commute_keeps rows sound x u e locals globals
-  rewrite_keeps locals globals rule.TurnComparison x u e = turn_comparison_keeps rows sound x u e locals globals
-  rewrite_keeps locals globals rule.AssociateLeft x u e = associate_left_keeps rows sound laws x u e locals globals
-  rewrite_keeps locals globals rule.AssociateRight x u e = associate_right_keeps rows sound laws x u e locals globals
-  rewrite_keeps locals globals rule.AddZero x u e = by_type add_zero (add_zero_keeps rows sound laws) locals globals x u e
-  rewrite_keeps locals globals rule.SubZero x u e = by_type sub_zero (sub_zero_keeps rows sound laws) locals globals x u e
-  rewrite_keeps locals globals rule.MulOne x u e = by_type mul_one (mul_one_keeps rows sound laws) locals globals x u e
-  rewrite_keeps locals globals rule.OrZero x u e = by_type or_zero (or_zero_keeps rows sound laws) locals globals x u e
-  rewrite_keeps locals globals rule.XorZero x u e = by_type xor_zero (xor_zero_keeps rows sound laws) locals globals x u e
-  rewrite_keeps locals globals rule.AndOnes x u e = by_type and_ones (and_ones_keeps rows sound laws) locals globals x u e
-  rewrite_keeps locals globals rule.ShiftByZero x u e = by_type shift_by_zero (shift_by_zero_keeps rows sound laws) locals globals x u e
-  rewrite_keeps locals globals rule.OrSelf x u e = of_its_type locals globals or_self (or_self_keeps rows sound laws) x u e
-  rewrite_keeps locals globals rule.AndSelf x u e = of_its_type locals globals and_self (and_self_keeps rows sound laws) x u e
-  rewrite_keeps locals globals rule.DoubleComplement x u e = by_type double_complement (double_complement_keeps rows sound laws) locals globals x u e
-  rewrite_keeps locals globals rule.ShiftToProduct x u e = shift_to_product_keeps rows sound laws x u e locals globals
-  rewrite_keeps locals globals rule.ProductToShift x u e = product_to_shift_keeps rows sound laws x u e locals globals
-  rewrite_keeps locals globals rule.DifferenceToSum x u e = difference_to_sum_keeps rows sound laws x u e locals globals
-  rewrite_keeps locals globals rule.SumToDifference x u e = sum_to_difference_keeps rows sound laws x u e locals globals
-  rewrite_keeps locals globals rule.TestToComparison x u e = test_to_comparison_keeps rows sound laws x u e locals globals
-  rewrite_keeps locals globals rule.ComparisonToTest x u e = comparison_to_test_keeps rows sound laws x u e locals globals
-  rewrite_keeps locals globals rule.TurnSelect x u e = turn_select_keeps rows sound laws x u e locals globals
-  rewrite_keeps locals globals rule.Unfold x u e = unfold_stands locals globals x u e
-  rewrite_keeps locals globals rule.ThroughGlobal x u e = by_type by_way_of_global (by_way_of_global_keeps rows sound laws) locals globals x u e
-  rewrite_keeps locals globals rule.WithNop x u e = subst (λ y. StandsFor locals globals x y) (cc) (with_nop_keeps rows sound laws x locals globals)
-  rewrite_keeps locals globals rule.Fold x u e = fold_keeps rows sound laws x u e locals globals
-  rewrite_keeps locals globals rule.DropAddZero x u e = drop_add_zero_keeps rows sound laws x u e locals globals
-  rewrite_keeps locals globals rule.DropSubZero x u e = drop_sub_zero_keeps rows sound laws x u e locals globals
-  rewrite_keeps locals globals rule.DropMulOne x u e = drop_mul_one_keeps rows sound laws x u e locals globals
-  rewrite_keeps locals globals rule.DropOrZero x u e = drop_or_zero_keeps rows sound laws x u e locals globals
-  rewrite_keeps locals globals rule.DropXorZero x u e = drop_xor_zero_keeps rows sound laws x u e locals globals
-  rewrite_keeps locals globals rule.DropAndOnes x u e = drop_and_ones_keeps rows sound laws x u e locals globals
-  rewrite_keeps locals globals rule.DropShiftByZero x u e = drop_shift_by_zero_keeps rows sound laws x u e locals globals
-  rewrite_keeps locals globals rule.Forget x u e = forget_keeps rows sound laws x u e locals globals
+  pub rewrite_keeps : (context : Context) (r : Rule) (x u : Term Head) → rewrite context r x ≡ Some u →
+      StandsFor context x u
+  rewrite_keeps context rule.Commute x u e = commute_keeps rows sound x u e context
+  rewrite_keeps context rule.TurnComparison x u e = turn_comparison_keeps rows sound x u e context
+  rewrite_keeps context rule.AssociateLeft x u e = associate_left_keeps rows sound laws x u e context
+  rewrite_keeps context rule.AssociateRight x u e = associate_right_keeps rows sound laws x u e context
+  rewrite_keeps context rule.AddZero x u e = by_type add_zero (add_zero_keeps rows sound laws) context x u e
+  rewrite_keeps context rule.SubZero x u e = by_type sub_zero (sub_zero_keeps rows sound laws) context x u e
+  rewrite_keeps context rule.MulOne x u e = by_type mul_one (mul_one_keeps rows sound laws) context x u e
+  rewrite_keeps context rule.OrZero x u e = by_type or_zero (or_zero_keeps rows sound laws) context x u e
+  rewrite_keeps context rule.XorZero x u e = by_type xor_zero (xor_zero_keeps rows sound laws) context x u e
+  rewrite_keeps context rule.AndOnes x u e = by_type and_ones (and_ones_keeps rows sound laws) context x u e
+  rewrite_keeps context rule.ShiftByZero x u e = by_type shift_by_zero (shift_by_zero_keeps rows sound laws) context x u e
+  rewrite_keeps context rule.OrSelf x u e = of_its_type context or_self (or_self_keeps rows sound laws) x u e
+  rewrite_keeps context rule.AndSelf x u e = of_its_type context and_self (and_self_keeps rows sound laws) x u e
+  rewrite_keeps context rule.DoubleComplement x u e = by_type double_complement (double_complement_keeps rows sound laws) context x u e
+  rewrite_keeps context rule.ShiftToProduct x u e = shift_to_product_keeps rows sound laws x u e context
+  rewrite_keeps context rule.ProductToShift x u e = product_to_shift_keeps rows sound laws x u e context
+  rewrite_keeps context rule.DifferenceToSum x u e = difference_to_sum_keeps rows sound laws x u e context
+  rewrite_keeps context rule.SumToDifference x u e = sum_to_difference_keeps rows sound laws x u e context
+  rewrite_keeps context rule.TestToComparison x u e = test_to_comparison_keeps rows sound laws x u e context
+  rewrite_keeps context rule.ComparisonToTest x u e = comparison_to_test_keeps rows sound laws x u e context
+  rewrite_keeps context rule.TurnSelect x u e = turn_select_keeps rows sound laws x u e context
+  rewrite_keeps context rule.Unfold x u e = unfold_stands context x u e
+  rewrite_keeps context rule.ThroughGlobal x u e = by_type by_way_of_global (by_way_of_global_keeps rows sound laws) context x u e
+  rewrite_keeps context rule.WithNop x u e = subst (λ y. StandsFor context x y) (cc) (with_nop_keeps rows sound laws x context)
+  rewrite_keeps context rule.Fold x u e = fold_keeps rows sound laws x u e context
+  rewrite_keeps context rule.DropAddZero x u e = drop_add_zero_keeps rows sound laws x u e context
+  rewrite_keeps context rule.DropSubZero x u e = drop_sub_zero_keeps rows sound laws x u e context
+  rewrite_keeps context rule.DropMulOne x u e = drop_mul_one_keeps rows sound laws x u e context
+  rewrite_keeps context rule.DropOrZero x u e = drop_or_zero_keeps rows sound laws x u e context
+  rewrite_keeps context rule.DropXorZero x u e = drop_xor_zero_keeps rows sound laws x u e context
+  rewrite_keeps context rule.DropAndOnes x u e = drop_and_ones_keeps rows sound laws x u e context
+  rewrite_keeps context rule.DropShiftByZero x u e = drop_shift_by_zero_keeps rows sound laws x u e context
+  rewrite_keeps context rule.Forget x u e = forget_keeps rows sound laws x u e context

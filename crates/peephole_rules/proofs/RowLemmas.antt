@@ -1,4 +1,4 @@
--- A node by the opcode of its instruction: its row.
+-- A node by the opcode of its instruction.
 use Rattle.std.proofs.Common.{◌≡◌, ℕ, true, Option, Some, None, refl, ap}
 use Rattle.std.proofs.lemmas.Bool.{eqb-true, false≢true}
 use Rattle.wasm_code.specs.Instruction.{Instruction}
@@ -7,14 +7,13 @@ use Rattle.wasm_code.specs.declared.table.Opcode.TheVariants.{Byte, Fc, Fd}
 use Rattle.wasm_code.specs.Table.{row_at, opcode_in}
 use Rattle.peephole_lang.specs.declared.lang.Head.{Head}
 use Rattle.peephole_lang.specs.Node.{instr_of_head}
-use Rattle.peephole_machine.specs.IntegerRow.{integer_row, byte_row, opcode_row}
 use Rattle.peephole_rules.specs.Operator.{byte_of, instruction_byte, opcode_byte, are_same}
 
 -- The node's instruction has the opcode.
 pub record HasRow (h : Head) (byte : ℕ) : Type 0 where
   pub instr : Instruction
   pub instr_is : instr_of_head h ≡ Some instr
-  pub row_is : integer_row instr ≡ byte_row byte instr.imm
+  pub opcode_is : opcode_in (row_at instr.row) ≡ Some (Byte byte)
 
 byte_is : (o : Option Opcode) (byte : ℕ) → byte_of o ≡ Some byte → o ≡ Some (Byte byte)
 byte_is (Some (Byte b)) byte e = cc
@@ -23,7 +22,6 @@ byte_is (Some (Fd n)) byte e = absurd cc
 byte_is None byte e = absurd cc
 
 pub row_of : (h : Head) (byte : ℕ) → opcode_byte h ≡ Some byte → HasRow h byte
-unfolding integer_row
 row_of h byte e = go (instr_of_head h) refl e
   where
     go : (o : Option Instruction) → instr_of_head h ≡ o → instruction_byte o ≡ Some byte → HasRow h byte
@@ -31,7 +29,7 @@ row_of h byte e = go (instr_of_head h) refl e
     go (Some i) k f = record {
       instr = i;
       instr_is = k;
-      row_is = ap (λ o. opcode_row o i.imm) (byte_is (opcode_in (row_at i.row)) byte f);
+      opcode_is = byte_is (opcode_in (row_at i.row)) byte f;
     }
 
 pub same_is : (o r : Option ℕ) → are_same o r ≡ true → o ≡ r

@@ -1,39 +1,44 @@
--- A typed term that cannot trap ends, and may be forgotten where it writes nothing.
+-- A typed term that cannot trap ends.
 use Rattle.std.proofs.Common.{◌≡◌, ℕ, zero, suc, ◌+◌, ◌-◌, ◌≤◌, Bool, true, false, List, [], ◌∷◌, ◌++◌, length, drop, Option, Some, None, inl, inr, refl, sym, ap, ◌∙◌, subst, arith}
-use Rattle.std.specs.Prelude.{◌==◌, ◌⊎◌, ◌&&◌, not, nat_lt, slice_get, is_some, map, if◌then◌else◌, ⊤}
+use Rattle.std.specs.Prelude.{◌==◌, ◌⊎◌, ◌&&◌, nat_lt, slice_get, map, if◌then◌else◌, ⊤}
+use Rattle.std.specs.List.{All}
 use Rattle.std.specs.Int.{w32, w64, cast_unsigned}
 use Rattle.std.proofs.Math.Nat.{zero-add}
 use Rattle.std.proofs.lemmas.List.{length-map}
-use Rattle.std.proofs.lemmas.Bool.{or_parts, and_parts, true≢false, ltb-false}
+use Rattle.std.proofs.lemmas.Bool.{or_parts, true≢false, ltb-false}
+use Rattle.wasm_code.specs.Instruction.{Instruction}
+use Rattle.wasm_code.specs.Table.{row_at, opcode_in}
+use Rattle.wasm_code.specs.declared.table.Opcode.{Opcode}
+use Rattle.wasm_code.specs.declared.table.Opcode.TheVariants.{Byte, Fc, Fd}
 use Rattle.wasm_code.specs.declared.immediate.Imm.{Imm}
 use Rattle.wasm_code.specs.declared.immediate.Imm.TheVariants as imm
 use Rattle.wasm_code.specs.declared.immediate.ValType.{ValType}
 use Rattle.wasm_code.specs.declared.immediate.ValType.TheVariants as val
 use Rattle.mutate_base.specs.declared.types.PrimitiveTypeInfo.{PrimitiveTypeInfo}
 use Rattle.peephole_lang.specs.declared.lang.Head.{Head}
+use Rattle.peephole_lang.specs.Node.{instr_of_head}
 use Rattle.peephole_lang.specs.Term.{Term, Terms, absent, node, no_terms, ◌▸◌}
 use Rattle.peephole_machine.specs.declared.integer.IntegerType.{IntegerType}
 use Rattle.peephole_machine.specs.declared.integer.IntegerType.TheVariants as integer
-use Rattle.peephole_machine.specs.Values.{type_of, is_integer, same_types, Value, types, State, Variable, local, global, read, Outcome, Ends, Traps, Stuck, then_run, above}
+use Rattle.peephole_machine.specs.OtherRow as trap
+use Rattle.peephole_machine.specs.Values.{type_of, same_types, Value, IsValue, types, Context, Cause, Answer, Gives, Fails, State, own_globals, Variable, local, global, read, IsAnswer, HasTypes, Outcome, Ends, Traps, Stuck, then_run, above}
 use Rattle.peephole_machine.specs.Integer.{IntegerOperator, wrap, extend_i32_s, extend_i32_u}
-use Rattle.peephole_machine.specs.IntegerRow.{IntegerRow, constant, operation, get, set, tee, discard, select, nop, other, tests, arithmetic, extensions, from_byte, or_else, bare_operator, operator_row, byte_row, typed_select, row_types}
-use Rattle.peephole_machine.specs.Machine.{given, read_of, effect, only_if, act}
-use Rattle.peephole_machine.specs.RowLemmas.{some_if, if_typed_is, and_then_some, same_types_is, act_is}
+use Rattle.peephole_machine.specs.IntegerRow.{IntegerRow, constant, operation, get, set, tee, discard, select, nop, other, tests, arithmetic, extensions, from_byte, or_else, bare_operator, operator_row, byte_row, typed_select, opcode_row, row_or_other, integer_row, row_types}
+use Rattle.peephole_machine.specs.Machine.{cause_of, given, read_of, answered, effect, act}
+use Rattle.peephole_machine.specs.RowLemmas.{some_if, and_then_some, same_types_is}
+use Rattle.peephole_machine.specs.TypeLemmas.{sound_answer, act_at}
+use Rattle.peephole_machine.specs.Agreement.{EndsTyped}
 use Rattle.peephole_terms.specs.Expansion.{draws_of}
 use Rattle.peephole_terms.specs.Typing.{types_of, types_in}
 use Rattle.peephole_terms.specs.Meaning.{meaning_of, meaning}
-use Rattle.peephole_terms.specs.Agrees.{Agree, EndsTyped, LeavesItsTypes, IsCongruence}
+use Rattle.peephole_terms.specs.Agrees.{LeavesItsTypes}
 use Rattle.peephole_terms.specs.Laws.{MeanByTheirRows}
-use Rattle.peephole_rules.specs.Operator.{opcode_byte, is_in, are_same, container}
-use Rattle.peephole_rules.specs.Effects.{writes, trappers, is_trapper, may_trap, any_may_trap}
-use Rattle.peephole_rules.specs.Rewriting.{forget}
-use Rattle.peephole_rules.specs.Laws.{KeepsMeaning, HasEnded, EndsWithoutTrap}
+use Rattle.peephole_rules.specs.Operator.{byte_of, instruction_byte, is_in, is_among}
+use Rattle.peephole_rules.specs.Effects.{trappers, is_trapper, may_trap, any_may_trap}
+use Rattle.peephole_rules.specs.Laws.{HasEnded, EndsWithoutTrap}
 use Rattle.peephole_rules.proofs.ByteLemmas.{AllOf, each}
-use Rattle.peephole_rules.proofs.RowLemmas.{row_of, same_is}
-use Rattle.peephole_rules.proofs.PureLemmas.{IsPure, pure_of}
-use Rattle.peephole_rules.proofs.OrderLemmas.{some_answer_if, is_not}
-use Rattle.peephole_rules.proofs.WayLemmas.{after_itself}
-use Rattle.peephole_rules.proofs.SequenceLemmas.{behind_one, alone_types, does_types, does_means, own_does}
+use Rattle.peephole_rules.proofs.PureLemmas.{ends_in}
+use Rattle.peephole_rules.proofs.OperandLemmas.{parts_of_types, Stops}
 
 -- ---- operators that always have a value
 
@@ -257,20 +262,26 @@ total_operator byte h =
 
 abbrev IsTotalRow : IntegerRow → Type 0
 IsTotalRow (operation f) = IsTotal f
+IsTotalRow (other i) = trap.may_trap i ≡ false
 IsTotalRow row = ⊤
 
-operator_total : (byte : ℕ) → is_in trappers byte ≡ false → (o : Option IntegerOperator) → bare_operator byte ≡ o → IsTotalRow (operator_row o)
+abbrev IsKnownTotal : Option IntegerRow → Type 0
+IsKnownTotal (Some row) = IsTotalRow row
+IsKnownTotal None = ⊤
+
+operator_total : (byte : ℕ) → is_in trappers byte ≡ false → (o : Option IntegerOperator) → bare_operator byte ≡ o → IsKnownTotal (operator_row o)
 operator_total byte h (Some f) e = total_operator byte h f e
 operator_total byte h None e = tt
 
-bare_total : (p q r : Bool) (row : IntegerRow) → IsTotalRow row → IsTotalRow (if p then nop else (if q then discard else (if r then select else row)))
+bare_total : (p q r : Bool) (row : Option IntegerRow) → IsKnownTotal row →
+    IsKnownTotal (if p then Some nop else (if q then Some discard else (if r then Some select else row)))
 bare_total true q r row h = tt
 bare_total false true r row h = tt
 bare_total false false true row h = tt
 bare_total false false false row h = h
 
-variable_total : (p q r u w : Bool) (a b : Variable) →
-    IsTotalRow (if p then get a else (if q then set a else (if r then tee a else (if u then get b else (if w then set b else other)))))
+variable_total : (p q r u w : Bool) (a b : Variable) → IsKnownTotal
+    (if p then Some (get a) else (if q then Some (set a) else (if r then Some (tee a) else (if u then Some (get b) else (if w then Some (set b) else None)))))
 variable_total true q r u w a b = tt
 variable_total false true r u w a b = tt
 variable_total false false true u w a b = tt
@@ -278,7 +289,7 @@ variable_total false false false true w a b = tt
 variable_total false false false false true a b = tt
 variable_total false false false false false a b = tt
 
-typed_total : (t : ValType) → IsTotalRow (typed_select t)
+typed_total : (t : ValType) → IsKnownTotal (typed_select t)
 typed_total val.I32 = of_three _ refl (λ n m k. refl)
 typed_total val.I64 = of_three _ refl (λ n m k. refl)
 typed_total val.F32 = tt
@@ -287,146 +298,146 @@ typed_total val.V128 = tt
 typed_total val.FuncRef = tt
 typed_total val.ExternRef = tt
 
-either_total : (b : Bool) (row : IntegerRow) → IsTotalRow row → IsTotalRow (if b then row else other)
+either_total : (b : Bool) (row : Option IntegerRow) → IsKnownTotal row → IsKnownTotal (if b then row else None)
 either_total true row h = h
 either_total false row h = tt
 
-total_row : (byte : ℕ) (i : Imm) → is_in trappers byte ≡ false → IsTotalRow (byte_row byte i)
+total_row : (byte : ℕ) (i : Imm) → is_in trappers byte ≡ false → IsKnownTotal (byte_row byte i)
 total_row byte imm.Nothing h =
     bare_total (byte == 0x01) (byte == 0x1a) (byte == 0x1b) (operator_row (bare_operator byte)) (operator_total byte h (bare_operator byte) refl)
 total_row byte (imm.Index index) h =
     variable_total (byte == 0x20) (byte == 0x21) (byte == 0x22) (byte == 0x23) (byte == 0x24) (local index) (global index)
-total_row byte (imm.I32 z) h = either_total (byte == 0x41) (constant integer.I32 (cast_unsigned w32 z)) tt
-total_row byte (imm.I64 z) h = either_total (byte == 0x42) (constant integer.I64 (cast_unsigned w64 z)) tt
+total_row byte (imm.I32 z) h = either_total (byte == 0x41) (Some (constant integer.I32 (cast_unsigned w32 z))) tt
+total_row byte (imm.I64 z) h = either_total (byte == 0x42) (Some (constant integer.I64 (cast_unsigned w64 z))) tt
 total_row byte (imm.Val t) h = either_total (byte == 0x1c) (typed_select t) (typed_total t)
 total_row byte _ h = tt
+
+-- by the opcode of the instruction
+row_total : (i : Instruction) → is_trapper (Some i) ≡ false → IsTotalRow (integer_row i)
+unfolding integer_row
+row_total i e =
+    let p = or_parts (is_among trappers (instruction_byte (Some i))) (trap.may_trap i) e in
+    go (opcode_row (opcode_in (row_at i.row)) i.imm) (known (opcode_in (row_at i.row)) p.0) p.1
+  where
+    known : (o : Option Opcode) → is_among trappers (byte_of o) ≡ false → IsKnownTotal (opcode_row o i.imm)
+    known (Some (Byte byte)) k = total_row byte i.imm k
+    known (Some (Fc n)) k = tt
+    known (Some (Fd n)) k = tt
+    known None k = tt
+
+    go : (o : Option IntegerRow) → IsKnownTotal o → trap.may_trap i ≡ false → IsTotalRow (row_or_other i o)
+    go (Some row) k w = k
+    go None k w = w
 
 -- ---- outcomes that are no trap
 
 abbrev IsNoTrap : Outcome → Type 0
-IsNoTrap (Traps gs) = ⊥
+IsNoTrap (Traps c gs r) = ⊥
 IsNoTrap o = ⊤
 
-act_no_trap : (row : IntegerRow) (vs : List Value) (s : State) → IsTotalRow row → IsNoTrap (act row vs s)
-act_no_trap row vs s h = go (row_types (types s.locals) (types s.globals) row (types vs)) refl
-  where
-    value_given : (f : IntegerOperator) (o : Option ℕ) → (n : ℕ) × (o ≡ Some n) → IsNoTrap (given f.result o s)
-    value_given f (Some n) k = tt
-    value_given f None k = absurd (none k.1)
-      where
-        none : {n : ℕ} → None ≡ Some n → ⊥
-        none e = cc
+module _ {context : Context} {s : State} (h : HasTypes context s) where
+  value_given : (cause : Cause) (t : IntegerType) (o : Option ℕ) → (n : ℕ) × (o ≡ Some n) → IsNoTrap (given t o cause s)
+  value_given cause t (Some n) k = tt
+  value_given cause t None k = absurd (none k.1)
+    where
+      none : {n : ℕ} → None ≡ Some n → ⊥
+      none e = cc
 
-    read_given : (o : Option Value) → IsNoTrap (read_of o s)
-    read_given (Some v) = tt
-    read_given None = tt
+  read_given : (o : Option Value) → IsNoTrap (read_of o s)
+  read_given (Some v) = tt
+  read_given None = tt
 
-    effect_given : (row : IntegerRow) (vs : List Value) (list : List PrimitiveTypeInfo) → IsTotalRow row →
-        row_types (types s.locals) (types s.globals) row (types vs) ≡ Some list → IsNoTrap (effect row vs s)
-    effect_given (constant t n) vs list h e = tt
-    effect_given (operation f) vs list h e =
-        let same = same_types_is (types vs) f.operands (some_if (same_types (types vs) f.operands) (type_of f.result ∷ []) list e).0 in
-        value_given f (f.value (map (λ v. v.number) vs))
-        (h.total (map (λ v. v.number) vs) (length-map vs (λ v. v.number) ∙ (sym (length-map vs (λ v. v.type)) ∙ ap length same)))
-    effect_given (get x) vs list h e = read_given (read x s)
-    effect_given (set x) (v ∷ vs) list h e = tt
-    effect_given (set x) [] list h e = tt
-    effect_given (tee x) (v ∷ vs) list h e = tt
-    effect_given (tee x) [] list h e = tt
-    effect_given discard vs list h e = tt
-    effect_given select (v ∷ u ∷ c ∷ vs) list h e = tt
-    effect_given select (v ∷ u ∷ []) list h e = tt
-    effect_given select (v ∷ []) list h e = tt
-    effect_given select [] list h e = tt
-    effect_given nop vs list h e = tt
-    effect_given other vs list h e = tt
+  answer_given : (i : Instruction) (rs : List PrimitiveTypeInfo) (o : Answer) (others : List Value) → IsAnswer s.world.info i rs s.globals s.rest o →
+      trap.may_trap i ≡ false → IsNoTrap (answered o others s)
+  answer_given i rs (Gives us gs r) others a k = tt
+  answer_given i rs (Fails c gs r) others a k = absurd (true≢false (sym a.0 ∙ k))
 
-    go : (o : Option (List PrimitiveTypeInfo)) → row_types (types s.locals) (types s.globals) row (types vs) ≡ o →
-        IsNoTrap (only_if (is_some (row_types (types s.locals) (types s.globals) row (types vs))) (effect row vs s))
-    go (Some list) e = rw e (effect_given row vs list h e)
-    go None e = rw e tt
+  effect_given : (row : IntegerRow) (vs : List Value) (list : List PrimitiveTypeInfo) → All IsValue vs → IsTotalRow row →
+      row_types context row (types vs) ≡ Some list → IsNoTrap (effect row vs s)
+  effect_given (constant t n) vs list hv k e = tt
+  effect_given (operation f) vs list hv k e =
+      let same = same_types_is (types vs) f.operands (some_if (same_types (types vs) f.operands) (type_of f.result ∷ []) list e).0 in
+      value_given (cause_of (map (λ v. v.number) vs)) f.result (f.value (map (λ v. v.number) vs))
+      (k.total (map (λ v. v.number) vs) (length-map vs (λ v. v.number) ∙ (sym (length-map vs (λ v. v.type)) ∙ ap length same)))
+  effect_given (get x) vs list hv k e = read_given (read x s)
+  effect_given (set x) (v ∷ vs) list hv k e = tt
+  effect_given (set x) [] list hv k e = tt
+  effect_given (tee x) (v ∷ vs) list hv k e = tt
+  effect_given (tee x) [] list hv k e = tt
+  effect_given discard vs list hv k e = tt
+  effect_given select (v ∷ u ∷ c ∷ vs) list hv k e = tt
+  effect_given select (v ∷ u ∷ []) list hv k e = tt
+  effect_given select (v ∷ []) list hv k e = tt
+  effect_given select [] list hv k e = tt
+  effect_given nop vs list hv k e = tt
+  effect_given (other i) vs list hv k e = answer_given i list (s.world.answer i vs (own_globals s) s.rest) _ (sound_answer h i vs list hv e) k
+
+  act_no_trap : (row : IntegerRow) (vs : List Value) (list : List PrimitiveTypeInfo) → All IsValue vs → IsTotalRow row →
+      row_types context row (types vs) ≡ Some list → IsNoTrap (act row vs s)
+  act_no_trap row vs list hv k e = subst IsNoTrap (sym (act_at h row vs list e)) (effect_given row vs list hv k e)
 
 -- ---- terms
 
-then_no_trap : (o : Outcome) (f : List Value → State → Outcome) → IsNoTrap o → ((vs : List Value) (s : State) → IsNoTrap (f vs s)) → IsNoTrap (then_run o f)
-then_no_trap (Ends vs s) f h k = k vs s
-then_no_trap (Traps gs) f h k = h
-then_no_trap Stuck f h k = tt
+then_no_trap : (context : Context) (us : List PrimitiveTypeInfo) (o : Outcome) (f : List Value → State → Outcome) → EndsTyped context us o → IsNoTrap o →
+    ((vs : List Value) (s : State) → types vs ≡ us → All IsValue vs → HasTypes context s → IsNoTrap (f vs s)) → IsNoTrap (then_run o f)
+then_no_trap context us (Ends vs s) f a h k = k vs s a.0 a.1 a.2
+then_no_trap context us (Traps c gs r) f a h k = h
+then_no_trap context us Stuck f a h k = tt
 
 above_no_trap : (vs : List Value) (o : Outcome) → IsNoTrap o → IsNoTrap (above vs o)
 above_no_trap vs (Ends us s) h = tt
-above_no_trap vs (Traps gs) h = h
+above_no_trap vs (Traps c gs r) h = h
 above_no_trap vs Stuck h = tt
 
--- the opcode of a node that is no trapper
-byte_of_none : (o : Option ℕ) → is_trapper o ≡ false → (byte : ℕ) × (o ≡ Some byte) × (is_in trappers byte ≡ false)
-byte_of_none (Some byte) e = (byte, refl, e)
-byte_of_none None e = absurd (true≢false e)
+-- the instruction of a node that is no trapper
+instr_of_none : (o : Option Instruction) → is_trapper o ≡ false → (i : Instruction) × (o ≡ Some i) × (is_trapper (Some i) ≡ false)
+instr_of_none (Some i) e = (i, refl, e)
+instr_of_none None e = absurd (true≢false e)
 
-module _ (rows : MeanByTheirRows) where
+module _ (rows : MeanByTheirRows) (sound : LeavesItsTypes) (context : Context) where
   mutual
-    no_trap_of : (words : List ℕ) (t : Term Head) (s : State) → may_trap t ≡ false → IsNoTrap (meaning_of words t s)
-    no_trap_of words absent s e = tt
-    no_trap_of words (node h kids) s e =
-        let p = or_parts (is_trapper (opcode_byte h)) (any_may_trap kids) e in
-        let (byte, is, none) = byte_of_none (opcode_byte h) p.0 in
-        let r = row_of h byte is in
-        subst IsNoTrap (sym (rows.means words h kids r.instr s r.instr_is))
-        (then_no_trap (meaning words kids s) (act _) (no_trap_in words kids s p.1)
-        (λ vs m. subst (λ row. IsNoTrap (act row vs m)) (sym r.row_is)
-        (act_no_trap (byte_row byte r.instr.imm) vs m (total_row byte r.instr.imm none))))
+    no_trap_of : (list : List PrimitiveTypeInfo) (words : List ℕ) (t : Term Head) (s : State) → types_of context t ≡ Some list → HasTypes context s →
+        may_trap t ≡ false → IsNoTrap (meaning_of words t s)
+    no_trap_of list words absent s typed h e = tt
+    no_trap_of list words (node x kids) s typed h e =
+        let p = or_parts (is_trapper (instr_of_head x)) (any_may_trap kids) e in
+        let (i, is, none) = instr_of_none (instr_of_head x) p.0 in
+        let (us, a, b) = and_then_some (row_types context (integer_row i)) (types_in context kids) list (sym (rows.types context x kids i is) ∙ typed) in
+        subst IsNoTrap (sym (rows.means words x kids i s is))
+        (then_no_trap context us (meaning words kids s) (act (integer_row i)) (ends_in rows sound context us words kids s a h)
+        (no_trap_in us words kids s a h p.1)
+        (λ vs m t hv hm. act_no_trap hm (integer_row i) vs list hv (row_total i none) (ap (row_types context (integer_row i)) t ∙ b)))
 
-    no_trap_in : (words : List ℕ) (ts : Terms Head) (s : State) → any_may_trap ts ≡ false → IsNoTrap (meaning words ts s)
-    no_trap_in words no_terms s e = tt
-    no_trap_in words (t ▸ ts) s e =
+    no_trap_in : (list : List PrimitiveTypeInfo) (words : List ℕ) (ts : Terms Head) (s : State) → types_in context ts ≡ Some list → HasTypes context s →
+        any_may_trap ts ≡ false → IsNoTrap (meaning words ts s)
+    no_trap_in list words no_terms s typed h e = tt
+    no_trap_in list words (t ▸ ts) s typed h e =
         let p = or_parts (may_trap t) (any_may_trap ts) e in
-        then_no_trap (meaning_of words t s) (λ vs m. above vs (meaning (drop (length (draws_of t)) words) ts m)) (no_trap_of words t s p.0)
-        (λ vs m. above_no_trap vs (meaning (drop (length (draws_of t)) words) ts m) (no_trap_in (drop (length (draws_of t)) words) ts m p.1))
+        let (ks, js, a, b, c) = parts_of_types (types_of context t) (types_in context ts) list typed in
+        let left = drop (length (draws_of t)) words in
+        then_no_trap context ks (meaning_of words t s) (λ vs m. above vs (meaning left ts m)) (sound context ks words t s a h)
+        (no_trap_of ks words t s a h p.0)
+        (λ vs m q hv hm. above_no_trap vs (meaning left ts m) (no_trap_in js left ts m b hm p.1))
 
-  pub ends_without_trap : LeavesItsTypes → EndsWithoutTrap
-  ends_without_trap sound locals globals list words t s typed h none =
-      go (meaning_of words t s) (sound locals globals list words t s typed h) (no_trap_of words t s none)
+pub ends_without_trap : MeanByTheirRows → LeavesItsTypes → EndsWithoutTrap
+ends_without_trap rows sound context list words t s typed h none =
+    go (meaning_of words t s) (sound context list words t s typed h) (no_trap_of rows sound context list words t s typed h none)
+  where
+    go : (o : Outcome) → EndsTyped context list o → IsNoTrap o → HasEnded o
+    go (Ends vs m) a b = tt
+    go (Traps c gs r) a b = b
+    go Stuck a b = a
+
+-- of two terms of which at most one may trap, only one stops
+module _ (rows : MeanByTheirRows) (sound : LeavesItsTypes) (context : Context) (t : PrimitiveTypeInfo) where
+  goes_on : (x : Term Head) (s : State) → types_of context x ≡ Some (t ∷ []) → HasTypes context s → may_trap x ≡ false → Stops rows sound x s → ⊥
+  goes_on x s typed h none p = subst HasEnded (p.1 []) (ends_without_trap rows sound context (t ∷ []) [] x s typed h none)
+
+  pub not_both : (x y : Term Head) (s : State) → types_of context x ≡ Some (t ∷ []) → types_of context y ≡ Some (t ∷ []) →
+      (may_trap x && may_trap y) ≡ false → HasTypes context s → Stops rows sound x s → Stops rows sound y s → ⊥
+  not_both x y s tx ty e h p q = go (may_trap x) (may_trap y) refl refl e
     where
-      go : (o : Outcome) → EndsTyped locals globals list o → IsNoTrap o → HasEnded o
-      go (Ends vs m) a b = tt
-      go (Traps gs) a b = b
-      go Stuck a b = a
-
--- ---- forget
-
--- what drop takes and gives
-discarded : (locals globals ks list : List PrimitiveTypeInfo) → row_types locals globals discard ks ≡ Some list →
-    (t : PrimitiveTypeInfo) × (ks ≡ t ∷ []) × (is_integer t ≡ true) × ([] ≡ list)
-discarded locals globals [] list e = absurd cc
-discarded locals globals (t ∷ []) list e = let (a, b) = some_if (is_integer t) [] list e in (t, refl, a, b)
-discarded locals globals (t ∷ u ∷ us) list e = absurd cc
-
--- behind one value in the same state nothing is left
-left_out : (locals globals : List PrimitiveTypeInfo) (t : PrimitiveTypeInfo) (o : Outcome) (s : State) → is_integer t ≡ true →
-    EndsTyped locals globals (t ∷ []) o → IsPure s o → HasEnded o → then_run o (act discard) ≡ Ends [] s
-left_out locals globals t (Ends [] m) s h a p b = absurd cc
-left_out locals globals t (Ends (v ∷ []) m) s h a p b =
-    let is : v.type ≡ t = cc in
-    act_is discard (v ∷ []) [] m (if_typed_is (is_integer v.type) [] (ap is_integer is ∙ h)) ∙ ap (Ends []) p
-left_out locals globals t (Ends (v ∷ u ∷ us) m) s h a p b = absurd cc
-left_out locals globals t (Traps gs) s h a p b = absurd b
-left_out locals globals t Stuck s h a p b = absurd b
-
-module _ (rows : MeanByTheirRows) (sound : LeavesItsTypes) (laws : IsCongruence) where
-  pub forget_keeps : KeepsMeaning forget
-  forget_keeps (node h (x ▸ no_terms)) u e locals globals list typed d us vs =
-      let (c, made) = some_answer_if (are_same (opcode_byte h) (Some 0x1a) && (not (writes x) && not (may_trap x))) (container no_terms) u e in
-      let p = and_parts (are_same (opcode_byte h) (Some 0x1a)) (not (writes x) && not (may_trap x)) c in
-      let q = and_parts (not (writes x)) (not (may_trap x)) p.1 in
-      let hd = own_does rows sound locals globals list h (x ▸ no_terms) 0x1a discard (same_is (opcode_byte h) (Some 0x1a) p.0) refl refl typed in
-      let (ks, a, b) = and_then_some (row_types locals globals discard) (types_in locals globals (x ▸ no_terms)) list
-      (sym (does_types rows locals globals hd (x ▸ no_terms)) ∙ typed) in
-      let (t, one, whole, none) = discarded locals globals ks list b in
-      let operand : types_of locals globals x ≡ Some (t ∷ []) = alone_types locals globals ks x a ∙ ap Some one in
-      subst (Agree locals globals us vs (node h (x ▸ no_terms))) made
-      (after_itself rows sound laws locals globals list us vs (node h (x ▸ no_terms)) (container no_terms) typed d (ap Some none)
-      (λ s hs. does_means rows vs hd (x ▸ no_terms) s ∙ (behind_one vs x s (act discard)
-      ∙ left_out locals globals t (meaning_of vs x s) s whole (sound locals globals (t ∷ []) vs x s operand hs)
-      (pure_of rows vs x s (is_not (writes x) q.0))
-      (ends_without_trap rows sound locals globals (t ∷ []) vs x s operand hs (is_not (may_trap x) q.1)))))
-  forget_keeps t u e locals globals list typed d us vs = absurd cc
+      go : (a b : Bool) → may_trap x ≡ a → may_trap y ≡ b → (a && b) ≡ false → ⊥
+      go true true j k e = absurd (true≢false e)
+      go false b j k e = goes_on x s tx h j p
+      go true false j k e = goes_on y s ty h k q

@@ -23,9 +23,9 @@ use Rattle.peephole_rules.specs.Rewriting.{answer_if, all_ones, lowest_bit}
 
 -- ---- operands
 
--- each leaves one value, and neither writes a variable
+-- each leaves one value, neither may write, and at most one may trap
 abbrev pub are_undisturbed : Operand → Operand → Bool
-are_undisturbed x y = (x.one_value && y.one_value) && (not x.writes && not y.writes)
+are_undisturbed x y = (x.one_value && y.one_value) && ((not x.writes && not y.writes) && not (x.may_trap && y.may_trap))
 
 abbrev pub number_of : IntegerType → Operand → Option ℕ
 number_of integer.I32 x = x.i32_number
@@ -75,8 +75,8 @@ with_all_ones a b value = option_map (λ t. Constant (of_type t a b) t (all_ones
 abbrev pub complements : (i32_opcode i64_opcode : ℕ) → Option IntegerType → Option Replacement
 complements a b value = option_map (λ t. Complements (of_type t a b) t (all_ones t)) value
 
-abbrev pub twice : (i32_opcode i64_opcode : ℕ) → (writes : Bool) → Option IntegerType → Option Replacement
-twice a b writes value = option_and_then (λ t. answer_if (not writes) (Twice (of_type t a b))) value
+abbrev pub twice : (i32_opcode i64_opcode : ℕ) → (writes asks : Bool) → Option IntegerType → Option Replacement
+twice a b writes asks value = option_and_then (λ t. answer_if (not writes && not asks) (Twice (of_type t a b))) value
 
 -- ---- an operand that is a constant
 
@@ -169,8 +169,8 @@ choice rule.OrZero s = with_number 0x72 0x84 0 s.value
 choice rule.XorZero s = with_number 0x73 0x85 0 s.value
 choice rule.AndOnes s = with_all_ones 0x71 0x83 s.value
 choice rule.ShiftByZero s = with_number 0x74 0x86 0 s.value
-choice rule.OrSelf s = twice 0x72 0x84 s.root.writes s.value
-choice rule.AndSelf s = twice 0x71 0x83 s.root.writes s.value
+choice rule.OrSelf s = twice 0x72 0x84 s.root.writes s.root.asks s.value
+choice rule.AndSelf s = twice 0x71 0x83 s.root.writes s.root.asks s.value
 choice rule.DoubleComplement s = complements 0x73 0x85 s.value
 choice rule.ShiftToProduct s = product (number_behind 0x74 0x86 s.root.opcode s.operands)
 choice rule.ProductToShift s = shift (number_behind 0x6c 0x7e s.root.opcode s.operands)

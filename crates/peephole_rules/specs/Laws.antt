@@ -4,7 +4,7 @@ use Rattle.mutate_base.specs.declared.types.PrimitiveTypeInfo.{PrimitiveTypeInfo
 use Rattle.peephole_lang.specs.declared.lang.Head.{Head}
 use Rattle.peephole_lang.specs.Term.{Term}
 use Rattle.peephole_machine.specs.declared.integer.IntegerType.{IntegerType}
-use Rattle.peephole_machine.specs.Values.{type_of, State, HasTypes, Outcome, Ends}
+use Rattle.peephole_machine.specs.Values.{type_of, State, HasTypes, Outcome, Ends, Context}
 use Rattle.peephole_terms.specs.Expansion.{draws_of}
 use Rattle.peephole_terms.specs.Typing.{types_of}
 use Rattle.peephole_terms.specs.Meaning.{meaning_of}
@@ -17,8 +17,8 @@ use Rattle.peephole_rules.specs.Rewriting.{commute, turn_comparison, add_zero, s
 -- Where the first term has types and draws no word, the second has the same types, and means the same in every state, for all words that it draws.
 abbrev pub AgreeAlways : (before after : Term Head) → Type 0
 AgreeAlways before after =
-    (locals globals list : List PrimitiveTypeInfo) → types_of locals globals before ≡ Some list → draws_of before ≡ [] →
-    (us vs : List ℕ) → Agree locals globals us vs before after
+    (context : Context) (list : List PrimitiveTypeInfo) → types_of context before ≡ Some list → draws_of before ≡ [] →
+    (us vs : List ℕ) → Agree context us vs before after
 
 -- What a rule makes of a term agrees with it.
 abbrev pub KeepsMeaning : (Term Head → Option (Term Head)) → Type 0
@@ -27,8 +27,8 @@ KeepsMeaning rule = (t u : Term Head) → rule t ≡ Some u → AgreeAlways t u
 -- Where the first term leaves one value of the type and draws no word, the second does the same, and means the same in every state, for all words.
 abbrev pub AgreeOfType : IntegerType → (before after : Term Head) → Type 0
 AgreeOfType t before after =
-    (locals globals : List PrimitiveTypeInfo) → types_of locals globals before ≡ Some (type_of t ∷ []) → draws_of before ≡ [] →
-    (us vs : List ℕ) → Agree locals globals us vs before after
+    (context : Context) → types_of context before ≡ Some (type_of t ∷ []) → draws_of before ≡ [] →
+    (us vs : List ℕ) → Agree context us vs before after
 
 -- So it is with what a rule makes of every term of the type.
 abbrev pub KeepsMeaningOfType : (IntegerType → Term Head → Term Head) → Type 0
@@ -46,8 +46,8 @@ HasEnded _ = ⊥
 -- A typed term ends where it has no node that may trap.
 abbrev pub EndsWithoutTrap : Type 0
 EndsWithoutTrap =
-    (locals globals list : List PrimitiveTypeInfo) (words : List ℕ) (t : Term Head) (s : State) →
-    types_of locals globals t ≡ Some list → HasTypes locals globals s → may_trap t ≡ false → HasEnded (meaning_of words t s)
+    (context : Context) (list : List PrimitiveTypeInfo) (words : List ℕ) (t : Term Head) (s : State) →
+    types_of context t ≡ Some list → HasTypes context s → may_trap t ≡ false → HasEnded (meaning_of words t s)
 
 pub record RulesKeepMeaning : Type 0 where
   pub commute_keeps : KeepsMeaning commute
@@ -84,5 +84,5 @@ pub record RulesKeepMeaning : Type 0 where
   pub shift_to_product_keeps : KeepsMeaning shift_to_product
   pub product_to_shift_keeps : KeepsMeaning product_to_shift
   pub fold_keeps : KeepsMeaning fold
-  pub rewrite_keeps : (locals globals : List PrimitiveTypeInfo) (rule : Rule) (x u : Term Head) →
-      rewrite locals globals rule x ≡ Some u → StandsFor locals globals x u
+  pub rewrite_keeps : (context : Context) (rule : Rule) (x u : Term Head) →
+      rewrite context rule x ≡ Some u → StandsFor context x u

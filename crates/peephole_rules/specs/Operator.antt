@@ -1,12 +1,15 @@
 -- Operators by the byte of their opcode, and the nodes that rules write
 -- (WebAssembly Core Specification 3.0, Binary Format, Instructions: numeric, parametric and variable instructions).
-use Rattle.std.specs.Prelude.{ℕ, ℤ, ◌+◌, ◌-◌, ◌%◌, ◌^◌, ◌==◌, ◌||◌, not, Bool, false, List, [], ◌∷◌, Option, Some, None, if◌then◌else◌}
+use Rattle.std.specs.Prelude.{ℕ, ℤ, ◌+◌, ◌-◌, ◌%◌, ◌^◌, ◌==◌, ◌||◌, Bool, true, false, List, [], ◌∷◌, Option, Some, None, if◌then◌else◌}
 use Rattle.std.specs.Int.{w32, w64, cast_signed, cast_unsigned}
 use mir.Val.{bits}
 use Rattle.wasm_code.specs.Instruction.{Instruction}
 use Rattle.wasm_code.specs.declared.table.Opcode.{Opcode}
 use Rattle.wasm_code.specs.declared.table.Opcode.TheVariants.{Byte}
-use Rattle.wasm_code.specs.Table.{row_at, opcode_in}
+use Rattle.wasm_code.specs.Table.{row_at, opcode_in, row_info_of}
+use Rattle.wasm_code.specs.declared.table.ResultKind.{ResultKind}
+use Rattle.wasm_code.specs.declared.table.ResultKind.TheVariants as results
+use Rattle.wasm_code.specs.declared.table.RowInfo.{RowInfo}
 use Rattle.peephole_nodes.specs.declared.payload.Payload.{Payload}
 use Rattle.peephole_nodes.specs.declared.payload.Payload.TheVariants as payload
 use Rattle.peephole_lang.specs.declared.lang.Head.{Head}
@@ -80,18 +83,24 @@ writers = 0x21 ∷ 0x22 ∷ 0x24 ∷ []
 
 -- ---- one value
 
--- the integer rows that leave no value: nop, drop, local.set, global.set
-abbrev pub statements : List ℕ
-statements = 0x01 ∷ 0x1a ∷ 0x21 ∷ 0x24 ∷ []
+-- a column of results that names one
+abbrev pub is_one : ResultKind → Bool
+is_one results.Nothing = false
+is_one results.Call = false
+is_one _ = true
 
-abbrev pub is_value : Option ℕ → Bool
-is_value (Some byte) = not (is_in statements byte)
+abbrev pub gives_one : Option RowInfo → Bool
+gives_one (Some info) = is_one info.result
+gives_one None = false
+
+abbrev pub is_value : Option Instruction → Bool
+is_value (Some i) = gives_one (row_info_of i.row)
 is_value None = false
 
--- a typed term with such a node leaves one value
+-- a typed term with such a node leaves one value, as the result column of the instruction table tells; not known of a call
 abbrev pub has_one_value : Term Head → Bool
 has_one_value absent = false
-has_one_value (node h kids) = is_value (opcode_byte h)
+has_one_value (node h kids) = is_value (instr_of_head h)
 
 -- ---- nodes that rules write
 

@@ -12,21 +12,22 @@ use Rattle.peephole_lang.specs.declared.lang.Lang.{Lang}
 use Rattle.peephole_lang.specs.Term.{Term, Terms, node, no_terms, ◌▸◌}
 use Rattle.peephole_machine.specs.declared.integer.IntegerType.{IntegerType}
 use Rattle.peephole_machine.specs.declared.integer.IntegerType.TheVariants as integer
-use Rattle.peephole_machine.specs.Values.{width_of}
+use Rattle.peephole_machine.specs.Values.{width_of, Context}
 use Rattle.peephole_machine.specs.IntegerRow.{bare_operator}
 use Rattle.peephole_rules.specs.declared.rule.Rule.{Rule}
 use Rattle.peephole_rules.specs.declared.rule.Rule.TheVariants as rule
 use Rattle.peephole_rules.specs.Operator.{opcode_byte, is_among, are_same, type_by, commutative, turned, associative, has_one_value, operator, of_type, constant_term, one, two, container, nop, unfold_head, use_global_head, constant_number, numbered}
-use Rattle.peephole_rules.specs.Effects.{writes, may_trap}
+use Rattle.peephole_rules.specs.Effects.{writes, may_trap, asks}
 use Rattle.peephole_rules.specs.ValueTypes.{integer_of, type_of_value}
 use Rattle.peephole_rules.specs.Grafted.{term_at}
 
 abbrev pub answer_if : {A : Type 0} → Bool → A → Option A
 answer_if b a = if b then Some a else None
 
--- Each of the two leaves one value, and neither writes a variable: in the other order they leave the same values, or trap the same way.
+-- Each of the two leaves one value, neither may write, and at most one may trap: in the other order they leave the same values, or trap
+-- for the same cause.
 abbrev pub undisturbed : Term Head → Term Head → Bool
-undisturbed x y = (has_one_value x && has_one_value y) && (not (writes x) && not (writes y))
+undisturbed x y = (has_one_value x && has_one_value y) && ((not (writes x) && not (writes y)) && not (may_trap x && may_trap y))
 
 -- ---- operands in another order
 
@@ -71,9 +72,9 @@ xor_zero t x = with_constant t 0x73 0x85 0 x
 abbrev pub shift_by_zero : IntegerType → Term Head → Term Head
 shift_by_zero t x = with_constant t 0x74 0x86 0 x
 
--- x, of type t → or x x, and x x
+-- x, of type t → or x x, and x x, which evaluate it twice: so it asks no world, which may answer otherwise the second time
 abbrev pub with_itself : IntegerType → (i32_opcode i64_opcode : ℕ) → Term Head → Option (Term Head)
-with_itself t a b x = answer_if (not (writes x)) (two (operator (of_type t a b)) x x)
+with_itself t a b x = answer_if (not (writes x) && not (asks x)) (two (operator (of_type t a b)) x x)
 
 abbrev pub or_self : IntegerType → Term Head → Option (Term Head)
 or_self t x = with_itself t 0x72 0x84 x
@@ -248,45 +249,45 @@ unfold_constant (node h no_terms) = option_map (λ t. one (unfold_head t) (node 
 unfold_constant x = None
 
 -- what a rule of a type makes of a term of that type
-abbrev pub by_its_type : (locals globals : List PrimitiveTypeInfo) → (IntegerType → Term Head → Option (Term Head)) → Term Head → Option (Term Head)
-by_its_type locals globals rule x = option_and_then (λ t. rule t x) (type_of_value locals globals x)
+abbrev pub by_its_type : Context → (IntegerType → Term Head → Option (Term Head)) → Term Head → Option (Term Head)
+by_its_type context rule x = option_and_then (λ t. rule t x) (type_of_value context x)
 
--- what the rule makes of a term, for these types of locals and globals
-abbrev pub rewrite : (locals globals : List PrimitiveTypeInfo) → Rule → Term Head → Option (Term Head)
-rewrite locals globals rule.Commute x = commute x
-rewrite locals globals rule.TurnComparison x = turn_comparison x
-rewrite locals globals rule.AssociateLeft x = associate_left x
-rewrite locals globals rule.AssociateRight x = associate_right x
-rewrite locals globals rule.AddZero x = by_its_type locals globals (λ t x. Some (add_zero t x)) x
-rewrite locals globals rule.SubZero x = by_its_type locals globals (λ t x. Some (sub_zero t x)) x
-rewrite locals globals rule.MulOne x = by_its_type locals globals (λ t x. Some (mul_one t x)) x
-rewrite locals globals rule.OrZero x = by_its_type locals globals (λ t x. Some (or_zero t x)) x
-rewrite locals globals rule.XorZero x = by_its_type locals globals (λ t x. Some (xor_zero t x)) x
-rewrite locals globals rule.AndOnes x = by_its_type locals globals (λ t x. Some (and_ones t x)) x
-rewrite locals globals rule.ShiftByZero x = by_its_type locals globals (λ t x. Some (shift_by_zero t x)) x
-rewrite locals globals rule.OrSelf x = by_its_type locals globals or_self x
-rewrite locals globals rule.AndSelf x = by_its_type locals globals and_self x
-rewrite locals globals rule.DoubleComplement x = by_its_type locals globals (λ t x. Some (double_complement t x)) x
-rewrite locals globals rule.ShiftToProduct x = shift_to_product x
-rewrite locals globals rule.ProductToShift x = product_to_shift x
-rewrite locals globals rule.DifferenceToSum x = difference_to_sum x
-rewrite locals globals rule.SumToDifference x = sum_to_difference x
-rewrite locals globals rule.TestToComparison x = test_to_comparison x
-rewrite locals globals rule.ComparisonToTest x = comparison_to_test x
-rewrite locals globals rule.TurnSelect x = turn_select x
-rewrite locals globals rule.Unfold x = unfold_constant x
-rewrite locals globals rule.ThroughGlobal x = by_its_type locals globals (λ t x. Some (by_way_of_global t x)) x
-rewrite locals globals rule.WithNop x = Some (with_nop x)
-rewrite locals globals rule.Fold x = fold x
-rewrite locals globals rule.DropAddZero x = drop_add_zero x
-rewrite locals globals rule.DropSubZero x = drop_sub_zero x
-rewrite locals globals rule.DropMulOne x = drop_mul_one x
-rewrite locals globals rule.DropOrZero x = drop_or_zero x
-rewrite locals globals rule.DropXorZero x = drop_xor_zero x
-rewrite locals globals rule.DropAndOnes x = drop_and_ones x
-rewrite locals globals rule.DropShiftByZero x = drop_shift_by_zero x
-rewrite locals globals rule.Forget x = forget x
+-- what the rule makes of a term, in the context
+abbrev pub rewrite : Context → Rule → Term Head → Option (Term Head)
+rewrite context rule.Commute x = commute x
+rewrite context rule.TurnComparison x = turn_comparison x
+rewrite context rule.AssociateLeft x = associate_left x
+rewrite context rule.AssociateRight x = associate_right x
+rewrite context rule.AddZero x = by_its_type context (λ t x. Some (add_zero t x)) x
+rewrite context rule.SubZero x = by_its_type context (λ t x. Some (sub_zero t x)) x
+rewrite context rule.MulOne x = by_its_type context (λ t x. Some (mul_one t x)) x
+rewrite context rule.OrZero x = by_its_type context (λ t x. Some (or_zero t x)) x
+rewrite context rule.XorZero x = by_its_type context (λ t x. Some (xor_zero t x)) x
+rewrite context rule.AndOnes x = by_its_type context (λ t x. Some (and_ones t x)) x
+rewrite context rule.ShiftByZero x = by_its_type context (λ t x. Some (shift_by_zero t x)) x
+rewrite context rule.OrSelf x = by_its_type context or_self x
+rewrite context rule.AndSelf x = by_its_type context and_self x
+rewrite context rule.DoubleComplement x = by_its_type context (λ t x. Some (double_complement t x)) x
+rewrite context rule.ShiftToProduct x = shift_to_product x
+rewrite context rule.ProductToShift x = product_to_shift x
+rewrite context rule.DifferenceToSum x = difference_to_sum x
+rewrite context rule.SumToDifference x = sum_to_difference x
+rewrite context rule.TestToComparison x = test_to_comparison x
+rewrite context rule.ComparisonToTest x = comparison_to_test x
+rewrite context rule.TurnSelect x = turn_select x
+rewrite context rule.Unfold x = unfold_constant x
+rewrite context rule.ThroughGlobal x = by_its_type context (λ t x. Some (by_way_of_global t x)) x
+rewrite context rule.WithNop x = Some (with_nop x)
+rewrite context rule.Fold x = fold x
+rewrite context rule.DropAddZero x = drop_add_zero x
+rewrite context rule.DropSubZero x = drop_sub_zero x
+rewrite context rule.DropMulOne x = drop_mul_one x
+rewrite context rule.DropOrZero x = drop_or_zero x
+rewrite context rule.DropXorZero x = drop_xor_zero x
+rewrite context rule.DropAndOnes x = drop_and_ones x
+rewrite context rule.DropShiftByZero x = drop_shift_by_zero x
+rewrite context rule.Forget x = forget x
 
 -- what it makes of the term of an expression's node; none where there is no such node
-abbrev pub rewrite_at : (locals globals : List PrimitiveTypeInfo) → Rule → List Lang → (at : ℕ) → Option (Term Head)
-rewrite_at locals globals r expr at = if nat_lt at (length expr) then rewrite locals globals r (term_at expr at) else None
+abbrev pub rewrite_at : Context → Rule → List Lang → (at : ℕ) → Option (Term Head)
+rewrite_at context r expr at = if nat_lt at (length expr) then rewrite context r (term_at expr at) else None

@@ -1,15 +1,15 @@
 -- What rules read of a term, and of its operands (this project).
-use Rattle.std.specs.Prelude.{ℕ, Bool, List, Option, Some, None}
-use Rattle.mutate_base.specs.declared.types.PrimitiveTypeInfo.{PrimitiveTypeInfo}
+use Rattle.std.specs.Prelude.{ℕ, Bool, Option, Some, None}
 use Rattle.peephole_lang.specs.declared.lang.Head.{Head}
 use Rattle.peephole_lang.specs.Term.{Term, Terms, absent, node, no_terms, ◌▸◌}
 use Rattle.peephole_machine.specs.declared.integer.IntegerType.TheVariants as integer
+use Rattle.peephole_machine.specs.Values.{Context}
 use Rattle.peephole_rules.specs.declared.shape.Operand.{Operand}
 use Rattle.peephole_rules.specs.declared.shape.Operands.{Operands}
 use Rattle.peephole_rules.specs.declared.shape.Operands.TheVariants.{Leaf, One, Two, Three, More}
 use Rattle.peephole_rules.specs.declared.shape.Shape.{Shape}
 use Rattle.peephole_rules.specs.Operator.{opcode_byte, has_one_value, constant_number}
-use Rattle.peephole_rules.specs.Effects.{writes, may_trap}
+use Rattle.peephole_rules.specs.Effects.{writes, may_trap, asks}
 use Rattle.peephole_rules.specs.ValueTypes.{type_of_value}
 
 abbrev pub opcode_of : Term Head → Option ℕ
@@ -33,6 +33,7 @@ operand_of x = record {
   one_value = has_one_value x;
   writes = writes x;
   may_trap = may_trap x;
+  asks = asks x;
   values = values_of x;
 }
 
@@ -47,9 +48,9 @@ abbrev pub operands_of : Term Head → Operands
 operands_of absent = Leaf
 operands_of (node h kids) = operands_in kids
 
-abbrev pub shape_of : (locals globals : List PrimitiveTypeInfo) → Term Head → Shape
-shape_of locals globals x = record {
-  value = type_of_value locals globals x;
+abbrev pub shape_of : Context → Term Head → Shape
+shape_of context x = record {
+  value = type_of_value context x;
   root = operand_of x;
   operands = operands_of x;
 }

@@ -2,6 +2,7 @@
 ghost use Rattle.std.specs.Prelude.{◌≡◌, ◌⊎◌, ◌+◌, ◌<◌, ◌^◌, length, option_map, is_some, IfOk, IfErr, IfSome};
 ghost use Rattle.mutate_base.specs.declared.error.Error.{Error};
 ghost use Rattle.peephole_graphs.specs.Layout.{AreWritable};
+ghost use Rattle.peephole_machine.specs.Values.{context_in};
 ghost use Rattle.peephole_terms.specs.Agrees.{StandsFor};
 ghost use Rattle.peephole_terms.specs.Expansion.{term_in};
 ghost use Rattle.peephole_rules.specs.Rewriting.{rewrite, rewrite_at};
@@ -48,8 +49,8 @@ impl Rule {
             Rule::XorZero => with_number(0x73, 0x85, 0, value),
             Rule::AndOnes => with_all_ones(0x71, 0x83, value),
             Rule::ShiftByZero => with_number(0x74, 0x86, 0, value),
-            Rule::OrSelf => twice(0x72, 0x84, shape.root.writes, value),
-            Rule::AndSelf => twice(0x71, 0x83, shape.root.writes, value),
+            Rule::OrSelf => twice(0x72, 0x84, shape.root.writes, shape.root.asks, value),
+            Rule::AndSelf => twice(0x71, 0x83, shape.root.writes, shape.root.asks, value),
             Rule::DoubleComplement => complements(0x73, 0x85, value),
             Rule::ShiftToProduct => product(number_behind(0x74, 0x86, opcode, operands)),
             Rule::ProductToShift => shift(number_behind(0x6C, 0x7E, opcode, operands)),
@@ -89,7 +90,7 @@ impl Rule {
         requires inside { at < length expr.now }
         requires effects { AreEffects effects.now expr.now }
         ensures { IsAnswer result (term_at expr.now at)
-            (rewrite locals.now info.now.globals self (term_at expr.now at)) }
+            (rewrite (context_in info.now locals.now) self (term_at expr.now at)) }
     {
         self.choice(shape(locals, info, effects, expr, at))
     }
@@ -107,7 +108,7 @@ impl Rule {
         at: usize,
     ) -> bool
         requires { AreEffects effects.now expr.now }
-        ensures { result ≡ is_some (rewrite_at locals.now info.now.globals self expr.now at) }
+        ensures { result ≡ is_some (rewrite_at (context_in info.now locals.now) self expr.now at) }
     {
         if at >= expr.len() {
             return false;
@@ -135,9 +136,9 @@ impl Rule {
     ) -> Result<Option<RecExpr<Lang>>, Error>
         ensures rewritten { IfOk result (λ o. option_map term_in o
             ≡ option_map (grafted expr.now at)
-            (rewrite_at locals.now info.now.globals self expr.now at)) }
+            (rewrite_at (context_in info.now locals.now) self expr.now at)) }
         ensures stands { IfOk result (λ o. IfSome o (λ new.
-            StandsFor locals.now info.now.globals (term_in expr.now) (term_in new))) }
+            StandsFor (context_in info.now locals.now) (term_in expr.now) (term_in new))) }
         ensures some { IfOk result (λ o. IfSome o (λ new. 0 < length new)) }
         ensures writable { AreWritable expr.now
             → IfOk result (λ o. IfSome o (λ new. AreWritable new)) }

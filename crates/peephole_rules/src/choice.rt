@@ -16,11 +16,11 @@ fn answer_if(met: bool, replacement: Replacement) -> Option<Replacement>
     if met { Some(replacement) } else { None }
 }
 
-// Whether each leaves one value, and neither may write a variable.
+// Whether each leaves one value, neither may write, and at most one may trap.
 fn are_undisturbed(x: Operand, y: Operand) -> bool
     ensures { result ≡ are_undisturbed x y }
 {
-    (x.one_value && y.one_value) && (!x.writes && !y.writes)
+    (x.one_value && y.one_value) && ((!x.writes && !y.writes) && !(x.may_trap && y.may_trap))
 }
 
 /// The number of a constant of the type.
@@ -160,18 +160,19 @@ pub(crate) fn complements(
     Some(Replacement::Complements(of_type(t, i32_opcode, i64_opcode), t, all_ones(t)))
 }
 
-/// The node twice, with the operator of its type, where it may write no variable.
+/// The node twice, with the operator of its type, where it may not write and asks no world.
 pub(crate) fn twice(
     i32_opcode: u8,
     i64_opcode: u8,
     writes: bool,
+    asks: bool,
     value: Option<IntegerType>,
 ) -> Option<Replacement>
-    ensures { result ≡ twice i32_opcode i64_opcode writes value }
+    ensures { result ≡ twice i32_opcode i64_opcode writes asks value }
 {
     let t = value?;
     answer_if(
-        !writes,
+        !writes && !asks,
         Replacement::Twice(of_type(t, i32_opcode, i64_opcode)),
     )
 }
@@ -270,7 +271,7 @@ pub(crate) fn through_global(value: Option<IntegerType>) -> Option<Replacement>
     Some(Replacement::UseGlobal(value?))
 }
 
-/// Nothing in the place of a drop, where its operand may neither write a variable nor trap.
+/// Nothing in the place of a drop, where its operand may neither write nor trap.
 pub(crate) fn forgotten(opcode: Option<u8>, operands: Operands) -> Option<Replacement>
     ensures { result ≡ forgotten opcode operands }
 {

@@ -2,14 +2,13 @@
 ghost use Rattle.std.specs.Prelude.{◌≡◌, ◌<◌, ℕ, false, length, get_or, IfOk, IfErr};
 ghost use Rattle.std.specs.List.{All};
 ghost use Rattle.mutate_base.specs.declared.error.Error.{Error};
-ghost use Rattle.peephole_lang.specs.Node.{head_of};
+ghost use Rattle.peephole_lang.specs.Node.{head_of, instr_of_head};
 ghost use Rattle.peephole_lang.specs.Term.{AreBelow, numbers_of};
-ghost use Rattle.peephole_rules.specs.Operator.{opcode_byte};
 ghost use Rattle.peephole_rules.specs.Grafted.{expression_nodes, term_at};
 ghost use Rattle.peephole_rules.specs.Flags.{any_flag, node_may, term_may};
 
 use crate::effect::Effect;
-use crate::operator::{is_trapper, is_writer};
+use crate::operator::{is_asker, is_trapper, is_writer};
 use mutate_base::Error;
 use peephole_lang::{Id, Lang};
 use std::alloc::Global;
@@ -29,11 +28,12 @@ fn any_flag(flags: &[bool], ids: &[Id]) -> bool
 
 // Whether the node may do so by itself.
 fn node_may(effect: Effect, node: &Lang) -> bool
-    ensures { result ≡ node_may effect (opcode_byte (head_of node.now)) }
+    ensures { result ≡ node_may effect (instr_of_head (head_of node.now)) }
 {
     match effect {
         Effect::Write => is_writer(node),
         Effect::Trap => is_trapper(node),
+        Effect::Ask => is_asker(node),
     }
 }
 

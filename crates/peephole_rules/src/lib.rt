@@ -1,4 +1,4 @@
-//! Rules that rewrite terms of integer instructions, and keep what they mean.
+//! Rules that rewrite terms, and keep what they mean.
 #![tactic(auto)]
 
 mod apply;

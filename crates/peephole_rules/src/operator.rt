@@ -3,14 +3,15 @@ ghost use Rattle.std.specs.Prelude.{◌≡◌, [], ◌∷◌, option_and_then};
 ghost use Rattle.std.specs.Int.{cast_signed};
 ghost use Rattle.peephole_machine.specs.Values.{width_of};
 ghost use Rattle.peephole_lang.specs.Lang.{ids_of};
-ghost use Rattle.peephole_lang.specs.Node.{head_of};
-ghost use Rattle.peephole_rules.specs.Operator.{opcode_byte, is_in, is_among, are_same, type_by, commutative, associative, turned, writers, statements, is_value, of_type, operator, constant_head, within_width, unfold_head, use_global_head};
-ghost use Rattle.peephole_rules.specs.Effects.{is_writer, is_trapper};
+ghost use Rattle.peephole_lang.specs.Node.{head_of, instr_of_head};
+ghost use Rattle.peephole_rules.specs.Operator.{instruction_byte, opcode_byte, is_in, is_among, are_same, type_by, commutative, associative, turned, writers, is_one, gives_one, is_value, of_type, operator, constant_head, within_width, unfold_head, use_global_head};
+ghost use Rattle.peephole_rules.specs.Effects.{is_writer, is_trapper, is_asker};
 ghost use Rattle.peephole_rules.specs.Replacement.{IsBinary, IsUnary};
 
 use crate::constant::low_half;
 use peephole_lang::{Id, Lang, Numeric};
-use peephole_machine::IntegerType;
+use peephole_machine::{IntegerType, asks_world, changes, may_trap};
+use wasm_code::{Instr, ResultKind, RowInfo, row_info};
 
 // The operators whose operands may change places: eq and ne; add, mul, and, or, xor; of i32 and of i64.
 const COMMUTATIVE: [u8; 14] = [
@@ -25,9 +26,6 @@ const GREATER: [u8; 8] = [0x4A, 0x4B, 0x4E, 0x4F, 0x55, 0x56, 0x59, 0x5A];
 
 // The operators that may be grouped either way: add, mul, and, or, xor.
 const ASSOCIATIVE: [u8; 10] = [0x6A, 0x6C, 0x71, 0x72, 0x73, 0x7C, 0x7E, 0x83, 0x84, 0x85];
-
-// nop, drop, local.set, global.set: they leave no value.
-const STATEMENTS: [u8; 4] = [0x01, 0x1A, 0x21, 0x24];
 
 // local.set, local.tee, global.set.
 const WRITERS: [u8; 3] = [0x21, 0x22, 0x24];
@@ -142,33 +140,82 @@ fn turned(byte: u8) -> Option<u8>
     }
 }
 
-/// Whether a term with this root leaves one value, as the root's opcode tells: it is one byte, and none of `nop`, `drop`,
-/// `local.set` and `global.set`.
-pub fn has_one_value(node: &Lang) -> bool
-    ensures { result ≡ is_value (opcode_byte (head_of node.now)) }
+// Whether a column of results names one.
+fn is_one(column: ResultKind) -> bool
+    ensures { result ≡ is_one column }
 {
-    match opcode_byte(node) {
-        Some(byte) => !is_in(&STATEMENTS, byte),
+    match column {
+        ResultKind::Nothing => false,
+        ResultKind::Call => false,
+        _ => true,
+    }
+}
+
+fn gives_one(info: Option<RowInfo>) -> bool
+    ensures { result ≡ gives_one info }
+{
+    match info {
+        Some(info) => is_one(info.result),
         None => false,
     }
 }
 
-/// Whether the node may write a variable.
-pub(crate) fn is_writer(node: &Lang) -> bool
-    ensures { result ≡ is_writer (opcode_byte (head_of node.now)) }
+/// Whether a term with this root leaves one value, as the result column of the instruction table tells; not known of a call.
+pub fn has_one_value(node: &Lang) -> bool
+    ensures { result ≡ is_value (instr_of_head (head_of node.now)) }
 {
-    match opcode_byte(node) {
-        Some(byte) => is_in(&WRITERS, byte),
+    match node.instr() {
+        Some(instr) => gives_one(row_info(instr.row())),
+        None => false,
+    }
+}
+
+// Whether the instruction sets a variable or changes anything else, by its opcode where that is one byte.
+fn writes_by(opcode: Option<u8>, instr: &Instr) -> bool
+    requires { opcode ≡ instruction_byte (Some instr.now) }
+    ensures { result ≡ is_writer (Some instr.now) }
+{
+    let sets = is_among(&WRITERS, opcode);
+    let changed = changes(instr);
+    sets || changed
+}
+
+/// Whether the node may write a variable, or change anything else.
+pub(crate) fn is_writer(node: &Lang) -> bool
+    ensures { result ≡ is_writer (instr_of_head (head_of node.now)) }
+{
+    match node.instr() {
+        Some(instr) => writes_by(opcode_byte(node), &instr),
         None => true,
     }
 }
 
+// Whether the instruction may trap, by its opcode where that is one byte.
+fn traps_by(opcode: Option<u8>, instr: &Instr) -> bool
+    requires { opcode ≡ instruction_byte (Some instr.now) }
+    ensures { result ≡ is_trapper (Some instr.now) }
+{
+    let divides = is_among(&TRAPPERS, opcode);
+    let fails = may_trap(instr);
+    divides || fails
+}
+
 /// Whether the node may trap.
 pub(crate) fn is_trapper(node: &Lang) -> bool
-    ensures { result ≡ is_trapper (opcode_byte (head_of node.now)) }
+    ensures { result ≡ is_trapper (instr_of_head (head_of node.now)) }
 {
-    match opcode_byte(node) {
-        Some(byte) => is_in(&TRAPPERS, byte),
+    match node.instr() {
+        Some(instr) => traps_by(opcode_byte(node), &instr),
+        None => true,
+    }
+}
+
+/// Whether the node does as the world says.
+pub(crate) fn is_asker(node: &Lang) -> bool
+    ensures { result ≡ is_asker (instr_of_head (head_of node.now)) }
+{
+    match node.instr() {
+        Some(instr) => asks_world(&instr),
         None => true,
     }
 }

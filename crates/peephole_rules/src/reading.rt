@@ -3,6 +3,7 @@ ghost use Rattle.std.specs.Prelude.{◌≡◌, ◌<◌, length};
 ghost use Rattle.std.specs.List.{All};
 ghost use Rattle.peephole_lang.specs.Node.{children_of};
 ghost use Rattle.peephole_lang.specs.Term.{AreBelow, pick};
+ghost use Rattle.peephole_machine.specs.Values.{context_in};
 ghost use Rattle.peephole_rules.specs.Grafted.{expression_nodes, term_at};
 ghost use Rattle.peephole_rules.specs.Flags.{AreEffects};
 ghost use Rattle.peephole_rules.specs.Shape.{values_in, operand_of, operands_of, shape_of};
@@ -46,6 +47,7 @@ fn operand(effects: &Effects, nodes: &[Lang], at: usize) -> Operand
         one_value: has_one_value(node),
         writes: effects.writes(at),
         may_trap: effects.may_trap(at),
+        asks: effects.asks(at),
         values: values(nodes, node),
     }
 }
@@ -83,11 +85,11 @@ pub(crate) fn shape(
 ) -> Shape
     requires inside { at < length expr.now }
     requires effects { AreEffects effects.now expr.now }
-    ensures { result ≡ shape_of locals.now info.now.globals (term_at expr.now at) }
+    ensures { result ≡ shape_of (context_in info.now locals.now) (term_at expr.now at) }
 {
     let nodes = expr.as_ref();
     Shape {
-        value: value_type(locals, info, &nodes[at]),
+        value: value_type(locals, info, expr, at),
         root: operand(effects, nodes, at),
         operands: operands(effects, nodes, at),
     }

@@ -74,7 +74,7 @@ pub enum Rule {
     DropAndOnes,
     /// `shl x 0` to `x`.
     DropShiftByZero,
-    /// `drop x` to nothing, where `x` may neither write a variable nor trap.
+    /// `drop x` to nothing, where `x` may neither write nor trap.
     Forget,
 }
 

@@ -12,10 +12,12 @@ pub(crate) struct Operand {
     pub i64_number: Option<u64>,
     /// Whether it leaves one value.
     pub one_value: bool,
-    /// Whether it may write a variable.
+    /// Whether it may write.
     pub writes: bool,
     /// Whether it may trap.
     pub may_trap: bool,
+    /// Whether it may ask the world.
+    pub asks: bool,
     /// Of a root with two children, whether the first and whether the second leaves one value.
     pub values: Option<(bool, bool)>,
 }

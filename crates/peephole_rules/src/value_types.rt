@@ -1,22 +1,16 @@
 //! The type of the value that a node leaves.
-ghost use Rattle.std.specs.Prelude.{◌≡◌, slice_get, option_and_then};
-ghost use Rattle.peephole_lang.specs.Node.{instr_of};
-ghost use Rattle.peephole_rules.specs.ValueTypes.{integer_val, integer_of, column_type, instruction_value};
+ghost use Rattle.std.specs.Prelude.{◌≡◌, ◌<◌, [], length};
+ghost use Rattle.std.specs.List.{All};
+ghost use Rattle.peephole_lang.specs.Node.{head_of, children_of};
+ghost use Rattle.peephole_lang.specs.Term.{AreBelow, pick};
+ghost use Rattle.peephole_machine.specs.Row.{list_of};
+ghost use Rattle.peephole_machine.specs.Values.{context_in};
+ghost use Rattle.peephole_rules.specs.Grafted.{expression_nodes, term_at};
+ghost use Rattle.peephole_rules.specs.ValueTypes.{integer_of, head_type, first_types, type_of_value};
 
 use mutate_base::{ModuleInfo, PrimitiveTypeInfo};
-use peephole_lang::Lang;
-use peephole_machine::IntegerType;
-use wasm_code::{Imm, Instr, ResultKind, ValType, row_info};
-
-fn integer_val(t: ValType) -> Option<IntegerType>
-    ensures { result ≡ integer_val t }
-{
-    match t {
-        ValType::I32 => Some(IntegerType::I32),
-        ValType::I64 => Some(IntegerType::I64),
-        _ => None,
-    }
-}
+use peephole_lang::{Lang, RecExpr};
+use peephole_machine::{IntegerType, column_type};
 
 /// The integer type that it is, or none.
 pub(crate) fn integer_of(t: PrimitiveTypeInfo) -> Option<IntegerType>
@@ -29,40 +23,56 @@ pub(crate) fn integer_of(t: PrimitiveTypeInfo) -> Option<IntegerType>
     }
 }
 
-fn variable_type(types: &[PrimitiveTypeInfo], index: u32) -> Option<IntegerType>
-    ensures { result ≡ option_and_then integer_of (slice_get types.now index) }
-{
-    integer_of(*types.get(index as usize)?)
-}
-
-fn column_type(
+// What a node leaves by its column, where its first operand's type is known to be `first`.
+fn head_type(
     locals: &[PrimitiveTypeInfo],
-    globals: &[PrimitiveTypeInfo],
-    column: ResultKind,
-    imm: Imm,
-) -> Option<IntegerType>
-    ensures { result ≡ column_type locals.now globals.now column imm }
+    info: &ModuleInfo<'_>,
+    root: &Lang,
+    first: Option<PrimitiveTypeInfo>,
+) -> Option<PrimitiveTypeInfo>
+    ensures { result
+        ≡ head_type (context_in info.now locals.now) (list_of first) (head_of root.now) }
 {
-    match (column, imm) {
-        (ResultKind::Fixed(t), _) => integer_val(t),
-        (ResultKind::Local, Imm::Index(index)) => variable_type(locals, index),
-        (ResultKind::Global, Imm::Index(index)) => variable_type(globals, index),
-        _ => None,
-    }
+    column_type(info, locals, &root.instr()?, first)
 }
 
-/// The type of the value that a node leaves, where it is i32 or i64 and the result column of the instruction table tells it:
-/// the row's own type, or that of the local or the global that the immediate names. None for every other node, `select`
-/// among them (operand and result types: WebAssembly Core Specification 3.0, Validation, Instructions).
+// The type of a node's first operand, where the operand's own column tells it.
+fn first_type(
+    locals: &[PrimitiveTypeInfo],
+    info: &ModuleInfo<'_>,
+    nodes: &[Lang],
+    root: &Lang,
+) -> Option<PrimitiveTypeInfo>
+    requires below { AreBelow (expression_nodes nodes.now) }
+    requires inside { All (λ i. i < length nodes.now) (children_of root.now) }
+    ensures { list_of result ≡ first_types (context_in info.now locals.now)
+        (pick (term_at nodes.now) (children_of root.now)) }
+{
+    let ids = root.children();
+    if ids.is_empty() {
+        return None;
+    }
+    head_type(locals, info, &nodes[ids[0].0 as usize], None)
+}
+
+/// The type of the value that a node's term leaves, where it is i32 or i64 and the result column of the instruction table tells
+/// it: the node's own type, that of the local, the global, the function, the memory or the table that it names, or, of a
+/// `select`, that of its first operand, where this operand's own column tells it. None for every other node, and for a place that
+/// isn't there (operand and result types: WebAssembly Core Specification 3.0, Validation, Instructions).
 pub fn value_type(
     locals: &[PrimitiveTypeInfo],
     info: &ModuleInfo<'_>,
-    node: &Lang,
+    expr: &RecExpr<Lang>,
+    at: usize,
 ) -> Option<IntegerType>
-    ensures { result ≡ option_and_then (instruction_value locals.now info.now.globals)
-        (instr_of node.now) }
+    ensures { result ≡ type_of_value (context_in info.now locals.now) (term_at expr.now at) }
 {
-    let instr = node.instr()?;
-    let row = row_info(instr.row())?;
-    column_type(locals, &info.global_types, row.result, instr.imm())
+    let nodes = expr.as_ref();
+    if at >= nodes.len() {
+        return None;
+    }
+    let root = &nodes[at];
+    let first = first_type(locals, info, nodes, root);
+    let t = head_type(locals, info, root, first)?;
+    integer_of(t)
 }

@@ -8,6 +8,7 @@ use Rattle.wasm_code.specs.declared.operator.Operator.{Operator}
 use Rattle.mutate_base.specs.declared.error.Error.{Error}
 use Rattle.peephole_lang.specs.declared.lang.Head.{Head}
 use Rattle.peephole_lang.specs.Term.{Term}
+use Rattle.peephole_graphs.specs.Block.{IsBlockIn}
 use Rattle.peephole_graphs.specs.Entries.{Graph, entry_tree}
 use Rattle.peephole_graphs.specs.Forest.{forest}
 use Rattle.peephole_graphs.specs.GraphOf.{IsGraphOf}
@@ -16,7 +17,7 @@ use Rattle.peephole_terms.specs.EncoderSteps.{Writing}
 use Rattle.peephole_terms.specs.Expansion.{Setting, draw_words, draws_of, request}
 use Rattle.peephole_terms.specs.Laws.{WritesItsOwnTrees, OwnTreesAreKept, OperatorsHaveEntries}
 use Rattle.peephole_terms.specs.ReadAgain.{AppendsReadable, RereadsOwnTrees}
-use Rattle.peephole_terms.specs.Written.{Site, source_at, block_operators, is_written, block_shapes, written_block, written_body, IsBodyIn, IsBlockIn}
+use Rattle.peephole_terms.specs.Written.{Site, source_at, block_operators, is_written, block_shapes, written_block, written_body, IsBodyIn}
 use Rattle.peephole_terms.proofs.ReadAgainLemmas.{reads_again}
 use Rattle.peephole_terms.proofs.RereadLemmas.{reread}
 use Rattle.peephole_terms.proofs.RootTerms.{not_replaced, own_replaced, own_itself, term_where}

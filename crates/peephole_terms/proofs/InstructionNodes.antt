@@ -7,7 +7,7 @@ use Rattle.peephole_terms.proofs.TermOfLemmas.{row_kind}
 
 pub mean_by_their_rows : MeanByTheirRows
 mean_by_their_rows = record {
-  types = λ locals globals h kids i e. rw (row_kind h i e) refl;
+  types = λ context h kids i e. rw (row_kind h i e) refl;
   means = λ words h kids i s e. rw (row_kind h i e) refl;
   draws = λ h kids i e. rw (row_kind h i e) (append-nil (draws kids));
 }

@@ -12,10 +12,10 @@ pub mod AgainLemmas
 pub mod MeaningRows
 pub mod MeaningLemmas
 pub mod StackCodeLemmas
-pub mod ValueLemmas
 pub mod WordLemmas
 pub mod AgreesLemmas
 pub mod InstructionNodes
 pub mod SameRunLemmas
+pub mod IntegerBlockLemmas
 pub mod TermOfLemmas
 pub mod SameAnswersLemmas

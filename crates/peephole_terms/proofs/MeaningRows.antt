@@ -4,26 +4,26 @@ use Rattle.std.specs.Prelude.{slice_get, FitsSigned}
 use Rattle.std.specs.Int.{Width, w32, w64, cast_signed, cast_unsigned, int_wrapping_add, int_wrapping_sub}
 use Rattle.std.proofs.Math.Facts.{sfits_to_z}
 use Rattle.std.proofs.lemmas.Int.{of_z-to_z, to_z-of_z}
-use Rattle.std.proofs.Math.Nat.{mod-lt, mod-mod, mod-eq_of_lt}
+use Rattle.std.proofs.Math.Nat.{mod-lt, mod-eq_of_lt}
 use mir.Val.{bits}
 use mir.ValLaws.{of_z_fits}
 use Rattle.wasm_code.specs.Instruction.{Instruction}
 use Rattle.wasm_code.specs.Table.{row_at, table}
 use Rattle.wasm_code.specs.declared.immediate.Imm.{Imm}
 use Rattle.wasm_code.specs.declared.immediate.Imm.TheVariants as imm
+use Rattle.mutate_base.specs.declared.types.PrimitiveTypeInfo.{PrimitiveTypeInfo}
 use Rattle.peephole_machine.specs.declared.integer.IntegerType.TheVariants as integer
-use Rattle.peephole_machine.specs.Values.{type_of, width_of, Value, whole, types, State, global, write, Ends}
+use Rattle.peephole_machine.specs.Values.{width_of, Value, whole, types, Context, State, global, write, Ends}
 use Rattle.peephole_machine.specs.Integer.{binary, add}
 use Rattle.peephole_machine.specs.IntegerRow as rows
-use Rattle.peephole_machine.specs.IntegerRow.{integer_row}
+use Rattle.peephole_machine.specs.IntegerRow.{integer_row, row_types}
+use Rattle.peephole_machine.specs.OtherRow.{other_type}
 use Rattle.peephole_machine.specs.Machine.{run}
-use Rattle.peephole_machine.specs.OutcomeLemmas.{run_one}
-use Rattle.peephole_machine.specs.RangeLemmas.{sum_split, run_op, run_sum, run_through}
+use Rattle.peephole_machine.specs.RangeLemmas.{sum_split, run_sum, run_through}
 use Rattle.peephole_terms.specs.declared.encoder.node_kind.NumberType.TheVariants as number
 use Rattle.peephole_terms.specs.NodeKind.{NumberType, IntegerType, number_of, primitive_of}
 use Rattle.peephole_terms.specs.Expansion.{constant, rest_of, add_of, sum, set_global, get_global}
 use Rattle.peephole_terms.specs.Laws.{AddUpTo, UnfoldsAddUp}
-use Rattle.peephole_terms.specs.Typing.{integer_type}
 
 -- ---- rows
 
@@ -85,19 +85,13 @@ add_row integer.I64 = refl
 
 -- ---- runs
 
-pub number_type : (t : NumberType) (u : IntegerType) → integer_type t ≡ Some u → (t ≡ number_of u) × (primitive_of t ≡ type_of u)
-number_type number.I32 u e = let k : integer.I32 ≡ u = cc in (ap number_of k, ap type_of k)
-number_type number.I64 u e = let k : integer.I64 ≡ u = cc in (ap number_of k, ap type_of k)
-number_type _ u e = absurd cc
-
--- the constant of a word
-pub run_word : (t : NumberType) (u : IntegerType) (word : ℕ) (stack : List Value) (s : State) → integer_type t ≡ Some u →
-    run (constant t word ∷ []) stack s ≡ Ends (stack ++ whole u word ∷ []) s
-run_word t u word stack s e =
-    let size = 2 ^ bits (width_of u) in
-    ap (λ (x : NumberType). run (constant x word ∷ []) stack s) (number_type t u e).0 ∙
-    (run_one (constant (number_of u) word) (rows.constant u (word % size)) stack s (constant_row u word) ∙
-    (run_op u (word % size) stack s ∙ ap (λ (n : ℕ). Ends (stack ++ record { type = type_of u; number = n } ∷ []) s) (mod-mod word size)))
+-- the constant of a word has the word's type
+pub constant_types : (context : Context) (t : NumberType) (word : ℕ) → row_types context (integer_row (constant t word)) [] ≡ Some (primitive_of t ∷ [])
+unfolding integer_row row_at table other_type
+constant_types context number.I32 word = refl
+constant_types context number.I64 word = refl
+constant_types context number.F32 word = refl
+constant_types context number.F64 word = refl
 
 -- a number as the sum of a word and the rest
 pub run_sum_of : (t : IntegerType) (word : ℕ) (z : ℤ) (stack : List Value) (s : State) →
@@ -107,8 +101,8 @@ run_sum_of t word z stack s =
     (rest_row t word z) (add_row t)
 
 -- a value that is put into a global and read from it again
-pub run_through_global : (t : IntegerType) (g : ℕ) (v : Value) (stack : List Value) (s : State) → v.type ≡ type_of t →
-    slice_get (types s.globals) g ≡ Some (type_of t) →
+pub run_through_global : (t : PrimitiveTypeInfo) (g : ℕ) (v : Value) (stack : List Value) (s : State) → v.type ≡ t →
+    slice_get (types s.globals) g ≡ Some t →
     run (set_global g ∷ get_global g ∷ []) (stack ++ v ∷ []) s ≡ Ends (stack ++ v ∷ []) (write (global g) v s)
 unfolding integer_row row_at table
 run_through_global t g v stack s hv hg = run_through t g v (set_global g) (get_global g) stack s refl refl hv hg

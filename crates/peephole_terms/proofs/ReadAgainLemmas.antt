@@ -12,8 +12,8 @@ use Rattle.wasm_code.specs.Body.{AreSpelled, bytes_of, with_offsets, is_end, end
 use Rattle.wasm_code.specs.Operator.{is_delimiter}
 use Rattle.wasm_code.specs.declared.operator.Operator.{Operator}
 use Rattle.wasm_code.specs.declared.operator.Operator.TheVariants.{Instr, End}
-use Rattle.peephole_graphs.specs.Block.{BlockRange}
-use Rattle.peephole_terms.specs.Written.{Site, site_at, offset_of, before_block, after_block, written_body, IsBodyIn, IsBlockIn}
+use Rattle.peephole_graphs.specs.Block.{BlockRange, IsBlockIn}
+use Rattle.peephole_terms.specs.Written.{Site, site_at, offset_of, before_block, after_block, written_body, IsBodyIn}
 use Rattle.peephole_terms.specs.ReadAgain.{without_offsets, ReadsAgain}
 use Rattle.peephole_terms.specs.EncoderSteps.{IsInside}
 use Rattle.peephole_terms.proofs.SpellingLemmas.{Spelling, CodesSpell, spelled, spellings_of, spelled_append, spelled_take, spelled_drop, bytes_of-append}
@@ -130,14 +130,13 @@ last_delimits (x ∷ y ∷ xs) e =
 -- something stands behind a block
 before_last : (operators : List (Operator × ℕ)) (block : BlockRange) → IsTrue (ends operators) → IsBlockIn operators block → block.end < length operators
 before_last operators block e b =
-    let end_is : block.end ≡ b.index + 1 = b.is.last in
+    let some = b.some in
     let inside = b.inside in
-    elim (eqb_tells (b.index + 1) (length operators)) [
+    elim (eqb_tells block.end (length operators)) [
       | inl h ↦
           let last = last_delimits operators e in
-          let whole : b.index + 1 ≡ length operators = h.1 in
-          let at : b.index ≡ length operators - 1 = omega arith in
-          absurd (false≢true (sym (b.is.none b.index last.0 b.is.some (omega arith) (ap (λ k. slice_get operators k) at ∙ last.1)) ∙ last.2))
+          let whole : block.end ≡ length operators = h.1 in
+          absurd (false≢true (sym (b.none (length operators - 1) last.0 (omega arith) (omega arith) last.1) ∙ last.2))
       | inr h ↦ let not_whole = h.1 in omega arith
     ]
 
@@ -156,8 +155,7 @@ spelled_in input operators block b k =
     let h = spellings_of operators b.from (slice_range input b.from b.to) b.spells.all in
     let n : length operators ≡ length h.spellings = ap (λ (xs : List (Operator × ℕ)). length xs) (sym h.read) ∙ length-with_offsets b.from h.spellings in
     let end_in : block.end < length operators = before_last operators block b.spells.last k in
-    let end_is = k.is.last in
-    let start_in = k.is.some in
+    let some = k.some in
     record {
       from = b.from;
       to = b.to;
@@ -194,7 +192,7 @@ inside input operators block b k =
     let last_at : offset_of operators (length operators - 1) ≡ h.from + length (bytes_of (take last h.ps)) =
     ap (λ (k : ℕ). offset_of operators (k - 1)) n ∙ starts_at h.is last (omega arith) in
     let end_less = joined_less h.ps block.end last (omega arith) in
-    let start_less = joined_less h.ps block.start last (let l = k.is.some in let m = k.is.last in omega arith) in
+    let start_less = joined_less h.ps block.start last (let l = k.some in omega arith) in
     let one = last_size h.ps h.is.each h.is.last in
     let size = h.is.stands.size in
     let to_in = h.within in

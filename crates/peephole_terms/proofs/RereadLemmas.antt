@@ -13,7 +13,7 @@ use Rattle.wasm_code.specs.Body.{bytes_of, with_offsets, SpellsBody}
 use Rattle.wasm_code.specs.declared.operator.Operator.{Operator}
 use Rattle.wasm_code.specs.declared.operator.Operator.TheVariants.{Instr}
 use Rattle.mutate_base.specs.Module.{Module}
-use Rattle.peephole_graphs.specs.Block.{BlockRange, HasNoDelimiter}
+use Rattle.peephole_graphs.specs.Block.{BlockRange, HasNoDelimiter, IsBlockIn, IsBlockOf}
 use Rattle.peephole_graphs.specs.declared.shape.Shape.{Shape}
 use Rattle.peephole_graphs.specs.declared.shape.Judged.{Judged}
 use Rattle.peephole_graphs.specs.declared.shape.Judged.TheVariants.{Fits}
@@ -21,7 +21,7 @@ use Rattle.peephole_graphs.specs.Shape.{IsFit, AreFit, judge, judge_instruction,
 use Rattle.peephole_graphs.specs.Tree.{Tree, Trees, entry, node, no_trees, ◌▸◌, join, postfix_of, postfix, shapes_of, shapes, instructions_of, instructions}
 use Rattle.peephole_graphs.specs.Tree.{renumber}
 use Rattle.peephole_graphs.specs.Forest.{low, from_height, at_height, operator_tree, trees, is_operand, without, forest, IsInOrder}
-use Rattle.peephole_terms.specs.Written.{Site, site_at, block_operators, block_shapes, written_body, IsBodyIn, IsBlockIn}
+use Rattle.peephole_terms.specs.Written.{Site, site_at, block_operators, block_shapes, written_body, IsBodyIn}
 use Rattle.peephole_terms.specs.ReadAgain.{without_offsets, IsReread}
 use Rattle.peephole_terms.proofs.RootTerms.{All-reverse, All-front, All-back}
 use Rattle.peephole_graphs.proofs.BuilderLemmas.{block_length, operator_fits}
@@ -227,20 +227,24 @@ module _ {operators again : List (Operator × ℕ)} {block : BlockRange} {code :
       from_alone again k o.0 (ap (λ (xs : List Operator). slice_get xs k) h.are ∙ (get_front front (middle ++ back) k (omega arith)
       ∙ (get_taken block.start (without_offsets operators) k l ∙ get_alone operators k o e)))
 
-  -- it is a block again
-  block_again : length again ≡ length operators → IsBlockIn operators block → IsBlockIn again block
-  block_again n b = record {
-    index = b.index;
-    inside = let l = b.inside in omega arith;
-    is = record {
-      last = b.is.last;
-      some = b.is.some;
-      none = inside_again;
-      longest = λ from all. b.is.longest from (λ k o low high e. elim (before_or_in k) [
-        | inl before ↦ let p = before_again k o before e in ap is_delimiter (sym p.2) ∙ all k p.0 low high p.1
-        | inr behind ↦ b.is.none k o behind high e
-      ]);
-    };
+  -- it is a range without a delimiter again
+  range_is_again : length again ≡ length operators → IsBlockIn operators block → IsBlockIn again block
+  range_is_again n b = record {
+    some = b.some;
+    inside = omega (arith, b.inside, n);
+    none = inside_again;
+  }
+
+  -- and the block of an operator again
+  block_again : (index : ℕ) → IsBlockOf operators index block.start block.end → IsBlockOf again index block.start block.end
+  block_again index b = record {
+    last = b.last;
+    some = b.some;
+    none = inside_again;
+    longest = λ from all. b.longest from (λ k o low high e. elim (before_or_in k) [
+      | inl before ↦ let p = before_again k o before e in ap is_delimiter (sym p.2) ∙ all k p.0 low high p.1
+      | inr behind ↦ b.none k o behind high e
+    ]);
   }
     where
       before_or_in : (k : ℕ) → (k < block.start) ⊎ (block.start ≤ k)
@@ -293,7 +297,7 @@ reread spell info site b k fit all =
     let again = with_offsets 0 qs in
     let n = count_is h.is in
     let end_in : block.end < length h.ps = h.end_there in
-    let ordered : block.start ≤ block.end = let last = k.is.last in let some = k.is.some in omega arith in
+    let ordered : block.start ≤ block.end = let some = k.some in omega arith in
     let size : length code ≡ block.end - block.start =
     ap (λ (is : List Instruction). length is) (instructions_are (forest shaped)) ∙ (length-map (shapes (forest shaped)) (λ (s : Shape). s.instr)
     ∙ (count_forest shaped ∙ (block_length info os fit ∙ block_size operators block ordered (omega arith)))) in
@@ -321,7 +325,8 @@ reread spell info site b k fit all =
     record {
       again = again;
       spells = subst (λ (t : List ℕ). SpellsBody 0 t again) (sym text) (spells_again (bytes_of qs) (length (bytes_of qs)) qs again body refl);
-      there = block_again is_again (length-with_offsets 0 qs ∙ (same_length ∙ sym n)) k;
+      there = range_is_again is_again (length-with_offsets 0 qs ∙ (same_length ∙ sym n)) k;
+      found = block_again is_again;
       fit = judged.1;
       same = kept;
       order = subst IsInOrder (sym new) (written_in_order shaped);

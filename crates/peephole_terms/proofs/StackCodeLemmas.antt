@@ -1,33 +1,33 @@
 -- A typed term's instructions do what the term means.
-use Rattle.std.proofs.Common.{◌≡◌, ℕ, ℤ, zero, suc, ◌+◌, ◌≤◌, Bool, true, false, cond, List, [], ◌∷◌, ◌++◌, length, map, drop, Option, Some, None, Result, Ok}
-use Rattle.std.proofs.Common.{Err, refl, sym, ap, ap₂, ◌∙◌, subst, arith, append_assoc, append-nil}
-use Rattle.std.specs.Prelude.{nat_le, slice_get, option_map}
-use Rattle.std.specs.Int.{cast_unsigned}
-use Rattle.std.proofs.lemmas.List.{drop_at, drop-drop, length-map, map-append, take-set-le, take_all, take_at}
+use Rattle.std.proofs.Common.{◌≡◌, ℕ, ℤ, zero, suc, ◌+◌, ◌-◌, ◌≤◌, Bool, true, false, cond, List, [], ◌∷◌, ◌++◌, length, map, drop, Option, Some, None, Result, Ok}
+use Rattle.std.proofs.Common.{Err, refl, sym, ap, ◌∙◌, subst, arith, append_assoc, append-nil}
+use Rattle.std.specs.Prelude.{nat_le, slice_get, set as slice_set, option_map}
+use Rattle.std.specs.List.{All}
+use Rattle.std.proofs.lemmas.List.{drop_at, drop-drop, length-map, map-append}
 use Rattle.wasm_code.specs.Instruction.{Instruction}
 use Rattle.mutate_base.specs.declared.types.PrimitiveTypeInfo.{PrimitiveTypeInfo}
 use Rattle.mutate_base.specs.declared.error.Error.{Error}
 use Rattle.mutate_base.specs.declared.error.Error.TheVariants.{GlobalIndex}
 use Rattle.peephole_lang.specs.declared.lang.Head.{Head}
 use Rattle.peephole_lang.specs.Term.{Term, Terms, absent, node, no_terms, ◌▸◌}
-use Rattle.peephole_machine.specs.Values.{type_of, width_of, Value, whole, types, State, Outcome, Ends, Traps, Stuck, then_run, above}
-use Rattle.peephole_machine.specs.IntegerRow.{operand_count, integer_row}
+use Rattle.peephole_machine.specs.Values.{type_of, Value, IsValue, types, Context, context_in, State, HasTypes, Outcome, Ends, Traps, Stuck, then_run, above}
+use Rattle.peephole_machine.specs.IntegerRow.{operand_count, integer_row, row_types}
 use Rattle.peephole_machine.specs.Machine.{act, run}
-use Rattle.peephole_machine.specs.Agreement.{with_globals, SameState, SameBelow}
+use Rattle.peephole_machine.specs.Agreement.{with_globals, SameOutcome, EndsTyped}
 use Rattle.peephole_machine.specs.OutcomeLemmas.{above_above, run_append, run_one, types_append, length_types}
-use Rattle.peephole_machine.specs.RowLemmas.{and_then_some, map_some, row_types_count, step_at}
-use Rattle.peephole_machine.specs.SameLemmas.{typed_names, Alike, same_from_alike, act_alike, above_alike}
-use Rattle.peephole_machine.specs.TypeLemmas.{Fine, Keeps, run_keeps}
+use Rattle.peephole_machine.specs.RowLemmas.{and_then_some, row_types_count, step_at}
+use Rattle.peephole_machine.specs.StateLemmas.{own_is, own_front, with_more, above_more, Follows}
+use Rattle.peephole_machine.specs.SameLemmas.{act_follows}
 use Rattle.peephole_terms.specs.declared.encoder.node_kind.NodeKind.TheVariants.{Own, Random, Unfold, UseGlobal, Container}
 use Rattle.peephole_terms.specs.NodeKind.{NumberType, IntegerType, NodeKind, node_kind, primitive_of}
 use Rattle.peephole_terms.specs.Expansion.{constant, sum, set_global, get_global, constant_in, sum_of, through_global, joined_code, first_word}
 use Rattle.peephole_terms.specs.Expansion.{own_code, with_own_code, own_requests, with_own_requests, requests_of, requests, draws_of, draws, expansion_of}
 use Rattle.peephole_terms.specs.Expansion.{expansion}
-use Rattle.peephole_terms.specs.Typing.{integer_type, own_types, with_own_types, types_of, types_in}
-use Rattle.peephole_terms.specs.Meaning.{word_meaning, number_meaning, own_meaning, with_own_meaning, meaning_of, meaning}
+use Rattle.peephole_terms.specs.Typing.{own_types, with_own_types, types_of, types_in}
+use Rattle.peephole_terms.specs.Meaning.{number_meaning, own_meaning, with_own_meaning, meaning_of, meaning}
 use Rattle.peephole_terms.specs.StackCode.{IsStackCode}
-use Rattle.peephole_terms.proofs.MeaningRows.{number_type, run_word, run_sum_of, run_through_global}
-use Rattle.peephole_terms.proofs.MeaningLemmas.{parts_of_types, that_type, fine_of, fine_in}
+use Rattle.peephole_terms.proofs.MeaningRows.{constant_types, run_sum_of, run_through_global}
+use Rattle.peephole_terms.proofs.MeaningLemmas.{parts_of_types, that_type, typed_of, typed_in}
 
 -- ---- requested globals
 
@@ -58,20 +58,37 @@ drop_get zero (z ∷ xs) ys x e = cc
 drop_get (suc n) [] ys x e = absurd cc
 drop_get (suc n) (z ∷ xs) ys x e = drop_get n xs ys x e
 
+-- a global behind those of a state
+set_behind : {X : Type 0} (xs ys : List X) (i : ℕ) (x : X) → length xs ≤ i → slice_set (xs ++ ys) i x ≡ xs ++ slice_set ys (i - length xs) x
+set_behind [] ys i x l = let e : i ≡ i - 0 = omega arith in ap (λ k. slice_set ys k x) e
+set_behind (y ∷ xs) ys zero x l = absurd (omega arith)
+set_behind (y ∷ xs) ys (suc i) x l =
+    let e : i - length xs ≡ suc i - suc (length xs) = omega arith in
+    ap (λ zs. y ∷ zs) (set_behind xs ys i x (omega arith) ∙ ap (λ k. xs ++ slice_set ys k x) e)
+
+get_behind : {X : Type 0} (xs ys : List X) (i : ℕ) → length xs ≤ i → slice_get (xs ++ ys) i ≡ slice_get ys (i - length xs)
+get_behind [] ys i l = let e : i ≡ i - 0 = omega arith in ap (slice_get ys) e
+get_behind (y ∷ xs) ys zero l = absurd (omega arith)
+get_behind (y ∷ xs) ys (suc i) l =
+    let e : i - length xs ≡ suc i - suc (length xs) = omega arith in get_behind xs ys i (omega arith) ∙ ap (slice_get ys) e
+
+set_types : (vs : List Value) (i : ℕ) (v : Value) → slice_get (types vs) i ≡ Some v.type → types (slice_set vs i v) ≡ types vs
+set_types [] i v e = refl
+set_types (u ∷ vs) zero v e = let k : u.type ≡ v.type = cc in ap (λ t. t ∷ types vs) (sym k)
+set_types (u ∷ vs) (suc i) v e = ap (λ ts. u.type ∷ ts) (set_types vs i v e)
+
 -- ---- outcomes
 
--- what runs behind outcomes that are alike is alike, where it is behind what they leave
-then_alike : {locals globals us other_globals : List PrimitiveTypeInfo} (other_locals : List PrimitiveTypeInfo) (count : ℕ)
-    (stack : List Value) (o r : Outcome) (f g : List Value → State → Outcome) → Alike count (above stack o) r →
-    Fine locals globals us o → Keeps other_locals other_globals r →
-    ((vs : List Value) (s m : State) → types vs ≡ us → types s.locals ≡ locals → types s.globals ≡ globals → SameState count s m →
-    types m.globals ≡ other_globals → Alike count (above stack (f vs s)) (g (stack ++ vs) m)) →
-    Alike count (above stack (then_run o f)) (then_run r g)
-then_alike other_locals count stack (Ends vs s) (Ends st m) f g h fine k next =
-    subst (λ x. Alike count (above stack (f vs s)) (g x m)) h.0 (next vs s m fine.0 fine.1 fine.2 h.1 k.1)
-then_alike other_locals count stack (Traps ks) (Traps hs) f g h fine k next = h
-then_alike other_locals count stack Stuck r f g h fine k next = absurd fine
-then_alike other_locals count stack o r f g h fine k next = absurd h
+-- what runs behind an outcome
+pub then_follows : (context : Context) (us : List PrimitiveTypeInfo) (more stack : List Value) (o r : Outcome) (f g : List Value → State → Outcome) →
+    Follows more (above stack o) r → EndsTyped context us o →
+    ((vs : List Value) (s : State) (after : List Value) → types vs ≡ us → All IsValue vs → HasTypes context s → types after ≡ types more →
+    Follows after (above stack (f vs s)) (g (stack ++ vs) (with_globals after s))) →
+    Follows more (above stack (then_run o f)) (then_run r g)
+then_follows context us more stack (Ends vs s) r f g h typed next =
+    let n = next vs s h.0 typed.0 typed.1 typed.2 h.1 in (n.0, n.1 ∙ h.1, ap (λ x. then_run x g) h.2 ∙ n.2)
+then_follows context us more stack (Traps c gs q) r f g h typed next = (h.0, h.1, ap (λ x. then_run x g) h.2)
+then_follows context us more stack Stuck r f g h typed next = absurd typed
 
 -- ---- codes
 
@@ -94,152 +111,173 @@ through_code g code e = go (nat_le g 4294967295) e
 
 -- ---- each kind of node
 
-module _ (locals globals : List PrimitiveTypeInfo) where
-  -- The variables have the types, and the states are the same up to the module's globals; from `next` on the second has the wanted ones.
-  pub record Meet (next : ℕ) (wanted : List NumberType) (s m : State) : Type 0 where
-    pub locals_are : types s.locals ≡ locals
-    pub globals_are : types s.globals ≡ globals
-    pub same : SameState (length globals) s m
-    pub behind : length globals ≤ next
-    pub provided : Provided next wanted (types m.globals)
+module _ (context : Context) where
+  abbrev own : ℕ
+  own = length context.info.globals
 
-  front_meets : {next : ℕ} {s m : State} (ks js : List NumberType) → Meet next (ks ++ js) s m → Meet next ks s m
-  front_meets {next} {s} {m} ks js h = record {
-    locals_are = h.locals_are;
-    globals_are = h.globals_are;
-    same = h.same;
+  -- The state has the context's types; from `next` on the further globals have the wanted ones.
+  pub record Meet (next : ℕ) (wanted : List NumberType) (s : State) (more : List Value) : Type 0 where
+    pub typed : HasTypes context s
+    pub behind : length context.info.globals ≤ next
+    pub provided : Provided next wanted (context.info.globals ++ types more)
+
+  front_meets : {next : ℕ} {s : State} {more : List Value} (ks js : List NumberType) → Meet next (ks ++ js) s more → Meet next ks s more
+  front_meets {next} {s} {more} ks js h = record {
+    typed = h.typed;
     behind = h.behind;
-    provided = provided_left next ks js (types m.globals) h.provided;
+    provided = provided_left next ks js (context.info.globals ++ types more) h.provided;
   }
 
-  back_meets : {next : ℕ} {s m s' m' : State} (ks js : List NumberType) → Meet next (ks ++ js) s m → types s'.locals ≡ locals →
-      types s'.globals ≡ globals → SameState (length globals) s' m' → types m'.globals ≡ types m.globals → Meet (next + length ks) js s' m'
-  back_meets {next} {s} {m} ks js h hl hg hs hm = record {
-    locals_are = hl;
-    globals_are = hg;
-    same = hs;
+  back_meets : {next : ℕ} {s s' : State} {more after : List Value} (ks js : List NumberType) → Meet next (ks ++ js) s more →
+      HasTypes context s' → types after ≡ types more → Meet (next + length ks) js s' after
+  back_meets {next} {more = more} ks js h typed e = record {
+    typed = typed;
     behind = let l = h.behind in omega arith;
-    provided = rw hm (provided_right next ks js (types m.globals) h.provided);
+    provided = rw e (provided_right next ks js (context.info.globals ++ types more) h.provided);
   }
 
   -- a global that is set and read, behind one value
-  through_alike : (t : IntegerType) (g : ℕ) (stack vs : List Value) (s m : State) → types vs ≡ type_of t ∷ [] →
-      slice_get (types m.globals) g ≡ Some (type_of t) → length globals ≤ g → SameState (length globals) s m →
-      Alike (length globals) (Ends (stack ++ vs) s) (run (set_global g ∷ get_global g ∷ []) (stack ++ vs) m)
-  through_alike t g stack (v ∷ []) s m e there l h =
-      let one : v.type ≡ type_of t = cc in
-      subst (Alike (length globals) (Ends (stack ++ v ∷ []) s)) (sym (run_through_global t g v stack m one there))
-      (refl, (h.0, h.1 ∙ sym (take-set-le (length globals) m.globals g v l)))
-  through_alike t g stack _ s m e there l h = absurd cc
+  through_follows : (t : PrimitiveTypeInfo) (g : ℕ) (stack vs : List Value) (s : State) (more : List Value) → types vs ≡ t ∷ [] →
+      slice_get (context.info.globals ++ types more) g ≡ Some t → length context.info.globals ≤ g → HasTypes context s →
+      Follows more (Ends (stack ++ vs) s) (run (set_global g ∷ get_global g ∷ []) (stack ++ vs) (with_globals more s))
+  through_follows t g stack (v ∷ []) s more e there l h =
+      let one : v.type ≡ t = cc in
+      let count : length s.globals ≡ length context.info.globals = sym (length_types s.globals) ∙ ap length h.globals_are in
+      let place = g - length s.globals in
+      let least : length s.globals ≤ g = omega arith in
+      let same : g - length context.info.globals ≡ place = omega arith in
+      let typed : slice_get (types more) place ≡ Some v.type =
+      ap (slice_get (types more)) (sym same) ∙ (sym (get_behind context.info.globals (types more) g l) ∙ (there ∙ ap Some (sym one))) in
+      let all : types (s.globals ++ more) ≡ context.info.globals ++ types more =
+      types_append s.globals more ∙ ap (λ (ts : List PrimitiveTypeInfo). ts ++ types more) h.globals_are in (
+        slice_set more place v,
+        set_types more place v typed,
+        run_through_global t g v stack (with_globals more s) one (ap (λ ts. slice_get ts g) all ∙ there) ∙
+            ap (λ (gs : List Value). Ends (stack ++ v ∷ []) (record s { globals = gs })) (set_behind s.globals more g v least),
+      )
+  through_follows t g stack _ s more e there l h = absurd cc
+
+  -- an instruction behind its operands
+  instruction_follows : {ts : List PrimitiveTypeInfo} {code : List Instruction} {s : State} (more : List Value) (i : Instruction)
+      (stack vs : List Value) → All IsValue vs → row_types context (integer_row i) (types vs) ≡ Some ts → i ∷ [] ≡ code → HasTypes context s →
+      Follows more (above stack (act (integer_row i) vs s)) (run code (stack ++ vs) (with_globals more s))
+  instruction_follows {ts} {code} {s} more i stack vs hv e x h =
+      let row = integer_row i in
+      let m = with_globals more s in
+      let n : operand_count m.world.info row ≡ length vs =
+      ap (λ info. operand_count info row) h.info_is ∙ (row_types_count context row (types vs) ts e ∙ length_types vs) in
+      let f = act_follows h more row vs ts hv e in (
+        f.0,
+        f.1,
+        ap (λ y. run y (stack ++ vs) m) (sym x) ∙ (run_one i row (stack ++ vs) m refl ∙ (step_at row stack vs m n ∙
+            (ap (above stack) f.2 ∙ above_more stack f.0 (act row vs s)))),
+      )
 
   -- a node behind its children's values
-  own_alike : {ts : List PrimitiveTypeInfo} {next : ℕ} {code : List Instruction} {s m : State} (k : NodeKind) (words : List ℕ) (stack vs : List Value) →
-      own_types locals globals k (types vs) ≡ Some ts → own_code next words k ≡ Ok code → Meet next (own_requests k) s m →
-      Alike (length globals) (above stack (own_meaning words k vs s)) (run code (stack ++ vs) m)
-  own_alike {ts} {next} {code} {s} {m} (Own i) words stack vs e x h =
-      let row = integer_row i in
-      let n : operand_count row ≡ length vs = row_types_count locals globals row (types vs) ts e ∙ length_types vs in
-      let it : run code (stack ++ vs) m ≡ above stack (act row vs m) =
-      ap (λ y. run y (stack ++ vs) m) (sym (ok_is (i ∷ []) code x)) ∙ (run_one i row (stack ++ vs) m refl ∙ step_at row stack vs m n) in
-      rw it (above_alike (length globals) stack (act row vs s) (act row vs m)
-      (act_alike (length globals) row vs s m h.same (typed_names locals globals (types vs) ts row e)))
-  own_alike {ts} {next} {code} {s} {m} (Random t) words stack [] e x h =
-      let (u, a, b) = map_some (λ u. type_of u ∷ []) (integer_type t) ts e in
+  own_follows : {ts : List PrimitiveTypeInfo} {next : ℕ} {code : List Instruction} {s : State} {more : List Value} (k : NodeKind) (words : List ℕ)
+      (stack vs : List Value) → All IsValue vs → own_types context k (types vs) ≡ Some ts → own_code next words k ≡ Ok code →
+      Meet next (own_requests k) s more → Follows more (above stack (own_meaning words k vs s)) (run code (stack ++ vs) (with_globals more s))
+  own_follows {ts} {next} {code} {s} {more} (Own i) words stack vs hv e x h = instruction_follows more i stack vs hv e (ok_is (i ∷ []) code x) h.typed
+  own_follows {ts} {next} {code} {s} {more} (Random t) words stack [] hv e x h =
       let word = first_word words in
-      let it : run code (stack ++ []) m ≡ Ends (stack ++ whole u word ∷ []) m =
-      ap₂ (λ y z. run y z m) (sym (ok_is (constant t word ∷ []) code x)) (append-nil stack) ∙ run_word t u word stack m a in
-      subst (λ x. Alike (length globals) (above stack (word_meaning x word s)) (run code (stack ++ []) m)) (sym a)
-      (subst (Alike (length globals) (Ends (stack ++ whole u word ∷ []) s)) (sym it) (refl, h.same))
-  own_alike {next = next} {code = code} {s = s} {m = m} (UseGlobal t) words stack vs e x h =
-      let (u, a, b, c) = that_type (integer_type t) (types vs) _ e in
-      let there = drop_get next (types m.globals) h.provided.0 (primitive_of t) h.provided.1 ∙ ap Some (number_type t u a).1 in
-      subst (λ y. Alike (length globals) (Ends (stack ++ vs) s) (run y (stack ++ vs) m)) (through_code next code x)
-      (through_alike u next stack vs s m b there h.behind h.same)
-  own_alike {code = code} {s = s} {m = m} Container words stack vs e x h =
-      subst (λ y. Alike (length globals) (Ends (stack ++ vs) s) (run y (stack ++ vs) m)) (ok_is [] code x) (refl, h.same)
-  own_alike _ words stack vs e x h = absurd cc
+      instruction_follows more (constant t word) stack [] hv (constant_types context t word ∙ e) (ok_is (constant t word ∷ []) code x) h.typed
+  own_follows {next = next} {code = code} {s = s} {more = more} (UseGlobal t) words stack vs hv e x h =
+      let p = that_type (primitive_of t) (types vs) _ e in
+      let there = drop_get next (context.info.globals ++ types more) h.provided.0 (primitive_of t) h.provided.1 in
+      subst (λ y. Follows more (Ends (stack ++ vs) s) (run y (stack ++ vs) (with_globals more s))) (through_code next code x)
+      (through_follows (primitive_of t) next stack vs s more p.0 there h.behind h.typed)
+  own_follows {code = code} {s = s} {more = more} Container words stack vs hv e x h =
+      subst (λ y. Follows more (Ends (stack ++ vs) s) (run y (stack ++ vs) (with_globals more s))) (ok_is [] code x) (more, refl, refl)
+  own_follows _ words stack vs hv e x h = absurd cc
 
-  unfold_alike : {ts : List PrimitiveTypeInfo} {code : List Instruction} (t : IntegerType) (o : Option ℤ) (word : ℕ) (stack : List Value) (s m : State) →
-      option_map (λ z. type_of t ∷ []) o ≡ Some ts → sum_of t word o ≡ Ok code → SameState (length globals) s m →
-      Alike (length globals) (above stack (number_meaning t o s)) (run code stack m)
-  unfold_alike t None word stack s m e x h = absurd cc
-  unfold_alike {code = code} t (Some z) word stack s m e x h =
-      let it : run code stack m ≡ Ends (stack ++ whole t (cast_unsigned (width_of t) z) ∷ []) m =
-      ap (λ y. run y stack m) (sym (ok_is (sum t word z) code x)) ∙ run_sum_of t word z stack m in
-      rw it (refl, h)
+  unfold_follows : {ts : List PrimitiveTypeInfo} {code : List Instruction} (t : IntegerType) (o : Option ℤ) (word : ℕ) (stack : List Value) (s : State)
+      (more : List Value) → option_map (λ z. type_of t ∷ []) o ≡ Some ts → sum_of t word o ≡ Ok code →
+      Follows more (above stack (number_meaning t o s)) (run code stack (with_globals more s))
+  unfold_follows t None word stack s more e x = absurd cc
+  unfold_follows {code = code} t (Some z) word stack s more e x = (
+    more,
+    refl,
+    ap (λ y. run y stack (with_globals more s)) (sym (ok_is (sum t word z) code x)) ∙ run_sum_of t word z stack (with_globals more s),
+  )
 
   -- ---- terms
 
   -- what a list of terms is run as
-  abbrev AreAlike : Terms Head → Type 0
-  AreAlike ts = (list : List PrimitiveTypeInfo) (next : ℕ) (code : List Instruction) (s m : State) (words : List ℕ) (stack : List Value) →
-      types_in locals globals ts ≡ Some list → expansion next words ts ≡ Ok code → Meet next (requests ts) s m →
-      Alike (length globals) (above stack (meaning words ts s)) (run code stack m)
+  abbrev AreFollowed : Terms Head → Type 0
+  AreFollowed ts = (list : List PrimitiveTypeInfo) (next : ℕ) (code : List Instruction) (s : State) (more : List Value) (words : List ℕ)
+      (stack : List Value) → types_in context ts ≡ Some list → expansion next words ts ≡ Ok code → Meet next (requests ts) s more →
+      Follows more (above stack (meaning words ts s)) (run code stack (with_globals more s))
 
-  node_alike : {list : List PrimitiveTypeInfo} {next : ℕ} {code : List Instruction} {s m : State} (k : NodeKind) (kids : Terms Head) (words : List ℕ)
-      (stack : List Value) → AreAlike kids → with_own_types locals globals k kids (types_in locals globals kids) ≡ Some list →
-      with_own_code next words k kids (expansion next words kids) ≡ Ok code → Meet next (with_own_requests k (requests kids)) s m →
-      Alike (length globals) (above stack (with_own_meaning words k kids (meaning words kids s) s)) (run code stack m)
-  node_alike {s = s} {m = m} (Unfold t) kids words stack below e x h = unfold_alike t (constant_in t kids) (first_word words) stack s m e x h.same
-  node_alike {list} {next} {code} {s} {m} k kids words stack below e x h =
+  node_follows : {list : List PrimitiveTypeInfo} {next : ℕ} {code : List Instruction} {s : State} {more : List Value} (k : NodeKind) (kids : Terms Head)
+      (words : List ℕ) (stack : List Value) → AreFollowed kids → with_own_types context k kids (types_in context kids) ≡ Some list →
+      with_own_code next words k kids (expansion next words kids) ≡ Ok code → Meet next (with_own_requests k (requests kids)) s more →
+      Follows more (above stack (with_own_meaning words k kids (meaning words kids s) s)) (run code stack (with_globals more s))
+  node_follows {s = s} {more = more} (Unfold t) kids words stack below e x h =
+      unfold_follows t (constant_in t kids) (first_word words) stack s more e x
+  node_follows {list} {next} {code} {s} {more} k kids words stack below e x h =
       let left = drop (length (draws kids)) words in
-      let (us, a, b) = and_then_some (own_types locals globals k) (types_in locals globals kids) list e in
+      let m = with_globals more s in
+      let (us, a, b) = and_then_some (own_types context k) (types_in context kids) list e in
       let (front, back, c, d, f) = joined_ok (expansion next words kids) (own_code (next + length (requests kids)) left k) code x in
       let it : run code stack m ≡ then_run (run front stack m) (run back) = ap (λ y. run y stack m) (sym f) ∙ run_append front back stack m in
-      rw it (then_alike (types m.locals) (length globals) stack (meaning words kids s) (run front stack m) (own_meaning left k) (run back)
-      (below us next front s m words stack a c (front_meets (requests kids) (own_requests k) h))
-      (fine_in locals globals us kids words s a h.locals_are h.globals_are)
-      (run_keeps front stack m) (λ vs s' m' t hl hg hs hm. own_alike k left stack vs (ap (own_types locals globals k) t ∙ b) d
-      (back_meets (requests kids) (own_requests k) h hl hg hs hm)))
+      rw it (then_follows context us more stack (meaning words kids s) (run front stack m) (own_meaning left k) (run back)
+      (below us next front s more words stack a c (front_meets (requests kids) (own_requests k) h))
+      (typed_in context us kids words s a h.typed)
+      (λ vs s' after t hv hs ha. own_follows k left stack vs hv (ap (own_types context k) t ∙ b) d
+      (back_meets (requests kids) (own_requests k) h hs ha)))
 
   mutual
-    alike_of : {list : List PrimitiveTypeInfo} {next : ℕ} {code : List Instruction} {s m : State} (t : Term Head) (words : List ℕ) (stack : List Value) →
-        types_of locals globals t ≡ Some list → expansion_of next words t ≡ Ok code → Meet next (requests_of t) s m →
-        Alike (length globals) (above stack (meaning_of words t s)) (run code stack m)
-    alike_of absent words stack e x h = absurd cc
-    alike_of (node h kids) words stack e x meet = node_alike (node_kind h) kids words stack (alike_in kids) e x meet
+    follows_of : {list : List PrimitiveTypeInfo} {next : ℕ} {code : List Instruction} {s : State} {more : List Value} (t : Term Head) (words : List ℕ)
+        (stack : List Value) → types_of context t ≡ Some list → expansion_of next words t ≡ Ok code → Meet next (requests_of t) s more →
+        Follows more (above stack (meaning_of words t s)) (run code stack (with_globals more s))
+    follows_of absent words stack e x h = absurd cc
+    follows_of (node h kids) words stack e x meet = node_follows (node_kind h) kids words stack (follows_in kids) e x meet
 
-    alike_in : (ts : Terms Head) → AreAlike ts
-    alike_in no_terms list next code s m words stack e x h =
-        subst (λ y. Alike (length globals) (Ends (stack ++ []) s) (run y stack m)) (ok_is [] code x) (append-nil stack, h.same)
-    alike_in (t ▸ ts) list next code s m words stack e x h =
+    follows_in : (ts : Terms Head) → AreFollowed ts
+    follows_in no_terms list next code s more words stack e x h =
+        subst (λ y. Follows more (Ends (stack ++ []) s) (run y stack (with_globals more s))) (ok_is [] code x)
+        (more, refl, ap (λ (y : List Value). Ends y (with_globals more s)) (sym (append-nil stack)))
+    follows_in (t ▸ ts) list next code s more words stack e x h =
         let left = drop (length (draws_of t)) words in
-        let (ks, js, a, b, c) = parts_of_types (types_of locals globals t) (types_in locals globals ts) list e in
+        let m = with_globals more s in
+        let (ks, js, a, b, c) = parts_of_types (types_of context t) (types_in context ts) list e in
         let (front, back, d, f, q) = joined_ok (expansion_of next words t) (expansion (next + length (requests_of t)) left ts) code x in
         let it : run code stack m ≡ then_run (run front stack m) (run back) = ap (λ y. run y stack m) (sym q) ∙ run_append front back stack m in
-        rw it (then_alike (types m.locals) (length globals) stack (meaning_of words t s) (run front stack m) (λ vs s. above vs (meaning left ts s)) (run back)
-        (alike_of t words stack a d (front_meets (requests_of t) (requests ts) h)) (fine_of locals globals ks t words s a h.locals_are h.globals_are)
-        (run_keeps front stack m) (λ vs s' m' k hl hg hs hm. subst (λ x. Alike (length globals) x (run back (stack ++ vs) m'))
-        (above_above stack vs (meaning left ts s')) (alike_in ts js (next + length (requests_of t)) back s' m' left (stack ++ vs) b f
-        (back_meets (requests_of t) (requests ts) h hl hg hs hm))))
+        rw it (then_follows context ks more stack (meaning_of words t s) (run front stack m) (λ vs s. above vs (meaning left ts s)) (run back)
+        (follows_of t words stack a d (front_meets (requests_of t) (requests ts) h)) (typed_of context ks t words s a h.typed)
+        (λ vs s' after k hv hs ha. subst (λ x. Follows after x (run back (stack ++ vs) (with_globals after s')))
+        (above_above stack vs (meaning left ts s')) (follows_in ts js (next + length (requests_of t)) back s' after left (stack ++ vs) b f
+        (back_meets (requests_of t) (requests ts) h hs ha))))
 
 -- ---- the law
 
-fine_not_stuck : (locals globals ts : List PrimitiveTypeInfo) (stack : List Value) (o : Outcome) → Fine locals globals ts o →
-    above stack o ≡ Stuck → ⊥
-fine_not_stuck locals globals ts stack (Ends vs s) h e = cc
-fine_not_stuck locals globals ts stack (Traps hs) h e = cc
-fine_not_stuck locals globals ts stack Stuck h e = h
-
--- in states that meet
-pub same_of : (locals globals list : List PrimitiveTypeInfo) (t : Term Head) (words : List ℕ) (code : List Instruction) →
-    types_of locals globals t ≡ Some list → expansion_of (length globals) words t ≡ Ok code → (stack : List Value) (s m : State) →
-    Meet locals globals (length globals) (requests_of t) s m → SameBelow (length globals) (above stack (meaning_of words t s)) (run code stack m)
-same_of locals globals list t words code e x stack s m h =
-    same_from_alike (length globals) (above stack (meaning_of words t s)) (run code stack m) (alike_of locals globals t words stack e x h)
-    (fine_not_stuck locals globals list stack (meaning_of words t s) (fine_of locals globals list t words s e h.locals_are h.globals_are))
-
-pub stack_code : IsStackCode
-stack_code globals words t code x locals list more e stack s requested h q =
-    let n : length s.globals ≡ length globals = sym (length_types s.globals) ∙ ap length h.globals_are in
-    same_of locals globals list t words code e x stack s (with_globals requested s) (record {
-      locals_are = h.locals_are;
-      globals_are = h.globals_are;
-      same = (refl, take_all (length globals) s.globals (omega arith) ∙ sym (take_at s.globals requested (length globals) n));
+-- with requested globals behind those of the module
+pub code_follows : (context : Context) (list more : List PrimitiveTypeInfo) (t : Term Head) (words : List ℕ) (code : List Instruction) →
+    types_of context t ≡ Some list → expansion_of (length context.info.globals) words t ≡ Ok code → (stack : List Value) (s : State)
+    (requested : List Value) → HasTypes context s → types requested ≡ map primitive_of (requests_of t) ++ more →
+    Follows requested (above stack (meaning_of words t s)) (run code stack (with_globals requested s))
+code_follows context list more t words code e x stack s requested h q =
+    follows_of context t words stack e x (record {
+      typed = h;
       behind = omega arith;
       provided = (
         more,
-        ap (drop (length globals)) (types_append s.globals requested ∙ ap₂ (λ (x y : List PrimitiveTypeInfo). x ++ y) h.globals_are q)
-            ∙ drop_at globals (map primitive_of (requests_of t) ++ more) (length globals) refl,
+        ap (λ (ts : List PrimitiveTypeInfo). drop (length context.info.globals) (context.info.globals ++ ts)) q
+            ∙ drop_at context.info.globals (map primitive_of (requests_of t) ++ more) (length context.info.globals) refl,
       );
     })
+
+same_follows : (context : Context) (ts : List PrimitiveTypeInfo) (stack more : List Value) (o r : Outcome) → EndsTyped context ts o →
+    Follows more (above stack o) r → SameOutcome (above stack o) r
+same_follows context ts stack more o r typed h = subst (SameOutcome (above stack o)) (sym h.2) (go o typed)
+  where
+    go : (o : Outcome) → EndsTyped context ts o → SameOutcome (above stack o) (with_more h.0 (above stack o))
+    go (Ends vs s) typed = (refl, (refl, own_is typed.2 ∙ sym (own_front typed.2 h.0), refl, refl))
+    go (Traps c gs q) typed = (refl, refl, refl)
+    go Stuck typed = typed
+
+pub stack_code : IsStackCode
+stack_code info words t code x locals list more e stack s requested h q =
+    let context = context_in info locals in
+    same_follows context list stack requested (meaning_of words t s) (run code stack (with_globals requested s)) (typed_of context list t words s e h)
+    (code_follows context list more t words code e x stack s requested h q)

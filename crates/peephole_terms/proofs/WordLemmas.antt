@@ -34,7 +34,7 @@ then_is o r f g e k = go o ∙ ap (λ x. then_run x g) e
   where
     go : (o : Outcome) → then_run o f ≡ then_run o g
     go (Ends xs s) = k xs s
-    go (Traps hs) = refl
+    go (Traps c hs r) = refl
     go Stuck = refl
 
 node_free : (us vs : List ℕ) (k : NodeKind) (kids : Terms Head) (s : State) → with_own_draws k (draws kids) ≡ [] →

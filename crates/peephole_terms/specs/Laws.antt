@@ -8,7 +8,6 @@ use Rattle.wasm_code.specs.declared.immediate.Imm.{Imm}
 use Rattle.wasm_code.specs.declared.immediate.Imm.TheVariants as imm
 use Rattle.wasm_code.specs.declared.table.Opcode.TheVariants.{Byte}
 use Rattle.mutate_base.specs.Module.{Module}
-use Rattle.mutate_base.specs.declared.types.PrimitiveTypeInfo.{PrimitiveTypeInfo}
 use Rattle.mutate_base.specs.declared.error.Error.{Error}
 use Rattle.mutate_base.specs.declared.error.Error.TheVariants.{CannotUnfold, GlobalIndex}
 use Rattle.peephole_lang.specs.declared.lang.Head.{Head}
@@ -19,7 +18,7 @@ use Rattle.peephole_graphs.specs.Forest.{forest}
 use Rattle.peephole_graphs.specs.GraphOf.{IsGraphOf}
 use Rattle.peephole_graphs.specs.Tree.{Tree, instructions_of, instructions}
 use Rattle.peephole_machine.specs.declared.integer.IntegerType.TheVariants as integer
-use Rattle.peephole_machine.specs.Values.{State, then_run}
+use Rattle.peephole_machine.specs.Values.{State, then_run, Context}
 use Rattle.peephole_machine.specs.IntegerRow.{row_types, integer_row}
 use Rattle.peephole_machine.specs.Machine.{act}
 use Rattle.peephole_terms.specs.declared.encoder.node_kind.NumberType.TheVariants as number
@@ -98,8 +97,8 @@ OperatorsHaveEntries =
 
 -- A node with an instruction is typed by its row on its children's types, and does with their values what the row does; it draws nothing itself.
 pub record MeanByTheirRows : Type 0 where
-  pub types : (locals globals : List PrimitiveTypeInfo) (h : Head) (kids : Terms Head) (i : Instruction) → instr_of_head h ≡ Some i →
-      types_of locals globals (node h kids) ≡ option_and_then (row_types locals globals (integer_row i)) (types_in locals globals kids)
+  pub types : (context : Context) (h : Head) (kids : Terms Head) (i : Instruction) → instr_of_head h ≡ Some i →
+      types_of context (node h kids) ≡ option_and_then (row_types context (integer_row i)) (types_in context kids)
   pub means : (words : List ℕ) (h : Head) (kids : Terms Head) (i : Instruction) (s : State) → instr_of_head h ≡ Some i →
       meaning_of words (node h kids) s ≡ then_run (meaning words kids s) (act (integer_row i))
   pub draws : (h : Head) (kids : Terms Head) (i : Instruction) → instr_of_head h ≡ Some i → draws_of (node h kids) ≡ draws kids

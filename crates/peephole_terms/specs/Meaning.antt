@@ -1,5 +1,5 @@
 -- The meaning of a typed term in a state of the variables: the values that it leaves and the state after it, or a trap
--- (this project, over the integer operators of the WebAssembly Core Specification 3.0, Execution, Numerics).
+-- (this project, over what the rows of `peephole_machine` do).
 -- The words are what is drawn from the term's first node on. A term without types may come out stuck, and means nothing then.
 use Rattle.std.specs.Prelude.{ℕ, ℤ, List, [], ◌∷◌, length, drop, Option, Some, None}
 use Rattle.std.specs.Int.{cast_unsigned}
@@ -10,23 +10,17 @@ use Rattle.peephole_machine.specs.IntegerRow.{integer_row}
 use Rattle.peephole_machine.specs.Machine.{act}
 use Rattle.peephole_terms.specs.declared.encoder.node_kind.NodeKind.TheVariants as kind
 use Rattle.peephole_terms.specs.NodeKind.{IntegerType, NodeKind, node_kind}
-use Rattle.peephole_terms.specs.Expansion.{constant_in, draws_of, draws, first_word}
-use Rattle.peephole_terms.specs.Typing.{integer_type}
-
--- the word, by its low bits
-abbrev pub word_meaning : Option IntegerType → ℕ → State → Outcome
-word_meaning (Some t) word s = Ends (whole t word ∷ []) s
-word_meaning None word s = Stuck
+use Rattle.peephole_terms.specs.Expansion.{constant, constant_in, draws_of, draws, first_word}
 
 -- the constant that is unfolded
 abbrev pub number_meaning : IntegerType → Option ℤ → State → Outcome
 number_meaning t (Some z) s = Ends (whole t (cast_unsigned (width_of t) z) ∷ []) s
 number_meaning t None s = Stuck
 
--- what a node does behind its children, with their values
+-- what a node does behind its children, with their values; a random one does what the constant of its word does
 abbrev pub own_meaning : List ℕ → NodeKind → List Value → State → Outcome
 own_meaning words (kind.Own i) vs s = act (integer_row i) vs s
-own_meaning words (kind.Random t) vs s = word_meaning (integer_type t) (first_word words) s
+own_meaning words (kind.Random t) vs s = act (integer_row (constant t (first_word words))) vs s
 own_meaning words (kind.UseGlobal t) vs s = Ends vs s
 own_meaning words kind.Container vs s = Ends vs s
 own_meaning words _ vs s = Stuck

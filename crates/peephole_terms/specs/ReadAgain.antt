@@ -7,13 +7,14 @@ use Rattle.wasm_code.specs.declared.operator.Operator.TheVariants.{Instr}
 use Rattle.mutate_base.specs.Module.{Module}
 use Rattle.peephole_lang.specs.declared.lang.Head.{Head}
 use Rattle.peephole_lang.specs.Term.{Term, tree_at}
+use Rattle.peephole_graphs.specs.Block.{IsBlockIn, IsBlockOf}
 use Rattle.peephole_graphs.specs.Shape.{AreFit}
 use Rattle.peephole_graphs.specs.Tree.{instructions, renumber}
 use Rattle.peephole_graphs.specs.Entries.{Graph}
 use Rattle.peephole_graphs.specs.Forest.{forest, IsInOrder}
 use Rattle.peephole_graphs.specs.Layout.{entry_nodes}
 use Rattle.peephole_terms.specs.Expansion.{Setting}
-use Rattle.peephole_terms.specs.Written.{Site, site_at, block_operators, block_shapes, is_written, term_code, written_block, written_body, IsBlockIn}
+use Rattle.peephole_terms.specs.Written.{Site, site_at, block_operators, block_shapes, is_written, term_code, written_block, written_body}
 
 -- the operators alone
 abbrev pub without_offsets : List (Operator × ℕ) → List Operator
@@ -48,8 +49,9 @@ site_again site text again = site_at text again site.block site.at
 pub record IsReread (info : Module) (site : Site) (text : List ℕ) : Type 0 where
   pub again : List (Operator × ℕ)
   pub spells : SpellsBody 0 text again
-  -- a block has the same range, and its operators fit
+  -- the block has the same range, and is an operator's block again where it was one; its operators fit
   pub there : IsBlockIn again site.block
+  pub found : (n : ℕ) → IsBlockOf site.operators n site.block.start site.block.end → IsBlockOf again n site.block.start site.block.end
   pub fit : AreFit info (block_operators (site_again site text again))
   -- it has the same trees, their operators numbered by the new places, and is in order
   pub same : forest (block_shapes info (site_again site text again)) ≡ renumber 0 (forest (block_shapes info site))

@@ -1,6 +1,6 @@
 -- The written body: the bytes outside a block as they stood, and between them the code of the block's forest in postfix, in which a term stands for the
 -- tree of the operator at the insertion point. This project's rule.
-use Rattle.std.specs.Prelude.{◌≡◌, ◌≢◌, ℕ, ◌+◌, ◌-◌, ◌<◌, ◌≤◌, ◌==◌, ◌||◌, ◌↔◌, Bool, true, false, List, [], ◌++◌, length, map, Option, Some, Result, Ok, Err, IfOk, if◌then◌else◌, slice_index, slice_range}
+use Rattle.std.specs.Prelude.{◌≡◌, ◌≢◌, ℕ, ◌+◌, ◌-◌, ◌≤◌, ◌==◌, ◌||◌, ◌↔◌, Bool, true, false, List, [], ◌++◌, length, map, Option, Some, Result, Ok, Err, IfOk, if◌then◌else◌, slice_index, slice_range}
 use Rattle.wasm_code.specs.Instruction.{Instruction}
 use Rattle.wasm_code.specs.Code.{codes}
 use Rattle.wasm_code.specs.Body.{SpellsBody}
@@ -10,7 +10,7 @@ use Rattle.mutate_base.specs.declared.error.Error.{Error}
 use Rattle.mutate_base.specs.declared.error.Error.TheVariants.{NoMutationsApplicable}
 use Rattle.peephole_lang.specs.declared.lang.Head.{Head}
 use Rattle.peephole_lang.specs.Term.{Term}
-use Rattle.peephole_graphs.specs.Block.{BlockRange, IsBlockOf}
+use Rattle.peephole_graphs.specs.Block.{BlockRange}
 use Rattle.peephole_graphs.specs.declared.shape.Shape.{Shape}
 use Rattle.peephole_graphs.specs.Shape.{shapes_of_block}
 use Rattle.peephole_graphs.specs.Source.{Source, source_of}
@@ -118,9 +118,3 @@ pub record IsBodyIn (input : List ℕ) (operators : List (Operator × ℕ)) : Ty
   pub ordered : from ≤ to
   pub inside : to ≤ length input
   pub spells : SpellsBody from (slice_range input from to) operators
-
--- The block is that of one of the operators.
-pub record IsBlockIn (operators : List (Operator × ℕ)) (block : BlockRange) : Type 0 where
-  pub index : ℕ
-  pub inside : index < length operators
-  pub is : IsBlockOf operators index block.start block.end

@@ -3,6 +3,7 @@
 ghost use Rattle.std.specs.Prelude.{◌≡◌, ◌<◌, length, IfOk, IfErr, OnErr, IfSome, IsTrue, is_some};
 ghost use Rattle.mutate_base.specs.Config.{info_of, ChangesGeneratorAlone};
 ghost use Rattle.peephole_lang.specs.Term.{AreBelow};
+ghost use Rattle.peephole_graphs.specs.Block.{IsBlockIn};
 ghost use Rattle.peephole_graphs.specs.Dfg.{graph_of};
 ghost use Rattle.peephole_graphs.specs.GraphOf.{IsGraphOf};
 ghost use Rattle.peephole_graphs.specs.Layout.{AreWritable, entry_nodes};
@@ -11,7 +12,7 @@ ghost use Rattle.peephole_terms.specs.Expansion.{setting_of, term_in};
 ghost use Rattle.peephole_terms.specs.EncoderSteps.{Does, IsWalkable, IsInside, around, nodes_in, root_term, root_steps, steps_of, writing_of};
 ghost use Rattle.peephole_terms.specs.ReadAgain.{AppendsReadable, RereadsOwnTrees};
 ghost use Rattle.peephole_terms.specs.SameRun.{AppendsSameRun};
-ghost use Rattle.peephole_terms.specs.Written.{site_at, AppendsBody, IsBodyIn, IsBlockIn, KeepsOrder, RefusesBody, offset_of, before_block, after_block, block_shapes, term_requests, StandsBehind};
+ghost use Rattle.peephole_terms.specs.Written.{site_at, AppendsBody, IsBodyIn, KeepsOrder, RefusesBody, offset_of, before_block, after_block, block_shapes, term_requests, StandsBehind};
 
 pub(crate) mod expr2wasm;
 mod holds;
@@ -174,13 +175,14 @@ impl Encoder {
     /// `expr` stands for the tree of the operator at `insertion_point`; where that operator is no root, no tree is replaced,
     /// nothing is drawn and no global asked for. The term is written as by `expr2wasm`.
     ///
-    /// `operators` with their offsets are those of a body in `input_wasm`, as `read_body` gives them, `basicblock` is the
-    /// block of one of them, and `dfg` its graph under the configuration's module and mode. The configuration is set up,
-    /// and `expr` isn't empty, its nodes writable. Answers what the written instructions need from outside the function.
+    /// `operators` with their offsets are those of a body in `input_wasm`, as `read_body` gives them, `basicblock` is a
+    /// range of them without a delimiter, such as the block of one of them, and `dfg` its graph under the configuration's
+    /// module and mode. The configuration is set up, and `expr` isn't empty, its nodes writable. Answers what the written
+    /// instructions need from outside the function.
     ///
     /// What is written reads as a body again: the operators before the block, the written instructions, the operators behind
     /// the block. With a tree's own term, as `get_expr` lays it out, the block has the same trees again and is in order.
-    /// Where the block is of integer instructions and in order, and the term evaluates as the whole tree, then wherever the
+    /// Where the block is in order, whatever its instructions, and the term evaluates as the whole tree, then wherever the
     /// block's own run ends or traps the written one does the same, apart from requested globals.
     ///
     /// `NoMutationsApplicable`, before anything else, exactly where the meaning is to be preserved and the block's

@@ -3,13 +3,16 @@
 ghost use Rattle.peephole_terms.specs.Agrees.{IsCongruence, LeavesItsTypes};
 ghost use Rattle.peephole_terms.specs.Laws.{HaveTheirOpcodes, MeanByTheirRows, UnfoldsAddUp, RefusesByName, TreesAreWrittenAsTheyAre, OwnTreesAreKept, OperatorsHaveEntries};
 ghost use Rattle.peephole_terms.specs.SameAnswers.{TermAnswersAreTheSame, BodyAnswersAreTheSame};
+ghost use Rattle.peephole_terms.specs.SameRun.{IntegerBlocksAskNoWorld, IntegerBlocksRunAsBefore};
 ghost use Rattle.peephole_terms.specs.StackCode.{IsStackCode};
 
 pub use peephole_graphs::laws::{
     blocks_are_found, entries_have_trees, faults_are_found, graph_shows_the_forest,
     laws_of_forests, layout_keeps_the_term, order_is_decided, terms_stand_for_trees,
 };
-pub use peephole_machine::laws::following_code_keeps_runs_the_same;
+pub use peephole_machine::laws::{
+    following_code_keeps_runs_the_same, integer_rows_ask_no_world, requested_globals_free_nothing,
+};
 
 /// The instructions that are written for nodes without a row are those of the opcodes that belong to their names.
 pub fn written_instructions()
@@ -37,6 +40,16 @@ pub fn equal_calls_answer_the_same()
     ensures terms { TermAnswersAreTheSame }
     ensures bodies { BodyAnswersAreTheSame }
 {}
+
+/// A block of integer rows on the context's variables that runs as before does so wherever its own run isn't stuck with further
+/// globals behind the module's (`runs`), and its own run is the same in every world of the module (`worlds`).
+pub fn integer_blocks_run_as_before()
+    ensures runs { IntegerBlocksRunAsBefore }
+    ensures worlds { IntegerBlocksAskNoWorld }
+{
+    requested_globals_free_nothing();
+    integer_rows_ask_no_world();
+}
 
 /// A term that stands for a tree is written as the tree's instructions, draws nothing and asks for nothing.
 pub fn trees_are_written_as_they_are()

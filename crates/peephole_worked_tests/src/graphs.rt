@@ -1,7 +1,7 @@
 //! Blocks, and the graphs of blocks, entry by entry.
 
 ghost use Rattle.std.specs.Prelude.{◌<◌, length};
-ghost use Rattle.peephole_graphs.specs.Block.{IsBlockOf};
+ghost use Rattle.peephole_graphs.specs.Block.{IsBlockIn};
 
 use crate::table::{bytes_in, bytes_of, field_of, fields_of, number_of, types_of};
 use crate::writing::operators_of;
@@ -87,7 +87,7 @@ pub fn block_of(
     at: usize,
 ) -> BBlock
     ensures there { at < length operators.now }
-    ensures block { IsBlockOf operators.now at result.start result.end }
+    ensures block { IsBlockIn operators.now result }
 {
     assert!(rt; at < operators.len());
     match builder.get_bb_from_operator(at, operators) {

@@ -6,7 +6,7 @@ use crate::rules::term_of_nodes;
 use crate::table::{bytes_of, fields_of};
 use crate::writing::operators_of;
 use peephole_examples::{Replaced, mutate};
-use peephole_rewrites::{Rewrite, are_integer, plain_types, rewrites_of_block};
+use peephole_rewrites::{Rewrite, plain_types, rewrites_of_block};
 use peephole_rules::{RULES, Rule};
 use peephole_terms::PrimitiveTypeInfo::{I32, I64};
 use peephole_terms::{DFGBuilder, Error};
@@ -43,6 +43,12 @@ const LISTS: &str = "
 20 00 41 02 6a 20 00 6c 21 00 0b | turn_comparison |
 # local.get 0, drop, local.get 2, global.set 1
 20 00 1a 20 02 24 01 0b | add_zero | 1 0 add_zero; 3 0 add_zero;
+# f32.const 0, drop, local.get 0, local.get 1, i32.add, drop
+43 00000000 1a 20 00 20 01 6a 1a 0b | commute add_zero forget | 1 1 forget; 5 0 add_zero; 5 1 add_zero; 5 2 commute; 5 2 add_zero; 5 3 forget;
+# local.get 0, local.get 0, i32.load, i32.store: the load may trap, and the store leaves nothing.
+20 00 20 00 28 02 00 36 02 00 0b | add_zero or_self through_global with_nop | 3 0 add_zero; 3 0 or_self; 3 0 through_global; 3 0 with_nop; 3 1 add_zero; 3 1 or_self; 3 1 through_global; 3 1 with_nop; 3 2 add_zero; 3 2 through_global; 3 2 with_nop; 3 3 with_nop;
+# local.get 0, call 0, drop: the call leaves an i32.
+20 00 10 00 1a 0b | add_zero or_self forget | 2 0 add_zero; 2 0 or_self; 2 1 add_zero;
 ";
 
 /// The rules of these names.
@@ -93,19 +99,17 @@ const NOTHING: &str = "
 20 00 41 02 6a 20 00 6c 21 00 0b | 2 | 0
 20 00 41 02 6a 20 00 6c 21 00 0b | 6 | 0
 20 00 41 02 6a 20 00 6c 21 00 0b | 5 | 6
-# f32.const 0, drop, local.get 0, drop: an operator that is no integer instruction.
-43 00 00 00 00 1a 20 00 1a 0b | 3 | 0
 # local.get 2, local.get 3, i32.add, drop: operands of another type.
 20 02 20 03 6a 1a 0b | 3 | 0
 # local.get 0, i32.add, drop: an operand that comes from before the block.
 20 00 6a 1a 0b | 2 | 1
 # local.get 0, local.get 0, drop, drop: out of order.
 20 00 20 00 1a 1a 0b | 2 | 0
-# local.get 4, drop; global.get 2, drop: no such variable.
-20 04 1a 0b | 1 | 0
-23 02 1a 0b | 1 | 0
-# memory.size, drop
-3f 00 1a 0b | 1 | 0
+# local.get 6, drop; global.get 3, drop: no such variable.
+20 06 1a 0b | 1 | 0
+23 03 1a 0b | 1 | 0
+# memory.size 1, drop: no such memory.
+3f 01 1a 0b | 1 | 0
 ";
 
 /// No rule rewrites the node of a line.
@@ -145,11 +149,17 @@ const TYPES: &str = "
 local.get.0; i32.const.2; i32.add 0 1                | i32
 global.get.1; drop 0                                 | nothing
 local.get.2; i64.const.1; local.get.0; select 0 1 2  | i64
-# An operand of another type, one that leaves nothing, a missing one, and nodes that are no integer instruction.
+local.get.0; call.0 0; i32.load8_u.0.0.0 1           | i32
+local.get.0; local.get.4; f32.store.0.2.0 0 1        | nothing
+local.get.4; f32.neg 0                               | another type
+# An operand of another type, one that leaves nothing, a missing one, an unknown memory and an unknown function, and nodes that
+# are no instruction.
 local.get.2; local.get.0; i32.add 0 1                | not plain
+local.get.0; local.get.0; f32.store.0.2.0 0 1        | not plain
 nop; drop 0                                          | not plain
 undef; drop 0                                        | not plain
-memory.size.0                                        | not plain
+memory.size.1                                        | not plain
+local.get.0; call.1 0                                | not plain
 i32.rand                                             | not plain
 i32.const.0; container 0                             | not plain
 ";
@@ -179,21 +189,6 @@ fn types_of_trees(rt: HostRuntime) -> Result<(), Fail> {
             leaves(&rt, rt.alloc(), line)?;
         }
     }
-    Ok(())
-}
-
-#[test]
-fn integer_instructions(rt: HostRuntime) -> Result<(), Fail> {
-    let alloc = rt.alloc();
-    let config = config_of(alloc, &[], &[], &[])?;
-    let operators = operators_of(alloc, &PRODUCT)?;
-    let Some((_, instructions)) = operators.as_slice().split_last() else {
-        panic!(rt; "no operators");
-    };
-    assert!(rt; are_integer(&LOCALS, config.info(), instructions));
-    // The end of the body is no instruction, and local 0 isn't there.
-    assert!(rt; !are_integer(&LOCALS, config.info(), &operators));
-    assert!(rt; !are_integer(&[], config.info(), instructions));
     Ok(())
 }
 

@@ -98,24 +98,45 @@ fn unknown_names(rt: HostRuntime) {
     }
 }
 
-/// A term's nodes, and of its root: the opcode, the type of its value, whether it leaves one, and whether the term may write.
+/// A term's nodes, and of its root: the opcode, the type of its value where that is an integer, whether it leaves one, and whether
+/// the term may write, or else trap.
 const TOLD: &str = "
 nop | 01 | - | - | -
 local.get.0; drop 0 | 1a | - | - | -
-local.get.0; select 0 0 0 | 1b | - | one value | -
-local.get.0; select.i32 0 0 0 | 1c | - | one value | -
+local.get.0; select 0 0 0 | 1b | i32 | one value | -
+local.get.0; select 0 0 0; select 1 0 0 | 1b | - | one value | -
+local.get.0; select.i32 0 0 0 | 1c | i32 | one value | -
 local.get.1 | 20 | i64 | one value | -
 local.get.1; local.set.1 0 | 21 | - | - | writes
 local.get.1; local.tee.1 0 | 22 | i64 | one value | writes
 global.get.0 | 23 | i32 | one value | -
 local.get.0; global.set.0 0 | 24 | - | - | writes
 i32.const.5 | 41 | i32 | one value | -
-f32.const.3f800000 | 43 | - | one value | -
 local.get.0; i32.eqz 0 | 45 | i32 | one value | -
+local.get.0; i32.div_u 0 0 | 6e | i32 | one value | traps
+# Calls, memories, floats, tables and references.
+local.get.0; call.0 0 | 10 | - | - | writes
+local.get.0; i64.load.8.3.0 0 | 29 | i64 | one value | traps
+local.get.0; f32.load.0.2.0 0 | 2a | - | one value | traps
+local.get.0; i32.store.0.2.0 0 0 | 36 | - | - | writes
+memory.size.0 | 3f | - | one value | -
+local.get.0; memory.grow.0 0 | 40 | - | one value | writes
+f32.const.3f800000 | 43 | - | one value | -
+local.get.2; f32.lt 0 0 | 5d | i32 | one value | -
+local.get.2; f32.neg 0 | 8c | - | one value | -
+local.get.2; i64.trunc_f32_s 0 | ae | i64 | one value | traps
+local.get.2; i32.reinterpret_f32 0 | bc | i32 | one value | -
+local.get.0; table.get.0 0 | 25 | - | one value | traps
+local.get.0; table.get.0 0; ref.is_null 1 | d1 | i32 | one value | traps
 # A term writes where a node below does.
 local.get.1; local.tee.1 0; i64.extend32_s 1 | c4 | i64 | one value | writes
-# Nothing is known of a term whose root has no opcode of one byte, but for the type that its instruction has.
-local.get.2; i32.trunc_sat_f32_s 0 | - | i32 | - | writes
+local.get.0; call.0 0; i32.eqz 1 | 45 | i32 | one value | writes
+# What has an opcode with a prefix is known by its instruction.
+local.get.2; i32.trunc_sat_f32_s 0 | - | i32 | one value | -
+local.get.0; memory.fill.0 0 0 0 | - | - | - | writes
+local.get.0; i8x16.splat 0 | - | - | one value | -
+local.get.0; v128.load.0.0.0 0; v128.any_true 1 | - | i32 | one value | traps
+# Nothing is known of a term whose root has no instruction.
 i64.rand | - | - | - | writes
 i32.const.5; i32.unfold 0 | - | - | - | writes
 local.get.0; i32.use_of_global 0 | - | - | - | writes
@@ -131,13 +152,13 @@ fn type_of(name: &str) -> Option<IntegerType> {
     }
 }
 
-/// Whether the last node of a term, and its absent neighbour behind it, write a variable and disturb one another so: one that
-/// leaves a value and writes nothing doesn't disturb itself.
+/// Whether the last node of a term, and its absent neighbour behind it, may write and disturb one another so: one that leaves a
+/// value, writes nothing and can't trap doesn't disturb itself.
 fn has_effects(
     alloc: Global,
     term: &RecExpr<Lang>,
     has_one: bool,
-    may_write: bool,
+    effect: &str,
 ) -> Result<bool, Error> {
     let behind = term.len();
     let last = behind.saturating_sub(1);
@@ -147,13 +168,14 @@ fn has_effects(
         undisturbed(alloc, term, last, behind)?,
         undisturbed(alloc, term, behind, last)?,
     ];
-    Ok(written == [may_write, false] && still == [has_one && !may_write, false, false])
+    let is_still = has_one && effect == "-";
+    Ok(written == [effect == "writes", false] && still == [is_still, false, false])
 }
 
 /// What the line tells of a term's last node.
 fn is_told(rt: &impl Abort, alloc: Global, line: &str) -> Result<(), Fail> {
     let fields = fields_of(alloc, line)?;
-    let [nodes, opcode, t, one, write] = fields.as_slice() else {
+    let [nodes, opcode, t, one, effect] = fields.as_slice() else {
         panic!(rt; "{line}");
     };
     let term = term_of_nodes(rt, alloc, nodes)?;
@@ -166,12 +188,11 @@ fn is_told(rt: &impl Abort, alloc: Global, line: &str) -> Result<(), Fail> {
         opcode_byte(node) == u8::from_str_radix(opcode, 16).ok(),
         "{line}"
     );
-    assert!(rt; value_type(&LOCALS, &info, node) == type_of(t), "{line}");
+    let last = term.len().saturating_sub(1);
+    let found = value_type(&LOCALS, &info, &term, last);
+    assert!(rt; found == type_of(t), "{line}");
     assert!(rt; has_one_value(node) == has_one, "{line}");
-    assert!(rt;
-        has_effects(alloc, &term, has_one, *write == "writes")?,
-        "{line}"
-    );
+    assert!(rt; has_effects(alloc, &term, has_one, effect)?, "{line}");
     Ok(())
 }
 
@@ -185,23 +206,40 @@ fn roots(rt: HostRuntime) -> Result<(), Fail> {
     Ok(())
 }
 
-/// A constant, a write of a local, a read of it, and a drop.
-const BESIDE: [&str; 4] = ["i32.const.5", "local.tee.0 0", "local.get.0", "drop 2"];
+/// A constant, a write of a local, a read of it, a drop, a division, a load, and the size of a memory.
+const BESIDE: [&str; 7] = [
+    "i32.const.5",
+    "local.tee.0 0",
+    "local.get.0",
+    "drop 2",
+    "i32.div_s 0 2",
+    "i32.load.0.2.0 2",
+    "memory.size.0",
+];
 
-/// The constant and the read leave one another as they are; nothing else of them does.
+/// The pairs of these that leave one another as they are, either one first.
+const STILL: [(usize, usize); 9] = [
+    (0, 2),
+    (0, 4),
+    (0, 5),
+    (0, 6),
+    (2, 4),
+    (2, 5),
+    (2, 6),
+    (4, 6),
+    (5, 6),
+];
+
+/// Two that leave a value and write nothing leave one another as they are, where at most one may trap.
 #[test]
 fn nodes_beside_one_another(rt: HostRuntime) -> Result<(), Fail> {
     let term = term_of(&rt, rt.alloc(), &BESIDE)?;
-    for (x, y, wanted) in [
-        (0, 2, true),
-        (2, 0, true),
-        (0, 1, false),
-        (1, 0, false),
-        (0, 3, false),
-        (3, 0, false),
-    ] {
-        let found = undisturbed(rt.alloc(), &term, x, y)?;
-        assert!(rt; found == wanted, "{x} beside {y}");
+    for x in 0..7usize {
+        for y in 0..7usize {
+            let wanted = x != y && STILL.contains(&(x.min(y), x.max(y)));
+            let found = undisturbed(rt.alloc(), &term, x, y)?;
+            assert!(rt; x == y || found == wanted, "{x} beside {y}");
+        }
     }
     Ok(())
 }
@@ -212,6 +250,13 @@ local.get.0; i32.rotl 0 0 | -
 local.get.0; i32.div_s 0 0 | may trap
 local.get.0; i32.rem_u 0 0; i32.eqz 1 | may trap
 local.get.1; i64.div_u 0 0; local.get.0 | -
+local.get.2; i32.trunc_sat_f32_s 0 | -
+local.get.2; i32.trunc_f32_s 0 | may trap
+local.get.0; i32.load8_u.0.0.0 0; i32.eqz 1 | may trap
+local.get.0; i32.store8.0.0.0 0 0 | may trap
+local.get.0; call.0 0; drop 1 | may trap
+local.get.2; f32.div 0 0 | -
+memory.size.0 | -
 local.get.0; i32.use_of_global 0 | may trap
 ";
 

@@ -92,7 +92,7 @@ const RUNS: &str = "
 
 the least number divided by -1
 | term i32.const.-2147483648; i32.const.-1; i32.div_s 0 1
-| written 41 8080808078 41 7f 6d | next 0 | end 2 | stops Trapped
+| written 41 8080808078 41 7f 6d | next 0 | end 2 | stops Overflow
 
 its remainder
 | term i32.const.-2147483648; i32.const.-1; i32.rem_s 0 1
@@ -106,7 +106,7 @@ the leading zeros of 0
 
 a global that is set before the division traps
 | term i32.const.7; global.set.0 0; i32.const.1; i32.const.0; i32.div_u 2 3; container 1 4
-| written 41 07 24 00 41 01 41 00 6e | next 0 | end 4 | global 0 | stops Trapped | global_then 7
+| written 41 07 24 00 41 01 41 00 6e | next 0 | end 4 | global 0 | stops DivideByZero | global_then 7
 
 i32.const 5, i32.const 6, i32.const 1, select, drop
 | body 41 05 41 06 41 01 1c 01 7f 1a 0b | last 3 | term i32.const.6; i32.const.5; i32.const.0; select.i32 0 1 2
@@ -114,7 +114,7 @@ i32.const 5, i32.const 6, i32.const 1, select, drop
 
 i32.const 1, i32.const 0, i32.div_u
 | body 41 01 41 00 6e 0b | last 2 | term i32.const.2; i32.const.0; i32.div_u 0 1
-| written 41 02 41 00 6e 0b | next 0 | end 2 | stops Trapped
+| written 41 02 41 00 6e 0b | next 0 | end 2 | stops DivideByZero
 
 global.get 0, drop, i32.const 2, i32.const 3, i32.mul: the product goes through a new global, which held 0
 | body 23 00 1a 41 02 41 03 6c 0b | last 4 | term i32.const.6; i32.use_of_global 0

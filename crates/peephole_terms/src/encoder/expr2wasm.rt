@@ -19,7 +19,7 @@ use wasm_code::Function;
 /// A node that several others name is written once for each of them. Random nodes and unfolds
 /// take their words from the configuration's generator; the first requested global comes behind
 /// the module's. Answers what the written instructions need from outside the function, in the
-/// order of writing. Where the term is of integer instructions and has types, what is written runs as
+/// order of writing. Where the term has types, what is written runs as
 /// the term means, apart from requested globals.
 ///
 /// Conditions: the configuration is set up, the expression isn't empty, and its nodes are

@@ -1,5 +1,6 @@
 //! Instructions with two operands.
 
+use super::float::of_two_f32;
 use super::{Stop, Value};
 
 /// What the instruction makes of its operands.
@@ -7,6 +8,7 @@ pub fn binary_value(opcode: u8, first: Value, second: Value) -> Result<Value, St
     match (first, second) {
         (Value::I32(a), Value::I32(b)) => of_i32(opcode, a, b),
         (Value::I64(a), Value::I64(b)) => of_i64(opcode, a, b),
+        (Value::F32(a), Value::F32(b)) => of_two_f32(opcode, a, b),
         _ => Err(Stop::Stuck),
     }
 }
@@ -54,6 +56,15 @@ fn holds(comparison: u8, signed: (i64, i64), unsigned: (u64, u64)) -> Result<boo
     })
 }
 
+/// Why there is no quotient and no remainder.
+fn without_quotient(by_zero: bool) -> Stop {
+    if by_zero {
+        Stop::DivideByZero
+    } else {
+        Stop::Overflow
+    }
+}
+
 fn divided_u32(opcode: u8, a: u32, b: u32) -> Result<u32, Stop> {
     let (signed_a, signed_b) = (a.cast_signed(), b.cast_signed());
     let answer = match opcode {
@@ -64,7 +75,7 @@ fn divided_u32(opcode: u8, a: u32, b: u32) -> Result<u32, Stop> {
         0x70 => a.checked_rem(b), // i32.rem_u
         _ => return Err(Stop::Stuck),
     };
-    answer.ok_or(Stop::Trapped)
+    answer.ok_or(without_quotient(b == 0))
 }
 
 fn divided_u64(opcode: u8, a: u64, b: u64) -> Result<u64, Stop> {
@@ -77,7 +88,7 @@ fn divided_u64(opcode: u8, a: u64, b: u64) -> Result<u64, Stop> {
         0x82 => a.checked_rem(b), // i64.rem_u
         _ => return Err(Stop::Stuck),
     };
-    answer.ok_or(Stop::Trapped)
+    answer.ok_or(without_quotient(b == 0))
 }
 
 fn combined_u32(opcode: u8, a: u32, b: u32) -> Result<u32, Stop> {

@@ -21,8 +21,12 @@ fn value_of(rt: &impl Abort, t: &str, digits: &str) -> Value {
     if t == "i64" {
         return Value::I64(bits);
     }
-    assert!(rt; t == "i32" && bits <= 0xffff_ffff, "{t} {digits}");
-    Value::I32(bits as u32)
+    assert!(rt; bits <= 0xffff_ffff, "{t} {digits}");
+    match t {
+        "i32" => Value::I32(bits as u32),
+        "f32" => Value::F32(bits as u32),
+        _ => panic!(rt; "{t}"),
+    }
 }
 
 /// The values of these types.
@@ -39,7 +43,8 @@ fn values_of(rt: &impl Abort, alloc: Global, types: &str, all: &str) -> Result<V
     Ok(values)
 }
 
-/// A machine whose locals are an i32, 5, and a value of another type, and whose global is an i64, 6.
+/// A machine whose locals are an i32, 5, and a value of another type, whose global is an i64, 6, and each of whose 64 bytes of
+/// memory is its place.
 fn machine_of(alloc: Global, stack: Vec<Value>) -> Result<Machine, Fail> {
     let mut machine = Machine::new(alloc);
     machine.stack = stack;
@@ -47,7 +52,22 @@ fn machine_of(alloc: Global, stack: Vec<Value>) -> Result<Machine, Fail> {
         .locals
         .extend_from_slice(&[Value::I32(5), Value::Other])?;
     machine.globals.push(Value::I64(6))?;
+    for place in 0..64u8 {
+        machine.memory.push(place)?;
+    }
     Ok(machine)
+}
+
+/// Why a run stops, by its name.
+fn stop_of(name: &str) -> Option<Stop> {
+    match name {
+        "DivideByZero" => Some(Stop::DivideByZero),
+        "Overflow" => Some(Stop::Overflow),
+        "InvalidConversion" => Some(Stop::InvalidConversion),
+        "OutOfBounds" => Some(Stop::OutOfBounds),
+        "Stuck" => Some(Stop::Stuck),
+        _ => None,
+    }
 }
 
 /// Whether the code makes of the operands what the sample says.
@@ -66,14 +86,11 @@ fn is_sample(
     };
     let mut machine = machine_of(alloc, values_of(rt, alloc, before, operands)?)?;
     let end = machine.run(code);
-    match wanted.trim() {
-        "trap" => Ok(end == Err(Stop::Trapped)),
-        "stuck" => Ok(end == Err(Stop::Stuck)),
-        numbers => {
-            let stack = values_of(rt, alloc, after, numbers)?;
-            Ok(end.is_ok() && machine.stack.as_slice() == stack.as_slice())
-        }
+    if let Some(stop) = stop_of(wanted.trim()) {
+        return Ok(end == Err(stop));
     }
+    let stack = values_of(rt, alloc, after, wanted)?;
+    Ok(end.is_ok() && machine.stack.as_slice() == stack.as_slice())
 }
 
 /// Each sample of a line.

@@ -1,5 +1,6 @@
 //! Instructions with one operand.
 
+use super::float::{converted, of_f32};
 use super::{Stop, Value};
 
 /// What the instruction makes of its operand.
@@ -7,6 +8,7 @@ pub fn unary_value(opcode: u8, operand: Value) -> Result<Value, Stop> {
     match operand {
         Value::I32(n) => of_i32(opcode, n),
         Value::I64(n) => of_i64(opcode, n),
+        Value::F32(bits) => of_f32(opcode, bits),
         Value::Other => Err(Stop::Stuck),
     }
 }
@@ -19,6 +21,8 @@ fn of_i32(opcode: u8, n: u32) -> Result<Value, Stop> {
         0x69 => Value::I32(n.count_ones()), // i32.popcnt
         0xac => Value::I64(i64::from(n.cast_signed()).cast_unsigned()), // i64.extend_i32_s
         0xad => Value::I64(u64::from(n)), // i64.extend_i32_u
+        0xb2 => converted(n), // f32.convert_i32_s
+        0xbe => Value::F32(n), // f32.reinterpret_i32
         0xc0 => Value::I32(sign_extended_u32(n, 8)), // i32.extend8_s
         0xc1 => Value::I32(sign_extended_u32(n, 16)), // i32.extend16_s
         _ => return Err(Stop::Stuck),

@@ -9,17 +9,40 @@ pub enum Value {
     I32(u32),
     /// The bits of an i64.
     I64(u64),
+    /// The bits of an f32.
+    F32(u32),
     /// A value of another type.
     Other,
 }
 
 impl Value {
-    /// The type of an integer.
-    pub fn integer_type(self) -> Option<ValType> {
+    /// The type of the value, where it isn't another one.
+    pub fn value_type(self) -> Option<ValType> {
         match self {
             Value::I32(_) => Some(ValType::I32),
             Value::I64(_) => Some(ValType::I64),
+            Value::F32(_) => Some(ValType::F32),
             Value::Other => None,
+        }
+    }
+
+    /// The value of a type whose bits are those of the number, of which the low ones count.
+    pub fn of_number(t: ValType, number: u64) -> Value {
+        let low = (number & 0xffff_ffff) as u32;
+        match t {
+            ValType::I32 => Value::I32(low),
+            ValType::I64 => Value::I64(number),
+            ValType::F32 => Value::F32(low),
+            _ => Value::Other,
+        }
+    }
+
+    /// The number whose bits are those of the value.
+    pub fn number(self) -> u64 {
+        match self {
+            Value::I32(bits) | Value::F32(bits) => u64::from(bits),
+            Value::I64(bits) => bits,
+            Value::Other => 0,
         }
     }
 }
@@ -27,11 +50,24 @@ impl Value {
 /// Why a run didn't come to its end.
 #[derive(Clone, Copy, Debug, PartialEq, Eq)]
 pub enum Stop {
-    /// It trapped.
-    Trapped,
-    /// An operand is missing or of a wrong type, a variable is missing or no integer, or the machine doesn't know the
+    /// It trapped: a divisor was 0.
+    DivideByZero,
+    /// It trapped: an integer doesn't have the width.
+    Overflow,
+    /// It trapped: what was to be an integer is no number.
+    InvalidConversion,
+    /// It trapped: a byte is not in the memory.
+    OutOfBounds,
+    /// An operand is missing or of a wrong type, a variable is missing or of another type, or the machine doesn't know the
     /// instruction.
     Stuck,
     /// No memory was left.
     Memory,
+}
+
+impl Stop {
+    /// Whether it trapped.
+    pub fn is_trap(self) -> bool {
+        !matches!(self, Stop::Stuck | Stop::Memory)
+    }
 }

@@ -14,11 +14,21 @@ const ANSWERS: &str = "
 # The root is rewritten.
 commute | local.get.0; local.get.1; wrap 1; i32.xor 0 2 | 3 | local.get.0; local.get.1; wrap 1; i32.xor 2 0
 commute | global.get.0; i32.const.5; local.get.0; select 0 1 2; i32.eq 3 0 | 4 | global.get.0; i32.const.5; local.get.0; select 0 1 2; i32.eq 0 3
+# One of the operands may trap.
+commute | local.get.0; i32.div_u 0 0; i32.add 1 0 | 2 | local.get.0; i32.div_u 0 0; i32.add 0 1
+commute | local.get.0; i32.load.0.2.0 0; memory.size.0; i32.add 1 2 | 3 | local.get.0; i32.load.0.2.0 0; memory.size.0; i32.add 2 1
+turn_comparison | local.get.0; local.get.2; i32.trunc_f32_s 1; i32.gt_s 0 2 | 3 | local.get.0; local.get.2; i32.trunc_f32_s 1; i32.lt_s 2 0
 turn_comparison | local.get.1; i64.const.5; i64.le_u 0 1 | 2 | local.get.1; i64.const.5; i64.ge_u 1 0
 add_zero | global.get.1 | 0 | global.get.1; i64.const.0; i64.add 0 1
 # A term that writes a variable, once before and afterwards.
 add_zero | i32.const.5; local.tee.0 0 | 1 | i32.const.5; local.tee.0 0; i32.const.0; i32.add 1 2
+# What is loaded, and what a float is read as.
+add_zero | local.get.0; i64.load.8.3.0 0 | 1 | local.get.0; i64.load.8.3.0 0; i64.const.0; i64.add 1 2
+through_global | local.get.2; i32.reinterpret_f32 0 | 1 | local.get.2; i32.reinterpret_f32 0; i32.use_of_global 1
+with_nop | local.get.2; f32.neg 0 | 1 | local.get.2; f32.neg 0; nop; container 2 1
 sub_zero | local.get.1; wrap 0 | 1 | local.get.1; wrap 0; i32.const.0; i32.sub 1 2
+# A select leaves a value of its first operand's type.
+xor_zero | local.get.0; i32.const.5; select 0 1 1 | 2 | local.get.0; i32.const.5; select 0 1 1; i32.const.0; i32.xor 2 3
 mul_one | local.get.0; i64.extend_i32_u 0 | 1 | local.get.0; i64.extend_i32_u 0; i64.const.1; i64.mul 1 2
 # A test of an i64 leaves an i32.
 or_zero | local.get.1; i64.eqz 0 | 1 | local.get.1; i64.eqz 0; i32.const.0; i32.or 1 2
@@ -58,6 +68,7 @@ drop_xor_zero | local.get.0; i32.const.0; i32.xor 0 1 | 2 | local.get.0; i32.con
 drop_and_ones | local.get.1; i64.const.-1; i64.and 0 1 | 2 | local.get.1; i64.const.-1; local.get.1
 drop_shift_by_zero | local.get.0; i32.const.0; i32.shl 0 1 | 2 | local.get.0; i32.const.0; local.get.0
 forget | local.get.0; i32.const.3; i32.add 0 1; drop 2 | 3 | local.get.0; i32.const.3; i32.add 0 1; container
+forget | local.get.2; f32.sqrt 0; drop 1 | 2 | local.get.2; f32.sqrt 0; container
 fold | i32.const.5; i32.const.-7; i32.add 0 1 | 2 | i32.const.5; i32.const.-7; i32.const.-2
 fold | i64.const.-1; i64.clz 0 | 1 | i64.const.-1; i64.const.0
 fold | i64.const.-9223372036854775808; i64.const.2; i64.div_s 0 1 | 2 | i64.const.-9223372036854775808; i64.const.2; i64.const.-4611686018427387904
@@ -98,22 +109,42 @@ commute | i32.const.5; local.tee.0 0; local.get.0; i32.add 1 2 | 3 | none
 commute | local.get.0; i32.const.5; local.tee.0 1; i32.eqz 2; i32.add 0 3 | 4 | none
 commute | i32.const.5; i32.unfold 0; local.get.0; i32.mul 1 2 | 3 | none
 commute | local.get.0; drop 0; local.get.0; i32.and 2 1 | 3 | none
+# Both operands may trap; one calls; floats, whose operators are none of these.
+commute | local.get.0; i32.div_u 0 0; i32.rem_s 0 0; i32.add 1 2 | 3 | none
+commute | local.get.0; i32.load.0.2.0 0; i32.load.0.2.0 0; i32.add 1 2 | 3 | none
+commute | local.get.0; i32.load.0.2.0 0; i32.div_u 0 0; i32.add 1 2 | 3 | none
+commute | local.get.0; call.0 0; i32.load.0.2.0 0; i32.add 1 2 | 3 | none
+commute | local.get.0; call.0 0; local.get.0; i32.add 1 2 | 3 | none
+commute | local.get.2; f32.add 0 0 | 1 | none
+turn_comparison | local.get.0; i32.div_u 0 0; i32.rem_s 0 0; i32.lt_u 1 2 | 3 | none
+turn_select | local.get.0; i32.div_u 0 0; i32.load.0.2.0 0; select 1 2 0 | 3 | none
 # No order; floats; an operand that writes.
 turn_comparison | local.get.0; i32.const.5; i32.eq 0 1 | 2 | none
 turn_comparison | local.get.2; f32.lt 0 0 | 1 | none
 turn_comparison | local.get.0; local.tee.0 0; local.get.0; i32.lt_u 2 1 | 3 | none
-# A float, nothing, a variable that isn't there, a select, a node without an instruction.
+# A float, nothing, a variable that isn't there, a select of a select, a node without an instruction.
 add_zero | local.get.2 | 0 | none
 sub_zero | local.get.3 | 0 | none
 mul_one | local.get.0; drop 0 | 1 | none
 or_zero | global.get.2 | 0 | none
-xor_zero | local.get.0; i32.const.5; select 0 1 1 | 2 | none
+xor_zero | local.get.0; select 0 0 0; select 1 0 0 | 2 | none
 shift_by_zero | i32.const.5; i32.unfold 0 | 1 | none
+# A float that is loaded; what a function leaves that isn't there, and the size of a memory that isn't.
+add_zero | local.get.0; f32.load.0.2.0 0 | 1 | none
+mul_one | local.get.0; call.0 0 | 1 | none
+through_global | local.get.0; call.0 0 | 1 | none
+through_global | memory.size.0 | 0 | none
 # A term that writes, at its root or below; a float; a node without an instruction.
 or_self | i32.const.5; local.tee.0 0 | 1 | none
 and_self | i32.const.5; local.tee.0 0; i64.extend_i32_s 1 | 2 | none
 or_self | f32.const.3f800000 | 0 | none
 and_self | nop; local.get.0; container 0 1 | 2 | none
+# What a world does, at the root or below: it may do otherwise the second time.
+or_self | local.get.0; i32.load.0.2.0 0 | 1 | none
+or_self | local.get.0; i64.load.8.3.0 0; i64.eqz 1 | 2 | none
+and_self | local.get.2; i32.reinterpret_f32 0 | 1 | none
+and_self | local.get.2; f32.lt 0 0 | 1 | none
+or_self | local.get.0; i8x16.splat 0; v128.any_true 1 | 2 | none
 # No constant of an integer type.
 unfold | local.get.0 | 0 | none
 unfold | f32.const.3f800000 | 0 | none
@@ -152,6 +183,9 @@ drop_shift_by_zero | local.get.0; i32.const.32; i32.shl 0 1 | 2 | none
 forget | local.get.0; i32.div_u 0 0; drop 1 | 2 | none
 forget | i32.const.5; local.tee.0 0; drop 1 | 2 | none
 forget | local.get.0; local.set.0 0 | 1 | none
+forget | local.get.0; i32.load.0.2.0 0; drop 1 | 2 | none
+forget | local.get.0; call.0 0; drop 1 | 2 | none
+forget | local.get.2; i32.trunc_f32_s 0; drop 1 | 2 | none
 # Traps; an operand that is no constant, or one of the other type.
 fold | i32.const.5; i32.const.0; i32.div_u 0 1 | 2 | none
 fold | i64.const.-9223372036854775808; i64.const.-1; i64.div_s 0 1 | 2 | none

@@ -1,18 +1,20 @@
-//! Random blocks of integer instructions, rewritten by random rules, run before and afterwards.
+//! Random blocks of the instructions that the plain machine knows, rewritten by random rules, run before and afterwards.
 
 use super::running::{
-    EDGES, GLOBALS, LOCALS, Variables, config_of, end_the_same, rewritten_at_random, value_of,
+    EDGES, Ended, GLOBALS, LOCALS, Variables, config_of, end_the_same, first_memory,
+    rewritten_at_random, value_of,
 };
-use crate::machine::{Value, code_of};
+use crate::machine::{Stop, Value, code_of};
 use crate::table::bytes_of;
 use peephole_rules::{RULES, Rule};
-use peephole_terms::PrimitiveTypeInfo::{I32, I64};
+use peephole_terms::PrimitiveTypeInfo::{F32, I32, I64};
 use peephole_terms::{
     Function, Imm, Instr, Opcode, PrimitiveTypeInfo, ResourceRequest, ValType, row_of,
 };
 use std::alloc::{AllocError, Global};
 use std::process::Abort;
 use std::test::Fail;
+use wasm_code::MemArg;
 
 /// Numbers that look random, and are the same at each run (Marsaglia, Xorshift RNGs, Journal of Statistical Software 8).
 #[derive(Drop)]
@@ -42,7 +44,7 @@ impl Draws {
     /// A number of each type: an edge, a small one, or any.
     fn numbers(&mut self) -> (u32, u64) {
         let word = self.word();
-        match (self.below(4), EDGES.get(self.below(5))) {
+        match (self.below(4), EDGES.get(self.below(7))) {
             (0 | 1, Some(edge)) => *edge,
             (2, _) => ((word & 0x3f) as u32, word & 0x7f),
             _ => ((word & 0xffff_ffff) as u32, word),
@@ -58,8 +60,8 @@ fn pick<T: Copy>(rt: &impl Abort, draws: &mut Draws, items: &[T]) -> T {
     }
 }
 
-/// The types of the operands, and the opcodes, of operators that leave an i32. What commutes, what has rules of its own, and
-/// `local.tee`, stand there twice.
+/// The types of the operands, a hyphen where there are none, and the opcodes, of operators that leave an i32; an address is an i32,
+/// which is mostly a place in the memory. What commutes, what has rules of its own, and `local.tee`, stand there twice.
 const OF_I32: &str = "
 i32 i32 | 6a 6b 6c 6d 6e 6f 70 71 72 73 74 75 76 77 78
 i32 i32 | 6a 6c 71 72 73
@@ -73,6 +75,10 @@ i64 | 50 a7
 i32 | 22
 i32 | 22
 i32 i32 i32 | 1b 1c
+f32 | a8 bc
+address | 28 2d
+- | 3f
+i32 | 10
 ";
 
 /// The same of an i64.
@@ -85,13 +91,29 @@ i32 | ac ad
 i64 | 22
 i64 | 22
 i64 i64 i32 | 1b 1c
+address | 29
 ";
+
+/// The same of an f32.
+const OF_F32: &str = "
+f32 f32 | 92 94
+f32 | 8b 8c
+i32 | b2 be
+f32 | 22
+f32 f32 i32 | 1b 1c
+address | 2a
+";
+
+/// The bits of 1.5, -42 and 0.1, and of no number.
+const FLOATS: [u32; 4] = [0x3fc0_0000, 0xc228_0000, 0x3dcc_cccd, 0x7fc0_0000];
 
 /// One of the two locals of the type, the second one more often, so that reads and writes of it meet.
 fn local_of(draws: &mut Draws, t: PrimitiveTypeInfo) -> Imm {
     match (t, draws.below(4)) {
         (I64, 0) => Imm::Index(2),
         (I64, _) => Imm::Index(3),
+        (F32, 0) => Imm::Index(4),
+        (F32, _) => Imm::Index(5),
         (_, 0) => Imm::Index(0),
         _ => Imm::Index(1),
     }
@@ -101,8 +123,18 @@ fn local_of(draws: &mut Draws, t: PrimitiveTypeInfo) -> Imm {
 fn global_of(t: PrimitiveTypeInfo) -> Imm {
     match t {
         I64 => Imm::Index(1),
+        F32 => Imm::Index(2),
         _ => Imm::Index(0),
     }
+}
+
+/// Where a load or a store begins behind its address: at most three bytes.
+fn place_of(draws: &mut Draws) -> Imm {
+    Imm::Mem(MemArg {
+        offset: draws.below(4) as u64,
+        align: 0,
+        memory: 0,
+    })
 }
 
 /// The immediate of an operator that leaves the type.
@@ -110,9 +142,17 @@ fn imm_of(draws: &mut Draws, opcode: u8, t: PrimitiveTypeInfo) -> Imm {
     match (opcode, t) {
         (0x22, _) => local_of(draws, t),
         (0x1c, I64) => Imm::Val(ValType::I64),
+        (0x1c, F32) => Imm::Val(ValType::F32),
         (0x1c, _) => Imm::Val(ValType::I32),
+        (0x28..=0x2a | 0x2d, _) => place_of(draws),
+        (0x10 | 0x3f, _) => Imm::Index(0),
         _ => Imm::Nothing,
     }
+}
+
+/// One of the floats.
+fn float_of(draws: &mut Draws) -> u32 {
+    FLOATS.get(draws.below(4)).copied().unwrap_or(0)
 }
 
 /// A constant of the type, or a read of a variable.
@@ -121,6 +161,8 @@ fn leaf_of(draws: &mut Draws, t: PrimitiveTypeInfo) -> (u8, Imm) {
     match (draws.below(5), t) {
         (0, _) => (0x23, global_of(t)),
         (1 | 2, I64) => (0x42, Imm::I64(large.cast_signed())),
+        (1, F32) => (0x43, Imm::F32(small)),
+        (2, F32) => (0x43, Imm::F32(float_of(draws))),
         (1 | 2, _) => (0x41, Imm::I32(small.cast_signed())),
         _ => (0x20, local_of(draws, t)),
     }
@@ -133,6 +175,17 @@ fn end_of(draws: &mut Draws, t: PrimitiveTypeInfo) -> Option<(u8, Imm)> {
         1 => Some((0x21, local_of(draws, t))),
         2 => Some((0x24, global_of(t))),
         _ => None,
+    }
+}
+
+/// What stores a value of the type.
+fn store_of(draws: &mut Draws, t: PrimitiveTypeInfo) -> (u8, Imm) {
+    let place = place_of(draws);
+    match (t, draws.below(2)) {
+        (I64, _) => (0x37, place),
+        (F32, _) => (0x38, place),
+        (_, 0) => (0x3a, place),
+        _ => (0x36, place),
     }
 }
 
@@ -154,6 +207,29 @@ enum Task {
     Write(u8, Imm),
     /// A tree that leaves the type, with so many operators one above another at most.
     Make(PrimitiveTypeInfo, usize),
+    /// A place in the memory: the low bits of such a tree.
+    MakeAddress(usize),
+}
+
+/// What makes an operand of the type that the word names.
+fn task_of(word: &str, depth: usize) -> Option<Task> {
+    match word {
+        "i32" => Some(Task::Make(I32, depth)),
+        "i64" => Some(Task::Make(I64, depth)),
+        "f32" => Some(Task::Make(F32, depth)),
+        "address" => Some(Task::MakeAddress(depth)),
+        _ => None,
+    }
+}
+
+/// Puts what makes a place in the memory before the other tasks. One in eight is any number.
+fn plan_address(draws: &mut Draws, tasks: &mut Vec<Task>, depth: usize) -> Result<(), Fail> {
+    if draws.below(8) != 0 {
+        tasks.push(Task::Write(0x71, Imm::Nothing))?;
+        tasks.push(Task::Write(0x41, Imm::I32(63)))?;
+    }
+    tasks.push(Task::Make(I32, depth))?;
+    Ok(())
 }
 
 /// Puts what makes a tree before the other tasks: a leaf, or its operands and then its root. The next task stands last.
@@ -172,6 +248,7 @@ fn plan(
     let alloc = *tasks.allocator();
     let table = match t {
         I64 => OF_I64,
+        F32 => OF_F32,
         _ => OF_I32,
     };
     let lines: Vec<&str> = table.trim().lines().collect(alloc)?;
@@ -180,27 +257,28 @@ fn plan(
     };
     let opcode = pick(rt, draws, &bytes_of(alloc, opcodes)?);
     tasks.push(Task::Write(opcode, imm_of(draws, opcode, t)))?;
-    for operand in types.rsplit(' ') {
-        let t = if operand == "i64" { I64 } else { I32 };
-        tasks.push(Task::Make(t, depth.saturating_sub(1)))?;
+    for word in types.rsplit(' ') {
+        if let Some(task) = task_of(word, depth.saturating_sub(1)) {
+            tasks.push(task)?;
+        }
     }
     Ok(())
 }
 
-/// Writes a random tree that leaves the type, of five operators one above another and so of 364 nodes at most.
+/// Writes what a task makes: of five operators one above another, and so 364 nodes at most.
 fn write_tree(
     rt: &impl Abort,
     alloc: Global,
     draws: &mut Draws,
-    t: PrimitiveTypeInfo,
+    first: Task,
     sink: &mut Function,
 ) -> Result<(), Fail> {
     let mut tasks = Vec::new(alloc);
-    let depth = draws.up_to(5);
-    plan(rt, draws, &mut tasks, t, depth)?;
+    tasks.push(first)?;
     for _ in 0..1_000 {
         match tasks.pop() {
             Some(Task::Make(t, depth)) => plan(rt, draws, &mut tasks, t, depth)?,
+            Some(Task::MakeAddress(depth)) => plan_address(draws, &mut tasks, depth)?,
             Some(Task::Write(opcode, imm)) => sink.instruction(&instr_of(rt, opcode, imm))?,
             None => return Ok(()),
         }
@@ -208,15 +286,37 @@ fn write_tree(
     panic!(rt; "a tree without an end")
 }
 
-/// A random body of one statement or two.
+/// Writes a random statement: one in four stores a value.
+fn write_statement(
+    rt: &impl Abort,
+    alloc: Global,
+    draws: &mut Draws,
+    sink: &mut Function,
+) -> Result<(), Fail> {
+    let t = pick(rt, draws, &[I32, I64, F32]);
+    let stores = draws.below(4) == 0;
+    if stores {
+        let address = Task::MakeAddress(draws.up_to(3));
+        write_tree(rt, alloc, draws, address, sink)?;
+    }
+    let value = Task::Make(t, draws.up_to(5));
+    write_tree(rt, alloc, draws, value, sink)?;
+    let end = if stores {
+        Some(store_of(draws, t))
+    } else {
+        end_of(draws, t)
+    };
+    if let Some((opcode, imm)) = end {
+        sink.instruction(&instr_of(rt, opcode, imm))?;
+    }
+    Ok(())
+}
+
+/// A random body of one to three statements.
 fn random_body(rt: &impl Abort, alloc: Global, draws: &mut Draws) -> Result<Function, Fail> {
     let mut sink = Function::new(alloc);
-    for _ in 0..draws.up_to(2) {
-        let t = pick(rt, draws, &[I32, I64]);
-        write_tree(rt, alloc, draws, t, &mut sink)?;
-        if let Some((opcode, imm)) = end_of(draws, t) {
-            sink.instruction(&instr_of(rt, opcode, imm))?;
-        }
+    for _ in 0..draws.up_to(3) {
+        write_statement(rt, alloc, draws, &mut sink)?;
     }
     sink.raw(&[0x0b])?;
     Ok(sink)
@@ -319,14 +419,14 @@ fn values_of(
     Ok(values)
 }
 
-/// Over random values the bodies end the same. Answers whether they don't trap.
-fn is_same(
+/// Over random values the bodies end the same, and so.
+fn ended(
     rt: &impl Abort,
     alloc: Global,
     draws: &mut Draws,
     body: &[u8],
     new: &NewBody,
-) -> Result<bool, Fail> {
+) -> Result<Ended, Fail> {
     let before = code_of(alloc, body)?;
     let after = code_of(alloc, &new.bytes)?;
     let locals = values_of(alloc, draws, &LOCALS)?;
@@ -340,6 +440,29 @@ fn is_same(
     end_the_same(rt, alloc, &before, &after, variables)
 }
 
+/// How many runs came to their end, trapped at the memory, called, and stored.
+#[derive(Clone, Copy, Debug, Default)]
+struct Counts {
+    ended: usize,
+    out_of_bounds: usize,
+    called: usize,
+    stored: usize,
+}
+
+impl Counts {
+    fn add(&mut self, alloc: Global, end: &Ended) -> Result<(), Fail> {
+        let is_out = end.trap == Some(Stop::OutOfBounds);
+        let has_stored = end.machine.memory != first_memory(alloc)?;
+        self.ended = self.ended.saturating_add(usize::from(end.trap.is_none()));
+        self.out_of_bounds = self.out_of_bounds.saturating_add(usize::from(is_out));
+        self.called = self
+            .called
+            .saturating_add(usize::from(!end.machine.calls.is_empty()));
+        self.stored = self.stored.saturating_add(usize::from(has_stored));
+        Ok(())
+    }
+}
+
 /// A thousand blocks. Most don't trap, and each rule has its part.
 #[test]
 fn rewritten_blocks(rt: HostRuntime) -> Result<(), Fail> {
@@ -348,19 +471,20 @@ fn rewritten_blocks(rt: HostRuntime) -> Result<(), Fail> {
         state: 88172645463325252,
     };
     let mut rules = Vec::new(alloc);
-    let mut ended = 0usize;
+    let mut counts = Counts::default();
     for _ in 0..1_000 {
         let body = random_body(&rt, alloc, &mut draws)?;
         let new = rewritten(alloc, &mut draws, body.bytes(), &mut rules)?;
-        if is_same(&rt, alloc, &mut draws, body.bytes(), &new)? {
-            ended = ended.saturating_add(1);
-        }
+        let end = ended(&rt, alloc, &mut draws, body.bytes(), &new)?;
+        counts.add(alloc, &end)?;
     }
     for rule in RULES {
         let count = rules.iter().filter(|one| **one == rule).count();
         assert!(rt; count >= 5, "{rule}: {count}");
     }
     let count = rules.len();
-    assert!(rt; count > 1_500 && ended > 500, "{count} {ended}");
+    assert!(rt; count > 1_500 && counts.ended > 500, "{count} {counts:?}");
+    assert!(rt; counts.called > 100 && counts.stored > 100, "{counts:?}");
+    assert!(rt; counts.out_of_bounds > 50, "{counts:?}");
     Ok(())
 }

@@ -11,33 +11,64 @@ use peephole_examples::Replaced;
 use peephole_rewrites::{Rewrite, rewrite_block, rewrite_block_at_random};
 use peephole_rules::Rule;
 use peephole_terms::{
-    BBlock, DFGBuilder, Error, Function, Instr, ModuleInfo, PrimitiveTypeInfo, WasmMutate, Words,
+    BBlock, DFGBuilder, Error, FuncInfo, Function, Instr, MemoryType, ModuleInfo,
+    PrimitiveTypeInfo, TypeInfo, WasmMutate, Words,
 };
 use std::alloc::{AllocError, Global};
 use std::process::Abort;
 use std::test::Fail;
 
 /// The types of a function's locals.
-pub const LOCALS: [PrimitiveTypeInfo; 4] = [
+pub const LOCALS: [PrimitiveTypeInfo; 6] = [
     PrimitiveTypeInfo::I32,
     PrimitiveTypeInfo::I32,
     PrimitiveTypeInfo::I64,
     PrimitiveTypeInfo::I64,
+    PrimitiveTypeInfo::F32,
+    PrimitiveTypeInfo::F32,
 ];
 
 /// The types of a module's globals.
-pub const GLOBALS: [PrimitiveTypeInfo; 2] = [PrimitiveTypeInfo::I32, PrimitiveTypeInfo::I64];
+pub const GLOBALS: [PrimitiveTypeInfo; 3] = [
+    PrimitiveTypeInfo::I32,
+    PrimitiveTypeInfo::I64,
+    PrimitiveTypeInfo::F32,
+];
 
-/// Zero, one, minus one, the least number and the greatest.
-pub const EDGES: [(u32, u64); 5] = [
+/// How many bytes a memory has.
+const BYTES: u8 = 64;
+
+/// Zero, one, minus one, the least number and the greatest; the last place of four bytes in the memory, and of eight; and the
+/// bits of 1.5, beside 2^32.
+pub const EDGES: [(u32, u64); 7] = [
     (0, 0),
     (1, 1),
     (4294967295, 18446744073709551615),
     (2147483648, 9223372036854775808),
     (2147483647, 9223372036854775807),
+    (60, 56),
+    (1069547520, 4294967296),
 ];
 
-/// A configuration that preserves the meaning, of a module with these globals behind its own, whose generator gives the words.
+/// What is known of a module with these globals behind its own, a memory, and a function that takes an i32 and gives one.
+fn info_of<'a>(
+    alloc: Global,
+    bytes: &'a [u8],
+    requested: &[PrimitiveTypeInfo],
+) -> Result<ModuleInfo<'a>, AllocError> {
+    let mut info = ModuleInfo::new(alloc, bytes);
+    info.global_types.extend_from_slice(&GLOBALS)?;
+    info.global_types.extend_from_slice(requested)?;
+    info.memory_types.push(MemoryType { memory64: false })?;
+    info.types_map.push(TypeInfo::Func(FuncInfo {
+        params: Vec::from_slice(alloc, &[PrimitiveTypeInfo::I32])?,
+        returns: Vec::from_slice(alloc, &[PrimitiveTypeInfo::I32])?,
+    }))?;
+    info.function_map.push(0)?;
+    Ok(info)
+}
+
+/// A configuration that preserves the meaning, of such a module, whose generator gives the words.
 pub fn config_of<'a>(
     alloc: Global,
     bytes: &'a [u8],
@@ -46,9 +77,7 @@ pub fn config_of<'a>(
 ) -> Result<WasmMutate<'a, Words>, AllocError>
     ensures { IfOk result (λ config. IsTrue (is_some config.setup)) }
 {
-    let mut info = ModuleInfo::new(alloc, bytes);
-    info.global_types.extend_from_slice(&GLOBALS)?;
-    info.global_types.extend_from_slice(requested)?;
+    let info = info_of(alloc, bytes, requested)?;
     let mut config = WasmMutate::new();
     config.set_up(info, Words::new(Vec::from_slice(alloc, words)?));
     config.preserve_semantics(true);
@@ -114,23 +143,48 @@ pub struct Variables<'a> {
     pub requested: &'a [Value],
 }
 
-/// A machine with these variables.
+/// A memory as a run finds it, of which no two bytes are the same.
+pub fn first_memory(alloc: Global) -> Result<Vec<u8>, AllocError> {
+    let mut memory = Vec::new(alloc);
+    for place in 0..BYTES {
+        memory.push(place.wrapping_mul(0x9d))?;
+    }
+    Ok(memory)
+}
+
+/// A machine with these variables and such a memory.
 fn machine_of(alloc: Global, locals: &[Value], globals: &[Value]) -> Result<Machine, AllocError> {
     let mut machine = Machine::new(alloc);
     machine.locals.extend_from_slice(locals)?;
     machine.globals.extend_from_slice(globals)?;
+    machine.memory = first_memory(alloc)?;
     Ok(machine)
 }
 
-/// The codes run to the same end: the same stack, or a trap, with the same locals and the same globals of the module. Answers
-/// whether it isn't a trap.
+/// Both machines have the same locals, memory and calls, and the new one the globals of the old one.
+fn has_same_rest(old: &Machine, new: &Machine) -> bool {
+    new.locals.as_slice() == old.locals.as_slice()
+        && new.globals.as_slice().starts_with(old.globals.as_slice())
+        && new.memory.as_slice() == old.memory.as_slice()
+        && new.calls.as_slice() == old.calls.as_slice()
+}
+
+/// A machine as a run leaves it, and the cause where it trapped.
+#[derive(Drop)]
+pub struct Ended {
+    pub trap: Option<Stop>,
+    pub machine: Machine,
+}
+
+/// The codes run to the same end: the same stack, or a trap for the same cause, with the same locals, the same globals of the
+/// module, the same memory and the same calls. Answers the end.
 pub fn end_the_same(
     rt: &impl Abort,
     alloc: Global,
     before: &[Instr],
     after: &[Instr],
     variables: Variables,
-) -> Result<bool, Fail> {
+) -> Result<Ended, Fail> {
     let Variables {
         locals,
         globals,
@@ -139,15 +193,19 @@ pub fn end_the_same(
     let mut old = machine_of(alloc, locals, globals)?;
     let mut new = machine_of(alloc, locals, globals)?;
     new.globals.extend_from_slice(requested)?;
-    let end = old.run(before);
-    let has_ended = end.is_ok();
-    assert!(rt; has_ended || end == Err(Stop::Trapped), "{before:?}");
-    let is_same = new.run(after) == end
+    let trap = old.run(before).err();
+    let has_ended = match trap {
+        Some(stop) => {
+            assert!(rt; stop.is_trap(), "{before:?}");
+            false
+        }
+        None => true,
+    };
+    let is_same = new.run(after).err() == trap
         && (!has_ended || new.stack.as_slice() == old.stack.as_slice())
-        && new.locals.as_slice() == old.locals.as_slice()
-        && new.globals.as_slice().starts_with(old.globals.as_slice());
+        && has_same_rest(&old, &new);
     assert!(rt; is_same, "{before:?}, {after:?}");
-    Ok(has_ended)
+    Ok(Ended { trap, machine: old })
 }
 
 /// The value of a type that a number of each type gives.
@@ -155,6 +213,7 @@ pub fn value_of(t: PrimitiveTypeInfo, numbers: (u32, u64)) -> Value {
     match t {
         PrimitiveTypeInfo::I32 => Value::I32(numbers.0),
         PrimitiveTypeInfo::I64 => Value::I64(numbers.1),
+        PrimitiveTypeInfo::F32 => Value::F32(numbers.0),
         _ => Value::Other,
     }
 }
@@ -179,8 +238,14 @@ fn end_the_same_over(
             Value::I32(second.0),
             Value::I64(first.1),
             Value::I64(second.1),
+            Value::F32(first.0),
+            Value::F32(second.0),
         ],
-        globals: &[Value::I32(second.0), Value::I64(first.1)],
+        globals: &[
+            Value::I32(second.0),
+            Value::I64(first.1),
+            Value::F32(second.0),
+        ],
         requested: &requested,
     };
     end_the_same(rt, alloc, codes.0, codes.1, variables)?;
@@ -192,10 +257,10 @@ fn end_the_same_over(
 const RUNS: &str = "
 # local.get 0, local.get 1, i32.add, local.set 0, local.get 0, global.set 0
 commute | 20 00 20 01 6a 21 00 20 00 24 00 0b | 3 | 2 | 20 01 20 00 6a 21 00 20 00 24 00 0b | -
-# local.get 0, local.get 1, i32.div_s, local.get 1, local.get 0, i32.rem_u, i32.xor: either operand may trap.
-commute | 20 00 20 01 6d 20 01 20 00 70 73 0b | 6 | 6 | 20 01 20 00 70 20 00 20 01 6d 73 0b | -
-# The same of i64: div_s, rem_u, mul.
-commute | 20 02 20 03 7f 20 03 20 02 82 7e 0b | 6 | 6 | 20 03 20 02 82 20 02 20 03 7f 7e 0b | -
+# local.get 0, local.get 1, i32.div_s, local.get 1, i32.xor: the first operand may trap.
+commute | 20 00 20 01 6d 20 01 73 0b | 4 | 4 | 20 01 20 00 20 01 6d 73 0b | -
+# local.get 2, i64.const 5, i64.add, local.get 3, local.get 2, i64.rem_u, i64.mul: the second one may.
+commute | 20 02 42 05 7c 20 03 20 02 82 7e 0b | 6 | 6 | 20 03 20 02 82 20 02 42 05 7c 7e 0b | -
 # local.get 2, local.get 3, i64.ne, drop, local.get 0
 commute | 20 02 20 03 52 1a 20 00 0b | 3 | 2 | 20 03 20 02 52 1a 20 00 0b | -
 # local.get 0, local.get 1, i32.lt_s; i64.le_u.
@@ -288,16 +353,111 @@ drop_and_ones | 20 00 41 7f 71 0b | 2 | 2 | 20 00 0b | -
 # local.get 2, i64.const 0, i64.shl
 drop_shift_by_zero | 20 02 42 00 86 0b | 2 | 2 | 20 02 0b | -
 # local.get 0, local.get 1, i32.div_s
-through_global | 20 00 20 01 6d 0b | 2 | 2 | 20 00 20 01 6d 24 02 23 02 0b | i32
+through_global | 20 00 20 01 6d 0b | 2 | 2 | 20 00 20 01 6d 24 03 23 03 0b | i32
 # The same: the second operand, between the first one and the division.
-through_global | 20 00 20 01 6d 0b | 2 | 1 | 20 00 20 01 24 02 23 02 6d 0b | i32
+through_global | 20 00 20 01 6d 0b | 2 | 1 | 20 00 20 01 24 03 23 03 6d 0b | i32
 # local.get 3, local.set 2
-through_global | 20 03 21 02 0b | 1 | 0 | 20 03 24 02 23 02 21 02 0b | i64
+through_global | 20 03 21 02 0b | 1 | 0 | 20 03 24 03 23 03 21 02 0b | i64
 # local.get 0, i32.const 2, i32.add, local.get 0, i32.mul, local.set 0
 commute | 20 00 41 02 6a 20 00 6c 21 00 0b | 5 | 4 | 20 00 20 00 41 02 6a 6c 21 00 0b | -
-through_global | 20 00 41 02 6a 20 00 6c 21 00 0b | 5 | 0 | 20 00 24 02 23 02 41 02 6a 20 00 6c 21 00 0b | i32
+through_global | 20 00 41 02 6a 20 00 6c 21 00 0b | 5 | 0 | 20 00 24 03 23 03 41 02 6a 20 00 6c 21 00 0b | i32
 # local.get 0, drop, local.get 2, global.set 1: the first tree stands as it was.
 mul_one | 20 00 1a 20 02 24 01 0b | 3 | 0 | 20 00 1a 20 02 42 01 7e 24 01 0b | -
+# local.get 0, local.get 0, i32.load, i32.const 2, i32.const 3, i32.mul, i32.add, i32.store: under each rule that applies.
+commute | 20 00 20 00 28 02 00 41 02 41 03 6c 6a 36 02 00 0b | 7 | 6 | 20 00 41 02 41 03 6c 20 00 28 02 00 6a 36 02 00 0b | -
+commute | 20 00 20 00 28 02 00 41 02 41 03 6c 6a 36 02 00 0b | 7 | 5 | 20 00 20 00 28 02 00 41 03 41 02 6c 6a 36 02 00 0b | -
+add_zero | 20 00 20 00 28 02 00 41 02 41 03 6c 6a 36 02 00 0b | 7 | 2 | 20 00 20 00 28 02 00 41 00 6a 41 02 41 03 6c 6a 36 02 00 0b | -
+sub_zero | 20 00 20 00 28 02 00 41 02 41 03 6c 6a 36 02 00 0b | 7 | 5 | 20 00 20 00 28 02 00 41 02 41 03 6c 41 00 6b 6a 36 02 00 0b | -
+mul_one | 20 00 20 00 28 02 00 41 02 41 03 6c 6a 36 02 00 0b | 7 | 6 | 20 00 20 00 28 02 00 41 02 41 03 6c 6a 41 01 6c 36 02 00 0b | -
+or_zero | 20 00 20 00 28 02 00 41 02 41 03 6c 6a 36 02 00 0b | 7 | 0 | 20 00 41 00 72 20 00 28 02 00 41 02 41 03 6c 6a 36 02 00 0b | -
+xor_zero | 20 00 20 00 28 02 00 41 02 41 03 6c 6a 36 02 00 0b | 7 | 1 | 20 00 20 00 41 00 73 28 02 00 41 02 41 03 6c 6a 36 02 00 0b | -
+and_ones | 20 00 20 00 28 02 00 41 02 41 03 6c 6a 36 02 00 0b | 7 | 2 | 20 00 20 00 28 02 00 41 7f 71 41 02 41 03 6c 6a 36 02 00 0b | -
+shift_by_zero | 20 00 20 00 28 02 00 41 02 41 03 6c 6a 36 02 00 0b | 7 | 6 | 20 00 20 00 28 02 00 41 02 41 03 6c 6a 41 00 74 36 02 00 0b | -
+or_self | 20 00 20 00 28 02 00 41 02 41 03 6c 6a 36 02 00 0b | 7 | 5 | 20 00 20 00 28 02 00 41 02 41 03 6c 41 02 41 03 6c 72 6a 36 02 00 0b | -
+and_self | 20 00 20 00 28 02 00 41 02 41 03 6c 6a 36 02 00 0b | 7 | 0 | 20 00 20 00 71 20 00 28 02 00 41 02 41 03 6c 6a 36 02 00 0b | -
+double_complement | 20 00 20 00 28 02 00 41 02 41 03 6c 6a 36 02 00 0b | 7 | 2 | 20 00 20 00 28 02 00 41 7f 73 41 7f 73 41 02 41 03 6c 6a 36 02 00 0b | -
+unfold | 20 00 20 00 28 02 00 41 02 41 03 6c 6a 36 02 00 0b | 7 | 3 | 20 00 20 00 28 02 00 41 f9 ea c8 b9 06 41 89 95 b7 c6 79 6a 41 03 6c 6a 36 02 00 0b | -
+through_global | 20 00 20 00 28 02 00 41 02 41 03 6c 6a 36 02 00 0b | 7 | 2 | 20 00 20 00 28 02 00 24 03 23 03 41 02 41 03 6c 6a 36 02 00 0b | i32
+with_nop | 20 00 20 00 28 02 00 41 02 41 03 6c 6a 36 02 00 0b | 7 | 2 | 20 00 01 20 00 28 02 00 41 02 41 03 6c 6a 36 02 00 0b | -
+with_nop | 20 00 20 00 28 02 00 41 02 41 03 6c 6a 36 02 00 0b | 7 | 7 | 01 20 00 20 00 28 02 00 41 02 41 03 6c 6a 36 02 00 0b | -
+fold | 20 00 20 00 28 02 00 41 02 41 03 6c 6a 36 02 00 0b | 7 | 5 | 20 00 20 00 28 02 00 41 06 6a 36 02 00 0b | -
+# f32.const 0, drop, local.get 0, local.get 1, i32.add, drop; the same behind local.get 0, call 0, drop.
+commute | 43 00000000 1a 20 00 20 01 6a 1a 0b | 5 | 2 | 43 00000000 1a 20 01 20 00 6a 1a 0b | -
+commute | 20 00 10 00 1a 20 00 20 01 6a 1a 0b | 6 | 2 | 20 00 10 00 1a 20 01 20 00 6a 1a 0b | -
+# local.get 0, i32.load, memory.size, i32.add; local.get 4, i32.trunc_f32_s, local.get 0, i32.xor: one operand may trap.
+commute | 20 00 28 02 00 3f 00 6a 0b | 3 | 3 | 3f 00 20 00 28 02 00 6a 0b | -
+commute | 20 04 a8 20 00 73 0b | 3 | 3 | 20 00 20 04 a8 73 0b | -
+# global.get 0, local.get 1, i32.load8_u, i32.ge_u
+turn_comparison | 23 00 20 01 2d 00 00 4f 0b | 3 | 3 | 20 01 2d 00 00 23 00 4d 0b | -
+# What a call and a select leave, with its type written too, and the size of a memory.
+add_zero | 20 00 10 00 0b | 1 | 1 | 20 00 10 00 41 00 6a 0b | -
+mul_one | 20 00 10 00 0b | 1 | 1 | 20 00 10 00 41 01 6c 0b | -
+through_global | 20 00 10 00 0b | 1 | 1 | 20 00 10 00 24 03 23 03 0b | i32
+add_zero | 20 00 20 01 20 00 1b 0b | 3 | 3 | 20 00 20 01 20 00 1b 41 00 6a 0b | -
+through_global | 20 00 20 01 20 00 1c 01 7f 0b | 3 | 3 | 20 00 20 01 20 00 1c 01 7f 24 03 23 03 0b | i32
+add_zero | 3f 00 0b | 0 | 0 | 3f 00 41 00 6a 0b | -
+# local.get 0, i64.load, i64.const 5, local.get 1, select
+turn_select | 20 00 29 03 00 42 05 20 01 1b 0b | 4 | 4 | 42 05 20 00 29 03 00 20 01 45 1b 0b | -
+# local.get 4, local.get 5, f32.add, drop, local.get 0
+forget | 20 04 20 05 92 1a 20 00 0b | 3 | 3 | 20 00 0b | -
+# local.get 0, i64.load, local.set 2; local.get 4, i32.trunc_f32_s, local.set 0
+mul_one | 20 00 29 03 00 21 02 0b | 2 | 1 | 20 00 29 03 00 42 01 7e 21 02 0b | -
+add_zero | 20 04 a8 21 00 0b | 2 | 1 | 20 04 a8 41 00 6a 21 00 0b | -
+# local.get 0, local.tee 1, i32.load, global.set 0
+add_zero | 20 00 22 01 28 02 00 24 00 0b | 3 | 1 | 20 00 22 01 41 00 6a 28 02 00 24 00 0b | -
+mul_one | 20 00 22 01 28 02 00 24 00 0b | 3 | 2 | 20 00 22 01 28 02 00 41 01 6c 24 00 0b | -
+through_global | 20 00 22 01 28 02 00 24 00 0b | 3 | 1 | 20 00 22 01 24 03 23 03 28 02 00 24 00 0b | i32
+# local.get 0, i64.load offset 8, local.set 3
+through_global | 20 00 29 03 08 21 03 0b | 2 | 1 | 20 00 29 03 08 24 03 23 03 21 03 0b | i64
+# local.get 0, local.get 1, call 0, i32.store: the operand of the call, and the address before it.
+add_zero | 20 00 20 01 10 00 36 02 00 0b | 3 | 1 | 20 00 20 01 41 00 6a 10 00 36 02 00 0b | -
+or_self | 20 00 20 01 10 00 36 02 00 0b | 3 | 0 | 20 00 20 00 72 20 01 10 00 36 02 00 0b | -
+# local.get 0, i32.const 7, i32.store, local.get 0, i32.load, local.set 1: what was stored before is loaded.
+add_zero | 20 00 41 07 36 02 00 20 00 28 02 00 21 01 0b | 5 | 1 | 20 00 41 07 36 02 00 20 00 28 02 00 41 00 6a 21 01 0b | -
+# local.get 4, f32.neg, local.set 5; local.get 0, f32.convert_i32_s, f32.abs, global.set 2
+with_nop | 20 04 8c 21 05 0b | 2 | 1 | 01 20 04 8c 21 05 0b | -
+shift_by_zero | 20 00 b2 8b 24 02 0b | 3 | 0 | 20 00 41 00 74 b2 8b 24 02 0b | -
+# local.get 4, local.get 5, f32.mul, i32.reinterpret_f32, local.get 0, i32.xor
+commute | 20 04 20 05 94 bc 20 00 73 0b | 5 | 5 | 20 00 20 04 20 05 94 bc 73 0b | -
+or_zero | 20 04 20 05 94 bc 20 00 73 0b | 5 | 3 | 20 04 20 05 94 bc 41 00 72 20 00 73 0b | -
+";
+
+/// A rule, a body, the operator whose tree is to be rewritten, and the node there, of which the rule makes nothing.
+const REFUSED: &str = "
+# local.get 0, local.get 1, i32.div_s, local.get 1, local.get 0, i32.rem_u, i32.xor: either operand may trap.
+commute | 20 00 20 01 6d 20 01 20 00 70 73 0b | 6 | 6
+# The same of i64: div_s, rem_u, mul.
+commute | 20 02 20 03 7f 20 03 20 02 82 7e 0b | 6 | 6
+# local.get 0, i32.load, local.get 1, i32.load, and i32.add, i32.lt_s, and local.get 0, select: either load may trap.
+commute | 20 00 28 02 00 20 01 28 02 00 6a 0b | 4 | 4
+turn_comparison | 20 00 28 02 00 20 01 28 02 00 48 0b | 4 | 4
+turn_select | 20 00 28 02 00 20 01 28 02 00 20 00 1b 0b | 5 | 5
+# A division and a load; a truncation and a load.
+commute | 20 00 20 01 6d 20 01 28 02 00 6a 0b | 5 | 5
+commute | 20 04 a8 20 01 28 02 00 6a 0b | 4 | 4
+# A call and a load; a call and a local; two calls; a call below an operand.
+commute | 20 00 10 00 20 01 28 02 00 6a 0b | 4 | 4
+commute | 20 00 10 00 20 01 6a 0b | 3 | 3
+commute | 20 00 10 00 20 01 10 00 6a 0b | 4 | 4
+turn_comparison | 20 00 10 00 45 20 01 10 00 48 0b | 5 | 5
+# A sum of floats.
+commute | 20 04 20 05 92 0b | 2 | 2
+# A load, a call, a truncation, and a tee, each dropped.
+forget | 20 00 28 02 00 1a 20 00 0b | 2 | 2
+forget | 20 00 10 00 1a 20 00 0b | 2 | 2
+forget | 20 04 a8 1a 20 00 0b | 2 | 2
+forget | 20 04 22 05 1a 20 00 0b | 2 | 2
+# What a load and a call leave, and what bits a float has.
+or_self | 20 00 28 02 00 0b | 1 | 1
+and_self | 20 00 29 03 00 0b | 1 | 1
+or_self | 20 00 10 00 0b | 1 | 1
+and_self | 20 04 bc 0b | 1 | 1
+# What a select of a select leaves: the column of neither tells the type by itself.
+add_zero | 20 00 20 01 20 00 1b 20 01 20 00 1b 0b | 5 | 5
+# A float, loaded or not.
+add_zero | 20 00 2a 02 00 0b | 1 | 1
+through_global | 20 04 8c 0b | 1 | 1
+unfold | 43 0000803f 0b | 0 | 0
 ";
 
 /// A body that is rewritten so, and asks for globals of these types.
@@ -354,6 +514,34 @@ fn is_told(rt: &impl Abort, alloc: Global, line: &str) -> Result<(), Fail> {
         types,
     };
     is_run(rt, alloc, &run)
+}
+
+/// The rule of a line makes nothing of its node.
+fn is_refused(rt: &impl Abort, alloc: Global, line: &str) -> Result<(), Fail> {
+    let fields = fields_of(alloc, line)?;
+    let [rule, bytes, point, node] = fields.as_slice() else {
+        panic!(rt; "{line}");
+    };
+    let rewrite = Rewrite {
+        insertion_point: point.parse()?,
+        node: node.parse()?,
+        rule: rule.parse()?,
+    };
+    let bytes = bytes_of(alloc, bytes)?;
+    let mut config = config_of(alloc, &bytes, &[], &[])?;
+    let answer = rewritten(rt, alloc, &mut config, &bytes, rewrite)?;
+    assert!(rt; answer.is_none(), "{line}");
+    Ok(())
+}
+
+#[test]
+fn refused_nodes(rt: HostRuntime) -> Result<(), Fail> {
+    for line in REFUSED.trim().lines() {
+        if !line.starts_with('#') {
+            is_refused(&rt, rt.alloc(), line)?;
+        }
+    }
+    Ok(())
 }
 
 #[test]

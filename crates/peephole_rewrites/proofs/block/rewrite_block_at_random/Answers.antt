@@ -4,6 +4,7 @@ use Rattle.std.specs.Prelude.{Contains, IfSome}
 use Rattle.std.proofs.lemmas.Result.{err_from_is_err_and}
 use Rattle.mutate_base.specs.Config.{info_of}
 use Rattle.mutate_base.specs.Module.{Module}
+use Rattle.peephole_machine.specs.Values.{context_in}
 use Rattle.peephole_graphs.specs.Dfg.{graph_of}
 use Rattle.peephole_graphs.specs.Source.{source_of}
 use Rattle.peephole_terms.specs.Expansion.{setting_of}
@@ -49,7 +50,7 @@ returns-in_err-requests-clause-refused g c =
     c.args.config.now.preserving c.choose.new.config.preserving
     (λ (r : Rewrite). site_at c.args.input_wasm.now c.args.operators.now c.args.block.now r.insertion_point) c.in_ok-list.list.items
     c.in-Some-choose.rewrite c.in_err-requests.field-0.0 (c.choose.ensures.unchanged.1).0 c.choose.ensures.unchanged.0
-    (rule_in_list c.args.locals.now c.info.result.now.globals c.args.rules.now (graph_of c.in-Some.graph) c.range-range.result.start
+    (rule_in_list (context_in c.info.result.now c.args.locals.now) c.args.rules.now (graph_of c.in-Some.graph) c.range-range.result.start
     c.range-range.result.end c.in_ok-list.list.items c.in-Some-choose.rewrite c.in_ok-list.ensures.rewrites listed)
     (block_rewrites c.entries_have_trees.ensures.own c.entries_have_trees.ensures.missing c.args.locals.now c.info.result.now
     (info_of c.args.config.now) c.args.config.now.preserving c.args.operators.now c.args.block.now (graph_of c.in-Some.graph) c.args.rules.now
@@ -75,7 +76,7 @@ returns-clause-rewritten g c =
     (λ (r : Rewrite). site_at c.args.input_wasm.now c.args.operators.now c.args.block.now r.insertion_point) c.in-Some-choose.rewrite
     c.args.newfunc.now c.rewrite_in_graph.new.newfunc c.in-Some-2.requests.items (setting_of g.R.Rng.stream c.rewrite_in_graph.new.config)
     (c.choose.ensures.unchanged.1).0 c.choose.ensures.unchanged.0
-    (rule_in_list c.args.locals.now c.info.result.now.globals c.args.rules.now (graph_of c.in-Some.graph) c.range-range.result.start
+    (rule_in_list (context_in c.info.result.now c.args.locals.now) c.args.rules.now (graph_of c.in-Some.graph) c.range-range.result.start
     c.range-range.result.end c.in_ok-list.list.items c.in-Some-choose.rewrite c.in_ok-list.ensures.rewrites
     (subst (λ (list : List Rewrite). Contains list c.in-Some-choose.rewrite) c.deref.ensures.value h))
     (rw c.in-Some-2.is at c.in_ok-requests.ensures.rewritten)

@@ -2,7 +2,6 @@
 use Rattle.std.proofs.Common.{inr}
 use Rattle.peephole_graphs.specs.Dfg.{graph_of}
 use Rattle.peephole_graphs.specs.Source.{source_of}
-use Rattle.peephole_rewrites.proofs.RunLemmas.{range_integer}
 use Rattle.peephole_rewrites.proofs.graph.graph_in_order.Goals as goal
 
 pub returns-then-not-in_order-clause-none : goal.returns-then-not-in_order-clause-none
@@ -21,8 +20,6 @@ returns-clause-graph c =
     let s = source_of c.args.info.now c.args.builder.now.preserving c.args.operators.now c.args.block.now in
     let is = rw c.in-Some.is at c.in_ok-graph.ensures.graph in
     record {
-      integer = range_integer c.args.locals.now c.args.info.now.globals c.args.operators.now c.args.block.now c.range-range.result.start
-          c.range-range.result.end c.range-range.ensures.start c.range-range.ensures.end (c.are_integer.ensures.0 c.if-not-are_integer.false);
       order = (c.graph_shows_the_forest.ensures.order s (graph_of c.in-Some.graph) is).0 (c.keeps_order-in_order.ensures.0 c.if-not-in_order.false);
       graph_is = is;
     }

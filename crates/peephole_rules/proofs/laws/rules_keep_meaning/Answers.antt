@@ -5,7 +5,8 @@ use Rattle.peephole_rules.proofs.WayLemmas.{by_way_of_global_keeps, as_a_sum_kee
 use Rattle.peephole_rules.proofs.GroupLemmas.{associate_left_keeps, associate_right_keeps}
 use Rattle.peephole_rules.proofs.ConstantLemmas.{test_to_comparison_keeps, comparison_to_test_keeps, drop_add_zero_keeps, drop_sub_zero_keeps, drop_mul_one_keeps, drop_or_zero_keeps, drop_xor_zero_keeps, drop_shift_by_zero_keeps, and_ones_keeps, drop_and_ones_keeps, double_complement_keeps, difference_to_sum_keeps, sum_to_difference_keeps, shift_to_product_keeps, product_to_shift_keeps}
 use Rattle.peephole_rules.proofs.SelectLemmas.{turn_select_keeps}
-use Rattle.peephole_rules.proofs.TrapLemmas.{forget_keeps, ends_without_trap}
+use Rattle.peephole_rules.proofs.TrapLemmas.{ends_without_trap}
+use Rattle.peephole_rules.proofs.ForgetLemmas.{forget_keeps}
 use Rattle.peephole_rules.proofs.FoldLemmas.{fold_keeps}
 use Rattle.peephole_rules.proofs.RewriteLemmas.{rewrite_keeps}
 use Rattle.peephole_rules.proofs.laws.rules_keep_meaning.Goals as goal

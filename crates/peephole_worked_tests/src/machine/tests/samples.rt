@@ -1,7 +1,8 @@
 //! Rows of the table of instructions, with operands and values.
 
-/// A line for each row on integers: its name, a body of it alone, the types of its operands and of its value, and then samples:
-/// the operands and the value in hexadecimal digits, or `trap`. The values are those of V8 11.3.244.8-node.38.
+/// A line for each row on integers, and for those on floats that the machine knows: its name, a body of it alone, the types of
+/// its operands and of its value, and then samples: the operands and the value in hexadecimal digits, a float's by its bits, or
+/// why it traps. The values are those of V8 11.3.244.8-node.38, the causes of truncations those of wabt 1.0.32.
 pub const SAMPLES: &str = "
 # Tests and counts
 i32.eqz | 45 0b | i32 -> i32 | 0 -> 1 | 1 -> 0 | 2 -> 0 | 1f -> 0 | 20 -> 0 | 21 -> 0 | 21 -> 0 | 7fffffff -> 0 | 80000000 -> 0 | fffffff9 -> 0 | fffffffe -> 0 | ffffffff -> 0 | 7e4328bc -> 0 | f4a61a7f -> 0 | e815 -> 0
@@ -37,17 +38,17 @@ i64.ge_u | 5a 0b | i64 i64 -> i32 | 8000000000000000 ffffffffffffffff -> 0 | fff
 i32.add | 6a 0b | i32 i32 -> i32 | 80000000 ffffffff -> 7fffffff | fffffff9 2 -> fffffffb | 21 fffffffe -> 1f | 1 0 -> 1 | fffffff9 fffffff9 -> fffffff2 | 0 ffffffff -> ffffffff | fffffff9 20 -> 19 | 7dedeab2 21 -> 7dedead3 | a62790db 21 -> a62790fc | 7dedeab2 1f -> 7dedead1 | 7fffffff 50002452 -> d0002451 | 365a 2 -> 365c | ffffffff 80000000 -> 7fffffff
 i32.sub | 6b 0b | i32 i32 -> i32 | 80000000 ffffffff -> 80000001 | fffffff9 2 -> fffffff7 | 21 fffffffe -> 23 | 1 0 -> 1 | fffffff9 fffffff9 -> 0 | 0 ffffffff -> 1 | fffffff9 20 -> ffffffd9 | d9a05eab 21 -> d9a05e8a | 5fc3354c 21 -> 5fc3352b | d9a05eab 1f -> d9a05e8c | 7fffffff 484995c1 -> 37b66a3e | 565 2 -> 563 | ffffffff 80000000 -> 7fffffff
 i32.mul | 6c 0b | i32 i32 -> i32 | 80000000 ffffffff -> 80000000 | fffffff9 2 -> fffffff2 | 21 fffffffe -> ffffffbe | 1 0 -> 0 | fffffff9 fffffff9 -> 31 | 0 ffffffff -> 0 | fffffff9 20 -> ffffff20 | 762dac2 21 -> f3be3302 | b2d3c829 21 -> d4ccd49 | 762dac2 1f -> e4f87d7e | 7fffffff c4e2dc81 -> bb1d237f | eb70 2 -> 1d6e0 | ffffffff 80000000 -> 80000000
-i32.div_s | 6d 0b | i32 i32 -> i32 | 80000000 ffffffff -> trap | fffffff9 2 -> fffffffd | 21 fffffffe -> fffffff0 | 1 0 -> trap | fffffff9 fffffff9 -> 1 | 0 ffffffff -> 0 | fffffff9 20 -> 0 | 4c737fbf 21 -> 2511362 | 9080f155 21 -> fc9f0f13 | 4c737fbf 1f -> 27756b3 | 7fffffff 5843c20c -> 1 | 9aeb 2 -> 4d75 | ffffffff 80000000 -> 0
-i32.div_u | 6e 0b | i32 i32 -> i32 | 80000000 ffffffff -> 0 | fffffff9 2 -> 7ffffffc | 21 fffffffe -> 0 | 1 0 -> trap | fffffff9 fffffff9 -> 1 | 0 ffffffff -> 0 | fffffff9 20 -> 7ffffff | 9cb140f0 21 -> 4bf8d9a | ef0d644c 21 -> 73e7767 | 9cb140f0 1f -> 50df9d6 | 7fffffff e756e636 -> 0 | d7de 2 -> 6bef | ffffffff 80000000 -> 1
-i32.rem_s | 6f 0b | i32 i32 -> i32 | 80000000 ffffffff -> 0 | fffffff9 2 -> ffffffff | 21 fffffffe -> 1 | 1 0 -> trap | fffffff9 fffffff9 -> 0 | 0 ffffffff -> 0 | fffffff9 20 -> fffffff9 | 2ffe79db 21 -> 17 | 255ee7b4 21 -> 17 | 2ffe79db 1f -> 1d | 7fffffff 12048939 -> 1e03f70 | 3bc5 2 -> 1 | ffffffff 80000000 -> ffffffff
-i32.rem_u | 70 0b | i32 i32 -> i32 | 80000000 ffffffff -> 80000000 | fffffff9 2 -> 1 | 21 fffffffe -> 21 | 1 0 -> trap | fffffff9 fffffff9 -> 0 | 0 ffffffff -> 0 | fffffff9 20 -> 19 | 884f86a2 21 -> 13 | 6cde2296 21 -> 7 | 884f86a2 1f -> 3 | 7fffffff 971424d6 -> 7fffffff | fa64 2 -> 0 | ffffffff 80000000 -> 7fffffff
+i32.div_s | 6d 0b | i32 i32 -> i32 | 80000000 ffffffff -> Overflow | fffffff9 2 -> fffffffd | 21 fffffffe -> fffffff0 | 1 0 -> DivideByZero | fffffff9 fffffff9 -> 1 | 0 ffffffff -> 0 | fffffff9 20 -> 0 | 4c737fbf 21 -> 2511362 | 9080f155 21 -> fc9f0f13 | 4c737fbf 1f -> 27756b3 | 7fffffff 5843c20c -> 1 | 9aeb 2 -> 4d75 | ffffffff 80000000 -> 0
+i32.div_u | 6e 0b | i32 i32 -> i32 | 80000000 ffffffff -> 0 | fffffff9 2 -> 7ffffffc | 21 fffffffe -> 0 | 1 0 -> DivideByZero | fffffff9 fffffff9 -> 1 | 0 ffffffff -> 0 | fffffff9 20 -> 7ffffff | 9cb140f0 21 -> 4bf8d9a | ef0d644c 21 -> 73e7767 | 9cb140f0 1f -> 50df9d6 | 7fffffff e756e636 -> 0 | d7de 2 -> 6bef | ffffffff 80000000 -> 1
+i32.rem_s | 6f 0b | i32 i32 -> i32 | 80000000 ffffffff -> 0 | fffffff9 2 -> ffffffff | 21 fffffffe -> 1 | 1 0 -> DivideByZero | fffffff9 fffffff9 -> 0 | 0 ffffffff -> 0 | fffffff9 20 -> fffffff9 | 2ffe79db 21 -> 17 | 255ee7b4 21 -> 17 | 2ffe79db 1f -> 1d | 7fffffff 12048939 -> 1e03f70 | 3bc5 2 -> 1 | ffffffff 80000000 -> ffffffff
+i32.rem_u | 70 0b | i32 i32 -> i32 | 80000000 ffffffff -> 80000000 | fffffff9 2 -> 1 | 21 fffffffe -> 21 | 1 0 -> DivideByZero | fffffff9 fffffff9 -> 0 | 0 ffffffff -> 0 | fffffff9 20 -> 19 | 884f86a2 21 -> 13 | 6cde2296 21 -> 7 | 884f86a2 1f -> 3 | 7fffffff 971424d6 -> 7fffffff | fa64 2 -> 0 | ffffffff 80000000 -> 7fffffff
 i64.add | 7c 0b | i64 i64 -> i64 | 8000000000000000 ffffffffffffffff -> 7fffffffffffffff | fffffffffffffff9 2 -> fffffffffffffffb | 21 fffffffffffffffe -> 1f | 1 0 -> 1 | fffffffffffffff9 fffffffffffffff9 -> fffffffffffffff2 | 0 ffffffffffffffff -> ffffffffffffffff | fffffffffffffff9 40 -> 39 | 70884a06df8ce392 41 -> 70884a06df8ce3d3 | 5eef00d4f40aeff9 21 -> 5eef00d4f40af01a | 70884a06df8ce392 3f -> 70884a06df8ce3d1 | 7fffffffffffffff 7e38610e0d8e4351 -> fe38610e0d8e4350 | e246125f 2 -> e2461261 | ffffffffffffffff 8000000000000000 -> 7fffffffffffffff
 i64.sub | 7d 0b | i64 i64 -> i64 | 8000000000000000 ffffffffffffffff -> 8000000000000001 | fffffffffffffff9 2 -> fffffffffffffff7 | 21 fffffffffffffffe -> 23 | 1 0 -> 1 | fffffffffffffff9 fffffffffffffff9 -> 0 | 0 ffffffffffffffff -> 1 | fffffffffffffff9 40 -> ffffffffffffffb9 | c23656165c4de002 41 -> c23656165c4ddfc1 | ee86d565cc62dfa9 21 -> ee86d565cc62df88 | c23656165c4de002 3f -> c23656165c4ddfc3 | 7fffffffffffffff a30a1cf433df2501 -> dcf5e30bcc20dafe | 598b3370 2 -> 598b336e | ffffffffffffffff 8000000000000000 -> 7fffffffffffffff
 i64.mul | 7e 0b | i64 i64 -> i64 | 8000000000000000 ffffffffffffffff -> 8000000000000000 | fffffffffffffff9 2 -> fffffffffffffff2 | 21 fffffffffffffffe -> ffffffffffffffbe | 1 0 -> 0 | fffffffffffffff9 fffffffffffffff9 -> 31 | 0 ffffffffffffffff -> 0 | fffffffffffffff9 40 -> fffffffffffffe40 | 6ae26caf029072 41 -> 1b237d986fa6acf2 | 538bded5eadd7359 21 -> c507b993468bde79 | 6ae26caf029072 3f -> 1a4db8bf11a18c0e | 7fffffffffffffff d5d4a378193c2ab1 -> aa2b5c87e6c3d54f | cd6a5264 2 -> 19ad4a4c8 | ffffffffffffffff 8000000000000000 -> 8000000000000000
-i64.div_s | 7f 0b | i64 i64 -> i64 | 8000000000000000 ffffffffffffffff -> trap | fffffffffffffff9 2 -> fffffffffffffffd | 21 fffffffffffffffe -> fffffffffffffff0 | 1 0 -> trap | fffffffffffffff9 fffffffffffffff9 -> 1 | 0 ffffffffffffffff -> 0 | fffffffffffffff9 40 -> 0 | 2ee2fe179af9f4e2 41 -> b8a95312235a69 | 7a92b76fd55dab09 21 -> 3b6dec5540a9893 | 2ee2fe179af9f4e2 3f -> be8610a0efa66d | 7fffffffffffffff 88873ee321a85461 -> ffffffffffffffff | 5e93d7e1 2 -> 2f49ebf0 | ffffffffffffffff 8000000000000000 -> 0
-i64.div_u | 80 0b | i64 i64 -> i64 | 8000000000000000 ffffffffffffffff -> 0 | fffffffffffffff9 2 -> 7ffffffffffffffc | 21 fffffffffffffffe -> 0 | 1 0 -> trap | fffffffffffffff9 fffffffffffffff9 -> 1 | 0 ffffffffffffffff -> 0 | fffffffffffffff9 40 -> 3ffffffffffffff | 9374cf8914c30d52 41 -> 244c03d2f94b950 | 656374c97a0686b9 21 -> 312876af42ebe43 | 9374cf8914c30d52 3f -> 2572ffe1cc624c8 | 7fffffffffffffff 15e61d89f166a211 -> 5 | eb05eec2 2 -> 7582f761 | ffffffffffffffff 8000000000000000 -> 1
-i64.rem_s | 81 0b | i64 i64 -> i64 | 8000000000000000 ffffffffffffffff -> 0 | fffffffffffffff9 2 -> ffffffffffffffff | 21 fffffffffffffffe -> 1 | 1 0 -> trap | fffffffffffffff9 fffffffffffffff9 -> 0 | 0 ffffffffffffffff -> 0 | fffffffffffffff9 40 -> fffffffffffffff9 | 7a046060b22cd9c2 41 -> 1f | 279898bcdf3b0669 21 -> f | 7a046060b22cd9c2 3f -> 9 | 7fffffffffffffff 618cba171cfa13c1 -> 1e7345e8e305ec3e | 5486af27 2 -> 1 | ffffffffffffffff 8000000000000000 -> ffffffffffffffff
-i64.rem_u | 82 0b | i64 i64 -> i64 | 8000000000000000 ffffffffffffffff -> 8000000000000000 | fffffffffffffff9 2 -> 1 | 21 fffffffffffffffe -> 21 | 1 0 -> trap | fffffffffffffff9 fffffffffffffff9 -> 0 | 0 ffffffffffffffff -> 0 | fffffffffffffff9 40 -> 39 | fdc858a91a465a32 41 -> 29 | 4899a5c4d39e2a19 21 -> 14 | fdc858a91a465a32 3f -> 1 | 7fffffffffffffff 8b1758b9d925a971 -> 7fffffffffffffff | d77c9e06 2 -> 0 | ffffffffffffffff 8000000000000000 -> 7fffffffffffffff
+i64.div_s | 7f 0b | i64 i64 -> i64 | 8000000000000000 ffffffffffffffff -> Overflow | fffffffffffffff9 2 -> fffffffffffffffd | 21 fffffffffffffffe -> fffffffffffffff0 | 1 0 -> DivideByZero | fffffffffffffff9 fffffffffffffff9 -> 1 | 0 ffffffffffffffff -> 0 | fffffffffffffff9 40 -> 0 | 2ee2fe179af9f4e2 41 -> b8a95312235a69 | 7a92b76fd55dab09 21 -> 3b6dec5540a9893 | 2ee2fe179af9f4e2 3f -> be8610a0efa66d | 7fffffffffffffff 88873ee321a85461 -> ffffffffffffffff | 5e93d7e1 2 -> 2f49ebf0 | ffffffffffffffff 8000000000000000 -> 0
+i64.div_u | 80 0b | i64 i64 -> i64 | 8000000000000000 ffffffffffffffff -> 0 | fffffffffffffff9 2 -> 7ffffffffffffffc | 21 fffffffffffffffe -> 0 | 1 0 -> DivideByZero | fffffffffffffff9 fffffffffffffff9 -> 1 | 0 ffffffffffffffff -> 0 | fffffffffffffff9 40 -> 3ffffffffffffff | 9374cf8914c30d52 41 -> 244c03d2f94b950 | 656374c97a0686b9 21 -> 312876af42ebe43 | 9374cf8914c30d52 3f -> 2572ffe1cc624c8 | 7fffffffffffffff 15e61d89f166a211 -> 5 | eb05eec2 2 -> 7582f761 | ffffffffffffffff 8000000000000000 -> 1
+i64.rem_s | 81 0b | i64 i64 -> i64 | 8000000000000000 ffffffffffffffff -> 0 | fffffffffffffff9 2 -> ffffffffffffffff | 21 fffffffffffffffe -> 1 | 1 0 -> DivideByZero | fffffffffffffff9 fffffffffffffff9 -> 0 | 0 ffffffffffffffff -> 0 | fffffffffffffff9 40 -> fffffffffffffff9 | 7a046060b22cd9c2 41 -> 1f | 279898bcdf3b0669 21 -> f | 7a046060b22cd9c2 3f -> 9 | 7fffffffffffffff 618cba171cfa13c1 -> 1e7345e8e305ec3e | 5486af27 2 -> 1 | ffffffffffffffff 8000000000000000 -> ffffffffffffffff
+i64.rem_u | 82 0b | i64 i64 -> i64 | 8000000000000000 ffffffffffffffff -> 8000000000000000 | fffffffffffffff9 2 -> 1 | 21 fffffffffffffffe -> 21 | 1 0 -> DivideByZero | fffffffffffffff9 fffffffffffffff9 -> 0 | 0 ffffffffffffffff -> 0 | fffffffffffffff9 40 -> 39 | fdc858a91a465a32 41 -> 29 | 4899a5c4d39e2a19 21 -> 14 | fdc858a91a465a32 3f -> 1 | 7fffffffffffffff 8b1758b9d925a971 -> 7fffffffffffffff | d77c9e06 2 -> 0 | ffffffffffffffff 8000000000000000 -> 7fffffffffffffff
 # Bits
 i32.and | 71 0b | i32 i32 -> i32 | 80000000 ffffffff -> 80000000 | fffffff9 2 -> 0 | 21 fffffffe -> 20 | 1 0 -> 0 | fffffff9 fffffff9 -> fffffff9 | 0 ffffffff -> 0 | fffffff9 20 -> 20 | ebe9ee1c 21 -> 0 | 25ec5236 21 -> 20 | ebe9ee1c 1f -> 1c | 7fffffff 5c5917ab -> 5c5917ab | 50cb 2 -> 2 | ffffffff 80000000 -> 80000000
 i32.or | 72 0b | i32 i32 -> i32 | 80000000 ffffffff -> ffffffff | fffffff9 2 -> fffffffb | 21 fffffffe -> ffffffff | 1 0 -> 1 | fffffff9 fffffff9 -> fffffff9 | 0 ffffffff -> ffffffff | fffffff9 20 -> fffffff9 | 50f9ec9e 21 -> 50f9ecbf | 9b454b98 21 -> 9b454bb9 | 50f9ec9e 1f -> 50f9ec9f | 7fffffff 760ee59e -> 7fffffff | 33e2 2 -> 33e2 | ffffffff 80000000 -> ffffffff
@@ -74,23 +75,36 @@ i32.extend16_s | c1 0b | i32 -> i32 | 0 -> 0 | 1 -> 1 | 2 -> 2 | 1f -> 1f | 20 -
 i64.extend8_s | c2 0b | i64 -> i64 | 0 -> 0 | 1 -> 1 | 2 -> 2 | 3f -> 3f | 40 -> 40 | 41 -> 41 | 21 -> 21 | 7fffffffffffffff -> ffffffffffffffff | 8000000000000000 -> 0 | fffffffffffffff9 -> fffffffffffffff9 | fffffffffffffffe -> fffffffffffffffe | ffffffffffffffff -> ffffffffffffffff | b703324731f26c0f -> f | 6b24f89a5b5af0f2 -> fffffffffffffff2 | ef04eff3 -> fffffffffffffff3
 i64.extend16_s | c3 0b | i64 -> i64 | 0 -> 0 | 1 -> 1 | 2 -> 2 | 3f -> 3f | 40 -> 40 | 41 -> 41 | 21 -> 21 | 7fffffffffffffff -> ffffffffffffffff | 8000000000000000 -> 0 | fffffffffffffff9 -> fffffffffffffff9 | fffffffffffffffe -> fffffffffffffffe | ffffffffffffffff -> ffffffffffffffff | 9bae0e2ca8814374 -> 4374 | 5761ff97691ae8b3 -> ffffffffffffe8b3 | c883376 -> 3376
 i64.extend32_s | c4 0b | i64 -> i64 | 0 -> 0 | 1 -> 1 | 2 -> 2 | 3f -> 3f | 40 -> 40 | 41 -> 41 | 21 -> 21 | 7fffffffffffffff -> ffffffffffffffff | 8000000000000000 -> 0 | fffffffffffffff9 -> fffffffffffffff9 | fffffffffffffffe -> fffffffffffffffe | ffffffffffffffff -> ffffffffffffffff | c88f3b1e0c762f1d -> c762f1d | 6d920ad4d16e2c68 -> ffffffffd16e2c68 | e5b47f64 -> ffffffffe5b47f64
+# Floats
+f32.abs | 8b 0b | f32 -> f32 | 0 -> 0 | 80000000 -> 0 | 1 -> 1 | 3f800000 -> 3f800000 | bfc00000 -> 3fc00000 | 3dcccccd -> 3dcccccd | 4b800001 -> 4b800001 | 7f7fffff -> 7f7fffff | 7f800000 -> 7f800000 | ff800000 -> 7f800000 | cf000000 -> 4f000000 | 4effffff -> 4effffff | 4f000000 -> 4f000000 | cf000001 -> 4f000001 | 42f6e979 -> 42f6e979 | 7fc00000 -> 7fc00000 | ffc12345 -> 7fc12345
+f32.neg | 8c 0b | f32 -> f32 | 0 -> 80000000 | 80000000 -> 0 | 1 -> 80000001 | 3f800000 -> bf800000 | bfc00000 -> 3fc00000 | 3dcccccd -> bdcccccd | 4b800001 -> cb800001 | 7f7fffff -> ff7fffff | 7f800000 -> ff800000 | ff800000 -> 7f800000 | cf000000 -> 4f000000 | 4effffff -> ceffffff | 4f000000 -> cf000000 | cf000001 -> 4f000001 | 42f6e979 -> c2f6e979 | 7fc00000 -> ffc00000 | ffc12345 -> 7fc12345
+f32.add | 92 0b | f32 f32 -> f32 | 3f800000 40000000 -> 40400000 | 3f800000 33800000 -> 3f800000 | 3f800000 33800001 -> 3f800001 | 3dcccccd 3e4ccccd -> 3e99999a | 0 80000000 -> 0 | 80000000 80000000 -> 80000000 | 7f7fffff 7f7fffff -> 7f800000 | 1 1 -> 2 | 800000 80800001 -> 80000001 | 7f800000 3f800000 -> 7f800000 | 4b800001 c0490fdb -> 4b7fffff | 1e3ce508 1e3ce508 -> 1ebce508 | bf8ccccd 41200000 -> 410e6666
+f32.mul | 94 0b | f32 f32 -> f32 | 3f800000 40000000 -> 40000000 | 3f800000 33800000 -> 33800000 | 3f800000 33800001 -> 33800001 | 3dcccccd 3e4ccccd -> 3ca3d70b | 0 80000000 -> 80000000 | 80000000 80000000 -> 0 | 7f7fffff 7f7fffff -> 7f800000 | 1 1 -> 0 | 800000 80800001 -> 80000000 | 7f800000 3f800000 -> 7f800000 | 4b800001 c0490fdb -> cc490fdd | 1e3ce508 1e3ce508 -> 116c2 | bf8ccccd 41200000 -> c1300000
+i32.trunc_f32_s | a8 0b | f32 -> i32 | 0 -> 0 | 80000000 -> 0 | 1 -> 0 | 3f800000 -> 1 | bfc00000 -> ffffffff | 3dcccccd -> 0 | 4b800001 -> 1000002 | 7f7fffff -> Overflow | 7f800000 -> Overflow | ff800000 -> Overflow | cf000000 -> 80000000 | 4effffff -> 7fffff80 | 4f000000 -> Overflow | cf000001 -> Overflow | 42f6e979 -> 7b | 7fc00000 -> InvalidConversion | ffc12345 -> InvalidConversion
+f32.convert_i32_s | b2 0b | i32 -> f32 | 0 -> 0 | 1 -> 3f800000 | ffffffff -> bf800000 | 7fffffff -> 4f000000 | 80000000 -> cf000000 | 1000001 -> 4b800000 | 1000003 -> 4b800002 | 75bcd15 -> 4ceb79a3 | feffffff -> cb800000
+i32.reinterpret_f32 | bc 0b | f32 -> i32 | 0 -> 0 | 80000000 -> 80000000 | 1 -> 1 | 3f800000 -> 3f800000 | bfc00000 -> bfc00000 | 3dcccccd -> 3dcccccd | 4b800001 -> 4b800001 | 7f7fffff -> 7f7fffff | 7f800000 -> 7f800000 | ff800000 -> ff800000 | cf000000 -> cf000000 | 4effffff -> 4effffff | 4f000000 -> 4f000000 | cf000001 -> cf000001 | 42f6e979 -> 42f6e979 | 7fc00000 -> 7fc00000 | ffc12345 -> ffc12345
+f32.reinterpret_i32 | be 0b | i32 -> f32 | 0 -> 0 | 1 -> 1 | ffffffff -> ffffffff | 7fffffff -> 7fffffff | 80000000 -> 80000000 | 1000001 -> 1000001 | 1000003 -> 1000003 | 75bcd15 -> 75bcd15 | feffffff -> feffffff
 # Typed selects
 select i32 | 1c 01 7f 0b | i32 i32 i32 -> i32 | 21 7fffffff 0 -> 7fffffff | 13a6dfd2 f1b1 0 -> f1b1 | 0 2d05d947 6179 -> 0 | 1 20 21 -> 1 | 1 fffffffe 348ce14f -> 1 | 2 2 21 -> 2 | 2 80000000 7daad4ea -> 2 | 1f 0 20 -> 1f | 1f 21 ffffffff -> 1f | 1f b9538cc 1f -> 1f | 20 20 fffffffe -> 20 | 20 ffffffff 2 -> 20
 select i64 | 1c 01 7e 0b | i64 i64 i32 -> i64 | 21 7fffffffffffffff 0 -> 7fffffffffffffff | 66665dfbf69bee8b 13492144 0 -> 13492144 | 0 b20acbe86f0a8420 44a6 -> 0 | 1 40 21 -> 1 | 1 fffffffffffffffe 7ca0ec00 -> 1 | 2 2 21 -> 2 | 2 8000000000000000 5995e245 -> 2 | 3f 0 20 -> 3f | 3f 21 ffffffff -> 3f | 3f e696a9caad42093a 1f -> 3f | 40 40 fffffffe -> 40 | 40 ffffffffffffffff 2 -> 40
 ";
 
 /// In the same form, bodies of which the engine shows no value alone, told by hand: stacks before and afterwards, whose tops
-/// stand last, or `stuck`. The locals are an i32, 5, and a value of another type; the global is an i64, 6.
+/// stand last, or why they stop. The locals are an i32, 5, and a value of another type; the global is an i64, 6; each byte of the
+/// memory is its place.
 pub const STEPS: &str = "
 nop                  | 01 0b          | i64 -> i64         | 7 -> 7
 drop                 | 1a 0b          | i64 i32 -> i64     | 7 8 -> 7
 i32.const -1         | 41 7f 0b       | -> i32             | -> ffffffff
 i64.const -2         | 42 7e 0b       | -> i64             | -> fffffffffffffffe
+f32.const 1.5        | 43 0000c03f 0b | -> f32             | -> 3fc00000
 # Selects
 select               | 1b 0b          | i32 i32 i32 -> i32 | 1 2 0 -> 2
 select               | 1b 0b          | i64 i64 i32 -> i64 | 1 2 3 -> 1
 select i32           | 1c 01 7f 0b    | i32 i32 i32 -> i32 | 1 2 0 -> 2
 select i64           | 1c 01 7e 0b    | i64 i64 i32 -> i64 | 1 2 0 -> 2
+select               | 1b 0b          | f32 f32 i32 -> f32 | 1 2 0 -> 2
+select f32           | 1c 01 7d 0b    | f32 f32 i32 -> f32 | 1 2 3 -> 1
 # Variables
 local.get            | 20 00 0b       | -> i32             | -> 5
 global.get           | 23 00 0b       | -> i64             | -> 6
@@ -98,22 +112,48 @@ local.set, then get  | 21 00 20 00 0b | i32 -> i32         | 9 -> 9
 local.tee, then get  | 22 00 20 00 0b | i32 -> i32 i32     | 9 -> 9 9
 global.set, then get | 24 00 23 00 0b | i64 -> i64         | 9 -> 9
 # Operands that are missing, or of another type
-drop                 | 1a 0b          | ->                 | -> stuck
-drop                 | 1a 0b          | other ->           | - -> stuck
-i32.add              | 6a 0b          | i32 ->             | 1 -> stuck
-i32.add              | 6a 0b          | i64 i64 ->         | 1 2 -> stuck
-i64.eq               | 51 0b          | i32 i32 ->         | 1 2 -> stuck
-i32.eqz              | 45 0b          | i64 ->             | 1 -> stuck
-select               | 1b 0b          | i32 i64 i32 ->     | 1 2 0 -> stuck
-select               | 1b 0b          | i32 i32 i64 ->     | 1 2 0 -> stuck
-select i64           | 1c 01 7e 0b    | i32 i32 i32 ->     | 1 2 0 -> stuck
+drop                 | 1a 0b          | ->                 | -> Stuck
+drop                 | 1a 0b          | other ->           | - -> Stuck
+i32.add              | 6a 0b          | i32 ->             | 1 -> Stuck
+i32.add              | 6a 0b          | i64 i64 ->         | 1 2 -> Stuck
+i64.eq               | 51 0b          | i32 i32 ->         | 1 2 -> Stuck
+i32.eqz              | 45 0b          | i64 ->             | 1 -> Stuck
+select               | 1b 0b          | i32 i64 i32 ->     | 1 2 0 -> Stuck
+select               | 1b 0b          | i32 i32 i64 ->     | 1 2 0 -> Stuck
+select i64           | 1c 01 7e 0b    | i32 i32 i32 ->     | 1 2 0 -> Stuck
 # Variables that are missing, or of another type
-local.get            | 20 01 0b       | ->                 | -> stuck
-global.get           | 23 01 0b       | ->                 | -> stuck
-local.set            | 21 00 0b       | i64 ->             | 1 -> stuck
-global.set           | 24 00 0b       | i32 ->             | 1 -> stuck
-local.tee            | 22 02 0b       | i32 ->             | 1 -> stuck
-# A call, and a sum of floats
-call                 | 10 00 0b       | ->                 | -> stuck
-f32.add              | 92 0b          | i32 i32 ->         | 1 2 -> stuck
+local.get            | 20 01 0b       | ->                 | -> Stuck
+global.get           | 23 01 0b       | ->                 | -> Stuck
+local.set            | 21 00 0b       | i64 ->             | 1 -> Stuck
+global.set           | 24 00 0b       | i32 ->             | 1 -> Stuck
+local.tee            | 22 02 0b       | i32 ->             | 1 -> Stuck
+# Loads: the lowest byte first, with an offset, and up to the last byte
+i32.load             | 28 00 00 0b    | i32 -> i32         | 4 -> 7060504 | 3c -> 3f3e3d3c | 3d -> OutOfBounds | ffffffff -> OutOfBounds
+i32.load offset 3    | 28 02 03 0b    | i32 -> i32         | 0 -> 6050403 | 3a -> OutOfBounds | fffffffd -> OutOfBounds
+i64.load             | 29 00 00 0b    | i32 -> i64         | 1 -> 807060504030201 | 38 -> 3f3e3d3c3b3a3938 | 39 -> OutOfBounds
+f32.load             | 2a 00 00 0b    | i32 -> f32         | 4 -> 7060504 | 3d -> OutOfBounds
+i32.load8_u          | 2d 00 00 0b    | i32 -> i32         | 3f -> 3f | 40 -> OutOfBounds
+memory.size          | 3f 00 0b       | -> i32             | -> 1
+# Stores, and then loads of i64 from 0
+i32.store            | 36 00 00 41 00 29 00 00 0b | i32 i32 -> i64 | 2 aabbccdd -> 706aabbccdd0100 | 3c 1 -> 706050403020100 | 3d 1 -> OutOfBounds
+i64.store            | 37 00 01 41 00 29 00 00 0b | i32 i64 -> i64 | 0 1122334455667788 -> 2233445566778800 | 38 1 -> OutOfBounds
+f32.store            | 38 00 00 41 00 29 00 00 0b | i32 f32 -> i64 | 1 3fc00000 -> 706053fc0000000
+i32.store8           | 3a 00 00 41 00 29 00 00 0b | i32 i32 -> i64 | 3 aabbccdd -> 7060504dd020100 | 40 1 -> OutOfBounds
+# Calls of a function that adds up
+call                 | 10 00 0b       | i32 -> i32         | 7 -> 7
+call, call           | 10 00 10 00 0b | i32 -> i32         | 7 -> e
+call, call           | 41 05 10 00 41 7e 10 00 0b | -> i32 i32 | -> 5 3
+# What the machine doesn't know, and operands of another type
+call 1               | 10 01 0b       | i32 ->             | 1 -> Stuck
+call                 | 10 00 0b       | ->                 | -> Stuck
+call                 | 10 00 0b       | i64 ->             | 1 -> Stuck
+i32.load             | 28 00 00 0b    | i64 ->             | 1 -> Stuck
+i32.load of memory 1 | 28 40 01 00 0b | i32 ->             | 1 -> Stuck
+f32.store            | 38 00 00 0b    | i32 i32 ->         | 1 1 -> Stuck
+i32.store            | 36 00 00 0b    | i32 f32 ->         | 1 1 -> Stuck
+f64.add              | a0 0b          | other other ->     | - - -> Stuck
+f32.add              | 92 0b          | i32 i32 ->         | 1 2 -> Stuck
+f32.add              | 92 0b          | f32 i32 ->         | 1 2 -> Stuck
+f32.convert_i32_s    | b2 0b          | f32 ->             | 1 -> Stuck
+i32.trunc_f32_s      | a8 0b          | i32 ->             | 1 -> Stuck
 ";

@@ -3,6 +3,7 @@ use Rattle.std.specs.Prelude.{slice_get}
 use Rattle.std.proofs.lemmas.Bool.{true_from_ne_false}
 use Rattle.std.proofs.lemmas.Option.{same_Some}
 use Rattle.peephole_graphs.specs.Block.{BlockRange, HasNoDelimiter, IsDelimiterAt, IsBlockOf}
+use Rattle.peephole_graphs.proofs.BlockLemmas.{block_is_in}
 use Rattle.wasm_code.specs.Operator.{is_delimiter}
 use Rattle.wasm_code.specs.declared.operator.Operator.{Operator}
 use Rattle.peephole_graphs.proofs.block.BBlock.of_operator.Goals as goal
@@ -22,4 +23,8 @@ block_is : (operators : List (Operator × ℕ)) (index start : ℕ) (b : BlockRa
 block_is operators index start b e l none longest = rw e (record { last = refl; some = l; none = none; longest = longest })
 
 pub returns-clause-block : goal.returns-clause-block
-returns-clause-block c = block_is _ _ _ _ c.of_range.ensures c.if-start-index.false c.block_start-start.ensures.none c.block_start-start.ensures.longest
+returns-clause-block c = block_is _ _ _ _ c.between.ensures c.if-start-index.false c.block_start-start.ensures.none c.block_start-start.ensures.longest
+
+pub returns-clause-inside : goal.returns-clause-inside
+returns-clause-inside c = block_is_in _ _ _ c.requires
+    (block_is _ _ _ _ c.between.ensures c.if-start-index.false c.block_start-start.ensures.none c.block_start-start.ensures.longest)

@@ -19,7 +19,7 @@ returns-in-Ok g c =
         code = h.instructions;
         expands = h.expands;
         appended = h.bytes;
-        runs = stack_code s.info.globals (words_for s t) t h.instructions h.expands;
+        runs = stack_code s.info (words_for s t) t h.instructions h.expands;
       };
       requests = h.asks;
       generator = ap (some_setting s.info) h.leaves;
