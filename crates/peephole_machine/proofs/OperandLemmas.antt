@@ -4,52 +4,12 @@ use Rattle.std.specs.Prelude.{map, slice_get}
 use Rattle.std.proofs.lemmas.Bool.{le-ltb}
 use Rattle.wasm_code.specs.Table.{table, row_at}
 use Rattle.wasm_code.specs.declared.table.Row.{Row}
-use Rattle.mutate_base.specs.declared.types.PrimitiveTypeInfo.TheVariants.{I32, I64, F32, F64, V128}
 use Rattle.peephole_machine.specs.declared.operand.OperandKind.{OperandKind}
 use Rattle.peephole_machine.specs.declared.operand.OperandKind.TheVariants as kind
 use Rattle.peephole_machine.specs.declared.operand.OperandColumn.{OperandColumn}
 use Rattle.peephole_machine.specs.declared.operand.OperandColumn.TheVariants as column
-use Rattle.peephole_machine.specs.OtherRow.{by_spans, column_by, column_in}
+use Rattle.peephole_machine.specs.OtherRow.{i32, i64, f32, f64, v128, address, index, element, unknown, none, one, two, three, by_spans, column_by, column_in}
 use Rattle.peephole_machine.proofs.EffectLemmas.{past_end, count}
-
-abbrev i32 : OperandKind
-i32 = kind.Of I32
-
-abbrev i64 : OperandKind
-i64 = kind.Of I64
-
-abbrev f32 : OperandKind
-f32 = kind.Of F32
-
-abbrev f64 : OperandKind
-f64 = kind.Of F64
-
-abbrev v128 : OperandKind
-v128 = kind.Of V128
-
-abbrev address : OperandKind
-address = kind.Address
-
-abbrev index : OperandKind
-index = kind.Index
-
-abbrev element : OperandKind
-element = kind.Element
-
-abbrev unknown : OperandColumn
-unknown = column.Unknown
-
-abbrev none : OperandColumn
-none = column.Zero
-
-abbrev one : OperandKind → OperandColumn
-one a = column.One a
-
-abbrev two : OperandKind → OperandKind → OperandColumn
-two a b = column.Two a b
-
-abbrev three : OperandKind → OperandKind → OperandKind → OperandColumn
-three a b c = column.Three a b c
 
 abbrev pub spans : List (ℕ × OperandColumn)
 spans =

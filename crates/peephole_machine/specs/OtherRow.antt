@@ -137,43 +137,43 @@ operands_in n (column.Three a b c) = Some (operand_by n a ∷ operand_by n b ∷
 
 -- ---- the operand column
 
-abbrev i32 : OperandKind
+abbrev pub i32 : OperandKind
 i32 = kind.Of I32
 
-abbrev i64 : OperandKind
+abbrev pub i64 : OperandKind
 i64 = kind.Of I64
 
-abbrev f32 : OperandKind
+abbrev pub f32 : OperandKind
 f32 = kind.Of F32
 
-abbrev f64 : OperandKind
+abbrev pub f64 : OperandKind
 f64 = kind.Of F64
 
-abbrev v128 : OperandKind
+abbrev pub v128 : OperandKind
 v128 = kind.Of V128
 
-abbrev address : OperandKind
+abbrev pub address : OperandKind
 address = kind.Address
 
-abbrev index : OperandKind
+abbrev pub index : OperandKind
 index = kind.Index
 
-abbrev element : OperandKind
+abbrev pub element : OperandKind
 element = kind.Element
 
-abbrev unknown : OperandColumn
+abbrev pub unknown : OperandColumn
 unknown = column.Unknown
 
-abbrev none : OperandColumn
+abbrev pub none : OperandColumn
 none = column.Zero
 
-abbrev one : OperandKind → OperandColumn
+abbrev pub one : OperandKind → OperandColumn
 one a = column.One a
 
-abbrev two : OperandKind → OperandKind → OperandColumn
+abbrev pub two : OperandKind → OperandKind → OperandColumn
 two a b = column.Two a b
 
-abbrev three : OperandKind → OperandKind → OperandKind → OperandColumn
+abbrev pub three : OperandKind → OperandKind → OperandKind → OperandColumn
 three a b c = column.Three a b c
 
 -- the entry of the first span that ends behind the number

@@ -22,7 +22,7 @@ use Rattle.peephole_rules.specs.Rewriting.{rewrite, rewrite_at}
 use Rattle.peephole_rules.specs.Grafted.{term_at, grafted}
 use Rattle.peephole_rewrites.specs.declared.rewrite.Rewrite.{Rewrite}
 use Rattle.peephole_rewrites.specs.Rewriting.{rewritten, Makes, AreTheRewrites}
-use Rattle.peephole_rewrites.specs.Making.{IsOrderedGraph, HasNoOrderedGraph, IsTypedRoot, IsRootLaidOut, Grows, IsAtNode, IsAtNodeBefore, IsAtRoot, IsInRange}
+use Rattle.peephole_rewrites.specs.Making.{IsOrderedGraph, IsTypedRoot, IsRootLaidOut, Grows, IsAtNode, IsAtNodeBefore, IsAtRoot, IsInRange}
 use Rattle.peephole_rewrites.proofs.MadeLemmas.{rewritten_is, same_tree}
 use Rattle.peephole_rewrites.proofs.RootLemmas.{rewritable, typed_root}
 
@@ -301,11 +301,6 @@ rewrites_are own missing locals s g rules end list fits o grows = inr (g, o.grap
             makes = m.makes;
           };
         }))
-
--- a block without such a graph has none
-pub no_rewrites : (locals : List PrimitiveTypeInfo) (s : Source) (rules : List Rule) → HasNoOrderedGraph s → AreTheRewrites locals s rules []
-no_rewrites locals s rules (inl h) = inl (h, refl)
-no_rewrites locals s rules (inr (g, is, out)) = inr (g, is, λ r. (λ h. absurd (empty_has r h), λ h. absurd (out (h.1).1.rewritable.order)))
 
 -- the block's operators end where it ends
 pub block_fits : (operators : List (Operator × ℕ)) (b : BlockRange) → IsBlockIn operators b → b.start + length (slice_range operators b.start b.end) ≤ b.end
