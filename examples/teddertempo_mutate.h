@@ -1,5 +1,6 @@
 /*
- * Rewrites a block of a WebAssembly module so that it runs as before: the C interface of the static library peephole_mutate_c.
+ * Rewrites some instructions of a WebAssembly module so that what stands round them runs as before: the C interface of the static
+ * library peephole_mutate_c.
  *
  * Link out/libpeephole_mutate_c.a of the crate peephole_mutate_c, and the Rattle kit's c/liblibc_c.a, by which it takes memory
  * from malloc. examples/run.sh shows how.

@@ -24,6 +24,7 @@ shapes: -O2 -Wl,--strip-all
 shapes_plain: -O0 -Wl,--strip-all
 outside:
 shared:
+patterns:
 "
 
 work=$(mktemp -d)

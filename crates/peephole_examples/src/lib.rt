@@ -1,4 +1,4 @@
-//! Callers of the library, to be read: the whole way from a body to the body with a term in it, and to one with a node rewritten
+//! Callers of the library, to be read: the whole way from a body to the body with a term in it, and to one with a tree rewritten
 //! by a rule; a tree laid out; and a second small kind of nodes, with callers that know no more than the trait says.
 #![tactic(auto)]
 

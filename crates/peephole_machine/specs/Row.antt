@@ -1,23 +1,23 @@
 -- The rows of the code, as the integer rows that they stand for, and what a list of types is as one type or none (this project).
-use Rattle.std.specs.Prelude.{ℕ, Bool, false, List, [], ◌∷◌, Option, Some, None, option_map, option_and_then, slice_get}
+use Rattle.std.specs.Prelude.{◌≡◌, ℕ, length, Bool, false, List, [], ◌∷◌, Option, Some, None, option_map, option_and_then, slice_get}
 use Rattle.wasm_code.specs.declared.table.Opcode.{Opcode}
 use Rattle.wasm_code.specs.declared.table.Opcode.TheVariants.{Byte, Fc, Fd}
 use Rattle.wasm_code.specs.Instruction.{Instruction}
 use Rattle.wasm_code.specs.Table.{row_at, opcode_in}
-use Rattle.mutate_base.specs.Module.{module_of}
+use Rattle.mutate_base.specs.Module.{Module, module_of}
 use Rattle.mutate_base.specs.declared.types.PrimitiveTypeInfo.{PrimitiveTypeInfo}
 use Rattle.mutate_base.specs.declared.types.TableType.{TableType}
 use Rattle.mutate_base.specs.declared.types.TypeInfo.{TypeInfo}
 use Rattle.mutate_base.specs.declared.types.TypeInfo.TheVariants.{Func}
 use Rattle.peephole_machine.specs.declared.operand.OperandColumn.{OperandColumn}
-use Rattle.peephole_machine.specs.OtherRow.{element_type, Named, Operand, operands_in}
+use Rattle.peephole_machine.specs.OtherRow.{element_type, Named, Operand, names_in, operands_in, column_in}
 use Rattle.peephole_machine.specs.declared.row.Variable.{Variable as CodeVariable}
 use Rattle.peephole_machine.specs.declared.row.Variable.TheVariants as variable
 use Rattle.peephole_machine.specs.declared.row.Row.{Row}
 use Rattle.peephole_machine.specs.declared.row.Row.TheVariants as row
-use Rattle.peephole_machine.specs.Values.{Context, Variable, local, global, same_type, same_types, accept}
+use Rattle.peephole_machine.specs.Values.{Context, context_in, Variable, local, global, same_type, same_types, accept}
 use Rattle.peephole_machine.specs.Integer.{select_operator}
-use Rattle.peephole_machine.specs.IntegerRow.{IntegerRow, constant, operation, get, set, tee, discard, select, nop, if_typed, row_types, integer_row}
+use Rattle.peephole_machine.specs.IntegerRow.{IntegerRow, constant, operation, get, set, tee, discard, select, nop, other, if_typed, operand_count, row_types, integer_row}
 use Rattle.peephole_machine.specs.Operation.{operator_of}
 
 abbrev pub variable_of : CodeVariable → Variable
@@ -102,3 +102,22 @@ accept_in n column ts = accept_some (operands_in n column) ts
 -- what an instruction gives, one type or none
 abbrev pub instruction_types : Context → Instruction → List PrimitiveTypeInfo → Option (Option PrimitiveTypeInfo)
 instruction_types context i ts = option_and_then at_most_one (row_types context (integer_row i) ts)
+
+-- how many operands these are; 0 where they aren't known
+abbrev pub count_in : Option (List Operand) → ℕ
+count_in None = 0
+count_in (Some os) = length os
+
+abbrev pub count_by : Module → IntegerRow → ℕ
+count_by info (other i) = count_in (operands_in (names_in info i.imm) (column_in (row_at i.row)))
+count_by info row = operand_count info row
+
+-- how many operands an instruction takes, of a module with what it names
+abbrev pub instruction_count : Module → Instruction → ℕ
+instruction_count info i = count_by info (integer_row i)
+
+-- On any other number of operands the instruction gives nothing that has types.
+abbrev pub HasOperandCount : Module → Instruction → (count : ℕ) → Type 0
+HasOperandCount info i count =
+    (locals operands : List PrimitiveTypeInfo) (gives : Option PrimitiveTypeInfo) → instruction_types (context_in info locals) i operands ≡ Some gives →
+    length operands ≡ count

@@ -1,14 +1,15 @@
 //! What an instruction is to the machine, and the types that it takes and gives.
 ghost use Rattle.std.specs.Prelude.{◌≡◌, ◌&&◌, [], ◌∷◌, IfSome, option_map};
+ghost use Rattle.mutate_base.specs.Module.{Module};
 ghost use Rattle.mutate_base.specs.declared.types.PrimitiveTypeInfo.TheVariants.{I32};
 ghost use Rattle.peephole_machine.specs.Values.{context_in, type_of, same_type, same_types};
 ghost use Rattle.peephole_machine.specs.Integer.{select_operator};
-ghost use Rattle.peephole_machine.specs.IntegerRow.{bare_row, variable_row, typed_select, byte_row, row_or_other, integer_row, is_other, if_typed, variable_type, is_numeric, row_types};
-ghost use Rattle.peephole_machine.specs.Row.{instruction_types, variable_of, row_of, list_of, instruction_byte, get_types, set_types, tee_types, drop_types, select_types};
+ghost use Rattle.peephole_machine.specs.IntegerRow.{bare_row, variable_row, typed_select, byte_row, row_or_other, integer_row, is_other, if_typed, variable_type, is_numeric, operand_count, row_types};
+ghost use Rattle.peephole_machine.specs.Row.{HasOperandCount, instruction_count, instruction_types, variable_of, row_of, list_of, instruction_byte, get_types, set_types, tee_types, drop_types, select_types};
 
 use crate::integer::IntegerType;
 use crate::operation::Operation;
-use crate::other_types::other_types;
+use crate::other_types::{other_count, other_types};
 use mutate_base::{ModuleInfo, PrimitiveTypeInfo};
 use wasm_code::{Imm, Instr, ValType};
 
@@ -341,5 +342,36 @@ pub fn instruction_types(
     match row {
         Row::Other => other_types(info, instr, operands),
         _ => row_types(info, locals, row, operands),
+    }
+}
+
+// How many operands an integer row takes; 0 of another instruction.
+fn row_count(row: Row) -> usize
+    ensures { (info : Module) → IfSome (row_of row) (λ r. operand_count info r ≡ result) }
+{
+    match row {
+        Row::Constant(..) => 0,
+        Row::Operation(operation) => operation.operands().len(),
+        Row::TypedSelect(t) => select_operands(t).len(),
+        Row::Get(_) => 0,
+        Row::Set(_) => 1,
+        Row::Tee(_) => 1,
+        Row::Drop => 1,
+        Row::Select => 3,
+        Row::Nop => 0,
+        Row::Other => 0,
+    }
+}
+
+/// How many operands an instruction takes: on any other number of them it has no types (WebAssembly Core Specification 3.0,
+/// Validation, Instructions). 0 of an instruction that has no types on any operands.
+pub fn operand_count(info: &ModuleInfo<'_>, instr: &Instr) -> usize
+    ensures count { result ≡ instruction_count info.now instr.now }
+    ensures only { HasOperandCount info.now instr.now result }
+{
+    let row = integer_row(instr);
+    match row {
+        Row::Other => other_count(info, instr),
+        _ => row_count(row),
     }
 }

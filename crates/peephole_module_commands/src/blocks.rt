@@ -1,18 +1,17 @@
 //! The blocks of a module's functions.
-ghost use Rattle.std.specs.Prelude.{◌≡◌, ◌<◌, length, IsTrue, is_some, IfErr, IfSome};
+ghost use Rattle.std.specs.Prelude.{◌≡◌, ◌<◌, length, IfErr};
 ghost use Rattle.peephole_module_commands.specs.declared.failure.Failure.TheVariants.{Output};
-ghost use Rattle.mutate_base.specs.Config.{info_of};
 ghost use Rattle.wasm_module.specs.Module.{IsModule};
 
 use crate::failure::Failure;
 use crate::functions::{chosen_entries, fault_of, index_of, module_of};
-use mutate_base::{Error, WasmMutate, Words};
-use peephole_graphs::{BBlock, DFGBuilder};
+use mutate_base::ModuleInfo;
+use peephole_graphs::{BBlock, fits_graph};
 use peephole_modules::{FunctionBody, FunctionError, read_function};
 use std::alloc::Global;
 use std::io::Write;
 use thiserror::Error as ErrorTexts;
-use wasm_code::{Operator, OperatorAndByteOffset};
+use wasm_code::{Imm, Operator, OperatorAndByteOffset};
 use wasm_module::Layout;
 
 /// Why no graph holds an operator.
@@ -32,44 +31,39 @@ pub enum Unfit {
     UnknownFunction(u32),
 }
 
-// Why no graph holds the only operator, or none where one does.
-fn unfit_operator(
-    alloc: Global,
-    config: &WasmMutate<'_, Words>,
-    operator: &[OperatorAndByteOffset],
-) -> Result<Option<Unfit>, Failure>
-    requires set_up { IsTrue (is_some config.now.setup) }
-    requires one { length operator.now ≡ 1 }
-{
-    match operator[0].0 {
-        Operator::CallIndirect { .. } => return Ok(Some(Unfit::CallIndirect)),
-        Operator::TypedSelect { count, .. } => return Ok(Some(Unfit::TypedSelect(count))),
-        _ => {}
+// Why no graph holds the call of the function with this index.
+fn unfit_call(info: &ModuleInfo<'_>, function: u32) -> Unfit {
+    match info.get_functype_idx(function) {
+        None => Unfit::UnknownFunction(function),
+        Some(_) => Unfit::SeveralResults,
     }
-    let Some(block) = BBlock::of_operator(0, operator) else {
-        return Ok(None);
-    };
-    let mut builder = DFGBuilder::new(config);
-    match builder.get_dfg(alloc, config.info(), operator, &block) {
-        Ok(Some(_)) => Ok(None),
-        Ok(None) => Ok(Some(Unfit::SeveralResults)),
-        Err(Error::UnknownFunction(function)) => Ok(Some(Unfit::UnknownFunction(function))),
-        Err(e) => Err(Failure::from(e)),
+}
+
+// Why no graph holds the operator of a block, or none where one does. Of instructions it is a call alone that none may hold.
+fn unfit_operator(info: &ModuleInfo<'_>, operator: &Operator) -> Option<Unfit> {
+    if fits_graph(info, operator) {
+        return None;
+    }
+    match operator {
+        Operator::CallIndirect { .. } => Some(Unfit::CallIndirect),
+        Operator::TypedSelect { count, .. } => Some(Unfit::TypedSelect(*count)),
+        Operator::Instr(instr) => match instr.imm() {
+            Imm::Index(function) => Some(unfit_call(info, function)),
+            _ => None,
+        },
+        _ => None,
     }
 }
 
 // Writes what the first of a block's operators is that no graph holds, where there is one. The block starts at `start`.
 fn write_first_unfit<W: Write>(
-    alloc: Global,
-    config: &WasmMutate<'_, Words>,
+    info: &ModuleInfo<'_>,
     operators: &[OperatorAndByteOffset],
     start: usize,
     output: &mut W,
-) -> Result<(), Failure>
-    requires { IsTrue (is_some config.now.setup) }
-{
+) -> Result<(), Failure> {
     for index in 0..operators.len() {
-        if let Some(unfit) = unfit_operator(alloc, config, &operators[index..index + 1])? {
+        if let Some(unfit) = unfit_operator(info, &operators[index].0) {
             let operator = start.saturating_add(index);
             write!(output, ", no graph: operator {operator} {unfit}")?;
             return Ok(());
@@ -80,15 +74,13 @@ fn write_first_unfit<W: Write>(
 
 // Writes the line of the block that ends with the operator.
 fn write_block<W: Write>(
-    alloc: Global,
-    config: &WasmMutate<'_, Words>,
+    info: &ModuleInfo<'_>,
     function: &FunctionBody,
     index: usize,
     end: usize,
     output: &mut W,
 ) -> Result<(), Failure>
-    requires set_up { IsTrue (is_some config.now.setup) }
-    requires inside { end < length function.now.operators.items }
+    requires { end < length function.now.operators.items }
 {
     let Some(block) = BBlock::of_operator(end, &function.operators) else {
         return Ok(());
@@ -98,7 +90,7 @@ fn write_block<W: Write>(
     let behind = range.end;
     let operators = &function.operators[start..behind];
     write!(output, "function {index} block {start}..{behind}")?;
-    write_first_unfit(alloc, config, operators, start, output)?;
+    write_first_unfit(info, operators, start, output)?;
     writeln!(output)?;
     Ok(())
 }
@@ -118,17 +110,14 @@ fn ends_block(operators: &[OperatorAndByteOffset], index: usize) -> bool
 
 // Writes the lines of the blocks of a function.
 fn write_blocks<W: Write>(
-    alloc: Global,
-    config: &WasmMutate<'_, Words>,
+    info: &ModuleInfo<'_>,
     function: &FunctionBody,
     index: usize,
     output: &mut W,
-) -> Result<(), Failure>
-    requires { IsTrue (is_some config.now.setup) }
-{
+) -> Result<(), Failure> {
     for end in 0..function.operators.len() {
         if ends_block(&function.operators, end) {
-            write_block(alloc, config, function, index, end, output)?;
+            write_block(info, function, index, end, output)?;
         }
     }
     Ok(())
@@ -158,18 +147,17 @@ pub fn write_fault<W: Write>(
 // Writes the lines of the n-th of the module's own functions.
 fn write_function<W: Write>(
     alloc: Global,
-    config: &WasmMutate<'_, Words>,
+    info: &ModuleInfo<'_>,
     bytes: &[u8],
     layout: &Layout,
     n: usize,
     output: &mut W,
 ) -> Result<(), Failure>
-    requires set_up { IsTrue (is_some config.now.setup) }
-    requires module { IfSome (info_of config.now) (λ info. IsModule bytes.now info layout.now) }
+    requires module { IsModule bytes.now info.now layout.now }
     requires inside { n < length layout.now.entries }
 {
-    match read_function(alloc, bytes, config.info(), layout, n) {
-        Ok(function) => write_blocks(alloc, config, &function, index_of(layout, n), output),
+    match read_function(alloc, bytes, info, layout, n) {
+        Ok(function) => write_blocks(info, &function, index_of(layout, n), output),
         Err(e) => {
             if e.is_memory() {
                 return Err(Failure::Memory);
@@ -193,11 +181,8 @@ pub fn list_blocks<W: Write>(
     let module = module_of(alloc, bytes)?;
     let layout = module.layout;
     let chosen = chosen_entries(&layout, only)?;
-    let mut config = WasmMutate::new();
-    config.preserve_semantics(true);
-    config.set_up(module.info, Words::new(Vec::new(alloc)));
     for n in chosen.start..chosen.end {
-        write_function(alloc, &config, bytes, &layout, n, output)?;
+        write_function(alloc, &module.info, bytes, &layout, n, output)?;
     }
     Ok(())
 }

@@ -1,16 +1,13 @@
 //! The rewrites that there are of a module.
-ghost use Rattle.std.specs.Prelude.{◌≡◌, ◌<◌, length, IsTrue, is_some, IfErr, IfSome};
+ghost use Rattle.std.specs.Prelude.{◌≡◌, ◌<◌, length, IfErr};
 ghost use Rattle.peephole_module_commands.specs.declared.failure.Failure.TheVariants.{Output};
-ghost use Rattle.mutate_base.specs.Config.{info_of};
-ghost use Rattle.peephole_graphs.specs.Block.{IsBlockIn};
 ghost use Rattle.wasm_module.specs.Module.{IsModule};
 
 use crate::failure::Failure;
 use crate::functions::{chosen_entries, index_of, module_of};
-use mutate_base::{WasmMutate, Words};
-use peephole_graphs::BBlock;
-use peephole_modules::{FunctionBody, graph_stretches, read_function};
-use peephole_rewrites::{Rewrite, rewrites_of_block};
+use mutate_base::ModuleInfo;
+use peephole_modules::read_function;
+use peephole_rewrites::{Rewrite, rewrites_of_body};
 use peephole_rules::Rule;
 use std::alloc::Global;
 use std::io::Write;
@@ -24,52 +21,29 @@ pub fn write_rewrite<W: Write>(
 ) -> Result<(), Failure>
     ensures { IfErr result (λ e. e ≡ Output) }
 {
-    let operator = rewrite.insertion_point;
-    let node = rewrite.node;
+    let operator = rewrite.operator;
     let rule = rewrite.rule.name();
     writeln!(
         output,
-        "function {function} operator {operator} node {node} rule {rule}"
+        "function {function} operator {operator} rule {rule}"
     )?;
-    Ok(())
-}
-
-// Writes the lines of a stretch of the function with the index.
-fn list_stretch<W: Write>(
-    alloc: Global,
-    config: &WasmMutate<'_, Words>,
-    rules: &[Rule],
-    index: usize,
-    function: &FunctionBody,
-    block: &BBlock,
-    output: &mut W,
-) -> Result<(), Failure>
-    requires set_up { IsTrue (is_some config.now.setup) }
-    requires block { IsBlockIn function.now.operators.items block.now }
-{
-    let operators = function.operators.as_slice();
-    let rewrites = rewrites_of_block(alloc, config, &function.locals, rules, operators, block)?;
-    for rewrite in &rewrites {
-        write_rewrite(output, index, rewrite)?;
-    }
     Ok(())
 }
 
 // Writes the lines of the n-th of the module's own functions, where that can be read.
 fn list_function<W: Write>(
     alloc: Global,
-    config: &WasmMutate<'_, Words>,
+    info: &ModuleInfo<'_>,
     bytes: &[u8],
     layout: &Layout,
     n: usize,
     rules: &[Rule],
     output: &mut W,
 ) -> Result<(), Failure>
-    requires set_up { IsTrue (is_some config.now.setup) }
-    requires module { IfSome (info_of config.now) (λ info. IsModule bytes.now info layout.now) }
+    requires module { IsModule bytes.now info.now layout.now }
     requires inside { n < length layout.now.entries }
 {
-    let function = match read_function(alloc, bytes, config.info(), layout, n) {
+    let function = match read_function(alloc, bytes, info, layout, n) {
         Ok(function) => function,
         Err(e) => {
             if e.is_memory() {
@@ -78,10 +52,10 @@ fn list_function<W: Write>(
             return Ok(());
         }
     };
-    let stretches = graph_stretches(alloc, config.info(), &function.operators)?;
+    let rewrites = rewrites_of_body(alloc, &function.locals, info, rules, &function.operators)?;
     let index = index_of(layout, n);
-    for block in &stretches {
-        list_stretch(alloc, config, rules, index, &function, block, output)?;
+    for rewrite in &rewrites {
+        write_rewrite(output, index, rewrite)?;
     }
     Ok(())
 }
@@ -100,11 +74,8 @@ pub fn list_rewrites<W: Write>(
     let module = module_of(alloc, bytes)?;
     let layout = module.layout;
     let chosen = chosen_entries(&layout, only)?;
-    let mut config = WasmMutate::new();
-    config.preserve_semantics(true);
-    config.set_up(module.info, Words::new(Vec::new(alloc)));
     for n in chosen.start..chosen.end {
-        list_function(alloc, &config, bytes, &layout, n, rules, output)?;
+        list_function(alloc, &module.info, bytes, &layout, n, rules, output)?;
     }
     Ok(())
 }

@@ -110,7 +110,7 @@ fn command<'a>(alloc: Global, names: &'a [&'a str]) -> Result<Command<'a>, Alloc
     Command::new(alloc, "peephole_mutate")
         .version("1.0.0")
         .about(
-            "Rewrites blocks of the WebAssembly module on standard input so that they run as before, and writes it to standard output",
+            "Rewrites instructions of the WebAssembly module on standard input so that what stands round them runs as before, and writes it to standard output",
         )
         .arg(seed_argument(alloc))?
         .arg(count_argument(alloc))?

@@ -53,7 +53,7 @@ pub fn run<R: Read, W: Write, E: Write>(
     output: &mut W,
     notes: &mut E,
 ) -> Result<(), Failure>
-    // What is written is the input rewritten, each block of it running as before.
+    // What is written is the input rewritten, and what stands round each rewritten tree runs as before.
     ensures written { options.now.task ≡ Task.Rewrite → OnOk result
         (IfSome (R.remaining input.old) (λ bytes. WritesMutated options.now.rules.items
         options.now.function options.now.count bytes (W.contents output.old)

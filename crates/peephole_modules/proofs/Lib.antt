@@ -1,5 +1,3 @@
-pub mod StretchLemmas
-pub mod BodyLemmas
 pub mod FunctionLemmas
 pub mod MutationLemmas
 pub mod ModuleLemmas

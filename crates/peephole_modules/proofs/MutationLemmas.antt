@@ -1,6 +1,6 @@
 -- One code entry of a module rewritten.
-use Rattle.std.proofs.Common.{◌≡◌, ℕ, ◌-◌, ◌≤◌, List, [], ◌++◌, length, drop, map, Bool, true, Option, Some, sym, ap, subst, ◌∙◌, arith, refl}
-use Rattle.std.specs.Prelude.{IfSome, slice_get, slice_range}
+use Rattle.std.proofs.Common.{◌≡◌, ℕ, ◌-◌, ◌≤◌, List, [], ◌++◌, length, drop, map, Option, Some, None, Result, Ok, Err, sym, ap, subst, ◌∙◌, arith, refl}
+use Rattle.std.specs.Prelude.{IfOk, IfErr, IfNone, IfSome, slice_get, slice_range}
 use Rattle.std.proofs.lemmas.List.{length-append, length-take, length-drop}
 use Rattle.std.proofs.lemmas.Option.{same_Some}
 use Rattle.wasm_code.specs.declared.operator.Operator.{Operator}
@@ -14,12 +14,13 @@ use Rattle.wasm_module.specs.Limits.{IsTooLarge}
 use Rattle.wasm_module.specs.Rewritten.{IsRewritten}
 use Rattle.wasm_sections.specs.declared.writing.WriteError.{WriteError}
 use Rattle.wasm_sections.specs.declared.writing.WriteError.TheVariants.{TooLarge, Memory}
+use Rattle.peephole_machine.specs.Values.{context_in}
 use Rattle.peephole_terms.specs.declared.encoder.request.ResourceRequest.{ResourceRequest}
 use Rattle.peephole_terms.specs.Expansion.{Setting}
 use Rattle.peephole_terms.specs.Written.{IsBodyIn}
 use Rattle.peephole_rules.specs.declared.rule.Rule.{Rule}
 use Rattle.peephole_rewrites.specs.declared.rewrite.Rewrite.{Rewrite}
-use Rattle.peephole_modules.specs.Body.{AppendsInBody, HasNoRewrites, RefusesInBody}
+use Rattle.peephole_rewrites.specs.Rewriting.{AppendsChosen, AreTheRewrites, RefusesChosen}
 use Rattle.peephole_modules.specs.Function.{IsFunction}
 use Rattle.peephole_modules.specs.Mutated.{HasNoMutation, IsBehindLocals, MutatesEntry, RefusesEntry, RefusesFunction, requested}
 use Rattle.peephole_modules.specs.declared.mutation.MutationError.TheVariants.{Write}
@@ -29,6 +30,30 @@ Types = List PrimitiveTypeInfo
 
 abbrev Operators : Type 0
 Operators = List (Operator × ℕ)
+
+-- ---- what calls answer
+
+-- what holds of the module under an option
+pub under_map : {P Q : Module → Type 0} (under : Option Module) → ((info : Module) → P info → Q info) → IfSome under P → IfSome under Q
+under_map None f h = h
+under_map (Some info) f h = f info h
+
+pub err_map : {X E : Type 0} {P Q : E → Type 0} (r : Result X E) → ((e : E) → P e → Q e) → IfErr r P → IfErr r Q
+err_map (Ok x) f h = h
+err_map (Err e) f h = f e h
+
+-- what an answer of some says
+pub some_map : {X E : Type 0} {P Q : X → Type 0} (r : Result (Option X) E) → ((x : X) → P x → Q x) → IfOk r (λ o. IfSome o P) →
+    IfOk r (λ o. IfSome o Q)
+some_map (Ok None) f h = h
+some_map (Ok (Some x)) f h = f x h
+some_map (Err e) f h = h
+
+-- what an answer of none says
+pub none_map : {X E : Type 0} {P Q : Type 0} (r : Result (Option X) E) → (P → Q) → IfOk r (λ o. IfNone o P) → IfOk r (λ o. IfNone o Q)
+none_map (Ok None) f h = f h
+none_map (Ok (Some x)) f h = h
+none_map (Err e) f h = h
 
 -- what holds of the module that was lent holds of that under the option
 pub under_lent : (P : Module → Type 0) (under : Option Module) (lent : Module) → under ≡ Some lent → P lent → IfSome under P
@@ -75,44 +100,43 @@ behind_locals bytes info layout n locals expression operators entry f inside at 
 
 -- ---- nothing to rewrite
 
-pub nothing_here : (rules : List Rule) (bytes : List ℕ) (info : Module) (layout : Layout) (n : ℕ) (locals lent : Types) (operators given : Operators)
-    (preserving : Bool) → preserving ≡ true → lent ≡ locals → given ≡ operators →
+pub nothing_here : (rules : List Rule) (bytes : List ℕ) (info : Module) (layout : Layout) (n : ℕ) (locals lent : Types) (operators given : Operators) →
+    lent ≡ locals → given ≡ operators →
     ((l : Types) (x : ℕ) (o : Operators) → IsFunction bytes info layout n l x o → (locals ≡ l) × (operators ≡ o)) →
-    HasNoRewrites lent info preserving rules given → HasNoMutation rules bytes info layout n
-nothing_here rules bytes info layout n locals lent operators given preserving is lent_is given_is only none l x o f =
+    AreTheRewrites (context_in info lent) rules given [] → HasNoMutation rules bytes info layout n
+nothing_here rules bytes info layout n locals lent operators given lent_is given_is only none l x o f =
     let s = only l x o f in
     let own : lent ≡ l = lent_is ∙ s.0 in
     let all : given ≡ o = given_is ∙ s.1 in
-    subst (λ (p : Bool). HasNoRewrites l info p rules o) is (subst (λ (ts : Types). HasNoRewrites ts info preserving rules o) own
-    (subst (λ (os : Operators). HasNoRewrites lent info preserving rules os) all none))
+    subst (λ (ts : Types). AreTheRewrites (context_in info ts) rules o []) own
+    (subst (λ (os : Operators). AreTheRewrites (context_in info lent) rules os []) all none)
 
 -- ---- refusals
 
 pub refuses_function : (rules : List Rule) (bytes : List ℕ) (info : Module) (layout : Layout) (n : ℕ) (locals lent : Types) (expression : ℕ)
-    (operators given : Operators) (preserving : Bool) (e : Error) → IsFunction bytes info layout n locals expression operators →
-    preserving ≡ true → lent ≡ locals → given ≡ operators → RefusesInBody lent info preserving rules bytes given e →
+    (operators given : Operators) (e : Error) → IsFunction bytes info layout n locals expression operators →
+    lent ≡ locals → given ≡ operators → RefusesChosen lent info rules given e →
     RefusesFunction rules bytes info layout n e
-refuses_function rules bytes info layout n locals lent expression operators given preserving e f is lent_is given_is refused = record {
+refuses_function rules bytes info layout n locals lent expression operators given e f lent_is given_is refused = record {
   locals = locals;
   expression = expression;
   operators = operators;
   function = f;
-  refused = subst (λ (p : Bool). RefusesInBody locals info p rules bytes operators e) is
-      (subst (λ (ts : Types). RefusesInBody ts info preserving rules bytes operators e) lent_is
-      (subst (λ (os : Operators). RefusesInBody lent info preserving rules bytes os e) given_is refused));
+  refused = subst (λ (ts : Types). RefusesChosen ts info rules operators e) lent_is
+      (subst (λ (os : Operators). RefusesChosen lent info rules os e) given_is refused);
 }
 
 -- ---- the new module
 
 pub mutates : (rules : List Rule) (bytes : List ℕ) (info : Module) (layout : Layout) (n : ℕ) (locals lent : Types) (expression : ℕ)
-    (operators given : Operators) (preserving : Bool) (entry : Entry) (rewrite : Rewrite) (old body : List ℕ) (requests : List ResourceRequest)
+    (operators given : Operators) (entry : Entry) (rewrite : Rewrite) (old body : List ℕ) (requests : List ResourceRequest)
     (left : Option Setting) (front written : List ℕ) (globals : Types) (new : List ℕ) → IsFunction bytes info layout n locals expression operators →
-    preserving ≡ true → lent ≡ locals → given ≡ operators → old ≡ [] →
-    AppendsInBody lent info preserving rules bytes given rewrite old body requests left → slice_get layout.entries n ≡ Some entry →
+    lent ≡ locals → given ≡ operators → old ≡ [] →
+    AppendsChosen lent info rules bytes given rewrite old body requests left → slice_get layout.entries n ≡ Some entry →
     front ≡ slice_range bytes entry.contents expression → written ≡ body → globals ≡ map requested requests →
     IsRewritten bytes layout n (front ++ written) globals new → MutatesEntry rules bytes info layout n rewrite new
-mutates rules bytes info layout n locals lent expression operators given preserving entry rewrite old body requests left front written globals new
-    f is lent_is given_is empty appended at front_is written_is globals_are rewritten =
+mutates rules bytes info layout n locals lent expression operators given entry rewrite old body requests left front written globals new
+    f lent_is given_is empty appended at front_is written_is globals_are rewritten =
     let same : entry ≡ f.entry = same_Some _ _ (sym at ∙ f.is.at) in
     let start : front ≡ slice_range bytes f.entry.contents expression =
     front_is ∙ ap (λ (e : Entry). slice_range bytes e.contents expression) same in
@@ -124,10 +148,9 @@ mutates rules bytes info layout n locals lent expression operators given preserv
       body = body;
       requests = requests;
       left = left;
-      rewritten = subst (λ (p : Bool). AppendsInBody locals info p rules bytes operators rewrite [] body requests left) is
-          (subst (λ (ts : Types). AppendsInBody ts info preserving rules bytes operators rewrite [] body requests left) lent_is
-          (subst (λ (os : Operators). AppendsInBody lent info preserving rules bytes os rewrite [] body requests left) given_is
-          (subst (λ (o : List ℕ). AppendsInBody lent info preserving rules bytes given rewrite o body requests left) empty appended)));
+      rewritten = subst (λ (ts : Types). AppendsChosen ts info rules bytes operators rewrite [] body requests left) lent_is
+          (subst (λ (os : Operators). AppendsChosen lent info rules bytes os rewrite [] body requests left) given_is
+          (subst (λ (o : List ℕ). AppendsChosen lent info rules bytes given rewrite o body requests left) empty appended));
       written = subst (λ (gs : Types). IsRewritten bytes layout n (slice_range bytes f.entry.contents expression ++ body) gs new) globals_are
           (subst (λ (b : List ℕ). IsRewritten bytes layout n (slice_range bytes f.entry.contents expression ++ b) globals new) written_is
           (subst (λ (a : List ℕ). IsRewritten bytes layout n (a ++ written) globals new) start rewritten));
@@ -135,16 +158,16 @@ mutates rules bytes info layout n locals lent expression operators given preserv
 
 -- the same where it doesn't fit
 pub refuses_writing : (rules : List Rule) (bytes : List ℕ) (info : Module) (layout : Layout) (n : ℕ) (locals lent : Types) (expression : ℕ)
-    (operators given : Operators) (preserving : Bool) (entry : Entry) (rewrite : Rewrite) (old body : List ℕ) (requests : List ResourceRequest)
+    (operators given : Operators) (entry : Entry) (rewrite : Rewrite) (old body : List ℕ) (requests : List ResourceRequest)
     (left : Option Setting) (front written : List ℕ) (globals : Types) (e : WriteError) →
-    IsFunction bytes info layout n locals expression operators → preserving ≡ true → lent ≡ locals → given ≡ operators → old ≡ [] →
-    AppendsInBody lent info preserving rules bytes given rewrite old body requests left → slice_get layout.entries n ≡ Some entry →
+    IsFunction bytes info layout n locals expression operators → lent ≡ locals → given ≡ operators → old ≡ [] →
+    AppendsChosen lent info rules bytes given rewrite old body requests left → slice_get layout.entries n ≡ Some entry →
     front ≡ slice_range bytes entry.contents expression → written ≡ body → globals ≡ map requested requests →
     (e ≡ TooLarge → IsTooLarge bytes layout n (front ++ written) globals) → RefusesEntry rules bytes info layout n (Write e)
-refuses_writing rules bytes info layout n locals lent expression operators given preserving entry rewrite old body requests left front written globals
-    Memory f is lent_is given_is empty appended at front_is written_is globals_are large = tt
-refuses_writing rules bytes info layout n locals lent expression operators given preserving entry rewrite old body requests left front written globals
-    TooLarge f is lent_is given_is empty appended at front_is written_is globals_are large =
+refuses_writing rules bytes info layout n locals lent expression operators given entry rewrite old body requests left front written globals
+    Memory f lent_is given_is empty appended at front_is written_is globals_are large = tt
+refuses_writing rules bytes info layout n locals lent expression operators given entry rewrite old body requests left front written globals
+    TooLarge f lent_is given_is empty appended at front_is written_is globals_are large =
     let same : entry ≡ f.entry = same_Some _ _ (sym at ∙ f.is.at) in
     let start : front ≡ slice_range bytes f.entry.contents expression =
     front_is ∙ ap (λ (e : Entry). slice_range bytes e.contents expression) same in
@@ -157,10 +180,9 @@ refuses_writing rules bytes info layout n locals lent expression operators given
       body = body;
       requests = requests;
       left = left;
-      rewritten = subst (λ (p : Bool). AppendsInBody locals info p rules bytes operators rewrite [] body requests left) is
-          (subst (λ (ts : Types). AppendsInBody ts info preserving rules bytes operators rewrite [] body requests left) lent_is
-          (subst (λ (os : Operators). AppendsInBody lent info preserving rules bytes os rewrite [] body requests left) given_is
-          (subst (λ (o : List ℕ). AppendsInBody lent info preserving rules bytes given rewrite o body requests left) empty appended)));
+      rewritten = subst (λ (ts : Types). AppendsChosen ts info rules bytes operators rewrite [] body requests left) lent_is
+          (subst (λ (os : Operators). AppendsChosen lent info rules bytes os rewrite [] body requests left) given_is
+          (subst (λ (o : List ℕ). AppendsChosen lent info rules bytes given rewrite o body requests left) empty appended));
       large = subst (λ (gs : Types). IsTooLarge bytes layout n (slice_range bytes f.entry.contents expression ++ body) gs) globals_are
           (subst (λ (b : List ℕ). IsTooLarge bytes layout n (slice_range bytes f.entry.contents expression ++ b) globals) written_is
           (subst (λ (a : List ℕ). IsTooLarge bytes layout n (a ++ written) globals) start (large refl)));

@@ -1,5 +1,4 @@
-pub mod Stretches
-pub mod Body
+pub mod Drawing
 pub mod Function
 pub mod Mutated
 pub mod Mutates

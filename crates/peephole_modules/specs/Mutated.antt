@@ -1,5 +1,5 @@
--- A module with a node of a stretch of one of its functions rewritten by a rule (this project).
-use Rattle.std.specs.Prelude.{◌≡◌, ◌⊎◌, ℕ, ◌+◌, ◌<◌, ◌≤◌, List, [], ◌++◌, length, map, true, Option, Some, None, slice_range}
+-- A module with the tree of an operator of one of its functions rewritten by a rule, in its place (this project).
+use Rattle.std.specs.Prelude.{◌≡◌, ◌⊎◌, ℕ, ◌+◌, ◌<◌, ◌≤◌, List, [], ◌++◌, length, map, Option, Some, None, slice_range}
 use Rattle.wasm_code.specs.declared.operator.Operator.{Operator}
 use Rattle.mutate_base.specs.Module.{Module}
 use Rattle.mutate_base.specs.declared.types.PrimitiveTypeInfo.{PrimitiveTypeInfo}
@@ -10,12 +10,13 @@ use Rattle.wasm_module.specs.Fault.{IsModuleFault}
 use Rattle.wasm_module.specs.Limits.{IsTooLarge}
 use Rattle.wasm_module.specs.Rewritten.{IsRewritten}
 use Rattle.wasm_sections.specs.declared.writing.WriteError.TheVariants as writes
+use Rattle.peephole_machine.specs.Values.{context_in}
 use Rattle.peephole_terms.specs.declared.encoder.request.ResourceRequest.{ResourceRequest}
 use Rattle.peephole_terms.specs.declared.encoder.request.ResourceRequest.TheVariants as requests
 use Rattle.peephole_terms.specs.Expansion.{Setting}
 use Rattle.peephole_rules.specs.declared.rule.Rule.{Rule}
 use Rattle.peephole_rewrites.specs.declared.rewrite.Rewrite.{Rewrite}
-use Rattle.peephole_modules.specs.Body.{AppendsInBody, HasNoRewrites, RefusesInBody}
+use Rattle.peephole_rewrites.specs.Rewriting.{AppendsChosen, AreTheRewrites, RefusesChosen}
 use Rattle.peephole_modules.specs.Function.{IsFunction}
 use Rattle.peephole_modules.specs.declared.mutation.MutationError.{MutationError}
 use Rattle.peephole_modules.specs.declared.mutation.MutationError.TheVariants as mutations
@@ -29,8 +30,8 @@ abbrev pub IsChosen : Option ℕ → ℕ → Type 0
 IsChosen None index = Unit {0}
 IsChosen (Some function) index = index ≡ function
 
--- The new bytes are the module with a node of a tree of a stretch of its n-th code entry rewritten by one of the rules: its locals stand as they stood,
--- the stretch runs as before, and the globals that it asks for are appended.
+-- The new bytes are the module with the tree of an operator of its n-th code entry rewritten in its place by one of the rules: its locals stand as they
+-- stood, what stands round the tree runs as before, and the globals that it asks for are appended.
 pub record MutatesEntry (rules : List Rule) (bytes : List ℕ) (info : Module) (layout : Layout) (n : ℕ) (rewrite : Rewrite) (new : List ℕ) : Type 0 where
   pub locals : List PrimitiveTypeInfo
   pub expression : ℕ
@@ -39,7 +40,7 @@ pub record MutatesEntry (rules : List Rule) (bytes : List ℕ) (info : Module) (
   pub body : List ℕ
   pub requests : List ResourceRequest
   pub left : Option Setting
-  pub rewritten : AppendsInBody locals info true rules bytes operators rewrite [] body requests left
+  pub rewritten : AppendsChosen locals info rules bytes operators rewrite [] body requests left
   pub written : IsRewritten bytes layout n (slice_range bytes function.entry.contents expression ++ body) (map requested requests) new
 
 -- The same of one of its code entries, that of the function with this index among all functions.
@@ -55,11 +56,11 @@ pub record IsMutated (rules : List Rule) (only : Option ℕ) (bytes : List ℕ) 
   pub chosen : IsChosen only function
   pub mutates : MutatesOne rules bytes info layout function rewrite new
 
--- No rewrite can be made in the n-th code entry: it spells no function that can be read, or one with no rewrite in any of its stretches.
+-- No rewrite can be made in the n-th code entry: it spells no function that can be read, or one of whose operators no rule rewrites a tree.
 abbrev pub HasNoMutation : List Rule → (bytes : List ℕ) → Module → Layout → (n : ℕ) → Type 0
 HasNoMutation rules bytes info layout n =
     (locals : List PrimitiveTypeInfo) (expression : ℕ) (operators : List (Operator × ℕ)) → IsFunction bytes info layout n locals expression operators →
-    HasNoRewrites locals info true rules operators
+    AreTheRewrites (context_in info locals) rules operators []
 
 -- No rewrite can be made in any function that may be rewritten.
 pub record CannotMutate (rules : List Rule) (only : Option ℕ) (bytes : List ℕ) : Type 0 where
@@ -80,7 +81,7 @@ pub record RefusesFunction (rules : List Rule) (bytes : List ℕ) (info : Module
   pub expression : ℕ
   pub operators : List (Operator × ℕ)
   pub function : IsFunction bytes info layout n locals expression operators
-  pub refused : RefusesInBody locals info true rules bytes operators e
+  pub refused : RefusesChosen locals info rules operators e
 
 -- the n-th code entry, rewritten by one of the rules, with the globals that it asks for doesn't fit 32 bits
 pub record HasNoRoom (rules : List Rule) (bytes : List ℕ) (info : Module) (layout : Layout) (n : ℕ) : Type 0 where
@@ -92,7 +93,7 @@ pub record HasNoRoom (rules : List Rule) (bytes : List ℕ) (info : Module) (lay
   pub body : List ℕ
   pub requests : List ResourceRequest
   pub left : Option Setting
-  pub rewritten : AppendsInBody locals info true rules bytes operators rewrite [] body requests left
+  pub rewritten : AppendsChosen locals info rules bytes operators rewrite [] body requests left
   pub large : IsTooLarge bytes layout n (slice_range bytes function.entry.contents expression ++ body) (map requested requests)
 
 -- Why there is no module with the n-th code entry rewritten: a rewrite is refused, what it writes doesn't fit 32 bits, or for want of memory.

@@ -1,13 +1,13 @@
-//! A module with a node of a stretch of one of its functions rewritten by a rule.
-ghost use Rattle.std.specs.Prelude.{◌≡◌, ◌<◌, ◌≤◌, ◌+◌, ℕ, true, length, map, slice_range, IfOk, IfErr, IfNone, IfSome, IsTrue, is_some};
+//! A module with the tree of an operator of one of its functions rewritten by a rule, in its place.
+ghost use Rattle.std.specs.Prelude.{◌≡◌, ◌<◌, ◌≤◌, ◌+◌, ℕ, length, map, slice_range, IfOk, IfErr, IfNone, IfSome, IsTrue, is_some};
 ghost use Rattle.mutate_base.specs.Config.{info_of, ChangesGeneratorAlone};
 ghost use Rattle.wasm_module.specs.Module.{IsModule};
 ghost use Rattle.peephole_modules.specs.Mutated.{CannotMutate, HasNoMutation, IsBehindLocals, IsMutated, MutatesEntry, MutatesOne, RefusesEntry, RefusesMutation, requested};
 
-use crate::body::{choose_below, rewrite_body_at_random};
+use crate::drawing::draw_entry;
 use crate::function::{entry_at, function_index, read_function};
 use mutate_base::{Error, PrimitiveTypeInfo, WasmMutate};
-use peephole_rewrites::Rewrite;
+use peephole_rewrites::{Rewrite, rewrite_tree_at_random};
 use peephole_rules::Rule;
 use peephole_terms::ResourceRequest;
 use rand_core::Rng;
@@ -17,13 +17,16 @@ use wasm_code::Function;
 use wasm_module::laws::entries_are_inside;
 use wasm_module::{Entry, Layout, ModuleError, WriteError, read_module, with_body};
 
+// The most functions that are drawn, one after another, before all are tried in order.
+const MOST_DRAWS: usize = 16;
+
 /// Why there is no new module.
 #[derive(Clone, Copy, Debug, PartialEq, Eq, ErrorTexts)]
 pub enum MutationError {
     /// The bytes are no module that can be read.
     #[error("{0}")]
     Read(ModuleError),
-    /// A stretch's graph, or the writer of its body, refused.
+    /// A tree is too large for a rule, the new code is refused, or no memory was left.
     #[error("{0}")]
     Rewrite(Error),
     /// A section doesn't fit its size, or no memory was left for the module.
@@ -31,14 +34,14 @@ pub enum MutationError {
     Write(WriteError),
 }
 
-/// A module with a node rewritten.
+/// A module with a tree rewritten.
 #[derive(Drop)]
 pub struct Mutated {
     /// The bytes of the new module.
     pub bytes: Vec<u8>,
     /// The function, by its index among all functions of the module, imported ones first.
     pub function: usize,
-    /// The operator of its body, the node of the operator's tree, and the rule.
+    /// The operator of its body whose tree is rewritten, and the rule.
     pub rewrite: Rewrite,
 }
 
@@ -78,7 +81,7 @@ fn locals_of(bytes: &[u8], entry: Entry, expression: usize) -> &[u8]
     &bytes[entry.contents..expression]
 }
 
-// The module with a node of its n-th code entry rewritten; none where no rule applies there.
+// The module with the tree of an operator of its n-th code entry rewritten; none where no rule applies there.
 fn mutate_entry<R: Rng + Drop>(
     alloc: Global,
     config: &mut WasmMutate<'_, R>,
@@ -88,7 +91,6 @@ fn mutate_entry<R: Rng + Drop>(
     n: usize,
 ) -> Result<Option<Mutated>, MutationError>
     requires set_up { IsTrue (is_some config.old.setup) }
-    requires preserving { config.old.preserving ≡ true }
     requires module { IfSome (info_of config.old) (λ info. IsModule bytes.now info layout.now) }
     requires inside { n < length layout.now.entries }
     ensures mutated { IfOk result (λ o. IfSome o (λ m. IfSome (info_of config.old) (λ info.
@@ -111,7 +113,7 @@ fn mutate_entry<R: Rng + Drop>(
         }
     };
     let mut body = Function::new(alloc);
-    let made = match rewrite_body_at_random(
+    let made = match rewrite_tree_at_random(
         alloc,
         config,
         &function.locals,
@@ -147,7 +149,6 @@ fn mutate_first<R: Rng + Drop>(
     to: usize,
 ) -> Result<Option<Mutated>, MutationError>
     requires set_up { IsTrue (is_some config.old.setup) }
-    requires preserving { config.old.preserving ≡ true }
     requires module { IfSome (info_of config.old) (λ info. IsModule bytes.now info layout.now) }
     requires inside { to ≤ length layout.now.entries }
     ensures mutated { IfOk result (λ o. IfSome o (λ m. IfSome (info_of config.old) (λ info.
@@ -168,17 +169,18 @@ fn mutate_first<R: Rng + Drop>(
     Ok(None)
 }
 
-// The same at any code entry: which one is tried first is chosen by a word drawn from the generator.
-fn mutate_any<R: Rng + Drop>(
+// The same at the first code entry where a rule applies, from `first` on, and then before it.
+fn mutate_in_order<R: Rng + Drop>(
     alloc: Global,
     config: &mut WasmMutate<'_, R>,
     rules: &[Rule],
     bytes: &[u8],
     layout: &Layout,
+    first: usize,
 ) -> Result<Option<Mutated>, MutationError>
     requires set_up { IsTrue (is_some config.old.setup) }
-    requires preserving { config.old.preserving ≡ true }
     requires module { IfSome (info_of config.old) (λ info. IsModule bytes.now info layout.now) }
+    requires inside { first ≤ length layout.now.entries }
     ensures mutated { IfOk result (λ o. IfSome o (λ m. IfSome (info_of config.old) (λ info.
         MutatesOne rules.now bytes.now info layout.now m.function m.rewrite m.bytes.items))) }
     ensures none { IfOk result (λ o. IfNone o (IfSome (info_of config.old) (λ info. (n : ℕ)
@@ -188,16 +190,46 @@ fn mutate_any<R: Rng + Drop>(
         × RefusesEntry rules.now bytes.now info layout.now n e)) }
 {
     let count = layout.entries.len();
-    if count == 0 {
-        return Ok(None);
-    }
-    let first = choose_below(config, count);
     match mutate_first(alloc, config, rules, bytes, layout, first, count) {
         Ok(Some(made)) => return Ok(Some(made)),
         Ok(None) => {}
         Err(e) => return Err(e),
     }
     mutate_first(alloc, config, rules, bytes, layout, 0, first)
+}
+
+// The same at any code entry: at the first of those that are drawn where a rule applies. Where none does of as many as may be drawn,
+// the entries are tried in order, from the one that was drawn last on.
+fn mutate_any<R: Rng + Drop>(
+    alloc: Global,
+    config: &mut WasmMutate<'_, R>,
+    rules: &[Rule],
+    bytes: &[u8],
+    layout: &Layout,
+) -> Result<Option<Mutated>, MutationError>
+    requires set_up { IsTrue (is_some config.old.setup) }
+    requires module { IfSome (info_of config.old) (λ info. IsModule bytes.now info layout.now) }
+    ensures mutated { IfOk result (λ o. IfSome o (λ m. IfSome (info_of config.old) (λ info.
+        MutatesOne rules.now bytes.now info layout.now m.function m.rewrite m.bytes.items))) }
+    ensures none { IfOk result (λ o. IfNone o (IfSome (info_of config.old) (λ info. (n : ℕ)
+        → n < length layout.now.entries → HasNoMutation rules.now bytes.now info layout.now n))) }
+    ensures refused { IfErr result (λ e. IfSome (info_of config.old) (λ info. (n : ℕ)
+        × (n < length layout.now.entries)
+        × RefusesEntry rules.now bytes.now info layout.now n e)) }
+{
+    if layout.entries.is_empty() {
+        return Ok(None);
+    }
+    let mut n = 0;
+    'draws: for _ in 0..MOST_DRAWS {
+        n = draw_entry(config, layout);
+        match mutate_entry(alloc, config, rules, bytes, layout, n) {
+            Ok(Some(made)) => return Ok(Some(made)),
+            Ok(None) => {}
+            Err(e) => return Err(e),
+        }
+    }
+    mutate_in_order(alloc, config, rules, bytes, layout, n)
 }
 
 // The same at the function with the index.
@@ -210,7 +242,6 @@ fn mutate_function<R: Rng + Drop>(
     function: usize,
 ) -> Result<Option<Mutated>, MutationError>
     requires set_up { IsTrue (is_some config.old.setup) }
-    requires preserving { config.old.preserving ≡ true }
     requires module { IfSome (info_of config.old) (λ info. IsModule bytes.now info layout.now) }
     ensures mutated { IfOk result (λ o. IfSome o (λ m. IfSome (info_of config.old) (λ info.
         (m.function ≡ function)
@@ -233,18 +264,23 @@ fn mutate_function<R: Rng + Drop>(
     mutate_entry(alloc, config, rules, bytes, layout, n)
 }
 
-/// The module with a node of a stretch of one of its functions rewritten by one of the rules, so that the stretch runs as before:
-/// wherever its own run ends or traps the new one does the same, apart from the globals that are appended. None where no
-/// rule applies in any of its functions; with `only`, in the function of that index among all functions, imported ones first.
-/// A function that can't be read, since it has operators or forms that aren't known here, is left alone.
+/// The module with the tree of an operator of one of its functions rewritten in its place by one of the rules: whatever stands
+/// before the tree and behind it, wherever its run with the tree ends or traps that with the new code does the same, apart from
+/// the globals that are appended (see `rewrite_tree`). None where no rule applies in any of its functions; with `only`, in the
+/// function of that index among all functions, imported ones first. A function that can't be read, since it has operators or forms
+/// that aren't known here, is left alone.
 ///
-/// Which function is tried first is chosen by a word drawn from the generator, then come those behind it and those before it; the
-/// stretch and the rewrite are chosen likewise. So equal modules, generators, rules and `only` give equal bytes.
+/// A function is drawn by its size: a word drawn from the generator, modulo the number of bytes that all code entries contain,
+/// names one of these bytes, and so the function whose entry contains it. Where no rule applies there, one is drawn again, at most
+/// 16 times in all; then the functions are tried in order, from the one that was drawn last on, and behind the last one those
+/// before it. The rewrite is drawn among all that there are of the function. So equal modules, generators, rules and `only` give
+/// equal bytes.
 ///
-/// The new bytes differ from the old ones in that function's body, the globals that are appended, and the sizes and numbers that
-/// stand before them. It takes time linear in the module.
+/// The new bytes differ from the old ones in the place of the tree, the globals that are appended, and the sizes and numbers that
+/// stand before them. It takes time linear in the module, and for each function that is drawn or tried in that function, times
+/// rules.
 ///
-/// Refused with `Read` as `read_module` refuses; `Rewrite` as `rewrite_block` refuses, where an index doesn't fit or for want of
+/// Refused with `Read` as `read_module` refuses; `Rewrite` as `rewrite_tree` refuses, where an index doesn't fit or for want of
 /// memory; `Write` as `with_body` refuses.
 pub fn mutate_module<R: Rng + Drop>(
     alloc: Global,
@@ -253,7 +289,7 @@ pub fn mutate_module<R: Rng + Drop>(
     rules: &[Rule],
     only: Option<usize>,
 ) -> Result<Option<Mutated>, MutationError>
-    // The new module is the old one with a node rewritten, and its stretch runs as before.
+    // The new module is the old one with an operator's tree rewritten in its place, and what stands round it runs as before.
     ensures mutated { IfOk result (λ o. IfSome o (λ m.
         IsMutated rules.now only bytes.now m.function m.rewrite m.bytes.items)) }
     // None only where no rewrite can be made.
@@ -267,7 +303,6 @@ pub fn mutate_module<R: Rng + Drop>(
     };
     let layout = module.layout;
     let mut config = WasmMutate::new();
-    config.preserve_semantics(true);
     config.set_up(module.info, generator);
     match only {
         None => mutate_any(alloc, &mut config, rules, bytes, &layout),

@@ -14,7 +14,7 @@ use std::alloc::{AllocError, Global};
 pub struct MadeRewrite {
     /// The function, by its index among all functions of the module, imported ones first.
     pub function: usize,
-    /// The operator of its body, the node of the operator's tree, and the rule.
+    /// The operator of its body whose tree was rewritten, and the rule.
     pub rewrite: Rewrite,
 }
 
@@ -54,7 +54,7 @@ pub fn mutate_times<R: Rng + Drop>(
     count: usize,
 ) -> Result<Option<RewrittenModule>, MutationError>
     requires some { 0 < count }
-    // The new module is the old one rewritten once or more, at most `count` times, each stretch of it running as before.
+    // The new module is the old one rewritten once or more, at most `count` times, and what stands round each tree runs as before.
     ensures mutated { IfOk result (λ o. IfSome o (λ m.
         Mutates rules.now only count bytes.now m.made.items m.bytes.items)) }
     // None only where no rule applies.

@@ -1,5 +1,5 @@
-//! Rewrites blocks of a WebAssembly module so that they run as before: a module comes in on standard input, and a rewritten one goes
-//! to standard output. `--list` and `--blocks` write lines about the module instead.
+//! Rewrites instructions of a WebAssembly module so that what stands round them runs as before: a module comes in on standard input,
+//! and a rewritten one goes to standard output. `--list` and `--blocks` write lines about the module instead.
 //!
 //! Exit status: 0 on success, and for `--help` and `--version`; 2 where nothing applies, also where `--function` names no function
 //! of the module's own, or an import isn't known and so no function's index is; 1 where the module is refused, the input can't be

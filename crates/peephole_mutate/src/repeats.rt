@@ -1,11 +1,31 @@
-//! Rewrites of a small module, one after another.
+//! Rewrites of small modules, one after another, and the functions that are drawn.
 
 use crate::refused_modules::{SUM, TURNED};
+use mutate_base::Words;
 use peephole_modules::{mutate_times, mutate_with_seed};
 use peephole_rules::{RULES, Rule};
 use rand::rngs::StdRng;
 use rand_core::SeedableRng;
 use std::test::Fail;
+
+/// Functions whose entries contain 7, 10 and 4 bytes. The first two add their parameters, the last one answers its first one.
+const THREE: &[u8] = b"\0asm\x01\0\0\0\x01\x07\x01\x60\x02\x7f\x7f\x01\x7f\x03\x04\x03\0\0\0\
+    \x0a\x19\x03\x07\0\x20\0\x20\x01\x6a\x0b\x0a\0\x20\0\x20\x01\x6a\x1a\x20\0\x0b\x04\0\x20\0\x0b";
+
+/// Words, and the function whose operands they turn: the first word whose remainder by 21 names a byte of one that adds says
+/// which, or else, where the first 16 words don't, the next function that adds.
+const DRAWS: &str = "
+0 | 0
+6 | 0
+7 | 1
+16 | 1
+27 | 0
+28 | 1
+17 7 | 1
+20 38 6 | 0
+17 17 17 17 17 17 17 17 17 17 17 17 17 17 17 7 | 1
+17 17 17 17 17 17 17 17 17 17 17 17 17 17 17 17 7 | 0
+";
 
 /// The only rewrite that there is, once and thrice.
 #[test]
@@ -36,6 +56,25 @@ fn rewrites_twice(rt: HostRuntime) -> Result<(), Fail> {
         let both = both.ok_or("two rewrites")?;
         assert!(rt; both.bytes == again.bytes, "seed {seed}");
         assert!(rt; both.made.len() == 2);
+    }
+    Ok(())
+}
+
+#[test]
+fn draws_functions_by_their_sizes(rt: HostRuntime) -> Result<(), Fail> {
+    let alloc = rt.alloc();
+    for case in DRAWS.trim().lines() {
+        let (words, function) = case.split_once('|').ok_or("no function")?;
+        let mut list = Vec::new(alloc);
+        for word in words.split_whitespace() {
+            list.push(word.parse::<u64>()?)?;
+        }
+        let function = function.trim().parse::<usize>()?;
+        let generator = Words::new(list);
+        let new = mutate_times(alloc, THREE, generator, &[Rule::Commute], None, 1)?;
+        let new = new.ok_or("a rewrite")?;
+        let made = new.made.first().ok_or("no rewrite")?;
+        assert!(rt; made.function == function, "{case}");
     }
     Ok(())
 }

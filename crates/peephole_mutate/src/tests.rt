@@ -3,7 +3,8 @@
 use crate::refused_modules::{SUM, TURNED};
 use failing_devices::{FailingReader, FailingWriter};
 use peephole_module_commands::{Failure, Options, options_of, rule_names, run};
-use std::alloc::Global;
+use peephole_rules::{RULES, Rule};
+use std::alloc::{AllocError, Global};
 use std::io::Write;
 use std::process::Abort;
 use std::str::Lines;
@@ -26,13 +27,23 @@ const TABLE: &[u8] =
     b"\0asm\x01\0\0\0\x01\x09\x02\x60\0\0\x60\x02\x7f\x7f\0\x03\x02\x01\x01\x04\x04\x01\x70\0\x01\
     \x0a\x15\x01\x13\0\x20\0\x20\x01\x6a\x1a\x41\0\x11\0\0\x20\0\x41\x02\x6c\x1a\x0b";
 
-/// Words of the command line, and the task, the seed, the count, the function, whether there are statistics, and of the rules
-/// the number, the first and the last; or the kind of the error.
+/// A function of two i32 that takes the sum of both from what a call through a table answers, `i32.sub` its last operator.
+const BEHIND_CALL: &[u8] =
+    b"\0asm\x01\0\0\0\x01\x0b\x02\x60\0\x01\x7f\x60\x02\x7f\x7f\x01\x7f\x03\x02\x01\x01\x04\x04\x01\x70\0\x01\
+    \x0a\x0f\x01\x0d\0\x41\0\x11\0\0\x20\0\x20\x01\x6a\x6b\x0b";
+
+/// The same with the sum's operands the other way round.
+const BEHIND_CALL_TURNED: &[u8] =
+    b"\0asm\x01\0\0\0\x01\x0b\x02\x60\0\x01\x7f\x60\x02\x7f\x7f\x01\x7f\x03\x02\x01\x01\x04\x04\x01\x70\0\x01\
+    \x0a\x0f\x01\x0d\0\x41\0\x11\0\0\x20\x01\x20\0\x6a\x6b\x0b";
+
+/// Words of the command line, and the task, the seed, the count, the function, whether there are statistics, and the rules: all,
+/// or the number, the first and the last; or the kind of the error.
 const OPTIONS: &str = "
-| Rewrite 0 1 None false 33 Some(Commute) Some(Forget)
+| Rewrite 0 1 None false all
 --seed=7 --count 3 --function 2 --rule fold --rule commute --stats | Rewrite 7 3 Some(2) true 2 Some(Fold) Some(Commute)
---list | List 0 1 None false 33 Some(Commute) Some(Forget)
---blocks | Blocks 0 1 None false 33 Some(Commute) Some(Forget)
+--list | List 0 1 None false all
+--blocks | Blocks 0 1 None false all
 --rule melt | InvalidValue
 --count 0 | ValueValidation
 --list --blocks | ArgumentConflict
@@ -45,30 +56,36 @@ const RUNS: &str = "
 --rule commute --stats | SUM | Ok(())
 > TURNED
 ! functions 1 unreadable 0
-! function 0 operator 2 node 2 rule commute
+! function 0 operator 2 rule commute
 ! bytes 32 new 32
 
 --rule commute --count 2 | SUM | Ok(())
 > SUM
 
 --list --rule commute | SUM | Ok(())
-> function 0 operator 2 node 2 rule commute
+> function 0 operator 2 rule commute
 
 --blocks | SUM | Ok(())
 > function 0 block 0..3
 
 --list --rule commute | TABLE | Ok(())
-> function 0 operator 3 node 2 rule commute
-> function 0 operator 9 node 2 rule commute
+> function 0 operator 2 rule commute
+> function 0 operator 8 rule commute
 
 --blocks | TABLE | Ok(())
 > function 0 block 0..10, no graph: operator 5 call_indirect
+
+--list --rule commute | BEHIND_CALL | Ok(())
+> function 0 operator 4 rule commute
+
+--rule commute | BEHIND_CALL | Ok(())
+> BEHIND_CALL_TURNED
 
 --rule commute --stats | STRUCTURE | Ok(())
 > STRUCTURE_TURNED
 ! function 1 UnknownForm at 17
 ! functions 2 unreadable 1
-! function 0 operator 2 node 2 rule commute
+! function 0 operator 2 rule commute
 ! bytes 40 new 40
 
 --stats | REFERENCE | Err(Nothing)
@@ -93,6 +110,8 @@ fn module_of(name: &str) -> Option<&'static [u8]> {
         "SUM" => Some(&SUM),
         "TURNED" => Some(&TURNED),
         "TABLE" => Some(TABLE),
+        "BEHIND_CALL" => Some(BEHIND_CALL),
+        "BEHIND_CALL_TURNED" => Some(BEHIND_CALL_TURNED),
         "STRUCTURE" => Some(STRUCTURE),
         "STRUCTURE_TURNED" => Some(STRUCTURE_TURNED),
         "REFERENCE" => Some(REFERENCE),
@@ -110,6 +129,15 @@ fn options(alloc: Global, line: &str) -> Result<Options, clap::Error> {
     options_of(alloc, &rule_names(alloc)?, &words)
 }
 
+/// The rules of options.
+fn rules_text(alloc: Global, rules: &[Rule]) -> Result<String, AllocError> {
+    if rules == RULES.as_slice() {
+        return format!(in alloc; "all");
+    }
+    let (first, last) = (rules.first(), rules.last());
+    format!(in alloc; "{} {first:?} {last:?}", rules.len())
+}
+
 #[test]
 fn reads_options(rt: HostRuntime) -> Result<(), Fail> {
     let alloc = rt.alloc();
@@ -117,16 +145,10 @@ fn reads_options(rt: HostRuntime) -> Result<(), Fail> {
         let (line, wanted) = case.split_once('|').ok_or("no options")?;
         let text = match options(alloc, line) {
             Ok(found) => {
-                let (rules, stats) = (&found.rules, found.stats);
+                let rules = rules_text(alloc, &found.rules)?;
                 format!(in alloc;
-                    "{:?} {} {} {:?} {stats} {} {:?} {:?}",
-                    found.task,
-                    found.seed,
-                    found.count,
-                    found.function,
-                    rules.len(),
-                    rules.first(),
-                    rules.last()
+                    "{:?} {} {} {:?} {} {rules}",
+                    found.task, found.seed, found.count, found.function, found.stats
                 )?
             }
             Err(error) => format!(in alloc; "{:?}", error.kind())?,

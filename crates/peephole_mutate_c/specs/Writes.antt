@@ -4,7 +4,7 @@ use Rattle.peephole_rules.specs.declared.rule.Rule.{Rule}
 use Rattle.peephole_rewrites.specs.declared.rewrite.Rewrite.{Rewrite}
 use Rattle.peephole_modules.specs.Mutated.{IsMutated}
 
--- The new bytes are those of a module with a node of a block of one of its functions rewritten, so that the block runs as before.
+-- The new bytes are those of a module with the tree of an operator of one of its functions rewritten in its place; what stands round it runs as before.
 pub record IsRewrittenOnce (rules : List Rule) (bytes new : List ℕ) : Type 0 where
   pub function : ℕ
   pub rewrite : Rewrite

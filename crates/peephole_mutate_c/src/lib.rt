@@ -1,4 +1,4 @@
-//! The call by which C and other languages rewrite a block of a module so that it runs as before.
+//! The call by which C and other languages rewrite some instructions of a module so that what stands round them runs as before.
 #![tactic(auto)]
 
 ghost use Rattle.std.specs.Prelude.{◌≡◌, ◌≢◌, ◌<◌, ◌≤◌, length, take, drop, IfSome};
@@ -36,7 +36,7 @@ pub extern "C" fn teddertempo_mutate_module(
 ) -> usize
     // Without a new module the buffer stays as it was.
     ensures untouched { result ≡ 0 → buffer.new ≡ buffer.old }
-    // Else the new module is the old one with a node rewritten, and its block runs as before.
+    // Else the new module is the old one with an operator's tree rewritten in its place, and what stands round it runs as before.
     ensures mutated { result ≢ 0
         → IsRewrittenOnce RULES (take size buffer.old) (take result buffer.new) }
     ensures whole { result ≢ 0 → size ≤ length buffer.old }

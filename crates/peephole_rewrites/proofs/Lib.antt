@@ -1,7 +1,11 @@
-pub mod TreeTypeLemmas
 pub mod TypeLemmas
-pub mod MadeLemmas
-pub mod RootLemmas
+pub mod TermLemmas
+pub mod SameLemmas
+pub mod TreesLemmas
+pub mod InnerLemmas
+pub mod LayLemmas
+pub mod PassLemmas
 pub mod GrowsLemmas
-pub mod RunLemmas
-pub mod ChosenLemmas
+pub mod MakesLemmas
+pub mod MadeLemmas
+pub mod RewrittenLemmas

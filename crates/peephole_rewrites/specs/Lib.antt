@@ -1,3 +1,5 @@
 pub mod PlainTypes
 pub mod Rewriting
-pub mod Making
+pub mod Trees
+pub mod Growing
+pub mod Made

@@ -1,7 +1,6 @@
 -- The types that a tree of instructions leaves, where each operand leaves one value (this project; operand and result types:
 -- WebAssembly Core Specification 3.0, Validation, Instructions).
-use Rattle.std.specs.Prelude.{◌≡◌, ℕ, List, [], ◌∷◌, Option, Some, None, option_map, option_and_then, get_or}
-use Rattle.std.specs.Option.{option_flatten}
+use Rattle.std.specs.Prelude.{◌≡◌, List, [], ◌∷◌, Option, Some, None, option_map, option_and_then}
 use Rattle.wasm_code.specs.Instruction.{Instruction}
 use Rattle.mutate_base.specs.declared.types.PrimitiveTypeInfo.{PrimitiveTypeInfo}
 use Rattle.peephole_lang.specs.declared.lang.Head.{Head}
@@ -34,11 +33,6 @@ abbrev mutual
   operand_types context no_terms = Some []
   operand_types context (t ▸ ts) =
       option_and_then (λ u. option_map (λ us. u ∷ us) (operand_types context ts)) (the_one (plain_types context t))
-
--- the operands' types by their places, where `types` says what each node leaves
-abbrev pub operands_at : (types : List (Option (Option PrimitiveTypeInfo))) → List ℕ → Option (List PrimitiveTypeInfo)
-operands_at types [] = Some []
-operands_at types (i ∷ is) = option_and_then (λ u. option_map (λ us. u ∷ us) (operands_at types is)) (option_flatten (get_or types i None))
 
 -- They are the term's types, and it draws no word.
 abbrev pub PlainTypesAreTypes : Type 0

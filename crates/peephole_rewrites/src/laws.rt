@@ -4,7 +4,7 @@ ghost use Rattle.peephole_rewrites.specs.PlainTypes.{PlainTypesAreTypes};
 
 use peephole_terms::laws::nodes_mean_by_their_rows;
 
-/// The plain types of a term are its types, and it draws no word.
+/// A term's plain types are its types, and it draws no word.
 pub fn plain_types_are_types()
     ensures { PlainTypesAreTypes }
 {

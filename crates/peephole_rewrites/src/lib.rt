@@ -1,15 +1,16 @@
-//! Blocks rewritten by rules: which rewrites there are, and each of them written, so that the block runs as before.
+//! Trees rewritten by rules in their place: which of a body's operators have a tree, which rules may rewrite it, and the body with
+//! the new code there, which runs as before whatever stands round it.
 #![tactic(auto)]
 
-mod block;
-mod graph;
 pub mod laws;
+mod random;
 mod rewrite;
 mod rewrites;
+mod splice;
 mod tree;
-mod tree_types;
+mod trees;
 
-pub use block::{Rewritten, rewrite_block, rewrite_block_at_random};
+pub use random::{Rewritten, rewrite_tree_at_random};
 pub use rewrite::Rewrite;
-pub use rewrites::rewrites_of_block;
-pub use tree_types::plain_types;
+pub use rewrites::rewrites_of_body;
+pub use splice::rewrite_tree;

@@ -1,48 +1,115 @@
-//! Every rewrite that there is of a block.
-ghost use Rattle.std.specs.Prelude.{◌≡◌, ◌≤◌, [], length, IfOk, IfErr, IfSome, IsTrue, is_some};
-ghost use Rattle.mutate_base.specs.Config.{info_of};
+//! Every rewrite that there is of a body.
+ghost use Rattle.std.specs.Prelude.{◌≡◌, ◌↔◌, ◌<◌, ◌≤◌, length, map, IfOk, OnOk, IfErr, IsTrue};
+ghost use Rattle.wasm_code.specs.Instruction.{Instruction};
 ghost use Rattle.mutate_base.specs.declared.error.Error.{Error};
-ghost use Rattle.peephole_graphs.specs.Block.{IsBlockIn};
-ghost use Rattle.peephole_graphs.specs.Dfg.{graph_of};
-ghost use Rattle.peephole_graphs.specs.GraphOf.{IsRefused};
-ghost use Rattle.peephole_graphs.specs.Source.{source_of};
 ghost use Rattle.peephole_machine.specs.Values.{context_in};
-ghost use Rattle.peephole_rules.specs.Flags.{AreEffects};
-ghost use Rattle.peephole_rewrites.specs.Making.{Grows, IsAtNode, IsAtNodeBefore, IsAtRoot, IsInRange};
-ghost use Rattle.peephole_rewrites.specs.Rewriting.{AreTheRewrites};
+ghost use Rattle.peephole_terms.specs.Spliced.{some_operator};
+ghost use Rattle.peephole_rewrites.specs.Growing.{Grows, IsAt};
+ghost use Rattle.peephole_rewrites.specs.Rewriting.{AreTheRewrites, IsMade};
+ghost use Rattle.peephole_rewrites.specs.Made.{AreRewritten};
+ghost use Rattle.peephole_rewrites.specs.Trees.{AreInstructions, HaveSame, IsFound, IsTheInstruction};
 
-use crate::graph::ordered_graph;
 use crate::rewrite::Rewrite;
-use crate::tree::typed_tree;
-use mutate_base::{Error, ModuleInfo, PrimitiveTypeInfo, WasmMutate};
-use peephole_graphs::laws::entries_have_trees;
-use peephole_graphs::{BBlock, MiniDFG};
-use peephole_lang::{Lang, RecExpr};
-use peephole_rules::{Effects, Rule};
-use std::alloc::Global;
-use wasm_code::OperatorAndByteOffset;
+use crate::trees::{Found, Trees};
+use mutate_base::{Error, ModuleInfo, PrimitiveTypeInfo};
+use peephole_rules::Rule;
+use peephole_rules::laws::terms_are_read_alike;
+use std::alloc::{AllocError, Global};
+use wasm_code::{Instr, Operator, OperatorAndByteOffset};
 
-// Adds those of one node of the operator's tree.
-fn add_of_node(
+// Whether the instructions are the same.
+fn are_equal(one: &Instr, other: &Instr) -> bool
+    ensures { IsTrue result ↔ (one.now ≡ other.now) }
+{
+    let same_row = one.row() == other.row();
+    let same_imm = one.imm() == other.imm();
+    same_row && same_imm
+}
+
+// Whether the operators are the same instruction.
+fn is_same(some: &Operator, other: &Operator) -> bool
+    ensures same { IsTrue result → some.now ≡ other.now }
+    ensures only { (i : Instruction) → IsTheInstruction some.now i → IsTheInstruction other.now i
+        → IsTrue result }
+{
+    match (some, other) {
+        (Operator::Instr(one), Operator::Instr(another)) => are_equal(one, another),
+        _ => false,
+    }
+}
+
+// Whether the operators are the same instructions, one by one.
+fn are_same(some: &[OperatorAndByteOffset], others: &[OperatorAndByteOffset]) -> bool
+    ensures same { IsTrue result → map some_operator some.now ≡ map some_operator others.now }
+    ensures only { AreInstructions some.now
+        → map some_operator some.now ≡ map some_operator others.now → IsTrue result }
+{
+    if some.len() != others.len() {
+        return false;
+    }
+    for i in 0..some.len() {
+        if !is_same(&some[i].0, &others[i].0) {
+            return false;
+        }
+    }
+    true
+}
+
+// Whether the operators of the two operands are the same, of a tree of two operands.
+fn has_same_operands(operators: &[OperatorAndByteOffset], found: &Found, at: usize) -> bool
+    requires inside { at < length operators.now }
+    requires ordered { (found.now.start ≤ found.now.second) × (found.now.second ≤ at) }
+    ensures { HaveSame operators.now found.now.start found.now.second at result }
+{
+    are_same(
+        &operators[found.start..found.second],
+        &operators[found.second..at],
+    )
+}
+
+/// Whether the rule makes something of the tree: it has an answer, and not by changing places of operands that are the same.
+pub(crate) fn is_made(
+    locals: &[PrimitiveTypeInfo],
+    info: &ModuleInfo<'_>,
+    operators: &[OperatorAndByteOffset],
+    found: &Found,
+    rule: Rule,
+    at: usize,
+) -> bool
+    requires { IsFound (context_in info.now locals.now) operators.now at found.now }
+    ensures made { IsTrue result ↔ IsMade (context_in info.now locals.now) operators.now
+        (record { operator = at; rule = rule }) }
+    ensures rewritten { IsTrue result
+        → AreRewritten (context_in info.now locals.now) operators.now at rule }
+{
+    terms_are_read_alike();
+    if !rule.applies_to(&found.shape) {
+        return false;
+    }
+    match rule {
+        Rule::Commute => !has_same_operands(operators, found, at),
+        _ => true,
+    }
+}
+
+// Adds those of the operator's tree.
+fn add_of_tree(
     locals: &[PrimitiveTypeInfo],
     info: &ModuleInfo<'_>,
     rules: &[Rule],
-    effects: &Effects,
-    tree: &RecExpr<Lang>,
+    operators: &[OperatorAndByteOffset],
+    found: &Found,
     at: usize,
-    node: usize,
     list: &mut Vec<Rewrite>,
-) -> Result<(), Error>
-    requires effects { AreEffects effects.now tree.now }
-    ensures grown { IfOk result (λ _. Grows list.old.items list.new.items
-        (IsAtNode (context_in info.now locals.now) rules.now at node tree.now)) }
-    ensures refused { IfErr result (λ e. e ≡ Error.Memory) }
+) -> Result<(), AllocError>
+    requires { IsFound (context_in info.now locals.now) operators.now at found.now }
+    ensures { OnOk result (Grows list.old.items list.new.items
+        (IsAt (context_in info.now locals.now) rules.now operators.now at)) }
 {
     for rule in rules {
-        if rule.applies(locals, info, effects, tree, node) {
+        if is_made(locals, info, operators, found, *rule, at) {
             list.push(Rewrite {
-                insertion_point: at,
-                node,
+                operator: at,
                 rule: *rule,
             })?;
         }
@@ -50,106 +117,29 @@ fn add_of_node(
     Ok(())
 }
 
-// Adds those of all nodes of the operator's tree.
-fn add_of_tree(
-    alloc: Global,
-    locals: &[PrimitiveTypeInfo],
-    info: &ModuleInfo<'_>,
-    rules: &[Rule],
-    tree: &RecExpr<Lang>,
-    at: usize,
-    list: &mut Vec<Rewrite>,
-) -> Result<(), Error>
-    ensures grown { IfOk result (λ _. Grows list.old.items list.new.items
-        (IsAtNodeBefore (context_in info.now locals.now) rules.now at (length tree.now) tree.now)) }
-    ensures refused { IfErr result (λ e. e ≡ Error.Memory) }
-{
-    let effects = Effects::of(alloc, tree)?;
-    for node in 0..tree.len() {
-        add_of_node(locals, info, rules, &effects, tree, at, node, list)?;
-    }
-    Ok(())
-}
-
-// Adds those of the operator, where that is a root and its tree has types.
-fn add_of_root(
-    alloc: Global,
-    locals: &[PrimitiveTypeInfo],
-    info: &ModuleInfo<'_>,
-    rules: &[Rule],
-    graph: &MiniDFG,
-    at: usize,
-    list: &mut Vec<Rewrite>,
-) -> Result<(), Error>
-    ensures grown { IfOk result (λ _. Grows list.old.items list.new.items
-        (IsAtRoot (context_in info.now locals.now) rules.now (graph_of graph.now) at)) }
-    ensures refused { IfErr result (λ e. e ≡ Error.Memory) }
-{
-    let Some(tree) = typed_tree(alloc, locals, info, graph, at)? else {
-        return Ok(());
-    };
-    add_of_tree(alloc, locals, info, rules, &tree, at, list)?;
-    Ok(())
-}
-
-// Those of the operators from `start` on, before `end`.
-pub(crate) fn rewrites_in_range(
-    alloc: Global,
-    locals: &[PrimitiveTypeInfo],
-    info: &ModuleInfo<'_>,
-    rules: &[Rule],
-    graph: &MiniDFG,
-    start: usize,
-    end: usize,
-) -> Result<Vec<Rewrite>, Error>
-    requires { start ≤ end }
-    ensures rewrites { IfOk result (λ list. Grows [] list.items
-        (IsInRange (context_in info.now locals.now) rules.now (graph_of graph.now) start end)) }
-    ensures refused { IfErr result (λ e. e ≡ Error.Memory) }
-{
-    let mut list = Vec::new(alloc);
-    for at in start..end {
-        add_of_root(alloc, locals, info, rules, graph, at, &mut list)?;
-    }
-    Ok(list)
-}
-
-/// Every rewrite of the block by one of the rules, in the order of the insertion points, the nodes and the rules. `block` is a
-/// range of the body's operators without a delimiter, such as the block of one of them. `locals` are the types of the function's
-/// locals, and the configuration is set up with what is known of the body's module.
+/// Every rewrite of a body by one of the rules, in the order of the operators and the rules: of each operator whose tree has
+/// types, whatever stands round it. `locals` are the types of the function's parameters and locals. There are at most as many as
+/// there are operators, times rules.
 ///
-/// There are none where the block's trees don't lie one after another. The list has at most as many rewrites as there are operators, times rules.
-///
-/// Refused as `get_dfg` refuses, where an index or a colour doesn't fit (`TooLarge`), and for want of memory (`Memory`).
-pub fn rewrites_of_block<R: Drop>(
+/// No tree is laid out: it takes time linear in the body, times rules, but for operands of one operator that are as long as one
+/// another, which are compared. The only error is `Memory`: an allocation was refused.
+pub fn rewrites_of_body(
     alloc: Global,
-    config: &WasmMutate<'_, R>,
     locals: &[PrimitiveTypeInfo],
+    info: &ModuleInfo<'_>,
     rules: &[Rule],
     operators: &[OperatorAndByteOffset],
-    block: &BBlock,
 ) -> Result<Vec<Rewrite>, Error>
-    requires set_up { IsTrue (is_some config.now.setup) }
-    requires block { IsBlockIn operators.now block.now }
-    ensures rewrites { IfOk result (λ list. IfSome (info_of config.now) (λ info.
-        AreTheRewrites locals.now
-        (source_of info config.now.preserving operators.now block.now) rules.now list.items)) }
-    ensures refused { IfErr result (λ e. IfSome (info_of config.now) (λ info.
-        IsRefused (source_of info config.now.preserving operators.now block.now) e)) }
+    ensures rewrites { IfOk result (λ list. AreTheRewrites (context_in info.now locals.now)
+        rules.now operators.now list.items) }
+    ensures refused { IfErr result (λ e. e ≡ Error.Memory) }
 {
-    entries_have_trees();
-    let Some(graph) = ordered_graph(alloc, config, operators, block)? else {
-        return Ok(Vec::new(alloc));
-    };
-    let range = block.range();
-    let list = rewrites_in_range(
-        alloc,
-        locals,
-        config.info(),
-        rules,
-        &graph,
-        range.start,
-        range.end,
-    )?;
+    let mut trees = Trees::new(alloc);
+    let mut list = Vec::new(alloc);
+    for at in 0..operators.len() {
+        if let Some(found) = trees.next(locals, info, operators, at)? {
+            add_of_tree(locals, info, rules, operators, &found, at, &mut list)?;
+        }
+    }
     Ok(list)
 }

@@ -15,6 +15,7 @@ use Rattle.peephole_rules.specs.Grafted.{expression_nodes, term_at, grafted}
 use Rattle.peephole_rules.specs.Replacement.{term_by, CanReplace, IsAnswer}
 use Rattle.peephole_rules.specs.Laws.{RulesKeepMeaning}
 use Rattle.peephole_rules.proofs.StandingLemmas.{with_stands}
+use Rattle.peephole_rules.proofs.ChoiceLemmas.{has_answer}
 
 module _ (context : Context) (r : Rule) (nodes : List Lang) (at : ℕ) where
   pub none_past : (lent : List Lang) → lent ≡ nodes → length lent ≤ at → None ≡ option_map (grafted nodes at) (rewrite_at context r nodes at)
@@ -56,11 +57,8 @@ within lent nodes at same l = subst (λ (ns : List Lang). at < length ns) same l
 pub is_answered : (context : Context) (r : Rule) (nodes : List Lang) (at : ℕ) (o : Option Replacement) → at < length nodes →
     IsAnswer o (term_at nodes at) (rewrite context r (term_at nodes at)) → is_some o ≡ is_some (rewrite_at context r nodes at)
 is_answered context r nodes at o l a =
-    mapped (λ p. term_by p (term_at nodes at)) o ∙ ap (λ (v : Option (Term Head)). is_some v) (a.term ∙ sym (inside context r nodes at l))
-  where
-    mapped : {A B : Type 0} (f : A → B) (o : Option A) → is_some o ≡ is_some (option_map f o)
-    mapped f None = refl
-    mapped f (Some x) = refl
+    has_answer o (term_at nodes at) (rewrite context r (term_at nodes at)) a
+    ∙ ap (λ (v : Option (Term Head)). is_some v) (sym (inside context r nodes at l))
 
 pub not_answered : (context : Context) (r : Rule) (nodes : List Lang) (at : ℕ) → length nodes ≤ at →
     false ≡ is_some (rewrite_at context r nodes at)

@@ -1,9 +1,10 @@
 -- What a rule puts in the place of a node of a shape makes of the node's term what the rule does.
-use Rattle.std.proofs.Common.{◌≡◌, ℕ, ◌-◌, ◌%◌, ◌^◌, Bool, true, false, List, [], ◌∷◌, Option, Some, None, refl, sym, ap, subst}
-use Rattle.std.specs.Prelude.{◌==◌, nat_lt, if◌then◌else◌, option_map, option_and_then}
+use Rattle.std.proofs.Common.{◌≡◌, ℕ, ◌+◌, ◌-◌, ◌%◌, ◌^◌, ◌<◌, Bool, true, false, List, [], ◌∷◌, Option, Some, None, refl, sym, ap, ◌∙◌, subst, arith}
+use Rattle.std.specs.Prelude.{◌==◌, ◌&&◌, not, nat_lt, if◌then◌else◌, is_some, option_map, option_and_then}
 use Rattle.std.specs.Int.{w32, w64, cast_signed, cast_unsigned}
-use Rattle.std.proofs.lemmas.Bool.{eqb-true}
-use Rattle.std.proofs.Math.Nat.{mod-mod}
+use Rattle.std.proofs.lemmas.Bool.{eqb-true, ltb-true}
+use Rattle.std.proofs.Math.Nat.{mod-eq_of_lt, mod-mod}
+use Rattle.std.proofs.lemmas.Nat.{pow_pos}
 use mir.Val.{bits}
 use Rattle.mutate_base.specs.declared.types.PrimitiveTypeInfo.{PrimitiveTypeInfo}
 use Rattle.peephole_nodes.specs.declared.payload.Payload.{Payload}
@@ -19,16 +20,17 @@ use Rattle.peephole_machine.specs.Computed.{kept, computed}
 use Rattle.peephole_rules.specs.declared.rule.Rule.{Rule}
 use Rattle.peephole_rules.specs.declared.rule.Rule.TheVariants as rule
 use Rattle.peephole_rules.specs.declared.replacement.Replacement.{Replacement}
-use Rattle.peephole_rules.specs.declared.replacement.Replacement.TheVariants.{Swap, Turn, GroupLeft, GroupRight, Twice, First, FirstWith, FirstBy, TurnSelect, Empty, Number}
-use Rattle.peephole_rules.specs.Operator.{opcode_byte, type_by, turned, of_type, operator, constant_number, number_in, within_width, constant_term, numbered, one, two, unfold_head}
-use Rattle.peephole_rules.specs.Effects.{writes, asks}
-use Rattle.peephole_rules.specs.Rewriting.{answer_if, commute, turn_comparison, turn_select, associate_left, associate_right, with_constant, with_ones, with_itself, all_ones, lowest_bit, of_constant, by_its_type, by_way_of_global, unfold_constant, type_of_constant, forget, numbers_of_types, fold, test_to_comparison, comparison_to_test, negated, rewrite}
+use Rattle.peephole_rules.specs.declared.replacement.Replacement.TheVariants.{Swap, Turn, GroupLeft, GroupRight, Twice, First, FirstWith, FirstBy, TurnSelect, Empty, Number, FirstTwice, Drawn, Negated, FirstByBoth, ByBoth, InnerBy, Distribute, FirstWithBoth}
+use Rattle.peephole_rules.specs.declared.shape.Operand.{Operand}
+use Rattle.peephole_rules.specs.Operator.{opcode_byte, type_by, turned, of_type, operator, constant_number, number_in, within_width, constant_term, numbered, one, two, unfold_head, opposite_of, are_same, bits_left_out}
+use Rattle.peephole_rules.specs.Effects.{writes, asks, may_trap}
+use Rattle.peephole_rules.specs.Rewriting.{answer_if, commute, turn_comparison, turn_select, associate_left, associate_right, with_constant, with_ones, with_itself, all_ones, lowest_bit, of_constant, by_its_type, by_way_of_global, unfold_constant, type_of_constant, forget, numbers_of_types, fold, test_to_comparison, comparison_to_test, negated, rewrite, remainder_to_mask, mask_to_remainder, as_double, element_alone, typed_constant, behind_drawn, negate_comparison, difference_to_tests, wrap_extended, drop_negation, in_parts, extension_to_shifts}
 use Rattle.peephole_rules.specs.ValueTypes.{integer_of, type_of_value}
 use Rattle.peephole_rules.specs.Shape.{operand_of, operands_of, opcode_of, shape_of}
 use Rattle.peephole_rules.specs.Replacement.{term_by, IsBinary, CanReplace, IsAnswer}
-use Rattle.peephole_rules.specs.Choice.{number_of, number_behind, swap, turn, group_left, group_right, with_number, with_all_ones, complements, twice, without, comparison, opposite, with_opposite, lowest_place, constant_type, unfolded, through_global, forgotten, typed_number, on_one, on_two, folded, choice}
+use Rattle.peephole_rules.specs.Choice.{number_of, number_behind, swap, turn, group_left, group_right, with_number, with_all_ones, complements, twice, without, comparison, opposite, with_opposite, lowest_place, with_power, with_place, with_mask, with_divisor, with_rest, constant_type, unfolded, through_global, forgotten, typed_number, on_one, on_two, folded, choice, by_first, double, alone, drawn, both_tests, wrapped, unnegated, part, distributed, shifts}
 use Rattle.peephole_rules.specs.Choice as choice_of
-use Rattle.peephole_rules.proofs.TurnedLemmas.{turned_binary, is_written, is_test}
+use Rattle.peephole_rules.proofs.TurnedLemmas.{turned_binary, is_written, is_test, opposite_binary, is_extension, is_wrap}
 
 -- ---- answers
 
@@ -41,6 +43,14 @@ answered r x f = record { term = refl; fits = f }
 answered_if : (b : Bool) (r : Replacement) (x : Term Head) → CanReplace r x → IsAnswer (answer_if b r) x (answer_if b (term_by r x))
 answered_if true r x f = answered r x f
 answered_if false r x f = no_answer x
+
+-- whether there is one
+pub has_answer : (o : Option Replacement) (x : Term Head) (u : Option (Term Head)) → IsAnswer o x u → is_some o ≡ is_some u
+has_answer o x u a = mapped (λ p. term_by p x) o ∙ ap (λ (v : Option (Term Head)). is_some v) a.term
+  where
+    mapped : {A B : Type 0} (f : A → B) (o : Option A) → is_some o ≡ is_some (option_map f o)
+    mapped f None = refl
+    mapped f (Some x) = refl
 
 -- where both go by the same option
 each_some : {A : Type 0} (o : Option A) (x : Term Head) (f : A → Option Replacement) (g : A → Option (Term Head)) →
@@ -244,38 +254,77 @@ opposed integer.I64 n k = go (n == 0) refl
     go true e = sym (ap (negated integer.I64) (eqb-true n 0 e))
     go false e = refl
 
+mapped_by : (f : IntegerType × ℕ → Replacement) (o : Option (IntegerType × ℕ)) → option_and_then (λ v. Some (f v)) o ≡ option_map f o
+mapped_by f None = refl
+mapped_by f (Some v) = refl
+
 opposite_behind : (a b c d : ℕ) → IsBinary c → IsBinary d → (x : Term Head) →
     IsAnswer (with_opposite c d (number_behind a b (opcode_of x) (operands_of x))) x
     (of_constant a b (λ t y n. Some (two (operator (of_type t c d)) y (negated t n))) x)
 opposite_behind a b c d p q x =
     subst (λ o. IsAnswer o x (of_constant a b (λ t y n. Some (two (operator (of_type t c d)) y (negated t n))) x))
-    (mapped (λ (v : IntegerType × ℕ). FirstWith (of_type v.0 c d) v.0 (opposite v.0 v.1)) (number_behind a b (opcode_of x) (operands_of x)))
+    (mapped_by (λ (v : IntegerType × ℕ). FirstWith (of_type v.0 c d) v.0 (opposite v.0 v.1)) (number_behind a b (opcode_of x) (operands_of x)))
     (behind a b (λ v. Some (FirstWith (of_type v.0 c d) v.0 (opposite v.0 v.1))) (λ t y n. Some (two (operator (of_type t c d)) y (negated t n)))
     (λ h y e t n k. record {
       term = ap (λ (z : Term Head). Some (two (operator (of_type t c d)) y z)) (opposed t n k);
       fits = typed_binary t c d p q;
     }) x)
+
+module _ (a b c d : ℕ) (p : IsBinary c) (q : IsBinary d) where
+  powered : (x : Term Head) → IsAnswer (with_power c d (number_behind a b (opcode_of x) (operands_of x))) x
+      (of_constant a b (λ t y n. answer_if (nat_lt n (bits (width_of t))) (two (operator (of_type t c d)) y (numbered t (2 ^ n)))) x)
+  powered x = behind a b (λ p. answer_if (nat_lt p.1 (bits (width_of p.0))) (FirstWith (of_type p.0 c d) p.0 (2 ^ p.1)))
+      (λ t y n. answer_if (nat_lt n (bits (width_of t))) (two (operator (of_type t c d)) y (numbered t (2 ^ n))))
+      (λ h y e t n k. answered_if _ (FirstWith (of_type t c d) t (2 ^ n)) (node h (y ▸ e ▸ no_terms)) (typed_binary t c d p q)) x
+
+  placed : (x : Term Head) → IsAnswer (with_place c d (number_behind a b (opcode_of x) (operands_of x))) x
+      (of_constant a b (λ t y n. answer_if (2 ^ lowest_bit t n == n) (two (operator (of_type t c d)) y (numbered t (lowest_bit t n)))) x)
+  placed x = behind a b
+      (λ p. answer_if (2 ^ lowest_place p.0 p.1 == p.1) (FirstWith (of_type p.0 c d) p.0 (lowest_place p.0 p.1)))
+      (λ t y n. answer_if (2 ^ lowest_bit t n == n) (two (operator (of_type t c d)) y (numbered t (lowest_bit t n))))
+      (λ h y e t n k. subst (λ m. IsAnswer (answer_if (2 ^ lowest_bit t m == n) (FirstWith (of_type t c d) t (lowest_bit t m))) (node h (y ▸ e ▸ no_terms))
+      (answer_if (2 ^ lowest_bit t n == n) (two (operator (of_type t c d)) y (numbered t (lowest_bit t n))))) (sym k)
+      (answered_if _ (FirstWith (of_type t c d) t (lowest_bit t n)) (node h (y ▸ e ▸ no_terms)) (typed_binary t c d p q))) x
+
+  rested : (x : Term Head) → IsAnswer (with_rest c d (number_behind a b (opcode_of x) (operands_of x))) x
+      (of_constant a b (λ t y n. Some (two (operator (of_type t c d)) y (numbered t (bits (width_of t) - n % bits (width_of t))))) x)
+  rested x =
+      subst (λ o. IsAnswer o x (of_constant a b (λ t y n. Some (two (operator (of_type t c d)) y (numbered t (bits (width_of t) - n % bits (width_of t))))) x))
+      (mapped_by (λ (v : IntegerType × ℕ). FirstWith (of_type v.0 c d) v.0 (bits (width_of v.0) - v.1 % bits (width_of v.0)))
+      (number_behind a b (opcode_of x) (operands_of x)))
+      (behind a b (λ v. Some (FirstWith (of_type v.0 c d) v.0 (bits (width_of v.0) - v.1 % bits (width_of v.0))))
+      (λ t y n. Some (two (operator (of_type t c d)) y (numbered t (bits (width_of t) - n % bits (width_of t)))))
+      (λ h y e t n k. record { term = refl; fits = typed_binary t c d p q }) x)
+
+masked : (x : Term Head) → IsAnswer (with_mask (number_behind 0x70 0x82 (opcode_of x) (operands_of x))) x (remainder_to_mask x)
+masked x = behind 0x70 0x82
+    (λ p. answer_if (2 ^ lowest_place p.0 p.1 == p.1) (FirstWith (of_type p.0 0x71 0x83) p.0 (p.1 - 1)))
+    (λ t y n. answer_if (2 ^ lowest_bit t n == n) (two (operator (of_type t 0x71 0x83)) y (numbered t (n - 1))))
+    (λ h y e t n k. subst (λ m. IsAnswer (answer_if (2 ^ lowest_bit t m == n) (FirstWith (of_type t 0x71 0x83) t (n - 1))) (node h (y ▸ e ▸ no_terms))
+    (answer_if (2 ^ lowest_bit t n == n) (two (operator (of_type t 0x71 0x83)) y (numbered t (n - 1))))) (sym k)
+    (answered_if _ (FirstWith (of_type t 0x71 0x83) t (n - 1)) (node h (y ▸ e ▸ no_terms))
+    (typed_binary t 0x71 0x83 (is_written 0x71 refl) (is_written 0x83 refl)))) x
+
+-- a number of the width stays as it is, also one more than one below -1
+one_more : (t : IntegerType) (n : ℕ) (b : Bool) → nat_lt n (all_ones t) ≡ b → (b && (2 ^ lowest_place t (n + 1) == n + 1)) ≡ (b && (2 ^ lowest_bit t (n + 1) == n + 1))
+one_more t n false e = refl
+one_more t n true e =
+    let l = ltb-true n (all_ones t) e in
+    let p = pow_pos (bits (width_of t)) in
+    ap (λ m. 2 ^ lowest_bit t m == n + 1) (mod-eq_of_lt (below_size n (2 ^ bits (width_of t)) l p))
   where
-    mapped : (f : IntegerType × ℕ → Replacement) (o : Option (IntegerType × ℕ)) → option_and_then (λ v. Some (f v)) o ≡ option_map f o
-    mapped f None = refl
-    mapped f (Some v) = refl
+    below_size : (n M : ℕ) → n < M - 1 → 0 < M → n + 1 < M
+    below_size n M l p = omega arith
 
-multiplied : (x : Term Head) → IsAnswer (choice_of.product (number_behind 0x74 0x86 (opcode_of x) (operands_of x))) x
-    (of_constant 0x74 0x86 (λ t y n. answer_if (nat_lt n (bits (width_of t))) (two (operator (of_type t 0x6c 0x7e)) y (numbered t (2 ^ n)))) x)
-multiplied x = behind 0x74 0x86 (λ p. answer_if (nat_lt p.1 (bits (width_of p.0))) (FirstWith (of_type p.0 0x6c 0x7e) p.0 (2 ^ p.1)))
-    (λ t y n. answer_if (nat_lt n (bits (width_of t))) (two (operator (of_type t 0x6c 0x7e)) y (numbered t (2 ^ n))))
-    (λ h y c t n k. answered_if _ (FirstWith (of_type t 0x6c 0x7e) t (2 ^ n)) (node h (y ▸ c ▸ no_terms))
-    (typed_binary t 0x6c 0x7e (is_written 0x6c refl) (is_written 0x7e refl))) x
-
-shifted : (x : Term Head) → IsAnswer (choice_of.shift (number_behind 0x6c 0x7e (opcode_of x) (operands_of x))) x
-    (of_constant 0x6c 0x7e (λ t y n. answer_if (2 ^ lowest_bit t n == n) (two (operator (of_type t 0x74 0x86)) y (numbered t (lowest_bit t n)))) x)
-shifted x = behind 0x6c 0x7e
-    (λ p. answer_if (2 ^ lowest_place p.0 p.1 == p.1) (FirstWith (of_type p.0 0x74 0x86) p.0 (lowest_place p.0 p.1)))
-    (λ t y n. answer_if (2 ^ lowest_bit t n == n) (two (operator (of_type t 0x74 0x86)) y (numbered t (lowest_bit t n))))
-    (λ h y c t n k. subst (λ m. IsAnswer (answer_if (2 ^ lowest_bit t m == n) (FirstWith (of_type t 0x74 0x86) t (lowest_bit t m))) (node h (y ▸ c ▸ no_terms))
-    (answer_if (2 ^ lowest_bit t n == n) (two (operator (of_type t 0x74 0x86)) y (numbered t (lowest_bit t n))))) (sym k)
-    (answered_if _ (FirstWith (of_type t 0x74 0x86) t (lowest_bit t n)) (node h (y ▸ c ▸ no_terms))
-    (typed_binary t 0x74 0x86 (is_written 0x74 refl) (is_written 0x86 refl)))) x
+divided : (x : Term Head) → IsAnswer (with_divisor (number_behind 0x71 0x83 (opcode_of x) (operands_of x))) x (mask_to_remainder x)
+divided x = behind 0x71 0x83
+    (λ p. answer_if (nat_lt p.1 (all_ones p.0) && (2 ^ lowest_place p.0 (p.1 + 1) == p.1 + 1)) (FirstWith (of_type p.0 0x70 0x82) p.0 (p.1 + 1)))
+    (λ t y n. answer_if (nat_lt n (all_ones t) && (2 ^ lowest_bit t (n + 1) == n + 1)) (two (operator (of_type t 0x70 0x82)) y (numbered t (n + 1))))
+    (λ h y e t n k. subst (λ (b : Bool). IsAnswer (answer_if b (FirstWith (of_type t 0x70 0x82) t (n + 1))) (node h (y ▸ e ▸ no_terms))
+    (answer_if (nat_lt n (all_ones t) && (2 ^ lowest_bit t (n + 1) == n + 1)) (two (operator (of_type t 0x70 0x82)) y (numbered t (n + 1)))))
+    (sym (one_more t n (nat_lt n (all_ones t)) refl))
+    (answered_if _ (FirstWith (of_type t 0x70 0x82) t (n + 1)) (node h (y ▸ e ▸ no_terms))
+    (typed_binary t 0x70 0x82 (is_written 0x70 refl) (is_written 0x82 refl)))) x
 
 compared : (x : Term Head) → IsAnswer (comparison (opcode_of x) (operands_of x)) x (test_to_comparison x)
 compared absent = no_answer absent
@@ -425,6 +474,129 @@ computed_folded (node h (x ▸ y ▸ z ▸ no_terms)) =
 computed_folded (node h (x ▸ y ▸ z ▸ w ▸ ts)) =
     nothing_folded (option_and_then bare_operator (opcode_byte h)) (node h (x ▸ y ▸ z ▸ w ▸ ts))
 
+-- ---- by the first of two operands, and the number of the second
+
+by_both : (a b : ℕ) (f : Operand → IntegerType × ℕ → Option Replacement) (make : IntegerType → Term Head → ℕ → Option (Term Head)) →
+    ((h : Head) (x c : Term Head) (t : IntegerType) (n : ℕ) → within_width t n ≡ n →
+    IsAnswer (f (operand_of x) (t, n)) (node h (x ▸ c ▸ no_terms)) (make t x n)) →
+    (x : Term Head) → IsAnswer (by_first (operands_of x) f (number_behind a b (opcode_of x) (operands_of x))) x (of_constant a b make x)
+by_both a b f make k absent = no_answer absent
+by_both a b f make k (node h no_terms) = no_answer (node h no_terms)
+by_both a b f make k (node h (x ▸ no_terms)) = no_answer (node h (x ▸ no_terms))
+by_both a b f make k (node h (x ▸ c ▸ no_terms)) = each_number a b h x c (f (operand_of x)) make (k h x c)
+by_both a b f make k (node h (x ▸ y ▸ z ▸ no_terms)) = no_answer (node h (x ▸ y ▸ z ▸ no_terms))
+by_both a b f make k (node h (x ▸ y ▸ z ▸ w ▸ ts)) = no_answer (node h (x ▸ y ▸ z ▸ w ▸ ts))
+
+double_told : (a b e : ℕ) (x : Term Head) →
+    IsAnswer (double e (operands_of x) (number_behind a b (opcode_of x) (operands_of x))) x (as_double a b e x)
+double_told a b e x = by_both a b
+    (λ x p. answer_if ((p.1 == e) && (not x.writes && not x.asks)) (FirstTwice (of_type p.0 0x6a 0x7c)))
+    (λ t x n. answer_if ((n == e) && (not (writes x) && not (asks x))) (two (operator (of_type t 0x6a 0x7c)) x x))
+    (λ h y c t n k. answered_if _ (FirstTwice (of_type t 0x6a 0x7c)) (node h (y ▸ c ▸ no_terms))
+    (typed_binary t 0x6a 0x7c (is_written 0x6a refl) (is_written 0x7c refl))) x
+
+alone_told : (a b : ℕ) (element : IntegerType → ℕ) (x : Term Head) →
+    IsAnswer (alone element (operands_of x) (number_behind a b (opcode_of x) (operands_of x))) x (element_alone a b element x)
+alone_told a b element x = by_both a b
+    (λ x p. answer_if ((p.1 == element p.0) && (not x.writes && not x.may_trap)) (Number p.0 p.1))
+    (λ t x n. answer_if ((n == element t) && (not (writes x) && not (may_trap x))) (numbered t n))
+    (λ h y c t n k. answered_if _ (Number t n) (node h (y ▸ c ▸ no_terms)) tt) x
+
+drawn_told : (a b : ℕ) (element : IntegerType → ℕ) → IsBinary a → IsBinary b → (x : Term Head) →
+    IsAnswer (drawn a b element (typed_constant (constant_number integer.I32 x) (constant_number integer.I64 x))) x (behind_drawn a b element x)
+drawn_told a b element p q x = each_some (typed_constant (constant_number integer.I32 x) (constant_number integer.I64 x)) x _ _
+    (λ v e. answered_if _ (Drawn (of_type v.0 a b) v.0) x (typed_binary v.0 a b p q))
+
+-- ---- comparisons and tests
+
+each_map : {A : Type 0} (o : Option A) (x : Term Head) (f : A → Replacement) (g : A → Term Head) →
+    ((a : A) → o ≡ Some a → IsAnswer (Some (f a)) x (Some (g a))) → IsAnswer (option_map f o) x (option_map g o)
+each_map None x f g h = no_answer x
+each_map (Some a) x f g h = h a refl
+
+negated_told : (x : Term Head) → IsAnswer (choice_of.negated (opcode_of x) (operands_of x)) x (negate_comparison x)
+negated_told absent = no_answer absent
+negated_told (node h no_terms) = no_answer (node h no_terms)
+negated_told (node h (x ▸ no_terms)) = no_answer (node h (x ▸ no_terms))
+negated_told (node h (x ▸ y ▸ no_terms)) = each_map (option_and_then opposite_of (opcode_byte h)) (node h (x ▸ y ▸ no_terms)) _ _
+    (λ byte e. answered (Negated byte) (node h (x ▸ y ▸ no_terms)) (opposite_binary (opcode_byte h) byte e))
+negated_told (node h (x ▸ y ▸ z ▸ no_terms)) = no_answer (node h (x ▸ y ▸ z ▸ no_terms))
+negated_told (node h (x ▸ y ▸ z ▸ w ▸ ts)) = no_answer (node h (x ▸ y ▸ z ▸ w ▸ ts))
+
+tests_told : (x : Term Head) → IsAnswer (both_tests (number_behind 0x47 0x52 (opcode_of x) (operands_of x))) x (difference_to_tests x)
+tests_told x = behind 0x47 0x52 (λ p. answer_if (p.1 == 0) (FirstByBoth (of_type p.0 0x45 0x50) 0x45))
+    (λ t y n. answer_if (n == 0) (one (operator 0x45) (one (operator (of_type t 0x45 0x50)) y)))
+    (λ h y c t n k. answered_if (n == 0) (FirstByBoth (of_type t 0x45 0x50) 0x45) (node h (y ▸ c ▸ no_terms)) (is_test t, is_test integer.I32)) x
+
+wrapped_told : (context : Context) (x : Term Head) → IsAnswer (wrapped (type_of_value context x)) x (by_its_type context wrap_extended x)
+wrapped_told context x = go (type_of_value context x)
+  where
+    go : (o : Option IntegerType) → IsAnswer (wrapped o) x (option_and_then (λ t. wrap_extended t x) o)
+    go None = no_answer x
+    go (Some integer.I32) = answered (ByBoth 0xad 0xa7) x (is_extension, is_wrap)
+    go (Some integer.I64) = no_answer x
+
+-- ---- the operands of an operand
+
+-- where an inner operand has other than two operands
+none_answers_if : (b : Bool) (x : Term Head) → IsAnswer (if b then None else None) x None
+none_answers_if true x = no_answer x
+none_answers_if false x = no_answer x
+
+not_unnegated : (h : Head) (x y : Term Head) (ts : Terms Head) → drop_negation (node h (x ▸ y ▸ ts)) ≡ None
+not_unnegated h absent y ts = refl
+not_unnegated h (node g no_terms) y ts = refl
+not_unnegated h (node g (p ▸ no_terms)) y ts = refl
+not_unnegated h (node g (p ▸ q ▸ no_terms)) y ts = refl
+not_unnegated h (node g (p ▸ q ▸ r ▸ rs)) y ts = refl
+
+unnegated_told : (x : Term Head) → IsAnswer (unnegated (opcode_of x) (operands_of x)) x (drop_negation x)
+unnegated_told absent = no_answer absent
+unnegated_told (node h no_terms) = no_answer (node h no_terms)
+unnegated_told (node h (absent ▸ no_terms)) = none_answers_if (are_same (opcode_byte h) (Some 0x45)) (node h (absent ▸ no_terms))
+unnegated_told (node h (node g no_terms ▸ no_terms)) = none_answers_if (are_same (opcode_byte h) (Some 0x45)) (node h (node g no_terms ▸ no_terms))
+unnegated_told (node h (node g (x ▸ no_terms) ▸ no_terms)) =
+    none_answers_if (are_same (opcode_byte h) (Some 0x45)) (node h (node g (x ▸ no_terms) ▸ no_terms))
+unnegated_told (node h (node g (x ▸ y ▸ no_terms) ▸ no_terms)) = go (are_same (opcode_byte h) (Some 0x45))
+  where
+    go : (b : Bool) → IsAnswer (if b then option_map (λ byte. InnerBy byte) (option_and_then opposite_of (opcode_byte g)) else None)
+        (node h (node g (x ▸ y ▸ no_terms) ▸ no_terms))
+        (if b then option_map (λ byte. two (operator byte) x y) (option_and_then opposite_of (opcode_byte g)) else None)
+    go true = each_map (option_and_then opposite_of (opcode_byte g)) (node h (node g (x ▸ y ▸ no_terms) ▸ no_terms)) _ _
+        (λ byte e. answered (InnerBy byte) (node h (node g (x ▸ y ▸ no_terms) ▸ no_terms)) (tt, opposite_binary (opcode_byte g) byte e))
+    go false = no_answer (node h (node g (x ▸ y ▸ no_terms) ▸ no_terms))
+unnegated_told (node h (node g (x ▸ y ▸ z ▸ ts) ▸ no_terms)) =
+    none_answers_if (are_same (opcode_byte h) (Some 0x45)) (node h (node g (x ▸ y ▸ z ▸ ts) ▸ no_terms))
+unnegated_told (node h (x ▸ y ▸ no_terms)) = none_answers (node h (x ▸ y ▸ no_terms)) _ (not_unnegated h x y no_terms)
+unnegated_told (node h (x ▸ y ▸ z ▸ no_terms)) = none_answers (node h (x ▸ y ▸ z ▸ no_terms)) _ (not_unnegated h x y (z ▸ no_terms))
+unnegated_told (node h (x ▸ y ▸ z ▸ w ▸ ts)) = none_answers (node h (x ▸ y ▸ z ▸ w ▸ ts)) _ (not_unnegated h x y (z ▸ w ▸ ts))
+
+part_told : (a b c d e f : ℕ) (test : IntegerType → ℕ → Bool) → IsBinary c → IsBinary d → IsBinary e → IsBinary f → (h : Head) (x k : Term Head) (t : IntegerType) (n : ℕ) →
+    IsAnswer (part a b c d e f (operand_of x) (t, n) (test t n)) (node h (x ▸ k ▸ no_terms)) (in_parts a b c d e f test t x n)
+part_told a b c d e f test pc pd pe pf h absent k t n = no_answer (node h (absent ▸ k ▸ no_terms))
+part_told a b c d e f test pc pd pe pf h (node g no_terms) k t n = no_answer (node h (node g no_terms ▸ k ▸ no_terms))
+part_told a b c d e f test pc pd pe pf h (node g (x ▸ no_terms)) k t n = no_answer (node h (node g (x ▸ no_terms) ▸ k ▸ no_terms))
+part_told a b c d e f test pc pd pe pf h (node g (x ▸ y ▸ no_terms)) k t n =
+    answered_if _ (Distribute (of_type t c d) (of_type t e f) t n) (node h (node g (x ▸ y ▸ no_terms) ▸ k ▸ no_terms))
+    (tt, typed_binary t c d pc pd, typed_binary t e f pe pf)
+part_told a b c d e f test pc pd pe pf h (node g (x ▸ y ▸ z ▸ ts)) k t n = no_answer (node h (node g (x ▸ y ▸ z ▸ ts) ▸ k ▸ no_terms))
+
+distributed_told : (a b c d e f : ℕ) (test : IntegerType → ℕ → Bool) → IsBinary c → IsBinary d → IsBinary e → IsBinary f → (x : Term Head) →
+    IsAnswer (distributed a b c d e f test (operands_of x) (number_behind e f (opcode_of x) (operands_of x))) x
+    (of_constant e f (in_parts a b c d e f test) x)
+distributed_told a b c d e f test pc pd pe pf x = by_both e f (λ x p. part a b c d e f x p (test p.0 p.1)) (in_parts a b c d e f test)
+    (λ h y k t n l. part_told a b c d e f test pc pd pe pf h y k t n) x
+
+shifts_told : (x : Term Head) → IsAnswer (shifts (opcode_of x) (operands_of x)) x (extension_to_shifts x)
+shifts_told absent = no_answer absent
+shifts_told (node h no_terms) = no_answer (node h no_terms)
+shifts_told (node h (x ▸ no_terms)) = each_map (option_and_then bits_left_out (opcode_byte h)) (node h (x ▸ no_terms)) _ _
+    (λ p e. answered (FirstWithBoth (of_type p.0 0x74 0x86) (of_type p.0 0x75 0x87) p.0 p.1) (node h (x ▸ no_terms))
+    (typed_binary p.0 0x74 0x86 (is_written 0x74 refl) (is_written 0x86 refl), typed_binary p.0 0x75 0x87 (is_written 0x75 refl) (is_written 0x87 refl)))
+shifts_told (node h (x ▸ y ▸ no_terms)) = no_answer (node h (x ▸ y ▸ no_terms))
+shifts_told (node h (x ▸ y ▸ z ▸ no_terms)) = no_answer (node h (x ▸ y ▸ z ▸ no_terms))
+shifts_told (node h (x ▸ y ▸ z ▸ w ▸ ts)) = no_answer (node h (x ▸ y ▸ z ▸ w ▸ ts))
+
 -- ---- every rule
 
 pub chosen : (context : Context) (r : Rule) (x : Term Head) →
@@ -444,8 +616,8 @@ chosen context rule.ShiftByZero x = zero_behind context x 0x74 0x86 (is_written 
 chosen context rule.OrSelf x = doubled context x 0x72 0x84 (is_written 0x72 refl) (is_written 0x84 refl)
 chosen context rule.AndSelf x = doubled context x 0x71 0x83 (is_written 0x71 refl) (is_written 0x83 refl)
 chosen context rule.DoubleComplement x = complemented context x 0x73 0x85 (is_written 0x73 refl) (is_written 0x85 refl)
-chosen context rule.ShiftToProduct x = multiplied x
-chosen context rule.ProductToShift x = shifted x
+chosen context rule.ShiftToProduct x = powered 0x74 0x86 0x6c 0x7e (is_written 0x6c refl) (is_written 0x7e refl) x
+chosen context rule.ProductToShift x = placed 0x6c 0x7e 0x74 0x86 (is_written 0x74 refl) (is_written 0x86 refl) x
 chosen context rule.DifferenceToSum x = opposite_behind 0x6b 0x7d 0x6a 0x7c (is_written 0x6a refl) (is_written 0x7c refl) x
 chosen context rule.SumToDifference x = opposite_behind 0x6a 0x7c 0x6b 0x7d (is_written 0x6b refl) (is_written 0x7d refl) x
 chosen context rule.TestToComparison x = compared x
@@ -463,3 +635,34 @@ chosen context rule.DropXorZero x = dropped 0x73 0x85 0 x
 chosen context rule.DropAndOnes x = dropped_ones 0x71 0x83 x
 chosen context rule.DropShiftByZero x = dropped 0x74 0x86 0 x
 chosen context rule.Forget x = emptied x
+chosen context rule.ShrSByZero x = zero_behind context x 0x75 0x87 (is_written 0x75 refl) (is_written 0x87 refl)
+chosen context rule.ShrUByZero x = zero_behind context x 0x76 0x88 (is_written 0x76 refl) (is_written 0x88 refl)
+chosen context rule.RotlByZero x = zero_behind context x 0x77 0x89 (is_written 0x77 refl) (is_written 0x89 refl)
+chosen context rule.RotrByZero x = zero_behind context x 0x78 0x8a (is_written 0x78 refl) (is_written 0x8a refl)
+chosen context rule.DropShrSByZero x = dropped 0x75 0x87 0 x
+chosen context rule.DropShrUByZero x = dropped 0x76 0x88 0 x
+chosen context rule.DropRotlByZero x = dropped 0x77 0x89 0 x
+chosen context rule.DropRotrByZero x = dropped 0x78 0x8a 0 x
+chosen context rule.QuotientToShift x = placed 0x6e 0x80 0x76 0x88 (is_written 0x76 refl) (is_written 0x88 refl) x
+chosen context rule.ShiftToQuotient x = powered 0x76 0x88 0x6e 0x80 (is_written 0x6e refl) (is_written 0x80 refl) x
+chosen context rule.RemainderToMask x = masked x
+chosen context rule.MaskToRemainder x = divided x
+chosen context rule.RotlToRotr x = rested 0x77 0x89 0x78 0x8a (is_written 0x78 refl) (is_written 0x8a refl) x
+chosen context rule.RotrToRotl x = rested 0x78 0x8a 0x77 0x89 (is_written 0x77 refl) (is_written 0x89 refl) x
+chosen context rule.ProductToDouble x = double_told 0x6c 0x7e 2 x
+chosen context rule.ShiftToDouble x = double_told 0x74 0x86 1 x
+chosen context rule.AndZero x = drawn_told 0x71 0x83 (λ t. 0) (is_written 0x71 refl) (is_written 0x83 refl) x
+chosen context rule.MulZero x = drawn_told 0x6c 0x7e (λ t. 0) (is_written 0x6c refl) (is_written 0x7e refl) x
+chosen context rule.OrOnes x = drawn_told 0x72 0x84 all_ones (is_written 0x72 refl) (is_written 0x84 refl) x
+chosen context rule.DropAndZero x = alone_told 0x71 0x83 (λ t. 0) x
+chosen context rule.DropMulZero x = alone_told 0x6c 0x7e (λ t. 0) x
+chosen context rule.DropOrOnes x = alone_told 0x72 0x84 all_ones x
+chosen context rule.NegateComparison x = negated_told x
+chosen context rule.DifferenceToTests x = tests_told x
+chosen context rule.WrapExtended x = wrapped_told context x
+chosen context rule.DropNegation x = unnegated_told x
+chosen context rule.DistributeProduct x = distributed_told 0x6a 0x7c 0x6a 0x7c 0x6c 0x7e (λ t n. true) (is_written 0x6a refl) (is_written 0x7c refl) (is_written 0x6c refl) (is_written 0x7e refl) x
+chosen context rule.DistributeMask x = distributed_told 0x72 0x84 0x72 0x84 0x71 0x83 (λ t n. true) (is_written 0x72 refl) (is_written 0x84 refl) (is_written 0x71 refl) (is_written 0x83 refl) x
+chosen context rule.ComplementOfAnd x = distributed_told 0x71 0x83 0x72 0x84 0x73 0x85 (λ t n. n == all_ones t) (is_written 0x72 refl) (is_written 0x84 refl) (is_written 0x73 refl) (is_written 0x85 refl) x
+chosen context rule.ComplementOfOr x = distributed_told 0x72 0x84 0x71 0x83 0x73 0x85 (λ t n. n == all_ones t) (is_written 0x71 refl) (is_written 0x83 refl) (is_written 0x73 refl) (is_written 0x85 refl) x
+chosen context rule.ExtensionToShifts x = shifts_told x

@@ -1,10 +1,10 @@
 -- An operator on an operand and a constant, and what may stand for it.
-use Rattle.std.proofs.Common.{◌≡◌, ℕ, ℤ, ◌+◌, ◌-◌, ◌*◌, ◌%◌, ◌^◌, ◌<◌, Bool, true, false, List, [], ◌∷◌, ◌++◌, Option, Some, None, refl, sym, ap, ap₂, ◌∙◌, subst, arith}
-use Rattle.std.specs.Prelude.{pos, ◌==◌, nat_lt, bit_and, bit_xor, if◌then◌else◌, option_and_then}
-use Rattle.std.specs.Int.{cast_signed, cast_unsigned, trailing_zeros}
-use Rattle.std.proofs.lemmas.Bool.{eqb-true, ltb-true}
+use Rattle.std.proofs.Common.{◌≡◌, ℕ, ℤ, zero, suc, ◌+◌, ◌-◌, ◌*◌, ◌/◌, ◌%◌, ◌^◌, ◌<◌, Bool, true, false, List, [], ◌∷◌, ◌++◌, Option, Some, None, refl, sym, ap, ap₂, ◌∙◌, subst, arith}
+use Rattle.std.specs.Prelude.{pos, ◌==◌, ◌&&◌, nat_lt, bit_and, bit_xor, if◌then◌else◌, option_and_then}
+use Rattle.std.specs.Int.{cast_signed, cast_unsigned, trailing_zeros, rotate_left, rotate_right}
+use Rattle.std.proofs.lemmas.Bool.{eqb-true, ltb-true, and_parts}
 use Rattle.std.proofs.Math.Nat.{mod-eq_of_lt, mod-lt, zero-mod}
-use Rattle.std.proofs.lemmas.Nat.{pow_pos}
+use Rattle.std.proofs.lemmas.Nat.{pow_pos, pow_below}
 use mir.Val.{bits}
 use Rattle.wasm_code.specs.Table.{table, row_at}
 use Rattle.mutate_base.specs.declared.types.PrimitiveTypeInfo.{PrimitiveTypeInfo}
@@ -14,8 +14,8 @@ use Rattle.peephole_lang.specs.declared.lang.Head.{Head}
 use Rattle.peephole_lang.specs.Term.{Term, node, no_terms, ◌▸◌}
 use Rattle.peephole_machine.specs.declared.integer.IntegerType.{IntegerType}
 use Rattle.peephole_machine.specs.declared.integer.IntegerType.TheVariants as integer
-use Rattle.peephole_machine.specs.Values.{type_of, width_of, same_types, Value, whole, State, Outcome, Ends, then_run, Context}
-use Rattle.peephole_machine.specs.Integer.{IntegerOperator, binary, compare, eqz, add, sub, mul, and_, or_, xor_, shl, eq}
+use Rattle.peephole_machine.specs.Values.{type_of, width_of, same_types, Value, whole, State, HasTypes, Outcome, Ends, then_run, Context}
+use Rattle.peephole_machine.specs.Integer.{IntegerOperator, binary, compare, eqz, add, sub, mul, and_, or_, xor_, shl, eq, shr_s, shr_u, rotl, rotr, div_u, rem_u, unless_zero}
 use Rattle.peephole_machine.specs.IntegerRow.{operation, bare_row, row_types}
 use Rattle.peephole_machine.specs.Machine.{cause_of, given, applied, act}
 use Rattle.peephole_machine.specs.RowLemmas.{some_if, and_then_some, map_some, same_types_is}
@@ -25,13 +25,13 @@ use Rattle.peephole_terms.specs.Meaning.{meaning_of}
 use Rattle.peephole_terms.specs.Agrees.{Agree, LeavesItsTypes, IsCongruence}
 use Rattle.peephole_terms.specs.Laws.{MeanByTheirRows}
 use Rattle.peephole_rules.specs.Operator.{opcode_byte, is_in, type_by, operator, of_type, constant_head, constant_term, one, two, within_width, number_in, constant_number, numbered}
-use Rattle.peephole_rules.specs.Rewriting.{answer_if, with_constant, of_constant, test_to_comparison, comparison_to_test, without_constant, drop_add_zero, drop_sub_zero, drop_mul_one, drop_or_zero, drop_xor_zero, drop_shift_by_zero, all_ones, with_ones, and_ones, drop_and_ones, double_complement, negated, difference_to_sum, sum_to_difference, shift_to_product, lowest_bit, product_to_shift}
+use Rattle.peephole_rules.specs.Rewriting.{answer_if, with_constant, of_constant, test_to_comparison, comparison_to_test, without_constant, drop_add_zero, drop_sub_zero, drop_mul_one, drop_or_zero, drop_xor_zero, drop_shift_by_zero, all_ones, with_ones, and_ones, drop_and_ones, double_complement, negated, difference_to_sum, sum_to_difference, shift_to_product, lowest_bit, product_to_shift, drop_shr_s_by_zero, drop_shr_u_by_zero, drop_rotl_by_zero, drop_rotr_by_zero, quotient_to_shift, shift_to_quotient, remainder_to_mask, mask_to_remainder, rotl_to_rotr, rotr_to_rotl}
 use Rattle.peephole_rules.specs.Laws.{AgreeAlways, KeepsMeaning, KeepsMeaningOfType}
-use Rattle.peephole_rules.proofs.NumberLemmas.{and_ones_is, twice_complement, sum_is, difference_is, cast_back, product_is, shift_is}
+use Rattle.peephole_rules.proofs.NumberLemmas.{and_ones_is, twice_complement, sum_is, difference_is, cast_back, product_is, shift_is, quotient_is, remainder_is, mask_is, turned_left, turned_right, bit_place}
 use Rattle.peephole_rules.proofs.ByteLemmas.{with_immediate}
 use Rattle.peephole_rules.proofs.SwapLemmas.{act_two}
 use Rattle.peephole_rules.proofs.OrderLemmas.{some_answer_if}
-use Rattle.peephole_rules.proofs.NeutralLemmas.{LeavesFirst, again, below, add_leaves, sub_leaves, mul_leaves, or_leaves, xor_leaves, shl_leaves, constant_types, before_constant, written_agrees}
+use Rattle.peephole_rules.proofs.NeutralLemmas.{LeavesFirst, again, below, add_leaves, sub_leaves, mul_leaves, or_leaves, xor_leaves, shl_leaves, constant_types, before_constant, written_agrees, shr_s_leaves, shr_u_leaves, rotl_leaves, rotr_leaves}
 use Rattle.peephole_rules.proofs.WayLemmas.{after_itself}
 use Rattle.peephole_rules.proofs.SequenceLemmas.{then_then, then_ends, then_same, alone_types, Does, written_does, does_types, does_means, own_does, takes_two, two_types, act_one, one_types, one_means, front_is}
 
@@ -101,16 +101,16 @@ matched a b make t u e = absurd cc
 -- ---- operators by their opcodes
 
 -- The two opcodes are those of the operator of each type.
-record AreOf (a b : ℕ) (f : IntegerType → IntegerOperator) : Type 0 where
-  none : (t : IntegerType) → is_in with_immediate (of_type t a b) ≡ false
-  row : (t : IntegerType) → bare_row (of_type t a b) ≡ Some (operation (f t))
-  written : (t : IntegerType) → opcode_byte (operator (of_type t a b)) ≡ Some (of_type t a b)
+pub record AreOf (a b : ℕ) (f : IntegerType → IntegerOperator) : Type 0 where
+  pub none : (t : IntegerType) → is_in with_immediate (of_type t a b) ≡ false
+  pub row : (t : IntegerType) → bare_row (of_type t a b) ≡ Some (operation (f t))
+  pub written : (t : IntegerType) → opcode_byte (operator (of_type t a b)) ≡ Some (of_type t a b)
 
 by_type : (P : IntegerType → Type 0) → P integer.I32 → P integer.I64 → (t : IntegerType) → P t
 by_type P p q integer.I32 = p
 by_type P p q integer.I64 = q
 
-are_of : (a b : ℕ) (f : IntegerType → IntegerOperator) → is_in with_immediate a ≡ false → is_in with_immediate b ≡ false →
+pub are_of : (a b : ℕ) (f : IntegerType → IntegerOperator) → is_in with_immediate a ≡ false → is_in with_immediate b ≡ false →
     bare_row a ≡ Some (operation (f integer.I32)) → bare_row b ≡ Some (operation (f integer.I64)) → opcode_byte (operator a) ≡ Some a →
     opcode_byte (operator b) ≡ Some b → AreOf a b f
 are_of a b f n m r q w v = record {
@@ -119,15 +119,15 @@ are_of a b f n m r q w v = record {
   written = by_type (λ t. opcode_byte (operator (of_type t a b)) ≡ Some (of_type t a b)) w v;
 }
 
-tests : AreOf 0x45 0x50 eqz
+pub tests : AreOf 0x45 0x50 eqz
 unfolding table row_at
 tests = are_of 0x45 0x50 eqz refl refl refl refl refl refl
 
-equals : AreOf 0x46 0x51 (λ t. compare t eq)
+pub equals : AreOf 0x46 0x51 (λ t. compare t eq)
 unfolding table row_at
 equals = are_of 0x46 0x51 (λ t. compare t eq) refl refl refl refl refl refl
 
-adds : AreOf 0x6a 0x7c (λ t. binary t add)
+pub adds : AreOf 0x6a 0x7c (λ t. binary t add)
 unfolding table row_at
 adds = are_of 0x6a 0x7c (λ t. binary t add) refl refl refl refl refl refl
 
@@ -135,41 +135,74 @@ subs : AreOf 0x6b 0x7d (λ t. binary t sub)
 unfolding table row_at
 subs = are_of 0x6b 0x7d (λ t. binary t sub) refl refl refl refl refl refl
 
-muls : AreOf 0x6c 0x7e (λ t. binary t mul)
+pub muls : AreOf 0x6c 0x7e (λ t. binary t mul)
 unfolding table row_at
 muls = are_of 0x6c 0x7e (λ t. binary t mul) refl refl refl refl refl refl
 
-ands : AreOf 0x71 0x83 (λ t. binary t and_)
+pub ands : AreOf 0x71 0x83 (λ t. binary t and_)
 unfolding table row_at
 ands = are_of 0x71 0x83 (λ t. binary t and_) refl refl refl refl refl refl
 
-ors : AreOf 0x72 0x84 (λ t. binary t or_)
+pub ors : AreOf 0x72 0x84 (λ t. binary t or_)
 unfolding table row_at
 ors = are_of 0x72 0x84 (λ t. binary t or_) refl refl refl refl refl refl
 
-xors : AreOf 0x73 0x85 (λ t. binary t xor_)
+pub xors : AreOf 0x73 0x85 (λ t. binary t xor_)
 unfolding table row_at
 xors = are_of 0x73 0x85 (λ t. binary t xor_) refl refl refl refl refl refl
 
-shls : AreOf 0x74 0x86 (λ t. binary t shl)
+pub shls : AreOf 0x74 0x86 (λ t. binary t shl)
 unfolding table row_at
 shls = are_of 0x74 0x86 (λ t. binary t shl) refl refl refl refl refl refl
+
+pub shr_ss : AreOf 0x75 0x87 (λ t. binary t shr_s)
+unfolding table row_at
+shr_ss = are_of 0x75 0x87 (λ t. binary t shr_s) refl refl refl refl refl refl
+
+shr_us : AreOf 0x76 0x88 (λ t. binary t shr_u)
+unfolding table row_at
+shr_us = are_of 0x76 0x88 (λ t. binary t shr_u) refl refl refl refl refl refl
+
+rotls : AreOf 0x77 0x89 (λ t. binary t rotl)
+unfolding table row_at
+rotls = are_of 0x77 0x89 (λ t. binary t rotl) refl refl refl refl refl refl
+
+rotrs : AreOf 0x78 0x8a (λ t. binary t rotr)
+unfolding table row_at
+rotrs = are_of 0x78 0x8a (λ t. binary t rotr) refl refl refl refl refl refl
+
+div_us : AreOf 0x6e 0x80 (λ t. binary t div_u)
+unfolding table row_at
+div_us = are_of 0x6e 0x80 (λ t. binary t div_u) refl refl refl refl refl refl
+
+rem_us : AreOf 0x70 0x82 (λ t. binary t rem_u)
+unfolding table row_at
+rem_us = are_of 0x70 0x82 (λ t. binary t rem_u) refl refl refl refl refl refl
+
+-- a divisor that is not 0
+divides : (d n : ℕ) → 0 < d → unless_zero d n ≡ Some n
+divides zero n l = absurd (omega arith)
+divides (suc d) n l = refl
+
+positive_width : (t : IntegerType) → 0 < bits (width_of t)
+positive_width integer.I32 = omega arith
+positive_width integer.I64 = omega arith
 
 -- ---- what may stand for an operator on an operand and a constant
 
 module _ (rows : MeanByTheirRows) (sound : LeavesItsTypes) where
   -- the node's types and meaning
-  with_constant_types : (context : Context) (t : IntegerType) (f : IntegerOperator) {h : Head} (d : Does h (operation f))
+  pub with_constant_types : (context : Context) (t : IntegerType) (f : IntegerOperator) {h : Head} (d : Does h (operation f))
       (x : Term Head) (z : ℤ) → f.operands ≡ type_of t ∷ type_of t ∷ [] → types_of context x ≡ Some (type_of t ∷ []) →
       types_of context (two h x (constant_term t z)) ≡ Some (type_of f.result ∷ [])
   with_constant_types context t f d x z o e =
       two_types rows context (type_of t) f d x (constant_term t z) o e (constant_types rows sound context t z)
 
   -- the operator's row on the operand's value and the constant's
-  with_value : (t : IntegerType) (f : IntegerOperator) (z : ℤ) → List Value → State → Outcome
+  pub with_value : (t : IntegerType) (f : IntegerOperator) (z : ℤ) → List Value → State → Outcome
   with_value t f z vs s = act (operation f) (vs ++ whole t (cast_unsigned (width_of t) z) ∷ []) s
 
-  with_constant_means : (context : Context) (words : List ℕ) (t : IntegerType) (f : IntegerOperator) {h : Head}
+  pub with_constant_means : (context : Context) (words : List ℕ) (t : IntegerType) (f : IntegerOperator) {h : Head}
       (d : Does h (operation f)) (x : Term Head) (z : ℤ) (s : State) →
       meaning_of words (two h x (constant_term t z)) s ≡ then_run (meaning_of words x s) (with_value t f z)
   unfolding with_value
@@ -178,19 +211,20 @@ module _ (rows : MeanByTheirRows) (sound : LeavesItsTypes) where
       ∙ (ap (λ o. then_run o (act (operation f))) (before_constant rows sound context words t z x s (meaning_of words x s) refl)
       ∙ then_then (meaning_of words x s) (λ vs m. Ends (vs ++ whole t (cast_unsigned (width_of t) z) ∷ []) m) (act (operation f)))
 
-  with_value_is : (t : IntegerType) (f : IntegerOperator) (z : ℤ) (v : Value) (s : State) → f.operands ≡ type_of t ∷ type_of t ∷ [] →
+  pub with_value_is : (t : IntegerType) (f : IntegerOperator) (z : ℤ) (v : Value) (s : State) → f.operands ≡ type_of t ∷ type_of t ∷ [] →
       v.type ≡ type_of t →
       with_value t f z (v ∷ []) s ≡ applied f (v.number ∷ within_width t (cast_unsigned (width_of t) z) ∷ []) s
   unfolding with_value
   with_value_is t f z v s o e = act_two (type_of t) f v (whole t (cast_unsigned (width_of t) z)) s o e refl
 
   -- The term may stand for the operator on the operand and a constant with the number: it has the types, and does the same with the operand's value.
-  record Replaces (t : IntegerType) (f : IntegerOperator) (x : Term Head) (n : ℕ) (u : Term Head) : Type 0 where
-    types : (context : Context) → types_of context x ≡ Some (type_of t ∷ []) →
+  pub record Replaces (t : IntegerType) (f : IntegerOperator) (x : Term Head) (n : ℕ) (u : Term Head) : Type 0 where
+    pub types : (context : Context) → types_of context x ≡ Some (type_of t ∷ []) →
         types_of context u ≡ Some (type_of f.result ∷ [])
-    next : List Value → State → Outcome
-    means : (context : Context) (words : List ℕ) (s : State) → meaning_of words u s ≡ then_run (meaning_of words x s) next
-    same : (v : Value) (s : State) → v.type ≡ type_of t → v.number < 2 ^ bits (width_of t) →
+    pub next : List Value → State → Outcome
+    pub means : (context : Context) (words : List ℕ) (s : State) → types_of context x ≡ Some (type_of t ∷ []) → HasTypes context s →
+        meaning_of words u s ≡ then_run (meaning_of words x s) next
+    pub same : (v : Value) (s : State) → v.type ≡ type_of t → v.number < 2 ^ bits (width_of t) →
         applied f (v.number ∷ n ∷ []) s ≡ next (v ∷ []) s
 
   module _ (laws : IsCongruence) where
@@ -207,13 +241,13 @@ module _ (rows : MeanByTheirRows) (sound : LeavesItsTypes) where
         after_itself rows sound laws context list us vs (two h x c) u typed w (r.types context tx ∙ ap Some k.gives)
         (λ s hs. with_constant_means context vs t f d x z s
         ∙ (then_same context (type_of t) (meaning_of vs x s) (with_value t f z) r.next (sound context (type_of t ∷ []) vs x s tx hs)
-        (λ v m hv iv hm. with_value_is t f z v m o hv ∙ r.same v m hv (below t v hv iv)) ∙ sym (r.means context vs s)))
+        (λ v m hv iv hm. with_value_is t f z v m o hv ∙ r.same v m hv (below t v hv iv)) ∙ sym (r.means context vs s tx hs)))
       where
         some_list : {ks js : List PrimitiveTypeInfo} → Some ks ≡ Some js → ks ≡ js
         some_list e = cc
 
     -- a rule keeps the meaning where all that it makes may stand so
-    kept : (a b : ℕ) (f : IntegerType → IntegerOperator) (k : AreOf a b f) → ((t : IntegerType) → (f t).operands ≡ type_of t ∷ type_of t ∷ []) →
+    pub kept : (a b : ℕ) (f : IntegerType → IntegerOperator) (k : AreOf a b f) → ((t : IntegerType) → (f t).operands ≡ type_of t ∷ type_of t ∷ []) →
         (make : IntegerType → Term Head → ℕ → Option (Term Head)) →
         ((t : IntegerType) (x u : Term Head) (n : ℕ) → n < 2 ^ bits (width_of t) → make t x n ≡ Some u → Replaces t (f t) x n u) →
         KeepsMeaning (of_constant a b make)
@@ -230,7 +264,7 @@ module _ (rows : MeanByTheirRows) (sound : LeavesItsTypes) where
     -- ---- tests
 
     -- eqz is the comparison with 0
-    zero_test : (t : IntegerType) (v : Value) (n : ℕ) (s : State) → n ≡ 0 → v.type ≡ type_of t →
+    pub zero_test : (t : IntegerType) (v : Value) (n : ℕ) (s : State) → n ≡ 0 → v.type ≡ type_of t →
         act (operation (eqz t)) (v ∷ []) s ≡ applied (compare t eq) (v.number ∷ n ∷ []) s
     zero_test t v n s e hv =
         act_one (type_of t) (eqz t) v s refl hv ∙ sym (ap (λ m. Ends (whole integer.I32 (if v.number == m then 1 else 0) ∷ []) s) e)
@@ -267,7 +301,7 @@ module _ (rows : MeanByTheirRows) (sound : LeavesItsTypes) where
             record {
               types = λ context e. one_types rows context (type_of t) (eqz t) d x refl e;
               next = act (operation (eqz t));
-              means = λ context words s. one_means rows words (eqz t) d x s;
+              means = λ context words s e hs. one_means rows words (eqz t) d x s;
               same = λ v s hv l. sym (zero_test t v n s z hv);
             }
 
@@ -288,7 +322,7 @@ module _ (rows : MeanByTheirRows) (sound : LeavesItsTypes) where
         subst (Replaces t (f t) x n) is (record {
           types = λ context e. e ∙ ap (λ r. Some (type_of r ∷ [])) (sym k.result);
           next = Ends;
-          means = λ context words s. sym (then_ends (meaning_of words x s));
+          means = λ context words s e hs. sym (then_ends (meaning_of words x s));
           same = λ v s hv l.
               let (j, a, b) = k.value v.number l in
               ap (λ m. applied (f t) (v.number ∷ m ∷ []) s) number
@@ -316,6 +350,18 @@ module _ (rows : MeanByTheirRows) (sound : LeavesItsTypes) where
 
     pub drop_shift_by_zero_keeps : KeepsMeaning drop_shift_by_zero
     drop_shift_by_zero_keeps = without 0x74 0x86 0 (λ t. binary t shl) shls shl_leaves
+
+    pub drop_shr_s_by_zero_keeps : KeepsMeaning drop_shr_s_by_zero
+    drop_shr_s_by_zero_keeps = without 0x75 0x87 0 (λ t. binary t shr_s) shr_ss shr_s_leaves
+
+    pub drop_shr_u_by_zero_keeps : KeepsMeaning drop_shr_u_by_zero
+    drop_shr_u_by_zero_keeps = without 0x76 0x88 0 (λ t. binary t shr_u) shr_us shr_u_leaves
+
+    pub drop_rotl_by_zero_keeps : KeepsMeaning drop_rotl_by_zero
+    drop_rotl_by_zero_keeps = without 0x77 0x89 0 (λ t. binary t rotl) rotls rotl_leaves
+
+    pub drop_rotr_by_zero_keeps : KeepsMeaning drop_rotr_by_zero
+    drop_rotr_by_zero_keeps = without 0x78 0x8a 0 (λ t. binary t rotr) rotrs rotr_leaves
 
     -- ---- all ones
 
@@ -387,7 +433,7 @@ module _ (rows : MeanByTheirRows) (sound : LeavesItsTypes) where
         record {
           types = λ context e. with_constant_types context t (g t) d x z go e ∙ ap (λ r. Some (type_of r ∷ [])) (gr ∙ sym fr);
           next = with_value t (g t) z;
-          means = λ context words s. with_constant_means context words t (g t) d x z s;
+          means = λ context words s e hs. with_constant_means context words t (g t) d x z s;
           same = λ v s hv l.
               ap₂ (λ r o. given r o (cause_of (v.number ∷ n ∷ [])) s) fr (fv v.number)
               ∙ (ap (λ (m : ℕ). Ends (record { type = type_of t; number = m } ∷ []) s) (is v.number)
@@ -428,8 +474,88 @@ module _ (rows : MeanByTheirRows) (sound : LeavesItsTypes) where
         let (c, is) = some_answer_if (2 ^ y == n) (two (operator (of_type t 0x74 0x86)) x (numbered t y)) u e in
         subst (Replaces t (binary t mul) x n) is
         (other_constant 0x74 0x86 (binary t mul) (λ t. binary t shl) shls t x n y refl refl refl refl (λ m. m * n) (λ m. m * 2 ^ (y % 2 ^ k % k))
-        (λ m. refl) (λ m. refl) (λ m. shift_is k m n y (mod-lt (trailing_zeros (width_of t) n) (positive t)) (eqb-true (2 ^ y) n c))))
-      where
-        positive : (t : IntegerType) → 0 < bits (width_of t)
-        positive integer.I32 = omega arith
-        positive integer.I64 = omega arith
+        (λ m. refl) (λ m. refl) (λ m. shift_is k m n y (mod-lt (trailing_zeros (width_of t) n) (positive_width t)) (eqb-true (2 ^ y) n c))))
+
+    -- ---- quotients and remainders by powers of two
+
+    pub quotient_to_shift_keeps : KeepsMeaning quotient_to_shift
+    quotient_to_shift_keeps =
+        kept 0x6e 0x80 (λ t. binary t div_u) div_us (λ t. refl)
+        (λ t x n. answer_if (2 ^ lowest_bit t n == n) (two (operator (of_type t 0x76 0x88)) x (numbered t (lowest_bit t n))))
+        (λ t x u n l e. let k = bits (width_of t) in
+        let y = lowest_bit t n in
+        let (c, is) = some_answer_if (2 ^ y == n) (two (operator (of_type t 0x76 0x88)) x (numbered t y)) u e in
+        let small = mod-lt (trailing_zeros (width_of t) n) (positive_width t) in
+        let power = eqb-true (2 ^ y) n c in
+        subst (Replaces t (binary t div_u) x n) is
+        (other_constant 0x76 0x88 (binary t div_u) (λ t. binary t shr_u) shr_us t x n y refl refl refl refl (λ m. m / n) (λ m. m / 2 ^ (y % 2 ^ k % k))
+        (λ m. divides n (m / n) (subst (λ i. 0 < i) power (pow_pos y))) (λ m. refl) (λ m. bit_place k m n y small power)))
+
+    pub shift_to_quotient_keeps : KeepsMeaning shift_to_quotient
+    shift_to_quotient_keeps =
+        kept 0x76 0x88 (λ t. binary t shr_u) shr_us (λ t. refl)
+        (λ t x n. answer_if (nat_lt n (bits (width_of t))) (two (operator (of_type t 0x6e 0x80)) x (numbered t (2 ^ n))))
+        (λ t x u n l e. let k = bits (width_of t) in
+        let (c, is) = some_answer_if (nat_lt n k) (two (operator (of_type t 0x6e 0x80)) x (numbered t (2 ^ n))) u e in
+        let small = ltb-true n k c in
+        subst (Replaces t (binary t shr_u) x n) is
+        (other_constant 0x6e 0x80 (binary t shr_u) (λ t. binary t div_u) div_us t x n (2 ^ n) refl refl refl refl (λ m. m / 2 ^ (n % k)) (λ m. m / (2 ^ n % 2 ^ k))
+        (λ m. refl) (λ m. divides (2 ^ n % 2 ^ k) (m / (2 ^ n % 2 ^ k)) (subst (λ i. 0 < i) (sym (mod-eq_of_lt (pow_below n k small))) (pow_pos n)))
+        (λ m. quotient_is k m n small)))
+
+    pub remainder_to_mask_keeps : KeepsMeaning remainder_to_mask
+    remainder_to_mask_keeps =
+        kept 0x70 0x82 (λ t. binary t rem_u) rem_us (λ t. refl)
+        (λ t x n. answer_if (2 ^ lowest_bit t n == n) (two (operator (of_type t 0x71 0x83)) x (numbered t (n - 1))))
+        (λ t x u n l e. let k = bits (width_of t) in
+        let y = lowest_bit t n in
+        let (c, is) = some_answer_if (2 ^ y == n) (two (operator (of_type t 0x71 0x83)) x (numbered t (n - 1))) u e in
+        let power = eqb-true (2 ^ y) n c in
+        subst (Replaces t (binary t rem_u) x n) is
+        (other_constant 0x71 0x83 (binary t rem_u) (λ t. binary t and_) ands t x n (n - 1) refl refl refl refl (λ m. m % n) (λ m. bit_and m ((n - 1) % 2 ^ k))
+        (λ m. divides n (m % n) (subst (λ i. 0 < i) power (pow_pos y))) (λ m. refl)
+        (λ m. remainder_is k m n y (mod-lt (trailing_zeros (width_of t) n) (positive_width t)) power)))
+
+    pub mask_to_remainder_keeps : KeepsMeaning mask_to_remainder
+    mask_to_remainder_keeps =
+        kept 0x71 0x83 (λ t. binary t and_) ands (λ t. refl)
+        (λ t x n. answer_if (nat_lt n (all_ones t) && (2 ^ lowest_bit t (n + 1) == n + 1)) (two (operator (of_type t 0x70 0x82)) x (numbered t (n + 1))))
+        (λ t x u n l e. let k = bits (width_of t) in
+        let y = lowest_bit t (n + 1) in
+        let (c, is) = some_answer_if (nat_lt n (all_ones t) && (2 ^ y == n + 1)) (two (operator (of_type t 0x70 0x82)) x (numbered t (n + 1))) u e in
+        let power = eqb-true (2 ^ y) (n + 1) (and_parts (nat_lt n (all_ones t)) (2 ^ y == n + 1) c).1 in
+        let small = mod-lt (trailing_zeros (width_of t) (n + 1)) (positive_width t) in
+        let fits = subst (λ i. i < 2 ^ k) power (pow_below y k small) in
+        subst (Replaces t (binary t and_) x n) is
+        (other_constant 0x70 0x82 (binary t and_) (λ t. binary t rem_u) rem_us t x n (n + 1) refl refl refl refl (λ m. bit_and m n) (λ m. m % ((n + 1) % 2 ^ k))
+        (λ m. refl) (λ m. divides ((n + 1) % 2 ^ k) (m % ((n + 1) % 2 ^ k)) (subst (λ i. 0 < i) (sym (mod-eq_of_lt fits)) (omega arith)))
+        (λ m. mask_is k m n y small power)))
+
+    -- ---- turns the other way
+
+    -- what is left of a turn, as a number of the type
+    rest : (t : IntegerType) (n : ℕ) → (bits (width_of t) - n % bits (width_of t)) % 2 ^ bits (width_of t) ≡ bits (width_of t) - n % bits (width_of t)
+    rest integer.I32 n = mod-eq_of_lt (omega arith)
+    rest integer.I64 n = mod-eq_of_lt (omega arith)
+
+    pub rotl_to_rotr_keeps : KeepsMeaning rotl_to_rotr
+    rotl_to_rotr_keeps =
+        kept 0x77 0x89 (λ t. binary t rotl) rotls (λ t. refl)
+        (λ t x n. Some (two (operator (of_type t 0x78 0x8a)) x (numbered t (bits (width_of t) - n % bits (width_of t)))))
+        (λ t x u n l e. let w = width_of t in
+        let y : ℕ = bits w - n % bits w in
+        subst (Replaces t (binary t rotl) x n) (cc)
+        (other_constant 0x78 0x8a (binary t rotl) (λ t. binary t rotr) rotrs t x n y refl refl refl refl (λ m. rotate_left w m n)
+        (λ m. rotate_right w m (y % 2 ^ bits w)) (λ m. refl) (λ m. refl)
+        (λ m. ap (λ i. i % 2 ^ bits w) (turned_right w m n (positive_width t) ∙ ap (rotate_right w m) (sym (rest t n))))))
+
+    pub rotr_to_rotl_keeps : KeepsMeaning rotr_to_rotl
+    rotr_to_rotl_keeps =
+        kept 0x78 0x8a (λ t. binary t rotr) rotrs (λ t. refl)
+        (λ t x n. Some (two (operator (of_type t 0x77 0x89)) x (numbered t (bits (width_of t) - n % bits (width_of t)))))
+        (λ t x u n l e. let w = width_of t in
+        let y : ℕ = bits w - n % bits w in
+        subst (Replaces t (binary t rotr) x n) (cc)
+        (other_constant 0x77 0x89 (binary t rotr) (λ t. binary t rotl) rotls t x n y refl refl refl refl (λ m. rotate_right w m n)
+        (λ m. rotate_left w m (y % 2 ^ bits w)) (λ m. refl) (λ m. refl)
+        (λ m. ap (λ i. i % 2 ^ bits w) (turned_left w m n (positive_width t) ∙ ap (rotate_left w m) (sym (rest t n))))))

@@ -11,6 +11,11 @@ pub mod NumberLemmas
 pub mod SequenceLemmas
 pub mod GroupLemmas
 pub mod ConstantLemmas
+pub mod DoubleLemmas
+pub mod ElementLemmas
+pub mod NegationLemmas
+pub mod DistributionLemmas
+pub mod ExtensionLemmas
 pub mod SelectLemmas
 pub mod TrapLemmas
 pub mod ForgetLemmas
@@ -19,11 +24,11 @@ pub mod ValueTypeLemmas
 pub mod RewriteLemmas
 pub mod StandingLemmas
 pub mod GraftLemmas
-pub mod OpcodeLemmas
 pub mod RaisingLemmas
 pub mod FlagLemmas
 pub mod TurnedLemmas
 pub mod ReadingLemmas
+pub mod InstructionLemmas
 pub mod ChoiceLemmas
 pub mod ApplyLemmas
 pub mod WrittenLemmas

@@ -1,7 +1,7 @@
 -- A constant that leaves the other operand as it is.
-use Rattle.std.proofs.Common.{◌≡◌, ℕ, ℤ, ◌+◌, ◌-◌, ◌*◌, ◌%◌, ◌^◌, ◌<◌, List, [], ◌∷◌, ◌++◌, length, drop, Option, Some, refl, sym, ap, ap₂, ◌∙◌, subst, arith}
+use Rattle.std.proofs.Common.{◌≡◌, ℕ, ℤ, ◌+◌, ◌-◌, ◌*◌, ◌/◌, ◌%◌, ◌^◌, ◌<◌, List, [], ◌∷◌, ◌++◌, length, drop, Option, Some, refl, sym, ap, ap₂, ◌∙◌, subst, arith}
 use Rattle.std.specs.Prelude.{pos, bit_or, bit_xor}
-use Rattle.std.specs.Int.{cast_unsigned}
+use Rattle.std.specs.Int.{cast_unsigned, w32, w64, cast_signed, int_shr, rotate_left, rotate_right}
 use Rattle.std.specs.Int.Bits.{or_zero_r, xor_zero_r}
 use Rattle.std.proofs.Math.Nat.{mod-eq_of_lt, add-mod_right, mul-one}
 use Rattle.std.proofs.lemmas.List.Elements.{All-head}
@@ -13,7 +13,7 @@ use Rattle.peephole_lang.specs.Term.{Term, node, no_terms, ◌▸◌}
 use Rattle.peephole_machine.specs.declared.integer.IntegerType.{IntegerType}
 use Rattle.peephole_machine.specs.declared.integer.IntegerType.TheVariants as integer
 use Rattle.peephole_machine.specs.Values.{type_of, width_of, Value, IsOfType, IsValue, whole, Cause, State, Outcome, Ends, Traps, Stuck, then_run, above, Context}
-use Rattle.peephole_machine.specs.Integer.{IntegerOperator, binary, add, sub, mul, or_, xor_, shl}
+use Rattle.peephole_machine.specs.Integer.{IntegerOperator, binary, add, sub, mul, or_, xor_, shl, shr_s, shr_u, rotl, rotr}
 use Rattle.peephole_machine.specs.IntegerRow.{operation, integer_row, bare_row}
 use Rattle.peephole_machine.specs.Machine.{given, act}
 use Rattle.peephole_machine.specs.Agreement.{EndsTyped}
@@ -22,11 +22,12 @@ use Rattle.peephole_terms.specs.Typing.{types_of, types_in}
 use Rattle.peephole_terms.specs.Meaning.{meaning_of, meaning}
 use Rattle.peephole_terms.specs.Agrees.{Agree, LeavesItsTypes, IsCongruence}
 use Rattle.peephole_rules.specs.Laws.{AgreeOfType}
-use Rattle.peephole_rules.specs.Rewriting.{add_zero, sub_zero, mul_one, or_zero, xor_zero, shift_by_zero}
+use Rattle.peephole_rules.specs.Rewriting.{add_zero, sub_zero, mul_one, or_zero, xor_zero, shift_by_zero, shr_s_by_zero, shr_u_by_zero, rotl_by_zero, rotr_by_zero}
 use Rattle.peephole_rules.proofs.OrderLemmas.{operator_bare}
 use Rattle.peephole_terms.specs.Laws.{MeanByTheirRows}
 use Rattle.peephole_rules.specs.Operator.{opcode_byte, operator}
 use Rattle.peephole_rules.specs.Operator as term
+use Rattle.peephole_rules.proofs.NumberLemmas.{shifted_by_zero, sign_shifted_by_zero, joined_with_itself, itself_joined}
 use Rattle.peephole_rules.proofs.RowLemmas.{HasRow, row_of}
 use Rattle.peephole_rules.proofs.OperandLemmas.{agree_equal}
 use Rattle.peephole_rules.proofs.SwapLemmas.{operator_types, act_two}
@@ -143,6 +144,30 @@ shl_leaves integer.I32 =
 shl_leaves integer.I64 =
     leaves integer.I64 (binary integer.I64 shl) 0 refl refl (λ n. n * 2 ^ (0 % 64)) (λ n. refl) (λ n l. same (2 ^ 64) n (n * 2 ^ (0 % 64)) l (mul-one n))
 
+pub shr_s_leaves : (t : IntegerType) → LeavesFirst t (binary t shr_s) 0
+shr_s_leaves integer.I32 = leaves integer.I32 (binary integer.I32 shr_s) 0 refl refl (λ n. cast_unsigned w32 (int_shr (cast_signed w32 n) (0 % 32))) (λ n. refl)
+    (λ n l. same (2 ^ 32) n (cast_unsigned w32 (int_shr (cast_signed w32 n) (0 % 32))) l (sign_shifted_by_zero w32 n l))
+shr_s_leaves integer.I64 = leaves integer.I64 (binary integer.I64 shr_s) 0 refl refl (λ n. cast_unsigned w64 (int_shr (cast_signed w64 n) (0 % 64))) (λ n. refl)
+    (λ n l. same (2 ^ 64) n (cast_unsigned w64 (int_shr (cast_signed w64 n) (0 % 64))) l (sign_shifted_by_zero w64 n l))
+
+pub shr_u_leaves : (t : IntegerType) → LeavesFirst t (binary t shr_u) 0
+shr_u_leaves integer.I32 = leaves integer.I32 (binary integer.I32 shr_u) 0 refl refl (λ n. n / 2 ^ (0 % 32)) (λ n. refl)
+    (λ n l. same (2 ^ 32) n (n / 2 ^ (0 % 32)) l (shifted_by_zero n))
+shr_u_leaves integer.I64 = leaves integer.I64 (binary integer.I64 shr_u) 0 refl refl (λ n. n / 2 ^ (0 % 64)) (λ n. refl)
+    (λ n l. same (2 ^ 64) n (n / 2 ^ (0 % 64)) l (shifted_by_zero n))
+
+pub rotl_leaves : (t : IntegerType) → LeavesFirst t (binary t rotl) 0
+rotl_leaves integer.I32 = leaves integer.I32 (binary integer.I32 rotl) 0 refl refl (λ n. rotate_left w32 n 0) (λ n. refl)
+    (λ n l. same (2 ^ 32) n (rotate_left w32 n 0) l (joined_with_itself n (2 ^ 32) l))
+rotl_leaves integer.I64 = leaves integer.I64 (binary integer.I64 rotl) 0 refl refl (λ n. rotate_left w64 n 0) (λ n. refl)
+    (λ n l. same (2 ^ 64) n (rotate_left w64 n 0) l (joined_with_itself n (2 ^ 64) l))
+
+pub rotr_leaves : (t : IntegerType) → LeavesFirst t (binary t rotr) 0
+rotr_leaves integer.I32 = leaves integer.I32 (binary integer.I32 rotr) 0 refl refl (λ n. rotate_right w32 n 0) (λ n. refl)
+    (λ n l. same (2 ^ 32) n (rotate_right w32 n 0) l (itself_joined n (2 ^ 32) l))
+rotr_leaves integer.I64 = leaves integer.I64 (binary integer.I64 rotr) 0 refl refl (λ n. rotate_right w64 n 0) (λ n. refl)
+    (λ n l. same (2 ^ 64) n (rotate_right w64 n 0) l (itself_joined n (2 ^ 64) l))
+
 module _ (rows : MeanByTheirRows) (sound : LeavesItsTypes) (laws : IsCongruence) where
   -- with an operator that is written by its opcode
   pub written_agrees : (t : IntegerType) (byte : ℕ) (z : ℤ) (f : IntegerOperator) (x : Term Head) → opcode_byte (operator byte) ≡ Some byte →
@@ -182,3 +207,23 @@ module _ (rows : MeanByTheirRows) (sound : LeavesItsTypes) (laws : IsCongruence)
   unfolding table row_at
   shift_by_zero_keeps integer.I32 x = written_agrees integer.I32 0x74 (pos 0) (binary integer.I32 shl) x refl refl (shl_leaves integer.I32)
   shift_by_zero_keeps integer.I64 x = written_agrees integer.I64 0x86 (pos 0) (binary integer.I64 shl) x refl refl (shl_leaves integer.I64)
+
+  pub shr_s_by_zero_keeps : (t : IntegerType) (x : Term Head) → AgreeOfType t x (shr_s_by_zero t x)
+  unfolding table row_at
+  shr_s_by_zero_keeps integer.I32 x = written_agrees integer.I32 0x75 (pos 0) (binary integer.I32 shr_s) x refl refl (shr_s_leaves integer.I32)
+  shr_s_by_zero_keeps integer.I64 x = written_agrees integer.I64 0x87 (pos 0) (binary integer.I64 shr_s) x refl refl (shr_s_leaves integer.I64)
+
+  pub shr_u_by_zero_keeps : (t : IntegerType) (x : Term Head) → AgreeOfType t x (shr_u_by_zero t x)
+  unfolding table row_at
+  shr_u_by_zero_keeps integer.I32 x = written_agrees integer.I32 0x76 (pos 0) (binary integer.I32 shr_u) x refl refl (shr_u_leaves integer.I32)
+  shr_u_by_zero_keeps integer.I64 x = written_agrees integer.I64 0x88 (pos 0) (binary integer.I64 shr_u) x refl refl (shr_u_leaves integer.I64)
+
+  pub rotl_by_zero_keeps : (t : IntegerType) (x : Term Head) → AgreeOfType t x (rotl_by_zero t x)
+  unfolding table row_at
+  rotl_by_zero_keeps integer.I32 x = written_agrees integer.I32 0x77 (pos 0) (binary integer.I32 rotl) x refl refl (rotl_leaves integer.I32)
+  rotl_by_zero_keeps integer.I64 x = written_agrees integer.I64 0x89 (pos 0) (binary integer.I64 rotl) x refl refl (rotl_leaves integer.I64)
+
+  pub rotr_by_zero_keeps : (t : IntegerType) (x : Term Head) → AgreeOfType t x (rotr_by_zero t x)
+  unfolding table row_at
+  rotr_by_zero_keeps integer.I32 x = written_agrees integer.I32 0x78 (pos 0) (binary integer.I32 rotr) x refl refl (rotr_leaves integer.I32)
+  rotr_by_zero_keeps integer.I64 x = written_agrees integer.I64 0x8a (pos 0) (binary integer.I64 rotr) x refl refl (rotr_leaves integer.I64)

@@ -26,7 +26,8 @@ use Rattle.peephole_terms.specs.Typing.{joined_types, types_of, types_in}
 use Rattle.peephole_terms.specs.Meaning.{meaning_of, meaning}
 use Rattle.peephole_terms.specs.Agrees.{LeavesItsTypes}
 use Rattle.peephole_terms.specs.Laws.{MeanByTheirRows}
-use Rattle.peephole_rules.specs.Operator.{byte_of, is_among, writers, instruction_byte}
+use Rattle.peephole_machine.specs.Row.{byte_of}
+use Rattle.peephole_rules.specs.Operator.{is_among, writers, instruction_byte}
 use Rattle.peephole_rules.specs.Effects.{is_writer, writes, any_writes}
 use Rattle.peephole_rules.proofs.ByteLemmas.{writes_row, known_writes, no_writer}
 

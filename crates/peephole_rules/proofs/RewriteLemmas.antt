@@ -16,18 +16,23 @@ use Rattle.peephole_rules.specs.declared.rule.Rule.{Rule}
 use Rattle.peephole_rules.specs.declared.rule.Rule.TheVariants as rule
 use Rattle.peephole_rules.specs.Operator.{constant_term, constant_head, one, unfold_head}
 use Rattle.peephole_rules.specs.ValueTypes.{type_of_value}
-use Rattle.peephole_rules.specs.Rewriting.{add_zero, sub_zero, mul_one, or_zero, xor_zero, shift_by_zero, or_self, and_self, by_way_of_global, as_a_sum, type_of_constant, unfold_constant, by_its_type, rewrite, and_ones, double_complement}
+use Rattle.peephole_rules.specs.Rewriting.{add_zero, sub_zero, mul_one, or_zero, xor_zero, shift_by_zero, or_self, and_self, by_way_of_global, as_a_sum, type_of_constant, unfold_constant, by_its_type, rewrite, and_ones, double_complement, shr_s_by_zero, shr_u_by_zero, rotl_by_zero, rotr_by_zero, wrap_extended}
 use Rattle.peephole_rules.specs.Laws.{AgreeOfType, KeepsMeaningOfType, KeepsMeaningWhereItAnswers}
 use Rattle.peephole_rules.proofs.ValueTypeLemmas.{value_typed}
 use Rattle.peephole_rules.proofs.OrderLemmas.{some_answer_if, commute_keeps, turn_comparison_keeps}
-use Rattle.peephole_rules.proofs.NeutralLemmas.{constant_types, add_zero_keeps, sub_zero_keeps, mul_one_keeps, or_zero_keeps, xor_zero_keeps, shift_by_zero_keeps}
+use Rattle.peephole_rules.proofs.NeutralLemmas.{constant_types, add_zero_keeps, sub_zero_keeps, mul_one_keeps, or_zero_keeps, xor_zero_keeps, shift_by_zero_keeps, shr_s_by_zero_keeps, shr_u_by_zero_keeps, rotl_by_zero_keeps, rotr_by_zero_keeps}
 use Rattle.peephole_rules.proofs.TwiceLemmas.{or_self_keeps, and_self_keeps}
 use Rattle.peephole_rules.proofs.GroupLemmas.{associate_left_keeps, associate_right_keeps}
-use Rattle.peephole_rules.proofs.ConstantLemmas.{test_to_comparison_keeps, comparison_to_test_keeps, drop_add_zero_keeps, drop_sub_zero_keeps, drop_mul_one_keeps, drop_or_zero_keeps, drop_xor_zero_keeps, drop_shift_by_zero_keeps, and_ones_keeps, drop_and_ones_keeps, double_complement_keeps, difference_to_sum_keeps, sum_to_difference_keeps, shift_to_product_keeps, product_to_shift_keeps}
+use Rattle.peephole_rules.proofs.ConstantLemmas.{test_to_comparison_keeps, comparison_to_test_keeps, drop_add_zero_keeps, drop_sub_zero_keeps, drop_mul_one_keeps, drop_or_zero_keeps, drop_xor_zero_keeps, drop_shift_by_zero_keeps, and_ones_keeps, drop_and_ones_keeps, double_complement_keeps, difference_to_sum_keeps, sum_to_difference_keeps, shift_to_product_keeps, product_to_shift_keeps, drop_shr_s_by_zero_keeps, drop_shr_u_by_zero_keeps, drop_rotl_by_zero_keeps, drop_rotr_by_zero_keeps, quotient_to_shift_keeps, shift_to_quotient_keeps, remainder_to_mask_keeps, mask_to_remainder_keeps, rotl_to_rotr_keeps, rotr_to_rotl_keeps}
 use Rattle.peephole_rules.proofs.SelectLemmas.{turn_select_keeps}
 use Rattle.peephole_rules.proofs.ForgetLemmas.{forget_keeps}
 use Rattle.peephole_rules.proofs.FoldLemmas.{fold_keeps}
 use Rattle.peephole_rules.proofs.WayLemmas.{by_way_of_global_keeps, as_a_sum_keeps, with_nop_keeps}
+use Rattle.peephole_rules.proofs.DoubleLemmas.{product_to_double_keeps, shift_to_double_keeps}
+use Rattle.peephole_rules.proofs.ElementLemmas.{and_zero_keeps, mul_zero_keeps, or_ones_keeps, drop_and_zero_keeps, drop_mul_zero_keeps, drop_or_ones_keeps}
+use Rattle.peephole_rules.proofs.NegationLemmas.{negate_comparison_keeps, difference_to_tests_keeps, wrap_extended_keeps, drop_negation_keeps}
+use Rattle.peephole_rules.proofs.DistributionLemmas.{distribute_product_keeps, distribute_mask_keeps, complement_of_and_keeps, complement_of_or_keeps}
+use Rattle.peephole_rules.proofs.ExtensionLemmas.{extension_to_shifts_keeps}
 
 module _ (rows : MeanByTheirRows) (sound : LeavesItsTypes) (laws : IsCongruence) where
   -- a rule of a type, on a term whose type is known
@@ -112,3 +117,34 @@ module _ (rows : MeanByTheirRows) (sound : LeavesItsTypes) (laws : IsCongruence)
   rewrite_keeps context rule.DropAndOnes x u e = drop_and_ones_keeps rows sound laws x u e context
   rewrite_keeps context rule.DropShiftByZero x u e = drop_shift_by_zero_keeps rows sound laws x u e context
   rewrite_keeps context rule.Forget x u e = forget_keeps rows sound laws x u e context
+  rewrite_keeps context rule.ShrSByZero x u e = by_type shr_s_by_zero (shr_s_by_zero_keeps rows sound laws) context x u e
+  rewrite_keeps context rule.ShrUByZero x u e = by_type shr_u_by_zero (shr_u_by_zero_keeps rows sound laws) context x u e
+  rewrite_keeps context rule.RotlByZero x u e = by_type rotl_by_zero (rotl_by_zero_keeps rows sound laws) context x u e
+  rewrite_keeps context rule.RotrByZero x u e = by_type rotr_by_zero (rotr_by_zero_keeps rows sound laws) context x u e
+  rewrite_keeps context rule.DropShrSByZero x u e = drop_shr_s_by_zero_keeps rows sound laws x u e context
+  rewrite_keeps context rule.DropShrUByZero x u e = drop_shr_u_by_zero_keeps rows sound laws x u e context
+  rewrite_keeps context rule.DropRotlByZero x u e = drop_rotl_by_zero_keeps rows sound laws x u e context
+  rewrite_keeps context rule.DropRotrByZero x u e = drop_rotr_by_zero_keeps rows sound laws x u e context
+  rewrite_keeps context rule.QuotientToShift x u e = quotient_to_shift_keeps rows sound laws x u e context
+  rewrite_keeps context rule.ShiftToQuotient x u e = shift_to_quotient_keeps rows sound laws x u e context
+  rewrite_keeps context rule.RemainderToMask x u e = remainder_to_mask_keeps rows sound laws x u e context
+  rewrite_keeps context rule.MaskToRemainder x u e = mask_to_remainder_keeps rows sound laws x u e context
+  rewrite_keeps context rule.RotlToRotr x u e = rotl_to_rotr_keeps rows sound laws x u e context
+  rewrite_keeps context rule.RotrToRotl x u e = rotr_to_rotl_keeps rows sound laws x u e context
+  rewrite_keeps context rule.ProductToDouble x u e = product_to_double_keeps rows sound laws x u e context
+  rewrite_keeps context rule.ShiftToDouble x u e = shift_to_double_keeps rows sound laws x u e context
+  rewrite_keeps context rule.AndZero x u e = and_zero_keeps rows sound laws x u e context
+  rewrite_keeps context rule.MulZero x u e = mul_zero_keeps rows sound laws x u e context
+  rewrite_keeps context rule.OrOnes x u e = or_ones_keeps rows sound laws x u e context
+  rewrite_keeps context rule.DropAndZero x u e = drop_and_zero_keeps rows sound laws x u e context
+  rewrite_keeps context rule.DropMulZero x u e = drop_mul_zero_keeps rows sound laws x u e context
+  rewrite_keeps context rule.DropOrOnes x u e = drop_or_ones_keeps rows sound laws x u e context
+  rewrite_keeps context rule.NegateComparison x u e = negate_comparison_keeps rows sound laws x u e context
+  rewrite_keeps context rule.DifferenceToTests x u e = difference_to_tests_keeps rows sound laws x u e context
+  rewrite_keeps context rule.WrapExtended x u e = of_its_type context wrap_extended (wrap_extended_keeps rows sound laws) x u e
+  rewrite_keeps context rule.DropNegation x u e = drop_negation_keeps rows sound laws x u e context
+  rewrite_keeps context rule.DistributeProduct x u e = distribute_product_keeps rows sound laws x u e context
+  rewrite_keeps context rule.DistributeMask x u e = distribute_mask_keeps rows sound laws x u e context
+  rewrite_keeps context rule.ComplementOfAnd x u e = complement_of_and_keeps rows sound laws x u e context
+  rewrite_keeps context rule.ComplementOfOr x u e = complement_of_or_keeps rows sound laws x u e context
+  rewrite_keeps context rule.ExtensionToShifts x u e = extension_to_shifts_keeps rows sound laws x u e context

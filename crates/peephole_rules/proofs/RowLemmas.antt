@@ -7,7 +7,8 @@ use Rattle.wasm_code.specs.declared.table.Opcode.TheVariants.{Byte, Fc, Fd}
 use Rattle.wasm_code.specs.Table.{row_at, opcode_in}
 use Rattle.peephole_lang.specs.declared.lang.Head.{Head}
 use Rattle.peephole_lang.specs.Node.{instr_of_head}
-use Rattle.peephole_rules.specs.Operator.{byte_of, instruction_byte, opcode_byte, are_same}
+use Rattle.peephole_machine.specs.Row.{byte_of}
+use Rattle.peephole_rules.specs.Operator.{instruction_byte, opcode_byte, are_same}
 
 -- The node's instruction has the opcode.
 pub record HasRow (h : Head) (byte : ℕ) : Type 0 where

@@ -33,7 +33,8 @@ use Rattle.peephole_terms.specs.Typing.{types_of, types_in}
 use Rattle.peephole_terms.specs.Meaning.{meaning_of, meaning}
 use Rattle.peephole_terms.specs.Agrees.{LeavesItsTypes}
 use Rattle.peephole_terms.specs.Laws.{MeanByTheirRows}
-use Rattle.peephole_rules.specs.Operator.{byte_of, instruction_byte, is_in, is_among}
+use Rattle.peephole_machine.specs.Row.{byte_of}
+use Rattle.peephole_rules.specs.Operator.{instruction_byte, is_in, is_among}
 use Rattle.peephole_rules.specs.Effects.{trappers, is_trapper, may_trap, any_may_trap}
 use Rattle.peephole_rules.specs.Laws.{HasEnded, EndsWithoutTrap}
 use Rattle.peephole_rules.proofs.ByteLemmas.{AllOf, each}

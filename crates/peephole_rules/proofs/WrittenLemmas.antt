@@ -12,11 +12,12 @@ use Rattle.peephole_lang.specs.Lang.{ids_of}
 use Rattle.peephole_lang.specs.Node.{head_of, children_of, node_of}
 use Rattle.peephole_lang.specs.Term.{Term, node, no_terms, ◌▸◌, Node, pick, tree_at, AreBelow, numbers_of}
 use Rattle.peephole_lang.specs.laws.PlaceLemmas.{IsAt, at_place, children_in, tree_is}
-use Rattle.peephole_rules.specs.declared.replacement.Replacement.TheVariants.{Swap, Turn, GroupLeft, GroupRight, First, TurnSelect}
+use Rattle.peephole_rules.specs.declared.replacement.Replacement.TheVariants.{Swap, Turn, GroupLeft, GroupRight, First, TurnSelect, Negated, InnerBy, Distribute}
 use Rattle.peephole_rules.specs.Operator.{operator}
-use Rattle.peephole_rules.specs.Grafted.{expression_nodes}
-use Rattle.peephole_rules.specs.Replacement.{term_by, CanReplace, HasTwo, CanBeWritten, Replaces}
+use Rattle.peephole_rules.specs.Grafted.{expression_nodes, term_at}
+use Rattle.peephole_rules.specs.Replacement.{term_by, CanReplace, HasTwo, CanBeWritten, Replaces, HasTwoInner, AreInner}
 use Rattle.peephole_rules.proofs.GraftLemmas.{at_last, at_earlier, at_writable}
+use Rattle.peephole_machine.specs.declared.integer.IntegerType.{IntegerType}
 
 pub swapped_below : (n : ℕ) (is js : List ℕ) → length is ≡ 2 → ((i j : ℕ) → is ≡ i ∷ j ∷ [] → js ≡ j ∷ i ∷ []) → All (λ k. k < n) is →
     All (λ k. k < n) js
@@ -44,6 +45,12 @@ module _ (h : Head) (f : ℕ → Term Head) where
   turn_two byte (i ∷ j ∷ []) k = refl
   turn_two byte (i ∷ j ∷ l ∷ is) k = absurd k
 
+  pub negated_two : (byte : ℕ) (is : List ℕ) → CanReplace (Negated byte) (node h (pick f is)) → length is ≡ 2
+  negated_two byte [] k = absurd k
+  negated_two byte (i ∷ []) k = absurd k
+  negated_two byte (i ∷ j ∷ []) k = refl
+  negated_two byte (i ∷ j ∷ l ∷ is) k = absurd k
+
   pub select_three : (is : List ℕ) → CanReplace TurnSelect (node h (pick f is)) → length is ≡ 3
   select_three [] k = absurd k
   select_three (i ∷ []) k = absurd k
@@ -68,6 +75,24 @@ module _ (h : Head) (f : ℕ → Term Head) where
   right_two (i ∷ []) k = absurd k
   right_two (i ∷ j ∷ []) k = refl
   right_two (i ∷ j ∷ l ∷ is) k = absurd k
+
+  pub inner_two : (byte : ℕ) (is : List ℕ) → CanReplace (InnerBy byte) (node h (pick f is)) → HasTwoInner (node h (pick f is))
+  inner_two byte [] k = absurd k
+  inner_two byte (i ∷ is) k = k.0
+
+  pub distributed_two : (outer inner : ℕ) (t : IntegerType) (number : ℕ) (is : List ℕ) → CanReplace (Distribute outer inner t number) (node h (pick f is)) →
+      HasTwoInner (node h (pick f is))
+  distributed_two outer inner t number [] k = absurd k
+  distributed_two outer inner t number (i ∷ is) k = k.0
+
+  -- of a node's first child
+  pub has_inner : (is : List ℕ) → HasTwoInner (node h (pick f is)) → 0 < length is
+  has_inner [] k = absurd k
+  has_inner (i ∷ is) k = omega arith
+
+  pub inner_of : (is : List ℕ) (i : ℕ) (rest : List ℕ) (g : Head) (js : List ℕ) → is ≡ i ∷ rest → f i ≡ node g (pick f js) →
+      HasTwoInner (node h (pick f is)) → HasTwo (node g (pick f js))
+  inner_of is i rest g js e k fits = subst HasTwo k (subst (λ (ks : List ℕ). HasTwoInner (node h (pick f ks))) e fits)
 
   -- of the operator that is grouped anew
   pub left_inner : (is : List ℕ) (x i : ℕ) (g : Head) (js : List ℕ) → is ≡ x ∷ i ∷ [] → f i ≡ node g (pick f js) →
@@ -199,6 +224,23 @@ module _ (earlier : List (Node Head)) where
         kept = past_two last test;
         writable = λ a b. (stays_writable n last hl a, (subst (λ (h : Head). IsTrue (is_writable h.payload)) (sym ht) refl, b));
       })
+
+-- ---- the children of the first child
+
+pub inner_are : (expr : List Lang) (l m : Lang) (i : ℕ) (rest : List ℕ) (x y : ℕ) → StandsAt expr i m → children_of l ≡ i ∷ rest →
+    children_of m ≡ x ∷ y ∷ [] → AreInner expr l x y
+inner_are expr l m i rest x y s kl km =
+    let below = below_there expr i m s in
+    let there = term_there expr i m s in
+    record {
+      first = first_below (length expr) (children_of m) x y km below;
+      second = second_below (length expr) (children_of m) x y km below;
+      head = head_of m;
+      rest = pick (term_at expr) rest;
+      is = ap (λ (js : List ℕ). node (head_of l) (pick (term_at expr) js)) kl
+          ∙ ap (λ (v : Term Head). node (head_of l) (v ▸ pick (term_at expr) rest))
+          (there ∙ ap (λ (js : List ℕ). node (head_of m) (pick (term_at expr) js)) km);
+    }
 
 -- ---- three children
 

@@ -1,6 +1,6 @@
 -- What a rule puts in the place of a node, by what is read of the node and of its operands (this project): of every node of that
 -- shape it makes what `rewrite` says.
-use Rattle.std.specs.Prelude.{ℕ, ◌-◌, ◌%◌, ◌^◌, ◌==◌, ◌&&◌, not, nat_lt, Bool, List, [], ◌∷◌, Option, Some, None, option_map, option_and_then, if◌then◌else◌}
+use Rattle.std.specs.Prelude.{ℕ, ◌+◌, ◌-◌, ◌%◌, ◌^◌, ◌==◌, ◌&&◌, not, nat_lt, Bool, true, List, [], ◌∷◌, Option, Some, None, option_map, option_and_then, if◌then◌else◌}
 use mir.Val.{bits}
 use Rattle.mutate_base.specs.declared.types.PrimitiveTypeInfo.{PrimitiveTypeInfo}
 use Rattle.peephole_machine.specs.declared.integer.IntegerType.{IntegerType}
@@ -16,10 +16,10 @@ use Rattle.peephole_rules.specs.declared.shape.Operands.{Operands}
 use Rattle.peephole_rules.specs.declared.shape.Operands.TheVariants.{One, Two, Three}
 use Rattle.peephole_rules.specs.declared.shape.Shape.{Shape}
 use Rattle.peephole_rules.specs.declared.replacement.Replacement.{Replacement}
-use Rattle.peephole_rules.specs.declared.replacement.Replacement.TheVariants.{Swap, Turn, GroupLeft, GroupRight, Constant, Complements, Twice, First, FirstWith, FirstBy, TurnSelect, Unfold, UseGlobal, Nop, Empty, Number}
-use Rattle.peephole_rules.specs.Operator.{is_among, are_same, type_by, commutative, associative, turned, of_type, within_width}
+use Rattle.peephole_rules.specs.declared.replacement.Replacement.TheVariants.{Swap, Turn, GroupLeft, GroupRight, Constant, Complements, Twice, First, FirstWith, FirstBy, TurnSelect, Unfold, UseGlobal, Nop, Empty, Number, FirstTwice, Drawn, Negated, FirstByBoth, ByBoth, InnerBy, Distribute, FirstWithBoth}
+use Rattle.peephole_rules.specs.Operator.{is_among, are_same, type_by, commutative, associative, turned, of_type, within_width, opposite_of, bits_left_out}
 use Rattle.peephole_rules.specs.ValueTypes.{integer_of}
-use Rattle.peephole_rules.specs.Rewriting.{answer_if, all_ones, lowest_bit}
+use Rattle.peephole_rules.specs.Rewriting.{answer_if, all_ones, lowest_bit, typed_constant}
 
 -- ---- operands
 
@@ -102,16 +102,30 @@ opposite integer.I64 n = if n == 0 then 0 else 2 ^ 64 - n
 abbrev pub with_opposite : (i32_opcode i64_opcode : ℕ) → Option (IntegerType × ℕ) → Option Replacement
 with_opposite a b c = option_map (λ p. FirstWith (of_type p.0 a b) p.0 (opposite p.0 p.1)) c
 
-abbrev pub product : Option (IntegerType × ℕ) → Option Replacement
-product c = option_and_then (λ p. answer_if (nat_lt p.1 (bits (width_of p.0))) (FirstWith (of_type p.0 0x6c 0x7e) p.0 (2 ^ p.1))) c
+-- a power of two in the place of a number below the width
+abbrev pub with_power : (i32_opcode i64_opcode : ℕ) → Option (IntegerType × ℕ) → Option Replacement
+with_power a b c = option_and_then (λ p. answer_if (nat_lt p.1 (bits (width_of p.0))) (FirstWith (of_type p.0 a b) p.0 (2 ^ p.1))) c
 
 -- the place of the lowest bit that is set, of the low bits
 abbrev pub lowest_place : IntegerType → ℕ → ℕ
 lowest_place t n = lowest_bit t (within_width t n)
 
-abbrev pub shift : Option (IntegerType × ℕ) → Option Replacement
-shift c = option_and_then (λ p.
-    answer_if (2 ^ lowest_place p.0 p.1 == p.1) (FirstWith (of_type p.0 0x74 0x86) p.0 (lowest_place p.0 p.1))) c
+-- the place of its bit in the place of a number that has no other
+abbrev pub with_place : (i32_opcode i64_opcode : ℕ) → Option (IntegerType × ℕ) → Option Replacement
+with_place a b c = option_and_then (λ p.
+    answer_if (2 ^ lowest_place p.0 p.1 == p.1) (FirstWith (of_type p.0 a b) p.0 (lowest_place p.0 p.1))) c
+
+-- one less than a number with one bit, and one more than a number that is one less than such
+abbrev pub with_mask : Option (IntegerType × ℕ) → Option Replacement
+with_mask c = option_and_then (λ p. answer_if (2 ^ lowest_place p.0 p.1 == p.1) (FirstWith (of_type p.0 0x71 0x83) p.0 (p.1 - 1))) c
+
+abbrev pub with_divisor : Option (IntegerType × ℕ) → Option Replacement
+with_divisor c = option_and_then (λ p.
+    answer_if (nat_lt p.1 (all_ones p.0) && (2 ^ lowest_place p.0 (p.1 + 1) == p.1 + 1)) (FirstWith (of_type p.0 0x70 0x82) p.0 (p.1 + 1))) c
+
+-- the turn that is left to the whole
+abbrev pub with_rest : (i32_opcode i64_opcode : ℕ) → Option (IntegerType × ℕ) → Option Replacement
+with_rest a b c = option_map (λ p. FirstWith (of_type p.0 a b) p.0 (bits (width_of p.0) - p.1 % bits (width_of p.0))) c
 
 -- ---- constants, drop, and other ways to the same value
 
@@ -155,6 +169,55 @@ abbrev pub folded : (opcode : Option ℕ) → Operands → Option Replacement
 folded opcode operands =
     option_and_then (λ f. option_map (λ n. Number f.result n) (folded_number f operands)) (option_and_then bare_operator opcode)
 
+-- by the first of two operands, and the type and the number of the second
+abbrev pub by_first : Operands → (Operand → IntegerType × ℕ → Option Replacement) → Option (IntegerType × ℕ) → Option Replacement
+by_first (Two x y) f c = option_and_then (f x) c
+by_first operands f c = None
+
+-- the first operand twice, where the second is that number
+abbrev pub double : ℕ → Operands → Option (IntegerType × ℕ) → Option Replacement
+double e operands c =
+    by_first operands (λ x p. answer_if ((p.1 == e) && (not x.writes && not x.asks)) (FirstTwice (of_type p.0 0x6a 0x7c))) c
+
+-- the second operand alone, where that is the element of its type
+abbrev pub alone : (element : IntegerType → ℕ) → Operands → Option (IntegerType × ℕ) → Option Replacement
+alone element operands c =
+    by_first operands (λ x p. answer_if ((p.1 == element p.0) && (not x.writes && not x.may_trap)) (Number p.0 p.1)) c
+
+-- the element behind a drawn constant
+abbrev pub drawn : (i32_opcode i64_opcode : ℕ) → (element : IntegerType → ℕ) → Option (IntegerType × ℕ) → Option Replacement
+drawn a b element c = option_and_then (λ p. answer_if (p.1 == element p.0) (Drawn (of_type p.0 a b) p.0)) c
+
+abbrev pub negated : (opcode : Option ℕ) → Operands → Option Replacement
+negated opcode (Two x y) = option_map (λ byte. Negated byte) (option_and_then opposite_of opcode)
+negated opcode operands = None
+
+abbrev pub both_tests : Option (IntegerType × ℕ) → Option Replacement
+both_tests c = option_and_then (λ p. answer_if (p.1 == 0) (FirstByBoth (of_type p.0 0x45 0x50) 0x45)) c
+
+abbrev pub wrapped : Option IntegerType → Option Replacement
+wrapped (Some integer.I32) = Some (ByBoth 0xad 0xa7)
+wrapped value = None
+
+-- the comparison on the inner operands that holds where that doesn't of which this is the test
+abbrev pub unnegated : (opcode : Option ℕ) → Operands → Option Replacement
+unnegated opcode (One x) = if are_same opcode (Some 0x45) then
+    option_and_then (λ values. option_map (λ byte. InnerBy byte) (option_and_then opposite_of x.opcode)) x.values else None
+unnegated opcode operands = None
+
+-- an operator on the parts of the first operand, of this type and number
+abbrev pub part : (a b c d e f : ℕ) → Operand → IntegerType × ℕ → (met : Bool) → Option Replacement
+part a b c d e f x p met = option_and_then (λ values.
+    answer_if ((are_same x.opcode (Some (of_type p.0 a b)) && values.0) && met) (Distribute (of_type p.0 c d) (of_type p.0 e f) p.0 p.1)) x.values
+
+abbrev pub distributed : (a b c d e f : ℕ) → (test : IntegerType → ℕ → Bool) → Operands → Option (IntegerType × ℕ) → Option Replacement
+distributed a b c d e f test operands behind = by_first operands (λ x p. part a b c d e f x p (test p.0 p.1)) behind
+
+abbrev pub shifts : (opcode : Option ℕ) → Operands → Option Replacement
+shifts opcode (One x) =
+    option_map (λ p. FirstWithBoth (of_type p.0 0x74 0x86) (of_type p.0 0x75 0x87) p.0 p.1) (option_and_then bits_left_out opcode)
+shifts opcode operands = None
+
 -- ---- every rule
 
 abbrev pub choice : Rule → Shape → Option Replacement
@@ -172,8 +235,8 @@ choice rule.ShiftByZero s = with_number 0x74 0x86 0 s.value
 choice rule.OrSelf s = twice 0x72 0x84 s.root.writes s.root.asks s.value
 choice rule.AndSelf s = twice 0x71 0x83 s.root.writes s.root.asks s.value
 choice rule.DoubleComplement s = complements 0x73 0x85 s.value
-choice rule.ShiftToProduct s = product (number_behind 0x74 0x86 s.root.opcode s.operands)
-choice rule.ProductToShift s = shift (number_behind 0x6c 0x7e s.root.opcode s.operands)
+choice rule.ShiftToProduct s = with_power 0x6c 0x7e (number_behind 0x74 0x86 s.root.opcode s.operands)
+choice rule.ProductToShift s = with_place 0x74 0x86 (number_behind 0x6c 0x7e s.root.opcode s.operands)
 choice rule.DifferenceToSum s = with_opposite 0x6a 0x7c (number_behind 0x6b 0x7d s.root.opcode s.operands)
 choice rule.SumToDifference s = with_opposite 0x6b 0x7d (number_behind 0x6a 0x7c s.root.opcode s.operands)
 choice rule.TestToComparison s = comparison s.root.opcode s.operands
@@ -191,3 +254,34 @@ choice rule.DropXorZero s = without 0 (number_behind 0x73 0x85 s.root.opcode s.o
 choice rule.DropAndOnes s = without_all_ones (number_behind 0x71 0x83 s.root.opcode s.operands)
 choice rule.DropShiftByZero s = without 0 (number_behind 0x74 0x86 s.root.opcode s.operands)
 choice rule.Forget s = forgotten s.root.opcode s.operands
+choice rule.ShrSByZero s = with_number 0x75 0x87 0 s.value
+choice rule.ShrUByZero s = with_number 0x76 0x88 0 s.value
+choice rule.RotlByZero s = with_number 0x77 0x89 0 s.value
+choice rule.RotrByZero s = with_number 0x78 0x8a 0 s.value
+choice rule.DropShrSByZero s = without 0 (number_behind 0x75 0x87 s.root.opcode s.operands)
+choice rule.DropShrUByZero s = without 0 (number_behind 0x76 0x88 s.root.opcode s.operands)
+choice rule.DropRotlByZero s = without 0 (number_behind 0x77 0x89 s.root.opcode s.operands)
+choice rule.DropRotrByZero s = without 0 (number_behind 0x78 0x8a s.root.opcode s.operands)
+choice rule.QuotientToShift s = with_place 0x76 0x88 (number_behind 0x6e 0x80 s.root.opcode s.operands)
+choice rule.ShiftToQuotient s = with_power 0x6e 0x80 (number_behind 0x76 0x88 s.root.opcode s.operands)
+choice rule.RemainderToMask s = with_mask (number_behind 0x70 0x82 s.root.opcode s.operands)
+choice rule.MaskToRemainder s = with_divisor (number_behind 0x71 0x83 s.root.opcode s.operands)
+choice rule.RotlToRotr s = with_rest 0x78 0x8a (number_behind 0x77 0x89 s.root.opcode s.operands)
+choice rule.RotrToRotl s = with_rest 0x77 0x89 (number_behind 0x78 0x8a s.root.opcode s.operands)
+choice rule.ProductToDouble s = double 2 s.operands (number_behind 0x6c 0x7e s.root.opcode s.operands)
+choice rule.ShiftToDouble s = double 1 s.operands (number_behind 0x74 0x86 s.root.opcode s.operands)
+choice rule.AndZero s = drawn 0x71 0x83 (λ t. 0) (typed_constant s.root.i32_number s.root.i64_number)
+choice rule.MulZero s = drawn 0x6c 0x7e (λ t. 0) (typed_constant s.root.i32_number s.root.i64_number)
+choice rule.OrOnes s = drawn 0x72 0x84 all_ones (typed_constant s.root.i32_number s.root.i64_number)
+choice rule.DropAndZero s = alone (λ t. 0) s.operands (number_behind 0x71 0x83 s.root.opcode s.operands)
+choice rule.DropMulZero s = alone (λ t. 0) s.operands (number_behind 0x6c 0x7e s.root.opcode s.operands)
+choice rule.DropOrOnes s = alone all_ones s.operands (number_behind 0x72 0x84 s.root.opcode s.operands)
+choice rule.NegateComparison s = negated s.root.opcode s.operands
+choice rule.DifferenceToTests s = both_tests (number_behind 0x47 0x52 s.root.opcode s.operands)
+choice rule.WrapExtended s = wrapped s.value
+choice rule.DropNegation s = unnegated s.root.opcode s.operands
+choice rule.DistributeProduct s = distributed 0x6a 0x7c 0x6a 0x7c 0x6c 0x7e (λ t n. true) s.operands (number_behind 0x6c 0x7e s.root.opcode s.operands)
+choice rule.DistributeMask s = distributed 0x72 0x84 0x72 0x84 0x71 0x83 (λ t n. true) s.operands (number_behind 0x71 0x83 s.root.opcode s.operands)
+choice rule.ComplementOfAnd s = distributed 0x71 0x83 0x72 0x84 0x73 0x85 (λ t n. n == all_ones t) s.operands (number_behind 0x73 0x85 s.root.opcode s.operands)
+choice rule.ComplementOfOr s = distributed 0x72 0x84 0x71 0x83 0x73 0x85 (λ t n. n == all_ones t) s.operands (number_behind 0x73 0x85 s.root.opcode s.operands)
+choice rule.ExtensionToShifts s = shifts s.root.opcode s.operands

@@ -12,7 +12,7 @@ use Rattle.peephole_terms.specs.Agrees.{Agree, StandsFor}
 use Rattle.peephole_rules.specs.declared.rule.Rule.{Rule}
 use Rattle.peephole_rules.specs.Operator.{constant_term}
 use Rattle.peephole_rules.specs.Effects.{may_trap}
-use Rattle.peephole_rules.specs.Rewriting.{commute, turn_comparison, add_zero, sub_zero, mul_one, or_zero, xor_zero, shift_by_zero, or_self, and_self, by_way_of_global, as_a_sum, with_nop, associate_left, associate_right, test_to_comparison, comparison_to_test, drop_add_zero, drop_sub_zero, drop_mul_one, drop_or_zero, drop_xor_zero, drop_shift_by_zero, and_ones, drop_and_ones, double_complement, difference_to_sum, sum_to_difference, shift_to_product, product_to_shift, turn_select, forget, fold, rewrite}
+use Rattle.peephole_rules.specs.Rewriting.{commute, turn_comparison, add_zero, sub_zero, mul_one, or_zero, xor_zero, shift_by_zero, or_self, and_self, by_way_of_global, as_a_sum, with_nop, associate_left, associate_right, test_to_comparison, comparison_to_test, drop_add_zero, drop_sub_zero, drop_mul_one, drop_or_zero, drop_xor_zero, drop_shift_by_zero, and_ones, drop_and_ones, double_complement, difference_to_sum, sum_to_difference, shift_to_product, product_to_shift, turn_select, forget, fold, rewrite, shr_s_by_zero, shr_u_by_zero, rotl_by_zero, rotr_by_zero, drop_shr_s_by_zero, drop_shr_u_by_zero, drop_rotl_by_zero, drop_rotr_by_zero, quotient_to_shift, shift_to_quotient, remainder_to_mask, mask_to_remainder, rotl_to_rotr, rotr_to_rotl, product_to_double, shift_to_double, and_zero, mul_zero, or_ones, drop_and_zero, drop_mul_zero, drop_or_ones, negate_comparison, difference_to_tests, wrap_extended, drop_negation, distribute_product, distribute_mask, complement_of_and, complement_of_or, extension_to_shifts}
 
 -- Where the first term has types and draws no word, the second has the same types, and means the same in every state, for all words that it draws.
 abbrev pub AgreeAlways : (before after : Term Head) → Type 0
@@ -84,5 +84,36 @@ pub record RulesKeepMeaning : Type 0 where
   pub shift_to_product_keeps : KeepsMeaning shift_to_product
   pub product_to_shift_keeps : KeepsMeaning product_to_shift
   pub fold_keeps : KeepsMeaning fold
+  pub shr_s_by_zero_keeps : KeepsMeaningOfType shr_s_by_zero
+  pub shr_u_by_zero_keeps : KeepsMeaningOfType shr_u_by_zero
+  pub rotl_by_zero_keeps : KeepsMeaningOfType rotl_by_zero
+  pub rotr_by_zero_keeps : KeepsMeaningOfType rotr_by_zero
+  pub drop_shr_s_by_zero_keeps : KeepsMeaning drop_shr_s_by_zero
+  pub drop_shr_u_by_zero_keeps : KeepsMeaning drop_shr_u_by_zero
+  pub drop_rotl_by_zero_keeps : KeepsMeaning drop_rotl_by_zero
+  pub drop_rotr_by_zero_keeps : KeepsMeaning drop_rotr_by_zero
+  pub quotient_to_shift_keeps : KeepsMeaning quotient_to_shift
+  pub shift_to_quotient_keeps : KeepsMeaning shift_to_quotient
+  pub remainder_to_mask_keeps : KeepsMeaning remainder_to_mask
+  pub mask_to_remainder_keeps : KeepsMeaning mask_to_remainder
+  pub rotl_to_rotr_keeps : KeepsMeaning rotl_to_rotr
+  pub rotr_to_rotl_keeps : KeepsMeaning rotr_to_rotl
+  pub product_to_double_keeps : KeepsMeaning product_to_double
+  pub shift_to_double_keeps : KeepsMeaning shift_to_double
+  pub and_zero_keeps : KeepsMeaning and_zero
+  pub mul_zero_keeps : KeepsMeaning mul_zero
+  pub or_ones_keeps : KeepsMeaning or_ones
+  pub drop_and_zero_keeps : KeepsMeaning drop_and_zero
+  pub drop_mul_zero_keeps : KeepsMeaning drop_mul_zero
+  pub drop_or_ones_keeps : KeepsMeaning drop_or_ones
+  pub negate_comparison_keeps : KeepsMeaning negate_comparison
+  pub difference_to_tests_keeps : KeepsMeaning difference_to_tests
+  pub wrap_extended_keeps : KeepsMeaningWhereItAnswers wrap_extended
+  pub drop_negation_keeps : KeepsMeaning drop_negation
+  pub distribute_product_keeps : KeepsMeaning distribute_product
+  pub distribute_mask_keeps : KeepsMeaning distribute_mask
+  pub complement_of_and_keeps : KeepsMeaning complement_of_and
+  pub complement_of_or_keeps : KeepsMeaning complement_of_or
+  pub extension_to_shifts_keeps : KeepsMeaning extension_to_shifts
   pub rewrite_keeps : (context : Context) (rule : Rule) (x u : Term Head) →
       rewrite context rule x ≡ Some u → StandsFor context x u

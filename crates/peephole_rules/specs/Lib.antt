@@ -6,6 +6,8 @@ pub mod Grafted
 pub mod Rewriting
 pub mod Flags
 pub mod Shape
+pub mod Instruction
+pub mod ReadAlike
 pub mod Replacement
 pub mod Choice
 pub mod Laws

@@ -4,9 +4,7 @@ use Rattle.std.specs.Prelude.{ℕ, ℤ, ◌+◌, ◌-◌, ◌%◌, ◌^◌, ◌=
 use Rattle.std.specs.Int.{w32, w64, cast_signed, cast_unsigned}
 use mir.Val.{bits}
 use Rattle.wasm_code.specs.Instruction.{Instruction}
-use Rattle.wasm_code.specs.declared.table.Opcode.{Opcode}
-use Rattle.wasm_code.specs.declared.table.Opcode.TheVariants.{Byte}
-use Rattle.wasm_code.specs.Table.{row_at, opcode_in, row_info_of}
+use Rattle.wasm_code.specs.Table.{row_info_of}
 use Rattle.wasm_code.specs.declared.table.ResultKind.{ResultKind}
 use Rattle.wasm_code.specs.declared.table.ResultKind.TheVariants as results
 use Rattle.wasm_code.specs.declared.table.RowInfo.{RowInfo}
@@ -17,16 +15,13 @@ use Rattle.peephole_lang.specs.Node.{instr_of_head}
 use Rattle.peephole_lang.specs.Term.{Term, Terms, absent, node, no_terms, ◌▸◌}
 use Rattle.peephole_machine.specs.declared.integer.IntegerType.{IntegerType}
 use Rattle.peephole_machine.specs.declared.integer.IntegerType.TheVariants as integer
+use Rattle.peephole_machine.specs.Row as row
 use Rattle.peephole_machine.specs.Values.{width_of}
 
 -- ---- opcodes
 
-abbrev pub byte_of : Option Opcode → Option ℕ
-byte_of (Some (Byte byte)) = Some byte
-byte_of o = None
-
 abbrev pub instruction_byte : Option Instruction → Option ℕ
-instruction_byte (Some i) = byte_of (opcode_in (row_at i.row))
+instruction_byte (Some i) = row.instruction_byte i
 instruction_byte None = None
 
 -- the opcode of a node's instruction, where that is one byte
@@ -70,6 +65,30 @@ greater = 0x4a ∷ 0x4b ∷ 0x4e ∷ 0x4f ∷ 0x55 ∷ 0x56 ∷ 0x59 ∷ 0x5a �
 -- the comparison that holds of the operands in the other order: gt for lt, ge for le, and back
 abbrev pub turned : ℕ → Option ℕ
 turned byte = if is_in less byte then Some (byte + 2) else (if is_in greater byte then Some (byte - 2) else None)
+
+-- each comparison beside that which holds where it doesn't: eq and ne, lt and ge, gt and le, signed and unsigned, of i32 and of i64
+abbrev pub opposites : List (ℕ × ℕ)
+opposites =
+    (0x46, 0x47) ∷ (0x47, 0x46) ∷ (0x48, 0x4e) ∷ (0x49, 0x4f) ∷ (0x4a, 0x4c)
+    ∷ (0x4b, 0x4d) ∷ (0x4c, 0x4a) ∷ (0x4d, 0x4b) ∷ (0x4e, 0x48) ∷ (0x4f, 0x49)
+    ∷ (0x51, 0x52) ∷ (0x52, 0x51) ∷ (0x53, 0x59) ∷ (0x54, 0x5a) ∷ (0x55, 0x57)
+    ∷ (0x56, 0x58) ∷ (0x57, 0x55) ∷ (0x58, 0x56) ∷ (0x59, 0x53) ∷ (0x5a, 0x54) ∷ []
+
+-- the second of the pair whose first is the byte
+abbrev pub paired : List (ℕ × ℕ) → ℕ → Option ℕ
+paired [] byte = None
+paired (p ∷ ps) byte = if byte == p.0 then Some p.1 else paired ps byte
+
+-- the comparison that holds where this one doesn't
+abbrev pub opposite_of : ℕ → Option ℕ
+opposite_of byte = paired opposites byte
+
+-- of what extends low bits with sign the type, and how many bits it leaves out: extend8_s and extend16_s, of each type, and extend32_s
+abbrev pub bits_left_out : ℕ → Option (IntegerType × ℕ)
+bits_left_out byte =
+    if byte == 0xc0 then Some (integer.I32, 24) else (if byte == 0xc1 then Some (integer.I32, 16) else
+    (if byte == 0xc2 then Some (integer.I64, 56) else (if byte == 0xc3 then Some (integer.I64, 48) else
+    (if byte == 0xc4 then Some (integer.I64, 32) else None))))
 
 -- the operators that may be grouped either way: add, mul, and, or, xor
 abbrev pub associative : List ℕ
@@ -135,6 +154,14 @@ nop_head = record { place = 12; payload = payload.Nothing }
 
 abbrev pub nop : Term Head
 nop = node nop_head no_terms
+
+-- a drawn constant
+abbrev pub random_head : IntegerType → Head
+random_head integer.I32 = record { place = 0; payload = payload.Nothing }
+random_head integer.I64 = record { place = 1; payload = payload.Nothing }
+
+abbrev pub random : IntegerType → Term Head
+random t = node (random_head t) no_terms
 
 -- the constant as the sum of a drawn word and the rest
 abbrev pub unfold_head : IntegerType → Head

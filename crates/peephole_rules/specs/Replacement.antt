@@ -3,11 +3,14 @@ use Rattle.std.specs.Prelude.{◌≡◌, ℕ, suc, ◌+◌, ◌-◌, ◌<◌, �
 use Rattle.peephole_nodes.specs.NumericShapes.{is_numeric}
 use Rattle.peephole_nodes.specs.Payload.{is_writable}
 use Rattle.peephole_lang.specs.declared.lang.Head.{Head}
-use Rattle.peephole_lang.specs.Term.{Term, node, no_terms, ◌▸◌, Node, pick, tree_at}
+use Rattle.peephole_lang.specs.Term.{Term, Terms, node, no_terms, ◌▸◌, Node, pick, tree_at}
 use Rattle.peephole_rules.specs.declared.replacement.Replacement.{Replacement}
-use Rattle.peephole_rules.specs.declared.replacement.Replacement.TheVariants.{Swap, Turn, GroupLeft, GroupRight, Constant, Complements, Twice, First, FirstWith, FirstBy, TurnSelect, Unfold, UseGlobal, Nop, Empty, Number}
-use Rattle.peephole_rules.specs.Operator.{operator, numbered, one, two, container, unfold_head, use_global_head}
+use Rattle.peephole_rules.specs.declared.replacement.Replacement.TheVariants.{Swap, Turn, GroupLeft, GroupRight, Constant, Complements, Twice, First, FirstWith, FirstBy, TurnSelect, Unfold, UseGlobal, Nop, Empty, Number, FirstTwice, Drawn, Negated, FirstByBoth, ByBoth, InnerBy, Distribute, FirstWithBoth}
+use Rattle.peephole_rules.specs.Operator.{operator, numbered, one, two, container, unfold_head, use_global_head, random}
 use Rattle.peephole_rules.specs.Rewriting.{with_nop}
+use Rattle.peephole_lang.specs.declared.lang.Lang.{Lang}
+use Rattle.peephole_lang.specs.Node.{head_of}
+use Rattle.peephole_rules.specs.Grafted.{term_over, term_at}
 
 -- what they make of the term of the node
 abbrev pub term_by : Replacement → Term Head → Term Head
@@ -22,6 +25,15 @@ term_by First (node h (x ▸ ts)) = x
 term_by (FirstWith byte t number) (node h (x ▸ ts)) = two (operator byte) x (numbered t number)
 term_by (FirstBy byte) (node h (x ▸ ts)) = one (operator byte) x
 term_by TurnSelect (node h (x ▸ y ▸ c ▸ no_terms)) = node h (y ▸ x ▸ one (operator 0x45) c ▸ no_terms)
+term_by (FirstTwice byte) (node h (x ▸ ts)) = two (operator byte) x x
+term_by (Drawn byte t) x = two (operator byte) (random t) x
+term_by (Negated byte) (node h (x ▸ y ▸ no_terms)) = one (operator 0x45) (two (operator byte) x y)
+term_by (FirstByBoth inner outer) (node h (x ▸ ts)) = one (operator outer) (one (operator inner) x)
+term_by (ByBoth inner outer) x = one (operator outer) (one (operator inner) x)
+term_by (InnerBy byte) (node h (node g (x ▸ y ▸ no_terms) ▸ ts)) = two (operator byte) x y
+term_by (Distribute outer inner t number) (node h (node g (x ▸ y ▸ no_terms) ▸ ts)) =
+    two (operator outer) (two (operator inner) x (numbered t number)) (two (operator inner) y (numbered t number))
+term_by (FirstWithBoth inner outer t number) (node h (x ▸ ts)) = two (operator outer) (two (operator inner) x (numbered t number)) (numbered t number)
 term_by (Unfold t) x = one (unfold_head t) x
 term_by (UseGlobal t) x = one (use_global_head t) x
 term_by Nop x = with_nop x
@@ -42,6 +54,14 @@ more First = 0
 more (FirstWith byte t number) = 1
 more (FirstBy byte) = 0
 more TurnSelect = 1
+more (FirstTwice byte) = 0
+more (Drawn byte t) = 2
+more (Negated byte) = 1
+more (FirstByBoth inner outer) = 1
+more (ByBoth inner outer) = 2
+more (InnerBy byte) = 0
+more (Distribute outer inner t number) = 3
+more (FirstWithBoth inner outer t number) = 2
 more (Unfold t) = 1
 more (UseGlobal t) = 1
 more Nop = 2
@@ -63,6 +83,19 @@ abbrev pub HasTwo : Term Head → Type 0
 HasTwo (node h (x ▸ y ▸ no_terms)) = ⊤
 HasTwo x = ⊥
 
+-- a node whose first child has two children
+abbrev pub HasTwoInner : Term Head → Type 0
+HasTwoInner (node h (x ▸ ts)) = HasTwo x
+HasTwoInner x = ⊥
+
+-- The node's first child has two children, which are these.
+pub record AreInner (expr : List Lang) (l : Lang) (x y : ℕ) : Type 0 where
+  pub first : x < length expr
+  pub second : y < length expr
+  pub head : Head
+  pub rest : Terms Head
+  pub is : term_over (term_at expr) l ≡ node (head_of l) (node head (term_at expr x ▸ term_at expr y ▸ no_terms) ▸ rest)
+
 -- The node has the children that are asked for, these have theirs, and there is such an operator.
 abbrev pub CanReplace : Replacement → Term Head → Type 0
 CanReplace Swap (node h (x ▸ y ▸ no_terms)) = ⊤
@@ -76,6 +109,14 @@ CanReplace First (node h (x ▸ ts)) = ⊤
 CanReplace (FirstWith byte t number) (node h (x ▸ ts)) = IsBinary byte
 CanReplace (FirstBy byte) (node h (x ▸ ts)) = IsUnary byte
 CanReplace TurnSelect (node h (x ▸ y ▸ c ▸ no_terms)) = ⊤
+CanReplace (FirstTwice byte) (node h (x ▸ ts)) = IsBinary byte
+CanReplace (Drawn byte t) x = IsBinary byte
+CanReplace (Negated byte) (node h (x ▸ y ▸ no_terms)) = IsBinary byte
+CanReplace (FirstByBoth inner outer) (node h (x ▸ ts)) = IsUnary inner × IsUnary outer
+CanReplace (ByBoth inner outer) x = IsUnary inner × IsUnary outer
+CanReplace (InnerBy byte) (node h (x ▸ ts)) = HasTwo x × IsBinary byte
+CanReplace (Distribute outer inner t number) (node h (x ▸ ts)) = HasTwo x × IsBinary outer × IsBinary inner
+CanReplace (FirstWithBoth inner outer t number) (node h (x ▸ ts)) = IsBinary inner × IsBinary outer
 CanReplace (Unfold t) x = ⊤
 CanReplace (UseGlobal t) x = ⊤
 CanReplace Nop x = ⊤

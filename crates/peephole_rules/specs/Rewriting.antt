@@ -1,7 +1,7 @@
 -- What each rule makes of a term: none where its pattern or its condition isn't met (this project).
 -- Conditions go by opcodes alone: a rule may have no answer where it would keep the meaning, and never has one where it would not,
 -- of a term that has types, of the type that the rule is given where it is given one.
-use Rattle.std.specs.Prelude.{ℕ, ℤ, pos, ◌-◌, ◌%◌, ◌^◌, ◌==◌, ◌&&◌, not, nat_lt, Bool, List, [], ◌∷◌, length, Option, Some, None, option_map, option_and_then, if◌then◌else◌}
+use Rattle.std.specs.Prelude.{ℕ, ℤ, pos, ◌+◌, ◌-◌, ◌%◌, ◌^◌, ◌==◌, ◌&&◌, not, nat_lt, Bool, true, List, [], ◌∷◌, length, Option, Some, None, option_map, option_and_then, if◌then◌else◌}
 use Rattle.std.specs.Int.{trailing_zeros}
 use mir.Val.{bits}
 use Rattle.mutate_base.specs.declared.types.PrimitiveTypeInfo.{PrimitiveTypeInfo}
@@ -16,7 +16,7 @@ use Rattle.peephole_machine.specs.Values.{width_of, Context}
 use Rattle.peephole_machine.specs.IntegerRow.{bare_operator}
 use Rattle.peephole_rules.specs.declared.rule.Rule.{Rule}
 use Rattle.peephole_rules.specs.declared.rule.Rule.TheVariants as rule
-use Rattle.peephole_rules.specs.Operator.{opcode_byte, is_among, are_same, type_by, commutative, turned, associative, has_one_value, operator, of_type, constant_term, one, two, container, nop, unfold_head, use_global_head, constant_number, numbered}
+use Rattle.peephole_rules.specs.Operator.{opcode_byte, is_among, are_same, type_by, commutative, turned, associative, has_one_value, operator, of_type, constant_term, one, two, container, nop, unfold_head, use_global_head, constant_number, numbered, random, opposite_of, bits_left_out}
 use Rattle.peephole_rules.specs.Effects.{writes, may_trap, asks}
 use Rattle.peephole_rules.specs.ValueTypes.{integer_of, type_of_value}
 use Rattle.peephole_rules.specs.Grafted.{term_at}
@@ -235,6 +235,190 @@ fold (node h (x ▸ no_terms)) = fold_over h (x ▸ no_terms)
 fold (node h (x ▸ y ▸ no_terms)) = fold_over h (x ▸ y ▸ no_terms)
 fold t = None
 
+-- ---- other shifts, and turns, by zero
+
+-- x → shr_s x 0
+abbrev pub shr_s_by_zero : IntegerType → Term Head → Term Head
+shr_s_by_zero t x = with_constant t 0x75 0x87 0 x
+
+-- x → shr_u x 0
+abbrev pub shr_u_by_zero : IntegerType → Term Head → Term Head
+shr_u_by_zero t x = with_constant t 0x76 0x88 0 x
+
+-- x → rotl x 0
+abbrev pub rotl_by_zero : IntegerType → Term Head → Term Head
+rotl_by_zero t x = with_constant t 0x77 0x89 0 x
+
+-- x → rotr x 0
+abbrev pub rotr_by_zero : IntegerType → Term Head → Term Head
+rotr_by_zero t x = with_constant t 0x78 0x8a 0 x
+
+-- shr_s x 0 → x
+abbrev pub drop_shr_s_by_zero : Term Head → Option (Term Head)
+drop_shr_s_by_zero t = without_constant 0x75 0x87 0 t
+
+-- shr_u x 0 → x
+abbrev pub drop_shr_u_by_zero : Term Head → Option (Term Head)
+drop_shr_u_by_zero t = without_constant 0x76 0x88 0 t
+
+-- rotl x 0 → x
+abbrev pub drop_rotl_by_zero : Term Head → Option (Term Head)
+drop_rotl_by_zero t = without_constant 0x77 0x89 0 t
+
+-- rotr x 0 → x
+abbrev pub drop_rotr_by_zero : Term Head → Option (Term Head)
+drop_rotr_by_zero t = without_constant 0x78 0x8a 0 t
+
+-- ---- quotients and remainders by powers of two, and turns the other way
+
+-- div_u x 2^c → shr_u x c
+abbrev pub quotient_to_shift : Term Head → Option (Term Head)
+quotient_to_shift t =
+    of_constant 0x6e 0x80 (λ t x n. answer_if (2 ^ lowest_bit t n == n) (two (operator (of_type t 0x76 0x88)) x (numbered t (lowest_bit t n)))) t
+
+-- shr_u x c → div_u x 2^c, where c is below the width
+abbrev pub shift_to_quotient : Term Head → Option (Term Head)
+shift_to_quotient t =
+    of_constant 0x76 0x88 (λ t x n. answer_if (nat_lt n (bits (width_of t))) (two (operator (of_type t 0x6e 0x80)) x (numbered t (2 ^ n)))) t
+
+-- rem_u x 2^c → and x (2^c - 1)
+abbrev pub remainder_to_mask : Term Head → Option (Term Head)
+remainder_to_mask t =
+    of_constant 0x70 0x82 (λ t x n. answer_if (2 ^ lowest_bit t n == n) (two (operator (of_type t 0x71 0x83)) x (numbered t (n - 1)))) t
+
+-- and x (2^c - 1) → rem_u x 2^c, where c is below the width
+abbrev pub mask_to_remainder : Term Head → Option (Term Head)
+mask_to_remainder t =
+    of_constant 0x71 0x83 (λ t x n. answer_if (nat_lt n (all_ones t) && (2 ^ lowest_bit t (n + 1) == n + 1))
+    (two (operator (of_type t 0x70 0x82)) x (numbered t (n + 1)))) t
+
+-- rotl x c → rotr x (N - c), of N bits, with c below N
+abbrev pub rotl_to_rotr : Term Head → Option (Term Head)
+rotl_to_rotr t =
+    of_constant 0x77 0x89 (λ t x n. Some (two (operator (of_type t 0x78 0x8a)) x (numbered t (bits (width_of t) - n % bits (width_of t))))) t
+
+-- rotr x c → rotl x (N - c)
+abbrev pub rotr_to_rotl : Term Head → Option (Term Head)
+rotr_to_rotl t =
+    of_constant 0x78 0x8a (λ t x n. Some (two (operator (of_type t 0x77 0x89)) x (numbered t (bits (width_of t) - n % bits (width_of t))))) t
+
+-- ---- an operand twice in the place of twice an operand
+
+-- op x e → add x x, where x may not write and asks no world
+abbrev pub as_double : (i32_opcode i64_opcode element : ℕ) → Term Head → Option (Term Head)
+as_double a b e t =
+    of_constant a b (λ t x n. answer_if ((n == e) && (not (writes x) && not (asks x))) (two (operator (of_type t 0x6a 0x7c)) x x)) t
+
+-- mul x 2 → add x x
+abbrev pub product_to_double : Term Head → Option (Term Head)
+product_to_double t = as_double 0x6c 0x7e 2 t
+
+-- shl x 1 → add x x
+abbrev pub shift_to_double : Term Head → Option (Term Head)
+shift_to_double t = as_double 0x74 0x86 1 t
+
+-- ---- a constant that decides alone
+
+-- op x e → e, where x may neither write nor trap, with an element for each type
+abbrev pub element_alone : (i32_opcode i64_opcode : ℕ) → (element : IntegerType → ℕ) → Term Head → Option (Term Head)
+element_alone a b element t =
+    of_constant a b (λ t x n. answer_if ((n == element t) && (not (writes x) && not (may_trap x))) (numbered t n)) t
+
+-- and x 0 → 0
+abbrev pub drop_and_zero : Term Head → Option (Term Head)
+drop_and_zero t = element_alone 0x71 0x83 (λ t. 0) t
+
+-- mul x 0 → 0
+abbrev pub drop_mul_zero : Term Head → Option (Term Head)
+drop_mul_zero t = element_alone 0x6c 0x7e (λ t. 0) t
+
+-- or x -1 → -1
+abbrev pub drop_or_ones : Term Head → Option (Term Head)
+drop_or_ones t = element_alone 0x72 0x84 all_ones t
+
+-- the type and the number of a constant
+abbrev pub typed_constant : (i32_number i64_number : Option ℕ) → Option (IntegerType × ℕ)
+typed_constant (Some n) o = Some (integer.I32, n)
+typed_constant None (Some n) = Some (integer.I64, n)
+typed_constant None None = None
+
+-- e → op r e, where r is drawn
+abbrev pub behind_drawn : (i32_opcode i64_opcode : ℕ) → (element : IntegerType → ℕ) → Term Head → Option (Term Head)
+behind_drawn a b element x =
+    option_and_then (λ p. answer_if (p.1 == element p.0) (two (operator (of_type p.0 a b)) (random p.0) x))
+    (typed_constant (constant_number integer.I32 x) (constant_number integer.I64 x))
+
+-- 0 → and r 0
+abbrev pub and_zero : Term Head → Option (Term Head)
+and_zero x = behind_drawn 0x71 0x83 (λ t. 0) x
+
+-- 0 → mul r 0
+abbrev pub mul_zero : Term Head → Option (Term Head)
+mul_zero x = behind_drawn 0x6c 0x7e (λ t. 0) x
+
+-- -1 → or r -1
+abbrev pub or_ones : Term Head → Option (Term Head)
+or_ones x = behind_drawn 0x72 0x84 all_ones x
+
+-- ---- comparisons and tests
+
+-- lt x y → eqz (ge x y), and so on
+abbrev pub negate_comparison : Term Head → Option (Term Head)
+negate_comparison (node h (x ▸ y ▸ no_terms)) =
+    option_map (λ byte. one (operator 0x45) (two (operator byte) x y)) (option_and_then opposite_of (opcode_byte h))
+negate_comparison t = None
+
+-- ne x 0 → eqz (eqz x)
+abbrev pub difference_to_tests : Term Head → Option (Term Head)
+difference_to_tests t =
+    of_constant 0x47 0x52 (λ t x n. answer_if (n == 0) (one (operator 0x45) (one (operator (of_type t 0x45 0x50)) x))) t
+
+-- ---- wider and narrower
+
+-- x, of type i32 → wrap (extend x), unsigned
+abbrev pub wrap_extended : IntegerType → Term Head → Option (Term Head)
+wrap_extended integer.I32 x = Some (one (operator 0xa7) (one (operator 0xad) x))
+wrap_extended integer.I64 x = None
+
+-- eqz (ge x y) → lt x y, and so on
+abbrev pub drop_negation : Term Head → Option (Term Head)
+drop_negation (node h (node g (x ▸ y ▸ no_terms) ▸ no_terms)) =
+    if are_same (opcode_byte h) (Some 0x45) then option_map (λ byte. two (operator byte) x y) (option_and_then opposite_of (opcode_byte g)) else None
+drop_negation t = None
+
+-- ---- over the parts of an operand
+
+-- op (op' x y) c → op'' (op x c) (op y c), of the type and the number of the constant: with the opcodes of op', of op'' and of op for each type,
+-- where x leaves one value and the number passes the test
+abbrev pub in_parts : (a b c d e f : ℕ) → (test : IntegerType → ℕ → Bool) → IntegerType → Term Head → ℕ → Option (Term Head)
+in_parts a b c d e f test t (node g (x ▸ y ▸ no_terms)) n =
+    answer_if ((are_same (opcode_byte g) (Some (of_type t a b)) && has_one_value x) && test t n)
+    (two (operator (of_type t c d)) (two (operator (of_type t e f)) x (numbered t n)) (two (operator (of_type t e f)) y (numbered t n)))
+in_parts a b c d e f test t x n = None
+
+-- mul (add x y) c → add (mul x c) (mul y c)
+abbrev pub distribute_product : Term Head → Option (Term Head)
+distribute_product t = of_constant 0x6c 0x7e (in_parts 0x6a 0x7c 0x6a 0x7c 0x6c 0x7e (λ t n. true)) t
+
+-- and (or x y) c → or (and x c) (and y c)
+abbrev pub distribute_mask : Term Head → Option (Term Head)
+distribute_mask t = of_constant 0x71 0x83 (in_parts 0x72 0x84 0x72 0x84 0x71 0x83 (λ t n. true)) t
+
+-- xor (and x y) -1 → or (xor x -1) (xor y -1)
+abbrev pub complement_of_and : Term Head → Option (Term Head)
+complement_of_and t = of_constant 0x73 0x85 (in_parts 0x71 0x83 0x72 0x84 0x73 0x85 (λ t n. n == all_ones t)) t
+
+-- xor (or x y) -1 → and (xor x -1) (xor y -1)
+abbrev pub complement_of_or : Term Head → Option (Term Head)
+complement_of_or t = of_constant 0x73 0x85 (in_parts 0x72 0x84 0x71 0x83 0x73 0x85 (λ t n. n == all_ones t)) t
+
+-- extend8_s x → shr_s (shl x 24) 24, and so on
+abbrev pub extension_to_shifts : Term Head → Option (Term Head)
+extension_to_shifts (node h (x ▸ no_terms)) = option_map (λ p.
+    two (operator (of_type p.0 0x75 0x87)) (two (operator (of_type p.0 0x74 0x86)) x (numbered p.0 p.1)) (numbered p.0 p.1))
+    (option_and_then bits_left_out (opcode_byte h))
+extension_to_shifts t = None
+
 -- ---- the rules by their names
 
 -- the type of a constant: i32.const, i64.const
@@ -287,6 +471,37 @@ rewrite context rule.DropXorZero x = drop_xor_zero x
 rewrite context rule.DropAndOnes x = drop_and_ones x
 rewrite context rule.DropShiftByZero x = drop_shift_by_zero x
 rewrite context rule.Forget x = forget x
+rewrite context rule.ShrSByZero x = by_its_type context (λ t x. Some (shr_s_by_zero t x)) x
+rewrite context rule.ShrUByZero x = by_its_type context (λ t x. Some (shr_u_by_zero t x)) x
+rewrite context rule.RotlByZero x = by_its_type context (λ t x. Some (rotl_by_zero t x)) x
+rewrite context rule.RotrByZero x = by_its_type context (λ t x. Some (rotr_by_zero t x)) x
+rewrite context rule.DropShrSByZero x = drop_shr_s_by_zero x
+rewrite context rule.DropShrUByZero x = drop_shr_u_by_zero x
+rewrite context rule.DropRotlByZero x = drop_rotl_by_zero x
+rewrite context rule.DropRotrByZero x = drop_rotr_by_zero x
+rewrite context rule.QuotientToShift x = quotient_to_shift x
+rewrite context rule.ShiftToQuotient x = shift_to_quotient x
+rewrite context rule.RemainderToMask x = remainder_to_mask x
+rewrite context rule.MaskToRemainder x = mask_to_remainder x
+rewrite context rule.RotlToRotr x = rotl_to_rotr x
+rewrite context rule.RotrToRotl x = rotr_to_rotl x
+rewrite context rule.ProductToDouble x = product_to_double x
+rewrite context rule.ShiftToDouble x = shift_to_double x
+rewrite context rule.AndZero x = and_zero x
+rewrite context rule.MulZero x = mul_zero x
+rewrite context rule.OrOnes x = or_ones x
+rewrite context rule.DropAndZero x = drop_and_zero x
+rewrite context rule.DropMulZero x = drop_mul_zero x
+rewrite context rule.DropOrOnes x = drop_or_ones x
+rewrite context rule.NegateComparison x = negate_comparison x
+rewrite context rule.DifferenceToTests x = difference_to_tests x
+rewrite context rule.WrapExtended x = by_its_type context wrap_extended x
+rewrite context rule.DropNegation x = drop_negation x
+rewrite context rule.DistributeProduct x = distribute_product x
+rewrite context rule.DistributeMask x = distribute_mask x
+rewrite context rule.ComplementOfAnd x = complement_of_and x
+rewrite context rule.ComplementOfOr x = complement_of_or x
+rewrite context rule.ExtensionToShifts x = extension_to_shifts x
 
 -- what it makes of the term of an expression's node; none where there is no such node
 abbrev pub rewrite_at : Context → Rule → List Lang → (at : ℕ) → Option (Term Head)

@@ -1,7 +1,7 @@
 -- The names of the rules, and the rule of a name (this project).
 use Rattle.std.specs.Prelude.{◌≡◌, ◌≢◌, ℕ, List, codes, Result, Ok, Err}
 use Rattle.peephole_rules.specs.declared.rule.Rule.{Rule}
-use Rattle.peephole_rules.specs.declared.rule.Rule.TheVariants.{Commute, TurnComparison, AssociateLeft, AssociateRight, AddZero, SubZero, MulOne, OrZero, XorZero, AndOnes, ShiftByZero, OrSelf, AndSelf, DoubleComplement, ShiftToProduct, ProductToShift, DifferenceToSum, SumToDifference, TestToComparison, ComparisonToTest, TurnSelect, Unfold, ThroughGlobal, WithNop, Fold, DropAddZero, DropSubZero, DropMulOne, DropOrZero, DropXorZero, DropAndOnes, DropShiftByZero, Forget}
+use Rattle.peephole_rules.specs.declared.rule.Rule.TheVariants.{Commute, TurnComparison, AssociateLeft, AssociateRight, AddZero, SubZero, MulOne, OrZero, XorZero, AndOnes, ShiftByZero, OrSelf, AndSelf, DoubleComplement, ShiftToProduct, ProductToShift, DifferenceToSum, SumToDifference, TestToComparison, ComparisonToTest, TurnSelect, Unfold, ThroughGlobal, WithNop, Fold, DropAddZero, DropSubZero, DropMulOne, DropOrZero, DropXorZero, DropAndOnes, DropShiftByZero, Forget, ShrSByZero, ShrUByZero, RotlByZero, RotrByZero, DropShrSByZero, DropShrUByZero, DropRotlByZero, DropRotrByZero, QuotientToShift, ShiftToQuotient, RemainderToMask, MaskToRemainder, RotlToRotr, RotrToRotl, ProductToDouble, ShiftToDouble, AndZero, MulZero, OrOnes, DropAndZero, DropMulZero, DropOrOnes, NegateComparison, DifferenceToTests, WrapExtended, DropNegation, DistributeProduct, DistributeMask, ComplementOfAnd, ComplementOfOr, ExtensionToShifts}
 use Rattle.peephole_rules.specs.declared.rule.UnknownRule.{UnknownRule}
 
 abbrev pub rule_name : Rule → List ℕ
@@ -38,6 +38,37 @@ rule_name DropXorZero = codes "drop_xor_zero"
 rule_name DropAndOnes = codes "drop_and_ones"
 rule_name DropShiftByZero = codes "drop_shift_by_zero"
 rule_name Forget = codes "forget"
+rule_name ShrSByZero = codes "shr_s_by_zero"
+rule_name ShrUByZero = codes "shr_u_by_zero"
+rule_name RotlByZero = codes "rotl_by_zero"
+rule_name RotrByZero = codes "rotr_by_zero"
+rule_name DropShrSByZero = codes "drop_shr_s_by_zero"
+rule_name DropShrUByZero = codes "drop_shr_u_by_zero"
+rule_name DropRotlByZero = codes "drop_rotl_by_zero"
+rule_name DropRotrByZero = codes "drop_rotr_by_zero"
+rule_name QuotientToShift = codes "quotient_to_shift"
+rule_name ShiftToQuotient = codes "shift_to_quotient"
+rule_name RemainderToMask = codes "remainder_to_mask"
+rule_name MaskToRemainder = codes "mask_to_remainder"
+rule_name RotlToRotr = codes "rotl_to_rotr"
+rule_name RotrToRotl = codes "rotr_to_rotl"
+rule_name ProductToDouble = codes "product_to_double"
+rule_name ShiftToDouble = codes "shift_to_double"
+rule_name AndZero = codes "and_zero"
+rule_name MulZero = codes "mul_zero"
+rule_name OrOnes = codes "or_ones"
+rule_name DropAndZero = codes "drop_and_zero"
+rule_name DropMulZero = codes "drop_mul_zero"
+rule_name DropOrOnes = codes "drop_or_ones"
+rule_name NegateComparison = codes "negate_comparison"
+rule_name DifferenceToTests = codes "difference_to_tests"
+rule_name WrapExtended = codes "wrap_extended"
+rule_name DropNegation = codes "drop_negation"
+rule_name DistributeProduct = codes "distribute_product"
+rule_name DistributeMask = codes "distribute_mask"
+rule_name ComplementOfAnd = codes "complement_of_and"
+rule_name ComplementOfOr = codes "complement_of_or"
+rule_name ExtensionToShifts = codes "extension_to_shifts"
 
 -- The rule of that name, and a refusal where no rule has it.
 abbrev pub ReadsAs : List ℕ → Result Rule UnknownRule → Type 0

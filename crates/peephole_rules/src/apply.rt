@@ -2,19 +2,24 @@
 ghost use Rattle.std.specs.Prelude.{◌≡◌, ◌⊎◌, ◌+◌, ◌<◌, ◌^◌, length, option_map, is_some, IfOk, IfErr, IfSome};
 ghost use Rattle.mutate_base.specs.declared.error.Error.{Error};
 ghost use Rattle.peephole_graphs.specs.Layout.{AreWritable};
-ghost use Rattle.peephole_machine.specs.Values.{context_in};
+ghost use Rattle.peephole_lang.specs.declared.lang.Head.{Head};
+ghost use Rattle.peephole_lang.specs.Term.{Term};
+ghost use Rattle.peephole_machine.specs.Values.{Context, context_in};
 ghost use Rattle.peephole_terms.specs.Agrees.{StandsFor};
 ghost use Rattle.peephole_terms.specs.Expansion.{term_in};
 ghost use Rattle.peephole_rules.specs.Rewriting.{rewrite, rewrite_at};
 ghost use Rattle.peephole_rules.specs.Flags.{AreEffects};
+ghost use Rattle.peephole_rules.specs.Shape.{shape_of};
 ghost use Rattle.peephole_rules.specs.Grafted.{term_at, grafted};
 ghost use Rattle.peephole_rules.specs.Choice.{choice};
 ghost use Rattle.peephole_rules.specs.Replacement.{IsAnswer};
 
 use crate::choice::{
-    comparison, complements, forgotten, group_left, group_right, number_behind, product, shift,
-    swap, test, through_global, turn, turn_select, twice, unfolded, with_all_ones, with_number,
-    with_opposite, without, without_all_ones,
+    alone_ones, alone_zero, both_tests, comparison, complements, distributed, distributed_ones,
+    double, drawn_ones, drawn_zero, forgotten, group_left, group_right, negated, number_behind,
+    shifts, swap, test, through_global, turn, turn_select, twice, typed_constant, unfolded,
+    unnegated, with_all_ones, with_divisor, with_mask, with_number, with_opposite, with_place,
+    with_power, with_rest, without, without_all_ones, wrapped,
 };
 use crate::effects::Effects;
 use crate::folding::folded;
@@ -31,11 +36,11 @@ use std::alloc::Global;
 
 impl Rule {
     // What the rule puts in the place of a node of the shape, where its pattern and its condition are met.
-    fn choice(self, shape: Shape) -> Option<Replacement>
-        ensures { result ≡ choice self shape }
+    fn choice(self, shape: &Shape) -> Option<Replacement>
+        ensures { result ≡ choice self shape.now }
     {
         let opcode = shape.root.opcode;
-        let operands = shape.operands;
+        let operands = &shape.operands;
         let value = shape.value;
         match self {
             Rule::Commute => swap(opcode, operands),
@@ -52,8 +57,16 @@ impl Rule {
             Rule::OrSelf => twice(0x72, 0x84, shape.root.writes, shape.root.asks, value),
             Rule::AndSelf => twice(0x71, 0x83, shape.root.writes, shape.root.asks, value),
             Rule::DoubleComplement => complements(0x73, 0x85, value),
-            Rule::ShiftToProduct => product(number_behind(0x74, 0x86, opcode, operands)),
-            Rule::ProductToShift => shift(number_behind(0x6C, 0x7E, opcode, operands)),
+            Rule::ShiftToProduct => with_power(
+                0x6C,
+                0x7E,
+                number_behind(0x74, 0x86, opcode, operands),
+            ),
+            Rule::ProductToShift => with_place(
+                0x74,
+                0x86,
+                number_behind(0x6C, 0x7E, opcode, operands),
+            ),
             Rule::DifferenceToSum => {
                 with_opposite(0x6A, 0x7C, number_behind(0x6B, 0x7D, opcode, operands))
             }
@@ -75,7 +88,95 @@ impl Rule {
             Rule::DropAndOnes => without_all_ones(number_behind(0x71, 0x83, opcode, operands)),
             Rule::DropShiftByZero => without(0, number_behind(0x74, 0x86, opcode, operands)),
             Rule::Forget => forgotten(opcode, operands),
+            Rule::ShrSByZero => with_number(0x75, 0x87, 0, value),
+            Rule::ShrUByZero => with_number(0x76, 0x88, 0, value),
+            Rule::RotlByZero => with_number(0x77, 0x89, 0, value),
+            Rule::RotrByZero => with_number(0x78, 0x8A, 0, value),
+            Rule::DropShrSByZero => without(0, number_behind(0x75, 0x87, opcode, operands)),
+            Rule::DropShrUByZero => without(0, number_behind(0x76, 0x88, opcode, operands)),
+            Rule::DropRotlByZero => without(0, number_behind(0x77, 0x89, opcode, operands)),
+            Rule::DropRotrByZero => without(0, number_behind(0x78, 0x8A, opcode, operands)),
+            Rule::QuotientToShift => with_place(
+                0x76,
+                0x88,
+                number_behind(0x6E, 0x80, opcode, operands),
+            ),
+            Rule::ShiftToQuotient => with_power(
+                0x6E,
+                0x80,
+                number_behind(0x76, 0x88, opcode, operands),
+            ),
+            Rule::RemainderToMask => with_mask(number_behind(0x70, 0x82, opcode, operands)),
+            Rule::MaskToRemainder => with_divisor(number_behind(0x71, 0x83, opcode, operands)),
+            Rule::RotlToRotr => with_rest(0x78, 0x8A, number_behind(0x77, 0x89, opcode, operands)),
+            Rule::RotrToRotl => with_rest(0x77, 0x89, number_behind(0x78, 0x8A, opcode, operands)),
+            Rule::ProductToDouble => double(
+                2,
+                operands,
+                number_behind(0x6C, 0x7E, opcode, operands),
+            ),
+            Rule::ShiftToDouble => double(1, operands, number_behind(0x74, 0x86, opcode, operands)),
+            Rule::AndZero => drawn_zero(
+                0x71,
+                0x83,
+                typed_constant(shape.root.i32_number, shape.root.i64_number),
+            ),
+            Rule::MulZero => drawn_zero(
+                0x6C,
+                0x7E,
+                typed_constant(shape.root.i32_number, shape.root.i64_number),
+            ),
+            Rule::OrOnes => drawn_ones(
+                0x72,
+                0x84,
+                typed_constant(shape.root.i32_number, shape.root.i64_number),
+            ),
+            Rule::DropAndZero => alone_zero(operands, number_behind(0x71, 0x83, opcode, operands)),
+            Rule::DropMulZero => alone_zero(operands, number_behind(0x6C, 0x7E, opcode, operands)),
+            Rule::DropOrOnes => alone_ones(operands, number_behind(0x72, 0x84, opcode, operands)),
+            Rule::NegateComparison => negated(opcode, operands),
+            Rule::DifferenceToTests => both_tests(number_behind(0x47, 0x52, opcode, operands)),
+            Rule::WrapExtended => wrapped(value),
+            Rule::DropNegation => unnegated(opcode, operands),
+            Rule::DistributeProduct => distributed(
+                (0x6A, 0x7C),
+                (0x6A, 0x7C),
+                (0x6C, 0x7E),
+                operands,
+                number_behind(0x6C, 0x7E, opcode, operands),
+            ),
+            Rule::DistributeMask => distributed(
+                (0x72, 0x84),
+                (0x72, 0x84),
+                (0x71, 0x83),
+                operands,
+                number_behind(0x71, 0x83, opcode, operands),
+            ),
+            Rule::ComplementOfAnd => distributed_ones(
+                (0x71, 0x83),
+                (0x72, 0x84),
+                (0x73, 0x85),
+                operands,
+                number_behind(0x73, 0x85, opcode, operands),
+            ),
+            Rule::ComplementOfOr => distributed_ones(
+                (0x72, 0x84),
+                (0x71, 0x83),
+                (0x73, 0x85),
+                operands,
+                number_behind(0x73, 0x85, opcode, operands),
+            ),
+            Rule::ExtensionToShifts => shifts(opcode, operands),
         }
+    }
+
+    /// Whether the rule has an answer for a term of which this was read: its pattern and its condition are met. It reads the shape
+    /// alone, in constant time.
+    pub fn applies_to(self, shape: &Shape) -> bool
+        ensures { (context : Context) (t : Term Head) → shape.now ≡ shape_of context t
+            → result ≡ is_some (rewrite context self t) }
+    {
+        self.choice(shape).is_some()
     }
 
     // What the rule puts in the place of the node, where its pattern and its condition are met.
@@ -92,7 +193,7 @@ impl Rule {
         ensures { IsAnswer result (term_at expr.now at)
             (rewrite (context_in info.now locals.now) self (term_at expr.now at)) }
     {
-        self.choice(shape(locals, info, effects, expr, at))
+        self.choice(&shape(locals, info, effects, expr, at))
     }
 
     /// Whether `apply` has an answer: there is such a node, and the rule's pattern and condition are met. It takes no memory and

@@ -1,10 +1,13 @@
 //! What a rule puts in the place of a node, by what is read of the node and of its operands.
-ghost use Rattle.std.specs.Prelude.{◌≡◌, option_map};
-ghost use Rattle.peephole_rules.specs.Rewriting.{answer_if};
-ghost use Rattle.peephole_rules.specs.Choice.{are_undisturbed, number_of, number_behind, swap, turn, turn_select, in_one_group, group_left, group_right, with_number, with_all_ones, complements, twice, without, without_all_ones, test, comparison, with_opposite, product, shift, constant_type, unfolded, through_global, forgotten};
+ghost use Rattle.std.specs.Prelude.{◌≡◌, ◌==◌, true, option_map};
+ghost use Rattle.peephole_rules.specs.Rewriting.{answer_if, all_ones, typed_constant};
+ghost use Rattle.peephole_rules.specs.Choice.{are_undisturbed, number_of, number_behind, swap, turn, turn_select, in_one_group, group_left, group_right, with_number, with_all_ones, complements, twice, without, without_all_ones, test, comparison, with_opposite, with_power, with_place, with_mask, with_divisor, with_rest, constant_type, unfolded, through_global, forgotten, double, alone, drawn, negated, both_tests, wrapped, unnegated, part, distributed, shifts};
 
 use crate::constant::{all_ones, lowest_bit, opposite, width};
-use crate::operator::{are_same, is_associative, is_commutative, of_type, turned_opcode, type_by};
+use crate::operator::{
+    are_same, bits_left_out, is_associative, is_commutative, of_type, opposite_opcode,
+    turned_opcode, type_by,
+};
 use crate::replacement::Replacement;
 use crate::shape::{Operand, Operands};
 use peephole_machine::IntegerType;
@@ -17,15 +20,15 @@ fn answer_if(met: bool, replacement: Replacement) -> Option<Replacement>
 }
 
 // Whether each leaves one value, neither may write, and at most one may trap.
-fn are_undisturbed(x: Operand, y: Operand) -> bool
-    ensures { result ≡ are_undisturbed x y }
+fn are_undisturbed(x: &Operand, y: &Operand) -> bool
+    ensures { result ≡ are_undisturbed x.now y.now }
 {
     (x.one_value && y.one_value) && ((!x.writes && !y.writes) && !(x.may_trap && y.may_trap))
 }
 
 /// The number of a constant of the type.
-pub(crate) fn number_of(t: IntegerType, x: Operand) -> Option<u64>
-    ensures { result ≡ number_of t x }
+pub(crate) fn number_of(t: IntegerType, x: &Operand) -> Option<u64>
+    ensures { result ≡ number_of t x.now }
 {
     match t {
         IntegerType::I32 => x.i32_number,
@@ -44,9 +47,9 @@ pub(crate) fn number_behind(
     i32_opcode: u8,
     i64_opcode: u8,
     opcode: Option<u8>,
-    operands: Operands,
+    operands: &Operands,
 ) -> Option<(IntegerType, u64)>
-    ensures { result ≡ number_behind i32_opcode i64_opcode opcode operands }
+    ensures { result ≡ number_behind i32_opcode i64_opcode opcode operands.now }
 {
     let Operands::Two(_, number) = operands else {
         return None;
@@ -56,8 +59,8 @@ pub(crate) fn number_behind(
 }
 
 /// The operands in the other order, where they may change places and don't disturb one another.
-pub(crate) fn swap(opcode: Option<u8>, operands: Operands) -> Option<Replacement>
-    ensures { result ≡ swap opcode operands }
+pub(crate) fn swap(opcode: Option<u8>, operands: &Operands) -> Option<Replacement>
+    ensures { result ≡ swap opcode operands.now }
 {
     let Operands::Two(x, y) = operands else {
         return None;
@@ -68,8 +71,8 @@ pub(crate) fn swap(opcode: Option<u8>, operands: Operands) -> Option<Replacement
 }
 
 /// The comparison that holds of the operands in the other order, where they don't disturb one another.
-pub(crate) fn turn(opcode: Option<u8>, operands: Operands) -> Option<Replacement>
-    ensures { result ≡ turn opcode operands }
+pub(crate) fn turn(opcode: Option<u8>, operands: &Operands) -> Option<Replacement>
+    ensures { result ≡ turn opcode operands.now }
 {
     let Operands::Two(x, y) = operands else {
         return None;
@@ -79,8 +82,8 @@ pub(crate) fn turn(opcode: Option<u8>, operands: Operands) -> Option<Replacement
 }
 
 /// The select of the operands in the other order by the opposite condition, where they don't disturb one another.
-pub(crate) fn turn_select(opcode: Option<u8>, operands: Operands) -> Option<Replacement>
-    ensures { result ≡ turn_select opcode operands }
+pub(crate) fn turn_select(opcode: Option<u8>, operands: &Operands) -> Option<Replacement>
+    ensures { result ≡ turn_select opcode operands.now }
 {
     let Operands::Three(x, y, _) = operands else {
         return None;
@@ -100,8 +103,8 @@ fn in_one_group(opcode: Option<u8>, other: Option<u8>) -> bool
 }
 
 /// The second operand's first operand grouped with the first operand, where it leaves one value.
-pub(crate) fn group_left(opcode: Option<u8>, operands: Operands) -> Option<Replacement>
-    ensures { result ≡ group_left opcode operands }
+pub(crate) fn group_left(opcode: Option<u8>, operands: &Operands) -> Option<Replacement>
+    ensures { result ≡ group_left opcode operands.now }
 {
     let Operands::Two(_, inner) = operands else {
         return None;
@@ -112,8 +115,8 @@ pub(crate) fn group_left(opcode: Option<u8>, operands: Operands) -> Option<Repla
 }
 
 /// The first operand's second operand grouped with the second operand, where it leaves one value.
-pub(crate) fn group_right(opcode: Option<u8>, operands: Operands) -> Option<Replacement>
-    ensures { result ≡ group_right opcode operands }
+pub(crate) fn group_right(opcode: Option<u8>, operands: &Operands) -> Option<Replacement>
+    ensures { result ≡ group_right opcode operands.now }
 {
     let Operands::Two(inner, _) = operands else {
         return None;
@@ -202,8 +205,8 @@ pub(crate) fn test(behind: Option<(IntegerType, u64)>) -> Option<Replacement>
 }
 
 /// The comparison of a test's operand with 0.
-pub(crate) fn comparison(opcode: Option<u8>, operands: Operands) -> Option<Replacement>
-    ensures { result ≡ comparison opcode operands }
+pub(crate) fn comparison(opcode: Option<u8>, operands: &Operands) -> Option<Replacement>
+    ensures { result ≡ comparison opcode operands.now }
 {
     let Operands::One(_) = operands else {
         return None;
@@ -224,27 +227,74 @@ pub(crate) fn with_opposite(
     Some(Replacement::FirstWith(of_type(t, i32_opcode, i64_opcode), t, opposite(t, n)))
 }
 
-/// The product with a power of two, where a shift is below the width.
-pub(crate) fn product(behind: Option<(IntegerType, u64)>) -> Option<Replacement>
-    ensures { result ≡ product behind }
+/// The first operand and a power of two, with the operator of its type, where the second operand is a number below the width.
+pub(crate) fn with_power(
+    i32_opcode: u8,
+    i64_opcode: u8,
+    behind: Option<(IntegerType, u64)>,
+) -> Option<Replacement>
+    ensures { result ≡ with_power i32_opcode i64_opcode behind }
 {
     let (t, n) = behind?;
     if n >= width(t) {
         return None;
     }
-    Some(Replacement::FirstWith(of_type(t, 0x6C, 0x7E), t, 1 << n))
+    Some(Replacement::FirstWith(of_type(t, i32_opcode, i64_opcode), t, 1 << n))
 }
 
-/// The shift by the place of a number's lowest bit, where the number has no other.
-pub(crate) fn shift(behind: Option<(IntegerType, u64)>) -> Option<Replacement>
-    ensures { result ≡ shift behind }
+/// The first operand and the place of a number's lowest bit, with the operator of its type, where the number has no other bit.
+pub(crate) fn with_place(
+    i32_opcode: u8,
+    i64_opcode: u8,
+    behind: Option<(IntegerType, u64)>,
+) -> Option<Replacement>
+    ensures { result ≡ with_place i32_opcode i64_opcode behind }
 {
     let (t, n) = behind?;
     let place = lowest_bit(t, n);
     answer_if(
         1 << place == n,
-        Replacement::FirstWith(of_type(t, 0x74, 0x86), t, place),
+        Replacement::FirstWith(of_type(t, i32_opcode, i64_opcode), t, place),
     )
+}
+
+/// The first operand and one less than a number, where the number has one bit alone.
+pub(crate) fn with_mask(behind: Option<(IntegerType, u64)>) -> Option<Replacement>
+    ensures { result ≡ with_mask behind }
+{
+    let (t, n) = behind?;
+    if 1 << lowest_bit(t, n) != n {
+        return None;
+    }
+    Some(Replacement::FirstWith(of_type(t, 0x71, 0x83), t, n - 1))
+}
+
+/// The remainder of the first operand by one more than a number, where that has one bit alone.
+pub(crate) fn with_divisor(behind: Option<(IntegerType, u64)>) -> Option<Replacement>
+    ensures { result ≡ with_divisor behind }
+{
+    let (t, n) = behind?;
+    if n >= all_ones(t) {
+        return None;
+    }
+    let divisor = n + 1;
+    answer_if(
+        1 << lowest_bit(t, divisor) == divisor,
+        Replacement::FirstWith(of_type(t, 0x70, 0x82), t, divisor),
+    )
+}
+
+/// The first operand and what is left of a turn to the whole, with the operator of its type.
+pub(crate) fn with_rest(
+    i32_opcode: u8,
+    i64_opcode: u8,
+    behind: Option<(IntegerType, u64)>,
+) -> Option<Replacement>
+    ensures { result ≡ with_rest i32_opcode i64_opcode behind }
+{
+    let (t, n) = behind?;
+    let bits = width(t);
+    Some(Replacement::FirstWith(of_type(t, i32_opcode, i64_opcode), t, bits - n % bits))
 }
 
 fn constant_type(i32_number: Option<u64>, i64_number: Option<u64>) -> Option<IntegerType>
@@ -272,12 +322,220 @@ pub(crate) fn through_global(value: Option<IntegerType>) -> Option<Replacement>
 }
 
 /// Nothing in the place of a drop, where its operand may neither write nor trap.
-pub(crate) fn forgotten(opcode: Option<u8>, operands: Operands) -> Option<Replacement>
-    ensures { result ≡ forgotten opcode operands }
+pub(crate) fn forgotten(opcode: Option<u8>, operands: &Operands) -> Option<Replacement>
+    ensures { result ≡ forgotten opcode operands.now }
 {
     let Operands::One(x) = operands else {
         return None;
     };
     let drops = are_same(opcode, Some(0x1A));
     answer_if(drops && (!x.writes && !x.may_trap), Replacement::Empty)
+}
+
+/// The first operand twice, where the second is that number, and the first may not write and asks no world.
+pub(crate) fn double(
+    number: u64,
+    operands: &Operands,
+    behind: Option<(IntegerType, u64)>,
+) -> Option<Replacement>
+    ensures { result ≡ double number operands.now behind }
+{
+    let Operands::Two(x, _) = operands else {
+        return None;
+    };
+    let (t, n) = behind?;
+    answer_if(
+        n == number && (!x.writes && !x.asks),
+        Replacement::FirstTwice(of_type(t, 0x6A, 0x7C)),
+    )
+}
+
+/// The second operand alone, where that is 0, and the first may neither write nor trap.
+pub(crate) fn alone_zero(
+    operands: &Operands,
+    behind: Option<(IntegerType, u64)>,
+) -> Option<Replacement>
+    ensures { result ≡ alone (λ t. 0) operands.now behind }
+{
+    let Operands::Two(x, _) = operands else {
+        return None;
+    };
+    let (t, n) = behind?;
+    answer_if(
+        n == 0 && (!x.writes && !x.may_trap),
+        Replacement::Number(t, n),
+    )
+}
+
+/// The second operand alone, where that is -1, and the first may neither write nor trap.
+pub(crate) fn alone_ones(
+    operands: &Operands,
+    behind: Option<(IntegerType, u64)>,
+) -> Option<Replacement>
+    ensures { result ≡ alone all_ones operands.now behind }
+{
+    let Operands::Two(x, _) = operands else {
+        return None;
+    };
+    let (t, n) = behind?;
+    answer_if(
+        n == all_ones(t) && (!x.writes && !x.may_trap),
+        Replacement::Number(t, n),
+    )
+}
+
+/// The type and the number of a constant.
+pub(crate) fn typed_constant(
+    i32_number: Option<u64>,
+    i64_number: Option<u64>,
+) -> Option<(IntegerType, u64)>
+    ensures { result ≡ typed_constant i32_number i64_number }
+{
+    match (i32_number, i64_number) {
+        (Some(n), _) => Some((IntegerType::I32, n)),
+        (None, Some(n)) => Some((IntegerType::I64, n)),
+        (None, None) => None,
+    }
+}
+
+/// A constant that is 0 behind a drawn one, with the operator of its type.
+pub(crate) fn drawn_zero(
+    i32_opcode: u8,
+    i64_opcode: u8,
+    own: Option<(IntegerType, u64)>,
+) -> Option<Replacement>
+    ensures { result ≡ drawn i32_opcode i64_opcode (λ t. 0) own }
+{
+    let (t, n) = own?;
+    answer_if(
+        n == 0,
+        Replacement::Drawn(of_type(t, i32_opcode, i64_opcode), t),
+    )
+}
+
+/// A constant that is -1 behind a drawn one, with the operator of its type.
+pub(crate) fn drawn_ones(
+    i32_opcode: u8,
+    i64_opcode: u8,
+    own: Option<(IntegerType, u64)>,
+) -> Option<Replacement>
+    ensures { result ≡ drawn i32_opcode i64_opcode all_ones own }
+{
+    let (t, n) = own?;
+    answer_if(
+        n == all_ones(t),
+        Replacement::Drawn(of_type(t, i32_opcode, i64_opcode), t),
+    )
+}
+
+/// The test of the comparison that holds where this one doesn't.
+pub(crate) fn negated(opcode: Option<u8>, operands: &Operands) -> Option<Replacement>
+    ensures { result ≡ negated opcode operands.now }
+{
+    let Operands::Two(..) = operands else {
+        return None;
+    };
+    Some(Replacement::Negated(opposite_opcode(opcode)?))
+}
+
+/// The test of the test of the first operand, where the second is 0.
+pub(crate) fn both_tests(behind: Option<(IntegerType, u64)>) -> Option<Replacement>
+    ensures { result ≡ both_tests behind }
+{
+    let (t, n) = behind?;
+    answer_if(
+        n == 0,
+        Replacement::FirstByBoth(of_type(t, 0x45, 0x50), 0x45),
+    )
+}
+
+/// A value of i32, extended and wrapped.
+pub(crate) fn wrapped(value: Option<IntegerType>) -> Option<Replacement>
+    ensures { result ≡ wrapped value }
+{
+    match value {
+        Some(IntegerType::I32) => Some(Replacement::ByBoth(0xAD, 0xA7)),
+        _ => None,
+    }
+}
+
+/// The comparison that holds where that doesn't of which this is the test.
+pub(crate) fn unnegated(opcode: Option<u8>, operands: &Operands) -> Option<Replacement>
+    ensures { result ≡ unnegated opcode operands.now }
+{
+    let Operands::One(x) = operands else {
+        return None;
+    };
+    if !are_same(opcode, Some(0x45)) {
+        return None;
+    }
+    let _values = x.values?;
+    Some(Replacement::InnerBy(opposite_opcode(x.opcode)?))
+}
+
+// An operator on the parts of the first operand, with the opcodes of what parts it, of what joins the parts, and of its own, for
+// each type; where the first part leaves one value.
+fn part(
+    parts: (u8, u8),
+    joins: (u8, u8),
+    own: (u8, u8),
+    x: &Operand,
+    behind: (IntegerType, u64),
+    met: bool,
+) -> Option<Replacement>
+    ensures { result ≡ part parts.0 parts.1 joins.0 joins.1 own.0 own.1 x.now behind met }
+{
+    let (t, n) = behind;
+    let (one_value, _) = x.values?;
+    let same = are_same(x.opcode, Some(of_type(t, parts.0, parts.1)));
+    answer_if(
+        (same && one_value) && met,
+        Replacement::Distribute(of_type(t, joins.0, joins.1), of_type(t, own.0, own.1), t, n),
+    )
+}
+
+/// An operator on the parts of the first operand, whatever the second operand's number is.
+pub(crate) fn distributed(
+    parts: (u8, u8),
+    joins: (u8, u8),
+    own: (u8, u8),
+    operands: &Operands,
+    behind: Option<(IntegerType, u64)>,
+) -> Option<Replacement>
+    ensures { result ≡ distributed parts.0 parts.1 joins.0 joins.1 own.0 own.1 (λ t n. true)
+        operands.now behind }
+{
+    let Operands::Two(x, _) = operands else {
+        return None;
+    };
+    part(parts, joins, own, x, behind?, true)
+}
+
+/// An operator on the parts of the first operand, where the second is -1.
+pub(crate) fn distributed_ones(
+    parts: (u8, u8),
+    joins: (u8, u8),
+    own: (u8, u8),
+    operands: &Operands,
+    behind: Option<(IntegerType, u64)>,
+) -> Option<Replacement>
+    ensures { result ≡ distributed parts.0 parts.1 joins.0 joins.1 own.0 own.1
+        (λ t n. n == all_ones t) operands.now behind }
+{
+    let Operands::Two(x, _) = operands else {
+        return None;
+    };
+    let (t, n) = behind?;
+    part(parts, joins, own, x, (t, n), n == all_ones(t))
+}
+
+/// An extension of low bits as a shift there and one back.
+pub(crate) fn shifts(opcode: Option<u8>, operands: &Operands) -> Option<Replacement>
+    ensures { result ≡ shifts opcode operands.now }
+{
+    let Operands::One(_) = operands else {
+        return None;
+    };
+    let (t, n) = bits_left_out(opcode)?;
+    Some(Replacement::FirstWithBoth(of_type(t, 0x74, 0x86), of_type(t, 0x75, 0x87), t, n))
 }

@@ -15,16 +15,16 @@ use mutate_base::PrimitiveTypeInfo;
 use peephole_machine::Operation;
 
 // The low bits of an operand's number, where the operand is a constant of the type.
-fn typed_number(t: PrimitiveTypeInfo, x: Operand) -> Option<u64>
-    ensures number { result ≡ typed_number t x }
+fn typed_number(t: PrimitiveTypeInfo, x: &Operand) -> Option<u64>
+    ensures number { result ≡ typed_number t x.now }
     ensures fits { IfSome result (λ n. IsOfType t n) }
 {
     let integer = integer_of(t)?;
     Some(within_width(integer, number_of(integer, x)?))
 }
 
-fn on_one(f: Operation, x: Operand) -> Option<u64>
-    ensures { result ≡ on_one (operator_of f) (operator_of f).operands x }
+fn on_one(f: Operation, x: &Operand) -> Option<u64>
+    ensures { result ≡ on_one (operator_of f) (operator_of f).operands x.now }
 {
     let [t] = f.operands() else {
         return None;
@@ -32,8 +32,8 @@ fn on_one(f: Operation, x: Operand) -> Option<u64>
     f.value(&[typed_number(*t, x)?])
 }
 
-fn on_two(f: Operation, x: Operand, y: Operand) -> Option<u64>
-    ensures { result ≡ on_two (operator_of f) (operator_of f).operands x y }
+fn on_two(f: Operation, x: &Operand, y: &Operand) -> Option<u64>
+    ensures { result ≡ on_two (operator_of f) (operator_of f).operands x.now y.now }
 {
     let [t, u] = f.operands() else {
         return None;
@@ -43,8 +43,8 @@ fn on_two(f: Operation, x: Operand, y: Operand) -> Option<u64>
     f.value(&[n, m])
 }
 
-fn folded_number(f: Operation, operands: Operands) -> Option<u64>
-    ensures { result ≡ folded_number (operator_of f) operands }
+fn folded_number(f: Operation, operands: &Operands) -> Option<u64>
+    ensures { result ≡ folded_number (operator_of f) operands.now }
 {
     match operands {
         Operands::One(x) => on_one(f, x),
@@ -61,17 +61,17 @@ fn operation_of(opcode: Option<u8>) -> Option<Operation>
 }
 
 // The number that it gives.
-fn number_by(f: Operation, operands: Operands) -> Option<Replacement>
+fn number_by(f: Operation, operands: &Operands) -> Option<Replacement>
     ensures { result ≡ option_map (λ n. Number (operator_of f).result n)
-        (folded_number (operator_of f) operands) }
+        (folded_number (operator_of f) operands.now) }
 {
     let number = folded_number(f, operands)?;
     Some(Replacement::Number(f.result(), number))
 }
 
 /// The constant of what an operator on constants gives, where it doesn't trap.
-pub(crate) fn folded(opcode: Option<u8>, operands: Operands) -> Option<Replacement>
-    ensures { result ≡ folded opcode operands }
+pub(crate) fn folded(opcode: Option<u8>, operands: &Operands) -> Option<Replacement>
+    ensures { result ≡ folded opcode operands.now }
 {
     number_by(operation_of(opcode)?, operands)
 }

@@ -1,6 +1,7 @@
 //! What holds of the rules. A function here does nothing: its contract is the laws.
 
 ghost use Rattle.peephole_rules.specs.Laws.{RulesKeepMeaning};
+ghost use Rattle.peephole_rules.specs.ReadAlike.{AreReadAlike};
 
 use peephole_terms::laws::{
     agreement_is_a_congruence, nodes_mean_by_their_rows, typed_terms_leave_their_types,
@@ -14,3 +15,8 @@ pub fn rules_keep_meaning()
     typed_terms_leave_their_types();
     agreement_is_a_congruence();
 }
+
+/// What rules read of a term goes by its root's instruction and by what they read of its operands.
+pub fn terms_are_read_alike()
+    ensures { AreReadAlike }
+{}

@@ -9,6 +9,7 @@ mod effects;
 mod flags;
 mod folding;
 mod grafted;
+mod instruction;
 pub mod laws;
 mod operator;
 mod reading;
@@ -20,6 +21,8 @@ mod written;
 
 pub use constant::constant_number;
 pub use effects::{Effects, may_trap, undisturbed, writes};
+pub use instruction::own_type;
 pub use operator::{has_one_value, opcode_byte};
 pub use rule::{RULES, Rule, UnknownRule};
+pub use shape::{Operand, Shape};
 pub use value_types::value_type;

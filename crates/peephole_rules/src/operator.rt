@@ -4,8 +4,8 @@ ghost use Rattle.std.specs.Int.{cast_signed};
 ghost use Rattle.peephole_machine.specs.Values.{width_of};
 ghost use Rattle.peephole_lang.specs.Lang.{ids_of};
 ghost use Rattle.peephole_lang.specs.Node.{head_of, instr_of_head};
-ghost use Rattle.peephole_rules.specs.Operator.{instruction_byte, opcode_byte, is_in, is_among, are_same, type_by, commutative, associative, turned, writers, is_one, gives_one, is_value, of_type, operator, constant_head, within_width, unfold_head, use_global_head};
-ghost use Rattle.peephole_rules.specs.Effects.{is_writer, is_trapper, is_asker};
+ghost use Rattle.peephole_rules.specs.Operator.{instruction_byte, opcode_byte, is_among, are_same, type_by, commutative, associative, turned, writers, is_one, gives_one, is_value, of_type, operator, constant_head, within_width, unfold_head, use_global_head, random_head, opposite_of, bits_left_out};
+ghost use Rattle.peephole_rules.specs.Effects.{is_writer, trappers, is_trapper, is_asker};
 ghost use Rattle.peephole_rules.specs.Replacement.{IsBinary, IsUnary};
 
 use crate::constant::low_half;
@@ -13,77 +13,46 @@ use peephole_lang::{Id, Lang, Numeric};
 use peephole_machine::{IntegerType, asks_world, changes, may_trap};
 use wasm_code::{Instr, ResultKind, RowInfo, row_info};
 
-// The operators whose operands may change places: eq and ne; add, mul, and, or, xor; of i32 and of i64.
-const COMMUTATIVE: [u8; 14] = [
-    0x46, 0x47, 0x51, 0x52, 0x6A, 0x6C, 0x71, 0x72, 0x73, 0x7C, 0x7E, 0x83, 0x84, 0x85,
-];
-
-// lt and le, signed and unsigned.
-const LESS: [u8; 8] = [0x48, 0x49, 0x4C, 0x4D, 0x53, 0x54, 0x57, 0x58];
-
-// gt and ge.
-const GREATER: [u8; 8] = [0x4A, 0x4B, 0x4E, 0x4F, 0x55, 0x56, 0x59, 0x5A];
-
-// The operators that may be grouped either way: add, mul, and, or, xor.
-const ASSOCIATIVE: [u8; 10] = [0x6A, 0x6C, 0x71, 0x72, 0x73, 0x7C, 0x7E, 0x83, 0x84, 0x85];
-
-// local.set, local.tee, global.set.
-const WRITERS: [u8; 3] = [0x21, 0x22, 0x24];
-
-// div_s, div_u, rem_s, rem_u.
-const TRAPPERS: [u8; 8] = [0x6D, 0x6E, 0x6F, 0x70, 0x7F, 0x80, 0x81, 0x82];
-
 /// The opcode of a node's instruction, where the node has an instruction and its opcode is one byte (WebAssembly Core
 /// Specification 3.0, Binary Format, Instructions).
 pub fn opcode_byte(node: &Lang) -> Option<u8>
     ensures { result ≡ opcode_byte (head_of node.now) }
 {
-    let row = node.instr()?.row();
-    match row {
-        0 => Some(0x01),
-        1 => Some(0x10),
-        2..=3 => Some(row as u8 + 0x18),
-        4..=10 => Some(row as u8 + 0x1C),
-        11..=167 => Some(row as u8 + 0x1D),
-        168..=170 => Some(row as u8 + 0x28),
-        445 => Some(0x1C),
-        _ => None,
-    }
+    peephole_machine::opcode_byte(&node.instr()?)
 }
 
-fn is_in(bytes: &[u8], byte: u8) -> bool
-    ensures { result ≡ is_in bytes.now byte }
-{
-    for one in bytes {
-        if byte == *one {
-            return true;
-        }
-    }
-    false
-}
-
-// Whether the opcode is one of these.
-fn is_among(bytes: &[u8], opcode: Option<u8>) -> bool
-    ensures { result ≡ is_among bytes.now opcode }
-{
-    match opcode {
-        Some(byte) => is_in(bytes, byte),
-        None => false,
-    }
-}
-
-/// Whether the opcode is that of an operator whose operands may change places.
+/// Whether the opcode is that of an operator whose operands may change places: eq and ne; add, mul, and, or, xor; of i32 and of i64.
 pub(crate) fn is_commutative(opcode: Option<u8>) -> bool
     ensures { result ≡ is_among commutative opcode }
 {
-    is_among(&COMMUTATIVE, opcode)
+    matches!(
+        opcode,
+        Some(
+            0x46 | 0x47
+                | 0x51
+                | 0x52
+                | 0x6A
+                | 0x6C
+                | 0x71
+                | 0x72
+                | 0x73
+                | 0x7C
+                | 0x7E
+                | 0x83
+                | 0x84
+                | 0x85
+        )
+    )
 }
 
-/// Whether the opcode is that of an operator that may be grouped either way.
+/// Whether the opcode is that of an operator that may be grouped either way: add, mul, and, or, xor.
 pub(crate) fn is_associative(opcode: Option<u8>) -> bool
     ensures { result ≡ is_among associative opcode }
 {
-    is_among(&ASSOCIATIVE, opcode)
+    matches!(
+        opcode,
+        Some(0x6A | 0x6C | 0x71 | 0x72 | 0x73 | 0x7C | 0x7E | 0x83 | 0x84 | 0x85)
+    )
 }
 
 /// Whether both opcodes are there, and equal.
@@ -127,16 +96,50 @@ pub(crate) fn turned_opcode(opcode: Option<u8>) -> Option<u8>
     turned(opcode?)
 }
 
-// The comparison that holds of the operands in the other order.
+// The comparison that holds of the operands in the other order: of lt and le, and of gt and ge.
 fn turned(byte: u8) -> Option<u8>
     ensures { result ≡ turned byte }
 {
-    if is_in(&LESS, byte) {
-        Some(byte + 2)
-    } else if is_in(&GREATER, byte) {
-        Some(byte - 2)
-    } else {
-        None
+    match byte {
+        0x48 | 0x49 | 0x4C | 0x4D | 0x53 | 0x54 | 0x57 | 0x58 => Some(byte + 2),
+        0x4A | 0x4B | 0x4E | 0x4F | 0x55 | 0x56 | 0x59 | 0x5A => Some(byte - 2),
+        _ => None,
+    }
+}
+
+/// Of a comparison the opcode of that which holds where it doesn't.
+pub(crate) fn opposite_opcode(opcode: Option<u8>) -> Option<u8>
+    ensures { result ≡ option_and_then opposite_of opcode }
+{
+    opposite_of(opcode?)
+}
+
+// The comparison that holds where this one doesn't: of eq and ne, lt and ge, gt and le.
+fn opposite_of(byte: u8) -> Option<u8>
+    ensures { result ≡ opposite_of byte }
+{
+    match byte {
+        0x46 | 0x51 => Some(byte + 1),
+        0x47 | 0x52 => Some(byte - 1),
+        0x48 | 0x49 | 0x53 | 0x54 => Some(byte + 6),
+        0x4A | 0x4B | 0x55 | 0x56 => Some(byte + 2),
+        0x4C | 0x4D | 0x57 | 0x58 => Some(byte - 2),
+        0x4E | 0x4F | 0x59 | 0x5A => Some(byte - 6),
+        _ => None,
+    }
+}
+
+/// Of an opcode that extends low bits with sign the type, and how many bits it leaves out.
+pub(crate) fn bits_left_out(opcode: Option<u8>) -> Option<(IntegerType, u64)>
+    ensures { result ≡ option_and_then bits_left_out opcode }
+{
+    match opcode? {
+        0xC0 => Some((IntegerType::I32, 24)),
+        0xC1 => Some((IntegerType::I32, 16)),
+        0xC2 => Some((IntegerType::I64, 56)),
+        0xC3 => Some((IntegerType::I64, 48)),
+        0xC4 => Some((IntegerType::I64, 32)),
+        _ => None,
     }
 }
 
@@ -160,24 +163,36 @@ fn gives_one(info: Option<RowInfo>) -> bool
     }
 }
 
+/// Whether the instruction leaves one value, as the result column of its row tells; not known of a call.
+pub(crate) fn is_value(instr: &Instr) -> bool
+    ensures { result ≡ is_value (Some instr.now) }
+{
+    gives_one(row_info(instr.row()))
+}
+
 /// Whether a term with this root leaves one value, as the result column of the instruction table tells; not known of a call.
 pub fn has_one_value(node: &Lang) -> bool
     ensures { result ≡ is_value (instr_of_head (head_of node.now)) }
 {
     match node.instr() {
-        Some(instr) => gives_one(row_info(instr.row())),
+        Some(instr) => is_value(&instr),
         None => false,
     }
 }
 
-// Whether the instruction sets a variable or changes anything else, by its opcode where that is one byte.
-fn writes_by(opcode: Option<u8>, instr: &Instr) -> bool
+// Whether the opcode is that of local.set, local.tee or global.set.
+fn is_setter(opcode: Option<u8>) -> bool
+    ensures { result ≡ is_among writers opcode }
+{
+    matches!(opcode, Some(0x21 | 0x22 | 0x24))
+}
+
+/// Whether the instruction sets a variable or changes anything else, by its opcode where that is one byte.
+pub(crate) fn writes_by(opcode: Option<u8>, instr: &Instr) -> bool
     requires { opcode ≡ instruction_byte (Some instr.now) }
     ensures { result ≡ is_writer (Some instr.now) }
 {
-    let sets = is_among(&WRITERS, opcode);
-    let changed = changes(instr);
-    sets || changed
+    is_setter(opcode) || changes(instr)
 }
 
 /// Whether the node may write a variable, or change anything else.
@@ -185,19 +200,27 @@ pub(crate) fn is_writer(node: &Lang) -> bool
     ensures { result ≡ is_writer (instr_of_head (head_of node.now)) }
 {
     match node.instr() {
-        Some(instr) => writes_by(opcode_byte(node), &instr),
+        Some(instr) => writes_by(peephole_machine::opcode_byte(&instr), &instr),
         None => true,
     }
 }
 
-// Whether the instruction may trap, by its opcode where that is one byte.
-fn traps_by(opcode: Option<u8>, instr: &Instr) -> bool
+// Whether the opcode is that of div_s, div_u, rem_s or rem_u.
+fn is_divider(opcode: Option<u8>) -> bool
+    ensures { result ≡ is_among trappers opcode }
+{
+    matches!(
+        opcode,
+        Some(0x6D | 0x6E | 0x6F | 0x70 | 0x7F | 0x80 | 0x81 | 0x82)
+    )
+}
+
+/// Whether the instruction may trap, by its opcode where that is one byte.
+pub(crate) fn traps_by(opcode: Option<u8>, instr: &Instr) -> bool
     requires { opcode ≡ instruction_byte (Some instr.now) }
     ensures { result ≡ is_trapper (Some instr.now) }
 {
-    let divides = is_among(&TRAPPERS, opcode);
-    let fails = may_trap(instr);
-    divides || fails
+    is_divider(opcode) || may_trap(instr)
 }
 
 /// Whether the node may trap.
@@ -205,7 +228,7 @@ pub(crate) fn is_trapper(node: &Lang) -> bool
     ensures { result ≡ is_trapper (instr_of_head (head_of node.now)) }
 {
     match node.instr() {
-        Some(instr) => traps_by(opcode_byte(node), &instr),
+        Some(instr) => traps_by(peephole_machine::opcode_byte(&instr), &instr),
         None => true,
     }
 }
@@ -258,6 +281,18 @@ pub(crate) fn constant_node(t: IntegerType, number: u64) -> Lang
     match t {
         IntegerType::I32 => Lang::I32(low_half(number).cast_signed()),
         IntegerType::I64 => Lang::I64(number.cast_signed()),
+    }
+}
+
+/// A drawn constant of the type.
+#[tactic(auto, unfolding(peephole_lang::specs::Lang::place_of, peephole_lang::specs::Lang::payload_of, peephole_lang::specs::Lang::ids_of))]
+pub(crate) fn random_node(t: IntegerType) -> Lang
+    ensures head { head_of result ≡ random_head t }
+    ensures children { ids_of result ≡ [] }
+{
+    match t {
+        IntegerType::I32 => Lang::RandI32,
+        IntegerType::I64 => Lang::RandI64,
     }
 }
 

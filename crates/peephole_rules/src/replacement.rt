@@ -7,9 +7,11 @@ ghost use Rattle.peephole_lang.specs.Term.{tree_at};
 ghost use Rattle.peephole_rules.specs.Grafted.{expression_nodes, term_over};
 
 use crate::written::{
-    write_complements, write_constant, write_empty, write_first, write_first_by, write_first_with,
-    write_grouped_left, write_grouped_right, write_nop, write_number, write_swapped, write_turned,
-    write_turned_select, write_twice, write_unfold, write_use_global,
+    write_by_both, write_complements, write_constant, write_distributed, write_drawn, write_empty,
+    write_first, write_first_by, write_first_by_both, write_first_twice, write_first_with,
+    write_first_with_both, write_grouped_left, write_grouped_right, write_inner_by, write_negated,
+    write_nop, write_number, write_swapped, write_turned, write_turned_select, write_twice,
+    write_unfold, write_use_global,
 };
 use mutate_base::Error;
 use peephole_lang::{Lang, RecExpr};
@@ -41,6 +43,22 @@ pub(crate) enum Replacement {
     FirstBy(u8),
     /// The test of the node's third operand, and the node with its first two in the other order and that test.
     TurnSelect,
+    /// An operator on the node's first operand twice.
+    FirstTwice(u8),
+    /// The node, a drawn constant of the type, and an operator on that and the node.
+    Drawn(u8, IntegerType),
+    /// The test of an operator on the node's two operands.
+    Negated(u8),
+    /// An operator on the node's first operand, and another on that.
+    FirstByBoth(u8, u8),
+    /// The node, an operator on it, and another on that.
+    ByBoth(u8, u8),
+    /// An operator on the two operands of the node's first operand.
+    InnerBy(u8),
+    /// An operator on what another makes of each of the two operands of the node's first operand and a number of the type.
+    Distribute(u8, u8, IntegerType, u64),
+    /// A number of the type, an operator on the node's first operand and the number, and another on that and the number.
+    FirstWithBoth(u8, u8, IntegerType, u64),
     /// The node, and the sum of a drawn word and the rest of it.
     Unfold(IntegerType),
     /// The node, and its value by way of a requested global.
@@ -72,6 +90,14 @@ impl Replacement {
             Replacement::FirstWith(..) => 1,
             Replacement::FirstBy(_) => 0,
             Replacement::TurnSelect => 1,
+            Replacement::FirstTwice(_) => 0,
+            Replacement::Drawn(..) => 2,
+            Replacement::Negated(_) => 1,
+            Replacement::FirstByBoth(..) => 1,
+            Replacement::ByBoth(..) => 2,
+            Replacement::InnerBy(_) => 0,
+            Replacement::Distribute(..) => 3,
+            Replacement::FirstWithBoth(..) => 2,
             Replacement::Unfold(_) => 1,
             Replacement::UseGlobal(_) => 1,
             Replacement::Nop => 2,
@@ -106,6 +132,18 @@ impl Replacement {
             }
             Replacement::FirstBy(byte) => write_first_by(expr, node, byte),
             Replacement::TurnSelect => write_turned_select(expr, node),
+            Replacement::FirstTwice(byte) => write_first_twice(expr, node, byte),
+            Replacement::Drawn(byte, t) => write_drawn(expr, node, byte, t),
+            Replacement::Negated(byte) => write_negated(expr, node, byte),
+            Replacement::FirstByBoth(inner, outer) => write_first_by_both(expr, node, inner, outer),
+            Replacement::ByBoth(inner, outer) => write_by_both(expr, node, inner, outer),
+            Replacement::InnerBy(byte) => write_inner_by(expr, node, byte),
+            Replacement::Distribute(outer, inner, t, number) => write_distributed(
+                expr, node, outer, inner, t, number,
+            ),
+            Replacement::FirstWithBoth(inner, outer, t, number) => write_first_with_both(
+                expr, node, inner, outer, t, number,
+            ),
             Replacement::Unfold(t) => write_unfold(expr, node, t),
             Replacement::UseGlobal(t) => write_use_global(expr, node, t),
             Replacement::Nop => write_nop(alloc, expr, node),

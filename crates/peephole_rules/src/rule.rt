@@ -76,10 +76,72 @@ pub enum Rule {
     DropShiftByZero,
     /// `drop x` to nothing, where `x` may neither write nor trap.
     Forget,
+    /// `x` to `shr_s x 0`.
+    ShrSByZero,
+    /// `x` to `shr_u x 0`.
+    ShrUByZero,
+    /// `x` to `rotl x 0`.
+    RotlByZero,
+    /// `x` to `rotr x 0`.
+    RotrByZero,
+    /// `shr_s x 0` to `x`.
+    DropShrSByZero,
+    /// `shr_u x 0` to `x`.
+    DropShrUByZero,
+    /// `rotl x 0` to `x`.
+    DropRotlByZero,
+    /// `rotr x 0` to `x`.
+    DropRotrByZero,
+    /// `div_u x 2^c` to `shr_u x c`, of a constant.
+    QuotientToShift,
+    /// `shr_u x c` to `div_u x 2^c`, of a constant below the width.
+    ShiftToQuotient,
+    /// `rem_u x 2^c` to `and x (2^c - 1)`, of a constant.
+    RemainderToMask,
+    /// `and x (2^c - 1)` to `rem_u x 2^c`, of a constant, with `c` below the width.
+    MaskToRemainder,
+    /// `rotl x c` to `rotr x (N - c)`, of a constant, with `c` below the width `N`.
+    RotlToRotr,
+    /// `rotr x c` to `rotl x (N - c)`, likewise.
+    RotrToRotl,
+    /// `mul x 2` to `add x x`, where `x` may not write and asks no world.
+    ProductToDouble,
+    /// `shl x 1` to `add x x`, likewise.
+    ShiftToDouble,
+    /// `0` to `and r 0`, where `r` is drawn.
+    AndZero,
+    /// `0` to `mul r 0`, where `r` is drawn.
+    MulZero,
+    /// `-1` to `or r -1`, where `r` is drawn.
+    OrOnes,
+    /// `and x 0` to `0`, where `x` may neither write nor trap.
+    DropAndZero,
+    /// `mul x 0` to `0`, where `x` may neither write nor trap.
+    DropMulZero,
+    /// `or x -1` to `-1`, where `x` may neither write nor trap.
+    DropOrOnes,
+    /// `lt x y` to `eqz (ge x y)`, `gt x y` to `eqz (le x y)`, `eq x y` to `eqz (ne x y)`, and back, signed and unsigned.
+    NegateComparison,
+    /// `ne x 0` to `eqz (eqz x)`.
+    DifferenceToTests,
+    /// `x` of i32 to `wrap (extend x)`, unsigned.
+    WrapExtended,
+    /// `eqz (ge x y)` to `lt x y`, `eqz (le x y)` to `gt x y`, `eqz (ne x y)` to `eq x y`, and back, signed and unsigned.
+    DropNegation,
+    /// `mul (add x y) c` to `add (mul x c) (mul y c)`, of a constant, where `x` leaves one value.
+    DistributeProduct,
+    /// `and (or x y) c` to `or (and x c) (and y c)`, likewise.
+    DistributeMask,
+    /// `xor (and x y) -1` to `or (xor x -1) (xor y -1)`, where `x` leaves one value.
+    ComplementOfAnd,
+    /// `xor (or x y) -1` to `and (xor x -1) (xor y -1)`, likewise.
+    ComplementOfOr,
+    /// `extend8_s x` to `shr_s (shl x 24) 24`, and so on for the other extensions of low bits.
+    ExtensionToShifts,
 }
 
 /// Every rule, in the order of the variants.
-pub const RULES: [Rule; 33] = [
+pub const RULES: [Rule; 64] = [
     Rule::Commute,
     Rule::TurnComparison,
     Rule::AssociateLeft,
@@ -113,6 +175,37 @@ pub const RULES: [Rule; 33] = [
     Rule::DropAndOnes,
     Rule::DropShiftByZero,
     Rule::Forget,
+    Rule::ShrSByZero,
+    Rule::ShrUByZero,
+    Rule::RotlByZero,
+    Rule::RotrByZero,
+    Rule::DropShrSByZero,
+    Rule::DropShrUByZero,
+    Rule::DropRotlByZero,
+    Rule::DropRotrByZero,
+    Rule::QuotientToShift,
+    Rule::ShiftToQuotient,
+    Rule::RemainderToMask,
+    Rule::MaskToRemainder,
+    Rule::RotlToRotr,
+    Rule::RotrToRotl,
+    Rule::ProductToDouble,
+    Rule::ShiftToDouble,
+    Rule::AndZero,
+    Rule::MulZero,
+    Rule::OrOnes,
+    Rule::DropAndZero,
+    Rule::DropMulZero,
+    Rule::DropOrOnes,
+    Rule::NegateComparison,
+    Rule::DifferenceToTests,
+    Rule::WrapExtended,
+    Rule::DropNegation,
+    Rule::DistributeProduct,
+    Rule::DistributeMask,
+    Rule::ComplementOfAnd,
+    Rule::ComplementOfOr,
+    Rule::ExtensionToShifts,
 ];
 
 /// No rule has the name.
@@ -159,6 +252,37 @@ impl Rule {
             Rule::DropAndOnes => "drop_and_ones",
             Rule::DropShiftByZero => "drop_shift_by_zero",
             Rule::Forget => "forget",
+            Rule::ShrSByZero => "shr_s_by_zero",
+            Rule::ShrUByZero => "shr_u_by_zero",
+            Rule::RotlByZero => "rotl_by_zero",
+            Rule::RotrByZero => "rotr_by_zero",
+            Rule::DropShrSByZero => "drop_shr_s_by_zero",
+            Rule::DropShrUByZero => "drop_shr_u_by_zero",
+            Rule::DropRotlByZero => "drop_rotl_by_zero",
+            Rule::DropRotrByZero => "drop_rotr_by_zero",
+            Rule::QuotientToShift => "quotient_to_shift",
+            Rule::ShiftToQuotient => "shift_to_quotient",
+            Rule::RemainderToMask => "remainder_to_mask",
+            Rule::MaskToRemainder => "mask_to_remainder",
+            Rule::RotlToRotr => "rotl_to_rotr",
+            Rule::RotrToRotl => "rotr_to_rotl",
+            Rule::ProductToDouble => "product_to_double",
+            Rule::ShiftToDouble => "shift_to_double",
+            Rule::AndZero => "and_zero",
+            Rule::MulZero => "mul_zero",
+            Rule::OrOnes => "or_ones",
+            Rule::DropAndZero => "drop_and_zero",
+            Rule::DropMulZero => "drop_mul_zero",
+            Rule::DropOrOnes => "drop_or_ones",
+            Rule::NegateComparison => "negate_comparison",
+            Rule::DifferenceToTests => "difference_to_tests",
+            Rule::WrapExtended => "wrap_extended",
+            Rule::DropNegation => "drop_negation",
+            Rule::DistributeProduct => "distribute_product",
+            Rule::DistributeMask => "distribute_mask",
+            Rule::ComplementOfAnd => "complement_of_and",
+            Rule::ComplementOfOr => "complement_of_or",
+            Rule::ExtensionToShifts => "extension_to_shifts",
         }
     }
 
@@ -201,6 +325,37 @@ impl Rule {
             "drop_and_ones" => Some(Rule::DropAndOnes),
             "drop_shift_by_zero" => Some(Rule::DropShiftByZero),
             "forget" => Some(Rule::Forget),
+            "shr_s_by_zero" => Some(Rule::ShrSByZero),
+            "shr_u_by_zero" => Some(Rule::ShrUByZero),
+            "rotl_by_zero" => Some(Rule::RotlByZero),
+            "rotr_by_zero" => Some(Rule::RotrByZero),
+            "drop_shr_s_by_zero" => Some(Rule::DropShrSByZero),
+            "drop_shr_u_by_zero" => Some(Rule::DropShrUByZero),
+            "drop_rotl_by_zero" => Some(Rule::DropRotlByZero),
+            "drop_rotr_by_zero" => Some(Rule::DropRotrByZero),
+            "quotient_to_shift" => Some(Rule::QuotientToShift),
+            "shift_to_quotient" => Some(Rule::ShiftToQuotient),
+            "remainder_to_mask" => Some(Rule::RemainderToMask),
+            "mask_to_remainder" => Some(Rule::MaskToRemainder),
+            "rotl_to_rotr" => Some(Rule::RotlToRotr),
+            "rotr_to_rotl" => Some(Rule::RotrToRotl),
+            "product_to_double" => Some(Rule::ProductToDouble),
+            "shift_to_double" => Some(Rule::ShiftToDouble),
+            "and_zero" => Some(Rule::AndZero),
+            "mul_zero" => Some(Rule::MulZero),
+            "or_ones" => Some(Rule::OrOnes),
+            "drop_and_zero" => Some(Rule::DropAndZero),
+            "drop_mul_zero" => Some(Rule::DropMulZero),
+            "drop_or_ones" => Some(Rule::DropOrOnes),
+            "negate_comparison" => Some(Rule::NegateComparison),
+            "difference_to_tests" => Some(Rule::DifferenceToTests),
+            "wrap_extended" => Some(Rule::WrapExtended),
+            "drop_negation" => Some(Rule::DropNegation),
+            "distribute_product" => Some(Rule::DistributeProduct),
+            "distribute_mask" => Some(Rule::DistributeMask),
+            "complement_of_and" => Some(Rule::ComplementOfAnd),
+            "complement_of_or" => Some(Rule::ComplementOfOr),
+            "extension_to_shifts" => Some(Rule::ExtensionToShifts),
             _ => None,
         }
     }

@@ -1,25 +1,25 @@
 //! What rules read of a term, and of its operands.
 use peephole_machine::IntegerType;
 
-/// What rules read of a term.
+/// What rules read of a term where it is an operand. It is a few words, and does not hold the term.
 #[derive(Clone, Copy)]
-pub(crate) struct Operand {
+pub struct Operand {
     /// The opcode of the root's instruction, where that is one byte.
-    pub opcode: Option<u8>,
+    pub(crate) opcode: Option<u8>,
     /// The number of a constant of i32.
-    pub i32_number: Option<u64>,
+    pub(crate) i32_number: Option<u64>,
     /// The number of a constant of i64.
-    pub i64_number: Option<u64>,
+    pub(crate) i64_number: Option<u64>,
     /// Whether it leaves one value.
-    pub one_value: bool,
+    pub(crate) one_value: bool,
     /// Whether it may write.
-    pub writes: bool,
+    pub(crate) writes: bool,
     /// Whether it may trap.
-    pub may_trap: bool,
+    pub(crate) may_trap: bool,
     /// Whether it may ask the world.
-    pub asks: bool,
+    pub(crate) asks: bool,
     /// Of a root with two children, whether the first and whether the second leaves one value.
-    pub values: Option<(bool, bool)>,
+    pub(crate) values: Option<(bool, bool)>,
 }
 
 /// What rules read of a node's children: of those of up to three.
@@ -32,13 +32,13 @@ pub(crate) enum Operands {
     More,
 }
 
-/// What rules read of a node.
+/// What rules read of a term: all that they ask of it, so that whether each of them has an answer needs no second look.
 #[derive(Clone, Copy)]
-pub(crate) struct Shape {
+pub struct Shape {
     /// The type of the value that it leaves, where it is i32 or i64.
-    pub value: Option<IntegerType>,
+    pub(crate) value: Option<IntegerType>,
     /// What is read of its term.
-    pub root: Operand,
+    pub(crate) root: Operand,
     /// What is read of its children's terms.
-    pub operands: Operands,
+    pub(crate) operands: Operands,
 }

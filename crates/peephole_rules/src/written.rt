@@ -5,11 +5,11 @@ ghost use Rattle.mutate_base.specs.declared.error.Error.{Error};
 ghost use Rattle.peephole_lang.specs.Node.{node_of, children_of};
 ghost use Rattle.peephole_lang.specs.Term.{AreBelow, numbers_of, tree_at};
 ghost use Rattle.peephole_rules.specs.Grafted.{expression_nodes, term_over};
-ghost use Rattle.peephole_rules.specs.Replacement.{CanReplace, Replaces, IsBinary, IsUnary};
-ghost use Rattle.peephole_rules.specs.declared.replacement.Replacement.TheVariants.{Swap, Turn, GroupLeft, GroupRight, Constant, Complements, Twice, First, FirstWith, FirstBy, TurnSelect, Unfold, UseGlobal, Nop, Empty, Number};
+ghost use Rattle.peephole_rules.specs.Replacement.{CanReplace, Replaces, IsBinary, IsUnary, HasTwoInner, AreInner};
+ghost use Rattle.peephole_rules.specs.declared.replacement.Replacement.TheVariants.{Swap, Turn, GroupLeft, GroupRight, Constant, Complements, Twice, First, FirstWith, FirstBy, TurnSelect, Unfold, UseGlobal, Nop, Empty, Number, FirstTwice, Drawn, Negated, FirstByBoth, ByBoth, InnerBy, Distribute, FirstWithBoth};
 
 use crate::operator::{
-    binary_node, constant_node, test_node, unary_node, unfold_node, use_global_node,
+    binary_node, constant_node, random_node, test_node, unary_node, unfold_node, use_global_node,
 };
 use mutate_base::Error;
 use peephole_lang::{Id, Lang, Language, RecExpr};
@@ -76,6 +76,16 @@ fn both_children(node: &Lang) -> (Id, Id)
     (ids[0], ids[1])
 }
 
+// The two children of the node's first child.
+fn inner_children(expr: &RecExpr<Lang>, node: &Lang) -> (Id, Id)
+    requires below { All (λ i. i < length expr.now) (children_of node.now) }
+    requires two { HasTwoInner (term_over (tree_at (expression_nodes expr.now)) node.now) }
+    ensures { AreInner expr.now node.now result.0.0 result.1.0 }
+{
+    let first = node.children()[0];
+    both_children(&expr.as_ref()[first.0 as usize])
+}
+
 /// The node with its two operands in the other order.
 pub(crate) fn write_swapped(expr: &mut RecExpr<Lang>, node: &Lang) -> Result<(), Error>
     requires below { All (λ i. i < length expr.old) (children_of node.now) }
@@ -139,6 +149,136 @@ pub(crate) fn write_twice(expr: &mut RecExpr<Lang>, node: &Lang, byte: u8) -> Re
 {
     let x = put_copy(expr, node)?;
     put(expr, binary_node(byte, x, x))?;
+    Ok(())
+}
+
+/// An operator on the node's first operand twice.
+pub(crate) fn write_first_twice(
+    expr: &mut RecExpr<Lang>,
+    node: &Lang,
+    byte: u8,
+) -> Result<(), Error>
+    requires below { All (λ i. i < length expr.old) (children_of node.now) }
+    requires few { length expr.old + 4 ≤ 2 ^ 32 }
+    requires operator { IsBinary byte }
+    requires some { 0 < length (children_of node.now) }
+    ensures nodes { IfOk result (λ _.
+        Replaces (FirstTwice byte) (node_of node.now) (expression_nodes expr.old)
+        (expression_nodes expr.new)) }
+    ensures refused { IfErr result (λ e. e ≡ Error.Memory) }
+{
+    let first = node.children()[0];
+    put(expr, binary_node(byte, first, first))?;
+    Ok(())
+}
+
+/// The node, a drawn constant of the type, and an operator on that and the node.
+pub(crate) fn write_drawn(
+    expr: &mut RecExpr<Lang>,
+    node: &Lang,
+    byte: u8,
+    t: IntegerType,
+) -> Result<(), Error>
+    requires below { All (λ i. i < length expr.old) (children_of node.now) }
+    requires few { length expr.old + 4 ≤ 2 ^ 32 }
+    requires operator { IsBinary byte }
+    ensures nodes { IfOk result (λ _.
+        Replaces (Drawn byte t) (node_of node.now) (expression_nodes expr.old)
+        (expression_nodes expr.new)) }
+    ensures refused { IfErr result (λ e. e ≡ Error.Memory) }
+{
+    let x = put_copy(expr, node)?;
+    let drawn = put(expr, random_node(t))?;
+    put(expr, binary_node(byte, drawn, x))?;
+    Ok(())
+}
+
+/// The test of an operator on the node's two operands.
+pub(crate) fn write_negated(expr: &mut RecExpr<Lang>, node: &Lang, byte: u8) -> Result<(), Error>
+    requires below { All (λ i. i < length expr.old) (children_of node.now) }
+    requires few { length expr.old + 4 ≤ 2 ^ 32 }
+    requires operator { IsBinary byte }
+    requires two { length (children_of node.now) ≡ 2 }
+    ensures nodes { IfOk result (λ _.
+        Replaces (Negated byte) (node_of node.now) (expression_nodes expr.old)
+        (expression_nodes expr.new)) }
+    ensures refused { IfErr result (λ e. e ≡ Error.Memory) }
+{
+    let ids = node.children();
+    let (x, y) = (ids[0], ids[1]);
+    let comparison = put(expr, binary_node(byte, x, y))?;
+    put(expr, test_node(comparison))?;
+    Ok(())
+}
+
+/// An operator on the node's first operand, and another on that.
+pub(crate) fn write_first_by_both(
+    expr: &mut RecExpr<Lang>,
+    node: &Lang,
+    inner: u8,
+    outer: u8,
+) -> Result<(), Error>
+    requires below { All (λ i. i < length expr.old) (children_of node.now) }
+    requires few { length expr.old + 4 ≤ 2 ^ 32 }
+    requires inner { IsUnary inner }
+    requires outer { IsUnary outer }
+    requires some { 0 < length (children_of node.now) }
+    ensures nodes { IfOk result (λ _.
+        Replaces (FirstByBoth inner outer) (node_of node.now) (expression_nodes expr.old)
+        (expression_nodes expr.new)) }
+    ensures refused { IfErr result (λ e. e ≡ Error.Memory) }
+{
+    let first = node.children()[0];
+    let operand = put(expr, unary_node(inner, first))?;
+    put(expr, unary_node(outer, operand))?;
+    Ok(())
+}
+
+/// The node, an operator on it, and another on that.
+pub(crate) fn write_by_both(
+    expr: &mut RecExpr<Lang>,
+    node: &Lang,
+    inner: u8,
+    outer: u8,
+) -> Result<(), Error>
+    requires below { All (λ i. i < length expr.old) (children_of node.now) }
+    requires few { length expr.old + 4 ≤ 2 ^ 32 }
+    requires inner { IsUnary inner }
+    requires outer { IsUnary outer }
+    ensures nodes { IfOk result (λ _.
+        Replaces (ByBoth inner outer) (node_of node.now) (expression_nodes expr.old)
+        (expression_nodes expr.new)) }
+    ensures refused { IfErr result (λ e. e ≡ Error.Memory) }
+{
+    let x = put_copy(expr, node)?;
+    let operand = put(expr, unary_node(inner, x))?;
+    put(expr, unary_node(outer, operand))?;
+    Ok(())
+}
+
+/// A number of the type, an operator on the node's first operand and the number, and another on that and the number.
+pub(crate) fn write_first_with_both(
+    expr: &mut RecExpr<Lang>,
+    node: &Lang,
+    inner: u8,
+    outer: u8,
+    t: IntegerType,
+    number: u64,
+) -> Result<(), Error>
+    requires below { All (λ i. i < length expr.old) (children_of node.now) }
+    requires few { length expr.old + 4 ≤ 2 ^ 32 }
+    requires inner { IsBinary inner }
+    requires outer { IsBinary outer }
+    requires some { 0 < length (children_of node.now) }
+    ensures nodes { IfOk result (λ _.
+        Replaces (FirstWithBoth inner outer t number) (node_of node.now) (expression_nodes expr.old)
+        (expression_nodes expr.new)) }
+    ensures refused { IfErr result (λ e. e ≡ Error.Memory) }
+{
+    let first = node.children()[0];
+    let y = put(expr, constant_node(t, number))?;
+    let operand = put(expr, binary_node(inner, first, y))?;
+    put(expr, binary_node(outer, operand, y))?;
     Ok(())
 }
 
@@ -358,5 +498,48 @@ pub(crate) fn write_number(
     ensures refused { IfErr result (λ e. e ≡ Error.Memory) }
 {
     put(expr, constant_node(t, number))?;
+    Ok(())
+}
+
+/// An operator on the two operands of the node's first operand.
+pub(crate) fn write_inner_by(expr: &mut RecExpr<Lang>, node: &Lang, byte: u8) -> Result<(), Error>
+    requires below { All (λ i. i < length expr.old) (children_of node.now) }
+    requires few { length expr.old + 4 ≤ 2 ^ 32 }
+    requires operator { IsBinary byte }
+    requires two { HasTwoInner (term_over (tree_at (expression_nodes expr.old)) node.now) }
+    ensures nodes { IfOk result (λ _.
+        Replaces (InnerBy byte) (node_of node.now) (expression_nodes expr.old)
+        (expression_nodes expr.new)) }
+    ensures refused { IfErr result (λ e. e ≡ Error.Memory) }
+{
+    let (x, y) = inner_children(expr, node);
+    put(expr, binary_node(byte, x, y))?;
+    Ok(())
+}
+
+/// An operator on what another makes of each of the two operands of the node's first operand and a number of the type.
+pub(crate) fn write_distributed(
+    expr: &mut RecExpr<Lang>,
+    node: &Lang,
+    outer: u8,
+    inner: u8,
+    t: IntegerType,
+    number: u64,
+) -> Result<(), Error>
+    requires below { All (λ i. i < length expr.old) (children_of node.now) }
+    requires few { length expr.old + 4 ≤ 2 ^ 32 }
+    requires outer { IsBinary outer }
+    requires inner { IsBinary inner }
+    requires two { HasTwoInner (term_over (tree_at (expression_nodes expr.old)) node.now) }
+    ensures nodes { IfOk result (λ _.
+        Replaces (Distribute outer inner t number) (node_of node.now) (expression_nodes expr.old)
+        (expression_nodes expr.new)) }
+    ensures refused { IfErr result (λ e. e ≡ Error.Memory) }
+{
+    let (x, y) = inner_children(expr, node);
+    let constant = put(expr, constant_node(t, number))?;
+    let first = put(expr, binary_node(inner, x, constant))?;
+    let second = put(expr, binary_node(inner, y, constant))?;
+    put(expr, binary_node(outer, first, second))?;
     Ok(())
 }

@@ -18,7 +18,7 @@ use Rattle.peephole_terms.specs.Expansion.{Setting, draw_words, draws_of, reques
 use Rattle.peephole_terms.specs.Laws.{WritesItsOwnTrees, OwnTreesAreKept, OperatorsHaveEntries}
 use Rattle.peephole_terms.specs.ReadAgain.{AppendsReadable, RereadsOwnTrees}
 use Rattle.peephole_terms.specs.Written.{Site, source_at, block_operators, is_written, block_shapes, written_block, written_body, IsBodyIn}
-use Rattle.peephole_terms.proofs.ReadAgainLemmas.{reads_again}
+use Rattle.peephole_terms.proofs.ReadAgainLemmas.{block_before_last, reads_again}
 use Rattle.peephole_terms.proofs.RereadLemmas.{reread}
 use Rattle.peephole_terms.proofs.RootTerms.{not_replaced, own_replaced, own_itself, term_where}
 use Rattle.peephole_terms.proofs.SettingLemmas.{HasWritten, setting, written_where}
@@ -78,7 +78,7 @@ body_again spell {s} {site} body block w =
       text = written_body site code;
       expands = w.body.expands;
       appended = w.body.appended;
-      reads = reads_again spell site code body block w.in_range;
+      reads = reads_again spell site code body (block_before_last site.operators site.block body block) w.in_range;
     }
 
 pub body_reread : CodesSpell → {s : Setting} {site : Site} {t : Term Head} {old : List ℕ} {v : Writing} (preserving : Bool) (g : Graph) →

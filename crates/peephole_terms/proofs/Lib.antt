@@ -19,3 +19,4 @@ pub mod SameRunLemmas
 pub mod IntegerBlockLemmas
 pub mod TermOfLemmas
 pub mod SameAnswersLemmas
+pub mod SpliceLemmas

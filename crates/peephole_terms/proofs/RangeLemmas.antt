@@ -112,6 +112,11 @@ mutual
 pub refuses_by_name : RefusesByName
 refuses_by_name s t e h = subst (IsSound (steps_of t)) h (term_sound t (length s.info.globals) (draw_words (draws_of t) s.stream).0)
 
+-- what a term is written as is in range, where its steps are
+pub term_in_range : (t : Term Head) (n : ℕ) (words : List ℕ) (code : List Instruction) → All IsInRange (steps_of t) → expansion_of n words t ≡ Ok code →
+    All IsInstruction code
+term_in_range t n words code r e = subst (IsSound (steps_of t)) e (term_sound t n words) r
+
 -- what a block is written as is in range, where the steps of the roots' terms are
 pub block_in_range : {first at : ℕ} {t : Term Head} {ts : Trees} {us : Terms Head} (n : ℕ) (words : List ℕ) (code : List Instruction) →
     IsWrittenAs first at t ts us → All IsInRange (steps us) → expansion_of n words t ≡ Ok code → All IsInstruction (with_tree_replaced first at code ts)

@@ -13,8 +13,9 @@ use Rattle.wasm_code.specs.Operator.{is_delimiter}
 use Rattle.wasm_code.specs.declared.operator.Operator.{Operator}
 use Rattle.wasm_code.specs.declared.operator.Operator.TheVariants.{Instr, End}
 use Rattle.peephole_graphs.specs.Block.{BlockRange, IsBlockIn}
-use Rattle.peephole_terms.specs.Written.{Site, site_at, offset_of, before_block, after_block, written_body, IsBodyIn}
-use Rattle.peephole_terms.specs.ReadAgain.{without_offsets, ReadsAgain}
+use Rattle.peephole_terms.specs.Written.{Site, site_at, without_offsets, offset_of, before_block, after_block, written_body, IsBodyIn}
+use Rattle.peephole_terms.specs.ReadAgain.{ReadsAgain}
+use Rattle.peephole_terms.specs.Spliced.{piece}
 use Rattle.peephole_terms.specs.EncoderSteps.{IsInside}
 use Rattle.peephole_terms.proofs.SpellingLemmas.{Spelling, CodesSpell, spelled, spellings_of, spelled_append, spelled_take, spelled_drop, bytes_of-append}
 use Rattle.peephole_terms.proofs.SpellingLemmas.{joined_parts, named_placed, length-with_offsets, offset_placed, coded, coded_spelled, joined_coded, spelled_coded}
@@ -127,17 +128,27 @@ last_delimits (x ∷ y ∷ xs) e =
     let at : length (x ∷ y ∷ xs) - 1 ≡ suc (length (y ∷ xs) - 1) = omega arith in
     (more.0, ap (λ k. slice_get (x ∷ y ∷ xs) k) at ∙ more.1, more.2)
 
--- something stands behind a block
-before_last : (operators : List (Operator × ℕ)) (block : BlockRange) → IsTrue (ends operators) → IsBlockIn operators block → block.end < length operators
-before_last operators block e b =
+-- A range of a body's operators behind which something stands.
+pub record IsBeforeLast (operators : List (Operator × ℕ)) (block : BlockRange) : Type 0 where
+  pub ordered : block.start ≤ block.end
+  pub inside : block.end < length operators
+
+-- the range of a block
+pub piece_is : (block : BlockRange) {start end : ℕ} → start ≡ block.start → end ≡ block.end → piece start end ≡ block
+piece_is block e f = ap₂ piece e f
+
+-- behind a block something stands
+pub block_before_last : {input : List ℕ} (operators : List (Operator × ℕ)) (block : BlockRange) → IsBodyIn input operators → IsBlockIn operators block →
+    IsBeforeLast operators block
+block_before_last operators block body b =
     let some = b.some in
     let inside = b.inside in
     elim (eqb_tells block.end (length operators)) [
       | inl h ↦
-          let last = last_delimits operators e in
+          let last = last_delimits operators body.spells.last in
           let whole : block.end ≡ length operators = h.1 in
           absurd (false≢true (sym (b.none (length operators - 1) last.0 (omega arith) (omega arith) last.1) ∙ last.2))
-      | inr h ↦ let not_whole = h.1 in omega arith
+      | inr h ↦ let not_whole = h.1 in record { ordered = omega arith; inside = omega arith }
     ]
 
 pub record IsSpelledIn (input : List ℕ) (operators : List (Operator × ℕ)) (block : BlockRange) : Type 0 where
@@ -149,13 +160,13 @@ pub record IsSpelledIn (input : List ℕ) (operators : List (Operator × ℕ)) (
   pub start_there : block.start < length ps
   pub end_there : block.end < length ps
 
-pub spelled_in : (input : List ℕ) (operators : List (Operator × ℕ)) (block : BlockRange) → IsBodyIn input operators → IsBlockIn operators block →
+pub spelled_in : (input : List ℕ) (operators : List (Operator × ℕ)) (block : BlockRange) → IsBodyIn input operators → IsBeforeLast operators block →
     IsSpelledIn input operators block
 spelled_in input operators block b k =
     let h = spellings_of operators b.from (slice_range input b.from b.to) b.spells.all in
     let n : length operators ≡ length h.spellings = ap (λ (xs : List (Operator × ℕ)). length xs) (sym h.read) ∙ length-with_offsets b.from h.spellings in
-    let end_in : block.end < length operators = before_last operators block b.spells.last k in
-    let some = k.some in
+    let end_in = k.inside in
+    let ordered = k.ordered in
     record {
       from = b.from;
       to = b.to;
@@ -177,8 +188,8 @@ joined_less ps i j l =
     let parts = ap (λ (t : List ℕ). length t) (joined_parts i (take j ps)) in
     omega (arith, ap (λ x. length (bytes_of x)) (take-take i j ps l), length-append (bytes_of (take i (take j ps))) (bytes_of (drop i (take j ps))))
 
--- so the bytes outside a block are in the input
-pub inside : (input : List ℕ) (operators : List (Operator × ℕ)) (block : BlockRange) → IsBodyIn input operators → IsBlockIn operators block →
+-- so the bytes outside are in the input
+pub inside : (input : List ℕ) (operators : List (Operator × ℕ)) (block : BlockRange) → IsBodyIn input operators → IsBeforeLast operators block →
     IsInside input operators block
 inside input operators block b k =
     let h = spelled_in input operators block b k in
@@ -192,7 +203,7 @@ inside input operators block b k =
     let last_at : offset_of operators (length operators - 1) ≡ h.from + length (bytes_of (take last h.ps)) =
     ap (λ (k : ℕ). offset_of operators (k - 1)) n ∙ starts_at h.is last (omega arith) in
     let end_less = joined_less h.ps block.end last (omega arith) in
-    let start_less = joined_less h.ps block.start last (let l = k.some in omega arith) in
+    let start_less = joined_less h.ps block.start last (let l = k.ordered in omega arith) in
     let one = last_size h.ps h.is.each h.is.last in
     let size = h.is.stands.size in
     let to_in = h.within in
@@ -206,7 +217,7 @@ inside input operators block b k =
     }
 
 -- the clause
-pub reads_again : CodesSpell → (site : Site) (code : List Instruction) → IsBodyIn site.input site.operators → IsBlockIn site.operators site.block →
+pub reads_again : CodesSpell → (site : Site) (code : List Instruction) → IsBodyIn site.input site.operators → IsBeforeLast site.operators site.block →
     All IsInstruction code → ReadsAgain site code (written_body site code)
 reads_again spell site code b k all =
     let block = site.block in

@@ -21,8 +21,8 @@ use Rattle.peephole_graphs.specs.Shape.{IsFit, AreFit, judge, judge_instruction,
 use Rattle.peephole_graphs.specs.Tree.{Tree, Trees, entry, node, no_trees, ◌▸◌, join, postfix_of, postfix, shapes_of, shapes, instructions_of, instructions}
 use Rattle.peephole_graphs.specs.Tree.{renumber}
 use Rattle.peephole_graphs.specs.Forest.{low, from_height, at_height, operator_tree, trees, is_operand, without, forest, IsInOrder}
-use Rattle.peephole_terms.specs.Written.{Site, site_at, block_operators, block_shapes, written_body, IsBodyIn}
-use Rattle.peephole_terms.specs.ReadAgain.{without_offsets, IsReread}
+use Rattle.peephole_terms.specs.Written.{Site, site_at, without_offsets, block_operators, block_shapes, written_body, IsBodyIn}
+use Rattle.peephole_terms.specs.ReadAgain.{IsReread}
 use Rattle.peephole_terms.proofs.RootTerms.{All-reverse, All-front, All-back}
 use Rattle.peephole_graphs.proofs.BuilderLemmas.{block_length, operator_fits}
 use Rattle.peephole_graphs.proofs.ForestLemmas.{forest_is}
@@ -30,7 +30,7 @@ use Rattle.peephole_graphs.proofs.Rereading.{same_trees}
 use Rattle.peephole_graphs.proofs.Order.{written_in_order, shapes-renumber}
 use Rattle.peephole_graphs.proofs.OrderLemmas.{count_all}
 use Rattle.peephole_terms.proofs.SpellingLemmas.{CodesSpell, Spelling, named_placed, length-with_offsets, spelling_of, coded}
-use Rattle.peephole_terms.proofs.ReadAgainLemmas.{alone_are, count_is, with_code, spelled_with, written_is, again_of, spells_again, spelled_in}
+use Rattle.peephole_terms.proofs.ReadAgainLemmas.{alone_are, count_is, with_code, spelled_with, written_is, again_of, spells_again, block_before_last, spelled_in}
 
 -- ---- the shapes of a forest are its block's
 
@@ -289,7 +289,7 @@ reread spell info site b k fit all =
     let input = site.input in
     let operators = site.operators in
     let block = site.block in
-    let h = spelled_in input operators block b k in
+    let h = spelled_in input operators block b (block_before_last operators block b k) in
     let os = block_operators site in
     let shaped = block_shapes info site in
     let code = instructions (forest shaped) in

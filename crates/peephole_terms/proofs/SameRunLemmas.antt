@@ -48,9 +48,9 @@ use Rattle.peephole_terms.proofs.TermOfLemmas.{IsItself}
 -- ---- a tree and a term that evaluates as it
 
 -- The tree is written as these instructions, and the term as those.
-record AreWritten (info : Module) (words : List ℕ) (tree t : Term Head) (own code : List Instruction) : Type 0 where
-  itself : IsItself tree own
-  expands : expansion_of (length info.globals) words t ≡ Ok code
+pub record AreWritten (info : Module) (words : List ℕ) (tree t : Term Head) (own code : List Instruction) : Type 0 where
+  pub itself : IsItself tree own
+  pub expands : expansion_of (length info.globals) words t ≡ Ok code
 
 no_globals : (s : State) → with_globals [] s ≡ s
 no_globals s = ap (λ (gs : List Value). record s { globals = gs }) (append-nil s.globals)
@@ -100,7 +100,7 @@ module _ {locals : List PrimitiveTypeInfo} {info : Module} {words : List ℕ} {t
       go after hr Stuck k = (after, refl, refl)
 
   -- with the same instructions before and behind
-  keeps_run : (front back : List Instruction) (stack : List Value) (s : State) (others requested : List Value) → All IsValue stack →
+  pub keeps_run : (front back : List Instruction) (stack : List Value) (s : State) (others requested : List Value) → All IsValue stack →
       HasTypes context s → types requested ≡ map primitive_of (requests_of t) ++ more → run ((front ++ own) ++ back) stack s ≢ Stuck →
       SameOutcome (run ((front ++ own) ++ back) stack (with_globals others s)) (run ((front ++ code) ++ back) stack (with_globals requested s))
   keeps_run front back stack s others requested hs h hr n =

@@ -15,7 +15,7 @@ use Rattle.wasm_code.specs.Code.{code, codes}
 use Rattle.wasm_code.specs.Body.{SpellsAll, AreSpelled, bytes_of, with_offsets, is_end, ends}
 use Rattle.wasm_code.specs.declared.operator.Operator.{Operator}
 use Rattle.wasm_code.specs.declared.operator.Operator.TheVariants as op
-use Rattle.peephole_terms.specs.ReadAgain.{without_offsets}
+use Rattle.peephole_terms.specs.Written.{without_offsets}
 
 -- an operator with its spelling
 abbrev pub Spelling : Type 0

@@ -62,7 +62,8 @@ row_kind h i e =
     later true more e = absurd cc
     later false more e = refl
 
-node_itself : (k : NodeKind) (i : Instruction) (kids : Terms Head) (code : List Instruction) → k ≡ Own i → AreThemselves kids code →
+-- so it comes behind its children
+pub node_itself : (k : NodeKind) (i : Instruction) (kids : Terms Head) (code : List Instruction) → k ≡ Own i → AreThemselves kids code →
     ((n : ℕ) (words : List ℕ) → with_own_code n words k kids (expansion n words kids) ≡ Ok (code ++ i ∷ []))
     × (with_own_requests k (requests kids) ≡ []) × (with_own_draws k (draws kids) ≡ [])
 node_itself k i kids code e h = rw e (

@@ -4,9 +4,10 @@ pub mod Typing
 pub mod Meaning
 pub mod StackCode
 pub mod Written
-pub mod ReadAgain
 pub mod Agrees
 pub mod SameRun
+pub mod Spliced
+pub mod ReadAgain
 pub mod SameAnswers
 pub mod Laws
 pub mod EncoderSteps

@@ -1,9 +1,8 @@
 -- What a written body is when its bytes are read again. This project's rule.
-use Rattle.std.specs.Prelude.{ℕ, ◌≡◌, ◌++◌, ◌⊎◌, List, map, take, drop, Some, Ok, false}
+use Rattle.std.specs.Prelude.{ℕ, ◌≡◌, ◌++◌, ◌⊎◌, List, Some, Ok, false}
 use Rattle.wasm_code.specs.Instruction.{Instruction}
 use Rattle.wasm_code.specs.Body.{SpellsBody}
 use Rattle.wasm_code.specs.declared.operator.Operator.{Operator}
-use Rattle.wasm_code.specs.declared.operator.Operator.TheVariants.{Instr}
 use Rattle.mutate_base.specs.Module.{Module}
 use Rattle.peephole_lang.specs.declared.lang.Head.{Head}
 use Rattle.peephole_lang.specs.Term.{Term, tree_at}
@@ -15,18 +14,11 @@ use Rattle.peephole_graphs.specs.Forest.{forest, IsInOrder}
 use Rattle.peephole_graphs.specs.Layout.{entry_nodes}
 use Rattle.peephole_terms.specs.Expansion.{Setting}
 use Rattle.peephole_terms.specs.Written.{Site, site_at, block_operators, block_shapes, is_written, term_code, written_block, written_body}
-
--- the operators alone
-abbrev pub without_offsets : List (Operator × ℕ) → List Operator
-without_offsets operators = map (λ (o : Operator × ℕ). o.0) operators
+use Rattle.peephole_terms.specs.Spliced.{ReadsSpliced}
 
 -- The bytes are those of a body: the operators before the block, these instructions, and the operators behind the block.
-pub record ReadsAgain (site : Site) (code : List Instruction) (text : List ℕ) : Type 0 where
-  pub again : List (Operator × ℕ)
-  pub spells : SpellsBody 0 text again
-  pub are :
-      without_offsets again ≡ without_offsets (take site.block.start site.operators)
-      ++ (map (λ (i : Instruction). Instr i) code ++ without_offsets (drop site.block.end site.operators))
+abbrev pub ReadsAgain : Site → (code : List Instruction) → (text : List ℕ) → Type 0
+ReadsAgain site code text = ReadsSpliced site.operators site.block.start site.block.end code text
 
 -- The sink has grown by a body that is read again as the site's with the term in its block.
 pub record AppendsReadable (s : Setting) (site : Site) (t : Term Head) (old new : List ℕ) : Type 0 where

@@ -79,6 +79,10 @@ after_block_term s site term = if is_written s.info site then after_term s term 
 abbrev pub StandsBehind : Setting → Site → Term Head → (left : Option Setting) → Type 0
 StandsBehind s site term left = left ≡ Some (after_block_term s site term)
 
+-- the operators alone
+abbrev pub without_offsets : List (Operator × ℕ) → List Operator
+without_offsets operators = map (λ (o : Operator × ℕ). o.0) operators
+
 -- where an operator starts in the input
 abbrev pub offset_of : List (Operator × ℕ) → ℕ → ℕ
 offset_of operators i = slice_index (map (λ (o : Operator × ℕ). o.1) operators) i

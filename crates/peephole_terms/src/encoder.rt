@@ -12,6 +12,7 @@ ghost use Rattle.peephole_terms.specs.Expansion.{setting_of, term_in};
 ghost use Rattle.peephole_terms.specs.EncoderSteps.{Does, IsWalkable, IsInside, around, nodes_in, root_term, root_steps, steps_of, writing_of};
 ghost use Rattle.peephole_terms.specs.ReadAgain.{AppendsReadable, RereadsOwnTrees};
 ghost use Rattle.peephole_terms.specs.SameRun.{AppendsSameRun};
+ghost use Rattle.peephole_terms.specs.Spliced.{piece};
 ghost use Rattle.peephole_terms.specs.Written.{site_at, AppendsBody, IsBodyIn, KeepsOrder, RefusesBody, offset_of, before_block, after_block, block_shapes, term_requests, StandsBehind};
 
 pub(crate) mod expr2wasm;
@@ -19,6 +20,7 @@ mod holds;
 mod node_kind;
 mod own;
 pub(crate) mod request;
+pub(crate) mod splice;
 mod walk;
 
 use self::request::ResourceRequest;
@@ -28,6 +30,7 @@ use peephole_graphs::{BBlock, MiniDFG, StackEntry};
 use peephole_lang::{Lang, RecExpr};
 use rand_core::Rng;
 use std::alloc::Global;
+use std::ops::Range;
 use wasm_code::laws::code_spells;
 use wasm_code::{Function, OperatorAndByteOffset};
 
@@ -39,17 +42,18 @@ fn offset_at(operators: &[OperatorAndByteOffset], index: usize) -> usize
     operators[index].1
 }
 
-// The input's bytes of the body before the block, and after it.
+// The input's bytes of the body before a range of its operators, and after it.
 fn outside<'a>(
     input: &'a [u8],
     operators: &[OperatorAndByteOffset],
-    block: &BBlock,
+    range: Range<usize>,
 ) -> (&'a [u8], &'a [u8])
-    requires { IsInside input.now operators.now block.now }
-    ensures before { result.0.now ≡ before_block input.now operators.now block.now }
-    ensures after { result.1.now ≡ after_block input.now operators.now block.now }
+    requires { IsInside input.now operators.now (piece range.start range.end) }
+    ensures before { result.0.now
+        ≡ before_block input.now operators.now (piece range.start range.end) }
+    ensures after { result.1.now
+        ≡ after_block input.now operators.now (piece range.start range.end) }
 {
-    let range = block.range();
     let first = offset_at(operators, 0);
     let start = offset_at(operators, range.start);
     let end = offset_at(operators, range.end);
@@ -245,7 +249,7 @@ impl Encoder {
         }
         code_spells();
         let globals = config.info().get_global_count();
-        let (before, after) = outside(input_wasm, operators, basicblock);
+        let (before, after) = outside(input_wasm, operators, basicblock.range());
         let old_len = newfunc.len();
         let mut requests = Vec::new(alloc);
         let rng = config.rng();

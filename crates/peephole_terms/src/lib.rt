@@ -7,6 +7,7 @@ pub mod laws;
 pub use encoder::Encoder;
 pub use encoder::expr2wasm::expr2wasm;
 pub use encoder::request::ResourceRequest;
+pub use encoder::splice::splice_term;
 pub use mutate_base;
 pub use mutate_base::{
     ElementType, Error, F32, F64, FuncInfo, MemArg, MemArgLane, MemoryCopy, MemoryInit, MemoryType,

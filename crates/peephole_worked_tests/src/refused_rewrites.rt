@@ -1,13 +1,12 @@
 //! The calls of rules that take memory, where a request for memory may be refused: then the call answers `Memory`, and what was
 //! lent to it is as it was. `tests/refused_memory.sh` refuses each request in turn.
 
-use crate::graphs::block_of;
 use crate::refused::{Refused, is_memory, lacks_nodes, with_answer};
 use crate::terms::{begun_sink, config_of, term_of};
 use crate::writing::operators_of;
-use peephole_rewrites::{Rewrite, rewrite_block, rewrite_block_at_random, rewrites_of_block};
+use peephole_rewrites::{Rewrite, rewrite_tree, rewrite_tree_at_random, rewrites_of_body};
 use peephole_rules::{RULES, Rule};
-use peephole_terms::{DFGBuilder, Error, ModuleInfo, PrimitiveTypeInfo};
+use peephole_terms::{Error, ModuleInfo, PrimitiveTypeInfo};
 use std::alloc::Global;
 use std::process::Abort;
 
@@ -21,8 +20,7 @@ const BYTES: [u8; 8] = [0x20, 0x00, 0x41, 0x02, 0x6a, 0x21, 0x00, 0x0b];
 const SWAPPED: [u8; 8] = [0x41, 0x02, 0x20, 0x00, 0x6a, 0x21, 0x00, 0x0b];
 
 const SWAP: Rewrite = Rewrite {
-    insertion_point: 3,
-    node: 2,
+    operator: 2,
     rule: Rule::Commute,
 };
 
@@ -47,17 +45,8 @@ pub fn terms(rt: &impl Abort, alloc: Global) -> Refused {
 /// Whether the list of rewrites is refused for memory.
 fn lacks_list(rt: &impl Abort, alloc: Global) -> Result<bool, Error> {
     let operators = operators_of(alloc, &BYTES)?;
-    let config = config_of(alloc, &BYTES, &[])?;
-    let builder = DFGBuilder::new(&config);
-    let block = block_of(rt, &builder, &operators, 3);
-    match rewrites_of_block(
-        alloc,
-        &config,
-        &LOCALS,
-        &[Rule::Commute],
-        &operators,
-        &block,
-    ) {
+    let info = ModuleInfo::new(alloc, &BYTES);
+    match rewrites_of_body(alloc, &LOCALS, &info, &[Rule::Commute], &operators) {
         Ok(list) => {
             assert!(rt; list.len() == 1 && list.iter().all(|one| *one == SWAP));
             Ok(false)
@@ -66,7 +55,7 @@ fn lacks_list(rt: &impl Abort, alloc: Global) -> Result<bool, Error> {
     }
 }
 
-/// `rewrites_of_block`
+/// `rewrites_of_body`
 pub fn lists(rt: &impl Abort, alloc: Global) -> Refused {
     with_answer(rt, Refused::Nothing, lacks_list(rt, alloc))
 }
@@ -75,16 +64,13 @@ pub fn lists(rt: &impl Abort, alloc: Global) -> Refused {
 fn lacks_body(rt: &impl Abort, alloc: Global) -> Result<bool, Error> {
     let operators = operators_of(alloc, &BYTES)?;
     let mut config = config_of(alloc, &BYTES, &[])?;
-    let builder = DFGBuilder::new(&config);
-    let block = block_of(rt, &builder, &operators, 3);
     let mut sink = begun_sink(alloc)?;
-    let answer = rewrite_block(
+    let answer = rewrite_tree(
         alloc,
         &mut config,
         &LOCALS,
         SWAP,
         &operators,
-        &block,
         &mut sink,
         &BYTES,
     );
@@ -103,7 +89,7 @@ fn lacks_body(rt: &impl Abort, alloc: Global) -> Result<bool, Error> {
     }
 }
 
-/// `rewrite_block`
+/// `rewrite_tree`
 pub fn bodies(rt: &impl Abort, alloc: Global) -> Refused {
     with_answer(rt, Refused::Nothing, lacks_body(rt, alloc))
 }
@@ -112,16 +98,13 @@ pub fn bodies(rt: &impl Abort, alloc: Global) -> Refused {
 fn lacks_choice(rt: &impl Abort, alloc: Global) -> Result<bool, Error> {
     let operators = operators_of(alloc, &BYTES)?;
     let mut config = config_of(alloc, &BYTES, &[7])?;
-    let builder = DFGBuilder::new(&config);
-    let block = block_of(rt, &builder, &operators, 3);
     let mut sink = begun_sink(alloc)?;
-    let answer = rewrite_block_at_random(
+    let answer = rewrite_tree_at_random(
         alloc,
         &mut config,
         &LOCALS,
         &RULES,
         &operators,
-        &block,
         &mut sink,
         &BYTES,
     );
@@ -136,7 +119,7 @@ fn lacks_choice(rt: &impl Abort, alloc: Global) -> Result<bool, Error> {
     }
 }
 
-/// `rewrite_block_at_random`
+/// `rewrite_tree_at_random`
 pub fn choices(rt: &impl Abort, alloc: Global) -> Refused {
     with_answer(rt, Refused::Nothing, lacks_choice(rt, alloc))
 }

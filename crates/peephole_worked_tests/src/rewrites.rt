@@ -1,15 +1,12 @@
-//! Blocks rewritten by rules: every rewrite that there is, what isn't rewritten, and what is chosen.
+//! Trees rewritten by rules in their place: every rewrite that there is of a body, what isn't rewritten, and what is chosen.
 
-use crate::graphs::block_of;
 use crate::rules::running::{LOCALS, config_of, rewritten, rewritten_at_random};
-use crate::rules::term_of_nodes;
 use crate::table::{bytes_of, fields_of};
 use crate::writing::operators_of;
 use peephole_examples::{Replaced, mutate};
-use peephole_rewrites::{Rewrite, plain_types, rewrites_of_block};
+use peephole_rewrites::{Rewrite, rewrites_of_body};
 use peephole_rules::{RULES, Rule};
-use peephole_terms::PrimitiveTypeInfo::{I32, I64};
-use peephole_terms::{DFGBuilder, Error};
+use peephole_terms::Error;
 use std::alloc::Global;
 use std::process::Abort;
 use std::test::Fail;
@@ -19,36 +16,55 @@ const PRODUCT: [u8; 11] = [
     0x20, 0x00, 0x41, 0x02, 0x6a, 0x20, 0x00, 0x6c, 0x21, 0x00, 0x0b,
 ];
 
-/// Every rewrite by the rules of a body that is one block.
-fn listed(
-    rt: &impl Abort,
-    alloc: Global,
-    bytes: &[u8],
-    rules: &[Rule],
-) -> Result<Vec<Rewrite>, Error> {
+/// Every rewrite of a body by the rules.
+fn listed(alloc: Global, bytes: &[u8], rules: &[Rule]) -> Result<Vec<Rewrite>, Error> {
     let operators = operators_of(alloc, bytes)?;
-    let last = operators.len().saturating_sub(2);
     let config = config_of(alloc, bytes, &[], &[])?;
-    let builder = DFGBuilder::new(&config);
-    let block = block_of(rt, &builder, &operators, last);
-    rewrites_of_block(alloc, &config, &LOCALS, rules, &operators, &block)
+    rewrites_of_body(alloc, &LOCALS, config.info(), rules, &operators)
 }
 
-/// A body, rules, and every rewrite by them in the order of insertion points, nodes and rules. A node that leaves no value has
-/// no neutral element.
+/// A body, rules, and every rewrite by them in the order of operators and rules. A tree that leaves no value has no neutral
+/// element.
 const LISTS: &str = "
 # local.get 0, i32.const 2, i32.add, local.get 0, i32.mul, local.set 0
-20 00 41 02 6a 20 00 6c 21 00 0b | commute add_zero | 5 0 add_zero; 5 1 add_zero; 5 2 commute; 5 2 add_zero; 5 3 add_zero; 5 4 commute; 5 4 add_zero;
+20 00 41 02 6a 20 00 6c 21 00 0b | commute add_zero | 0 add_zero; 1 add_zero; 2 commute; 2 add_zero; 3 add_zero; 4 commute; 4 add_zero;
 20 00 41 02 6a 20 00 6c 21 00 0b | |
 20 00 41 02 6a 20 00 6c 21 00 0b | turn_comparison |
 # local.get 0, drop, local.get 2, global.set 1
-20 00 1a 20 02 24 01 0b | add_zero | 1 0 add_zero; 3 0 add_zero;
+20 00 1a 20 02 24 01 0b | add_zero | 0 add_zero; 2 add_zero;
 # f32.const 0, drop, local.get 0, local.get 1, i32.add, drop
-43 00000000 1a 20 00 20 01 6a 1a 0b | commute add_zero forget | 1 1 forget; 5 0 add_zero; 5 1 add_zero; 5 2 commute; 5 2 add_zero; 5 3 forget;
+43 00000000 1a 20 00 20 01 6a 1a 0b | commute add_zero forget | 1 forget; 2 add_zero; 3 add_zero; 4 commute; 4 add_zero; 5 forget;
 # local.get 0, local.get 0, i32.load, i32.store: the load may trap, and the store leaves nothing.
-20 00 20 00 28 02 00 36 02 00 0b | add_zero or_self through_global with_nop | 3 0 add_zero; 3 0 or_self; 3 0 through_global; 3 0 with_nop; 3 1 add_zero; 3 1 or_self; 3 1 through_global; 3 1 with_nop; 3 2 add_zero; 3 2 through_global; 3 2 with_nop; 3 3 with_nop;
+20 00 20 00 28 02 00 36 02 00 0b | add_zero or_self through_global with_nop | 0 add_zero; 0 or_self; 0 through_global; 0 with_nop; 1 add_zero; 1 or_self; 1 through_global; 1 with_nop; 2 add_zero; 2 through_global; 2 with_nop; 3 with_nop;
 # local.get 0, call 0, drop: the call leaves an i32.
-20 00 10 00 1a 0b | add_zero or_self forget | 2 0 add_zero; 2 0 or_self; 2 1 add_zero;
+20 00 10 00 1a 0b | add_zero or_self forget | 0 add_zero; 0 or_self; 1 add_zero;
+# local.get 0, i32.add, local.get 1, i32.const 2, i32.add, drop: the first sum lacks an operand before it.
+20 00 6a 20 01 41 02 6a 1a 0b | commute add_zero forget with_nop | 0 add_zero; 0 with_nop; 2 add_zero; 2 with_nop; 3 add_zero; 3 with_nop; 4 commute; 4 add_zero; 4 with_nop; 5 forget; 5 with_nop;
+# local.get 0, local.get 1, drop, drop; the same with a nop between the two: the operand of the last drop isn't right before it.
+20 00 20 01 1a 1a 0b | add_zero forget | 0 add_zero; 1 add_zero; 2 forget;
+20 00 20 01 1a 01 1a 0b | add_zero forget with_nop | 0 add_zero; 0 with_nop; 1 add_zero; 1 with_nop; 2 forget; 2 with_nop; 3 with_nop;
+# local.get 0, block, i32.const 1, drop, end, local.get 1, i32.add, drop: the first operand of the sum stands before the block.
+20 00 02 40 41 01 1a 0b 20 01 6a 1a 0b | add_zero forget | 0 add_zero; 2 add_zero; 3 forget; 5 add_zero;
+# local.get 0, if, local.get 1, drop, else, i32.const 7, local.set 0, end
+20 00 04 40 20 01 1a 05 41 07 21 00 0b 0b | add_zero forget | 0 add_zero; 2 add_zero; 3 forget; 5 add_zero;
+# block, loop, local.get 0, i32.eqz, br_if 1, local.get 1, i32.const 1, i32.sub, local.tee 1, drop, br 0, end, end
+02 40 03 40 20 00 45 0d 01 20 01 41 01 6b 22 01 1a 0c 00 0b 0b 0b | test_to_comparison difference_to_sum forget | 3 test_to_comparison; 7 difference_to_sum;
+# local.get 1, return, local.get 0, local.get 1, i32.eq: behind a return.
+20 01 0f 20 00 20 01 46 0b | commute or_self | 0 or_self; 2 or_self; 3 or_self; 4 commute; 4 or_self;
+# local.get 0, local.get 0, i32.add, drop: operands that are the same don't change places; nor do longer ones, nor 2 in one byte
+# and in three.
+20 00 20 00 6a 1a 0b | commute forget | 3 forget;
+20 00 45 20 00 45 6a 1a 0b | commute forget | 5 forget;
+41 02 41 82 80 00 6a 1a 0b | commute forget | 3 forget;
+# The same of two locals, of two constants, and where one operand begins as the other does.
+20 00 20 01 6a 1a 0b | commute forget | 2 commute; 3 forget;
+41 02 41 03 6a 1a 0b | commute forget | 2 commute; 3 forget;
+20 00 20 00 45 6a 1a 0b | commute forget | 3 commute; 4 forget;
+20 00 45 20 01 45 6a 1a 0b | commute forget | 4 commute; 5 forget;
+# local.get 2, local.get 3, i32.add, drop: operands of another type.
+20 02 20 03 6a 1a 0b | add_zero commute forget | 0 add_zero; 1 add_zero;
+# local.get 6, local.get 0, i32.add, drop: no such local.
+20 06 20 00 6a 1a 0b | add_zero commute forget | 1 add_zero;
 ";
 
 /// The rules of these names.
@@ -67,15 +83,11 @@ fn is_list(rt: &impl Abort, alloc: Global, line: &str) -> Result<(), Fail> {
         panic!(rt; "{line}");
     };
     let bytes = bytes_of(alloc, bytes)?;
-    let list = listed(rt, alloc, &bytes, &rules_of(alloc, rules)?)?;
+    let list = listed(alloc, &bytes, &rules_of(alloc, rules)?)?;
     let mut found = String::new(alloc);
     for rewrite in &list {
-        let Rewrite {
-            insertion_point,
-            node,
-            rule,
-        } = *rewrite;
-        let text = format!(in alloc; "{insertion_point} {node} {rule}; ")?;
+        let Rewrite { operator, rule } = *rewrite;
+        let text = format!(in alloc; "{operator} {rule}; ")?;
         found.push_str(&text)?;
     }
     assert!(rt; found.as_str().trim() == *wanted, "{line}: {found}");
@@ -93,42 +105,44 @@ fn every_rewrite(rt: HostRuntime) -> Result<(), Fail> {
     Ok(())
 }
 
-/// A body, the insertion point and a node, where nothing is rewritten, whatever the rule.
+/// A body and an operator, whose tree no rule rewrites.
 const NOTHING: &str = "
-# An operand's operator, which is no root; one past the block; and a node that the tree lacks.
-20 00 41 02 6a 20 00 6c 21 00 0b | 2 | 0
-20 00 41 02 6a 20 00 6c 21 00 0b | 6 | 0
-20 00 41 02 6a 20 00 6c 21 00 0b | 5 | 6
-# local.get 2, local.get 3, i32.add, drop: operands of another type.
-20 02 20 03 6a 1a 0b | 3 | 0
-# local.get 0, i32.add, drop: an operand that comes from before the block.
-20 00 6a 1a 0b | 2 | 1
-# local.get 0, local.get 0, drop, drop: out of order.
-20 00 20 00 1a 1a 0b | 2 | 0
+# The end, and past the body.
+20 00 41 02 6a 20 00 6c 21 00 0b | 6
+20 00 41 02 6a 20 00 6c 21 00 0b | 7
+20 00 41 02 6a 20 00 6c 21 00 0b | 18446744073709551615
+# local.get 2, local.get 3, i32.add, drop: operands of another type, and what stands behind them.
+20 02 20 03 6a 1a 0b | 2
+20 02 20 03 6a 1a 0b | 3
+# local.get 0, i32.add, drop: an operand that comes from before.
+20 00 6a 1a 0b | 1
+20 00 6a 1a 0b | 2
+# local.get 0, local.get 0, drop, drop; local.get 0, nop, drop: an operand that isn't right before the drop.
+20 00 20 00 1a 1a 0b | 3
+20 00 01 1a 0b | 2
+# local.get 0, block, i32.const 1, drop, end, local.get 1, i32.add, drop: delimiters, and an operand before the block.
+20 00 02 40 41 01 1a 0b 20 01 6a 1a 0b | 1
+20 00 02 40 41 01 1a 0b 20 01 6a 1a 0b | 4
+20 00 02 40 41 01 1a 0b 20 01 6a 1a 0b | 6
 # local.get 6, drop; global.get 3, drop: no such variable.
-20 06 1a 0b | 1 | 0
-23 03 1a 0b | 1 | 0
+20 06 1a 0b | 0
+23 03 1a 0b | 0
 # memory.size 1, drop: no such memory.
-3f 01 1a 0b | 1 | 0
+3f 01 1a 0b | 0
 ";
 
-/// No rule rewrites the node of a line.
+/// No rule rewrites the tree of a line's operator.
 fn is_nothing(rt: &impl Abort, alloc: Global, line: &str) -> Result<(), Fail> {
     let fields = fields_of(alloc, line)?;
-    let [bytes, point, node] = fields.as_slice() else {
+    let [bytes, operator] = fields.as_slice() else {
         panic!(rt; "{line}");
     };
     let bytes = bytes_of(alloc, bytes)?;
-    let insertion_point = point.parse()?;
-    let node = node.parse()?;
+    let operator = operator.parse()?;
     for rule in RULES {
         let mut config = config_of(alloc, &bytes, &[], &[])?;
-        let rewrite = Rewrite {
-            insertion_point,
-            node,
-            rule,
-        };
-        let answer = rewritten(rt, alloc, &mut config, &bytes, rewrite)?;
+        let rewrite = Rewrite { operator, rule };
+        let answer = rewritten(alloc, &mut config, &bytes, rewrite)?;
         assert!(rt; answer.is_none(), "{rule}: {line}");
     }
     Ok(())
@@ -144,59 +158,11 @@ fn nothing_to_rewrite(rt: HostRuntime) -> Result<(), Fail> {
     Ok(())
 }
 
-/// The nodes of a term, and the type of what it leaves, or that it leaves nothing, or that it isn't plain.
-const TYPES: &str = "
-local.get.0; i32.const.2; i32.add 0 1                | i32
-global.get.1; drop 0                                 | nothing
-local.get.2; i64.const.1; local.get.0; select 0 1 2  | i64
-local.get.0; call.0 0; i32.load8_u.0.0.0 1           | i32
-local.get.0; local.get.4; f32.store.0.2.0 0 1        | nothing
-local.get.4; f32.neg 0                               | another type
-# An operand of another type, one that leaves nothing, a missing one, an unknown memory and an unknown function, and nodes that
-# are no instruction.
-local.get.2; local.get.0; i32.add 0 1                | not plain
-local.get.0; local.get.0; f32.store.0.2.0 0 1        | not plain
-nop; drop 0                                          | not plain
-undef; drop 0                                        | not plain
-memory.size.1                                        | not plain
-local.get.0; call.1 0                                | not plain
-i32.rand                                             | not plain
-i32.const.0; container 0                             | not plain
-";
-
-/// The term of a line leaves what the line says.
-fn leaves(rt: &impl Abort, alloc: Global, line: &str) -> Result<(), Fail> {
-    let Some((nodes, wanted)) = line.split_once('|') else {
-        panic!(rt; "{line}");
-    };
-    let config = config_of(alloc, &[], &[], &[])?;
-    let term = term_of_nodes(rt, alloc, nodes)?;
-    let found = match plain_types(alloc, &LOCALS, config.info(), &term)? {
-        Some(Some(I32)) => "i32",
-        Some(Some(I64)) => "i64",
-        Some(Some(_)) => "another type",
-        Some(None) => "nothing",
-        None => "not plain",
-    };
-    assert!(rt; found == wanted.trim(), "{line}: {found}");
-    Ok(())
-}
-
-#[test]
-fn types_of_trees(rt: HostRuntime) -> Result<(), Fail> {
-    for line in TYPES.trim().lines() {
-        if !line.starts_with('#') {
-            leaves(&rt, rt.alloc(), line)?;
-        }
-    }
-    Ok(())
-}
-
 /// What is chosen is one of the list.
 #[test]
 fn chosen_rewrites(rt: HostRuntime) -> Result<(), Fail> {
     let alloc = rt.alloc();
-    let list = listed(&rt, alloc, &PRODUCT, &RULES)?;
+    let list = listed(alloc, &PRODUCT, &RULES)?;
     for number in 0..64u64 {
         let word = number.wrapping_mul(0x9e37_79b9_7f4a_7c15);
         let mut config = config_of(alloc, &PRODUCT, &[], &[word, word, word])?;
@@ -208,27 +174,21 @@ fn chosen_rewrites(rt: HostRuntime) -> Result<(), Fail> {
     Ok(())
 }
 
-/// What comes of mutating the block of an operator by the rules.
-fn mutated(
-    alloc: Global,
-    bytes: &[u8],
-    point: usize,
-    rules: &[Rule],
-) -> Result<Option<Replaced>, Fail> {
+/// What comes of mutating a body by the rules.
+fn mutated(alloc: Global, bytes: &[u8], rules: &[Rule]) -> Result<Option<Replaced>, Fail> {
     let mut config = config_of(alloc, bytes, &[], &[1])?;
-    Ok(mutate(alloc, &mut config, &LOCALS, rules, bytes, point)?)
+    Ok(mutate(alloc, &mut config, &LOCALS, rules, bytes)?)
 }
 
-/// The way from bytes to bytes: nothing to mutate past the operators, at a delimiter, and where no rule applies.
+/// The way from bytes to bytes: nothing to mutate where no rule applies, and where there is no tree.
 #[test]
 fn mutated_bodies(rt: HostRuntime) -> Result<(), Fail> {
     let alloc = rt.alloc();
-    for point in [6, 7] {
-        assert!(rt; mutated(alloc, &PRODUCT, point, &RULES)?.is_none());
-    }
-    assert!(rt; mutated(alloc, &PRODUCT, 5, &[Rule::TurnComparison])?.is_none());
+    assert!(rt; mutated(alloc, &PRODUCT, &[Rule::TurnComparison])?.is_none());
+    assert!(rt; mutated(alloc, &PRODUCT, &[])?.is_none());
+    assert!(rt; mutated(alloc, &[0x0b], &RULES)?.is_none());
     let test = [0x20, 0x00, 0x45, 0x0b];
-    let Some(new) = mutated(alloc, &test, 1, &[Rule::TestToComparison])? else {
+    let Some(new) = mutated(alloc, &test, &[Rule::TestToComparison])? else {
         panic!(rt; "no new body");
     };
     // local.get 0, i32.eqz: the only test, as a comparison with 0.

@@ -32,7 +32,7 @@ fn module_of(alloc: Global) -> Result<ModuleInfo<'static>, AllocError> {
 }
 
 /// The term of some nodes, with a semicolon between two.
-pub fn term_of_nodes(rt: &impl Abort, alloc: Global, nodes: &str) -> Result<RecExpr<Lang>, Error> {
+fn term_of_nodes(rt: &impl Abort, alloc: Global, nodes: &str) -> Result<RecExpr<Lang>, Error> {
     term_of(rt, alloc, &parts_of(alloc, nodes)?)
 }
 
@@ -70,6 +70,37 @@ drop_xor_zero
 drop_and_ones
 drop_shift_by_zero
 forget
+shr_s_by_zero
+shr_u_by_zero
+rotl_by_zero
+rotr_by_zero
+drop_shr_s_by_zero
+drop_shr_u_by_zero
+drop_rotl_by_zero
+drop_rotr_by_zero
+quotient_to_shift
+shift_to_quotient
+remainder_to_mask
+mask_to_remainder
+rotl_to_rotr
+rotr_to_rotl
+product_to_double
+shift_to_double
+and_zero
+mul_zero
+or_ones
+drop_and_zero
+drop_mul_zero
+drop_or_ones
+negate_comparison
+difference_to_tests
+wrap_extended
+drop_negation
+distribute_product
+distribute_mask
+complement_of_and
+complement_of_or
+extension_to_shifts
 ";
 
 #[test]

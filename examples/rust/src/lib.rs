@@ -1,4 +1,5 @@
-//! Rewrites a block of a WebAssembly module so that it runs as before: safe Rust over the static library `peephole_mutate_c`.
+//! Rewrites some instructions of a WebAssembly module so that what stands round them runs as before: safe Rust over the static
+//! library `peephole_mutate_c`.
 //!
 //! Nothing compares the declaration below with the library's own, or a call of it with what the library asks of its callers.
 //! [`mutate`] meets that on every argument.

@@ -73,6 +73,60 @@ fold | i32.const.5; i32.const.-7; i32.add 0 1 | 2 | i32.const.5; i32.const.-7; i
 fold | i64.const.-1; i64.clz 0 | 1 | i64.const.-1; i64.const.0
 fold | i64.const.-9223372036854775808; i64.const.2; i64.div_s 0 1 | 2 | i64.const.-9223372036854775808; i64.const.2; i64.const.-4611686018427387904
 fold | i64.const.4294967295; wrap 0 | 1 | i64.const.4294967295; i32.const.-1
+# Shifts and turns by zero, and the other way.
+shr_s_by_zero | local.get.0 | 0 | local.get.0; i32.const.0; i32.shr_s 0 1
+shr_u_by_zero | i64.const.-7 | 0 | i64.const.-7; i64.const.0; i64.shr_u 0 1
+rotl_by_zero | local.get.1; i64.eqz 0 | 1 | local.get.1; i64.eqz 0; i32.const.0; i32.rotl 1 2
+rotr_by_zero | global.get.1 | 0 | global.get.1; i64.const.0; i64.rotr 0 1
+drop_shr_s_by_zero | local.get.0; i32.clz 0; i32.const.0; i32.shr_s 1 2 | 3 | local.get.0; i32.clz 0; i32.const.0; i32.clz 0
+drop_shr_u_by_zero | local.get.1; i64.const.0; i64.shr_u 0 1 | 2 | local.get.1; i64.const.0; local.get.1
+drop_rotl_by_zero | local.get.0; i32.const.0; i32.rotl 0 1 | 2 | local.get.0; i32.const.0; local.get.0
+drop_rotr_by_zero | local.get.1; i64.const.0; i64.rotr 0 1 | 2 | local.get.1; i64.const.0; local.get.1
+# The least powers of two, and the greatest.
+quotient_to_shift | local.get.0; i32.const.1; i32.div_u 0 1 | 2 | local.get.0; i32.const.1; i32.const.0; i32.shr_u 0 2
+quotient_to_shift | local.get.1; i64.const.-9223372036854775808; i64.div_u 0 1 | 2 | local.get.1; i64.const.-9223372036854775808; i64.const.63; i64.shr_u 0 2
+shift_to_quotient | local.get.0; i32.const.31; i32.shr_u 0 1 | 2 | local.get.0; i32.const.31; i32.const.-2147483648; i32.div_u 0 2
+shift_to_quotient | local.get.1; i64.const.0; i64.shr_u 0 1 | 2 | local.get.1; i64.const.0; i64.const.1; i64.div_u 0 2
+remainder_to_mask | local.get.0; i32.const.-2147483648; i32.rem_u 0 1 | 2 | local.get.0; i32.const.-2147483648; i32.const.2147483647; i32.and 0 2
+remainder_to_mask | local.get.1; i64.const.1; i64.rem_u 0 1 | 2 | local.get.1; i64.const.1; i64.const.0; i64.and 0 2
+mask_to_remainder | local.get.0; i32.const.0; i32.and 0 1 | 2 | local.get.0; i32.const.0; i32.const.1; i32.rem_u 0 2
+mask_to_remainder | local.get.1; i64.const.9223372036854775807; i64.and 0 1 | 2 | local.get.1; i64.const.9223372036854775807; i64.const.-9223372036854775808; i64.rem_u 0 2
+# What is left of a turn to the whole: of 5, of 63, of 0 and of 1.
+rotl_to_rotr | local.get.0; i32.const.5; i32.rotl 0 1 | 2 | local.get.0; i32.const.5; i32.const.27; i32.rotr 0 2
+rotl_to_rotr | local.get.1; i64.const.-1; i64.rotl 0 1 | 2 | local.get.1; i64.const.-1; i64.const.1; i64.rotr 0 2
+rotr_to_rotl | local.get.1; i64.const.0; i64.rotr 0 1 | 2 | local.get.1; i64.const.0; i64.const.64; i64.rotl 0 2
+rotr_to_rotl | local.get.0; i32.const.33; i32.rotr 0 1 | 2 | local.get.0; i32.const.33; i32.const.31; i32.rotl 0 2
+# Twice what may trap.
+product_to_double | local.get.0; i32.div_u 0 0; i32.const.2; i32.mul 1 2 | 3 | local.get.0; i32.div_u 0 0; i32.const.2; i32.add 1 1
+shift_to_double | local.get.1; i64.const.1; i64.shl 0 1 | 2 | local.get.1; i64.const.1; i64.add 0 0
+# Constants that decide alone.
+and_zero | i32.const.0 | 0 | i32.const.0; i32.rand; i32.and 1 0
+mul_zero | i64.const.0 | 0 | i64.const.0; i64.rand; i64.mul 1 0
+or_ones | i32.const.-1 | 0 | i32.const.-1; i32.rand; i32.or 1 0
+or_ones | i64.const.-1 | 0 | i64.const.-1; i64.rand; i64.or 1 0
+drop_and_zero | local.get.0; i32.const.0; i32.and 0 1 | 2 | local.get.0; i32.const.0; i32.const.0
+drop_mul_zero | local.get.1; i64.const.0; i64.mul 0 1 | 2 | local.get.1; i64.const.0; i64.const.0
+drop_or_ones | local.get.0; i32.clz 0; i32.const.-1; i32.or 1 2 | 3 | local.get.0; i32.clz 0; i32.const.-1; i32.const.-1
+# Comparisons, of operands that may both trap too, and tests.
+negate_comparison | local.get.0; i32.const.5; i32.lt_s 0 1 | 2 | local.get.0; i32.const.5; i32.ge_s 0 1; i32.eqz 2
+negate_comparison | local.get.0; i32.div_u 0 0; i32.rem_s 0 0; i32.lt_u 1 2 | 3 | local.get.0; i32.div_u 0 0; i32.rem_s 0 0; i32.ge_u 1 2; i32.eqz 3
+difference_to_tests | local.get.0; i32.const.0; i32.ne 0 1 | 2 | local.get.0; i32.const.0; i32.eqz 0; i32.eqz 2
+difference_to_tests | local.get.1; i64.const.0; i64.ne 0 1 | 2 | local.get.1; i64.const.0; i64.eqz 0; i32.eqz 2
+drop_negation | local.get.1; i64.const.5; i64.gt_u 0 1; i32.eqz 2 | 3 | local.get.1; i64.const.5; i64.gt_u 0 1; i64.le_u 0 1
+# Wider and narrower.
+wrap_extended | local.get.0 | 0 | local.get.0; i64.extend_i32_u 0; wrap 1
+wrap_extended | local.get.1; i64.eqz 0 | 1 | local.get.1; i64.eqz 0; i64.extend_i32_u 1; wrap 2
+extension_to_shifts | local.get.0; i32.extend8_s 0 | 1 | local.get.0; i32.const.24; i32.shl 0 1; i32.shr_s 2 1
+extension_to_shifts | local.get.0; i32.extend16_s 0 | 1 | local.get.0; i32.const.16; i32.shl 0 1; i32.shr_s 2 1
+extension_to_shifts | local.get.1; i64.extend8_s 0 | 1 | local.get.1; i64.const.56; i64.shl 0 1; i64.shr_s 2 1
+extension_to_shifts | local.get.1; i64.extend16_s 0 | 1 | local.get.1; i64.const.48; i64.shl 0 1; i64.shr_s 2 1
+extension_to_shifts | local.get.1; i64.extend32_s 0 | 1 | local.get.1; i64.const.32; i64.shl 0 1; i64.shr_s 2 1
+# Over the parts of an operand.
+distribute_product | local.get.0; global.get.0; i32.add 0 1; i32.const.5; i32.mul 2 3 | 4 | local.get.0; global.get.0; i32.add 0 1; i32.const.5; i32.const.5; i32.mul 0 4; i32.mul 1 4; i32.add 5 6
+distribute_product | local.get.1; global.get.1; i64.add 0 1; i64.const.-1; i64.mul 2 3 | 4 | local.get.1; global.get.1; i64.add 0 1; i64.const.-1; i64.const.-1; i64.mul 0 4; i64.mul 1 4; i64.add 5 6
+distribute_mask | local.get.1; i64.const.3; i64.or 0 1; i64.const.6; i64.and 2 3 | 4 | local.get.1; i64.const.3; i64.or 0 1; i64.const.6; i64.const.6; i64.and 0 4; i64.and 1 4; i64.or 5 6
+complement_of_and | local.get.0; global.get.0; i32.and 0 1; i32.const.-1; i32.xor 2 3 | 4 | local.get.0; global.get.0; i32.and 0 1; i32.const.-1; i32.const.-1; i32.xor 0 4; i32.xor 1 4; i32.or 5 6
+complement_of_or | local.get.1; global.get.1; i64.or 0 1; i64.const.-1; i64.xor 2 3 | 4 | local.get.1; global.get.1; i64.or 0 1; i64.const.-1; i64.const.-1; i64.xor 0 4; i64.xor 1 4; i64.and 5 6
 # A node before others is rewritten: those behind it move on, and name their children anew.
 # As many nodes as before.
 commute | local.get.0; i32.const.5; i32.mul 0 1; i32.sub 2 0 | 2 | local.get.0; i32.const.5; i32.mul 1 0; i32.sub 2 0
@@ -84,6 +138,11 @@ mul_one | local.get.0; i32.const.5; i32.add 0 1; local.get.0; i32.mul 2 3 | 1 | 
 # Two nodes share it, one of them twice: each gets the new one.
 add_zero | local.get.0; i32.mul 0 0; i32.sub 0 1; local.set.0 2 | 0 | local.get.0; i32.const.0; i32.add 0 1; i32.mul 2 2; i32.sub 2 3; local.set.0 4
 with_nop | local.get.0; local.get.1; wrap 1; i32.add 2 2 | 2 | local.get.0; local.get.1; wrap 1; nop; container 3 2; i32.add 4 4
+# No node more, one, two and three.
+product_to_double | local.get.0; i32.const.2; i32.mul 0 1; i32.sub 2 1 | 2 | local.get.0; i32.const.2; i32.add 0 0; i32.sub 2 1
+negate_comparison | local.get.0; i32.gt_s 0 0; i32.sub 1 0 | 1 | local.get.0; i32.le_s 0 0; i32.eqz 1; i32.sub 2 0
+wrap_extended | local.get.0; i32.clz 0 | 0 | local.get.0; i64.extend_i32_u 0; wrap 1; i32.clz 2
+distribute_mask | local.get.0; i32.or 0 0; i32.const.6; i32.and 1 2; i32.sub 3 0 | 3 | local.get.0; i32.or 0 0; i32.const.6; i32.const.6; i32.and 0 3; i32.and 0 3; i32.or 4 5; i32.sub 6 0
 # The root doesn't use it.
 unfold | local.get.0; i32.const.5; i32.eqz 0 | 1 | local.get.0; i32.const.5; i32.unfold 1; i32.eqz 0
 # A constant behind a term of either type.
@@ -93,12 +152,20 @@ mul_one | local.get.0 | 0 | local.get.0; i32.const.1; i32.mul 0 1
 or_zero | local.get.0 | 0 | local.get.0; i32.const.0; i32.or 0 1
 xor_zero | local.get.0 | 0 | local.get.0; i32.const.0; i32.xor 0 1
 shift_by_zero | local.get.0 | 0 | local.get.0; i32.const.0; i32.shl 0 1
+shr_s_by_zero | local.get.0 | 0 | local.get.0; i32.const.0; i32.shr_s 0 1
+shr_u_by_zero | local.get.0 | 0 | local.get.0; i32.const.0; i32.shr_u 0 1
+rotl_by_zero | local.get.0 | 0 | local.get.0; i32.const.0; i32.rotl 0 1
+rotr_by_zero | local.get.0 | 0 | local.get.0; i32.const.0; i32.rotr 0 1
 add_zero | local.get.1 | 0 | local.get.1; i64.const.0; i64.add 0 1
 sub_zero | local.get.1 | 0 | local.get.1; i64.const.0; i64.sub 0 1
 mul_one | local.get.1 | 0 | local.get.1; i64.const.1; i64.mul 0 1
 or_zero | local.get.1 | 0 | local.get.1; i64.const.0; i64.or 0 1
 xor_zero | local.get.1 | 0 | local.get.1; i64.const.0; i64.xor 0 1
 shift_by_zero | local.get.1 | 0 | local.get.1; i64.const.0; i64.shl 0 1
+shr_s_by_zero | local.get.1 | 0 | local.get.1; i64.const.0; i64.shr_s 0 1
+shr_u_by_zero | local.get.1 | 0 | local.get.1; i64.const.0; i64.shr_u 0 1
+rotl_by_zero | local.get.1 | 0 | local.get.1; i64.const.0; i64.rotl 0 1
+rotr_by_zero | local.get.1 | 0 | local.get.1; i64.const.0; i64.rotr 0 1
 ";
 
 /// The same where the rule has no answer.
@@ -191,60 +258,175 @@ fold | i32.const.5; i32.const.0; i32.div_u 0 1 | 2 | none
 fold | i64.const.-9223372036854775808; i64.const.-1; i64.div_s 0 1 | 2 | none
 fold | i32.const.5; local.get.0; i32.add 0 1 | 2 | none
 fold | i32.const.5; i64.const.0; i32.add 0 1 | 2 | none
+# A float, a variable that isn't there, nothing, and a select of a select.
+shr_s_by_zero | local.get.2 | 0 | none
+shr_u_by_zero | local.get.3 | 0 | none
+rotl_by_zero | local.get.0; drop 0 | 1 | none
+rotr_by_zero | local.get.0; select 0 0 0; select 1 0 0 | 2 | none
+# By the width, the constant first, a turn the other way, and a constant of the other type.
+drop_shr_s_by_zero | local.get.0; i32.const.32; i32.shr_s 0 1 | 2 | none
+drop_shr_u_by_zero | i32.const.0; local.get.0; i32.shr_u 0 1 | 2 | none
+drop_rotl_by_zero | local.get.0; i32.const.0; i32.rotr 0 1 | 2 | none
+drop_rotr_by_zero | local.get.0; i64.const.0; i32.rotr 0 1 | 2 | none
+# With sign, by zero, and by no power of two.
+quotient_to_shift | local.get.0; i32.const.8; i32.div_s 0 1 | 2 | none
+quotient_to_shift | local.get.0; i32.const.0; i32.div_u 0 1 | 2 | none
+quotient_to_shift | local.get.1; i64.const.6; i64.div_u 0 1 | 2 | none
+remainder_to_mask | local.get.1; i64.const.8; i64.rem_s 0 1 | 2 | none
+remainder_to_mask | local.get.1; i64.const.0; i64.rem_u 0 1 | 2 | none
+remainder_to_mask | local.get.0; i32.const.-1; i32.rem_u 0 1 | 2 | none
+# With sign, by the width, and by more.
+shift_to_quotient | local.get.1; i64.const.3; i64.shr_s 0 1 | 2 | none
+shift_to_quotient | local.get.0; i32.const.32; i32.shr_u 0 1 | 2 | none
+shift_to_quotient | local.get.1; i64.const.-1; i64.shr_u 0 1 | 2 | none
+# One more than all bits, and one more that is no power of two.
+mask_to_remainder | local.get.0; i32.const.-1; i32.and 0 1 | 2 | none
+mask_to_remainder | local.get.1; i64.const.-1; i64.and 0 1 | 2 | none
+mask_to_remainder | local.get.1; i64.const.4; i64.and 0 1 | 2 | none
+# The constant stands first, or is none.
+rotl_to_rotr | i32.const.5; local.get.0; i32.rotl 0 1 | 2 | none
+rotr_to_rotl | local.get.0; local.get.0; i32.rotr 0 1 | 2 | none
+# A world answers, an operand writes, and other numbers.
+product_to_double | local.get.0; i32.load.0.2.0 0; i32.const.2; i32.mul 1 2 | 3 | none
+product_to_double | local.get.0; i32.const.1; i32.mul 0 1 | 2 | none
+shift_to_double | i32.const.5; local.tee.0 0; i32.const.1; i32.shl 1 2 | 3 | none
+shift_to_double | local.get.1; i64.const.2; i64.shl 0 1 | 2 | none
+# Other numbers: one, one whose low half is 0, and one whose low half alone has all bits; no constant.
+and_zero | i32.const.1 | 0 | none
+and_zero | i64.const.4294967296 | 0 | none
+mul_zero | local.get.0 | 0 | none
+or_ones | i64.const.4294967295 | 0 | none
+# What may trap, or writes; other numbers; the constant first.
+drop_and_zero | local.get.0; i32.div_u 0 0; i32.const.0; i32.and 1 2 | 3 | none
+drop_and_zero | i32.const.0; local.get.0; i32.and 0 1 | 2 | none
+drop_mul_zero | i32.const.5; local.tee.0 0; i32.const.0; i32.mul 1 2 | 3 | none
+drop_mul_zero | local.get.0; call.0 0; i32.const.0; i32.mul 1 2 | 3 | none
+drop_or_ones | local.get.0; i32.load.0.2.0 0; i32.const.-1; i32.or 1 2 | 3 | none
+drop_or_ones | local.get.0; i32.const.1; i32.or 0 1 | 2 | none
+# Floats, of which neither lt nor ge may hold; a test, which is no comparison.
+negate_comparison | local.get.2; f32.lt 0 0 | 1 | none
+negate_comparison | local.get.0; i32.eqz 0 | 1 | none
+drop_negation | local.get.2; f32.lt 0 0; i32.eqz 1 | 2 | none
+drop_negation | local.get.0; i32.eqz 0; i32.eqz 1 | 2 | none
+drop_negation | local.get.0; i32.lt_s 0 0; i32.clz 1 | 2 | none
+difference_to_tests | local.get.0; i32.const.1; i32.ne 0 1 | 2 | none
+difference_to_tests | local.get.0; i32.const.0; i32.eq 0 1 | 2 | none
+# Of the other type; an extension of the whole.
+wrap_extended | local.get.1 | 0 | none
+extension_to_shifts | local.get.0; i64.extend_i32_s 0 | 1 | none
+# Other operators, the constant first, and an operand of which it isn't known that it leaves one value; other numbers.
+distribute_product | local.get.0; i32.sub 0 0; i32.const.5; i32.mul 1 2 | 3 | none
+distribute_product | i32.const.5; local.get.0; i32.add 1 1; i32.mul 0 2 | 3 | none
+distribute_product | local.get.0; call.0 0; i32.add 1 0; i32.const.5; i32.mul 2 3 | 4 | none
+distribute_mask | local.get.1; i64.xor 0 0; i64.const.6; i64.and 1 2 | 3 | none
+complement_of_and | local.get.0; i32.and 0 0; i32.const.1; i32.xor 1 2 | 3 | none
+complement_of_and | local.get.1; i64.and 0 0; i64.const.4294967295; i64.xor 1 2 | 3 | none
+complement_of_or | local.get.0; i32.and 0 0; i32.const.-1; i32.xor 1 2 | 3 | none
 ";
 
-/// The same of every operator on two operands of a type `T`, whose operands the one rule or the other puts in the other order.
+/// The same of every operator on two operands of a type `T`: which rule puts the operands in the other order, and which comparison
+/// holds where this one doesn't.
 const OPERATORS: &str = "
 commute | T.const.1; T.const.2; T.eq 0 1 | 2 | T.const.1; T.const.2; T.eq 1 0
 turn_comparison | T.const.1; T.const.2; T.eq 0 1 | 2 | none
+negate_comparison | T.const.1; T.const.2; T.eq 0 1 | 2 | T.const.1; T.const.2; T.ne 0 1; i32.eqz 2
+drop_negation | T.const.1; T.const.2; T.eq 0 1; i32.eqz 2 | 3 | T.const.1; T.const.2; T.eq 0 1; T.ne 0 1
 commute | T.const.1; T.const.2; T.ne 0 1 | 2 | T.const.1; T.const.2; T.ne 1 0
 turn_comparison | T.const.1; T.const.2; T.ne 0 1 | 2 | none
+negate_comparison | T.const.1; T.const.2; T.ne 0 1 | 2 | T.const.1; T.const.2; T.eq 0 1; i32.eqz 2
+drop_negation | T.const.1; T.const.2; T.ne 0 1; i32.eqz 2 | 3 | T.const.1; T.const.2; T.ne 0 1; T.eq 0 1
 commute | T.const.1; T.const.2; T.lt_s 0 1 | 2 | none
 turn_comparison | T.const.1; T.const.2; T.lt_s 0 1 | 2 | T.const.1; T.const.2; T.gt_s 1 0
+negate_comparison | T.const.1; T.const.2; T.lt_s 0 1 | 2 | T.const.1; T.const.2; T.ge_s 0 1; i32.eqz 2
+drop_negation | T.const.1; T.const.2; T.lt_s 0 1; i32.eqz 2 | 3 | T.const.1; T.const.2; T.lt_s 0 1; T.ge_s 0 1
 commute | T.const.1; T.const.2; T.lt_u 0 1 | 2 | none
 turn_comparison | T.const.1; T.const.2; T.lt_u 0 1 | 2 | T.const.1; T.const.2; T.gt_u 1 0
+negate_comparison | T.const.1; T.const.2; T.lt_u 0 1 | 2 | T.const.1; T.const.2; T.ge_u 0 1; i32.eqz 2
+drop_negation | T.const.1; T.const.2; T.lt_u 0 1; i32.eqz 2 | 3 | T.const.1; T.const.2; T.lt_u 0 1; T.ge_u 0 1
 commute | T.const.1; T.const.2; T.gt_s 0 1 | 2 | none
 turn_comparison | T.const.1; T.const.2; T.gt_s 0 1 | 2 | T.const.1; T.const.2; T.lt_s 1 0
+negate_comparison | T.const.1; T.const.2; T.gt_s 0 1 | 2 | T.const.1; T.const.2; T.le_s 0 1; i32.eqz 2
+drop_negation | T.const.1; T.const.2; T.gt_s 0 1; i32.eqz 2 | 3 | T.const.1; T.const.2; T.gt_s 0 1; T.le_s 0 1
 commute | T.const.1; T.const.2; T.gt_u 0 1 | 2 | none
 turn_comparison | T.const.1; T.const.2; T.gt_u 0 1 | 2 | T.const.1; T.const.2; T.lt_u 1 0
+negate_comparison | T.const.1; T.const.2; T.gt_u 0 1 | 2 | T.const.1; T.const.2; T.le_u 0 1; i32.eqz 2
+drop_negation | T.const.1; T.const.2; T.gt_u 0 1; i32.eqz 2 | 3 | T.const.1; T.const.2; T.gt_u 0 1; T.le_u 0 1
 commute | T.const.1; T.const.2; T.le_s 0 1 | 2 | none
 turn_comparison | T.const.1; T.const.2; T.le_s 0 1 | 2 | T.const.1; T.const.2; T.ge_s 1 0
+negate_comparison | T.const.1; T.const.2; T.le_s 0 1 | 2 | T.const.1; T.const.2; T.gt_s 0 1; i32.eqz 2
+drop_negation | T.const.1; T.const.2; T.le_s 0 1; i32.eqz 2 | 3 | T.const.1; T.const.2; T.le_s 0 1; T.gt_s 0 1
 commute | T.const.1; T.const.2; T.le_u 0 1 | 2 | none
 turn_comparison | T.const.1; T.const.2; T.le_u 0 1 | 2 | T.const.1; T.const.2; T.ge_u 1 0
+negate_comparison | T.const.1; T.const.2; T.le_u 0 1 | 2 | T.const.1; T.const.2; T.gt_u 0 1; i32.eqz 2
+drop_negation | T.const.1; T.const.2; T.le_u 0 1; i32.eqz 2 | 3 | T.const.1; T.const.2; T.le_u 0 1; T.gt_u 0 1
 commute | T.const.1; T.const.2; T.ge_s 0 1 | 2 | none
 turn_comparison | T.const.1; T.const.2; T.ge_s 0 1 | 2 | T.const.1; T.const.2; T.le_s 1 0
+negate_comparison | T.const.1; T.const.2; T.ge_s 0 1 | 2 | T.const.1; T.const.2; T.lt_s 0 1; i32.eqz 2
+drop_negation | T.const.1; T.const.2; T.ge_s 0 1; i32.eqz 2 | 3 | T.const.1; T.const.2; T.ge_s 0 1; T.lt_s 0 1
 commute | T.const.1; T.const.2; T.ge_u 0 1 | 2 | none
 turn_comparison | T.const.1; T.const.2; T.ge_u 0 1 | 2 | T.const.1; T.const.2; T.le_u 1 0
+negate_comparison | T.const.1; T.const.2; T.ge_u 0 1 | 2 | T.const.1; T.const.2; T.lt_u 0 1; i32.eqz 2
+drop_negation | T.const.1; T.const.2; T.ge_u 0 1; i32.eqz 2 | 3 | T.const.1; T.const.2; T.ge_u 0 1; T.lt_u 0 1
 commute | T.const.1; T.const.2; T.add 0 1 | 2 | T.const.1; T.const.2; T.add 1 0
 turn_comparison | T.const.1; T.const.2; T.add 0 1 | 2 | none
+negate_comparison | T.const.1; T.const.2; T.add 0 1 | 2 | none
+drop_negation | T.const.1; T.const.2; T.add 0 1; i32.eqz 2 | 3 | none
 commute | T.const.1; T.const.2; T.sub 0 1 | 2 | none
 turn_comparison | T.const.1; T.const.2; T.sub 0 1 | 2 | none
+negate_comparison | T.const.1; T.const.2; T.sub 0 1 | 2 | none
+drop_negation | T.const.1; T.const.2; T.sub 0 1; i32.eqz 2 | 3 | none
 commute | T.const.1; T.const.2; T.mul 0 1 | 2 | T.const.1; T.const.2; T.mul 1 0
 turn_comparison | T.const.1; T.const.2; T.mul 0 1 | 2 | none
+negate_comparison | T.const.1; T.const.2; T.mul 0 1 | 2 | none
+drop_negation | T.const.1; T.const.2; T.mul 0 1; i32.eqz 2 | 3 | none
 commute | T.const.1; T.const.2; T.div_s 0 1 | 2 | none
 turn_comparison | T.const.1; T.const.2; T.div_s 0 1 | 2 | none
+negate_comparison | T.const.1; T.const.2; T.div_s 0 1 | 2 | none
+drop_negation | T.const.1; T.const.2; T.div_s 0 1; i32.eqz 2 | 3 | none
 commute | T.const.1; T.const.2; T.div_u 0 1 | 2 | none
 turn_comparison | T.const.1; T.const.2; T.div_u 0 1 | 2 | none
+negate_comparison | T.const.1; T.const.2; T.div_u 0 1 | 2 | none
+drop_negation | T.const.1; T.const.2; T.div_u 0 1; i32.eqz 2 | 3 | none
 commute | T.const.1; T.const.2; T.rem_s 0 1 | 2 | none
 turn_comparison | T.const.1; T.const.2; T.rem_s 0 1 | 2 | none
+negate_comparison | T.const.1; T.const.2; T.rem_s 0 1 | 2 | none
+drop_negation | T.const.1; T.const.2; T.rem_s 0 1; i32.eqz 2 | 3 | none
 commute | T.const.1; T.const.2; T.rem_u 0 1 | 2 | none
 turn_comparison | T.const.1; T.const.2; T.rem_u 0 1 | 2 | none
+negate_comparison | T.const.1; T.const.2; T.rem_u 0 1 | 2 | none
+drop_negation | T.const.1; T.const.2; T.rem_u 0 1; i32.eqz 2 | 3 | none
 commute | T.const.1; T.const.2; T.and 0 1 | 2 | T.const.1; T.const.2; T.and 1 0
 turn_comparison | T.const.1; T.const.2; T.and 0 1 | 2 | none
+negate_comparison | T.const.1; T.const.2; T.and 0 1 | 2 | none
+drop_negation | T.const.1; T.const.2; T.and 0 1; i32.eqz 2 | 3 | none
 commute | T.const.1; T.const.2; T.or 0 1 | 2 | T.const.1; T.const.2; T.or 1 0
 turn_comparison | T.const.1; T.const.2; T.or 0 1 | 2 | none
+negate_comparison | T.const.1; T.const.2; T.or 0 1 | 2 | none
+drop_negation | T.const.1; T.const.2; T.or 0 1; i32.eqz 2 | 3 | none
 commute | T.const.1; T.const.2; T.xor 0 1 | 2 | T.const.1; T.const.2; T.xor 1 0
 turn_comparison | T.const.1; T.const.2; T.xor 0 1 | 2 | none
+negate_comparison | T.const.1; T.const.2; T.xor 0 1 | 2 | none
+drop_negation | T.const.1; T.const.2; T.xor 0 1; i32.eqz 2 | 3 | none
 commute | T.const.1; T.const.2; T.shl 0 1 | 2 | none
 turn_comparison | T.const.1; T.const.2; T.shl 0 1 | 2 | none
+negate_comparison | T.const.1; T.const.2; T.shl 0 1 | 2 | none
+drop_negation | T.const.1; T.const.2; T.shl 0 1; i32.eqz 2 | 3 | none
 commute | T.const.1; T.const.2; T.shr_s 0 1 | 2 | none
 turn_comparison | T.const.1; T.const.2; T.shr_s 0 1 | 2 | none
+negate_comparison | T.const.1; T.const.2; T.shr_s 0 1 | 2 | none
+drop_negation | T.const.1; T.const.2; T.shr_s 0 1; i32.eqz 2 | 3 | none
 commute | T.const.1; T.const.2; T.shr_u 0 1 | 2 | none
 turn_comparison | T.const.1; T.const.2; T.shr_u 0 1 | 2 | none
+negate_comparison | T.const.1; T.const.2; T.shr_u 0 1 | 2 | none
+drop_negation | T.const.1; T.const.2; T.shr_u 0 1; i32.eqz 2 | 3 | none
 commute | T.const.1; T.const.2; T.rotl 0 1 | 2 | none
 turn_comparison | T.const.1; T.const.2; T.rotl 0 1 | 2 | none
+negate_comparison | T.const.1; T.const.2; T.rotl 0 1 | 2 | none
+drop_negation | T.const.1; T.const.2; T.rotl 0 1; i32.eqz 2 | 3 | none
 commute | T.const.1; T.const.2; T.rotr 0 1 | 2 | none
 turn_comparison | T.const.1; T.const.2; T.rotr 0 1 | 2 | none
+negate_comparison | T.const.1; T.const.2; T.rotr 0 1 | 2 | none
+drop_negation | T.const.1; T.const.2; T.rotr 0 1; i32.eqz 2 | 3 | none
 ";
 
 /// Whether the rule makes this of a node of the term: another term, or nothing.

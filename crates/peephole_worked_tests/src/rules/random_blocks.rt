@@ -1,4 +1,4 @@
-//! Random blocks of the instructions that the plain machine knows, rewritten by random rules, run before and afterwards.
+//! Random bodies of the instructions that the plain machine knows, rewritten by random rules, run before and afterwards.
 
 use super::running::{
     EDGES, Ended, GLOBALS, LOCALS, Variables, config_of, end_the_same, first_memory,
@@ -79,6 +79,7 @@ f32 | a8 bc
 address | 28 2d
 - | 3f
 i32 | 10
+i32 | 10
 ";
 
 /// The same of an i64.
@@ -102,6 +103,84 @@ i32 | b2 be
 f32 | 22
 f32 f32 i32 | 1b 1c
 address | 2a
+";
+
+/// Patterns of rules that a random tree seldom has, in the order of a body: trees of a type, constants, and opcodes. Of i32.
+const PATTERNS_OF_I32: &str = "
+i32 i32 i32 6a 6a
+i32 i32 6c i32 6c
+i32:0
+i32:-1
+i32 i32:0 6a
+i32 i32:0 6b
+i32 i32:1 6c
+i32 i32:0 72
+i32 i32:0 73
+i32 i32:-1 71
+i32 i32:0 74
+i32 i32:0 75
+i32 i32:0 76
+i32 i32:0 77
+i32 i32:0 78
+i32 i32:7 74
+i32 i32:64 6c
+i32 i32:8 6e
+i32 i32:3 76
+i32 i32:16 70
+i32 i32:7 71
+i32 i32:5 77
+i32 i32:9 78
+i32 i32:2 6c
+i32 i32:1 74
+i32 i32:0 71
+i32 i32:0 6c
+i32 i32:-1 72
+i32 i32:0 46
+i32 i32:0 47
+i32 i32 48 45
+i64 i64 5a 45
+i32 i32 6a i32:5 6c
+i32 i32 72 i32:12 71
+i32 i32 71 i32:-1 73
+i32 i32 72 i32:-1 73
+i32 c0
+";
+
+/// The same of i64.
+const PATTERNS_OF_I64: &str = "
+i64 i64 i64 85 85
+i64 i64 7c i64 7c
+i64:0
+i64:-1
+i64 i64:0 7c
+i64 i64:0 7d
+i64 i64:1 7e
+i64 i64:0 84
+i64 i64:0 85
+i64 i64:-1 83
+i64 i64:0 86
+i64 i64:0 87
+i64 i64:0 88
+i64 i64:0 89
+i64 i64:0 8a
+i64 i64:40 86
+i64 i64:32 7e
+i64 i64:4 80
+i64 i64:33 88
+i64 i64:128 82
+i64 i64:63 83
+i64 i64:35 89
+i64 i64:1 8a
+i64 i64:2 7e
+i64 i64:1 86
+i64 i64:0 83
+i64 i64:0 7e
+i64 i64:-1 84
+i64 i64 7c i64:-3 7e
+i64 i64 84 i64:10 83
+i64 i64 83 i64:-1 85
+i64 i64 84 i64:-1 85
+i64 c4
 ";
 
 /// The bits of 1.5, -42 and 0.1, and of no number.
@@ -211,15 +290,48 @@ enum Task {
     MakeAddress(usize),
 }
 
-/// What makes an operand of the type that the word names.
+/// A constant of the type that a word names before a colon.
+fn constant_of(word: &str) -> Option<Task> {
+    match word.split_once(':') {
+        Some(("i32", number)) => Some(Task::Write(0x41, Imm::I32(number.parse().ok()?))),
+        Some(("i64", number)) => Some(Task::Write(0x42, Imm::I64(number.parse().ok()?))),
+        _ => None,
+    }
+}
+
+/// What a word stands for: a tree of the type that it names, a place in the memory, a constant, or an opcode.
 fn task_of(word: &str, depth: usize) -> Option<Task> {
     match word {
         "i32" => Some(Task::Make(I32, depth)),
         "i64" => Some(Task::Make(I64, depth)),
         "f32" => Some(Task::Make(F32, depth)),
         "address" => Some(Task::MakeAddress(depth)),
-        _ => None,
+        _ => match u8::from_str_radix(word, 16) {
+            Ok(opcode) => Some(Task::Write(opcode, Imm::Nothing)),
+            Err(_) => constant_of(word),
+        },
     }
+}
+
+/// Puts what the words stand for before the other tasks, the first word next.
+fn plan_words(tasks: &mut Vec<Task>, words: &str, depth: usize) -> Result<(), Fail> {
+    for word in words.rsplit(' ') {
+        if let Some(task) = task_of(word, depth) {
+            tasks.push(task)?;
+        }
+    }
+    Ok(())
+}
+
+/// One of the lines.
+fn line_of<'a>(
+    rt: &impl Abort,
+    alloc: Global,
+    draws: &mut Draws,
+    table: &'a str,
+) -> Result<&'a str, AllocError> {
+    let lines: Vec<&str> = table.trim().lines().collect(alloc)?;
+    Ok(pick(rt, draws, &lines))
 }
 
 /// Puts what makes a place in the memory before the other tasks. One in eight is any number.
@@ -232,7 +344,29 @@ fn plan_address(draws: &mut Draws, tasks: &mut Vec<Task>, depth: usize) -> Resul
     Ok(())
 }
 
-/// Puts what makes a tree before the other tasks: a leaf, or its operands and then its root. The next task stands last.
+/// Puts an operator with its operands before the other tasks.
+fn plan_operator(
+    rt: &impl Abort,
+    draws: &mut Draws,
+    tasks: &mut Vec<Task>,
+    t: PrimitiveTypeInfo,
+    depth: usize,
+) -> Result<(), Fail> {
+    let alloc = *tasks.allocator();
+    let table = match t {
+        I64 => OF_I64,
+        F32 => OF_F32,
+        _ => OF_I32,
+    };
+    let Some((types, opcodes)) = line_of(rt, alloc, draws, table)?.split_once(" | ") else {
+        panic!(rt; "no opcodes");
+    };
+    let opcode = pick(rt, draws, &bytes_of(alloc, opcodes)?);
+    tasks.push(Task::Write(opcode, imm_of(draws, opcode, t)))?;
+    plan_words(tasks, types, depth)
+}
+
+/// Puts what makes a tree before the other tasks: a leaf, an operator with its operands, or a pattern. The next task stands last.
 fn plan(
     rt: &impl Abort,
     draws: &mut Draws,
@@ -240,32 +374,21 @@ fn plan(
     t: PrimitiveTypeInfo,
     depth: usize,
 ) -> Result<(), Fail> {
+    let alloc = *tasks.allocator();
+    let below = depth.saturating_sub(1);
     if depth == 0 || draws.below(4) == 0 {
         let (opcode, imm) = leaf_of(draws, t);
         tasks.push(Task::Write(opcode, imm))?;
         return Ok(());
     }
-    let alloc = *tasks.allocator();
-    let table = match t {
-        I64 => OF_I64,
-        F32 => OF_F32,
-        _ => OF_I32,
-    };
-    let lines: Vec<&str> = table.trim().lines().collect(alloc)?;
-    let Some((types, opcodes)) = pick(rt, draws, &lines).split_once(" | ") else {
-        panic!(rt; "no opcodes");
-    };
-    let opcode = pick(rt, draws, &bytes_of(alloc, opcodes)?);
-    tasks.push(Task::Write(opcode, imm_of(draws, opcode, t)))?;
-    for word in types.rsplit(' ') {
-        if let Some(task) = task_of(word, depth.saturating_sub(1)) {
-            tasks.push(task)?;
-        }
+    match (draws.below(3), t) {
+        (0, I32) => plan_words(tasks, line_of(rt, alloc, draws, PATTERNS_OF_I32)?, below),
+        (0, I64) => plan_words(tasks, line_of(rt, alloc, draws, PATTERNS_OF_I64)?, below),
+        _ => plan_operator(rt, draws, tasks, t, below),
     }
-    Ok(())
 }
 
-/// Writes what a task makes: of five operators one above another, and so 364 nodes at most.
+/// Writes what a task makes: of five operators or patterns one above another.
 fn write_tree(
     rt: &impl Abort,
     alloc: Global,
@@ -286,13 +409,13 @@ fn write_tree(
     panic!(rt; "a tree without an end")
 }
 
-/// Writes a random statement: one in four stores a value.
+/// Writes a random statement: one in four stores a value. Answers the type of the value that it leaves, if it leaves one.
 fn write_statement(
     rt: &impl Abort,
     alloc: Global,
     draws: &mut Draws,
     sink: &mut Function,
-) -> Result<(), Fail> {
+) -> Result<Option<PrimitiveTypeInfo>, Fail> {
     let t = pick(rt, draws, &[I32, I64, F32]);
     let stores = draws.below(4) == 0;
     if stores {
@@ -306,51 +429,85 @@ fn write_statement(
     } else {
         end_of(draws, t)
     };
-    if let Some((opcode, imm)) = end {
-        sink.instruction(&instr_of(rt, opcode, imm))?;
-    }
-    Ok(())
+    let Some((opcode, imm)) = end else {
+        return Ok(Some(t));
+    };
+    sink.instruction(&instr_of(rt, opcode, imm))?;
+    Ok(None)
 }
 
-/// A random body of one to three statements.
+/// A random body of one to three statements, of which the first may leave a value that is used behind the others.
 fn random_body(rt: &impl Abort, alloc: Global, draws: &mut Draws) -> Result<Function, Fail> {
     let mut sink = Function::new(alloc);
+    let mut left = Vec::new(alloc);
     for _ in 0..draws.up_to(3) {
-        write_statement(rt, alloc, draws, &mut sink)?;
+        if let Some(t) = write_statement(rt, alloc, draws, &mut sink)? {
+            left.push(t)?;
+        }
+    }
+    for _ in 0..3 {
+        let Some(t) = left.pop() else {
+            break;
+        };
+        let Some((opcode, imm)) = end_of(draws, t) else {
+            break;
+        };
+        sink.instruction(&instr_of(rt, opcode, imm))?;
     }
     sink.raw(&[0x0b])?;
     Ok(sink)
 }
 
-/// The rules whose answers depend on what may write a variable or trap, and one that has few other chances.
-const CONDITIONAL: [Rule; 8] = [
+/// The rules whose answers depend on what may write a variable or trap.
+const CONDITIONAL: [Rule; 11] = [
     Rule::Commute,
     Rule::TurnComparison,
     Rule::OrSelf,
     Rule::AndSelf,
-    Rule::TestToComparison,
     Rule::TurnSelect,
-    Rule::Fold,
     Rule::Forget,
+    Rule::ProductToDouble,
+    Rule::ShiftToDouble,
+    Rule::DropAndZero,
+    Rule::DropMulZero,
+    Rule::DropOrOnes,
 ];
 
-/// The rules whose patterns a random tree seldom has.
-const SELDOM: [Rule; 14] = [
-    Rule::AssociateLeft,
-    Rule::AssociateRight,
-    Rule::ShiftToProduct,
-    Rule::ProductToShift,
-    Rule::DifferenceToSum,
-    Rule::SumToDifference,
-    Rule::ComparisonToTest,
-    Rule::DropAddZero,
-    Rule::DropSubZero,
-    Rule::DropMulOne,
-    Rule::DropOrZero,
-    Rule::DropXorZero,
-    Rule::DropAndOnes,
-    Rule::DropShiftByZero,
-];
+/// How often a rule was used.
+#[derive(Clone, Copy)]
+struct Use {
+    rule: Rule,
+    count: usize,
+}
+
+/// Each rule, before it was used.
+fn no_uses(alloc: Global) -> Result<Vec<Use>, AllocError> {
+    let mut uses = Vec::new(alloc);
+    for rule in RULES {
+        uses.push(Use { rule, count: 0 })?;
+    }
+    Ok(uses)
+}
+
+/// Counts a use of the rule.
+fn add_use(uses: &mut [Use], rule: Rule) {
+    for one in uses.iter_mut() {
+        if one.rule == rule {
+            one.count = one.count.saturating_add(1);
+        }
+    }
+}
+
+/// The rules that were used less than twenty times.
+fn seldom_used(alloc: Global, uses: &[Use]) -> Result<Vec<Rule>, AllocError> {
+    let mut rules = Vec::new(alloc);
+    for one in uses {
+        if one.count < 20 {
+            rules.push(one.rule)?;
+        }
+    }
+    Ok(rules)
+}
 
 /// A body, and the types of the globals that were asked for.
 #[derive(Drop)]
@@ -359,48 +516,61 @@ struct NewBody {
     requested: Vec<PrimitiveTypeInfo>,
 }
 
-/// Rewrites a node of the body's block by a random rule, where there is an answer. Adds the rule to the list.
+/// One of the rules, one of those that depend on what may write or trap, or all that were seldom used.
+fn rules_to_try(
+    rt: &impl Abort,
+    alloc: Global,
+    draws: &mut Draws,
+    uses: &[Use],
+) -> Result<Vec<Rule>, AllocError> {
+    match draws.below(3) {
+        0 => Vec::from_slice(alloc, &[pick(rt, draws, &CONDITIONAL)]),
+        1 => Vec::from_slice(alloc, &[pick(rt, draws, uses).rule]),
+        _ => seldom_used(alloc, uses),
+    }
+}
+
+/// Rewrites a tree of the body by such a rule, and answers whether there was one to rewrite.
 fn rewrite_once(
+    rt: &impl Abort,
     alloc: Global,
     draws: &mut Draws,
     new: &mut NewBody,
-    rules: &mut Vec<Rule>,
-) -> Result<(), Fail> {
-    let from: &[Rule] = match draws.below(5) {
-        0 | 1 => &CONDITIONAL,
-        2 => &RULES,
-        _ => &SELDOM,
-    };
+    uses: &mut [Use],
+) -> Result<bool, Fail> {
+    let rules = rules_to_try(rt, alloc, draws, uses)?;
     let words = [draws.word(), draws.word(), draws.word()];
     let mut config = config_of(alloc, &[], &new.requested, &words)?;
-    let made = rewritten_at_random(alloc, &mut config, &new.bytes, from)?;
+    let made = rewritten_at_random(alloc, &mut config, &new.bytes, &rules)?;
     let Some((rewrite, replaced)) = made else {
-        return Ok(());
+        return Ok(false);
     };
-    rules.push(rewrite.rule)?;
+    add_use(uses, rewrite.rule);
     new.bytes = Vec::from_slice(alloc, replaced.body.bytes())?;
     for request in &replaced.requests {
         let ResourceRequest::Global { tpe, .. } = request;
         new.requested.push(*tpe)?;
     }
-    Ok(())
+    Ok(true)
 }
 
-/// The body after one to five rules, or fewer where thirty random ones lack answers. Adds the rules to the list.
+/// The body after one to five rules, or fewer where thirty tries lack answers.
 fn rewritten(
+    rt: &impl Abort,
     alloc: Global,
     draws: &mut Draws,
     body: &[u8],
-    rules: &mut Vec<Rule>,
+    uses: &mut [Use],
 ) -> Result<NewBody, Fail> {
     let mut new = NewBody {
         bytes: Vec::from_slice(alloc, body)?,
         requested: Vec::new(alloc),
     };
-    let wanted = rules.len().saturating_add(draws.up_to(5));
+    let wanted = draws.up_to(5);
+    let mut made = 0usize;
     for _ in 0..30 {
-        if rules.len() < wanted {
-            rewrite_once(alloc, draws, &mut new, rules)?;
+        if made < wanted && rewrite_once(rt, alloc, draws, &mut new, uses)? {
+            made = made.saturating_add(1);
         }
     }
     Ok(new)
@@ -463,27 +633,27 @@ impl Counts {
     }
 }
 
-/// A thousand blocks. Most don't trap, and each rule has its part.
+/// A thousand bodies. Most don't trap, and each rule has its part.
 #[test]
-fn rewritten_blocks(rt: HostRuntime) -> Result<(), Fail> {
+fn rewritten_bodies(rt: HostRuntime) -> Result<(), Fail> {
     let alloc = rt.alloc();
     let mut draws = Draws {
         state: 88172645463325252,
     };
-    let mut rules = Vec::new(alloc);
+    let mut uses = no_uses(alloc)?;
     let mut counts = Counts::default();
     for _ in 0..1_000 {
         let body = random_body(&rt, alloc, &mut draws)?;
-        let new = rewritten(alloc, &mut draws, body.bytes(), &mut rules)?;
+        let new = rewritten(&rt, alloc, &mut draws, body.bytes(), &mut uses)?;
         let end = ended(&rt, alloc, &mut draws, body.bytes(), &new)?;
         counts.add(alloc, &end)?;
     }
-    for rule in RULES {
-        let count = rules.iter().filter(|one| **one == rule).count();
-        assert!(rt; count >= 5, "{rule}: {count}");
+    let mut total = 0usize;
+    for Use { rule, count } in &uses {
+        assert!(rt; *count >= 5, "{rule}: {count}");
+        total = total.saturating_add(*count);
     }
-    let count = rules.len();
-    assert!(rt; count > 1_500 && counts.ended > 500, "{count} {counts:?}");
+    assert!(rt; total > 1_500 && counts.ended > 500, "{total} {counts:?}");
     assert!(rt; counts.called > 100 && counts.stored > 100, "{counts:?}");
     assert!(rt; counts.out_of_bounds > 50, "{counts:?}");
     Ok(())

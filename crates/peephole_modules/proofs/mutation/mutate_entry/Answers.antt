@@ -24,8 +24,8 @@ returns-in-Err-clause-none g c =
     let other = c.if-is_memory.false in
     absurd cc)
 
-pub rewrite_body_at_random-requires-clause-body : goal.rewrite_body_at_random-requires-clause-body
-rewrite_body_at_random-requires-clause-body g c =
+pub rewrite_tree_at_random-requires-clause-body : goal.rewrite_tree_at_random-requires-clause-body
+rewrite_tree_at_random-requires-clause-body g c =
     let known = lent_under (λ info. IsModule c.args.bytes.now info c.args.layout.now) (info_of c.args.config.now) c.info.result.now c.info.ensures
     c.requires.module in
     let f = c.in-Ok.ensures.read in
@@ -38,19 +38,19 @@ returns-in-Ok-None-clause-none g c =
     under_lent (λ info. HasNoMutation c.args.rules.now c.args.bytes.now info c.args.layout.now c.args.n) (info_of c.args.config.now) c.info.result.now
     c.info.ensures
     (nothing_here c.args.rules.now c.args.bytes.now c.info.result.now c.args.layout.now c.args.n c.in-Ok.function.locals.items c.deref.result.now
-    c.in-Ok.function.operators.items c.deref-2.result.now c.args.config.now.preserving c.requires.preserving c.deref.ensures.value
+    c.in-Ok.function.operators.items c.deref-2.result.now c.deref.ensures.value
     c.deref-2.ensures.value c.in-Ok.ensures.only
     (rw c.info.ensures at (rw c.in-Ok-None.field-0-is at c.in-Ok-None.ensures.none)))
 
-pub returns-in-Err-rewrite_body_at_random-clause-refused :
-    goal.returns-in-Err-rewrite_body_at_random-clause-refused
-returns-in-Err-rewrite_body_at_random-clause-refused g c =
-    under_lent (λ info. RefusesEntry c.args.rules.now c.args.bytes.now info c.args.layout.now c.args.n (Rewrite c.in-Err-rewrite_body_at_random.e))
+pub returns-in-Err-rewrite_tree_at_random-clause-refused :
+    goal.returns-in-Err-rewrite_tree_at_random-clause-refused
+returns-in-Err-rewrite_tree_at_random-clause-refused g c =
+    under_lent (λ info. RefusesEntry c.args.rules.now c.args.bytes.now info c.args.layout.now c.args.n (Rewrite c.in-Err-rewrite_tree_at_random.e))
     (info_of c.args.config.now) c.info.result.now c.info.ensures
     (inr (refuses_function c.args.rules.now c.args.bytes.now c.info.result.now c.args.layout.now c.args.n c.in-Ok.function.locals.items
-    c.deref.result.now c.in-Ok.function.expression c.in-Ok.function.operators.items c.deref-2.result.now c.args.config.now.preserving
-    c.in-Err-rewrite_body_at_random.e c.in-Ok.ensures.read c.requires.preserving c.deref.ensures.value c.deref-2.ensures.value
-    (rw c.info.ensures at c.in-Err-rewrite_body_at_random.ensures.refused)))
+    c.deref.result.now c.in-Ok.function.expression c.in-Ok.function.operators.items c.deref-2.result.now
+    c.in-Err-rewrite_tree_at_random.e c.in-Ok.ensures.read c.deref.ensures.value c.deref-2.ensures.value
+    (rw c.info.ensures at c.in-Err-rewrite_tree_at_random.ensures.refused)))
 
 pub returns-in_err-globals-clause-refused : goal.returns-in_err-globals-clause-refused
 returns-in_err-globals-clause-refused g c =
@@ -75,10 +75,10 @@ returns-in-Ok-with_body-clause-mutated g c =
     (info_of c.args.config.now) c.info.result.now c.info.ensures (
       c.function_index.ensures,
       mutates c.args.rules.now c.args.bytes.now c.info.result.now c.args.layout.now c.args.n c.in-Ok.function.locals.items c.deref.result.now
-          c.in-Ok.function.expression c.in-Ok.function.operators.items c.deref-2.result.now c.args.config.now.preserving c.entry_at.result
-          c.in-Ok-Some.made.rewrite c.new-body.result c.rewrite_body_at_random.new.newfunc c.in-Ok-Some.made.requests.items
-          (setting_of g.R.Rng.stream c.rewrite_body_at_random.new.config) c.locals_of-locals.result.now c.bytes.result.now c.deref-4.result.now
-          c.in-Ok-with_body.new.items c.in-Ok.ensures.read c.requires.preserving c.deref.ensures.value c.deref-2.ensures.value c.new-body.ensures
+          c.in-Ok.function.expression c.in-Ok.function.operators.items c.deref-2.result.now c.entry_at.result
+          c.in-Ok-Some.made.rewrite c.new-body.result c.rewrite_tree_at_random.new.newfunc c.in-Ok-Some.made.requests.items
+          (setting_of g.R.Rng.stream c.rewrite_tree_at_random.new.config) c.locals_of-locals.result.now c.bytes.result.now c.deref-4.result.now
+          c.in-Ok-with_body.new.items c.in-Ok.ensures.read c.deref.ensures.value c.deref-2.ensures.value c.new-body.ensures
           (rw c.info.ensures at (rw c.in-Ok-Some.field-0-is at c.in-Ok-Some.ensures.rewritten)) c.entry_at.ensures c.locals_of-locals.ensures
           c.bytes.ensures (c.deref-4.ensures.value ∙ c.in_ok-globals.ensures ∙ ap (map requested) c.deref-3.ensures.value)
           c.in-Ok-with_body.ensures.written,
@@ -89,10 +89,10 @@ returns-clause-refused g c =
     under_lent (λ info. RefusesEntry c.args.rules.now c.args.bytes.now info c.args.layout.now c.args.n (Write c.in-Err-with_body.e))
     (info_of c.args.config.now) c.info.result.now c.info.ensures
     (refuses_writing c.args.rules.now c.args.bytes.now c.info.result.now c.args.layout.now c.args.n c.in-Ok.function.locals.items c.deref.result.now
-    c.in-Ok.function.expression c.in-Ok.function.operators.items c.deref-2.result.now c.args.config.now.preserving c.entry_at.result
-    c.in-Ok-Some.made.rewrite c.new-body.result c.rewrite_body_at_random.new.newfunc c.in-Ok-Some.made.requests.items
-    (setting_of g.R.Rng.stream c.rewrite_body_at_random.new.config) c.locals_of-locals.result.now c.bytes.result.now c.deref-4.result.now
-    c.in-Err-with_body.e c.in-Ok.ensures.read c.requires.preserving c.deref.ensures.value c.deref-2.ensures.value c.new-body.ensures
+    c.in-Ok.function.expression c.in-Ok.function.operators.items c.deref-2.result.now c.entry_at.result
+    c.in-Ok-Some.made.rewrite c.new-body.result c.rewrite_tree_at_random.new.newfunc c.in-Ok-Some.made.requests.items
+    (setting_of g.R.Rng.stream c.rewrite_tree_at_random.new.config) c.locals_of-locals.result.now c.bytes.result.now c.deref-4.result.now
+    c.in-Err-with_body.e c.in-Ok.ensures.read c.deref.ensures.value c.deref-2.ensures.value c.new-body.ensures
     (rw c.info.ensures at (rw c.in-Ok-Some.field-0-is at c.in-Ok-Some.ensures.rewritten)) c.entry_at.ensures c.locals_of-locals.ensures
     c.bytes.ensures (c.deref-4.ensures.value ∙ c.in_ok-globals.ensures ∙ ap (map requested) c.deref-3.ensures.value)
     (λ e. c.in-Err-with_body.ensures.too_large (ap (λ x. Err x) e)))

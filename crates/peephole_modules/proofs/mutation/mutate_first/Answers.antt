@@ -4,7 +4,7 @@ use Rattle.std.proofs.lemmas.Grind.{common_steps}
 use Rattle.mutate_base.specs.Config.{info_of}
 use Rattle.mutate_base.specs.Module.{Module}
 use Rattle.peephole_modules.specs.Mutated.{HasNoMutation, RefusesEntry}
-use Rattle.peephole_modules.proofs.BodyLemmas.{under_map}
+use Rattle.peephole_modules.proofs.MutationLemmas.{under_map}
 use Rattle.peephole_modules.proofs.ModuleLemmas.{none_next, none_to}
 use Rattle.peephole_modules.proofs.mutation.mutate_first.Goals as goal
 

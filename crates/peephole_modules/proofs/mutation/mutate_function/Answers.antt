@@ -1,7 +1,7 @@
 use Rattle.std.proofs.Common.{◌≡◌, ◌+◌, ◌-◌, ◌<◌, length, ap, refl, arith, rules}
 use Rattle.mutate_base.specs.Config.{info_of}
 use Rattle.wasm_module.specs.Module.{Layout}
-use Rattle.peephole_modules.proofs.BodyLemmas.{err_map, none_map, under_map}
+use Rattle.peephole_modules.proofs.MutationLemmas.{err_map, none_map, under_map}
 use Rattle.peephole_modules.proofs.ModuleLemmas.{none_at}
 use Rattle.peephole_modules.proofs.mutation.mutate_function.Goals as goal
 

@@ -1,6 +1,6 @@
 use Rattle.std.proofs.Common.{◌≡◌, Some, refl}
 use Rattle.mutate_base.specs.Config.{info_of}
-use Rattle.peephole_modules.proofs.BodyLemmas.{err_map, none_map, some_map}
+use Rattle.peephole_modules.proofs.MutationLemmas.{err_map, none_map, some_map}
 use Rattle.peephole_modules.proofs.ModuleLemmas.{cannot_any, cannot_one, mutated_any, mutated_one, refuses_any, refuses_one}
 use Rattle.peephole_modules.proofs.mutation.mutate_module.Goals as goal
 

@@ -1,15 +1,20 @@
 use Rattle.peephole_rules.proofs.OrderLemmas.{commute_keeps, turn_comparison_keeps}
-use Rattle.peephole_rules.proofs.NeutralLemmas.{add_zero_keeps, sub_zero_keeps, mul_one_keeps, or_zero_keeps, xor_zero_keeps, shift_by_zero_keeps}
+use Rattle.peephole_rules.proofs.NeutralLemmas.{add_zero_keeps, sub_zero_keeps, mul_one_keeps, or_zero_keeps, xor_zero_keeps, shift_by_zero_keeps, shr_s_by_zero_keeps, shr_u_by_zero_keeps, rotl_by_zero_keeps, rotr_by_zero_keeps}
 use Rattle.peephole_rules.proofs.TwiceLemmas.{or_self_keeps, and_self_keeps}
 use Rattle.peephole_rules.proofs.WayLemmas.{by_way_of_global_keeps, as_a_sum_keeps, with_nop_keeps}
 use Rattle.peephole_rules.proofs.GroupLemmas.{associate_left_keeps, associate_right_keeps}
-use Rattle.peephole_rules.proofs.ConstantLemmas.{test_to_comparison_keeps, comparison_to_test_keeps, drop_add_zero_keeps, drop_sub_zero_keeps, drop_mul_one_keeps, drop_or_zero_keeps, drop_xor_zero_keeps, drop_shift_by_zero_keeps, and_ones_keeps, drop_and_ones_keeps, double_complement_keeps, difference_to_sum_keeps, sum_to_difference_keeps, shift_to_product_keeps, product_to_shift_keeps}
+use Rattle.peephole_rules.proofs.ConstantLemmas.{test_to_comparison_keeps, comparison_to_test_keeps, drop_add_zero_keeps, drop_sub_zero_keeps, drop_mul_one_keeps, drop_or_zero_keeps, drop_xor_zero_keeps, drop_shift_by_zero_keeps, and_ones_keeps, drop_and_ones_keeps, double_complement_keeps, difference_to_sum_keeps, sum_to_difference_keeps, shift_to_product_keeps, product_to_shift_keeps, drop_shr_s_by_zero_keeps, drop_shr_u_by_zero_keeps, drop_rotl_by_zero_keeps, drop_rotr_by_zero_keeps, quotient_to_shift_keeps, shift_to_quotient_keeps, remainder_to_mask_keeps, mask_to_remainder_keeps, rotl_to_rotr_keeps, rotr_to_rotl_keeps}
 use Rattle.peephole_rules.proofs.SelectLemmas.{turn_select_keeps}
 use Rattle.peephole_rules.proofs.TrapLemmas.{ends_without_trap}
 use Rattle.peephole_rules.proofs.ForgetLemmas.{forget_keeps}
 use Rattle.peephole_rules.proofs.FoldLemmas.{fold_keeps}
 use Rattle.peephole_rules.proofs.RewriteLemmas.{rewrite_keeps}
 use Rattle.peephole_rules.proofs.laws.rules_keep_meaning.Goals as goal
+use Rattle.peephole_rules.proofs.DoubleLemmas.{product_to_double_keeps, shift_to_double_keeps}
+use Rattle.peephole_rules.proofs.ElementLemmas.{and_zero_keeps, mul_zero_keeps, or_ones_keeps, drop_and_zero_keeps, drop_mul_zero_keeps, drop_or_ones_keeps}
+use Rattle.peephole_rules.proofs.NegationLemmas.{negate_comparison_keeps, difference_to_tests_keeps, wrap_extended_keeps, drop_negation_keeps}
+use Rattle.peephole_rules.proofs.DistributionLemmas.{distribute_product_keeps, distribute_mask_keeps, complement_of_and_keeps, complement_of_or_keeps}
+use Rattle.peephole_rules.proofs.ExtensionLemmas.{extension_to_shifts_keeps}
 
 pub returns : goal.returns
 returns c =
@@ -51,5 +56,36 @@ returns c =
       shift_to_product_keeps = shift_to_product_keeps rows sound agreement;
       product_to_shift_keeps = product_to_shift_keeps rows sound agreement;
       fold_keeps = fold_keeps rows sound agreement;
+      shr_s_by_zero_keeps = shr_s_by_zero_keeps rows sound agreement;
+      shr_u_by_zero_keeps = shr_u_by_zero_keeps rows sound agreement;
+      rotl_by_zero_keeps = rotl_by_zero_keeps rows sound agreement;
+      rotr_by_zero_keeps = rotr_by_zero_keeps rows sound agreement;
+      drop_shr_s_by_zero_keeps = drop_shr_s_by_zero_keeps rows sound agreement;
+      drop_shr_u_by_zero_keeps = drop_shr_u_by_zero_keeps rows sound agreement;
+      drop_rotl_by_zero_keeps = drop_rotl_by_zero_keeps rows sound agreement;
+      drop_rotr_by_zero_keeps = drop_rotr_by_zero_keeps rows sound agreement;
+      quotient_to_shift_keeps = quotient_to_shift_keeps rows sound agreement;
+      shift_to_quotient_keeps = shift_to_quotient_keeps rows sound agreement;
+      remainder_to_mask_keeps = remainder_to_mask_keeps rows sound agreement;
+      mask_to_remainder_keeps = mask_to_remainder_keeps rows sound agreement;
+      rotl_to_rotr_keeps = rotl_to_rotr_keeps rows sound agreement;
+      rotr_to_rotl_keeps = rotr_to_rotl_keeps rows sound agreement;
+      product_to_double_keeps = product_to_double_keeps rows sound agreement;
+      shift_to_double_keeps = shift_to_double_keeps rows sound agreement;
+      and_zero_keeps = and_zero_keeps rows sound agreement;
+      mul_zero_keeps = mul_zero_keeps rows sound agreement;
+      or_ones_keeps = or_ones_keeps rows sound agreement;
+      drop_and_zero_keeps = drop_and_zero_keeps rows sound agreement;
+      drop_mul_zero_keeps = drop_mul_zero_keeps rows sound agreement;
+      drop_or_ones_keeps = drop_or_ones_keeps rows sound agreement;
+      negate_comparison_keeps = negate_comparison_keeps rows sound agreement;
+      difference_to_tests_keeps = difference_to_tests_keeps rows sound agreement;
+      wrap_extended_keeps = wrap_extended_keeps rows sound agreement;
+      drop_negation_keeps = drop_negation_keeps rows sound agreement;
+      distribute_product_keeps = distribute_product_keeps rows sound agreement;
+      distribute_mask_keeps = distribute_mask_keeps rows sound agreement;
+      complement_of_and_keeps = complement_of_and_keeps rows sound agreement;
+      complement_of_or_keeps = complement_of_or_keeps rows sound agreement;
+      extension_to_shifts_keeps = extension_to_shifts_keeps rows sound agreement;
       rewrite_keeps = rewrite_keeps rows sound agreement;
     }

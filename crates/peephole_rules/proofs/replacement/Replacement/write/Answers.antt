@@ -3,7 +3,7 @@ use Rattle.peephole_lang.specs.Node.{head_of, children_of}
 use Rattle.peephole_lang.specs.Term.{tree_at}
 use Rattle.peephole_rules.specs.Grafted.{expression_nodes, term_over}
 use Rattle.peephole_rules.specs.Replacement.{CanReplace}
-use Rattle.peephole_rules.proofs.WrittenLemmas.{swap_two, turn_two, select_three}
+use Rattle.peephole_rules.proofs.WrittenLemmas.{swap_two, turn_two, select_three, negated_two, inner_two, distributed_two}
 use Rattle.peephole_rules.proofs.replacement.Replacement.write.Goals as goal
 
 pub write_swapped-requires-clause-two : goal.write_swapped-requires-clause-two
@@ -18,3 +18,18 @@ write_turned-requires-clause-two c = turn_two (head_of c.args.node.now) (tree_at
 pub write_turned_select-requires-clause-three : goal.write_turned_select-requires-clause-three
 write_turned_select-requires-clause-three c = select_three (head_of c.args.node.now) (tree_at (expression_nodes c.args.expr.now)) (children_of c.args.node.now)
     (subst (λ r. CanReplace r (term_over (tree_at (expression_nodes c.args.expr.now)) c.args.node.now)) c.in-TurnSelect.is c.requires.fits)
+
+pub write_negated-requires-clause-two : goal.write_negated-requires-clause-two
+write_negated-requires-clause-two c = negated_two (head_of c.args.node.now) (tree_at (expression_nodes c.args.expr.now)) c.in-Negated.byte
+    (children_of c.args.node.now)
+    (subst (λ r. CanReplace r (term_over (tree_at (expression_nodes c.args.expr.now)) c.args.node.now)) c.in-Negated.is c.requires.fits)
+
+pub write_inner_by-requires-clause-two : goal.write_inner_by-requires-clause-two
+write_inner_by-requires-clause-two c = inner_two (head_of c.args.node.now) (tree_at (expression_nodes c.args.expr.now)) c.in-InnerBy.byte
+    (children_of c.args.node.now)
+    (subst (λ r. CanReplace r (term_over (tree_at (expression_nodes c.args.expr.now)) c.args.node.now)) c.in-InnerBy.is c.requires.fits)
+
+pub write_distributed-requires-clause-two : goal.write_distributed-requires-clause-two
+write_distributed-requires-clause-two c = distributed_two (head_of c.args.node.now) (tree_at (expression_nodes c.args.expr.now)) c.in-Distribute.outer
+    c.in-Distribute.inner c.in-Distribute.t c.in-Distribute.number (children_of c.args.node.now)
+    (subst (λ r. CanReplace r (term_over (tree_at (expression_nodes c.args.expr.now)) c.args.node.now)) c.in-Distribute.is c.requires.fits)

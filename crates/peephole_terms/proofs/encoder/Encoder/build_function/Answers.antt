@@ -1,13 +1,13 @@
-use Rattle.std.proofs.Common.{ℕ, take, ap, sym, refl, Some, Ok, Err, ◌∙◌}
+use Rattle.std.proofs.Common.{ℕ, take, ap, sym, subst, refl, Some, Ok, Err, ◌∙◌}
 use Rattle.std.proofs.lemmas.Bool.{false≢true}
 use Rattle.mutate_base.specs.Config.{info_of}
 use Rattle.peephole_graphs.specs.Dfg.{graph_of}
 use Rattle.peephole_graphs.specs.GraphOf.{IsGraphOf}
 use Rattle.peephole_graphs.specs.Source.{source_of}
-use Rattle.peephole_terms.specs.EncoderSteps.{writing_of}
+use Rattle.peephole_terms.specs.EncoderSteps.{IsInside, writing_of}
 use Rattle.peephole_terms.specs.Expansion.{Setting, term_in}
-use Rattle.peephole_terms.specs.Written.{Site, site_at, source_at}
-use Rattle.peephole_terms.proofs.ReadAgainLemmas.{inside}
+use Rattle.peephole_terms.specs.Written.{Site, site_at, source_at, before_block, after_block}
+use Rattle.peephole_terms.proofs.ReadAgainLemmas.{block_before_last, inside, piece_is}
 use Rattle.peephole_terms.proofs.EncoderLemmas.{walkable, order_kept, order_refused, wrote, not_for_order}
 use Rattle.peephole_terms.proofs.SettingLemmas.{setting, is_set_up, body_given, body_done, body_refused}
 use Rattle.peephole_terms.proofs.AgainLemmas.{body_again, body_reread}
@@ -17,7 +17,11 @@ use Rattle.peephole_terms.proofs.encoder.Encoder.build_function.Goals.{else-pres
 use Rattle.peephole_terms.proofs.encoder.Encoder.build_function.Goals as goal
 
 pub outside-requires : goal.outside-requires
-outside-requires g c = inside _ _ _ c.requires.body c.requires.block
+outside-requires g c =
+    let operators = c.args.operators.now in
+    let block = c.args.basicblock.now in
+    subst (IsInside c.args.input_wasm.now operators) (sym (piece_is block c.range.ensures.start c.range.ensures.end))
+    (inside c.args.input_wasm.now operators block c.requires.body (block_before_last operators block c.requires.body c.requires.block))
 
 pub write_body-requires-clause-walkable : goal.write_body-requires-clause-walkable
 write_body-requires-clause-walkable g c =
@@ -37,9 +41,12 @@ returns-in-Ok g c =
     let site : Site = site_at c.args.input_wasm.now c.args.operators.now c.args.basicblock.now c.args.insertion_point in
     let graph = graph_of c.args.dfg.now in
     let is_graph : IsGraphOf (source_at s.info preserving site) graph = rw c.info.ensures at c.requires.graph in
+    let block = piece_is site.block c.range.ensures.start c.range.ensures.end in
     let v = writing_of c.write_body.new.newfunc c.write_body.new.requests.items (g.R.Rng.stream c.write_body.new.rng) in
     let w = body_done s preserving site graph (term_in c.args.expr.now) is_graph c.args.newfunc.now v
-    (body_given c.args.insertion_point graph c.get_global_count-globals.ensures c.outside.ensures.before c.outside.ensures.after
+    (body_given c.args.insertion_point graph c.get_global_count-globals.ensures
+    (c.outside.ensures.before ∙ ap (before_block site.input site.operators) block)
+    (c.outside.ensures.after ∙ ap (after_block site.input site.operators) block)
     (ap term_in c.as_ref.ensures.nodes) c.new-requests.ensures.items c.in-Ok.ensures) in
     rw (is_set_up c.args.config.now c.info.result.now c.rng-rng.result.now c.info.ensures c.rng-rng.ensures.value) (record {
       written = w.body;
@@ -66,8 +73,11 @@ returns-in-Err g c =
     let site : Site = site_at c.args.input_wasm.now c.args.operators.now c.args.basicblock.now c.args.insertion_point in
     let graph = graph_of c.args.dfg.now in
     let is_graph : IsGraphOf (source_at s.info preserving site) graph = rw c.info.ensures at c.requires.graph in
+    let block = piece_is site.block c.range.ensures.start c.range.ensures.end in
     let v = writing_of c.write_body.new.newfunc c.write_body.new.requests.items (g.R.Rng.stream c.write_body.new.rng) in
-    let done = body_given c.args.insertion_point graph c.get_global_count-globals.ensures c.outside.ensures.before c.outside.ensures.after
+    let done = body_given c.args.insertion_point graph c.get_global_count-globals.ensures
+    (c.outside.ensures.before ∙ ap (before_block site.input site.operators) block)
+    (c.outside.ensures.after ∙ ap (after_block site.input site.operators) block)
     (ap term_in c.as_ref.ensures.nodes) c.new-requests.ensures.items c.in-Err.ensures in
     rw (is_set_up c.args.config.now c.info.result.now c.rng-rng.result.now c.info.ensures c.rng-rng.ensures.value) (record {
       written = tt;

@@ -1,0 +1,69 @@
+//! A code entry, drawn by its size.
+ghost use Rattle.std.specs.Prelude.{◌≡◌, ◌<◌, ◌≤◌, ◌^◌, length, IfNone, IfSome, IsTrue, is_some};
+ghost use Rattle.std.specs.List.{sum_by};
+ghost use Rattle.mutate_base.specs.Config.{ChangesGeneratorAlone};
+ghost use Rattle.peephole_modules.specs.Drawing.{ContainsByte, contents_length};
+
+use mutate_base::WasmMutate;
+use rand_core::Rng;
+use wasm_module::{Entry, Layout};
+
+// A number below `count`, by a word drawn from the generator. Condition: there is one.
+fn choose_below<R: Rng + Drop>(config: &mut WasmMutate<'_, R>, count: usize) -> usize
+    requires set_up { IsTrue (is_some config.old.setup) }
+    requires some { 0 < count }
+    ensures below { result < count }
+    ensures unchanged { ChangesGeneratorAlone config.old config.new }
+{
+    let word = config.rng().next_u64();
+    (word % count as u64) as usize
+}
+
+// How many bytes the entry contains.
+fn size_of_entry(entry: &Entry) -> usize
+    ensures { result ≡ contents_length entry.now }
+{
+    entry.end.saturating_sub(entry.contents)
+}
+
+// How many bytes the entries contain.
+fn size_of_entries(entries: &[Entry]) -> usize
+    ensures { sum_by contents_length entries.now < 2 ^ 64
+        → result ≡ sum_by contents_length entries.now }
+{
+    let mut size: usize = 0;
+    for entry in entries {
+        size = size.saturating_add(size_of_entry(entry));
+    }
+    size
+}
+
+// The index of the entry that contains the byte with this number, of all bytes that entries contain; none where there are fewer.
+fn entry_of_byte(entries: &[Entry], byte: usize) -> Option<usize>
+    ensures contains { IfSome result (λ n. ContainsByte entries.now n byte) }
+    ensures none { IfNone result (sum_by contents_length entries.now ≤ byte) }
+{
+    let mut left = byte;
+    for n in 0..entries.len() {
+        let size = size_of_entry(&entries[n]);
+        if left < size {
+            return Some(n);
+        }
+        left -= size;
+    }
+    None
+}
+
+/// The index of a code entry that is drawn by its size: a word drawn from the generator, modulo the number of bytes that all entries
+/// contain, names one of these bytes, and so the entry that contains it. The first one where no entry contains any. Condition:
+/// there is an entry.
+pub(crate) fn draw_entry<R: Rng + Drop>(config: &mut WasmMutate<'_, R>, layout: &Layout) -> usize
+    requires set_up { IsTrue (is_some config.old.setup) }
+    requires some { 0 < length layout.now.entries }
+    ensures inside { result < length layout.now.entries }
+    ensures unchanged { ChangesGeneratorAlone config.old config.new }
+{
+    let count = size_of_entries(&layout.entries);
+    let byte = choose_below(config, count.max(1));
+    entry_of_byte(&layout.entries, byte).unwrap_or(0)
+}

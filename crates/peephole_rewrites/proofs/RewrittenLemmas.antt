@@ -1,0 +1,169 @@
+-- The body with a rewritten tree, under the configuration's setting.
+use Rattle.std.proofs.Common.{◌≡◌, ℕ, zero, suc, ◌+◌, ◌<◌, ◌≤◌, ◌⊎◌, inl, inr, List, [], ◌∷◌, length, map, false, Option, Some, None, sym, ap, subst, ◌∙◌, arith}
+use Rattle.std.specs.Prelude.{IsTrue, IfSome, Contains, option_map, slice_get}
+use Rattle.std.proofs.lemmas.Bool.{false≢true}
+use Rattle.rand_core.specs.Stream.{Stream}
+use Rattle.wasm_code.specs.Body.{is_end, ends}
+use Rattle.wasm_code.specs.Instruction.{Instruction}
+use Rattle.wasm_code.specs.declared.operator.Operator.{Operator}
+use Rattle.wasm_code.specs.declared.operator.Operator.TheVariants.{Instr}
+use Rattle.mutate_base.specs.Config.{Setup}
+use Rattle.mutate_base.specs.Module.{Module}
+use Rattle.mutate_base.specs.declared.error.Error.{Error}
+use Rattle.mutate_base.specs.declared.error.Error.TheVariants.{Memory}
+use Rattle.mutate_base.specs.declared.types.PrimitiveTypeInfo.{PrimitiveTypeInfo}
+use Rattle.peephole_lang.specs.declared.lang.Head.{Head}
+use Rattle.peephole_lang.specs.Term.{Term, absent, node}
+use Rattle.peephole_machine.specs.Values.{context_in}
+use Rattle.peephole_rules.specs.declared.rule.Rule.{Rule}
+use Rattle.peephole_terms.specs.declared.encoder.request.ResourceRequest.{ResourceRequest}
+use Rattle.peephole_terms.specs.Expansion.{Setting, Refuses, expansion_in, requests_of, request, after_term, term_in}
+use Rattle.peephole_terms.specs.Spliced.{AppendsSpliced}
+use Rattle.peephole_terms.specs.StackCode.{words_for}
+use Rattle.peephole_terms.specs.Written.{IsBodyIn}
+use Rattle.peephole_rewrites.specs.declared.rewrite.Rewrite.{Rewrite}
+use Rattle.peephole_rewrites.specs.declared.tree.MadeTree.{MadeTree}
+use Rattle.peephole_rewrites.specs.Made.{IsMadeTree, HasLargeTree}
+use Rattle.peephole_rewrites.specs.PlainTypes.{plain_types, PlainTypesAreTypes}
+use Rattle.peephole_rewrites.specs.Rewriting.{IsTree, IsMade, AppendsRewritten, RefusesRewrite, AreTheRewrites, AppendsChosen, RefusesChosen}
+use Rattle.peephole_rewrites.proofs.TreesLemmas.{its_value, parts_of}
+
+-- ---- something stands behind the tree
+
+no_end : (o : Operator) (i : Instruction) → o ≡ Instr i → is_end o ≡ false
+no_end o i e = ap is_end e
+
+behind_instruction : (operators : List (Operator × ℕ)) (at : ℕ) (i : Instruction) →
+    slice_get (map (λ (o : Operator × ℕ). o.0) operators) at ≡ Some (Instr i) → IsTrue (ends operators) → at + 1 < length operators
+behind_instruction [] at i e h = absurd (false≢true h)
+behind_instruction (x ∷ []) zero i e h = absurd (false≢true (sym (no_end x.0 i cc) ∙ h))
+behind_instruction (x ∷ []) (suc at) i e h = absurd cc
+behind_instruction (x ∷ y ∷ os) zero i e h = omega arith
+behind_instruction (x ∷ y ∷ os) (suc at) i e h = let n = behind_instruction (y ∷ os) at i e h in omega arith
+
+tree_inside : (locals : List PrimitiveTypeInfo) (m : Module) (input : List ℕ) (operators : List (Operator × ℕ)) (at : ℕ) (t : Term Head) →
+    IsBodyIn input operators → (s : IsTree (context_in m locals) operators at t) → (s.start ≤ at + 1) × (at + 1 < length operators)
+tree_inside locals m input operators at absent b s = absurd (false≢true s.typed)
+tree_inside locals m input operators at (node h kids) b s =
+    let parts = parts_of (context_in m locals) operators at h kids s in
+    let within = parts.within in (
+      omega arith,
+      behind_instruction operators at parts.typed.instruction
+          (parts.operator ∙ ap (option_map (λ (i : Instruction). Instr i)) parts.typed.is) b.spells.last,
+    )
+
+pub made_inside : (locals : List PrimitiveTypeInfo) (m : Module) (input : List ℕ) (operators : List (Operator × ℕ)) (r : Rewrite) (made : MadeTree) →
+    IsBodyIn input operators → IsMadeTree (context_in m locals) operators r made → (made.start ≤ r.operator + 1) × (r.operator + 1 < length operators)
+made_inside locals m input operators r made b i =
+    let (ordered, inside) = tree_inside locals m input operators r.operator i.makes.tree b i.makes.is in
+    let start = i.start in
+    (omega arith, inside)
+
+-- ---- of a setting
+
+some_inj : {A : Type 0} (x y : A) → Some x ≡ Some y → x ≡ y
+some_inj x y e = cc
+
+abbrev set_up : {R : Type 0} → (R → Stream) → Option (Setup Module R) → Option Setting
+set_up stream setup = option_map (λ s. record { info = s.info; stream = stream s.generator }) setup
+
+abbrev info_in : {R : Type 0} → Option (Setup Module R) → Option Module
+info_in setup = option_map (λ s. s.info) setup
+
+appended_at : PlainTypesAreTypes → (locals : List PrimitiveTypeInfo) (s : Setting) (input : List ℕ) (operators : List (Operator × ℕ)) (r : Rewrite)
+    (made : MadeTree) (m : IsMadeTree (context_in s.info locals) operators r made) (old grown : List ℕ) (requests : List ResourceRequest)
+    (left : Option Setting) → AppendsSpliced s input operators m.makes.is.start (r.operator + 1) (term_in made.expr) old grown →
+    requests ≡ map request (requests_of (term_in made.expr)) → left ≡ Some (after_term s (term_in made.expr)) →
+    AppendsRewritten locals s input operators r old grown requests left
+appended_at plain locals s input operators r made m old grown requests left w asks behind =
+    let context = context_in s.info locals in
+    let tree = m.makes.tree in
+    let (list, typed) = its_value (plain_types context tree) m.makes.is.typed in
+    let types = plain context list tree typed in
+    let agree = m.stands list types.0 types.1 [] (words_for s (term_in made.expr)) in
+    let runs = w.runs locals tree m.makes.is.stands agree in
+    record {
+      term = term_in made.expr;
+      makes = m.makes;
+      typed_alike = agree.second_types ∙ sym agree.first_types;
+      written = w;
+      asks = asks;
+      behind = behind;
+      every_run = runs.0;
+      its_run = runs.1;
+    }
+
+module _ {R : Type 0} (stream : R → Stream) (locals : List PrimitiveTypeInfo) (m : Module) (operators : List (Operator × ℕ)) (r : Rewrite) where
+  pub rewritten_appended : PlainTypesAreTypes → (setup : Option (Setup Module R)) (input : List ℕ) (made : MadeTree) (old grown : List ℕ)
+      (requests : List ResourceRequest) (left : Option Setting) → info_in setup ≡ Some m → IsMadeTree (context_in m locals) operators r made →
+      IfSome (set_up stream setup) (λ s. AppendsSpliced s input operators made.start (r.operator + 1) (term_in made.expr) old grown) →
+      requests ≡ map request (requests_of (term_in made.expr)) →
+      IfSome (set_up stream setup) (λ s. left ≡ Some (after_term s (term_in made.expr))) →
+      IfSome (set_up stream setup) (λ s. AppendsRewritten locals s input operators r old grown requests left)
+  rewritten_appended plain None input made old grown requests left is makes w asks behind = tt
+  rewritten_appended plain (Some s) input made old grown requests left is makes w asks behind =
+      let here = subst (λ (k : Module). IsMadeTree (context_in k locals) operators r made) (sym (some_inj s.info m is)) makes in
+      let setting : Setting = record { info = s.info; stream = stream s.generator } in
+      appended_at plain locals setting input operators r made here old grown requests left
+      (subst (λ k. AppendsSpliced setting input operators k (r.operator + 1) (term_in made.expr) old grown) here.start w) asks behind
+
+  pub written_refused : (setup : Option (Setup Module R)) (made : MadeTree) (e : Error) → info_in setup ≡ Some m →
+      IsMadeTree (context_in m locals) operators r made → IfSome (set_up stream setup) (λ s. Refuses (expansion_in s (term_in made.expr)) e) →
+      IfSome (set_up stream setup) (λ s. RefusesRewrite locals s operators r e)
+  written_refused None made e is makes refuses = tt
+  written_refused (Some s) made e is makes refuses =
+      let here = subst (λ (k : Module). IsMadeTree (context_in k locals) operators r made) (sym (some_inj s.info m is)) makes in
+      inr (inr (term_in made.expr, here.makes, refuses))
+
+  pub rule_refused : (setup : Option (Setup Module R)) (e : Error) → info_in setup ≡ Some m →
+      (e ≡ Memory) ⊎ HasLargeTree (context_in m locals) operators r.operator e →
+      IfSome (set_up stream setup) (λ s. RefusesRewrite locals s operators r e)
+  rule_refused None e is why = tt
+  rule_refused (Some s) e is (inl h) = inl h
+  rule_refused (Some s) e is (inr h) =
+      inr (inl (subst (λ (k : Module). HasLargeTree (context_in k locals) operators r.operator e) (sym (some_inj s.info m is)) h))
+
+  pub none_here : (setup : Option (Setup Module R)) → info_in setup ≡ Some m → (IsMade (context_in m locals) operators r → ⊥) →
+      IfSome (info_in setup) (λ info. IsMade (context_in info locals) operators r → ⊥)
+  none_here None is never = tt
+  none_here (Some s) is never =
+      subst (λ (k : Module). IsMade (context_in k locals) operators r → ⊥) (sym (some_inj s.info m is)) never
+
+-- ---- of a rewrite that was chosen
+
+module _ {R : Type 0} (locals : List PrimitiveTypeInfo) (m : Module) (rules : List Rule) (operators : List (Operator × ℕ)) (list : List Rewrite)
+    (all : AreTheRewrites (context_in m locals) rules operators list) where
+  -- so it is under the configuration's module
+  pub none_listed : (setup : Option (Setup Module R)) → info_in setup ≡ Some m →
+      IfSome (info_in setup) (λ info. AreTheRewrites (context_in info locals) rules operators list)
+  none_listed None is = tt
+  none_listed (Some s) is = subst (λ (k : Module). AreTheRewrites (context_in k locals) rules operators list) (sym (some_inj s.info m is)) all
+
+  -- what is in the list can be made, in the configuration as it is left
+  pub can_be_made : (before after : Option (Setup Module R)) (r : Rewrite) → info_in before ≡ Some m → info_in after ≡ info_in before →
+      Contains list r → IfSome (info_in after) (λ info. IsMade (context_in info locals) operators r → ⊥) → ⊥
+  can_be_made before None r is same h never = absurd (let none : None ≡ Some m = same ∙ is in cc)
+  can_be_made before (Some t) r is same h never =
+      never (subst (λ (k : Module). IsMade (context_in k locals) operators r) (sym (some_inj t.info m (same ∙ is))) ((all r).0 h).1)
+
+  pub chosen_appended : (stream : R → Stream) (before after : Option (Setup Module R)) (input : List ℕ) (r : Rewrite) (old grown : List ℕ)
+      (requests : List ResourceRequest) (left : Option Setting) → info_in after ≡ info_in before → Contains list r →
+      IfSome (set_up stream after) (λ s. AppendsRewritten locals s input operators r old grown requests left) →
+      IfSome (info_in before) (λ info. AppendsChosen locals info rules input operators r old grown requests left)
+  chosen_appended stream None after input r old grown requests left same h w = tt
+  chosen_appended stream (Some s) None input r old grown requests left same h w = absurd cc
+  chosen_appended stream (Some s) (Some t) input r old grown requests left same h w =
+      (((all r).0 h).0, (record { info = t.info; stream = stream t.generator }, some_inj t.info s.info same, w))
+
+  pub chosen_refused : (stream : R → Stream) (before after : Option (Setup Module R)) (r : Rewrite) (e : Error) → info_in after ≡ info_in before →
+      Contains list r → IfSome (set_up stream after) (λ s. RefusesRewrite locals s operators r e) →
+      IfSome (info_in before) (λ info. RefusesChosen locals info rules operators e)
+  chosen_refused stream None after r e same h w = tt
+  chosen_refused stream (Some s) None r e same h w = absurd cc
+  chosen_refused stream (Some s) (Some t) r e same h w =
+      inr (r, ((all r).0 h).0, (record { info = t.info; stream = stream t.generator }, some_inj t.info s.info same, w))
+
+pub memory_refused : {R : Type 0} (setup : Option (Setup Module R)) (locals : List PrimitiveTypeInfo) (rules : List Rule)
+    (operators : List (Operator × ℕ)) (e : Error) → e ≡ Memory → IfSome (info_in setup) (λ info. RefusesChosen locals info rules operators e)
+memory_refused None locals rules operators e is = tt
+memory_refused (Some s) locals rules operators e is = inl is

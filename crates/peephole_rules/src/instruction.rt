@@ -1,0 +1,165 @@
+//! What rules read of a term, from its root's instruction and from what was read of its operands.
+ghost use Rattle.std.specs.Prelude.{◌≡◌, [], option_and_then};
+ghost use Rattle.wasm_code.specs.declared.immediate.Imm.{Imm};
+ghost use Rattle.peephole_lang.specs.declared.lang.Head.{Head};
+ghost use Rattle.peephole_lang.specs.Node.{instr_of_head};
+ghost use Rattle.peephole_machine.specs.Values.{context_in};
+ghost use Rattle.peephole_machine.specs.ResultColumn.{column_type};
+ghost use Rattle.peephole_machine.specs.Row.{list_of};
+ghost use Rattle.peephole_rules.specs.ValueTypes.{integer_of, head_type};
+ghost use Rattle.peephole_rules.specs.Instruction.{constant_by, number_read, both_values, listed, alone_read, with_operand, with_operands};
+
+use crate::operator::{is_value, traps_by, writes_by};
+use crate::shape::{Operand, Operands, Shape};
+use crate::value_types::integer_of;
+use mutate_base::{ModuleInfo, PrimitiveTypeInfo};
+use peephole_machine::{IntegerType, asks_world, column_type, opcode_byte};
+use wasm_code::{Imm, Instr};
+
+/// The type of the value that a term with this instruction at its root leaves, where the result column of the instruction's row
+/// tells it whatever its operands are: this is what `Shape::of_instr` asks of the first operand (WebAssembly Core Specification
+/// 3.0, Validation, Instructions).
+pub fn own_type(
+    locals: &[PrimitiveTypeInfo],
+    info: &ModuleInfo<'_>,
+    instr: &Instr,
+) -> Option<PrimitiveTypeInfo>
+    ensures { (h : Head) → instr_of_head h ≡ Some instr.now
+        → result ≡ head_type (context_in info.now locals.now) [] h }
+{
+    column_type(info, locals, instr, None)
+}
+
+// The type of the value that an instruction leaves, where it is i32 or i64 and its column tells it.
+fn integer_type(
+    locals: &[PrimitiveTypeInfo],
+    info: &ModuleInfo<'_>,
+    instr: &Instr,
+    first: Option<PrimitiveTypeInfo>,
+) -> Option<IntegerType>
+    ensures { result ≡ option_and_then integer_of
+        (column_type (context_in info.now locals.now) instr.now (list_of first)) }
+{
+    integer_of(column_type(info, locals, instr, first)?)
+}
+
+// The number of a constant of the type, by its row and immediate.
+fn constant_by(t: IntegerType, row: u16, imm: Imm) -> Option<u64>
+    ensures { result ≡ constant_by t row imm }
+{
+    match (t, imm, row) {
+        (IntegerType::I32, Imm::I32(number), 36) => Some(number.cast_unsigned() as u64),
+        (IntegerType::I64, Imm::I64(number), 37) => Some(number.cast_unsigned()),
+        _ => None,
+    }
+}
+
+// That of an instruction on these operands, of which a constant has none.
+fn number_read(t: IntegerType, instr: &Instr, operands: &[Operand]) -> Option<u64>
+    ensures { result ≡ number_read t instr.now operands.now }
+{
+    match operands {
+        [] => constant_by(t, instr.row(), instr.imm()),
+        _ => None,
+    }
+}
+
+// Of two operands, whether each leaves one value.
+fn both_values(operands: &[Operand]) -> Option<(bool, bool)>
+    ensures { result ≡ both_values operands.now }
+{
+    match operands {
+        [x, y] => Some((x.one_value, y.one_value)),
+        _ => None,
+    }
+}
+
+// The operands, of which rules see up to three.
+fn listed(operands: &[Operand]) -> Operands
+    ensures { result ≡ listed operands.now }
+{
+    match operands {
+        [] => Operands::Leaf,
+        [x] => Operands::One(*x),
+        [x, y] => Operands::Two(*x, *y),
+        [x, y, z] => Operands::Three(*x, *y, *z),
+        _ => Operands::More,
+    }
+}
+
+// What is read of the instruction's term, but for what its operands may do.
+fn alone_read(instr: &Instr, operands: &[Operand]) -> Operand
+    ensures { result ≡ alone_read instr.now operands.now }
+{
+    let opcode = opcode_byte(instr);
+    Operand {
+        opcode,
+        i32_number: number_read(IntegerType::I32, instr, operands),
+        i64_number: number_read(IntegerType::I64, instr, operands),
+        one_value: is_value(instr),
+        writes: writes_by(opcode, instr),
+        may_trap: traps_by(opcode, instr),
+        asks: asks_world(instr),
+        values: both_values(operands),
+    }
+}
+
+// The term may do what its operand may.
+fn with_operand(root: Operand, x: Operand) -> Operand
+    ensures { result ≡ with_operand root x }
+{
+    Operand {
+        writes: root.writes || x.writes,
+        may_trap: root.may_trap || x.may_trap,
+        asks: root.asks || x.asks,
+        ..root
+    }
+}
+
+// The term may do what one of its operands may.
+fn with_operands(alone: Operand, operands: &[Operand]) -> Operand
+    ensures { result ≡ with_operands alone operands.now }
+{
+    let mut root = alone;
+    for x in operands {
+        root = with_operand(root, *x);
+    }
+    root
+}
+
+impl Shape {
+    ghost use Rattle.peephole_lang.specs.Term.{Term, Terms, node};
+    ghost use Rattle.peephole_machine.specs.Values.{Context};
+    ghost use Rattle.peephole_rules.specs.ValueTypes.{first_types};
+    ghost use Rattle.peephole_rules.specs.Shape.{operand_of, shape_of};
+    ghost use Rattle.peephole_rules.specs.Instruction.{operands_read};
+
+    /// What rules read of the term of an instruction on operands of which this was read, the first operand first. `first` is the
+    /// type of the first operand's value, where the operand's own column of results tells it, as `own_type` says of its instruction.
+    pub fn of_instr(
+        locals: &[PrimitiveTypeInfo],
+        info: &ModuleInfo<'_>,
+        instr: &Instr,
+        first: Option<PrimitiveTypeInfo>,
+        operands: &[Operand],
+    ) -> Shape
+        ensures { (h : Head) (kids : Terms Head) → instr_of_head h ≡ Some instr.now
+            → list_of first ≡ first_types (context_in info.now locals.now) kids
+            → operands.now ≡ operands_read kids
+            → result ≡ shape_of (context_in info.now locals.now) (node h kids) }
+    {
+        Shape {
+            value: integer_type(locals, info, instr, first),
+            root: with_operands(alone_read(instr, operands), operands),
+            operands: listed(operands),
+        }
+    }
+
+    /// What rules read of the term where it is an operand.
+    pub fn operand(&self) -> Operand
+        ensures { (context : Context) (t : Term Head)
+            → self.now ≡ shape_of context t → result ≡ operand_of t }
+    {
+        self.root
+    }
+}
