@@ -127,10 +127,6 @@ pub none_at : (context : Context) (rules : List Rule) (operators : List (Operato
     ((r : Rewrite) → r.operator ≡ at → IsMade context operators r → ⊥) → Grows a a (IsAt context rules operators at)
 none_at context rules operators at a never = grows_none a (IsAt context rules operators at) (λ r h. never r h.operator h.made)
 
-pub body_start : (context : Context) (rules : List Rule) (operators : List (Operator × ℕ)) (a : List Rewrite) →
-    Grows a a (IsBefore context rules operators 0)
-body_start context rules operators a = grows_none a (IsBefore context rules operators 0) (λ r h. let l = h.operator in absurd (omega arith))
-
 pub body_step : (context : Context) (rules : List Rule) (operators : List (Operator × ℕ)) (at : ℕ) (a b c : List Rewrite) →
     Grows a b (IsBefore context rules operators at) → Grows b c (IsAt context rules operators at) →
     Grows a c (IsBefore context rules operators (at + 1))

@@ -265,16 +265,6 @@ laid_next context operators i instr expr new finished left e l laid h =
 
 -- ---- all of them
 
-pub nothing_laid : (info : Module) (operators : List (Operator × ℕ)) → IsLaidOut info operators 0 [] []
-nothing_laid info operators = record {
-  sized = tt;
-  stand = refl;
-  below = search rules;
-  count = refl;
-  last = λ some. absurd (omega arith);
-  writable = search rules;
-}
-
 -- the last term is that of the last node
 last_term : (expr : List Lang) (finished : List Id) (n : ℕ) → length expr ≡ n → 0 < n → terms_count (terms_of expr finished) ≡ 1 →
     ((before : List ℕ) × (numbers_of finished ≡ before ++ (n - 1) ∷ [])) → terms_of expr finished ≡ term_in expr ▸ no_terms
