@@ -1,8 +1,8 @@
 #!/usr/bin/env bash
 # Refuses to each call that takes memory each of its requests in turn, and prints a line for each call: how many requests were
 # refused, one a run, and how many of them to the call itself. Fails where an answer is none of those allowed: a test in
-# peephole_worked_tests (src/refused.rt, src/refused_rewrites.rt), peephole_mutate (src/refused_modules.rt) or peephole_run
-# (src/refused_memory.rt) says which, and stops at any other.
+# peephole_worked_tests (src/refused.rt), peephole_rule_tests (src/refused_rewrites.rt), peephole_mutate
+# (src/refused_modules.rt) or peephole_run (src/refused_memory.rt) says which, and stops at any other.
 #
 # The program in tests/refused_memory makes a call of those tests over all its samples. It is built twice: without a refusal,
 # which counts the requests of each call, and with request number `at` refused, before which it asks for memory and gives it
@@ -26,9 +26,10 @@ done
 program=$work/crates/refused_memory
 mkdir -p "$program/src" "$work/counted" "$work/cases"
 cp tests/refused_memory/main.rt.in "$program/src/main.rt"
-cp crates/peephole_worked_tests/src/{graphs,refused,refused_rewrites,samples,table,terms,writing}.rt "$program/src"
+cp crates/peephole_worked_tests/src/{graphs,refused,samples,table,terms,writing}.rt "$program/src"
+cp crates/peephole_rule_tests/src/refused_rewrites.rt "$program/src"
 cp crates/peephole_mutate/src/refused_modules.rt crates/peephole_run/src/refused_memory.rt "$program/src"
-libraries=$(grep '^peephole_worked_tests:' crates.txt | cut -d: -f2)
+libraries=$(grep '^peephole_rule_tests:' crates.txt | cut -d: -f2)
 { cat crates.txt; echo "refused_memory:$libraries wasm_module peephole_modules peephole_commands"; } > "$work/crates.txt"
 
 # A line for each case, from what `rt try` prints of it: the case, how it ended, the requests for memory, what it printed.

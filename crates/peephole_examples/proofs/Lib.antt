@@ -1,4 +1,3 @@
 pub mod Trees
 pub mod ReplacingLemmas
-pub mod MutatingLemmas
 pub mod ArithLemmas

@@ -57,7 +57,7 @@ pub graph_is : (info : Option Module) (m : Module) (preserving mode : Bool) (ope
     IfSome info (λ info. IsGraphOf (source_of info preserving operators block) graph)
 graph_is info m preserving mode operators os block graph e k o g = rw (e, sym k, sym o) g
 
-pub whole : (bytes : List ℕ) → slice_range bytes 0 (length bytes) ≡ bytes
+whole : (bytes : List ℕ) → slice_range bytes 0 (length bytes) ≡ bytes
 whole bytes = grind (arith, common_steps)
 
 -- the operators that were read, and the block that was found among them

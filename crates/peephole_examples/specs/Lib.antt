@@ -1,3 +1,2 @@
 pub mod Replacing
-pub mod Mutating
 pub mod Arith

@@ -1,4 +1,5 @@
 pub mod FunctionLemmas
+pub mod DrawnLemmas
 pub mod MutationLemmas
 pub mod ModuleLemmas
 pub mod MutatesLemmas

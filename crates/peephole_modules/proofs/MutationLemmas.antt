@@ -20,7 +20,8 @@ use Rattle.peephole_terms.specs.Expansion.{Setting}
 use Rattle.peephole_terms.specs.Written.{IsBodyIn}
 use Rattle.peephole_rules.specs.declared.rule.Rule.{Rule}
 use Rattle.peephole_rewrites.specs.declared.rewrite.Rewrite.{Rewrite}
-use Rattle.peephole_rewrites.specs.Rewriting.{AppendsChosen, AreTheRewrites, RefusesChosen}
+use Rattle.peephole_rewrites.specs.Choice.{AppendsChosen, RefusesChosen}
+use Rattle.peephole_rewrites.specs.Rewriting.{AreTheRewrites}
 use Rattle.peephole_modules.specs.Function.{IsFunction}
 use Rattle.peephole_modules.specs.Mutated.{HasNoMutation, IsBehindLocals, MutatesEntry, RefusesEntry, RefusesFunction, requested}
 use Rattle.peephole_modules.specs.declared.mutation.MutationError.TheVariants.{Write}
@@ -48,6 +49,13 @@ pub some_map : {X E : Type 0} {P Q : X → Type 0} (r : Result (Option X) E) →
 some_map (Ok None) f h = h
 some_map (Ok (Some x)) f h = f x h
 some_map (Err e) f h = h
+
+-- two things that it says
+pub some_both : {X E : Type 0} (P Q : X → Type 0) (r : Result (Option X) E) → IfOk r (λ o. IfSome o P) → IfOk r (λ o. IfSome o Q) →
+    IfOk r (λ o. IfSome o (λ x. P x × Q x))
+some_both P Q (Ok None) p q = tt
+some_both P Q (Ok (Some x)) p q = (p, q)
+some_both P Q (Err e) p q = tt
 
 -- what an answer of none says
 pub none_map : {X E : Type 0} {P Q : Type 0} (r : Result (Option X) E) → (P → Q) → IfOk r (λ o. IfNone o P) → IfOk r (λ o. IfNone o Q)

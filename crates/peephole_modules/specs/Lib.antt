@@ -1,3 +1,4 @@
+pub mod Chosen
 pub mod Drawing
 pub mod Function
 pub mod Mutated

@@ -16,7 +16,8 @@ use Rattle.peephole_terms.specs.declared.encoder.request.ResourceRequest.TheVari
 use Rattle.peephole_terms.specs.Expansion.{Setting}
 use Rattle.peephole_rules.specs.declared.rule.Rule.{Rule}
 use Rattle.peephole_rewrites.specs.declared.rewrite.Rewrite.{Rewrite}
-use Rattle.peephole_rewrites.specs.Rewriting.{AppendsChosen, AreTheRewrites, RefusesChosen}
+use Rattle.peephole_rewrites.specs.Choice.{AppendsChosen, RefusesChosen}
+use Rattle.peephole_rewrites.specs.Rewriting.{AreTheRewrites}
 use Rattle.peephole_modules.specs.Function.{IsFunction}
 use Rattle.peephole_modules.specs.declared.mutation.MutationError.{MutationError}
 use Rattle.peephole_modules.specs.declared.mutation.MutationError.TheVariants as mutations

@@ -1,23 +1,15 @@
 //! A code entry, drawn by its size.
-ghost use Rattle.std.specs.Prelude.{◌≡◌, ◌<◌, ◌≤◌, ◌^◌, length, IfNone, IfSome, IsTrue, is_some};
+ghost use Rattle.std.specs.Prelude.{◌≡◌, ◌<◌, ◌≤◌, ◌^◌, length, option_map, IfNone, IfSome, IsTrue, is_some};
 ghost use Rattle.std.specs.List.{sum_by};
 ghost use Rattle.mutate_base.specs.Config.{ChangesGeneratorAlone};
-ghost use Rattle.peephole_modules.specs.Drawing.{ContainsByte, contents_length};
+ghost use Rattle.peephole_terms.specs.Expansion.{setting_of};
+ghost use Rattle.peephole_rewrites.specs.Choice.{after_word};
+ghost use Rattle.peephole_modules.specs.Drawing.{ContainsByte, NamesEntry, contents_length};
 
 use mutate_base::WasmMutate;
+use peephole_rewrites::draw_below;
 use rand_core::Rng;
 use wasm_module::{Entry, Layout};
-
-// A number below `count`, by a word drawn from the generator. Condition: there is one.
-fn choose_below<R: Rng + Drop>(config: &mut WasmMutate<'_, R>, count: usize) -> usize
-    requires set_up { IsTrue (is_some config.old.setup) }
-    requires some { 0 < count }
-    ensures below { result < count }
-    ensures unchanged { ChangesGeneratorAlone config.old config.new }
-{
-    let word = config.rng().next_u64();
-    (word % count as u64) as usize
-}
 
 // How many bytes the entry contains.
 fn size_of_entry(entry: &Entry) -> usize
@@ -54,16 +46,20 @@ fn entry_of_byte(entries: &[Entry], byte: usize) -> Option<usize>
     None
 }
 
-/// The index of a code entry that is drawn by its size: a word drawn from the generator, modulo the number of bytes that all entries
+/// The index of a code entry that is drawn by its size: the generator's next word, modulo the number of bytes that all entries
 /// contain, names one of these bytes, and so the entry that contains it. The first one where no entry contains any. Condition:
 /// there is an entry.
 pub(crate) fn draw_entry<R: Rng + Drop>(config: &mut WasmMutate<'_, R>, layout: &Layout) -> usize
     requires set_up { IsTrue (is_some config.old.setup) }
     requires some { 0 < length layout.now.entries }
+    ensures named { IfSome (setting_of R.stream config.old) (λ s.
+        NamesEntry s layout.now.entries result) }
     ensures inside { result < length layout.now.entries }
+    ensures after { setting_of R.stream config.new
+        ≡ option_map after_word (setting_of R.stream config.old) }
     ensures unchanged { ChangesGeneratorAlone config.old config.new }
 {
     let count = size_of_entries(&layout.entries);
-    let byte = choose_below(config, count.max(1));
+    let byte = draw_below(config, count.max(1));
     entry_of_byte(&layout.entries, byte).unwrap_or(0)
 }

@@ -1,7 +1,9 @@
 //! A module with the tree of an operator of one of its functions rewritten by a rule, in its place.
-ghost use Rattle.std.specs.Prelude.{◌≡◌, ◌<◌, ◌≤◌, ◌+◌, ℕ, length, map, slice_range, IfOk, IfErr, IfNone, IfSome, IsTrue, is_some};
+ghost use Rattle.std.specs.Prelude.{◌≡◌, ◌<◌, ◌≤◌, ◌+◌, ℕ, length, map, Some, None, slice_range, IfOk, IfErr, IfNone, IfSome, IsTrue, is_some};
 ghost use Rattle.mutate_base.specs.Config.{info_of, ChangesGeneratorAlone};
 ghost use Rattle.wasm_module.specs.Module.{IsModule};
+ghost use Rattle.peephole_terms.specs.Expansion.{setting_of};
+ghost use Rattle.peephole_modules.specs.Chosen.{ChoosesAt, ChoosesBy, ChoosesFrom, ChoosesOfModule, ChoosesWithin};
 ghost use Rattle.peephole_modules.specs.Mutated.{CannotMutate, HasNoMutation, IsBehindLocals, IsMutated, MutatesEntry, MutatesOne, RefusesEntry, RefusesMutation, requested};
 
 use crate::drawing::draw_entry;
@@ -96,8 +98,13 @@ fn mutate_entry<R: Rng + Drop>(
     ensures mutated { IfOk result (λ o. IfSome o (λ m. IfSome (info_of config.old) (λ info.
         (m.function ≡ layout.now.imported_functions + n)
         × MutatesEntry rules.now bytes.now info layout.now n m.rewrite m.bytes.items))) }
+    ensures function { IfOk result (λ o. IfSome o (λ m.
+        m.function ≡ layout.now.imported_functions + n)) }
+    ensures chosen { IfOk result (λ o. IfSome o (λ m. IfSome (setting_of R.stream config.old) (λ s.
+        ChoosesAt rules.now bytes.now layout.now s n m.rewrite))) }
     ensures none { IfOk result (λ o. IfNone o (IfSome (info_of config.old) (λ info.
         HasNoMutation rules.now bytes.now info layout.now n))) }
+    ensures kept { IfOk result (λ o. IfNone o (config.new ≡ config.old)) }
     ensures refused { IfErr result (λ e. IfSome (info_of config.old) (λ info.
         RefusesEntry rules.now bytes.now info layout.now n e)) }
     ensures unchanged { ChangesGeneratorAlone config.old config.new }
@@ -153,8 +160,11 @@ fn mutate_first<R: Rng + Drop>(
     requires inside { to ≤ length layout.now.entries }
     ensures mutated { IfOk result (λ o. IfSome o (λ m. IfSome (info_of config.old) (λ info.
         MutatesOne rules.now bytes.now info layout.now m.function m.rewrite m.bytes.items))) }
+    ensures chosen { IfOk result (λ o. IfSome o (λ m. IfSome (setting_of R.stream config.old) (λ s.
+        ChoosesWithin rules.now bytes.now layout.now from to s m.function m.rewrite))) }
     ensures none { IfOk result (λ o. IfNone o (IfSome (info_of config.old) (λ info. (n : ℕ)
         → from ≤ n → n < to → HasNoMutation rules.now bytes.now info layout.now n))) }
+    ensures kept { IfOk result (λ o. IfNone o (config.new ≡ config.old)) }
     ensures refused { IfErr result (λ e. IfSome (info_of config.old) (λ info. (n : ℕ)
         × (from ≤ n) × (n < to) × RefusesEntry rules.now bytes.now info layout.now n e)) }
     ensures unchanged { ChangesGeneratorAlone config.old config.new }
@@ -183,6 +193,8 @@ fn mutate_in_order<R: Rng + Drop>(
     requires inside { first ≤ length layout.now.entries }
     ensures mutated { IfOk result (λ o. IfSome o (λ m. IfSome (info_of config.old) (λ info.
         MutatesOne rules.now bytes.now info layout.now m.function m.rewrite m.bytes.items))) }
+    ensures chosen { IfOk result (λ o. IfSome o (λ m. IfSome (setting_of R.stream config.old) (λ s.
+        ChoosesFrom rules.now bytes.now layout.now first s m.function m.rewrite))) }
     ensures none { IfOk result (λ o. IfNone o (IfSome (info_of config.old) (λ info. (n : ℕ)
         → n < length layout.now.entries → HasNoMutation rules.now bytes.now info layout.now n))) }
     ensures refused { IfErr result (λ e. IfSome (info_of config.old) (λ info. (n : ℕ)
@@ -211,6 +223,8 @@ fn mutate_any<R: Rng + Drop>(
     requires module { IfSome (info_of config.old) (λ info. IsModule bytes.now info layout.now) }
     ensures mutated { IfOk result (λ o. IfSome o (λ m. IfSome (info_of config.old) (λ info.
         MutatesOne rules.now bytes.now info layout.now m.function m.rewrite m.bytes.items))) }
+    ensures chosen { IfOk result (λ o. IfSome o (λ m. IfSome (setting_of R.stream config.old) (λ s.
+        ChoosesBy rules.now bytes.now layout.now None s m.function m.rewrite))) }
     ensures none { IfOk result (λ o. IfNone o (IfSome (info_of config.old) (λ info. (n : ℕ)
         → n < length layout.now.entries → HasNoMutation rules.now bytes.now info layout.now n))) }
     ensures refused { IfErr result (λ e. IfSome (info_of config.old) (λ info. (n : ℕ)
@@ -246,6 +260,8 @@ fn mutate_function<R: Rng + Drop>(
     ensures mutated { IfOk result (λ o. IfSome o (λ m. IfSome (info_of config.old) (λ info.
         (m.function ≡ function)
         × MutatesOne rules.now bytes.now info layout.now m.function m.rewrite m.bytes.items))) }
+    ensures chosen { IfOk result (λ o. IfSome o (λ m. IfSome (setting_of R.stream config.old) (λ s.
+        ChoosesBy rules.now bytes.now layout.now (Some function) s m.function m.rewrite))) }
     ensures none { IfOk result (λ o. IfNone o (IfSome (info_of config.old) (λ info. (n : ℕ)
         → n < length layout.now.entries → layout.now.imported_functions + n ≡ function
         → HasNoMutation rules.now bytes.now info layout.now n))) }
@@ -270,11 +286,11 @@ fn mutate_function<R: Rng + Drop>(
 /// function of that index among all functions, imported ones first. A function that can't be read, since it has operators or forms
 /// that aren't known here, is left alone.
 ///
-/// A function is drawn by its size: a word drawn from the generator, modulo the number of bytes that all code entries contain,
-/// names one of these bytes, and so the function whose entry contains it. Where no rule applies there, one is drawn again, at most
-/// 16 times in all; then the functions are tried in order, from the one that was drawn last on, and behind the last one those
-/// before it. The rewrite is drawn among all that there are of the function. So equal modules, generators, rules and `only` give
-/// equal bytes.
+/// A function is drawn by its size: the generator's next word, modulo the number of bytes that all code entries contain, names one of
+/// these bytes, and so the function whose entry contains it. Where no rule applies there, one is drawn again, at most 16 times in
+/// all; then the functions are tried in order, from the one that was drawn last on, and behind the last one those before it. The
+/// next three words choose the rewrite, as `rewrite_tree_at_random` says: what becomes of the body's size, the rule, the operator.
+/// So equal modules, generators, rules and `only` give equal bytes.
 ///
 /// The new bytes differ from the old ones in the place of the tree, the globals that are appended, and the sizes and numbers that
 /// stand before them. It takes time linear in the module, and for each function that is drawn or tried in that function, times
@@ -292,6 +308,9 @@ pub fn mutate_module<R: Rng + Drop>(
     // The new module is the old one with an operator's tree rewritten in its place, and what stands round it runs as before.
     ensures mutated { IfOk result (λ o. IfSome o (λ m.
         IsMutated rules.now only bytes.now m.function m.rewrite m.bytes.items)) }
+    // The function and the rewrite are those that the generator's words choose.
+    ensures chosen { IfOk result (λ o. IfSome o (λ m. ChoosesOfModule
+        rules.now only bytes.now (R.stream generator) m.function m.rewrite)) }
     // None only where no rewrite can be made.
     ensures none { IfOk result (λ o. IfNone o (CannotMutate rules.now only bytes.now)) }
     // Refused only as the module can't be read, or as a rewrite of a function that may be rewritten is refused, or its writing.

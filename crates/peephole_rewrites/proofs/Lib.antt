@@ -6,6 +6,9 @@ pub mod InnerLemmas
 pub mod LayLemmas
 pub mod PassLemmas
 pub mod GrowsLemmas
+pub mod ThoseLemmas
+pub mod CountingLemmas
 pub mod MakesLemmas
 pub mod MadeLemmas
 pub mod RewrittenLemmas
+pub mod ChoiceLemmas

@@ -1,6 +1,6 @@
 -- Whether a rule makes something of an operator's tree.
 use Rattle.std.proofs.Common.{◌≡◌, ℕ, ◌+◌, ◌<◌, ◌≤◌, Bool, true, false, List, [], ◌∷◌, ◌++◌, length, map, take, get_or, suc, Option, Some, None, refl, sym, ap, ap₂, ◌∙◌, subst, append_assoc, append-nil, length-append, arith, rules}
-use Rattle.std.specs.Prelude.{◌↔◌, IsTrue, is_some, not, slice_range, option_map}
+use Rattle.std.specs.Prelude.{◌↔◌, IsTrue, is_some, not, slice_range, option_map, Contains}
 use Rattle.std.proofs.lemmas.Bool.{false≢true}
 use Rattle.std.proofs.Math.Seq.{take-suc}
 use Rattle.std.proofs.lemmas.List.{take-map, take-take, take_at, take_all, map-append, get_or-map}
@@ -157,6 +157,14 @@ module _ (read : AreReadAlike) (context : Context) (operators : List (Operator �
 
   pub made : b ≡ true → (IsIdle r i.tree → ⊥) → IsMade context operators (record { operator = at; rule = r })
   made e differs = let p = its_answer e in (p.0, record { tree = i.tree; is = i.is; makes = p.1; differs = differs })
+
+-- a rule that makes something is one of the candidates for what was read of a tree
+pub is_candidate : AreReadAlike → (context : Context) (operators : List (Operator × ℕ)) (at : ℕ) (f : Found) → IsFound context operators at f →
+    (rules : List Rule) →
+    ((r : Rule) (c : Context) (t : Term Head) → f.shape ≡ shape_of c t → IsTrue (is_some (rewrite c r t)) → Contains rules r) →
+    (r : Rule) → IsMade context operators (record { operator = at; rule = r }) → Contains rules r
+is_candidate read context operators at f i rules complete r (new, m) =
+    complete r context m.tree (i.shape_is ∙ (same_tree read context operators at i.tree m.tree i.is m.is).0.shape) (ap (λ o. is_some o) m.makes)
 
 never_idle : (r : Rule) (t : Term Head) → (r ≡ rule.Commute → ⊥) → IsIdle r t → ⊥
 never_idle rule.Commute t n e = absurd (n refl)

@@ -1,8 +1,8 @@
 -- The body with a rewritten tree, under the configuration's setting.
 use Rattle.std.proofs.Common.{◌≡◌, ℕ, zero, suc, ◌+◌, ◌<◌, ◌≤◌, ◌⊎◌, inl, inr, List, [], ◌∷◌, length, map, false, Option, Some, None, sym, ap, subst, ◌∙◌, arith}
-use Rattle.std.specs.Prelude.{IsTrue, IfSome, Contains, option_map, slice_get}
+use Rattle.std.specs.Prelude.{IsTrue, ◌%◌, IfSome, is_some, option_map, slice_get}
 use Rattle.std.proofs.lemmas.Bool.{false≢true}
-use Rattle.rand_core.specs.Stream.{Stream}
+use Rattle.rand_core.specs.Stream.{Stream, next_u64}
 use Rattle.wasm_code.specs.Body.{is_end, ends}
 use Rattle.wasm_code.specs.Instruction.{Instruction}
 use Rattle.wasm_code.specs.declared.operator.Operator.{Operator}
@@ -25,7 +25,9 @@ use Rattle.peephole_rewrites.specs.declared.rewrite.Rewrite.{Rewrite}
 use Rattle.peephole_rewrites.specs.declared.tree.MadeTree.{MadeTree}
 use Rattle.peephole_rewrites.specs.Made.{IsMadeTree, HasLargeTree}
 use Rattle.peephole_rewrites.specs.PlainTypes.{plain_types, PlainTypesAreTypes}
-use Rattle.peephole_rewrites.specs.Rewriting.{IsTree, IsMade, AppendsRewritten, RefusesRewrite, AreTheRewrites, AppendsChosen, RefusesChosen}
+use Rattle.peephole_rewrites.specs.Choice.{HasPlaceAt, numbers_below, after_word, after_choice, Chooses, AppendsByWords, RefusesByWords}
+use Rattle.peephole_rewrites.specs.Rewriting.{IsTree, IsMade, AppendsRewritten, RefusesRewrite}
+use Rattle.peephole_rewrites.proofs.ThoseLemmas.{one_of}
 use Rattle.peephole_rewrites.proofs.TreesLemmas.{its_value, parts_of}
 
 -- ---- something stands behind the tree
@@ -61,13 +63,13 @@ made_inside locals m input operators r made b i =
 
 -- ---- of a setting
 
-some_inj : {A : Type 0} (x y : A) → Some x ≡ Some y → x ≡ y
+pub some_inj : {A : Type 0} (x y : A) → Some x ≡ Some y → x ≡ y
 some_inj x y e = cc
 
-abbrev set_up : {R : Type 0} → (R → Stream) → Option (Setup Module R) → Option Setting
+abbrev pub set_up : {R : Type 0} → (R → Stream) → Option (Setup Module R) → Option Setting
 set_up stream setup = option_map (λ s. record { info = s.info; stream = stream s.generator }) setup
 
-abbrev info_in : {R : Type 0} → Option (Setup Module R) → Option Module
+abbrev pub info_in : {R : Type 0} → Option (Setup Module R) → Option Module
 info_in setup = option_map (λ s. s.info) setup
 
 appended_at : PlainTypesAreTypes → (locals : List PrimitiveTypeInfo) (s : Setting) (input : List ℕ) (operators : List (Operator × ℕ)) (r : Rewrite)
@@ -131,39 +133,43 @@ module _ {R : Type 0} (stream : R → Stream) (locals : List PrimitiveTypeInfo) 
 
 -- ---- of a rewrite that was chosen
 
-module _ {R : Type 0} (locals : List PrimitiveTypeInfo) (m : Module) (rules : List Rule) (operators : List (Operator × ℕ)) (list : List Rewrite)
-    (all : AreTheRewrites (context_in m locals) rules operators list) where
-  -- so it is under the configuration's module
-  pub none_listed : (setup : Option (Setup Module R)) → info_in setup ≡ Some m →
-      IfSome (info_in setup) (λ info. AreTheRewrites (context_in info locals) rules operators list)
-  none_listed None is = tt
-  none_listed (Some s) is = subst (λ (k : Module). AreTheRewrites (context_in k locals) rules operators list) (sym (some_inj s.info m is)) all
+-- what the words choose can be made
+pub chosen_made : (locals : List PrimitiveTypeInfo) (s : Setting) (rules : List Rule) (operators : List (Operator × ℕ)) (r : Rewrite) →
+    Chooses locals s rules operators r → IsMade (context_in s.info locals) operators r
+chosen_made locals s rules operators r c =
+    (one_of (HasPlaceAt (context_in s.info locals) operators r.rule) (numbers_below (length operators)) c.draws_operator.those c.draws_operator.are
+    ((next_u64 (after_word (after_word s)).stream).0 % length c.draws_operator.those) r.operator c.draws_operator.is).1
 
-  -- what is in the list can be made, in the configuration as it is left
-  pub can_be_made : (before after : Option (Setup Module R)) (r : Rewrite) → info_in before ≡ Some m → info_in after ≡ info_in before →
-      Contains list r → IfSome (info_in after) (λ info. IsMade (context_in info locals) operators r → ⊥) → ⊥
-  can_be_made before None r is same h never = absurd (let none : None ≡ Some m = same ∙ is in cc)
-  can_be_made before (Some t) r is same h never =
-      never (subst (λ (k : Module). IsMade (context_in k locals) operators r) (sym (some_inj t.info m (same ∙ is))) ((all r).0 h).1)
+module _ {R : Type 0} (stream : R → Stream) (locals : List PrimitiveTypeInfo) (rules : List Rule) (operators : List (Operator × ℕ)) where
+  -- in the configuration as the choice left it
+  pub can_be_made : (before after : Option (Setup Module R)) (r : Rewrite) → set_up stream after ≡ option_map after_choice (set_up stream before) →
+      info_in after ≡ info_in before → IfSome (set_up stream before) (λ s. Chooses locals s rules operators r) →
+      IfSome (info_in after) (λ info. IsMade (context_in info locals) operators r → ⊥) → IsTrue (is_some before) → ⊥
+  can_be_made None after r is same c never some = false≢true some
+  can_be_made (Some s) None r is same c never some = absurd (let none : None ≡ Some s.info = same in cc)
+  can_be_made (Some s) (Some t) r is same c never some =
+      never (subst (λ (k : Module). IsMade (context_in k locals) operators r) (sym (some_inj t.info s.info same))
+      (chosen_made locals (record { info = s.info; stream = stream s.generator }) rules operators r c))
 
-  pub chosen_appended : (stream : R → Stream) (before after : Option (Setup Module R)) (input : List ℕ) (r : Rewrite) (old grown : List ℕ)
-      (requests : List ResourceRequest) (left : Option Setting) → info_in after ≡ info_in before → Contains list r →
+  pub words_appended : (before after : Option (Setup Module R)) (input : List ℕ) (r : Rewrite) (old grown : List ℕ) (requests : List ResourceRequest)
+      (left : Option Setting) → set_up stream after ≡ option_map after_choice (set_up stream before) →
+      IfSome (set_up stream before) (λ s. Chooses locals s rules operators r) →
       IfSome (set_up stream after) (λ s. AppendsRewritten locals s input operators r old grown requests left) →
-      IfSome (info_in before) (λ info. AppendsChosen locals info rules input operators r old grown requests left)
-  chosen_appended stream None after input r old grown requests left same h w = tt
-  chosen_appended stream (Some s) None input r old grown requests left same h w = absurd cc
-  chosen_appended stream (Some s) (Some t) input r old grown requests left same h w =
-      (((all r).0 h).0, (record { info = t.info; stream = stream t.generator }, some_inj t.info s.info same, w))
+      IfSome (set_up stream before) (λ s. AppendsByWords locals s rules input operators r old grown requests left)
+  words_appended None after input r old grown requests left is c w = tt
+  words_appended (Some s) after input r old grown requests left is c w =
+      (c, subst (λ o. IfSome o (λ s. AppendsRewritten locals s input operators r old grown requests left)) is w)
 
-  pub chosen_refused : (stream : R → Stream) (before after : Option (Setup Module R)) (r : Rewrite) (e : Error) → info_in after ≡ info_in before →
-      Contains list r → IfSome (set_up stream after) (λ s. RefusesRewrite locals s operators r e) →
-      IfSome (info_in before) (λ info. RefusesChosen locals info rules operators e)
-  chosen_refused stream None after r e same h w = tt
-  chosen_refused stream (Some s) None r e same h w = absurd cc
-  chosen_refused stream (Some s) (Some t) r e same h w =
-      inr (r, ((all r).0 h).0, (record { info = t.info; stream = stream t.generator }, some_inj t.info s.info same, w))
+  pub words_refused : (before after : Option (Setup Module R)) (r : Rewrite) (e : Error) →
+      set_up stream after ≡ option_map after_choice (set_up stream before) →
+      IfSome (set_up stream before) (λ s. Chooses locals s rules operators r) →
+      IfSome (set_up stream after) (λ s. RefusesRewrite locals s operators r e) →
+      IfSome (set_up stream before) (λ s. RefusesByWords locals s rules operators e)
+  words_refused None after r e is c w = tt
+  words_refused (Some s) after r e is c w =
+      inr (r, c, subst (λ o. IfSome o (λ s. RefusesRewrite locals s operators r e)) is w)
 
-pub memory_refused : {R : Type 0} (setup : Option (Setup Module R)) (locals : List PrimitiveTypeInfo) (rules : List Rule)
-    (operators : List (Operator × ℕ)) (e : Error) → e ≡ Memory → IfSome (info_in setup) (λ info. RefusesChosen locals info rules operators e)
-memory_refused None locals rules operators e is = tt
-memory_refused (Some s) locals rules operators e is = inl is
+  pub memory_refused : (setup : Option (Setup Module R)) (e : Error) → e ≡ Memory →
+      IfSome (set_up stream setup) (λ s. RefusesByWords locals s rules operators e)
+  memory_refused None e is = tt
+  memory_refused (Some s) e is = inl is

@@ -1,5 +1,7 @@
 pub mod PlainTypes
 pub mod Rewriting
 pub mod Trees
+pub mod Choice
+pub mod Counting
 pub mod Growing
 pub mod Made

@@ -71,16 +71,3 @@ RefusesRewrite locals s operators r e =
     (e ≡ Memory)
     ⊎ (((tree : Term Head) × IsTree context operators r.operator tree × (e ≡ TooLarge) × (2 ^ 32 < length (tree_operators tree) + 3))
     ⊎ ((term : Term Head) × Makes context operators r term × Refuses (expansion_in s term) e))
-
--- ---- a rewrite that was chosen
-
--- It is by one of the rules, and the sink has grown by the body with it, the generator standing where it stood behind the choice.
-abbrev pub AppendsChosen : (locals : List PrimitiveTypeInfo) → Module → List Rule → (input : List ℕ) → List (Operator × ℕ) → Rewrite →
-    (old new : List ℕ) → List ResourceRequest → (left : Option Setting) → Type 0
-AppendsChosen locals info rules input operators r old new requests left =
-    Contains rules r.rule × ((s : Setting) × (s.info ≡ info) × AppendsRewritten locals s input operators r old new requests left)
-
--- Why none was written: memory, or the one that was chosen is refused.
-abbrev pub RefusesChosen : (locals : List PrimitiveTypeInfo) → Module → List Rule → List (Operator × ℕ) → Error → Type 0
-RefusesChosen locals info rules operators e =
-    (e ≡ Memory) ⊎ ((r : Rewrite) × Contains rules r.rule × ((s : Setting) × (s.info ≡ info) × RefusesRewrite locals s operators r e))

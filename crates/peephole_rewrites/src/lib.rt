@@ -2,6 +2,8 @@
 //! the new code there, which runs as before whatever stands round it.
 #![tactic(auto)]
 
+mod choice;
+mod counts;
 pub mod laws;
 mod random;
 mod rewrite;
@@ -9,8 +11,10 @@ mod rewrites;
 mod splice;
 mod tree;
 mod trees;
+mod word;
 
 pub use random::{Rewritten, rewrite_tree_at_random};
 pub use rewrite::Rewrite;
 pub use rewrites::rewrites_of_body;
 pub use splice::rewrite_tree;
+pub use word::draw_below;

@@ -105,30 +105,35 @@ abbrev pub known_types : Context → Option IntegerRow → List PrimitiveTypeInf
 known_types context (Some row) us = row_types context row us
 known_types context None us = None
 
--- an integer row without an immediate has no other types
-is_alone : Named → Row → Bool
-is_alone n row = not (is_some (opcode_row (Some row.opcode) imm.Nothing)) || is_none (type_by_row n (Some row))
+-- an integer row of the immediate has no other types
+is_alone : Named → Imm → Row → Bool
+is_alone n i row = not (is_some (opcode_row (Some row.opcode) i)) || is_none (type_by_row n (Some row))
 
-all_told : Named → List Row → Bool
-all_told n [] = true
-all_told n (row ∷ rows) = is_alone n row && all_told n rows
+all_told : Named → Imm → List Row → Bool
+all_told n i [] = true
+all_told n i (row ∷ rows) = is_alone n i row && all_told n i rows
 
-table_told : (n : Named) → all_told n table ≡ true
+-- so it is without an immediate, and of an index
+bare_told : (n : Named) → all_told n imm.Nothing table ≡ true
 unfolding table all_told is_alone
-table_told n = refl
+bare_told n = refl
+
+index_told : (n : Named) (index : ℕ) → all_told n (imm.Index index) table ≡ true
+unfolding table all_told is_alone
+index_told n index = refl
 
 both : {a b : Bool} → (a && b) ≡ true → (a ≡ true) × (b ≡ true)
 both {a = true} {b} e = (refl, e)
 both {a = false} {b} e = absurd (true≢false (sym e))
 
-told_at : (n : Named) (rows : List Row) (k : ℕ) (row : Row) → all_told n rows ≡ true → slice_get rows k ≡ Some row →
-    is_alone n row ≡ true
+told_at : (n : Named) (i : Imm) (rows : List Row) (k : ℕ) (row : Row) → all_told n i rows ≡ true → slice_get rows k ≡ Some row →
+    is_alone n i row ≡ true
 unfolding all_told
-told_at n [] k row h e = absurd cc
-told_at n (r ∷ rows) zero row h e =
+told_at n i [] k row h e = absurd cc
+told_at n i (r ∷ rows) zero row h e =
     let is : r ≡ row = cc in
-    subst (λ (x : Row). is_alone n x ≡ true) is (both h).0
-told_at n (r ∷ rows) (suc k) row h e = told_at n rows k row (both h).1 e
+    subst (λ (x : Row). is_alone n i x ≡ true) is (both h).0
+told_at n i (r ∷ rows) (suc k) row h e = told_at n i rows k row (both h).1 e
 
 -- ---- one value
 
@@ -206,13 +211,13 @@ pub row_is : (i : Instruction) (byte : ℕ) → opcode_in (row_at i.row) ≡ Som
 unfolding integer_row
 row_is i byte e = ap (λ o. row_or_other i (opcode_row o i.imm)) e
 
-alone_none : (n : Named) (row : Row) (byte : ℕ) (r : IntegerRow) → row.opcode ≡ Byte byte → bare_row byte ≡ Some r → is_alone n row ≡ true →
-    type_by_row n (Some row) ≡ None
+alone_none : (n : Named) (i : Imm) (row : Row) (byte : ℕ) (r : IntegerRow) → row.opcode ≡ Byte byte → byte_row byte i ≡ Some r →
+    is_alone n i row ≡ true → type_by_row n (Some row) ≡ None
 unfolding is_alone
-alone_none n row byte r o e h = go (type_by_row n (Some row)) (is_none_of (is_some (opcode_row (Some row.opcode) imm.Nothing)) (type_by_row n (Some row)) known h)
+alone_none n i row byte r o e h = go (type_by_row n (Some row)) (is_none_of (is_some (opcode_row (Some row.opcode) i)) (type_by_row n (Some row)) known h)
   where
-    known : is_some (opcode_row (Some row.opcode) imm.Nothing) ≡ true
-    known = ap (λ x. is_some (opcode_row (Some x) imm.Nothing)) o ∙ ap (λ (x : Option IntegerRow). is_some x) e
+    known : is_some (opcode_row (Some row.opcode) i) ≡ true
+    known = ap (λ x. is_some (opcode_row (Some x) i)) o ∙ ap (λ (x : Option IntegerRow). is_some x) e
 
     is_none_of : (b : Bool) (t : Option OtherType) → b ≡ true → (not b || is_none t) ≡ true → is_none t ≡ true
     is_none_of true t p q = q
@@ -222,14 +227,18 @@ alone_none n row byte r o e h = go (type_by_row n (Some row)) (is_none_of (is_so
     go None k = refl
     go (Some t) k = absurd (true≢false (sym k))
 
-other_none : (n : Named) (i : Instruction) (byte : ℕ) (r : IntegerRow) → opcode_in (row_at i.row) ≡ Some (Byte byte) → bare_row byte ≡ Some r →
-    other_type n i ≡ None
+-- an opcode that is an integer row's with some immediate has no other types
+other_none : (n : Named) (j : Imm) → all_told n j table ≡ true → (i : Instruction) (byte : ℕ) (r : IntegerRow) → opcode_in (row_at i.row) ≡ Some (Byte byte) →
+    byte_row byte j ≡ Some r → other_type n i ≡ None
 unfolding row_at other_type
-other_none n i byte r o e = go (slice_get table i.row) refl o
+other_none n j told i byte r o e = go (slice_get table i.row) refl o
   where
     go : (x : Option Row) → slice_get table i.row ≡ x → opcode_in x ≡ Some (Byte byte) → type_by_row n x ≡ None
     go None k o = absurd cc
-    go (Some row) k o = alone_none n row byte r (cc) e (told_at n table i.row row (table_told n) k)
+    go (Some row) k o = alone_none n j row byte r (cc) e (told_at n j table i.row row told k)
+
+no_types : (f : OtherType → Option (List PrimitiveTypeInfo)) (list : List PrimitiveTypeInfo) → option_and_then f None ≡ Some list → ⊥
+no_types f list e = cc
 
 -- a typed instruction of such an opcode is its integer row
 pub typed_bare : (context : Context) (us list : List PrimitiveTypeInfo) (i : Instruction) (byte : ℕ) (row : IntegerRow) →
@@ -246,8 +255,21 @@ typed_bare context us list i byte row o none is e = go (byte_row byte i.imm) ref
     go None k =
         let own : integer_row i ≡ other i = row_is i byte o ∙ ap (row_or_other i) k in
         let n = names_in context.info i.imm in
-        absurd (no_types (results_on us) (sym (ap (option_and_then (results_on us)) (other_none n i byte row o is))
+        absurd (no_types (results_on us) list (sym (ap (option_and_then (results_on us)) (other_none n imm.Nothing (bare_told n) i byte row o is))
         ∙ (ap (λ x. row_types context x us) (sym own) ∙ e)))
-      where
-        no_types : (f : OtherType → Option (List PrimitiveTypeInfo)) → option_and_then f None ≡ Some list → ⊥
-        no_types f e = cc
+
+-- a typed tee is that of the local of its index
+pub typed_tee : (context : Context) (us list : List PrimitiveTypeInfo) (i : Instruction) → opcode_in (row_at i.row) ≡ Some (Byte 0x22) →
+    row_types context (integer_row i) us ≡ Some list → (n : ℕ) × (i.imm ≡ imm.Index n) × (integer_row i ≡ tee (local n))
+typed_tee context us list i o e = go i.imm refl
+  where
+    alone : (r : Option IntegerRow) → r ≡ None → byte_row 0x22 i.imm ≡ r → ⊥
+    alone r n k =
+        let own : integer_row i ≡ other i = row_is i 0x22 o ∙ (ap (row_or_other i) k ∙ ap (row_or_other i) n) in
+        let m = names_in context.info i.imm in
+        no_types (results_on us) list (sym (ap (option_and_then (results_on us)) (other_none m (imm.Index 0) (index_told m 0) i 0x22 (tee (local 0)) o refl))
+        ∙ (ap (λ x. row_types context x us) (sym own) ∙ e))
+
+    go : (j : Imm) → i.imm ≡ j → (n : ℕ) × (i.imm ≡ imm.Index n) × (integer_row i ≡ tee (local n))
+    go (imm.Index n) k = (n, k, row_is i 0x22 o ∙ ap (λ x. row_or_other i (byte_row 0x22 x)) k)
+    go j k = absurd (alone (byte_row 0x22 j) refl (ap (byte_row 0x22) k))

@@ -20,15 +20,15 @@ use Rattle.peephole_machine.specs.Computed.{kept, computed}
 use Rattle.peephole_rules.specs.declared.rule.Rule.{Rule}
 use Rattle.peephole_rules.specs.declared.rule.Rule.TheVariants as rule
 use Rattle.peephole_rules.specs.declared.replacement.Replacement.{Replacement}
-use Rattle.peephole_rules.specs.declared.replacement.Replacement.TheVariants.{Swap, Turn, GroupLeft, GroupRight, Twice, First, FirstWith, FirstBy, TurnSelect, Empty, Number, FirstTwice, Drawn, Negated, FirstByBoth, ByBoth, InnerBy, Distribute, FirstWithBoth}
+use Rattle.peephole_rules.specs.declared.replacement.Replacement.TheVariants.{Swap, Turn, GroupLeft, GroupRight, Twice, First, FirstWith, FirstBy, TurnSelect, Empty, Number, FirstTwice, Drawn, Negated, FirstByBoth, ByBoth, InnerBy, Distribute, FirstWithBoth, InnerWith, Inner, Collect, SetAndGet}
 use Rattle.peephole_rules.specs.declared.shape.Operand.{Operand}
-use Rattle.peephole_rules.specs.Operator.{opcode_byte, type_by, turned, of_type, operator, constant_number, number_in, within_width, constant_term, numbered, one, two, unfold_head, opposite_of, are_same, bits_left_out}
+use Rattle.peephole_rules.specs.Operator.{opcode_byte, type_by, turned, of_type, operator, constant_number, number_in, within_width, constant_term, numbered, one, two, unfold_head, opposite_of, are_same, bits_left_out, is_among, widening}
 use Rattle.peephole_rules.specs.Effects.{writes, asks, may_trap}
-use Rattle.peephole_rules.specs.Rewriting.{answer_if, commute, turn_comparison, turn_select, associate_left, associate_right, with_constant, with_ones, with_itself, all_ones, lowest_bit, of_constant, by_its_type, by_way_of_global, unfold_constant, type_of_constant, forget, numbers_of_types, fold, test_to_comparison, comparison_to_test, negated, rewrite, remainder_to_mask, mask_to_remainder, as_double, element_alone, typed_constant, behind_drawn, negate_comparison, difference_to_tests, wrap_extended, drop_negation, in_parts, extension_to_shifts}
+use Rattle.peephole_rules.specs.Rewriting.{answer_if, commute, turn_comparison, turn_select, associate_left, associate_right, with_constant, with_ones, with_itself, all_ones, lowest_bit, of_constant, by_its_type, by_way_of_global, unfold_constant, type_of_constant, forget, numbers_of_types, fold, test_to_comparison, comparison_to_test, negated, rewrite, remainder_to_mask, mask_to_remainder, as_double, element_alone, typed_constant, behind_drawn, negate_comparison, difference_to_tests, wrap_extended, drop_negation, in_parts, extension_to_shifts, of_inner, tests_to_difference, drop_wrap_extended, complements_by, complemented, of_complements, tee_to_set, same_local, of_same, drop_select}
 use Rattle.peephole_rules.specs.ValueTypes.{integer_of, type_of_value}
-use Rattle.peephole_rules.specs.Shape.{operand_of, operands_of, opcode_of, shape_of}
+use Rattle.peephole_rules.specs.Shape.{operand_of, operands_of, opcode_of, is_complement, shape_of}
 use Rattle.peephole_rules.specs.Replacement.{term_by, IsBinary, CanReplace, IsAnswer}
-use Rattle.peephole_rules.specs.Choice.{number_of, number_behind, swap, turn, group_left, group_right, with_number, with_all_ones, complements, twice, without, comparison, opposite, with_opposite, lowest_place, with_power, with_place, with_mask, with_divisor, with_rest, constant_type, unfolded, through_global, forgotten, typed_number, on_one, on_two, folded, choice, by_first, double, alone, drawn, both_tests, wrapped, unnegated, part, distributed, shifts}
+use Rattle.peephole_rules.specs.Choice.{number_of, number_behind, swap, turn, group_left, group_right, with_number, with_all_ones, complements, twice, without, comparison, opposite, with_opposite, lowest_place, with_power, with_place, with_mask, with_divisor, with_rest, constant_type, unfolded, through_global, forgotten, typed_number, on_one, on_two, folded, choice, by_first, double, alone, drawn, both_tests, wrapped, unnegated, part, distributed, shifts, inner_opcode, difference, narrowed, collected, set_apart, type_of_same, cancelled, first_of_same, same_with, selected_same}
 use Rattle.peephole_rules.specs.Choice as choice_of
 use Rattle.peephole_rules.proofs.TurnedLemmas.{turned_binary, is_written, is_test, opposite_binary, is_extension, is_wrap}
 
@@ -172,10 +172,10 @@ module _ (context : Context) (x : Term Head) where
       IsAnswer (with_all_ones a b (type_of_value context x)) x (by_its_type context (λ t y. Some (with_ones t a b y)) x)
   ones_behind a b p q = each_mapped (type_of_value context x) x _ _ (λ t. record { term = refl; fits = typed_binary t a b p q })
 
-  complemented : (a b : ℕ) → IsBinary a → IsBinary b →
+  complements_behind : (a b : ℕ) → IsBinary a → IsBinary b →
       IsAnswer (complements a b (type_of_value context x)) x
       (by_its_type context (λ t y. Some (with_ones t a b (with_ones t a b y))) x)
-  complemented a b p q = each_mapped (type_of_value context x) x _ _ (λ t. record { term = refl; fits = typed_binary t a b p q })
+  complements_behind a b p q = each_mapped (type_of_value context x) x _ _ (λ t. record { term = refl; fits = typed_binary t a b p q })
 
   doubled : (a b : ℕ) → IsBinary a → IsBinary b →
       IsAnswer (twice a b (writes x) (asks x) (type_of_value context x)) x (by_its_type context (λ t y. with_itself t a b y) x)
@@ -507,6 +507,46 @@ drawn_told : (a b : ℕ) (element : IntegerType → ℕ) → IsBinary a → IsBi
 drawn_told a b element p q x = each_some (typed_constant (constant_number integer.I32 x) (constant_number integer.I64 x)) x _ _
     (λ v e. answered_if _ (Drawn (of_type v.0 a b) v.0) x (typed_binary v.0 a b p q))
 
+-- ---- operands that read the same local
+
+same_told : (a b : ℕ) (r : IntegerType → Replacement) (make : IntegerType → Term Head → Term Head) →
+    ((h : Head) (x y : Term Head) (t : IntegerType) → IsAnswer (Some (r t)) (node h (x ▸ y ▸ no_terms)) (Some (make t x))) →
+    (x : Term Head) → IsAnswer (option_map r (type_of_same a b (opcode_of x) (operands_of x))) x (of_same a b make x)
+same_told a b r make k absent = no_answer absent
+same_told a b r make k (node h no_terms) = no_answer (node h no_terms)
+same_told a b r make k (node h (x ▸ no_terms)) = no_answer (node h (x ▸ no_terms))
+same_told a b r make k (node h (x ▸ y ▸ no_terms)) = go (type_by a b (opcode_byte h)) (same_local x y)
+  where
+    go : (o : Option IntegerType) (same : Bool) → IsAnswer (option_map r (option_and_then (λ t. answer_if same t) o)) (node h (x ▸ y ▸ no_terms))
+        (option_and_then (λ t. answer_if same (make t x)) o)
+    go None same = no_answer (node h (x ▸ y ▸ no_terms))
+    go (Some t) true = k h x y t
+    go (Some t) false = no_answer (node h (x ▸ y ▸ no_terms))
+same_told a b r make k (node h (x ▸ y ▸ z ▸ no_terms)) = no_answer (node h (x ▸ y ▸ z ▸ no_terms))
+same_told a b r make k (node h (x ▸ y ▸ z ▸ w ▸ ts)) = no_answer (node h (x ▸ y ▸ z ▸ w ▸ ts))
+
+cancelled_told : (a b : ℕ) (x : Term Head) →
+    IsAnswer (cancelled (type_of_same a b (opcode_of x) (operands_of x))) x (of_same a b (λ t y. numbered t 0) x)
+cancelled_told a b x = same_told a b (λ t. Number t 0) (λ t y. numbered t 0) (λ h y z t. answered (Number t 0) (node h (y ▸ z ▸ no_terms)) tt) x
+
+first_told : (a b : ℕ) (x : Term Head) →
+    IsAnswer (first_of_same (type_of_same a b (opcode_of x) (operands_of x))) x (of_same a b (λ t y. y) x)
+first_told a b x = same_told a b (λ t. First) (λ t y. y) (λ h y z t. answered First (node h (y ▸ z ▸ no_terms)) tt) x
+
+same_with_told : (a b c d n : ℕ) → IsBinary c → IsBinary d → (x : Term Head) →
+    IsAnswer (same_with c d n (type_of_same a b (opcode_of x) (operands_of x))) x
+    (of_same a b (λ t y. two (operator (of_type t c d)) y (numbered t n)) x)
+same_with_told a b c d n p q x = same_told a b (λ t. FirstWith (of_type t c d) t n) (λ t y. two (operator (of_type t c d)) y (numbered t n))
+    (λ h y z t. answered (FirstWith (of_type t c d) t n) (node h (y ▸ z ▸ no_terms)) (typed_binary t c d p q)) x
+
+selected_told : (x : Term Head) → IsAnswer (selected_same (opcode_of x) (operands_of x)) x (drop_select x)
+selected_told absent = no_answer absent
+selected_told (node h no_terms) = no_answer (node h no_terms)
+selected_told (node h (x ▸ no_terms)) = no_answer (node h (x ▸ no_terms))
+selected_told (node h (x ▸ y ▸ no_terms)) = no_answer (node h (x ▸ y ▸ no_terms))
+selected_told (node h (x ▸ y ▸ c ▸ no_terms)) = answered_if _ First (node h (x ▸ y ▸ c ▸ no_terms)) tt
+selected_told (node h (x ▸ y ▸ z ▸ w ▸ ts)) = no_answer (node h (x ▸ y ▸ z ▸ w ▸ ts))
+
 -- ---- comparisons and tests
 
 each_map : {A : Type 0} (o : Option A) (x : Term Head) (f : A → Replacement) (g : A → Term Head) →
@@ -597,6 +637,114 @@ shifts_told (node h (x ▸ y ▸ no_terms)) = no_answer (node h (x ▸ y ▸ no_
 shifts_told (node h (x ▸ y ▸ z ▸ no_terms)) = no_answer (node h (x ▸ y ▸ z ▸ no_terms))
 shifts_told (node h (x ▸ y ▸ z ▸ w ▸ ts)) = no_answer (node h (x ▸ y ▸ z ▸ w ▸ ts))
 
+-- ---- the operand of an operand
+
+none_is : (o : Option Replacement) (x : Term Head) → o ≡ None → IsAnswer o x None
+none_is o x e = subst (λ (r : Option Replacement). IsAnswer r x None) (sym e) (no_answer x)
+
+module _ (f : (opcode inner : Option ℕ) → Option Replacement) (make : (opcode inner : Option ℕ) → Term Head → Option (Term Head))
+    (none : (o : Option ℕ) → f o None ≡ None)
+    (some : (h g : Head) (x : Term Head) → IsAnswer (f (opcode_byte h) (opcode_byte g)) (node h (node g (x ▸ no_terms) ▸ no_terms))
+    (make (opcode_byte h) (opcode_byte g) x)) where
+  not_inner : (h : Head) (x y : Term Head) (ts : Terms Head) → IsAnswer (f (opcode_byte h) None) (node h (x ▸ y ▸ ts)) (of_inner make (node h (x ▸ y ▸ ts)))
+  not_inner h absent y ts = none_is _ (node h (absent ▸ y ▸ ts)) (none (opcode_byte h))
+  not_inner h (node g no_terms) y ts = none_is _ (node h (node g no_terms ▸ y ▸ ts)) (none (opcode_byte h))
+  not_inner h (node g (p ▸ no_terms)) y ts = none_is _ (node h (node g (p ▸ no_terms) ▸ y ▸ ts)) (none (opcode_byte h))
+  not_inner h (node g (p ▸ q ▸ rs)) y ts = none_is _ (node h (node g (p ▸ q ▸ rs) ▸ y ▸ ts)) (none (opcode_byte h))
+
+  inner_told : (x : Term Head) → IsAnswer (f (opcode_of x) (inner_opcode (operands_of x))) x (of_inner make x)
+  inner_told absent = none_is _ absent (none None)
+  inner_told (node h no_terms) = none_is _ (node h no_terms) (none (opcode_byte h))
+  inner_told (node h (absent ▸ no_terms)) = none_is _ (node h (absent ▸ no_terms)) (none (opcode_byte h))
+  inner_told (node h (node g no_terms ▸ no_terms)) = none_is _ (node h (node g no_terms ▸ no_terms)) (none (opcode_byte h))
+  inner_told (node h (node g (x ▸ no_terms) ▸ no_terms)) = some h g x
+  inner_told (node h (node g (x ▸ y ▸ ts) ▸ no_terms)) = none_is _ (node h (node g (x ▸ y ▸ ts) ▸ no_terms)) (none (opcode_byte h))
+  inner_told (node h (x ▸ y ▸ no_terms)) = not_inner h x y no_terms
+  inner_told (node h (x ▸ y ▸ z ▸ no_terms)) = not_inner h x y (z ▸ no_terms)
+  inner_told (node h (x ▸ y ▸ z ▸ w ▸ ts)) = not_inner h x y (z ▸ w ▸ ts)
+
+difference_told : (x : Term Head) → IsAnswer (difference (opcode_of x) (inner_opcode (operands_of x))) x (tests_to_difference x)
+difference_told x = inner_told difference
+    (λ o r x. if are_same o (Some 0x45) then option_map (λ t. with_constant t 0x47 0x52 0 x) (type_by 0x45 0x50 r) else None)
+    (λ o. nothing (are_same o (Some 0x45))) (λ h g x. go h g x (are_same (opcode_byte h) (Some 0x45))) x
+  where
+    nothing : (b : Bool) → let o : Option Replacement = if b then None else None in o ≡ None
+    nothing true = refl
+    nothing false = refl
+
+    go : (h g : Head) (x : Term Head) (b : Bool) →
+        IsAnswer (if b then option_map (λ t. InnerWith (of_type t 0x47 0x52) t 0) (type_by 0x45 0x50 (opcode_byte g)) else None)
+        (node h (node g (x ▸ no_terms) ▸ no_terms)) (if b then option_map (λ t. with_constant t 0x47 0x52 0 x) (type_by 0x45 0x50 (opcode_byte g)) else None)
+    go h g x true = each_map (type_by 0x45 0x50 (opcode_byte g)) (node h (node g (x ▸ no_terms) ▸ no_terms)) _ _ (λ t e. record {
+      term = ap (λ (y : Term Head). Some y) (small_constant t 0x47 0x52 0 x refl);
+      fits = (tt, typed_binary t 0x47 0x52 (is_written 0x47 refl) (is_written 0x52 refl));
+    })
+    go h g x false = no_answer (node h (node g (x ▸ no_terms) ▸ no_terms))
+
+narrowed_told : (x : Term Head) → IsAnswer (narrowed (opcode_of x) (inner_opcode (operands_of x))) x (drop_wrap_extended x)
+narrowed_told x = inner_told narrowed (λ o r x. answer_if (are_same o (Some 0xa7) && is_among widening r) x)
+    (λ o. nothing (are_same o (Some 0xa7))) (λ h g x. answered_if _ Inner (node h (node g (x ▸ no_terms) ▸ no_terms)) tt) x
+  where
+    nothing : (b : Bool) → answer_if (b && false) Inner ≡ None
+    nothing true = refl
+    nothing false = refl
+
+-- ---- complements
+
+module _ (a b c d : ℕ) (pc : IsBinary c) (pd : IsBinary d) where
+  abbrev by_ones : (t : IntegerType) → Replacement
+  by_ones t = Collect (of_type t c d) (of_type t 0x73 0x85) t (all_ones t)
+
+  abbrev joined : (t : IntegerType) → Term Head → Term Head → Term Head
+  joined t x y = with_ones t 0x73 0x85 (two (operator (of_type t c d)) x y)
+
+  -- the first operand is the complement of x
+  behind_complement : (t : IntegerType) (h f : Head) (x m q : Term Head) →
+      IsAnswer (answer_if (is_complement q) (by_ones t)) (two h (two f x m) q) (option_map (joined t x) (complemented q))
+  behind_complement t h f x m absent = no_answer (two h (two f x m) absent)
+  behind_complement t h f x m (node g no_terms) = no_answer (two h (two f x m) (node g no_terms))
+  behind_complement t h f x m (node g (y ▸ no_terms)) = no_answer (two h (two f x m) (node g (y ▸ no_terms)))
+  behind_complement t h f x m (node g (y ▸ n ▸ k ▸ ks)) = no_answer (two h (two f x m) (node g (y ▸ n ▸ k ▸ ks)))
+  behind_complement t h f x m (node g (y ▸ n ▸ no_terms)) =
+      go (complements_by (opcode_byte g) (constant_number integer.I32 n) (constant_number integer.I64 n))
+    where
+      go : (s : Bool) → IsAnswer (answer_if s (by_ones t)) (two h (two f x m) (two g y n)) (option_map (joined t x) (answer_if s y))
+      go true = answered (by_ones t) (two h (two f x m) (two g y n))
+          ((tt, tt), typed_binary t c d pc pd, typed_binary t 0x73 0x85 (is_written 0x73 refl) (is_written 0x85 refl))
+      go false = no_answer (two h (two f x m) (two g y n))
+
+  both_complements : (t : IntegerType) (h : Head) (p q : Term Head) → IsAnswer (answer_if (is_complement p && is_complement q) (by_ones t)) (two h p q)
+      (option_and_then (λ x. option_map (joined t x) (complemented q)) (complemented p))
+  both_complements t h absent q = no_answer (two h absent q)
+  both_complements t h (node f no_terms) q = no_answer (two h (node f no_terms) q)
+  both_complements t h (node f (x ▸ no_terms)) q = no_answer (two h (node f (x ▸ no_terms)) q)
+  both_complements t h (node f (x ▸ m ▸ k ▸ ks)) q = no_answer (two h (node f (x ▸ m ▸ k ▸ ks)) q)
+  both_complements t h (node f (x ▸ m ▸ no_terms)) q =
+      go (complements_by (opcode_byte f) (constant_number integer.I32 m) (constant_number integer.I64 m))
+    where
+      go : (s : Bool) → IsAnswer (answer_if (s && is_complement q) (by_ones t)) (two h (two f x m) q)
+          (option_and_then (λ x. option_map (joined t x) (complemented q)) (answer_if s x))
+      go true = behind_complement t h f x m q
+      go false = no_answer (two h (two f x m) q)
+
+  collected_told : (x : Term Head) → IsAnswer (collected a b c d (opcode_of x) (operands_of x)) x (of_complements a b c d x)
+  collected_told absent = no_answer absent
+  collected_told (node h no_terms) = no_answer (node h no_terms)
+  collected_told (node h (x ▸ no_terms)) = no_answer (node h (x ▸ no_terms))
+  collected_told (node h (p ▸ q ▸ no_terms)) = each_some (type_by a b (opcode_byte h)) (two h p q) _ _ (λ t e. both_complements t h p q)
+  collected_told (node h (x ▸ y ▸ z ▸ no_terms)) = no_answer (node h (x ▸ y ▸ z ▸ no_terms))
+  collected_told (node h (x ▸ y ▸ z ▸ w ▸ ts)) = no_answer (node h (x ▸ y ▸ z ▸ w ▸ ts))
+
+-- ---- a local that is set
+
+set_apart_told : (x : Term Head) → IsAnswer (set_apart (opcode_of x) (operands_of x)) x (tee_to_set x)
+set_apart_told absent = no_answer absent
+set_apart_told (node h no_terms) = no_answer (node h no_terms)
+set_apart_told (node h (x ▸ no_terms)) = answered_if _ SetAndGet (node h (x ▸ no_terms)) tt
+set_apart_told (node h (x ▸ y ▸ no_terms)) = no_answer (node h (x ▸ y ▸ no_terms))
+set_apart_told (node h (x ▸ y ▸ z ▸ no_terms)) = no_answer (node h (x ▸ y ▸ z ▸ no_terms))
+set_apart_told (node h (x ▸ y ▸ z ▸ w ▸ ts)) = no_answer (node h (x ▸ y ▸ z ▸ w ▸ ts))
+
 -- ---- every rule
 
 pub chosen : (context : Context) (r : Rule) (x : Term Head) →
@@ -615,7 +763,7 @@ chosen context rule.AndOnes x = ones_behind context x 0x71 0x83 (is_written 0x71
 chosen context rule.ShiftByZero x = zero_behind context x 0x74 0x86 (is_written 0x74 refl) (is_written 0x86 refl)
 chosen context rule.OrSelf x = doubled context x 0x72 0x84 (is_written 0x72 refl) (is_written 0x84 refl)
 chosen context rule.AndSelf x = doubled context x 0x71 0x83 (is_written 0x71 refl) (is_written 0x83 refl)
-chosen context rule.DoubleComplement x = complemented context x 0x73 0x85 (is_written 0x73 refl) (is_written 0x85 refl)
+chosen context rule.DoubleComplement x = complements_behind context x 0x73 0x85 (is_written 0x73 refl) (is_written 0x85 refl)
 chosen context rule.ShiftToProduct x = powered 0x74 0x86 0x6c 0x7e (is_written 0x6c refl) (is_written 0x7e refl) x
 chosen context rule.ProductToShift x = placed 0x6c 0x7e 0x74 0x86 (is_written 0x74 refl) (is_written 0x86 refl) x
 chosen context rule.DifferenceToSum x = opposite_behind 0x6b 0x7d 0x6a 0x7c (is_written 0x6a refl) (is_written 0x7c refl) x
@@ -651,6 +799,13 @@ chosen context rule.RotlToRotr x = rested 0x77 0x89 0x78 0x8a (is_written 0x78 r
 chosen context rule.RotrToRotl x = rested 0x78 0x8a 0x77 0x89 (is_written 0x77 refl) (is_written 0x89 refl) x
 chosen context rule.ProductToDouble x = double_told 0x6c 0x7e 2 x
 chosen context rule.ShiftToDouble x = double_told 0x74 0x86 1 x
+chosen context rule.CancelSub x = cancelled_told 0x6b 0x7d x
+chosen context rule.CancelXor x = cancelled_told 0x73 0x85 x
+chosen context rule.DropOrSelf x = first_told 0x72 0x84 x
+chosen context rule.DropAndSelf x = first_told 0x71 0x83 x
+chosen context rule.DoubleToProduct x = same_with_told 0x6a 0x7c 0x6c 0x7e 2 (is_written 0x6c refl) (is_written 0x7e refl) x
+chosen context rule.DoubleToShift x = same_with_told 0x6a 0x7c 0x74 0x86 1 (is_written 0x74 refl) (is_written 0x86 refl) x
+chosen context rule.DropSelect x = selected_told x
 chosen context rule.AndZero x = drawn_told 0x71 0x83 (λ t. 0) (is_written 0x71 refl) (is_written 0x83 refl) x
 chosen context rule.MulZero x = drawn_told 0x6c 0x7e (λ t. 0) (is_written 0x6c refl) (is_written 0x7e refl) x
 chosen context rule.OrOnes x = drawn_told 0x72 0x84 all_ones (is_written 0x72 refl) (is_written 0x84 refl) x
@@ -666,3 +821,8 @@ chosen context rule.DistributeMask x = distributed_told 0x72 0x84 0x72 0x84 0x71
 chosen context rule.ComplementOfAnd x = distributed_told 0x71 0x83 0x72 0x84 0x73 0x85 (λ t n. n == all_ones t) (is_written 0x72 refl) (is_written 0x84 refl) (is_written 0x73 refl) (is_written 0x85 refl) x
 chosen context rule.ComplementOfOr x = distributed_told 0x72 0x84 0x71 0x83 0x73 0x85 (λ t n. n == all_ones t) (is_written 0x71 refl) (is_written 0x83 refl) (is_written 0x73 refl) (is_written 0x85 refl) x
 chosen context rule.ExtensionToShifts x = shifts_told x
+chosen context rule.TestsToDifference x = difference_told x
+chosen context rule.DropWrapExtended x = narrowed_told x
+chosen context rule.OrOfComplements x = collected_told 0x72 0x84 0x71 0x83 (is_written 0x71 refl) (is_written 0x83 refl) x
+chosen context rule.AndOfComplements x = collected_told 0x71 0x83 0x72 0x84 (is_written 0x72 refl) (is_written 0x84 refl) x
+chosen context rule.TeeToSet x = set_apart_told x

@@ -62,7 +62,7 @@ constant_is t (node h no_terms) n e =
     known t place p n e = absurd cc
 constant_is t x n e = absurd cc
 
-type_by_is : (a b : ℕ) (o : Option ℕ) (t : IntegerType) → type_by a b o ≡ Some t → o ≡ Some (of_type t a b)
+pub type_by_is : (a b : ℕ) (o : Option ℕ) (t : IntegerType) → type_by a b o ≡ Some t → o ≡ Some (of_type t a b)
 type_by_is a b None t e = absurd cc
 type_by_is a b (Some byte) t e = go (byte == a) (byte == b) refl refl e
   where
@@ -131,7 +131,7 @@ pub adds : AreOf 0x6a 0x7c (λ t. binary t add)
 unfolding table row_at
 adds = are_of 0x6a 0x7c (λ t. binary t add) refl refl refl refl refl refl
 
-subs : AreOf 0x6b 0x7d (λ t. binary t sub)
+pub subs : AreOf 0x6b 0x7d (λ t. binary t sub)
 unfolding table row_at
 subs = are_of 0x6b 0x7d (λ t. binary t sub) refl refl refl refl refl refl
 

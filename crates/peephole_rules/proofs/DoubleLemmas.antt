@@ -26,6 +26,13 @@ use Rattle.peephole_rules.proofs.OrderLemmas.{some_answer_if, is_not}
 use Rattle.peephole_rules.proofs.SequenceLemmas.{Does, written_does, does_means, two_types}
 use Rattle.peephole_rules.proofs.ConstantLemmas.{AreOf, adds, muls, shls, Replaces, kept}
 
+pub product_is_sum : (t : IntegerType) (n : ℕ) (s : State) → applied (binary t mul) (n ∷ 2 ∷ []) s ≡ applied (binary t add) (n ∷ n ∷ []) s
+product_is_sum t n s = ap (λ (m : ℕ). Ends (record { type = type_of t; number = m % 2 ^ bits (width_of t) } ∷ []) s) (doubled n)
+
+pub shift_is_sum : (t : IntegerType) (n : ℕ) (s : State) → applied (binary t shl) (n ∷ 1 ∷ []) s ≡ applied (binary t add) (n ∷ n ∷ []) s
+shift_is_sum integer.I32 n s = ap (λ (m : ℕ). Ends (record { type = type_of integer.I32; number = m % 2 ^ 32 } ∷ []) s) (doubled n)
+shift_is_sum integer.I64 n s = ap (λ (m : ℕ). Ends (record { type = type_of integer.I64; number = m % 2 ^ 64 } ∷ []) s) (doubled n)
+
 module _ (rows : MeanByTheirRows) (sound : LeavesItsTypes) where
   -- an operator behind an operand twice
   twice_means : (context : Context) (words : List ℕ) (t : IntegerType) (f : IntegerOperator) {h : Head} (d : Does h (operation f)) (x : Term Head) (s : State) →
@@ -67,14 +74,7 @@ module _ (rows : MeanByTheirRows) (sound : LeavesItsTypes) where
             })
 
     pub product_to_double_keeps : KeepsMeaning product_to_double
-    product_to_double_keeps = as_double_keeps 0x6c 0x7e 2 (λ t. binary t mul) muls (λ t. refl) twice_is (λ t. refl)
-      where
-        twice_is : (t : IntegerType) (n : ℕ) (s : State) → applied (binary t mul) (n ∷ 2 ∷ []) s ≡ applied (binary t add) (n ∷ n ∷ []) s
-        twice_is t n s = ap (λ (m : ℕ). Ends (record { type = type_of t; number = m % 2 ^ bits (width_of t) } ∷ []) s) (doubled n)
+    product_to_double_keeps = as_double_keeps 0x6c 0x7e 2 (λ t. binary t mul) muls (λ t. refl) product_is_sum (λ t. refl)
 
     pub shift_to_double_keeps : KeepsMeaning shift_to_double
-    shift_to_double_keeps = as_double_keeps 0x74 0x86 1 (λ t. binary t shl) shls (λ t. refl) twice_is (λ t. refl)
-      where
-        twice_is : (t : IntegerType) (n : ℕ) (s : State) → applied (binary t shl) (n ∷ 1 ∷ []) s ≡ applied (binary t add) (n ∷ n ∷ []) s
-        twice_is integer.I32 n s = ap (λ (m : ℕ). Ends (record { type = type_of integer.I32; number = m % 2 ^ 32 } ∷ []) s) (doubled n)
-        twice_is integer.I64 n s = ap (λ (m : ℕ). Ends (record { type = type_of integer.I64; number = m % 2 ^ 64 } ∷ []) s) (doubled n)
+    shift_to_double_keeps = as_double_keeps 0x74 0x86 1 (λ t. binary t shl) shls (λ t. refl) shift_is_sum (λ t. refl)

@@ -85,7 +85,7 @@ module _ (rows : MeanByTheirRows) (sound : LeavesItsTypes) where
       go Stuck p h = absurd h
 
   -- the number of the constant that stands alone
-  number_back : (t : IntegerType) (n : ℕ) → n < 2 ^ bits (width_of t) →
+  pub number_back : (t : IntegerType) (n : ℕ) → n < 2 ^ bits (width_of t) →
       whole t (cast_unsigned (width_of t) (cast_signed (width_of t) (within_width t n))) ≡ record { type = type_of t; number = n }
   number_back t n l = ap (λ (m : ℕ). record { type = type_of t; number = m }) (cast_back (width_of t) n ∙ mod-eq_of_lt l)
 

@@ -15,7 +15,7 @@ use Rattle.peephole_graphs.specs.Layout.{AreWritable}
 use Rattle.peephole_rules.specs.Grafted.{expression_nodes, tree_with, raised, raised_node}
 use Rattle.peephole_rules.specs.Replacement.{term_by, more, CanReplace, CanBeWritten, CanAllBeWritten, Replaces}
 use Rattle.peephole_rules.specs.declared.replacement.Replacement.{Replacement}
-use Rattle.peephole_rules.specs.declared.replacement.Replacement.TheVariants.{Swap, Turn, GroupLeft, GroupRight, Constant, Complements, Twice, First, FirstWith, FirstBy, TurnSelect, Unfold, UseGlobal, Nop, Empty, Number, FirstTwice, Drawn, Negated, FirstByBoth, ByBoth, InnerBy, Distribute, FirstWithBoth}
+use Rattle.peephole_rules.specs.declared.replacement.Replacement.TheVariants.{Swap, Turn, GroupLeft, GroupRight, Constant, Complements, Twice, First, FirstWith, FirstBy, TurnSelect, Unfold, UseGlobal, Nop, Empty, Number, FirstTwice, Drawn, Negated, FirstByBoth, ByBoth, InnerBy, Distribute, FirstWithBoth, InnerWith, Inner, Collect, SetAndGet}
 
 -- ---- one node more
 
@@ -231,6 +231,10 @@ few_more (ByBoth inner outer) = omega arith
 few_more (InnerBy byte) = omega arith
 few_more (Distribute outer inner t number) = omega arith
 few_more (FirstWithBoth inner outer t number) = omega arith
+few_more (InnerWith byte t number) = omega arith
+few_more Inner = omega arith
+few_more (Collect inner outer t number) = omega arith
+few_more SetAndGet = omega arith
 few_more (Unfold t) = omega arith
 few_more (UseGlobal t) = omega arith
 few_more Nop = omega arith

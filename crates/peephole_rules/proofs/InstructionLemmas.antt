@@ -19,22 +19,22 @@ use Rattle.peephole_machine.specs.Values.{Context}
 use Rattle.peephole_rules.specs.declared.shape.Operand.{Operand}
 use Rattle.peephole_rules.specs.declared.shape.Operands.{Operands}
 use Rattle.peephole_rules.specs.declared.shape.Shape.{Shape}
-use Rattle.peephole_rules.specs.Operator.{instruction_byte, is_value, number_in, constant_number, within_width}
+use Rattle.peephole_rules.specs.Operator.{instruction_byte, is_value, local_by, local_of, number_in, constant_number, within_width}
 use Rattle.peephole_rules.specs.Effects.{is_writer, is_trapper, is_asker, any_writes, any_may_trap, any_asks}
 use Rattle.peephole_rules.specs.ValueTypes.{integer_of, head_type, first_types}
-use Rattle.peephole_rules.specs.Shape.{values_in, operand_of, operands_in, shape_of}
+use Rattle.peephole_rules.specs.Shape.{values_in, is_single, complements_in, operand_of, operands_in, shape_of}
 use Rattle.peephole_rules.specs.ReadAlike.{AreReadAlike}
-use Rattle.peephole_rules.specs.Instruction.{operands_read, constant_by, number_read, both_values, listed, alone_read, with_operand, with_operands}
+use Rattle.peephole_rules.specs.Instruction.{operands_read, constant_by, number_read, both_values, single_read, complement_read, listed, alone_read, with_operand, with_operands, local_read}
 
 -- ---- constants
 
 -- the instruction's row and immediate, of a place and a payload
-record Said (h : Head) (i : Instruction) : Type 0 where
-  large : 12 ≤ h.place
-  row : h.place - 12 ≡ i.row
-  immediate : imm_of h.payload ≡ i.imm
+pub record Said (h : Head) (i : Instruction) : Type 0 where
+  pub large : 12 ≤ h.place
+  pub row : h.place - 12 ≡ i.row
+  pub immediate : imm_of h.payload ≡ i.imm
 
-said : (h : Head) (i : Instruction) → instr_of_head h ≡ Some i → Said h i
+pub said : (h : Head) (i : Instruction) → instr_of_head h ≡ Some i → Said h i
 said h i e = go (nat_lt h.place 12) refl (is_writable h.payload) e
   where
     go : (small : Bool) → nat_lt h.place 12 ≡ small → (b : Bool) →
@@ -70,6 +70,10 @@ number_is t h i no_terms e =
     ap (constant_by t i.row) (sym s.immediate) ∙ constant_is t h.place i.row h.payload s.large s.row
 number_is t h i (x ▸ xs) e = refl
 
+local_is : (h : Head) (i : Instruction) (kids : Terms Head) → instr_of_head h ≡ Some i → local_read i (operands_read kids) ≡ local_of (node h kids)
+local_is h i no_terms e = sym (ap local_by e)
+local_is h i (x ▸ xs) e = refl
+
 -- ---- operands
 
 values_are : (kids : Terms Head) → both_values (operands_read kids) ≡ values_in kids
@@ -77,6 +81,17 @@ values_are no_terms = refl
 values_are (x ▸ no_terms) = refl
 values_are (x ▸ y ▸ no_terms) = refl
 values_are (x ▸ y ▸ z ▸ ts) = refl
+
+single_is : (kids : Terms Head) → single_read (operands_read kids) ≡ is_single kids
+single_is no_terms = refl
+single_is (x ▸ no_terms) = refl
+single_is (x ▸ y ▸ ts) = refl
+
+complement_is : (o : Option ℕ) (kids : Terms Head) → complement_read o (operands_read kids) ≡ complements_in o kids
+complement_is o no_terms = refl
+complement_is o (x ▸ no_terms) = refl
+complement_is o (x ▸ y ▸ no_terms) = refl
+complement_is o (x ▸ y ▸ z ▸ ts) = refl
 
 listed_are : (kids : Terms Head) → listed (operands_read kids) ≡ operands_in kids
 listed_are no_terms = refl
@@ -110,31 +125,39 @@ with_all (t ▸ ts) o = with_all ts (with_operand o (operand_of t)) ∙ effects_
 read_is : (h : Head) (i : Instruction) (kids : Terms Head) → instr_of_head h ≡ Some i →
     with_operands (alone_read i (operands_read kids)) (operands_read kids) ≡ operand_of (node h kids)
 read_is h i kids e = with_all kids (alone_read i (operands_read kids)) ∙ same_fields
-    (sym (ap instruction_byte e)) (number_is integer.I32 h i kids e) (number_is integer.I64 h i kids e) (sym (ap is_value e))
+    (sym (ap instruction_byte e)) (number_is integer.I32 h i kids e) (number_is integer.I64 h i kids e) (local_is h i kids e)
+    (sym (ap is_value e))
     (sym (ap (λ o. is_writer o || any_writes kids) e)) (sym (ap (λ o. is_trapper o || any_may_trap kids) e))
-    (sym (ap (λ o. is_asker o || any_asks kids) e)) (values_are kids)
+    (sym (ap (λ o. is_asker o || any_asks kids) e)) (values_are kids) (single_is kids)
+    (complement_is (instruction_byte (Some i)) kids ∙ sym (ap (λ o. complements_in (instruction_byte o) kids) e))
   where
-    same_fields : {a b : Option ℕ} {c d e f : Option ℕ} {g h i j k l m n : Bool} {u v : Option (Bool × Bool)} →
-        a ≡ b → c ≡ d → e ≡ f → g ≡ h → i ≡ j → k ≡ l → m ≡ n → u ≡ v → let before : Operand = record {
+    same_fields : {a b : Option ℕ} {c d e f p q : Option ℕ} {g h i j k l m n : Bool} {u v : Option (Bool × Bool)} {w x y z : Bool} →
+        a ≡ b → c ≡ d → e ≡ f → p ≡ q → g ≡ h → i ≡ j → k ≡ l → m ≡ n → u ≡ v → w ≡ x → y ≡ z → let before : Operand = record {
           opcode = a;
           i32_number = c;
           i64_number = e;
+          local = p;
           one_value = g;
           writes = i;
           may_trap = k;
           asks = m;
           values = u;
+          single = w;
+          complement = y;
         } in before ≡ record {
           opcode = b;
           i32_number = d;
           i64_number = f;
+          local = q;
           one_value = h;
           writes = j;
           may_trap = l;
           asks = n;
           values = v;
+          single = x;
+          complement = z;
         }
-    same_fields p q r s t w x y = rw (p, q, r, s, t, w, x, y) refl
+    same_fields p q r l s t w x y z o = rw (p, q, r, l, s, t, w, x, y, z, o) refl
 
 -- ---- the whole shape
 

@@ -1,3 +1,4 @@
+pub mod RuleLemmas
 pub mod ByteLemmas
 pub mod RowLemmas
 pub mod PureLemmas
@@ -16,7 +17,10 @@ pub mod ElementLemmas
 pub mod NegationLemmas
 pub mod DistributionLemmas
 pub mod ExtensionLemmas
+pub mod InnerLemmas
+pub mod TeeLemmas
 pub mod SelectLemmas
+pub mod SameLemmas
 pub mod TrapLemmas
 pub mod ForgetLemmas
 pub mod FoldLemmas
@@ -30,5 +34,6 @@ pub mod TurnedLemmas
 pub mod ReadingLemmas
 pub mod InstructionLemmas
 pub mod ChoiceLemmas
+pub mod CandidateLemmas
 pub mod ApplyLemmas
 pub mod WrittenLemmas

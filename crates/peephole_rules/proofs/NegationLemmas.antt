@@ -196,6 +196,11 @@ truth : (b e : Bool) (s : State) → e ≡ not b →
 truth true e s k = subst (λ (x : Bool). Ends (whole integer.I32 1 ∷ []) s ≡ act (operation (eqz integer.I32)) (whole integer.I32 (if x then 1 else 0) ∷ []) s) (sym k) refl
 truth false e s k = subst (λ (x : Bool). Ends (whole integer.I32 0 ∷ []) s ≡ act (operation (eqz integer.I32)) (whole integer.I32 (if x then 1 else 0) ∷ []) s) (sym k) refl
 
+-- and the test of that
+pub truth_twice : (b : Bool) (s : State) → Ends (whole integer.I32 (if not b then 1 else 0) ∷ []) s
+    ≡ act (operation (eqz integer.I32)) (whole integer.I32 (if b then 1 else 0) ∷ []) s
+truth_twice b s = truth (not b) b s (not_twice b)
+
 numbers_tested : (t : IntegerType) (c d : Comparison) → AreOpposite t c d → (ns : List ℕ) (s : State) →
     applied (compare t c) ns s ≡ then_run (applied (compare t d) ns s) (act (operation (eqz integer.I32)))
 unfolding AreOpposite
@@ -221,6 +226,24 @@ then_equal : (o : Outcome) (f g : List Value → State → Outcome) → ((vs : L
 then_equal (Ends vs s) f g k = k vs s
 then_equal (Traps c gs r) f g k = refl
 then_equal Stuck f g k = refl
+
+pub differs : AreOf 0x47 0x52 (λ t. compare t ne)
+unfolding table row_at
+differs = are_of 0x47 0x52 (λ t. compare t ne) refl refl refl refl refl refl
+
+-- an i64 with an i32's number in its low half, wrapped
+pub wrapped_back : (v : Value) (n : ℕ) (s : State) → v.type ≡ type_of integer.I32 → n % 2 ^ 64 % 2 ^ 32 ≡ v.number →
+    act (operation wrap) (whole integer.I64 n ∷ []) s ≡ Ends (v ∷ []) s
+wrapped_back v n s hv e =
+    act_one (type_of integer.I64) wrap (whole integer.I64 n) s refl refl ∙ ap (λ y. Ends (y ∷ []) s) (again integer.I32 v (n % 2 ^ 64) hv e)
+
+pub low_half : (n : ℕ) → n < 2 ^ 32 → n % 2 ^ 64 % 2 ^ 32 ≡ n
+low_half n l = let wide : n < 2 ^ 64 = omega arith in ap (λ m. m % 2 ^ 32) (mod-eq_of_lt wide) ∙ mod-eq_of_lt l
+
+pub back_again : (v : Value) (s : State) → v.type ≡ type_of integer.I32 → v.number < 2 ^ 32 →
+    then_run (act (operation extend_i32_u) (v ∷ []) s) (act (operation wrap)) ≡ Ends (v ∷ []) s
+back_again v s hv l =
+    ap (λ o. then_run o (act (operation wrap))) (act_one (type_of integer.I32) extend_i32_u v s refl hv) ∙ wrapped_back v v.number s hv (low_half v.number l)
 
 module _ (rows : MeanByTheirRows) (sound : LeavesItsTypes) (laws : IsCongruence) where
   pub negate_comparison_keeps : KeepsMeaning negate_comparison
@@ -249,18 +272,10 @@ module _ (rows : MeanByTheirRows) (sound : LeavesItsTypes) (laws : IsCongruence)
 
   -- ---- a value that is not 0
 
-  differs : AreOf 0x47 0x52 (λ t. compare t ne)
-  unfolding table row_at
-  differs = are_of 0x47 0x52 (λ t. compare t ne) refl refl refl refl refl refl
-
   pub difference_to_tests_keeps : KeepsMeaning difference_to_tests
   difference_to_tests_keeps = kept rows sound laws 0x47 0x52 (λ t. compare t ne) differs (λ t. refl)
       (λ t x n. answer_if (n == 0) (one (operator 0x45) (one (operator (of_type t 0x45 0x50)) x))) go
     where
-      twice : (b : Bool) (s : State) → Ends (whole integer.I32 (if not b then 1 else 0) ∷ []) s
-          ≡ act (operation (eqz integer.I32)) (whole integer.I32 (if b then 1 else 0) ∷ []) s
-      twice b s = truth (not b) b s (not_twice b)
-
       made : (t : IntegerType) (x : Term Head) (n : ℕ) → n ≡ 0 → Replaces rows sound t (compare t ne) x n (one (operator 0x45) (one (operator (of_type t 0x45 0x50)) x))
       made t x n z =
           let d = written_does (of_type t 0x45 0x50) (operation (eqz t)) (tests.written t) (tests.row t) in
@@ -273,7 +288,7 @@ module _ (rows : MeanByTheirRows) (sound : LeavesItsTypes) (laws : IsCongruence)
                 ∙ (ap (λ o. then_run o (act (operation (eqz integer.I32)))) (one_means rows words (eqz t) d x s)
                 ∙ then_then (meaning_of words x s) (act (operation (eqz t))) (act (operation (eqz integer.I32))));
             same = λ v s hv l. ap (λ m. applied (compare t ne) (v.number ∷ m ∷ []) s) z
-                ∙ (twice (v.number == 0) s ∙ sym (ap (λ o. then_run o (act (operation (eqz integer.I32)))) (act_one (type_of t) (eqz t) v s refl hv)));
+                ∙ (truth_twice (v.number == 0) s ∙ sym (ap (λ o. then_run o (act (operation (eqz integer.I32)))) (act_one (type_of t) (eqz t) v s refl hv)));
           }
 
       go : (t : IntegerType) (x u : Term Head) (n : ℕ) → n < 2 ^ bits (width_of t) →
@@ -292,19 +307,6 @@ module _ (rows : MeanByTheirRows) (sound : LeavesItsTypes) (laws : IsCongruence)
   unfolding table row_at
   extends = written_does 0xad (operation extend_i32_u) refl refl
 
-  back_again : (v : Value) (s : State) → v.type ≡ type_of integer.I32 → v.number < 2 ^ 32 →
-      Ends (v ∷ []) s ≡ then_run (act (operation extend_i32_u) (v ∷ []) s) (act (operation wrap))
-  back_again v s hv l =
-      sym (ap (λ o. then_run o (act (operation wrap))) (act_one (type_of integer.I32) extend_i32_u v s refl hv)
-      ∙ (act_one (type_of integer.I64) wrap (whole integer.I64 v.number) s refl refl
-      ∙ ap (λ y. Ends (y ∷ []) s) (again integer.I32 v (v.number % 2 ^ 64) hv (wide v.number l))))
-    where
-      wide : (n : ℕ) → n < 2 ^ 32 → n % 2 ^ 64 % 2 ^ 32 ≡ n
-      wide n l = ap (λ m. m % 2 ^ 32) (mod-eq_of_lt (wider n l)) ∙ mod-eq_of_lt l
-        where
-          wider : (n : ℕ) → n < 2 ^ 32 → n < 2 ^ 64
-          wider n l = omega arith
-
   pub wrap_extended_keeps : (t : IntegerType) (x u : Term Head) → wrap_extended t x ≡ Some u → AgreeOfType t x u
   wrap_extended_keeps integer.I32 x u made context typed w us vs =
       let inner = one (operator 0xad) x in
@@ -314,7 +316,7 @@ module _ (rows : MeanByTheirRows) (sound : LeavesItsTypes) (laws : IsCongruence)
       (one_types rows context (type_of integer.I64) wrap wraps inner refl (one_types rows context (type_of integer.I32) extend_i32_u extends x refl typed))
       (λ s hs. sym (then_ends (meaning_of vs x s))
       ∙ (then_same context (type_of integer.I32) (meaning_of vs x s) Ends (λ ws m. then_run (act (operation extend_i32_u) ws m) (act (operation wrap)))
-      (sound context (type_of integer.I32 ∷ []) vs x s typed hs) (λ v m hv iv hm. back_again v m hv (below integer.I32 v hv iv))
+      (sound context (type_of integer.I32 ∷ []) vs x s typed hs) (λ v m hv iv hm. sym (back_again v m hv (below integer.I32 v hv iv)))
       ∙ sym (one_means rows vs wrap wraps inner s ∙ (ap (λ o. then_run o (act (operation wrap))) (one_means rows vs extend_i32_u extends x s)
       ∙ then_then (meaning_of vs x s) (act (operation extend_i32_u)) (act (operation wrap)))))))
   wrap_extended_keeps integer.I64 x u made context typed w us vs = absurd cc

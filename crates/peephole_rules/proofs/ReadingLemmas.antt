@@ -1,7 +1,7 @@
 -- What is read of a node is what its term says.
 use Rattle.std.proofs.Common.{◌≡◌, ℕ, ◌<◌, ◌≤◌, Bool, List, [], ◌∷◌, length, get_or, Option, Some, None, refl, sym, ap, ap₂, ◌∙◌, subst, arith}
 use Rattle.std.specs.Prelude.{◌==◌, ◌≢◌, false, option_and_then}
-use Rattle.std.proofs.lemmas.Bool.{true≢false}
+use Rattle.std.proofs.lemmas.Bool.{true≢false, ne_eqb}
 use Rattle.std.specs.List.{All}
 use Rattle.mutate_base.specs.declared.types.PrimitiveTypeInfo.{PrimitiveTypeInfo}
 use Rattle.peephole_nodes.specs.declared.id.Id.{Id}
@@ -18,13 +18,14 @@ use Rattle.peephole_machine.specs.declared.integer.IntegerType.TheVariants as in
 use Rattle.peephole_rules.specs.declared.shape.Operand.{Operand}
 use Rattle.peephole_rules.specs.declared.shape.Operands.{Operands}
 use Rattle.peephole_rules.specs.declared.shape.Operands.TheVariants.{Leaf, One, Two, Three, More}
-use Rattle.peephole_rules.specs.Operator.{opcode_byte, is_value, has_one_value, constant_number}
+use Rattle.peephole_rules.specs.Operator.{opcode_byte, is_value, has_one_value, local_of, constant_number}
 use Rattle.peephole_rules.specs.Effects.{writes, may_trap, asks}
+use Rattle.peephole_rules.specs.Rewriting.{complements_by}
 use Rattle.peephole_rules.specs.ValueTypes.{integer_of, head_type, first_types, type_of_value}
 use Rattle.peephole_rules.specs.Grafted.{expression_nodes, term_at, term_over}
 use Rattle.peephole_rules.proofs.StandingLemmas.{past_end}
 use Rattle.peephole_rules.proofs.FlagLemmas.{count_of}
-use Rattle.peephole_rules.specs.Shape.{values_in, operand_of, operands_in, operands_of, shape_of}
+use Rattle.peephole_rules.specs.Shape.{values_in, is_single, complements_in, operand_of, operands_in, operands_of, shape_of}
 
 pub root_at : (nodes : List Lang) (at : ℕ) (l : Lang) → at < length nodes → l ≡ get_or nodes at l → AreBelow (expression_nodes nodes) →
     term_at nodes at ≡ term_over (term_at nodes) l
@@ -82,27 +83,54 @@ module _ (f : ℕ → Term Head) where
   two_values (x ∷ y ∷ []) d e a b h p q = ap₂ (λ m n. Some (m, n)) p q
   two_values (x ∷ y ∷ z ∷ ids) d e a b h p q = absurd (omega arith)
 
+-- whether it is a complement
+pub complement_told : (f : ℕ → Term Head) (l : Lang) (ids : List Id) (o : Option ℕ) (d : Id) (b : Bool) → ids ≡ ids_of l → length ids ≡ 2 →
+    b ≡ complements_by o (constant_number integer.I32 (f (get_or ids 1 d).0)) (constant_number integer.I64 (f (get_or ids 1 d).0)) →
+    b ≡ complements_in o (pick f (children_of l))
+complement_told f l ids o d b same h p = go ids h p ∙ ap (λ (x : List Id). complements_in o (pick f (numbers_of x))) same
+  where
+    go : (ids : List Id) → length ids ≡ 2 →
+        b ≡ complements_by o (constant_number integer.I32 (f (get_or ids 1 d).0)) (constant_number integer.I64 (f (get_or ids 1 d).0)) →
+        b ≡ complements_in o (pick f (numbers_of ids))
+    go [] h p = absurd (omega arith)
+    go (x ∷ []) h p = absurd (omega arith)
+    go (x ∷ y ∷ []) h p = p
+    go (x ∷ y ∷ z ∷ ids) h p = absurd (omega arith)
+
+-- whether there is one
+pub single_told : (f : ℕ → Term Head) (l : Lang) (ids : List Id) (b : Bool) → ids ≡ ids_of l → b ≡ (length ids == 1) → b ≡ is_single (pick f (children_of l))
+single_told f l ids b same told = told ∙ (go ids ∙ ap (λ (x : List Id). is_single (pick f (numbers_of x))) same)
+  where
+    go : (ids : List Id) → (length ids == 1) ≡ is_single (pick f (numbers_of ids))
+    go [] = refl
+    go (x ∷ []) = refl
+    go (x ∷ y ∷ ids) = ne_eqb (length (x ∷ y ∷ ids)) 1 (λ e. absurd (omega arith))
+
 -- ---- an operand
 
 pub operand_told : (nodes : List Lang) (at : ℕ) (l : Lang) (o : Operand) → at < length nodes → l ≡ get_or nodes at l →
     AreBelow (expression_nodes nodes) → o.opcode ≡ opcode_byte (head_of l) → o.i32_number ≡ constant_number integer.I32 (term_over (term_at nodes) l) →
-    o.i64_number ≡ constant_number integer.I64 (term_over (term_at nodes) l) → o.one_value ≡ is_value (instr_of_head (head_of l)) →
+    o.i64_number ≡ constant_number integer.I64 (term_over (term_at nodes) l) → o.local ≡ local_of (term_over (term_at nodes) l) → o.one_value ≡ is_value (instr_of_head (head_of l)) →
     o.writes ≡ writes (term_at nodes at) → o.may_trap ≡ may_trap (term_at nodes at) → o.asks ≡ asks (term_at nodes at) →
-    o.values ≡ values_in (pick (term_at nodes) (children_of l)) →
+    o.values ≡ values_in (pick (term_at nodes) (children_of l)) → o.single ≡ is_single (pick (term_at nodes) (children_of l)) →
+    o.complement ≡ complements_in (opcode_byte (head_of l)) (pick (term_at nodes) (children_of l)) →
     o ≡ operand_of (term_at nodes at)
-operand_told nodes at l o inside is below p q r s w t a v =
+operand_told nodes at l o inside is below p q r n s w t a v u m =
     let k = root_at nodes at l inside is below in
-    rebuilt o ∙ (rw (p, q, r, s, w, t, a, v) (rw k refl))
+    rebuilt o ∙ (rw (p, q, r, n, s, w, t, a, v, u, m) (rw k refl))
   where
     rebuilt : (o : Operand) → o ≡ record {
       opcode = o.opcode;
       i32_number = o.i32_number;
       i64_number = o.i64_number;
+      local = o.local;
       one_value = o.one_value;
       writes = o.writes;
       may_trap = o.may_trap;
       asks = o.asks;
       values = o.values;
+      single = o.single;
+      complement = o.complement;
     }
     rebuilt o = refl
 
@@ -115,6 +143,14 @@ module _ (f : ℕ → Term Head) (t : IntegerType) (l : Lang) where
       go : (t : IntegerType) (ids : List Id) → length ids ≢ 0 → None ≡ constant_number t (node (head_of l) (pick f (numbers_of ids)))
       go t [] d = absurd (d refl)
       go t (x ∷ ids) d = refl
+
+module _ (f : ℕ → Term Head) (l : Lang) where
+  pub no_local : (ids : List Id) → ids ≡ ids_of l → length ids ≢ 0 → None ≡ local_of (term_over f l)
+  no_local ids e d = subst (λ (x : List Id). None ≡ local_of (node (head_of l) (pick f (numbers_of x)))) e (go ids d)
+    where
+      go : (ids : List Id) → length ids ≢ 0 → None ≡ local_of (node (head_of l) (pick f (numbers_of ids)))
+      go [] d = absurd (d refl)
+      go (x ∷ ids) d = refl
 
 pub ids_inside : (nodes : List Lang) (l : Lang) (ids : List Id) → ids ≡ ids_of l → All (λ i. i < length nodes) (children_of l) →
     All (λ i. i < length nodes) (numbers_of ids)

@@ -29,10 +29,13 @@ use Rattle.peephole_rules.proofs.ForgetLemmas.{forget_keeps}
 use Rattle.peephole_rules.proofs.FoldLemmas.{fold_keeps}
 use Rattle.peephole_rules.proofs.WayLemmas.{by_way_of_global_keeps, as_a_sum_keeps, with_nop_keeps}
 use Rattle.peephole_rules.proofs.DoubleLemmas.{product_to_double_keeps, shift_to_double_keeps}
+use Rattle.peephole_rules.proofs.SameLemmas.{cancel_sub_keeps, cancel_xor_keeps, drop_or_self_keeps, drop_and_self_keeps, double_to_product_keeps, double_to_shift_keeps, drop_select_keeps}
 use Rattle.peephole_rules.proofs.ElementLemmas.{and_zero_keeps, mul_zero_keeps, or_ones_keeps, drop_and_zero_keeps, drop_mul_zero_keeps, drop_or_ones_keeps}
 use Rattle.peephole_rules.proofs.NegationLemmas.{negate_comparison_keeps, difference_to_tests_keeps, wrap_extended_keeps, drop_negation_keeps}
-use Rattle.peephole_rules.proofs.DistributionLemmas.{distribute_product_keeps, distribute_mask_keeps, complement_of_and_keeps, complement_of_or_keeps}
+use Rattle.peephole_rules.proofs.DistributionLemmas.{distribute_product_keeps, distribute_mask_keeps, complement_of_and_keeps, complement_of_or_keeps, or_of_complements_keeps, and_of_complements_keeps}
 use Rattle.peephole_rules.proofs.ExtensionLemmas.{extension_to_shifts_keeps}
+use Rattle.peephole_rules.proofs.InnerLemmas.{tests_to_difference_keeps, drop_wrap_extended_keeps}
+use Rattle.peephole_rules.proofs.TeeLemmas.{tee_to_set_keeps}
 
 module _ (rows : MeanByTheirRows) (sound : LeavesItsTypes) (laws : IsCongruence) where
   -- a rule of a type, on a term whose type is known
@@ -133,6 +136,13 @@ module _ (rows : MeanByTheirRows) (sound : LeavesItsTypes) (laws : IsCongruence)
   rewrite_keeps context rule.RotrToRotl x u e = rotr_to_rotl_keeps rows sound laws x u e context
   rewrite_keeps context rule.ProductToDouble x u e = product_to_double_keeps rows sound laws x u e context
   rewrite_keeps context rule.ShiftToDouble x u e = shift_to_double_keeps rows sound laws x u e context
+  rewrite_keeps context rule.CancelSub x u e = cancel_sub_keeps rows sound laws x u e context
+  rewrite_keeps context rule.CancelXor x u e = cancel_xor_keeps rows sound laws x u e context
+  rewrite_keeps context rule.DropOrSelf x u e = drop_or_self_keeps rows sound laws x u e context
+  rewrite_keeps context rule.DropAndSelf x u e = drop_and_self_keeps rows sound laws x u e context
+  rewrite_keeps context rule.DoubleToProduct x u e = double_to_product_keeps rows sound laws x u e context
+  rewrite_keeps context rule.DoubleToShift x u e = double_to_shift_keeps rows sound laws x u e context
+  rewrite_keeps context rule.DropSelect x u e = drop_select_keeps rows sound laws x u e context
   rewrite_keeps context rule.AndZero x u e = and_zero_keeps rows sound laws x u e context
   rewrite_keeps context rule.MulZero x u e = mul_zero_keeps rows sound laws x u e context
   rewrite_keeps context rule.OrOnes x u e = or_ones_keeps rows sound laws x u e context
@@ -148,3 +158,8 @@ module _ (rows : MeanByTheirRows) (sound : LeavesItsTypes) (laws : IsCongruence)
   rewrite_keeps context rule.ComplementOfAnd x u e = complement_of_and_keeps rows sound laws x u e context
   rewrite_keeps context rule.ComplementOfOr x u e = complement_of_or_keeps rows sound laws x u e context
   rewrite_keeps context rule.ExtensionToShifts x u e = extension_to_shifts_keeps rows sound laws x u e context
+  rewrite_keeps context rule.TestsToDifference x u e = tests_to_difference_keeps rows sound laws x u e context
+  rewrite_keeps context rule.DropWrapExtended x u e = drop_wrap_extended_keeps rows sound laws x u e context
+  rewrite_keeps context rule.OrOfComplements x u e = or_of_complements_keeps rows sound laws x u e context
+  rewrite_keeps context rule.AndOfComplements x u e = and_of_complements_keeps rows sound laws x u e context
+  rewrite_keeps context rule.TeeToSet x u e = tee_to_set_keeps rows sound laws x u e context

@@ -16,7 +16,7 @@ pub record HasRow (h : Head) (byte : ℕ) : Type 0 where
   pub instr_is : instr_of_head h ≡ Some instr
   pub opcode_is : opcode_in (row_at instr.row) ≡ Some (Byte byte)
 
-byte_is : (o : Option Opcode) (byte : ℕ) → byte_of o ≡ Some byte → o ≡ Some (Byte byte)
+pub byte_is : (o : Option Opcode) (byte : ℕ) → byte_of o ≡ Some byte → o ≡ Some (Byte byte)
 byte_is (Some (Byte b)) byte e = cc
 byte_is (Some (Fc n)) byte e = absurd cc
 byte_is (Some (Fd n)) byte e = absurd cc

@@ -34,13 +34,13 @@ use Rattle.peephole_rules.proofs.SequenceLemmas.{then_then, then_same, behind_on
 -- ---- types
 
 -- what a select takes and gives
-record Selects (list us : List PrimitiveTypeInfo) : Type 0 where
-  type : PrimitiveTypeInfo
-  numeric : is_numeric type ≡ true
-  takes : us ≡ type ∷ type ∷ primitive.I32 ∷ []
-  gives : type ∷ [] ≡ list
+pub record Selects (list us : List PrimitiveTypeInfo) : Type 0 where
+  pub type : PrimitiveTypeInfo
+  pub numeric : is_numeric type ≡ true
+  pub takes : us ≡ type ∷ type ∷ primitive.I32 ∷ []
+  pub gives : type ∷ [] ≡ list
 
-selects : (context : Context) (us list : List PrimitiveTypeInfo) → row_types context select us ≡ Some list → Selects list us
+pub selects : (context : Context) (us list : List PrimitiveTypeInfo) → row_types context select us ≡ Some list → Selects list us
 selects context [] list e = absurd cc
 selects context (t ∷ []) list e = absurd cc
 selects context (t ∷ u ∷ []) list e = absurd cc
@@ -62,7 +62,7 @@ three_types context x y z t u v a b c = rw (a, b, c) refl
 
 -- ---- values
 
-act_select : (t : PrimitiveTypeInfo) (v w u : Value) (s : State) → is_numeric t ≡ true → v.type ≡ t → w.type ≡ t → u.type ≡ primitive.I32 →
+pub act_select : (t : PrimitiveTypeInfo) (v w u : Value) (s : State) → is_numeric t ≡ true → v.type ≡ t → w.type ≡ t → u.type ≡ primitive.I32 →
     act select (v ∷ w ∷ u ∷ []) s ≡ Ends ((if u.number == 0 then w else v) ∷ []) s
 act_select t v w u s h hv hw hu =
     act_is select (v ∷ w ∷ u ∷ []) (v.type ∷ []) s

@@ -10,12 +10,12 @@ use Rattle.peephole_lang.specs.declared.lang.Head.{Head}
 use Rattle.peephole_lang.specs.declared.lang.Lang.{Lang}
 use Rattle.peephole_lang.specs.Lang.{ids_of}
 use Rattle.peephole_lang.specs.Node.{head_of, children_of, node_of}
-use Rattle.peephole_lang.specs.Term.{Term, node, no_terms, ◌▸◌, Node, pick, tree_at, AreBelow, numbers_of}
+use Rattle.peephole_lang.specs.Term.{Term, Terms, node, no_terms, ◌▸◌, Node, pick, tree_at, AreBelow, numbers_of}
 use Rattle.peephole_lang.specs.laws.PlaceLemmas.{IsAt, at_place, children_in, tree_is}
-use Rattle.peephole_rules.specs.declared.replacement.Replacement.TheVariants.{Swap, Turn, GroupLeft, GroupRight, First, TurnSelect, Negated, InnerBy, Distribute}
+use Rattle.peephole_rules.specs.declared.replacement.Replacement.TheVariants.{Swap, Turn, GroupLeft, GroupRight, First, TurnSelect, Negated, InnerBy, Distribute, InnerWith, Inner, Collect}
 use Rattle.peephole_rules.specs.Operator.{operator}
 use Rattle.peephole_rules.specs.Grafted.{expression_nodes, term_at}
-use Rattle.peephole_rules.specs.Replacement.{term_by, CanReplace, HasTwo, CanBeWritten, Replaces, HasTwoInner, AreInner}
+use Rattle.peephole_rules.specs.Replacement.{term_by, CanReplace, HasTwo, CanBeWritten, Replaces, HasTwoInner, AreInner, HasOne, HasOneInner, IsInner, HasTwiceTwo, IsFirst, AreFirst}
 use Rattle.peephole_rules.proofs.GraftLemmas.{at_last, at_earlier, at_writable}
 use Rattle.peephole_machine.specs.declared.integer.IntegerType.{IntegerType}
 
@@ -84,6 +84,44 @@ module _ (h : Head) (f : ℕ → Term Head) where
       HasTwoInner (node h (pick f is))
   distributed_two outer inner t number [] k = absurd k
   distributed_two outer inner t number (i ∷ is) k = k.0
+
+  pub has_one : (is : List ℕ) → HasOne (node h (pick f is)) → length is ≡ 1
+  has_one [] k = absurd k
+  has_one (i ∷ []) k = refl
+  has_one (i ∷ j ∷ is) k = absurd k
+
+  pub inner_with_one : (byte : ℕ) (t : IntegerType) (number : ℕ) (is : List ℕ) → CanReplace (InnerWith byte t number) (node h (pick f is)) →
+      HasOneInner (node h (pick f is))
+  inner_with_one byte t number [] k = absurd k
+  inner_with_one byte t number (i ∷ is) k = k.0
+
+  pub inner_one : (is : List ℕ) → CanReplace Inner (node h (pick f is)) → HasOneInner (node h (pick f is))
+  inner_one [] k = absurd k
+  inner_one (i ∷ is) k = k
+
+  pub has_one_inner : (is : List ℕ) → HasOneInner (node h (pick f is)) → 0 < length is
+  has_one_inner [] k = absurd k
+  has_one_inner (i ∷ is) k = omega arith
+
+  pub only_inner_of : (is : List ℕ) (i : ℕ) (rest : List ℕ) (g : Head) (js : List ℕ) → is ≡ i ∷ rest → f i ≡ node g (pick f js) →
+      HasOneInner (node h (pick f is)) → HasOne (node g (pick f js))
+  only_inner_of is i rest g js e k fits = subst HasOne k (subst (λ (ks : List ℕ). HasOneInner (node h (pick f ks))) e fits)
+
+  pub collected_two : (inner outer : ℕ) (t : IntegerType) (number : ℕ) (is : List ℕ) → CanReplace (Collect inner outer t number) (node h (pick f is)) →
+      HasTwiceTwo (node h (pick f is))
+  collected_two inner outer t number [] k = absurd k
+  collected_two inner outer t number (i ∷ []) k = absurd k
+  collected_two inner outer t number (i ∷ j ∷ []) k = k.0
+  collected_two inner outer t number (i ∷ j ∷ l ∷ is) k = absurd k
+
+  pub twice_two : (is : List ℕ) → HasTwiceTwo (node h (pick f is)) → length is ≡ 2
+  twice_two [] k = absurd k
+  twice_two (i ∷ []) k = absurd k
+  twice_two (i ∷ j ∷ []) k = refl
+  twice_two (i ∷ j ∷ l ∷ is) k = absurd k
+
+  pub each_two : (is : List ℕ) (i j : ℕ) → is ≡ i ∷ j ∷ [] → HasTwiceTwo (node h (pick f is)) → HasTwo (f i) × HasTwo (f j)
+  each_two is i j e k = subst (λ (ks : List ℕ). HasTwiceTwo (node h (pick f ks))) e k
 
   -- of a node's first child
   pub has_inner : (is : List ℕ) → HasTwoInner (node h (pick f is)) → 0 < length is
@@ -173,6 +211,17 @@ module _ (earlier : List (Node Head)) where
     writable = λ a b. (stays_writable m copy hc (at_writable there b), b);
   })
 
+  pub inner_replaces : (n m copy : Node Head) (i : ℕ) (h : Head) (rest : Terms Head) (new : List (Node Head)) →
+      node n.head (pick (tree_at earlier) n.children) ≡ node n.head (node h (tree_at earlier i ▸ no_terms) ▸ rest) → IsAt m earlier i → AreBelow earlier →
+      copy.head ≡ m.head → copy.children ≡ m.children → new ≡ copy ∷ earlier → Replaces Inner n earlier new
+  inner_replaces n m copy i h rest new is there below hc kc e = subst (Replaces Inner n earlier) (sym e) (record {
+    count = omega arith;
+    root = ap (tree_at (copy ∷ earlier)) (let k : length earlier + 0 ≡ length earlier = omega arith in k)
+        ∙ (new_one copy m.head m.children hc kc ∙ (sym (tree_is there below) ∙ ap (term_by Inner) (sym is)));
+    kept = past_one copy;
+    writable = λ a b. (stays_writable m copy hc (at_writable there b), b);
+  })
+
   pub left_replaces : (n m last group : Node Head) (x y z i : ℕ) (mid new : List (Node Head)) → n.children ≡ x ∷ i ∷ [] → m.children ≡ y ∷ z ∷ [] →
       IsAt m earlier i → AreBelow earlier → z < length earlier → group.head ≡ m.head → group.children ≡ x ∷ y ∷ [] → last.head ≡ n.head →
       last.children ≡ length earlier ∷ z ∷ [] → mid ≡ group ∷ earlier → new ≡ last ∷ mid → Replaces GroupLeft n earlier new
@@ -241,6 +290,45 @@ inner_are expr l m i rest x y s kl km =
           ∙ ap (λ (v : Term Head). node (head_of l) (v ▸ pick (term_at expr) rest))
           (there ∙ ap (λ (js : List ℕ). node (head_of m) (pick (term_at expr) js)) km);
     }
+
+pub first_is : (expr : List Lang) (m : Lang) (i x y : ℕ) → StandsAt expr i m → children_of m ≡ x ∷ y ∷ [] → IsFirst expr i x
+first_is expr m i x y s k = record {
+  inside = first_below (length expr) (children_of m) x y k (below_there expr i m s);
+  head = head_of m;
+  rest = term_at expr y ▸ no_terms;
+  is = term_there expr i m s ∙ ap (λ (js : List ℕ). node (head_of m) (pick (term_at expr) js)) k;
+}
+
+pub first_are : (expr : List Lang) (l : Lang) (i j x y : ℕ) → children_of l ≡ i ∷ j ∷ [] → IsFirst expr i x → IsFirst expr j y → AreFirst expr l x y
+first_are expr l i j x y k p q = record {
+  first = p.inside;
+  second = q.inside;
+  head = p.head;
+  rest = p.rest;
+  other_head = q.head;
+  other_rest = q.rest;
+  is = ap (λ (js : List ℕ). node (head_of l) (pick (term_at expr) js)) k
+      ∙ ap₂ (λ (v w : Term Head). node (head_of l) (v ▸ w ▸ no_terms)) p.is q.is;
+}
+
+pub inner_is : (expr : List Lang) (l m : Lang) (i : ℕ) (rest : List ℕ) (x : ℕ) → StandsAt expr i m → children_of l ≡ i ∷ rest →
+    children_of m ≡ x ∷ [] → IsInner expr l x
+inner_is expr l m i rest x s kl km = record {
+  inside = All-head (λ k. k < length expr) x [] (subst (λ (js : List ℕ). All (λ k. k < length expr) js) km (below_there expr i m s));
+  head = head_of m;
+  rest = pick (term_at expr) rest;
+  is = ap (λ (js : List ℕ). node (head_of l) (pick (term_at expr) js)) kl
+      ∙ ap (λ (v : Term Head). node (head_of l) (v ▸ pick (term_at expr) rest))
+      (term_there expr i m s ∙ ap (λ (js : List ℕ). node (head_of m) (pick (term_at expr) js)) km);
+}
+
+pub only_kid : (l : Lang) (ids : List Id) → ids ≡ ids_of l → length (children_of l) ≡ 1 → children_of l ≡ (get_or ids 0 (record { 0 = 0 })).0 ∷ []
+only_kid l ids e h = ap numbers_of (sym e) ∙ go ids (ap (λ (x : List Id). length (numbers_of x)) e ∙ h)
+  where
+    go : (ids : List Id) → length (numbers_of ids) ≡ 1 → numbers_of ids ≡ (get_or ids 0 (record { 0 = 0 })).0 ∷ []
+    go [] h = absurd (omega arith)
+    go (x ∷ []) h = refl
+    go (x ∷ y ∷ ids) h = absurd (omega arith)
 
 -- ---- three children
 

@@ -1,6 +1,6 @@
 -- What a rule puts in the place of a node, by what is read of the node and of its operands (this project): of every node of that
 -- shape it makes what `rewrite` says.
-use Rattle.std.specs.Prelude.{ℕ, ◌+◌, ◌-◌, ◌%◌, ◌^◌, ◌==◌, ◌&&◌, not, nat_lt, Bool, true, List, [], ◌∷◌, Option, Some, None, option_map, option_and_then, if◌then◌else◌}
+use Rattle.std.specs.Prelude.{ℕ, ◌+◌, ◌-◌, ◌%◌, ◌^◌, ◌==◌, ◌&&◌, ◌||◌, not, nat_lt, Bool, true, false, List, [], ◌∷◌, Option, Some, None, is_some, option_map, option_and_then, if◌then◌else◌}
 use mir.Val.{bits}
 use Rattle.mutate_base.specs.declared.types.PrimitiveTypeInfo.{PrimitiveTypeInfo}
 use Rattle.peephole_machine.specs.declared.integer.IntegerType.{IntegerType}
@@ -16,8 +16,8 @@ use Rattle.peephole_rules.specs.declared.shape.Operands.{Operands}
 use Rattle.peephole_rules.specs.declared.shape.Operands.TheVariants.{One, Two, Three}
 use Rattle.peephole_rules.specs.declared.shape.Shape.{Shape}
 use Rattle.peephole_rules.specs.declared.replacement.Replacement.{Replacement}
-use Rattle.peephole_rules.specs.declared.replacement.Replacement.TheVariants.{Swap, Turn, GroupLeft, GroupRight, Constant, Complements, Twice, First, FirstWith, FirstBy, TurnSelect, Unfold, UseGlobal, Nop, Empty, Number, FirstTwice, Drawn, Negated, FirstByBoth, ByBoth, InnerBy, Distribute, FirstWithBoth}
-use Rattle.peephole_rules.specs.Operator.{is_among, are_same, type_by, commutative, associative, turned, of_type, within_width, opposite_of, bits_left_out}
+use Rattle.peephole_rules.specs.declared.replacement.Replacement.TheVariants.{Swap, Turn, GroupLeft, GroupRight, Constant, Complements, Twice, First, FirstWith, FirstBy, TurnSelect, Unfold, UseGlobal, Nop, Empty, Number, FirstTwice, Drawn, Negated, FirstByBoth, ByBoth, InnerBy, Distribute, FirstWithBoth, InnerWith, Inner, Collect, SetAndGet}
+use Rattle.peephole_rules.specs.Operator.{is_among, are_same, type_by, commutative, associative, turned, of_type, within_width, opposite_of, bits_left_out, widening}
 use Rattle.peephole_rules.specs.ValueTypes.{integer_of}
 use Rattle.peephole_rules.specs.Rewriting.{answer_if, all_ones, lowest_bit, typed_constant}
 
@@ -147,6 +147,15 @@ forgotten opcode operands = None
 
 -- ---- an operator on constants
 
+abbrev pub is_constant : Operand → Bool
+is_constant x = is_some x.i32_number || is_some x.i64_number
+
+-- there are one or two operands, and they are constants; without that an operator on constants gives nothing
+abbrev pub are_constants : Operands → Bool
+are_constants (One x) = is_constant x
+are_constants (Two x y) = is_constant x && is_constant y
+are_constants operands = false
+
 -- the low bits of an operand's number, where the operand is a constant of the type
 abbrev pub typed_number : PrimitiveTypeInfo → Operand → Option ℕ
 typed_number u x = option_and_then (λ t. option_map (λ n. within_width t n) (number_of t x)) (integer_of u)
@@ -178,6 +187,31 @@ by_first operands f c = None
 abbrev pub double : ℕ → Operands → Option (IntegerType × ℕ) → Option Replacement
 double e operands c =
     by_first operands (λ x p. answer_if ((p.1 == e) && (not x.writes && not x.asks)) (FirstTwice (of_type p.0 0x6a 0x7c))) c
+
+-- both operands read the same local
+abbrev pub have_same_local : Operand → Operand → Bool
+have_same_local x y = are_same x.local y.local
+
+-- the operator's type, by its opcodes of each type, where both operands read the same local
+abbrev pub type_of_same : (i32_opcode i64_opcode : ℕ) → (opcode : Option ℕ) → Operands → Option IntegerType
+type_of_same a b opcode (Two x y) = option_and_then (λ t. answer_if (have_same_local x y) t) (type_by a b opcode)
+type_of_same a b opcode operands = None
+
+-- 0, the first operand alone, and the first operand and a number, in the place of an operator of the type on the same local twice
+abbrev pub cancelled : Option IntegerType → Option Replacement
+cancelled same = option_map (λ t. Number t 0) same
+
+abbrev pub first_of_same : Option IntegerType → Option Replacement
+first_of_same same = option_map (λ t. First) same
+
+abbrev pub same_with : (i32_opcode i64_opcode number : ℕ) → Option IntegerType → Option Replacement
+same_with a b n same = option_map (λ t. FirstWith (of_type t a b) t n) same
+
+-- the first operand of a select alone, where the first two read the same local, and the condition may neither write nor trap
+abbrev pub selected_same : (opcode : Option ℕ) → Operands → Option Replacement
+selected_same opcode (Three x y c) =
+    answer_if ((are_same opcode (Some 0x1b) && have_same_local x y) && (not c.writes && not c.may_trap)) First
+selected_same opcode operands = None
 
 -- the second operand alone, where that is the element of its type
 abbrev pub alone : (element : IntegerType → ℕ) → Operands → Option (IntegerType × ℕ) → Option Replacement
@@ -217,6 +251,32 @@ abbrev pub shifts : (opcode : Option ℕ) → Operands → Option Replacement
 shifts opcode (One x) =
     option_map (λ p. FirstWithBoth (of_type p.0 0x74 0x86) (of_type p.0 0x75 0x87) p.0 p.1) (option_and_then bits_left_out opcode)
 shifts opcode operands = None
+
+-- ---- the operand of an operand
+
+-- the opcode of the only operand, where that has one operand itself
+abbrev pub inner_opcode : Operands → Option ℕ
+inner_opcode (One x) = if x.single then x.opcode else None
+inner_opcode operands = None
+
+abbrev pub difference : (opcode inner : Option ℕ) → Option Replacement
+difference opcode inner = if are_same opcode (Some 0x45) then
+    option_map (λ t. InnerWith (of_type t 0x47 0x52) t 0) (type_by 0x45 0x50 inner) else None
+
+abbrev pub narrowed : (opcode inner : Option ℕ) → Option Replacement
+narrowed opcode inner = answer_if (are_same opcode (Some 0xa7) && is_among widening inner) Inner
+
+-- ---- complements
+
+-- the complement of what another operator makes of the first operands of both, which are complements
+abbrev pub collected : (a b c d : ℕ) → (opcode : Option ℕ) → Operands → Option Replacement
+collected a b c d opcode (Two x y) = option_and_then (λ t.
+    answer_if (x.complement && y.complement) (Collect (of_type t c d) (of_type t 0x73 0x85) t (all_ones t))) (type_by a b opcode)
+collected a b c d opcode operands = None
+
+abbrev pub set_apart : (opcode : Option ℕ) → Operands → Option Replacement
+set_apart opcode (One x) = answer_if (are_same opcode (Some 0x22)) SetAndGet
+set_apart opcode operands = None
 
 -- ---- every rule
 
@@ -270,6 +330,13 @@ choice rule.RotlToRotr s = with_rest 0x78 0x8a (number_behind 0x77 0x89 s.root.o
 choice rule.RotrToRotl s = with_rest 0x77 0x89 (number_behind 0x78 0x8a s.root.opcode s.operands)
 choice rule.ProductToDouble s = double 2 s.operands (number_behind 0x6c 0x7e s.root.opcode s.operands)
 choice rule.ShiftToDouble s = double 1 s.operands (number_behind 0x74 0x86 s.root.opcode s.operands)
+choice rule.CancelSub s = cancelled (type_of_same 0x6b 0x7d s.root.opcode s.operands)
+choice rule.CancelXor s = cancelled (type_of_same 0x73 0x85 s.root.opcode s.operands)
+choice rule.DropOrSelf s = first_of_same (type_of_same 0x72 0x84 s.root.opcode s.operands)
+choice rule.DropAndSelf s = first_of_same (type_of_same 0x71 0x83 s.root.opcode s.operands)
+choice rule.DoubleToProduct s = same_with 0x6c 0x7e 2 (type_of_same 0x6a 0x7c s.root.opcode s.operands)
+choice rule.DoubleToShift s = same_with 0x74 0x86 1 (type_of_same 0x6a 0x7c s.root.opcode s.operands)
+choice rule.DropSelect s = selected_same s.root.opcode s.operands
 choice rule.AndZero s = drawn 0x71 0x83 (λ t. 0) (typed_constant s.root.i32_number s.root.i64_number)
 choice rule.MulZero s = drawn 0x6c 0x7e (λ t. 0) (typed_constant s.root.i32_number s.root.i64_number)
 choice rule.OrOnes s = drawn 0x72 0x84 all_ones (typed_constant s.root.i32_number s.root.i64_number)
@@ -285,3 +352,8 @@ choice rule.DistributeMask s = distributed 0x72 0x84 0x72 0x84 0x71 0x83 (λ t n
 choice rule.ComplementOfAnd s = distributed 0x71 0x83 0x72 0x84 0x73 0x85 (λ t n. n == all_ones t) s.operands (number_behind 0x73 0x85 s.root.opcode s.operands)
 choice rule.ComplementOfOr s = distributed 0x72 0x84 0x71 0x83 0x73 0x85 (λ t n. n == all_ones t) s.operands (number_behind 0x73 0x85 s.root.opcode s.operands)
 choice rule.ExtensionToShifts s = shifts s.root.opcode s.operands
+choice rule.TestsToDifference s = difference s.root.opcode (inner_opcode s.operands)
+choice rule.DropWrapExtended s = narrowed s.root.opcode (inner_opcode s.operands)
+choice rule.OrOfComplements s = collected 0x72 0x84 0x71 0x83 s.root.opcode s.operands
+choice rule.AndOfComplements s = collected 0x71 0x83 0x72 0x84 s.root.opcode s.operands
+choice rule.TeeToSet s = set_apart s.root.opcode s.operands

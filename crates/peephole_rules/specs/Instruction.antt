@@ -1,6 +1,6 @@
 -- What rules read of a term, from its root's instruction and from what was read of its operands (this project): of each term that is what
 -- `shape_of` says.
-use Rattle.std.specs.Prelude.{ℕ, ◌==◌, Bool, ◌||◌, List, [], ◌∷◌, Option, Some, None, if◌then◌else◌}
+use Rattle.std.specs.Prelude.{ℕ, ◌==◌, Bool, true, false, ◌||◌, List, [], ◌∷◌, Option, Some, None, if◌then◌else◌}
 use Rattle.std.specs.Int.{w32, w64, cast_unsigned}
 use Rattle.wasm_code.specs.Instruction.{Instruction}
 use Rattle.wasm_code.specs.declared.immediate.Imm.{Imm}
@@ -12,8 +12,9 @@ use Rattle.peephole_machine.specs.declared.integer.IntegerType.TheVariants as in
 use Rattle.peephole_rules.specs.declared.shape.Operand.{Operand}
 use Rattle.peephole_rules.specs.declared.shape.Operands.{Operands}
 use Rattle.peephole_rules.specs.declared.shape.Operands.TheVariants.{Leaf, One, Two, Three, More}
-use Rattle.peephole_rules.specs.Operator.{instruction_byte, is_value, within_width}
+use Rattle.peephole_rules.specs.Operator.{instruction_byte, is_value, local_by, within_width}
 use Rattle.peephole_rules.specs.Effects.{is_writer, is_trapper, is_asker}
+use Rattle.peephole_rules.specs.Rewriting.{complements_by}
 use Rattle.peephole_rules.specs.Shape.{operand_of}
 
 -- what is read of each term, in order
@@ -32,10 +33,25 @@ abbrev pub number_read : IntegerType → Instruction → List Operand → Option
 number_read t i [] = constant_by t i.row i.imm
 number_read t i (x ∷ xs) = None
 
+-- the index of the local that an instruction on these operands reads, of which local.get has none
+abbrev pub local_read : Instruction → List Operand → Option ℕ
+local_read i [] = local_by (Some i)
+local_read i (x ∷ xs) = None
+
 -- of two operands, whether each leaves one value
 abbrev pub both_values : List Operand → Option (Bool × Bool)
 both_values (x ∷ y ∷ []) = Some (x.one_value, y.one_value)
 both_values os = None
+
+-- whether there is one
+abbrev pub single_read : List Operand → Bool
+single_read (x ∷ []) = true
+single_read os = false
+
+-- whether an operator of the opcode gives the complement of the first operand
+abbrev pub complement_read : (opcode : Option ℕ) → List Operand → Bool
+complement_read opcode (x ∷ c ∷ []) = complements_by opcode c.i32_number c.i64_number
+complement_read opcode os = false
 
 -- the operands, of which rules see up to three
 abbrev pub listed : List Operand → Operands
@@ -51,11 +67,14 @@ alone_read i os = record {
   opcode = instruction_byte (Some i);
   i32_number = number_read integer.I32 i os;
   i64_number = number_read integer.I64 i os;
+  local = local_read i os;
   one_value = is_value (Some i);
   writes = is_writer (Some i);
   may_trap = is_trapper (Some i);
   asks = is_asker (Some i);
   values = both_values os;
+  single = single_read os;
+  complement = complement_read (instruction_byte (Some i)) os;
 }
 
 -- the term may do what its operand may

@@ -12,7 +12,7 @@ use Rattle.peephole_terms.specs.Agrees.{Agree, StandsFor}
 use Rattle.peephole_rules.specs.declared.rule.Rule.{Rule}
 use Rattle.peephole_rules.specs.Operator.{constant_term}
 use Rattle.peephole_rules.specs.Effects.{may_trap}
-use Rattle.peephole_rules.specs.Rewriting.{commute, turn_comparison, add_zero, sub_zero, mul_one, or_zero, xor_zero, shift_by_zero, or_self, and_self, by_way_of_global, as_a_sum, with_nop, associate_left, associate_right, test_to_comparison, comparison_to_test, drop_add_zero, drop_sub_zero, drop_mul_one, drop_or_zero, drop_xor_zero, drop_shift_by_zero, and_ones, drop_and_ones, double_complement, difference_to_sum, sum_to_difference, shift_to_product, product_to_shift, turn_select, forget, fold, rewrite, shr_s_by_zero, shr_u_by_zero, rotl_by_zero, rotr_by_zero, drop_shr_s_by_zero, drop_shr_u_by_zero, drop_rotl_by_zero, drop_rotr_by_zero, quotient_to_shift, shift_to_quotient, remainder_to_mask, mask_to_remainder, rotl_to_rotr, rotr_to_rotl, product_to_double, shift_to_double, and_zero, mul_zero, or_ones, drop_and_zero, drop_mul_zero, drop_or_ones, negate_comparison, difference_to_tests, wrap_extended, drop_negation, distribute_product, distribute_mask, complement_of_and, complement_of_or, extension_to_shifts}
+use Rattle.peephole_rules.specs.Rewriting.{commute, turn_comparison, add_zero, sub_zero, mul_one, or_zero, xor_zero, shift_by_zero, or_self, and_self, by_way_of_global, as_a_sum, with_nop, associate_left, associate_right, test_to_comparison, comparison_to_test, drop_add_zero, drop_sub_zero, drop_mul_one, drop_or_zero, drop_xor_zero, drop_shift_by_zero, and_ones, drop_and_ones, double_complement, difference_to_sum, sum_to_difference, shift_to_product, product_to_shift, turn_select, forget, fold, rewrite, shr_s_by_zero, shr_u_by_zero, rotl_by_zero, rotr_by_zero, drop_shr_s_by_zero, drop_shr_u_by_zero, drop_rotl_by_zero, drop_rotr_by_zero, quotient_to_shift, shift_to_quotient, remainder_to_mask, mask_to_remainder, rotl_to_rotr, rotr_to_rotl, product_to_double, shift_to_double, and_zero, mul_zero, or_ones, drop_and_zero, drop_mul_zero, drop_or_ones, negate_comparison, difference_to_tests, wrap_extended, drop_negation, distribute_product, distribute_mask, complement_of_and, complement_of_or, extension_to_shifts, tests_to_difference, drop_wrap_extended, or_of_complements, and_of_complements, tee_to_set, cancel_sub, cancel_xor, drop_or_self, drop_and_self, double_to_product, double_to_shift, drop_select}
 
 -- Where the first term has types and draws no word, the second has the same types, and means the same in every state, for all words that it draws.
 abbrev pub AgreeAlways : (before after : Term Head) → Type 0
@@ -100,6 +100,13 @@ pub record RulesKeepMeaning : Type 0 where
   pub rotr_to_rotl_keeps : KeepsMeaning rotr_to_rotl
   pub product_to_double_keeps : KeepsMeaning product_to_double
   pub shift_to_double_keeps : KeepsMeaning shift_to_double
+  pub cancel_sub_keeps : KeepsMeaning cancel_sub
+  pub cancel_xor_keeps : KeepsMeaning cancel_xor
+  pub drop_or_self_keeps : KeepsMeaning drop_or_self
+  pub drop_and_self_keeps : KeepsMeaning drop_and_self
+  pub double_to_product_keeps : KeepsMeaning double_to_product
+  pub double_to_shift_keeps : KeepsMeaning double_to_shift
+  pub drop_select_keeps : KeepsMeaning drop_select
   pub and_zero_keeps : KeepsMeaning and_zero
   pub mul_zero_keeps : KeepsMeaning mul_zero
   pub or_ones_keeps : KeepsMeaning or_ones
@@ -115,5 +122,10 @@ pub record RulesKeepMeaning : Type 0 where
   pub complement_of_and_keeps : KeepsMeaning complement_of_and
   pub complement_of_or_keeps : KeepsMeaning complement_of_or
   pub extension_to_shifts_keeps : KeepsMeaning extension_to_shifts
+  pub tests_to_difference_keeps : KeepsMeaning tests_to_difference
+  pub drop_wrap_extended_keeps : KeepsMeaning drop_wrap_extended
+  pub or_of_complements_keeps : KeepsMeaning or_of_complements
+  pub and_of_complements_keeps : KeepsMeaning and_of_complements
+  pub tee_to_set_keeps : KeepsMeaning tee_to_set
   pub rewrite_keeps : (context : Context) (rule : Rule) (x u : Term Head) →
       rewrite context rule x ≡ Some u → StandsFor context x u

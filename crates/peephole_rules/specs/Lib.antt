@@ -2,6 +2,7 @@ pub mod Operator
 pub mod Effects
 pub mod ValueTypes
 pub mod Rule
+pub mod Growth
 pub mod Grafted
 pub mod Rewriting
 pub mod Flags
@@ -10,4 +11,5 @@ pub mod Instruction
 pub mod ReadAlike
 pub mod Replacement
 pub mod Choice
+pub mod Candidates
 pub mod Laws

@@ -4,6 +4,8 @@ use Rattle.std.specs.Prelude.{ℕ, ℤ, ◌+◌, ◌-◌, ◌%◌, ◌^◌, ◌=
 use Rattle.std.specs.Int.{w32, w64, cast_signed, cast_unsigned}
 use mir.Val.{bits}
 use Rattle.wasm_code.specs.Instruction.{Instruction}
+use Rattle.wasm_code.specs.declared.immediate.Imm.{Imm}
+use Rattle.wasm_code.specs.declared.immediate.Imm.TheVariants as imm
 use Rattle.wasm_code.specs.Table.{row_info_of}
 use Rattle.wasm_code.specs.declared.table.ResultKind.{ResultKind}
 use Rattle.wasm_code.specs.declared.table.ResultKind.TheVariants as results
@@ -90,6 +92,10 @@ bits_left_out byte =
     (if byte == 0xc2 then Some (integer.I64, 56) else (if byte == 0xc3 then Some (integer.I64, 48) else
     (if byte == 0xc4 then Some (integer.I64, 32) else None))))
 
+-- what makes an i64 of an i32: extend_i32_s, extend_i32_u
+abbrev pub widening : List ℕ
+widening = 0xac ∷ 0xad ∷ []
+
 -- the operators that may be grouped either way: add, mul, and, or, xor
 abbrev pub associative : List ℕ
 associative =
@@ -120,6 +126,23 @@ is_value None = false
 abbrev pub has_one_value : Term Head → Bool
 has_one_value absent = false
 has_one_value (node h kids) = is_value (instr_of_head h)
+
+-- ---- locals
+
+-- the index that an immediate is
+abbrev pub index_of : Imm → Option ℕ
+index_of (imm.Index i) = Some i
+index_of i = None
+
+-- that of the local that an instruction reads: of local.get
+abbrev pub local_by : Option Instruction → Option ℕ
+local_by (Some i) = if are_same (instruction_byte (Some i)) (Some 0x20) then index_of i.imm else None
+local_by None = None
+
+-- that of a term that is such a leaf
+abbrev pub local_of : Term Head → Option ℕ
+local_of (node h no_terms) = local_by (instr_of_head h)
+local_of x = None
 
 -- ---- nodes that rules write
 
@@ -154,6 +177,18 @@ nop_head = record { place = 12; payload = payload.Nothing }
 
 abbrev pub nop : Term Head
 nop = node nop_head no_terms
+
+-- the index in a payload, and 0 of any other
+abbrev pub index_in : Payload → ℕ
+index_in (payload.Index i) = i
+index_in p = 0
+
+-- local.set and local.get, of an index
+abbrev pub set_head : ℕ → Head
+set_head i = record { place = 17; payload = payload.Index i }
+
+abbrev pub get_head : ℕ → Head
+get_head i = record { place = 16; payload = payload.Index i }
 
 -- a drawn constant
 abbrev pub random_head : IntegerType → Head

@@ -5,9 +5,9 @@ use Rattle.peephole_nodes.specs.Payload.{is_writable}
 use Rattle.peephole_lang.specs.declared.lang.Head.{Head}
 use Rattle.peephole_lang.specs.Term.{Term, Terms, node, no_terms, ◌▸◌, Node, pick, tree_at}
 use Rattle.peephole_rules.specs.declared.replacement.Replacement.{Replacement}
-use Rattle.peephole_rules.specs.declared.replacement.Replacement.TheVariants.{Swap, Turn, GroupLeft, GroupRight, Constant, Complements, Twice, First, FirstWith, FirstBy, TurnSelect, Unfold, UseGlobal, Nop, Empty, Number, FirstTwice, Drawn, Negated, FirstByBoth, ByBoth, InnerBy, Distribute, FirstWithBoth}
-use Rattle.peephole_rules.specs.Operator.{operator, numbered, one, two, container, unfold_head, use_global_head, random}
-use Rattle.peephole_rules.specs.Rewriting.{with_nop}
+use Rattle.peephole_rules.specs.declared.replacement.Replacement.TheVariants.{Swap, Turn, GroupLeft, GroupRight, Constant, Complements, Twice, First, FirstWith, FirstBy, TurnSelect, Unfold, UseGlobal, Nop, Empty, Number, FirstTwice, Drawn, Negated, FirstByBoth, ByBoth, InnerBy, Distribute, FirstWithBoth, InnerWith, Inner, Collect, SetAndGet}
+use Rattle.peephole_rules.specs.Operator.{operator, numbered, one, two, container, unfold_head, use_global_head, random, index_in}
+use Rattle.peephole_rules.specs.Rewriting.{with_nop, set_and_get}
 use Rattle.peephole_lang.specs.declared.lang.Lang.{Lang}
 use Rattle.peephole_lang.specs.Node.{head_of}
 use Rattle.peephole_rules.specs.Grafted.{term_over, term_at}
@@ -34,6 +34,11 @@ term_by (InnerBy byte) (node h (node g (x ▸ y ▸ no_terms) ▸ ts)) = two (op
 term_by (Distribute outer inner t number) (node h (node g (x ▸ y ▸ no_terms) ▸ ts)) =
     two (operator outer) (two (operator inner) x (numbered t number)) (two (operator inner) y (numbered t number))
 term_by (FirstWithBoth inner outer t number) (node h (x ▸ ts)) = two (operator outer) (two (operator inner) x (numbered t number)) (numbered t number)
+term_by (InnerWith byte t number) (node h (node g (x ▸ us) ▸ ts)) = two (operator byte) x (numbered t number)
+term_by Inner (node h (node g (x ▸ us) ▸ ts)) = x
+term_by (Collect inner outer t number) (node h (node f (x ▸ us) ▸ node g (y ▸ vs) ▸ no_terms)) =
+    two (operator outer) (two (operator inner) x y) (numbered t number)
+term_by SetAndGet (node h (x ▸ ts)) = set_and_get (index_in h.payload) x
 term_by (Unfold t) x = one (unfold_head t) x
 term_by (UseGlobal t) x = one (use_global_head t) x
 term_by Nop x = with_nop x
@@ -62,6 +67,10 @@ more (ByBoth inner outer) = 2
 more (InnerBy byte) = 0
 more (Distribute outer inner t number) = 3
 more (FirstWithBoth inner outer t number) = 2
+more (InnerWith byte t number) = 1
+more Inner = 0
+more (Collect inner outer t number) = 2
+more SetAndGet = 2
 more (Unfold t) = 1
 more (UseGlobal t) = 1
 more Nop = 2
@@ -88,6 +97,23 @@ abbrev pub HasTwoInner : Term Head → Type 0
 HasTwoInner (node h (x ▸ ts)) = HasTwo x
 HasTwoInner x = ⊥
 
+-- a node with one child
+abbrev pub HasOne : Term Head → Type 0
+HasOne (node h (x ▸ no_terms)) = ⊤
+HasOne x = ⊥
+
+-- a node whose first child has one child
+abbrev pub HasOneInner : Term Head → Type 0
+HasOneInner (node h (x ▸ ts)) = HasOne x
+HasOneInner x = ⊥
+
+-- The node's first child has one child, which is this.
+pub record IsInner (expr : List Lang) (l : Lang) (x : ℕ) : Type 0 where
+  pub inside : x < length expr
+  pub head : Head
+  pub rest : Terms Head
+  pub is : term_over (term_at expr) l ≡ node (head_of l) (node head (term_at expr x ▸ no_terms) ▸ rest)
+
 -- The node's first child has two children, which are these.
 pub record AreInner (expr : List Lang) (l : Lang) (x y : ℕ) : Type 0 where
   pub first : x < length expr
@@ -95,6 +121,28 @@ pub record AreInner (expr : List Lang) (l : Lang) (x y : ℕ) : Type 0 where
   pub head : Head
   pub rest : Terms Head
   pub is : term_over (term_at expr) l ≡ node (head_of l) (node head (term_at expr x ▸ term_at expr y ▸ no_terms) ▸ rest)
+
+-- a node with two children, each of which has two
+abbrev pub HasTwiceTwo : Term Head → Type 0
+HasTwiceTwo (node h (x ▸ y ▸ no_terms)) = HasTwo x × HasTwo y
+HasTwiceTwo x = ⊥
+
+-- The first child of the node there is this.
+pub record IsFirst (expr : List Lang) (at x : ℕ) : Type 0 where
+  pub inside : x < length expr
+  pub head : Head
+  pub rest : Terms Head
+  pub is : term_at expr at ≡ node head (term_at expr x ▸ rest)
+
+-- The node has two children, whose first children are these.
+pub record AreFirst (expr : List Lang) (l : Lang) (x y : ℕ) : Type 0 where
+  pub first : x < length expr
+  pub second : y < length expr
+  pub head : Head
+  pub rest : Terms Head
+  pub other_head : Head
+  pub other_rest : Terms Head
+  pub is : term_over (term_at expr) l ≡ node (head_of l) (node head (term_at expr x ▸ rest) ▸ node other_head (term_at expr y ▸ other_rest) ▸ no_terms)
 
 -- The node has the children that are asked for, these have theirs, and there is such an operator.
 abbrev pub CanReplace : Replacement → Term Head → Type 0
@@ -117,6 +165,10 @@ CanReplace (ByBoth inner outer) x = IsUnary inner × IsUnary outer
 CanReplace (InnerBy byte) (node h (x ▸ ts)) = HasTwo x × IsBinary byte
 CanReplace (Distribute outer inner t number) (node h (x ▸ ts)) = HasTwo x × IsBinary outer × IsBinary inner
 CanReplace (FirstWithBoth inner outer t number) (node h (x ▸ ts)) = IsBinary inner × IsBinary outer
+CanReplace (InnerWith byte t number) (node h (x ▸ ts)) = HasOne x × IsBinary byte
+CanReplace Inner (node h (x ▸ ts)) = HasOne x
+CanReplace (Collect inner outer t number) (node h (x ▸ y ▸ no_terms)) = (HasTwo x × HasTwo y) × IsBinary inner × IsBinary outer
+CanReplace SetAndGet (node h (x ▸ ts)) = ⊤
 CanReplace (Unfold t) x = ⊤
 CanReplace (UseGlobal t) x = ⊤
 CanReplace Nop x = ⊤

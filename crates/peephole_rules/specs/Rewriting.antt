@@ -1,7 +1,7 @@
 -- What each rule makes of a term: none where its pattern or its condition isn't met (this project).
--- Conditions go by opcodes alone: a rule may have no answer where it would keep the meaning, and never has one where it would not,
+-- Conditions go by opcodes and immediates alone: a rule may have no answer where it would keep the meaning, and never has one where it would not,
 -- of a term that has types, of the type that the rule is given where it is given one.
-use Rattle.std.specs.Prelude.{ℕ, ℤ, pos, ◌+◌, ◌-◌, ◌%◌, ◌^◌, ◌==◌, ◌&&◌, not, nat_lt, Bool, true, List, [], ◌∷◌, length, Option, Some, None, option_map, option_and_then, if◌then◌else◌}
+use Rattle.std.specs.Prelude.{ℕ, ℤ, pos, ◌+◌, ◌-◌, ◌%◌, ◌^◌, ◌==◌, ◌&&◌, ◌||◌, not, nat_lt, Bool, true, List, [], ◌∷◌, length, Option, Some, None, option_map, option_and_then, if◌then◌else◌}
 use Rattle.std.specs.Int.{trailing_zeros}
 use mir.Val.{bits}
 use Rattle.mutate_base.specs.declared.types.PrimitiveTypeInfo.{PrimitiveTypeInfo}
@@ -16,7 +16,7 @@ use Rattle.peephole_machine.specs.Values.{width_of, Context}
 use Rattle.peephole_machine.specs.IntegerRow.{bare_operator}
 use Rattle.peephole_rules.specs.declared.rule.Rule.{Rule}
 use Rattle.peephole_rules.specs.declared.rule.Rule.TheVariants as rule
-use Rattle.peephole_rules.specs.Operator.{opcode_byte, is_among, are_same, type_by, commutative, turned, associative, has_one_value, operator, of_type, constant_term, one, two, container, nop, unfold_head, use_global_head, constant_number, numbered, random, opposite_of, bits_left_out}
+use Rattle.peephole_rules.specs.Operator.{opcode_byte, is_among, are_same, type_by, commutative, turned, associative, has_one_value, operator, of_type, constant_term, one, two, container, nop, unfold_head, use_global_head, constant_number, numbered, random, opposite_of, bits_left_out, widening, index_in, set_head, get_head, local_of}
 use Rattle.peephole_rules.specs.Effects.{writes, may_trap, asks}
 use Rattle.peephole_rules.specs.ValueTypes.{integer_of, type_of_value}
 use Rattle.peephole_rules.specs.Grafted.{term_at}
@@ -317,6 +317,47 @@ product_to_double t = as_double 0x6c 0x7e 2 t
 abbrev pub shift_to_double : Term Head → Option (Term Head)
 shift_to_double t = as_double 0x74 0x86 1 t
 
+-- ---- two operands that read the same local
+
+-- both read the same local
+abbrev pub same_local : Term Head → Term Head → Bool
+same_local x y = are_same (local_of x) (local_of y)
+
+-- op x x → what is made of the type and of x, which reads a local, with an operator by its opcodes of each type
+abbrev pub of_same : (i32_opcode i64_opcode : ℕ) → (IntegerType → Term Head → Term Head) → Term Head → Option (Term Head)
+of_same a b make (node h (x ▸ y ▸ no_terms)) = option_and_then (λ t. answer_if (same_local x y) (make t x)) (type_by a b (opcode_byte h))
+of_same a b make t = None
+
+-- sub x x → 0
+abbrev pub cancel_sub : Term Head → Option (Term Head)
+cancel_sub t = of_same 0x6b 0x7d (λ t x. numbered t 0) t
+
+-- xor x x → 0
+abbrev pub cancel_xor : Term Head → Option (Term Head)
+cancel_xor t = of_same 0x73 0x85 (λ t x. numbered t 0) t
+
+-- or x x → x
+abbrev pub drop_or_self : Term Head → Option (Term Head)
+drop_or_self t = of_same 0x72 0x84 (λ t x. x) t
+
+-- and x x → x
+abbrev pub drop_and_self : Term Head → Option (Term Head)
+drop_and_self t = of_same 0x71 0x83 (λ t x. x) t
+
+-- add x x → mul x 2
+abbrev pub double_to_product : Term Head → Option (Term Head)
+double_to_product t = of_same 0x6a 0x7c (λ t x. two (operator (of_type t 0x6c 0x7e)) x (numbered t 2)) t
+
+-- add x x → shl x 1
+abbrev pub double_to_shift : Term Head → Option (Term Head)
+double_to_shift t = of_same 0x6a 0x7c (λ t x. two (operator (of_type t 0x74 0x86)) x (numbered t 1)) t
+
+-- select x x c → x, where c may neither write nor trap
+abbrev pub drop_select : Term Head → Option (Term Head)
+drop_select (node h (x ▸ y ▸ c ▸ no_terms)) =
+    answer_if ((are_same (opcode_byte h) (Some 0x1b) && same_local x y) && (not (writes c) && not (may_trap c))) x
+drop_select t = None
+
 -- ---- a constant that decides alone
 
 -- op x e → e, where x may neither write nor trap, with an element for each type
@@ -419,6 +460,61 @@ extension_to_shifts (node h (x ▸ no_terms)) = option_map (λ p.
     (option_and_then bits_left_out (opcode_byte h))
 extension_to_shifts t = None
 
+-- ---- the operand of an operand
+
+-- op (op' x) → what is made of the opcodes of op and of op', and of x
+abbrev pub of_inner : ((opcode inner : Option ℕ) → Term Head → Option (Term Head)) → Term Head → Option (Term Head)
+of_inner make (node h (node g (x ▸ no_terms) ▸ no_terms)) = make (opcode_byte h) (opcode_byte g) x
+of_inner make t = None
+
+-- eqz (eqz x) → ne x 0, of the type of the inner test
+abbrev pub tests_to_difference : Term Head → Option (Term Head)
+tests_to_difference t =
+    of_inner (λ o r x. if are_same o (Some 0x45) then option_map (λ t. with_constant t 0x47 0x52 0 x) (type_by 0x45 0x50 r) else None) t
+
+-- wrap (extend x) → x, signed and unsigned
+abbrev pub drop_wrap_extended : Term Head → Option (Term Head)
+drop_wrap_extended t = of_inner (λ o r x. answer_if (are_same o (Some 0xa7) && is_among widening r) x) t
+
+-- ---- complements
+
+-- xor with a second operand that has these numbers as a constant of i32 and of i64 gives the complement of its first: the number is -1
+abbrev pub complements_by : (opcode i32_number i64_number : Option ℕ) → Bool
+complements_by opcode n m =
+    (are_same opcode (Some 0x73) && are_same n (Some (all_ones integer.I32))) || (are_same opcode (Some 0x85) && are_same m (Some (all_ones integer.I64)))
+
+-- xor x -1 → x
+abbrev pub complemented : Term Head → Option (Term Head)
+complemented (node h (x ▸ c ▸ no_terms)) =
+    answer_if (complements_by (opcode_byte h) (constant_number integer.I32 c) (constant_number integer.I64 c)) x
+complemented t = None
+
+-- op (xor x -1) (xor y -1) → xor (op' x y) -1, with the opcodes of op and of op' for each type
+abbrev pub of_complements : (a b c d : ℕ) → Term Head → Option (Term Head)
+of_complements a b c d (node h (p ▸ q ▸ no_terms)) = option_and_then (λ t.
+    option_and_then (λ x. option_map (λ y. with_ones t 0x73 0x85 (two (operator (of_type t c d)) x y)) (complemented q)) (complemented p))
+    (type_by a b (opcode_byte h))
+of_complements a b c d t = None
+
+-- or (xor x -1) (xor y -1) → xor (and x y) -1
+abbrev pub or_of_complements : Term Head → Option (Term Head)
+or_of_complements t = of_complements 0x72 0x84 0x71 0x83 t
+
+-- and (xor x -1) (xor y -1) → xor (or x y) -1
+abbrev pub and_of_complements : Term Head → Option (Term Head)
+and_of_complements t = of_complements 0x71 0x83 0x72 0x84 t
+
+-- ---- a local that is set
+
+-- local.set i x, and local.get i behind it
+abbrev pub set_and_get : ℕ → Term Head → Term Head
+set_and_get i x = container (one (set_head i) x ▸ node (get_head i) no_terms ▸ no_terms)
+
+-- local.tee i x → container (local.set i x) (local.get i)
+abbrev pub tee_to_set : Term Head → Option (Term Head)
+tee_to_set (node h (x ▸ no_terms)) = answer_if (are_same (opcode_byte h) (Some 0x22)) (set_and_get (index_in h.payload) x)
+tee_to_set t = None
+
 -- ---- the rules by their names
 
 -- the type of a constant: i32.const, i64.const
@@ -487,6 +583,13 @@ rewrite context rule.RotlToRotr x = rotl_to_rotr x
 rewrite context rule.RotrToRotl x = rotr_to_rotl x
 rewrite context rule.ProductToDouble x = product_to_double x
 rewrite context rule.ShiftToDouble x = shift_to_double x
+rewrite context rule.CancelSub x = cancel_sub x
+rewrite context rule.CancelXor x = cancel_xor x
+rewrite context rule.DropOrSelf x = drop_or_self x
+rewrite context rule.DropAndSelf x = drop_and_self x
+rewrite context rule.DoubleToProduct x = double_to_product x
+rewrite context rule.DoubleToShift x = double_to_shift x
+rewrite context rule.DropSelect x = drop_select x
 rewrite context rule.AndZero x = and_zero x
 rewrite context rule.MulZero x = mul_zero x
 rewrite context rule.OrOnes x = or_ones x
@@ -502,6 +605,11 @@ rewrite context rule.DistributeMask x = distribute_mask x
 rewrite context rule.ComplementOfAnd x = complement_of_and x
 rewrite context rule.ComplementOfOr x = complement_of_or x
 rewrite context rule.ExtensionToShifts x = extension_to_shifts x
+rewrite context rule.TestsToDifference x = tests_to_difference x
+rewrite context rule.DropWrapExtended x = drop_wrap_extended x
+rewrite context rule.OrOfComplements x = or_of_complements x
+rewrite context rule.AndOfComplements x = and_of_complements x
+rewrite context rule.TeeToSet x = tee_to_set x
 
 -- what it makes of the term of an expression's node; none where there is no such node
 abbrev pub rewrite_at : Context → Rule → List Lang → (at : ℕ) → Option (Term Head)

@@ -1,5 +1,5 @@
 -- What rules read of a term, and of its operands (this project).
-use Rattle.std.specs.Prelude.{ℕ, Bool, Option, Some, None}
+use Rattle.std.specs.Prelude.{ℕ, Bool, true, false, Option, Some, None}
 use Rattle.peephole_lang.specs.declared.lang.Head.{Head}
 use Rattle.peephole_lang.specs.Term.{Term, Terms, absent, node, no_terms, ◌▸◌}
 use Rattle.peephole_machine.specs.declared.integer.IntegerType.TheVariants as integer
@@ -8,8 +8,9 @@ use Rattle.peephole_rules.specs.declared.shape.Operand.{Operand}
 use Rattle.peephole_rules.specs.declared.shape.Operands.{Operands}
 use Rattle.peephole_rules.specs.declared.shape.Operands.TheVariants.{Leaf, One, Two, Three, More}
 use Rattle.peephole_rules.specs.declared.shape.Shape.{Shape}
-use Rattle.peephole_rules.specs.Operator.{opcode_byte, has_one_value, constant_number}
+use Rattle.peephole_rules.specs.Operator.{opcode_byte, has_one_value, local_of, constant_number}
 use Rattle.peephole_rules.specs.Effects.{writes, may_trap, asks}
+use Rattle.peephole_rules.specs.Rewriting.{complements_by}
 use Rattle.peephole_rules.specs.ValueTypes.{type_of_value}
 
 abbrev pub opcode_of : Term Head → Option ℕ
@@ -25,16 +26,37 @@ abbrev pub values_of : Term Head → Option (Bool × Bool)
 values_of absent = None
 values_of (node h kids) = values_in kids
 
+-- of terms, whether there is one
+abbrev pub is_single : Terms Head → Bool
+is_single (x ▸ no_terms) = true
+is_single ts = false
+
+abbrev pub is_on_one : Term Head → Bool
+is_on_one absent = false
+is_on_one (node h kids) = is_single kids
+
+-- whether an operator of the opcode gives the complement of the first of the terms
+abbrev pub complements_in : (opcode : Option ℕ) → Terms Head → Bool
+complements_in opcode (x ▸ c ▸ no_terms) = complements_by opcode (constant_number integer.I32 c) (constant_number integer.I64 c)
+complements_in opcode ts = false
+
+abbrev pub is_complement : Term Head → Bool
+is_complement absent = false
+is_complement (node h kids) = complements_in (opcode_byte h) kids
+
 abbrev pub operand_of : Term Head → Operand
 operand_of x = record {
   opcode = opcode_of x;
   i32_number = constant_number integer.I32 x;
   i64_number = constant_number integer.I64 x;
+  local = local_of x;
   one_value = has_one_value x;
   writes = writes x;
   may_trap = may_trap x;
   asks = asks x;
   values = values_of x;
+  single = is_on_one x;
+  complement = is_complement x;
 }
 
 abbrev pub operands_in : Terms Head → Operands

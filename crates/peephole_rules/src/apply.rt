@@ -15,11 +15,13 @@ ghost use Rattle.peephole_rules.specs.Choice.{choice};
 ghost use Rattle.peephole_rules.specs.Replacement.{IsAnswer};
 
 use crate::choice::{
-    alone_ones, alone_zero, both_tests, comparison, complements, distributed, distributed_ones,
-    double, drawn_ones, drawn_zero, forgotten, group_left, group_right, negated, number_behind,
-    shifts, swap, test, through_global, turn, turn_select, twice, typed_constant, unfolded,
-    unnegated, with_all_ones, with_divisor, with_mask, with_number, with_opposite, with_place,
-    with_power, with_rest, without, without_all_ones, wrapped,
+    alone_ones, alone_zero, both_tests, cancelled, collected, comparison, complements, difference,
+    distributed, distributed_ones, double, drawn_ones, drawn_zero, first_of_same, forgotten,
+    group_left, group_right, inner_opcode, narrowed, negated, number_behind, same_with,
+    selected_same, set_apart, shifts, swap, test, through_global, turn, turn_select, twice,
+    type_of_same, typed_constant, unfolded, unnegated, with_all_ones, with_divisor, with_mask,
+    with_number, with_opposite, with_place, with_power, with_rest, without, without_all_ones,
+    wrapped,
 };
 use crate::effects::Effects;
 use crate::folding::folded;
@@ -116,6 +118,23 @@ impl Rule {
                 number_behind(0x6C, 0x7E, opcode, operands),
             ),
             Rule::ShiftToDouble => double(1, operands, number_behind(0x74, 0x86, opcode, operands)),
+            Rule::CancelSub => cancelled(type_of_same(0x6B, 0x7D, opcode, operands)),
+            Rule::CancelXor => cancelled(type_of_same(0x73, 0x85, opcode, operands)),
+            Rule::DropOrSelf => first_of_same(type_of_same(0x72, 0x84, opcode, operands)),
+            Rule::DropAndSelf => first_of_same(type_of_same(0x71, 0x83, opcode, operands)),
+            Rule::DoubleToProduct => same_with(
+                0x6C,
+                0x7E,
+                2,
+                type_of_same(0x6A, 0x7C, opcode, operands),
+            ),
+            Rule::DoubleToShift => same_with(
+                0x74,
+                0x86,
+                1,
+                type_of_same(0x6A, 0x7C, opcode, operands),
+            ),
+            Rule::DropSelect => selected_same(opcode, operands),
             Rule::AndZero => drawn_zero(
                 0x71,
                 0x83,
@@ -167,6 +186,35 @@ impl Rule {
                 number_behind(0x73, 0x85, opcode, operands),
             ),
             Rule::ExtensionToShifts => shifts(opcode, operands),
+            Rule::TestsToDifference => difference(opcode, inner_opcode(operands)),
+            Rule::DropWrapExtended => narrowed(opcode, inner_opcode(operands)),
+            Rule::OrOfComplements => collected((0x72, 0x84), (0x71, 0x83), opcode, operands),
+            Rule::AndOfComplements => collected((0x71, 0x83), (0x72, 0x84), opcode, operands),
+            Rule::TeeToSet => set_apart(opcode, operands),
+        }
+    }
+
+    // Whether the rule puts anything in the place of a node of the shape. Rules that are asked of each operator, and go by the type of
+    // its value alone, are told at once.
+    fn has_choice(self, shape: &Shape) -> bool
+        ensures { result ≡ is_some (choice self shape.now) }
+    {
+        match self {
+            Rule::AddZero
+            | Rule::SubZero
+            | Rule::MulOne
+            | Rule::OrZero
+            | Rule::XorZero
+            | Rule::AndOnes
+            | Rule::ShiftByZero
+            | Rule::DoubleComplement
+            | Rule::ThroughGlobal
+            | Rule::ShrSByZero
+            | Rule::ShrUByZero
+            | Rule::RotlByZero
+            | Rule::RotrByZero => shape.value.is_some(),
+            Rule::WithNop => true,
+            _ => self.choice(shape).is_some(),
         }
     }
 
@@ -176,7 +224,7 @@ impl Rule {
         ensures { (context : Context) (t : Term Head) → shape.now ≡ shape_of context t
             → result ≡ is_some (rewrite context self t) }
     {
-        self.choice(shape).is_some()
+        self.has_choice(shape)
     }
 
     // What the rule puts in the place of the node, where its pattern and its condition are met.
@@ -222,9 +270,9 @@ impl Rule {
     /// the module's.
     ///
     /// Where the term has types under these and draws no word, the new term has the same types, and means the same in every
-    /// state of the variables, whatever words are drawn; the globals that it asks for aside. Conditions go by opcodes alone, so
-    /// that there may be no answer where the rule would keep the meaning. The new expression has a node, and each of its nodes
-    /// can be written where each of the old ones can.
+    /// state of the variables, whatever words are drawn; the globals that it asks for aside. Conditions go by opcodes and
+    /// immediates alone, so that there may be no answer where the rule would keep the meaning. The new expression has a node, and
+    /// each of its nodes can be written where each of the old ones can.
     ///
     /// `TooLarge` where the expression has more than 2^32 - 3 nodes, `Memory` where an allocation was refused.
     pub fn apply(

@@ -1,16 +1,29 @@
 //! What a rule puts in the place of a node, by what is read of the node and of its operands.
 ghost use Rattle.std.specs.Prelude.{◌≡◌, ◌==◌, true, option_map};
-ghost use Rattle.peephole_rules.specs.Rewriting.{answer_if, all_ones, typed_constant};
-ghost use Rattle.peephole_rules.specs.Choice.{are_undisturbed, number_of, number_behind, swap, turn, turn_select, in_one_group, group_left, group_right, with_number, with_all_ones, complements, twice, without, without_all_ones, test, comparison, with_opposite, with_power, with_place, with_mask, with_divisor, with_rest, constant_type, unfolded, through_global, forgotten, double, alone, drawn, negated, both_tests, wrapped, unnegated, part, distributed, shifts};
+ghost use Rattle.peephole_rules.specs.Rewriting.{answer_if, all_ones, typed_constant, complements_by};
+ghost use Rattle.peephole_rules.specs.Choice.{are_undisturbed, number_of, number_behind, swap, turn, turn_select, in_one_group, group_left, group_right, with_number, with_all_ones, complements, twice, without, without_all_ones, test, comparison, with_opposite, with_power, with_place, with_mask, with_divisor, with_rest, constant_type, unfolded, through_global, forgotten, double, alone, drawn, negated, both_tests, wrapped, unnegated, part, distributed, shifts, inner_opcode, difference, narrowed, collected, set_apart, have_same_local, type_of_same, cancelled, first_of_same, same_with, selected_same};
 
 use crate::constant::{all_ones, lowest_bit, opposite, width};
 use crate::operator::{
-    are_same, bits_left_out, is_associative, is_commutative, of_type, opposite_opcode,
+    are_same, bits_left_out, is_associative, is_commutative, is_widening, of_type, opposite_opcode,
     turned_opcode, type_by,
 };
 use crate::replacement::Replacement;
 use crate::shape::{Operand, Operands};
 use peephole_machine::IntegerType;
+
+/// Whether xor with a second operand that has these numbers as a constant of each type gives the complement of its first: the
+/// opcode is its, and the number is -1.
+pub(crate) fn complements_by(
+    opcode: Option<u8>,
+    i32_number: Option<u64>,
+    i64_number: Option<u64>,
+) -> bool
+    ensures { result ≡ complements_by opcode i32_number i64_number }
+{
+    (opcode == Some(0x73) && i32_number == Some(0xFFFF_FFFF))
+        || (opcode == Some(0x85) && i64_number == Some(u64::MAX))
+}
 
 // The replacement, where the condition is met.
 fn answer_if(met: bool, replacement: Replacement) -> Option<Replacement>
@@ -350,6 +363,76 @@ pub(crate) fn double(
     )
 }
 
+// Whether both operands read the same local.
+fn have_same_local(x: &Operand, y: &Operand) -> bool
+    ensures { result ≡ have_same_local x.now y.now }
+{
+    match (x.local, y.local) {
+        (Some(one), Some(other)) => one == other,
+        _ => false,
+    }
+}
+
+/// The operator's type, by its opcodes of each type, where both operands read the same local.
+pub(crate) fn type_of_same(
+    i32_opcode: u8,
+    i64_opcode: u8,
+    opcode: Option<u8>,
+    operands: &Operands,
+) -> Option<IntegerType>
+    ensures { result ≡ type_of_same i32_opcode i64_opcode opcode operands.now }
+{
+    let Operands::Two(x, y) = operands else {
+        return None;
+    };
+    let same = have_same_local(x, y);
+    let t = type_by(i32_opcode, i64_opcode, opcode)?;
+    if same { Some(t) } else { None }
+}
+
+/// 0, in the place of an operator of the type on the same local twice.
+pub(crate) fn cancelled(same: Option<IntegerType>) -> Option<Replacement>
+    ensures { result ≡ cancelled same }
+{
+    Some(Replacement::Number(same?, 0))
+}
+
+/// The first operand alone, in the place of an operator of the type on the same local twice.
+pub(crate) fn first_of_same(same: Option<IntegerType>) -> Option<Replacement>
+    ensures { result ≡ first_of_same same }
+{
+    let _t = same?;
+    Some(Replacement::First)
+}
+
+/// The first operand and a number, with the operator of their type, in the place of another on the same local twice.
+pub(crate) fn same_with(
+    i32_opcode: u8,
+    i64_opcode: u8,
+    number: u64,
+    same: Option<IntegerType>,
+) -> Option<Replacement>
+    ensures { result ≡ same_with i32_opcode i64_opcode number same }
+{
+    let t = same?;
+    Some(Replacement::FirstWith(of_type(t, i32_opcode, i64_opcode), t, number))
+}
+
+/// The first operand of a select alone, where the first two read the same local, and the condition may neither write nor trap.
+pub(crate) fn selected_same(opcode: Option<u8>, operands: &Operands) -> Option<Replacement>
+    ensures { result ≡ selected_same opcode operands.now }
+{
+    let Operands::Three(x, y, condition) = operands else {
+        return None;
+    };
+    let selects = are_same(opcode, Some(0x1B));
+    let same = have_same_local(x, y);
+    answer_if(
+        (selects && same) && (!condition.writes && !condition.may_trap),
+        Replacement::First,
+    )
+}
+
 /// The second operand alone, where that is 0, and the first may neither write nor trap.
 pub(crate) fn alone_zero(
     operands: &Operands,
@@ -538,4 +621,69 @@ pub(crate) fn shifts(opcode: Option<u8>, operands: &Operands) -> Option<Replacem
     };
     let (t, n) = bits_left_out(opcode)?;
     Some(Replacement::FirstWithBoth(of_type(t, 0x74, 0x86), of_type(t, 0x75, 0x87), t, n))
+}
+
+/// The opcode of the only operand, where that has one operand itself.
+pub(crate) fn inner_opcode(operands: &Operands) -> Option<u8>
+    ensures { result ≡ inner_opcode operands.now }
+{
+    let Operands::One(x) = operands else {
+        return None;
+    };
+    if x.single { x.opcode } else { None }
+}
+
+/// The comparison with 0 of what is tested twice.
+pub(crate) fn difference(opcode: Option<u8>, inner: Option<u8>) -> Option<Replacement>
+    ensures { result ≡ difference opcode inner }
+{
+    if !are_same(opcode, Some(0x45)) {
+        return None;
+    }
+    let t = type_by(0x45, 0x50, inner)?;
+    Some(Replacement::InnerWith(of_type(t, 0x47, 0x52), t, 0))
+}
+
+/// What is extended, where it is wrapped again.
+pub(crate) fn narrowed(opcode: Option<u8>, inner: Option<u8>) -> Option<Replacement>
+    ensures { result ≡ narrowed opcode inner }
+{
+    let wraps = are_same(opcode, Some(0xA7));
+    let extended = is_widening(inner);
+    answer_if(wraps && extended, Replacement::Inner)
+}
+
+/// The complement of what another operator makes of the first operands of both, which are complements, with the opcodes of the
+/// operator and of the other for each type.
+pub(crate) fn collected(
+    own: (u8, u8),
+    other: (u8, u8),
+    opcode: Option<u8>,
+    operands: &Operands,
+) -> Option<Replacement>
+    ensures { result ≡ collected own.0 own.1 other.0 other.1 opcode operands.now }
+{
+    let Operands::Two(x, y) = operands else {
+        return None;
+    };
+    let t = type_by(own.0, own.1, opcode)?;
+    answer_if(
+        x.complement && y.complement,
+        Replacement::Collect(
+            of_type(t, other.0, other.1),
+            of_type(t, 0x73, 0x85),
+            t,
+            all_ones(t),
+        ),
+    )
+}
+
+/// A write of the local that is set and left, and a read of it.
+pub(crate) fn set_apart(opcode: Option<u8>, operands: &Operands) -> Option<Replacement>
+    ensures { result ≡ set_apart opcode operands.now }
+{
+    let Operands::One(_) = operands else {
+        return None;
+    };
+    answer_if(are_same(opcode, Some(0x22)), Replacement::SetAndGet)
 }

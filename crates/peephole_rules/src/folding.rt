@@ -3,7 +3,7 @@ ghost use Rattle.std.specs.Prelude.{◌≡◌, option_map, option_and_then, IfSo
 ghost use Rattle.peephole_machine.specs.Values.{IsOfType};
 ghost use Rattle.peephole_machine.specs.IntegerRow.{bare_operator};
 ghost use Rattle.peephole_machine.specs.Operation.{operator_of};
-ghost use Rattle.peephole_rules.specs.Choice.{typed_number, folded_number, folded, on_one, on_two};
+ghost use Rattle.peephole_rules.specs.Choice.{typed_number, folded_number, folded, on_one, on_two, is_constant, are_constants};
 ghost use Rattle.peephole_rules.specs.declared.replacement.Replacement.TheVariants.{Number};
 
 use crate::choice::number_of;
@@ -69,9 +69,29 @@ fn number_by(f: Operation, operands: &Operands) -> Option<Replacement>
     Some(Replacement::Number(f.result(), number))
 }
 
+fn is_constant(x: &Operand) -> bool
+    ensures { result ≡ is_constant x.now }
+{
+    x.i32_number.is_some() || x.i64_number.is_some()
+}
+
+// Whether there are one or two operands, and they are constants. Few are: so it is asked first.
+fn are_constants(operands: &Operands) -> bool
+    ensures { result ≡ are_constants operands.now }
+{
+    match operands {
+        Operands::One(x) => is_constant(x),
+        Operands::Two(x, y) => is_constant(x) && is_constant(y),
+        _ => false,
+    }
+}
+
 /// The constant of what an operator on constants gives, where it doesn't trap.
 pub(crate) fn folded(opcode: Option<u8>, operands: &Operands) -> Option<Replacement>
     ensures { result ≡ folded opcode operands.now }
 {
+    if !are_constants(operands) {
+        return None;
+    }
     number_by(operation_of(opcode)?, operands)
 }

@@ -1,15 +1,17 @@
 //! What rules read of a term, from its root's instruction and from what was read of its operands.
-ghost use Rattle.std.specs.Prelude.{◌≡◌, [], option_and_then};
+ghost use Rattle.std.specs.Prelude.{◌≡◌, [], Some, option_and_then};
 ghost use Rattle.wasm_code.specs.declared.immediate.Imm.{Imm};
 ghost use Rattle.peephole_lang.specs.declared.lang.Head.{Head};
 ghost use Rattle.peephole_lang.specs.Node.{instr_of_head};
 ghost use Rattle.peephole_machine.specs.Values.{context_in};
 ghost use Rattle.peephole_machine.specs.ResultColumn.{column_type};
 ghost use Rattle.peephole_machine.specs.Row.{list_of};
+ghost use Rattle.peephole_rules.specs.Operator.{instruction_byte};
 ghost use Rattle.peephole_rules.specs.ValueTypes.{integer_of, head_type};
-ghost use Rattle.peephole_rules.specs.Instruction.{constant_by, number_read, both_values, listed, alone_read, with_operand, with_operands};
+ghost use Rattle.peephole_rules.specs.Instruction.{constant_by, number_read, both_values, single_read, complement_read, listed, alone_read, with_operand, with_operands, local_read};
 
-use crate::operator::{is_value, traps_by, writes_by};
+use crate::choice::complements_by;
+use crate::operator::{is_value, local_by, traps_by, writes_by};
 use crate::shape::{Operand, Operands, Shape};
 use crate::value_types::integer_of;
 use mutate_base::{ModuleInfo, PrimitiveTypeInfo};
@@ -64,6 +66,17 @@ fn number_read(t: IntegerType, instr: &Instr, operands: &[Operand]) -> Option<u6
     }
 }
 
+// The index of the local that an instruction on these operands reads, of which local.get has none.
+fn local_read(opcode: Option<u8>, instr: &Instr, operands: &[Operand]) -> Option<u32>
+    requires { opcode ≡ instruction_byte (Some instr.now) }
+    ensures { result ≡ local_read instr.now operands.now }
+{
+    match operands {
+        [] => local_by(opcode, instr),
+        _ => None,
+    }
+}
+
 // Of two operands, whether each leaves one value.
 fn both_values(operands: &[Operand]) -> Option<(bool, bool)>
     ensures { result ≡ both_values operands.now }
@@ -71,6 +84,23 @@ fn both_values(operands: &[Operand]) -> Option<(bool, bool)>
     match operands {
         [x, y] => Some((x.one_value, y.one_value)),
         _ => None,
+    }
+}
+
+// Whether there is one operand.
+fn single_read(operands: &[Operand]) -> bool
+    ensures { result ≡ single_read operands.now }
+{
+    matches!(operands, [_])
+}
+
+// Whether an operator of the opcode gives the complement of the first operand.
+fn complement_read(opcode: Option<u8>, operands: &[Operand]) -> bool
+    ensures { result ≡ complement_read opcode operands.now }
+{
+    match operands {
+        [_, number] => complements_by(opcode, number.i32_number, number.i64_number),
+        _ => false,
     }
 }
 
@@ -96,11 +126,14 @@ fn alone_read(instr: &Instr, operands: &[Operand]) -> Operand
         opcode,
         i32_number: number_read(IntegerType::I32, instr, operands),
         i64_number: number_read(IntegerType::I64, instr, operands),
+        local: local_read(opcode, instr, operands),
         one_value: is_value(instr),
         writes: writes_by(opcode, instr),
         may_trap: traps_by(opcode, instr),
         asks: asks_world(instr),
         values: both_values(operands),
+        single: single_read(operands),
+        complement: complement_read(opcode, operands),
     }
 }
 

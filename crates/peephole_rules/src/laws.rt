@@ -2,6 +2,7 @@
 
 ghost use Rattle.peephole_rules.specs.Laws.{RulesKeepMeaning};
 ghost use Rattle.peephole_rules.specs.ReadAlike.{AreReadAlike};
+ghost use Rattle.peephole_rules.specs.Rule.{RulesAreNumbered};
 
 use peephole_terms::laws::{
     agreement_is_a_congruence, nodes_mean_by_their_rows, typed_terms_leave_their_types,
@@ -19,4 +20,9 @@ pub fn rules_keep_meaning()
 /// What rules read of a term goes by its root's instruction and by what they read of its operands.
 pub fn terms_are_read_alike()
     ensures { AreReadAlike }
+{}
+
+/// The rules are numbered: each by its place in `RULES`, and no two alike.
+pub fn rules_are_numbered()
+    ensures { RulesAreNumbered }
 {}

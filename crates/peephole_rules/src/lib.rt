@@ -2,6 +2,7 @@
 #![tactic(auto)]
 
 mod apply;
+mod candidates;
 mod choice;
 mod constant;
 mod effect;
@@ -9,6 +10,7 @@ mod effects;
 mod flags;
 mod folding;
 mod grafted;
+mod growth;
 mod instruction;
 pub mod laws;
 mod operator;
@@ -21,8 +23,9 @@ mod written;
 
 pub use constant::constant_number;
 pub use effects::{Effects, may_trap, undisturbed, writes};
+pub use growth::Growth;
 pub use instruction::own_type;
 pub use operator::{has_one_value, opcode_byte};
-pub use rule::{RULES, Rule, UnknownRule};
+pub use rule::{RULES, Rule, UnknownRule, rule_count};
 pub use shape::{Operand, Shape};
 pub use value_types::value_type;

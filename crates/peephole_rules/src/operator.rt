@@ -4,14 +4,14 @@ ghost use Rattle.std.specs.Int.{cast_signed};
 ghost use Rattle.peephole_machine.specs.Values.{width_of};
 ghost use Rattle.peephole_lang.specs.Lang.{ids_of};
 ghost use Rattle.peephole_lang.specs.Node.{head_of, instr_of_head};
-ghost use Rattle.peephole_rules.specs.Operator.{instruction_byte, opcode_byte, is_among, are_same, type_by, commutative, associative, turned, writers, is_one, gives_one, is_value, of_type, operator, constant_head, within_width, unfold_head, use_global_head, random_head, opposite_of, bits_left_out};
+ghost use Rattle.peephole_rules.specs.Operator.{instruction_byte, opcode_byte, is_among, are_same, type_by, commutative, associative, turned, writers, is_one, gives_one, is_value, of_type, operator, constant_head, within_width, unfold_head, use_global_head, random_head, opposite_of, bits_left_out, widening, index_in, index_of, local_by};
 ghost use Rattle.peephole_rules.specs.Effects.{is_writer, trappers, is_trapper, is_asker};
 ghost use Rattle.peephole_rules.specs.Replacement.{IsBinary, IsUnary};
 
 use crate::constant::low_half;
-use peephole_lang::{Id, Lang, Numeric};
+use peephole_lang::{Id, Lang, Numeric, Payload};
 use peephole_machine::{IntegerType, asks_world, changes, may_trap};
-use wasm_code::{Instr, ResultKind, RowInfo, row_info};
+use wasm_code::{Imm, Instr, ResultKind, RowInfo, row_info};
 
 /// The opcode of a node's instruction, where the node has an instruction and its opcode is one byte (WebAssembly Core
 /// Specification 3.0, Binary Format, Instructions).
@@ -143,6 +143,13 @@ pub(crate) fn bits_left_out(opcode: Option<u8>) -> Option<(IntegerType, u64)>
     }
 }
 
+/// Whether the opcode is that of what makes an i64 of an i32, signed or unsigned.
+pub(crate) fn is_widening(opcode: Option<u8>) -> bool
+    ensures { result ≡ is_among widening opcode }
+{
+    matches!(opcode, Some(0xAC | 0xAD))
+}
+
 // Whether a column of results names one.
 fn is_one(column: ResultKind) -> bool
     ensures { result ≡ is_one column }
@@ -177,6 +184,38 @@ pub fn has_one_value(node: &Lang) -> bool
     match node.instr() {
         Some(instr) => is_value(&instr),
         None => false,
+    }
+}
+
+// The index that an immediate is.
+fn index_of(imm: Imm) -> Option<u32>
+    ensures { result ≡ index_of imm }
+{
+    match imm {
+        Imm::Index(index) => Some(index),
+        _ => None,
+    }
+}
+
+/// The index of the local that the instruction reads, where it is local.get, by its opcode where that is one byte.
+pub(crate) fn local_by(opcode: Option<u8>, instr: &Instr) -> Option<u32>
+    requires { opcode ≡ instruction_byte (Some instr.now) }
+    ensures { result ≡ local_by (Some instr.now) }
+{
+    if are_same(opcode, Some(0x20)) {
+        index_of(instr.imm())
+    } else {
+        None
+    }
+}
+
+/// The index of the local that the node reads, where it is local.get.
+pub(crate) fn own_local(node: &Lang) -> Option<u32>
+    ensures { result ≡ local_by (instr_of_head (head_of node.now)) }
+{
+    match node.instr() {
+        Some(instr) => local_by(peephole_machine::opcode_byte(&instr), &instr),
+        None => None,
     }
 }
 
@@ -281,6 +320,16 @@ pub(crate) fn constant_node(t: IntegerType, number: u64) -> Lang
     match t {
         IntegerType::I32 => Lang::I32(low_half(number).cast_signed()),
         IntegerType::I64 => Lang::I64(number.cast_signed()),
+    }
+}
+
+/// The index in a payload, and 0 of any other.
+pub(crate) fn index_in(payload: Payload) -> u32
+    ensures { result ≡ index_in payload }
+{
+    match payload {
+        Payload::Index(index) => index,
+        _ => 0,
     }
 }
 

@@ -1,16 +1,20 @@
 //! What rules read of a node and of its operands.
-ghost use Rattle.std.specs.Prelude.{◌≡◌, ◌<◌, length};
+ghost use Rattle.std.specs.Prelude.{◌≡◌, ◌<◌, ℕ, length};
 ghost use Rattle.std.specs.List.{All};
-ghost use Rattle.peephole_lang.specs.Node.{children_of};
-ghost use Rattle.peephole_lang.specs.Term.{AreBelow, pick};
+ghost use Rattle.peephole_lang.specs.Node.{head_of, children_of};
+ghost use Rattle.peephole_lang.specs.declared.lang.Head.{Head};
+ghost use Rattle.peephole_lang.specs.Term.{Term, AreBelow, pick};
 ghost use Rattle.peephole_machine.specs.Values.{context_in};
-ghost use Rattle.peephole_rules.specs.Grafted.{expression_nodes, term_at};
+ghost use Rattle.peephole_rules.specs.Operator.{local_of};
+ghost use Rattle.peephole_rules.specs.Grafted.{expression_nodes, term_at, term_over};
 ghost use Rattle.peephole_rules.specs.Flags.{AreEffects};
-ghost use Rattle.peephole_rules.specs.Shape.{values_in, operand_of, operands_of, shape_of};
+ghost use Rattle.peephole_rules.specs.Operator.{opcode_byte};
+ghost use Rattle.peephole_rules.specs.Shape.{values_in, is_single, complements_in, operand_of, operands_of, shape_of};
 
+use crate::choice::complements_by;
 use crate::constant::constant_number;
 use crate::effects::Effects;
-use crate::operator::{has_one_value, opcode_byte};
+use crate::operator::{has_one_value, opcode_byte, own_local};
 use crate::shape::{Operand, Operands, Shape};
 use crate::value_types::value_type;
 use mutate_base::{ModuleInfo, PrimitiveTypeInfo};
@@ -32,6 +36,42 @@ fn values(nodes: &[Lang], node: &Lang) -> Option<(bool, bool)>
     Some((first, second))
 }
 
+// Whether the node has one child.
+fn is_single(node: &Lang) -> bool
+    ensures { (at : ℕ → Term Head) → result ≡ is_single (pick at (children_of node.now)) }
+{
+    node.children().len() == 1
+}
+
+// Whether the node is the complement of a term: xor of that and -1.
+fn is_complement(nodes: &[Lang], node: &Lang) -> bool
+    requires below { AreBelow (expression_nodes nodes.now) }
+    requires inside { All (λ i. i < length nodes.now) (children_of node.now) }
+    ensures { result ≡ complements_in (opcode_byte (head_of node.now))
+        (pick (term_at nodes.now) (children_of node.now)) }
+{
+    let ids = node.children();
+    if ids.len() != 2 {
+        return false;
+    }
+    let second = &nodes[ids[1].0 as usize];
+    complements_by(
+        opcode_byte(node),
+        constant_number(IntegerType::I32, second),
+        constant_number(IntegerType::I64, second),
+    )
+}
+
+// The index of the local that a node reads, where it is local.get and has no children.
+fn local(node: &Lang) -> Option<u32>
+    ensures { (at : ℕ → Term Head) → result ≡ local_of (term_over at node.now) }
+{
+    if !node.children().is_empty() {
+        return None;
+    }
+    own_local(node)
+}
+
 // What is read of a node's term.
 fn operand(effects: &Effects, nodes: &[Lang], at: usize) -> Operand
     requires inside { at < length nodes.now }
@@ -44,11 +84,14 @@ fn operand(effects: &Effects, nodes: &[Lang], at: usize) -> Operand
         opcode: opcode_byte(node),
         i32_number: constant_number(IntegerType::I32, node),
         i64_number: constant_number(IntegerType::I64, node),
+        local: local(node),
         one_value: has_one_value(node),
         writes: effects.writes(at),
         may_trap: effects.may_trap(at),
         asks: effects.asks(at),
         values: values(nodes, node),
+        single: is_single(node),
+        complement: is_complement(nodes, node),
     }
 }
 

@@ -7,11 +7,11 @@ ghost use Rattle.peephole_lang.specs.Term.{tree_at};
 ghost use Rattle.peephole_rules.specs.Grafted.{expression_nodes, term_over};
 
 use crate::written::{
-    write_by_both, write_complements, write_constant, write_distributed, write_drawn, write_empty,
-    write_first, write_first_by, write_first_by_both, write_first_twice, write_first_with,
-    write_first_with_both, write_grouped_left, write_grouped_right, write_inner_by, write_negated,
-    write_nop, write_number, write_swapped, write_turned, write_turned_select, write_twice,
-    write_unfold, write_use_global,
+    write_by_both, write_collected, write_complements, write_constant, write_distributed,
+    write_drawn, write_empty, write_first, write_first_by, write_first_by_both, write_first_twice,
+    write_first_with, write_first_with_both, write_grouped_left, write_grouped_right, write_inner,
+    write_inner_by, write_inner_with, write_negated, write_nop, write_number, write_set_and_get,
+    write_swapped, write_turned, write_turned_select, write_twice, write_unfold, write_use_global,
 };
 use mutate_base::Error;
 use peephole_lang::{Lang, RecExpr};
@@ -59,6 +59,14 @@ pub(crate) enum Replacement {
     Distribute(u8, u8, IntegerType, u64),
     /// A number of the type, an operator on the node's first operand and the number, and another on that and the number.
     FirstWithBoth(u8, u8, IntegerType, u64),
+    /// A number of the type, and an operator on the operand of the node's first operand and the number.
+    InnerWith(u8, IntegerType, u64),
+    /// The operand of the node's first operand.
+    Inner,
+    /// An operator on the first operands of the node's two operands, a number of the type, and another operator on both.
+    Collect(u8, u8, IntegerType, u64),
+    /// A write of the node's first operand to the local of the node's index, a read of that local, and a container of both.
+    SetAndGet,
     /// The node, and the sum of a drawn word and the rest of it.
     Unfold(IntegerType),
     /// The node, and its value by way of a requested global.
@@ -98,6 +106,10 @@ impl Replacement {
             Replacement::InnerBy(_) => 0,
             Replacement::Distribute(..) => 3,
             Replacement::FirstWithBoth(..) => 2,
+            Replacement::InnerWith(..) => 1,
+            Replacement::Inner => 0,
+            Replacement::Collect(..) => 2,
+            Replacement::SetAndGet => 2,
             Replacement::Unfold(_) => 1,
             Replacement::UseGlobal(_) => 1,
             Replacement::Nop => 2,
@@ -144,6 +156,14 @@ impl Replacement {
             Replacement::FirstWithBoth(inner, outer, t, number) => write_first_with_both(
                 expr, node, inner, outer, t, number,
             ),
+            Replacement::InnerWith(byte, t, number) => {
+                write_inner_with(expr, node, byte, t, number)
+            }
+            Replacement::Inner => write_inner(expr, node),
+            Replacement::Collect(inner, outer, t, number) => {
+                write_collected(expr, node, inner, outer, t, number)
+            }
+            Replacement::SetAndGet => write_set_and_get(alloc, expr, node),
             Replacement::Unfold(t) => write_unfold(expr, node, t),
             Replacement::UseGlobal(t) => write_use_global(expr, node, t),
             Replacement::Nop => write_nop(alloc, expr, node),

@@ -1,6 +1,6 @@
 //! The rules, and their names.
 ghost use Rattle.std.specs.Prelude.{◌≡◌, ◌≢◌, IfSome, IfNone};
-ghost use Rattle.peephole_rules.specs.Rule.{rule_name};
+ghost use Rattle.peephole_rules.specs.Rule.{rule_name, rule_count, rule_number};
 ghost use Rattle.peephole_rules.specs.declared.rule.Rule.{Rule};
 
 use std::str::FromStr;
@@ -108,6 +108,20 @@ pub enum Rule {
     ProductToDouble,
     /// `shl x 1` to `add x x`, likewise.
     ShiftToDouble,
+    /// `sub x x` to `0`, where both operands read the same local.
+    CancelSub,
+    /// `xor x x` to `0`, likewise.
+    CancelXor,
+    /// `or x x` to `x`, likewise.
+    DropOrSelf,
+    /// `and x x` to `x`, likewise.
+    DropAndSelf,
+    /// `add x x` to `mul x 2`, likewise.
+    DoubleToProduct,
+    /// `add x x` to `shl x 1`, likewise.
+    DoubleToShift,
+    /// `select x x c` to `x`, likewise, where `c` may neither write nor trap.
+    DropSelect,
     /// `0` to `and r 0`, where `r` is drawn.
     AndZero,
     /// `0` to `mul r 0`, where `r` is drawn.
@@ -138,10 +152,20 @@ pub enum Rule {
     ComplementOfOr,
     /// `extend8_s x` to `shr_s (shl x 24) 24`, and so on for the other extensions of low bits.
     ExtensionToShifts,
+    /// `eqz (eqz x)` to `ne x 0`.
+    TestsToDifference,
+    /// `wrap (extend x)` to `x`, signed and unsigned.
+    DropWrapExtended,
+    /// `or (xor x -1) (xor y -1)` to `xor (and x y) -1`.
+    OrOfComplements,
+    /// `and (xor x -1) (xor y -1)` to `xor (or x y) -1`.
+    AndOfComplements,
+    /// `local.tee i x` to a container of `local.set i x` and `local.get i`.
+    TeeToSet,
 }
 
 /// Every rule, in the order of the variants.
-pub const RULES: [Rule; 64] = [
+pub const RULES: [Rule; 76] = [
     Rule::Commute,
     Rule::TurnComparison,
     Rule::AssociateLeft,
@@ -191,6 +215,13 @@ pub const RULES: [Rule; 64] = [
     Rule::RotrToRotl,
     Rule::ProductToDouble,
     Rule::ShiftToDouble,
+    Rule::CancelSub,
+    Rule::CancelXor,
+    Rule::DropOrSelf,
+    Rule::DropAndSelf,
+    Rule::DoubleToProduct,
+    Rule::DoubleToShift,
+    Rule::DropSelect,
     Rule::AndZero,
     Rule::MulZero,
     Rule::OrOnes,
@@ -206,7 +237,19 @@ pub const RULES: [Rule; 64] = [
     Rule::ComplementOfAnd,
     Rule::ComplementOfOr,
     Rule::ExtensionToShifts,
+    Rule::TestsToDifference,
+    Rule::DropWrapExtended,
+    Rule::OrOfComplements,
+    Rule::AndOfComplements,
+    Rule::TeeToSet,
 ];
+
+/// How many rules there are.
+pub fn rule_count() -> usize
+    ensures { result ≡ rule_count }
+{
+    RULES.len()
+}
 
 /// No rule has the name.
 #[derive(Clone, Copy, Debug, PartialEq, Eq, ThisError)]
@@ -214,6 +257,13 @@ pub const RULES: [Rule; 64] = [
 pub struct UnknownRule;
 
 impl Rule {
+    /// The rule's place in `RULES`.
+    pub fn number(self) -> usize
+        ensures { result ≡ rule_number self }
+    {
+        self as usize
+    }
+
     /// The rule's name: the variant's words in lower case, with underscores between.
     pub fn name(&self) -> &'static str
         ensures { result.now ≡ rule_name self.now }
@@ -268,6 +318,13 @@ impl Rule {
             Rule::RotrToRotl => "rotr_to_rotl",
             Rule::ProductToDouble => "product_to_double",
             Rule::ShiftToDouble => "shift_to_double",
+            Rule::CancelSub => "cancel_sub",
+            Rule::CancelXor => "cancel_xor",
+            Rule::DropOrSelf => "drop_or_self",
+            Rule::DropAndSelf => "drop_and_self",
+            Rule::DoubleToProduct => "double_to_product",
+            Rule::DoubleToShift => "double_to_shift",
+            Rule::DropSelect => "drop_select",
             Rule::AndZero => "and_zero",
             Rule::MulZero => "mul_zero",
             Rule::OrOnes => "or_ones",
@@ -283,6 +340,11 @@ impl Rule {
             Rule::ComplementOfAnd => "complement_of_and",
             Rule::ComplementOfOr => "complement_of_or",
             Rule::ExtensionToShifts => "extension_to_shifts",
+            Rule::TestsToDifference => "tests_to_difference",
+            Rule::DropWrapExtended => "drop_wrap_extended",
+            Rule::OrOfComplements => "or_of_complements",
+            Rule::AndOfComplements => "and_of_complements",
+            Rule::TeeToSet => "tee_to_set",
         }
     }
 
@@ -341,6 +403,13 @@ impl Rule {
             "rotr_to_rotl" => Some(Rule::RotrToRotl),
             "product_to_double" => Some(Rule::ProductToDouble),
             "shift_to_double" => Some(Rule::ShiftToDouble),
+            "cancel_sub" => Some(Rule::CancelSub),
+            "cancel_xor" => Some(Rule::CancelXor),
+            "drop_or_self" => Some(Rule::DropOrSelf),
+            "drop_and_self" => Some(Rule::DropAndSelf),
+            "double_to_product" => Some(Rule::DoubleToProduct),
+            "double_to_shift" => Some(Rule::DoubleToShift),
+            "drop_select" => Some(Rule::DropSelect),
             "and_zero" => Some(Rule::AndZero),
             "mul_zero" => Some(Rule::MulZero),
             "or_ones" => Some(Rule::OrOnes),
@@ -356,6 +425,11 @@ impl Rule {
             "complement_of_and" => Some(Rule::ComplementOfAnd),
             "complement_of_or" => Some(Rule::ComplementOfOr),
             "extension_to_shifts" => Some(Rule::ExtensionToShifts),
+            "tests_to_difference" => Some(Rule::TestsToDifference),
+            "drop_wrap_extended" => Some(Rule::DropWrapExtended),
+            "or_of_complements" => Some(Rule::OrOfComplements),
+            "and_of_complements" => Some(Rule::AndOfComplements),
+            "tee_to_set" => Some(Rule::TeeToSet),
             _ => None,
         }
     }

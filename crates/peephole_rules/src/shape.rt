@@ -10,6 +10,8 @@ pub struct Operand {
     pub(crate) i32_number: Option<u64>,
     /// The number of a constant of i64.
     pub(crate) i64_number: Option<u64>,
+    /// The index of the local that it reads, where it is a leaf with `local.get` as its instruction.
+    pub(crate) local: Option<u32>,
     /// Whether it leaves one value.
     pub(crate) one_value: bool,
     /// Whether it may write.
@@ -20,6 +22,10 @@ pub struct Operand {
     pub(crate) asks: bool,
     /// Of a root with two children, whether the first and whether the second leaves one value.
     pub(crate) values: Option<(bool, bool)>,
+    /// Whether the root has one child.
+    pub(crate) single: bool,
+    /// Whether it is the complement of a term: xor of that and -1.
+    pub(crate) complement: bool,
 }
 
 /// What rules read of a node's children: of those of up to three.

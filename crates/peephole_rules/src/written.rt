@@ -5,11 +5,12 @@ ghost use Rattle.mutate_base.specs.declared.error.Error.{Error};
 ghost use Rattle.peephole_lang.specs.Node.{node_of, children_of};
 ghost use Rattle.peephole_lang.specs.Term.{AreBelow, numbers_of, tree_at};
 ghost use Rattle.peephole_rules.specs.Grafted.{expression_nodes, term_over};
-ghost use Rattle.peephole_rules.specs.Replacement.{CanReplace, Replaces, IsBinary, IsUnary, HasTwoInner, AreInner};
-ghost use Rattle.peephole_rules.specs.declared.replacement.Replacement.TheVariants.{Swap, Turn, GroupLeft, GroupRight, Constant, Complements, Twice, First, FirstWith, FirstBy, TurnSelect, Unfold, UseGlobal, Nop, Empty, Number, FirstTwice, Drawn, Negated, FirstByBoth, ByBoth, InnerBy, Distribute, FirstWithBoth};
+ghost use Rattle.peephole_rules.specs.Replacement.{CanReplace, Replaces, IsBinary, IsUnary, HasTwoInner, AreInner, HasOneInner, IsInner, HasTwo, HasTwiceTwo, IsFirst, AreFirst};
+ghost use Rattle.peephole_rules.specs.declared.replacement.Replacement.TheVariants.{Swap, Turn, GroupLeft, GroupRight, Constant, Complements, Twice, First, FirstWith, FirstBy, TurnSelect, Unfold, UseGlobal, Nop, Empty, Number, FirstTwice, Drawn, Negated, FirstByBoth, ByBoth, InnerBy, Distribute, FirstWithBoth, InnerWith, Inner, Collect, SetAndGet};
 
 use crate::operator::{
-    binary_node, constant_node, random_node, test_node, unary_node, unfold_node, use_global_node,
+    binary_node, constant_node, index_in, random_node, test_node, unary_node, unfold_node,
+    use_global_node,
 };
 use mutate_base::Error;
 use peephole_lang::{Id, Lang, Language, RecExpr};
@@ -84,6 +85,46 @@ fn inner_children(expr: &RecExpr<Lang>, node: &Lang) -> (Id, Id)
 {
     let first = node.children()[0];
     both_children(&expr.as_ref()[first.0 as usize])
+}
+
+// The only child.
+fn only_child(node: &Lang) -> Id
+    requires { length (children_of node.now) ≡ 1 }
+    ensures { children_of node.now ≡ result.0 ∷ [] }
+{
+    node.children()[0]
+}
+
+// The only child of the node's first child.
+fn inner_child(expr: &RecExpr<Lang>, node: &Lang) -> Id
+    requires below { All (λ i. i < length expr.now) (children_of node.now) }
+    requires one { HasOneInner (term_over (tree_at (expression_nodes expr.now)) node.now) }
+    ensures { IsInner expr.now node.now result.0 }
+{
+    let first = node.children()[0];
+    only_child(&expr.as_ref()[first.0 as usize])
+}
+
+// The first child of the node there, which has two.
+fn first_of_two(expr: &RecExpr<Lang>, at: Id) -> Id
+    requires inside { at.0 < length expr.now }
+    requires two { HasTwo (tree_at (expression_nodes expr.now) at.0) }
+    ensures { IsFirst expr.now at.0 result.0 }
+{
+    let (first, _) = both_children(&expr.as_ref()[at.0 as usize]);
+    first
+}
+
+// The first children of the node's two children, of which each has two.
+fn first_children(expr: &RecExpr<Lang>, node: &Lang) -> (Id, Id)
+    requires below { All (λ i. i < length expr.now) (children_of node.now) }
+    requires two { HasTwiceTwo (term_over (tree_at (expression_nodes expr.now)) node.now) }
+    ensures { AreFirst expr.now node.now result.0.0 result.1.0 }
+{
+    let (one, other) = both_children(node);
+    let first = first_of_two(expr, one);
+    let second = first_of_two(expr, other);
+    (first, second)
 }
 
 /// The node with its two operands in the other order.
@@ -541,5 +582,95 @@ pub(crate) fn write_distributed(
     let first = put(expr, binary_node(inner, x, constant))?;
     let second = put(expr, binary_node(inner, y, constant))?;
     put(expr, binary_node(outer, first, second))?;
+    Ok(())
+}
+
+/// A number of the type, and an operator on the operand of the node's first operand and the number.
+pub(crate) fn write_inner_with(
+    expr: &mut RecExpr<Lang>,
+    node: &Lang,
+    byte: u8,
+    t: IntegerType,
+    number: u64,
+) -> Result<(), Error>
+    requires below { All (λ i. i < length expr.old) (children_of node.now) }
+    requires few { length expr.old + 4 ≤ 2 ^ 32 }
+    requires operator { IsBinary byte }
+    requires one { HasOneInner (term_over (tree_at (expression_nodes expr.old)) node.now) }
+    ensures nodes { IfOk result (λ _.
+        Replaces (InnerWith byte t number) (node_of node.now) (expression_nodes expr.old)
+        (expression_nodes expr.new)) }
+    ensures refused { IfErr result (λ e. e ≡ Error.Memory) }
+{
+    let x = inner_child(expr, node);
+    let y = put(expr, constant_node(t, number))?;
+    put(expr, binary_node(byte, x, y))?;
+    Ok(())
+}
+
+/// The operand of the node's first operand.
+pub(crate) fn write_inner(expr: &mut RecExpr<Lang>, node: &Lang) -> Result<(), Error>
+    requires below { All (λ i. i < length expr.old) (children_of node.now) }
+    requires few { length expr.old + 4 ≤ 2 ^ 32 }
+    requires one { HasOneInner (term_over (tree_at (expression_nodes expr.old)) node.now) }
+    ensures nodes { IfOk result (λ _.
+        Replaces Inner (node_of node.now) (expression_nodes expr.old) (expression_nodes expr.new)) }
+    ensures refused { IfErr result (λ e. e ≡ Error.Memory) }
+{
+    let x = inner_child(expr, node);
+    let copy = expr.as_ref()[x.0 as usize].clone_node()?;
+    put(expr, copy)?;
+    Ok(())
+}
+
+/// An operator on the first operands of the node's two operands, a number of the type, and another operator on both.
+pub(crate) fn write_collected(
+    expr: &mut RecExpr<Lang>,
+    node: &Lang,
+    inner: u8,
+    outer: u8,
+    t: IntegerType,
+    number: u64,
+) -> Result<(), Error>
+    requires below { All (λ i. i < length expr.old) (children_of node.now) }
+    requires few { length expr.old + 4 ≤ 2 ^ 32 }
+    requires inner { IsBinary inner }
+    requires outer { IsBinary outer }
+    requires two { HasTwiceTwo (term_over (tree_at (expression_nodes expr.old)) node.now) }
+    ensures nodes { IfOk result (λ _.
+        Replaces (Collect inner outer t number) (node_of node.now) (expression_nodes expr.old)
+        (expression_nodes expr.new)) }
+    ensures refused { IfErr result (λ e. e ≡ Error.Memory) }
+{
+    let (x, y) = first_children(expr, node);
+    let joined = put(expr, binary_node(inner, x, y))?;
+    let constant = put(expr, constant_node(t, number))?;
+    put(expr, binary_node(outer, joined, constant))?;
+    Ok(())
+}
+
+/// A write of the node's first operand to the local of the node's index, a read of that local, and a container of both.
+#[tactic(auto, unfolding(peephole_lang::specs::Lang::place_of, peephole_lang::specs::Lang::payload_of, peephole_lang::specs::Lang::ids_of))]
+pub(crate) fn write_set_and_get(
+    alloc: Global,
+    expr: &mut RecExpr<Lang>,
+    node: &Lang,
+) -> Result<(), Error>
+    requires below { All (λ i. i < length expr.old) (children_of node.now) }
+    requires few { length expr.old + 4 ≤ 2 ^ 32 }
+    requires some { 0 < length (children_of node.now) }
+    ensures nodes { IfOk result (λ _.
+        Replaces SetAndGet (node_of node.now) (expression_nodes expr.old)
+        (expression_nodes expr.new)) }
+    ensures refused { IfErr result (λ e. e ≡ Error.Memory) }
+{
+    let first = node.children()[0];
+    let index = index_in(node.payload());
+    let set = put(expr, Lang::LocalSet(index, first))?;
+    let get = put(expr, Lang::LocalGet(index))?;
+    let mut ids = Vec::new(alloc);
+    ids.push(set)?;
+    ids.push(get)?;
+    put(expr, Lang::Container(ids))?;
     Ok(())
 }

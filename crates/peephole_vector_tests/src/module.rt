@@ -7,7 +7,7 @@ use peephole_script::type_of;
 use std::alloc::{AllocError, Global};
 use std::process::Abort;
 use std::test::Fail;
-use wasm_module::{Layout, ModuleFault, read_module, with_body};
+use wasm_module::{Layout, read_module, with_body};
 
 /// Types, an import of each kind, a function of either type, a table, a memory, a global, the code, and a custom section.
 const EACH_KIND: &str = "0061736d 01000000 0109 0260017f017f600000 \
@@ -71,18 +71,30 @@ fn places(alloc: Global, layout: &Layout) -> Result<String, AllocError> {
     )
 }
 
+/// What is told of bytes: what they declare as a module, and where, or why they are none.
+fn told(alloc: Global, bytes: &[u8]) -> Result<String, Fail> {
+    match read_module(alloc, bytes) {
+        Ok(module) => {
+            let info = declared(alloc, &module.info)?;
+            let layout = places(alloc, &module.layout)?;
+            Ok(format!(in alloc; "{info} | {layout}")?)
+        }
+        Err(error) => Ok(format!(in alloc; "{error}")?),
+    }
+}
+
+/// The bytes are told so.
+fn is_told(rt: &impl Abort, alloc: Global, digits: &str, wanted: &str) -> Result<(), Fail> {
+    let text = told(alloc, &bytes_of(alloc, digits)?)?;
+    assert!(rt; text.as_str() == wanted.trim(), "{text}");
+    Ok(())
+}
+
 #[test]
 fn known(rt: HostRuntime) -> Result<(), Fail> {
-    let alloc = rt.alloc();
     let modules = [EACH_KIND, STRUCTURE, REFERENCES];
     for (digits, line) in modules.iter().zip(KNOWN.trim().lines()) {
-        let bytes = bytes_of(alloc, digits)?;
-        let module = read_module(alloc, &bytes)?;
-        let (info, layout) = line.split_once('|').ok_or("one part alone")?;
-        let text = declared(alloc, &module.info)?;
-        assert!(rt; text.as_str() == info.trim(), "{text}");
-        let text = places(alloc, &module.layout)?;
-        assert!(rt; text.as_str() == layout.trim(), "{text}");
+        is_told(&rt, rt.alloc(), digits, line)?;
     }
     Ok(())
 }
@@ -162,18 +174,11 @@ fn changes(rt: HostRuntime) -> Result<(), Fail> {
 #[test]
 fn sizes_grow(rt: HostRuntime) -> Result<(), Fail> {
     let bytes = bytes_of(rt.alloc(), NO_GLOBALS)?;
-    let module = read_module(rt.alloc(), &bytes)?;
-    assert!(rt; 0 < module.layout.entries.len());
-    let expression = [0x01; 200];
-    let new = with_body(
-        rt.alloc(),
-        &bytes,
-        &module.layout,
-        0,
-        &[0x00],
-        &expression,
-        &[],
-    )?;
+    let mut change = change_of(&rt, rt.alloc(), "0 | 00 | |")?;
+    for _ in 0..200 {
+        change.expression.push(0x01)?;
+    }
+    let new = changed(&rt, rt.alloc(), &bytes, &change)?;
     assert!(rt; bytes.len() == 39 && new.len() == 39 + 201);
     assert!(rt; new[29..35] == [0x0a, 0xcc, 0x01, 0x01, 0xc9, 0x01]);
     Ok(())
@@ -188,16 +193,9 @@ const FAULTS: &str = "
 
 #[test]
 fn faults(rt: HostRuntime) -> Result<(), Fail> {
-    let alloc = rt.alloc();
     for line in FAULTS.trim().lines() {
         let (digits, wanted) = line.split_once('|').ok_or("no fault")?;
-        match read_module(alloc, &bytes_of(alloc, digits)?) {
-            Ok(_) => panic!(rt; "{line}"),
-            Err(error) => {
-                let text = format!(in alloc; "{error}")?;
-                assert!(rt; text.as_str() == wanted.trim(), "{line}");
-            }
-        }
+        is_told(&rt, rt.alloc(), digits, wanted)?;
     }
     Ok(())
 }
@@ -209,10 +207,9 @@ fn cuts(rt: HostRuntime) -> Result<(), Fail> {
     assert!(rt; bytes.len() == 100);
     for k in 0..bytes.len() {
         let whole = k == 8 || k == 19 || k == 57 || k == 95;
-        match read_module(rt.alloc(), &bytes[..k]) {
-            Ok(_) => assert!(rt; whole, "{k}"),
-            Err(error) => assert!(rt; !whole && error.kind != ModuleFault::Memory, "{k}: {error}"),
-        }
+        let text = told(rt.alloc(), &bytes[..k])?;
+        assert!(rt; text.contains('|') == whole, "{k}: {text}");
+        assert!(rt; !text.starts_with("Memory"), "{k}: {text}");
     }
     Ok(())
 }

@@ -217,23 +217,16 @@ fn is_meant(word: &str, tpe: PrimitiveTypeInfo) -> bool {
     }
 }
 
-/// The words of a field.
-fn words_of(alloc: Global, field: &str) -> Result<Vec<&str>, Fail> {
-    match field.trim() {
-        "-" => Ok(Vec::new(alloc)),
-        words => Ok(words.split_whitespace().collect(alloc)?),
-    }
-}
-
-/// A type that each word of the table stands for.
+/// A type that each word of a field stands for. A hyphen is no word.
 fn types_of(alloc: Global, field: &str) -> Result<Vec<PrimitiveTypeInfo>, Fail> {
     let mut types = Vec::new(alloc);
-    for word in words_of(alloc, field)? {
-        types.push(match word {
-            "any" => PrimitiveTypeInfo::I32,
-            "reference" => PrimitiveTypeInfo::FuncRef,
-            _ => type_of(word).ok_or("no type")?,
-        })?;
+    for word in field.split_whitespace() {
+        match word {
+            "-" => {}
+            "any" => types.push(PrimitiveTypeInfo::I32)?,
+            "reference" => types.push(PrimitiveTypeInfo::FuncRef)?,
+            _ => types.push(type_of(word).ok_or("no type")?)?,
+        }
     }
     Ok(types)
 }
@@ -271,24 +264,6 @@ fn add_functions(alloc: Global, info: &mut ModuleInfo) -> Result<(), Fail> {
     Ok(())
 }
 
-/// What a line of the table tells of its instructions: the words for their operands, types for which these stand, and what
-/// they give.
-#[derive(Drop)]
-struct Line<'a> {
-    words: Vec<&'a str>,
-    operands: Vec<PrimitiveTypeInfo>,
-    gives: Option<PrimitiveTypeInfo>,
-}
-
-/// The line with these fields.
-fn line_of<'a>(alloc: Global, operands: &'a str, gives: &str) -> Result<Line<'a>, Fail> {
-    Ok(Line {
-        words: words_of(alloc, operands)?,
-        operands: types_of(alloc, operands)?,
-        gives: types_of(alloc, gives)?.first().copied(),
-    })
-}
-
 /// The bytes of an opcode and an immediate, and then `end`.
 fn body_of(alloc: Global, opcode: &str, imm: &str) -> Result<Vec<u8>, Fail> {
     let mut bytes = bytes_of(alloc, opcode)?;
@@ -299,92 +274,69 @@ fn body_of(alloc: Global, opcode: &str, imm: &str) -> Result<Vec<u8>, Fail> {
     Ok(bytes)
 }
 
-/// The types, but another one at that place.
+/// The types, but another one at that place, or none.
 fn replaced(
     alloc: Global,
     types: &[PrimitiveTypeInfo],
     place: usize,
-    tpe: PrimitiveTypeInfo,
-) -> Result<Vec<PrimitiveTypeInfo>, Fail> {
-    let mut list = Vec::from_slice(alloc, types)?;
-    if let Some(slot) = list.get_mut(place) {
-        *slot = tpe;
-    }
-    Ok(list)
-}
-
-/// The types but the one at that place.
-fn without(
-    alloc: Global,
-    types: &[PrimitiveTypeInfo],
-    place: usize,
+    other: Option<PrimitiveTypeInfo>,
 ) -> Result<Vec<PrimitiveTypeInfo>, Fail> {
     let mut list = Vec::new(alloc);
     for (i, tpe) in types.iter().enumerate() {
-        if i != place {
-            list.push(*tpe)?;
+        match other {
+            _ if i != place => list.push(*tpe)?,
+            Some(other) => list.push(other)?,
+            None => {}
         }
     }
     Ok(list)
 }
 
-/// The types of operands, and what an instruction gives on them: a type or nothing, or none where it doesn't take them.
-#[derive(Drop)]
-struct Case {
-    operands: Vec<PrimitiveTypeInfo>,
+/// What an instruction gives on operands of these types: a type or nothing, or none where it doesn't take them.
+fn gives(
+    rt: &impl Abort,
+    info: &ModuleInfo,
+    instr: &Instr,
+    operands: &[PrimitiveTypeInfo],
     wanted: Option<Option<PrimitiveTypeInfo>>,
+) {
+    let found = instruction_types(info, &VALUES, instr, operands);
+    assert!(rt; found == wanted, "{instr:?} {operands:?}: {found:?}");
 }
 
-/// At this place each type is taken that the word stands for and no other, and one is needed there.
-fn add_cases_at(
+/// An instruction takes operands that the words tell, of which these are an example, and gives that. At the place of each word
+/// each type is taken that the word stands for and no other, and one is needed there; and none is taken behind them.
+fn is_told(
+    rt: &impl Abort,
     alloc: Global,
-    line: &Line,
-    place: usize,
-    word: &str,
-    cases: &mut Vec<Case>,
+    info: &ModuleInfo,
+    instr: &Instr,
+    words: &str,
+    operands: &[PrimitiveTypeInfo],
+    given: Option<PrimitiveTypeInfo>,
 ) -> Result<(), Fail> {
-    for tpe in VALUES {
-        cases.push(Case {
-            operands: replaced(alloc, &line.operands, place, tpe)?,
-            wanted: is_meant(word, tpe).then_some(line.gives),
-        })?;
-    }
-    cases.push(Case {
-        operands: without(alloc, &line.operands, place)?,
-        wanted: None,
-    })?;
-    Ok(())
-}
-
-/// The cases of a line: its operands, another type at each place, one fewer and one more.
-fn cases_of(alloc: Global, line: &Line) -> Result<Vec<Case>, Fail> {
-    let mut cases = Vec::new(alloc);
-    for (place, word) in line.words.iter().enumerate() {
-        add_cases_at(alloc, line, place, word, &mut cases)?;
-    }
-    cases.push(Case {
-        operands: line.operands.clone()?,
-        wanted: Some(line.gives),
-    })?;
-    let mut more = line.operands.clone()?;
-    more.push(PrimitiveTypeInfo::I32)?;
-    cases.push(Case {
-        operands: more,
-        wanted: None,
-    })?;
-    Ok(cases)
-}
-
-/// The instruction answers so in each case.
-fn is_told(rt: &impl Abort, info: &ModuleInfo, instr: &Instr, cases: &[Case]) {
-    for case in cases {
-        let found = instruction_types(info, &VALUES, instr, &case.operands);
-        assert!(rt;
-            found == case.wanted,
-            "{instr:?} {:?}: {found:?}",
-            case.operands
+    for (place, word) in words.split_whitespace().enumerate() {
+        if word == "-" {
+            continue;
+        }
+        for tpe in VALUES {
+            let others = replaced(alloc, operands, place, Some(tpe))?;
+            let wanted = is_meant(word, tpe).then_some(given);
+            gives(rt, info, instr, &others, wanted);
+        }
+        gives(
+            rt,
+            info,
+            instr,
+            &replaced(alloc, operands, place, None)?,
+            None,
         );
     }
+    gives(rt, info, instr, operands, Some(given));
+    let mut more = Vec::from_slice(alloc, operands)?;
+    more.push(PrimitiveTypeInfo::I32)?;
+    gives(rt, info, instr, &more, None);
+    Ok(())
 }
 
 /// The instructions of a line, whose rows are added.
@@ -399,13 +351,14 @@ fn are_told(
     let [imm, operands, given, opcodes] = fields.as_slice() else {
         panic!(rt; "{line}");
     };
-    let cases = cases_of(alloc, &line_of(alloc, operands, given)?)?;
+    let types = types_of(alloc, operands)?;
+    let given = types_of(alloc, given)?.first().copied();
     for opcode in opcodes.split_whitespace() {
         let bytes = body_of(alloc, opcode, imm)?;
         for (operator, _) in read_body(alloc, &bytes, 0, bytes.len())?.iter() {
             if let Operator::Instr(instr) = operator {
                 rows.push(instr.row())?;
-                is_told(rt, info, instr, &cases);
+                is_told(rt, alloc, info, instr, operands, &types, given)?;
             }
         }
     }
@@ -435,13 +388,10 @@ fn refused_types(rt: HostRuntime) -> Result<(), Fail> {
     for line in REFUSED.trim().lines() {
         let (digits, operands) = line.split_once('|').ok_or("one part alone")?;
         let bytes = body_of(alloc, digits, "-")?;
-        let cases = [Case {
-            operands: types_of(alloc, operands)?,
-            wanted: None,
-        }];
+        let operands = types_of(alloc, operands)?;
         for (operator, _) in read_body(alloc, &bytes, 0, bytes.len())?.iter() {
             if let Operator::Instr(instr) = operator {
-                is_told(&rt, &info, instr, &cases);
+                gives(&rt, &info, instr, &operands, None);
             }
         }
     }

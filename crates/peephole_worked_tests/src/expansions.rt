@@ -2,10 +2,9 @@
 
 ghost use Rattle.std.specs.Prelude.{IfOk, IsTrue, is_some};
 
-use crate::terms::{
-    TermCase, assert_writable, begun_sink, config_with, is_answer, term_case, term_of,
-};
+use crate::terms::{TermCase, assert_writable, is_answer, term_case, term_of};
 use peephole_terms::{Error, expr2wasm};
+use peephole_test_support::{begun_sink, config_with};
 use rand_core::Rng;
 use std::alloc::Global;
 use std::process::Abort;

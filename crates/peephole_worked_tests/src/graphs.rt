@@ -3,12 +3,12 @@
 ghost use Rattle.std.specs.Prelude.{◌<◌, length};
 ghost use Rattle.peephole_graphs.specs.Block.{IsBlockIn};
 
-use crate::table::{bytes_in, bytes_of, field_of, fields_of, number_of, types_of};
-use crate::writing::operators_of;
+use crate::table::{number_of, types_of};
 use peephole_terms::{
     BBlock, DFGBuilder, Error, FuncInfo, MiniDFG, ModuleInfo, OperatorAndByteOffset, TypeInfo,
     WasmMutate, Words,
 };
+use peephole_test_support::{bytes_in, bytes_of, field_of, fields_of, operators_of};
 use std::alloc::Global;
 use std::process::Abort;
 use std::test::Fail;

@@ -1,8 +1,8 @@
 //! Another kind of nodes, through the trait alone.
 
-use crate::table::fields_of;
 use peephole_examples::{Arith, set_first};
 use peephole_lang::{Id, Language};
+use peephole_test_support::fields_of;
 use std::alloc::{AllocError, Global};
 use std::process::Abort;
 use std::test::Fail;

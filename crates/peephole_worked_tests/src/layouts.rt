@@ -3,9 +3,9 @@
 ghost use Rattle.std.specs.Prelude.{◌≡◌, length, IfOk};
 
 use crate::graphs::{graph_of, place_of};
-use crate::table::{bytes_in, field_of, parts_of};
 use peephole_examples::{Arith, tree_of};
 use peephole_terms::{Id, Language, RecExpr, build_expr};
+use peephole_test_support::{bytes_in, field_of, parts_of};
 use std::alloc::Global;
 use std::cell::Cell;
 use std::process::Abort;

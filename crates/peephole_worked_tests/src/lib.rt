@@ -1,4 +1,4 @@
-//! Tests by examples worked by hand: blocks, graphs, terms, written bodies and their runs on a plain machine, and rules.
+//! Tests by examples worked by hand: blocks, graphs, terms, written bodies and their runs on a plain machine.
 #![tactic(auto)]
 
 #[cfg(test)]
@@ -18,15 +18,9 @@ mod memory;
 #[cfg(test)]
 mod refused;
 #[cfg(test)]
-mod refused_rewrites;
-#[cfg(test)]
 mod replacements;
 #[cfg(test)]
 mod rereading;
-#[cfg(test)]
-mod rewrites;
-#[cfg(test)]
-mod rules;
 #[cfg(test)]
 mod running;
 #[cfg(test)]

@@ -4,12 +4,12 @@ ghost use Rattle.std.specs.Prelude.{◌≡◌, ◌<◌, IfOk, length};
 
 use crate::expansions::is_expanded;
 use crate::graphs::{at, graph_of};
-use crate::table::field_of;
+use crate::refused;
 use crate::terms::term_case;
 use crate::writing::is_case;
-use crate::{refused, refused_rewrites};
 use peephole_examples::{Arith, tree_of};
 use peephole_terms::{Error, Id, Language, MiniDFG, RecExpr};
+use peephole_test_support::field_of;
 use std::alloc::{AllocError, Global};
 use std::process::Abort;
 
@@ -165,13 +165,4 @@ fn calls(rt: HostRuntime) {
     ] {
         refused::over_samples(&rt, rt.alloc(), call);
     }
-}
-
-/// Each call of rules that takes memory.
-#[test]
-fn calls_of_rules(rt: HostRuntime) {
-    refused_rewrites::terms(&rt, rt.alloc());
-    refused_rewrites::lists(&rt, rt.alloc());
-    refused_rewrites::bodies(&rt, rt.alloc());
-    refused_rewrites::choices(&rt, rt.alloc());
 }

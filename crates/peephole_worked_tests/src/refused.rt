@@ -6,46 +6,36 @@ ghost use Rattle.peephole_terms.specs.Written.{IsBodyIn};
 
 use crate::graphs::block_of;
 use crate::samples::{SAMPLES, Sample, sample_of};
-use crate::table::{bytes_in, field_of, parts_of};
-use crate::terms::{are_globals, assert_below, assert_writable, begun_sink, config_of};
-use crate::writing::{operators_of, term_at};
+use crate::terms::assert_writable;
+use crate::writing::term_at;
 use peephole_examples::tree_of;
 use peephole_terms::{
     DFGBuilder, Encoder, Error, Function, Id, Lang, Language, MiniDFG, ModuleInfo,
     OperatorAndByteOffset, ReadKind, RecExpr, ResourceRequest, WasmMutate, Words, expr2wasm,
     read_body,
 };
+use peephole_test_support::{
+    Refused, are_below, are_globals, begun_sink, bytes_in, config_of, field_of, operators_of,
+    parts_of,
+};
 use std::alloc::Global;
 use std::process::Abort;
 
-/// What the refused request for memory was for.
-#[derive(Clone, Copy, PartialEq, Eq)]
-pub enum Refused {
-    /// None was refused.
-    Nothing,
-    /// What the test makes before the call.
-    Preparation,
-    /// The call, which answered `Memory`.
-    Call,
-}
-
 /// What was refused up to here: one request at most. `answer` is whether the last call answered `Memory`, or `Memory` where
 /// the test couldn't make that call.
-pub fn with_answer(rt: &impl Abort, before: Refused, answer: Result<bool, Error>) -> Refused {
-    let now = match answer {
-        Ok(false) => return before,
-        Ok(true) => Refused::Call,
-        Err(error) => {
-            assert!(rt; error == Error::Memory);
-            Refused::Preparation
+fn with_answer(rt: &impl Abort, before: Refused, answer: Result<bool, Error>) -> Refused {
+    match Refused::of_answer(answer) {
+        Some(Refused::Nothing) => before,
+        Some(now) => {
+            assert!(rt; before == Refused::Nothing);
+            now
         }
-    };
-    assert!(rt; before == Refused::Nothing);
-    now
+        None => panic!(rt; "refused for something else than memory"),
+    }
 }
 
 /// Ends the test where a call refuses for something else than memory.
-pub fn is_memory(rt: &impl Abort, error: Error) -> bool {
+fn is_memory(rt: &impl Abort, error: Error) -> bool {
     assert!(rt; error == Error::Memory);
     true
 }
@@ -129,7 +119,7 @@ fn begins(rt: &impl Abort, expr: &RecExpr<Lang>, wanted: &RecExpr<Lang>, count: 
 }
 
 /// Whether an expression is refused for memory; else it has these nodes.
-pub fn lacks_nodes(
+fn lacks_nodes(
     rt: &impl Abort,
     answer: Result<RecExpr<Lang>, Error>,
     wanted: &RecExpr<Lang>,
@@ -173,7 +163,7 @@ fn lacks_a_node(rt: &impl Abort, alloc: Global, sample: &Sample) -> Result<bool,
     let mut expr = RecExpr::new(alloc);
     for (place, node) in wanted.as_ref().iter().enumerate() {
         let node = node.clone_node()?;
-        assert_below(rt, node.children(), expr.len());
+        assert!(rt; are_below(node.children(), expr.len()));
         match expr.add(node) {
             Ok(id) => assert!(rt; id.0 as usize == place),
             Err(error) => {
@@ -217,7 +207,7 @@ fn lacks_writing(
     match answer {
         Ok(requests) => {
             assert!(rt; &sink.bytes()[2..] == wanted);
-            are_globals(rt, &requests, &sample.globals);
+            assert!(rt; are_globals(&requests, &sample.globals));
             false
         }
         Err(error) => {

@@ -1,8 +1,9 @@
 //! Bodies in, bodies with a term out.
 
-use crate::table::{bytes_in, field_of, number_of};
-use crate::terms::{TermCase, are_globals, assert_writable, config_with, term_case, term_of};
+use crate::table::number_of;
+use crate::terms::{TermCase, assert_writable, term_case, term_of};
 use peephole_examples::{ReplaceError, Replaced, replace};
+use peephole_test_support::{are_globals, bytes_in, config_with, field_of};
 use std::alloc::Global;
 use std::process::Abort;
 use std::test::Fail;
@@ -53,7 +54,7 @@ fn is_replaced(rt: &impl Abort, alloc: Global, case: &str) -> Result<(), Fail> {
 fn is_new(rt: &impl Abort, new: &Replaced, case: &TermCase) {
     let told = case.told;
     assert!(rt; new.body.bytes() == case.written.as_slice(), "{told}");
-    are_globals(rt, &new.requests, &case.globals);
+    assert!(rt; are_globals(&new.requests, &case.globals), "{told}");
 }
 
 #[test]

@@ -1,10 +1,10 @@
 //! Blocks that are written with their own trees, read again and written again.
 
 use crate::graphs::{Place, at, graph_of, place_of};
-use crate::table::{bytes_in, field_of};
 use crate::terms::{TermCase, term_case};
 use crate::writing::is_written;
 use peephole_terms::Error;
+use peephole_test_support::{bytes_in, field_of};
 use std::alloc::Global;
 use std::process::Abort;
 use std::test::Fail;

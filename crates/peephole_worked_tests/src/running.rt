@@ -2,11 +2,11 @@
 
 use crate::expansions::is_expanded;
 use crate::graphs::place_of;
-use crate::machine::{Machine, Value};
-use crate::table::{bytes_in, field_of, number_of};
+use crate::table::number_of;
 use crate::terms::term_case;
-use crate::writing::{is_written, operators_of};
+use crate::writing::is_written;
 use peephole_terms::{Error, Instr, Operator, PrimitiveTypeInfo};
+use peephole_test_support::{Machine, Value, bytes_in, field_of, operators_of};
 use std::alloc::{AllocError, Global};
 use std::process::Abort;
 use std::test::Fail;

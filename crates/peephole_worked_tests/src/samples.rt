@@ -1,8 +1,9 @@
 //! Bodies with an insertion point and a term, and what each call makes of them.
 
-use crate::table::{bytes_in, field_of, number_of, numbers_of, parts_of, types_of};
+use crate::table::{number_of, numbers_of, types_of};
 use crate::terms::term_of;
 use peephole_terms::{Error, Lang, PrimitiveTypeInfo, RecExpr};
+use peephole_test_support::{bytes_in, field_of, parts_of};
 use std::alloc::Global;
 use std::process::Abort;
 

@@ -1,11 +1,11 @@
 //! The types of results of single nodes, with a look-up of the caller's.
 
-use crate::table::fields_of;
 use crate::terms::node_of;
 use peephole_terms::{
     ClassData, FuncInfo, Id, Lang, MemoryType, ModuleInfo, OperandTypes, PeepholeMutationAnalysis,
     PrimitiveTypeInfo, TypeInfo,
 };
+use peephole_test_support::fields_of;
 use std::alloc::{AllocError, Global};
 use std::test::Fail;
 

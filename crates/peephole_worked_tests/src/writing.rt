@@ -6,28 +6,15 @@ ghost use Rattle.peephole_nodes.specs.Payload.{is_writable};
 ghost use Rattle.peephole_terms.specs.Written.{IsBodyIn};
 
 use crate::graphs::{Place, block_of, place_of};
-use crate::table::bytes_in;
-use crate::terms::{
-    TermCase, assert_writable, begun_sink, config_with, is_answer, term_case, term_of,
-};
+use crate::terms::{TermCase, assert_writable, is_answer, term_case, term_of};
 use peephole_terms::{
     DFGBuilder, Encoder, Error, Lang, MiniDFG, OperatorAndByteOffset, RecExpr, WasmMutate, Words,
-    read_body,
 };
+use peephole_test_support::{begun_sink, bytes_in, config_with, operators_of};
 use rand_core::Rng;
 use std::alloc::Global;
 use std::process::Abort;
 use std::test::Fail;
-
-/// The operators of a body; `Memory` where they aren't read.
-pub fn operators_of(alloc: Global, bytes: &[u8]) -> Result<Vec<OperatorAndByteOffset>, Error>
-    ensures { IfOk result (λ operators. IsBodyIn bytes.now operators.items) }
-{
-    match read_body(alloc, bytes, 0, bytes.len()) {
-        Ok(operators) => Ok(operators),
-        Err(_) => Err(Error::Memory),
-    }
-}
 
 /// The term of some nodes, or the own tree of an operator where there are no nodes.
 pub fn term_at(

@@ -23,7 +23,7 @@ use Rattle.wasm_declarations.specs.Globals.{SpellsGlobal, FailsGlobal}
 use Rattle.wasm_declarations.specs.Entries.{SpellsEntries}
 use Rattle.wasm_module.specs.Module.{Layout, IsModule}
 use Rattle.wasm_module.specs.Rewritten.{globals_code, new_globals, AddsGlobals}
-use Rattle.wasm_module.specs.Room.{HasCount, HasRoom, IsCodePlace}
+use Rattle.wasm_module.specs.Room.{HasCount, HasRoom, IsCodePlace, globals_with}
 use Rattle.wasm_module.proofs.FindLemmas.{lists_at, lists_nothing, first_before, place_before}
 use Rattle.wasm_module.proofs.InsideLemmas.{code_entry}
 
@@ -61,25 +61,24 @@ place_at ss ss' bytes place e f m lack =
     e f bytes m
     lack (λ same. absurd cc)
 
-pub new_is : (contents : List ℕ) (more : List PrimitiveTypeInfo) → contents ≡ shortest (0 + length more) ++ [] ++ globals_code more →
-    contents ≡ new_globals more
-new_is contents more e = e ∙ ap (λ (n : ℕ). shortest n ++ [] ++ globals_code more) (zero-add (length more))
+pub new_is : (count : ℕ) (more : List PrimitiveTypeInfo) → count ≡ 0 + length more → globals_with count [] more ≡ new_globals more
+new_is count more e = ap (λ (n : ℕ). shortest n ++ [] ++ globals_code more) (e ∙ zero-add (length more))
     ∙ ap (λ (l : List ℕ). l ++ globals_code more) (append-nil (shortest (length more)))
 
-pub adds : {V : Type 0} (items : V → List ℕ) (bytes : List ℕ) (layout : Layout) (more : List PrimitiveTypeInfo) (to place : ℕ) (contents : List ℕ)
-    (r : Result V WriteError) → LackId layout.sections ids.Global → IsPlaceOf layout.sections ids.Global place → contents ≡ new_globals more
-    → length more < 2 ^ 32 → OnOk r (length contents < 2 ^ 32)
-    → IfOk r (λ v. items v ≡ take place bytes ++ section_code ids.Global contents ++ slice_range bytes place to)
+pub adds : {V : Type 0} (items : V → List ℕ) (bytes : List ℕ) (layout : Layout) (more : List PrimitiveTypeInfo) (to place : ℕ)
+    (contents before after : List ℕ) (r : Result V WriteError) → LackId layout.sections ids.Global → IsPlaceOf layout.sections ids.Global place
+    → contents ≡ new_globals more → length more < 2 ^ 32 → before ≡ take place bytes → after ≡ slice_range bytes place to
+    → OnOk r (length contents < 2 ^ 32) → IfOk r (λ v. items v ≡ before ++ section_code ids.Global contents ++ after)
     → IfOk r (λ v. AddsGlobals bytes layout more to (items v))
-adds items bytes layout more to place contents (Ok v) none is e few sized w = record {
+adds items bytes layout more to place contents before after (Ok v) none is e few b a sized w = record {
   none = none;
   place = place;
   is = is;
   few = few;
   sized = subst (λ (l : List ℕ). length l < 2 ^ 32) e sized;
-  front_is = w ∙ ap (λ (l : List ℕ). take place bytes ++ section_code ids.Global l ++ slice_range bytes place to) e;
+  front_is = cc;
 }
-adds items bytes layout more to place contents (Err e') none is e few sized w = w
+adds items bytes layout more to place contents before after (Err e') none is e few b a sized w = w
 
 -- ---- the code section
 
@@ -119,7 +118,5 @@ place_is bytes info layout n code entry joined within m is e =
       code_is = is;
       entry_is = e;
       room = room bytes info layout code joined within m is;
-      order = omega (arith, w.contents, w.order);
-      inside = w.last;
       placed = record { first = i.first; order = omega (arith, i.sized, i.ordered); last = i.last; inside = w.last };
     }

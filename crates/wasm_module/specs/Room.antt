@@ -1,9 +1,9 @@
 -- Where globals may be appended before an offset of a module, and where an entry of its code stands (this project): for proofs.
-use Rattle.std.specs.Prelude.{◌≡◌, ℕ, ◌≤◌, List, ◌++◌, length, drop, Some, slice_get, slice_range}
+use Rattle.std.specs.Prelude.{◌≡◌, ℕ, ◌≤◌, ◌+◌, ◌-◌, List, ◌++◌, length, Some, slice_get, slice_range}
 use Rattle.mutate_base.specs.declared.types.PrimitiveTypeInfo.{PrimitiveTypeInfo}
 use Rattle.wasm_declarations.specs.declared.entries.Entry.{Entry}
-use Rattle.wasm_sections.specs.Writing.{section_code}
-use Rattle.wasm_module.specs.Rewritten.{IsFront}
+use Rattle.wasm_module.specs.Rewritten.{globals_code}
+use Rattle.wasm_code.specs.Code.{shortest}
 use Rattle.wasm_code.specs.Number.{SpellsUnsigned}
 use Rattle.wasm_sections.specs.declared.section.Section.{Section}
 use Rattle.wasm_sections.specs.declared.id.SectionId.TheVariants as ids
@@ -44,12 +44,12 @@ pub record IsCodePlace (bytes : List ℕ) (layout : Layout) (n : ℕ) (code : Se
   pub code_is : IsFirstWith layout.sections ids.Code code
   pub entry_is : slice_get layout.entries n ≡ Some entry
   pub room : HasRoom bytes layout code.start
-  pub order : code.start ≤ code.end
-  pub inside : code.end ≤ length bytes
   pub placed : IsEntryOf bytes code.contents entry.start entry.end code.end
 
--- the bytes are those before the code section, with more globals, a code section with that contents, and what stands behind the code section
-pub record IsJoined (bytes : List ℕ) (layout : Layout) (more : List PrimitiveTypeInfo) (code : Section) (contents new : List ℕ) : Type 0 where
-  pub front : List ℕ
-  pub front_is : IsFront bytes layout more code.start front
-  pub new_is : new ≡ front ++ section_code ids.Code contents ++ drop code.end bytes
+-- what a global section contains that has so many globals: their number, the bytes of those that were there, and more behind them
+abbrev pub globals_with : (count : ℕ) → (items : List ℕ) → (more : List PrimitiveTypeInfo) → List ℕ
+globals_with count items more = shortest count ++ items ++ globals_code more
+
+-- how many bytes the code section contains where the entry's contents have so many
+abbrev pub size_with : Section → Entry → (size : ℕ) → ℕ
+size_with code entry size = (entry.start - code.contents) + length (shortest size) + size + (code.end - entry.end)

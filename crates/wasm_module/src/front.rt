@@ -1,5 +1,5 @@
 //! The bytes of a module before an offset, with more globals.
-ghost use Rattle.std.specs.Prelude.{◌≡◌, ◌≤◌, ◌<◌, ◌+◌, ◌^◌, ◌++◌, ℕ, List, length, take, slice_range, Err, IfOk, OnOk};
+ghost use Rattle.std.specs.Prelude.{◌≡◌, ◌≤◌, ◌<◌, ◌^◌, ◌++◌, ℕ, List, length, take, slice_range, Err, IfOk, OnOk};
 ghost use Rattle.wasm_code.specs.Number.{SpellsUnsigned};
 ghost use Rattle.wasm_sections.specs.declared.id.SectionId.TheVariants as ids;
 ghost use Rattle.wasm_sections.specs.Find.{IsFirstWith, LackId};
@@ -7,15 +7,16 @@ ghost use Rattle.wasm_sections.specs.Writing.{section_code};
 ghost use Rattle.wasm_sections.specs.declared.writing.WriteError.TheVariants.{TooLarge};
 ghost use Rattle.wasm_module.specs.Rewritten.{GrowsGlobals, AddsGlobals, IsFront};
 ghost use Rattle.wasm_module.specs.Limits.{HasTooManyGlobals};
-ghost use Rattle.wasm_module.specs.Room.{HasCount, HasRoom};
+ghost use Rattle.wasm_module.specs.Room.{globals_with, HasCount, HasRoom};
 
 use crate::contents::contents_of;
-use crate::globals::with_globals;
+use crate::globals::{globals_size, put_globals};
 use crate::layout::Layout;
+use crate::sizes::{section_size, sum};
 use mutate_base::PrimitiveTypeInfo;
-use std::alloc::Global;
+use std::alloc::{AllocError, Global};
 use wasm_code::u32_of;
-use wasm_sections::{Section, SectionId, WriteError, find_section, place_of, put_section};
+use wasm_sections::{Section, SectionId, WriteError, find_section, place_of, put_head};
 
 /// What follows the number that begins the bytes.
 fn past_count(bytes: &[u8]) -> &[u8]
@@ -29,30 +30,53 @@ fn past_count(bytes: &[u8]) -> &[u8]
     }
 }
 
-/// The bytes before `to`, with a global section in the place of those from `from` to `past`.
-fn spliced(
-    alloc: Global,
-    bytes: &[u8],
-    from: usize,
-    past: usize,
-    to: usize,
-    contents: &[u8],
-) -> Result<Vec<u8>, WriteError>
+/// What stands before `from`, and what stands between `past` and `to`.
+fn around(bytes: &[u8], from: usize, past: usize, to: usize) -> (&[u8], &[u8])
     requires order { from ≤ past }
     requires before { past ≤ to }
     requires inside { to ≤ length bytes.now }
-    ensures written { IfOk result (λ v. v.items ≡ take from bytes.now
-        ++ section_code ids.Global contents.now ++ slice_range bytes.now past to) }
-    ensures sized { OnOk result (length contents.now < 2 ^ 32) }
-    ensures too_large { result ≡ Err TooLarge → 2 ^ 32 ≤ length contents.now }
+    ensures before { result.0.now ≡ take from bytes.now }
+    ensures after { result.1.now ≡ slice_range bytes.now past to }
 {
-    let mut front = Vec::from_slice(alloc, &bytes[..from])?;
-    put_section(&mut front, SectionId::Global, contents)?;
-    front.extend_from_slice(&bytes[past..to])?;
+    (&bytes[..from], &bytes[past..to])
+}
+
+/// The bytes, with room for `spare` more.
+fn copied(alloc: Global, bytes: &[u8], spare: usize) -> Result<Vec<u8>, AllocError>
+    ensures { IfOk result (λ v. v.items ≡ bytes.now) }
+{
+    let mut copy = Vec::with_capacity(alloc, spare.saturating_add(bytes.len()))?;
+    copy.extend_from_slice(bytes)?;
+    Ok(copy)
+}
+
+/// A global section that has `count` globals, those with the bytes `items` and more, and what stands before and behind it, with room
+/// for `spare` bytes more.
+fn spliced(
+    alloc: Global,
+    before: &[u8],
+    count: u32,
+    items: &[u8],
+    more: &[PrimitiveTypeInfo],
+    after: &[u8],
+    spare: usize,
+) -> Result<Vec<u8>, WriteError>
+    ensures written { IfOk result (λ v. v.items ≡ before.now
+        ++ section_code ids.Global (globals_with count items.now more.now) ++ after.now) }
+    ensures sized { OnOk result (length (globals_with count items.now more.now) < 2 ^ 32) }
+    ensures too_large { result ≡ Err TooLarge
+        → 2 ^ 32 ≤ length (globals_with count items.now more.now) }
+{
+    let size = globals_size(count, items, more)?;
+    let behind = section_size(size) + after.len();
+    let mut front = copied(alloc, before, spare.saturating_add(behind))?;
+    put_head(&mut front, SectionId::Global, size)?;
+    put_globals(&mut front, count, items, more)?;
+    front.extend_from_slice(after)?;
     Ok(front)
 }
 
-/// The same where the section is there: it has `own` globals, and gets more.
+/// The bytes before `to`, with more globals in the global section, and with room for `spare` bytes more.
 fn grown(
     alloc: Global,
     bytes: &[u8],
@@ -60,6 +84,7 @@ fn grown(
     section: Section,
     to: usize,
     globals: &[PrimitiveTypeInfo],
+    spare: usize,
 ) -> Result<Vec<u8>, WriteError>
     requires room { HasRoom bytes.now layout.now to }
     requires section { IsFirstWith layout.now.sections ids.Global section }
@@ -69,8 +94,9 @@ fn grown(
         → HasTooManyGlobals bytes.now layout.now globals.now }
 {
     let items = past_count(contents_of(bytes, section));
-    let contents = with_globals(alloc, layout.own_globals, items, globals)?;
-    spliced(alloc, bytes, section.start, section.end, to, &contents)
+    let count = sum(layout.own_globals, globals.len())?;
+    let (before, after) = around(bytes, section.start, section.end, to);
+    spliced(alloc, before, count, items, globals, after, spare)
 }
 
 /// The same where there is no global section.
@@ -80,6 +106,7 @@ fn started(
     layout: &Layout,
     to: usize,
     globals: &[PrimitiveTypeInfo],
+    spare: usize,
 ) -> Result<Vec<u8>, WriteError>
     requires room { HasRoom bytes.now layout.now to }
     requires none { LackId layout.now.sections ids.Global }
@@ -89,17 +116,19 @@ fn started(
         → HasTooManyGlobals bytes.now layout.now globals.now }
 {
     let place = place_of(&layout.sections, SectionId::Global);
-    let contents = with_globals(alloc, 0, &[], globals)?;
-    spliced(alloc, bytes, place, place, to, &contents)
+    let count = sum(0, globals.len())?;
+    let (before, after) = around(bytes, place, place, to);
+    spliced(alloc, before, count, &[], globals, after, spare)
 }
 
-/// The bytes of the module before the offset `to`, with more globals.
+/// The bytes of the module before the offset `to`, with more globals, and with room for `spare` bytes more.
 pub fn front_with(
     alloc: Global,
     bytes: &[u8],
     layout: &Layout,
     to: usize,
     globals: &[PrimitiveTypeInfo],
+    spare: usize,
 ) -> Result<Vec<u8>, WriteError>
     requires room { HasRoom bytes.now layout.now to }
     ensures written { IfOk result (λ v. IsFront bytes.now layout.now globals.now to v.items) }
@@ -107,10 +136,10 @@ pub fn front_with(
         → HasTooManyGlobals bytes.now layout.now globals.now }
 {
     if globals.is_empty() {
-        return Ok(Vec::from_slice(alloc, &bytes[..to])?);
+        return Ok(copied(alloc, &bytes[..to], spare)?);
     }
     match find_section(&layout.sections, SectionId::Global) {
-        Some(section) => grown(alloc, bytes, layout, section, to, globals),
-        None => started(alloc, bytes, layout, to, globals),
+        Some(section) => grown(alloc, bytes, layout, section, to, globals, spare),
+        None => started(alloc, bytes, layout, to, globals, spare),
     }
 }

@@ -1,11 +1,11 @@
 //! Globals that are written: what a global section contains with more of them.
-ghost use Rattle.std.specs.Prelude.{◌≡◌, ◌≤◌, ◌<◌, ◌+◌, ◌^◌, ◌++◌, length, Err, IfOk, IfErr, OnOk};
-ghost use Rattle.wasm_code.specs.Code.{shortest};
+ghost use Rattle.std.specs.Prelude.{◌≡◌, ◌≤◌, ◌^◌, ◌++◌, length, IfOk, IfErr, OnOk};
 ghost use Rattle.wasm_module.specs.Rewritten.{global_code, globals_code};
-ghost use Rattle.wasm_sections.specs.declared.writing.WriteError.TheVariants.{TooLarge};
+ghost use Rattle.wasm_module.specs.Room.{globals_with};
 
+use crate::sizes::{number_size, sum};
 use mutate_base::PrimitiveTypeInfo;
-use std::alloc::{AllocError, Global};
+use std::alloc::AllocError;
 use wasm_code::put_unsigned;
 use wasm_sections::WriteError;
 
@@ -26,7 +26,7 @@ fn global_of(tpe: PrimitiveTypeInfo) -> &'static [u8]
 }
 
 /// Appends globals of the types.
-fn put_globals(out: &mut Vec<u8>, types: &[PrimitiveTypeInfo]) -> Result<(), AllocError>
+fn put_new_globals(out: &mut Vec<u8>, types: &[PrimitiveTypeInfo]) -> Result<(), AllocError>
     ensures { OnOk result (out.new.items ≡ out.old.items ++ globals_code types.now) }
 {
     for tpe in types {
@@ -35,34 +35,34 @@ fn put_globals(out: &mut Vec<u8>, types: &[PrimitiveTypeInfo]) -> Result<(), All
     Ok(())
 }
 
-/// The sum; `TooLarge` where 32 bits don't hold it.
-pub fn sum(a: usize, b: usize) -> Result<usize, WriteError>
-    ensures ok { IfOk result (λ n. n ≡ a + b) }
-    ensures small { OnOk result (a + b < 2 ^ 32) }
-    ensures too_large { IfErr result (λ _. 2 ^ 32 ≤ a + b) }
-{
-    match a.checked_add(b) {
-        Some(n) if n <= u32::MAX as usize => Ok(n),
-        _ => Err(WriteError::TooLarge),
-    }
-}
-
-/// What a global section contains that has so many globals, whose bytes are these, and globals of the types behind them.
-pub fn with_globals(
-    alloc: Global,
-    own: usize,
+/// How many bytes a global section contains that has so many globals: those with these bytes, and globals of the types behind them.
+pub fn globals_size(
+    count: u32,
     items: &[u8],
     types: &[PrimitiveTypeInfo],
-) -> Result<Vec<u8>, WriteError>
-    ensures written { IfOk result (λ v. v.items
-        ≡ shortest (own + length types.now) ++ items.now ++ globals_code types.now) }
-    ensures few { OnOk result (own + length types.now < 2 ^ 32) }
-    ensures too_large { result ≡ Err TooLarge → 2 ^ 32 ≤ own + length types.now }
+) -> Result<u32, WriteError>
+    ensures ok { IfOk result (λ n. n ≡ length (globals_with count items.now types.now)) }
+    ensures too_large { IfErr result (λ _.
+        2 ^ 32 ≤ length (globals_with count items.now types.now)) }
 {
-    let count = sum(own, types.len())?;
-    let mut contents = Vec::new(alloc);
-    put_unsigned(&mut contents, count as u64)?;
-    contents.extend_from_slice(items)?;
-    put_globals(&mut contents, types)?;
-    Ok(contents)
+    let mut size = sum(number_size(count), items.len())?;
+    for tpe in types {
+        size = sum(size as usize, global_of(*tpe).len())?;
+    }
+    Ok(size)
+}
+
+/// Appends what such a global section contains.
+pub fn put_globals(
+    out: &mut Vec<u8>,
+    count: u32,
+    items: &[u8],
+    types: &[PrimitiveTypeInfo],
+) -> Result<(), AllocError>
+    ensures { OnOk result (
+        out.new.items ≡ out.old.items ++ globals_with count items.now types.now) }
+{
+    put_unsigned(out, count as u64)?;
+    out.extend_from_slice(items)?;
+    put_new_globals(out, types)
 }

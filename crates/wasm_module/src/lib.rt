@@ -11,6 +11,7 @@ mod layout;
 mod listed;
 mod lists;
 mod module;
+mod sizes;
 mod spaces;
 mod unknown;
 mod writing;

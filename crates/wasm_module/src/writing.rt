@@ -1,45 +1,57 @@
 //! A module with another body and more globals.
-ghost use Rattle.std.specs.Prelude.{◌≡◌, ◌≤◌, ◌<◌, ◌^◌, ◌++◌, ℕ, List, length, slice_range, Err, IfOk, OnOk};
+ghost use Rattle.std.specs.Prelude.{◌≡◌, ◌≤◌, ◌<◌, ◌^◌, ◌++◌, ℕ, List, length, drop, Err, IfOk, IfErr, OnOk};
 ghost use Rattle.mutate_base.specs.Module.{Module};
 ghost use Rattle.wasm_sections.specs.declared.writing.WriteError.TheVariants.{TooLarge};
 ghost use Rattle.wasm_module.specs.Module.{IsModule};
 ghost use Rattle.wasm_module.specs.Rewritten.{code_with, IsRewritten};
-ghost use Rattle.wasm_module.specs.Limits.{HasTooManyGlobals, IsTooLarge};
-ghost use Rattle.wasm_module.specs.Room.{IsEntryOf, HasRoom, IsCodePlace, IsJoined};
+ghost use Rattle.wasm_module.specs.Limits.{IsTooLarge};
+ghost use Rattle.wasm_module.specs.Room.{IsEntryOf, IsCodePlace, size_with};
 
 use crate::front::front_with;
-use crate::globals::sum;
 use crate::layout::Layout;
+use crate::sizes::{number_size, section_size, sum};
 use mutate_base::PrimitiveTypeInfo;
-use std::alloc::Global;
+use std::alloc::{AllocError, Global};
 use wasm_code::put_unsigned;
 use wasm_declarations::Entry;
 use wasm_sections::laws::sections_fill_the_module;
-use wasm_sections::{Section, SectionId, WriteError, find_section, put_section};
+use wasm_sections::{Section, SectionId, WriteError, find_section, put_head};
 
-/// What the code section contains, with `locals` and `expression` behind one another in the entry.
-fn code_contents(
-    alloc: Global,
+/// How many bytes the code section contains where the entry's contents have so many.
+fn code_size(code: Section, entry: Entry, size: u32) -> Result<u32, WriteError>
+    requires first { code.contents ≤ entry.start }
+    requires order { entry.start ≤ entry.end }
+    requires last { entry.end ≤ code.end }
+    ensures ok { IfOk result (λ n. n ≡ size_with code entry size) }
+    ensures too_large { IfErr result (λ _. 2 ^ 32 ≤ size_with code entry size) }
+{
+    let kept = (code.end - code.contents) - (entry.end - entry.start);
+    sum(kept, number_size(size) + size as usize)
+}
+
+/// Appends what the code section contains, with `locals` and `expression` behind one another as the contents of the entry, which
+/// have that size, and what stands behind the section.
+fn put_code(
+    out: &mut Vec<u8>,
     bytes: &[u8],
     code: Section,
     entry: Entry,
+    size: u32,
     locals: &[u8],
     expression: &[u8],
-) -> Result<Vec<u8>, WriteError>
-    requires { IsEntryOf bytes.now code.contents entry.start entry.end code.end }
-    ensures written { IfOk result (λ v.
-        v.items ≡ code_with bytes.now code entry (locals.now ++ expression.now)) }
-    ensures sized { OnOk result (length (locals.now ++ expression.now) < 2 ^ 32) }
-    ensures too_large { result ≡ Err TooLarge
-        → 2 ^ 32 ≤ length (locals.now ++ expression.now) }
+) -> Result<(), AllocError>
+    requires placed { IsEntryOf bytes.now code.contents entry.start entry.end code.end }
+    requires sized { size ≡ length (locals.now ++ expression.now) }
+    ensures { OnOk result (out.new.items ≡ out.old.items
+        ++ (code_with bytes.now code entry (locals.now ++ expression.now)
+        ++ drop code.end bytes.now)) }
 {
-    let size = sum(locals.len(), expression.len())?;
-    let mut contents = Vec::from_slice(alloc, &bytes[code.contents..entry.start])?;
-    put_unsigned(&mut contents, size as u64)?;
-    contents.extend_from_slice(locals)?;
-    contents.extend_from_slice(expression)?;
-    contents.extend_from_slice(&bytes[entry.end..code.end])?;
-    Ok(contents)
+    out.extend_from_slice(&bytes[code.contents..entry.start])?;
+    put_unsigned(out, size as u64)?;
+    out.extend_from_slice(locals)?;
+    out.extend_from_slice(expression)?;
+    out.extend_from_slice(&bytes[entry.end..code.end])?;
+    out.extend_from_slice(&bytes[code.end..])
 }
 
 /// The code section, and the n-th of its entries.
@@ -56,37 +68,14 @@ fn code_place(layout: &Layout, n: usize) -> (Section, Entry)
     }
 }
 
-/// The module with those contents of its code section, and with more globals.
-fn joined(
-    alloc: Global,
-    bytes: &[u8],
-    layout: &Layout,
-    code: Section,
-    contents: &[u8],
-    globals: &[PrimitiveTypeInfo],
-) -> Result<Vec<u8>, WriteError>
-    requires room { HasRoom bytes.now layout.now code.start }
-    requires order { code.start ≤ code.end }
-    requires inside { code.end ≤ length bytes.now }
-    ensures written { IfOk result (λ v.
-        IsJoined bytes.now layout.now globals.now code contents.now v.items) }
-    ensures sized { OnOk result (length contents.now < 2 ^ 32) }
-    ensures too_large { result ≡ Err TooLarge → length contents.now < 2 ^ 32
-        → HasTooManyGlobals bytes.now layout.now globals.now }
-{
-    let mut new = front_with(alloc, bytes, layout, code.start, globals)?;
-    put_section(&mut new, SectionId::Code, contents)?;
-    new.extend_from_slice(&bytes[code.end..])?;
-    Ok(new)
-}
-
 /// The module with `locals` and `expression` behind one another as the contents of its n-th code entry (n from 0), and with
 /// globals of the types appended to its own, each of which may be written and starts as zero, or null. (`Empty` is no type of a
 /// global: it should not be among them.)
 ///
 /// The sizes of the entry, of the code section and of the global section, and the number of the globals, are written in as few
 /// bytes as will do. Where there is no global section, one is written where the standard has it; where no globals are given, none
-/// is. Every other byte stands as it stood: custom sections, and the order of all.
+/// is. Every other byte stands as it stood: custom sections, and the order of all. The sizes are computed first, so that memory is
+/// taken once, as many bytes as the new module has, and each byte is written once.
 ///
 /// `TooLarge` where 32 bits don't hold one of those sizes or the number; `Memory` where no memory was left.
 pub fn with_body(
@@ -106,6 +95,11 @@ pub fn with_body(
         bytes.now layout.now n (locals.now ++ expression.now) globals.now }
 {
     let (code, entry) = code_place(layout, n);
-    let contents = code_contents(alloc, bytes, code, entry, locals, expression)?;
-    joined(alloc, bytes, layout, code, &contents, globals)
+    let size = sum(locals.len(), expression.len())?;
+    let whole = code_size(code, entry, size)?;
+    let behind = section_size(whole) + (bytes.len() - code.end);
+    let mut new = front_with(alloc, bytes, layout, code.start, globals, behind)?;
+    put_head(&mut new, SectionId::Code, whole)?;
+    put_code(&mut new, bytes, code, entry, size, locals, expression)?;
+    Ok(new)
 }

@@ -15,4 +15,4 @@ pub use find::{find_section, place_of};
 pub use id::SectionId;
 pub use section::Section;
 pub use sections::read_sections;
-pub use writing::{WriteError, put_section};
+pub use writing::{WriteError, put_head, put_section};

@@ -1,6 +1,7 @@
 //! Sections as bytes.
-ghost use Rattle.std.specs.Prelude.{◌≡◌, ◌↔◌, ◌≤◌, ◌^◌, ◌++◌, length, Err, OnOk, OnErr};
-ghost use Rattle.wasm_code.specs.Code.{BeginsWith};
+ghost use Rattle.std.specs.Prelude.{◌≡◌, ◌↔◌, ◌≤◌, ◌<◌, ◌^◌, ◌∷◌, ◌++◌, length, Err, OnOk, OnErr};
+ghost use Rattle.wasm_code.specs.Code.{BeginsWith, shortest};
+ghost use Rattle.wasm_sections.specs.Id.{id_code};
 ghost use Rattle.wasm_sections.specs.Writing.{section_code, write_error_name};
 ghost use Rattle.wasm_sections.specs.declared.writing.WriteError.TheVariants.{TooLarge, Memory};
 
@@ -40,12 +41,23 @@ impl From<AllocError> for WriteError {
     }
 }
 
-fn put_parts(out: &mut Vec<u8>, id: SectionId, contents: &[u8]) -> Result<(), AllocError>
-    ensures ok { OnOk result (out.new.items ≡ out.old.items ++ section_code id contents.now) }
+/// Appends what stands before the contents of a section: its id, and their size in as few bytes as will do.
+///
+/// Where no memory was left, some of the bytes may have been appended.
+pub fn put_head(out: &mut Vec<u8>, id: SectionId, size: u32) -> Result<(), AllocError>
+    ensures ok { OnOk result (out.new.items ≡ out.old.items ++ id_code id ∷ shortest size) }
     ensures err { OnErr result (BeginsWith out.new.items out.old.items) }
 {
     out.push(id.byte())?;
-    put_unsigned(out, contents.len() as u64)?;
+    put_unsigned(out, size as u64)
+}
+
+fn put_parts(out: &mut Vec<u8>, id: SectionId, contents: &[u8]) -> Result<(), AllocError>
+    requires { length contents.now < 2 ^ 32 }
+    ensures ok { OnOk result (out.new.items ≡ out.old.items ++ section_code id contents.now) }
+    ensures err { OnErr result (BeginsWith out.new.items out.old.items) }
+{
+    put_head(out, id, contents.len() as u32)?;
     out.extend_from_slice(contents)
 }
 

@@ -603,7 +603,7 @@ fn is_unwritable(rt: &impl Abort, text: &str, ids: Vec<Id>) -> Result<(), Fail> 
 }
 
 /// The line tells of the variant at that place. A node of it.
-fn variant_at(rt: &impl Abort, alloc: Global, place: usize, line: &str) -> Result<Lang, Fail> {
+fn variant_at(rt: &impl Abort, alloc: Global, place: u16, line: &str) -> Result<Lang, Fail> {
     let words: Vec<&str> = line.split_whitespace().collect(alloc)?;
     let [name, front, kind, children] = words.as_slice() else {
         panic!(rt; "{line}");
@@ -611,21 +611,23 @@ fn variant_at(rt: &impl Abort, alloc: Global, place: usize, line: &str) -> Resul
     let Some((payload, imm)) = sample(kind) else {
         panic!(rt; "{line}");
     };
-    let text = format!(in alloc; "{front}{payload}")?;
     let ids = first_ids(alloc, taken(children))?;
-    let node = Lang::from_op_str(text.as_str(), ids.clone()?)?;
-    assert!(rt;
-        node.place() as usize == place && name_of(&node) == Some(*name),
-        "{line}"
-    );
-    is_node(rt, alloc, &node, text.as_str(), ids.as_slice())?;
-    let row = node.place().checked_sub(12);
-    let instr = row.and_then(|row| Instr::new(row, imm));
-    counts_children(rt, alloc, text.as_str(), instr, children)?;
     if let Some(payload) = overaligned(kind) {
         let text = format!(in alloc; "{front}{payload}")?;
         is_unwritable(rt, text.as_str(), ids.clone()?)?;
     }
+    let instr = match place.checked_sub(12) {
+        Some(row) => Instr::new(row, imm),
+        None => None,
+    };
+    let text = format!(in alloc; "{front}{payload}")?;
+    counts_children(rt, alloc, text.as_str(), instr, children)?;
+    let node = Lang::from_op_str(text.as_str(), ids.clone()?)?;
+    assert!(rt;
+        node.place() == place && name_of(&node) == Some(*name),
+        "{line}"
+    );
+    is_node(rt, alloc, &node, text.as_str(), ids.as_slice())?;
     is_of_instr(rt, &node, instr, ids);
     Ok(node)
 }
@@ -638,15 +640,16 @@ fn is_below(rt: &impl Abort, low: &Lang, high: &Lang) {
 
 #[test]
 fn variants(rt: HostRuntime) -> Result<(), Fail> {
-    let alloc = rt.alloc();
-    let mut nodes: Vec<Lang> = Vec::new(alloc);
-    for (place, line) in VARIANTS.trim().lines().enumerate() {
-        let node = variant_at(&rt, alloc, place, line)?;
-        if let Some(low) = nodes.last() {
+    let mut place = 0u16;
+    let mut low: Option<Lang> = None;
+    for line in VARIANTS.trim().lines() {
+        let node = variant_at(&rt, rt.alloc(), place, line)?;
+        if let Some(low) = &low {
             is_below(&rt, low, &node);
         }
-        nodes.push(node)?;
+        low = Some(node);
+        place = place.wrapping_add(1);
     }
-    assert!(rt; nodes.len() == 458);
+    assert!(rt; place == 458);
     Ok(())
 }

@@ -8,6 +8,7 @@ use Rattle.peephole_terms.specs.Expansion.{setting_of}
 use Rattle.wasm_module.specs.Module.{IsModule}
 use Rattle.peephole_modules.specs.Mutated.{HasNoMutation, MutatesEntry, RefusesEntry, requested}
 use Rattle.peephole_modules.specs.declared.mutation.MutationError.TheVariants.{Rewrite, Write}
+use Rattle.peephole_modules.proofs.DrawnLemmas.{appended_by, chooses_at, info_of_setting, refused_by}
 use Rattle.peephole_modules.proofs.MutationLemmas.{behind_locals, body_in, lent_under, mutates, nothing_here, refuses_function, refuses_writing, under_lent}
 use Rattle.peephole_modules.proofs.mutation.mutate_entry.Goals as goal
 
@@ -50,7 +51,9 @@ returns-in-Err-rewrite_tree_at_random-clause-refused g c =
     (inr (refuses_function c.args.rules.now c.args.bytes.now c.info.result.now c.args.layout.now c.args.n c.in-Ok.function.locals.items
     c.deref.result.now c.in-Ok.function.expression c.in-Ok.function.operators.items c.deref-2.result.now
     c.in-Err-rewrite_tree_at_random.e c.in-Ok.ensures.read c.deref.ensures.value c.deref-2.ensures.value
-    (rw c.info.ensures at c.in-Err-rewrite_tree_at_random.ensures.refused)))
+    (refused_by (setting_of g.R.Rng.stream c.args.config.now) (info_of c.args.config.now) c.info.result.now c.deref.result.now c.args.rules.now
+    c.deref-2.result.now c.in-Err-rewrite_tree_at_random.e (info_of_setting g.R.Rng.stream c.args.config.now) c.info.ensures
+    c.in-Err-rewrite_tree_at_random.ensures.refused)))
 
 pub returns-in_err-globals-clause-refused : goal.returns-in_err-globals-clause-refused
 returns-in_err-globals-clause-refused g c =
@@ -79,10 +82,22 @@ returns-in-Ok-with_body-clause-mutated g c =
           c.in-Ok-Some.made.rewrite c.new-body.result c.rewrite_tree_at_random.new.newfunc c.in-Ok-Some.made.requests.items
           (setting_of g.R.Rng.stream c.rewrite_tree_at_random.new.config) c.locals_of-locals.result.now c.bytes.result.now c.deref-4.result.now
           c.in-Ok-with_body.new.items c.in-Ok.ensures.read c.deref.ensures.value c.deref-2.ensures.value c.new-body.ensures
-          (rw c.info.ensures at (rw c.in-Ok-Some.field-0-is at c.in-Ok-Some.ensures.rewritten)) c.entry_at.ensures c.locals_of-locals.ensures
+          (appended_by (setting_of g.R.Rng.stream c.args.config.now) (info_of c.args.config.now) c.info.result.now c.deref.result.now c.args.rules.now
+          c.args.bytes.now c.deref-2.result.now c.in-Ok-Some.made.rewrite c.new-body.result c.rewrite_tree_at_random.new.newfunc
+          c.in-Ok-Some.made.requests.items (setting_of g.R.Rng.stream c.rewrite_tree_at_random.new.config)
+          (info_of_setting g.R.Rng.stream c.args.config.now) c.info.ensures (rw c.in-Ok-Some.field-0-is at c.in-Ok-Some.ensures.rewritten)) c.entry_at.ensures c.locals_of-locals.ensures
           c.bytes.ensures (c.deref-4.ensures.value ∙ c.in_ok-globals.ensures ∙ ap (map requested) c.deref-3.ensures.value)
           c.in-Ok-with_body.ensures.written,
     )
+
+pub returns-in-Ok-with_body-clause-chosen : goal.returns-in-Ok-with_body-clause-chosen
+returns-in-Ok-with_body-clause-chosen g c =
+    chooses_at (setting_of g.R.Rng.stream c.args.config.now) (info_of c.args.config.now) c.args.rules.now c.args.bytes.now c.info.result.now
+    c.args.layout.now c.args.n c.in-Ok.function.locals.items c.deref.result.now c.in-Ok.function.expression c.in-Ok.function.operators.items
+    c.deref-2.result.now c.in-Ok-Some.made.rewrite c.args.bytes.now c.new-body.result c.rewrite_tree_at_random.new.newfunc
+    c.in-Ok-Some.made.requests.items (setting_of g.R.Rng.stream c.rewrite_tree_at_random.new.config)
+    (info_of_setting g.R.Rng.stream c.args.config.now) c.info.ensures c.in-Ok.ensures.read c.deref.ensures.value c.deref-2.ensures.value
+    (rw c.in-Ok-Some.field-0-is at c.in-Ok-Some.ensures.rewritten)
 
 pub returns-clause-refused : goal.returns-clause-refused
 returns-clause-refused g c =
@@ -93,6 +108,9 @@ returns-clause-refused g c =
     c.in-Ok-Some.made.rewrite c.new-body.result c.rewrite_tree_at_random.new.newfunc c.in-Ok-Some.made.requests.items
     (setting_of g.R.Rng.stream c.rewrite_tree_at_random.new.config) c.locals_of-locals.result.now c.bytes.result.now c.deref-4.result.now
     c.in-Err-with_body.e c.in-Ok.ensures.read c.deref.ensures.value c.deref-2.ensures.value c.new-body.ensures
-    (rw c.info.ensures at (rw c.in-Ok-Some.field-0-is at c.in-Ok-Some.ensures.rewritten)) c.entry_at.ensures c.locals_of-locals.ensures
+    (appended_by (setting_of g.R.Rng.stream c.args.config.now) (info_of c.args.config.now) c.info.result.now c.deref.result.now c.args.rules.now
+    c.args.bytes.now c.deref-2.result.now c.in-Ok-Some.made.rewrite c.new-body.result c.rewrite_tree_at_random.new.newfunc
+    c.in-Ok-Some.made.requests.items (setting_of g.R.Rng.stream c.rewrite_tree_at_random.new.config)
+    (info_of_setting g.R.Rng.stream c.args.config.now) c.info.ensures (rw c.in-Ok-Some.field-0-is at c.in-Ok-Some.ensures.rewritten)) c.entry_at.ensures c.locals_of-locals.ensures
     c.bytes.ensures (c.deref-4.ensures.value ∙ c.in_ok-globals.ensures ∙ ap (map requested) c.deref-3.ensures.value)
     (λ e. c.in-Err-with_body.ensures.too_large (ap (λ x. Err x) e)))

@@ -1,5 +1,7 @@
-use Rattle.std.proofs.Common.{◌≡◌, Some, refl}
+use Rattle.std.proofs.Common.{◌≡◌, Some, None, refl}
 use Rattle.mutate_base.specs.Config.{info_of}
+use Rattle.peephole_terms.specs.Expansion.{setting_of}
+use Rattle.peephole_modules.proofs.DrawnLemmas.{module_here}
 use Rattle.peephole_modules.proofs.MutationLemmas.{err_map, none_map, some_map}
 use Rattle.peephole_modules.proofs.ModuleLemmas.{cannot_any, cannot_one, mutated_any, mutated_one, refuses_any, refuses_one}
 use Rattle.peephole_modules.proofs.mutation.mutate_module.Goals as goal
@@ -45,3 +47,17 @@ returns-clause-refused g c =
     err_map c.mutate_function.result
     (refuses_one c.args.rules.now c.args.only c.args.bytes.now (info_of c.set_up.new.self) c.in-Ok.module.info c.in-Ok.module.layout
     c.in-Some.function c.in-Some.is under c.in-Ok.ensures.read) c.mutate_function.ensures.refused
+
+pub returns-in-None-clause-chosen : goal.returns-in-None-clause-chosen
+returns-in-None-clause-chosen g c =
+    some_map c.mutate_any.result (λ m h.
+    module_here c.args.rules.now c.args.bytes.now c.in-Ok.module.layout (setting_of g.R.Rng.stream c.set_up.new.self) c.in-Ok.module.info
+    (g.R.Rng.stream c.args.generator) c.args.only None m.function m.rewrite (rw c.set_up.ensures refl) c.in-None.is c.in-Ok.ensures.read h)
+    c.mutate_any.ensures.chosen
+
+pub returns-clause-chosen : goal.returns-clause-chosen
+returns-clause-chosen g c =
+    some_map c.mutate_function.result (λ m h.
+    module_here c.args.rules.now c.args.bytes.now c.in-Ok.module.layout (setting_of g.R.Rng.stream c.set_up.new.self) c.in-Ok.module.info
+    (g.R.Rng.stream c.args.generator) c.args.only (Some c.in-Some.function) m.function m.rewrite (rw c.set_up.ensures refl) c.in-Some.is c.in-Ok.ensures.read h)
+    c.mutate_function.ensures.chosen

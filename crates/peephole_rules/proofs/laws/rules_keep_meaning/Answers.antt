@@ -11,10 +11,13 @@ use Rattle.peephole_rules.proofs.FoldLemmas.{fold_keeps}
 use Rattle.peephole_rules.proofs.RewriteLemmas.{rewrite_keeps}
 use Rattle.peephole_rules.proofs.laws.rules_keep_meaning.Goals as goal
 use Rattle.peephole_rules.proofs.DoubleLemmas.{product_to_double_keeps, shift_to_double_keeps}
+use Rattle.peephole_rules.proofs.SameLemmas.{cancel_sub_keeps, cancel_xor_keeps, drop_or_self_keeps, drop_and_self_keeps, double_to_product_keeps, double_to_shift_keeps, drop_select_keeps}
 use Rattle.peephole_rules.proofs.ElementLemmas.{and_zero_keeps, mul_zero_keeps, or_ones_keeps, drop_and_zero_keeps, drop_mul_zero_keeps, drop_or_ones_keeps}
 use Rattle.peephole_rules.proofs.NegationLemmas.{negate_comparison_keeps, difference_to_tests_keeps, wrap_extended_keeps, drop_negation_keeps}
-use Rattle.peephole_rules.proofs.DistributionLemmas.{distribute_product_keeps, distribute_mask_keeps, complement_of_and_keeps, complement_of_or_keeps}
+use Rattle.peephole_rules.proofs.DistributionLemmas.{distribute_product_keeps, distribute_mask_keeps, complement_of_and_keeps, complement_of_or_keeps, or_of_complements_keeps, and_of_complements_keeps}
 use Rattle.peephole_rules.proofs.ExtensionLemmas.{extension_to_shifts_keeps}
+use Rattle.peephole_rules.proofs.InnerLemmas.{tests_to_difference_keeps, drop_wrap_extended_keeps}
+use Rattle.peephole_rules.proofs.TeeLemmas.{tee_to_set_keeps}
 
 pub returns : goal.returns
 returns c =
@@ -72,6 +75,13 @@ returns c =
       rotr_to_rotl_keeps = rotr_to_rotl_keeps rows sound agreement;
       product_to_double_keeps = product_to_double_keeps rows sound agreement;
       shift_to_double_keeps = shift_to_double_keeps rows sound agreement;
+      cancel_sub_keeps = cancel_sub_keeps rows sound agreement;
+      cancel_xor_keeps = cancel_xor_keeps rows sound agreement;
+      drop_or_self_keeps = drop_or_self_keeps rows sound agreement;
+      drop_and_self_keeps = drop_and_self_keeps rows sound agreement;
+      double_to_product_keeps = double_to_product_keeps rows sound agreement;
+      double_to_shift_keeps = double_to_shift_keeps rows sound agreement;
+      drop_select_keeps = drop_select_keeps rows sound agreement;
       and_zero_keeps = and_zero_keeps rows sound agreement;
       mul_zero_keeps = mul_zero_keeps rows sound agreement;
       or_ones_keeps = or_ones_keeps rows sound agreement;
@@ -87,5 +97,10 @@ returns c =
       complement_of_and_keeps = complement_of_and_keeps rows sound agreement;
       complement_of_or_keeps = complement_of_or_keeps rows sound agreement;
       extension_to_shifts_keeps = extension_to_shifts_keeps rows sound agreement;
+      tests_to_difference_keeps = tests_to_difference_keeps rows sound agreement;
+      drop_wrap_extended_keeps = drop_wrap_extended_keeps rows sound agreement;
+      or_of_complements_keeps = or_of_complements_keeps rows sound agreement;
+      and_of_complements_keeps = and_of_complements_keeps rows sound agreement;
+      tee_to_set_keeps = tee_to_set_keeps rows sound agreement;
       rewrite_keeps = rewrite_keeps rows sound agreement;
     }

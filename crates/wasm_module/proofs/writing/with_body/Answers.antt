@@ -1,26 +1,36 @@
-use Rattle.std.proofs.Common.{◌∙◌}
+use Rattle.std.proofs.Common.{◌≡◌, ◌++◌, length, arith, length-append}
 use Rattle.wasm_module.proofs.RewrittenLemmas.{rewrites, too_large}
 use Rattle.wasm_module.proofs.writing.with_body.Goals as goal
 
-pub code_contents-requires : goal.code_contents-requires
-code_contents-requires c = let place = c.code_place.ensures c.args.bytes.now c.requires.module.0 c.requires.module.1 in place.placed
+pub code_size-requires-clause-first : goal.code_size-requires-clause-first
+code_size-requires-clause-first c = let place = c.code_place.ensures c.args.bytes.now c.requires.module.0 c.requires.module.1 in place.placed.first
 
-pub joined-requires-clause-room : goal.joined-requires-clause-room
-joined-requires-clause-room c = let place = c.code_place.ensures c.args.bytes.now c.requires.module.0 c.requires.module.1 in place.room
+pub code_size-requires-clause-order : goal.code_size-requires-clause-order
+code_size-requires-clause-order c = let place = c.code_place.ensures c.args.bytes.now c.requires.module.0 c.requires.module.1 in place.placed.order
 
-pub joined-requires-clause-order : goal.joined-requires-clause-order
-joined-requires-clause-order c = let place = c.code_place.ensures c.args.bytes.now c.requires.module.0 c.requires.module.1 in place.order
+pub code_size-requires-clause-last : goal.code_size-requires-clause-last
+code_size-requires-clause-last c = let place = c.code_place.ensures c.args.bytes.now c.requires.module.0 c.requires.module.1 in place.placed.last
 
-pub joined-requires-clause-inside : goal.joined-requires-clause-inside
-joined-requires-clause-inside c = let place = c.code_place.ensures c.args.bytes.now c.requires.module.0 c.requires.module.1 in place.inside
+pub returns-in_err-whole-clause-too_large : goal.returns-in_err-whole-clause-too_large
+returns-in_err-whole-clause-too_large c is =
+    let place = c.code_place.ensures c.args.bytes.now c.requires.module.0 c.requires.module.1 in
+    let size : c.in_ok-size.size ≡ length (c.args.locals.now ++ c.args.expression.now) =
+    omega (arith, c.in_ok-size.ensures.ok, length-append c.args.locals.now c.args.expression.now) in
+    too_large _ _ _ _ _ _ _ _ place size c.in_err-whole.ensures.too_large
+
+pub overflow_sub-behind : goal.overflow_sub-behind
+overflow_sub-behind c = let place = c.code_place.ensures c.args.bytes.now c.requires.module.0 c.requires.module.1 in place.placed.inside
+
+pub front_with-requires : goal.front_with-requires
+front_with-requires c = let place = c.code_place.ensures c.args.bytes.now c.requires.module.0 c.requires.module.1 in record { room = place.room }
+
+pub put_code-requires-clause-placed : goal.put_code-requires-clause-placed
+put_code-requires-clause-placed c = let place = c.code_place.ensures c.args.bytes.now c.requires.module.0 c.requires.module.1 in place.placed
 
 pub returns-clause-written : goal.returns-clause-written
 returns-clause-written c =
     let place = c.code_place.ensures c.args.bytes.now c.requires.module.0 c.requires.module.1 in
-    rewrites (λ v. v.items) _ _ _ _ _ _ _ _ _ place (c.deref.ensures.value ∙ c.in_ok-contents.ensures.written) c.in_ok-contents.ensures.sized
-    c.joined.ensures.sized c.joined.ensures.written
-
-pub returns-clause-too_large : goal.returns-clause-too_large
-returns-clause-too_large c is =
-    let place = c.code_place.ensures c.args.bytes.now c.requires.module.0 c.requires.module.1 in
-    too_large _ _ _ _ _ _ _ _ place (c.deref.ensures.value ∙ c.in_ok-contents.ensures.written) (c.joined.ensures.too_large is)
+    let size : c.in_ok-size.size ≡ length (c.args.locals.now ++ c.args.expression.now) =
+    omega (arith, c.in_ok-size.ensures.ok, length-append c.args.locals.now c.args.expression.now) in
+    rewrites _ _ _ _ _ _ _ _ _ _ _ _ place size (omega arith) c.in_ok-whole.ensures.ok (omega arith) c.in_ok-new.ensures.written
+    c.in_ok-put_head.ensures.ok c.in_ok-put_code.ensures
