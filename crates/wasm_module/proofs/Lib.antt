@@ -8,3 +8,4 @@ pub mod PieceLemmas
 pub mod AgainLemmas
 pub mod OneLemmas
 pub mod ListedLemmas
+pub mod SizeLemmas

@@ -2,7 +2,7 @@
 ghost use Rattle.std.specs.Prelude.{◌≡◌, ◌≤◌, ◌<◌, ◌+◌, ◌^◌, length, IfOk, IfErr, OnOk};
 ghost use Rattle.wasm_code.specs.Code.{shortest};
 
-use wasm_code::laws::shortest_is_a_spelling;
+use wasm_code::laws::{shortest_is_a_spelling, shortest_is_least};
 use wasm_sections::WriteError;
 
 /// The sum; `TooLarge` where 32 bits don't hold it.
@@ -23,6 +23,7 @@ pub fn number_size(n: u32) -> usize
     ensures few { result ≤ 5 }
 {
     shortest_is_a_spelling();
+    shortest_is_least();
     let mut size = 1;
     let mut rest = n;
     while rest >= 128 {

@@ -1,5 +1,5 @@
-use Rattle.std.proofs.Common.{length, ap, arith}
-use Rattle.wasm_code.proofs.ShortestLemmas.{shortest_more, shortest_last}
+use Rattle.std.proofs.Common.{arith}
+use Rattle.wasm_module.proofs.SizeLemmas.{one_byte, one_byte_more}
 use Rattle.wasm_module.proofs.sizes.number_size.Goals as goal
 
 pub overflow_add-size : goal.overflow_add-size
@@ -9,14 +9,16 @@ overflow_add-size c =
 
 pub loop-rest-preserved : goal.loop-rest-preserved
 loop-rest-preserved c =
-    let more = ap length (shortest_more c.loop-rest.rest c.loop-rest-test.true (omega arith)) in omega (arith, more, c.loop-rest.invariant)
+    let more = one_byte_more c.shortest_is_a_spelling.ensures.unsigned c.shortest_is_least.ensures.unsigned c.loop-rest.rest c.loop-rest-test.true
+    (omega arith) in
+    omega (arith, more, c.loop-rest.invariant)
 
 pub returns-clause-size : goal.returns-clause-size
 returns-clause-size c =
-    let last = ap length (shortest_last c.loop-rest.rest c.loop-rest-test.false) in omega (arith, last, c.loop-rest.invariant)
+    let last = one_byte c.shortest_is_a_spelling.ensures.unsigned c.loop-rest.rest c.loop-rest-test.false in omega (arith, last, c.loop-rest.invariant)
 
 pub returns-clause-few : goal.returns-clause-few
 returns-clause-few c =
     let spelled = c.shortest_is_a_spelling.ensures.unsigned 32 c.args.n (omega arith) (omega arith) (omega arith) in
-    let last = ap length (shortest_last c.loop-rest.rest c.loop-rest-test.false) in
+    let last = one_byte c.shortest_is_a_spelling.ensures.unsigned c.loop-rest.rest c.loop-rest-test.false in
     omega (arith, spelled.short, last, c.loop-rest.invariant)
