@@ -9,7 +9,6 @@ use peephole_rules::{
     RULES, Rule, UnknownRule, constant_number, has_one_value, may_trap, opcode_byte, undisturbed,
     value_type, writes,
 };
-use peephole_terms::peephole_machine::IntegerType;
 use peephole_terms::{Error, Lang, ModuleInfo, PrimitiveTypeInfo, RecExpr};
 use peephole_test_support::{fields_of, parts_of};
 use std::alloc::{AllocError, Global};
@@ -141,8 +140,8 @@ fn unknown_names(rt: HostRuntime) {
     }
 }
 
-/// A term's nodes, and of its root: the opcode, the type of its value where that is an integer, whether it leaves one, and whether
-/// the term may write, or else trap.
+/// A term's nodes, and of its root: the opcode, the type of its value where that is known, whether it leaves one, and whether the
+/// term may write, or else trap.
 const TOLD: &str = "
 nop | 01 | - | - | -
 local.get.0; drop 0 | 1a | - | - | -
@@ -160,13 +159,14 @@ local.get.0; i32.div_u 0 0 | 6e | i32 | one value | traps
 # Calls, memories, floats, tables and references.
 local.get.0; call.0 0 | 10 | - | - | writes
 local.get.0; i64.load.8.3.0 0 | 29 | i64 | one value | traps
-local.get.0; f32.load.0.2.0 0 | 2a | - | one value | traps
+local.get.0; f32.load.0.2.0 0 | 2a | f32 | one value | traps
 local.get.0; i32.store.0.2.0 0 0 | 36 | - | - | writes
 memory.size.0 | 3f | - | one value | -
 local.get.0; memory.grow.0 0 | 40 | - | one value | writes
-f32.const.3f800000 | 43 | - | one value | -
+f32.const.3f800000 | 43 | f32 | one value | -
 local.get.2; f32.lt 0 0 | 5d | i32 | one value | -
-local.get.2; f32.neg 0 | 8c | - | one value | -
+local.get.2; f32.neg 0 | 8c | f32 | one value | -
+local.get.2; f64.promote_f32 0 | bb | f64 | one value | -
 local.get.2; i64.trunc_f32_s 0 | ae | i64 | one value | traps
 local.get.2; i32.reinterpret_f32 0 | bc | i32 | one value | -
 local.get.0; table.get.0 0 | 25 | - | one value | traps
@@ -177,7 +177,7 @@ local.get.0; call.0 0; i32.eqz 1 | 45 | i32 | one value | writes
 # What has an opcode with a prefix is known by its instruction.
 local.get.2; i32.trunc_sat_f32_s 0 | - | i32 | one value | -
 local.get.0; memory.fill.0 0 0 0 | - | - | - | writes
-local.get.0; i8x16.splat 0 | - | - | one value | -
+local.get.0; i8x16.splat 0 | - | v128 | one value | -
 local.get.0; v128.load.0.0.0 0; v128.any_true 1 | - | i32 | one value | traps
 # Nothing is known of a term whose root has no instruction.
 i64.rand | - | - | - | writes
@@ -186,11 +186,14 @@ local.get.0; i32.use_of_global 0 | - | - | - | writes
 container | - | - | - | writes
 ";
 
-/// An integer type, or a hyphen.
-fn type_of(name: &str) -> Option<IntegerType> {
+/// A type, or a hyphen.
+fn type_of(name: &str) -> Option<PrimitiveTypeInfo> {
     match name {
-        "i32" => Some(IntegerType::I32),
-        "i64" => Some(IntegerType::I64),
+        "i32" => Some(PrimitiveTypeInfo::I32),
+        "i64" => Some(PrimitiveTypeInfo::I64),
+        "f32" => Some(PrimitiveTypeInfo::F32),
+        "f64" => Some(PrimitiveTypeInfo::F64),
+        "v128" => Some(PrimitiveTypeInfo::V128),
         _ => None,
     }
 }

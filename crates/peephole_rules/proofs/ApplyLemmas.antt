@@ -15,7 +15,7 @@ use Rattle.peephole_rules.specs.Grafted.{expression_nodes, term_at, grafted}
 use Rattle.peephole_rules.specs.Replacement.{term_by, CanReplace, IsAnswer}
 use Rattle.peephole_rules.specs.Laws.{RulesKeepMeaning}
 use Rattle.peephole_rules.proofs.StandingLemmas.{with_stands}
-use Rattle.peephole_rules.proofs.ChoiceLemmas.{has_answer}
+use Rattle.peephole_rules.proofs.AnswerLemmas.{has_answer}
 
 module _ (context : Context) (r : Rule) (nodes : List Lang) (at : ℕ) where
   pub none_past : (lent : List Lang) → lent ≡ nodes → length lent ≤ at → None ≡ option_map (grafted nodes at) (rewrite_at context r nodes at)

@@ -23,7 +23,8 @@ use Rattle.peephole_rules.specs.Rewriting.{answer_if, all_ones, rewrite}
 use Rattle.peephole_rules.specs.Shape.{shape_of}
 use Rattle.peephole_rules.specs.Choice.{are_undisturbed, number_of, number_behind, swap, turn, turn_select, in_one_group, group_left, group_right, without, without_all_ones, test, comparison, with_opposite, with_power, with_place, with_mask, with_divisor, with_rest, forgotten, by_first, double, alone, negated, both_tests, unnegated, distributed, shifts, choice, have_same_local, type_of_same, cancelled, first_of_same, same_with, selected_same, collected, set_apart}
 use Rattle.peephole_rules.specs.Candidates.{AreOnce, listed_at, opcode_rows, rules_at, rules_on}
-use Rattle.peephole_rules.proofs.ChoiceLemmas.{has_answer, chosen}
+use Rattle.peephole_rules.proofs.AnswerLemmas.{has_answer}
+use Rattle.peephole_rules.proofs.ChoiceLemmas.{chosen}
 use Rattle.peephole_rules.proofs.RuleLemmas.{numbered_apart}
 
 -- ---- lists of rules, by their numbers

@@ -1,6 +1,6 @@
 -- What a rule puts in the place of a node of a shape makes of the node's term what the rule does.
-use Rattle.std.proofs.Common.{◌≡◌, ℕ, ◌+◌, ◌-◌, ◌%◌, ◌^◌, ◌<◌, Bool, true, false, List, [], ◌∷◌, Option, Some, None, refl, sym, ap, ◌∙◌, subst, arith}
-use Rattle.std.specs.Prelude.{◌==◌, ◌&&◌, not, nat_lt, if◌then◌else◌, is_some, option_map, option_and_then}
+use Rattle.std.proofs.Common.{◌≡◌, ℕ, ◌+◌, ◌-◌, ◌%◌, ◌^◌, ◌<◌, Bool, true, false, List, [], ◌∷◌, Option, Some, None, refl, sym, ap, subst, arith}
+use Rattle.std.specs.Prelude.{◌==◌, ◌&&◌, not, nat_lt, if◌then◌else◌, option_map, option_and_then}
 use Rattle.std.specs.Int.{w32, w64, cast_signed, cast_unsigned}
 use Rattle.std.proofs.lemmas.Bool.{eqb-true, ltb-true}
 use Rattle.std.proofs.Math.Nat.{mod-eq_of_lt, mod-mod}
@@ -20,48 +20,19 @@ use Rattle.peephole_machine.specs.Computed.{kept, computed}
 use Rattle.peephole_rules.specs.declared.rule.Rule.{Rule}
 use Rattle.peephole_rules.specs.declared.rule.Rule.TheVariants as rule
 use Rattle.peephole_rules.specs.declared.replacement.Replacement.{Replacement}
-use Rattle.peephole_rules.specs.declared.replacement.Replacement.TheVariants.{Swap, Turn, GroupLeft, GroupRight, Twice, First, FirstWith, FirstBy, TurnSelect, Empty, Number, FirstTwice, Drawn, Negated, FirstByBoth, ByBoth, InnerBy, Distribute, FirstWithBoth, InnerWith, Inner, Collect, SetAndGet}
+use Rattle.peephole_rules.specs.declared.replacement.Replacement.TheVariants.{Swap, Turn, GroupLeft, GroupRight, Twice, First, FirstWith, FirstBy, TurnSelect, Empty, Number, FirstTwice, Drawn, Negated, FirstByBoth, ByBoth, FirstWithBoth, SetAndGet}
 use Rattle.peephole_rules.specs.declared.shape.Operand.{Operand}
-use Rattle.peephole_rules.specs.Operator.{opcode_byte, type_by, turned, of_type, operator, constant_number, number_in, within_width, constant_term, numbered, one, two, unfold_head, opposite_of, are_same, bits_left_out, is_among, widening}
+use Rattle.peephole_rules.specs.Operator.{opcode_byte, type_by, turned, of_type, operator, constant_number, number_in, within_width, constant_term, numbered, one, two, unfold_head, opposite_of, bits_left_out}
 use Rattle.peephole_rules.specs.Effects.{writes, asks, may_trap}
-use Rattle.peephole_rules.specs.Rewriting.{answer_if, commute, turn_comparison, turn_select, associate_left, associate_right, with_constant, with_ones, with_itself, all_ones, lowest_bit, of_constant, by_its_type, by_way_of_global, unfold_constant, type_of_constant, forget, numbers_of_types, fold, test_to_comparison, comparison_to_test, negated, rewrite, remainder_to_mask, mask_to_remainder, as_double, element_alone, typed_constant, behind_drawn, negate_comparison, difference_to_tests, wrap_extended, drop_negation, in_parts, extension_to_shifts, of_inner, tests_to_difference, drop_wrap_extended, complements_by, complemented, of_complements, tee_to_set, same_local, of_same, drop_select}
-use Rattle.peephole_rules.specs.ValueTypes.{integer_of, type_of_value}
-use Rattle.peephole_rules.specs.Shape.{operand_of, operands_of, opcode_of, is_complement, shape_of}
-use Rattle.peephole_rules.specs.Replacement.{term_by, IsBinary, CanReplace, IsAnswer}
+use Rattle.peephole_rules.specs.Rewriting.{answer_if, commute, turn_comparison, turn_select, associate_left, associate_right, with_constant, with_ones, with_itself, all_ones, lowest_bit, of_constant, by_its_type, by_its_number_type, by_way_of_global, unfold_constant, type_of_constant, forget, numbers_of_types, fold, test_to_comparison, comparison_to_test, negated, rewrite, remainder_to_mask, mask_to_remainder, as_double, element_alone, typed_constant, behind_drawn, negate_comparison, difference_to_tests, wrap_extended, in_parts, extension_to_shifts, tee_to_set, same_local, of_same, drop_select}
+use Rattle.peephole_rules.specs.ValueTypes.{integer_of, type_of_value, integer_type, number_type}
+use Rattle.peephole_rules.specs.Shape.{operand_of, operands_of, opcode_of, shape_of}
+use Rattle.peephole_rules.specs.Replacement.{IsBinary, IsAnswer}
 use Rattle.peephole_rules.specs.Choice.{number_of, number_behind, swap, turn, group_left, group_right, with_number, with_all_ones, complements, twice, without, comparison, opposite, with_opposite, lowest_place, with_power, with_place, with_mask, with_divisor, with_rest, constant_type, unfolded, through_global, forgotten, typed_number, on_one, on_two, folded, choice, by_first, double, alone, drawn, both_tests, wrapped, unnegated, part, distributed, shifts, inner_opcode, difference, narrowed, collected, set_apart, type_of_same, cancelled, first_of_same, same_with, selected_same}
 use Rattle.peephole_rules.specs.Choice as choice_of
 use Rattle.peephole_rules.proofs.TurnedLemmas.{turned_binary, is_written, is_test, opposite_binary, is_extension, is_wrap}
-
--- ---- answers
-
-no_answer : (x : Term Head) → IsAnswer None x None
-no_answer x = record { term = refl; fits = tt }
-
-answered : (r : Replacement) (x : Term Head) → CanReplace r x → IsAnswer (Some r) x (Some (term_by r x))
-answered r x f = record { term = refl; fits = f }
-
-answered_if : (b : Bool) (r : Replacement) (x : Term Head) → CanReplace r x → IsAnswer (answer_if b r) x (answer_if b (term_by r x))
-answered_if true r x f = answered r x f
-answered_if false r x f = no_answer x
-
--- whether there is one
-pub has_answer : (o : Option Replacement) (x : Term Head) (u : Option (Term Head)) → IsAnswer o x u → is_some o ≡ is_some u
-has_answer o x u a = mapped (λ p. term_by p x) o ∙ ap (λ (v : Option (Term Head)). is_some v) a.term
-  where
-    mapped : {A B : Type 0} (f : A → B) (o : Option A) → is_some o ≡ is_some (option_map f o)
-    mapped f None = refl
-    mapped f (Some x) = refl
-
--- where both go by the same option
-each_some : {A : Type 0} (o : Option A) (x : Term Head) (f : A → Option Replacement) (g : A → Option (Term Head)) →
-    ((a : A) → o ≡ Some a → IsAnswer (f a) x (g a)) → IsAnswer (option_and_then f o) x (option_and_then g o)
-each_some None x f g h = no_answer x
-each_some (Some a) x f g h = h a refl
-
-each_mapped : {A : Type 0} (o : Option A) (x : Term Head) (f : A → Replacement) (g : A → Option (Term Head)) →
-    ((a : A) → IsAnswer (Some (f a)) x (g a)) → IsAnswer (option_map f o) x (option_and_then g o)
-each_mapped None x f g h = no_answer x
-each_mapped (Some a) x f g h = h a
+use Rattle.peephole_rules.proofs.AnswerLemmas.{no_answer, answered, answered_if, each_some, each_mapped, each_map, none_answers, typed_binary, small_constant}
+use Rattle.peephole_rules.proofs.InnerChoiceLemmas.{unnegated_told, part_told, difference_told, narrowed_told, collected_told}
 
 -- ---- operands in another order, and in other groups
 
@@ -90,9 +61,6 @@ select_turned (node h (x ▸ no_terms)) = no_answer (node h (x ▸ no_terms))
 select_turned (node h (x ▸ y ▸ no_terms)) = no_answer (node h (x ▸ y ▸ no_terms))
 select_turned (node h (x ▸ y ▸ z ▸ no_terms)) = answered_if _ TurnSelect (node h (x ▸ y ▸ z ▸ no_terms)) tt
 select_turned (node h (x ▸ y ▸ z ▸ w ▸ ts)) = no_answer (node h (x ▸ y ▸ z ▸ w ▸ ts))
-
-none_answers : (x : Term Head) (u : Option (Term Head)) → u ≡ None → IsAnswer None x u
-none_answers x u e = record { term = sym e; fits = tt }
 
 -- an operator on three operands or more isn't grouped
 not_left : (h : Head) (x y z : Term Head) (ts : Terms Head) → associate_left (node h (x ▸ y ▸ z ▸ ts)) ≡ None
@@ -144,15 +112,6 @@ grouped_right (node h (x ▸ y ▸ z ▸ w ▸ ts)) = none_answers (node h (x �
 
 -- ---- an operand more
 
-typed_binary : (t : IntegerType) (a b : ℕ) → IsBinary a → IsBinary b → IsBinary (of_type t a b)
-typed_binary integer.I32 a b p q = p
-typed_binary integer.I64 a b p q = q
-
--- 0 and 1 are within each width
-small_constant : (t : IntegerType) (a b e : ℕ) (x : Term Head) → e ≡ 0 → two (operator (of_type t a b)) x (numbered t e) ≡ with_constant t a b e x
-small_constant integer.I32 a b e x k = subst (λ n. two (operator a) x (numbered integer.I32 n) ≡ with_constant integer.I32 a b n x) (sym k) refl
-small_constant integer.I64 a b e x k = subst (λ n. two (operator b) x (numbered integer.I64 n) ≡ with_constant integer.I64 a b n x) (sym k) refl
-
 one_constant : (t : IntegerType) (a b : ℕ) (x : Term Head) → two (operator (of_type t a b)) x (numbered t 1) ≡ with_constant t a b 1 x
 one_constant integer.I32 a b x = refl
 one_constant integer.I64 a b x = refl
@@ -160,30 +119,30 @@ one_constant integer.I64 a b x = refl
 module _ (context : Context) (x : Term Head) where
   numbered_behind : (a b e : ℕ) → IsBinary a → IsBinary b →
       ((t : IntegerType) → two (operator (of_type t a b)) x (numbered t e) ≡ with_constant t a b e x) →
-      IsAnswer (with_number a b e (type_of_value context x)) x (by_its_type context (λ t y. Some (with_constant t a b e y)) x)
-  numbered_behind a b e p q k = each_mapped (type_of_value context x) x _ _
+      IsAnswer (with_number a b e (integer_type (type_of_value context x))) x (by_its_type context (λ t y. Some (with_constant t a b e y)) x)
+  numbered_behind a b e p q k = each_mapped (integer_type (type_of_value context x)) x _ _
       (λ t. record { term = ap (λ (y : Term Head). Some y) (k t); fits = typed_binary t a b p q })
 
   zero_behind : (a b : ℕ) → IsBinary a → IsBinary b →
-      IsAnswer (with_number a b 0 (type_of_value context x)) x (by_its_type context (λ t y. Some (with_constant t a b 0 y)) x)
+      IsAnswer (with_number a b 0 (integer_type (type_of_value context x))) x (by_its_type context (λ t y. Some (with_constant t a b 0 y)) x)
   zero_behind a b p q = numbered_behind a b 0 p q (λ t. small_constant t a b 0 x refl)
 
   ones_behind : (a b : ℕ) → IsBinary a → IsBinary b →
-      IsAnswer (with_all_ones a b (type_of_value context x)) x (by_its_type context (λ t y. Some (with_ones t a b y)) x)
-  ones_behind a b p q = each_mapped (type_of_value context x) x _ _ (λ t. record { term = refl; fits = typed_binary t a b p q })
+      IsAnswer (with_all_ones a b (integer_type (type_of_value context x))) x (by_its_type context (λ t y. Some (with_ones t a b y)) x)
+  ones_behind a b p q = each_mapped (integer_type (type_of_value context x)) x _ _ (λ t. record { term = refl; fits = typed_binary t a b p q })
 
   complements_behind : (a b : ℕ) → IsBinary a → IsBinary b →
-      IsAnswer (complements a b (type_of_value context x)) x
+      IsAnswer (complements a b (integer_type (type_of_value context x))) x
       (by_its_type context (λ t y. Some (with_ones t a b (with_ones t a b y))) x)
-  complements_behind a b p q = each_mapped (type_of_value context x) x _ _ (λ t. record { term = refl; fits = typed_binary t a b p q })
+  complements_behind a b p q = each_mapped (integer_type (type_of_value context x)) x _ _ (λ t. record { term = refl; fits = typed_binary t a b p q })
 
   doubled : (a b : ℕ) → IsBinary a → IsBinary b →
-      IsAnswer (twice a b (writes x) (asks x) (type_of_value context x)) x (by_its_type context (λ t y. with_itself t a b y) x)
-  doubled a b p q = each_some (type_of_value context x) x _ _
+      IsAnswer (twice a b (writes x) (asks x) (integer_type (type_of_value context x))) x (by_its_type context (λ t y. with_itself t a b y) x)
+  doubled a b p q = each_some (integer_type (type_of_value context x)) x _ _
       (λ t e. answered_if _ (Twice (of_type t a b)) x (typed_binary t a b p q))
 
-  by_global : IsAnswer (through_global (type_of_value context x)) x (by_its_type context (λ t y. Some (by_way_of_global t y)) x)
-  by_global = each_mapped (type_of_value context x) x _ _ (λ t. record { term = refl; fits = tt })
+  by_global : IsAnswer (through_global (number_type (type_of_value context x))) x (by_its_number_type context (λ t y. Some (by_way_of_global t y)) x)
+  by_global = each_mapped (number_type (type_of_value context x)) x _ _ (λ t. record { term = refl; fits = tt })
 
 -- ---- an operand that is a constant
 
@@ -549,11 +508,6 @@ selected_told (node h (x ▸ y ▸ z ▸ w ▸ ts)) = no_answer (node h (x ▸ y
 
 -- ---- comparisons and tests
 
-each_map : {A : Type 0} (o : Option A) (x : Term Head) (f : A → Replacement) (g : A → Term Head) →
-    ((a : A) → o ≡ Some a → IsAnswer (Some (f a)) x (Some (g a))) → IsAnswer (option_map f o) x (option_map g o)
-each_map None x f g h = no_answer x
-each_map (Some a) x f g h = h a refl
-
 negated_told : (x : Term Head) → IsAnswer (choice_of.negated (opcode_of x) (operands_of x)) x (negate_comparison x)
 negated_told absent = no_answer absent
 negated_told (node h no_terms) = no_answer (node h no_terms)
@@ -568,64 +522,23 @@ tests_told x = behind 0x47 0x52 (λ p. answer_if (p.1 == 0) (FirstByBoth (of_typ
     (λ t y n. answer_if (n == 0) (one (operator 0x45) (one (operator (of_type t 0x45 0x50)) y)))
     (λ h y c t n k. answered_if (n == 0) (FirstByBoth (of_type t 0x45 0x50) 0x45) (node h (y ▸ c ▸ no_terms)) (is_test t, is_test integer.I32)) x
 
-wrapped_told : (context : Context) (x : Term Head) → IsAnswer (wrapped (type_of_value context x)) x (by_its_type context wrap_extended x)
-wrapped_told context x = go (type_of_value context x)
+wrapped_told : (context : Context) (x : Term Head) → IsAnswer (wrapped (integer_type (type_of_value context x))) x (by_its_type context wrap_extended x)
+wrapped_told context x = go (integer_type (type_of_value context x))
   where
     go : (o : Option IntegerType) → IsAnswer (wrapped o) x (option_and_then (λ t. wrap_extended t x) o)
     go None = no_answer x
     go (Some integer.I32) = answered (ByBoth 0xad 0xa7) x (is_extension, is_wrap)
     go (Some integer.I64) = no_answer x
 
--- ---- the operands of an operand
-
--- where an inner operand has other than two operands
-none_answers_if : (b : Bool) (x : Term Head) → IsAnswer (if b then None else None) x None
-none_answers_if true x = no_answer x
-none_answers_if false x = no_answer x
-
-not_unnegated : (h : Head) (x y : Term Head) (ts : Terms Head) → drop_negation (node h (x ▸ y ▸ ts)) ≡ None
-not_unnegated h absent y ts = refl
-not_unnegated h (node g no_terms) y ts = refl
-not_unnegated h (node g (p ▸ no_terms)) y ts = refl
-not_unnegated h (node g (p ▸ q ▸ no_terms)) y ts = refl
-not_unnegated h (node g (p ▸ q ▸ r ▸ rs)) y ts = refl
-
-unnegated_told : (x : Term Head) → IsAnswer (unnegated (opcode_of x) (operands_of x)) x (drop_negation x)
-unnegated_told absent = no_answer absent
-unnegated_told (node h no_terms) = no_answer (node h no_terms)
-unnegated_told (node h (absent ▸ no_terms)) = none_answers_if (are_same (opcode_byte h) (Some 0x45)) (node h (absent ▸ no_terms))
-unnegated_told (node h (node g no_terms ▸ no_terms)) = none_answers_if (are_same (opcode_byte h) (Some 0x45)) (node h (node g no_terms ▸ no_terms))
-unnegated_told (node h (node g (x ▸ no_terms) ▸ no_terms)) =
-    none_answers_if (are_same (opcode_byte h) (Some 0x45)) (node h (node g (x ▸ no_terms) ▸ no_terms))
-unnegated_told (node h (node g (x ▸ y ▸ no_terms) ▸ no_terms)) = go (are_same (opcode_byte h) (Some 0x45))
-  where
-    go : (b : Bool) → IsAnswer (if b then option_map (λ byte. InnerBy byte) (option_and_then opposite_of (opcode_byte g)) else None)
-        (node h (node g (x ▸ y ▸ no_terms) ▸ no_terms))
-        (if b then option_map (λ byte. two (operator byte) x y) (option_and_then opposite_of (opcode_byte g)) else None)
-    go true = each_map (option_and_then opposite_of (opcode_byte g)) (node h (node g (x ▸ y ▸ no_terms) ▸ no_terms)) _ _
-        (λ byte e. answered (InnerBy byte) (node h (node g (x ▸ y ▸ no_terms) ▸ no_terms)) (tt, opposite_binary (opcode_byte g) byte e))
-    go false = no_answer (node h (node g (x ▸ y ▸ no_terms) ▸ no_terms))
-unnegated_told (node h (node g (x ▸ y ▸ z ▸ ts) ▸ no_terms)) =
-    none_answers_if (are_same (opcode_byte h) (Some 0x45)) (node h (node g (x ▸ y ▸ z ▸ ts) ▸ no_terms))
-unnegated_told (node h (x ▸ y ▸ no_terms)) = none_answers (node h (x ▸ y ▸ no_terms)) _ (not_unnegated h x y no_terms)
-unnegated_told (node h (x ▸ y ▸ z ▸ no_terms)) = none_answers (node h (x ▸ y ▸ z ▸ no_terms)) _ (not_unnegated h x y (z ▸ no_terms))
-unnegated_told (node h (x ▸ y ▸ z ▸ w ▸ ts)) = none_answers (node h (x ▸ y ▸ z ▸ w ▸ ts)) _ (not_unnegated h x y (z ▸ w ▸ ts))
-
-part_told : (a b c d e f : ℕ) (test : IntegerType → ℕ → Bool) → IsBinary c → IsBinary d → IsBinary e → IsBinary f → (h : Head) (x k : Term Head) (t : IntegerType) (n : ℕ) →
-    IsAnswer (part a b c d e f (operand_of x) (t, n) (test t n)) (node h (x ▸ k ▸ no_terms)) (in_parts a b c d e f test t x n)
-part_told a b c d e f test pc pd pe pf h absent k t n = no_answer (node h (absent ▸ k ▸ no_terms))
-part_told a b c d e f test pc pd pe pf h (node g no_terms) k t n = no_answer (node h (node g no_terms ▸ k ▸ no_terms))
-part_told a b c d e f test pc pd pe pf h (node g (x ▸ no_terms)) k t n = no_answer (node h (node g (x ▸ no_terms) ▸ k ▸ no_terms))
-part_told a b c d e f test pc pd pe pf h (node g (x ▸ y ▸ no_terms)) k t n =
-    answered_if _ (Distribute (of_type t c d) (of_type t e f) t n) (node h (node g (x ▸ y ▸ no_terms) ▸ k ▸ no_terms))
-    (tt, typed_binary t c d pc pd, typed_binary t e f pe pf)
-part_told a b c d e f test pc pd pe pf h (node g (x ▸ y ▸ z ▸ ts)) k t n = no_answer (node h (node g (x ▸ y ▸ z ▸ ts) ▸ k ▸ no_terms))
+-- ---- operators over the parts of an operand
 
 distributed_told : (a b c d e f : ℕ) (test : IntegerType → ℕ → Bool) → IsBinary c → IsBinary d → IsBinary e → IsBinary f → (x : Term Head) →
     IsAnswer (distributed a b c d e f test (operands_of x) (number_behind e f (opcode_of x) (operands_of x))) x
     (of_constant e f (in_parts a b c d e f test) x)
 distributed_told a b c d e f test pc pd pe pf x = by_both e f (λ x p. part a b c d e f x p (test p.0 p.1)) (in_parts a b c d e f test)
     (λ h y k t n l. part_told a b c d e f test pc pd pe pf h y k t n) x
+
+-- ---- extensions
 
 shifts_told : (x : Term Head) → IsAnswer (shifts (opcode_of x) (operands_of x)) x (extension_to_shifts x)
 shifts_told absent = no_answer absent
@@ -636,104 +549,6 @@ shifts_told (node h (x ▸ no_terms)) = each_map (option_and_then bits_left_out 
 shifts_told (node h (x ▸ y ▸ no_terms)) = no_answer (node h (x ▸ y ▸ no_terms))
 shifts_told (node h (x ▸ y ▸ z ▸ no_terms)) = no_answer (node h (x ▸ y ▸ z ▸ no_terms))
 shifts_told (node h (x ▸ y ▸ z ▸ w ▸ ts)) = no_answer (node h (x ▸ y ▸ z ▸ w ▸ ts))
-
--- ---- the operand of an operand
-
-none_is : (o : Option Replacement) (x : Term Head) → o ≡ None → IsAnswer o x None
-none_is o x e = subst (λ (r : Option Replacement). IsAnswer r x None) (sym e) (no_answer x)
-
-module _ (f : (opcode inner : Option ℕ) → Option Replacement) (make : (opcode inner : Option ℕ) → Term Head → Option (Term Head))
-    (none : (o : Option ℕ) → f o None ≡ None)
-    (some : (h g : Head) (x : Term Head) → IsAnswer (f (opcode_byte h) (opcode_byte g)) (node h (node g (x ▸ no_terms) ▸ no_terms))
-    (make (opcode_byte h) (opcode_byte g) x)) where
-  not_inner : (h : Head) (x y : Term Head) (ts : Terms Head) → IsAnswer (f (opcode_byte h) None) (node h (x ▸ y ▸ ts)) (of_inner make (node h (x ▸ y ▸ ts)))
-  not_inner h absent y ts = none_is _ (node h (absent ▸ y ▸ ts)) (none (opcode_byte h))
-  not_inner h (node g no_terms) y ts = none_is _ (node h (node g no_terms ▸ y ▸ ts)) (none (opcode_byte h))
-  not_inner h (node g (p ▸ no_terms)) y ts = none_is _ (node h (node g (p ▸ no_terms) ▸ y ▸ ts)) (none (opcode_byte h))
-  not_inner h (node g (p ▸ q ▸ rs)) y ts = none_is _ (node h (node g (p ▸ q ▸ rs) ▸ y ▸ ts)) (none (opcode_byte h))
-
-  inner_told : (x : Term Head) → IsAnswer (f (opcode_of x) (inner_opcode (operands_of x))) x (of_inner make x)
-  inner_told absent = none_is _ absent (none None)
-  inner_told (node h no_terms) = none_is _ (node h no_terms) (none (opcode_byte h))
-  inner_told (node h (absent ▸ no_terms)) = none_is _ (node h (absent ▸ no_terms)) (none (opcode_byte h))
-  inner_told (node h (node g no_terms ▸ no_terms)) = none_is _ (node h (node g no_terms ▸ no_terms)) (none (opcode_byte h))
-  inner_told (node h (node g (x ▸ no_terms) ▸ no_terms)) = some h g x
-  inner_told (node h (node g (x ▸ y ▸ ts) ▸ no_terms)) = none_is _ (node h (node g (x ▸ y ▸ ts) ▸ no_terms)) (none (opcode_byte h))
-  inner_told (node h (x ▸ y ▸ no_terms)) = not_inner h x y no_terms
-  inner_told (node h (x ▸ y ▸ z ▸ no_terms)) = not_inner h x y (z ▸ no_terms)
-  inner_told (node h (x ▸ y ▸ z ▸ w ▸ ts)) = not_inner h x y (z ▸ w ▸ ts)
-
-difference_told : (x : Term Head) → IsAnswer (difference (opcode_of x) (inner_opcode (operands_of x))) x (tests_to_difference x)
-difference_told x = inner_told difference
-    (λ o r x. if are_same o (Some 0x45) then option_map (λ t. with_constant t 0x47 0x52 0 x) (type_by 0x45 0x50 r) else None)
-    (λ o. nothing (are_same o (Some 0x45))) (λ h g x. go h g x (are_same (opcode_byte h) (Some 0x45))) x
-  where
-    nothing : (b : Bool) → let o : Option Replacement = if b then None else None in o ≡ None
-    nothing true = refl
-    nothing false = refl
-
-    go : (h g : Head) (x : Term Head) (b : Bool) →
-        IsAnswer (if b then option_map (λ t. InnerWith (of_type t 0x47 0x52) t 0) (type_by 0x45 0x50 (opcode_byte g)) else None)
-        (node h (node g (x ▸ no_terms) ▸ no_terms)) (if b then option_map (λ t. with_constant t 0x47 0x52 0 x) (type_by 0x45 0x50 (opcode_byte g)) else None)
-    go h g x true = each_map (type_by 0x45 0x50 (opcode_byte g)) (node h (node g (x ▸ no_terms) ▸ no_terms)) _ _ (λ t e. record {
-      term = ap (λ (y : Term Head). Some y) (small_constant t 0x47 0x52 0 x refl);
-      fits = (tt, typed_binary t 0x47 0x52 (is_written 0x47 refl) (is_written 0x52 refl));
-    })
-    go h g x false = no_answer (node h (node g (x ▸ no_terms) ▸ no_terms))
-
-narrowed_told : (x : Term Head) → IsAnswer (narrowed (opcode_of x) (inner_opcode (operands_of x))) x (drop_wrap_extended x)
-narrowed_told x = inner_told narrowed (λ o r x. answer_if (are_same o (Some 0xa7) && is_among widening r) x)
-    (λ o. nothing (are_same o (Some 0xa7))) (λ h g x. answered_if _ Inner (node h (node g (x ▸ no_terms) ▸ no_terms)) tt) x
-  where
-    nothing : (b : Bool) → answer_if (b && false) Inner ≡ None
-    nothing true = refl
-    nothing false = refl
-
--- ---- complements
-
-module _ (a b c d : ℕ) (pc : IsBinary c) (pd : IsBinary d) where
-  abbrev by_ones : (t : IntegerType) → Replacement
-  by_ones t = Collect (of_type t c d) (of_type t 0x73 0x85) t (all_ones t)
-
-  abbrev joined : (t : IntegerType) → Term Head → Term Head → Term Head
-  joined t x y = with_ones t 0x73 0x85 (two (operator (of_type t c d)) x y)
-
-  -- the first operand is the complement of x
-  behind_complement : (t : IntegerType) (h f : Head) (x m q : Term Head) →
-      IsAnswer (answer_if (is_complement q) (by_ones t)) (two h (two f x m) q) (option_map (joined t x) (complemented q))
-  behind_complement t h f x m absent = no_answer (two h (two f x m) absent)
-  behind_complement t h f x m (node g no_terms) = no_answer (two h (two f x m) (node g no_terms))
-  behind_complement t h f x m (node g (y ▸ no_terms)) = no_answer (two h (two f x m) (node g (y ▸ no_terms)))
-  behind_complement t h f x m (node g (y ▸ n ▸ k ▸ ks)) = no_answer (two h (two f x m) (node g (y ▸ n ▸ k ▸ ks)))
-  behind_complement t h f x m (node g (y ▸ n ▸ no_terms)) =
-      go (complements_by (opcode_byte g) (constant_number integer.I32 n) (constant_number integer.I64 n))
-    where
-      go : (s : Bool) → IsAnswer (answer_if s (by_ones t)) (two h (two f x m) (two g y n)) (option_map (joined t x) (answer_if s y))
-      go true = answered (by_ones t) (two h (two f x m) (two g y n))
-          ((tt, tt), typed_binary t c d pc pd, typed_binary t 0x73 0x85 (is_written 0x73 refl) (is_written 0x85 refl))
-      go false = no_answer (two h (two f x m) (two g y n))
-
-  both_complements : (t : IntegerType) (h : Head) (p q : Term Head) → IsAnswer (answer_if (is_complement p && is_complement q) (by_ones t)) (two h p q)
-      (option_and_then (λ x. option_map (joined t x) (complemented q)) (complemented p))
-  both_complements t h absent q = no_answer (two h absent q)
-  both_complements t h (node f no_terms) q = no_answer (two h (node f no_terms) q)
-  both_complements t h (node f (x ▸ no_terms)) q = no_answer (two h (node f (x ▸ no_terms)) q)
-  both_complements t h (node f (x ▸ m ▸ k ▸ ks)) q = no_answer (two h (node f (x ▸ m ▸ k ▸ ks)) q)
-  both_complements t h (node f (x ▸ m ▸ no_terms)) q =
-      go (complements_by (opcode_byte f) (constant_number integer.I32 m) (constant_number integer.I64 m))
-    where
-      go : (s : Bool) → IsAnswer (answer_if (s && is_complement q) (by_ones t)) (two h (two f x m) q)
-          (option_and_then (λ x. option_map (joined t x) (complemented q)) (answer_if s x))
-      go true = behind_complement t h f x m q
-      go false = no_answer (two h (two f x m) q)
-
-  collected_told : (x : Term Head) → IsAnswer (collected a b c d (opcode_of x) (operands_of x)) x (of_complements a b c d x)
-  collected_told absent = no_answer absent
-  collected_told (node h no_terms) = no_answer (node h no_terms)
-  collected_told (node h (x ▸ no_terms)) = no_answer (node h (x ▸ no_terms))
-  collected_told (node h (p ▸ q ▸ no_terms)) = each_some (type_by a b (opcode_byte h)) (two h p q) _ _ (λ t e. both_complements t h p q)
-  collected_told (node h (x ▸ y ▸ z ▸ no_terms)) = no_answer (node h (x ▸ y ▸ z ▸ no_terms))
-  collected_told (node h (x ▸ y ▸ z ▸ w ▸ ts)) = no_answer (node h (x ▸ y ▸ z ▸ w ▸ ts))
 
 -- ---- a local that is set
 

@@ -21,7 +21,7 @@ use Rattle.peephole_rules.specs.declared.shape.Operands.{Operands}
 use Rattle.peephole_rules.specs.declared.shape.Shape.{Shape}
 use Rattle.peephole_rules.specs.Operator.{instruction_byte, is_value, local_by, local_of, number_in, constant_number, within_width}
 use Rattle.peephole_rules.specs.Effects.{is_writer, is_trapper, is_asker, any_writes, any_may_trap, any_asks}
-use Rattle.peephole_rules.specs.ValueTypes.{integer_of, head_type, first_types}
+use Rattle.peephole_rules.specs.ValueTypes.{head_type, first_types}
 use Rattle.peephole_rules.specs.Shape.{values_in, is_single, complements_in, operand_of, operands_in, shape_of}
 use Rattle.peephole_rules.specs.ReadAlike.{AreReadAlike}
 use Rattle.peephole_rules.specs.Instruction.{operands_read, constant_by, number_read, both_values, single_read, complement_read, listed, alone_read, with_operand, with_operands, local_read}
@@ -161,15 +161,15 @@ read_is h i kids e = with_all kids (alone_read i (operands_read kids)) ∙ same_
 
 -- ---- the whole shape
 
-pub shape_read : (context : Context) (i : Instruction) (first : Option PrimitiveTypeInfo) (os : List Operand) (t : Option IntegerType)
-    (root : Operand) (operands : Operands) → t ≡ option_and_then integer_of (column_type context i (list_of first)) →
+pub shape_read : (context : Context) (i : Instruction) (first : Option PrimitiveTypeInfo) (os : List Operand) (t : Option PrimitiveTypeInfo)
+    (root : Operand) (operands : Operands) → t ≡ column_type context i (list_of first) →
     root ≡ with_operands (alone_read i os) os → operands ≡ listed os → (h : Head) (kids : Terms Head) → instr_of_head h ≡ Some i →
     list_of first ≡ first_types context kids → os ≡ operands_read kids →
     record { value = t; root = root; operands = operands } ≡ shape_of context (node h kids)
 shape_read context i first os t root operands p q r h kids e f k =
-    let value : t ≡ option_and_then integer_of (head_type context (first_types context kids) h) =
-    p ∙ (ap (λ (us : List PrimitiveTypeInfo). option_and_then integer_of (column_type context i us)) f
-    ∙ sym (ap (λ o. option_and_then integer_of (option_and_then (λ i. column_type context i (first_types context kids)) o)) e)) in
+    let value : t ≡ head_type context (first_types context kids) h =
+    p ∙ (ap (λ (us : List PrimitiveTypeInfo). column_type context i us) f
+    ∙ sym (ap (option_and_then (λ i. column_type context i (first_types context kids))) e)) in
     let own = q ∙ (ap (λ (x : List Operand). with_operands (alone_read i x) x) k ∙ read_is h i kids e) in
     let all = r ∙ (ap listed k ∙ listed_are kids) in
     rw (value, own, all) refl
@@ -177,10 +177,10 @@ shape_read context i first os t root operands p q r h kids e f k =
 -- so it is the same of terms with the same instruction, on operands of which the same is read
 pub read_alike : AreReadAlike
 read_alike context h g i ks ls e f first read = same_shape
-    (ap₂ (λ o us. option_and_then integer_of (option_and_then (λ i. column_type context i us) o)) (e ∙ sym f) first)
+    (ap₂ (λ o us. option_and_then (λ i. column_type context i us) o) (e ∙ sym f) first)
     (sym (read_is h i ks e) ∙ (ap (λ os. with_operands (alone_read i os) os) read ∙ read_is g i ls f))
     (sym (listed_are ks) ∙ (ap listed read ∙ listed_are ls))
   where
-    same_shape : {a b : Option IntegerType} {c d : Operand} {e f : Operands} → a ≡ b → c ≡ d → e ≡ f →
+    same_shape : {a b : Option PrimitiveTypeInfo} {c d : Operand} {e f : Operands} → a ≡ b → c ≡ d → e ≡ f →
         let before : Shape = record { value = a; root = c; operands = e } in before ≡ record { value = b; root = d; operands = f }
     same_shape p q r = rw (p, q, r) refl

@@ -33,6 +33,8 @@ pub mod FlagLemmas
 pub mod TurnedLemmas
 pub mod ReadingLemmas
 pub mod InstructionLemmas
+pub mod AnswerLemmas
+pub mod InnerChoiceLemmas
 pub mod ChoiceLemmas
 pub mod CandidateLemmas
 pub mod ApplyLemmas

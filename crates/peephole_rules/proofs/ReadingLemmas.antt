@@ -1,6 +1,6 @@
 -- What is read of a node is what its term says.
 use Rattle.std.proofs.Common.{◌≡◌, ℕ, ◌<◌, ◌≤◌, Bool, List, [], ◌∷◌, length, get_or, Option, Some, None, refl, sym, ap, ap₂, ◌∙◌, subst, arith}
-use Rattle.std.specs.Prelude.{◌==◌, ◌≢◌, false, option_and_then}
+use Rattle.std.specs.Prelude.{◌==◌, ◌≢◌, false}
 use Rattle.std.proofs.lemmas.Bool.{true≢false, ne_eqb}
 use Rattle.std.specs.List.{All}
 use Rattle.mutate_base.specs.declared.types.PrimitiveTypeInfo.{PrimitiveTypeInfo}
@@ -21,7 +21,7 @@ use Rattle.peephole_rules.specs.declared.shape.Operands.TheVariants.{Leaf, One, 
 use Rattle.peephole_rules.specs.Operator.{opcode_byte, is_value, has_one_value, local_of, constant_number}
 use Rattle.peephole_rules.specs.Effects.{writes, may_trap, asks}
 use Rattle.peephole_rules.specs.Rewriting.{complements_by}
-use Rattle.peephole_rules.specs.ValueTypes.{integer_of, head_type, first_types, type_of_value}
+use Rattle.peephole_rules.specs.ValueTypes.{head_type, first_types, type_of_value}
 use Rattle.peephole_rules.specs.Grafted.{expression_nodes, term_at, term_over}
 use Rattle.peephole_rules.proofs.StandingLemmas.{past_end}
 use Rattle.peephole_rules.proofs.FlagLemmas.{count_of}
@@ -62,11 +62,11 @@ first_told context nodes l child ids d t below same some inside is told =
 pub value_told : (context : Context) (lent nodes : List Lang) (at : ℕ) (l : Lang) (first t : Option PrimitiveTypeInfo) → lent ≡ nodes →
     at < length lent → l ≡ get_or lent at l → AreBelow (expression_nodes nodes) →
     list_of first ≡ first_types context (pick (term_at lent) (children_of l)) → t ≡ head_type context (list_of first) (head_of l) →
-    option_and_then integer_of t ≡ type_of_value context (term_at nodes at)
+    t ≡ type_of_value context (term_at nodes at)
 value_told context lent nodes at l first t same inside is below known told =
     let held = subst (λ (x : List Lang). AreBelow (expression_nodes x)) (sym same) below in
-    ap (option_and_then integer_of) (told ∙ ap (λ (x : List PrimitiveTypeInfo). head_type context x (head_of l)) known)
-    ∙ (ap (type_of_value context) (sym (root_at lent at l inside is held)) ∙ ap (λ (x : List Lang). type_of_value context (term_at x at)) same)
+    told ∙ (ap (λ (x : List PrimitiveTypeInfo). head_type context x (head_of l)) known
+    ∙ (ap (type_of_value context) (sym (root_at lent at l inside is held)) ∙ ap (λ (x : List Lang). type_of_value context (term_at x at)) same))
 
 pub no_value : (context : Context) (lent nodes : List Lang) (at : ℕ) → lent ≡ nodes → length lent ≤ at → None ≡ type_of_value context (term_at nodes at)
 no_value context lent nodes at same l =
@@ -224,7 +224,7 @@ module _ (nodes : List Lang) (at : ℕ) (l : Lang) (ids : List Id) (inside : at 
 
 -- ---- the whole shape
 
-pub shape_told : (context : Context) (lent nodes : List Lang) (at : ℕ) (t : Option IntegerType) (o : Operand) (os : Operands) → lent ≡ nodes →
+pub shape_told : (context : Context) (lent nodes : List Lang) (at : ℕ) (t : Option PrimitiveTypeInfo) (o : Operand) (os : Operands) → lent ≡ nodes →
     t ≡ type_of_value context (term_at nodes at) → o ≡ operand_of (term_at lent at) → os ≡ operands_of (term_at lent at) →
     record { value = t; root = o; operands = os } ≡ shape_of context (term_at nodes at)
 shape_told context lent nodes at t o os same p q r =

@@ -10,15 +10,15 @@ use Rattle.peephole_machine.specs.Values.{Context}
 use Rattle.peephole_machine.specs.declared.integer.IntegerType.{IntegerType}
 use Rattle.peephole_machine.specs.declared.integer.IntegerType.TheVariants as integer
 use Rattle.peephole_machine.specs.RowLemmas.{and_then_some, map_some}
-use Rattle.peephole_terms.specs.Agrees.{StandsFor, LeavesItsTypes, IsCongruence}
+use Rattle.peephole_terms.specs.Agrees.{Agree, StandsFor, LeavesItsTypes, IsCongruence}
 use Rattle.peephole_terms.specs.Laws.{MeanByTheirRows}
 use Rattle.peephole_rules.specs.declared.rule.Rule.{Rule}
 use Rattle.peephole_rules.specs.declared.rule.Rule.TheVariants as rule
 use Rattle.peephole_rules.specs.Operator.{constant_term, constant_head, one, unfold_head}
-use Rattle.peephole_rules.specs.ValueTypes.{type_of_value}
-use Rattle.peephole_rules.specs.Rewriting.{add_zero, sub_zero, mul_one, or_zero, xor_zero, shift_by_zero, or_self, and_self, by_way_of_global, as_a_sum, type_of_constant, unfold_constant, by_its_type, rewrite, and_ones, double_complement, shr_s_by_zero, shr_u_by_zero, rotl_by_zero, rotr_by_zero, wrap_extended}
+use Rattle.peephole_rules.specs.ValueTypes.{type_of_value, integer_type, number_type}
+use Rattle.peephole_rules.specs.Rewriting.{add_zero, sub_zero, mul_one, or_zero, xor_zero, shift_by_zero, or_self, and_self, by_way_of_global, as_a_sum, type_of_constant, unfold_constant, by_its_type, by_its_number_type, rewrite, and_ones, double_complement, shr_s_by_zero, shr_u_by_zero, rotl_by_zero, rotr_by_zero, wrap_extended}
 use Rattle.peephole_rules.specs.Laws.{AgreeOfType, KeepsMeaningOfType, KeepsMeaningWhereItAnswers}
-use Rattle.peephole_rules.proofs.ValueTypeLemmas.{value_typed}
+use Rattle.peephole_rules.proofs.ValueTypeLemmas.{integer_typed, number_typed}
 use Rattle.peephole_rules.proofs.OrderLemmas.{some_answer_if, commute_keeps, turn_comparison_keeps}
 use Rattle.peephole_rules.proofs.NeutralLemmas.{constant_types, add_zero_keeps, sub_zero_keeps, mul_one_keeps, or_zero_keeps, xor_zero_keeps, shift_by_zero_keeps, shr_s_by_zero_keeps, shr_u_by_zero_keeps, rotl_by_zero_keeps, rotr_by_zero_keeps}
 use Rattle.peephole_rules.proofs.TwiceLemmas.{or_self_keeps, and_self_keeps}
@@ -42,8 +42,8 @@ module _ (rows : MeanByTheirRows) (sound : LeavesItsTypes) (laws : IsCongruence)
   of_its_type : (context : Context) (f : IntegerType → Term Head → Option (Term Head)) → KeepsMeaningWhereItAnswers f →
       (x u : Term Head) → by_its_type context f x ≡ Some u → StandsFor context x u
   of_its_type context f keeps x u e list typed d us vs =
-      let (t, a, b) = and_then_some (λ t. f t x) (type_of_value context x) u e in
-      keeps t x u b context (typed ∙ ap Some (value_typed rows context list x t a typed)) d us vs
+      let (t, a, b) = and_then_some (λ t. f t x) (integer_type (type_of_value context x)) u e in
+      keeps t x u b context (typed ∙ ap Some (integer_typed rows context list x typed t a)) d us vs
 
   always : (f : IntegerType → Term Head → Term Head) → KeepsMeaningOfType f → KeepsMeaningWhereItAnswers (λ t x. Some (f t x))
   always f keeps t x u e = subst (λ y. AgreeOfType t x y) (cc) (keeps t x)
@@ -51,6 +51,14 @@ module _ (rows : MeanByTheirRows) (sound : LeavesItsTypes) (laws : IsCongruence)
   by_type : (f : IntegerType → Term Head → Term Head) → KeepsMeaningOfType f → (context : Context) (x u : Term Head) →
       by_its_type context (λ t y. Some (f t y)) x ≡ Some u → StandsFor context x u
   by_type f keeps context x u e = of_its_type context (λ t y. Some (f t y)) (always f keeps) x u e
+
+  -- by way of a global, of a type of numbers
+  global_stands : (context : Context) (x u : Term Head) → by_its_number_type context (λ t y. Some (by_way_of_global t y)) x ≡ Some u →
+      StandsFor context x u
+  global_stands context x u e list typed d us vs =
+      let (t, a, b) = and_then_some (λ t. Some (by_way_of_global t x)) (number_type (type_of_value context x)) u e in
+      subst (λ y. Agree context us vs x y) (cc)
+      (by_way_of_global_keeps rows sound laws t x context (typed ∙ ap Some (number_typed rows context list x typed t a)) d us vs)
 
   -- ---- constants
 
@@ -109,7 +117,7 @@ module _ (rows : MeanByTheirRows) (sound : LeavesItsTypes) (laws : IsCongruence)
   rewrite_keeps context rule.ComparisonToTest x u e = comparison_to_test_keeps rows sound laws x u e context
   rewrite_keeps context rule.TurnSelect x u e = turn_select_keeps rows sound laws x u e context
   rewrite_keeps context rule.Unfold x u e = unfold_stands context x u e
-  rewrite_keeps context rule.ThroughGlobal x u e = by_type by_way_of_global (by_way_of_global_keeps rows sound laws) context x u e
+  rewrite_keeps context rule.ThroughGlobal x u e = global_stands context x u e
   rewrite_keeps context rule.WithNop x u e = subst (λ y. StandsFor context x y) (cc) (with_nop_keeps rows sound laws x context)
   rewrite_keeps context rule.Fold x u e = fold_keeps rows sound laws x u e context
   rewrite_keeps context rule.DropAddZero x u e = drop_add_zero_keeps rows sound laws x u e context

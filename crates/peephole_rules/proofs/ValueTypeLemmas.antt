@@ -19,9 +19,12 @@ use Rattle.peephole_machine.specs.ResultColumn.{results_in, column_results, the_
 use Rattle.peephole_machine.specs.ColumnLemmas.{types_are_the_result_column}
 use Rattle.peephole_machine.specs.Row.{list_of}
 use Rattle.peephole_machine.specs.RowLemmas.{and_then_some}
+use Rattle.peephole_terms.specs.declared.encoder.node_kind.NumberType.{NumberType}
+use Rattle.peephole_terms.specs.declared.encoder.node_kind.NumberType.TheVariants as number
+use Rattle.peephole_terms.specs.NodeKind.{primitive_of}
 use Rattle.peephole_terms.specs.Typing.{types_of, types_in}
 use Rattle.peephole_terms.specs.Laws.{MeanByTheirRows}
-use Rattle.peephole_rules.specs.ValueTypes.{integer_of, head_type, first_types, type_of_value}
+use Rattle.peephole_rules.specs.ValueTypes.{integer_of, number_type_of, head_type, first_types, type_of_value, integer_type, number_type}
 use Rattle.peephole_rules.proofs.OperandLemmas.{parts_of_types}
 
 -- ---- types known of operands
@@ -101,11 +104,31 @@ integer_is primitive.FuncRef t e = absurd cc
 integer_is primitive.ExternRef t e = absurd cc
 integer_is primitive.Empty t e = absurd cc
 
--- the term's list is that type alone
-pub value_typed : MeanByTheirRows → (context : Context) (list : List PrimitiveTypeInfo) (x : Term Head) (t : IntegerType) →
-    type_of_value context x ≡ Some t → types_of context x ≡ Some list → list ≡ type_of t ∷ []
-value_typed rows context list absent t k e = absurd cc
-value_typed rows context list (node h kids) t k e =
-    let (u, told, is) = and_then_some integer_of (head_type context (first_types context kids) h) t k in
-    head_typed rows context h kids (first_types context kids) list u (first_known rows context kids) told e
-    ∙ ap (λ (v : PrimitiveTypeInfo). v ∷ []) (integer_is u t is)
+number_is : (u : PrimitiveTypeInfo) (t : NumberType) → number_type_of u ≡ Some t → u ≡ primitive_of t
+number_is primitive.I32 t e = let k : number.I32 ≡ t = cc in ap primitive_of k
+number_is primitive.I64 t e = let k : number.I64 ≡ t = cc in ap primitive_of k
+number_is primitive.F32 t e = let k : number.F32 ≡ t = cc in ap primitive_of k
+number_is primitive.F64 t e = let k : number.F64 ≡ t = cc in ap primitive_of k
+number_is primitive.V128 t e = absurd cc
+number_is primitive.FuncRef t e = absurd cc
+number_is primitive.ExternRef t e = absurd cc
+number_is primitive.Empty t e = absurd cc
+
+-- the term's list is the value's type alone
+module _ (rows : MeanByTheirRows) (context : Context) (list : List PrimitiveTypeInfo) (x : Term Head) (typed : types_of context x ≡ Some list) where
+  value_typed : (u : PrimitiveTypeInfo) → type_of_value context x ≡ Some u → list ≡ u ∷ []
+  value_typed u told = go x typed told
+    where
+      go : (y : Term Head) → types_of context y ≡ Some list → type_of_value context y ≡ Some u → list ≡ u ∷ []
+      go absent e k = absurd cc
+      go (node h kids) e k = head_typed rows context h kids (first_types context kids) list u (first_known rows context kids) k e
+
+  pub integer_typed : (t : IntegerType) → integer_type (type_of_value context x) ≡ Some t → list ≡ type_of t ∷ []
+  integer_typed t k =
+      let (u, told, is) = and_then_some integer_of (type_of_value context x) t k in
+      value_typed u told ∙ ap (λ (v : PrimitiveTypeInfo). v ∷ []) (integer_is u t is)
+
+  pub number_typed : (t : NumberType) → number_type (type_of_value context x) ≡ Some t → list ≡ primitive_of t ∷ []
+  number_typed t k =
+      let (u, told, is) = and_then_some number_type_of (type_of_value context x) t k in
+      value_typed u told ∙ ap (λ (v : PrimitiveTypeInfo). v ∷ []) (number_is u t is)

@@ -9,14 +9,17 @@ use Rattle.peephole_machine.specs.declared.integer.IntegerType.{IntegerType}
 use Rattle.peephole_machine.specs.declared.integer.IntegerType.TheVariants as integer
 use Rattle.peephole_machine.specs.Values.{type_of, State, HasTypes, Outcome, Ends, Traps, Stuck, then_run, above, Context}
 use Rattle.peephole_machine.specs.IntegerRow.{integer_row}
+use Rattle.peephole_terms.specs.declared.encoder.node_kind.NumberType.{NumberType}
+use Rattle.peephole_terms.specs.declared.encoder.node_kind.NumberType.TheVariants as number
 use Rattle.peephole_terms.specs.Expansion.{draws_of}
+use Rattle.peephole_terms.specs.NodeKind.{primitive_of}
 use Rattle.peephole_terms.specs.Typing.{types_of}
 use Rattle.peephole_terms.specs.Meaning.{meaning_of}
 use Rattle.peephole_terms.specs.Agrees.{Agree, LeavesItsTypes, IsCongruence}
 use Rattle.peephole_terms.specs.Laws.{MeanByTheirRows}
 use Rattle.peephole_rules.specs.Operator.{constant_term, nop_head, nop}
 use Rattle.peephole_rules.specs.Rewriting.{by_way_of_global, as_a_sum, with_nop}
-use Rattle.peephole_rules.specs.Laws.{AgreeAlways, AgreeOfType}
+use Rattle.peephole_rules.specs.Laws.{AgreeAlways, AgreeOfType, AgreeOfNumberType}
 use Rattle.peephole_rules.proofs.OperandLemmas.{agree_equal}
 use Rattle.peephole_rules.proofs.NeutralLemmas.{constant_means}
 
@@ -35,11 +38,15 @@ module _ (rows : MeanByTheirRows) (sound : LeavesItsTypes) (laws : IsCongruence)
       laws.transitive context us vs vs x x u (laws.wordless context list us vs x d e)
       (agree_equal rows sound context list vs vs x u e f k)
 
-  pub by_way_of_global_keeps : (t : IntegerType) (x : Term Head) → AgreeOfType t x (by_way_of_global t x)
-  by_way_of_global_keeps integer.I32 x context e d us vs = after_itself context (type_of integer.I32 ∷ []) us vs x
-      (by_way_of_global integer.I32 x) e d (rw e refl) (λ s h. sym (alone (meaning_of vs x s)))
-  by_way_of_global_keeps integer.I64 x context e d us vs = after_itself context (type_of integer.I64 ∷ []) us vs x
-      (by_way_of_global integer.I64 x) e d (rw e refl) (λ s h. sym (alone (meaning_of vs x s)))
+  pub by_way_of_global_keeps : (t : NumberType) (x : Term Head) → AgreeOfNumberType t x (by_way_of_global t x)
+  by_way_of_global_keeps number.I32 x context e d us vs = after_itself context (primitive_of number.I32 ∷ []) us vs x
+      (by_way_of_global number.I32 x) e d (rw e refl) (λ s h. sym (alone (meaning_of vs x s)))
+  by_way_of_global_keeps number.I64 x context e d us vs = after_itself context (primitive_of number.I64 ∷ []) us vs x
+      (by_way_of_global number.I64 x) e d (rw e refl) (λ s h. sym (alone (meaning_of vs x s)))
+  by_way_of_global_keeps number.F32 x context e d us vs = after_itself context (primitive_of number.F32 ∷ []) us vs x
+      (by_way_of_global number.F32 x) e d (rw e refl) (λ s h. sym (alone (meaning_of vs x s)))
+  by_way_of_global_keeps number.F64 x context e d us vs = after_itself context (primitive_of number.F64 ∷ []) us vs x
+      (by_way_of_global number.F64 x) e d (rw e refl) (λ s h. sym (alone (meaning_of vs x s)))
 
   pub as_a_sum_keeps : (t : IntegerType) (z : ℤ) → AgreeOfType t (constant_term t z) (as_a_sum t z)
   as_a_sum_keeps integer.I32 z context e d us vs = after_itself context (type_of integer.I32 ∷ []) us vs (constant_term integer.I32 z)

@@ -9,6 +9,7 @@ use Rattle.peephole_machine.specs.Values.{width_of}
 use Rattle.peephole_machine.specs.Integer.{IntegerOperator}
 use Rattle.peephole_machine.specs.IntegerRow.{bare_operator}
 use Rattle.peephole_machine.specs.Computed.{computed}
+use Rattle.peephole_terms.specs.declared.encoder.node_kind.NumberType.{NumberType}
 use Rattle.peephole_rules.specs.declared.rule.Rule.{Rule}
 use Rattle.peephole_rules.specs.declared.rule.Rule.TheVariants as rule
 use Rattle.peephole_rules.specs.declared.shape.Operand.{Operand}
@@ -18,7 +19,7 @@ use Rattle.peephole_rules.specs.declared.shape.Shape.{Shape}
 use Rattle.peephole_rules.specs.declared.replacement.Replacement.{Replacement}
 use Rattle.peephole_rules.specs.declared.replacement.Replacement.TheVariants.{Swap, Turn, GroupLeft, GroupRight, Constant, Complements, Twice, First, FirstWith, FirstBy, TurnSelect, Unfold, UseGlobal, Nop, Empty, Number, FirstTwice, Drawn, Negated, FirstByBoth, ByBoth, InnerBy, Distribute, FirstWithBoth, InnerWith, Inner, Collect, SetAndGet}
 use Rattle.peephole_rules.specs.Operator.{is_among, are_same, type_by, commutative, associative, turned, of_type, within_width, opposite_of, bits_left_out, widening}
-use Rattle.peephole_rules.specs.ValueTypes.{integer_of}
+use Rattle.peephole_rules.specs.ValueTypes.{integer_of, integer_type, number_type}
 use Rattle.peephole_rules.specs.Rewriting.{answer_if, all_ones, lowest_bit, typed_constant}
 
 -- ---- operands
@@ -138,7 +139,7 @@ constant_type None None = None
 abbrev pub unfolded : (i32_number i64_number : Option ℕ) → Option Replacement
 unfolded o r = option_map (λ t. Unfold t) (constant_type o r)
 
-abbrev pub through_global : Option IntegerType → Option Replacement
+abbrev pub through_global : Option NumberType → Option Replacement
 through_global value = option_map (λ t. UseGlobal t) value
 
 abbrev pub forgotten : (opcode : Option ℕ) → Operands → Option Replacement
@@ -285,16 +286,16 @@ choice rule.Commute s = swap s.root.opcode s.operands
 choice rule.TurnComparison s = turn s.root.opcode s.operands
 choice rule.AssociateLeft s = group_left s.root.opcode s.operands
 choice rule.AssociateRight s = group_right s.root.opcode s.operands
-choice rule.AddZero s = with_number 0x6a 0x7c 0 s.value
-choice rule.SubZero s = with_number 0x6b 0x7d 0 s.value
-choice rule.MulOne s = with_number 0x6c 0x7e 1 s.value
-choice rule.OrZero s = with_number 0x72 0x84 0 s.value
-choice rule.XorZero s = with_number 0x73 0x85 0 s.value
-choice rule.AndOnes s = with_all_ones 0x71 0x83 s.value
-choice rule.ShiftByZero s = with_number 0x74 0x86 0 s.value
-choice rule.OrSelf s = twice 0x72 0x84 s.root.writes s.root.asks s.value
-choice rule.AndSelf s = twice 0x71 0x83 s.root.writes s.root.asks s.value
-choice rule.DoubleComplement s = complements 0x73 0x85 s.value
+choice rule.AddZero s = with_number 0x6a 0x7c 0 (integer_type s.value)
+choice rule.SubZero s = with_number 0x6b 0x7d 0 (integer_type s.value)
+choice rule.MulOne s = with_number 0x6c 0x7e 1 (integer_type s.value)
+choice rule.OrZero s = with_number 0x72 0x84 0 (integer_type s.value)
+choice rule.XorZero s = with_number 0x73 0x85 0 (integer_type s.value)
+choice rule.AndOnes s = with_all_ones 0x71 0x83 (integer_type s.value)
+choice rule.ShiftByZero s = with_number 0x74 0x86 0 (integer_type s.value)
+choice rule.OrSelf s = twice 0x72 0x84 s.root.writes s.root.asks (integer_type s.value)
+choice rule.AndSelf s = twice 0x71 0x83 s.root.writes s.root.asks (integer_type s.value)
+choice rule.DoubleComplement s = complements 0x73 0x85 (integer_type s.value)
 choice rule.ShiftToProduct s = with_power 0x6c 0x7e (number_behind 0x74 0x86 s.root.opcode s.operands)
 choice rule.ProductToShift s = with_place 0x74 0x86 (number_behind 0x6c 0x7e s.root.opcode s.operands)
 choice rule.DifferenceToSum s = with_opposite 0x6a 0x7c (number_behind 0x6b 0x7d s.root.opcode s.operands)
@@ -303,7 +304,7 @@ choice rule.TestToComparison s = comparison s.root.opcode s.operands
 choice rule.ComparisonToTest s = test (number_behind 0x46 0x51 s.root.opcode s.operands)
 choice rule.TurnSelect s = turn_select s.root.opcode s.operands
 choice rule.Unfold s = unfolded s.root.i32_number s.root.i64_number
-choice rule.ThroughGlobal s = through_global s.value
+choice rule.ThroughGlobal s = through_global (number_type s.value)
 choice rule.WithNop s = Some Nop
 choice rule.Fold s = folded s.root.opcode s.operands
 choice rule.DropAddZero s = without 0 (number_behind 0x6a 0x7c s.root.opcode s.operands)
@@ -314,10 +315,10 @@ choice rule.DropXorZero s = without 0 (number_behind 0x73 0x85 s.root.opcode s.o
 choice rule.DropAndOnes s = without_all_ones (number_behind 0x71 0x83 s.root.opcode s.operands)
 choice rule.DropShiftByZero s = without 0 (number_behind 0x74 0x86 s.root.opcode s.operands)
 choice rule.Forget s = forgotten s.root.opcode s.operands
-choice rule.ShrSByZero s = with_number 0x75 0x87 0 s.value
-choice rule.ShrUByZero s = with_number 0x76 0x88 0 s.value
-choice rule.RotlByZero s = with_number 0x77 0x89 0 s.value
-choice rule.RotrByZero s = with_number 0x78 0x8a 0 s.value
+choice rule.ShrSByZero s = with_number 0x75 0x87 0 (integer_type s.value)
+choice rule.ShrUByZero s = with_number 0x76 0x88 0 (integer_type s.value)
+choice rule.RotlByZero s = with_number 0x77 0x89 0 (integer_type s.value)
+choice rule.RotrByZero s = with_number 0x78 0x8a 0 (integer_type s.value)
 choice rule.DropShrSByZero s = without 0 (number_behind 0x75 0x87 s.root.opcode s.operands)
 choice rule.DropShrUByZero s = without 0 (number_behind 0x76 0x88 s.root.opcode s.operands)
 choice rule.DropRotlByZero s = without 0 (number_behind 0x77 0x89 s.root.opcode s.operands)
@@ -345,7 +346,7 @@ choice rule.DropMulZero s = alone (λ t. 0) s.operands (number_behind 0x6c 0x7e 
 choice rule.DropOrOnes s = alone all_ones s.operands (number_behind 0x72 0x84 s.root.opcode s.operands)
 choice rule.NegateComparison s = negated s.root.opcode s.operands
 choice rule.DifferenceToTests s = both_tests (number_behind 0x47 0x52 s.root.opcode s.operands)
-choice rule.WrapExtended s = wrapped s.value
+choice rule.WrapExtended s = wrapped (integer_type s.value)
 choice rule.DropNegation s = unnegated s.root.opcode s.operands
 choice rule.DistributeProduct s = distributed 0x6a 0x7c 0x6a 0x7c 0x6c 0x7e (λ t n. true) s.operands (number_behind 0x6c 0x7e s.root.opcode s.operands)
 choice rule.DistributeMask s = distributed 0x72 0x84 0x72 0x84 0x71 0x83 (λ t n. true) s.operands (number_behind 0x71 0x83 s.root.opcode s.operands)

@@ -5,7 +5,9 @@ use Rattle.peephole_lang.specs.declared.lang.Head.{Head}
 use Rattle.peephole_lang.specs.Term.{Term}
 use Rattle.peephole_machine.specs.declared.integer.IntegerType.{IntegerType}
 use Rattle.peephole_machine.specs.Values.{type_of, State, HasTypes, Outcome, Ends, Context}
+use Rattle.peephole_terms.specs.declared.encoder.node_kind.NumberType.{NumberType}
 use Rattle.peephole_terms.specs.Expansion.{draws_of}
+use Rattle.peephole_terms.specs.NodeKind.{primitive_of}
 use Rattle.peephole_terms.specs.Typing.{types_of}
 use Rattle.peephole_terms.specs.Meaning.{meaning_of}
 use Rattle.peephole_terms.specs.Agrees.{Agree, StandsFor}
@@ -25,10 +27,17 @@ abbrev pub KeepsMeaning : (Term Head → Option (Term Head)) → Type 0
 KeepsMeaning rule = (t u : Term Head) → rule t ≡ Some u → AgreeAlways t u
 
 -- Where the first term leaves one value of the type and draws no word, the second does the same, and means the same in every state, for all words.
-abbrev pub AgreeOfType : IntegerType → (before after : Term Head) → Type 0
-AgreeOfType t before after =
-    (context : Context) → types_of context before ≡ Some (type_of t ∷ []) → draws_of before ≡ [] →
+abbrev pub AgreeTyped : PrimitiveTypeInfo → (before after : Term Head) → Type 0
+AgreeTyped t before after =
+    (context : Context) → types_of context before ≡ Some (t ∷ []) → draws_of before ≡ [] →
     (us vs : List ℕ) → Agree context us vs before after
+
+-- The same of an integer type, and of a type of numbers.
+abbrev pub AgreeOfType : IntegerType → (before after : Term Head) → Type 0
+AgreeOfType t before after = AgreeTyped (type_of t) before after
+
+abbrev pub AgreeOfNumberType : NumberType → (before after : Term Head) → Type 0
+AgreeOfNumberType t before after = AgreeTyped (primitive_of t) before after
 
 -- So it is with what a rule makes of every term of the type.
 abbrev pub KeepsMeaningOfType : (IntegerType → Term Head → Term Head) → Type 0
@@ -60,7 +69,7 @@ pub record RulesKeepMeaning : Type 0 where
   pub shift_by_zero_keeps : KeepsMeaningOfType shift_by_zero
   pub or_self_keeps : KeepsMeaningWhereItAnswers or_self
   pub and_self_keeps : KeepsMeaningWhereItAnswers and_self
-  pub by_way_of_global_keeps : KeepsMeaningOfType by_way_of_global
+  pub by_way_of_global_keeps : (t : NumberType) (x : Term Head) → AgreeOfNumberType t x (by_way_of_global t x)
   pub as_a_sum_keeps : (t : IntegerType) (z : ℤ) → AgreeOfType t (constant_term t z) (as_a_sum t z)
   pub with_nop_keeps : (x : Term Head) → AgreeAlways x (with_nop x)
   pub associate_left_keeps : KeepsMeaning associate_left

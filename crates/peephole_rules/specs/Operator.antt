@@ -19,6 +19,8 @@ use Rattle.peephole_machine.specs.declared.integer.IntegerType.{IntegerType}
 use Rattle.peephole_machine.specs.declared.integer.IntegerType.TheVariants as integer
 use Rattle.peephole_machine.specs.Row as row
 use Rattle.peephole_machine.specs.Values.{width_of}
+use Rattle.peephole_terms.specs.declared.encoder.node_kind.NumberType.{NumberType}
+use Rattle.peephole_terms.specs.declared.encoder.node_kind.NumberType.TheVariants as number
 
 -- ---- opcodes
 
@@ -204,9 +206,11 @@ unfold_head integer.I32 = record { place = 5; payload = payload.Nothing }
 unfold_head integer.I64 = record { place = 6; payload = payload.Nothing }
 
 -- its child by way of a requested global
-abbrev pub use_global_head : IntegerType → Head
-use_global_head integer.I32 = record { place = 7; payload = payload.Nothing }
-use_global_head integer.I64 = record { place = 8; payload = payload.Nothing }
+abbrev pub use_global_head : NumberType → Head
+use_global_head number.I32 = record { place = 7; payload = payload.Nothing }
+use_global_head number.I64 = record { place = 8; payload = payload.Nothing }
+use_global_head number.F32 = record { place = 9; payload = payload.Nothing }
+use_global_head number.F64 = record { place = 10; payload = payload.Nothing }
 
 -- ---- constants
 

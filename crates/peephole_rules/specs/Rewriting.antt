@@ -14,11 +14,12 @@ use Rattle.peephole_machine.specs.declared.integer.IntegerType.{IntegerType}
 use Rattle.peephole_machine.specs.declared.integer.IntegerType.TheVariants as integer
 use Rattle.peephole_machine.specs.Values.{width_of, Context}
 use Rattle.peephole_machine.specs.IntegerRow.{bare_operator}
+use Rattle.peephole_terms.specs.declared.encoder.node_kind.NumberType.{NumberType}
 use Rattle.peephole_rules.specs.declared.rule.Rule.{Rule}
 use Rattle.peephole_rules.specs.declared.rule.Rule.TheVariants as rule
 use Rattle.peephole_rules.specs.Operator.{opcode_byte, is_among, are_same, type_by, commutative, turned, associative, has_one_value, operator, of_type, constant_term, one, two, container, nop, unfold_head, use_global_head, constant_number, numbered, random, opposite_of, bits_left_out, widening, index_in, set_head, get_head, local_of}
 use Rattle.peephole_rules.specs.Effects.{writes, may_trap, asks}
-use Rattle.peephole_rules.specs.ValueTypes.{integer_of, type_of_value}
+use Rattle.peephole_rules.specs.ValueTypes.{integer_of, type_of_value, integer_type, number_type}
 use Rattle.peephole_rules.specs.Grafted.{term_at}
 
 abbrev pub answer_if : {A : Type 0} → Bool → A → Option A
@@ -85,7 +86,7 @@ and_self t x = with_itself t 0x71 0x83 x
 -- ---- other ways to the same value
 
 -- x, of type t → x by way of a requested global
-abbrev pub by_way_of_global : IntegerType → Term Head → Term Head
+abbrev pub by_way_of_global : NumberType → Term Head → Term Head
 by_way_of_global t x = one (use_global_head t) x
 
 -- a constant → the sum of a drawn word and the rest
@@ -530,7 +531,11 @@ unfold_constant x = None
 
 -- what a rule of a type makes of a term of that type
 abbrev pub by_its_type : Context → (IntegerType → Term Head → Option (Term Head)) → Term Head → Option (Term Head)
-by_its_type context rule x = option_and_then (λ t. rule t x) (type_of_value context x)
+by_its_type context rule x = option_and_then (λ t. rule t x) (integer_type (type_of_value context x))
+
+-- what a rule of a type of numbers makes of a term of that type
+abbrev pub by_its_number_type : Context → (NumberType → Term Head → Option (Term Head)) → Term Head → Option (Term Head)
+by_its_number_type context rule x = option_and_then (λ t. rule t x) (number_type (type_of_value context x))
 
 -- what the rule makes of a term, in the context
 abbrev pub rewrite : Context → Rule → Term Head → Option (Term Head)
@@ -556,7 +561,7 @@ rewrite context rule.TestToComparison x = test_to_comparison x
 rewrite context rule.ComparisonToTest x = comparison_to_test x
 rewrite context rule.TurnSelect x = turn_select x
 rewrite context rule.Unfold x = unfold_constant x
-rewrite context rule.ThroughGlobal x = by_its_type context (λ t x. Some (by_way_of_global t x)) x
+rewrite context rule.ThroughGlobal x = by_its_number_type context (λ t x. Some (by_way_of_global t x)) x
 rewrite context rule.WithNop x = Some (with_nop x)
 rewrite context rule.Fold x = fold x
 rewrite context rule.DropAddZero x = drop_add_zero x

@@ -43,7 +43,7 @@ impl Rule {
     {
         let opcode = shape.root.opcode;
         let operands = &shape.operands;
-        let value = shape.value;
+        let value = shape.integer_type();
         match self {
             Rule::Commute => swap(opcode, operands),
             Rule::TurnComparison => turn(opcode, operands),
@@ -79,7 +79,7 @@ impl Rule {
             Rule::ComparisonToTest => test(number_behind(0x46, 0x51, opcode, operands)),
             Rule::TurnSelect => turn_select(opcode, operands),
             Rule::Unfold => unfolded(shape.root.i32_number, shape.root.i64_number),
-            Rule::ThroughGlobal => through_global(value),
+            Rule::ThroughGlobal => through_global(shape.number_type()),
             Rule::WithNop => Some(Replacement::Nop),
             Rule::Fold => folded(opcode, operands),
             Rule::DropAddZero => without(0, number_behind(0x6A, 0x7C, opcode, operands)),
@@ -208,11 +208,11 @@ impl Rule {
             | Rule::AndOnes
             | Rule::ShiftByZero
             | Rule::DoubleComplement
-            | Rule::ThroughGlobal
             | Rule::ShrSByZero
             | Rule::ShrUByZero
             | Rule::RotlByZero
-            | Rule::RotrByZero => shape.value.is_some(),
+            | Rule::RotrByZero => shape.integer_type().is_some(),
+            Rule::ThroughGlobal => shape.number_type().is_some(),
             Rule::WithNop => true,
             _ => self.choice(shape).is_some(),
         }

@@ -11,6 +11,7 @@ use crate::operator::{
 use crate::replacement::Replacement;
 use crate::shape::{Operand, Operands};
 use peephole_machine::IntegerType;
+use peephole_terms::NumberType;
 
 /// Whether xor with a second operand that has these numbers as a constant of each type gives the complement of its first: the
 /// opcode is its, and the number is -1.
@@ -328,7 +329,7 @@ pub(crate) fn unfolded(i32_number: Option<u64>, i64_number: Option<u64>) -> Opti
 }
 
 /// The value by way of a requested global.
-pub(crate) fn through_global(value: Option<IntegerType>) -> Option<Replacement>
+pub(crate) fn through_global(value: Option<NumberType>) -> Option<Replacement>
     ensures { result ≡ through_global value }
 {
     Some(Replacement::UseGlobal(value?))

@@ -1,19 +1,17 @@
 //! What rules read of a term, from its root's instruction and from what was read of its operands.
-ghost use Rattle.std.specs.Prelude.{◌≡◌, [], Some, option_and_then};
+ghost use Rattle.std.specs.Prelude.{◌≡◌, [], Some};
 ghost use Rattle.wasm_code.specs.declared.immediate.Imm.{Imm};
 ghost use Rattle.peephole_lang.specs.declared.lang.Head.{Head};
 ghost use Rattle.peephole_lang.specs.Node.{instr_of_head};
 ghost use Rattle.peephole_machine.specs.Values.{context_in};
-ghost use Rattle.peephole_machine.specs.ResultColumn.{column_type};
 ghost use Rattle.peephole_machine.specs.Row.{list_of};
 ghost use Rattle.peephole_rules.specs.Operator.{instruction_byte};
-ghost use Rattle.peephole_rules.specs.ValueTypes.{integer_of, head_type};
+ghost use Rattle.peephole_rules.specs.ValueTypes.{head_type};
 ghost use Rattle.peephole_rules.specs.Instruction.{constant_by, number_read, both_values, single_read, complement_read, listed, alone_read, with_operand, with_operands, local_read};
 
 use crate::choice::complements_by;
 use crate::operator::{is_value, local_by, traps_by, writes_by};
 use crate::shape::{Operand, Operands, Shape};
-use crate::value_types::integer_of;
 use mutate_base::{ModuleInfo, PrimitiveTypeInfo};
 use peephole_machine::{IntegerType, asks_world, column_type, opcode_byte};
 use wasm_code::{Imm, Instr};
@@ -30,19 +28,6 @@ pub fn own_type(
         → result ≡ head_type (context_in info.now locals.now) [] h }
 {
     column_type(info, locals, instr, None)
-}
-
-// The type of the value that an instruction leaves, where it is i32 or i64 and its column tells it.
-fn integer_type(
-    locals: &[PrimitiveTypeInfo],
-    info: &ModuleInfo<'_>,
-    instr: &Instr,
-    first: Option<PrimitiveTypeInfo>,
-) -> Option<IntegerType>
-    ensures { result ≡ option_and_then integer_of
-        (column_type (context_in info.now locals.now) instr.now (list_of first)) }
-{
-    integer_of(column_type(info, locals, instr, first)?)
 }
 
 // The number of a constant of the type, by its row and immediate.
@@ -182,7 +167,7 @@ impl Shape {
             → result ≡ shape_of (context_in info.now locals.now) (node h kids) }
     {
         Shape {
-            value: integer_type(locals, info, instr, first),
+            value: column_type(info, locals, instr, first),
             root: with_operands(alone_read(instr, operands), operands),
             operands: listed(operands),
         }

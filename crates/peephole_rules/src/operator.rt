@@ -11,6 +11,7 @@ ghost use Rattle.peephole_rules.specs.Replacement.{IsBinary, IsUnary};
 use crate::constant::low_half;
 use peephole_lang::{Id, Lang, Numeric, Payload};
 use peephole_machine::{IntegerType, asks_world, changes, may_trap};
+use peephole_terms::NumberType;
 use wasm_code::{Imm, Instr, ResultKind, RowInfo, row_info};
 
 /// The opcode of a node's instruction, where the node has an instruction and its opcode is one byte (WebAssembly Core
@@ -359,12 +360,14 @@ pub(crate) fn unfold_node(t: IntegerType, x: Id) -> Lang
 
 /// A value of the type by way of a requested global.
 #[tactic(auto, unfolding(peephole_lang::specs::Lang::place_of, peephole_lang::specs::Lang::payload_of, peephole_lang::specs::Lang::ids_of))]
-pub(crate) fn use_global_node(t: IntegerType, x: Id) -> Lang
+pub(crate) fn use_global_node(t: NumberType, x: Id) -> Lang
     ensures head { head_of result ≡ use_global_head t }
     ensures children { ids_of result ≡ x ∷ [] }
 {
     match t {
-        IntegerType::I32 => Lang::I32UseGlobal(x),
-        IntegerType::I64 => Lang::I64UseGlobal(x),
+        NumberType::I32 => Lang::I32UseGlobal(x),
+        NumberType::I64 => Lang::I64UseGlobal(x),
+        NumberType::F32 => Lang::F32UseGlobal(x),
+        NumberType::F64 => Lang::F64UseGlobal(x),
     }
 }

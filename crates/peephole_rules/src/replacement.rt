@@ -16,6 +16,7 @@ use crate::written::{
 use mutate_base::Error;
 use peephole_lang::{Lang, RecExpr};
 use peephole_machine::IntegerType;
+use peephole_terms::NumberType;
 use std::alloc::Global;
 
 /// The nodes that a rule puts in the place of one. Operators are told by their opcodes, numbers by their low bits.
@@ -70,7 +71,7 @@ pub(crate) enum Replacement {
     /// The node, and the sum of a drawn word and the rest of it.
     Unfold(IntegerType),
     /// The node, and its value by way of a requested global.
-    UseGlobal(IntegerType),
+    UseGlobal(NumberType),
     /// The node, a `nop`, and a container of both.
     Nop,
     /// A container of nothing.

@@ -1,5 +1,11 @@
 //! What rules read of a term, and of its operands.
+ghost use Rattle.std.specs.Prelude.{◌≡◌};
+ghost use Rattle.peephole_rules.specs.ValueTypes.{integer_type, number_type};
+
+use crate::value_types::{integer_of, number_type_of};
+use mutate_base::PrimitiveTypeInfo;
 use peephole_machine::IntegerType;
+use peephole_terms::NumberType;
 
 /// What rules read of a term where it is an operand. It is a few words, and does not hold the term.
 #[derive(Clone, Copy)]
@@ -41,10 +47,26 @@ pub(crate) enum Operands {
 /// What rules read of a term: all that they ask of it, so that whether each of them has an answer needs no second look.
 #[derive(Clone, Copy)]
 pub struct Shape {
-    /// The type of the value that it leaves, where it is i32 or i64.
-    pub(crate) value: Option<IntegerType>,
+    /// The type of the value that it leaves, where its root's column tells it.
+    pub(crate) value: Option<PrimitiveTypeInfo>,
     /// What is read of its term.
     pub(crate) root: Operand,
     /// What is read of its children's terms.
     pub(crate) operands: Operands,
+}
+
+impl Shape {
+    /// The type of its value, where it is i32 or i64.
+    pub(crate) fn integer_type(&self) -> Option<IntegerType>
+        ensures { result ≡ integer_type self.now.value }
+    {
+        integer_of(self.value?)
+    }
+
+    /// The type of its value, where it is one of numbers.
+    pub(crate) fn number_type(&self) -> Option<NumberType>
+        ensures { result ≡ number_type self.now.value }
+    {
+        number_type_of(self.value?)
+    }
 }

@@ -6,11 +6,12 @@ ghost use Rattle.peephole_lang.specs.Term.{AreBelow, pick};
 ghost use Rattle.peephole_machine.specs.Row.{list_of};
 ghost use Rattle.peephole_machine.specs.Values.{context_in};
 ghost use Rattle.peephole_rules.specs.Grafted.{expression_nodes, term_at};
-ghost use Rattle.peephole_rules.specs.ValueTypes.{integer_of, head_type, first_types, type_of_value};
+ghost use Rattle.peephole_rules.specs.ValueTypes.{integer_of, number_type_of, head_type, first_types, type_of_value};
 
 use mutate_base::{ModuleInfo, PrimitiveTypeInfo};
 use peephole_lang::{Lang, RecExpr};
 use peephole_machine::{IntegerType, column_type};
+use peephole_terms::NumberType;
 
 /// The integer type that it is, or none.
 pub(crate) fn integer_of(t: PrimitiveTypeInfo) -> Option<IntegerType>
@@ -19,6 +20,19 @@ pub(crate) fn integer_of(t: PrimitiveTypeInfo) -> Option<IntegerType>
     match t {
         PrimitiveTypeInfo::I32 => Some(IntegerType::I32),
         PrimitiveTypeInfo::I64 => Some(IntegerType::I64),
+        _ => None,
+    }
+}
+
+/// The type of numbers that it is, or none.
+pub(crate) fn number_type_of(t: PrimitiveTypeInfo) -> Option<NumberType>
+    ensures { result ≡ number_type_of t }
+{
+    match t {
+        PrimitiveTypeInfo::I32 => Some(NumberType::I32),
+        PrimitiveTypeInfo::I64 => Some(NumberType::I64),
+        PrimitiveTypeInfo::F32 => Some(NumberType::F32),
+        PrimitiveTypeInfo::F64 => Some(NumberType::F64),
         _ => None,
     }
 }
@@ -55,8 +69,8 @@ fn first_type(
     head_type(locals, info, &nodes[ids[0].0 as usize], None)
 }
 
-/// The type of the value that a node's term leaves, where it is i32 or i64 and the result column of the instruction table tells
-/// it: the node's own type, that of the local, the global, the function, the memory or the table that it names, or, of a
+/// The type of the value that a node's term leaves, where the result column of the instruction table tells it: the node's own
+/// type, that of the local, the global, the function, the memory or the table that it names, or, of a
 /// `select`, that of its first operand, where this operand's own column tells it. None for every other node, and for a place that
 /// isn't there (operand and result types: WebAssembly Core Specification 3.0, Validation, Instructions).
 pub fn value_type(
@@ -64,7 +78,7 @@ pub fn value_type(
     info: &ModuleInfo<'_>,
     expr: &RecExpr<Lang>,
     at: usize,
-) -> Option<IntegerType>
+) -> Option<PrimitiveTypeInfo>
     ensures { result ≡ type_of_value (context_in info.now locals.now) (term_at expr.now at) }
 {
     let nodes = expr.as_ref();
@@ -73,6 +87,5 @@ pub fn value_type(
     }
     let root = &nodes[at];
     let first = first_type(locals, info, nodes, root);
-    let t = head_type(locals, info, root, first)?;
-    integer_of(t)
+    head_type(locals, info, root, first)
 }

@@ -15,6 +15,7 @@ use crate::operator::{
 use mutate_base::Error;
 use peephole_lang::{Id, Lang, Language, RecExpr};
 use peephole_machine::IntegerType;
+use peephole_terms::NumberType;
 use std::alloc::Global;
 
 // The node with its two children in the other order.
@@ -345,7 +346,7 @@ pub(crate) fn write_unfold(
 pub(crate) fn write_use_global(
     expr: &mut RecExpr<Lang>,
     node: &Lang,
-    t: IntegerType,
+    t: NumberType,
 ) -> Result<(), Error>
     requires below { All (λ i. i < length expr.old) (children_of node.now) }
     requires few { length expr.old + 4 ≤ 2 ^ 32 }

@@ -17,7 +17,7 @@ ghost use Rattle.peephole_terms.specs.Written.{site_at, AppendsBody, IsBodyIn, K
 
 pub(crate) mod expr2wasm;
 mod holds;
-mod node_kind;
+pub(crate) mod node_kind;
 mod own;
 pub(crate) mod request;
 pub(crate) mod splice;

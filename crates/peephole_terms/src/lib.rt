@@ -6,6 +6,7 @@ pub mod laws;
 
 pub use encoder::Encoder;
 pub use encoder::expr2wasm::expr2wasm;
+pub use encoder::node_kind::NumberType;
 pub use encoder::request::ResourceRequest;
 pub use encoder::splice::splice_term;
 pub use mutate_base;

@@ -1,4 +1,4 @@
-//! A plain machine for tests, that runs instructions on i32 and i64, some of those on f32 and on a memory, and calls of one
+//! A plain machine for tests, that runs instructions on i32 and i64, some of those on floats and on a memory, and calls of one
 //! function outside. It knows instructions by their opcodes alone, and follows the WebAssembly Core Specification 3.0, Execution:
 //! Numerics, and Instructions.
 
@@ -112,8 +112,7 @@ impl Machine {
             | 0x8c
             | 0xa8
             | 0xb2
-            | 0xbc
-            | 0xbe => {
+            | 0xbc..=0xbf => {
                 let operand = self.pop()?;
                 self.push(unary_value(opcode, operand)?)
             }

@@ -20,6 +20,9 @@ fn value_of(rt: &impl Abort, t: &str, digits: &str) -> Value {
     if t == "i64" {
         return Value::I64(bits);
     }
+    if t == "f64" {
+        return Value::F64(bits);
+    }
     assert!(rt; bits <= 0xffff_ffff, "{t} {digits}");
     match t {
         "i32" => Value::I32(bits as u32),

@@ -40,6 +40,8 @@ unfold | i32.const.-2147483648 | 0 | i32.const.-2147483648; i32.unfold 0
 unfold | i64.const.7 | 0 | i64.const.7; i64.unfold 0
 through_global | local.get.0 | 0 | local.get.0; i32.use_of_global 0
 through_global | local.get.1; i64.popcnt 0 | 1 | local.get.1; i64.popcnt 0; i64.use_of_global 1
+through_global | local.get.2 | 0 | local.get.2; f32.use_of_global 0
+through_global | local.get.2; f64.promote_f32 0 | 1 | local.get.2; f64.promote_f32 0; f64.use_of_global 1
 with_nop | local.get.2; drop 0 | 1 | local.get.2; drop 0; nop; container 2 1
 # Operands in other groups.
 associate_left | local.get.0; i32.const.5; global.get.0; i32.add 1 2; i32.add 0 3 | 4 | local.get.0; i32.const.5; global.get.0; i32.add 1 2; i32.add 0 1; i32.add 4 2
@@ -248,7 +250,8 @@ or_self | local.get.0; i8x16.splat 0; v128.any_true 1 | 2 | none
 # No constant of an integer type.
 unfold | local.get.0 | 0 | none
 unfold | f32.const.3f800000 | 0 | none
-through_global | local.get.2 | 0 | none
+# A vector, and no value.
+through_global | local.get.0; i8x16.splat 0 | 1 | none
 through_global | local.get.0; local.set.0 0 | 1 | none
 # Two operators; one that may not be grouped.
 associate_left | local.get.0; i32.const.5; i32.add 0 1; i32.mul 0 2 | 3 | none

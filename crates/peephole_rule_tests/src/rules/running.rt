@@ -198,6 +198,7 @@ pub fn value_of(t: PrimitiveTypeInfo, numbers: (u32, u64)) -> Value {
         PrimitiveTypeInfo::I32 => Value::I32(numbers.0),
         PrimitiveTypeInfo::I64 => Value::I64(numbers.1),
         PrimitiveTypeInfo::F32 => Value::F32(numbers.0),
+        PrimitiveTypeInfo::F64 => Value::F64(numbers.1),
         _ => Value::Other,
     }
 }
@@ -524,6 +525,10 @@ add_zero | 20 04 a8 21 00 0b | 1 | 20 04 a8 41 00 6a 21 00 0b | -
 add_zero | 20 00 22 01 28 02 00 24 00 0b | 1 | 20 00 22 01 41 00 6a 28 02 00 24 00 0b | -
 mul_one | 20 00 22 01 28 02 00 24 00 0b | 2 | 20 00 22 01 28 02 00 41 01 6c 24 00 0b | -
 through_global | 20 00 22 01 28 02 00 24 00 0b | 1 | 20 00 22 01 24 03 23 03 28 02 00 24 00 0b | i32
+# local.get 4, f32.neg; local.get 2, f64.reinterpret_i64, i64.reinterpret_f64, local.set 3
+through_global | 20 04 8c 0b | 0 | 20 04 24 03 23 03 8c 0b | f32
+through_global | 20 04 8c 0b | 1 | 20 04 8c 24 03 23 03 0b | f32
+through_global | 20 02 bf bd 21 03 0b | 1 | 20 02 bf 24 03 23 03 bd 21 03 0b | f64
 # local.get 0, i64.load offset 8, local.set 3
 through_global | 20 00 29 03 08 21 03 0b | 1 | 20 00 29 03 08 24 03 23 03 21 03 0b | i64
 # local.get 0, local.get 1, call 0, i32.store: the operand of the call, and the address before it.
@@ -571,9 +576,9 @@ or_self | 20 00 10 00 0b | 1
 and_self | 20 04 bc 0b | 1
 # What a select of a select leaves: the column of neither tells the type by itself.
 add_zero | 20 00 20 01 20 00 1b 20 01 20 00 1b 0b | 6
-# A float, loaded or not.
+# A float that is loaded, and a vector.
 add_zero | 20 00 2a 02 00 0b | 1
-through_global | 20 04 8c 0b | 1
+through_global | 20 00 fd 0f 0b | 1
 unfold | 43 0000803f 0b | 0
 # Operands that are the same; of another type; before a write, and before a nop.
 commute | 20 00 20 00 6a 0b | 2
@@ -656,6 +661,8 @@ fn is_told(rt: &impl Abort, alloc: Global, line: &str) -> Result<(), Fail> {
     let types: &[PrimitiveTypeInfo] = match *requested {
         "i32" => &[PrimitiveTypeInfo::I32],
         "i64" => &[PrimitiveTypeInfo::I64],
+        "f32" => &[PrimitiveTypeInfo::F32],
+        "f64" => &[PrimitiveTypeInfo::F64],
         _ => &[],
     };
     let rewrite = Rewrite {

@@ -8,9 +8,9 @@ use peephole_lang::Lang;
 use peephole_machine::IntegerType;
 use wasm_code::Instr;
 
-/// A type of numbers.
+/// A type of numbers (WebAssembly Core Specification 3.0, Structure, Types, Number Types).
 #[derive(Clone, Copy)]
-pub(crate) enum NumberType {
+pub enum NumberType {
     I32,
     I64,
     F32,
@@ -38,7 +38,7 @@ impl NumberType {
     ghost use Rattle.peephole_terms.specs.NodeKind.{primitive_of};
 
     /// The type among those of values.
-    pub fn primitive(self) -> PrimitiveTypeInfo
+    pub(crate) fn primitive(self) -> PrimitiveTypeInfo
         ensures { result ≡ primitive_of self }
     {
         match self {

@@ -1,4 +1,4 @@
-//! Instructions on f32, by the bits of the numbers. What is no number has one pattern of bits where it is computed: the
+//! Instructions on f32, and one on f64, by the bits of the numbers. What is no number has one pattern of bits where it is computed: the
 //! canonical one without a sign.
 
 use super::{Stop, Value};
@@ -13,6 +13,14 @@ pub fn of_f32(opcode: u8, bits: u32) -> Result<Value, Stop> {
         0x8c => Ok(Value::F32(bits ^ 0x8000_0000)), // f32.neg
         0xa8 => truncated(f32_from_bits_with_nan(bits)), // i32.trunc_f32_s
         0xbc => Ok(Value::I32(bits)), // i32.reinterpret_f32
+        _ => Err(Stop::Stuck),
+    }
+}
+
+/// What an instruction with one operand makes of an f64.
+pub fn of_f64(opcode: u8, bits: u64) -> Result<Value, Stop> {
+    match opcode {
+        0xbd => Ok(Value::I64(bits)), // i64.reinterpret_f64
         _ => Err(Stop::Stuck),
     }
 }

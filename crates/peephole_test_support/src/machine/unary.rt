@@ -1,6 +1,6 @@
 //! Instructions with one operand.
 
-use super::float::{converted, of_f32};
+use super::float::{converted, of_f32, of_f64};
 use super::{Stop, Value};
 
 /// What the instruction makes of its operand.
@@ -9,6 +9,7 @@ pub fn unary_value(opcode: u8, operand: Value) -> Result<Value, Stop> {
         Value::I32(n) => of_i32(opcode, n),
         Value::I64(n) => of_i64(opcode, n),
         Value::F32(bits) => of_f32(opcode, bits),
+        Value::F64(bits) => of_f64(opcode, bits),
         Value::Other => Err(Stop::Stuck),
     }
 }
@@ -36,6 +37,7 @@ fn of_i64(opcode: u8, n: u64) -> Result<Value, Stop> {
         0x7a => Value::I64(u64::from(n.trailing_zeros())), // i64.ctz
         0x7b => Value::I64(u64::from(n.count_ones())), // i64.popcnt
         0xa7 => Value::I32((n % 0x1_0000_0000) as u32), // i32.wrap_i64
+        0xbf => Value::F64(n), // f64.reinterpret_i64
         0xc2 => Value::I64(sign_extended_u64(n, 8)), // i64.extend8_s
         0xc3 => Value::I64(sign_extended_u64(n, 16)), // i64.extend16_s
         0xc4 => Value::I64(sign_extended_u64(n, 32)), // i64.extend32_s

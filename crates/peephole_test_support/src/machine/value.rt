@@ -11,6 +11,8 @@ pub enum Value {
     I64(u64),
     /// The bits of an f32.
     F32(u32),
+    /// The bits of an f64.
+    F64(u64),
     /// A value of another type.
     Other,
 }
@@ -22,6 +24,7 @@ impl Value {
             Value::I32(_) => Some(ValType::I32),
             Value::I64(_) => Some(ValType::I64),
             Value::F32(_) => Some(ValType::F32),
+            Value::F64(_) => Some(ValType::F64),
             Value::Other => None,
         }
     }
@@ -33,6 +36,7 @@ impl Value {
             ValType::I32 => Value::I32(low),
             ValType::I64 => Value::I64(number),
             ValType::F32 => Value::F32(low),
+            ValType::F64 => Value::F64(number),
             _ => Value::Other,
         }
     }
@@ -41,7 +45,7 @@ impl Value {
     pub fn number(self) -> u64 {
         match self {
             Value::I32(bits) | Value::F32(bits) => u64::from(bits),
-            Value::I64(bits) => bits,
+            Value::I64(bits) | Value::F64(bits) => bits,
             Value::Other => 0,
         }
     }

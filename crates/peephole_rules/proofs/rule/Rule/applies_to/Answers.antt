@@ -4,7 +4,8 @@ use Rattle.peephole_rules.specs.Choice.{choice}
 use Rattle.peephole_rules.specs.Rewriting.{rewrite}
 use Rattle.peephole_rules.specs.Shape.{shape_of}
 use Rattle.peephole_rules.specs.declared.shape.Shape.{Shape}
-use Rattle.peephole_rules.proofs.ChoiceLemmas.{has_answer, chosen}
+use Rattle.peephole_rules.proofs.AnswerLemmas.{has_answer}
+use Rattle.peephole_rules.proofs.ChoiceLemmas.{chosen}
 use Rattle.peephole_rules.proofs.rule.Rule.applies_to.Goals as goal
 
 pub returns : goal.returns
