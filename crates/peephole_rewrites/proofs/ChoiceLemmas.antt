@@ -1,6 +1,6 @@
 -- The rewrite that words choose.
-use Rattle.std.proofs.Common.{◌≡◌, ℕ, zero, suc, ◌+◌, ◌-◌, ◌%◌, ◌<◌, ◌≤◌, ◌⊎◌, inl, inr, List, [], ◌∷◌, ◌++◌, length, take, get_or, append-nil, length-append, Option, Some, None, refl, sym, ap, subst, ◌∙◌, arith}
-use Rattle.std.specs.Prelude.{◌↔◌, Contains, IfSome, IfNone, option_map, slice_get}
+use Rattle.std.proofs.Common.{◌≡◌, ℕ, zero, suc, ◌+◌, ◌-◌, ◌%◌, ◌<◌, ◌≤◌, inl, inr, List, [], ◌∷◌, ◌++◌, length, take, get_or, append-nil, length-append, Option, Some, None, refl, sym, ap, subst, ◌∙◌, arith}
+use Rattle.std.specs.Prelude.{Contains, IfSome, option_map, slice_get}
 use Rattle.std.proofs.lemmas.List.{take_more, take_all}
 use Rattle.std.proofs.lemmas.List.Elements.{Contains-push_cases}
 use Rattle.std.proofs.lemmas.Option.{get_or_from_slice_get}
@@ -16,10 +16,9 @@ use Rattle.peephole_rules.specs.declared.growth.Growth.TheVariants.{Shrinks, Kee
 use Rattle.peephole_rules.specs.declared.rule.Rule.{Rule}
 use Rattle.peephole_rules.specs.Growth.{growth_of, growths}
 use Rattle.peephole_rules.specs.Rule.{rule_number}
-use Rattle.peephole_rewrites.specs.declared.rewrite.Rewrite.{Rewrite}
 use Rattle.peephole_rewrites.specs.Choice.{AreThose, HasPlaceAt, IsOpen, HasOpen, numbers_below, after_word, Chooses}
 use Rattle.peephole_rewrites.specs.Counting.{HasCount, AreCounts, IsOpenBy, HasOpenBy}
-use Rattle.peephole_rewrites.specs.Rewriting.{IsMade, AreTheRewrites}
+use Rattle.peephole_rewrites.specs.Rewriting.{AreTheRewrites}
 use Rattle.peephole_rewrites.proofs.RewrittenLemmas.{set_up, info_in, some_inj}
 use Rattle.peephole_rewrites.proofs.ThoseLemmas.{those_with, those_without, those_first, those_as, none_of, one_of, some_of, slice_get_behind, head_contained, tail_contained, below_contains, below_more, below_next}
 

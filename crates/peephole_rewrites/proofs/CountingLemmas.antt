@@ -3,7 +3,7 @@ use Rattle.std.proofs.Common.{◌≡◌, ℕ, zero, suc, ◌+◌, ◌<◌, ◌�
 use Rattle.std.specs.Prelude.{◌≢◌, Contains, Result, Ok, Err, IfOk, slice_get}
 use Rattle.std.proofs.lemmas.List.{take_more, take_all, get_or_default, length-replicate, length-set, length_push, get_or-replicate, get_or-set_same, get_or-set_other}
 use Rattle.std.proofs.lemmas.List.Elements.{Contains-append_cases, Contains-append_left, Contains-append_right, Contains-push, Contains-push_cases}
-use Rattle.std.proofs.lemmas.Option.{slice_get-get_or, slice_get_within, get_or_from_slice_get, slice_get_past}
+use Rattle.std.proofs.lemmas.Option.{slice_get-get_or, slice_get_within, slice_get_past}
 use Rattle.wasm_code.specs.declared.operator.Operator.{Operator}
 use Rattle.peephole_machine.specs.Values.{Context}
 use Rattle.peephole_rules.specs.declared.rule.Rule.{Rule}

@@ -1,6 +1,6 @@
 -- Which rewrite of a body is chosen by three words of the generator: the first one names what becomes of the body's size, the second one a rule of that
 -- kind, the third one the operator (this project).
-use Rattle.std.specs.Prelude.{◌≡◌, ◌⊎◌, ◌<◌, ◌%◌, ℕ, zero, suc, List, [], ◌∷◌, ◌++◌, length, Option, Some, Contains, slice_get}
+use Rattle.std.specs.Prelude.{◌≡◌, ◌⊎◌, ◌%◌, ℕ, zero, suc, List, [], ◌∷◌, ◌++◌, length, Option, Some, Contains, slice_get}
 use Rattle.rand_core.specs.Stream.{next_u64}
 use Rattle.wasm_code.specs.declared.operator.Operator.{Operator}
 use Rattle.peephole_machine.specs.Values.{Context, context_in}

@@ -1,7 +1,7 @@
 -- How many bytes the shortest spelling of a number has, by the laws on spellings alone.
-use Rattle.std.proofs.Common.{◌≡◌, ℕ, suc, ◌+◌, ◌*◌, ◌%◌, ◌/◌, ◌^◌, ◌<◌, ◌≤◌, List, [], ◌∷◌, length, arith}
+use Rattle.std.proofs.Common.{◌≡◌, ℕ, suc, ◌+◌, ◌%◌, ◌/◌, ◌^◌, ◌<◌, ◌≤◌, List, [], ◌∷◌, length, arith}
 use Rattle.wasm_code.specs.Code.{shortest}
-use Rattle.wasm_code.specs.Number.{IsGroup, value, SpellsUnsigned}
+use Rattle.wasm_code.specs.Number.{IsGroup, SpellsUnsigned}
 
 goes_on : (b : ℕ) (bytes : List ℕ) → 128 ≤ b → IsGroup bytes → IsGroup (b ∷ bytes)
 goes_on b [] l g = absurd g

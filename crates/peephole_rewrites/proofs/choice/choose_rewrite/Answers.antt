@@ -1,12 +1,8 @@
 -- What the words choose.
-use Rattle.std.proofs.Common.{◌≡◌, ◌<◌, length, sym, subst, ap, ◌∙◌, arith}
-use Rattle.std.specs.Prelude.{Some}
+use Rattle.std.proofs.Common.{◌≡◌, ◌<◌, length, sym, subst, ◌∙◌, arith}
 use Rattle.std.proofs.lemmas.Grind.{common_steps}
-use Rattle.mutate_base.specs.Module.{Module}
-use Rattle.peephole_machine.specs.Values.{context_in}
 use Rattle.peephole_terms.specs.Expansion.{setting_of}
 use Rattle.peephole_rules.specs.Growth.{growths}
-use Rattle.peephole_rewrites.specs.Choice.{AreThose, HasPlaceAt, numbers_below}
 use Rattle.peephole_rewrites.specs.Counting.{HasOpenBy, IsOpenBy}
 use Rattle.peephole_rewrites.proofs.RewrittenLemmas.{some_inj}
 use Rattle.peephole_rewrites.proofs.ChoiceLemmas.{as_growths, as_rules, as_drawn, chosen, drawn_is, empty_is, has_open_rule, never_past, none_chosen, open_count, place_under}

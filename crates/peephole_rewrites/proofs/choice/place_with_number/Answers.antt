@@ -1,5 +1,5 @@
 -- Operator by operator.
-use Rattle.std.proofs.Common.{rules, ◌≡◌, ◌+◌, ◌≤◌, ℕ, List, [], length, refl, sym, ap, subst, ◌∙◌, arith}
+use Rattle.std.proofs.Common.{rules, ◌≡◌, [], length, refl, sym, subst, ◌∙◌, arith}
 use Rattle.std.proofs.lemmas.Bool.{false≢true}
 use Rattle.peephole_machine.specs.Values.{context_in}
 use Rattle.peephole_rewrites.specs.Choice.{AreThose, HasPlaceAt, numbers_below}

@@ -1,5 +1,5 @@
 -- Operator by operator.
-use Rattle.std.proofs.Common.{rules, ◌≤◌, ◌+◌, ◌++◌, ◌≡◌, ℕ, List, length, sym, subst, arith}
+use Rattle.std.proofs.Common.{rules, ◌+◌, ◌++◌, ◌≡◌, length, sym, subst, arith}
 use Rattle.peephole_machine.specs.Values.{context_in}
 use Rattle.peephole_rewrites.specs.Counting.{AreCounts}
 use Rattle.peephole_rewrites.proofs.CountingLemmas.{counts_with, counts_without, counts_bounded, others_bounded, once_first, once_second}
