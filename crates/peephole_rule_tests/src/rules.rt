@@ -9,6 +9,7 @@ use peephole_rules::{
     RULES, Rule, UnknownRule, constant_number, has_one_value, may_trap, opcode_byte, undisturbed,
     value_type, writes,
 };
+use peephole_terms::peephole_machine::IntegerType;
 use peephole_terms::{Error, Lang, ModuleInfo, PrimitiveTypeInfo, RecExpr};
 use peephole_test_support::{fields_of, parts_of};
 use std::alloc::{AllocError, Global};
