@@ -1,5 +1,5 @@
 -- The function and the rewrite that words choose.
-use Rattle.std.proofs.Common.{◌≡◌, inl, inr, ℕ, zero, suc, ◌+◌, ◌<◌, ◌≤◌, List, [], length, Option, Some, None, refl, sym, ap, subst, ◌∙◌, arith}
+use Rattle.std.proofs.Common.{◌≡◌, inl, inr, ℕ, zero, suc, ◌+◌, ◌<◌, ◌≤◌, List, length, Option, Some, None, refl, sym, ap, subst, ◌∙◌, arith}
 use Rattle.std.specs.Prelude.{IfSome, option_map}
 use Rattle.rand_core.specs.Stream.{Stream}
 use Rattle.wasm_code.specs.declared.operator.Operator.{Operator}
@@ -14,8 +14,8 @@ use Rattle.peephole_terms.specs.Expansion.{Setting, setting_of}
 use Rattle.peephole_rules.specs.declared.rule.Rule.{Rule}
 use Rattle.peephole_rewrites.specs.declared.rewrite.Rewrite.{Rewrite}
 use Rattle.peephole_rewrites.specs.Choice.{after_word, AppendsByWords, AppendsChosen, RefusesByWords, RefusesChosen}
-use Rattle.peephole_modules.specs.Chosen.{ChoosesAt, ChoosesBy, ChoosesFrom, ChoosesOfModule, ChoosesWithin, FindsEntry}
-use Rattle.peephole_modules.specs.Drawing.{DrawsEntry, IsFirstFrom, NamesEntry, NamesInVain, by_word, in_order}
+use Rattle.peephole_modules.specs.Chosen.{ChoosesAt, ChoosesBy, ChoosesFrom, ChoosesOfModule, ChoosesWithin}
+use Rattle.peephole_modules.specs.Drawing.{IsFirstFrom, NamesEntry, NamesInVain, by_word, in_order}
 use Rattle.peephole_modules.specs.Function.{IsFunction}
 use Rattle.peephole_modules.specs.Mutated.{HasNoMutation}
 

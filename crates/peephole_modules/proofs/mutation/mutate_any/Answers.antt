@@ -1,8 +1,6 @@
 -- Word by word.
-use Rattle.std.proofs.Common.{rules, ◌≡◌, sym, subst, ap, ◌∙◌, arith}
-use Rattle.std.specs.Prelude.{IfSome}
-use Rattle.mutate_base.specs.Config.{Config, info_of}
-use Rattle.mutate_base.specs.Module.{Module}
+use Rattle.std.proofs.Common.{rules, ◌≡◌, ap, ◌∙◌, arith}
+use Rattle.mutate_base.specs.Config.{info_of}
 use Rattle.peephole_terms.specs.Expansion.{setting_of}
 use Rattle.peephole_modules.proofs.DrawnLemmas.{drawn_here, drawn_in_order, info_of_setting, lacks_at, vain_more, vain_start}
 use Rattle.peephole_modules.proofs.MutationLemmas.{some_map}
