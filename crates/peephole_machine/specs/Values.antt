@@ -100,10 +100,10 @@ pub record Context : Type 0 where
 abbrev pub context_in : Module → (locals : List PrimitiveTypeInfo) → Context
 context_in info locals = record { info = info; locals = locals }
 
--- why code gives no values: it traps, by a division by zero, a quotient that is too large, or what an instruction of the world's has met, by a mark; or it
--- called a function that hasn't ended, or that was stuck
+-- why code gives no values: it traps, by a division by zero, a quotient that is too large, an `unreachable`, or what an instruction of the world's has met,
+-- by a mark; or it called a function that hasn't ended, or that was stuck
 pub data Cause : Type 0 where
-  divide_by_zero overflow unfinished stuck : Cause
+  divide_by_zero overflow unreachable unfinished stuck : Cause
   met : (mark : ℕ) → Cause
 
 -- What an instruction leaves: values, the module's globals and the rest; or a trap with its cause, and both.
