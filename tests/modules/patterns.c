@@ -40,3 +40,18 @@ uint32_t complemented(uint32_t x, uint32_t y)
 {
     return ~(x & y) - ~(x | y);
 }
+
+uint64_t paired(uint32_t x, uint64_t y)
+{
+    return y * 2 - x;
+}
+
+uint64_t selected(uint32_t x, uint64_t y)
+{
+    return y ^ (uint64_t)(int64_t)(int32_t)x;
+}
+
+uint32_t opposed(uint32_t x, uint32_t y)
+{
+    return ~(x & y) - ~(x | y);
+}

@@ -1,5 +1,5 @@
 ;; Patterns of rules that a compiler of C doesn't leave: what changes nothing, constants that decide alone, powers of two, tests of
-;; comparisons, and complements. patterns.c is the same in C, and makes the answers.
+;; comparisons, complements, and two operands that are the same. patterns.c is the same in C, and makes the answers.
 (module
   (func (export "moved") (param $x i32) (param $y i64) (result i64)
     (i64.add
@@ -40,4 +40,22 @@
   (func (export "complemented") (param $x i32) (param $y i32) (result i32)
     (i32.sub
       (i32.xor (i32.and (local.get $x) (local.get $y)) (i32.const -1))
-      (i32.xor (i32.or (local.get $x) (local.get $y)) (i32.const -1)))))
+      (i32.xor (i32.or (local.get $x) (local.get $y)) (i32.const -1))))
+
+  (func (export "paired") (param $x i32) (param $y i64) (result i64)
+    (i64.sub
+      (i64.add (local.get $y) (local.get $y))
+      (i64.extend_i32_u
+        (i32.add
+          (i32.or (local.get $x) (local.get $x))
+          (i32.mul (i32.sub (local.get $x) (local.get $x)) (i32.xor (local.get $x) (local.get $x)))))))
+
+  (func (export "selected") (param $x i32) (param $y i64) (result i64)
+    (i64.xor
+      (select (local.get $y) (local.get $y) (local.get $x))
+      (i64.extend_i32_s (i32.wrap_i64 (i64.extend_i32_s (local.get $x))))))
+
+  (func (export "opposed") (param $x i32) (param $y i32) (result i32)
+    (i32.sub
+      (i32.or (i32.xor (local.get $x) (i32.const -1)) (i32.xor (local.get $y) (i32.const -1)))
+      (i32.and (i32.xor (local.get $x) (i32.const -1)) (i32.xor (local.get $y) (i32.const -1))))))
