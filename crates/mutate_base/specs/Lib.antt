@@ -8,5 +8,6 @@ pub mod Words
 pub mod Number
 pub mod Payload
 pub mod PayloadText
+pub mod Order
 pub mod Parts
 pub mod laws

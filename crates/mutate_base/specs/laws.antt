@@ -7,3 +7,4 @@ pub mod PartsLemmas
 pub mod ReadBackLemmas
 pub mod LawLemmas
 pub mod Equality
+pub mod OrderLemmas

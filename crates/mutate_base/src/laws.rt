@@ -20,6 +20,30 @@ ghost use Rattle.mutate_base.specs.contracts.payload.TableCopyPartialEq.TheImpl 
 ghost use Rattle.mutate_base.specs.contracts.payload.MemoryCopyPartialEq.TheImpl as memory_copy_eq;
 ghost use Rattle.mutate_base.specs.contracts.payload.TableInitPartialEq.TheImpl as table_init_eq;
 ghost use Rattle.mutate_base.specs.contracts.payload.MemoryInitPartialEq.TheImpl as memory_init_eq;
+ghost use Rattle.wasm_code.specs.Order.{IsOrderedBy};
+ghost use Rattle.mutate_base.specs.Order as order;
+ghost use Rattle.mutate_base.specs.contracts.float.F32Ord.TheImpl as f32_ord;
+ghost use Rattle.mutate_base.specs.contracts.float.F32PartialOrd.TheImpl as f32_partial_ord;
+ghost use Rattle.mutate_base.specs.contracts.float.F64Ord.TheImpl as f64_ord;
+ghost use Rattle.mutate_base.specs.contracts.float.F64PartialOrd.TheImpl as f64_partial_ord;
+ghost use Rattle.mutate_base.specs.contracts.payload.RefTypeOrd.TheImpl as ref_type_ord;
+ghost use Rattle.mutate_base.specs.contracts.payload.RefTypePartialOrd.TheImpl as ref_type_partial_ord;
+ghost use Rattle.mutate_base.specs.contracts.payload.MemArgOrd.TheImpl as mem_arg_ord;
+ghost use Rattle.mutate_base.specs.contracts.payload.MemArgPartialOrd.TheImpl as mem_arg_partial_ord;
+ghost use Rattle.mutate_base.specs.contracts.payload.MemArgLaneOrd.TheImpl as mem_arg_lane_ord;
+ghost use Rattle.mutate_base.specs.contracts.payload.MemArgLanePartialOrd.TheImpl as mem_arg_lane_partial_ord;
+ghost use Rattle.mutate_base.specs.contracts.payload.ShuffleOrd.TheImpl as shuffle_ord;
+ghost use Rattle.mutate_base.specs.contracts.payload.ShufflePartialOrd.TheImpl as shuffle_partial_ord;
+ghost use Rattle.mutate_base.specs.contracts.payload.TableCopyOrd.TheImpl as table_copy_ord;
+ghost use Rattle.mutate_base.specs.contracts.payload.TableCopyPartialOrd.TheImpl as table_copy_partial_ord;
+ghost use Rattle.mutate_base.specs.contracts.payload.MemoryCopyOrd.TheImpl as memory_copy_ord;
+ghost use Rattle.mutate_base.specs.contracts.payload.MemoryCopyPartialOrd.TheImpl as memory_copy_partial_ord;
+ghost use Rattle.mutate_base.specs.contracts.payload.TableInitOrd.TheImpl as table_init_ord;
+ghost use Rattle.mutate_base.specs.contracts.payload.TableInitPartialOrd.TheImpl as table_init_partial_ord;
+ghost use Rattle.mutate_base.specs.contracts.payload.MemoryInitOrd.TheImpl as memory_init_ord;
+ghost use Rattle.mutate_base.specs.contracts.payload.MemoryInitPartialOrd.TheImpl as memory_init_partial_ord;
+ghost use Rattle.mutate_base.specs.contracts.types.PrimitiveTypeInfoPartialEq.TheImpl as type_eq;
+ghost use Rattle.mutate_base.specs.declared.types.PrimitiveTypeInfo.{PrimitiveTypeInfo};
 ghost use Rattle.mutate_base.specs.declared.payload.RefType.{RefType};
 ghost use Rattle.mutate_base.specs.declared.payload.MemArg.{MemArg};
 ghost use Rattle.mutate_base.specs.declared.payload.MemArgLane.{MemArgLane};
@@ -76,6 +100,40 @@ pub fn equal_payload_parts()
     ensures memory_copy { (x y : MemoryCopy) → Decides (memory_copy_eq.ghosts.eq x y) (x ≡ y) }
     ensures table_init { (x y : TableInit) → Decides (table_init_eq.ghosts.eq x y) (x ≡ y) }
     ensures memory_init { (x y : MemoryInit) → Decides (memory_init_eq.ghosts.eq x y) (x ≡ y) }
+{}
+
+/// Two types of values compare equal, by `==`, exactly where they are the same.
+pub fn equal_types()
+    ensures { (t u : PrimitiveTypeInfo) → Decides (type_eq.ghosts.eq t u) (t ≡ u) }
+{}
+
+/// Floats compare, by `cmp` and by `<` and its like, as their bits do, taken as numbers without sign.
+pub fn floats_are_ordered()
+    ensures f32 { IsOrderedBy order.float_numbers f32_ord.ghosts.cmp
+        f32_partial_ord.ghosts.partial_cmp }
+    ensures f64 { IsOrderedBy order.float_numbers f64_ord.ghosts.cmp
+        f64_partial_ord.ghosts.partial_cmp }
+{}
+
+/// Payloads of each other type compare, by `cmp` and by `<` and its like, as their fields do, in the order that they stand in:
+/// the first one that differs decides.
+pub fn payload_parts_are_ordered()
+    ensures ref_type { IsOrderedBy order.ref_type_numbers ref_type_ord.ghosts.cmp
+        ref_type_partial_ord.ghosts.partial_cmp }
+    ensures mem_arg { IsOrderedBy order.mem_arg_numbers mem_arg_ord.ghosts.cmp
+        mem_arg_partial_ord.ghosts.partial_cmp }
+    ensures mem_arg_lane { IsOrderedBy order.mem_arg_lane_numbers mem_arg_lane_ord.ghosts.cmp
+        mem_arg_lane_partial_ord.ghosts.partial_cmp }
+    ensures shuffle { IsOrderedBy order.shuffle_numbers shuffle_ord.ghosts.cmp
+        shuffle_partial_ord.ghosts.partial_cmp }
+    ensures table_copy { IsOrderedBy order.table_copy_numbers table_copy_ord.ghosts.cmp
+        table_copy_partial_ord.ghosts.partial_cmp }
+    ensures memory_copy { IsOrderedBy order.memory_copy_numbers memory_copy_ord.ghosts.cmp
+        memory_copy_partial_ord.ghosts.partial_cmp }
+    ensures table_init { IsOrderedBy order.table_init_numbers table_init_ord.ghosts.cmp
+        table_init_partial_ord.ghosts.partial_cmp }
+    ensures memory_init { IsOrderedBy order.memory_init_numbers memory_init_ord.ghosts.cmp
+        memory_init_partial_ord.ghosts.partial_cmp }
 {}
 
 /// What is drawn from given words, and the words that are left: 32 bits are the low half of the next word, 64 bits the next

@@ -2,6 +2,7 @@
 #![tactic(auto)]
 
 mod analysis;
+pub mod laws;
 mod term_types;
 
 pub use analysis::{ClassData, OperandTypes, PeepholeMutationAnalysis};

@@ -1,4 +1,5 @@
 pub mod Payload
+pub mod PayloadOrder
 pub mod PayloadKind
 pub mod PayloadText
 pub mod Simd

@@ -1,9 +1,9 @@
--- A device that is watched, and when a call on it failed (this project's).
+-- A device that is watched, and when a call has failed (this project's).
 use Rattle.std.specs.Prelude.{ℕ, Bool, true, ◌&&◌, ◌==◌, nat_lt, Result, Ok, Err}
 
 pub record Watched (D : Type 0) : Type 0 where
   pub device : D
-  -- whether a call on it has failed
+  -- whether a call has answered an error, or a write none of some bytes
   pub failed : Bool
 
 -- an error, or none of some bytes taken

@@ -1,4 +1,4 @@
-//! A device that remembers whether one of its calls failed.
+//! A device that is watched: whether one of the calls failed.
 
 ghost use Rattle.std.specs.Prelude.{◌≡◌, ℕ, List, length, Bool, true, false, ◌||◌, is_err, OnOk, IfOk, IfErr};
 ghost use Rattle.std.specs.Io.{ReadsAtMost, WritesAtMost};
@@ -10,7 +10,8 @@ use std::io::{Read, Write};
 use std::marker::Model;
 
 /// Passes reads and writes on to its device, and remembers whether one failed. A contract sees the device and whether a
-/// call on it has failed.
+/// call has failed: of an `Ok` it says what the device gave or took, of an error that it is remembered, and not that it is
+/// the device's own.
 #[derive(Drop)]
 pub struct Tally<D> {
     device: D,
@@ -36,7 +37,7 @@ impl<D> Tally<D> {
         }
     }
 
-    /// Whether a call gave an error, or a write took none of some bytes.
+    /// Whether a call has answered an error, or a write that it took none of some bytes.
     pub fn failed(&self) -> bool
         ensures { result ≡ self.now.failed }
     {

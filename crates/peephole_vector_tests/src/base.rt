@@ -3,4 +3,5 @@
 
 mod errors;
 mod module;
+mod order;
 mod payload;

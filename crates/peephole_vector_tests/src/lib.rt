@@ -9,6 +9,8 @@ mod code;
 #[cfg(test)]
 mod declarations;
 #[cfg(test)]
+mod devices;
+#[cfg(test)]
 mod module;
 #[cfg(test)]
 mod nodes;

@@ -99,16 +99,33 @@ fn types_of_nodes(rt: HostRuntime) -> Result<(), Fail> {
     Ok(())
 }
 
+/// The types that a class may have.
+const CLASSES: [PrimitiveTypeInfo; 8] = [
+    PrimitiveTypeInfo::I32,
+    PrimitiveTypeInfo::I64,
+    PrimitiveTypeInfo::F32,
+    PrimitiveTypeInfo::F64,
+    PrimitiveTypeInfo::V128,
+    PrimitiveTypeInfo::FuncRef,
+    PrimitiveTypeInfo::ExternRef,
+    PrimitiveTypeInfo::Empty,
+];
+
+/// The data of a class is equal to itself alone, and to its copy.
 #[test]
 fn classes(rt: HostRuntime) -> Result<(), Fail> {
-    let data = ClassData {
-        tpe: PrimitiveTypeInfo::I32,
-    };
-    let other = ClassData {
-        tpe: PrimitiveTypeInfo::I64,
-    };
-    let copy = data.clone()?;
-    assert!(rt; copy == data);
-    assert!(rt; data != other);
+    for place in 0..CLASSES.len() {
+        let data = ClassData {
+            tpe: CLASSES[place],
+        };
+        assert!(rt; data.clone()? == data, "{place}");
+        for other in 0..CLASSES.len() {
+            let alike = data
+                == ClassData {
+                    tpe: CLASSES[other],
+                };
+            assert!(rt; alike == (place == other), "{place} {other}");
+        }
+    }
     Ok(())
 }

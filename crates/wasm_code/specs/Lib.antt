@@ -1,6 +1,7 @@
 pub mod Fault
 pub mod ValType
 pub mod ValTypeEquality
+pub mod Order
 pub mod Table
 pub mod Finding
 pub mod Dense

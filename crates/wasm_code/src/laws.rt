@@ -1,5 +1,5 @@
 //! Laws on spellings and on value types: functions that do nothing, and whose contracts hold for all values.
-ghost use Rattle.std.specs.Prelude.{◌≡◌, ◌≢◌, ◌<◌, ◌≤◌, ◌+◌, ◌-◌, ◌^◌, ◌≤ℤ◌, ◌<ℤ◌, ◌++◌, ℕ, ℤ, pos, neg_ℤ, List, length, Ok, Err};
+ghost use Rattle.std.specs.Prelude.{◌≡◌, ◌≢◌, ◌<◌, ◌≤◌, ◌+◌, ◌-◌, ◌^◌, ◌≤ℤ◌, ◌<ℤ◌, ◌++◌, ℕ, ℤ, pos, neg_ℤ, List, [], ◌∷◌, length, Ok, Err};
 ghost use Rattle.wasm_code.specs.Instruction.{Instruction, IsInstruction};
 ghost use Rattle.wasm_code.specs.Operator.{Spells, Fails};
 ghost use Rattle.wasm_code.specs.Number.{SpellsUnsigned, SpellsSigned, FailsUnsigned, FailsSigned};
@@ -9,7 +9,10 @@ ghost use Rattle.wasm_code.specs.Code.{shortest, shortest_signed, code};
 ghost use Rattle.wasm_code.specs.Body.{SpellsBody, IsFault, SpellsAll, AreSpelled, bytes_of, with_offsets, move_by, IsCut};
 ghost use Rattle.wasm_code.specs.Reader.{body_at, operator_at, unsigned_at, signed_at, val_type_at};
 ghost use Rattle.std.specs.Bool.{Decides};
+ghost use Rattle.wasm_code.specs.Order.{IsOrderedBy, val_type_place};
 ghost use Rattle.wasm_code.specs.contracts.immediate.ValTypePartialEq.TheImpl as val_type_eq;
+ghost use Rattle.wasm_code.specs.contracts.immediate.ValTypeOrd.TheImpl as val_type_ord;
+ghost use Rattle.wasm_code.specs.contracts.immediate.ValTypePartialOrd.TheImpl as val_type_partial_ord;
 ghost use Rattle.wasm_code.specs.declared.immediate.ValType.{ValType};
 ghost use Rattle.wasm_code.specs.declared.fault.ReadKind.{ReadKind};
 ghost use Rattle.wasm_code.specs.declared.fault.ReadKind.TheVariants.{Memory};
@@ -99,4 +102,10 @@ pub fn shortest_is_least()
 /// Two value types compare equal, by `==`, exactly where they are the same.
 pub fn equal_val_types()
     ensures { (t u : ValType) → Decides (val_type_eq.ghosts.eq t u) (t ≡ u) }
+{}
+
+/// Value types compare, by `cmp` and by `<` and its like, as their places among the variants do.
+pub fn val_types_are_ordered()
+    ensures { IsOrderedBy (λ (t : ValType). val_type_place t ∷ []) val_type_ord.ghosts.cmp
+        val_type_partial_ord.ghosts.partial_cmp }
 {}

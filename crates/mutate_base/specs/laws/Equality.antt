@@ -1,4 +1,4 @@
--- That the tests for equal payloads are equality (this project).
+-- That the tests for equal payloads and types are equality (this project).
 use Rattle.std.specs.Prelude.{◌≡◌, ◌==◌, ◌&&◌, ℕ, Bool, true, refl}
 use Rattle.std.specs.Bool.{Decides}
 use Rattle.std.specs.Cmp.{unsigned_Decides, first_so, second_so}
@@ -22,6 +22,10 @@ use Rattle.mutate_base.specs.contracts.payload.TableCopyEq.TheImpl.Laws.{laws-la
 use Rattle.mutate_base.specs.contracts.payload.MemoryCopyEq.TheImpl.Laws.{laws-law as memory_copy_equiv}
 use Rattle.mutate_base.specs.contracts.payload.TableInitEq.TheImpl.Laws.{laws-law as table_init_equiv}
 use Rattle.mutate_base.specs.contracts.payload.MemoryInitEq.TheImpl.Laws.{laws-law as memory_init_equiv}
+use Rattle.mutate_base.specs.contracts.types.PrimitiveTypeInfoPartialEq.TheImpl as type_eq
+use Rattle.mutate_base.specs.contracts.types.PrimitiveTypeInfoEq.TheImpl.Laws.{laws-law as type_equiv}
+use Rattle.mutate_base.specs.declared.types.PrimitiveTypeInfo.{PrimitiveTypeInfo}
+use Rattle.mutate_base.specs.declared.types.PrimitiveTypeInfo.TheVariants as type
 use Rattle.mutate_base.specs.declared.payload.RefType.{RefType}
 use Rattle.mutate_base.specs.declared.payload.MemArg.{MemArg}
 use Rattle.mutate_base.specs.declared.payload.MemArgLane.{MemArgLane}
@@ -83,6 +87,19 @@ same_table_init x y e = same_pair (λ a b. let r : TableInit = record { table = 
 pub same_memory_init : (x y : MemoryInit) → memory_init_eq.ghosts.eq x y ≡ true → x ≡ y
 same_memory_init x y e = same_pair (λ a b. let r : MemoryInit = record { memory = a; segment = b } in r) x.memory x.segment y.memory y.segment e
 
+-- ---- types that compare equal are the same
+
+pub same_type : (t u : PrimitiveTypeInfo) → type_eq.ghosts.eq t u ≡ true → t ≡ u
+same_type type.I32 type.I32 e = refl
+same_type type.I64 type.I64 e = refl
+same_type type.F32 type.F32 e = refl
+same_type type.F64 type.F64 e = refl
+same_type type.V128 type.V128 e = refl
+same_type type.FuncRef type.FuncRef e = refl
+same_type type.ExternRef type.ExternRef e = refl
+same_type type.Empty type.Empty e = refl
+same_type _ _ e = absurd (true≢false (sym e))
+
 -- ---- the tests are true exactly where they are the same
 
 pub f32s_equal : (x y : ℕ) → Decides (f32_eq.ghosts.eq x y) (x ≡ y)
@@ -114,3 +131,6 @@ table_inits_equal x y = (same_table_init x y, λ e. rw e (table_init_equiv.refl 
 
 pub memory_inits_equal : (x y : MemoryInit) → Decides (memory_init_eq.ghosts.eq x y) (x ≡ y)
 memory_inits_equal x y = (same_memory_init x y, λ e. rw e (memory_init_equiv.refl y))
+
+pub types_equal : (t u : PrimitiveTypeInfo) → Decides (type_eq.ghosts.eq t u) (t ≡ u)
+types_equal t u = (same_type t u, λ e. rw e (type_equiv.refl u))
