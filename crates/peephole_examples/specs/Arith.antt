@@ -11,7 +11,7 @@ use Rattle.std.proofs.Common.{true≢false, ap, sym, lit≤}
 use Rattle.mutate_base.specs.declared.term_error.TermError.{TermError}
 use Rattle.mutate_base.specs.declared.term_error.TermError.TheVariants.{InvalidToken, ExpectedZeroChildren, ExpectedChildren, BadInteger}
 use Rattle.peephole_nodes.specs.declared.id.Id.{Id}
-use Rattle.peephole_lang.specs.Language.{IsAlike, alike_equivalence}
+use Rattle.peephole_lang.specs.Language.{IsAlike, IsSame, alike_equivalence}
 use Rattle.mutate_base.specs.Number.{read_signed}
 use Rattle.mutate_base.specs.laws.NumberBack.{signed_in_range_back}
 use Rattle.peephole_lang.specs.Term.{numbers_of}
@@ -114,6 +114,11 @@ determined (Neg a) (Neg b) says same = ap (λ (w : List Id). Neg w) same
 determined (Add a) (Add b) says same = ap (λ (w : List Id). Add w) same
 determined (Sum a) (Sum b) says same = same
 determined _ _ says same = absurd cc
+
+-- and equal nodes say the same, and have the same children
+pub equal_says : (a b : Arith) → IsEqual a b → IsSame head_of ids_of a b
+equal_says (Sum a) (Sum b) e = (refl, sym e)
+equal_says a b e = (ap head_of (sym e), ap ids_of (sym e))
 
 -- ---- children that are written
 

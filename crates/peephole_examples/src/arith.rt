@@ -3,7 +3,7 @@ ghost use Rattle.std.specs.Prelude.{◌≡◌, [], Some, codes, refl};
 ghost use Rattle.std.specs.Option.{option_copied};
 ghost use Rattle.peephole_lang.specs.Language.{ReadsInto};
 ghost use Rattle.peephole_lang.specs.Names.{rest_after};
-ghost use Rattle.peephole_examples.specs.Arith.{head_of, ids_of, children_of, with_ids, IsEqual, IsNode, arith_matches, text_of, read_number, reads, says, reads_back, determined, keeps_head, has_written, matches_exactly, matches_equivalence};
+ghost use Rattle.peephole_examples.specs.Arith.{head_of, ids_of, children_of, with_ids, IsEqual, IsNode, arith_matches, text_of, read_number, reads, says, reads_back, determined, equal_says, keeps_head, has_written, matches_exactly, matches_equivalence};
 
 use mutate_base::number::read_i32;
 use mutate_base::{Error, TermError};
@@ -153,6 +153,8 @@ impl Language for Arith {
     ghost matches_equivalence = { matches_equivalence };
 
     ghost determined = { determined };
+
+    ghost equal_says = { equal_says };
 
     ghost keeps_head = { keeps_head };
 

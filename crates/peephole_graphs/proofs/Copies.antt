@@ -32,7 +32,7 @@ node_same e f h =
     let node_by : Head → List Id → Node Head = λ head ids. record { head = head; children = numbers_of ids } in
     ap₂ node_by h.0.0 h.0.1
 
-map_same : {A : Type 0} (f : StackEntry → A) → ((e g : StackEntry) → IsSameEntry e g → f g ≡ f e) → (es gs : List StackEntry) →
+pub map_same : {A : Type 0} (f : StackEntry → A) → ((e g : StackEntry) → IsSameEntry e g → f g ≡ f e) → (es gs : List StackEntry) →
     AllZip IsSameEntry es gs → map f gs ≡ map f es
 map_same f same [] [] h = refl
 map_same f same [] (g ∷ gs) h = absurd h

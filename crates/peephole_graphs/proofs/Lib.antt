@@ -33,6 +33,7 @@ pub mod LayoutTrees
 pub mod TermOfLemmas
 pub mod ForestWalk
 pub mod Copies
+pub mod CopiedGraph
 pub mod Answering
 pub mod RebuildLayout
 pub mod ReachedOnce

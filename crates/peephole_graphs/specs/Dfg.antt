@@ -6,6 +6,8 @@ use Rattle.std.specs.HashMap as hash
 use Rattle.peephole_lang.specs.Node.{SameNode}
 use Rattle.peephole_graphs.specs.declared.dfg.StackEntry.{StackEntry}
 use Rattle.peephole_graphs.specs.declared.dfg.MiniDFG.{MiniDFG}
+use Rattle.peephole_graphs.specs.GraphOf.{IsGraphOf}
+use Rattle.peephole_graphs.specs.Source.{Source}
 pub use Rattle.peephole_graphs.specs.Entries.{Graph}
 
 abbrev pub graph_of : MiniDFG → Graph
@@ -20,3 +22,7 @@ pub record IsSameGraph (g h : MiniDFG) : Type 0 where
   pub entries : AllZip IsSameEntry (graph_of g).entries (graph_of h).entries
   pub parents : (graph_of h).parents ≡ (graph_of g).parents
   pub map : (k : ℕ) → (graph_of h).own_entry k ≡ (graph_of g).own_entry k
+
+-- a copy of a block's graph is a graph of that block
+abbrev pub KeepsItsBlock : Type 0
+KeepsItsBlock = (s : Source) (g h : MiniDFG) → IsSameGraph g h → IsGraphOf s (graph_of g) → IsGraphOf s (graph_of h)

@@ -1,7 +1,8 @@
 -- The text of a forest (this project): behind a first line, a line for each entry, those of a root's tree in front of the
 -- next root's, a parent's in front of its children's. Texts are UTF-8.
 use Rattle.std.specs.Prelude.{◌≡◌, ℕ, ◌⊎◌, Bool, true, false, List, [], ◌∷◌, ◌++◌}
-use Rattle.std.specs.Prelude.{codes, decimal, encode_utf8_all, Option, Result, Ok, Err, String, string_bytes}
+use Rattle.std.specs.Prelude.{codes, decimal, encode_utf8_all, Option, Result, Ok, Err, String, string_bytes, MatchResult}
+use Rattle.std.specs.List.{Contains}
 use Rattle.std.specs.Borrow.{Bor}
 use Rattle.std.specs.Fn.{FnReturnsAt}
 use Rattle.std.specs.Global.{Global}
@@ -117,7 +118,44 @@ CanTell g f e = (shown : Bor StackEntry) → shown.now ≡ e → g.pre f (shown,
 abbrev pub Tells : {F : Type 0} → Shared F (Bor StackEntry × Unit {0}) (Result (String Global) Error) → F → (StackEntry → Result (List ℕ) Error) → StackEntry → Type 0
 Tells g f said e = (r : Result (String Global) Error) → FnReturnsAt g f e r → IsText (said e) r
 
--- The whole stands there now, or it is the refusal, or memory was refused.
-abbrev pub IsWritten : Result (List ℕ) Error → Result (Unit {0}) Error → List ℕ → Type 0
-IsWritten whole (Ok done) now = whole ≡ Ok now
-IsWritten whole (Err e) now = (whole ≡ Err e) ⊎ (e ≡ Memory)
+-- ---- the same for every `f`, which may answer of an entry now this and now that
+
+-- the bytes of an answer
+abbrev pub answer_bytes : Result (String Global) Error → Result (List ℕ) Error
+answer_bytes (Ok text) = Ok (string_bytes text)
+answer_bytes (Err e) = Err e
+
+-- `f` answered so of the entry.
+pub record Answers {F : Type 0} (g : Shared F (Bor StackEntry × Unit {0}) (Result (String Global) Error)) (f : F) (e : StackEntry)
+    (said : Result (List ℕ) Error) : Type 0 where
+  pub answer : Result (String Global) Error
+  pub given : FnReturnsAt g f e answer
+  pub says : said ≡ answer_bytes answer
+
+-- `f` answered so of the entry, which is one of these.
+abbrev pub AnswersAmong : {F : Type 0} → Shared F (Bor StackEntry × Unit {0}) (Result (String Global) Error) → F → List StackEntry → StackEntry →
+    Result (List ℕ) Error → Type 0
+AnswersAmong g f entries e said = Contains entries e × Answers g f e said
+
+-- The whole is the text before with the lines behind it, each with what was answered of its entry when it was asked, or the first refusal.
+abbrev pub HasLines : (StackEntry → Result (List ℕ) Error → Type 0) → List ℕ → List Line → Result (List ℕ) Error → Type 0
+HasLines Answered before [] whole = whole ≡ Ok before
+HasLines Answered before (l ∷ ls) whole =
+    (said : Result (List ℕ) Error) × Answered l.entry said ×
+    MatchResult said (λ text. HasLines Answered ((before ++ l.prefix) ++ entry_text l.entry text) ls whole) (λ e. whole ≡ Err e)
+
+-- What a call answers and leaves that writes a text behind another: such a whole, or memory was refused.
+abbrev pub LeavesText : (Result (List ℕ) Error → Type 0) → Result (Unit {0}) Error → List ℕ → Type 0
+LeavesText Is (Ok done) now = Is (Ok now)
+LeavesText Is (Err e) now = Is (Err e) ⊎ (e ≡ Memory)
+
+-- What one answers that gives a text.
+abbrev pub GivesText : (Result (List ℕ) Error → Type 0) → Result (String Global) Error → Type 0
+GivesText Is (Ok text) = Is (Ok (string_bytes text))
+GivesText Is (Err e) = Is (Err e) ⊎ (e ≡ Memory)
+
+-- It is the text of the forest, in which each line has a text that `f` answered of its entry, or the first refusal of `f`, or memory was refused.
+abbrev pub IsForestText : {F : Type 0} → Shared F (Bor StackEntry × Unit {0}) (Result (String Global) Error) → F → List StackEntry → List (Option ℕ) →
+    Result (String Global) Error → Type 0
+IsForestText g f entries parents answer =
+    GivesText (HasLines (AnswersAmong g f entries) (codes "DFG forest\n") (forest_lines entries parents)) answer

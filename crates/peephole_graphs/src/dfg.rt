@@ -81,7 +81,7 @@ impl MiniDFG {
     ghost use Rattle.peephole_lang.specs.Term.{tree_at, term_of};
     ghost use Rattle.peephole_graphs.specs.Layout.{entry_nodes, layout_from, AreWritable};
     ghost use Rattle.peephole_graphs.specs.Dfg.{graph_of};
-    ghost use Rattle.peephole_graphs.specs.ForestText.{forest_text, default_text, IsText, CanTell, Tells};
+    ghost use Rattle.peephole_graphs.specs.ForestText.{forest_text, default_text, IsText, CanTell, Tells, IsForestText};
 
     // The graph of these parts.
     pub(crate) fn of_parts(
@@ -239,17 +239,21 @@ impl MiniDFG {
     }
 
     /// The text of the forest: the line `DFG forest`, and then the roots in ascending order, each with its tree. An entry's
-    /// line is a prefix that draws the tree, `(colour)(at operator_idx) `, and the text that `f` answers of it.
+    /// line is a prefix that draws the tree, `(colour)(at operator_idx) `, and a text that `f` answers of it.
     ///
-    /// Refused where `f` refuses, with the first refusal in the order of the lines, and for want of memory (`Memory`).
-    /// Condition: `f` may be called on each of the entries.
+    /// Refused where `f` refuses, with that refusal, the first in the order of the lines, and for want of memory (`Memory`);
+    /// for nothing else, also where `f` answers now this and now that of one entry. Condition: `f` may be called on each of
+    /// the entries.
     pub fn pretty_print<F: Fn(&StackEntry) -> Result<String, Error>>(
         &self,
         alloc: Global,
         f: F,
     ) -> Result<String, Error>
         requires { All (CanTell F.Fn f) (graph_of self.now).entries }
-        ensures { (said : StackEntry → Result (List ℕ) Error) → let g = graph_of self.now in
+        // Whatever `f` answers; and where it answers by a function of the entry.
+        ensures answered { let g = graph_of self.now in
+            IsForestText F.Fn f g.entries g.parents result }
+        ensures told { (said : StackEntry → Result (List ℕ) Error) → let g = graph_of self.now in
             All (Tells F.Fn f said) g.entries
             → IsText (forest_text said g.entries g.parents) result }
     {

@@ -1,13 +1,12 @@
 //! The text of a forest.
 
-ghost use Rattle.std.specs.Prelude.{◌≡◌, ◌<◌, ◌++◌, ℕ, [], List, Result, Option, length, map, OnOk, MatchResult, string_bytes};
+ghost use Rattle.std.specs.Prelude.{◌≡◌, ◌<◌, ◌++◌, [], length, map, OnOk, MatchResult, string_bytes};
 ghost use Rattle.std.specs.List.{All};
 ghost use Rattle.mutate_base.specs.declared.error.Error.{Error};
 ghost use Rattle.peephole_lang.specs.Term.{AreBelow};
 ghost use Rattle.peephole_lang.specs.Text.{text_of};
-ghost use Rattle.peephole_graphs.specs.declared.dfg.StackEntry.{StackEntry};
-ghost use Rattle.peephole_graphs.specs.ForestText.{branch, edge, entries_as_nodes, entry_term, tree_lines, forest_lines, with_entry, with_lines, forest_text, IsText, IsWritten, CanTell, Tells};
-ghost use Rattle.peephole_graphs.specs.ForestSteps.{has_some, edges};
+ghost use Rattle.peephole_graphs.specs.ForestText.{branch, edge, entries_as_nodes, entry_term, tree_lines, forest_lines, Answers, AnswersAmong, CanTell, HasLines, IsForestText, LeavesText};
+ghost use Rattle.peephole_graphs.specs.ForestSteps.{has_some, edges, HasEntry};
 
 use crate::dfg::StackEntry;
 use mutate_base::Error;
@@ -46,8 +45,7 @@ fn write_entry<F: Fn(&StackEntry) -> Result<String, Error>>(
     f: &F,
 ) -> Result<(), Error>
     requires { CanTell F.Fn f.now entry.now }
-    ensures { (said : StackEntry → Result (List ℕ) Error) → Tells F.Fn f.now said entry.now
-        → IsWritten (with_entry said (string_bytes text.old) entry.now)
+    ensures { LeavesText (HasEntry (Answers F.Fn f.now) (string_bytes text.old) entry.now)
         result (string_bytes text.new) }
 {
     let own = f(entry)?;
@@ -66,8 +64,7 @@ fn write_child<F: Fn(&StackEntry) -> Result<String, Error>>(
     f: &F,
 ) -> Result<(), Error>
     requires { CanTell F.Fn f.now entry.now }
-    ensures { (said : StackEntry → Result (List ℕ) Error) → Tells F.Fn f.now said entry.now
-        → IsWritten (with_entry said (string_bytes text.old
+    ensures { LeavesText (HasEntry (Answers F.Fn f.now) (string_bytes text.old
         ++ (edges (map (λ ids. ids.now) levels.now) ++ branch (has_some later.now))) entry.now)
         result (string_bytes text.new) }
 {
@@ -87,8 +84,7 @@ fn write_tree<F: Fn(&StackEntry) -> Result<String, Error>>(
     requires callable { All (CanTell F.Fn f.now) entries.now }
     requires root { root < length entries.now }
     requires below { AreBelow (entries_as_nodes entries.now) }
-    ensures { (said : StackEntry → Result (List ℕ) Error) → All (Tells F.Fn f.now said) entries.now
-        → IsWritten (with_lines said (string_bytes text.old)
+    ensures { LeavesText (HasLines (AnswersAmong F.Fn f.now entries.now) (string_bytes text.old)
         (tree_lines [] [] (entry_term entries.now root)))
         result (string_bytes text.new) }
 {
@@ -118,8 +114,8 @@ fn write_roots<F: Fn(&StackEntry) -> Result<String, Error>>(
     requires callable { All (CanTell F.Fn f.now) entries.now }
     requires below { AreBelow (entries_as_nodes entries.now) }
     requires paired { length parents.now ≡ length entries.now }
-    ensures { (said : StackEntry → Result (List ℕ) Error) → All (Tells F.Fn f.now said) entries.now
-        → IsWritten (with_lines said (string_bytes text.old) (forest_lines entries.now parents.now))
+    ensures { LeavesText (HasLines (AnswersAmong F.Fn f.now entries.now) (string_bytes text.old)
+        (forest_lines entries.now parents.now))
         result (string_bytes text.new) }
 {
     for index in 0..parents.len() {
@@ -131,7 +127,7 @@ fn write_roots<F: Fn(&StackEntry) -> Result<String, Error>>(
 }
 
 /// The text of the forest with these entries and parents, in which `f` tells the text of each entry. Refused where `f`
-/// refuses, with the first refusal, and for want of memory (`Memory`).
+/// refuses, with that refusal, and for want of memory (`Memory`).
 pub(crate) fn print_forest<F: Fn(&StackEntry) -> Result<String, Error>>(
     alloc: Global,
     entries: &[StackEntry],
@@ -141,8 +137,7 @@ pub(crate) fn print_forest<F: Fn(&StackEntry) -> Result<String, Error>>(
     requires callable { All (CanTell F.Fn f.now) entries.now }
     requires below { AreBelow (entries_as_nodes entries.now) }
     requires paired { length parents.now ≡ length entries.now }
-    ensures { (said : StackEntry → Result (List ℕ) Error) → All (Tells F.Fn f.now said) entries.now
-        → IsText (forest_text said entries.now parents.now) result }
+    ensures { IsForestText F.Fn f.now entries.now parents.now result }
 {
     let mut text = String::from_str(alloc, "DFG forest\n")?;
     write_roots(alloc, &mut text, entries, parents, f)?;

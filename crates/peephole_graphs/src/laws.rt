@@ -3,6 +3,7 @@
 ghost use Rattle.peephole_graphs.specs.Layout.{KeepsTheTerm};
 ghost use Rattle.peephole_graphs.specs.Shown.{ShowsTheForest, ShowsTheOrder, ShowsTheColor};
 ghost use Rattle.peephole_graphs.specs.Block.{FindsTheBlock, FindsNoBlock};
+ghost use Rattle.peephole_graphs.specs.Dfg.{KeepsItsBlock};
 ghost use Rattle.peephole_graphs.specs.EntryTrees.{EndsWithTheLastTree, HasOwnTree, IsEntryOperand, HasChildrenBefore};
 ghost use Rattle.peephole_graphs.specs.Faults.{HasNoFault, FindsNoGraph, FindsUnknown, FindsTooLarge};
 ghost use Rattle.peephole_graphs.specs.Forest.{DecidesTheOrder};
@@ -32,6 +33,11 @@ pub fn graph_shows_the_forest()
     ensures text { ShowsTheForest }
     ensures order { ShowsTheOrder }
     ensures color { ShowsTheColor }
+{}
+
+/// A copy of a block's graph, as `clone` makes it, is a graph of the same block.
+pub fn copies_keep_the_block()
+    ensures { KeepsItsBlock }
 {}
 
 /// The tree of an entry with an instruction is its operator over its children's trees (`own`), that of a missing operand is

@@ -1,19 +1,16 @@
 -- Two nodes are equal exactly where they are seen alike.
-use Rattle.std.proofs.Common.{◌≡◌, ℕ, true, length, refl, sym, ap, ◌∙◌}
+use Rattle.std.proofs.Common.{◌≡◌, true, length, sym, ap, ◌∙◌}
 use Rattle.std.specs.Bool.{Decides}
-use Rattle.std.specs.Global.{Vec}
 use Rattle.peephole_nodes.specs.contracts.payload.PayloadPartialEq.TheImpl as payload_eq
-use Rattle.peephole_nodes.specs.declared.id.Id.{Id}
 use Rattle.peephole_nodes.specs.declared.payload.Payload.{Payload}
-use Rattle.peephole_nodes.specs.declared.payload.Payload.TheVariants as payload
 use Rattle.peephole_nodes.specs.laws.ComparedLemmas.{equal_alike}
 use Rattle.peephole_nodes.specs.laws.PayloadLemmas.{same_payload, payload_itself}
 use Rattle.peephole_lang.specs.declared.lang.Head.{Head}
 use Rattle.peephole_lang.specs.declared.lang.Lang.{Lang}
-use Rattle.peephole_lang.specs.declared.lang.Lang.TheVariants.{Container, Call}
 use Rattle.peephole_lang.specs.laws.Again.{determined}
+use Rattle.peephole_lang.specs.laws.EqualLemmas.{equal_says}
 use Rattle.peephole_lang.specs.Compared.{lang_eq}
-use Rattle.peephole_lang.specs.Equal.{IsContainer, IsCall, IsEqual}
+use Rattle.peephole_lang.specs.Equal.{IsEqual}
 use Rattle.peephole_lang.specs.laws.Fits.{fits_own}
 use Rattle.peephole_lang.specs.Lang.{place_of, payload_of, ids_of}
 use Rattle.peephole_lang.specs.Language.{IsSame}
@@ -21,8 +18,8 @@ use Rattle.peephole_lang.specs.Node.{IsNode, head_of}
 use Rattle.peephole_nodes.specs.Variants.{fits}
 use Rattle.peephole_lang.specs.laws.NodeLemmas.{same_head}
 
-equal_says : (l m : Lang) → lang_eq l m ≡ true → IsSame head_of ids_of l m
-equal_says l m e =
+eq_says : (l m : Lang) → lang_eq l m ≡ true → IsSame head_of ids_of l m
+eq_says l m e =
     let a = (equal_alike place_of payload_of ids_of l m).0 e in
     (sym (same_head (place_of l) (place_of m) (payload_of l) (payload_of m) a.0 a.1), sym a.2)
 
@@ -34,33 +31,14 @@ same_equal l m s = (equal_alike place_of payload_of ids_of l m).1 (
 )
 
 pub equal_is_same : (l m : Lang) → Decides (lang_eq l m) (IsSame head_of ids_of l m)
-equal_is_same l m = (equal_says l m, same_equal l m)
+equal_is_same l m = (eq_says l m, same_equal l m)
 
 -- ---- equal nodes, but for how much memory a list of children keeps for more
 
-call_same : (p : ℕ) (children : Vec Id) (m : Lang) → IsCall p children.items m → IsSame head_of ids_of (Call p children) m
-unfolding place_of payload_of ids_of
-call_same p children (Call q given) e = (
-  sym (same_head 13 13 (payload.Index p) (payload.Index q) refl (ap (λ (k : ℕ). payload.Index k) e.0)),
-  sym e.1,
-)
-call_same p children _ e = absurd e
-
-container_same : (children : Vec Id) (m : Lang) → IsContainer children.items m → IsSame head_of ids_of (Container children) m
-unfolding place_of payload_of ids_of
-container_same children (Container given) e = (refl, sym e)
-container_same children _ e = absurd e
-
-equal_seen : (l m : Lang) → IsEqual l m → IsSame head_of ids_of l m
-unfolding IsEqual
-equal_seen (Container children) m e = container_same children m e
-equal_seen (Call p children) m e = call_same p children m e
-equal_seen l m e = (ap head_of (sym e), ap ids_of (sym e))
-
 pub equal_nodes : (l m : Lang) → Decides (lang_eq l m) (IsEqual l m)
 equal_nodes l m = (
-  λ e. let same = equal_says l m e in determined l m (sym same.0) (sym same.1),
-  λ e. same_equal l m (equal_seen l m e),
+  λ e. let same = eq_says l m e in determined l m (sym same.0) (sym same.1),
+  λ e. same_equal l m (equal_says l m e),
 )
 
 -- the test for equal payloads is true exactly where they are equal

@@ -18,5 +18,8 @@ with_only id w = slice_index_or w 0 id
 pub only_one : (c d : Id) → only c ≡ only d → c ≡ d
 only_one c d e = cc
 
+pub only_same : (c d : Id) → c ≡ d → only c ≡ only d
+only_same c d e = λ i. only (e i)
+
 pub only_written : (c : Id) (w : List Id) → length w ≡ length (only c) → only (with_only c w) ≡ w
 only_written c w e = one_written w c e

@@ -8,4 +8,5 @@ pub mod Fits
 pub mod MadeLemmas
 pub mod TextLemmas
 pub mod NodeLemmas
+pub mod EqualLemmas
 pub mod Again

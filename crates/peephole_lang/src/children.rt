@@ -8,7 +8,7 @@ ghost use Rattle.peephole_nodes.specs.declared.id.Id.{Id};
 ghost use Rattle.peephole_nodes.specs.declared.arity.Arity.TheVariants as arity;
 ghost use Rattle.peephole_lang.specs.Text.{wrong_count};
 ghost use Rattle.peephole_nodes.specs.Written.{any_written};
-ghost use Rattle.peephole_lang.specs.Children.{IsMadeOf, only, with_only, only_one, only_written};
+ghost use Rattle.peephole_lang.specs.Children.{IsMadeOf, only, with_only, only_one, only_same, only_written};
 
 use mutate_base::TermError;
 use peephole_nodes::Id;
@@ -46,6 +46,9 @@ pub trait Children: Drop {
     // the ids determine the value
     ghost determined: { (c d : Self) → ids c ≡ ids d → IsSame c d };
 
+    // and the value its ids
+    ghost same_ids: { (c d : Self) → IsSame c d → ids c ≡ ids d };
+
     // what is written are the ids
     ghost has_written: { (c : Self) (w : List Id) → length w ≡ length (ids c) → ids (with_ids c w) ≡ w };
 }
@@ -76,6 +79,8 @@ impl Children for Id {
 
     ghost determined = { only_one };
 
+    ghost same_ids = { only_same };
+
     ghost has_written = { only_written };
 }
 
@@ -105,6 +110,8 @@ impl<const N: usize> Children for [Id; N] {
 
     ghost determined = { λ c d e. e };
 
+    ghost same_ids = { λ c d e. e };
+
     ghost has_written = { λ c w e. refl };
 }
 
@@ -130,6 +137,8 @@ impl Children for Vec<Id> {
     }
 
     ghost determined = { λ c d e. e };
+
+    ghost same_ids = { λ c d e. e };
 
     ghost has_written = { any_written };
 }

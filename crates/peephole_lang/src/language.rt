@@ -38,7 +38,8 @@ pub trait Language: Display + Drop {
     // the node with these children in the place of its own
     ghost with_ids: { Self → List Id → Self };
 
-    // equal, but for how much memory a list keeps for more
+    // Equal, but for how much memory a list keeps for more. The laws tie it to what a node is and its children: how near it
+    // comes to one and the same value beyond these is for each kind of nodes to show.
     ghost IsEqual: { Self → Self → Type 0 };
 
     // its numbers are of their types, and it has as many children as it should
@@ -85,6 +86,9 @@ pub trait Language: Display + Drop {
 
     // what a node is and its children decide the node
     ghost determined: { (l m : Self) → head l ≡ head m → ids l ≡ ids m → IsEqual l m };
+
+    // equal nodes say the same, and have the same children
+    ghost equal_says: { (l m : Self) → IsEqual l m → IsSame head ids l m };
 
     // a node with other children says the same
     ghost keeps_head: { (l : Self) (w : List Id) → head (with_ids l w) ≡ head l };

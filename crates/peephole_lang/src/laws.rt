@@ -1,5 +1,5 @@
 //! What holds of nodes and their texts, for every caller.
-ghost use Rattle.std.specs.Prelude.{◌≡◌, ℕ, List, Bool, true, Some, IsSome, Ok, length};
+ghost use Rattle.std.specs.Prelude.{◌≡◌, ◌↔◌, ℕ, List, Bool, true, Some, IsSome, Ok, length};
 ghost use Rattle.std.specs.List.{Contains};
 ghost use Rattle.wasm_code.specs.Instruction.{Instruction};
 ghost use Rattle.peephole_nodes.specs.contracts.payload.PayloadPartialEq.TheImpl as payload_eq;
@@ -90,6 +90,11 @@ pub fn matching_are_same<L: Language>()
 /// Nodes that match and have equal children are equal, in every language.
 pub fn matching_are_equal<L: Language>()
     ensures { (l m : L) → L.matches l m ≡ true → L.ids l ≡ L.ids m → L.IsEqual l m }
+{}
+
+/// Nodes are equal exactly where they say the same and have the same children, in every language.
+pub fn equal_are_same<L: Language>()
+    ensures { (l m : L) → L.IsEqual l m ↔ IsSame L.head L.ids l m }
 {}
 
 /// A node whose children were written through `children_mut` matches what it was before, in every language.

@@ -1,6 +1,7 @@
 //! The nodes of `Lang` as a kind of nodes.
 ghost use Rattle.std.specs.Prelude.{◌≡◌, refl};
 ghost use Rattle.peephole_lang.specs.laws.Again.{determined};
+ghost use Rattle.peephole_lang.specs.laws.EqualLemmas.{equal_says};
 ghost use Rattle.peephole_lang.specs.Equal.{IsEqual};
 ghost use Rattle.peephole_lang.specs.Lang.{ids_of};
 ghost use Rattle.peephole_lang.specs.Text.{text_of, reads};
@@ -84,6 +85,8 @@ impl Language for Lang {
     ghost matches_equivalence = { matches_equivalence };
 
     ghost determined = { determined };
+
+    ghost equal_says = { equal_says };
 
     ghost keeps_head = { keeps_head };
 

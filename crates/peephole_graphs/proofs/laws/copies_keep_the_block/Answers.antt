@@ -1,0 +1,5 @@
+use Rattle.peephole_graphs.proofs.CopiedGraph.{copy_has_the_block}
+use Rattle.peephole_graphs.proofs.laws.copies_keep_the_block.Goals as goal
+
+pub returns : goal.returns
+returns c = copy_has_the_block
