@@ -14,8 +14,8 @@ use Rattle.wasm_sections.specs.declared.fault.ModuleError.{ModuleError}
 use Rattle.wasm_sections.specs.declared.fault.ModuleFault.{ModuleFault}
 use Rattle.wasm_sections.specs.declared.fault.ModuleFault.TheVariants as faults
 use Rattle.wasm_declarations.specs.Known.{Known, IsUnknown, IsKnown, SpellsKnown, IsKnownFault}
-use Rattle.wasm_declarations.specs.List.{Each, SpellsList, FailsList, ItemFails, StopsAt, IsListFault, fault_of}
-use Rattle.wasm_declarations.specs.Reader.{each_at, list_at, FailsBehind, StopsEach, StopsList, FailsWhole, Answers, StopsBy, RunsTo, error_at, IsUnknownBy, ReadsWhole, ReadsCut, ReadsKnown, FailsKnown}
+use Rattle.wasm_declarations.specs.List.{Each, SpellsList, FailsList, ItemFails, StopsAt, HasMore, IsListFault, fault_of}
+use Rattle.wasm_declarations.specs.Reader.{each_at, list_at, FailsBehind, StopsEach, StopsList, GoesOn, FailsWhole, Answers, StopsBy, RunsTo, error_at, IsUnknownBy, ReadsWhole, ReadsCut, ReadsKnown, FailsKnown}
 use Rattle.wasm_declarations.specs.declared.refusal.Refusal.{Refusal}
 use Rattle.wasm_declarations.specs.declared.refusal.Refusal.TheVariants as refusals
 
@@ -243,6 +243,9 @@ known_number Truncated text f u = u
 known_number UnknownOpcode text f u = f
 known_number BadInteger text f u = u
 known_number BadImmediate text f u = f
+
+abbrev error : ModuleFault → ℕ → ModuleError
+error kind offset = record { kind = kind; offset = offset }
 
 module _ {A : Type 0} {Spells : List ℕ → A → Type 0} {Fails : List ℕ → Cause → Type 0} {at : Reader A} (one : Exact Spells Fails at) where
   pub whole_spells : (text : List ℕ) (xs : List A) → list_at at text ≡ Ok (xs, []) → SpellsList Spells text xs
@@ -502,3 +505,74 @@ module _ {A : Type 0} {Spells : List ℕ → A → Type 0} {Fails : List ℕ →
       IfErr r (λ e. IsKnownFault Spells Fails start text e.kind e.offset)
   known_fault start text (Ok k) h = tt
   known_fault start text (Err e) h = known_fault_is start text e h
+
+  -- ---- what is spelled has no fault
+
+  stops_list : (start : ℕ) (text : List ℕ) (cause : Cause) (offset : ℕ) → ItemFails Spells Fails start text cause offset →
+      StopsList at start text cause offset
+  stops_list start text cause offset i = record {
+    number = i.number;
+    rest = i.front ++ i.back;
+    left = length i.back;
+    counts = ap (unsigned_at 32) i.parts ∙ (unsigned_exact 32).again i.count (i.front ++ i.back) i.number i.counts;
+    stops = record {
+      before = i.before;
+      items = i.items;
+      rest = i.back;
+      fewer = i.fewer;
+      reads = (each_exact one i.before).again i.front i.back i.items i.spelled;
+      fails = one.fails i.back cause i.fails;
+      is_left = refl;
+    };
+    is_at = omega (arith, i.at, ap length i.parts, length-append i.count (i.front ++ i.back), length-append i.front i.back);
+  }
+
+  stop_fails : (start : ℕ) (text : List ℕ) (cause : Cause) (offset : ℕ) → StopsAt Spells Fails start text cause offset →
+      FailsWhole at start text (error (fault_of cause) offset)
+  stop_fails start text cause offset (inl c) = inl (cause, refl, inl ((unsigned_exact 32).fails text cause c.fails, c.at))
+  stop_fails start text cause offset (inr i) = inl (cause, refl, inr (stops_list start text cause offset i))
+
+  list_goes_on : (start : ℕ) (text : List ℕ) (offset : ℕ) → HasMore Spells start text offset → GoesOn at start text offset
+  list_goes_on start text offset m = record {
+    items = m.items;
+    rest = m.first ∷ m.back;
+    reads = ap (list_at at) m.parts ∙ (list_exact one).again m.front (m.first ∷ m.back) m.items m.list;
+    some = omega arith;
+    is_at = omega (arith, m.at, ap length m.parts, length-append m.front (m.first ∷ m.back));
+  }
+
+  pub no_list_fault : (start : ℕ) (text : List ℕ) (xs : List A) → SpellsList Spells text xs → (fault : ModuleFault) (offset : ℕ) →
+      IsListFault Spells Fails start text fault offset → fault ≡ faults.Memory
+  no_list_fault start text xs s faults.Truncated offset f =
+      only_of start text xs (error faults.Truncated offset) (whole_reads text xs s) (stop_fails start text Truncated offset f)
+  no_list_fault start text xs s faults.BadInteger offset f =
+      only_of start text xs (error faults.BadInteger offset) (whole_reads text xs s) (stop_fails start text BadInteger offset f)
+  no_list_fault start text xs s faults.UnknownForm offset f =
+      only_of start text xs (error faults.UnknownForm offset) (whole_reads text xs s) (stop_fails start text BadImmediate offset f)
+  no_list_fault start text xs s faults.UnknownOpcode offset f =
+      only_of start text xs (error faults.UnknownOpcode offset) (whole_reads text xs s) (stop_fails start text UnknownOpcode offset f)
+  no_list_fault start text xs s faults.TrailingBytes offset f =
+      only_of start text xs (error faults.TrailingBytes offset) (whole_reads text xs s) (inr (inl (refl, list_goes_on start text offset f)))
+  no_list_fault start text xs s faults.Memory offset f = refl
+  no_list_fault start text xs s _ offset f = absurd f
+
+  stop_fails_known : (start : ℕ) (text : List ℕ) (cause : Cause) (offset : ℕ) → (IsUnknown cause → ⊥) → StopsAt Spells Fails start text cause offset →
+      FailsKnown at start text (error (fault_of cause) offset)
+  stop_fails_known start text cause offset known (inl c) = inl (cause, refl, (unsigned_exact 32).fails text cause c.fails, c.at)
+  stop_fails_known start text cause offset known (inr i) = inr (inl (cause, known, refl, stops_list start text cause offset i))
+
+  pub no_known_fault : (start : ℕ) (text : List ℕ) (k : Known A) → SpellsKnown Spells Fails start text k → (fault : ModuleFault) (offset : ℕ) →
+      IsKnownFault Spells Fails start text fault offset → fault ≡ faults.Memory
+  no_known_fault start text k s faults.Truncated offset f =
+      known_only_of start text k.count k.items k.unknown (error faults.Truncated offset) (known_reads start text k.count k.items k.unknown s)
+      (stop_fails_known start text Truncated offset (λ u. u) f)
+  no_known_fault start text k s faults.BadInteger offset f =
+      known_only_of start text k.count k.items k.unknown (error faults.BadInteger offset) (known_reads start text k.count k.items k.unknown s)
+      (stop_fails_known start text BadInteger offset (λ u. u) f)
+  no_known_fault start text k s faults.UnknownForm offset f = absurd f
+  no_known_fault start text k s faults.UnknownOpcode offset f = absurd f
+  no_known_fault start text k s faults.TrailingBytes offset f =
+      known_only_of start text k.count k.items k.unknown (error faults.TrailingBytes offset)
+      (known_reads start text k.count k.items k.unknown s) (inr (inr (inl (refl, list_goes_on start text offset f))))
+  no_known_fault start text k s faults.Memory offset f = refl
+  no_known_fault start text k s _ offset f = absurd f

@@ -7,11 +7,13 @@ ghost use Rattle.mutate_base.specs.declared.types.TypeInfo.{TypeInfo};
 ghost use Rattle.wasm_code.specs.Number.{SpellsUnsigned, FailsUnsigned};
 ghost use Rattle.wasm_code.specs.Reader.{unsigned_at};
 ghost use Rattle.wasm_code.specs.laws.GrammarLemmas.{Exact};
+ghost use Rattle.wasm_sections.specs.declared.fault.ModuleFault.{ModuleFault};
+ghost use Rattle.wasm_sections.specs.declared.fault.ModuleFault.TheVariants.{Memory};
 ghost use Rattle.wasm_declarations.specs.Entries.{SpellsEntries, SpellsSized, FailsSized};
 ghost use Rattle.wasm_declarations.specs.Globals.{SpellsGlobal, FailsGlobal};
 ghost use Rattle.wasm_declarations.specs.Imports.{SpellsImport, FailsImport};
-ghost use Rattle.wasm_declarations.specs.Known.{Known, SpellsKnown};
-ghost use Rattle.wasm_declarations.specs.List.{SpellsList, FailsList};
+ghost use Rattle.wasm_declarations.specs.Known.{Known, SpellsKnown, IsKnownFault};
+ghost use Rattle.wasm_declarations.specs.List.{SpellsList, FailsList, IsListFault};
 ghost use Rattle.wasm_declarations.specs.Locals.{SpellsLocals, SpellsGroup, FailsGroup};
 ghost use Rattle.wasm_declarations.specs.Reader.{list_at, function_type_at, import_at, table_type_at, memory_type_at, global_at, sized_at, group_at};
 ghost use Rattle.wasm_declarations.specs.Tables.{SpellsTableType, FailsTableType, SpellsMemoryType, FailsMemoryType};
@@ -46,6 +48,40 @@ pub fn one_list()
         (types others : List PrimitiveTypeInfo) (expression place : ℕ)
         → SpellsLocals params start text types expression
         → SpellsLocals params start text others place → (types ≡ others) × (expression ≡ place) }
+{
+    parts_are_read();
+}
+
+/// A text of which a list is known has no fault.
+pub fn lists_have_no_fault()
+    ensures types { (start : ℕ) (text : List ℕ) (known : Known TypeInfo)
+        → SpellsKnown SpellsFunctionType FailsFunctionType start text known
+        → (fault : ModuleFault) (offset : ℕ)
+        → IsKnownFault SpellsFunctionType FailsFunctionType start text fault offset
+        → fault ≡ Memory }
+    ensures imports { (start : ℕ) (text : List ℕ) (known : Known Import)
+        → SpellsKnown SpellsImport FailsImport start text known
+        → (fault : ModuleFault) (offset : ℕ)
+        → IsKnownFault SpellsImport FailsImport start text fault offset → fault ≡ Memory }
+    ensures functions { (start : ℕ) (text xs : List ℕ) → SpellsList (SpellsUnsigned 32) text xs
+        → (fault : ModuleFault) (offset : ℕ)
+        → IsListFault (SpellsUnsigned 32) (FailsUnsigned 32) start text fault offset
+        → fault ≡ Memory }
+    ensures tables { (start : ℕ) (text : List ℕ) (known : Known TableType)
+        → SpellsKnown SpellsTableType FailsTableType start text known
+        → (fault : ModuleFault) (offset : ℕ)
+        → IsKnownFault SpellsTableType FailsTableType start text fault offset → fault ≡ Memory }
+    ensures memories { (start : ℕ) (text : List ℕ) (known : Known MemoryType)
+        → SpellsKnown SpellsMemoryType FailsMemoryType start text known
+        → (fault : ModuleFault) (offset : ℕ)
+        → IsKnownFault SpellsMemoryType FailsMemoryType start text fault offset → fault ≡ Memory }
+    ensures globals { (start : ℕ) (text : List ℕ) (known : Known PrimitiveTypeInfo)
+        → SpellsKnown SpellsGlobal FailsGlobal start text known
+        → (fault : ModuleFault) (offset : ℕ)
+        → IsKnownFault SpellsGlobal FailsGlobal start text fault offset → fault ≡ Memory }
+    ensures entries { (start : ℕ) (text : List ℕ) (entries : List Entry)
+        → SpellsEntries start text entries → (fault : ModuleFault) (offset : ℕ)
+        → IsListFault SpellsSized FailsSized start text fault offset → fault ≡ Memory }
 {
     parts_are_read();
 }

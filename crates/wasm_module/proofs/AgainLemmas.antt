@@ -27,12 +27,12 @@ Parts = List (SectionId × List ℕ)
 
 -- ---- the code section stands behind the global one
 
-record IsBetween (before behind whole : List Section) (code : Section) (rest : List Section) : Type 0 where
+pub record IsBetween (before behind whole : List Section) (code : Section) (rest : List Section) : Type 0 where
   pub mid : List Section
   pub whole_is : whole ≡ before ++ mid
   pub behind_is : behind ≡ mid ++ code ∷ rest
 
-behind_section : (gb gr cb cr : List Section) (g code : Section) (last : ℕ) → AreInOrder last (gb ++ g ∷ gr) → gb ++ g ∷ gr ≡ cb ++ code ∷ cr →
+pub behind_section : (gb gr cb cr : List Section) (g code : Section) (last : ℕ) → AreInOrder last (gb ++ g ∷ gr) → gb ++ g ∷ gr ≡ cb ++ code ∷ cr →
     0 < rank_of g.id → rank_of g.id < rank_of code.id → IsBetween (gb ++ g ∷ []) gr cb code cr
 behind_section [] gr [] cr g code last o e some lt =
     let same = ap (λ (z : Section). rank_of z.id) (head_is g code gr cr e) in absurd (omega (arith, same))
@@ -53,7 +53,7 @@ behind_section (x ∷ gb) gr (y ∷ cb) cr g code last o e some lt =
       behind_is = b.behind_is;
     }
 
-behind_place : (pb pr cb cr : List Section) (code : Section) (rank : ℕ) → AreBefore rank pb → pb ++ pr ≡ cb ++ code ∷ cr → rank < rank_of code.id →
+pub behind_place : (pb pr cb cr : List Section) (code : Section) (rank : ℕ) → AreBefore rank pb → pb ++ pr ≡ cb ++ code ∷ cr → rank < rank_of code.id →
     IsBetween pb pr cb code cr
 behind_place [] pr cb cr code rank b e lt = record { mid = cb; whole_is = refl; behind_is = e }
 behind_place (x ∷ pb) pr [] cr code rank b e lt =
@@ -77,21 +77,37 @@ parts3 : (first mid second : List Piece) (g c : Piece) → parts (first ++ g ∷
 parts3 first mid second g c = parts-append first (g ∷ (mid ++ c ∷ second))
     ∙ ap (λ (l : Parts). parts first ++ part g ∷ l) (parts-append mid (c ∷ second))
 
-again : (bytes new : List ℕ) (from to start end : ℕ) (first mid second : List Piece) (old : List ℕ) (x : Piece) (gc c : List ℕ) (s1 s2 s3 : List Section) →
+-- the pieces spell the new bytes
+pub record AreNew (new : List ℕ) (all : List Piece) : Type 0 where
+  pub spelled : new ≡ preamble ++ joined all
+  pub whole : AreWhole all
+
+new_pieces : (bytes new : List ℕ) (from to start end : ℕ) (first mid second : List Piece) (old : List ℕ) (x : Piece) (gc c : List ℕ) →
     IsCutTwice bytes from to start end first mid second old x → AreWhole (first ++ written ids.Global gc ∷ (mid ++ x ∷ second)) → x.id ≡ ids.Code
-    → SpellsUnsigned 32 (shortest (length c)) (length c) → s1 ≡ all_placed 8 first → s2 ≡ all_placed to mid → s3 ≡ all_placed end second
+    → SpellsUnsigned 32 (shortest (length c)) (length c)
     → new ≡ take from bytes ++ section_code ids.Global gc ++ slice_range bytes to start ++ section_code ids.Code c ++ drop end bytes
-    → SpellsParts new ((parts_of bytes s1 ++ (ids.Global, gc) ∷ parts_of bytes s2) ++ (ids.Code, c) ∷ parts_of bytes s3)
-again bytes new from to start end first mid second old x gc c s1 s2 s3 p whole id counts e1 e2 e3 e =
+    → AreNew new (first ++ written ids.Global gc ∷ (mid ++ written ids.Code c ∷ second))
+new_pieces bytes new from to start end first mid second old x gc c p whole id counts e =
     let g = written ids.Global gc in
     let y = written ids.Code c in
-    let all = first ++ g ∷ (mid ++ y ∷ second) in
     let near = subst AreWhole (sym (append_assoc first (g ∷ mid) (x ∷ second))) whole in
     let other : x.id ≡ ids.Custom → ⊥ = λ custom. absurd (cc (id, custom)) in
     let swap = swapped (first ++ g ∷ mid) second x c other counts near in
     let done = subst (λ (i : SectionId). AreWhole ((first ++ g ∷ mid) ++ written i c ∷ second)) id swap in
-    let all_whole : AreWhole all = subst AreWhole (append_assoc first (g ∷ mid) (y ∷ second)) done in
-    let is = spell all new (e ∙ rejoined bytes from to start end first mid second old x g y p) all_whole in
+    record {
+      spelled = e ∙ rejoined bytes from to start end first mid second old x g y p;
+      whole = subst AreWhole (append_assoc first (g ∷ mid) (y ∷ second)) done;
+    }
+
+again : (bytes new : List ℕ) (from to start end : ℕ) (first mid second : List Piece) (old : List ℕ) (x : Piece) (gc c : List ℕ) (s1 s2 s3 : List Section) →
+    IsCutTwice bytes from to start end first mid second old x → AreNew new (first ++ written ids.Global gc ∷ (mid ++ written ids.Code c ∷ second))
+    → s1 ≡ all_placed 8 first → s2 ≡ all_placed to mid → s3 ≡ all_placed end second
+    → SpellsParts new ((parts_of bytes s1 ++ (ids.Global, gc) ∷ parts_of bytes s2) ++ (ids.Code, c) ∷ parts_of bytes s3)
+again bytes new from to start end first mid second old x gc c s1 s2 s3 p a e1 e2 e3 =
+    let g = written ids.Global gc in
+    let y = written ids.Code c in
+    let all = first ++ g ∷ (mid ++ y ∷ second) in
+    let is = spell all new a.spelled a.whole in
     let front = preamble ++ joined first in
     let one : parts_of bytes s1 ≡ parts first = ap (parts_of bytes) e1
     ∙ parts_are first 8 bytes preamble (old ++ (joined mid ++ (code_of x ++ joined second)))
@@ -124,7 +140,7 @@ again bytes new from to start end first mid second old x gc c s1 s2 s3 p whole i
 
 -- ---- the three ways to write the bytes before the code
 
-abbrev Short : Type 0
+abbrev pub Short : Type 0
 Short = (k : ℕ) → k < 2 ^ 32 → SpellsUnsigned 32 (shortest k) k
 
 two_joined : (first mid second : List Piece) (x : Piece) → joined (first ++ (mid ++ x ∷ second)) ≡ joined first ++ (joined mid ++ (code_of x ++ joined second))
@@ -166,68 +182,100 @@ alone bytes info layout n contents new short m r =
       spells = subst (λ (b : List ℕ). SpellsParts b (parts_of bytes cb ++ (ids.Code, c) ∷ parts_of bytes cr)) (sym e) (subst P r.code_is.has is);
     }
 
--- the global section grows
-grows_at : (bytes : List ℕ) (layout : Layout) (n : ℕ) (contents : List ℕ) (t : PrimitiveTypeInfo) (ts : List PrimitiveTypeInfo) (new : List ℕ) → Short →
-    (r : IsRewritten bytes layout n contents (t ∷ ts) new) (g : GrowsGlobals bytes layout (t ∷ ts) r.code.start r.front)
-    (b : IsBetween (g.is.before ++ g.section ∷ []) g.is.behind r.code_is.before r.code r.code_is.behind) (v : IsModuleView bytes layout.sections)
-    (a : IsSplit g.is.before (b.mid ++ r.code ∷ r.code_is.behind) g.section 8 v.pieces)
-    (d : IsSplit b.mid r.code_is.behind r.code (end_at (8 + length (joined a.first)) a.x) a.second) → AreSectionsAgain bytes layout n contents (t ∷ ts) new
-grows_at bytes layout n contents t ts new short r g b v a d =
-    let cb = r.code_is.before in
-    let cr = r.code_is.behind in
-    let c = code_with bytes r.code r.entry contents in
-    let gb = g.is.before in
-    let s = g.section in
-    let from : ℕ = 8 + length (joined a.first) in
-    let pieces : v.pieces ≡ a.first ++ a.x ∷ (d.first ++ d.x ∷ d.second) = a.parts ∙ ap (λ (l : List Piece). a.first ++ a.x ∷ l) d.parts in
-    let old : AreWhole v.pieces = record { counted = v.counted; sorted = v.sorted; final = v.final } in
-    let whole = subst AreWhole pieces old in
-    let gid : a.x.id ≡ ids.Global = sym (ap (λ (z : Section). z.id) a.is) ∙ g.is.has in
-    let cid : d.x.id ≡ ids.Code = sym (ap (λ (z : Section). z.id) d.is) ∙ r.code_is.has in
-    let other : a.x.id ≡ ids.Custom → ⊥ = λ custom. absurd (cc (gid, custom)) in
-    let swap = swapped a.first (d.first ++ d.x ∷ d.second) a.x g.contents other (short (length g.contents) g.sized) whole in
-    let swap_is = subst (λ (i : SectionId). AreWhole (a.first ++ written i g.contents ∷ (d.first ++ d.x ∷ d.second))) gid swap in
-    let gstart : s.start ≡ from = ap (λ (z : Section). z.start) a.is in
-    let gend : s.end ≡ end_at from a.x = ap (λ (z : Section). z.end) a.is in
-    let cstart : r.code.start ≡ end_at from a.x + length (joined d.first) = ap (λ (z : Section). z.start) d.is in
-    let cend : r.code.end ≡ end_at (end_at from a.x + length (joined d.first)) d.x = ap (λ (z : Section). z.end) d.is in
-    let place : IsCutTwice bytes s.start s.end r.code.start r.code.end a.first d.first d.second (code_of a.x) d.x = record {
-      bytes_are = joined_pieces a.first d.first d.second (code_of a.x) d.x bytes (v.bytes_are
-          ∙ ap (λ (l : List Piece). preamble ++ joined l) pieces ∙ ap (λ (l : List ℕ). preamble ++ l) (three_joined a.first d.first d.second a.x d.x));
-      from_is = gstart;
-      to_is = omega (arith, gstart, gend, length-code a.x);
-      start_is = omega (arith, cstart, gend);
-      end_is = omega (arith, cstart, cend, length-code d.x);
-    } in
-    let e = r.new_is ∙ ap (λ (l : List ℕ). l ++ section_code ids.Code c ++ drop r.code.end bytes) g.front_is in
-    record {
-      before = cb;
-      code = r.code;
-      behind = cr;
-      sections_are = r.code_is.parts;
-      is = r.code_is.has;
-      entry = r.entry;
-      entry_is = r.entry_is;
-      front = parts_of bytes gb ++ (ids.Global, g.contents) ∷ parts_of bytes b.mid;
-      front_is = inl (record {
-        before = gb;
-        section = s;
-        behind = b.mid;
-        sections_are = b.whole_is ∙ append_assoc gb (s ∷ []) b.mid;
-        is = g.is.has;
-        contents = g.contents;
-        grown = g.grown;
-        parts_are = refl;
-      });
-      spells = again bytes new s.start s.end r.code.start r.code.end a.first d.first d.second (code_of a.x) d.x g.contents c gb b.mid cr place swap_is cid
-          (short (length c) r.code_sized) a.before_are (d.before_are ∙ ap (λ (k : ℕ). all_placed k d.first) (sym gend))
-          (d.behind_are ∙ ap (λ (k : ℕ). all_placed k d.second) (sym cend)) e;
-    }
+-- the global section grows: how the old pieces are cut at it, and at the code section
+pub record Growth (bytes : List ℕ) (layout : Layout) (n : ℕ) (contents : List ℕ) (t : PrimitiveTypeInfo) (ts : List PrimitiveTypeInfo)
+    (new : List ℕ) : Type 0 where
+  pub r : IsRewritten bytes layout n contents (t ∷ ts) new
+  pub g : GrowsGlobals bytes layout (t ∷ ts) r.code.start r.front
+  -- the sections between the two
+  pub b : IsBetween (g.is.before ++ g.section ∷ []) g.is.behind r.code_is.before r.code r.code_is.behind
+  pub v : IsModuleView bytes layout.sections
+  pub a : IsSplit g.is.before (b.mid ++ r.code ∷ r.code_is.behind) g.section 8 v.pieces
+  pub d : IsSplit b.mid r.code_is.behind r.code (end_at (8 + length (joined a.first)) a.x) a.second
 
-grows : (bytes : List ℕ) (info : Module) (layout : Layout) (n : ℕ) (contents : List ℕ) (t : PrimitiveTypeInfo) (ts : List PrimitiveTypeInfo) (new : List ℕ) →
-    Short → IsModule bytes info layout → (r : IsRewritten bytes layout n contents (t ∷ ts) new)
-    → GrowsGlobals bytes layout (t ∷ ts) r.code.start r.front → AreSectionsAgain bytes layout n contents (t ∷ ts) new
-grows bytes info layout n contents t ts new short m r g =
+module _ (bytes : List ℕ) (layout : Layout) (n : ℕ) (contents : List ℕ) (t : PrimitiveTypeInfo) (ts : List PrimitiveTypeInfo) (new : List ℕ)
+    (k : Growth bytes layout n contents t ts new) where
+  pub growth_pieces : k.v.pieces ≡ k.a.first ++ k.a.x ∷ (k.d.first ++ k.d.x ∷ k.d.second)
+  growth_pieces = k.a.parts ∙ ap (λ (l : List Piece). k.a.first ++ k.a.x ∷ l) k.d.parts
+
+  pub growth_global : k.a.x.id ≡ ids.Global
+  growth_global = sym (ap (λ (z : Section). z.id) k.a.is) ∙ k.g.is.has
+
+  pub growth_code : k.d.x.id ≡ ids.Code
+  growth_code = sym (ap (λ (z : Section). z.id) k.d.is) ∙ k.r.code_is.has
+
+  growth_place : IsCutTwice bytes k.g.section.start k.g.section.end k.r.code.start k.r.code.end k.a.first k.d.first k.d.second (code_of k.a.x) k.d.x
+  growth_place =
+      let a = k.a in
+      let d = k.d in
+      let from : ℕ = 8 + length (joined a.first) in
+      let gstart : k.g.section.start ≡ from = ap (λ (z : Section). z.start) a.is in
+      let gend : k.g.section.end ≡ end_at from a.x = ap (λ (z : Section). z.end) a.is in
+      let cstart : k.r.code.start ≡ end_at from a.x + length (joined d.first) = ap (λ (z : Section). z.start) d.is in
+      let cend : k.r.code.end ≡ end_at (end_at from a.x + length (joined d.first)) d.x = ap (λ (z : Section). z.end) d.is in
+      record {
+        bytes_are = joined_pieces a.first d.first d.second (code_of a.x) d.x bytes (k.v.bytes_are
+            ∙ ap (λ (l : List Piece). preamble ++ joined l) growth_pieces
+            ∙ ap (λ (l : List ℕ). preamble ++ l) (three_joined a.first d.first d.second a.x d.x));
+        from_is = gstart;
+        to_is = omega (arith, gstart, gend, length-code a.x);
+        start_is = omega (arith, cstart, gend);
+        end_is = omega (arith, cstart, cend, length-code d.x);
+      }
+
+  pub growth_new : Short → AreNew new (k.a.first ++ written ids.Global k.g.contents ∷
+      (k.d.first ++ written ids.Code (code_with bytes k.r.code k.r.entry contents) ∷ k.d.second))
+  growth_new short =
+      let r = k.r in
+      let a = k.a in
+      let d = k.d in
+      let c = code_with bytes r.code r.entry contents in
+      let old : AreWhole k.v.pieces = record { counted = k.v.counted; sorted = k.v.sorted; final = k.v.final } in
+      let whole = subst AreWhole growth_pieces old in
+      let other : a.x.id ≡ ids.Custom → ⊥ = λ custom. absurd (cc (growth_global, custom)) in
+      let swap = swapped a.first (d.first ++ d.x ∷ d.second) a.x k.g.contents other (short (length k.g.contents) k.g.sized) whole in
+      let swap_is = subst (λ (i : SectionId). AreWhole (a.first ++ written i k.g.contents ∷ (d.first ++ d.x ∷ d.second))) growth_global swap in
+      let e = r.new_is ∙ ap (λ (l : List ℕ). l ++ section_code ids.Code c ++ drop r.code.end bytes) k.g.front_is in
+      new_pieces bytes new k.g.section.start k.g.section.end r.code.start r.code.end a.first d.first d.second (code_of a.x) d.x k.g.contents c growth_place
+      swap_is growth_code (short (length c) r.code_sized) e
+
+  grows_at : Short → AreSectionsAgain bytes layout n contents (t ∷ ts) new
+  grows_at short =
+      let r = k.r in
+      let g = k.g in
+      let c = code_with bytes r.code r.entry contents in
+      let gend : g.section.end ≡ end_at (8 + length (joined k.a.first)) k.a.x = ap (λ (z : Section). z.end) k.a.is in
+      let cend : r.code.end ≡ end_at (end_at (8 + length (joined k.a.first)) k.a.x + length (joined k.d.first)) k.d.x =
+      ap (λ (z : Section). z.end) k.d.is in
+      record {
+        before = r.code_is.before;
+        code = r.code;
+        behind = r.code_is.behind;
+        sections_are = r.code_is.parts;
+        is = r.code_is.has;
+        entry = r.entry;
+        entry_is = r.entry_is;
+        front = parts_of bytes g.is.before ++ (ids.Global, g.contents) ∷ parts_of bytes k.b.mid;
+        front_is = inl (record {
+          before = g.is.before;
+          section = g.section;
+          behind = k.b.mid;
+          sections_are = k.b.whole_is ∙ append_assoc g.is.before (g.section ∷ []) k.b.mid;
+          is = g.is.has;
+          contents = g.contents;
+          grown = g.grown;
+          parts_are = refl;
+        });
+        spells = again bytes new g.section.start g.section.end r.code.start r.code.end k.a.first k.d.first k.d.second (code_of k.a.x) k.d.x g.contents c
+            g.is.before k.b.mid r.code_is.behind growth_place (growth_new short) k.a.before_are
+            (k.d.before_are ∙ ap (λ (m : ℕ). all_placed m k.d.first) (sym gend))
+            (k.d.behind_are ∙ ap (λ (m : ℕ). all_placed m k.d.second) (sym cend));
+      }
+
+abbrev pub growth : (bytes : List ℕ) (info : Module) (layout : Layout) (n : ℕ) (contents : List ℕ) (t : PrimitiveTypeInfo) (ts : List PrimitiveTypeInfo)
+    (new : List ℕ) → IsModule bytes info layout → (r : IsRewritten bytes layout n contents (t ∷ ts) new)
+    → GrowsGlobals bytes layout (t ∷ ts) r.code.start r.front → Growth bytes layout n contents t ts new
+growth bytes info layout n contents t ts new m r g =
     let cb = r.code_is.before in
     let cr = r.code_is.behind in
     let gb = g.is.before in
@@ -240,60 +288,93 @@ grows bytes info layout n contents t ts new short m r g =
     let a = split gb (b.mid ++ r.code ∷ cr) s 8 v.pieces
     (sym (g.is.parts ∙ ap (λ (l : List Section). gb ++ s ∷ l) b.behind_is) ∙ v.are) in
     let d = split b.mid cr r.code (end_at (8 + length (joined a.first)) a.x) a.second a.behind_are in
-    grows_at bytes layout n contents t ts new short r g b v a d
+    record { r = r; g = g; b = b; v = v; a = a; d = d }
 
--- a global section stands between the others
-adds_at : (bytes : List ℕ) (layout : Layout) (n : ℕ) (contents : List ℕ) (t : PrimitiveTypeInfo) (ts : List PrimitiveTypeInfo) (new : List ℕ) → Short →
-    (r : IsRewritten bytes layout n contents (t ∷ ts) new) (g : AddsGlobals bytes layout (t ∷ ts) r.code.start r.front)
-    (b : IsBetween g.is.before g.is.behind r.code_is.before r.code r.code_is.behind) (v : IsModuleView bytes layout.sections)
-    (a : IsCut g.is.before (b.mid ++ r.code ∷ r.code_is.behind) 8 v.pieces)
-    (d : IsSplit b.mid r.code_is.behind r.code (8 + length (joined a.first)) a.second) → AreSectionsAgain bytes layout n contents (t ∷ ts) new
-adds_at bytes layout n contents t ts new short r g b v a d =
-    let cb = r.code_is.before in
-    let cr = r.code_is.behind in
-    let c = code_with bytes r.code r.entry contents in
-    let gc = new_globals (t ∷ ts) in
-    let p = g.is in
-    let from : ℕ = 8 + length (joined a.first) in
-    let pieces : v.pieces ≡ a.first ++ (d.first ++ d.x ∷ d.second) = a.parts ∙ ap (λ (l : List Piece). a.first ++ l) d.parts in
-    let old : AreWhole v.pieces = record { counted = v.counted; sorted = v.sorted; final = v.final } in
-    let whole = subst AreWhole pieces old in
-    let cid : d.x.id ≡ ids.Code = sym (ap (λ (z : Section). z.id) d.is) ∙ r.code_is.has in
-    let behind_are : p.behind ≡ all_placed from (d.first ++ d.x ∷ d.second) = b.behind_is ∙ a.behind_are
-    ∙ ap (all_placed from) d.parts in
-    let insert = inserted a.first (d.first ++ d.x ∷ d.second) ids.Global gc from (λ custom. absurd cc) (short (length gc) g.sized)
-    (subst (AreBefore (rank_of ids.Global)) a.before_are p.smaller) (subst (AreBehind (rank_of ids.Global)) behind_are p.greater) whole in
-    let place_is : g.place ≡ from = p.at ∙ ap (end_of 8) a.before_are ∙ ends_at a.first 8 in
-    let cstart : r.code.start ≡ from + length (joined d.first) = ap (λ (z : Section). z.start) d.is in
-    let cend : r.code.end ≡ end_at (from + length (joined d.first)) d.x = ap (λ (z : Section). z.end) d.is in
-    let place : IsCutTwice bytes g.place g.place r.code.start r.code.end a.first d.first d.second [] d.x = record {
-      bytes_are = joined_pieces a.first d.first d.second [] d.x bytes (v.bytes_are
-          ∙ ap (λ (l : List Piece). preamble ++ joined l) pieces ∙ ap (λ (l : List ℕ). preamble ++ l) (two_joined a.first d.first d.second d.x));
-      from_is = place_is;
-      to_is = omega arith;
-      start_is = omega (arith, cstart, place_is);
-      end_is = omega (arith, cstart, cend, length-code d.x);
-    } in
-    let e = r.new_is ∙ ap (λ (l : List ℕ). l ++ section_code ids.Code c ++ drop r.code.end bytes) g.front_is in
-    record {
-      before = cb;
-      code = r.code;
-      behind = cr;
-      sections_are = r.code_is.parts;
-      is = r.code_is.has;
-      entry = r.entry;
-      entry_is = r.entry_is;
-      front = parts_of bytes p.before ++ (ids.Global, gc) ∷ parts_of bytes b.mid;
-      front_is = inr (record { before = p.before; behind = b.mid; sections_are = b.whole_is; parts_are = refl });
-      spells = again bytes new g.place g.place r.code.start r.code.end a.first d.first d.second [] d.x gc c p.before b.mid cr place insert cid
-          (short (length c) r.code_sized) a.before_are (d.before_are ∙ ap (λ (k : ℕ). all_placed k d.first) (sym place_is))
-          (d.behind_are ∙ ap (λ (k : ℕ). all_placed k d.second) (sym cend)) e;
-    }
+-- a global section stands between the others: how the old pieces are cut at its place, and at the code section
+pub record Addition (bytes : List ℕ) (layout : Layout) (n : ℕ) (contents : List ℕ) (t : PrimitiveTypeInfo) (ts : List PrimitiveTypeInfo)
+    (new : List ℕ) : Type 0 where
+  pub r : IsRewritten bytes layout n contents (t ∷ ts) new
+  pub g : AddsGlobals bytes layout (t ∷ ts) r.code.start r.front
+  -- the sections between the place and the code
+  pub b : IsBetween g.is.before g.is.behind r.code_is.before r.code r.code_is.behind
+  pub v : IsModuleView bytes layout.sections
+  pub a : IsCut g.is.before (b.mid ++ r.code ∷ r.code_is.behind) 8 v.pieces
+  pub d : IsSplit b.mid r.code_is.behind r.code (8 + length (joined a.first)) a.second
 
-adds : (bytes : List ℕ) (info : Module) (layout : Layout) (n : ℕ) (contents : List ℕ) (t : PrimitiveTypeInfo) (ts : List PrimitiveTypeInfo) (new : List ℕ) →
-    Short → IsModule bytes info layout → (r : IsRewritten bytes layout n contents (t ∷ ts) new)
-    → AddsGlobals bytes layout (t ∷ ts) r.code.start r.front → AreSectionsAgain bytes layout n contents (t ∷ ts) new
-adds bytes info layout n contents t ts new short m r g =
+module _ (bytes : List ℕ) (layout : Layout) (n : ℕ) (contents : List ℕ) (t : PrimitiveTypeInfo) (ts : List PrimitiveTypeInfo) (new : List ℕ)
+    (k : Addition bytes layout n contents t ts new) where
+  pub addition_pieces : k.v.pieces ≡ k.a.first ++ (k.d.first ++ k.d.x ∷ k.d.second)
+  addition_pieces = k.a.parts ∙ ap (λ (l : List Piece). k.a.first ++ l) k.d.parts
+
+  pub addition_code : k.d.x.id ≡ ids.Code
+  addition_code = sym (ap (λ (z : Section). z.id) k.d.is) ∙ k.r.code_is.has
+
+  place_is : k.g.place ≡ 8 + length (joined k.a.first)
+  place_is = k.g.is.at ∙ ap (end_of 8) k.a.before_are ∙ ends_at k.a.first 8
+
+  addition_place : IsCutTwice bytes k.g.place k.g.place k.r.code.start k.r.code.end k.a.first k.d.first k.d.second [] k.d.x
+  addition_place =
+      let a = k.a in
+      let d = k.d in
+      let from : ℕ = 8 + length (joined a.first) in
+      let at : k.g.place ≡ from = place_is in
+      let cstart : k.r.code.start ≡ from + length (joined d.first) = ap (λ (z : Section). z.start) d.is in
+      let cend : k.r.code.end ≡ end_at (from + length (joined d.first)) d.x = ap (λ (z : Section). z.end) d.is in
+      record {
+        bytes_are = joined_pieces a.first d.first d.second [] d.x bytes (k.v.bytes_are
+            ∙ ap (λ (l : List Piece). preamble ++ joined l) addition_pieces
+            ∙ ap (λ (l : List ℕ). preamble ++ l) (two_joined a.first d.first d.second d.x));
+        from_is = at;
+        to_is = omega arith;
+        start_is = omega (arith, cstart, at);
+        end_is = omega (arith, cstart, cend, length-code d.x);
+      }
+
+  pub addition_new : Short → AreNew new (k.a.first ++ written ids.Global (new_globals (t ∷ ts)) ∷
+      (k.d.first ++ written ids.Code (code_with bytes k.r.code k.r.entry contents) ∷ k.d.second))
+  addition_new short =
+      let r = k.r in
+      let a = k.a in
+      let d = k.d in
+      let c = code_with bytes r.code r.entry contents in
+      let gc = new_globals (t ∷ ts) in
+      let from : ℕ = 8 + length (joined a.first) in
+      let old : AreWhole k.v.pieces = record { counted = k.v.counted; sorted = k.v.sorted; final = k.v.final } in
+      let whole = subst AreWhole addition_pieces old in
+      let behind_are : k.g.is.behind ≡ all_placed from (d.first ++ d.x ∷ d.second) = k.b.behind_is ∙ a.behind_are
+      ∙ ap (all_placed from) d.parts in
+      let insert = inserted a.first (d.first ++ d.x ∷ d.second) ids.Global gc from (λ custom. absurd cc) (short (length gc) k.g.sized)
+      (subst (AreBefore (rank_of ids.Global)) a.before_are k.g.is.smaller) (subst (AreBehind (rank_of ids.Global)) behind_are k.g.is.greater) whole in
+      let e = r.new_is ∙ ap (λ (l : List ℕ). l ++ section_code ids.Code c ++ drop r.code.end bytes) k.g.front_is in
+      new_pieces bytes new k.g.place k.g.place r.code.start r.code.end a.first d.first d.second [] d.x gc c addition_place insert addition_code
+      (short (length c) r.code_sized) e
+
+  adds_at : Short → AreSectionsAgain bytes layout n contents (t ∷ ts) new
+  adds_at short =
+      let r = k.r in
+      let c = code_with bytes r.code r.entry contents in
+      let gc = new_globals (t ∷ ts) in
+      let cend : r.code.end ≡ end_at (8 + length (joined k.a.first) + length (joined k.d.first)) k.d.x = ap (λ (z : Section). z.end) k.d.is in
+      record {
+        before = r.code_is.before;
+        code = r.code;
+        behind = r.code_is.behind;
+        sections_are = r.code_is.parts;
+        is = r.code_is.has;
+        entry = r.entry;
+        entry_is = r.entry_is;
+        front = parts_of bytes k.g.is.before ++ (ids.Global, gc) ∷ parts_of bytes k.b.mid;
+        front_is = inr (record { before = k.g.is.before; behind = k.b.mid; sections_are = k.b.whole_is; parts_are = refl });
+        spells = again bytes new k.g.place k.g.place r.code.start r.code.end k.a.first k.d.first k.d.second [] k.d.x gc c k.g.is.before k.b.mid
+            r.code_is.behind addition_place (addition_new short) k.a.before_are
+            (k.d.before_are ∙ ap (λ (m : ℕ). all_placed m k.d.first) (sym place_is))
+            (k.d.behind_are ∙ ap (λ (m : ℕ). all_placed m k.d.second) (sym cend));
+      }
+
+abbrev pub addition : (bytes : List ℕ) (info : Module) (layout : Layout) (n : ℕ) (contents : List ℕ) (t : PrimitiveTypeInfo) (ts : List PrimitiveTypeInfo)
+    (new : List ℕ) → IsModule bytes info layout → (r : IsRewritten bytes layout n contents (t ∷ ts) new)
+    → AddsGlobals bytes layout (t ∷ ts) r.code.start r.front → Addition bytes layout n contents t ts new
+addition bytes info layout n contents t ts new m r g =
     let cb = r.code_is.before in
     let cr = r.code_is.behind in
     let p = g.is in
@@ -303,10 +384,13 @@ adds bytes info layout n contents t ts new short m r g =
     let a = cut p.before (b.mid ++ r.code ∷ cr) 8 v.pieces
     (sym (p.parts ∙ ap (λ (l : List Section). p.before ++ l) b.behind_is) ∙ v.are) in
     let d = split b.mid cr r.code (8 + length (joined a.first)) a.second a.behind_are in
-    adds_at bytes layout n contents t ts new short r g b v a d
+    record { r = r; g = g; b = b; v = v; a = a; d = d }
 
 pub module_again : (bytes : List ℕ) (info : Module) (layout : Layout) (n : ℕ) (contents : List ℕ) (more : List PrimitiveTypeInfo) (new : List ℕ) → Short →
     IsModule bytes info layout → IsRewritten bytes layout n contents more new → AreSectionsAgain bytes layout n contents more new
 module_again bytes info layout n contents [] new short m r = alone bytes info layout n contents new short m r
 module_again bytes info layout n contents (t ∷ ts) new short m r =
-    elim r.front_is [ inl g ↦ grows bytes info layout n contents t ts new short m r g | inr g ↦ adds bytes info layout n contents t ts new short m r g ]
+    elim r.front_is [
+      | inl g ↦ grows_at bytes layout n contents t ts new (growth bytes info layout n contents t ts new m r g) short
+      | inr g ↦ adds_at bytes layout n contents t ts new (addition bytes info layout n contents t ts new m r g) short
+    ]

@@ -1,4 +1,8 @@
+pub mod FaultLemmas
+pub mod BodyLemmas
+pub mod HeldLemmas
 pub mod FindLemmas
+pub mod NewGlobalLemmas
 pub mod InsideLemmas
 pub mod CountLemmas
 pub mod ModuleLemmas
@@ -6,6 +10,8 @@ pub mod RoomLemmas
 pub mod RewrittenLemmas
 pub mod PieceLemmas
 pub mod AgainLemmas
+pub mod AgainPieces
+pub mod RereadLemmas
 pub mod OneLemmas
 pub mod ListedLemmas
 pub mod SizeLemmas

@@ -7,3 +7,4 @@ pub mod Contents
 pub mod Lists
 pub mod Room
 pub mod Again
+pub mod Reread

@@ -26,6 +26,13 @@ pub fn one_fault()
         → (one ≡ other) × (at ≡ to) }
 {}
 
+/// The bytes of a module have no fault.
+pub fn modules_have_no_section_fault()
+    ensures { (bytes : List ℕ) (sections : List Section) → SpellsModule bytes sections
+        → (fault : ModuleFault) (offset : ℕ) → IsSectionFault bytes fault offset
+        → fault ≡ Memory }
+{}
+
 /// The sections of a module fill it behind the preamble, one behind another, and so each lies within it.
 pub fn sections_fill_the_module()
     ensures joined { (bytes : List ℕ) (sections : List Section) → SpellsModule bytes sections

@@ -148,7 +148,7 @@ piece id size contents = record { id = id; size = size; contents = contents }
 abbrev written : SectionId → List ℕ → Piece
 written id contents = piece id (shortest (length contents)) contents
 
-spliced : (bytes old : List ℕ) (u w : List Piece) (y : Piece) (from to : ℕ) → bytes ≡ preamble ++ (joined u ++ (old ++ joined w)) →
+pub spliced : (bytes old : List ℕ) (u w : List Piece) (y : Piece) (from to : ℕ) → bytes ≡ preamble ++ (joined u ++ (old ++ joined w)) →
     from ≡ 8 + length (joined u) → to ≡ from + length old
     → take from bytes ++ code_of y ++ drop to bytes ≡ preamble ++ joined (u ++ y ∷ w)
 spliced bytes old u w y from to e f t =
