@@ -1,0 +1,5 @@
+use Rattle.peephole_programs.proofs.ValidLemmas.{replaced_valid}
+use Rattle.peephole_programs.proofs.validity.replaced_code_stays_valid.Goals as goal
+
+pub returns : goal.returns
+returns c = replaced_valid

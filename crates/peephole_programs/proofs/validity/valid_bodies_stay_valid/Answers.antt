@@ -1,0 +1,8 @@
+use Rattle.peephole_programs.proofs.ValidLemmas.{stays_valid, targets_stay}
+use Rattle.peephole_programs.proofs.validity.valid_bodies_stay_valid.Goals as goal
+
+pub returns-clause-valid : goal.returns-clause-valid
+returns-clause-valid c = stays_valid
+
+pub returns-clause-targets : goal.returns-clause-targets
+returns-clause-targets c = targets_stay

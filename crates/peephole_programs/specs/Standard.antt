@@ -1,0 +1,212 @@
+-- The standard's control: blocks, loops, conditionals, branches, returns and ends
+-- (WebAssembly Core Specification 3.0, Execution, Instructions, Control Instructions).
+use Rattle.std.specs.Prelude.{ℕ, zero, suc, ◌-◌, Bool, true, List, [], ◌∷◌, ◌++◌, length, take, drop, slice_get, Option, Some, None, is_some}
+use Rattle.wasm_code.specs.declared.immediate.BlockType.{BlockType}
+use Rattle.wasm_code.specs.declared.immediate.BlockType.TheVariants as block
+use Rattle.wasm_code.specs.declared.operator.Operator.{Operator}
+use Rattle.wasm_code.specs.declared.operator.Operator.TheVariants as op
+use Rattle.mutate_base.specs.Module.{Module}
+use Rattle.mutate_base.specs.declared.types.PrimitiveTypeInfo.{PrimitiveTypeInfo}
+use Rattle.mutate_base.specs.declared.types.PrimitiveTypeInfo.TheVariants as primitive
+use Rattle.mutate_base.specs.declared.types.TypeInfo.{TypeInfo}
+use Rattle.mutate_base.specs.declared.types.TypeInfo.TheVariants.{Func}
+use Rattle.mutate_base.specs.declared.types.TableType.{TableType}
+use Rattle.peephole_machine.specs.OtherRow.{value_type, address_type}
+use Rattle.peephole_machine.specs.Values.{Value, State, own_globals, unreachable, met, Ends, Traps, Stuck}
+use Rattle.wasm_code.specs.Instruction.{Instruction}
+use Rattle.peephole_machine.specs.Machine.{run}
+use Rattle.peephole_programs.specs.Function.{Label, Reached, At, Done, Control, go_on}
+
+-- ---- block types
+
+pub record Arity : Type 0 where
+  pub starts : List PrimitiveTypeInfo
+  pub ends : List PrimitiveTypeInfo
+
+abbrev pub function_arity : Option TypeInfo → Arity
+function_arity (Some (Func t)) = record { starts = t.params; ends = t.returns }
+function_arity None = record { starts = []; ends = [] }
+
+abbrev pub arity_of : Module → BlockType → Arity
+arity_of m block.Empty = record { starts = []; ends = [] }
+arity_of m (block.Value t) = record { starts = []; ends = value_type t ∷ [] }
+arity_of m (block.FuncType i) = function_arity (slice_get m.types i)
+
+-- the function type is there
+abbrev pub has_arity : Module → BlockType → Bool
+has_arity m (block.FuncType i) = is_some (slice_get m.types i)
+has_arity m t = true
+
+abbrev pub index_type : Option TableType → PrimitiveTypeInfo
+index_type (Some t) = address_type t.table64
+index_type None = primitive.I32
+
+-- a call through a table takes the function's parameters and an index into the table
+abbrev pub call_arity : Module → (type table : ℕ) → Arity
+call_arity m type table =
+    let f = function_arity (slice_get m.types type) in
+    record { starts = f.starts ++ index_type (slice_get m.tables table) ∷ []; ends = f.ends }
+
+-- ---- where blocks end
+
+-- what an operator is to blocks: it opens one, begins its other part, closes it, or stands in it
+pub data Nesting : Type 0 where
+  opens parts closes stays : Nesting
+
+abbrev pub nesting : Operator → Nesting
+nesting (op.Block t) = opens
+nesting (op.Loop t) = opens
+nesting (op.If t) = opens
+nesting op.Else = parts
+nesting op.End = closes
+nesting o = stays
+
+abbrev pub closing_at : Nesting → (depth k : ℕ) → (later : ℕ → ℕ) → ℕ
+closing_at closes zero k later = k
+closing_at closes (suc depth) k later = later depth
+closing_at opens depth k later = later (suc depth)
+closing_at parts depth k later = later depth
+closing_at stays depth k later = later depth
+
+-- of the operators from number k on, the number of the end that closes `depth` blocks and the one around them
+abbrev pub closing : (depth k : ℕ) → List Operator → ℕ
+closing depth k [] = k
+closing depth k (o ∷ os) = closing_at (nesting o) depth k (λ d. closing d (suc k) os)
+
+abbrev pub other_part_at : Nesting → (depth k : ℕ) → (later : ℕ → Option ℕ) → Option ℕ
+other_part_at parts zero k later = Some k
+other_part_at parts (suc depth) k later = later (suc depth)
+other_part_at closes zero k later = None
+other_part_at closes (suc depth) k later = later depth
+other_part_at opens depth k later = later (suc depth)
+other_part_at stays depth k later = later depth
+
+-- the number of the `else` before that end, where there is one
+abbrev pub other_part : (depth k : ℕ) → List Operator → Option ℕ
+other_part depth k [] = None
+other_part depth k (o ∷ os) = other_part_at (nesting o) depth k (λ d. other_part d (suc k) os)
+
+-- ---- stacks
+
+-- the last n values
+abbrev pub last_of : ℕ → List Value → List Value
+last_of n stack = drop (length stack - n) stack
+
+-- the stack down to a height, and on it the last n values
+abbrev pub unwound : (height n : ℕ) → List Value → List Value
+unwound height n stack = take height stack ++ last_of n stack
+
+-- a condition that was popped chooses; no other value can
+abbrev pub chosen : PrimitiveTypeInfo → ℕ → (taken other : Reached) → Reached
+chosen primitive.I32 zero taken other = other
+chosen primitive.I32 (suc n) taken other = taken
+chosen t n taken other = Done Stuck
+
+abbrev pub choose : (popped : List Value) → (taken other : Reached) → Reached
+choose (c ∷ []) taken other = chosen c.type c.number taken other
+choose vs taken other = Done Stuck
+
+-- ---- the control
+
+-- what a call through a table comes to: the call of a function, or a trap, with a mark of its cause
+pub data Target : Type 0 where
+  calls : Instruction → Target
+  fails : (mark : ℕ) → Target
+
+-- What an operator here doesn't carry, by its number: the labels of a branch by a table, its default one, and what a call through a table comes to, by its
+-- last operand and the rest, where the tables are.
+pub record Beyond : Type 0 where
+  pub labels : (k : ℕ) → List ℕ
+  pub default : (k : ℕ) → ℕ
+  pub target : (k : ℕ) → (place : Value) → (rest : ℕ) → Target
+
+-- the label with that place, or the default one
+abbrev pub label_at : List ℕ → (default : ℕ) → ℕ → ℕ
+label_at [] default i = default
+label_at (l ∷ ls) default zero = l
+label_at (l ∷ ls) default (suc i) = label_at ls default i
+
+module _ (m : Module) (results : List PrimitiveTypeInfo) (structure : List Operator) where
+  abbrev pub end_of : ℕ → ℕ
+  end_of opener = closing zero (suc opener) (drop (suc opener) structure)
+
+  -- out of the function, with its results
+  abbrev pub leave : List Value → State → Reached
+  leave stack s = Done (Ends (last_of (length results) stack) s)
+
+  abbrev pub enter : (k : ℕ) → BlockType → List Label → List Value → State → Reached
+  enter k t labels stack s = At (suc k) (record { opener = k; height = length stack - length (arity_of m t).starts } ∷ labels) stack s
+
+  -- to a label: a loop begins again, a block ends
+  abbrev pub jump_to : Option Operator → Label → (outer : List Label) → List Value → State → Reached
+  jump_to (Some (op.Loop t)) label outer stack s =
+      At (suc label.opener) (label ∷ outer) (unwound label.height (length (arity_of m t).starts) stack) s
+  jump_to (Some (op.Block t)) label outer stack s =
+      At (suc (end_of label.opener)) outer (unwound label.height (length (arity_of m t).ends) stack) s
+  jump_to (Some (op.If t)) label outer stack s =
+      At (suc (end_of label.opener)) outer (unwound label.height (length (arity_of m t).ends) stack) s
+  jump_to o label outer stack s = Done Stuck
+
+  -- the outermost label is the function's own
+  abbrev pub branch : ℕ → List Label → List Value → State → Reached
+  branch zero [] stack s = leave stack s
+  branch (suc l) [] stack s = Done Stuck
+  branch zero (label ∷ outer) stack s = jump_to (slice_get structure label.opener) label outer stack s
+  branch (suc l) (label ∷ outer) stack s = branch l outer stack s
+
+  -- the other part of a conditional, or what stands behind it
+  abbrev pub otherwise : Option ℕ → (k : ℕ) → BlockType → List Label → List Value → State → Reached
+  otherwise (Some e) k t labels stack s =
+      At (suc e) (record { opener = k; height = length stack - length (arity_of m t).starts } ∷ labels) stack s
+  otherwise None k t labels stack s = At (suc (end_of k)) labels stack s
+
+  abbrev pub close : (next : ℕ) → List Label → List Value → State → Reached
+  close next [] stack s = leave stack s
+  close next (label ∷ outer) stack s = At next outer stack s
+
+  -- behind the first part of a conditional comes what stands behind its end
+  abbrev pub skip : List Label → List Value → State → Reached
+  skip [] stack s = Done Stuck
+  skip (label ∷ outer) stack s = At (suc (end_of label.opener)) outer stack s
+
+  -- an index that was popped chooses a label
+  abbrev pub branch_by : (beyond : Beyond) → (k : ℕ) → PrimitiveTypeInfo → ℕ → List Label → List Value → State → Reached
+  branch_by beyond k primitive.I32 i labels stack s = branch (label_at (beyond.labels k) (beyond.default k) i) labels stack s
+  branch_by beyond k t i labels stack s = Done Stuck
+
+  abbrev pub branch_on : (beyond : Beyond) → (k : ℕ) → (popped : List Value) → List Label → List Value → State → Reached
+  branch_on beyond k (c ∷ []) labels stack s = branch_by beyond k c.type c.number labels stack s
+  branch_on beyond k vs labels stack s = Done Stuck
+
+  -- the call of a function that was found in a table is what the instruction is that calls it, in the state's world
+  abbrev pub call_target : Target → (k : ℕ) → List Label → List Value → State → Reached
+  call_target (fails mark) k labels stack s = Done (Traps (met mark) (own_globals s) s.rest)
+  call_target (calls i) k labels stack s = go_on (At (suc k) labels) (run (i ∷ []) stack s)
+
+  abbrev pub call_at : (beyond : Beyond) → (k : ℕ) → (popped : List Value) → List Label → List Value → State → Reached
+  call_at beyond k (c ∷ []) labels stack s = call_target (beyond.target k c s.rest) k labels stack s
+  call_at beyond k vs labels stack s = Done Stuck
+
+  -- what the operator with number k does; a select of several types is not valid
+  abbrev pub by_operator : Beyond → Option Operator → Control
+  by_operator beyond (Some (op.Block t)) k labels stack s = enter k t labels stack s
+  by_operator beyond (Some (op.Loop t)) k labels stack s = enter k t labels stack s
+  by_operator beyond (Some (op.If t)) k labels stack s =
+      let below = take (length stack - 1) stack in
+      choose (last_of 1 stack) (enter k t labels below s) (otherwise (other_part zero (suc k) (drop (suc k) structure)) k t labels below s)
+  by_operator beyond (Some op.Else) k labels stack s = skip labels stack s
+  by_operator beyond (Some op.End) k labels stack s = close (suc k) labels stack s
+  by_operator beyond (Some (op.Br l)) k labels stack s = branch l labels stack s
+  by_operator beyond (Some (op.BrIf l)) k labels stack s =
+      let below = take (length stack - 1) stack in
+      choose (last_of 1 stack) (branch l labels below s) (At (suc k) labels below s)
+  by_operator beyond (Some (op.BrTable n)) k labels stack s =
+      branch_on beyond k (last_of 1 stack) labels (take (length stack - 1) stack) s
+  by_operator beyond (Some op.Return) k labels stack s = leave stack s
+  by_operator beyond (Some op.Unreachable) k labels stack s = Done (Traps unreachable (own_globals s) s.rest)
+  by_operator beyond (Some (op.CallIndirect type table)) k labels stack s =
+      call_at beyond k (last_of 1 stack) labels (take (length stack - 1) stack) s
+  by_operator beyond o k labels stack s = Done Stuck
+
+  abbrev pub standard : Beyond → Control
+  standard beyond k labels stack s = by_operator beyond (slice_get structure k) k labels stack s

@@ -1,0 +1,65 @@
+-- A module with more globals: code that is typed in it, and worlds and runs that are the same but for what these hold (this project).
+use Rattle.std.specs.Prelude.{◌≡◌, ℕ, List, ◌++◌, Some, false, ⊤}
+use Rattle.std.specs.List.{All}
+use Rattle.wasm_code.specs.Instruction.{Instruction}
+use Rattle.mutate_base.specs.Module.{Module}
+use Rattle.mutate_base.specs.declared.types.PrimitiveTypeInfo.{PrimitiveTypeInfo}
+use Rattle.peephole_machine.specs.OtherRow.{changes}
+use Rattle.peephole_machine.specs.Values.{other_types, Value, IsValue, types, Context, Answer, Gives, Fails, World, State, HasTypes, Outcome, Ends, Traps, Stuck}
+use Rattle.peephole_programs.specs.Function.{Label, Reached, At, Done, Control}
+
+-- the module with further globals, whatever its bytes then are
+abbrev pub wider_module : (input : List ℕ) → (more : List PrimitiveTypeInfo) → Module → Module
+wider_module input more m = record m { input = input; globals = m.globals ++ more }
+
+abbrev pub wider : (input : List ℕ) → (more : List PrimitiveTypeInfo) → Context → Context
+wider input more context = record { info = wider_module input more context.info; locals = context.locals }
+
+abbrev pub state_of : World → (locals globals : List Value) → (rest : ℕ) → State
+state_of w ls gs r = record { locals = ls; globals = gs; rest = r; world = w }
+
+-- the second list begins with the first
+abbrev pub Begins : List Value → List Value → Type 0
+Begins gs hs = (more : List Value) × (hs ≡ gs ++ more)
+
+-- The second answer is the first with these globals behind; after a trap, which has the same cause, with any.
+abbrev pub IsWiderAnswer : (after : List Value) → Answer → Answer → Type 0
+IsWiderAnswer after (Gives vs gs r) (Gives us hs q) = (us ≡ vs) × (hs ≡ gs ++ after) × (q ≡ r)
+IsWiderAnswer after (Fails cause gs r) (Fails why hs q) = (why ≡ cause) × Begins gs hs × (q ≡ r)
+IsWiderAnswer after a b = ⊥
+
+-- The second is the first world where the globals behind the module's are the module's: on typed operands and globals it answers as the first, with
+-- what becomes of these behind.
+pub record IsWiderWorld (input : List ℕ) (more : List PrimitiveTypeInfo) (w v : World) : Type 0 where
+  pub info_is : v.info ≡ wider_module input more w.info
+  pub answers : (i : Instruction) (results : List PrimitiveTypeInfo) (operands globals behind : List Value) (rest : ℕ) →
+      other_types w.info i (types operands) ≡ Some results → All IsValue operands → types globals ≡ w.info.globals → All IsValue globals →
+      types behind ≡ more → All IsValue behind →
+      IsWiderAnswer (w.others i operands globals rest behind) (w.answer i operands globals rest) (v.answer i operands (globals ++ behind) rest)
+
+-- What becomes of globals behind the module's are values, and they stay where the instruction changes nothing.
+pub record KeepsBehind (w : World) : Type 0 where
+  pub values : (i : Instruction) (operands globals : List Value) (rest : ℕ) (others : List Value) → All IsValue others →
+      All IsValue (w.others i operands globals rest others)
+  pub stays : (i : Instruction) (operands globals : List Value) (rest : ℕ) (others : List Value) → changes i ≡ false →
+      w.others i operands globals rest others ≡ others
+
+-- the same run in both worlds
+abbrev pub IsWiderOutcome : (w v : World) → Outcome → Outcome → Type 0
+IsWiderOutcome w v (Ends vs s) (Ends us t) = (us ≡ vs) × (t ≡ record s { world = v }) × (s.world ≡ w)
+IsWiderOutcome w v (Traps cause gs r) (Traps why hs q) = (why ≡ cause) × Begins gs hs × (q ≡ r)
+IsWiderOutcome w v Stuck Stuck = ⊤
+IsWiderOutcome w v o q = ⊥
+
+abbrev pub IsWiderReached : (w v : World) → Reached → Reached → Type 0
+IsWiderReached w v (At k labels stack s) (At j others values t) =
+    (j ≡ k) × (others ≡ labels) × (values ≡ stack) × (t ≡ record s { world = v }) × (s.world ≡ w)
+IsWiderReached w v (Done o) (Done q) = IsWiderOutcome w v o q
+IsWiderReached w v p q = ⊥
+
+-- The second control does in the wider module what the first does.
+abbrev pub IsWiderControl : (input : List ℕ) → (more : List PrimitiveTypeInfo) → Context → Control → Control → Type 0
+IsWiderControl input more context control other =
+    (w v : World) → IsWiderWorld input more w v → w.info ≡ context.info → (k : ℕ) (labels : List Label) (stack ls gs : List Value) (r : ℕ) →
+    All IsValue stack → HasTypes (wider input more context) (state_of v ls gs r) →
+    IsWiderReached w v (control k labels stack (state_of w ls gs r)) (other k labels stack (state_of v ls gs r))
