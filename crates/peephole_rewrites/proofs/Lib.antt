@@ -10,5 +10,6 @@ pub mod ThoseLemmas
 pub mod CountingLemmas
 pub mod MakesLemmas
 pub mod MadeLemmas
+pub mod BodyLemmas
 pub mod RewrittenLemmas
 pub mod ChoiceLemmas

@@ -106,7 +106,7 @@ last_one (o ∷ []) i e = one_instruction o (i, cc)
 last_one (o ∷ p ∷ q) i e = absurd cc
 
 mutual
-  tree_instructions : (context : Context) (t : Term Head) (list : List PrimitiveTypeInfo) (os : List (Operator × ℕ)) → plain_types context t ≡ Some list →
+  pub tree_instructions : (context : Context) (t : Term Head) (list : List PrimitiveTypeInfo) (os : List (Operator × ℕ)) → plain_types context t ≡ Some list →
       map some_operator os ≡ tree_operators t → AreInstructions os
   tree_instructions context absent list os e f = absurd cc
   tree_instructions context (node h kids) list os e f =

@@ -1,7 +1,8 @@
 -- The body with a rewritten tree, under the configuration's setting.
 use Rattle.std.proofs.Common.{◌≡◌, ℕ, zero, suc, ◌+◌, ◌<◌, ◌≤◌, ◌⊎◌, inl, inr, List, [], ◌∷◌, length, map, false, Option, Some, None, sym, ap, subst, ◌∙◌, arith}
-use Rattle.std.specs.Prelude.{IsTrue, ◌%◌, IfSome, is_some, option_map, slice_get}
+use Rattle.std.specs.Prelude.{IsTrue, ◌%◌, IfSome, IsSome, is_some, option_map, slice_get, slice_range}
 use Rattle.std.proofs.lemmas.Bool.{false≢true}
+use Rattle.std.proofs.lemmas.List.{length-append}
 use Rattle.rand_core.specs.Stream.{Stream, next_u64}
 use Rattle.wasm_code.specs.Body.{is_end, ends}
 use Rattle.wasm_code.specs.Instruction.{Instruction}
@@ -14,11 +15,11 @@ use Rattle.mutate_base.specs.declared.error.Error.TheVariants.{Memory}
 use Rattle.mutate_base.specs.declared.types.PrimitiveTypeInfo.{PrimitiveTypeInfo}
 use Rattle.peephole_lang.specs.declared.lang.Head.{Head}
 use Rattle.peephole_lang.specs.Term.{Term, absent, node}
-use Rattle.peephole_machine.specs.Values.{context_in}
+use Rattle.peephole_machine.specs.Values.{Context, context_in}
 use Rattle.peephole_rules.specs.declared.rule.Rule.{Rule}
 use Rattle.peephole_terms.specs.declared.encoder.request.ResourceRequest.{ResourceRequest}
 use Rattle.peephole_terms.specs.Expansion.{Setting, Refuses, expansion_in, requests_of, request, after_term, term_in}
-use Rattle.peephole_terms.specs.Spliced.{AppendsSpliced}
+use Rattle.peephole_terms.specs.Spliced.{operator_of_head, tree_operators, operators_of_trees, some_operator, AppendsSpliced}
 use Rattle.peephole_terms.specs.StackCode.{words_for}
 use Rattle.peephole_terms.specs.Written.{IsBodyIn}
 use Rattle.peephole_rewrites.specs.declared.rewrite.Rewrite.{Rewrite}
@@ -27,6 +28,8 @@ use Rattle.peephole_rewrites.specs.Made.{IsMadeTree, HasLargeTree}
 use Rattle.peephole_rewrites.specs.PlainTypes.{plain_types, PlainTypesAreTypes}
 use Rattle.peephole_rewrites.specs.Choice.{HasPlaceAt, numbers_below, after_word, after_choice, Chooses, AppendsByWords, RefusesByWords}
 use Rattle.peephole_rewrites.specs.Rewriting.{IsTree, IsMade, AppendsRewritten, RefusesRewrite}
+use Rattle.peephole_rewrites.proofs.BodyLemmas.{ReplacedCode, does_as_body}
+use Rattle.peephole_rewrites.proofs.MakesLemmas.{tree_instructions}
 use Rattle.peephole_rewrites.proofs.ThoseLemmas.{one_of}
 use Rattle.peephole_rewrites.proofs.TreesLemmas.{its_value, parts_of}
 
@@ -54,6 +57,20 @@ tree_inside locals m input operators at (node h kids) b s =
           (parts.operator ∙ ap (option_map (λ (i : Instruction). Instr i)) parts.typed.is) b.spells.last,
     )
 
+tree_within : (context : Context) (operators : List (Operator × ℕ)) (at : ℕ) (t : Term Head) → (s : IsTree context operators at t) → s.start ≤ at
+tree_within context operators at absent s = absurd (false≢true s.typed)
+tree_within context operators at (node h kids) s = (parts_of context operators at h kids s).within
+
+-- a typed tree has an operator
+tree_some : (context : Context) (t : Term Head) (os : List (Operator × ℕ)) → IsSome (plain_types context t) →
+    map some_operator os ≡ tree_operators t → 0 + 1 ≤ length os
+tree_some context absent os h e = absurd (false≢true h)
+tree_some context (node h kids) [] typed e =
+    let some = length-append (operators_of_trees kids) (operator_of_head h ∷ []) in
+    let none = ap (λ (xs : List (Option Operator)). length xs) e in
+    absurd (omega arith)
+tree_some context (node h kids) (o ∷ os) typed e = omega arith
+
 pub made_inside : (locals : List PrimitiveTypeInfo) (m : Module) (input : List ℕ) (operators : List (Operator × ℕ)) (r : Rewrite) (made : MadeTree) →
     IsBodyIn input operators → IsMadeTree (context_in m locals) operators r made → (made.start ≤ r.operator + 1) × (r.operator + 1 < length operators)
 made_inside locals m input operators r made b i =
@@ -72,18 +89,20 @@ set_up stream setup = option_map (λ s. record { info = s.info; stream = stream 
 abbrev pub info_in : {R : Type 0} → Option (Setup Module R) → Option Module
 info_in setup = option_map (λ s. s.info) setup
 
-appended_at : PlainTypesAreTypes → (locals : List PrimitiveTypeInfo) (s : Setting) (input : List ℕ) (operators : List (Operator × ℕ)) (r : Rewrite)
+appended_at : PlainTypesAreTypes → ReplacedCode → (locals : List PrimitiveTypeInfo) (s : Setting) (input : List ℕ) (operators : List (Operator × ℕ)) (r : Rewrite)
     (made : MadeTree) (m : IsMadeTree (context_in s.info locals) operators r made) (old grown : List ℕ) (requests : List ResourceRequest)
     (left : Option Setting) → AppendsSpliced s input operators m.makes.is.start (r.operator + 1) (term_in made.expr) old grown →
     requests ≡ map request (requests_of (term_in made.expr)) → left ≡ Some (after_term s (term_in made.expr)) →
     AppendsRewritten locals s input operators r old grown requests left
-appended_at plain locals s input operators r made m old grown requests left w asks behind =
+appended_at plain replaced locals s input operators r made m old grown requests left w asks behind =
     let context = context_in s.info locals in
     let tree = m.makes.tree in
     let (list, typed) = its_value (plain_types context tree) m.makes.is.typed in
     let types = plain context list tree typed in
     let agree = m.stands list types.0 types.1 [] (words_for s (term_in made.expr)) in
     let runs = w.runs locals tree m.makes.is.stands agree in
+    let own = slice_range operators m.makes.is.start (r.operator + 1) in
+    let within = tree_within context operators r.operator tree m.makes.is in
     record {
       term = term_in made.expr;
       makes = m.makes;
@@ -91,22 +110,26 @@ appended_at plain locals s input operators r made m old grown requests left w as
       written = w;
       asks = asks;
       behind = behind;
-      every_run = runs.0;
-      its_run = runs.1;
+      every_run = runs.every;
+      its_run = runs.its;
+      whole = does_as_body replaced context operators w.reads.again m.makes.is.start (r.operator + 1) (term_in made.expr) w.code
+          (let l = within in omega arith)
+          (tree_instructions context tree list own typed m.makes.is.stands)
+          (tree_some context tree own m.makes.is.typed m.makes.is.stands) runs.alone w.reads.are;
     }
 
 module _ {R : Type 0} (stream : R → Stream) (locals : List PrimitiveTypeInfo) (m : Module) (operators : List (Operator × ℕ)) (r : Rewrite) where
-  pub rewritten_appended : PlainTypesAreTypes → (setup : Option (Setup Module R)) (input : List ℕ) (made : MadeTree) (old grown : List ℕ)
+  pub rewritten_appended : PlainTypesAreTypes → ReplacedCode → (setup : Option (Setup Module R)) (input : List ℕ) (made : MadeTree) (old grown : List ℕ)
       (requests : List ResourceRequest) (left : Option Setting) → info_in setup ≡ Some m → IsMadeTree (context_in m locals) operators r made →
       IfSome (set_up stream setup) (λ s. AppendsSpliced s input operators made.start (r.operator + 1) (term_in made.expr) old grown) →
       requests ≡ map request (requests_of (term_in made.expr)) →
       IfSome (set_up stream setup) (λ s. left ≡ Some (after_term s (term_in made.expr))) →
       IfSome (set_up stream setup) (λ s. AppendsRewritten locals s input operators r old grown requests left)
-  rewritten_appended plain None input made old grown requests left is makes w asks behind = tt
-  rewritten_appended plain (Some s) input made old grown requests left is makes w asks behind =
+  rewritten_appended plain replaced None input made old grown requests left is makes w asks behind = tt
+  rewritten_appended plain replaced (Some s) input made old grown requests left is makes w asks behind =
       let here = subst (λ (k : Module). IsMadeTree (context_in k locals) operators r made) (sym (some_inj s.info m is)) makes in
       let setting : Setting = record { info = s.info; stream = stream s.generator } in
-      appended_at plain locals setting input operators r made here old grown requests left
+      appended_at plain replaced locals setting input operators r made here old grown requests left
       (subst (λ k. AppendsSpliced setting input operators k (r.operator + 1) (term_in made.expr) old grown) here.start w) asks behind
 
   pub written_refused : (setup : Option (Setup Module R)) (made : MadeTree) (e : Error) → info_in setup ≡ Some m →

@@ -1,5 +1,5 @@
 -- The tree of an operator, rewritten in its place: when a rule may rewrite it, and what the body with the new code then is (this project).
-use Rattle.std.specs.Prelude.{◌≡◌, ◌⊎◌, ◌↔◌, ◌<◌, ◌+◌, ◌^◌, ℕ, List, length, map, Option, Some, IsSome, Contains, slice_range}
+use Rattle.std.specs.Prelude.{◌≡◌, ◌⊎◌, ◌↔◌, ◌<◌, ◌+◌, ◌^◌, ℕ, List, ◌++◌, length, map, Option, Some, IsSome, Contains, slice_range}
 use Rattle.wasm_code.specs.declared.operator.Operator.{Operator}
 use Rattle.mutate_base.specs.declared.types.PrimitiveTypeInfo.{PrimitiveTypeInfo}
 use Rattle.mutate_base.specs.declared.error.Error.{Error}
@@ -7,11 +7,16 @@ use Rattle.mutate_base.specs.declared.error.Error.TheVariants.{Memory, TooLarge}
 use Rattle.peephole_lang.specs.declared.lang.Head.{Head}
 use Rattle.peephole_lang.specs.Term.{Term, node, no_terms, ◌▸◌}
 use Rattle.peephole_machine.specs.Values.{Context, context_in}
+use Rattle.peephole_programs.specs.Function.{RunsPieceByPiece}
+use Rattle.peephole_programs.specs.StaysValid.{StaysValid}
+use Rattle.peephole_programs.specs.Wider.{wider}
 use Rattle.peephole_terms.specs.declared.encoder.request.ResourceRequest.{ResourceRequest}
 use Rattle.peephole_terms.specs.Expansion.{Setting, Refuses, expansion_in, requests_of, request, after_term}
+use Rattle.peephole_terms.specs.NodeKind.{primitive_of}
 use Rattle.peephole_terms.specs.SameRun.{instructions_in}
 use Rattle.peephole_terms.specs.Spliced.{tree_operators, StandsAt, KeepsEveryRun, KeepsItsRun, AppendsSpliced}
 use Rattle.peephole_terms.specs.Typing.{types_of}
+use Rattle.peephole_terms.specs.Written.{without_offsets}
 use Rattle.peephole_rules.specs.declared.rule.Rule.{Rule}
 use Rattle.peephole_rules.specs.declared.rule.Rule.TheVariants as rule
 use Rattle.peephole_rules.specs.Rewriting.{rewrite}
@@ -49,8 +54,14 @@ AreTheRewrites context rules operators list = (r : Rewrite) → Contains list r 
 
 -- ---- the body with the new code
 
+-- Each piece of the new body runs as that of the old one, and the new body is valid wherever the old one is, with globals of those types behind the
+-- module's, and any others behind these.
+pub record DoesAsBody (context : Context) (asked : List PrimitiveTypeInfo) (old new : List Operator) : Type 0 where
+  pub pieces : (more : List PrimitiveTypeInfo) → RunsPieceByPiece context (asked ++ more) old new
+  pub valid : (input : List ℕ) (more : List PrimitiveTypeInfo) → StaysValid context (wider input (asked ++ more) context) old new
+
 -- The sink has grown by the body with the operator's tree rewritten in its place, which leaves the same types; the globals that it asks for; and what is
--- left to be drawn. Whatever stands before the tree and behind it runs as before, and so does every range of the body round it.
+-- left to be drawn. Whatever stands before the tree and behind it runs as before, and so does every range of the body round it, and the whole body.
 pub record AppendsRewritten (locals : List PrimitiveTypeInfo) (s : Setting) (input : List ℕ) (operators : List (Operator × ℕ)) (r : Rewrite)
     (old new : List ℕ) (requests : List ResourceRequest) (left : Option Setting) : Type 0 where
   pub term : Term Head
@@ -62,6 +73,8 @@ pub record AppendsRewritten (locals : List PrimitiveTypeInfo) (s : Setting) (inp
   pub every_run : KeepsEveryRun (context_in s.info locals) term
       (instructions_in (slice_range operators makes.is.start (r.operator + 1))) written.code
   pub its_run : KeepsItsRun (context_in s.info locals) operators makes.is.start (r.operator + 1) term written.code
+  pub whole : DoesAsBody (context_in s.info locals) (map primitive_of (requests_of term)) (without_offsets operators)
+      (without_offsets written.reads.again)
 
 -- Why there is no answer: memory, the tree is too large for a rule, or the new term's expansion is refused.
 abbrev pub RefusesRewrite : (locals : List PrimitiveTypeInfo) → Setting → List (Operator × ℕ) → Rewrite → Error → Type 0

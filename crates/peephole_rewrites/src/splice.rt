@@ -10,6 +10,8 @@ use crate::laws::plain_types_are_types;
 use crate::rewrite::Rewrite;
 use crate::tree::made_tree;
 use mutate_base::{Error, PrimitiveTypeInfo, WasmMutate};
+use peephole_programs::laws::replaced_code_is_in_one_piece;
+use peephole_programs::validity::replaced_code_stays_valid;
 use peephole_terms::{ResourceRequest, splice_term};
 use rand_core::Rng;
 use std::alloc::Global;
@@ -23,6 +25,8 @@ use wasm_code::{Function, OperatorAndByteOffset};
 /// Whatever instructions stand before the tree and behind it, wherever their run with the tree ends or traps that with the new
 /// code does the same, from every stack and in every state of the variables, apart from requested globals. The new code leaves
 /// values of the same types, and the body is read again as the operators before, the new instructions and the operators behind.
+/// The whole body so runs piece by piece, between its structural operators, as it did, and is valid wherever it was, with the
+/// requested globals behind the module's.
 /// `locals` are the types of the function's parameters and locals; `operators` with their offsets are those of a body in
 /// `input_wasm`.
 ///
@@ -56,6 +60,8 @@ pub fn rewrite_tree<R: Rng + Drop>(
     ensures unchanged { ChangesGeneratorAlone config.old config.new }
 {
     plain_types_are_types();
+    replaced_code_is_in_one_piece();
+    replaced_code_stays_valid();
     let Some(made) = made_tree(alloc, locals, config.info(), rewrite, operators)? else {
         return Ok(None);
     };

@@ -156,5 +156,8 @@ pub wrote : {T : Type 0} (x : T) → Ok x ≡ Err NoMutationsApplicable → ⊥
 wrote x e = cc
 
 -- writing is refused for other causes
+pub other_cause : (d : Error) (r : Result Writing Error) → IsRefusal d r → d ≡ NoMutationsApplicable → ⊥
+other_cause d r q e = subst (λ (x : Error). IsRefusal x r) e q
+
 pub not_for_order : {T : Type 0} (d : Error) (r : Result Writing Error) → IsRefusal d r → ◌≡◌ {A = Result T Error} (Err d) (Err NoMutationsApplicable) → ⊥
-not_for_order {T} d r q e = let same : d ≡ NoMutationsApplicable = cc in subst (λ (x : Error). IsRefusal x r) same q
+not_for_order {T} d r q e = other_cause d r q cc

@@ -12,6 +12,7 @@ pub mod AgainLemmas
 pub mod MeaningRows
 pub mod MeaningLemmas
 pub mod StackCodeLemmas
+pub mod TypedCode
 pub mod WordLemmas
 pub mod AgreesLemmas
 pub mod InstructionNodes

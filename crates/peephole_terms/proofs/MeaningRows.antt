@@ -13,7 +13,7 @@ use Rattle.wasm_code.specs.declared.immediate.Imm.{Imm}
 use Rattle.wasm_code.specs.declared.immediate.Imm.TheVariants as imm
 use Rattle.mutate_base.specs.declared.types.PrimitiveTypeInfo.{PrimitiveTypeInfo}
 use Rattle.peephole_machine.specs.declared.integer.IntegerType.TheVariants as integer
-use Rattle.peephole_machine.specs.Values.{width_of, Value, whole, types, Context, State, global, write, Ends}
+use Rattle.peephole_machine.specs.Values.{type_of, width_of, Value, whole, types, Context, State, global, write, Ends}
 use Rattle.peephole_machine.specs.Integer.{binary, add}
 use Rattle.peephole_machine.specs.IntegerRow as rows
 use Rattle.peephole_machine.specs.IntegerRow.{integer_row, row_types}
@@ -92,6 +92,12 @@ constant_types context number.I32 word = refl
 constant_types context number.I64 word = refl
 constant_types context number.F32 word = refl
 constant_types context number.F64 word = refl
+
+-- and so has what is left of a number without it
+pub rest_types : (context : Context) (t : IntegerType) (word : ℕ) (z : ℤ) → row_types context (integer_row (rest_of t word z)) [] ≡ Some (type_of t ∷ [])
+unfolding integer_row row_at table
+rest_types context integer.I32 word z = refl
+rest_types context integer.I64 word z = refl
 
 -- a number as the sum of a word and the rest
 pub run_sum_of : (t : IntegerType) (word : ℕ) (z : ℤ) (stack : List Value) (s : State) →

@@ -78,7 +78,7 @@ module _ {locals : List PrimitiveTypeInfo} {info : Module} {words : List ℕ} {t
       (sym (ap (λ (ks : List NumberType). map primitive_of ks ++ []) x.itself.asks)))
 
   -- so the term's run follows the tree's
-  tree_follows : (requested stack : List Value) (s : State) → HasTypes context s → types requested ≡ map primitive_of (requests_of t) ++ more →
+  pub tree_follows : (requested stack : List Value) (s : State) → HasTypes context s → types requested ≡ map primitive_of (requests_of t) ++ more →
       Follows requested (run own stack s) (run code stack (with_globals requested s))
   tree_follows requested stack s h hr =
       let same : meaning_of [] tree s ≡ meaning_of words t s =

@@ -4,32 +4,39 @@ use Rattle.std.proofs.Common.{ap₂, subst, ◌∙◌, append_assoc, arith}
 use Rattle.std.specs.Prelude.{slice_range, option_map}
 use Rattle.std.specs.List.{All}
 use Rattle.std.proofs.Math.Seq.{take-add}
-use Rattle.std.proofs.lemmas.List.{drop-drop}
+use Rattle.std.proofs.lemmas.List.{drop_at, drop-drop}
 use Rattle.rand_core.specs.Stream.{Stream}
 use Rattle.wasm_code.specs.Code.{codes}
 use Rattle.wasm_code.specs.Instruction.{Instruction, IsInstruction}
 use Rattle.wasm_code.specs.declared.operator.Operator.{Operator}
 use Rattle.wasm_code.specs.declared.operator.Operator.TheVariants.{Instr}
+use Rattle.mutate_base.specs.Module.{Module}
 use Rattle.mutate_base.specs.declared.error.Error.{Error}
+use Rattle.mutate_base.specs.declared.types.PrimitiveTypeInfo.{PrimitiveTypeInfo}
 use Rattle.peephole_lang.specs.declared.lang.Head.{Head}
 use Rattle.peephole_lang.specs.Node.{instr_of_head}
 use Rattle.peephole_lang.specs.Term.{Term, Terms, absent, node, no_terms, ◌▸◌}
 use Rattle.peephole_machine.specs.Values.{Context, context_in}
 use Rattle.peephole_terms.specs.declared.encoder.request.ResourceRequest.{ResourceRequest}
-use Rattle.peephole_terms.specs.NodeKind.{node_kind}
+use Rattle.peephole_programs.specs.Validation.{check_code}
+use Rattle.peephole_programs.specs.StaysValid.{with_types, ChecksAs}
+use Rattle.peephole_programs.specs.Wider.{wider}
+use Rattle.peephole_terms.specs.NodeKind.{NumberType, node_kind, primitive_of}
 use Rattle.peephole_terms.specs.EncoderSteps.{Writing, Does, around, with_bytes, writing_of, steps_of}
 use Rattle.peephole_terms.specs.Expansion.{Setting, draw_words, draws_of, requests_of, request, expansion_in, after_term, Refuses}
-use Rattle.peephole_terms.specs.SameRun.{and_instruction, instructions_in}
+use Rattle.peephole_terms.specs.SameRun.{EvaluatesAs, and_instruction, instructions_in}
 use Rattle.peephole_terms.specs.Spliced.{operator_of_head, tree_operators, operators_of_trees, some_operator, piece}
-use Rattle.peephole_terms.specs.Spliced.{KeepsEveryRun, KeepsItsRun, RunsSpliced, AppendsSpliced}
+use Rattle.peephole_terms.specs.Spliced.{StandsAt, KeepsEveryRun, KeepsItsRun, RunsSpliced, AppendsSpliced}
 use Rattle.peephole_terms.specs.StackCode.{words_for}
 use Rattle.peephole_terms.specs.Written.{site_at, IsBodyIn, before_block, after_block}
 use Rattle.peephole_terms.proofs.ExpansionLemmas.{finished, from_start, refused}
 use Rattle.peephole_terms.proofs.RangeLemmas.{term_in_range}
 use Rattle.peephole_terms.proofs.ReadAgainLemmas.{reads_again}
-use Rattle.peephole_terms.proofs.SameRunLemmas.{AreWritten, keeps_run}
+use Rattle.peephole_terms.proofs.SameRunLemmas.{AreWritten, tree_follows, keeps_run}
 use Rattle.peephole_terms.proofs.SettingLemmas.{setting, start_at}
 use Rattle.peephole_terms.proofs.SpellingLemmas.{CodesSpell}
+use Rattle.peephole_terms.proofs.StackCodeLemmas.{Provided}
+use Rattle.peephole_terms.proofs.TypedCode.{TypedRowsCheck, typed_term}
 use Rattle.peephole_terms.proofs.TermOfLemmas.{IsItself, AreThemselves, absent_itself, none_themselves, more_themselves, row_kind, node_itself}
 use Rattle.peephole_terms.proofs.WalkLemmas.{around_ok, around_refused, inside_in_range}
 
@@ -130,16 +137,44 @@ keeps_its_run context os start end new code l k from to a b more stack state oth
     let e = range_instructions os from start end to a l b in
     rw e (k (instructions_in (slice_range os from start)) (instructions_in (slice_range os end to)) more stack state others requested hs h hr (rw e at n))
 
-runs_spliced : (s : Setting) (operators : List (Operator × ℕ)) (start end : ℕ) (t : Term Head) (code : List Instruction) → start ≤ end →
-    expansion_in s t ≡ Ok code → RunsSpliced s operators start end t code
-runs_spliced s operators start end t code l e locals tree stands a =
+-- what a tree asks for is there
+none_provided : (ks : List NumberType) (next : ℕ) (globals : List PrimitiveTypeInfo) → ks ≡ [] → Provided next ks globals
+none_provided ks next globals e = subst (λ (js : List NumberType). Provided next js globals) (sym e) (drop next globals, refl)
+
+-- The term's code is valid wherever the tree's is.
+checks_as : TypedRowsCheck → {info : Module} {locals : List PrimitiveTypeInfo} {words : List ℕ} {tree t : Term Head} {own code : List Instruction}
+    (a : EvaluatesAs (context_in info locals) words tree t) → AreWritten info words tree t own code → (input : List ℕ) (more : List PrimitiveTypeInfo) →
+    ChecksAs (context_in info locals) (wider input (map primitive_of (requests_of t) ++ more) (context_in info locals)) own code
+checks_as law {info} {locals} {words} {tree} {t} {own} {code} a x input more f g e =
+    let context = context_in info locals in
+    let behind = map primitive_of (requests_of t) ++ more in
+    let all = wider input behind context in
+    let old : check_code context own f ≡ Some (with_types a.list f) =
+    typed_term law context context (λ row ts us h. h) tree [] a.list own a.first_types (x.itself.expands (length info.globals) [])
+    (none_provided (requests_of tree) (length info.globals) info.globals x.itself.asks) f in
+    let new : check_code all code f ≡ Some (with_types a.list f) =
+    typed_term law context all (law.stay context input behind) t words a.list code a.second_types x.expands
+    (more, drop_at info.globals behind (length info.globals) refl) f in
+    new ∙ (sym old ∙ e)
+
+runs_spliced : TypedRowsCheck → (s : Setting) (operators : List (Operator × ℕ)) (start end : ℕ) (t : Term Head) (code : List Instruction) →
+    start ≤ end → expansion_in s t ≡ Ok code → (locals : List PrimitiveTypeInfo) (tree : Term Head) → StandsAt operators start end tree →
+    EvaluatesAs (context_in s.info locals) (words_for s t) tree t → RunsSpliced s operators start end t code locals
+runs_spliced law s operators start end t code l e locals tree stands a =
     let context = context_in s.info locals in
     let own = instructions_in (slice_range operators start end) in
     let written : AreWritten s.info (words_for s t) tree t own code =
     record { itself = tree_itself tree (slice_range operators start end) stands; expands = e } in
     let every : KeepsEveryRun context t own code = λ front back more stack state others requested hs h hr n.
     keeps_run more a written front back stack state others requested hs h hr n in
-    (every, keeps_its_run context operators start end t code l every)
+    record {
+      every = every;
+      its = keeps_its_run context operators start end t code l every;
+      alone = record {
+        runs = λ more stack requested state hs h hr n. tree_follows more a written requested stack state h hr;
+        checks = checks_as law a written;
+      };
+    }
 
 -- ---- what is written
 
@@ -170,9 +205,9 @@ module _ (s : Setting) (input : List ℕ) (operators : List (Operator × ℕ)) (
   abbrev after : List ℕ
   after = after_block input operators (piece start end)
 
-  pub spliced_done : CodesSpell → IsBodyIn input operators → start ≤ end → end < length operators → (old : List ℕ) (v : Writing) →
+  pub spliced_done : CodesSpell → TypedRowsCheck → IsBodyIn input operators → start ≤ end → end < length operators → (old : List ℕ) (v : Writing) →
       DoesAround s before after t old v (Ok tt) → HasSpliced s input operators start end t old v
-  spliced_done spell body l m old v d =
+  spliced_done spell law body l m old v d =
       let (w, e, f) = around_ok count before after (steps_of t) (start_at s old) v d.ok in
       let h = finished (old ++ before) s.stream w (requests_of t) (draws_of t) (expansion_in s t) (sym (from_start t count (old ++ before) s.stream) ∙ e) in
       let code = h.instructions in
@@ -185,7 +220,7 @@ module _ (s : Setting) (input : List ℕ) (operators : List (Operator × ℕ)) (
           appended = ap (λ (x : Writing). x.bytes) f ∙ (ap (λ x. x ++ after) h.bytes
               ∙ (append_assoc (old ++ before) (codes code) after ∙ append_assoc old before (codes code ++ after)));
           reads = reads_again spell (site_at input operators (piece start end) start) code body (record { ordered = l; inside = m }) in_range;
-          runs = runs_spliced s operators start end t code l h.expands;
+          runs = runs_spliced law s operators start end t code l h.expands;
         };
         asks = ap (λ (x : Writing). x.requests) f ∙ h.asks;
         leaves = ap (λ (x : Writing). setting s.info x.stream) f ∙ ap (setting s.info) h.leaves;

@@ -40,11 +40,11 @@ split_wanted : (ks js : List NumberType) (rest : List PrimitiveTypeInfo) →
 split_wanted ks js rest = ap (λ (x : List PrimitiveTypeInfo). x ++ rest) (map-append primitive_of ks js)
     ∙ append_assoc (map primitive_of ks) (map primitive_of js) rest
 
-provided_left : (next : ℕ) (ks js : List NumberType) (globals : List PrimitiveTypeInfo) → Provided next (ks ++ js) globals →
+pub provided_left : (next : ℕ) (ks js : List NumberType) (globals : List PrimitiveTypeInfo) → Provided next (ks ++ js) globals →
     Provided next ks globals
 provided_left next ks js globals h = (map primitive_of js ++ h.0, h.1 ∙ split_wanted ks js h.0)
 
-provided_right : (next : ℕ) (ks js : List NumberType) (globals : List PrimitiveTypeInfo) → Provided next (ks ++ js) globals →
+pub provided_right : (next : ℕ) (ks js : List NumberType) (globals : List PrimitiveTypeInfo) → Provided next (ks ++ js) globals →
     Provided (next + length ks) js globals
 provided_right next ks js globals h = (
   h.0,
@@ -52,7 +52,7 @@ provided_right next ks js globals h = (
       ∙ drop_at (map primitive_of ks) (map primitive_of js ++ h.0) (length ks) (length-map ks primitive_of)),
 )
 
-drop_get : {X : Type 0} (n : ℕ) (xs ys : List X) (x : X) → drop n xs ≡ x ∷ ys → slice_get xs n ≡ Some x
+pub drop_get : {X : Type 0} (n : ℕ) (xs ys : List X) (x : X) → drop n xs ≡ x ∷ ys → slice_get xs n ≡ Some x
 drop_get zero [] ys x e = absurd cc
 drop_get zero (z ∷ xs) ys x e = cc
 drop_get (suc n) [] ys x e = absurd cc
@@ -92,17 +92,17 @@ then_follows context us more stack Stuck r f g h typed next = absurd typed
 
 -- ---- codes
 
-ok_is : (x y : List Instruction) → ◌≡◌ {A = Result (List Instruction) Error} (Ok x) (Ok y) → x ≡ y
+pub ok_is : (x y : List Instruction) → ◌≡◌ {A = Result (List Instruction) Error} (Ok x) (Ok y) → x ≡ y
 ok_is x y e = cc
 
 -- the parts of a code
-joined_ok : (a b : Result (List Instruction) Error) (code : List Instruction) → joined_code a b ≡ Ok code →
+pub joined_ok : (a b : Result (List Instruction) Error) (code : List Instruction) → joined_code a b ≡ Ok code →
     (front back : List Instruction) × (a ≡ Ok front) × (b ≡ Ok back) × (front ++ back ≡ code)
 joined_ok (Ok front) (Ok back) code e = (front, back, refl, refl, cc)
 joined_ok (Ok front) (Err d) code e = absurd cc
 joined_ok (Err d) b code e = absurd cc
 
-through_code : (g : ℕ) (code : List Instruction) → through_global g ≡ Ok code → set_global g ∷ get_global g ∷ [] ≡ code
+pub through_code : (g : ℕ) (code : List Instruction) → through_global g ≡ Ok code → set_global g ∷ get_global g ∷ [] ≡ code
 through_code g code e = go (nat_le g 4294967295) e
   where
     go : (b : Bool) → cond b (Ok (set_global g ∷ get_global g ∷ [])) (Err GlobalIndex) ≡ Ok code → set_global g ∷ get_global g ∷ [] ≡ code

@@ -15,6 +15,9 @@ use Rattle.peephole_graphs.specs.Block.{BlockRange}
 use Rattle.peephole_machine.specs.Values.{Value, IsValue, types, Context, context_in, State, HasTypes, Stuck}
 use Rattle.peephole_machine.specs.Machine.{run}
 use Rattle.peephole_machine.specs.Agreement.{with_globals, SameOutcome}
+use Rattle.peephole_programs.specs.Function.{RunsAs}
+use Rattle.peephole_programs.specs.StaysValid.{ChecksAs}
+use Rattle.peephole_programs.specs.Wider.{wider}
 use Rattle.peephole_terms.specs.NodeKind.{primitive_of}
 use Rattle.peephole_terms.specs.Expansion.{Setting, requests_of, expansion_in}
 use Rattle.peephole_terms.specs.StackCode.{words_for}
@@ -86,20 +89,27 @@ KeepsItsRun context operators start end new code =
     All IsValue stack → HasTypes context state → types requested ≡ map primitive_of (requests_of new) ++ more → run old stack state ≢ Stuck →
     SameOutcome (run old stack (with_globals others state)) (run written stack (with_globals requested state))
 
--- For all types of locals: where the operators there are a tree that the term evaluates as, whatever stands before and behind runs as before.
-abbrev pub RunsSpliced : Setting → List (Operator × ℕ) → (start end : ℕ) → Term Head → (code : List Instruction) → Type 0
-RunsSpliced s operators start end t code =
-    (locals : List PrimitiveTypeInfo) (tree : Term Head) → StandsAt operators start end tree →
-    EvaluatesAs (context_in s.info locals) (words_for s t) tree t →
-    KeepsEveryRun (context_in s.info locals) t (instructions_in (slice_range operators start end)) code
-    × KeepsItsRun (context_in s.info locals) operators start end t code
+-- The new code is, by itself, what the old one was: it runs as that, and is valid wherever that was, with globals of the requested types behind the
+-- module's, and any others behind these.
+pub record DoesAsTree (context : Context) (new : Term Head) (own code : List Instruction) : Type 0 where
+  pub runs : (more : List PrimitiveTypeInfo) → RunsAs context (map primitive_of (requests_of new) ++ more) own code
+  pub checks : (input : List ℕ) (more : List PrimitiveTypeInfo) →
+      ChecksAs context (wider input (map primitive_of (requests_of new) ++ more) context) own code
+
+-- Whatever stands before and behind the code runs as before, and by itself it does as what stood there.
+pub record RunsSpliced (s : Setting) (operators : List (Operator × ℕ)) (start end : ℕ) (t : Term Head) (code : List Instruction)
+    (locals : List PrimitiveTypeInfo) : Type 0 where
+  pub every : KeepsEveryRun (context_in s.info locals) t (instructions_in (slice_range operators start end)) code
+  pub its : KeepsItsRun (context_in s.info locals) operators start end t code
+  pub alone : DoesAsTree (context_in s.info locals) t (instructions_in (slice_range operators start end)) code
 
 -- The sink has grown by the body with the term's code in the place of those operators: it is read again as the operators before, the code and the
--- operators behind; and where the operators were a tree that the term evaluates as, it runs as before.
+-- operators behind; and where the operators were a tree that the term evaluates as, whatever the locals' types, it runs as before.
 pub record AppendsSpliced (s : Setting) (input : List ℕ) (operators : List (Operator × ℕ)) (start end : ℕ) (t : Term Head) (old new : List ℕ) :
     Type 0 where
   pub code : List Instruction
   pub expands : expansion_in s t ≡ Ok code
   pub appended : new ≡ old ++ spliced input operators start end code
   pub reads : ReadsSpliced operators start end code (spliced input operators start end code)
-  pub runs : RunsSpliced s operators start end t code
+  pub runs : (locals : List PrimitiveTypeInfo) (tree : Term Head) → StandsAt operators start end tree →
+      EvaluatesAs (context_in s.info locals) (words_for s t) tree t → RunsSpliced s operators start end t code locals

@@ -2,6 +2,7 @@
 
 ghost use Rattle.std.specs.Prelude.{◌≡◌, ◌<◌, length, IfOk, IfErr, OnErr, IfSome, IsTrue, is_some};
 ghost use Rattle.mutate_base.specs.Config.{info_of, ChangesGeneratorAlone};
+ghost use Rattle.mutate_base.specs.declared.error.Error.{Error};
 ghost use Rattle.peephole_lang.specs.Term.{AreBelow};
 ghost use Rattle.peephole_graphs.specs.Block.{IsBlockIn};
 ghost use Rattle.peephole_graphs.specs.Dfg.{graph_of};
@@ -190,9 +191,9 @@ impl Encoder {
     /// block's own run ends or traps the written one does the same, apart from requested globals.
     ///
     /// `NoMutationsApplicable`, before anything else, exactly where the meaning is to be preserved and the block's
-    /// operators would not keep their order: what is written then is of a block in order. `CannotUnfold` and `GlobalIndex`
-    /// as by `expr2wasm`, where the term is written; `Memory` where an allocation was refused. The sink then holds its old
-    /// bytes.
+    /// operators would not keep their order: what is written then is of a block in order. The configuration is then as it
+    /// was, the generator too. `CannotUnfold` and `GlobalIndex` as by `expr2wasm`, where the term is written; `Memory` where
+    /// an allocation was refused. After each of these the sink holds its old bytes.
     pub fn build_function<R: Rng + Drop>(
         alloc: Global,
         config: &mut WasmMutate<'_, R>,
@@ -240,8 +241,11 @@ impl Encoder {
         ensures refusal { IfErr result (λ e. IfSome (setting_of R.stream config.old) (λ s.
             RefusesBody s (site_at input_wasm.now operators.now basicblock.now insertion_point)
             (term_in expr.now) e)) }
-        // After a refusal the sink holds its old bytes. Of the configuration the generator alone changes.
+        // After a refusal the sink holds its old bytes; after one for the order nothing has been drawn. Of the configuration
+        // the generator alone changes.
         ensures restored { OnErr result (newfunc.new ≡ newfunc.old) }
+        ensures undrawn { IfErr result (λ e. e ≡ Error.NoMutationsApplicable
+            → config.new ≡ config.old) }
         ensures unchanged { ChangesGeneratorAlone config.old config.new }
     {
         if config.preserves_semantics() && !dfg.keeps_order() {

@@ -14,6 +14,7 @@ use super::request::ResourceRequest;
 use super::walk::write_tree;
 use mutate_base::{Error, WasmMutate};
 use peephole_lang::{Lang, RecExpr};
+use peephole_programs::validity::typed_rows_check;
 use rand_core::Rng;
 use std::alloc::Global;
 use std::ops::Range;
@@ -56,7 +57,7 @@ fn write_around<R: Rng>(
 /// What is written reads as a body again: the operators before the range, the term's instructions, the operators behind.
 /// Where the operators of the range are a tree's nodes in postfix, and the term evaluates as that tree, then whatever
 /// stands before and behind them, wherever the run with the tree ends or traps that with the term does the same, apart
-/// from requested globals.
+/// from requested globals; and by itself the term's code runs as the tree's, and is valid wherever that is.
 ///
 /// Refuses as `expr2wasm` does: with `CannotUnfold`, `GlobalIndex` or `Memory`. The sink then holds its old bytes.
 pub fn splice_term<R: Rng + Drop>(
@@ -93,6 +94,7 @@ pub fn splice_term<R: Rng + Drop>(
     ensures unchanged { ChangesGeneratorAlone config.old config.new }
 {
     code_spells();
+    typed_rows_check();
     let globals = config.info().get_global_count();
     let (before, after) = outside(input_wasm, operators, range);
     let old_len = newfunc.len();

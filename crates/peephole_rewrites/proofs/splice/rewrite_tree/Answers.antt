@@ -38,6 +38,6 @@ returns-in_err-requests-clause-refused g c =
 pub returns-clause-rewritten : goal.returns-clause-rewritten
 returns-clause-rewritten g c =
     rewritten_appended g.R.Rng.stream c.args.locals.now c.info.result.now c.args.operators.now c.args.rewrite c.plain_types_are_types.ensures
-    c.args.config.now.setup c.args.input_wasm.now c.in-Some.made c.args.newfunc.now c.splice_term.new.newfunc c.in_ok-requests.requests.items
+    (record { runs = c.replaced_code_is_in_one_piece.ensures; valid = c.replaced_code_stays_valid.ensures }) c.args.config.now.setup c.args.input_wasm.now c.in-Some.made c.args.newfunc.now c.splice_term.new.newfunc c.in_ok-requests.requests.items
     (setting_of g.R.Rng.stream c.splice_term.new.config) c.info.ensures (rw c.in-Some.is at c.in_ok-made.ensures.made)
     c.in_ok-requests.ensures.spliced c.in_ok-requests.ensures.requests c.in_ok-requests.ensures.generator

@@ -8,7 +8,7 @@ use Rattle.peephole_terms.specs.EncoderSteps.{IsInside, writing_of}
 use Rattle.peephole_terms.specs.Expansion.{Setting, term_in}
 use Rattle.peephole_terms.specs.Written.{Site, site_at, source_at, before_block, after_block}
 use Rattle.peephole_terms.proofs.ReadAgainLemmas.{block_before_last, inside, piece_is}
-use Rattle.peephole_terms.proofs.EncoderLemmas.{walkable, order_kept, order_refused, wrote, not_for_order}
+use Rattle.peephole_terms.proofs.EncoderLemmas.{walkable, order_kept, order_refused, wrote, not_for_order, other_cause}
 use Rattle.peephole_terms.proofs.SettingLemmas.{setting, is_set_up, body_given, body_done, body_refused}
 use Rattle.peephole_terms.proofs.AgainLemmas.{body_again, body_reread}
 use Rattle.peephole_terms.proofs.SameRunLemmas.{body_runs}
@@ -63,6 +63,7 @@ returns-in-Ok g c =
           ]) (wrote c.write_body.new.requests);
       refusal = tt;
       restored = tt;
+      undrawn = tt;
       unchanged = (refl, (refl, refl));
     })
 
@@ -94,5 +95,6 @@ returns-in-Err g c =
           ]) (not_for_order c.in-Err.refusal _ c.in-Err.ensures.err);
       refusal = body_refused s preserving site graph (term_in c.args.expr.now) is_graph c.args.newfunc.now v c.in-Err.refusal done;
       restored = c.truncate.ensures ∙ (ap (λ (n : ℕ). take n c.write_body.new.newfunc) c.len-old_len.ensures ∙ c.in-Err.ensures.kept);
+      undrawn = λ e. absurd (other_cause c.in-Err.refusal _ c.in-Err.ensures.err e);
       unchanged = (refl, (refl, refl));
     })

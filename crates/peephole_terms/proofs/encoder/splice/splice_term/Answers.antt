@@ -16,8 +16,9 @@ pub returns-in-Ok : goal.returns-in-Ok
 returns-in-Ok g c =
     let s : Setting = setting c.info.result.now (g.R.Rng.stream c.rng-rng.result.now) in
     let v = writing_of c.write_around.new.newfunc c.write_around.new.requests.items (g.R.Rng.stream c.write_around.new.rng) in
+    let law = c.typed_rows_check.ensures in
     let w = spliced_done s c.args.input_wasm.now c.args.operators.now c.args.range.start c.args.range.end (term_in c.args.expr.now)
-    c.code_spells.ensures c.requires.body c.requires.ordered c.requires.inside c.args.newfunc.now v
+    c.code_spells.ensures (record { push = law.push; on = law.on; stay = law.stay }) c.requires.body c.requires.ordered c.requires.inside c.args.newfunc.now v
     (around_given c.get_global_count-globals.ensures c.outside.ensures.before c.outside.ensures.after (ap term_in c.as_ref.ensures.nodes)
     c.new-requests.ensures.items c.in-Ok.ensures) in
     rw (is_set_up c.args.config.now c.info.result.now c.rng-rng.result.now c.info.ensures c.rng-rng.ensures.value) (record {
