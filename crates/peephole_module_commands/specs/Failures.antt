@@ -1,12 +1,18 @@
 -- Why a run has no success (this project).
-use Rattle.std.specs.Prelude.{ℕ, ◌<◌, List, length, Option, IfSome}
+use Rattle.std.specs.Prelude.{◌≡◌, ◌≢◌, ℕ, ◌+◌, ◌<◌, List, length, Option, Some, IfSome}
 use Rattle.peephole_rules.specs.declared.rule.Rule.{Rule}
 use Rattle.wasm_module.specs.Fault.{IsModuleFault}
-use Rattle.peephole_modules.specs.Mutated.{CannotMutate}
+use Rattle.wasm_code.specs.declared.operator.Operator.{Operator}
+use Rattle.mutate_base.specs.Module.{Module}
+use Rattle.mutate_base.specs.declared.types.PrimitiveTypeInfo.{PrimitiveTypeInfo}
+use Rattle.wasm_sections.specs.declared.fault.ModuleError.{ModuleError}
+use Rattle.wasm_module.specs.Module.{Layout, IsModule}
+use Rattle.peephole_modules.specs.Function.{IsFunction}
+use Rattle.peephole_modules.specs.Mutated.{CannotMutate, IsChosen}
 use Rattle.peephole_modules.specs.declared.mutation.MutationError.TheVariants.{Read}
 use Rattle.peephole_modules.specs.Mutates.{RefusesMutations}
 use Rattle.peephole_module_commands.specs.declared.failure.Failure.{Failure}
-use Rattle.peephole_module_commands.specs.declared.failure.Failure.TheVariants.{Nothing, NoFunction, UnknownImport, Refused, Input, TooLong, Output, Memory}
+use Rattle.peephole_module_commands.specs.declared.failure.Failure.TheVariants.{Nothing, Unreadable, NoFunction, UnknownImport, Refused, Input, TooLong, Output, Memory}
 
 -- the module can't be read: it is refused
 abbrev pub FailsToRead : (bytes : List ℕ) → Failure → Type 0
@@ -26,11 +32,65 @@ FailsToTake input TooLong = IfSome input (λ bytes. 1073741824 < length bytes)
 FailsToTake input Memory = Unit {0}
 FailsToTake input e = ⊥
 
--- The module isn't written rewritten: no rule applies, it or one that rewrites made of it is refused, or as reading the input or reporting fails.
+-- ---- the functions that are looked at
+
+-- the module has none of its own with the index that is named
+pub record LacksFunction (layout : Layout) (only : Option ℕ) (function : ℕ) : Type 0 where
+  pub named : only ≡ Some function
+  pub none : (n : ℕ) → n < length layout.entries → layout.imported_functions + n ≢ function
+
+-- one is named, and an import isn't known, so that no function's index is
+pub record LacksIndices (layout : Layout) (only : Option ℕ) (e : ModuleError) : Type 0 where
+  pub function : ℕ
+  pub named : only ≡ Some function
+  pub unknown : layout.unknown.imports ≡ Some e
+
+-- why no function is looked at
+abbrev pub RefusesIndex : Layout → (only : Option ℕ) → Failure → Type 0
+RefusesIndex layout only (NoFunction function) = LacksFunction layout only function
+RefusesIndex layout only (UnknownImport e) = LacksIndices layout only e
+RefusesIndex layout only e = ⊥
+
+-- the same of the module with these bytes
+pub record RefusesIndexOf (only : Option ℕ) (bytes : List ℕ) (e : Failure) : Type 0 where
+  pub info : Module
+  pub layout : Layout
+  pub is : IsModule bytes info layout
+  pub refuses : RefusesIndex layout only e
+
+-- the function of the n-th code entry can be read
+pub record CanRead (bytes : List ℕ) (info : Module) (layout : Layout) (n : ℕ) : Type 0 where
+  pub locals : List PrimitiveTypeInfo
+  pub expression : ℕ
+  pub operators : List (Operator × ℕ)
+  pub is : IsFunction bytes info layout n locals expression operators
+
+-- One of the functions that are looked at can be read.
+pub record CanReadOne (only : Option ℕ) (bytes : List ℕ) : Type 0 where
+  pub info : Module
+  pub layout : Layout
+  pub is : IsModule bytes info layout
+  pub n : ℕ
+  pub inside : n < length layout.entries
+  pub chosen : IsChosen only (layout.imported_functions + n)
+  pub can : CanRead bytes info layout n
+
+-- None of them can.
+pub record CanReadNone (only : Option ℕ) (bytes : List ℕ) : Type 0 where
+  pub info : Module
+  pub layout : Layout
+  pub is : IsModule bytes info layout
+  pub none : (n : ℕ) → n < length layout.entries → IsChosen only (layout.imported_functions + n) → ¬ (CanRead bytes info layout n)
+
+-- ---- a module that isn't rewritten
+
+-- The module isn't written rewritten: no function is looked at, none of those that are can be read, or no rule applies in those that can; it or one that
+-- rewrites made of it is refused; or as reading the input or reporting fails.
 abbrev pub FailsToRewrite : List Rule → (only : Option ℕ) → (count : ℕ) → (bytes : List ℕ) → Failure → Type 0
-FailsToRewrite rules only count bytes Nothing = CannotMutate rules only bytes
-FailsToRewrite rules only count bytes (NoFunction function) = ⊥
-FailsToRewrite rules only count bytes (UnknownImport e) = ⊥
+FailsToRewrite rules only count bytes Nothing = CannotMutate rules only bytes × CanReadOne only bytes
+FailsToRewrite rules only count bytes Unreadable = CanReadNone only bytes
+FailsToRewrite rules only count bytes (NoFunction function) = RefusesIndexOf only bytes (NoFunction function)
+FailsToRewrite rules only count bytes (UnknownImport e) = RefusesIndexOf only bytes (UnknownImport e)
 FailsToRewrite rules only count bytes (Refused e) = RefusesMutations rules only count bytes e
 FailsToRewrite rules only count bytes Input = Unit {0}
 FailsToRewrite rules only count bytes TooLong = 1073741824 < length bytes

@@ -1,3 +1,4 @@
 pub mod Failures
+pub mod Lines
 pub mod Status
 pub mod Writes

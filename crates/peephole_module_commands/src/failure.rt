@@ -15,6 +15,9 @@ pub enum Failure {
     /// No rule applies.
     #[error("no rule applies")]
     Nothing,
+    /// None of the functions that are looked at can be read.
+    #[error("no function can be read")]
+    Unreadable,
     /// The module has no function of its own with this index.
     #[error("the module has no function {0} of its own")]
     NoFunction(usize),
@@ -44,7 +47,10 @@ impl Failure {
         ensures { result ≡ status_of self.now }
     {
         match self {
-            Failure::Nothing | Failure::NoFunction(_) | Failure::UnknownImport(_) => 2,
+            Failure::Nothing
+            | Failure::Unreadable
+            | Failure::NoFunction(_)
+            | Failure::UnknownImport(_) => 2,
             _ => 1,
         }
     }

@@ -1,11 +1,13 @@
 //! The functions of a module that are looked at.
-ghost use Rattle.std.specs.Prelude.{◌≡◌, ◌↔◌, ◌≤◌, ◌<◌, ◌+◌, ◌^◌, ℕ, length, IfOk, IfErr};
+ghost use Rattle.std.specs.Prelude.{◌≡◌, ◌↔◌, ◌≤◌, ◌<◌, ◌+◌, ◌^◌, ℕ, length, IfOk, IfErr, IsTrue, false};
 ghost use Rattle.peephole_modules.specs.Mutated.{IsChosen};
-ghost use Rattle.peephole_module_commands.specs.Failures.{FailsToRead};
+ghost use Rattle.peephole_module_commands.specs.Failures.{CanRead, FailsToRead, RefusesIndex};
+ghost use Rattle.peephole_module_commands.specs.declared.failure.Failure.TheVariants.{Memory};
 ghost use Rattle.wasm_module.specs.Module.{IsModule};
 
 use crate::failure::Failure;
-use peephole_modules::{FunctionError, MutationError};
+use mutate_base::ModuleInfo;
+use peephole_modules::{FunctionError, MutationError, read_function};
 use std::alloc::Global;
 use std::ops::Range;
 use wasm_module::{Layout, Module, read_module};
@@ -37,6 +39,7 @@ pub fn chosen_entries(layout: &Layout, only: Option<usize>) -> Result<Range<usiz
         (r.start ≤ r.end) × (r.end ≤ length layout.now.entries)) }
     ensures chosen { IfOk result (λ r. (n : ℕ) → ((r.start ≤ n) × (n < r.end))
         ↔ ((n < length layout.now.entries) × IsChosen only (layout.now.imported_functions + n))) }
+    ensures refused { IfErr result (RefusesIndex layout.now only) }
 {
     let count = layout.entries.len();
     let Some(function) = only else {
@@ -51,6 +54,37 @@ pub fn chosen_entries(layout: &Layout, only: Option<usize>) -> Result<Range<usiz
     }
     let n = function - imported;
     Ok(n..n + 1)
+}
+
+/// Whether one of the functions of these code entries can be read. `Memory` for want of memory.
+pub fn can_read_any(
+    alloc: Global,
+    bytes: &[u8],
+    info: &ModuleInfo<'_>,
+    layout: &Layout,
+    entries: Range<usize>,
+) -> Result<bool, Failure>
+    requires module { IsModule bytes.now info.now layout.now }
+    requires inside { entries.end ≤ length layout.now.entries }
+    ensures some { IfOk result (λ b. IsTrue b → (n : ℕ) × (entries.start ≤ n) × (n < entries.end)
+        × CanRead bytes.now info.now layout.now n) }
+    ensures none { IfOk result (λ b. b ≡ false → (n : ℕ) → entries.start ≤ n → n < entries.end
+        → ¬ (CanRead bytes.now info.now layout.now n)) }
+    ensures memory { IfErr result (λ e. e ≡ Memory) }
+{
+    let from = entries.start;
+    let to = entries.end;
+    for n in from..to {
+        match read_function(alloc, bytes, info, layout, n) {
+            Ok(_) => return Ok(true),
+            Err(e) => {
+                if e.is_memory() {
+                    return Err(Failure::Memory);
+                }
+            }
+        }
+    }
+    Ok(false)
 }
 
 /// Why a function can't be read: the name of the first fault, and its offset in the module. `start` is where the function's code

@@ -1,5 +1,7 @@
 //! The rewrites that there are of a module.
-ghost use Rattle.std.specs.Prelude.{◌≡◌, ◌<◌, length, IfErr};
+ghost use Rattle.std.specs.Prelude.{◌≡◌, ◌<◌, ℕ, List, length, IfErr, OnOk};
+ghost use Rattle.std.specs.Io.KnownBytes.{Appends};
+ghost use Rattle.peephole_module_commands.specs.Lines.{ListsFunction, WritesList, rewrite_line, rewrite_lines};
 ghost use Rattle.peephole_module_commands.specs.declared.failure.Failure.TheVariants.{Output};
 ghost use Rattle.wasm_module.specs.Module.{IsModule};
 
@@ -19,7 +21,9 @@ pub fn write_rewrite<W: Write>(
     function: usize,
     rewrite: &Rewrite,
 ) -> Result<(), Failure>
-    ensures { IfErr result (λ e. e ≡ Output) }
+    ensures line { OnOk result (Appends (W.contents output.old) (W.contents output.new)
+        (rewrite_line function rewrite.now)) }
+    ensures fails { IfErr result (λ e. e ≡ Output) }
 {
     let operator = rewrite.operator;
     let rule = rewrite.rule.name();
@@ -27,6 +31,21 @@ pub fn write_rewrite<W: Write>(
         output,
         "function {function} operator {operator} rule {rule}"
     )?;
+    Ok(())
+}
+
+// Writes the lines of the rewrites of the function with the index.
+fn write_rewrites<W: Write>(
+    output: &mut W,
+    function: usize,
+    rewrites: &[Rewrite],
+) -> Result<(), Failure>
+    ensures { OnOk result (Appends (W.contents output.old) (W.contents output.new)
+        (rewrite_lines function rewrites.now)) }
+{
+    for rewrite in rewrites {
+        write_rewrite(output, function, rewrite)?;
+    }
     Ok(())
 }
 
@@ -42,6 +61,8 @@ fn list_function<W: Write>(
 ) -> Result<(), Failure>
     requires module { IsModule bytes.now info.now layout.now }
     requires inside { n < length layout.now.entries }
+    ensures { OnOk result ((text : List ℕ) × Appends (W.contents output.old) (W.contents output.new) text
+        × ListsFunction rules.now bytes.now info.now layout.now n text) }
 {
     let function = match read_function(alloc, bytes, info, layout, n) {
         Ok(function) => function,
@@ -53,11 +74,7 @@ fn list_function<W: Write>(
         }
     };
     let rewrites = rewrites_of_body(alloc, &function.locals, info, rules, &function.operators)?;
-    let index = index_of(layout, n);
-    for rewrite in &rewrites {
-        write_rewrite(output, index, rewrite)?;
-    }
-    Ok(())
+    write_rewrites(output, index_of(layout, n), &rewrites)
 }
 
 /// Writes a line for each rewrite by one of the rules that there is in a function of the module that can be read; with `only`, in
@@ -70,11 +87,16 @@ pub fn list_rewrites<W: Write>(
     rules: &[Rule],
     only: Option<usize>,
     output: &mut W,
-) -> Result<(), Failure> {
+) -> Result<(), Failure>
+    ensures { OnOk result (WritesList rules.now only bytes.now (W.contents output.old)
+        (W.contents output.new)) }
+{
     let module = module_of(alloc, bytes)?;
     let layout = module.layout;
     let chosen = chosen_entries(&layout, only)?;
-    for n in chosen.start..chosen.end {
+    let from = chosen.start;
+    let to = chosen.end;
+    for n in from..to {
         list_function(alloc, &module.info, bytes, &layout, n, rules, output)?;
     }
     Ok(())

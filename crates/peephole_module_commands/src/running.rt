@@ -2,6 +2,7 @@
 ghost use Rattle.std.specs.Prelude.{◌≡◌, ◌≢◌, OnOk, IfErr, IfSome};
 ghost use Rattle.peephole_module_commands.specs.Failures.{FailsToRewrite};
 ghost use Rattle.peephole_module_commands.specs.declared.failure.Failure.TheVariants.{Output};
+ghost use Rattle.peephole_module_commands.specs.Lines.{WritesList};
 ghost use Rattle.peephole_module_commands.specs.Writes.{WritesMutated};
 
 use crate::blocks::list_blocks;
@@ -53,12 +54,17 @@ pub fn run<R: Read, W: Write, E: Write>(
     output: &mut W,
     notes: &mut E,
 ) -> Result<(), Failure>
-    // What is written is the input rewritten, and what stands round each rewritten tree runs as before.
+    // What is written is the input rewritten, valid where that was; what stands round each rewritten tree runs as before, and its
+    // functions do what they did.
     ensures written { options.now.task ≡ Task.Rewrite → OnOk result
         (IfSome (R.remaining input.old) (λ bytes. WritesMutated options.now.rules.items
         options.now.function options.now.count bytes (W.contents output.old)
         (W.contents output.new))) }
-    // Why it fails: with `Nothing`, only where no rule applies.
+    // A list has a line for each rewrite that there is in the functions that are looked at, and no other.
+    ensures listed { options.now.task ≡ Task.List → OnOk result
+        (IfSome (R.remaining input.old) (λ bytes. WritesList options.now.rules.items
+        options.now.function bytes (W.contents output.old) (W.contents output.new))) }
+    // Why it fails: with `Nothing`, only where no rule applies in a function that can be read; with `Unreadable`, only where none can.
     ensures fails { options.now.task ≡ Task.Rewrite → IfErr result (λ e.
         IfSome (R.remaining input.old) (λ bytes. FailsToRewrite options.now.rules.items
         options.now.function options.now.count bytes e)) }

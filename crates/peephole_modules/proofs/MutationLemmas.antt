@@ -1,14 +1,19 @@
 -- One code entry of a module rewritten.
-use Rattle.std.proofs.Common.{◌≡◌, ℕ, ◌-◌, ◌≤◌, List, [], ◌++◌, length, drop, map, Option, Some, None, Result, Ok, Err, sym, ap, subst, ◌∙◌, arith, refl}
-use Rattle.std.specs.Prelude.{IfOk, IfErr, IfNone, IfSome, slice_get, slice_range}
+use Rattle.std.proofs.Common.{◌≡◌, ℕ, ◌-◌, ◌≤◌, List, [], ◌∷◌, ◌++◌, length, drop, map, Option, Some, None, Result, Ok, Err, sym, ap, subst, ◌∙◌, arith, refl}
+use Rattle.std.specs.Prelude.{◌≢◌, IfOk, IfErr, IfNone, IfSome, slice_get, slice_range}
+use Rattle.std.specs.List.{All}
 use Rattle.std.proofs.lemmas.List.{length-append, length-take, length-drop}
+use Rattle.std.proofs.lemmas.List.Elements.{All-nil, All-cons}
 use Rattle.std.proofs.lemmas.Option.{same_Some}
+use Rattle.wasm_code.specs.Body.{SpellsBody}
 use Rattle.wasm_code.specs.declared.operator.Operator.{Operator}
 use Rattle.mutate_base.specs.Module.{Module}
 use Rattle.mutate_base.specs.declared.error.Error.{Error}
 use Rattle.mutate_base.specs.declared.types.PrimitiveTypeInfo.{PrimitiveTypeInfo}
+use Rattle.mutate_base.specs.declared.types.PrimitiveTypeInfo.TheVariants.{Empty}
 use Rattle.wasm_declarations.specs.declared.entries.Entry.{Entry}
-use Rattle.wasm_module.specs.Module.{Layout}
+use Rattle.wasm_module.specs.Module.{Layout, IsModule}
+use Rattle.wasm_module.specs.Reread.{IsReread}
 use Rattle.wasm_module.specs.Inside.{IsInside}
 use Rattle.wasm_module.specs.Limits.{IsTooLarge}
 use Rattle.wasm_module.specs.Rewritten.{IsRewritten}
@@ -16,21 +21,32 @@ use Rattle.wasm_sections.specs.declared.writing.WriteError.{WriteError}
 use Rattle.wasm_sections.specs.declared.writing.WriteError.TheVariants.{TooLarge, Memory}
 use Rattle.peephole_machine.specs.Values.{context_in}
 use Rattle.peephole_terms.specs.declared.encoder.request.ResourceRequest.{ResourceRequest}
-use Rattle.peephole_terms.specs.Expansion.{Setting}
+use Rattle.peephole_terms.specs.Expansion.{Setting, requests_of, request}
+use Rattle.peephole_terms.specs.NodeKind.{primitive_of}
+use Rattle.peephole_terms.specs.declared.encoder.node_kind.NumberType.{NumberType}
+use Rattle.peephole_terms.specs.declared.encoder.node_kind.NumberType.TheVariants as number
 use Rattle.peephole_terms.specs.Written.{IsBodyIn}
 use Rattle.peephole_rules.specs.declared.rule.Rule.{Rule}
 use Rattle.peephole_rewrites.specs.declared.rewrite.Rewrite.{Rewrite}
 use Rattle.peephole_rewrites.specs.Choice.{AppendsChosen, RefusesChosen}
-use Rattle.peephole_rewrites.specs.Rewriting.{AreTheRewrites}
+use Rattle.peephole_rewrites.specs.Rewriting.{AreTheRewrites, AppendsRewritten}
 use Rattle.peephole_modules.specs.Function.{IsFunction}
 use Rattle.peephole_modules.specs.Mutated.{HasNoMutation, IsBehindLocals, MutatesEntry, RefusesEntry, RefusesFunction, requested}
 use Rattle.peephole_modules.specs.declared.mutation.MutationError.TheVariants.{Write}
+use Rattle.peephole_modules.proofs.ReadAgainLemmas.{read_again}
 
 abbrev Types : Type 0
 Types = List PrimitiveTypeInfo
 
 abbrev Operators : Type 0
 Operators = List (Operator × ℕ)
+
+-- what is known of rewritten bytes
+abbrev pub RewrittenBytesAreAModule : Type 0
+RewrittenBytesAreAModule =
+    (bytes : List ℕ) (info : Module) (layout : Layout) (n : ℕ) (contents : List ℕ) (more : Types) (new : List ℕ) → IsModule bytes info layout →
+    IsRewritten bytes layout n contents more new → layout.unknown.imports ≡ None → layout.unknown.globals ≡ None →
+    All (λ (t : PrimitiveTypeInfo). t ≢ Empty) more → IsReread bytes info layout n contents more new
 
 -- ---- what calls answer
 
@@ -136,18 +152,52 @@ refuses_function rules bytes info layout n locals lent expression operators give
 
 -- ---- the new module
 
-pub mutates : (rules : List Rule) (bytes : List ℕ) (info : Module) (layout : Layout) (n : ℕ) (locals lent : Types) (expression : ℕ)
+-- what is asked for is of the types of globals
+asked_types : (ks : List NumberType) → map requested (map request ks) ≡ map primitive_of ks
+asked_types [] = refl
+asked_types (k ∷ ks) = ap (λ (ts : Types). primitive_of k ∷ ts) (asked_types ks)
+
+-- none of which is `Empty`
+some_type : (k : NumberType) → primitive_of k ≢ Empty
+some_type number.I32 e = absurd cc
+some_type number.I64 e = absurd cc
+some_type number.F32 e = absurd cc
+some_type number.F64 e = absurd cc
+
+all_types : (ks : List NumberType) → All (λ (t : PrimitiveTypeInfo). t ≢ Empty) (map primitive_of ks)
+all_types [] = All-nil (λ (t : PrimitiveTypeInfo). t ≢ Empty)
+all_types (k ∷ ks) = All-cons (λ (t : PrimitiveTypeInfo). t ≢ Empty) (primitive_of k) (map primitive_of ks) (some_type k) (all_types ks)
+
+pub requested_are : {locals : Types} {s : Setting} {input : List ℕ} {operators : Operators} {r : Rewrite} {old new : List ℕ}
+    {requests : List ResourceRequest} {left : Option Setting} (w : AppendsRewritten locals s input operators r old new requests left) →
+    map requested requests ≡ map primitive_of (requests_of w.term)
+requested_are w = ap (map requested) w.asks ∙ asked_types (requests_of w.term)
+
+pub mutates : RewrittenBytesAreAModule → (rules : List Rule) (bytes : List ℕ) (info : Module) (layout : Layout) (n : ℕ) (locals lent : Types) (expression : ℕ)
     (operators given : Operators) (entry : Entry) (rewrite : Rewrite) (old body : List ℕ) (requests : List ResourceRequest)
-    (left : Option Setting) (front written : List ℕ) (globals : Types) (new : List ℕ) → IsFunction bytes info layout n locals expression operators →
-    lent ≡ locals → given ≡ operators → old ≡ [] →
+    (left : Option Setting) (front written : List ℕ) (globals : Types) (new : List ℕ) → IsModule bytes info layout →
+    IsFunction bytes info layout n locals expression operators → lent ≡ locals → given ≡ operators → old ≡ [] →
     AppendsChosen lent info rules bytes given rewrite old body requests left → slice_get layout.entries n ≡ Some entry →
     front ≡ slice_range bytes entry.contents expression → written ≡ body → globals ≡ map requested requests →
     IsRewritten bytes layout n (front ++ written) globals new → MutatesEntry rules bytes info layout n rewrite new
-mutates rules bytes info layout n locals lent expression operators given entry rewrite old body requests left front written globals new
-    f lent_is given_is empty appended at front_is written_is globals_are rewritten =
+mutates law rules bytes info layout n locals lent expression operators given entry rewrite old body requests left front written globals new
+    known f lent_is given_is empty appended at front_is written_is globals_are rewritten =
     let same : entry ≡ f.entry = same_Some _ _ (sym at ∙ f.is.at) in
     let start : front ≡ slice_range bytes f.entry.contents expression =
     front_is ∙ ap (λ (e : Entry). slice_range bytes e.contents expression) same in
+    let appends : AppendsChosen locals info rules bytes operators rewrite [] body requests left =
+    subst (λ (ts : Types). AppendsChosen ts info rules bytes operators rewrite [] body requests left) lent_is
+    (subst (λ (os : Operators). AppendsChosen lent info rules bytes os rewrite [] body requests left) given_is
+    (subst (λ (o : List ℕ). AppendsChosen lent info rules bytes given rewrite o body requests left) empty appended)) in
+    let is : IsRewritten bytes layout n (slice_range bytes f.entry.contents expression ++ body) (map requested requests) new =
+    subst (λ (gs : Types). IsRewritten bytes layout n (slice_range bytes f.entry.contents expression ++ body) gs new) globals_are
+    (subst (λ (b : List ℕ). IsRewritten bytes layout n (slice_range bytes f.entry.contents expression ++ b) globals new) written_is
+    (subst (λ (a : List ℕ). IsRewritten bytes layout n (a ++ written) globals new) start rewritten)) in
+    let w = appends.2.1 in
+    let all : All (λ (t : PrimitiveTypeInfo). t ≢ Empty) (map requested requests) =
+    subst (All (λ (t : PrimitiveTypeInfo). t ≢ Empty)) (sym (requested_are w)) (all_types (requests_of w.term)) in
+    let spells : SpellsBody 0 body w.written.reads.again =
+    subst (λ (b : List ℕ). SpellsBody 0 b w.written.reads.again) (sym w.written.appended) w.written.reads.spells in
     record {
       locals = locals;
       expression = expression;
@@ -156,12 +206,11 @@ mutates rules bytes info layout n locals lent expression operators given entry r
       body = body;
       requests = requests;
       left = left;
-      rewritten = subst (λ (ts : Types). AppendsChosen ts info rules bytes operators rewrite [] body requests left) lent_is
-          (subst (λ (os : Operators). AppendsChosen lent info rules bytes os rewrite [] body requests left) given_is
-          (subst (λ (o : List ℕ). AppendsChosen lent info rules bytes given rewrite o body requests left) empty appended));
-      written = subst (λ (gs : Types). IsRewritten bytes layout n (slice_range bytes f.entry.contents expression ++ body) gs new) globals_are
-          (subst (λ (b : List ℕ). IsRewritten bytes layout n (slice_range bytes f.entry.contents expression ++ b) globals new) written_is
-          (subst (λ (a : List ℕ). IsRewritten bytes layout n (a ++ written) globals new) start rewritten));
+      rewritten = appends;
+      written = is;
+      again = read_again f body w.written.reads.again (map requested requests) new spells
+          (law bytes info layout n (slice_range bytes f.entry.contents expression ++ body) (map requested requests) new known is
+          f.is.indices.imports f.is.indices.globals all);
     }
 
 -- the same where it doesn't fit

@@ -14,11 +14,13 @@ use Rattle.peephole_machine.specs.Values.{context_in}
 use Rattle.peephole_terms.specs.declared.encoder.request.ResourceRequest.{ResourceRequest}
 use Rattle.peephole_terms.specs.declared.encoder.request.ResourceRequest.TheVariants as requests
 use Rattle.peephole_terms.specs.Expansion.{Setting}
+use Rattle.peephole_terms.specs.Written.{without_offsets}
 use Rattle.peephole_rules.specs.declared.rule.Rule.{Rule}
 use Rattle.peephole_rewrites.specs.declared.rewrite.Rewrite.{Rewrite}
 use Rattle.peephole_rewrites.specs.Choice.{AppendsChosen, RefusesChosen}
 use Rattle.peephole_rewrites.specs.Rewriting.{AreTheRewrites}
 use Rattle.peephole_modules.specs.Function.{IsFunction}
+use Rattle.peephole_modules.specs.ReadAgain.{IsReadAgain}
 use Rattle.peephole_modules.specs.declared.mutation.MutationError.{MutationError}
 use Rattle.peephole_modules.specs.declared.mutation.MutationError.TheVariants as mutations
 
@@ -32,7 +34,7 @@ IsChosen None index = Unit {0}
 IsChosen (Some function) index = index ≡ function
 
 -- The new bytes are the module with the tree of an operator of its n-th code entry rewritten in its place by one of the rules: its locals stand as they
--- stood, what stands round the tree runs as before, and the globals that it asks for are appended.
+-- stood, what stands round the tree runs as before, and the globals that it asks for are appended. They are read again so.
 pub record MutatesEntry (rules : List Rule) (bytes : List ℕ) (info : Module) (layout : Layout) (n : ℕ) (rewrite : Rewrite) (new : List ℕ) : Type 0 where
   pub locals : List PrimitiveTypeInfo
   pub expression : ℕ
@@ -43,6 +45,7 @@ pub record MutatesEntry (rules : List Rule) (bytes : List ℕ) (info : Module) (
   pub left : Option Setting
   pub rewritten : AppendsChosen locals info rules bytes operators rewrite [] body requests left
   pub written : IsRewritten bytes layout n (slice_range bytes function.entry.contents expression ++ body) (map requested requests) new
+  pub again : IsReadAgain bytes info layout n locals (without_offsets (rewritten.2.1.written.reads.again)) (map requested requests) new
 
 -- The same of one of its code entries, that of the function with this index among all functions.
 abbrev pub MutatesOne : List Rule → (bytes : List ℕ) → Module → Layout → (function : ℕ) → Rewrite → (new : List ℕ) → Type 0

@@ -4,6 +4,7 @@
 
 mod drawing;
 mod function;
+pub mod laws;
 mod mutation;
 mod seeded;
 mod times;

@@ -4,10 +4,12 @@ ghost use Rattle.mutate_base.specs.Config.{info_of, ChangesGeneratorAlone};
 ghost use Rattle.wasm_module.specs.Module.{IsModule};
 ghost use Rattle.peephole_terms.specs.Expansion.{setting_of};
 ghost use Rattle.peephole_modules.specs.Chosen.{ChoosesAt, ChoosesBy, ChoosesFrom, ChoosesOfModule, ChoosesWithin};
+ghost use Rattle.peephole_modules.specs.DoesAsBefore.{DoesAsBefore};
 ghost use Rattle.peephole_modules.specs.Mutated.{CannotMutate, HasNoMutation, IsBehindLocals, IsMutated, MutatesEntry, MutatesOne, RefusesEntry, RefusesMutation, requested};
 
 use crate::drawing::draw_entry;
 use crate::function::{entry_at, function_index, read_function};
+use crate::laws::rewritten_modules_do_as_before;
 use mutate_base::{Error, PrimitiveTypeInfo, WasmMutate};
 use peephole_rewrites::{Rewrite, rewrite_tree_at_random};
 use peephole_rules::Rule;
@@ -16,7 +18,7 @@ use rand_core::Rng;
 use std::alloc::{AllocError, Global};
 use thiserror::Error as ErrorTexts;
 use wasm_code::Function;
-use wasm_module::laws::entries_are_inside;
+use wasm_module::laws::{entries_are_inside, rewritten_bytes_are_a_module};
 use wasm_module::{Entry, Layout, ModuleError, WriteError, read_module, with_body};
 
 // The most functions that are drawn, one after another, before all are tried in order.
@@ -110,6 +112,7 @@ fn mutate_entry<R: Rng + Drop>(
     ensures unchanged { ChangesGeneratorAlone config.old config.new }
 {
     entries_are_inside();
+    rewritten_bytes_are_a_module();
     let function = match read_function(alloc, bytes, config.info(), layout, n) {
         Ok(function) => function,
         Err(e) => {
@@ -292,6 +295,9 @@ fn mutate_function<R: Rng + Drop>(
 /// next three words choose the rewrite, as `rewrite_tree_at_random` says: what becomes of the body's size, the rule, the operator.
 /// So equal modules, generators, rules and `only` give equal bytes.
 ///
+/// The new bytes are a module again. It is valid where the old one was, and each of its functions, called with any arguments in any
+/// memory, tables and globals, does what it did, through loops, branches, recursion, calls of imports and calls through tables.
+///
 /// The new bytes differ from the old ones in the place of the tree, the globals that are appended, and the sizes and numbers that
 /// stand before them. It takes time linear in the module, and for each function that is drawn or tried in that function, times
 /// rules.
@@ -308,6 +314,9 @@ pub fn mutate_module<R: Rng + Drop>(
     // The new module is the old one with an operator's tree rewritten in its place, and what stands round it runs as before.
     ensures mutated { IfOk result (λ o. IfSome o (λ m.
         IsMutated rules.now only bytes.now m.function m.rewrite m.bytes.items)) }
+    // It is valid where the old one was, and its functions do what they did, in every sound embedder.
+    ensures does_as_before { IfOk result (λ o. IfSome o (λ m.
+        DoesAsBefore bytes.now m.bytes.items)) }
     // The function and the rewrite are those that the generator's words choose.
     ensures chosen { IfOk result (λ o. IfSome o (λ m. ChoosesOfModule
         rules.now only bytes.now (R.stream generator) m.function m.rewrite)) }
@@ -316,6 +325,7 @@ pub fn mutate_module<R: Rng + Drop>(
     // Refused only as the module can't be read, or as a rewrite of a function that may be rewritten is refused, or its writing.
     ensures refused { IfErr result (RefusesMutation rules.now only bytes.now) }
 {
+    rewritten_modules_do_as_before();
     let module = match read_module(alloc, bytes) {
         Ok(module) => module,
         Err(e) => return Err(MutationError::Read(e)),

@@ -1,5 +1,6 @@
 //! A module rewritten several times over, with a generator that is made from a seed.
 ghost use Rattle.std.specs.Prelude.{◌<◌, IfOk, IfErr, IfNone, IfSome};
+ghost use Rattle.peephole_modules.specs.DoesAsBefore.{DoesAsBefore};
 ghost use Rattle.peephole_modules.specs.Mutated.{CannotMutate};
 ghost use Rattle.peephole_modules.specs.Mutates.{Mutates, RefusesMutations};
 
@@ -23,6 +24,8 @@ pub fn mutate_with_seed(
     requires some { 0 < count }
     ensures mutated { IfOk result (λ o. IfSome o (λ m.
         Mutates rules.now only count bytes.now m.made.items m.bytes.items)) }
+    ensures does_as_before { IfOk result (λ o. IfSome o (λ m.
+        DoesAsBefore bytes.now m.bytes.items)) }
     ensures none { IfOk result (λ o. IfNone o (CannotMutate rules.now only bytes.now)) }
     ensures refused { IfErr result (RefusesMutations rules.now only count bytes.now) }
 {

@@ -1,8 +1,10 @@
 //! A module rewritten several times over.
 ghost use Rattle.std.specs.Prelude.{◌≡◌, ◌<◌, [], ◌∷◌, ◌++◌, IfOk, OnOk, IfErr, IfNone, IfSome};
+ghost use Rattle.peephole_modules.specs.DoesAsBefore.{DoesAsBefore};
 ghost use Rattle.peephole_modules.specs.Mutated.{CannotMutate};
 ghost use Rattle.peephole_modules.specs.Mutates.{Mutates, RefusesMutations};
 
+use crate::laws::{rewritten_modules_are_read_again, rewritten_modules_do_as_before};
 use crate::mutation::{MutationError, mutate_module};
 use peephole_rewrites::Rewrite;
 use peephole_rules::Rule;
@@ -44,7 +46,8 @@ fn add_made(
 /// generator going on. Fewer times only where no rule applies any more; none where no rule applies at all.
 ///
 /// Each rewrite takes time linear in the module. Refused as `mutate_module` refuses the module, or one that the rewrites made of it
-/// before; for want of memory also with `Rewrite` of `Memory`. Condition: `count` is not 0.
+/// before, which are modules again: with `Read` only the first one is refused, or for want of memory; for want of memory also with
+/// `Rewrite` of `Memory`. Condition: `count` is not 0.
 pub fn mutate_times<R: Rng + Drop>(
     alloc: Global,
     bytes: &[u8],
@@ -57,11 +60,16 @@ pub fn mutate_times<R: Rng + Drop>(
     // The new module is the old one rewritten once or more, at most `count` times, and what stands round each tree runs as before.
     ensures mutated { IfOk result (λ o. IfSome o (λ m.
         Mutates rules.now only count bytes.now m.made.items m.bytes.items)) }
+    // It is valid where the old one was, and its functions do what they did, in every sound embedder.
+    ensures does_as_before { IfOk result (λ o. IfSome o (λ m.
+        DoesAsBefore bytes.now m.bytes.items)) }
     // None only where no rule applies.
     ensures none { IfOk result (λ o. IfNone o (CannotMutate rules.now only bytes.now)) }
-    // Refused only as one of the modules on the way is refused, or for want of memory.
+    // Refused only as one of the modules on the way is refused, or for want of memory; with `Read` only as the first one is.
     ensures refused { IfErr result (RefusesMutations rules.now only count bytes.now) }
 {
+    rewritten_modules_are_read_again();
+    rewritten_modules_do_as_before();
     let mut generator = generator;
     let Some(first) = mutate_module(alloc, bytes, &mut generator, rules, only)? else {
         return Ok(None);

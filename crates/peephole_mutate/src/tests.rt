@@ -88,7 +88,7 @@ const RUNS: &str = "
 ! function 0 operator 2 rule commute
 ! bytes 40 new 40
 
---stats | REFERENCE | Err(Nothing)
+--stats | REFERENCE | Err(Unreadable)
 ! entry 0 UnknownForm at 20
 ! functions 1 unreadable 1
 
@@ -99,7 +99,11 @@ const RUNS: &str = "
 
 --rule fold | SUM | Err(Nothing)
 
---function 1 | SUM | Err(Nothing)
+--function 1 | SUM | Err(NoFunction(1))
+
+--function 0 | REFERENCE | Err(UnknownImport(ModuleError { kind: UnknownForm, offset: 20 }))
+
+--function 1 --rule commute | STRUCTURE | Err(Unreadable)
 
 --list --function 1 | SUM | Err(NoFunction(1))
 ";

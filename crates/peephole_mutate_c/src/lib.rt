@@ -26,6 +26,9 @@ fn rewritten_once(alloc: Global, bytes: &[u8], seed: u64) -> Option<Vec<u8>>
 /// Answers 0, and leaves the buffer as it was, where `size` is larger than the buffer, the bytes are no module that can be read, no
 /// rule applies, the new module doesn't fit, or no memory is left.
 ///
+/// The new module is valid where the old one was, and each of its functions, called with any arguments in any memory, tables and
+/// globals, does what it did.
+///
 /// C passes the buffer, its length, `size` and `seed`. Equal modules and seeds give equal bytes.
 #[unsafe(no_mangle)]
 pub extern "C" fn teddertempo_mutate_module(
@@ -36,7 +39,8 @@ pub extern "C" fn teddertempo_mutate_module(
 ) -> usize
     // Without a new module the buffer stays as it was.
     ensures untouched { result ≡ 0 → buffer.new ≡ buffer.old }
-    // Else the new module is the old one with an operator's tree rewritten in its place, and what stands round it runs as before.
+    // Else the new module is the old one with an operator's tree rewritten in its place; it is valid where that was, and its
+    // functions do what they did.
     ensures mutated { result ≢ 0
         → IsRewrittenOnce RULES (take size buffer.old) (take result buffer.new) }
     ensures whole { result ≢ 0 → size ≤ length buffer.old }

@@ -73,15 +73,17 @@ locals_of-locals-requires g c =
 
 pub returns-in-Ok-with_body-clause-mutated : goal.returns-in-Ok-with_body-clause-mutated
 returns-in-Ok-with_body-clause-mutated g c =
+    let known = lent_under (λ info. IsModule c.args.bytes.now info c.args.layout.now) (info_of c.args.config.now) c.info.result.now c.info.ensures
+    c.requires.module in
     under_lent (λ info. (c.function_index.result ≡ c.args.layout.now.imported_functions + c.args.n)
     × MutatesEntry c.args.rules.now c.args.bytes.now info c.args.layout.now c.args.n c.in-Ok-Some.made.rewrite c.in-Ok-with_body.new.items)
     (info_of c.args.config.now) c.info.result.now c.info.ensures (
       c.function_index.ensures,
-      mutates c.args.rules.now c.args.bytes.now c.info.result.now c.args.layout.now c.args.n c.in-Ok.function.locals.items c.deref.result.now
+      mutates c.rewritten_bytes_are_a_module.ensures c.args.rules.now c.args.bytes.now c.info.result.now c.args.layout.now c.args.n c.in-Ok.function.locals.items c.deref.result.now
           c.in-Ok.function.expression c.in-Ok.function.operators.items c.deref-2.result.now c.entry_at.result
           c.in-Ok-Some.made.rewrite c.new-body.result c.rewrite_tree_at_random.new.newfunc c.in-Ok-Some.made.requests.items
           (setting_of g.R.Rng.stream c.rewrite_tree_at_random.new.config) c.locals_of-locals.result.now c.bytes.result.now c.deref-4.result.now
-          c.in-Ok-with_body.new.items c.in-Ok.ensures.read c.deref.ensures.value c.deref-2.ensures.value c.new-body.ensures
+          c.in-Ok-with_body.new.items known c.in-Ok.ensures.read c.deref.ensures.value c.deref-2.ensures.value c.new-body.ensures
           (appended_by (setting_of g.R.Rng.stream c.args.config.now) (info_of c.args.config.now) c.info.result.now c.deref.result.now c.args.rules.now
           c.args.bytes.now c.deref-2.result.now c.in-Ok-Some.made.rewrite c.new-body.result c.rewrite_tree_at_random.new.newfunc
           c.in-Ok-Some.made.requests.items (setting_of g.R.Rng.stream c.rewrite_tree_at_random.new.config)

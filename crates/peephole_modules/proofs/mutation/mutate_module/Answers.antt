@@ -61,3 +61,19 @@ returns-clause-chosen g c =
     module_here c.args.rules.now c.args.bytes.now c.in-Ok.module.layout (setting_of g.R.Rng.stream c.set_up.new.self) c.in-Ok.module.info
     (g.R.Rng.stream c.args.generator) c.args.only (Some c.in-Some.function) m.function m.rewrite (rw c.set_up.ensures refl) c.in-Some.is c.in-Ok.ensures.read h)
     c.mutate_function.ensures.chosen
+
+pub returns-in-None-clause-does_as_before : goal.returns-in-None-clause-does_as_before
+returns-in-None-clause-does_as_before g c =
+    let under : info_of c.set_up.new.self ≡ Some c.in-Ok.module.info = rw c.set_up.ensures refl in
+    some_map c.mutate_any.result (λ m h.
+    c.rewritten_modules_do_as_before.ensures.one c.args.rules.now c.args.only c.args.bytes.now m.bytes.items m.function m.rewrite
+    (mutated_any c.args.rules.now c.args.only c.args.bytes.now (info_of c.set_up.new.self) c.in-Ok.module.info c.in-Ok.module.layout c.in-None.is
+    under c.in-Ok.ensures.read m.function m.rewrite m.bytes.items h)) c.mutate_any.ensures.mutated
+
+pub returns-clause-does_as_before : goal.returns-clause-does_as_before
+returns-clause-does_as_before g c =
+    let under : info_of c.set_up.new.self ≡ Some c.in-Ok.module.info = rw c.set_up.ensures refl in
+    some_map c.mutate_function.result (λ m h.
+    c.rewritten_modules_do_as_before.ensures.one c.args.rules.now c.args.only c.args.bytes.now m.bytes.items m.function m.rewrite
+    (mutated_one c.args.rules.now c.args.only c.args.bytes.now (info_of c.set_up.new.self) c.in-Ok.module.info c.in-Ok.module.layout
+    c.in-Some.function c.in-Some.is under c.in-Ok.ensures.read m.function m.rewrite m.bytes.items h)) c.mutate_function.ensures.mutated

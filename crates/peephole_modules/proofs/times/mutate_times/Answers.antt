@@ -2,6 +2,7 @@
 use Rattle.std.proofs.Common.{◌≡◌, ◌<◌, ◌∙◌, List, ℕ, ap, subst, arith, rules, Err}
 use Rattle.std.proofs.lemmas.Result.{err_from_is_err_and}
 use Rattle.peephole_modules.specs.Mutated.{IsMutated, RefusesMutation}
+use Rattle.peephole_modules.specs.Mutates.{Mutates}
 use Rattle.peephole_modules.proofs.MutatesLemmas.{ends, first, next, passed_on, refused_next}
 use Rattle.peephole_modules.proofs.times.mutate_times.Goals as goal
 
@@ -28,7 +29,7 @@ returns-in_err-next-clause-refused g c =
     subst (λ (b : List ℕ). RefusesMutation c.args.rules.now c.args.only b c.in_err-next.field-0.0) c.deref.ensures.value c.in_err-next.ensures.refused in
     passed_on c.args.rules.now c.args.only c.args.count c.args.bytes.now c.in_err-next.field-0.0 c.from_residual-in_err-next.result
     (p.1 ∙ ap (λ x. Err x) p.2)
-    (refused_next c.args.rules.now c.args.only c.args.count c.rewrites.counter c.args.bytes.now c.rewrites.module.made.items c.rewrites.module.bytes.items
+    (refused_next c.rewritten_modules_are_read_again.ensures c.args.rules.now c.args.only c.args.count c.rewrites.counter c.args.bytes.now c.rewrites.module.made.items c.rewrites.module.bytes.items
     c.in_err-next.field-0.0 c.rewrites.invariant below refused)
 
 pub returns-clause-mutated : goal.returns-clause-mutated
@@ -37,3 +38,18 @@ returns-clause-mutated g c =
     let all : c.rewrites.counter ≡ c.args.count = omega arith in
     ends c.args.rules.now c.args.only c.args.count c.rewrites.counter c.args.bytes.now c.rewrites.module.made.items c.rewrites.module.bytes.items
     c.rewrites.invariant some all
+
+pub returns-clause-does_as_before : goal.returns-clause-does_as_before
+returns-clause-does_as_before g c =
+    let some : 0 < c.rewrites.counter = omega arith in
+    let all : c.rewrites.counter ≡ c.args.count = omega arith in
+    c.rewritten_modules_do_as_before.ensures.each c.args.rules.now c.args.only c.args.count c.args.bytes.now c.rewrites.module.bytes.items
+    c.rewrites.module.made.items (ends c.args.rules.now c.args.only c.args.count c.rewrites.counter c.args.bytes.now c.rewrites.module.made.items
+    c.rewrites.module.bytes.items c.rewrites.invariant some all)
+
+pub returns-in_default-2-clause-does_as_before : goal.returns-in_default-2-clause-does_as_before
+returns-in_default-2-clause-does_as_before g c =
+    let mutates : Mutates c.args.rules.now c.args.only c.args.count c.args.bytes.now c.rewrites.module.made.items c.rewrites.module.bytes.items =
+    search rules in
+    c.rewritten_modules_do_as_before.ensures.each c.args.rules.now c.args.only c.args.count c.args.bytes.now c.rewrites.module.bytes.items
+    c.rewrites.module.made.items mutates

@@ -1,0 +1,96 @@
+-- Lines, one behind another.
+use Rattle.std.proofs.Common.{◌≡◌, ℕ, suc, ◌+◌, ◌-◌, ◌<◌, ◌≤◌, length, take, get_or, List, [], ◌∷◌, ◌++◌, Option, Some, None, Result, Ok, Err, refl, sym, ap, ◌∙◌, subst, append_assoc, append-nil, arith}
+use Rattle.std.specs.Prelude.{OnOk, ◌^◌}
+use Rattle.std.proofs.lemmas.List.{take_more}
+use Rattle.std.specs.Io.KnownBytes.{Appends, Keeps}
+use Rattle.wasm_code.specs.declared.operator.Operator.{Operator}
+use Rattle.mutate_base.specs.Module.{Module}
+use Rattle.mutate_base.specs.declared.types.PrimitiveTypeInfo.{PrimitiveTypeInfo}
+use Rattle.wasm_module.specs.Module.{Layout}
+use Rattle.peephole_machine.specs.Values.{context_in}
+use Rattle.peephole_rules.specs.declared.rule.Rule.{Rule}
+use Rattle.peephole_rewrites.specs.Rewriting.{AreTheRewrites}
+use Rattle.peephole_rewrites.specs.declared.rewrite.Rewrite.{Rewrite}
+use Rattle.peephole_modules.specs.Function.{IsFunction}
+use Rattle.peephole_module_commands.specs.Lines.{rewrite_line, rewrite_lines, ListsFunction, ListsFunctions, WritesList}
+use Rattle.peephole_module_commands.proofs.WritesLemmas.{appends_keeps}
+
+-- nothing was written
+pub appends_nothing : (a : Option (List ℕ)) → Appends a a []
+appends_nothing None = tt
+appends_nothing (Some xs) = sym (append-nil xs)
+
+-- one text behind another
+pub appends_more : (a b c : Option (List ℕ)) (front own : List ℕ) → Appends a b front → Appends b c own → Appends a c (front ++ own)
+appends_more None b c front own h k = tt
+appends_more (Some xs) None c front own h k = absurd h
+appends_more (Some xs) (Some ys) None front own h k = absurd k
+appends_more (Some xs) (Some ys) (Some zs) front own h k = k ∙ (ap (λ (l : List ℕ). l ++ own) h ∙ append_assoc xs front own)
+
+-- one line more
+pub lines_more : (function : ℕ) (rs : List Rewrite) (r : Rewrite) → rewrite_lines function (rs ++ r ∷ []) ≡ rewrite_lines function rs ++ rewrite_line function r
+lines_more function [] r = append-nil (rewrite_line function r)
+lines_more function (x ∷ rs) r =
+    ap (λ (l : List ℕ). rewrite_line function x ++ l) (lines_more function rs r)
+    ∙ sym (append_assoc (rewrite_line function x) (rewrite_lines function rs) (rewrite_line function r))
+
+-- one function more
+pub lists_more : (rules : List Rule) (bytes : List ℕ) (info : Module) (layout : Layout) (from n : ℕ) (front own : List ℕ) → from ≤ n →
+    ListsFunctions rules bytes info layout from (n - from) front → ListsFunction rules bytes info layout n own →
+    ListsFunctions rules bytes info layout from ((n + 1) - from) (front ++ own)
+lists_more rules bytes info layout from n front own l h k =
+    let count : suc (n - from) ≡ (n + 1) - from = omega arith in
+    let place : n ≡ from + (n - from) = omega arith in
+    subst (λ (c : ℕ). ListsFunctions rules bytes info layout from c (front ++ own)) count
+    (front, own, refl, h, subst (λ (m : ℕ). ListsFunction rules bytes info layout m own) place k)
+
+-- the lines of the first so many, and the next one
+pub lines_next : (a b c : Option (List ℕ)) (function : ℕ) (rs : List Rewrite) (k : ℕ) (d : Rewrite) → k < length rs →
+    Appends a b (rewrite_lines function (take k rs)) → Appends b c (rewrite_line function (get_or rs k d)) →
+    Appends a c (rewrite_lines function (take (k + 1) rs))
+lines_next a b c function rs k d l front own =
+    subst (Appends a c) (sym (ap (rewrite_lines function) (take_more rs k d l) ∙ lines_more function (take k rs) (get_or rs k d)))
+    (appends_more a b c (rewrite_lines function (take k rs)) (rewrite_line function (get_or rs k d)) front own)
+
+abbrev Types : Type 0
+Types = List PrimitiveTypeInfo
+
+abbrev Operators : Type 0
+Operators = List (Operator × ℕ)
+
+-- the lines of a function that was read
+pub lists_function : (rules : List Rule) (bytes : List ℕ) (info : Module) (layout : Layout) (n : ℕ) (locals lent : Types) (expression : ℕ)
+    (operators given : Operators) (list : List Rewrite) (index : ℕ) (text : List ℕ) → lent ≡ locals → given ≡ operators →
+    IsFunction bytes info layout n locals expression operators →
+    ((l : Types) (x : ℕ) (o : Operators) → IsFunction bytes info layout n l x o → (locals ≡ l) × (operators ≡ o)) →
+    AreTheRewrites (context_in info lent) rules given list → (layout.imported_functions + n < 2 ^ 64 → index ≡ layout.imported_functions + n) →
+    text ≡ rewrite_lines index list → ListsFunction rules bytes info layout n text
+lists_function rules bytes info layout n locals lent expression operators given list index text lent_is given_is f only are at is = record {
+  list = list;
+  are = λ l x o k.
+      let s = only l x o k in
+      subst (λ (ts : Types). AreTheRewrites (context_in info ts) rules o list) (lent_is ∙ s.0)
+      (subst (λ (os : Operators). AreTheRewrites (context_in info lent) rules os list) (given_is ∙ s.1) are);
+  none = λ never. absurd (never (record { locals = locals; expression = expression; operators = operators; is = f }));
+  lines = λ l. is ∙ ap (λ i. rewrite_lines i list) (at l);
+}
+
+-- the lines of one that can't be read: none
+pub lists_nothing : (rules : List Rule) (bytes : List ℕ) (info : Module) (layout : Layout) (n : ℕ) →
+    ((l : Types) (x : ℕ) (o : Operators) → IsFunction bytes info layout n l x o → ⊥) → ListsFunction rules bytes info layout n []
+lists_nothing rules bytes info layout n never = record {
+  list = [];
+  are = λ l x o f. absurd (never l x o f);
+  none = λ _. refl;
+  lines = λ _. refl;
+}
+
+-- what a call leaves where it succeeds
+pub ok_map : {X E : Type 0} {P Q : Type 0} (r : Result X E) → (P → Q) → OnOk r P → OnOk r Q
+ok_map (Ok x) f h = f h
+ok_map (Err e) f h = h
+
+-- the list was written, and nothing behind it
+pub list_kept : (rules : List Rule) (only : Option ℕ) (bytes : List ℕ) (a b c : Option (List ℕ)) → WritesList rules only bytes a b → Keeps b c →
+    WritesList rules only bytes a c
+list_kept rules only bytes a b c h k = record { text = h.text; lists = h.lists; written = appends_keeps a b c h.text h.written k }
