@@ -61,7 +61,8 @@ fn list_function<W: Write>(
 ) -> Result<(), Failure>
     requires module { IsModule bytes.now info.now layout.now }
     requires inside { n < length layout.now.entries }
-    ensures { OnOk result ((text : List ℕ) × Appends (W.contents output.old) (W.contents output.new) text
+    ensures { OnOk result ((text : List ℕ)
+        × Appends (W.contents output.old) (W.contents output.new) text
         × ListsFunction rules.now bytes.now info.now layout.now n text) }
 {
     let function = match read_function(alloc, bytes, info, layout, n) {
