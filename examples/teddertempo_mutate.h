@@ -34,8 +34,9 @@ size_t teddertempo_mutate_module(uint8_t *data, size_t max_size, size_t size, ui
  *   - where no memory is left.
  *
  * Bytes of data behind the new module stay as they were. A valid module stays valid, and each of its functions, called with any
- * arguments in any memory, tables and globals, does what it did: that is proved. Whether the module is valid to begin with, the
- * library doesn't check. A rewrite may append globals, so that many of them may pass an engine's limits.
+ * arguments in any memory, tables and globals, does what it did: that is proved, of validity by types, of functions that can be
+ * read, and with the exceptions that docs/PROMISES.md has (a host that lists globals or compares bytes, limits of stack and fuel,
+ * threads at a shared memory, bits of NaNs, instantiation). Whether the module is valid to begin with, the library doesn't check. A rewrite may append globals, so that many of them may pass an engine's limits.
  *
  * The caller sees to it that
  *   - data points to max_size bytes that may be read and written (it is not null, even where max_size is 0), and
