@@ -5,7 +5,8 @@ ghost use Rattle.mutate_base.specs.declared.types.PrimitiveTypeInfo.{PrimitiveTy
 use std::alloc::AllocError;
 use std::marker::Model;
 
-/// A value type, or `Empty` for no value.
+/// A value type, or `Empty` for no value. In what is read of a module `Empty` stands for each type that isn't among these: a value of
+/// such a type is passed on, and nothing but another of these accepts it.
 #[derive(Clone, Copy, Debug, PartialEq, Eq)]
 pub enum PrimitiveTypeInfo {
     I32,
@@ -59,6 +60,8 @@ impl PrimitiveTypeInfo {
 pub enum ElementType {
     Func,
     Extern,
+    /// Something else, which may be a function too.
+    Other,
 }
 
 /// What is known of a table: its elements, and whether 64 bits index them.
@@ -107,6 +110,8 @@ impl Clone for FuncInfo {
 pub enum TypeInfo {
     /// A function's.
     Func(FuncInfo),
+    /// Another, a structure's or an array's, of which nothing is known.
+    Other,
 }
 
 impl Clone for TypeInfo {
@@ -117,6 +122,7 @@ impl Clone for TypeInfo {
     fn clone(&self) -> Result<TypeInfo, AllocError> {
         match self {
             TypeInfo::Func(function) => Ok(TypeInfo::Func(function.clone()?)),
+            TypeInfo::Other => Ok(TypeInfo::Other),
         }
     }
 }

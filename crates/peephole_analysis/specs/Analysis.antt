@@ -22,7 +22,7 @@ use Rattle.mutate_base.specs.declared.types.ElementType.TheVariants as element
 use Rattle.mutate_base.specs.declared.types.PrimitiveTypeInfo.{PrimitiveTypeInfo}
 use Rattle.mutate_base.specs.declared.types.PrimitiveTypeInfo.TheVariants.{I32, I64, F32, F64, V128, FuncRef, ExternRef, Empty}
 use Rattle.mutate_base.specs.declared.types.TypeInfo.{TypeInfo}
-use Rattle.mutate_base.specs.declared.types.TypeInfo.TheVariants.{Func}
+use Rattle.mutate_base.specs.declared.types.TypeInfo.TheVariants.{Func, Other}
 use Rattle.peephole_lang.specs.Lang.{ids_of, payload_of}
 use Rattle.peephole_lang.specs.Node.{head_of}
 use Rattle.peephole_lang.specs.declared.lang.Head.{Head}
@@ -54,6 +54,7 @@ reference_type (Abstract heap.Extern) = ExternRef
 abbrev pub element_type : ElementType → PrimitiveTypeInfo
 element_type element.Func = FuncRef
 element_type element.Extern = ExternRef
+element_type element.Other = Empty
 
 -- of an address, by whether it has 64 bits
 abbrev pub address_type : Bool → PrimitiveTypeInfo
@@ -77,6 +78,7 @@ one_result _ = Err NoMutationsApplicable
 abbrev pub call_type : ℕ → Option TypeInfo → Result PrimitiveTypeInfo Error
 call_type index None = Err (UnknownFunction index)
 call_type index (Some (Func t)) = one_result t.returns
+call_type index (Some Other) = Err (UnknownFunction index)
 
 -- of an instruction that names something by its index
 abbrev pub index_type : Analysis → ResultKind → ℕ → Result PrimitiveTypeInfo Error

@@ -89,6 +89,7 @@ fn of_element(ty: ElementType) -> PrimitiveTypeInfo
     match ty {
         ElementType::Func => PrimitiveTypeInfo::FuncRef,
         ElementType::Extern => PrimitiveTypeInfo::ExternRef,
+        ElementType::Other => PrimitiveTypeInfo::Empty,
     }
 }
 
@@ -195,6 +196,7 @@ impl<'a> PeepholeMutationAnalysis<'a> {
             },
             ResultKind::Call => match self.info.get_functype_idx(index) {
                 Some(TypeInfo::Func(callee)) => of_results(callee.returns.as_slice()),
+                Some(TypeInfo::Other) => Err(Error::UnknownFunction(index)),
                 None => Err(Error::UnknownFunction(index)),
             },
             ResultKind::Memory => match self.info.memory_types.get(place) {

@@ -20,7 +20,7 @@ use Rattle.mutate_base.specs.declared.error.Error.TheVariants as error
 use Rattle.mutate_base.specs.declared.term_error.TermError.{TermError}
 use Rattle.mutate_base.specs.declared.types.PrimitiveTypeInfo.{PrimitiveTypeInfo}
 use Rattle.mutate_base.specs.declared.types.TypeInfo.{TypeInfo}
-use Rattle.mutate_base.specs.declared.types.TypeInfo.TheVariants.{Func}
+use Rattle.mutate_base.specs.declared.types.TypeInfo.TheVariants.{Func, Other}
 use Rattle.peephole_lang.specs.declared.lang.Head.{Head}
 use Rattle.peephole_lang.specs.Term.{Term, Node, tree_at}
 use Rattle.peephole_lang.specs.Text.{reads}
@@ -164,6 +164,7 @@ one_never (t ∷ u ∷ ts) e = cc
 
 call_never : (i : ℕ) (t : Option TypeInfo) → Refuses (call_type i t)
 call_never i None e = cc
+call_never i (Some Other) e = cc
 call_never i (Some (Func t)) e = one_never t.returns e
 
 abbrev error_in : Result PrimitiveTypeInfo Error → Error

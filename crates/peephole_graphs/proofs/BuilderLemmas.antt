@@ -20,7 +20,7 @@ use Rattle.wasm_code.specs.declared.table.RowInfo.{RowInfo}
 use Rattle.mutate_base.specs.Module.{Module, function_type}
 use Rattle.mutate_base.specs.declared.types.PrimitiveTypeInfo.{PrimitiveTypeInfo}
 use Rattle.mutate_base.specs.declared.types.TypeInfo.{TypeInfo}
-use Rattle.mutate_base.specs.declared.types.TypeInfo.TheVariants.{Func}
+use Rattle.mutate_base.specs.declared.types.TypeInfo.TheVariants.{Func, Other}
 use Rattle.peephole_graphs.specs.Shape.{Shape, Judged, Fits, Unfit, IsFit, AreFit, and_shape, operator_shapes, shapes_of_block, has_result, call_shape}
 use Rattle.peephole_graphs.specs.Shape.{judge_callee, judge_call, judge_row, judge_found, judge_instruction, judge}
 use Rattle.peephole_graphs.specs.Color.{color_after}
@@ -63,6 +63,7 @@ call_instr info i (Index function) = go (function_type info function)
   where
     go : (type : Option TypeInfo) → (shape_of_judged i (judge_callee i function type)).instr ≡ i
     go None = refl
+    go (Some Other) = refl
     go (Some (Func type)) = call_shape_instr i (length type.params) type.returns
 call_instr info i _ = refl
 

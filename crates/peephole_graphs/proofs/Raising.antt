@@ -16,7 +16,7 @@ use Rattle.wasm_code.specs.declared.table.RowInfo.{RowInfo}
 use Rattle.mutate_base.specs.Module.{Module, function_type}
 use Rattle.mutate_base.specs.declared.types.PrimitiveTypeInfo.{PrimitiveTypeInfo}
 use Rattle.mutate_base.specs.declared.types.TypeInfo.{TypeInfo}
-use Rattle.mutate_base.specs.declared.types.TypeInfo.TheVariants.{Func}
+use Rattle.mutate_base.specs.declared.types.TypeInfo.TheVariants.{Func, Other}
 use Rattle.peephole_graphs.specs.Shape.{Shape, Judged, Fits, and_shape, operator_shapes, shapes_of_block, has_result, call_shape, judge_callee, judge_call}
 use Rattle.peephole_graphs.specs.Shape.{judge_row, judge_found, judge}
 
@@ -65,6 +65,7 @@ results_raise i parameters (one ∷ other ∷ more) = tt
 
 callee_raises : (i : Instruction) (function : ℕ) (type : Option TypeInfo) → DoesRaise (judge_callee i function type)
 callee_raises i function None = tt
+callee_raises i function (Some Other) = tt
 callee_raises i function (Some (Func type)) = results_raise i (length type.params) type.returns
 
 call_raises : (info : Module) (i : Instruction) (imm : Imm) → DoesRaise (judge_call info i imm)

@@ -15,7 +15,7 @@ use Rattle.wasm_code.specs.declared.operator.Operator.TheVariants.{Instr}
 use Rattle.mutate_base.specs.Module.{Module, function_type}
 use Rattle.mutate_base.specs.declared.types.PrimitiveTypeInfo.{PrimitiveTypeInfo}
 use Rattle.mutate_base.specs.declared.types.TypeInfo.{TypeInfo}
-use Rattle.mutate_base.specs.declared.types.TypeInfo.TheVariants.{Func}
+use Rattle.mutate_base.specs.declared.types.TypeInfo.TheVariants.{Func, Other}
 -- a shape has the fields `instr`, `operands`, `has_result` and `change`; an operator fits with a shape, is unfit, or calls a function that isn't known
 pub use Rattle.peephole_graphs.specs.declared.shape.Shape.{Shape}
 pub use Rattle.peephole_graphs.specs.declared.shape.Judged.{Judged}
@@ -34,6 +34,7 @@ call_shape i parameters _ = Unfit
 -- a call of the function with an index, by its type; unknown where there is none
 abbrev pub judge_callee : Instruction → ℕ → Option TypeInfo → Judged
 judge_callee i function None = Unknown function
+judge_callee i function (Some Other) = Unknown function
 judge_callee i function (Some (Func type)) = call_shape i (length type.params) type.returns
 
 -- a call, whose immediate is the function's index

@@ -60,6 +60,7 @@ fn judge_call(info: &ModuleInfo, instr: Instr) -> Judged
     match instr.imm() {
         Imm::Index(function) => match info.get_functype_idx(function) {
             None => Judged::Unknown(function),
+            Some(TypeInfo::Other) => Judged::Unknown(function),
             Some(TypeInfo::Func(callee)) => call_shape(instr, callee),
         },
         _ => Judged::Unfit,

@@ -9,7 +9,7 @@ use Rattle.wasm_code.specs.declared.table.RowInfo.{RowInfo}
 use Rattle.mutate_base.specs.Module.{Module, type_at, function_type}
 use Rattle.mutate_base.specs.declared.types.PrimitiveTypeInfo.{PrimitiveTypeInfo}
 use Rattle.mutate_base.specs.declared.types.TypeInfo.{TypeInfo}
-use Rattle.mutate_base.specs.declared.types.TypeInfo.TheVariants.{Func}
+use Rattle.mutate_base.specs.declared.types.TypeInfo.TheVariants.{Func, Other}
 use Rattle.peephole_machine.specs.declared.operand.OperandColumn.{OperandColumn}
 use Rattle.peephole_machine.specs.declared.operand.OperandColumn.TheVariants as column
 use Rattle.peephole_machine.specs.OtherRow.{Operand, typed, first_index, parameters, Named, names_in, operands_in, column_by, column_in, results_by, both_of, type_by_row, other_type}
@@ -119,6 +119,7 @@ accept_same (p ∷ ps) (t ∷ ts) = ap (λ b. same_type p t && b) (accept_same p
 parameters_is : (o : Option TypeInfo) (ts : List PrimitiveTypeInfo) → accept_parameters o ts ≡ accept_some (parameters o) ts
 parameters_is None ts = refl
 parameters_is (Some (Func t)) ts = accept_same t.params ts
+parameters_is (Some Other) ts = refl
 
 function_is : (m : Module) (o : Option ℕ) → type_at m o ≡ option_and_then (slice_get m.types) o
 function_is m None = refl

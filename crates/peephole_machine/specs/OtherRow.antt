@@ -19,11 +19,11 @@ use Rattle.mutate_base.specs.Module.{Module}
 use Rattle.mutate_base.specs.declared.types.ElementType.{ElementType}
 use Rattle.mutate_base.specs.declared.types.ElementType.TheVariants as elements
 use Rattle.mutate_base.specs.declared.types.PrimitiveTypeInfo.{PrimitiveTypeInfo}
-use Rattle.mutate_base.specs.declared.types.PrimitiveTypeInfo.TheVariants.{I32, I64, F32, F64, V128, FuncRef, ExternRef}
+use Rattle.mutate_base.specs.declared.types.PrimitiveTypeInfo.TheVariants.{I32, I64, F32, F64, V128, FuncRef, ExternRef, Empty}
 use Rattle.mutate_base.specs.declared.types.MemoryType.{MemoryType}
 use Rattle.mutate_base.specs.declared.types.TableType.{TableType}
 use Rattle.mutate_base.specs.declared.types.TypeInfo.{TypeInfo}
-use Rattle.mutate_base.specs.declared.types.TypeInfo.TheVariants.{Func}
+use Rattle.mutate_base.specs.declared.types.TypeInfo.TheVariants.{Func, Other}
 use Rattle.peephole_machine.specs.declared.operand.OperandKind.{OperandKind}
 use Rattle.peephole_machine.specs.declared.operand.OperandKind.TheVariants as kind
 use Rattle.peephole_machine.specs.declared.operand.OperandColumn.{OperandColumn}
@@ -47,6 +47,7 @@ reference_type (Abstract heap.Extern) = ExternRef
 abbrev pub element_type : ElementType → PrimitiveTypeInfo
 element_type elements.Func = FuncRef
 element_type elements.Extern = ExternRef
+element_type elements.Other = Empty
 
 -- of an address, by whether it has 64 bits
 abbrev pub address_type : Bool → PrimitiveTypeInfo
@@ -126,6 +127,7 @@ operand_by n kind.Named = typed n.type
 abbrev pub parameters : Option TypeInfo → Option (List Operand)
 parameters None = None
 parameters (Some (Func t)) = Some (map (λ p. typed (Some p)) t.params)
+parameters (Some Other) = None
 
 abbrev pub operands_in : Named → OperandColumn → Option (List Operand)
 operands_in n column.Unknown = None
@@ -239,6 +241,7 @@ column_in (Some row) = column_by row.info.operands row.opcode
 abbrev pub returned : Option TypeInfo → Option (List PrimitiveTypeInfo)
 returned None = None
 returned (Some (Func t)) = Some t.returns
+returned (Some Other) = None
 
 abbrev pub results_by : Named → ResultKind → Option (List PrimitiveTypeInfo)
 results_by n by.Nothing = Some []

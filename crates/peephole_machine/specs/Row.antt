@@ -8,7 +8,7 @@ use Rattle.mutate_base.specs.Module.{Module, module_of}
 use Rattle.mutate_base.specs.declared.types.PrimitiveTypeInfo.{PrimitiveTypeInfo}
 use Rattle.mutate_base.specs.declared.types.TableType.{TableType}
 use Rattle.mutate_base.specs.declared.types.TypeInfo.{TypeInfo}
-use Rattle.mutate_base.specs.declared.types.TypeInfo.TheVariants.{Func}
+use Rattle.mutate_base.specs.declared.types.TypeInfo.TheVariants.{Func, Other}
 use Rattle.peephole_machine.specs.declared.operand.OperandColumn.{OperandColumn}
 use Rattle.peephole_machine.specs.OtherRow.{element_type, Named, Operand, names_in, operands_in, column_in}
 use Rattle.peephole_machine.specs.declared.row.Variable.{Variable as CodeVariable}
@@ -90,6 +90,7 @@ element_in tables i = option_map (λ x. element_type x.element_type) (slice_get 
 abbrev pub accept_parameters : Option TypeInfo → List PrimitiveTypeInfo → Bool
 accept_parameters None ts = false
 accept_parameters (Some (Func t)) ts = same_types t.params ts
+accept_parameters (Some Other) ts = false
 
 abbrev pub accept_some : Option (List Operand) → List PrimitiveTypeInfo → Bool
 accept_some None ts = false

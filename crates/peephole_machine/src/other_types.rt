@@ -56,6 +56,7 @@ fn element_type(element: ElementType) -> PrimitiveTypeInfo
     match element {
         ElementType::Func => PrimitiveTypeInfo::FuncRef,
         ElementType::Extern => PrimitiveTypeInfo::ExternRef,
+        ElementType::Other => PrimitiveTypeInfo::Empty,
     }
 }
 
@@ -174,6 +175,7 @@ fn accept_parameters(function: Option<&TypeInfo>, types: &[PrimitiveTypeInfo]) -
 {
     match function {
         Some(TypeInfo::Func(function)) => same_types(&function.params, types),
+        Some(TypeInfo::Other) => false,
         None => false,
     }
 }
@@ -264,6 +266,7 @@ fn returned(function: Option<&TypeInfo>) -> Option<Option<PrimitiveTypeInfo>>
 {
     match function {
         Some(TypeInfo::Func(function)) => at_most_one(&function.returns),
+        Some(TypeInfo::Other) => None,
         None => None,
     }
 }
@@ -324,6 +327,7 @@ fn parameter_count(function: Option<&TypeInfo>) -> usize
 {
     match function {
         Some(TypeInfo::Func(function)) => function.params.len(),
+        Some(TypeInfo::Other) => 0,
         None => 0,
     }
 }

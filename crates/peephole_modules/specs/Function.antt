@@ -8,7 +8,7 @@ use Rattle.wasm_code.specs.declared.fault.ReadKind.TheVariants as kinds
 use Rattle.mutate_base.specs.Module.{Module, function_type}
 use Rattle.mutate_base.specs.declared.types.PrimitiveTypeInfo.{PrimitiveTypeInfo}
 use Rattle.mutate_base.specs.declared.types.TypeInfo.{TypeInfo}
-use Rattle.mutate_base.specs.declared.types.TypeInfo.TheVariants.{Func}
+use Rattle.mutate_base.specs.declared.types.TypeInfo.TheVariants.{Func, Other}
 use Rattle.wasm_declarations.specs.declared.entries.Entry.{Entry}
 use Rattle.wasm_declarations.specs.Locals.{SpellsLocals, IsLocalsFault}
 use Rattle.wasm_sections.specs.declared.fault.ModuleError.{ModuleError}
@@ -22,6 +22,7 @@ use Rattle.peephole_modules.specs.declared.function.FunctionError.TheVariants.{U
 abbrev pub parameters_in : Option TypeInfo → Option (List PrimitiveTypeInfo)
 parameters_in None = None
 parameters_in (Some (Func type)) = Some type.params
+parameters_in (Some Other) = None
 
 -- those of the module's function with the index, where it has such a function and a type for it
 abbrev pub parameters_of : Module → ℕ → Option (List PrimitiveTypeInfo)

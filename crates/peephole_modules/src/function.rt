@@ -69,6 +69,7 @@ fn parameters<'a>(info: &'a ModuleInfo<'_>, index: usize) -> Option<&'a [Primiti
 {
     match type_of(info, index)? {
         TypeInfo::Func(function) => Some(&function.params),
+        TypeInfo::Other => None,
     }
 }
 

@@ -9,7 +9,7 @@ use Rattle.mutate_base.specs.Module.{Module}
 use Rattle.mutate_base.specs.declared.types.PrimitiveTypeInfo.{PrimitiveTypeInfo}
 use Rattle.mutate_base.specs.declared.types.PrimitiveTypeInfo.TheVariants as primitive
 use Rattle.mutate_base.specs.declared.types.TypeInfo.{TypeInfo}
-use Rattle.mutate_base.specs.declared.types.TypeInfo.TheVariants.{Func}
+use Rattle.mutate_base.specs.declared.types.TypeInfo.TheVariants.{Func, Other}
 use Rattle.mutate_base.specs.declared.types.TableType.{TableType}
 use Rattle.peephole_machine.specs.OtherRow.{value_type, address_type}
 use Rattle.peephole_machine.specs.Values.{Value, State, own_globals, unreachable, met, Ends, Traps, Stuck}
@@ -25,6 +25,7 @@ pub record Arity : Type 0 where
 
 abbrev pub function_arity : Option TypeInfo → Arity
 function_arity (Some (Func t)) = record { starts = t.params; ends = t.returns }
+function_arity (Some Other) = record { starts = []; ends = [] }
 function_arity None = record { starts = []; ends = [] }
 
 abbrev pub arity_of : Module → BlockType → Arity
@@ -32,9 +33,14 @@ arity_of m block.Empty = record { starts = []; ends = [] }
 arity_of m (block.Value t) = record { starts = []; ends = value_type t ∷ [] }
 arity_of m (block.FuncType i) = function_arity (slice_get m.types i)
 
--- the function type is there
+-- a function's type is there
+abbrev pub is_arity : Option TypeInfo → Bool
+is_arity (Some (Func t)) = true
+is_arity (Some Other) = false
+is_arity None = false
+
 abbrev pub has_arity : Module → BlockType → Bool
-has_arity m (block.FuncType i) = is_some (slice_get m.types i)
+has_arity m (block.FuncType i) = is_arity (slice_get m.types i)
 has_arity m t = true
 
 abbrev pub index_type : Option TableType → PrimitiveTypeInfo

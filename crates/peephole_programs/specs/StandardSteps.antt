@@ -10,7 +10,7 @@ use Rattle.mutate_base.specs.declared.types.ElementType.{ElementType}
 use Rattle.mutate_base.specs.declared.types.ElementType.TheVariants as element
 use Rattle.mutate_base.specs.declared.types.TableType.{TableType}
 use Rattle.peephole_machine.specs.Values.{same_types}
-use Rattle.peephole_programs.specs.Standard.{Arity, arity_of, has_arity, call_arity, Beyond}
+use Rattle.peephole_programs.specs.Standard.{Arity, arity_of, is_arity, has_arity, call_arity, Beyond}
 use Rattle.peephole_programs.specs.Validation.{all_may_be, known, Frame, can_pop, popped, with_pushed, Structural, on_innermost}
 
 -- the frame without operands of these types
@@ -84,9 +84,11 @@ abbrev pub can_jump_all : List Frame → (default f : Frame) → List ℕ → Bo
 can_jump_all frames default f [] = true
 can_jump_all frames default f (l ∷ ls) = can_jump frames default f l && can_jump_all frames default f ls
 
+-- the elements may be functions
 abbrev pub is_function : ElementType → Bool
 is_function element.Func = true
 is_function element.Extern = false
+is_function element.Other = true
 
 abbrev pub has_functions : Option TableType → Bool
 has_functions (Some t) = is_function t.element_type
@@ -94,7 +96,7 @@ has_functions None = false
 
 -- the function's type and a table of functions are there
 abbrev pub can_call : Module → (type table : ℕ) → Bool
-can_call m type table = is_some (slice_get m.types type) && has_functions (slice_get m.tables table)
+can_call m type table = is_arity (slice_get m.types type) && has_functions (slice_get m.tables table)
 
 abbrev pub only_where : Bool → Option (List Frame) → Option (List Frame)
 only_where b o = if b then o else None

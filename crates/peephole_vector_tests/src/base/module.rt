@@ -38,6 +38,7 @@ fn modules(rt: HostRuntime) -> Result<(), Fail> {
     assert!(rt; copy.memory_types.len() == 1);
     match copy.get_functype_idx(0) {
         Some(TypeInfo::Func(function)) => assert!(rt; function.params.len() == 1),
+        Some(TypeInfo::Other) => assert!(rt; false),
         None => assert!(rt; false),
     }
     assert!(rt; copy.get_functype_idx(1).is_none());
@@ -63,10 +64,18 @@ fn copies_of_types(rt: HostRuntime) -> Result<(), Fail> {
     is_function(&rt, &function);
     is_function(&rt, &copy);
     let declared = TypeInfo::Func(function);
-    let TypeInfo::Func(again) = declared.clone()?;
-    is_function(&rt, &again);
-    let TypeInfo::Func(function) = declared;
-    is_function(&rt, &function);
+    match declared.clone()? {
+        TypeInfo::Func(again) => is_function(&rt, &again),
+        TypeInfo::Other => assert!(rt; false),
+    }
+    match TypeInfo::Other.clone()? {
+        TypeInfo::Func(_) => assert!(rt; false),
+        TypeInfo::Other => {}
+    }
+    match declared {
+        TypeInfo::Func(function) => is_function(&rt, &function),
+        TypeInfo::Other => assert!(rt; false),
+    }
     Ok(())
 }
 
