@@ -1,6 +1,6 @@
 -- The standard's control: blocks, loops, conditionals, branches, returns and ends
 -- (WebAssembly Core Specification 3.0, Execution, Instructions, Control Instructions).
-use Rattle.std.specs.Prelude.{ℕ, zero, suc, ◌-◌, Bool, true, List, [], ◌∷◌, ◌++◌, length, take, drop, slice_get, Option, Some, None, is_some}
+use Rattle.std.specs.Prelude.{ℕ, zero, suc, ◌-◌, Bool, true, false, List, [], ◌∷◌, ◌++◌, length, take, drop, slice_get, Option, Some, None}
 use Rattle.wasm_code.specs.declared.immediate.BlockType.{BlockType}
 use Rattle.wasm_code.specs.declared.immediate.BlockType.TheVariants as block
 use Rattle.wasm_code.specs.declared.operator.Operator.{Operator}
