@@ -1,47 +1,78 @@
 -- The items are read exactly.
-use Rattle.std.proofs.Common.{◌≡◌, ℕ, eqb, Bool, true, false, cond, Option, Some, None, refl, sym}
-use Rattle.std.proofs.lemmas.Bool.{eqb-true, eq-eqb}
-use Rattle.mutate_base.specs.declared.types.ElementType.{ElementType}
-use Rattle.mutate_base.specs.declared.types.ElementType.TheVariants as elements
-use Rattle.mutate_base.specs.declared.types.TypeInfo.TheVariants.{Func}
-use Rattle.wasm_code.specs.laws.GrammarLemmas.{Exact, exact_of, exact_then, exact_choose, exact_code, exact_never, exact_times, byte_exact, bytes_exact}
+use Rattle.std.proofs.Common.{◌≡◌, ℕ, eqb, Bool, true, false, List, [], ◌∷◌, Option, Some, None, Ok, Err, refl}
+use Rattle.mutate_base.specs.declared.types.TypeInfo.TheVariants.{Func, Other}
+use Rattle.wasm_code.specs.declared.fault.Cause.{Cause}
+use Rattle.wasm_code.specs.declared.fault.Cause.TheVariants.{Truncated, BadImmediate}
+use Rattle.wasm_code.specs.laws.GrammarLemmas.{Reader, Exact, exact_ends, exact_of, exact_then, exact_choose, exact_code, exact_never, exact_times, exact_at, byte_exact, bytes_exact}
 use Rattle.wasm_code.specs.laws.NumberExact.{unsigned_exact}
-use Rattle.wasm_code.specs.laws.ValTypeLemmas.{val_type_exact, listed}
-use Rattle.wasm_code.specs.Immediate.{FailsValType}
-use Rattle.wasm_code.specs.Grammar.{IsCode, FailsCode}
+use Rattle.wasm_code.specs.laws.ValTypeLemmas.{listed}
+use Rattle.wasm_code.specs.Grammar.{IsCode, FailsCode, Then, FailsThen, Times, FailsTimes}
+use Rattle.wasm_code.specs.Number.{SpellsUnsigned, FailsUnsigned}
+use Rattle.wasm_code.specs.Reader.{◌>>=◌, unsigned_at}
 use Rattle.wasm_declarations.specs.declared.import.Import.TheVariants as imports
-use Rattle.wasm_declarations.specs.Types.{primitive, SpellsPrimitive, IsMark, FailsMark, SpellsFunctionType, FailsFunctionType}
-use Rattle.wasm_declarations.specs.Tables.{flag_code, bounds, SpellsLimits, FailsLimits, SpellsMemoryType, FailsMemoryType, element_code, SpellsTableType, FailsTableType}
-use Rattle.wasm_declarations.specs.Globals.{mutable_code, SpellsGlobalType, FailsGlobalType}
+use Rattle.wasm_declarations.specs.Types.{is_packed, SpellsStorageType, FailsStorageType, SpellsField, FailsField, SpellsSignature, FailsSignature, SpellsCompositeType, FailsCompositeType, is_sub, SpellsSubType, FailsSubType, SpellsTypeGroup, FailsTypeGroup}
+use Rattle.wasm_declarations.specs.Tables.{flag_code, bounds, SpellsLimits, FailsLimits, SpellsMemoryType, FailsMemoryType, SpellsTableType, FailsTableType}
+use Rattle.wasm_declarations.specs.Globals.{SpellsGlobalType, FailsGlobalType}
 use Rattle.wasm_declarations.specs.Imports.{SpellsName, FailsName, SpellsExternal, FailsExternal, SpellsImport, FailsImport}
 use Rattle.wasm_declarations.specs.Locals.{SpellsGroup, FailsGroup}
-use Rattle.wasm_declarations.specs.Reader.{primitive_at, mark_of, mark_at, function_type_at, flag_of, flag_at, limits_at, memory_type_at, element_of, element_at, table_type_at, mutable_of, mutable_at, global_type_at, skip_at, name_at, external_at, import_at, group_at}
+use Rattle.wasm_declarations.specs.ValueReader.{first_at}
+use Rattle.wasm_declarations.specs.Reader.{storage_type_at, field_at, counted_at, signature_at, composite_type_at, sub_type_at, type_group_at, flag_of, flag_at, limits_at, memory_type_at, table_type_at, global_type_at, skip_at, name_at, external_at, import_at, group_at}
+use Rattle.wasm_declarations.proofs.FirstLemmas.{exact_first}
 use Rattle.wasm_declarations.proofs.ListLemmas.{list_exact}
+use Rattle.wasm_declarations.proofs.ValueLemmas.{mark_exact, mutable_exact, reference_type_exact, primitive_exact, no_primitive}
 
 -- ---- types
 
-pub primitive_exact : Exact SpellsPrimitive FailsValType primitive_at
-unfolding primitive_at
-primitive_exact = exact_of primitive val_type_exact
+pub counted_exact : {A : Type 0} {Spells : List ℕ → A → Type 0} {Fails : List ℕ → Cause → Type 0} {at : Reader A} → Exact Spells Fails at →
+    Exact (Then (SpellsUnsigned 32) (λ n. Times n Spells)) (FailsThen (FailsUnsigned 32) (SpellsUnsigned 32) (λ n. FailsTimes n Fails Spells))
+    (counted_at at)
+unfolding counted_at
+counted_exact one = exact_then (unsigned_exact 32) (λ n. exact_times one n)
 
-pub mark_exact : (mark : ℕ) → Exact (IsMark mark) (FailsMark mark) (mark_at mark)
-unfolding mark_at
-mark_exact mark = exact_code (λ (x : Unit {0}). mark) (mark_of mark) named coded
+storage_type_exact : Exact SpellsStorageType FailsStorageType storage_type_at
+unfolding storage_type_at
+storage_type_exact = exact_first is_packed (λ _. exact_ends tt) (exact_of (λ _. tt) primitive_exact) Truncated (rw no_primitive refl)
+
+pub field_exact : Exact SpellsField FailsField field_at
+unfolding field_at
+field_exact = exact_then storage_type_exact (λ _. exact_of (λ _. tt) mutable_exact)
+
+pub signature_exact : Exact SpellsSignature FailsSignature signature_at
+unfolding signature_at
+signature_exact =
+    exact_then (list_exact primitive_exact) (λ params. exact_of (λ returns. Func (record { params = params; returns = returns })) (list_exact primitive_exact))
+
+pub composite_type_exact : Exact SpellsCompositeType FailsCompositeType composite_type_at
+unfolding composite_type_at
+composite_type_exact =
+    exact_at same (exact_first (λ b. eqb b 0x60) (λ _. signature_exact)
+    (exact_first (λ b. eqb b 0x5f) (λ _. exact_of (λ _. Other) (counted_exact field_exact))
+    (exact_first (λ b. eqb b 0x5e) (λ _. exact_of (λ _. Other) field_exact) exact_never BadImmediate refl) Truncated refl) Truncated refl)
   where
-    named : (b : ℕ) (x : Unit {0}) → mark_of mark b ≡ Some x → mark ≡ b
-    named b x e = by_test (eqb b mark) refl e
-      where
-        by_test : (v : Bool) → eqb b mark ≡ v → cond v (Some tt) None ≡ Some x → mark ≡ b
-        by_test true is e = sym (eqb-true b mark is)
-        by_test false is e = absurd cc
+    same : (bytes : List ℕ) → first_at (λ b. eqb b 0x60) (λ _. signature_at)
+        (first_at (λ b. eqb b 0x5f) (λ _ rest. counted_at field_at rest >>= λ x. Ok (Other, x.1))
+        (first_at (λ b. eqb b 0x5e) (λ _ rest. field_at rest >>= λ x. Ok (Other, x.1)) (λ _. Err BadImmediate))) bytes
+        ≡ composite_type_at bytes
+    same [] = refl
+    same (b ∷ bytes) = refl
 
-    coded : (x : Unit {0}) → mark_of mark mark ≡ Some x
-    coded x = rw (eq-eqb mark mark refl) refl
+no_composite_type : composite_type_at [] ≡ Err Truncated
+unfolding composite_type_at
+no_composite_type = refl
 
-pub function_type_exact : Exact SpellsFunctionType FailsFunctionType function_type_at
-unfolding function_type_at
-function_type_exact = exact_then (mark_exact 0x60) (λ _.
-    exact_then (list_exact primitive_exact) (λ params. exact_of (λ returns. Func (record { params = params; returns = returns })) (list_exact primitive_exact)))
+pub sub_type_exact : Exact SpellsSubType FailsSubType sub_type_at
+unfolding sub_type_at
+sub_type_exact =
+    exact_first is_sub (λ _. exact_then (counted_exact (unsigned_exact 32)) (λ _. composite_type_exact)) composite_type_exact Truncated no_composite_type
+
+no_sub_type : sub_type_at [] ≡ Err Truncated
+unfolding sub_type_at
+no_sub_type = refl
+
+pub type_group_exact : Exact SpellsTypeGroup FailsTypeGroup type_group_at
+unfolding type_group_at
+type_group_exact =
+    exact_first (λ b. eqb b 0x4e) (λ _. list_exact sub_type_exact) (exact_of (λ type. type ∷ []) sub_type_exact) Truncated (rw no_sub_type refl)
 
 -- ---- tables and memories
 
@@ -73,34 +104,11 @@ pub memory_type_exact : Exact SpellsMemoryType FailsMemoryType memory_type_at
 unfolding memory_type_at
 memory_type_exact = exact_of (λ wide. record { memory64 = wide }) limits_exact
 
-element_exact : Exact (IsCode element_code) (FailsCode element_code) element_at
-unfolding element_at
-element_exact = exact_code element_code element_of named coded
-  where
-    named : (b : ℕ) (x : ElementType) → element_of b ≡ Some x → element_code x ≡ b
-    named b x e = listed element_code (eqb b 0x70) b 0x70 x elements.Func _ refl refl e
-        (λ e. listed element_code (eqb b 0x6f) b 0x6f x elements.Extern _ refl refl e (λ e. absurd cc))
-
-    coded : (x : ElementType) → element_of (element_code x) ≡ Some x
-    coded elements.Func = refl
-    coded elements.Extern = refl
-
 pub table_type_exact : Exact SpellsTableType FailsTableType table_type_at
 unfolding table_type_at
-table_type_exact = exact_then element_exact (λ element. exact_of (λ wide. record { element_type = element; table64 = wide }) limits_exact)
+table_type_exact = exact_then reference_type_exact (λ element. exact_of (λ wide. record { element_type = element; table64 = wide }) limits_exact)
 
 -- ---- globals and imports
-
-mutable_exact : Exact (IsCode mutable_code) (FailsCode mutable_code) mutable_at
-unfolding mutable_at
-mutable_exact = exact_code mutable_code mutable_of named coded
-  where
-    named : (b : ℕ) (x : Bool) → mutable_of b ≡ Some x → mutable_code x ≡ b
-    named b x e = listed mutable_code (eqb b 0) b 0 x false _ refl refl e (λ e. listed mutable_code (eqb b 1) b 1 x true _ refl refl e (λ e. absurd cc))
-
-    coded : (x : Bool) → mutable_of (mutable_code x) ≡ Some x
-    coded false = refl
-    coded true = refl
 
 pub global_type_exact : Exact SpellsGlobalType FailsGlobalType global_type_at
 unfolding global_type_at

@@ -1,3 +1,7 @@
+pub mod FirstLemmas
+pub mod ValueLemmas
+pub mod TimesLemmas
+pub mod ConstantLemmas
 pub mod ListLemmas
 pub mod ItemLemmas
 pub mod GlobalLemmas

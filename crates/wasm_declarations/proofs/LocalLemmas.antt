@@ -5,7 +5,6 @@ use Rattle.std.proofs.lemmas.List.{length-append, append-nil, length-replicate, 
 use Rattle.mutate_base.specs.declared.types.PrimitiveTypeInfo.{PrimitiveTypeInfo}
 use Rattle.wasm_code.specs.declared.fault.Cause.{Cause}
 use Rattle.wasm_code.specs.declared.fault.Cause.TheVariants.{Truncated, UnknownOpcode, BadInteger, BadImmediate}
-use Rattle.wasm_code.specs.Immediate.{FailsValType}
 use Rattle.wasm_code.specs.Reader.{◌>>=◌, unsigned_at}
 use Rattle.wasm_code.specs.laws.GrammarLemmas.{bind_ok, ok_is}
 use Rattle.wasm_code.specs.laws.NumberExact.{unsigned_exact}
@@ -20,6 +19,7 @@ use Rattle.wasm_declarations.specs.declared.refusal.Refusal.TheVariants as refus
 use Rattle.wasm_declarations.specs.List.{fault_of}
 use Rattle.wasm_declarations.specs.Locals.{FailsGroup, types_of, locals_in, SpellsLocals, IsAtGroup, StopsAtGroup, IsLocalsFault}
 use Rattle.wasm_declarations.specs.Reader.{each_at, list_at, group_at, ReadsGroups, IsAfterGroups, FailsGroups, HasTooMany, FailsGroupsBy, StopsGroups, left_of, error_at, group_error_at}
+use Rattle.wasm_declarations.proofs.ValueLemmas.{no_primitive_fails}
 use Rattle.wasm_declarations.proofs.ListLemmas.{begins, goes_on, each_exact, list_exact, each_fails, counted}
 use Rattle.wasm_declarations.proofs.ItemLemmas.{group_exact}
 
@@ -136,13 +136,9 @@ no_opcode : (params : List PrimitiveTypeInfo) (start : ℕ) (text : List ℕ) (o
 no_opcode params start text offset (inl f) = f.1.fails
 no_opcode params start text offset (inr f) = no_group f.fails
   where
-    no_type : (bytes : List ℕ) → FailsValType bytes UnknownOpcode → ⊥
-    no_type [] g = absurd cc
-    no_type (b ∷ bytes) g = let e = g.0 in absurd cc
-
     no_group : {bytes : List ℕ} → FailsGroup bytes UnknownOpcode → ⊥
     no_group (inl g) = g
-    no_group (inr g) = no_type g.back g.second
+    no_group (inr g) = no_primitive_fails g.back g.second
 
 by_cause : (params : List PrimitiveTypeInfo) (start : ℕ) (text : List ℕ) (cause : Cause) (offset : ℕ) → StopsAtGroup params start text cause offset →
     IsLocalsFault params start text (fault_of cause) offset

@@ -5,7 +5,7 @@ use Rattle.wasm_code.specs.Grammar.{IsByte, LacksByte, AreBytes, LacksBytes, Nev
 use Rattle.wasm_code.specs.Number.{SpellsUnsigned, FailsUnsigned}
 use Rattle.wasm_declarations.specs.declared.import.Import.{Import}
 use Rattle.wasm_declarations.specs.declared.import.Import.TheVariants as imports
-use Rattle.wasm_declarations.specs.Types.{IsMark, FailsMark}
+use Rattle.wasm_declarations.specs.First.{IsMark, FailsMark}
 use Rattle.wasm_declarations.specs.Tables.{SpellsTableType, FailsTableType, SpellsMemoryType, FailsMemoryType}
 use Rattle.wasm_declarations.specs.Globals.{SpellsGlobalType, FailsGlobalType}
 

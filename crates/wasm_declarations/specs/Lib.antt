@@ -1,9 +1,13 @@
 pub mod List
 pub mod Known
+pub mod First
+pub mod ValueTypes
 pub mod Types
+pub mod Constants
 pub mod Tables
 pub mod Globals
 pub mod Imports
 pub mod Entries
 pub mod Locals
+pub mod ValueReader
 pub mod Reader

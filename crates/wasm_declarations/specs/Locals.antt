@@ -6,18 +6,17 @@ use Rattle.wasm_code.specs.declared.fault.Cause.{Cause}
 use Rattle.wasm_code.specs.declared.fault.Cause.TheVariants.{Truncated, BadInteger, BadImmediate}
 use Rattle.wasm_code.specs.Grammar.{Of, Then, FailsThen}
 use Rattle.wasm_code.specs.Number.{SpellsUnsigned, FailsUnsigned}
-use Rattle.wasm_code.specs.Immediate.{FailsValType}
 use Rattle.wasm_sections.specs.declared.fault.ModuleFault.{ModuleFault}
 use Rattle.wasm_sections.specs.declared.fault.ModuleFault.TheVariants as faults
 use Rattle.wasm_declarations.specs.List.{Each, SpellsList, CountFails}
-use Rattle.wasm_declarations.specs.Types.{SpellsPrimitive}
+use Rattle.wasm_declarations.specs.ValueTypes.{SpellsPrimitive, FailsPrimitive}
 
 -- A number, and a value type.
 abbrev pub SpellsGroup : List ℕ → ℕ × PrimitiveTypeInfo → Type 0
 SpellsGroup = Then (SpellsUnsigned 32) (λ n. Of (λ type. (n, type)) SpellsPrimitive)
 
 abbrev pub FailsGroup : List ℕ → Cause → Type 0
-FailsGroup = FailsThen (FailsUnsigned 32) (SpellsUnsigned 32) (λ _. FailsValType)
+FailsGroup = FailsThen (FailsUnsigned 32) (SpellsUnsigned 32) (λ _. FailsPrimitive)
 
 -- each group's type as often as its number says
 abbrev pub types_of : List (ℕ × PrimitiveTypeInfo) → List PrimitiveTypeInfo

@@ -1,16 +1,13 @@
 -- Reading lists and their items as functions (this project): for proofs. The contracts of public calls go by the grammar.
 use Rattle.std.specs.Prelude.{◌≡◌, ◌⊎◌, ℕ, zero, suc, ◌+◌, ◌-◌, ◌<◌, ◌==◌, if◌then◌else◌, Bool, true, false, List, [], ◌∷◌, ◌++◌, length, Option, Some, None, Result, Ok, Err}
 use Rattle.mutate_base.specs.declared.types.PrimitiveTypeInfo.{PrimitiveTypeInfo}
-use Rattle.mutate_base.specs.declared.types.ElementType.{ElementType}
-use Rattle.mutate_base.specs.declared.types.ElementType.TheVariants as elements
 use Rattle.mutate_base.specs.declared.types.TableType.{TableType}
 use Rattle.mutate_base.specs.declared.types.MemoryType.{MemoryType}
 use Rattle.mutate_base.specs.declared.types.TypeInfo.{TypeInfo}
-use Rattle.mutate_base.specs.declared.types.TypeInfo.TheVariants.{Func}
+use Rattle.mutate_base.specs.declared.types.TypeInfo.TheVariants as kinds
 use Rattle.wasm_code.specs.declared.fault.Cause.{Cause}
-use Rattle.wasm_code.specs.declared.fault.Cause.TheVariants.{Truncated, BadImmediate}
-use Rattle.wasm_code.specs.Body.{is_end}
-use Rattle.wasm_code.specs.Reader.{◌>>=◌, byte_at, bytes_at, named_at, times_at, unsigned_at, val_type_at, operator_at}
+use Rattle.wasm_code.specs.declared.fault.Cause.TheVariants.{BadImmediate}
+use Rattle.wasm_code.specs.Reader.{◌>>=◌, byte_at, bytes_at, named_at, times_at, unsigned_at}
 use Rattle.wasm_sections.specs.declared.fault.ModuleError.{ModuleError}
 use Rattle.wasm_sections.specs.declared.fault.ModuleFault.TheVariants as faults
 use Rattle.wasm_declarations.specs.declared.refusal.Refusal.{Refusal}
@@ -24,8 +21,9 @@ use Rattle.wasm_declarations.specs.Entries.{entries_from}
 use Rattle.wasm_declarations.specs.Known.{IsUnknown}
 use Rattle.wasm_declarations.specs.List.{fault_of}
 use Rattle.wasm_declarations.specs.Locals.{types_of, locals_in, AreFew}
-use Rattle.wasm_declarations.specs.Types.{primitive}
+use Rattle.wasm_declarations.specs.Types.{is_packed, is_sub}
 use Rattle.wasm_declarations.specs.Tables.{bounds}
+use Rattle.wasm_declarations.specs.ValueReader.{mark_at, reference_type_at, primitive_at, mutable_at, initialiser_at}
 
 -- what a call answered, seen by view, is what reading gives, unless memory ran out
 abbrev pub Answers : {X Y : Type 0} → (X → Y) → Result X Refusal → Result Y Cause → Type 0
@@ -138,19 +136,34 @@ FailsKnown at start text e =
 
 -- ---- types
 
-unfoldable pub primitive_at : List ℕ → Result (PrimitiveTypeInfo × List ℕ) Cause
-primitive_at bytes = val_type_at bytes >>= λ t. Ok (primitive t.0, t.1)
+unfoldable pub storage_type_at : List ℕ → Result (Unit {0} × List ℕ) Cause
+storage_type_at bytes = byte_at bytes >>= λ b. if is_packed b.0 then Ok (tt, b.1) else (primitive_at bytes >>= λ t. Ok (tt, t.1))
 
-abbrev pub mark_of : ℕ → ℕ → Option (Unit {0})
-mark_of mark b = if b == mark then Some tt else None
+unfoldable pub field_at : List ℕ → Result (Unit {0} × List ℕ) Cause
+field_at bytes = storage_type_at bytes >>= λ stored. mutable_at stored.1 >>= λ m. Ok (tt, m.1)
 
--- that byte
-unfoldable pub mark_at : ℕ → List ℕ → Result (Unit {0} × List ℕ) Cause
-mark_at mark bytes = byte_at bytes >>= λ b. named_at (mark_of mark b.0) b.1
+-- a count, and as many values, which aren't kept
+unfoldable pub counted_at : {A : Type 0} → (List ℕ → Result (A × List ℕ) Cause) → List ℕ → Result (Unit {0} × List ℕ) Cause
+counted_at at bytes = unsigned_at 32 bytes >>= λ n. times_at n.0 at n.1
 
-unfoldable pub function_type_at : List ℕ → Result (TypeInfo × List ℕ) Cause
-function_type_at bytes = mark_at 0x60 bytes >>= λ m. list_at primitive_at m.1 >>= λ params. list_at primitive_at params.1 >>= λ returns.
-    Ok (Func (record { params = params.0; returns = returns.0 }), returns.1)
+unfoldable pub signature_at : List ℕ → Result (TypeInfo × List ℕ) Cause
+signature_at bytes = list_at primitive_at bytes >>= λ params. list_at primitive_at params.1 >>= λ returns.
+    Ok (kinds.Func (record { params = params.0; returns = returns.0 }), returns.1)
+
+unfoldable pub composite_type_at : List ℕ → Result (TypeInfo × List ℕ) Cause
+composite_type_at bytes = byte_at bytes >>= λ b.
+    if b.0 == 0x60 then signature_at b.1
+    else if b.0 == 0x5f then (counted_at field_at b.1 >>= λ x. Ok (kinds.Other, x.1))
+    else if b.0 == 0x5e then (field_at b.1 >>= λ x. Ok (kinds.Other, x.1))
+    else Err BadImmediate
+
+unfoldable pub sub_type_at : List ℕ → Result (TypeInfo × List ℕ) Cause
+sub_type_at bytes = byte_at bytes >>= λ b.
+    if is_sub b.0 then (counted_at (unsigned_at 32) b.1 >>= λ x. composite_type_at x.1) else composite_type_at bytes
+
+unfoldable pub type_group_at : List ℕ → Result (List TypeInfo × List ℕ) Cause
+type_group_at bytes = byte_at bytes >>= λ b.
+    if b.0 == 0x4e then list_at sub_type_at b.1 else (sub_type_at bytes >>= λ t. Ok (t.0 ∷ [], t.1))
 
 -- ---- tables and memories
 
@@ -169,36 +182,19 @@ limits_at bytes = flag_at bytes >>= λ flag. times_at (bounds flag.0) (unsigned_
 unfoldable pub memory_type_at : List ℕ → Result (MemoryType × List ℕ) Cause
 memory_type_at bytes = limits_at bytes >>= λ wide. Ok (record { memory64 = wide.0 }, wide.1)
 
--- the reference type that has this byte
-abbrev pub element_of : ℕ → Option ElementType
-element_of b = if b == 0x70 then Some elements.Func else if b == 0x6f then Some elements.Extern else None
-
-unfoldable pub element_at : List ℕ → Result (ElementType × List ℕ) Cause
-element_at bytes = byte_at bytes >>= λ b. named_at (element_of b.0) b.1
-
 unfoldable pub table_type_at : List ℕ → Result (TableType × List ℕ) Cause
-table_type_at bytes = element_at bytes >>= λ element. limits_at element.1 >>= λ wide. Ok (record { element_type = element.0; table64 = wide.0 }, wide.1)
+table_type_at bytes = reference_type_at bytes >>= λ element. limits_at element.1 >>= λ wide.
+    Ok (record { element_type = element.0; table64 = wide.0 }, wide.1)
+
+unfoldable pub table_at : List ℕ → Result (TableType × List ℕ) Cause
+table_at bytes = byte_at bytes >>= λ b.
+    if b.0 == 0x40 then (mark_at 0x00 b.1 >>= λ m. table_type_at m.1 >>= λ type. initialiser_at type.1 >>= λ x. Ok (type.0, x.1))
+    else table_type_at bytes
 
 -- ---- globals
 
--- whether the byte says that a global may be written
-abbrev pub mutable_of : ℕ → Option Bool
-mutable_of b = if b == 0 then Some false else if b == 1 then Some true else None
-
-unfoldable pub mutable_at : List ℕ → Result (Bool × List ℕ) Cause
-mutable_at bytes = byte_at bytes >>= λ b. named_at (mutable_of b.0) b.1
-
 unfoldable pub global_type_at : List ℕ → Result (PrimitiveTypeInfo × List ℕ) Cause
 global_type_at bytes = primitive_at bytes >>= λ type. mutable_at type.1 >>= λ m. Ok (type.0, m.1)
-
--- at most so many operators, up to and with the first `end`
-unfoldable pub end_at : ℕ → List ℕ → Result (Unit {0} × List ℕ) Cause
-end_at zero bytes = Err Truncated
-end_at (suc most) bytes = operator_at bytes >>= λ x. if is_end x.0 then Ok (tt, x.1) else end_at most x.1
-
--- (each operator has a byte or more)
-unfoldable pub initialiser_at : List ℕ → Result (Unit {0} × List ℕ) Cause
-initialiser_at bytes = end_at (suc (length bytes)) bytes
 
 unfoldable pub global_at : List ℕ → Result (PrimitiveTypeInfo × List ℕ) Cause
 global_at bytes = global_type_at bytes >>= λ type. initialiser_at type.1 >>= λ x. Ok (type.0, x.1)

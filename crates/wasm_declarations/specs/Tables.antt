@@ -1,13 +1,14 @@
--- Limits, table types and memory types (WebAssembly Core Specification 3.0, Binary Format, Types, Limits, Memory Types and
--- Table Types).
-use Rattle.std.specs.Prelude.{ℕ, ◌+◌, List, Bool, true, false, Option, Some, None, is_some, if◌then◌else◌}
-use Rattle.mutate_base.specs.declared.types.ElementType.{ElementType}
-use Rattle.mutate_base.specs.declared.types.ElementType.TheVariants.{Func, Extern}
+-- Limits, memory types, table types and tables (WebAssembly Core Specification 3.0, Binary Format, Types, Limits, Memory Types
+-- and Table Types; Modules, Table Section).
+use Rattle.std.specs.Prelude.{ℕ, ◌+◌, ◌==◌, List, Bool, true, false, Option, Some, None, is_some, if◌then◌else◌}
 use Rattle.mutate_base.specs.declared.types.TableType.{TableType}
 use Rattle.mutate_base.specs.declared.types.MemoryType.{MemoryType}
 use Rattle.wasm_code.specs.declared.fault.Cause.{Cause}
 use Rattle.wasm_code.specs.Grammar.{IsCode, FailsCode, Of, Then, FailsThen, Times, FailsTimes}
 use Rattle.wasm_code.specs.Number.{SpellsUnsigned, FailsUnsigned}
+use Rattle.wasm_declarations.specs.First.{IsMark, FailsMark, ByFirst, FailsByFirst}
+use Rattle.wasm_declarations.specs.ValueTypes.{SpellsReferenceType, FailsReferenceType}
+use Rattle.wasm_declarations.specs.Constants.{SpellsInitialiser, FailsInitialiser}
 
 -- what a flag says of the maximum: there is none, or it follows the minimum, and then whether what has these limits is shared
 abbrev pub maximum_code : Option Bool → ℕ
@@ -37,14 +38,20 @@ SpellsMemoryType = Of (λ wide. record { memory64 = wide }) SpellsLimits
 abbrev pub FailsMemoryType : List ℕ → Cause → Type 0
 FailsMemoryType = FailsLimits
 
--- the byte of a reference type
-abbrev pub element_code : ElementType → ℕ
-element_code Func = 0x70
-element_code Extern = 0x6f
+-- ---- tables
 
 -- A reference type, and the limits.
 abbrev pub SpellsTableType : List ℕ → TableType → Type 0
-SpellsTableType = Then (IsCode element_code) (λ element. Of (λ wide. record { element_type = element; table64 = wide }) SpellsLimits)
+SpellsTableType = Then SpellsReferenceType (λ element. Of (λ wide. record { element_type = element; table64 = wide }) SpellsLimits)
 
 abbrev pub FailsTableType : List ℕ → Cause → Type 0
-FailsTableType = FailsThen (FailsCode element_code) (IsCode element_code) (λ _. FailsLimits)
+FailsTableType = FailsThen FailsReferenceType SpellsReferenceType (λ _. FailsLimits)
+
+-- The bytes 40 and 00, a table type, and an initialiser, which isn't kept; or a table type alone.
+abbrev pub SpellsTable : List ℕ → TableType → Type 0
+SpellsTable = ByFirst (λ b. b == 0x40)
+    (λ _. Then (IsMark 0x00) (λ _. Then SpellsTableType (λ type. Of (λ _. type) SpellsInitialiser))) SpellsTableType
+
+abbrev pub FailsTable : List ℕ → Cause → Type 0
+FailsTable = FailsByFirst (λ b. b == 0x40)
+    (λ _. FailsThen (FailsMark 0x00) (IsMark 0x00) (λ _. FailsThen FailsTableType SpellsTableType (λ _. FailsInitialiser))) FailsTableType

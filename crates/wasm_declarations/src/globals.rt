@@ -1,45 +1,23 @@
 //! Globals.
 ghost use Rattle.std.specs.Prelude.{◌≡◌, ◌≤◌, ◌+◌, length, IfOk, IfErr, MatchResult};
 ghost use Rattle.mutate_base.specs.declared.types.PrimitiveTypeInfo.{PrimitiveTypeInfo};
-ghost use Rattle.wasm_code.specs.Body.{is_end};
 ghost use Rattle.wasm_code.specs.Reader.{Gives};
 ghost use Rattle.wasm_declarations.specs.Globals.{SpellsGlobal, FailsGlobal};
 ghost use Rattle.wasm_declarations.specs.Known.{Known as Knowledge, SpellsKnown, IsKnownFault};
-ghost use Rattle.wasm_declarations.specs.Reader.{mutable_of, mutable_at, global_type_at, initialiser_at, global_at};
+ghost use Rattle.wasm_declarations.specs.Reader.{global_type_at, global_at};
 ghost use Rattle.wasm_sections.specs.declared.fault.ModuleFault.TheVariants.{Memory};
 
+use crate::constants::past_initialiser;
 use crate::item::Item;
 use crate::known::Known;
 use crate::list::read_known;
 use crate::refusal::Refusal;
-use crate::types::primitive_from;
+use crate::value_types::{mutable_from, primitive_from};
 use mutate_base::PrimitiveTypeInfo;
 use std::alloc::Global;
+use wasm_code::Cause;
 use wasm_code::laws::parts_are_read;
-use wasm_code::{Cause, Operator, byte_of, operator_from};
 use wasm_sections::ModuleError;
-
-/// Whether a global may be written.
-fn mutable(b: u8) -> Option<bool>
-    ensures { result ≡ mutable_of b }
-{
-    match b {
-        0x00 => Some(false),
-        0x01 => Some(true),
-        _ => None,
-    }
-}
-
-#[tactic(auto, unfolding(crate::specs::Reader::mutable_at))]
-fn mutable_from(bytes: &[u8]) -> Result<(bool, &[u8]), Cause>
-    ensures { Gives (λ x. (x.0, x.1.now)) result (mutable_at bytes.now) }
-{
-    let (b, rest) = byte_of(bytes)?;
-    match mutable(b) {
-        Some(found) => Ok((found, rest)),
-        None => Err(Cause::BadImmediate),
-    }
-}
 
 /// A global type, and what follows it.
 #[tactic(auto, unfolding(crate::specs::Reader::global_type_at))]
@@ -49,31 +27,6 @@ pub fn global_type_from(bytes: &[u8]) -> Result<(PrimitiveTypeInfo, &[u8]), Caus
     let (ty, rest) = primitive_from(bytes)?;
     let (_mutable, rest) = mutable_from(rest)?;
     Ok((ty, rest))
-}
-
-fn is_end_of(operator: &Operator) -> bool
-    ensures { result ≡ is_end operator.now }
-{
-    matches!(operator, Operator::End)
-}
-
-/// What follows an initialiser: the operators up to and with the first `end`.
-fn past_initialiser(bytes: &[u8]) -> Result<&[u8], Cause>
-    ensures { Gives (λ x. (tt, x.now)) result (initialiser_at bytes.now) }
-{
-    parts_are_read();
-    let mut rest = bytes;
-    loop {
-        match operator_from(rest) {
-            Ok((operator, behind)) => {
-                if is_end_of(&operator) {
-                    return Ok(behind);
-                }
-                rest = behind;
-            }
-            Err(cause) => return Err(cause),
-        }
-    }
 }
 
 /// The type of a global, and what follows its initialiser.
@@ -104,10 +57,12 @@ impl Item for Globals {
 /// offset `start` in the module (WebAssembly Core Specification 3.0, Binary Format, Modules, Global Section).
 ///
 /// It reads exactly a list of globals with nothing behind it, each a global type and operators up to the first `end`, since a
-/// constant expression holds no block. The operators' types aren't checked, and neither is kept whether a global may be written. A
-/// value type that isn't known here, another byte than 0 or 1 behind it, and an operator's whole immediate that names nothing are an
-/// unknown form, an operator that isn't known an unknown opcode: what is known are then the globals before the first such one, and
-/// `unknown` says with `UnknownForm` or `UnknownOpcode` where that one starts. What stands behind it isn't looked at.
+/// constant expression holds no block. The operators' types aren't checked, and neither is kept whether a global may be written. Value
+/// types are those of `read_types`, and operators those of function bodies, `ref.null` of every heap type, and those that make
+/// structures, arrays and i31 references or turn outer references into inner ones and back. Other value types, another byte than 0
+/// or 1 behind one, and an operator's whole immediate that names nothing are an unknown form, an operator that isn't among those an
+/// unknown opcode: what is known are then the globals before the first such one, and `unknown` says with `UnknownForm` or
+/// `UnknownOpcode` where that one starts. What stands behind it isn't looked at.
 ///
 /// An error names the first fault from the left and where the global at fault starts, or `start` where the number of the
 /// globals is at fault: `Truncated` where the contents end inside it, `BadInteger` where a number has too many bytes or

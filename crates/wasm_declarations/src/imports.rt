@@ -16,7 +16,7 @@ use crate::known::Known;
 use crate::list::{read_known, read_list};
 use crate::refusal::Refusal;
 use crate::tables::{memory_type_from, table_type_from};
-use crate::types::past_mark;
+use crate::value_types::past_mark;
 use std::alloc::Global;
 use wasm_code::{Cause, byte_of, u32_of};
 use wasm_sections::ModuleError;
@@ -114,9 +114,10 @@ impl Item for Indices {
 /// `start` in the module (WebAssembly Core Specification 3.0, Binary Format, Modules, Import Section).
 ///
 /// It reads exactly a list of imports with nothing behind it, each two names and a function, a table, a memory, a global or a tag.
-/// Neither are names kept, nor is it asked whether they are UTF-8. An import of another kind, and one of a table, a memory or a
-/// global whose type isn't known here, is of an unknown form: what is known are then the imports before the first such one, and
-/// `unknown` says with `UnknownForm` where that one starts. What stands behind it isn't looked at.
+/// Neither are names kept, nor is it asked whether they are UTF-8. Their types are those of `read_types`, `read_tables` and
+/// `read_memories`. An import of another kind, and one of a table, a memory or a global whose type isn't among those, is of an unknown
+/// form: what is known are then the imports before the first such one, and `unknown` says with `UnknownForm` where that one starts.
+/// What stands behind it isn't looked at.
 ///
 /// An error names the first fault from the left and where the import at fault starts, or `start` where the number of the
 /// imports is at fault: `Truncated` where the contents end inside it, `BadInteger` where a number has too many bytes or

@@ -15,9 +15,9 @@ ghost use Rattle.wasm_declarations.specs.Imports.{SpellsImport, FailsImport};
 ghost use Rattle.wasm_declarations.specs.Known.{Known, SpellsKnown, IsKnownFault};
 ghost use Rattle.wasm_declarations.specs.List.{SpellsList, FailsList, IsListFault};
 ghost use Rattle.wasm_declarations.specs.Locals.{SpellsLocals, SpellsGroup, FailsGroup};
-ghost use Rattle.wasm_declarations.specs.Reader.{list_at, function_type_at, import_at, table_type_at, memory_type_at, global_at, sized_at, group_at};
-ghost use Rattle.wasm_declarations.specs.Tables.{SpellsTableType, FailsTableType, SpellsMemoryType, FailsMemoryType};
-ghost use Rattle.wasm_declarations.specs.Types.{SpellsFunctionType, FailsFunctionType};
+ghost use Rattle.wasm_declarations.specs.Reader.{list_at, type_group_at, import_at, table_at, memory_type_at, global_at, sized_at, group_at};
+ghost use Rattle.wasm_declarations.specs.Tables.{SpellsTable, FailsTable, SpellsMemoryType, FailsMemoryType};
+ghost use Rattle.wasm_declarations.specs.Types.{SpellsTypeGroup, FailsTypeGroup};
 ghost use Rattle.wasm_declarations.specs.declared.entries.Entry.{Entry};
 ghost use Rattle.wasm_declarations.specs.declared.import.Import.{Import};
 
@@ -25,17 +25,17 @@ use wasm_code::laws::parts_are_read;
 
 /// Of a text one list is known.
 pub fn one_list()
-    ensures types { (start : ℕ) (text : List ℕ) (known other : Known TypeInfo)
-        → SpellsKnown SpellsFunctionType FailsFunctionType start text known
-        → SpellsKnown SpellsFunctionType FailsFunctionType start text other → known ≡ other }
+    ensures types { (start : ℕ) (text : List ℕ) (known other : Known (List TypeInfo))
+        → SpellsKnown SpellsTypeGroup FailsTypeGroup start text known
+        → SpellsKnown SpellsTypeGroup FailsTypeGroup start text other → known ≡ other }
     ensures imports { (start : ℕ) (text : List ℕ) (known other : Known Import)
         → SpellsKnown SpellsImport FailsImport start text known
         → SpellsKnown SpellsImport FailsImport start text other → known ≡ other }
     ensures functions { (text xs ys : List ℕ) → SpellsList (SpellsUnsigned 32) text xs
         → SpellsList (SpellsUnsigned 32) text ys → xs ≡ ys }
     ensures tables { (start : ℕ) (text : List ℕ) (known other : Known TableType)
-        → SpellsKnown SpellsTableType FailsTableType start text known
-        → SpellsKnown SpellsTableType FailsTableType start text other → known ≡ other }
+        → SpellsKnown SpellsTable FailsTable start text known
+        → SpellsKnown SpellsTable FailsTable start text other → known ≡ other }
     ensures memories { (start : ℕ) (text : List ℕ) (known other : Known MemoryType)
         → SpellsKnown SpellsMemoryType FailsMemoryType start text known
         → SpellsKnown SpellsMemoryType FailsMemoryType start text other → known ≡ other }
@@ -54,10 +54,10 @@ pub fn one_list()
 
 /// A text of which a list is known has no fault.
 pub fn lists_have_no_fault()
-    ensures types { (start : ℕ) (text : List ℕ) (known : Known TypeInfo)
-        → SpellsKnown SpellsFunctionType FailsFunctionType start text known
+    ensures types { (start : ℕ) (text : List ℕ) (known : Known (List TypeInfo))
+        → SpellsKnown SpellsTypeGroup FailsTypeGroup start text known
         → (fault : ModuleFault) (offset : ℕ)
-        → IsKnownFault SpellsFunctionType FailsFunctionType start text fault offset
+        → IsKnownFault SpellsTypeGroup FailsTypeGroup start text fault offset
         → fault ≡ Memory }
     ensures imports { (start : ℕ) (text : List ℕ) (known : Known Import)
         → SpellsKnown SpellsImport FailsImport start text known
@@ -68,9 +68,9 @@ pub fn lists_have_no_fault()
         → IsListFault (SpellsUnsigned 32) (FailsUnsigned 32) start text fault offset
         → fault ≡ Memory }
     ensures tables { (start : ℕ) (text : List ℕ) (known : Known TableType)
-        → SpellsKnown SpellsTableType FailsTableType start text known
+        → SpellsKnown SpellsTable FailsTable start text known
         → (fault : ModuleFault) (offset : ℕ)
-        → IsKnownFault SpellsTableType FailsTableType start text fault offset → fault ≡ Memory }
+        → IsKnownFault SpellsTable FailsTable start text fault offset → fault ≡ Memory }
     ensures memories { (start : ℕ) (text : List ℕ) (known : Known MemoryType)
         → SpellsKnown SpellsMemoryType FailsMemoryType start text known
         → (fault : ModuleFault) (offset : ℕ)
@@ -89,14 +89,14 @@ pub fn lists_have_no_fault()
 /// Reading a list as a function takes exactly what spells one, whatever follows it, and fails exactly where none begins the
 /// bytes.
 pub fn lists_are_read()
-    ensures types { Exact (SpellsList SpellsFunctionType)
-        (FailsList SpellsFunctionType FailsFunctionType) (list_at function_type_at) }
+    ensures types { Exact (SpellsList SpellsTypeGroup)
+        (FailsList SpellsTypeGroup FailsTypeGroup) (list_at type_group_at) }
     ensures imports { Exact (SpellsList SpellsImport) (FailsList SpellsImport FailsImport)
         (list_at import_at) }
     ensures functions { Exact (SpellsList (SpellsUnsigned 32))
         (FailsList (SpellsUnsigned 32) (FailsUnsigned 32)) (list_at (unsigned_at 32)) }
-    ensures tables { Exact (SpellsList SpellsTableType)
-        (FailsList SpellsTableType FailsTableType) (list_at table_type_at) }
+    ensures tables { Exact (SpellsList SpellsTable)
+        (FailsList SpellsTable FailsTable) (list_at table_at) }
     ensures memories { Exact (SpellsList SpellsMemoryType)
         (FailsList SpellsMemoryType FailsMemoryType) (list_at memory_type_at) }
     ensures globals { Exact (SpellsList SpellsGlobal) (FailsList SpellsGlobal FailsGlobal)

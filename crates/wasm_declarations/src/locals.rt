@@ -8,7 +8,7 @@ ghost use Rattle.wasm_sections.specs.declared.fault.ModuleFault.TheVariants.{Mem
 
 use crate::list::{Stop, error_of};
 use crate::refusal::{Refusal, fault};
-use crate::types::primitive_from;
+use crate::value_types::primitive_from;
 use mutate_base::PrimitiveTypeInfo;
 use std::alloc::Global;
 use wasm_code::{Cause, u32_of};
@@ -151,11 +151,12 @@ fn locals_of(
 /// entry's size, whose first byte has the offset `start` in the module (WebAssembly Core Specification 3.0, Binary Format,
 /// Modules, Code Section); `params` are the types of its parameters.
 ///
-/// A list of groups begins them, each a number of locals and their type, and the expression follows, which isn't looked at.
+/// A list of groups begins them, each a number of locals and their type, and the expression follows, which isn't looked at. Value
+/// types are those of `read_types`.
 ///
 /// An error names the first fault from the left and where the group at fault starts, or `start` where the number of the groups
 /// is at fault: `Truncated` where the contents end inside it, `BadInteger` where a number has too many bytes or doesn't fit,
-/// `UnknownForm` where a byte stands for no value type, `TooManyLocals` where with this group there are more than 50,000
+/// `UnknownForm` where no value type that is known here begins, `TooManyLocals` where with this group there are more than 50,000
 /// parameters and locals; that at `start` where the parameters alone are more; `Memory` at `start` where no memory was left.
 pub fn read_locals(
     alloc: Global,

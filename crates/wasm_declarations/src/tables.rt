@@ -4,16 +4,19 @@ ghost use Rattle.mutate_base.specs.declared.types.MemoryType.{MemoryType};
 ghost use Rattle.mutate_base.specs.declared.types.TableType.{TableType};
 ghost use Rattle.wasm_code.specs.Reader.{Gives};
 ghost use Rattle.wasm_declarations.specs.Known.{Known as Knowledge, SpellsKnown, IsKnownFault};
-ghost use Rattle.wasm_declarations.specs.Reader.{flag_of, flag_at, limits_at, element_of, element_at, table_type_at, memory_type_at};
-ghost use Rattle.wasm_declarations.specs.Tables.{SpellsTableType, FailsTableType, SpellsMemoryType, FailsMemoryType};
+ghost use Rattle.wasm_declarations.specs.Reader.{flag_of, flag_at, limits_at, table_type_at, table_at, memory_type_at};
+ghost use Rattle.wasm_declarations.specs.Tables.{SpellsTable, FailsTable, SpellsMemoryType, FailsMemoryType};
 ghost use Rattle.wasm_sections.specs.declared.fault.ModuleFault.TheVariants.{Memory};
 
+use crate::constants::past_initialiser;
 use crate::item::Item;
 use crate::known::Known;
 use crate::list::read_known;
 use crate::refusal::Refusal;
-use mutate_base::{ElementType, MemoryType, TableType};
+use crate::value_types::{past_mark, reference_type_from};
+use mutate_base::{MemoryType, TableType};
 use std::alloc::Global;
+use wasm_code::laws::parts_are_read;
 use wasm_code::{Cause, byte_of, u64_of};
 use wasm_sections::ModuleError;
 
@@ -57,33 +60,12 @@ fn limits_from(bytes: &[u8]) -> Result<(bool, &[u8]), Cause>
     Ok((wide, rest))
 }
 
-fn element(b: u8) -> Option<ElementType>
-    ensures { result ≡ element_of b }
-{
-    match b {
-        0x70 => Some(ElementType::Func),
-        0x6f => Some(ElementType::Extern),
-        _ => None,
-    }
-}
-
-#[tactic(auto, unfolding(crate::specs::Reader::element_at))]
-fn element_from(bytes: &[u8]) -> Result<(ElementType, &[u8]), Cause>
-    ensures { Gives (λ x. (x.0, x.1.now)) result (element_at bytes.now) }
-{
-    let (b, rest) = byte_of(bytes)?;
-    match element(b) {
-        Some(found) => Ok((found, rest)),
-        None => Err(Cause::BadImmediate),
-    }
-}
-
 /// A table type, and what follows it.
 #[tactic(auto, unfolding(crate::specs::Reader::table_type_at))]
 pub fn table_type_from(bytes: &[u8]) -> Result<(TableType, &[u8]), Cause>
     ensures { Gives (λ x. (x.0, x.1.now)) result (table_type_at bytes.now) }
 {
-    let (element_type, rest) = element_from(bytes)?;
+    let (element_type, rest) = reference_type_from(bytes)?;
     let (table64, rest) = limits_from(rest)?;
     Ok((
         TableType {
@@ -92,6 +74,25 @@ pub fn table_type_from(bytes: &[u8]) -> Result<(TableType, &[u8]), Cause>
         },
         rest,
     ))
+}
+
+/// The byte that begins a table with an initialiser.
+const WITH_INITIALISER: u8 = 0x40;
+
+/// A table, and what follows it.
+#[tactic(auto, unfolding(crate::specs::Reader::table_at))]
+fn table_from(bytes: &[u8]) -> Result<(TableType, &[u8]), Cause>
+    ensures { Gives (λ x. (x.0, x.1.now)) result (table_at bytes.now) }
+{
+    let (b, rest) = byte_of(bytes)?;
+    if b == WITH_INITIALISER {
+        let rest = past_mark(0x00, rest)?;
+        let (ty, rest) = table_type_from(rest)?;
+        let rest = past_initialiser(rest)?;
+        Ok((ty, rest))
+    } else {
+        table_type_from(bytes)
+    }
 }
 
 /// A memory type, and what follows it.
@@ -109,10 +110,11 @@ struct Tables;
 impl Item for Tables {
     type Value = TableType;
 
-    ghost at = { table_type_at };
+    ghost at = { table_at };
 
     fn read(_alloc: Global, bytes: &[u8]) -> Result<(TableType, &[u8]), Refusal> {
-        Ok(table_type_from(bytes)?)
+        parts_are_read();
+        Ok(table_from(bytes)?)
     }
 }
 
@@ -132,9 +134,11 @@ impl Item for Memories {
 /// Reads the tables that a table section lists. `contents` are the section's contents, whose first byte has the offset
 /// `start` in the module (WebAssembly Core Specification 3.0, Binary Format, Modules, Table Section).
 ///
-/// It reads exactly a list of table types of functions or of outer references, with nothing behind it. The limits aren't kept.
-/// Tables with an initialiser, of other references or of other limits are not known here: what is known are then the tables before
-/// the first such one, and `unknown` says with `UnknownForm` where that one starts. What stands behind it isn't looked at.
+/// It reads exactly a list of tables with nothing behind it, each a table type, with or without an initialiser. Neither the limits nor
+/// the initialiser are kept, and of references but `funcref` and `externref` no more than that they are others (`ElementType::Other`).
+/// Reference types are those of `read_types`, and operators of initialisers those of `read_globals`. Tables of others or of other
+/// limits are not known here: what is known are then the tables before the first such one, and `unknown` says with `UnknownForm`, or
+/// `UnknownOpcode` for an operator, where that one starts. What stands behind it isn't looked at.
 ///
 /// An error names the first fault from the left and where the table at fault starts, or `start` where the number of the
 /// tables is at fault: `Truncated` where the contents end inside it, `BadInteger` where a number has too many bytes or doesn't
@@ -146,15 +150,16 @@ pub fn read_tables(
 ) -> Result<Known<TableType>, ModuleError>
     requires { start + length contents.now ≤ usize.MAX }
     // What is read is spelled so.
-    ensures found { IfOk result (SpellsKnown SpellsTableType FailsTableType start contents.now) }
+    ensures found { IfOk result (SpellsKnown SpellsTable FailsTable start contents.now) }
     // What is spelled so is read, unless memory runs out.
     ensures only { (known : Knowledge TableType)
-        → SpellsKnown SpellsTableType FailsTableType start contents.now known
+        → SpellsKnown SpellsTable FailsTable start contents.now known
         → MatchResult result (λ k. k ≡ known) (λ e. e.kind ≡ Memory) }
     // What doesn't come from memory is the first fault.
     ensures fault { IfErr result (λ e.
-        IsKnownFault SpellsTableType FailsTableType start contents.now e.kind e.offset) }
+        IsKnownFault SpellsTable FailsTable start contents.now e.kind e.offset) }
 {
+    parts_are_read();
     read_known::<Tables>(alloc, contents, start)
 }
 

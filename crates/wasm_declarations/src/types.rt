@@ -1,116 +1,217 @@
-//! Value types and function types.
-ghost use Rattle.std.specs.Prelude.{◌≡◌, ◌≤◌, ◌+◌, length, IfOk, IfErr, MatchResult};
+//! The types that a module declares.
+ghost use Rattle.std.specs.Prelude.{◌≡◌, ◌≤◌, ◌+◌, List, length, IfOk, IfErr, MatchResult};
 ghost use Rattle.mutate_base.specs.declared.types.TypeInfo.{TypeInfo};
-ghost use Rattle.wasm_code.specs.Reader.{Gives};
+ghost use Rattle.wasm_code.specs.Reader.{Gives, times_at, unsigned_at};
 ghost use Rattle.wasm_declarations.specs.Known.{Known as Knowledge, SpellsKnown, IsKnownFault};
-ghost use Rattle.wasm_declarations.specs.Reader.{primitive_at, mark_at, function_type_at};
-ghost use Rattle.wasm_declarations.specs.Types.{primitive, SpellsFunctionType, FailsFunctionType};
+ghost use Rattle.wasm_declarations.specs.Reader.{Answers, storage_type_at, field_at, counted_at, signature_at, composite_type_at, sub_type_at, type_group_at};
+ghost use Rattle.wasm_declarations.specs.Types.{is_packed, is_sub, SpellsTypeGroup, FailsTypeGroup};
 ghost use Rattle.wasm_sections.specs.declared.fault.ModuleFault.TheVariants.{Memory};
 
+use crate::constants::past_indices;
 use crate::item::Item;
 use crate::known::Known;
 use crate::list::{list_of, read_known};
 use crate::refusal::Refusal;
-use mutate_base::{FuncInfo, PrimitiveTypeInfo, TypeInfo};
+use crate::type_group::TypeGroup;
+use crate::value_types::{ValueTypes, mutable_from, primitive_from};
+use mutate_base::{FuncInfo, TypeInfo};
 use std::alloc::Global;
-use wasm_code::{Cause, ValType, byte_of, val_type_from};
+use wasm_code::{Cause, byte_of, u32_of};
 use wasm_sections::ModuleError;
 
-fn primitive_of(ty: ValType) -> PrimitiveTypeInfo
-    ensures { result ≡ primitive ty }
+/// The byte that begins a group.
+const GROUP: u8 = 0x4e;
+
+/// The byte that begins a function's type.
+const FUNCTION: u8 = 0x60;
+
+/// The byte that begins a structure.
+const STRUCTURE: u8 = 0x5f;
+
+/// The byte that begins an array.
+const ARRAY: u8 = 0x5e;
+
+/// Whether the byte is that of i16 or i8.
+fn is_packed(b: u8) -> bool
+    ensures { result ≡ is_packed b }
 {
-    match ty {
-        ValType::I32 => PrimitiveTypeInfo::I32,
-        ValType::I64 => PrimitiveTypeInfo::I64,
-        ValType::F32 => PrimitiveTypeInfo::F32,
-        ValType::F64 => PrimitiveTypeInfo::F64,
-        ValType::V128 => PrimitiveTypeInfo::V128,
-        ValType::FuncRef => PrimitiveTypeInfo::FuncRef,
-        ValType::ExternRef => PrimitiveTypeInfo::ExternRef,
-    }
+    b == 0x77 || b == 0x78
 }
 
-/// A value type, and what follows it.
-#[tactic(auto, unfolding(crate::specs::Reader::primitive_at))]
-pub fn primitive_from(bytes: &[u8]) -> Result<(PrimitiveTypeInfo, &[u8]), Cause>
-    ensures { Gives (λ x. (x.0, x.1.now)) result (primitive_at bytes.now) }
-{
-    let (ty, rest) = val_type_from(bytes)?;
-    Ok((primitive_of(ty), rest))
-}
-
-/// What follows that byte.
-#[tactic(auto, unfolding(crate::specs::Reader::mark_at))]
-pub fn past_mark(mark: u8, bytes: &[u8]) -> Result<&[u8], Cause>
-    ensures { Gives (λ x. (tt, x.now)) result (mark_at mark bytes.now) }
+/// What follows the type of what is stored.
+#[tactic(auto, unfolding(crate::specs::Reader::storage_type_at))]
+fn past_storage_type(bytes: &[u8]) -> Result<&[u8], Cause>
+    ensures { Gives (λ x. (tt, x.now)) result (storage_type_at bytes.now) }
 {
     let (b, rest) = byte_of(bytes)?;
-    if b == mark {
-        Ok(rest)
+    if is_packed(b) {
+        return Ok(rest);
+    }
+    let (_stored, rest) = primitive_from(bytes)?;
+    Ok(rest)
+}
+
+/// What follows a field.
+#[tactic(auto, unfolding(crate::specs::Reader::field_at))]
+fn past_field(bytes: &[u8]) -> Result<&[u8], Cause>
+    ensures { Gives (λ x. (tt, x.now)) result (field_at bytes.now) }
+{
+    let rest = past_storage_type(bytes)?;
+    let (_mutable, rest) = mutable_from(rest)?;
+    Ok(rest)
+}
+
+/// What follows so many fields.
+fn past_fields(count: u32, bytes: &[u8]) -> Result<&[u8], Cause>
+    ensures { Gives (λ x. (tt, x.now)) result (times_at count field_at bytes.now) }
+{
+    let mut rest = bytes;
+    for _ in 0..count {
+        match past_field(rest) {
+            Ok(after) => rest = after,
+            Err(e) => return Err(e),
+        }
+    }
+    Ok(rest)
+}
+
+/// What follows a structure's fields.
+#[tactic(auto, unfolding(crate::specs::Reader::counted_at))]
+fn past_structure(bytes: &[u8]) -> Result<&[u8], Cause>
+    ensures { Gives (λ x. (tt, x.now)) result (counted_at field_at bytes.now) }
+{
+    let (count, rest) = u32_of(bytes)?;
+    past_fields(count, rest)
+}
+
+/// What follows the indices of the types that a type is a subtype of.
+#[tactic(auto, unfolding(crate::specs::Reader::counted_at))]
+fn past_supertypes(bytes: &[u8]) -> Result<&[u8], Cause>
+    ensures { Gives (λ x. (tt, x.now)) result (counted_at (unsigned_at 32) bytes.now) }
+{
+    let (count, rest) = u32_of(bytes)?;
+    past_indices(count, rest)
+}
+
+/// A function's type behind its byte, and what follows it.
+#[tactic(auto, unfolding(crate::specs::Reader::signature_at))]
+fn signature_from(alloc: Global, bytes: &[u8]) -> Result<(TypeInfo, &[u8]), Refusal>
+    ensures { Answers (λ x. (x.0, x.1.now)) result (signature_at bytes.now) }
+{
+    let (params, rest) = list_of::<ValueTypes>(alloc, bytes)?;
+    let (returns, rest) = list_of::<ValueTypes>(alloc, rest)?;
+    Ok((TypeInfo::Func(FuncInfo { params, returns }), rest))
+}
+
+/// A composite type, and what follows it.
+#[tactic(auto, unfolding(crate::specs::Reader::composite_type_at))]
+fn composite_type_from(alloc: Global, bytes: &[u8]) -> Result<(TypeInfo, &[u8]), Refusal>
+    ensures { Answers (λ x. (x.0, x.1.now)) result (composite_type_at bytes.now) }
+{
+    let (b, rest) = byte_of(bytes)?;
+    if b == FUNCTION {
+        signature_from(alloc, rest)
+    } else if b == STRUCTURE {
+        let rest = past_structure(rest)?;
+        Ok((TypeInfo::Other, rest))
+    } else if b == ARRAY {
+        let rest = past_field(rest)?;
+        Ok((TypeInfo::Other, rest))
     } else {
-        Err(Cause::BadImmediate)
+        Err(Refusal::Bytes(Cause::BadImmediate))
     }
 }
 
-/// Value types.
-struct ValueTypes;
+/// Whether the byte begins a subtype with the types that it is of.
+fn is_sub(b: u8) -> bool
+    ensures { result ≡ is_sub b }
+{
+    b == 0x4f || b == 0x50
+}
 
-impl Item for ValueTypes {
-    type Value = PrimitiveTypeInfo;
-
-    ghost at = { primitive_at };
-
-    fn read(_alloc: Global, bytes: &[u8]) -> Result<(PrimitiveTypeInfo, &[u8]), Refusal> {
-        Ok(primitive_from(bytes)?)
+/// A subtype, and what follows it.
+#[tactic(auto, unfolding(crate::specs::Reader::sub_type_at))]
+fn sub_type_from(alloc: Global, bytes: &[u8]) -> Result<(TypeInfo, &[u8]), Refusal>
+    ensures { Answers (λ x. (x.0, x.1.now)) result (sub_type_at bytes.now) }
+{
+    let (b, rest) = byte_of(bytes)?;
+    if is_sub(b) {
+        let rest = past_supertypes(rest)?;
+        composite_type_from(alloc, rest)
+    } else {
+        composite_type_from(alloc, bytes)
     }
 }
 
-/// The byte that begins a function type.
-const FUNCTION_TYPE: u8 = 0x60;
+/// Subtypes.
+struct SubTypes;
 
-/// Function types.
-struct FunctionTypes;
-
-impl Item for FunctionTypes {
+impl Item for SubTypes {
     type Value = TypeInfo;
 
-    ghost at = { function_type_at };
+    ghost at = { sub_type_at };
 
-    #[tactic(auto, unfolding(crate::specs::Reader::function_type_at))]
     fn read(alloc: Global, bytes: &[u8]) -> Result<(TypeInfo, &[u8]), Refusal> {
-        let rest = past_mark(FUNCTION_TYPE, bytes)?;
-        let (params, rest) = list_of::<ValueTypes>(alloc, rest)?;
-        let (returns, rest) = list_of::<ValueTypes>(alloc, rest)?;
-        Ok((TypeInfo::Func(FuncInfo { params, returns }), rest))
+        Ok(sub_type_from(alloc, bytes)?)
+    }
+}
+
+/// A group of types, and what follows it.
+#[tactic(auto, unfolding(crate::specs::Reader::type_group_at))]
+fn type_group_from(alloc: Global, bytes: &[u8]) -> Result<(TypeGroup, &[u8]), Refusal>
+    ensures { Answers (λ x. (x.0, x.1.now)) result (type_group_at bytes.now) }
+{
+    let (b, rest) = byte_of(bytes)?;
+    if b == GROUP {
+        let (types, rest) = list_of::<SubTypes>(alloc, rest)?;
+        Ok((TypeGroup::many(types), rest))
+    } else {
+        let (tpe, rest) = sub_type_from(alloc, bytes)?;
+        Ok((TypeGroup::one(alloc, tpe), rest))
+    }
+}
+
+/// Groups of types.
+struct TypeGroups;
+
+impl Item for TypeGroups {
+    type Value = TypeGroup;
+
+    ghost at = { type_group_at };
+
+    fn read(alloc: Global, bytes: &[u8]) -> Result<(TypeGroup, &[u8]), Refusal> {
+        Ok(type_group_from(alloc, bytes)?)
     }
 }
 
 /// Reads the types that a type section lists. `contents` are the section's contents, whose first byte has the offset `start`
 /// in the module (WebAssembly Core Specification 3.0, Binary Format, Modules, Type Section).
 ///
-/// It reads exactly a list of function types with nothing behind it. Recursive groups, subtypes, arrays, structures, and reference
-/// types but `funcref` and `externref` are not known here: what is known are then the types before the first of such a form, and
-/// `unknown` says with `UnknownForm` where that one starts. What stands behind it isn't looked at.
+/// It reads exactly a list of groups of types with nothing behind it, each a recursive group or one type alone: a function's, of which
+/// parameters and results are kept, or a structure's or an array's, of which nothing is (`TypeInfo::Other`), with or without the types
+/// that it is a subtype of. Value types are numbers, vectors, and references of every heap type, abstract or by index; those but
+/// `funcref` and `externref` are kept as `Empty`. Whether there are such types isn't asked. Everything else is of an unknown form, such
+/// as shared heap types, continuations, and what describes other types: what is known are then the groups before the first such one,
+/// and `unknown` says with `UnknownForm` where that one starts. What stands behind it isn't looked at.
 ///
-/// An error names the first fault from the left and where the type at fault starts, or `start` where the number of the types
+/// An error names the first fault from the left and where the group at fault starts, or `start` where the number of the groups
 /// is at fault: `Truncated` where the contents end inside it, `BadInteger` where a number has too many bytes or doesn't fit;
-/// `TrailingBytes` at the first byte behind the types; `Memory` at `start` where no memory was left.
+/// `TrailingBytes` at the first byte behind the groups; `Memory` at `start` where no memory was left.
 pub fn read_types(
     alloc: Global,
     contents: &[u8],
     start: usize,
-) -> Result<Known<TypeInfo>, ModuleError>
+) -> Result<Known<TypeGroup>, ModuleError>
     requires { start + length contents.now ≤ usize.MAX }
     // What is read is spelled so.
-    ensures found { IfOk result
-        (SpellsKnown SpellsFunctionType FailsFunctionType start contents.now) }
+    ensures found { IfOk result (SpellsKnown SpellsTypeGroup FailsTypeGroup start contents.now) }
     // What is spelled so is read, unless memory runs out.
-    ensures only { (known : Knowledge TypeInfo)
-        → SpellsKnown SpellsFunctionType FailsFunctionType start contents.now known
+    ensures only { (known : Knowledge (List TypeInfo))
+        → SpellsKnown SpellsTypeGroup FailsTypeGroup start contents.now known
         → MatchResult result (λ k. k ≡ known) (λ e. e.kind ≡ Memory) }
     // What doesn't come from memory is the first fault.
     ensures fault { IfErr result (λ e.
-        IsKnownFault SpellsFunctionType FailsFunctionType start contents.now e.kind e.offset) }
+        IsKnownFault SpellsTypeGroup FailsTypeGroup start contents.now e.kind e.offset) }
 {
-    read_known::<FunctionTypes>(alloc, contents, start)
+    read_known::<TypeGroups>(alloc, contents, start)
 }

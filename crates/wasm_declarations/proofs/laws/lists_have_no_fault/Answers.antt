@@ -1,12 +1,12 @@
 use Rattle.wasm_code.specs.laws.NumberExact.{unsigned_exact}
-use Rattle.wasm_declarations.proofs.ItemLemmas.{function_type_exact, import_exact, table_type_exact, memory_type_exact}
-use Rattle.wasm_declarations.proofs.GlobalLemmas.{global_exact}
+use Rattle.wasm_declarations.proofs.ItemLemmas.{type_group_exact, import_exact, memory_type_exact}
+use Rattle.wasm_declarations.proofs.GlobalLemmas.{table_exact, global_exact}
 use Rattle.wasm_declarations.proofs.EntryLemmas.{sized_exact}
 use Rattle.wasm_declarations.proofs.ListLemmas.{no_list_fault, no_known_fault}
 use Rattle.wasm_declarations.proofs.laws.lists_have_no_fault.Goals as goal
 
 pub returns-clause-types : goal.returns-clause-types
-returns-clause-types c start text known s fault offset f = no_known_fault function_type_exact start text known s fault offset f
+returns-clause-types c start text known s fault offset f = no_known_fault type_group_exact start text known s fault offset f
 
 pub returns-clause-imports : goal.returns-clause-imports
 returns-clause-imports c start text known s fault offset f = no_known_fault import_exact start text known s fault offset f
@@ -15,7 +15,7 @@ pub returns-clause-functions : goal.returns-clause-functions
 returns-clause-functions c start text xs s fault offset f = no_list_fault (unsigned_exact 32) start text xs s fault offset f
 
 pub returns-clause-tables : goal.returns-clause-tables
-returns-clause-tables c start text known s fault offset f = no_known_fault table_type_exact start text known s fault offset f
+returns-clause-tables c start text known s fault offset f = no_known_fault (table_exact c.parts_are_read.ensures.operators) start text known s fault offset f
 
 pub returns-clause-memories : goal.returns-clause-memories
 returns-clause-memories c start text known s fault offset f = no_known_fault memory_type_exact start text known s fault offset f

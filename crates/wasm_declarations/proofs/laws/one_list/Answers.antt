@@ -1,13 +1,13 @@
 use Rattle.wasm_code.specs.laws.NumberExact.{unsigned_exact}
-use Rattle.wasm_declarations.proofs.ItemLemmas.{function_type_exact, import_exact, table_type_exact, memory_type_exact}
-use Rattle.wasm_declarations.proofs.GlobalLemmas.{global_exact}
+use Rattle.wasm_declarations.proofs.ItemLemmas.{type_group_exact, import_exact, memory_type_exact}
+use Rattle.wasm_declarations.proofs.GlobalLemmas.{table_exact, global_exact}
 use Rattle.wasm_declarations.proofs.ListLemmas.{one_list, one_known}
 use Rattle.wasm_declarations.proofs.EntryLemmas.{one_list_of_entries}
 use Rattle.wasm_declarations.proofs.LocalLemmas.{same_locals}
 use Rattle.wasm_declarations.proofs.laws.one_list.Goals as goal
 
 pub returns-clause-types : goal.returns-clause-types
-returns-clause-types c start text known other s t = one_known function_type_exact start text known other s t
+returns-clause-types c start text known other s t = one_known type_group_exact start text known other s t
 
 pub returns-clause-imports : goal.returns-clause-imports
 returns-clause-imports c start text known other s t = one_known import_exact start text known other s t
@@ -16,7 +16,7 @@ pub returns-clause-functions : goal.returns-clause-functions
 returns-clause-functions c text xs ys s t = one_list (unsigned_exact 32) text xs ys s t
 
 pub returns-clause-tables : goal.returns-clause-tables
-returns-clause-tables c start text known other s t = one_known table_type_exact start text known other s t
+returns-clause-tables c start text known other s t = one_known (table_exact c.parts_are_read.ensures.operators) start text known other s t
 
 pub returns-clause-memories : goal.returns-clause-memories
 returns-clause-memories c start text known other s t = one_known memory_type_exact start text known other s t

@@ -1,6 +1,6 @@
 use Rattle.wasm_declarations.proofs.ListLemmas.{shorter}
-use Rattle.wasm_declarations.proofs.ItemLemmas.{primitive_exact}
-use Rattle.wasm_declarations.proofs.types.ValueTypesItem.read.Goals as goal
+use Rattle.wasm_declarations.proofs.ValueLemmas.{primitive_exact}
+use Rattle.wasm_declarations.proofs.value_types.ValueTypesItem.read.Goals as goal
 
 pub returns-clause-within : goal.returns-clause-within
 returns-clause-within c =

@@ -1,0 +1,166 @@
+//! Heap types, reference types and value types.
+ghost use Rattle.std.specs.Prelude.{◌≡◌};
+ghost use Rattle.wasm_code.specs.Reader.{Gives};
+ghost use Rattle.wasm_declarations.specs.ValueReader.{mark_at, index_at, heap_type_at, reference_type_at, primitive_at, mutable_of, mutable_at};
+ghost use Rattle.wasm_declarations.specs.ValueTypes.{is_abstract, abstract_element, is_plain, plain_type, reference};
+
+use crate::item::Item;
+use crate::refusal::Refusal;
+use mutate_base::{ElementType, PrimitiveTypeInfo};
+use std::alloc::Global;
+use wasm_code::{Cause, byte_of, u32_of};
+
+/// A number whose last byte is of this size or more is negative where it is read as signed.
+const NEGATIVE: u8 = 64;
+
+/// What follows that byte.
+#[tactic(auto, unfolding(crate::specs::ValueReader::mark_at))]
+pub fn past_mark(mark: u8, bytes: &[u8]) -> Result<&[u8], Cause>
+    ensures { Gives (λ x. (tt, x.now)) result (mark_at mark bytes.now) }
+{
+    let (b, rest) = byte_of(bytes)?;
+    if b == mark {
+        Ok(rest)
+    } else {
+        Err(Cause::BadImmediate)
+    }
+}
+
+/// The index of a type, and what follows it.
+#[tactic(auto, unfolding(crate::specs::ValueReader::index_at))]
+fn index_from(bytes: &[u8]) -> Result<(u32, &[u8]), Cause>
+    ensures { Gives (λ x. (x.0, x.1.now)) result (index_at bytes.now) }
+{
+    let (index, rest) = u32_of(bytes)?;
+    if bytes[bytes.len() - rest.len() - 1] >= NEGATIVE {
+        return Err(Cause::BadImmediate);
+    }
+    Ok((index, rest))
+}
+
+fn is_abstract(b: u8) -> bool
+    ensures { result ≡ is_abstract b }
+{
+    0x69 <= b && b <= 0x74
+}
+
+/// What references to the abstract heap type with this byte refer to.
+fn abstract_element(b: u8) -> ElementType
+    ensures { result ≡ abstract_element b }
+{
+    match b {
+        0x70 => ElementType::Func,
+        0x6f => ElementType::Extern,
+        _ => ElementType::Other,
+    }
+}
+
+/// What references to a heap type refer to, and what follows it.
+#[tactic(auto, unfolding(crate::specs::ValueReader::heap_type_at))]
+pub fn heap_type_from(bytes: &[u8]) -> Result<(ElementType, &[u8]), Cause>
+    ensures { Gives (λ x. (x.0, x.1.now)) result (heap_type_at bytes.now) }
+{
+    let (b, rest) = byte_of(bytes)?;
+    if is_abstract(b) {
+        return Ok((abstract_element(b), rest));
+    }
+    let (_index, rest) = index_from(bytes)?;
+    Ok((ElementType::Other, rest))
+}
+
+/// What references of a type refer to, and what follows it.
+#[tactic(auto, unfolding(crate::specs::ValueReader::reference_type_at))]
+pub fn reference_type_from(bytes: &[u8]) -> Result<(ElementType, &[u8]), Cause>
+    ensures { Gives (λ x. (x.0, x.1.now)) result (reference_type_at bytes.now) }
+{
+    let (b, rest) = byte_of(bytes)?;
+    if b == 0x63 {
+        heap_type_from(rest)
+    } else if b == 0x64 {
+        let (_heap, rest) = heap_type_from(rest)?;
+        Ok((ElementType::Other, rest))
+    } else if is_abstract(b) {
+        Ok((abstract_element(b), rest))
+    } else {
+        Err(Cause::BadImmediate)
+    }
+}
+
+fn is_plain(b: u8) -> bool
+    ensures { result ≡ is_plain b }
+{
+    0x7b <= b && b <= 0x7f
+}
+
+/// The type of numbers or of vectors with this byte.
+fn plain_type(b: u8) -> PrimitiveTypeInfo
+    ensures { result ≡ plain_type b }
+{
+    match b {
+        0x7f => PrimitiveTypeInfo::I32,
+        0x7e => PrimitiveTypeInfo::I64,
+        0x7d => PrimitiveTypeInfo::F32,
+        0x7c => PrimitiveTypeInfo::F64,
+        _ => PrimitiveTypeInfo::V128,
+    }
+}
+
+/// The type of references to these.
+fn reference_to(element: ElementType) -> PrimitiveTypeInfo
+    ensures { result ≡ reference element }
+{
+    match element {
+        ElementType::Func => PrimitiveTypeInfo::FuncRef,
+        ElementType::Extern => PrimitiveTypeInfo::ExternRef,
+        ElementType::Other => PrimitiveTypeInfo::Empty,
+    }
+}
+
+/// A value type, and what follows it; `Empty` for references but `funcref` and `externref`.
+#[tactic(auto, unfolding(crate::specs::ValueReader::primitive_at))]
+pub fn primitive_from(bytes: &[u8]) -> Result<(PrimitiveTypeInfo, &[u8]), Cause>
+    ensures { Gives (λ x. (x.0, x.1.now)) result (primitive_at bytes.now) }
+{
+    let (b, rest) = byte_of(bytes)?;
+    if is_plain(b) {
+        return Ok((plain_type(b), rest));
+    }
+    let (element, rest) = reference_type_from(bytes)?;
+    Ok((reference_to(element), rest))
+}
+
+/// Value types.
+pub struct ValueTypes;
+
+impl Item for ValueTypes {
+    type Value = PrimitiveTypeInfo;
+
+    ghost at = { primitive_at };
+
+    fn read(_alloc: Global, bytes: &[u8]) -> Result<(PrimitiveTypeInfo, &[u8]), Refusal> {
+        Ok(primitive_from(bytes)?)
+    }
+}
+
+/// Whether a global, or a field, may be written.
+fn mutable(b: u8) -> Option<bool>
+    ensures { result ≡ mutable_of b }
+{
+    match b {
+        0x00 => Some(false),
+        0x01 => Some(true),
+        _ => None,
+    }
+}
+
+/// Whether a global, or a field, may be written, and what follows that.
+#[tactic(auto, unfolding(crate::specs::ValueReader::mutable_at))]
+pub fn mutable_from(bytes: &[u8]) -> Result<(bool, &[u8]), Cause>
+    ensures { Gives (λ x. (x.0, x.1.now)) result (mutable_at bytes.now) }
+{
+    let (b, rest) = byte_of(bytes)?;
+    match mutable(b) {
+        Some(found) => Ok((found, rest)),
+        None => Err(Cause::BadImmediate),
+    }
+}
