@@ -38,17 +38,27 @@ const NO_GLOBALS_NOP: &str = "0061736d 01000000 0104 01600000 0302 0100 0002 016
 /// A function type, and a structure of an i32; a function of the former.
 const STRUCTURE: &str = "0061736d 01000000 0108 026000005f017f00 0302 0100 0a04 0102000b";
 
+/// A group of a function type and a structure, and a function type; a function of the latter.
+const GROUP: &str = "0061736d 01000000 010b 024e026000005f00600000 0302 0102 0a04 0102000b";
+
 /// A function is imported, and a table of any references; a function, a global of the type i32, and one of any reference.
 const REFERENCES: &str = "0061736d 01000000 0104 01600000 020b 02000000000000016e0000 0302 0100 \
                           060b 027f0041000b6e00d06e0b 0a04 0102000b";
 
-/// What is known of the modules `EACH_KIND`, `STRUCTURE` and `REFERENCES`: how many types there are, of each function the type,
-/// the types of the globals, tables and memories, the imported ones first; then how many functions are imported, how many
-/// globals the module's own section has, the entries and how many sections there are; then what isn't known.
+/// The same with a continuation behind the type, and with a table and a global of shared references.
+const UNKNOWN: &str =
+    "0061736d 01000000 0106 026000005d00 020d 020000000000000163656e0000 0302 0100 \
+                       060d 027f0041000b63656e00d06e0b 0a04 0102000b";
+
+/// What is known of the modules `EACH_KIND`, `STRUCTURE`, `GROUP`, `REFERENCES` and `UNKNOWN`: how many types there are, of each
+/// function the type, the types of the globals, tables and memories, the imported ones first; then how many functions are
+/// imported, how many globals the module's own section has, the entries and how many sections there are; then what isn't known.
 const KNOWN: &str = "
 2 [1, 0, 1] [I64, F32] [TableType { element_type: Func, table64: false }, TableType { element_type: Extern, table64: false }] [MemoryType { memory64: false }, MemoryType { memory64: true }] | 1 1 [Entry { start: 87, contents: 88, end: 92 }, Entry { start: 92, contents: 93, end: 95 }] 8 | Unknown { types: None, imports: None, tables: None, memories: None, globals: None }
-1 [0] [] [] [] | 0 0 [Entry { start: 25, contents: 26, end: 28 }] 3 | Unknown { types: Some(ModuleError { kind: UnknownForm, offset: 14 }), imports: None, tables: None, memories: None, globals: None }
-1 [0] [] [] [] | 1 2 [Entry { start: 47, contents: 48, end: 50 }] 5 | Unknown { types: None, imports: Some(ModuleError { kind: UnknownForm, offset: 21 }), tables: None, memories: None, globals: Some(ModuleError { kind: UnknownForm, offset: 39 }) }
+2 [0] [] [] [] | 0 0 [Entry { start: 25, contents: 26, end: 28 }] 3 | Unknown { types: None, imports: None, tables: None, memories: None, globals: None }
+3 [2] [] [] [] | 0 0 [Entry { start: 28, contents: 29, end: 31 }] 3 | Unknown { types: None, imports: None, tables: None, memories: None, globals: None }
+1 [0, 0] [I32, Empty] [TableType { element_type: Other, table64: false }] [] | 1 2 [Entry { start: 47, contents: 48, end: 50 }] 5 | Unknown { types: None, imports: None, tables: None, memories: None, globals: None }
+1 [0] [] [] [] | 1 2 [Entry { start: 53, contents: 54, end: 56 }] 5 | Unknown { types: Some(ModuleError { kind: UnknownForm, offset: 14 }), imports: Some(ModuleError { kind: UnknownForm, offset: 23 }), tables: None, memories: None, globals: Some(ModuleError { kind: UnknownForm, offset: 43 }) }
 ";
 
 /// What a module declares.
@@ -92,7 +102,7 @@ fn is_told(rt: &impl Abort, alloc: Global, digits: &str, wanted: &str) -> Result
 
 #[test]
 fn known(rt: HostRuntime) -> Result<(), Fail> {
-    let modules = [EACH_KIND, STRUCTURE, REFERENCES];
+    let modules = [EACH_KIND, STRUCTURE, GROUP, REFERENCES, UNKNOWN];
     for (digits, line) in modules.iter().zip(KNOWN.trim().lines()) {
         is_told(&rt, rt.alloc(), digits, line)?;
     }

@@ -13,9 +13,9 @@ use Rattle.wasm_sections.specs.Sections.{IsSectionFault}
 use Rattle.wasm_sections.specs.Find.{IsFirstWith}
 use Rattle.wasm_declarations.specs.Known.{nothing, SpellsKnown, IsKnownFault}
 use Rattle.wasm_declarations.specs.List.{SpellsList, IsListFault}
-use Rattle.wasm_declarations.specs.Types.{SpellsFunctionType, FailsFunctionType}
+use Rattle.wasm_declarations.specs.Types.{SpellsTypeGroup, FailsTypeGroup}
 use Rattle.wasm_declarations.specs.Imports.{SpellsImport, FailsImport}
-use Rattle.wasm_declarations.specs.Tables.{SpellsTableType, FailsTableType, SpellsMemoryType, FailsMemoryType}
+use Rattle.wasm_declarations.specs.Tables.{SpellsTable, FailsTable, SpellsMemoryType, FailsMemoryType}
 use Rattle.wasm_declarations.specs.Globals.{SpellsGlobal, FailsGlobal}
 use Rattle.wasm_declarations.specs.Entries.{SpellsSized, FailsSized, SpellsEntries}
 use Rattle.wasm_module.specs.Module.{Layout, Holds, IsModule}
@@ -31,10 +31,10 @@ HasNone {X} Spells IsFault = (start : ℕ) (text : List ℕ) (x : X) → Spells 
 
 -- a list of which something is known has no fault
 pub record HaveNone : Type 0 where
-  pub types : HasNone (SpellsKnown SpellsFunctionType FailsFunctionType) (IsKnownFault SpellsFunctionType FailsFunctionType)
+  pub types : HasNone (SpellsKnown SpellsTypeGroup FailsTypeGroup) (IsKnownFault SpellsTypeGroup FailsTypeGroup)
   pub imports : HasNone (SpellsKnown SpellsImport FailsImport) (IsKnownFault SpellsImport FailsImport)
   pub functions : HasNone (λ _. SpellsList (SpellsUnsigned 32)) (IsListFault (SpellsUnsigned 32) (FailsUnsigned 32))
-  pub tables : HasNone (SpellsKnown SpellsTableType FailsTableType) (IsKnownFault SpellsTableType FailsTableType)
+  pub tables : HasNone (SpellsKnown SpellsTable FailsTable) (IsKnownFault SpellsTable FailsTable)
   pub memories : HasNone (SpellsKnown SpellsMemoryType FailsMemoryType) (IsKnownFault SpellsMemoryType FailsMemoryType)
   pub globals : HasNone (SpellsKnown SpellsGlobal FailsGlobal) (IsKnownFault SpellsGlobal FailsGlobal)
   pub entries : HasNone SpellsEntries (IsListFault SpellsSized FailsSized)
@@ -49,7 +49,7 @@ no_list_fault : (bytes : List ℕ) (info : Module) (layout : Layout) (m : IsModu
     IsFirstWith layout.sections id s → (fault : ModuleFault) (offset : ℕ)
     → IsFaultOf id s.contents (slice_range bytes s.contents s.end) fault offset → fault ≡ faults.Memory
 no_list_fault bytes info layout m c ids.Type s is fault offset f =
-    held nothing (SpellsKnown SpellsFunctionType FailsFunctionType) (IsKnownFault SpellsFunctionType FailsFunctionType) c.types bytes layout.sections
+    held nothing (SpellsKnown SpellsTypeGroup FailsTypeGroup) (IsKnownFault SpellsTypeGroup FailsTypeGroup) c.types bytes layout.sections
     ids.Type m.types s m.types_are is fault offset f
 no_list_fault bytes info layout m c ids.Import s is fault offset f =
     held nothing (SpellsKnown SpellsImport FailsImport) (IsKnownFault SpellsImport FailsImport) c.imports bytes layout.sections ids.Import m.imports s
@@ -58,7 +58,7 @@ no_list_fault bytes info layout m c ids.Function s is fault offset f =
     held [] (λ _. SpellsList (SpellsUnsigned 32)) (IsListFault (SpellsUnsigned 32) (FailsUnsigned 32)) c.functions bytes layout.sections ids.Function
     m.functions s m.functions_are is fault offset f
 no_list_fault bytes info layout m c ids.Table s is fault offset f =
-    held nothing (SpellsKnown SpellsTableType FailsTableType) (IsKnownFault SpellsTableType FailsTableType) c.tables bytes layout.sections ids.Table
+    held nothing (SpellsKnown SpellsTable FailsTable) (IsKnownFault SpellsTable FailsTable) c.tables bytes layout.sections ids.Table
     m.tables s m.tables_are is fault offset f
 no_list_fault bytes info layout m c ids.Memory s is fault offset f =
     held nothing (SpellsKnown SpellsMemoryType FailsMemoryType) (IsKnownFault SpellsMemoryType FailsMemoryType) c.memories bytes layout.sections ids.Memory

@@ -10,6 +10,7 @@ use Rattle.wasm_sections.specs.declared.fault.ModuleError.{ModuleError}
 use Rattle.wasm_sections.specs.declared.id.SectionId.TheVariants as ids
 use Rattle.wasm_sections.specs.Section.{SpellsModule}
 use Rattle.wasm_declarations.specs.Entries.{SpellsEntries}
+use Rattle.wasm_declarations.specs.Types.{types_in}
 use Rattle.wasm_declarations.specs.declared.entries.Entry.{Entry}
 use Rattle.wasm_module.specs.declared.unknown.Unknown.{Unknown}
 use Rattle.wasm_module.specs.Module.{Layout, Lists, space, functions_of, tables_of, memories_of, globals_of, IsModule}
@@ -29,7 +30,7 @@ layout_of sections imported own entries unknown =
 
 pub module_is : (bytes : List ℕ) (sections : List Section) (l : Listed) (types : List TypeInfo) (functions : List ℕ) (tables : List TableType)
     (memories : List MemoryType) (globals : List PrimitiveTypeInfo) (imported own : ℕ) (entries : List Entry) (unknown : Unknown)
-    → SpellsModule bytes sections → AreListed bytes sections l → length l.entries ≡ length l.functions → types ≡ l.types.items
+    → SpellsModule bytes sections → AreListed bytes sections l → length l.entries ≡ length l.functions → types ≡ types_in l.types.items
     → functions ≡ space (functions_of l.imports.items) l.imports.unknown l.functions
     → tables ≡ space (tables_of l.imports.items) l.imports.unknown l.tables.items
     → memories ≡ space (memories_of l.imports.items) l.imports.unknown l.memories.items

@@ -1,22 +1,17 @@
 -- The code of a global spells it, and lists of globals grow.
-use Rattle.std.proofs.Common.{◌≡◌, ℕ, zero, suc, pos, ◌+◌, true, List, [], ◌∷◌, ◌++◌, length, Some, None, refl, sym, ap, subst, ◌∙◌, append_assoc, arith}
+use Rattle.std.proofs.Common.{◌≡◌, ℕ, zero, suc, pos, ◌+◌, true, false, List, [], ◌∷◌, ◌++◌, length, Some, None, refl, sym, ap, subst, ◌∙◌, append_assoc, arith}
 use Rattle.std.specs.List.{AllByRecursion}
 use Rattle.std.specs.Int.{w32, w64, w128, from_le_bytes, cast_signed}
 use Rattle.std.proofs.lemmas.Int.{ints}
 use Rattle.std.proofs.lemmas.List.{length-append}
 use Rattle.wasm_code.specs.Number.{SpellsUnsigned, SpellsSigned}
 use Rattle.wasm_code.specs.Code.{shortest}
-use Rattle.wasm_code.specs.Immediate.{val_type_code, SpellsImm}
-use Rattle.wasm_code.specs.Instruction.{Instruction}
+use Rattle.wasm_code.specs.Immediate.{SpellsImm}
 use Rattle.wasm_code.specs.Operator.{Spells, SpellsOpcode}
 use Rattle.wasm_code.specs.Reader.{unsigned_at}
 use Rattle.wasm_code.specs.Table.{table, row_at}
-use Rattle.wasm_code.specs.declared.immediate.AbstractHeapType.TheVariants as abstract
-use Rattle.wasm_code.specs.declared.immediate.HeapType.TheVariants.{Abstract}
 use Rattle.wasm_code.specs.declared.immediate.Imm.{Imm}
 use Rattle.wasm_code.specs.declared.immediate.Imm.TheVariants as imm
-use Rattle.wasm_code.specs.declared.immediate.ValType.{ValType}
-use Rattle.wasm_code.specs.declared.immediate.ValType.TheVariants as types
 use Rattle.wasm_code.specs.declared.operator.Operator.TheVariants as op
 use Rattle.wasm_code.specs.declared.table.Opcode.{Opcode}
 use Rattle.wasm_code.specs.declared.table.Opcode.TheVariants.{Byte, Fd}
@@ -24,7 +19,9 @@ use Rattle.wasm_code.specs.declared.table.Row.{Row}
 use Rattle.wasm_code.specs.laws.NumberExact.{unsigned_exact}
 use Rattle.mutate_base.specs.declared.types.PrimitiveTypeInfo.{PrimitiveTypeInfo}
 use Rattle.mutate_base.specs.declared.types.PrimitiveTypeInfo.TheVariants as primitives
-use Rattle.wasm_declarations.specs.Types.{primitive}
+use Rattle.mutate_base.specs.declared.types.ElementType.TheVariants as elements
+use Rattle.wasm_declarations.specs.ValueTypes.{SpellsPrimitive}
+use Rattle.wasm_declarations.specs.Constants.{SpellsConstant}
 use Rattle.wasm_declarations.specs.Globals.{SpellsGlobal}
 use Rattle.wasm_declarations.specs.Known.{Known, IsWhole}
 use Rattle.wasm_declarations.specs.List.{Each}
@@ -44,20 +41,34 @@ row_spells front text o r row i s at is by_kind = record {
   second = record { row = row; at = at; opcode = is; imm = by_kind };
 }
 
+end_spells : SpellsConstant (0x0b ∷ []) true
+end_spells = record {
+  value = op.End;
+  spells = record {
+    value = Byte 0x0b;
+    front = 0x0b ∷ [];
+    back = [];
+    parts = refl;
+    first = record { value = 0x0b; front = 0x0b ∷ []; back = []; parts = refl; first = refl; second = (refl, refl) };
+    second = (refl, refl);
+  };
+  made = refl;
+}
+
 -- a type, a mark that it may be written, one instruction and the end
-global_spells : (type : ValType) (start : List ℕ) (i : Instruction) → Spells start (op.Instr i) →
-    SpellsGlobal (global_of (val_type_code type) start) (primitive type)
-global_spells type start i s = record {
-  value = primitive type;
-  front = val_type_code type ∷ 0x01 ∷ [];
+global_spells : (byte : ℕ) (type : PrimitiveTypeInfo) (start : List ℕ) → SpellsPrimitive (byte ∷ []) type → SpellsConstant start false →
+    SpellsGlobal (global_of byte start) type
+global_spells byte type start t s = record {
+  value = type;
+  front = byte ∷ 0x01 ∷ [];
   back = start ++ 0x0b ∷ [];
   parts = refl;
   first = record {
-    value = primitive type;
-    front = val_type_code type ∷ [];
+    value = type;
+    front = byte ∷ [];
     back = 0x01 ∷ [];
     parts = refl;
-    first = record { value = type; spells = refl; made = refl };
+    first = t;
     second = record { value = true; spells = refl; made = refl };
   };
   second = record {
@@ -65,24 +76,17 @@ global_spells type start i s = record {
     spells = record {
       most = 2;
       spells = record {
-        value = op.Instr i;
+        value = false;
         front = start;
         back = 0x0b ∷ [];
         parts = refl;
         first = s;
         second = record {
-          value = op.End;
+          value = true;
           front = 0x0b ∷ [];
           back = [];
           parts = refl;
-          first = record {
-            value = Byte 0x0b;
-            front = 0x0b ∷ [];
-            back = [];
-            parts = refl;
-            first = record { value = 0x0b; front = 0x0b ∷ []; back = []; parts = refl; first = refl; second = (refl, refl) };
-            second = (refl, refl);
-          };
+          first = end_spells;
           second = (refl, refl);
         };
       };
@@ -100,24 +104,27 @@ long_zero_spells = record { group = omega arith; short = omega arith; is = refl;
 new_global : (t : PrimitiveTypeInfo) → (t ≡ primitives.Empty → ⊥) → SpellsGlobal (global_code t) t
 unfolding row_at table
 new_global primitives.I32 some =
-    global_spells types.I32 (0x41 ∷ 0x00 ∷ []) _ (row_spells (0x41 ∷ []) (0x00 ∷ []) (Byte 0x41) 36 _ (imm.I32 (pos 0))
+    let s = row_spells (0x41 ∷ []) (0x00 ∷ []) (Byte 0x41) 36 _ (imm.I32 (pos 0))
     (record { value = 0x41; front = 0x41 ∷ []; back = []; parts = refl; first = refl; second = (refl, refl) }) refl refl
-    (record { value = pos 0; spells = zero_spells; made = refl }))
+    (record { value = pos 0; spells = zero_spells; made = refl }) in
+    global_spells 0x7f primitives.I32 (0x41 ∷ 0x00 ∷ []) (refl, refl) (record { value = op.Instr _; spells = s; made = refl })
 new_global primitives.I64 some =
-    global_spells types.I64 (0x42 ∷ 0x00 ∷ []) _ (row_spells (0x42 ∷ []) (0x00 ∷ []) (Byte 0x42) 37 _ (imm.I64 (pos 0))
+    let s = row_spells (0x42 ∷ []) (0x00 ∷ []) (Byte 0x42) 37 _ (imm.I64 (pos 0))
     (record { value = 0x42; front = 0x42 ∷ []; back = []; parts = refl; first = refl; second = (refl, refl) }) refl refl
-    (record { value = pos 0; spells = long_zero_spells; made = refl }))
+    (record { value = pos 0; spells = long_zero_spells; made = refl }) in
+    global_spells 0x7e primitives.I64 (0x42 ∷ 0x00 ∷ []) (refl, refl) (record { value = op.Instr _; spells = s; made = refl })
 new_global primitives.F32 some =
-    global_spells types.F32 (0x43 ∷ zeros 4) _ (row_spells (0x43 ∷ []) (zeros 4) (Byte 0x43) 38 _ (imm.F32 (from_le_bytes w32 (zeros 4)))
+    let s = row_spells (0x43 ∷ []) (zeros 4) (Byte 0x43) 38 _ (imm.F32 (from_le_bytes w32 (zeros 4)))
     (record { value = 0x43; front = 0x43 ∷ []; back = []; parts = refl; first = refl; second = (refl, refl) }) refl refl
-    (record { value = zeros 4; spells = (refl, refl); made = refl }))
+    (record { value = zeros 4; spells = (refl, refl); made = refl }) in
+    global_spells 0x7d primitives.F32 (0x43 ∷ zeros 4) (refl, refl) (record { value = op.Instr _; spells = s; made = refl })
 new_global primitives.F64 some =
-    global_spells types.F64 (0x44 ∷ zeros 8) _ (row_spells (0x44 ∷ []) (zeros 8) (Byte 0x44) 39 _ (imm.F64 (from_le_bytes w64 (zeros 8)))
+    let s = row_spells (0x44 ∷ []) (zeros 8) (Byte 0x44) 39 _ (imm.F64 (from_le_bytes w64 (zeros 8)))
     (record { value = 0x44; front = 0x44 ∷ []; back = []; parts = refl; first = refl; second = (refl, refl) }) refl refl
-    (record { value = zeros 8; spells = (refl, refl); made = refl }))
+    (record { value = zeros 8; spells = (refl, refl); made = refl }) in
+    global_spells 0x7c primitives.F64 (0x44 ∷ zeros 8) (refl, refl) (record { value = op.Instr _; spells = s; made = refl })
 new_global primitives.V128 some =
-    global_spells types.V128 (0xfd ∷ 0x0c ∷ zeros 16) _ (row_spells (0xfd ∷ 0x0c ∷ []) (zeros 16) (Fd 12) 201 _
-    (imm.V128 (cast_signed w128 (from_le_bytes w128 (zeros 16))))
+    let s = row_spells (0xfd ∷ 0x0c ∷ []) (zeros 16) (Fd 12) 201 _ (imm.V128 (cast_signed w128 (from_le_bytes w128 (zeros 16))))
     (record {
       value = 0xfd;
       front = 0xfd ∷ [];
@@ -126,15 +133,14 @@ new_global primitives.V128 some =
       first = refl;
       second = record { value = 12; spells = record { group = omega arith; short = omega arith; is = refl; fits = omega arith }; made = refl };
     }) refl refl
-    (record { value = zeros 16; spells = (refl, refl); made = refl }))
+    (record { value = zeros 16; spells = (refl, refl); made = refl }) in
+    global_spells 0x7b primitives.V128 (0xfd ∷ 0x0c ∷ zeros 16) (refl, refl) (record { value = op.Instr _; spells = s; made = refl })
 new_global primitives.FuncRef some =
-    global_spells types.FuncRef (0xd0 ∷ 0x70 ∷ []) _ (row_spells (0xd0 ∷ []) (0x70 ∷ []) (Byte 0xd0) 168 _ (imm.Heap (Abstract abstract.Func))
-    (record { value = 0xd0; front = 0xd0 ∷ []; back = []; parts = refl; first = refl; second = (refl, refl) }) refl refl
-    (record { value = Abstract abstract.Func; spells = refl; made = refl }))
+    global_spells 0x70 primitives.FuncRef (0xd0 ∷ 0x70 ∷ []) (record { value = elements.Func; spells = (refl, refl); made = refl })
+    (record { value = elements.Func; spells = (refl, refl); made = refl })
 new_global primitives.ExternRef some =
-    global_spells types.ExternRef (0xd0 ∷ 0x6f ∷ []) _ (row_spells (0xd0 ∷ []) (0x6f ∷ []) (Byte 0xd0) 168 _ (imm.Heap (Abstract abstract.Extern))
-    (record { value = 0xd0; front = 0xd0 ∷ []; back = []; parts = refl; first = refl; second = (refl, refl) }) refl refl
-    (record { value = Abstract abstract.Extern; spells = refl; made = refl }))
+    global_spells 0x6f primitives.ExternRef (0xd0 ∷ 0x6f ∷ []) (record { value = elements.Extern; spells = (refl, refl); made = refl })
+    (record { value = elements.Extern; spells = (refl, refl); made = refl })
 new_global primitives.Empty some = absurd (some refl)
 
 -- ---- lists of globals

@@ -14,9 +14,9 @@ use Rattle.wasm_declarations.specs.declared.import.Import.{Import}
 use Rattle.wasm_declarations.specs.declared.entries.Entry.{Entry}
 use Rattle.wasm_declarations.specs.Known.{Known, nothing, SpellsKnown}
 use Rattle.wasm_declarations.specs.List.{SpellsList}
-use Rattle.wasm_declarations.specs.Types.{SpellsFunctionType, FailsFunctionType}
+use Rattle.wasm_declarations.specs.Types.{SpellsTypeGroup, FailsTypeGroup, types_in}
 use Rattle.wasm_declarations.specs.Imports.{SpellsImport, FailsImport}
-use Rattle.wasm_declarations.specs.Tables.{SpellsTableType, FailsTableType, SpellsMemoryType, FailsMemoryType}
+use Rattle.wasm_declarations.specs.Tables.{SpellsTable, FailsTable, SpellsMemoryType, FailsMemoryType}
 use Rattle.wasm_declarations.specs.Globals.{SpellsGlobal, FailsGlobal}
 use Rattle.wasm_declarations.specs.Entries.{SpellsEntries}
 use Rattle.wasm_module.specs.declared.unknown.Unknown.{Unknown}
@@ -29,10 +29,10 @@ IsOne {X} Spells = (text : List ℕ) (x y : X) → Spells text x → Spells text
 
 -- of a text one list of each kind is known
 pub record AreOne : Type 0 where
-  pub types : (start : ℕ) → IsOne (SpellsKnown SpellsFunctionType FailsFunctionType start)
+  pub types : (start : ℕ) → IsOne (SpellsKnown SpellsTypeGroup FailsTypeGroup start)
   pub imports : (start : ℕ) → IsOne (SpellsKnown SpellsImport FailsImport start)
   pub functions : IsOne (SpellsList (SpellsUnsigned 32))
-  pub tables : (start : ℕ) → IsOne (SpellsKnown SpellsTableType FailsTableType start)
+  pub tables : (start : ℕ) → IsOne (SpellsKnown SpellsTable FailsTable start)
   pub memories : (start : ℕ) → IsOne (SpellsKnown SpellsMemoryType FailsMemoryType start)
   pub globals : (start : ℕ) → IsOne (SpellsKnown SpellsGlobal FailsGlobal start)
   pub entries : (start : ℕ) → IsOne (SpellsEntries start)
@@ -89,13 +89,13 @@ items_of {A} k j same = ap (λ (x : Known A). x.items) same
 pub one_module : (bytes : List ℕ) (i j : Module) (k l : Layout) → AreOne → k.sections ≡ l.sections → IsModule bytes i k → IsModule bytes j l →
     (i ≡ j) × (k ≡ l)
 one_module bytes i j k l one same m n =
-    let types = one_listing nothing (SpellsKnown SpellsFunctionType FailsFunctionType) one.types bytes k.sections l.sections
+    let types = one_listing nothing (SpellsKnown SpellsTypeGroup FailsTypeGroup) one.types bytes k.sections l.sections
     ids.Type m.types n.types same m.types_are n.types_are in
     let imports = one_listing nothing (SpellsKnown SpellsImport FailsImport) one.imports bytes k.sections l.sections
     ids.Import m.imports n.imports same m.imports_are n.imports_are in
     let functions = one_listing [] (λ _. SpellsList (SpellsUnsigned 32)) (λ _. one.functions) bytes k.sections l.sections
     ids.Function m.functions n.functions same m.functions_are n.functions_are in
-    let tables = one_listing nothing (SpellsKnown SpellsTableType FailsTableType) one.tables bytes k.sections l.sections
+    let tables = one_listing nothing (SpellsKnown SpellsTable FailsTable) one.tables bytes k.sections l.sections
     ids.Table m.tables n.tables same m.tables_are n.tables_are in
     let memories = one_listing nothing (SpellsKnown SpellsMemoryType FailsMemoryType) one.memories bytes k.sections l.sections
     ids.Memory m.memories n.memories same m.memories_are n.memories_are in
@@ -106,7 +106,7 @@ one_module bytes i j k l one same m n =
       one_info i j (m.input ∙ sym n.input)
           (joined globals_of m.imports n.imports m.globals.items n.globals.items i.globals j.globals m.all_globals n.all_globals imports
           (items_of m.globals n.globals globals))
-          (m.all_types ∙ items_of m.types n.types types ∙ sym n.all_types)
+          (m.all_types ∙ ap types_in (items_of m.types n.types types) ∙ sym n.all_types)
           (joined functions_of m.imports n.imports m.functions n.functions i.functions j.functions m.all_functions n.all_functions imports functions)
           (joined tables_of m.imports n.imports m.tables.items n.tables.items i.tables j.tables m.all_tables n.all_tables imports
           (items_of m.tables n.tables tables))

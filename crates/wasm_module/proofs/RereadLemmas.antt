@@ -12,9 +12,9 @@ use Rattle.wasm_sections.specs.Section.{SpellsModule, preamble, parts_of}
 use Rattle.wasm_sections.specs.lemmas.PieceLemmas.{Piece, joined, AreSorted, contents_at, all_placed, parts, of_pieces, module_parts}
 use Rattle.wasm_declarations.specs.Known.{nothing, SpellsKnown}
 use Rattle.wasm_declarations.specs.List.{SpellsList}
-use Rattle.wasm_declarations.specs.Types.{SpellsFunctionType, FailsFunctionType}
+use Rattle.wasm_declarations.specs.Types.{SpellsTypeGroup, FailsTypeGroup}
 use Rattle.wasm_declarations.specs.Imports.{SpellsImport, FailsImport}
-use Rattle.wasm_declarations.specs.Tables.{SpellsTableType, FailsTableType, SpellsMemoryType, FailsMemoryType}
+use Rattle.wasm_declarations.specs.Tables.{SpellsTable, FailsTable, SpellsMemoryType, FailsMemoryType}
 use Rattle.wasm_declarations.specs.Globals.{SpellsGlobal, FailsGlobal}
 use Rattle.wasm_declarations.specs.Entries.{SpellsEntries}
 use Rattle.wasm_module.specs.Module.{Layout, Holds, Lists, space, globals_of, IsModule}
@@ -134,13 +134,13 @@ reread bytes info layout n contents more new short m r imports globals some =
         tables = m.tables;
         memories = m.memories;
         globals = grown m.globals more;
-        types_are = kept bytes layout.sections own more r.code c new k nothing (SpellsKnown SpellsFunctionType FailsFunctionType) ids.Type m.types
+        types_are = kept bytes layout.sections own more r.code c new k nothing (SpellsKnown SpellsTypeGroup FailsTypeGroup) ids.Type m.types
             (omega arith) (omega arith) m.types_are;
         imports_are = kept bytes layout.sections own more r.code c new k nothing (SpellsKnown SpellsImport FailsImport) ids.Import m.imports
             (omega arith) (omega arith) m.imports_are;
         functions_are = kept bytes layout.sections own more r.code c new k [] (λ _. SpellsList (SpellsUnsigned 32)) ids.Function m.functions
             (omega arith) (omega arith) m.functions_are;
-        tables_are = kept bytes layout.sections own more r.code c new k nothing (SpellsKnown SpellsTableType FailsTableType) ids.Table m.tables
+        tables_are = kept bytes layout.sections own more r.code c new k nothing (SpellsKnown SpellsTable FailsTable) ids.Table m.tables
             (omega arith) (omega arith) m.tables_are;
         memories_are = kept bytes layout.sections own more r.code c new k nothing (SpellsKnown SpellsMemoryType FailsMemoryType) ids.Memory m.memories
             (omega arith) (omega arith) m.memories_are;

@@ -13,9 +13,9 @@ use Rattle.wasm_sections.specs.Find.{IsFirstWith, LackId}
 use Rattle.wasm_declarations.specs.declared.entries.Entry.{Entry}
 use Rattle.wasm_declarations.specs.Known.{IsKnownFault}
 use Rattle.wasm_declarations.specs.List.{SpellsList, IsListFault}
-use Rattle.wasm_declarations.specs.Types.{SpellsFunctionType, FailsFunctionType}
+use Rattle.wasm_declarations.specs.Types.{SpellsTypeGroup, FailsTypeGroup}
 use Rattle.wasm_declarations.specs.Imports.{SpellsImport, FailsImport}
-use Rattle.wasm_declarations.specs.Tables.{SpellsTableType, FailsTableType, SpellsMemoryType, FailsMemoryType}
+use Rattle.wasm_declarations.specs.Tables.{SpellsTable, FailsTable, SpellsMemoryType, FailsMemoryType}
 use Rattle.wasm_declarations.specs.Globals.{SpellsGlobal, FailsGlobal}
 use Rattle.wasm_declarations.specs.Entries.{SpellsSized, FailsSized, SpellsEntries}
 use Rattle.wasm_module.specs.Module.{Lists}
@@ -24,10 +24,10 @@ use Rattle.wasm_module.specs.Module.{Lists}
 
 -- The contents of a section with the id, whose first byte has the offset `start`, have that fault. Of other sections the contents aren't read.
 abbrev pub IsFaultOf : SectionId → (start : ℕ) → List ℕ → ModuleFault → (offset : ℕ) → Type 0
-IsFaultOf ids.Type = IsKnownFault SpellsFunctionType FailsFunctionType
+IsFaultOf ids.Type = IsKnownFault SpellsTypeGroup FailsTypeGroup
 IsFaultOf ids.Import = IsKnownFault SpellsImport FailsImport
 IsFaultOf ids.Function = IsListFault (SpellsUnsigned 32) (FailsUnsigned 32)
-IsFaultOf ids.Table = IsKnownFault SpellsTableType FailsTableType
+IsFaultOf ids.Table = IsKnownFault SpellsTable FailsTable
 IsFaultOf ids.Memory = IsKnownFault SpellsMemoryType FailsMemoryType
 IsFaultOf ids.Global = IsKnownFault SpellsGlobal FailsGlobal
 IsFaultOf ids.Code = IsListFault SpellsSized FailsSized

@@ -11,16 +11,16 @@ use Rattle.wasm_declarations.specs.declared.import.Import.{Import}
 use Rattle.wasm_declarations.specs.declared.entries.Entry.{Entry}
 use Rattle.wasm_declarations.specs.Known.{Known}
 use Rattle.wasm_declarations.specs.List.{SpellsList}
-use Rattle.wasm_declarations.specs.Types.{SpellsFunctionType, FailsFunctionType}
+use Rattle.wasm_declarations.specs.Types.{SpellsTypeGroup, FailsTypeGroup}
 use Rattle.wasm_declarations.specs.Imports.{SpellsImport, FailsImport}
-use Rattle.wasm_declarations.specs.Tables.{SpellsTableType, FailsTableType, SpellsMemoryType, FailsMemoryType}
+use Rattle.wasm_declarations.specs.Tables.{SpellsTable, FailsTable, SpellsMemoryType, FailsMemoryType}
 use Rattle.wasm_declarations.specs.Globals.{SpellsGlobal, FailsGlobal}
 use Rattle.wasm_declarations.specs.Entries.{SpellsEntries}
 use Rattle.wasm_module.specs.declared.unknown.Unknown.{Unknown}
 use Rattle.wasm_module.specs.Module.{Lists, Knows}
 
 pub record Listed : Type 0 where
-  pub types : Known TypeInfo
+  pub types : Known (List TypeInfo)
   pub imports : Known Import
   pub functions : List ℕ
   pub tables : Known TableType
@@ -30,10 +30,10 @@ pub record Listed : Type 0 where
 
 -- each section lists these
 pub record AreListed (bytes : List ℕ) (sections : List Section) (l : Listed) : Type 0 where
-  pub types_are : Knows SpellsFunctionType FailsFunctionType bytes sections ids.Type l.types
+  pub types_are : Knows SpellsTypeGroup FailsTypeGroup bytes sections ids.Type l.types
   pub imports_are : Knows SpellsImport FailsImport bytes sections ids.Import l.imports
   pub functions_are : Lists (λ _. SpellsList (SpellsUnsigned 32)) bytes sections ids.Function l.functions
-  pub tables_are : Knows SpellsTableType FailsTableType bytes sections ids.Table l.tables
+  pub tables_are : Knows SpellsTable FailsTable bytes sections ids.Table l.tables
   pub memories_are : Knows SpellsMemoryType FailsMemoryType bytes sections ids.Memory l.memories
   pub globals_are : Knows SpellsGlobal FailsGlobal bytes sections ids.Global l.globals
   pub entries_are : Lists SpellsEntries bytes sections ids.Code l.entries

@@ -20,9 +20,9 @@ use Rattle.wasm_declarations.specs.declared.entries.Entry.{Entry}
 use Rattle.wasm_module.specs.declared.unknown.Unknown.{Unknown}
 use Rattle.wasm_declarations.specs.Known.{Known, nothing, SpellsKnown}
 use Rattle.wasm_declarations.specs.List.{SpellsList}
-use Rattle.wasm_declarations.specs.Types.{SpellsFunctionType, FailsFunctionType}
+use Rattle.wasm_declarations.specs.Types.{SpellsTypeGroup, FailsTypeGroup, types_in}
 use Rattle.wasm_declarations.specs.Imports.{SpellsImport, FailsImport}
-use Rattle.wasm_declarations.specs.Tables.{SpellsTableType, FailsTableType, SpellsMemoryType, FailsMemoryType}
+use Rattle.wasm_declarations.specs.Tables.{SpellsTable, FailsTable, SpellsMemoryType, FailsMemoryType}
 use Rattle.wasm_declarations.specs.Globals.{SpellsGlobal, FailsGlobal}
 use Rattle.wasm_declarations.specs.Entries.{SpellsEntries}
 
@@ -96,20 +96,20 @@ space imported (Some e) own = imported
 pub record IsModule (bytes : List ℕ) (info : Module) (layout : Layout) : Type 0 where
   pub spells : SpellsModule bytes layout.sections
   pub input : info.input ≡ bytes
-  pub types : Known TypeInfo
+  pub types : Known (List TypeInfo)
   pub imports : Known Import
   pub functions : List ℕ
   pub tables : Known TableType
   pub memories : Known MemoryType
   pub globals : Known PrimitiveTypeInfo
-  pub types_are : Knows SpellsFunctionType FailsFunctionType bytes layout.sections ids.Type types
+  pub types_are : Knows SpellsTypeGroup FailsTypeGroup bytes layout.sections ids.Type types
   pub imports_are : Knows SpellsImport FailsImport bytes layout.sections ids.Import imports
   pub functions_are : Lists (λ _. SpellsList (SpellsUnsigned 32)) bytes layout.sections ids.Function functions
-  pub tables_are : Knows SpellsTableType FailsTableType bytes layout.sections ids.Table tables
+  pub tables_are : Knows SpellsTable FailsTable bytes layout.sections ids.Table tables
   pub memories_are : Knows SpellsMemoryType FailsMemoryType bytes layout.sections ids.Memory memories
   pub globals_are : Knows SpellsGlobal FailsGlobal bytes layout.sections ids.Global globals
   pub entries_are : Lists SpellsEntries bytes layout.sections ids.Code layout.entries
-  pub all_types : info.types ≡ types.items
+  pub all_types : info.types ≡ types_in types.items
   pub all_functions : info.functions ≡ space (functions_of imports.items) imports.unknown functions
   pub all_tables : info.tables ≡ space (tables_of imports.items) imports.unknown tables.items
   pub all_memories : info.memories ≡ space (memories_of imports.items) imports.unknown memories.items

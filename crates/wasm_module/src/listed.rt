@@ -1,13 +1,13 @@
 //! What the sections of a module list, as values.
-use mutate_base::{MemoryType, PrimitiveTypeInfo, TableType, TypeInfo};
+use mutate_base::{MemoryType, PrimitiveTypeInfo, TableType};
 use std::marker::Model;
-use wasm_declarations::{Entry, Import, Known};
+use wasm_declarations::{Entry, Import, Known, TypeGroup};
 
 /// What is known of the lists of a module's sections; nothing is listed where a section isn't there.
 #[derive(Drop)]
 pub struct Listed {
-    /// The types.
-    pub types: Known<TypeInfo>,
+    /// The types, in groups.
+    pub types: Known<TypeGroup>,
     /// The imports.
     pub imports: Known<Import>,
     /// Of each function of the module's own the index of its type.

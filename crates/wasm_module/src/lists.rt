@@ -5,9 +5,9 @@ ghost use Rattle.wasm_sections.specs.Section.{SpellsModule};
 ghost use Rattle.wasm_sections.specs.declared.id.SectionId.TheVariants as ids;
 ghost use Rattle.wasm_declarations.specs.Known.{Known as Knowledge};
 ghost use Rattle.wasm_declarations.specs.List.{SpellsList};
-ghost use Rattle.wasm_declarations.specs.Types.{SpellsFunctionType, FailsFunctionType};
+ghost use Rattle.wasm_declarations.specs.Types.{SpellsTypeGroup, FailsTypeGroup};
 ghost use Rattle.wasm_declarations.specs.Imports.{SpellsImport, FailsImport};
-ghost use Rattle.wasm_declarations.specs.Tables.{SpellsTableType, FailsTableType, SpellsMemoryType, FailsMemoryType};
+ghost use Rattle.wasm_declarations.specs.Tables.{SpellsTable, FailsTable, SpellsMemoryType, FailsMemoryType};
 ghost use Rattle.wasm_declarations.specs.Globals.{SpellsGlobal, FailsGlobal};
 ghost use Rattle.wasm_declarations.specs.Entries.{SpellsEntries};
 ghost use Rattle.wasm_module.specs.Module.{Lists, Knows};
@@ -23,11 +23,11 @@ ghost use Rattle.wasm_module.specs.Fault.{HasFault, HasListFault};
 
 use crate::contents::contents_with;
 use crate::listed::Listed;
-use mutate_base::{MemoryType, PrimitiveTypeInfo, TableType, TypeInfo};
+use mutate_base::{MemoryType, PrimitiveTypeInfo, TableType};
 use std::alloc::Global;
 use wasm_declarations::{
-    Entry, Import, Known, read_entries, read_functions, read_globals, read_imports, read_memories,
-    read_tables, read_types,
+    Entry, Import, Known, TypeGroup, read_entries, read_functions, read_globals, read_imports,
+    read_memories, read_tables, read_types,
 };
 use wasm_sections::{ModuleError, Section, SectionId};
 
@@ -35,12 +35,12 @@ fn types_in(
     alloc: Global,
     bytes: &[u8],
     sections: &[Section],
-) -> Result<Known<TypeInfo>, ModuleError>
+) -> Result<Known<TypeGroup>, ModuleError>
     requires { SpellsModule bytes.now sections.now }
-    ensures found { IfOk result (Knows SpellsFunctionType FailsFunctionType
+    ensures found { IfOk result (Knows SpellsTypeGroup FailsTypeGroup
         bytes.now sections.now ids.Type) }
-    ensures only { (known : Knowledge TypeInfo)
-        → Knows SpellsFunctionType FailsFunctionType bytes.now sections.now ids.Type known
+    ensures only { (known : Knowledge (List TypeInfo))
+        → Knows SpellsTypeGroup FailsTypeGroup bytes.now sections.now ids.Type known
         → IfErr result (λ e. e.kind ≡ Memory) }
     ensures fault { IfErr result (λ e.
         HasFault bytes.now sections.now ids.Type e.kind e.offset) }
@@ -93,10 +93,10 @@ fn tables_in(
     sections: &[Section],
 ) -> Result<Known<TableType>, ModuleError>
     requires { SpellsModule bytes.now sections.now }
-    ensures found { IfOk result (Knows SpellsTableType FailsTableType
+    ensures found { IfOk result (Knows SpellsTable FailsTable
         bytes.now sections.now ids.Table) }
     ensures only { (known : Knowledge TableType)
-        → Knows SpellsTableType FailsTableType bytes.now sections.now ids.Table known
+        → Knows SpellsTable FailsTable bytes.now sections.now ids.Table known
         → IfErr result (λ e. e.kind ≡ Memory) }
     ensures fault { IfErr result (λ e.
         HasFault bytes.now sections.now ids.Table e.kind e.offset) }

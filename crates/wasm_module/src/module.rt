@@ -12,7 +12,7 @@ use crate::layout::{Layout, Module};
 use crate::listed::Listed;
 use crate::lists::read_lists;
 use crate::spaces::{
-    function_space, global_count, global_space, memory_space, table_space, unknown_of,
+    function_space, global_count, global_space, memory_space, table_space, type_space, unknown_of,
 };
 use mutate_base::ModuleInfo;
 use std::alloc::{AllocError, Global};
@@ -67,11 +67,12 @@ fn module_of<'a>(
     let global_types = global_space(alloc, &listed)?;
     let own_globals = global_count(&listed);
     let unknown = unknown_of(&listed);
+    let types_map = type_space(alloc, listed.types.into_items())?;
     Ok(Module {
         info: ModuleInfo {
             input_wasm: bytes,
             global_types,
-            types_map: listed.types.into_items(),
+            types_map,
             function_map,
             table_types,
             memory_types,
@@ -94,8 +95,11 @@ fn module_of<'a>(
 /// many code entries as functions of the module's own. The contents of the other sections and the bodies aren't read, and whether
 /// the module is valid isn't asked.
 ///
-/// A type, an import, a table, a memory or a global of a form that isn't known here is no error: what its section lists from there on
-/// isn't known, and the layout's `unknown` says so.
+/// Types are numbered across their groups; structures and arrays are `TypeInfo::Other`, and of references but `funcref` and `externref`
+/// no more is kept than that they are others: `Empty` as the type of a value, `ElementType::Other` as what a table holds.
+///
+/// A group of types, an import, a table, a memory or a global of a form that isn't known here is no error: what its section lists from
+/// there on isn't known, and the layout's `unknown` says so.
 ///
 /// An error names a fault that is there: as `read_sections` refuses the bytes; as one of those calls refuses its section; or
 /// `CodeCount` where the numbers differ, at the start of the code section, or at the end of the bytes where there is none. `Memory`

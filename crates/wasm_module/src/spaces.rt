@@ -1,20 +1,32 @@
-//! The index spaces of a module: what it imports comes first, and then what it has of its own.
+//! The index spaces of a module: its types, group by group; and of all else what it imports first, and then what it has of its own.
 ghost use Rattle.std.specs.Prelude.{◌≡◌, ◌↔◌, length, None, IfOk, IsTrue};
+ghost use Rattle.wasm_declarations.specs.Types.{types_in};
 ghost use Rattle.wasm_module.specs.Lists.{unknown_in};
 ghost use Rattle.wasm_module.specs.Module.{functions_of, tables_of, memories_of, globals_of, space};
 
 use crate::imports::{imported_functions, imported_globals, imported_memories, imported_tables};
 use crate::listed::Listed;
 use crate::unknown::Unknown;
-use mutate_base::{MemoryType, PrimitiveTypeInfo, TableType};
+use mutate_base::{MemoryType, PrimitiveTypeInfo, TableType, TypeInfo};
 use std::alloc::{AllocError, Global};
-use wasm_declarations::{Import, Known};
+use wasm_declarations::{Import, Known, TypeGroup};
 
 /// Whether every import is of a form that is known, so that the indices behind them are.
 fn are_known(imports: &Known<Import>) -> bool
     ensures { IsTrue result ↔ (imports.now.unknown ≡ None) }
 {
     imports.unknown.is_none()
+}
+
+/// The types, one group behind another.
+pub fn type_space(alloc: Global, groups: Vec<TypeGroup>) -> Result<Vec<TypeInfo>, AllocError>
+    ensures { IfOk result (λ all. all.items ≡ types_in groups.items) }
+{
+    let mut all = Vec::with_capacity(alloc, groups.len())?;
+    for group in groups {
+        group.append_to(&mut all)?;
+    }
+    Ok(all)
 }
 
 /// Of each function the index of its type, and how many functions are imported.
