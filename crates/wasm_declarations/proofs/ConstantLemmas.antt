@@ -3,11 +3,10 @@ use Rattle.std.proofs.Common.{◌≡◌, inl, inr, ℕ, zero, suc, ◌<◌, eqb,
 use Rattle.std.proofs.lemmas.List.{length-append}
 use Rattle.wasm_code.specs.declared.fault.Cause.{Cause}
 use Rattle.wasm_code.specs.declared.fault.Cause.TheVariants.{Truncated, UnknownOpcode}
-use Rattle.wasm_code.specs.declared.operator.Operator.{Operator}
 use Rattle.wasm_code.specs.Body.{is_end}
 use Rattle.wasm_code.specs.Grammar.{Never, NeverFails, FailsChosen, FailsThen}
 use Rattle.wasm_code.specs.Operator.{Spells, Fails}
-use Rattle.wasm_code.specs.Reader.{◌>>=◌, unsigned_at, opcode_at, operator_at}
+use Rattle.wasm_code.specs.Reader.{◌>>=◌, opcode_at, operator_at}
 use Rattle.wasm_code.specs.laws.GrammarLemmas.{Exact, bind_ok, bind_err, err_is, exact_ends, exact_of, exact_then, exact_choose, exact_times, exact_at}
 use Rattle.wasm_code.specs.laws.NumberExact.{unsigned_exact}
 use Rattle.wasm_declarations.specs.Constants.{indices_behind, is_making, SpellsMaking, FailsMaking, NamesNoOperator, SpellsConstant, FailsConstant, EndsWithin, FailsWithin, SpellsInitialiser, FailsInitialiser}

@@ -8,7 +8,7 @@ use Rattle.wasm_code.specs.laws.NumberExact.{unsigned_exact}
 use Rattle.wasm_code.specs.laws.ValTypeLemmas.{listed}
 use Rattle.wasm_code.specs.Grammar.{IsCode, FailsCode, Then, FailsThen, Times, FailsTimes}
 use Rattle.wasm_code.specs.Number.{SpellsUnsigned, FailsUnsigned}
-use Rattle.wasm_code.specs.Reader.{◌>>=◌, unsigned_at}
+use Rattle.wasm_code.specs.Reader.{◌>>=◌}
 use Rattle.wasm_declarations.specs.declared.import.Import.TheVariants as imports
 use Rattle.wasm_declarations.specs.Types.{is_packed, SpellsStorageType, FailsStorageType, SpellsField, FailsField, SpellsSignature, FailsSignature, SpellsCompositeType, FailsCompositeType, is_sub, SpellsSubType, FailsSubType, SpellsTypeGroup, FailsTypeGroup}
 use Rattle.wasm_declarations.specs.Tables.{flag_code, bounds, SpellsLimits, FailsLimits, SpellsMemoryType, FailsMemoryType, SpellsTableType, FailsTableType}

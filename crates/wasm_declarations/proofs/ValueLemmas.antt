@@ -1,5 +1,5 @@
 -- Value types, and what may be written, are read exactly.
-use Rattle.std.proofs.Common.{◌≡◌, ◌⊎◌, inl, inr, ℕ, pos, ◌+◌, ◌-◌, ◌*◌, ◌^◌, ◌<◌, ◌-ℤ◌, eqb, leb, Bool, true, false, cond, List, [], ◌∷◌, ◌++◌, length, get_or, Option, Some, None, Result, Ok, Err, refl, sym, ap, ◌∙◌, arith}
+use Rattle.std.proofs.Common.{◌≡◌, inl, inr, ℕ, pos, ◌-◌, ◌^◌, ◌<◌, ◌-ℤ◌, eqb, leb, Bool, true, false, cond, List, [], ◌∷◌, ◌++◌, length, get_or, Some, None, Result, Ok, Err, refl, sym, ap, ◌∙◌, arith}
 use Rattle.std.specs.Prelude.{slice_index}
 use Rattle.std.proofs.lemmas.Bool.{eqb-true, eq-eqb}
 use Rattle.std.proofs.lemmas.Int.{ints}
@@ -9,13 +9,13 @@ use Rattle.mutate_base.specs.declared.types.ElementType.TheVariants.{Other}
 use Rattle.wasm_code.specs.declared.fault.Cause.{Cause}
 use Rattle.wasm_code.specs.declared.fault.Cause.TheVariants.{Truncated, UnknownOpcode, BadImmediate}
 use Rattle.wasm_code.specs.Grammar.{IsCode, FailsCode}
-use Rattle.wasm_code.specs.Number.{IsGroup, value, is_negative, SpellsUnsigned, FailsUnsigned}
+use Rattle.wasm_code.specs.Number.{IsGroup, value, is_negative, SpellsUnsigned}
 use Rattle.wasm_code.specs.Reader.{◌>>=◌, unsigned_at, below_at, group_at}
-use Rattle.wasm_code.specs.laws.GrammarLemmas.{Exact, bind_ok, bind_err, ok_is, err_is, exact_ends, exact_of, exact_code, exact_never, exact_at}
+use Rattle.wasm_code.specs.laws.GrammarLemmas.{Exact, bind_ok, bind_err, err_is, exact_ends, exact_of, exact_code, exact_never, exact_at}
 use Rattle.wasm_code.specs.laws.NumberExact.{unsigned_exact}
 use Rattle.wasm_code.specs.laws.ValTypeLemmas.{listed}
 use Rattle.wasm_declarations.specs.First.{IsMark, FailsMark, OneOf}
-use Rattle.wasm_declarations.specs.ValueTypes.{SpellsTypeIndex, IsBelowZero, FailsTypeIndex, is_abstract, abstract_element, SpellsHeapType, FailsHeapType, SpellsAbstract, FailsAbstract, SpellsReferenceType, FailsReferenceType, is_plain, plain_type, reference, SpellsPrimitive, FailsPrimitive, mutable_code}
+use Rattle.wasm_declarations.specs.ValueTypes.{SpellsTypeIndex, FailsTypeIndex, is_abstract, abstract_element, SpellsHeapType, FailsHeapType, SpellsAbstract, FailsAbstract, SpellsReferenceType, FailsReferenceType, is_plain, plain_type, reference, SpellsPrimitive, FailsPrimitive, mutable_code}
 use Rattle.wasm_declarations.specs.ValueReader.{first_at, mark_of, mark_at, not_below_zero, index_at, heap_type_at, reference_type_at, primitive_at, mutable_of, mutable_at}
 use Rattle.wasm_declarations.proofs.FirstLemmas.{exact_first}
 
