@@ -9,7 +9,7 @@ use Rattle.wasm_code.specs.Number.{SpellsUnsigned, FailsUnsigned}
 use Rattle.wasm_code.specs.Reader.{unsigned_at}
 use Rattle.wasm_code.specs.laws.GrammarLemmas.{ok_is}
 use Rattle.wasm_code.specs.laws.NumberExact.{unsigned_exact}
-use Rattle.wasm_sections.specs.Section.{IsLinkingName, IsLinkable}
+use Rattle.wasm_sections.specs.Section.{BeginsWithName, IsLinkingName, IsLinkable}
 use Rattle.wasm_sections.specs.Reader.{kind_of, IsCounted, IsShort, FailsCounted}
 
 split_is : (rest front back : List ℕ) (n : ℕ) → IsSplitAt rest n front back → rest ≡ front ++ back
@@ -65,25 +65,30 @@ no_short a b text p s =
 pub no_fail : (a b text : List ℕ) (cause : Cause) → IsCounted a b text → FailsUnsigned 32 text cause → ⊥
 no_fail a b text cause p f = no_number (unsigned_at 32 text) (length a) (a ++ b) cause (reads a b text p) ((unsigned_exact 32).fails text cause f)
 
+-- ---- names of custom sections
+
+pub named : (name back contents : List ℕ) → IsCounted name back contents → BeginsWithName contents name
+named name back contents p = record { size = p.size; back = back; parts = p.parts; counts = p.counts }
+
+counted_name : (contents name : List ℕ) → (n : BeginsWithName contents name) → IsCounted name n.back contents
+counted_name contents name n = record { size = n.size; parts = n.parts; counts = n.counts }
+
+pub one_name : (contents a b : List ℕ) → BeginsWithName contents a → BeginsWithName contents b → a ≡ b
+one_name contents a b p q = (one_counted a p.back b q.back contents (counted_name contents a p) (counted_name contents b q)).0
+
+pub short_name : (contents : List ℕ) → IsShort contents → (name : List ℕ) → BeginsWithName contents name → ⊥
+short_name contents s name n = no_short name n.back contents (counted_name contents name n) s
+
+pub failing_name : (contents : List ℕ) (cause : Cause) → unsigned_at 32 contents ≡ Err cause → (name : List ℕ) → BeginsWithName contents name → ⊥
+failing_name contents cause e name n = no_fail name n.back contents cause (counted_name contents name n) ((unsigned_exact 32).stops contents cause e)
+
 -- ---- names of linking metadata
 
-pub linkable : (name back contents : List ℕ) (r : Bool) → IsCounted name back contents → IsTrue r ↔ IsLinkingName name → IsTrue r ↔ IsLinkable contents
-linkable name back contents r p h = (
-  λ t. record { name = name; named = record { size = p.size; back = back; parts = p.parts; counts = p.counts }; linking = h.0 t },
-  λ l.
-      let q : IsCounted l.name l.named.back contents = record { size = l.named.size; parts = l.named.parts; counts = l.named.counts } in
-      h.1 (subst IsLinkingName (one_counted l.name l.named.back name back contents q p).0 l.linking),
+pub linkable : (contents name : List ℕ) (r : Bool) → BeginsWithName contents name → IsTrue r ↔ IsLinkingName name → IsTrue r ↔ IsLinkable contents
+linkable contents name r n h = (
+  λ t. record { name = name; named = n; linking = h.0 t },
+  λ l. h.1 (subst IsLinkingName (one_name contents l.name name l.named n) l.linking),
 )
 
-pub short_links : (contents : List ℕ) → IsShort contents → IsTrue false ↔ IsLinkable contents
-short_links contents s = (
-  λ t. absurd cc,
-  λ l. absurd (no_short l.name l.named.back contents (record { size = l.named.size; parts = l.named.parts; counts = l.named.counts }) s),
-)
-
-pub failing_links : (contents : List ℕ) (cause : Cause) → unsigned_at 32 contents ≡ Err cause → IsTrue false ↔ IsLinkable contents
-failing_links contents cause e = (
-  λ t. absurd cc,
-  λ l. absurd (no_fail l.name l.named.back contents cause (record { size = l.named.size; parts = l.named.parts; counts = l.named.counts })
-      ((unsigned_exact 32).stops contents cause e)),
-)
+pub nameless : (contents : List ℕ) → ((name : List ℕ) → BeginsWithName contents name → ⊥) → IsTrue false ↔ IsLinkable contents
+nameless contents none = (λ t. absurd cc, λ l. absurd (none l.name l.named))

@@ -1,4 +1,5 @@
 pub mod CountedLemmas
+pub mod DebugLemmas
 pub mod FindLemmas
 pub mod ModuleLemmas
 pub mod OneFault

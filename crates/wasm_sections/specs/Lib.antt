@@ -1,3 +1,4 @@
+pub mod Debug
 pub mod Fault
 pub mod Find
 pub mod Id

@@ -1,5 +1,5 @@
 -- What the parts of a reader answer (this project): for proofs.
-use Rattle.std.specs.Prelude.{◌≡◌, ◌⊎◌, ℕ, ◌<◌, nat_lt, Bool, ◌&&◌, if◌then◌else◌, List, [], ◌∷◌, ◌++◌, length}
+use Rattle.std.specs.Prelude.{◌≡◌, ◌⊎◌, ℕ, ◌<◌, nat_lt, Bool, ◌&&◌, if◌then◌else◌, List, [], ◌∷◌, ◌++◌, length, slice_range}
 use Rattle.wasm_code.specs.declared.fault.Cause.{Cause}
 use Rattle.wasm_code.specs.declared.fault.Cause.TheVariants as causes
 use Rattle.wasm_code.specs.Number.{SpellsUnsigned, FailsUnsigned}
@@ -11,6 +11,7 @@ use Rattle.wasm_sections.specs.declared.fault.ModuleFault.TheVariants as faults
 use Rattle.wasm_sections.specs.Id.{rank_of}
 use Rattle.wasm_sections.specs.Section.{IsNextSection, IsLinkable}
 use Rattle.wasm_sections.specs.Sections.{IsOutOfOrder, IsLinkableSection}
+use Rattle.wasm_sections.specs.Debug.{IsDebug, AreKept, bytes_of}
 
 -- the fault of a section whose size is no number for that cause; the last two causes no number has
 abbrev pub kind_of : Cause → ModuleFault
@@ -64,3 +65,13 @@ comes_before_lem first second = nat_lt 0 (rank_of first) && nat_lt (rank_of firs
 abbrev pub place_from : ℕ → SectionId → List Section → ℕ
 place_from place id [] = place
 place_from place id (s ∷ ss) = place_from (if comes_before_lem s.id id then s.end else place) id ss
+
+-- the bytes of the section stand behind the old ones, unless it names places in the code
+abbrev pub IsPut : (bytes : List ℕ) → Section → (old new : List ℕ) → Type 0
+IsPut bytes s old new = (IsDebug bytes s × (new ≡ old)) ⊎ ((IsDebug bytes s → ⊥) × (new ≡ old ++ slice_range bytes s.start s.end))
+
+-- the bytes of those of the sections that name none stand behind the old ones
+pub record ArePut (bytes : List ℕ) (sections : List Section) (old new : List ℕ) : Type 0 where
+  pub kept : List Section
+  pub are : AreKept bytes sections kept
+  pub written : new ≡ old ++ bytes_of bytes kept

@@ -1,15 +1,18 @@
 //! Modules of WebAssembly as sections: which bytes each section takes, and modules with a section written anew.
 #![tactic(auto)]
 
+mod debug;
 mod fault;
 mod find;
 mod id;
 pub mod laws;
 mod linking;
+mod name;
 mod section;
 mod sections;
 mod writing;
 
+pub use debug::{is_debug, without_debug};
 pub use fault::{ModuleError, ModuleFault};
 pub use find::{find_section, place_of};
 pub use id::SectionId;

@@ -2,7 +2,7 @@
 ghost use Rattle.std.specs.Prelude.{◌↔◌, IsTrue};
 ghost use Rattle.wasm_sections.specs.Section.{IsLinkingName, IsLinkable};
 
-use wasm_code::u32_of;
+use crate::name::name_of;
 
 /// Whether the name of a custom section is that of linking metadata.
 fn is_linking_name(name: &[u8]) -> bool
@@ -15,11 +15,8 @@ fn is_linking_name(name: &[u8]) -> bool
 pub fn is_linkable(contents: &[u8]) -> bool
     ensures { IsTrue result ↔ IsLinkable contents.now }
 {
-    match u32_of(contents) {
-        Ok((size, rest)) => match rest.split_at_checked(size as usize) {
-            Some((name, _)) => is_linking_name(name),
-            None => false,
-        },
-        Err(_) => false,
+    match name_of(contents) {
+        Some(name) => is_linking_name(name),
+        None => false,
     }
 }
