@@ -73,7 +73,7 @@ record ArePieces (bytes : List ℕ) (xs : List Piece) (kept : List Section) : Ty
   pub sorted : (last : ℕ) → AreSorted last xs → AreSorted last pieces
   pub final : AreFinal (parts xs) → AreFinal (parts pieces)
 
-piece_len : (before : List ℕ) (x : Piece) (start : ℕ) → length before ≡ start → length (before ++ code_of x) ≡ end_at start x
+pub piece_len : (before : List ℕ) (x : Piece) (start : ℕ) → length before ≡ start → length (before ++ code_of x) ≡ end_at start x
 piece_len before x start f = omega (arith, length-append before (code_of x), length-code x, f)
 
 contents_are : (bytes before : List ℕ) (x : Piece) (xs : List Piece) (start : ℕ) → bytes ≡ before ++ (code_of x ++ joined xs) → length before ≡ start →
@@ -84,7 +84,7 @@ contents_are bytes before x xs start e f =
     let len : length head ≡ contents_at start x = omega (arith, length-append before (id_code x.id ∷ x.size), f) in
     range_is bytes head x.contents (joined xs) (contents_at start x) (end_at start x) at len refl
 
-code_is : (bytes before : List ℕ) (x : Piece) (xs : List Piece) (start : ℕ) → bytes ≡ before ++ (code_of x ++ joined xs) → length before ≡ start →
+pub code_is : (bytes before : List ℕ) (x : Piece) (xs : List Piece) (start : ℕ) → bytes ≡ before ++ (code_of x ++ joined xs) → length before ≡ start →
     slice_range bytes start (end_at start x) ≡ code_of x
 code_is bytes before x xs start e f = range_is bytes before (code_of x) (joined xs) start (end_at start x) e f (omega (arith, length-code x))
 

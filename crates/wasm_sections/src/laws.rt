@@ -6,6 +6,7 @@ ghost use Rattle.wasm_sections.specs.declared.fault.ModuleFault.{ModuleFault};
 ghost use Rattle.wasm_sections.specs.declared.fault.ModuleFault.TheVariants.{Memory};
 ghost use Rattle.wasm_sections.specs.Find.{IsFirstWith, IsPlaceOf};
 ghost use Rattle.wasm_sections.specs.Writing.{section_code};
+ghost use Rattle.wasm_sections.specs.Debug.{IsDebug, IsWithoutDebug};
 ghost use Rattle.wasm_sections.specs.Laws.{SpellsParts, AreJoined, IsWithin, IsInOrderAt};
 ghost use Rattle.wasm_sections.specs.declared.section.Section.{Section};
 ghost use Rattle.wasm_sections.specs.declared.id.SectionId.{SectionId};
@@ -75,3 +76,16 @@ pub fn added_section()
 {
     shortest_is_a_spelling();
 }
+
+/// What is left of a module without its custom sections that name places in the code has none of them; it is the module as it
+/// stood where that had none, and nothing else is left of it.
+pub fn debug_sections_are_gone()
+    ensures gone { (bytes new : List ℕ) (sections left : List Section)
+        → IsWithoutDebug bytes sections new → SpellsModule new left
+        → All (λ s. IsDebug new s → ⊥) left }
+    ensures unchanged { (bytes new : List ℕ) (sections : List Section)
+        → SpellsModule bytes sections → All (λ s. IsDebug bytes s → ⊥) sections
+        → IsWithoutDebug bytes sections new → new ≡ bytes }
+    ensures one { (bytes one other : List ℕ) (sections : List Section)
+        → IsWithoutDebug bytes sections one → IsWithoutDebug bytes sections other → one ≡ other }
+{}
