@@ -5,7 +5,8 @@ use std::alloc::Global;
 use std::process::Abort;
 use std::test::Fail;
 use wasm_sections::{
-    ModuleFault, SectionId, WriteError, find_section, place_of, put_section, read_sections,
+    ModuleFault, SectionId, WriteError, find_section, is_debug, place_of, put_section,
+    read_sections, without_debug,
 };
 
 /// One type, `func [] -> []`, and one function of it.
@@ -56,6 +57,29 @@ const FAULTS: &str = "
 0061736d 01000000 00 0b 0a 72656c6f632e434f4445 | Linkable at 8
 ";
 
+/// Modules with what is left of them without the sections that name places in the code: none of these; `name`, `.debug`,
+/// `metadata.code`, `sourceMappingURLs` and `build_id`, which are others, and a name `.debug_info` that is cut off; then each kind
+/// of them, also between other sections, two of them, and a type section whose contents spell such a name.
+const LEFT: &str = "
+0061736d 01000000 01 04 01 600000 03 02 01 00 | 0061736d 01000000 01 04 01 600000 03 02 01 00
+0061736d 01000000 | 0061736d 01000000
+0061736d 01000000 00 06 04 6e616d6501 | 0061736d 01000000 00 06 04 6e616d6501
+0061736d 01000000 00 07 06 2e6465627567 | 0061736d 01000000 00 07 06 2e6465627567
+0061736d 01000000 00 0e 0d 6d657461646174612e636f6465 | 0061736d 01000000 00 0e 0d 6d657461646174612e636f6465
+0061736d 01000000 00 12 11 736f757263654d617070696e6755524c73 | 0061736d 01000000 00 12 11 736f757263654d617070696e6755524c73
+0061736d 01000000 00 09 08 6275696c645f6964 | 0061736d 01000000 00 09 08 6275696c645f6964
+0061736d 01000000 00 08 0b 2e64656275675f | 0061736d 01000000 00 08 0b 2e64656275675f
+0061736d 01000000 00 00 | 0061736d 01000000 00 00
+0061736d 01000000 00 11 10 736f757263654d617070696e6755524c | 0061736d 01000000
+0061736d 01000000 00 14 13 65787465726e616c5f64656275675f696e666f | 0061736d 01000000
+0061736d 01000000 00 08 07 2e64656275675f | 0061736d 01000000
+0061736d 01000000 00 0d 0b 2e64656275675f696e666f01 | 0061736d 01000000
+0061736d 01000000 00 1a 19 6d657461646174612e636f64652e6272616e63685f68696e74 | 0061736d 01000000
+0061736d 01000000 01 04 01 600000 00 08 07 2e64656275675f 03 02 01 00 | 0061736d 01000000 01 04 01 600000 03 02 01 00
+0061736d 01000000 00 8880808000 07 2e64656275675f 00 0c 8780808000 2e64656275675f 01 8480808000 01 600000 | 0061736d 01000000 01 8480808000 01 600000
+0061736d 01000000 01 08 07 2e64656275675f | 0061736d 01000000 01 08 07 2e64656275675f
+";
+
 /// The bytes are a module of these sections, or have this fault.
 fn is_read(rt: &impl Abort, alloc: Global, line: &str) -> Result<(), Fail> {
     let (digits, wanted) = line.split_once('|').ok_or("no answer")?;
@@ -64,6 +88,16 @@ fn is_read(rt: &impl Abort, alloc: Global, line: &str) -> Result<(), Fail> {
         Err(error) => format!(in alloc; "{error}")?,
     };
     assert!(rt; text.as_str() == wanted.trim(), "{line}");
+    Ok(())
+}
+
+/// The bytes are a module, of which the second ones are left without the sections that name places in the code.
+fn is_left(rt: &impl Abort, alloc: Global, line: &str) -> Result<(), Fail> {
+    let (digits, wanted) = line.split_once('|').ok_or("no answer")?;
+    let bytes = bytes_of(alloc, digits)?;
+    let sections = read_sections(alloc, &bytes)?;
+    let left = without_debug(alloc, &bytes, &sections)?;
+    assert!(rt; left == bytes_of(alloc, wanted)?, "{line}");
     Ok(())
 }
 
@@ -105,5 +139,14 @@ fn written(rt: HostRuntime) -> Result<(), Fail> {
     assert!(rt; SectionId::DataCount.name() == "datacount");
     assert!(rt; ModuleFault::OutOfOrder.name() == "OutOfOrder");
     assert!(rt; WriteError::TooLarge.name() == "TooLarge");
+    Ok(())
+}
+
+#[test]
+fn left(rt: HostRuntime) -> Result<(), Fail> {
+    for line in LEFT.trim().lines() {
+        is_left(&rt, rt.alloc(), line)?;
+    }
+    assert!(rt; is_debug(b"\x07.debug_") && !is_debug(b"\x06.debug_"));
     Ok(())
 }

@@ -1,5 +1,5 @@
 -- Custom sections that name places in the code, and a module without them.
-use Rattle.std.proofs.Common.{◌≡◌, ◌⊎◌, ℕ, ◌+◌, ◌<◌, List, [], ◌∷◌, ◌++◌, length, take, get_or, refl, sym, ap, subst, ◌∙◌, append_assoc, inl, inr, arith}
+use Rattle.std.proofs.Common.{◌≡◌, ℕ, ◌+◌, ◌<◌, List, [], ◌∷◌, ◌++◌, length, take, get_or, refl, sym, ap, subst, ◌∙◌, append_assoc, inl, inr, arith}
 use Rattle.std.specs.Prelude.{◌↔◌, IsTrue, Bool, false, max, slice_range}
 use Rattle.std.proofs.lemmas.List.{length-append, append-nil, take_more}
 use Rattle.wasm_sections.specs.declared.id.SectionId.{SectionId}

@@ -1,4 +1,4 @@
-//! Modules of WebAssembly as sections: which bytes each section takes, and modules with a section written anew.
+//! Modules of WebAssembly as sections: which bytes each takes, and modules with a section written anew or without some.
 #![tactic(auto)]
 
 mod debug;
