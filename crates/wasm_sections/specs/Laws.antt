@@ -1,9 +1,10 @@
 -- Modules by what their sections contain, and where their sections stand (this project).
-use Rattle.std.specs.Prelude.{◌≡◌, ℕ, ◌<◌, ◌≤◌, List, [], ◌∷◌}
+use Rattle.std.specs.Prelude.{◌≡◌, ℕ, ◌<◌, ◌≤◌, List, [], ◌∷◌, slice_range}
 use Rattle.wasm_sections.specs.declared.id.SectionId.{SectionId}
 use Rattle.wasm_sections.specs.declared.section.Section.{Section}
 use Rattle.wasm_sections.specs.Id.{rank_of}
 use Rattle.wasm_sections.specs.Section.{SpellsModule, parts_of}
+use Rattle.wasm_sections.specs.Find.{IsFirstWith}
 
 -- The bytes spell a module whose sections have these ids and contents.
 pub record SpellsParts (bytes : List ℕ) (parts : List (SectionId × List ℕ)) : Type 0 where
@@ -28,3 +29,9 @@ pub record IsWithin (from to : ℕ) (s : Section) : Type 0 where
 pub record IsInOrderAt (place : ℕ) (id : SectionId) (s : Section) : Type 0 where
   pub precedes : 0 < rank_of s.id → rank_of s.id < rank_of id → s.end ≤ place
   pub follows : rank_of id < rank_of s.id → place ≤ s.start
+
+-- The first of the module's sections with the id contains these bytes.
+pub record HasFirst (bytes : List ℕ) (sections : List Section) (id : SectionId) (contents : List ℕ) : Type 0 where
+  pub s : Section
+  pub first : IsFirstWith sections id s
+  pub contains : slice_range bytes s.contents s.end ≡ contents

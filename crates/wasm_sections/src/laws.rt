@@ -4,10 +4,10 @@ ghost use Rattle.wasm_sections.specs.Section.{SpellsModule, parts_of};
 ghost use Rattle.wasm_sections.specs.Sections.{IsSectionFault};
 ghost use Rattle.wasm_sections.specs.declared.fault.ModuleFault.{ModuleFault};
 ghost use Rattle.wasm_sections.specs.declared.fault.ModuleFault.TheVariants.{Memory};
-ghost use Rattle.wasm_sections.specs.Find.{IsFirstWith, IsPlaceOf};
+ghost use Rattle.wasm_sections.specs.Find.{LackId, IsFirstWith, IsPlaceOf};
 ghost use Rattle.wasm_sections.specs.Writing.{section_code};
 ghost use Rattle.wasm_sections.specs.Debug.{IsDebug, IsWithoutDebug};
-ghost use Rattle.wasm_sections.specs.Laws.{SpellsParts, AreJoined, IsWithin, IsInOrderAt};
+ghost use Rattle.wasm_sections.specs.Laws.{SpellsParts, AreJoined, IsWithin, IsInOrderAt, HasFirst};
 ghost use Rattle.wasm_sections.specs.declared.section.Section.{Section};
 ghost use Rattle.wasm_sections.specs.declared.id.SectionId.{SectionId};
 ghost use Rattle.wasm_sections.specs.declared.id.SectionId.TheVariants as ids;
@@ -88,4 +88,14 @@ pub fn debug_sections_are_gone()
         → IsWithoutDebug bytes sections new → new ≡ bytes }
     ensures one { (bytes one other : List ℕ) (sections : List Section)
         → IsWithoutDebug bytes sections one → IsWithoutDebug bytes sections other → one ≡ other }
+{}
+
+/// The sections that aren't custom contain what they did, in what is left of a module without those that name places in the code.
+pub fn other_sections_stay()
+    ensures none { (bytes new : List ℕ) (sections left : List Section) (id : SectionId)
+        → IsWithoutDebug bytes sections new → SpellsModule new left
+        → LackId sections id → LackId left id }
+    ensures first { (bytes new contents : List ℕ) (sections left : List Section) (id : SectionId)
+        → IsWithoutDebug bytes sections new → SpellsModule new left → id ≢ ids.Custom
+        → HasFirst bytes sections id contents → HasFirst new left id contents }
 {}
