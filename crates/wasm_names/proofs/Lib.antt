@@ -1,0 +1,4 @@
+pub mod ReaderLemmas
+pub mod FirstLemmas
+pub mod NameLemmas
+pub mod CustomLemmas

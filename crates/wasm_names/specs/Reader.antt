@@ -1,0 +1,18 @@
+-- Reading as functions (this project): for proofs.
+use Rattle.std.specs.Prelude.{ℕ, if◌then◌else◌, List, Result, Ok, Err}
+use Rattle.std.specs.Str.{is_utf8}
+use Rattle.wasm_code.specs.declared.fault.Cause.{Cause}
+use Rattle.wasm_code.specs.declared.fault.Cause.TheVariants.{BadImmediate}
+use Rattle.wasm_code.specs.Reader.{◌>>=◌, byte_at, bytes_at, unsigned_at}
+
+unfoldable pub sized_at : List ℕ → Result (List ℕ × List ℕ) Cause
+sized_at bytes = unsigned_at 32 bytes >>= λ size. bytes_at size.0 size.1
+
+unfoldable pub name_at : List ℕ → Result (List ℕ × List ℕ) Cause
+name_at bytes = sized_at bytes >>= λ name. if is_utf8 name.0 then Ok name else Err BadImmediate
+
+unfoldable pub subsection_at : List ℕ → Result ((ℕ × List ℕ) × List ℕ) Cause
+subsection_at bytes = byte_at bytes >>= λ id. sized_at id.1 >>= λ contents. Ok ((id.0, contents.0), contents.1)
+
+unfoldable pub naming_at : List ℕ → Result ((ℕ × List ℕ) × List ℕ) Cause
+naming_at bytes = unsigned_at 32 bytes >>= λ index. name_at index.1 >>= λ name. Ok ((index.0, name.0), name.1)
