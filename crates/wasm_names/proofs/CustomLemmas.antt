@@ -1,5 +1,5 @@
 -- The first name section among sections.
-use Rattle.std.proofs.Common.{◌≡◌, ℕ, ◌+◌, ◌<◌, ◌≤◌, List, [], ◌∷◌, ◌++◌, length, drop, get_or, Option, Some, None, Result, Ok, Err, refl, sym, ap, subst, ◌∙◌, arith}
+use Rattle.std.proofs.Common.{◌≡◌, ℕ, ◌+◌, ◌<◌, ◌≤◌, List, [], ◌∷◌, ◌++◌, length, drop, get_or, Option, Some, None, Ok, Err, sym, ap, subst, ◌∙◌}
 use Rattle.std.specs.Prelude.{codes, slice_range, IfNone}
 use Rattle.std.proofs.lemmas.List.{drop_more, drop_all}
 use Rattle.wasm_code.specs.declared.fault.Cause.{Cause}
@@ -45,9 +45,6 @@ no_name_section (Some x) bytes s none = tt
 pub record SameFirst (bytes : List ℕ) (sections all : List Section) : Type 0 where
   pub to : (rest : List ℕ) → HasNameSection bytes all rest → HasNameSection bytes sections rest
   pub from : (rest : List ℕ) → HasNameSection bytes sections rest → HasNameSection bytes all rest
-
-pub same_all : (bytes : List ℕ) (all : List Section) → SameFirst bytes all all
-same_all bytes all = record { to = λ rest h. h; from = λ rest h. h }
 
 head_is : (s t : Section) (ss ts : List Section) → s ∷ ss ≡ t ∷ ts → (s ≡ t) × (ss ≡ ts)
 head_is s t ss ts e = (cc, cc)

@@ -16,12 +16,6 @@ pub record IsBehind (Spells : List ℕ → ℕ × List ℕ → Type 0) (key numb
   pub to : (value : List ℕ) (n : ℕ) → GoesOn Spells key value bytes n → (m : ℕ) × (n ≡ number + m) × GoesOn Spells key value rest m
   pub from : (value : List ℕ) (m : ℕ) → GoesOn Spells key value rest m → GoesOn Spells key value bytes (number + m)
 
-pub at_first : (Spells : List ℕ → ℕ × List ℕ → Type 0) (key : ℕ) (bytes : List ℕ) → IsBehind Spells key 0 bytes bytes
-at_first Spells key bytes = record {
-  to = λ value n g. (n, omega arith, g);
-  from = λ value m g. subst (GoesOn Spells key value bytes) (omega arith) g;
-}
-
 -- what is read is what is spelled first
 next_is : {Spells : List ℕ → ℕ × List ℕ → Type 0} {Rest : List ℕ → Type 0} {at : Reader (ℕ × List ℕ)} → IsExact Spells at →
     (bytes rest : List ℕ) (one other : ℕ × List ℕ) → at bytes ≡ Ok (one, rest) → IsNext Spells Rest bytes other → (one ≡ other) × Rest rest

@@ -1,10 +1,9 @@
 -- Each reading function reads what its grammar spells.
-use Rattle.std.proofs.Common.{◌≡◌, ℕ, Bool, true, false, cond, List, ◌++◌, Result, Ok, Err, refl, ap, subst, ◌∙◌}
+use Rattle.std.proofs.Common.{◌≡◌, ℕ, Bool, true, false, cond, List, ◌++◌, Ok, Err, refl, subst}
 use Rattle.std.specs.Str.{IsUtf8, is_utf8}
 use Rattle.std.proofs.lemmas.Str.{IsUtf8-from_is_utf8, is_utf8-from_IsUtf8}
 use Rattle.wasm_code.specs.declared.fault.Cause.{Cause}
 use Rattle.wasm_code.specs.declared.fault.Cause.TheVariants.{BadImmediate}
-use Rattle.wasm_code.specs.Reader.{◌>>=◌}
 use Rattle.wasm_code.specs.laws.GrammarLemmas.{Reader, Exact, bind_ok, ok_is, exact_of, exact_then, byte_exact, bytes_exact}
 use Rattle.wasm_code.specs.laws.NumberExact.{unsigned_exact}
 use Rattle.wasm_names.specs.Names.{SpellsSized, SpellsName, SpellsSubsection, SpellsNaming}
