@@ -115,8 +115,9 @@ first_kept bytes (x ∷ before) behind kept s id (inr p) none has other =
       none = (none.0, r.none);
     }
 
-first_part : (bytes new : List ℕ) (left before behind : List Section) (s : Section) (id : SectionId) → parts_of new left ≡ parts_of bytes (before ++ s ∷ behind) →
-    LackId before id → s.id ≡ id → HasFirst new left id (slice_range bytes s.contents s.end)
+first_part : (bytes new : List ℕ) (left before behind : List Section) (s : Section) (id : SectionId) →
+    parts_of new left ≡ parts_of bytes (before ++ s ∷ behind) → LackId before id → s.id ≡ id
+    → HasFirst new left id (slice_range bytes s.contents s.end)
 first_part bytes new [] [] behind s id e none has =
     absurd (not_empty (s.id, slice_range bytes s.contents s.end) (parts_of bytes behind) e)
 first_part bytes new [] (x ∷ before) behind s id e none has =
