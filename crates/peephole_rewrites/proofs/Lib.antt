@@ -7,6 +7,7 @@ pub mod LayLemmas
 pub mod PassLemmas
 pub mod GrowsLemmas
 pub mod ThoseLemmas
+pub mod HasWordsLemmas
 pub mod CountingLemmas
 pub mod MakesLemmas
 pub mod MadeLemmas
