@@ -25,9 +25,12 @@ use Rattle.peephole_rewrites.specs.declared.rewrite.Rewrite.{Rewrite}
 use Rattle.peephole_terms.specs.Written.{without_offsets}
 use Rattle.peephole_modules.specs.Function.{IsFunction}
 use Rattle.peephole_modules.specs.ReadAgain.{HasFunction}
-use Rattle.peephole_modules.specs.Mutated.{MutatesEntry, IsMutated, requested}
+use Rattle.peephole_modules.specs.Mutated.{MutatesEntry, IsMutated}
+use Rattle.peephole_modules.specs.Scope.{Scope}
+use Rattle.peephole_modules.specs.Writing.{requested}
 use Rattle.peephole_modules.specs.Mutates.{RewritesEach, Mutates}
 use Rattle.peephole_modules.specs.DoesAsBefore.{IsBodyOf, AreFunctions, BothStay, FunctionsDoAsBefore, IsModuleAfter, DoesAsBefore}
+use Rattle.peephole_modules.specs.declared.mutation.MutationError.{MutationError}
 use Rattle.peephole_modules.specs.declared.times.MadeRewrite.{MadeRewrite}
 use Rattle.peephole_modules.proofs.MutationLemmas.{requested_are}
 
@@ -264,27 +267,27 @@ module _ (one : OneReading) (law : OfPrograms) {rules : List Rule} {bytes : List
 
 -- ---- whole modules
 
-pub mutated_does : OneReading → OfPrograms → OneModule → (rules : List Rule) (only : Option ℕ) (bytes : List ℕ) (function : ℕ) (rewrite : Rewrite)
-    (new : List ℕ) → IsMutated rules only bytes function rewrite new → DoesAsBefore bytes new
-mutated_does one law unique rules only bytes function rewrite new m = record { functions = λ info layout old is are. go info layout old is are }
+pub mutated_does : OneReading → OfPrograms → OneModule → (scope : Scope) (bytes : List ℕ) (function : ℕ) (rewrite : Rewrite)
+    (new : List ℕ) → IsMutated scope bytes function rewrite new → DoesAsBefore bytes new
+mutated_does one law unique scope bytes function rewrite new m = record { functions = λ info layout old is are. go info layout old is are }
   where
     go : (info : Module) (layout : Layout) (old : Functions) → IsModule bytes info layout → AreFunctions bytes info layout old → IsModuleAfter info old new
     go info layout old is are =
         let (infos, layouts) = unique bytes info m.info layout m.layout is m.is in
-        let entry : MutatesEntry rules bytes info layout m.mutates.0 rewrite new =
-        subst (λ (p : Module × Layout). MutatesEntry rules bytes p.0 p.1 m.mutates.0 rewrite new)
+        let entry : MutatesEntry scope.rules bytes info layout m.mutates.0 rewrite new =
+        subst (λ (p : Module × Layout). MutatesEntry scope.rules bytes p.0 p.1 m.mutates.0 rewrite new)
         (ap₂ (λ (i : Module) (l : Layout). (i, l)) (sym infos) (sym layouts)) m.mutates.2 in
         module_after one law entry old are
 
-pub each_does : OneReading → OfPrograms → OneModule → (rules : List Rule) (only : Option ℕ) (bytes : List ℕ) (m : MadeRewrite) (made : List MadeRewrite)
-    (new : List ℕ) → RewritesEach rules only bytes (m ∷ made) new → DoesAsBefore bytes new
-each_does one law unique rules only bytes m [] new h =
-    subst (DoesAsBefore bytes) (sym h.2) (mutated_does one law unique rules only bytes m.function m.rewrite h.0 h.1)
-each_does one law unique rules only bytes m (k ∷ made) new h =
-    does_after law bytes h.0 new (mutated_does one law unique rules only bytes m.function m.rewrite h.0 h.1)
-    (each_does one law unique rules only h.0 k made new h.2)
+pub each_does : OneReading → OfPrograms → OneModule → (scope : Scope) (bytes : List ℕ) (m : MadeRewrite) (made : List MadeRewrite)
+    (new : List ℕ) → RewritesEach scope bytes (m ∷ made) new → DoesAsBefore bytes new
+each_does one law unique scope bytes m [] new h =
+    subst (DoesAsBefore bytes) (sym h.2) (mutated_does one law unique scope bytes m.function m.rewrite h.0 h.1)
+each_does one law unique scope bytes m (k ∷ made) new h =
+    does_after law bytes h.0 new (mutated_does one law unique scope bytes m.function m.rewrite h.0 h.1)
+    (each_does one law unique scope h.0 k made new h.2)
 
-pub mutates_does : OneReading → OfPrograms → OneModule → (rules : List Rule) (only : Option ℕ) (count : ℕ) (bytes : List ℕ) (made : List MadeRewrite)
-    (new : List ℕ) → Mutates rules only count bytes made new → DoesAsBefore bytes new
-mutates_does one law unique rules only count bytes [] new h = absurd (let some = h.some in omega (arith, some))
-mutates_does one law unique rules only count bytes (m ∷ made) new h = each_does one law unique rules only bytes m made new h.each
+pub mutates_does : OneReading → OfPrograms → OneModule → (scope : Scope) (count : ℕ) (bytes : List ℕ) (made : List MadeRewrite)
+    (new : List ℕ) (stopped : Option MutationError) → Mutates scope count bytes made new stopped → DoesAsBefore bytes new
+mutates_does one law unique scope count bytes [] new stopped h = absurd (let some = h.some in omega (arith, some))
+mutates_does one law unique scope count bytes (m ∷ made) new stopped h = each_does one law unique scope bytes m made new h.each

@@ -5,3 +5,4 @@ pub mod MutationLemmas
 pub mod ModuleLemmas
 pub mod DoesAsBeforeLemmas
 pub mod MutatesLemmas
+pub mod EntryWordsLemmas

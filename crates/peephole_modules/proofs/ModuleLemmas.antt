@@ -1,14 +1,15 @@
 -- The code entries of a module, one after another, and the module.
-use Rattle.std.proofs.Common.{◌≡◌, inl, inr, ℕ, ◌+◌, ◌-◌, ◌<◌, ◌≤◌, List, length, Option, Some, None, sym, subst, arith}
-use Rattle.std.specs.Prelude.{IfSome}
+use Rattle.std.proofs.Common.{◌≡◌, inl, inr, ℕ, ◌+◌, ◌-◌, ◌<◌, ◌≤◌, List, length, Option, Some, None, Result, Ok, Err, sym, subst, arith}
+use Rattle.std.specs.Prelude.{IfOk, IfErr, IfNone, IfSome}
 use Rattle.std.proofs.lemmas.Bool.{cases_eq, cases_lt}
 use Rattle.mutate_base.specs.Module.{Module}
 use Rattle.wasm_module.specs.Module.{Layout, IsModule}
 use Rattle.peephole_rules.specs.declared.rule.Rule.{Rule}
 use Rattle.peephole_rewrites.specs.declared.rewrite.Rewrite.{Rewrite as MadeRewrite}
-use Rattle.peephole_modules.specs.Mutated.{CannotMutate, HasNoMutation, IsChosen, IsMutated, MutatesOne, RefusesChosenEntry, RefusesEntry, RefusesMutation}
+use Rattle.peephole_modules.specs.Mutated.{CannotMutate, HasNoMutation, IsChosen, IsInVain, IsMutated, IsOfSize, IsRefusedForSize, MutatesOne, RefusesChosenEntry, RefusesEntry, RefusesMutation, last_of}
+use Rattle.peephole_modules.specs.Scope.{Scope}
 use Rattle.peephole_modules.specs.declared.mutation.MutationError.{MutationError}
-use Rattle.peephole_modules.specs.declared.mutation.MutationError.TheVariants.{Read, Rewrite, Write}
+use Rattle.peephole_modules.specs.declared.mutation.MutationError.TheVariants.{Read, Rewrite, TooLong, Write}
 
 -- ---- no rule applies in some of the entries
 
@@ -51,90 +52,137 @@ none_at rules bytes (Some info) layout function imported k is at here = λ n ins
 -- ---- one of the entries is refused
 
 -- one from `from` on, before `to`
-abbrev pub RefusesWithin : (rules : List Rule) (bytes : List ℕ) (layout : Layout) (from to : ℕ) → MutationError → Module → Type 0
-RefusesWithin rules bytes layout from to e info = (n : ℕ) × (from ≤ n) × (n < to) × RefusesEntry rules bytes info layout n e
+abbrev pub RefusesWithin : (scope : Scope) (bytes : List ℕ) (layout : Layout) (from to : ℕ) → MutationError → Module → Type 0
+RefusesWithin scope bytes layout from to e info = (n : ℕ) × (from ≤ n) × (n < to) × RefusesEntry scope bytes info layout n e
+
+-- ---- several attempts in vain
+
+module _ {A : Type 0} where
+  pub vain_of_last : (before after : Result (Option A) MutationError) → IsInVain before → IsInVain after → IsInVain (last_of before after)
+  vain_of_last before (Ok None) b a = b
+  vain_of_last before (Ok (Some x)) b a = absurd a
+  vain_of_last before (Err e) b a = a
+
+  -- there is no rewrite where both attempts found none
+  pub none_of_last : (before after : Result (Option A) MutationError) (P Q : Type 0) → IfOk before (λ o. IfNone o P) → IfOk after (λ o. IfNone o Q) →
+      IfOk (last_of before after) (λ o. IfNone o (P × Q))
+  none_of_last (Ok None) (Ok None) P Q p q = (p, q)
+  none_of_last (Ok (Some x)) (Ok None) P Q p q = tt
+  none_of_last (Err e) (Ok None) P Q p q = tt
+  none_of_last before (Ok (Some x)) P Q p q = tt
+  none_of_last before (Err e) P Q p q = tt
+
+  -- one of them is refused
+  pub refused_of_last : (before after : Result (Option A) MutationError) (P Q T : MutationError → Type 0) → ((e : MutationError) → P e → T e) →
+      ((e : MutationError) → Q e → T e) → IfErr before P → IfErr after Q → IfErr (last_of before after) T
+  refused_of_last (Ok x) (Ok None) P Q T f g p q = tt
+  refused_of_last (Err e) (Ok None) P Q T f g p q = f e p
+  refused_of_last before (Ok (Some x)) P Q T f g p q = tt
+  refused_of_last before (Err e) P Q T f g p q = g e q
+
+  -- in vain, nothing is made
+  pub nothing_made : (r : Result (Option A) MutationError) (P : A → Type 0) → IsInVain r → IfOk r (λ o. IfSome o P)
+  nothing_made (Ok None) P vain = tt
+  nothing_made (Ok (Some x)) P vain = absurd vain
+  nothing_made (Err e) P vain = tt
+
+  -- a refusal for a size is an attempt in vain
+  pub vain_of_size : (r : Result (Option A) MutationError) (P : Type 0) → (IsInVain r → P) → IfErr r (λ e. IsOfSize e → P)
+  vain_of_size (Ok x) P f = tt
+  vain_of_size (Err e) P f = f
+
+  pub err_of_size : (r : Result (Option A) MutationError) (P Q : Type 0) → (P → Q) → IfErr r (λ e. IsOfSize e → P) → IfErr r (λ e. IsOfSize e → Q)
+  err_of_size (Ok x) P Q f h = tt
+  err_of_size (Err e) P Q f h = λ size. f (h size)
+
+  -- one that is not
+  pub not_of_size : (r : Result (Option A) MutationError) (P : Type 0) → (IsRefusedForSize r → ⊥) → IfErr r (λ e. IsOfSize e → P)
+  not_of_size (Ok x) P other = tt
+  not_of_size (Err e) P other = λ size. absurd (other size)
+
+  pub size_in_vain : (r : Result (Option A) MutationError) → IsRefusedForSize r → IsInVain r
+  size_in_vain (Ok x) size = absurd size
+  size_in_vain (Err e) size = size
 
 -- ---- the module
 
-refuses : (rules : List Rule) (only : Option ℕ) (bytes : List ℕ) (e : MutationError) → RefusesChosenEntry rules only bytes e →
-    RefusesMutation rules only bytes e
-refuses rules only bytes (Read fault) h = absurd h.refuses
-refuses rules only bytes (Rewrite error) h = h
-refuses rules only bytes (Write error) h = h
+refuses : (scope : Scope) (bytes : List ℕ) (e : MutationError) → RefusesChosenEntry scope bytes e →
+    RefusesMutation scope bytes e
+refuses scope bytes (Read fault) h = absurd h.refuses
+refuses scope bytes (Rewrite error) h = h
+refuses scope bytes (Write error) h = h
+refuses scope bytes TooLong h = h
 
-pub refuses_any : (rules : List Rule) (only : Option ℕ) (bytes : List ℕ) (under : Option Module) (info : Module) (layout : Layout) → only ≡ None →
-    under ≡ Some info → IsModule bytes info layout → (e : MutationError) →
-    IfSome under (λ i. (n : ℕ) × (n < length layout.entries) × RefusesEntry rules bytes i layout n e) → RefusesMutation rules only bytes e
-refuses_any rules only bytes under info layout any is known e h =
-    let one = subst (λ (u : Option Module). IfSome u (λ i. (n : ℕ) × (n < length layout.entries) × RefusesEntry rules bytes i layout n e)) is h in
-    refuses rules only bytes e (record {
-      info = info;
-      layout = layout;
-      is = known;
-      n = one.0;
-      inside = one.1;
-      chosen = subst (λ (o : Option ℕ). IsChosen o (layout.imported_functions + one.0)) (sym any) tt;
-      refuses = one.2;
-    })
+module _ (scope : Scope) (bytes : List ℕ) (layout : Layout) where
+  -- any function may be rewritten
+  pub refuses_any : (under : Option Module) → scope.function ≡ None → IfSome under (λ i. IsModule bytes i layout) → (e : MutationError) →
+      IfSome under (λ i. (n : ℕ) × (n < length layout.entries) × RefusesEntry scope bytes i layout n e) → IfSome under (λ i. RefusesMutation scope bytes e)
+  refuses_any None any known e h = tt
+  refuses_any (Some info) any known e h = refuses scope bytes e (record {
+    info = info;
+    layout = layout;
+    is = known;
+    n = h.0;
+    inside = h.1;
+    chosen = subst (λ (o : Option ℕ). IsChosen o (layout.imported_functions + h.0)) (sym any) tt;
+    refuses = h.2;
+  })
 
-pub refuses_one : (rules : List Rule) (only : Option ℕ) (bytes : List ℕ) (under : Option Module) (info : Module) (layout : Layout) (named : ℕ) →
-    only ≡ Some named → under ≡ Some info → IsModule bytes info layout → (e : MutationError) →
-    IfSome under (λ i. (n : ℕ) × (n < length layout.entries) × (layout.imported_functions + n ≡ named) × RefusesEntry rules bytes i layout n e) →
-    RefusesMutation rules only bytes e
-refuses_one rules only bytes under info layout named one is known e h =
-    let at = subst (λ (u : Option Module). IfSome u (λ i. (n : ℕ) × (n < length layout.entries) × (layout.imported_functions + n ≡ named)
-    × RefusesEntry rules bytes i layout n e)) is h in
-    refuses rules only bytes e (record {
-      info = info;
-      layout = layout;
-      is = known;
-      n = at.0;
-      inside = at.1;
-      chosen = subst (λ (o : Option ℕ). IsChosen o (layout.imported_functions + at.0)) (sym one) at.2;
-      refuses = at.3;
-    })
+  pub mutated_any : (under : Option Module) → scope.function ≡ None → IfSome under (λ i. IsModule bytes i layout) → (function : ℕ)
+      (rewrite : MadeRewrite) (new : List ℕ) → IfSome under (λ i. MutatesOne scope.rules bytes i layout function rewrite new) →
+      length new ≤ scope.most → IfSome under (λ i. IsMutated scope bytes function rewrite new)
+  mutated_any None any known function rewrite new h fits = tt
+  mutated_any (Some info) any known function rewrite new h fits = record {
+    info = info;
+    layout = layout;
+    is = known;
+    chosen = subst (λ (o : Option ℕ). IsChosen o function) (sym any) tt;
+    fits = fits;
+    mutates = h;
+  }
 
-pub mutated_any : (rules : List Rule) (only : Option ℕ) (bytes : List ℕ) (under : Option Module) (info : Module) (layout : Layout) → only ≡ None →
-    under ≡ Some info → IsModule bytes info layout → (function : ℕ) (rewrite : MadeRewrite) (new : List ℕ) →
-    IfSome under (λ i. MutatesOne rules bytes i layout function rewrite new) → IsMutated rules only bytes function rewrite new
-mutated_any rules only bytes under info layout any is known function rewrite new h = record {
-  info = info;
-  layout = layout;
-  is = known;
-  chosen = subst (λ (o : Option ℕ). IsChosen o function) (sym any) tt;
-  mutates = subst (λ (u : Option Module). IfSome u (λ i. MutatesOne rules bytes i layout function rewrite new)) is h;
-}
+  pub cannot_any : (under : Option Module) → IfSome under (λ i. IsModule bytes i layout) →
+      IfSome under (λ i. (n : ℕ) → n < length layout.entries → HasNoMutation scope.rules bytes i layout n) →
+      IfSome under (λ i. CannotMutate scope bytes)
+  cannot_any None known h = tt
+  cannot_any (Some info) known h = record { info = info; layout = layout; is = known; none = λ n inside chosen. h n inside }
 
-pub mutated_one : (rules : List Rule) (only : Option ℕ) (bytes : List ℕ) (under : Option Module) (info : Module) (layout : Layout) (named : ℕ) →
-    only ≡ Some named → under ≡ Some info → IsModule bytes info layout → (function : ℕ) (rewrite : MadeRewrite) (new : List ℕ) →
-    IfSome under (λ i. (function ≡ named) × MutatesOne rules bytes i layout function rewrite new) → IsMutated rules only bytes function rewrite new
-mutated_one rules only bytes under info layout named one is known function rewrite new h =
-    let both = subst (λ (u : Option Module). IfSome u (λ i. (function ≡ named) × MutatesOne rules bytes i layout function rewrite new)) is h in
-    record {
-      info = info;
-      layout = layout;
-      is = known;
-      chosen = subst (λ (o : Option ℕ). IsChosen o function) (sym one) both.0;
-      mutates = both.1;
-    }
+  -- the function that is named
+  pub refuses_one : (under : Option Module) (named : ℕ) → scope.function ≡ Some named → IfSome under (λ i. IsModule bytes i layout) →
+      (e : MutationError) → IfSome under (λ i. (n : ℕ) × (n < length layout.entries) × (layout.imported_functions + n ≡ named)
+      × RefusesEntry scope bytes i layout n e) → IfSome under (λ i. RefusesMutation scope bytes e)
+  refuses_one None named one known e h = tt
+  refuses_one (Some info) named one known e h = refuses scope bytes e (record {
+    info = info;
+    layout = layout;
+    is = known;
+    n = h.0;
+    inside = h.1;
+    chosen = subst (λ (o : Option ℕ). IsChosen o (layout.imported_functions + h.0)) (sym one) h.2;
+    refuses = h.3;
+  })
 
-pub cannot_any : (rules : List Rule) (only : Option ℕ) (bytes : List ℕ) (under : Option Module) (info : Module) (layout : Layout) →
-    under ≡ Some info → IsModule bytes info layout →
-    IfSome under (λ i. (n : ℕ) → n < length layout.entries → HasNoMutation rules bytes i layout n) → CannotMutate rules only bytes
-cannot_any rules only bytes under info layout is known h =
-    let none = subst (λ (u : Option Module). IfSome u (λ i. (n : ℕ) → n < length layout.entries → HasNoMutation rules bytes i layout n)) is h in
-    record { info = info; layout = layout; is = known; none = λ n inside chosen. none n inside }
+  pub mutated_one : (under : Option Module) (named : ℕ) → scope.function ≡ Some named → IfSome under (λ i. IsModule bytes i layout) →
+      (function : ℕ) (rewrite : MadeRewrite) (new : List ℕ) →
+      IfSome under (λ i. (function ≡ named) × MutatesOne scope.rules bytes i layout function rewrite new) → length new ≤ scope.most →
+      IfSome under (λ i. IsMutated scope bytes function rewrite new)
+  mutated_one None named one known function rewrite new h fits = tt
+  mutated_one (Some info) named one known function rewrite new h fits = record {
+    info = info;
+    layout = layout;
+    is = known;
+    chosen = subst (λ (o : Option ℕ). IsChosen o function) (sym one) h.0;
+    fits = fits;
+    mutates = h.1;
+  }
 
-pub cannot_one : (rules : List Rule) (only : Option ℕ) (bytes : List ℕ) (under : Option Module) (info : Module) (layout : Layout) (named : ℕ) →
-    only ≡ Some named → under ≡ Some info → IsModule bytes info layout →
-    IfSome under (λ i. (n : ℕ) → n < length layout.entries → layout.imported_functions + n ≡ named → HasNoMutation rules bytes i layout n) →
-    CannotMutate rules only bytes
-cannot_one rules only bytes under info layout named one is known h =
-    let none = subst (λ (u : Option Module). IfSome u (λ i. (n : ℕ) → n < length layout.entries → layout.imported_functions + n ≡ named →
-    HasNoMutation rules bytes i layout n)) is h in
-    record {
-      info = info;
-      layout = layout;
-      is = known;
-      none = λ n inside chosen. none n inside (subst (λ (o : Option ℕ). IsChosen o (layout.imported_functions + n)) one chosen);
-    }
+  pub cannot_one : (under : Option Module) (named : ℕ) → scope.function ≡ Some named → IfSome under (λ i. IsModule bytes i layout) →
+      IfSome under (λ i. (n : ℕ) → n < length layout.entries → layout.imported_functions + n ≡ named → HasNoMutation scope.rules bytes i layout n) →
+      IfSome under (λ i. CannotMutate scope bytes)
+  cannot_one None named one known h = tt
+  cannot_one (Some info) named one known h = record {
+    info = info;
+    layout = layout;
+    is = known;
+    none = λ n inside chosen. h n inside (subst (λ (o : Option ℕ). IsChosen o (layout.imported_functions + n)) one chosen);
+  }

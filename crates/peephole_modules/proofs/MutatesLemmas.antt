@@ -1,84 +1,165 @@
 -- Rewrites made one after another.
-use Rattle.std.proofs.Common.{◌≡◌, ℕ, ◌+◌, ◌<◌, List, [], ◌∷◌, ◌++◌, length, Option, Result, Err, IfErr, refl, sym, ◌∙◌, ap, subst, inr, arith, length-append}
+use Rattle.std.proofs.Common.{◌≡◌, ℕ, ◌+◌, ◌<◌, List, [], ◌∷◌, ◌++◌, length, Option, Some, None, Result, Ok, Err, true, false, refl, sym, ◌∙◌, ap, subst, inl, arith, length-append}
+use Rattle.std.proofs.lemmas.Bool.{true≢false}
+use Rattle.std.proofs.lemmas.Option.{same_Some, slice_get_within}
+use Rattle.std.specs.Prelude.{IfSome, OnErr, OnOk, is_err}
+use Rattle.rand_core.specs.Stream.{Stream}
+use Rattle.mutate_base.specs.declared.error.Error.TheVariants as errors
 use Rattle.wasm_sections.specs.declared.fault.ModuleFault.{ModuleFault}
 use Rattle.wasm_sections.specs.declared.fault.ModuleFault.TheVariants.{Memory}
 use Rattle.wasm_module.specs.Fault.{IsModuleFault}
-use Rattle.peephole_rules.specs.declared.rule.Rule.{Rule}
 use Rattle.peephole_rewrites.specs.declared.rewrite.Rewrite.{Rewrite}
-use Rattle.peephole_modules.specs.Mutated.{IsMutated, RefusesMutation}
+use Rattle.peephole_modules.specs.Chosen.{ChoosesOfModule, GivesUp}
+use Rattle.peephole_modules.specs.ChosenTimes.{ChoosesEach, ChoosesTimes}
+use Rattle.peephole_modules.specs.Mutated.{CannotMutate, IsChosen, IsMutated, IsOfSize, RefusesMutation}
+use Rattle.peephole_modules.specs.Mutates.{Mutates, RewritesEach, IsReadOnceMade}
+use Rattle.peephole_modules.specs.Scope.{Scope}
 use Rattle.peephole_modules.specs.declared.mutation.MutationError.{MutationError}
-use Rattle.peephole_modules.specs.Mutates.{Mutates, RefusesMutations, RewritesEach, IsReadOnceMade}
-use Rattle.peephole_modules.specs.declared.mutation.MutationError.TheVariants.{Read, Rewrite as Refused, Write}
+use Rattle.peephole_modules.specs.declared.mutation.MutationError.TheVariants.{Read, Rewrite as Refused, TooLong, Write}
 use Rattle.peephole_modules.specs.declared.times.MadeRewrite.{MadeRewrite}
 
 -- The bytes are the module with so many rewrites made.
-pub record SoFar (rules : List Rule) (only : Option ℕ) (number : ℕ) (bytes : List ℕ) (made : List MadeRewrite) (new : List ℕ) : Type 0 where
-  pub each : RewritesEach rules only bytes made new
+pub record SoFar (scope : Scope) (number : ℕ) (bytes : List ℕ) (stream : Stream) (made : List MadeRewrite) (new : List ℕ) (now : Stream) : Type 0 where
+  pub each : RewritesEach scope bytes made new
+  pub chooses : ChoosesEach scope bytes stream made new now
   pub number_is : length made ≡ number
 
 -- one rewrite more
-pub each_more : (rules : List Rule) (only : Option ℕ) (bytes : List ℕ) (made : List MadeRewrite) (last : List ℕ) (m : MadeRewrite) (new : List ℕ) →
-    RewritesEach rules only bytes made last → IsMutated rules only last m.function m.rewrite new → RewritesEach rules only bytes (made ++ m ∷ []) new
-each_more rules only bytes [] last m new e mutated =
-    (new, subst (λ (b : List ℕ). IsMutated rules only b m.function m.rewrite new) e mutated, refl)
-each_more rules only bytes (x ∷ made) last m new each mutated =
-    (each.0, each.1, each_more rules only each.0 made last m new each.2 mutated)
+pub each_more : (scope : Scope) (bytes : List ℕ) (made : List MadeRewrite) (last : List ℕ) (m : MadeRewrite) (new : List ℕ) →
+    RewritesEach scope bytes made last → IsMutated scope last m.function m.rewrite new → RewritesEach scope bytes (made ++ m ∷ []) new
+each_more scope bytes [] last m new e mutated =
+    (new, subst (λ (b : List ℕ). IsMutated scope b m.function m.rewrite new) e mutated, refl)
+each_more scope bytes (x ∷ made) last m new each mutated =
+    (each.0, each.1, each_more scope each.0 made last m new each.2 mutated)
+
+pub chooses_more : (scope : Scope) (bytes : List ℕ) (stream : Stream) (made : List MadeRewrite) (last : List ℕ) (now : Stream) (m : MadeRewrite)
+    (new : List ℕ) (after : Stream) → ChoosesEach scope bytes stream made last now → ChoosesOfModule scope last now m.function m.rewrite new after →
+    ChoosesEach scope bytes stream (made ++ m ∷ []) new after
+chooses_more scope bytes stream [] last now m new after e chosen = (
+  new,
+  after,
+  subst (λ (b : List ℕ). ChoosesOfModule scope b stream m.function m.rewrite new after) e.0
+      (subst (λ (s : Stream). ChoosesOfModule scope last s m.function m.rewrite new after) e.1 chosen),
+  (refl, refl),
+)
+chooses_more scope bytes stream (x ∷ made) last now m new after each chosen =
+    (each.0, each.1, each.2, chooses_more scope each.0 each.1 made last now m new after each.3 chosen)
 
 -- the first rewrite
-pub first : (rules : List Rule) (only : Option ℕ) (bytes : List ℕ) (m : MadeRewrite) (made : List MadeRewrite) (new : List ℕ) →
-    made ≡ [] ++ m ∷ [] → IsMutated rules only bytes m.function m.rewrite new → SoFar rules only 1 bytes made new
-first rules only bytes m made new e mutated =
-    subst (λ (ms : List MadeRewrite). SoFar rules only 1 bytes ms new) (sym e) (record { each = (new, mutated, refl); number_is = refl })
+pub first : (scope : Scope) (bytes : List ℕ) (stream : Stream) (m : MadeRewrite) (made : List MadeRewrite) (new : List ℕ) (now : Stream) →
+    made ≡ [] ++ m ∷ [] → IsMutated scope bytes m.function m.rewrite new → ChoosesOfModule scope bytes stream m.function m.rewrite new now →
+    SoFar scope 1 bytes stream made new now
+first scope bytes stream m made new now e mutated chosen =
+    subst (λ (ms : List MadeRewrite). SoFar scope 1 bytes stream ms new now) (sym e)
+    (record { each = (new, mutated, refl); chooses = (new, now, chosen, (refl, refl)); number_is = refl })
 
 -- one rewrite more
-pub next : (rules : List Rule) (only : Option ℕ) (number : ℕ) (bytes : List ℕ) (old : List MadeRewrite) (last : List ℕ) (m : MadeRewrite)
-    (made : List MadeRewrite) (new : List ℕ) →
-    SoFar rules only number bytes old last → made ≡ old ++ m ∷ [] → IsMutated rules only last m.function m.rewrite new →
-    SoFar rules only (number + 1) bytes made new
-next rules only number bytes old last m made new so e mutated =
-    subst (λ (ms : List MadeRewrite). SoFar rules only (number + 1) bytes ms new) (sym e) (record {
-      each = each_more rules only bytes old last m new so.each mutated;
+pub next : (scope : Scope) (number : ℕ) (bytes : List ℕ) (stream : Stream) (old : List MadeRewrite) (last : List ℕ) (now : Stream) (m : MadeRewrite)
+    (made : List MadeRewrite) (new : List ℕ) (after : Stream) →
+    SoFar scope number bytes stream old last now → made ≡ old ++ m ∷ [] → IsMutated scope last m.function m.rewrite new →
+    ChoosesOfModule scope last now m.function m.rewrite new after → SoFar scope (number + 1) bytes stream made new after
+next scope number bytes stream old last now m made new after so e mutated chosen =
+    subst (λ (ms : List MadeRewrite). SoFar scope (number + 1) bytes stream ms new after) (sym e) (record {
+      each = each_more scope bytes old last m new so.each mutated;
+      chooses = chooses_more scope bytes stream old last now m new after so.chooses chosen;
       number_is = length-append old (m ∷ []) ∙ ap (λ (n : ℕ). n + 1) so.number_is;
     })
 
 -- as many rewrites as were asked for
-pub ends : (rules : List Rule) (only : Option ℕ) (count number : ℕ) (bytes : List ℕ) (made : List MadeRewrite) (new : List ℕ) →
-    SoFar rules only number bytes made new → 0 < number → number ≡ count → Mutates rules only count bytes made new
-ends rules only count number bytes made new so some all = record {
+pub ends : (scope : Scope) (count number : ℕ) (bytes : List ℕ) (stream : Stream) (made : List MadeRewrite) (new : List ℕ) (now : Stream)
+    (stopped : Option MutationError) → SoFar scope number bytes stream made new now → 0 < number → number ≡ count → stopped ≡ None → Mutates scope count bytes
+    made new stopped
+ends scope count number bytes stream made new now stopped so some all none = record {
   some = omega (arith, so.number_is);
   most = omega (arith, so.number_is);
   each = so.each;
   fewer = λ below. absurd (omega (arith, so.number_is, below));
+  all = λ e. none;
+}
+
+-- fewer, since no rule applies any more
+pub ends_early : (scope : Scope) (count number : ℕ) (bytes : List ℕ) (stream : Stream) (made : List MadeRewrite) (new : List ℕ) (now : Stream)
+    (stopped : Option MutationError) → SoFar scope number bytes stream made new now → 0 < number → number < count → stopped ≡ None → CannotMutate scope new →
+    Mutates scope count bytes made new stopped
+ends_early scope count number bytes stream made new now (Some e) so some few none cannot = absurd (let wrong : Some e ≡ None = none in cc)
+ends_early scope count number bytes stream made new now None so some few none cannot = record {
+  some = omega (arith, so.number_is);
+  most = omega (arith, so.number_is);
+  each = so.each;
+  fewer = λ below. cannot;
+  all = λ e. refl;
 }
 
 -- what is known of a module in which a rewrite was made: no fault of it is there but want of memory
 abbrev pub ModulesAreReadAgain : Type 0
 ModulesAreReadAgain =
-    (rules : List Rule) (only : Option ℕ) (bytes new : List ℕ) (function : ℕ) (rewrite : Rewrite) → IsMutated rules only bytes function rewrite new →
+    (scope : Scope) (bytes new : List ℕ) (function : ℕ) (rewrite : Rewrite) → IsMutated scope bytes function rewrite new →
     (fault : ModuleFault) (offset : ℕ) → IsModuleFault new fault offset → fault ≡ Memory
 
-once_made : ModulesAreReadAgain → (rules : List Rule) (only : Option ℕ) (bytes : List ℕ) (m : MadeRewrite) (made : List MadeRewrite) (last : List ℕ) →
-    RewritesEach rules only bytes (m ∷ made) last → (fault : ModuleFault) (offset : ℕ) → IsModuleFault last fault offset → fault ≡ Memory
-once_made law rules only bytes m [] last h =
-    law rules only bytes last m.function m.rewrite (subst (λ (b : List ℕ). IsMutated rules only bytes m.function m.rewrite b) (sym h.2) h.1)
-once_made law rules only bytes m (k ∷ made) last h = once_made law rules only h.0 k made last h.2
+once_made : ModulesAreReadAgain → (scope : Scope) (bytes : List ℕ) (m : MadeRewrite) (made : List MadeRewrite) (last : List ℕ) →
+    RewritesEach scope bytes (m ∷ made) last → (fault : ModuleFault) (offset : ℕ) → IsModuleFault last fault offset → fault ≡ Memory
+once_made law scope bytes m [] last h =
+    law scope bytes last m.function m.rewrite (subst (λ (b : List ℕ). IsMutated scope bytes m.function m.rewrite b) (sym h.2) h.1)
+once_made law scope bytes m (k ∷ made) last h = once_made law scope h.0 k made last h.2
 
-read_once_made : ModulesAreReadAgain → (rules : List Rule) (only : Option ℕ) (bytes : List ℕ) (made : List MadeRewrite) (last : List ℕ)
-    (e : MutationError) → RewritesEach rules only bytes made last → RefusesMutation rules only last e → IsReadOnceMade made e
-read_once_made law rules only bytes [] last e h refused = tt
-read_once_made law rules only bytes (m ∷ made) last (Read e) h refused = once_made law rules only bytes m made last h e.kind e.offset refused
-read_once_made law rules only bytes (m ∷ made) last (Refused e) h refused = tt
-read_once_made law rules only bytes (m ∷ made) last (Write e) h refused = tt
+read_once_made : ModulesAreReadAgain → (scope : Scope) (bytes : List ℕ) (made : List MadeRewrite) (last : List ℕ)
+    (e : MutationError) → 0 < length made → RewritesEach scope bytes made last → RefusesMutation scope last e → IsReadOnceMade e
+read_once_made law scope bytes [] last e some h refused = absurd (omega (arith, some))
+read_once_made law scope bytes (m ∷ made) last (Read e) some h refused = once_made law scope bytes m made last h e.kind e.offset refused
+read_once_made law scope bytes (m ∷ made) last (Refused e) some h refused = tt
+read_once_made law scope bytes (m ∷ made) last (Write e) some h refused = tt
+read_once_made law scope bytes (m ∷ made) last TooLong some h refused = tt
 
--- the module that the rewrites left is refused
-pub refused_next : ModulesAreReadAgain → (rules : List Rule) (only : Option ℕ) (count number : ℕ) (bytes : List ℕ) (made : List MadeRewrite) (last : List ℕ)
-    (e : MutationError) → SoFar rules only number bytes made last → number < count → RefusesMutation rules only last e →
-    RefusesMutations rules only count bytes e
-refused_next law rules only count number bytes made last e so below refused =
-    inr (made, (last, omega (arith, so.number_is), so.each, refused, read_once_made law rules only bytes made last e so.each refused))
+-- fewer, since the module that the rewrites left is refused
+pub stops : ModulesAreReadAgain → (scope : Scope) (count number : ℕ) (bytes : List ℕ) (stream : Stream) (made : List MadeRewrite) (new : List ℕ)
+    (now : Stream) (stopped : Option MutationError) (e : MutationError) → SoFar scope number bytes stream made new now → 0 < number → number < count → stopped
+    ≡ Some e →
+    RefusesMutation scope new e → Mutates scope count bytes made new stopped
+stops law scope count number bytes stream made new now None e so some few is refused = absurd (let wrong : None ≡ Some e = is in cc)
+stops law scope count number bytes stream made new now (Some k) e so some few is refused =
+    let same : k ≡ e = same_Some k e is in
+    let own : RefusesMutation scope new k = subst (RefusesMutation scope new) (sym same) refused in
+    record {
+      some = omega (arith, so.number_is);
+      most = omega (arith, so.number_is);
+      each = so.each;
+      fewer = λ below. (own, read_once_made law scope bytes made new k (omega (arith, so.number_is)) so.each own);
+      all = λ all. absurd (omega (arith, so.number_is, all));
+    }
 
--- the error is passed on
-pub passed_on : {A : Type 0} (rules : List Rule) (only : Option ℕ) (count : ℕ) (bytes : List ℕ) (e : MutationError) (result : Result A MutationError) →
-    result ≡ Err e → RefusesMutations rules only count bytes e → IfErr result (RefusesMutations rules only count bytes)
-passed_on {A} rules only count bytes e result is refused =
-    subst (λ (r : Result A MutationError). IfErr r (RefusesMutations rules only count bytes)) (sym is) refused
+-- the words choose what was made
+pub times_none : (scope : Scope) (number : ℕ) (bytes : List ℕ) (stream : Stream) (made : List MadeRewrite) (new : List ℕ) (now : Stream)
+    (stopped : Option MutationError) → SoFar scope number bytes stream made new now → stopped ≡ None → ChoosesTimes scope bytes stream made new stopped
+times_none scope number bytes stream made new now (Some e) so none = absurd (let wrong : Some e ≡ None = none in cc)
+times_none scope number bytes stream made new now None so none = record { after = now; each = so.chooses; gives_up = tt }
+
+pub times_stop : (scope : Scope) (number : ℕ) (bytes : List ℕ) (stream : Stream) (made : List MadeRewrite) (new : List ℕ) (now : Stream)
+    (stopped : Option MutationError) (e : MutationError) → SoFar scope number bytes stream made new now → stopped ≡ Some e →
+    (IsOfSize e → GivesUp scope new now) → ChoosesTimes scope bytes stream made new stopped
+times_stop scope number bytes stream made new now stopped e so is gives_up = record {
+  after = now;
+  each = so.chooses;
+  gives_up = subst (λ (o : Option MutationError). IfSome o (λ k. IsOfSize k → GivesUp scope new now)) (sym is) gives_up;
+}
+
+-- what a call that failed, or one that didn't, leaves
+pub on_error : {T E P : Type 0} (r : Result T E) → is_err r ≡ true → OnErr r P → P
+on_error (Ok x) e h = absurd (true≢false (sym e))
+on_error (Err x) e h = h
+
+pub on_value : {T E P : Type 0} (r : Result T E) → is_err r ≡ false → OnOk r P → P
+on_value (Ok x) e h = h
+on_value (Err x) e h = absurd (true≢false e)
+
+-- no memory was left for the list of what was made
+pub no_room : (scope : Scope) (bytes : List ℕ) (function : ℕ) (rewrite : Rewrite) (new : List ℕ) → IsMutated scope bytes function rewrite new →
+    RefusesMutation scope bytes (Refused errors.Memory)
+no_room scope bytes function rewrite new m = record {
+  info = m.info;
+  layout = m.layout;
+  is = m.is;
+  n = m.mutates.0;
+  inside = slice_get_within m.layout.entries m.mutates.0 m.mutates.2.function.entry m.mutates.2.function.is.at;
+  chosen = subst (IsChosen scope.function) m.mutates.1 m.chosen;
+  refuses = inl refl;
+}

@@ -1,6 +1,6 @@
 -- One code entry of a module rewritten.
-use Rattle.std.proofs.Common.{◌≡◌, ℕ, ◌-◌, ◌≤◌, List, [], ◌∷◌, ◌++◌, length, drop, map, Option, Some, None, Result, Ok, Err, sym, ap, subst, ◌∙◌, arith, refl}
-use Rattle.std.specs.Prelude.{◌≢◌, IfOk, IfErr, IfNone, IfSome, slice_get, slice_range}
+use Rattle.std.proofs.Common.{◌≡◌, ℕ, ◌-◌, ◌≤◌, inl, List, [], ◌∷◌, ◌++◌, length, drop, map, Option, Some, None, Result, Ok, Err, sym, ap, subst, ◌∙◌, arith, refl}
+use Rattle.std.specs.Prelude.{◌≢◌, IfOk, IfErr, IfNone, IfSome, option_map, slice_get, slice_range}
 use Rattle.std.specs.List.{All}
 use Rattle.std.proofs.lemmas.List.{length-append, length-take, length-drop}
 use Rattle.std.proofs.lemmas.List.Elements.{All-nil, All-cons}
@@ -21,18 +21,22 @@ use Rattle.wasm_sections.specs.declared.writing.WriteError.{WriteError}
 use Rattle.wasm_sections.specs.declared.writing.WriteError.TheVariants.{TooLarge, Memory}
 use Rattle.peephole_machine.specs.Values.{context_in}
 use Rattle.peephole_terms.specs.declared.encoder.request.ResourceRequest.{ResourceRequest}
-use Rattle.peephole_terms.specs.Expansion.{Setting, requests_of, request}
+use Rattle.peephole_terms.specs.Expansion.{Setting, after_term, requests_of, request}
 use Rattle.peephole_terms.specs.NodeKind.{primitive_of}
 use Rattle.peephole_terms.specs.declared.encoder.node_kind.NumberType.{NumberType}
 use Rattle.peephole_terms.specs.declared.encoder.node_kind.NumberType.TheVariants as number
 use Rattle.peephole_terms.specs.Written.{IsBodyIn}
 use Rattle.peephole_rules.specs.declared.rule.Rule.{Rule}
 use Rattle.peephole_rewrites.specs.declared.rewrite.Rewrite.{Rewrite}
-use Rattle.peephole_rewrites.specs.Choice.{AppendsChosen, RefusesChosen}
+use Rattle.peephole_rewrites.specs.Choice.{after_choice, AppendsByWords, AppendsChosen, RefusesChosen}
 use Rattle.peephole_rewrites.specs.Rewriting.{AreTheRewrites, AppendsRewritten}
 use Rattle.peephole_modules.specs.Function.{IsFunction}
-use Rattle.peephole_modules.specs.Mutated.{HasNoMutation, IsBehindLocals, MutatesEntry, RefusesEntry, RefusesFunction, requested}
+use Rattle.peephole_modules.specs.Chosen.{Leads, TriesInVain}
+use Rattle.peephole_modules.specs.Mutated.{HasNoMutation, IsBehindLocals, IsOfSize, MutatesEntry, RefusesEntry, RefusesFunction}
+use Rattle.peephole_modules.specs.Scope.{Scope}
+use Rattle.peephole_modules.specs.Writing.{IsWritten, WritesAt, requested}
 use Rattle.peephole_modules.specs.declared.mutation.MutationError.TheVariants.{Write}
+use Rattle.peephole_modules.proofs.DrawnLemmas.{leads_large, some_same}
 use Rattle.peephole_modules.proofs.ReadAgainLemmas.{read_again}
 
 abbrev Types : Type 0
@@ -213,34 +217,84 @@ mutates law rules bytes info layout n locals lent expression operators given ent
           f.is.indices.imports f.is.indices.globals all);
     }
 
--- the same where it doesn't fit
-pub refuses_writing : (rules : List Rule) (bytes : List ℕ) (info : Module) (layout : Layout) (n : ℕ) (locals lent : Types) (expression : ℕ)
-    (operators given : Operators) (entry : Entry) (rewrite : Rewrite) (old body : List ℕ) (requests : List ResourceRequest)
-    (left : Option Setting) (front written : List ℕ) (globals : Types) (e : WriteError) →
-    IsFunction bytes info layout n locals expression operators → lent ≡ locals → given ≡ operators → old ≡ [] →
-    AppendsChosen lent info rules bytes given rewrite old body requests left → slice_get layout.entries n ≡ Some entry →
+-- ---- the words that write it
+
+writes_plain : (o : Setting) (rules : List Rule) (bytes : List ℕ) (layout : Layout) (n : ℕ) (locals : Types) (expression : ℕ) (operators : Operators)
+    (entry : Entry) (rewrite : Rewrite) (old body : List ℕ) (requests : List ResourceRequest) (now : Option Setting) (front written : List ℕ)
+    (globals : Types) → IsFunction bytes o.info layout n locals expression operators → old ≡ [] →
+    AppendsByWords locals o rules bytes operators rewrite old body requests now → slice_get layout.entries n ≡ Some entry →
     front ≡ slice_range bytes entry.contents expression → written ≡ body → globals ≡ map requested requests →
-    (e ≡ TooLarge → IsTooLarge bytes layout n (front ++ written) globals) → RefusesEntry rules bytes info layout n (Write e)
-refuses_writing rules bytes info layout n locals lent expression operators given entry rewrite old body requests left front written globals
-    Memory f lent_is given_is empty appended at front_is written_is globals_are large = tt
-refuses_writing rules bytes info layout n locals lent expression operators given entry rewrite old body requests left front written globals
-    TooLarge f lent_is given_is empty appended at front_is written_is globals_are large =
+    (t : Setting) × (now ≡ Some t) × WritesAt rules bytes layout o n rewrite (front ++ written) globals t
+writes_plain o rules bytes layout n locals expression operators entry rewrite old body requests now front written globals f empty appended at front_is
+    written_is globals_are =
     let same : entry ≡ f.entry = same_Some _ _ (sym at ∙ f.is.at) in
     let start : front ≡ slice_range bytes f.entry.contents expression =
     front_is ∙ ap (λ (e : Entry). slice_range bytes e.contents expression) same in
-    record {
-      locals = locals;
-      expression = expression;
-      operators = operators;
-      function = f;
-      rewrite = rewrite;
-      body = body;
-      requests = requests;
-      left = left;
-      rewritten = subst (λ (ts : Types). AppendsChosen ts info rules bytes operators rewrite [] body requests left) lent_is
-          (subst (λ (os : Operators). AppendsChosen lent info rules bytes os rewrite [] body requests left) given_is
-          (subst (λ (o : List ℕ). AppendsChosen lent info rules bytes given rewrite o body requests left) empty appended));
-      large = subst (λ (gs : Types). IsTooLarge bytes layout n (slice_range bytes f.entry.contents expression ++ body) gs) globals_are
-          (subst (λ (b : List ℕ). IsTooLarge bytes layout n (slice_range bytes f.entry.contents expression ++ b) globals) written_is
-          (subst (λ (a : List ℕ). IsTooLarge bytes layout n (a ++ written) globals) start (large refl)));
-    }
+    let left : Setting = after_term (after_choice o) appended.1.term in
+    let behind : now ≡ Some left = appended.1.behind in (
+      left,
+      behind,
+      record {
+        locals = locals;
+        expression = expression;
+        operators = operators;
+        function = f;
+        body = body;
+        requests = requests;
+        writes = subst (λ (w : Option Setting). AppendsByWords locals o rules bytes operators rewrite [] body requests w) behind
+            (subst (λ (xs : List ℕ). AppendsByWords locals o rules bytes operators rewrite xs body requests now) empty appended);
+        contents_are = ap (λ xs. xs ++ written) start ∙ ap (λ ys. slice_range bytes f.entry.contents expression ++ ys) written_is;
+        more_are = globals_are;
+      },
+    )
+
+-- what was written of the function that was read
+pub writes_here : (o now : Option Setting) (under : Option Module) (rules : List Rule) (bytes : List ℕ) (info : Module) (layout : Layout) (n : ℕ)
+    (locals lent : Types) (expression : ℕ) (operators given : Operators) (entry : Entry) (rewrite : Rewrite) (old body : List ℕ)
+    (requests : List ResourceRequest) (front written : List ℕ) (globals : Types) → under ≡ option_map (λ s. s.info) o → under ≡ Some info →
+    IsFunction bytes info layout n locals expression operators → lent ≡ locals → given ≡ operators → old ≡ [] →
+    IfSome o (λ s. AppendsByWords lent s rules bytes given rewrite old body requests now) → slice_get layout.entries n ≡ Some entry →
+    front ≡ slice_range bytes entry.contents expression → written ≡ body → globals ≡ map requested requests →
+    Leads o now (λ s t. WritesAt rules bytes layout s n rewrite (front ++ written) globals t)
+writes_here None now under rules bytes info layout n locals lent expression operators given entry rewrite old body requests front written globals same is
+    f lent_is given_is empty appended at front_is written_is globals_are = tt
+writes_here (Some s) now under rules bytes info layout n locals lent expression operators given entry rewrite old body requests front written globals
+    same is f lent_is given_is empty appended at front_is written_is globals_are =
+    let info_is : s.info ≡ info = some_same s.info info (sym same ∙ is) in
+    let own : IsFunction bytes s.info layout n lent expression given =
+    subst (λ (k : Module). IsFunction bytes k layout n lent expression given) (sym info_is)
+    (subst (λ (ts : Types). IsFunction bytes info layout n ts expression given) (sym lent_is)
+    (subst (λ (os : Operators). IsFunction bytes info layout n locals expression os) (sym given_is) f)) in
+    writes_plain s rules bytes layout n lent expression given entry rewrite old body requests now front written globals own empty appended at front_is
+    written_is globals_are
+
+-- what holds of the contents and the globals then
+pub is_written : (o now : Option Setting) (under : Option Module) (rules : List Rule) (bytes : List ℕ) (info : Module) (layout : Layout) (n : ℕ)
+    (rewrite : Rewrite) (contents : List ℕ) (more : Types) (P : List ℕ → Types → Type 0) → under ≡ option_map (λ s. s.info) o → under ≡ Some info →
+    Leads o now (λ s t. WritesAt rules bytes layout s n rewrite contents more t) → P contents more → IsWritten rules bytes info layout n P
+is_written None now under rules bytes info layout n rewrite contents more P same is h holds = absurd (let none : None ≡ Some info = sym same ∙ is in cc)
+is_written (Some s) now under rules bytes info layout n rewrite contents more P same is h holds = record {
+  s = s;
+  info_is = some_same s.info info (sym same ∙ is);
+  rewrite = rewrite;
+  contents = contents;
+  more = more;
+  after = h.0;
+  writes = h.2;
+  holds = holds;
+}
+
+-- the same where 32 bits don't hold it
+pub refuses_writing : (scope : Scope) (bytes : List ℕ) (info : Module) (layout : Layout) (n : ℕ) (contents : List ℕ) (more : Types) (e : WriteError) →
+    ((P : List ℕ → Types → Type 0) → P contents more → IsWritten scope.rules bytes info layout n P) →
+    (e ≡ TooLarge → IsTooLarge bytes layout n contents more) → RefusesEntry scope bytes info layout n (Write e)
+refuses_writing scope bytes info layout n contents more Memory written large = tt
+refuses_writing scope bytes info layout n contents more TooLarge written large = written (IsTooLarge bytes layout n) (large refl)
+
+-- that attempt is in vain
+pub tried_writing : (scope : Scope) (bytes : List ℕ) (layout : Layout) (n : ℕ) (o now : Option Setting) (rewrite : Rewrite) (contents : List ℕ)
+    (more : Types) (e : WriteError) → Leads o now (λ s t. WritesAt scope.rules bytes layout s n rewrite contents more t) →
+    (e ≡ TooLarge → IsTooLarge bytes layout n contents more) → IsOfSize (Write e) → Leads o now (λ s t. TriesInVain scope bytes layout s n t)
+tried_writing scope bytes layout n o now rewrite contents more Memory h large vain = absurd vain
+tried_writing scope bytes layout n o now rewrite contents more TooLarge h large vain =
+    leads_large scope bytes layout o now n rewrite contents more h (inl (large refl))

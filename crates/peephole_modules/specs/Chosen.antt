@@ -1,60 +1,110 @@
--- Which operator's tree of a module is rewritten, and by which rule, as words of the generator choose (this project).
-use Rattle.std.specs.Prelude.{◌≡◌, ℕ, ◌+◌, ◌<◌, ◌≤◌, List, length, Option, Some, None}
+-- Which operator's tree of a module is rewritten, by which rule, and what the new bytes are, as words of the generator choose (this project).
+use Rattle.std.specs.Prelude.{◌≡◌, ◌⊎◌, ℕ, ◌+◌, ◌<◌, List, length, Option, Some, None, IfSome}
 use Rattle.rand_core.specs.Stream.{Stream}
-use Rattle.wasm_code.specs.declared.operator.Operator.{Operator}
 use Rattle.mutate_base.specs.Module.{Module}
-use Rattle.mutate_base.specs.declared.types.PrimitiveTypeInfo.{PrimitiveTypeInfo}
 use Rattle.wasm_module.specs.Module.{Layout, IsModule}
 use Rattle.peephole_terms.specs.Expansion.{Setting}
-use Rattle.peephole_rules.specs.declared.rule.Rule.{Rule}
 use Rattle.peephole_rewrites.specs.declared.rewrite.Rewrite.{Rewrite}
-use Rattle.peephole_rewrites.specs.Choice.{Chooses}
-use Rattle.peephole_modules.specs.Drawing.{DrawsEntry, IsFirstFrom}
-use Rattle.peephole_modules.specs.Function.{IsFunction}
+use Rattle.peephole_modules.specs.Drawing.{DrawsEntry, EachInVain, IsFirstBefore, IsFirstBehind, NamesInVain}
 use Rattle.peephole_modules.specs.Mutated.{HasNoMutation}
+use Rattle.peephole_modules.specs.Scope.{Scope}
+use Rattle.peephole_modules.specs.Writing.{DoesNotFit, MakesAt}
 
--- The words choose the rewrite, of those by one of the rules that there are in the n-th code entry's function.
-pub record ChoosesAt (rules : List Rule) (bytes : List ℕ) (layout : Layout) (s : Setting) (n : ℕ) (rewrite : Rewrite) : Type 0 where
-  pub locals : List PrimitiveTypeInfo
-  pub expression : ℕ
-  pub operators : List (Operator × ℕ)
-  pub function : IsFunction bytes s.info layout n locals expression operators
-  pub chooses : Chooses locals s rules operators rewrite
+-- An attempt at the n-th code entry is in vain: there is no rewrite, and no word is drawn; or the module with the one that words choose is too large.
+pub data TriesInVain (scope : Scope) (bytes : List ℕ) (layout : Layout) (s : Setting) (n : ℕ) (after : Setting) : Type 0 where
+  by_lack : HasNoMutation scope.rules bytes s.info layout n → after ≡ s → TriesInVain scope bytes layout s n after
+  by_size : DoesNotFit scope bytes layout s n after → TriesInVain scope bytes layout s n after
 
--- The entry whose function is named, if one is, and no word is drawn for that; or else the one that words draw, of those that don't lack a rewrite.
-abbrev pub FindsEntry : List Rule → (bytes : List ℕ) → Layout → (only : Option ℕ) → Setting → (n : ℕ) → (after : Setting) → Type 0
-FindsEntry rules bytes layout (Some function) s n after = (layout.imported_functions + n ≡ function) × (after ≡ s)
-FindsEntry rules bytes layout None s n after = DrawsEntry (HasNoMutation rules bytes s.info layout) layout.entries s n after
+-- The entry whose function is named, if one is, behind fewer than 16 attempts there in vain; or else the one that words draw. `after` is the setting then.
+abbrev pub FindsEntry : Scope → (bytes : List ℕ) → Layout → (only : Option ℕ) → Setting → (n : ℕ) → (after : Setting) → Type 0
+FindsEntry scope bytes layout (Some function) s n after =
+    (layout.imported_functions + n ≡ function) × (count : ℕ) × (count < 16) × EachInVain (TriesInVain scope bytes layout) (λ j. n) count s after
+FindsEntry scope bytes layout None s n after = DrawsEntry (TriesInVain scope bytes layout) layout.entries s n after
 
--- Of a module's functions the words choose this one, by its index among all functions, and the rewrite.
-pub record ChoosesBy (rules : List Rule) (bytes : List ℕ) (layout : Layout) (only : Option ℕ) (s : Setting) (function : ℕ) (rewrite : Rewrite) : Type 0 where
+-- Of a module's functions the words choose this one, by its index among all functions, the rewrite, and the new bytes; `after` is the setting behind them.
+pub record ChoosesBy (scope : Scope) (bytes : List ℕ) (layout : Layout) (only : Option ℕ) (s : Setting) (function : ℕ) (rewrite : Rewrite) (new : List ℕ)
+    (after : Setting) : Type 0 where
   pub n : ℕ
   pub function_is : function ≡ layout.imported_functions + n
-  pub after : Setting
-  pub finds : FindsEntry rules bytes layout only s n after
-  pub chooses : ChoosesAt rules bytes layout after n rewrite
+  pub found : Setting
+  pub finds : FindsEntry scope bytes layout only s n found
+  pub makes : MakesAt scope bytes layout found n rewrite new after
 
--- The same of the module with these bytes.
-pub record ChoosesOfModule (rules : List Rule) (only : Option ℕ) (bytes : List ℕ) (stream : Stream) (function : ℕ) (rewrite : Rewrite) : Type 0 where
+-- The same of the module with these bytes; `after` is what the generator then gives.
+pub record ChoosesOfModule (scope : Scope) (bytes : List ℕ) (stream : Stream) (function : ℕ) (rewrite : Rewrite) (new : List ℕ) (after : Stream) :
+    Type 0 where
   pub info : Module
   pub layout : Layout
   pub is : IsModule bytes info layout
-  pub chooses : ChoosesBy rules bytes layout only (record { info = info; stream = stream }) function rewrite
+  pub left : Setting
+  pub chooses : ChoosesBy scope bytes layout scope.function (record { info = info; stream = stream }) function rewrite new left
+  pub after_is : after ≡ left.stream
+
+-- ---- no rewrite fits
+
+-- attempts at all entries from `from` on, before `to`, are in vain
+pub record AllInVain (scope : Scope) (bytes : List ℕ) (layout : Layout) (from to : ℕ) (s after : Setting) : Type 0 where
+  pub k : ℕ
+  pub to_is : to ≡ from + k
+  pub each : EachInVain (TriesInVain scope bytes layout) (λ j. from + j) k s after
+
+-- attempts at all entries are in vain, in order, from the one with the number `from` on, and then at those before it
+pub record GivesUpInOrder (scope : Scope) (bytes : List ℕ) (layout : Layout) (from : ℕ) (s after : Setting) : Type 0 where
+  pub middle : Setting
+  pub behind : AllInVain scope bytes layout from (length layout.entries) s middle
+  pub before : AllInVain scope bytes layout 0 from middle after
+
+-- 16 attempts at the function that is named are in vain; or else those where 16 words name entries, and then those in order.
+abbrev pub GivesUpOn : Scope → (bytes : List ℕ) → Layout → (only : Option ℕ) → Setting → (after : Setting) → Type 0
+GivesUpOn scope bytes layout (Some function) s after =
+    (n : ℕ) × (layout.imported_functions + n ≡ function) × EachInVain (TriesInVain scope bytes layout) (λ j. n) 16 s after
+GivesUpOn scope bytes layout None s after =
+    (last : ℕ) × (middle : Setting) × NamesInVain (TriesInVain scope bytes layout) layout.entries 16 s last middle
+    × GivesUpInOrder scope bytes layout last middle after
+
+-- The same of the module with these bytes.
+pub record GivesUp (scope : Scope) (bytes : List ℕ) (stream : Stream) : Type 0 where
+  pub info : Module
+  pub layout : Layout
+  pub is : IsModule bytes info layout
+  pub left : Setting
+  pub vain : GivesUpOn scope bytes layout scope.function (record { info = info; stream = stream }) left
 
 -- ---- for private functions
 
--- The entry is the first one from `from` on, before `to`, that doesn't lack a rewrite, and the words choose it.
-pub record ChoosesWithin (rules : List Rule) (bytes : List ℕ) (layout : Layout) (from to : ℕ) (s : Setting) (function : ℕ) (rewrite : Rewrite) : Type 0 where
+-- the second setting is there where the first one is, and this holds of both
+abbrev pub Leads : (old new : Option Setting) → (P : Setting → Setting → Type 0) → Type 0
+Leads old new P = IfSome old (λ s. (t : Setting) × (new ≡ Some t) × P s t)
+
+-- The entry is the first one from `from` on, before `to`, where an attempt isn't in vain.
+pub record ChoosesWithin (scope : Scope) (bytes : List ℕ) (layout : Layout) (from to : ℕ) (s : Setting) (function : ℕ) (rewrite : Rewrite) (new : List ℕ)
+    (after : Setting) : Type 0 where
   pub n : ℕ
   pub function_is : function ≡ layout.imported_functions + n
-  pub behind : from ≤ n
   pub before : n < to
-  pub lack : (k : ℕ) → from ≤ k → k < n → HasNoMutation rules bytes s.info layout k
-  pub chooses : ChoosesAt rules bytes layout s n rewrite
+  pub found : Setting
+  pub first : IsFirstBehind (TriesInVain scope bytes layout) from n s found
+  pub makes : MakesAt scope bytes layout found n rewrite new after
 
 -- The entry is the first one, from the one with the number `from` on and then before that.
-pub record ChoosesFrom (rules : List Rule) (bytes : List ℕ) (layout : Layout) (from : ℕ) (s : Setting) (function : ℕ) (rewrite : Rewrite) : Type 0 where
+pub record ChoosesFrom (scope : Scope) (bytes : List ℕ) (layout : Layout) (from : ℕ) (s : Setting) (function : ℕ) (rewrite : Rewrite) (new : List ℕ)
+    (after : Setting) : Type 0 where
   pub n : ℕ
   pub function_is : function ≡ layout.imported_functions + n
-  pub first : IsFirstFrom (HasNoMutation rules bytes s.info layout) (length layout.entries) from n
-  pub chooses : ChoosesAt rules bytes layout s n rewrite
+  pub found : Setting
+  pub first : IsFirstBehind (TriesInVain scope bytes layout) from n s found
+      ⊎ IsFirstBefore (TriesInVain scope bytes layout) (length layout.entries) from n s found
+  pub makes : MakesAt scope bytes layout found n rewrite new after
+
+-- attempts at the n-th entry before this one are in vain
+pub record ChoosesAgain (scope : Scope) (bytes : List ℕ) (layout : Layout) (n : ℕ) (s : Setting) (function : ℕ) (rewrite : Rewrite) (new : List ℕ)
+    (after : Setting) : Type 0 where
+  pub function_is : function ≡ layout.imported_functions + n
+  pub count : ℕ
+  pub few : count < 16
+  pub found : Setting
+  pub vain : EachInVain (TriesInVain scope bytes layout) (λ j. n) count s found
+  pub makes : MakesAt scope bytes layout found n rewrite new after
+
+abbrev pub GivesUpAgain : Scope → (bytes : List ℕ) → Layout → (n : ℕ) → Setting → (after : Setting) → Type 0
+GivesUpAgain scope bytes layout n s after = EachInVain (TriesInVain scope bytes layout) (λ j. n) 16 s after

@@ -24,21 +24,30 @@ pub record NamesEntry (s : Setting) (entries : List Entry) (n : ℕ) : Type 0 wh
   pub contains : 0 < sum_by contents_length entries → sum_by contents_length entries < 2 ^ 64 →
       ContainsByte entries n ((next_u64 s.stream).0 % sum_by contents_length entries)
 
--- So many words name entries in vain, one after another: each of them lacks a rewrite. `last` is the last one, and `after` the setting behind the words.
-abbrev pub NamesInVain : (Lacks : ℕ → Type 0) → List Entry → (count : ℕ) → Setting → (last : ℕ) → (after : Setting) → Type 0
-NamesInVain Lacks entries zero s last after = (last ≡ 0) × (after ≡ s)
-NamesInVain Lacks entries (suc count) s last after =
-    (one : ℕ) × (before : Setting) × NamesInVain Lacks entries count s one before × NamesEntry before entries last × Lacks last
-    × (after ≡ after_word before)
+-- So many attempts, each at the entry that `at` gives for its number, one after another, are in vain; `after` is the setting that the last one leaves.
+abbrev pub EachInVain : (Vain : Setting → ℕ → Setting → Type 0) → (at : ℕ → ℕ) → (count : ℕ) → Setting → (after : Setting) → Type 0
+EachInVain Vain at zero s after = after ≡ s
+EachInVain Vain at (suc count) s after = (before : Setting) × EachInVain Vain at count s before × Vain before (at count) after
 
--- the n-th entry is the first one that doesn't lack a rewrite, from the one with the number `from` on, and then before that
-abbrev pub IsFirstFrom : (Lacks : ℕ → Type 0) → (count from n : ℕ) → Type 0
-IsFirstFrom Lacks count from n =
-    ((from ≤ n) × ((k : ℕ) → from ≤ k → k < n → Lacks k))
-    ⊎ ((n < from) × ((k : ℕ) → from ≤ k → k < count → Lacks k) × ((k : ℕ) → k < n → Lacks k))
+-- So many words name entries in vain, one after another: the attempt there is in vain. `last` is the last one, and `after` the setting that it leaves.
+abbrev pub NamesInVain : (Vain : Setting → ℕ → Setting → Type 0) → List Entry → (count : ℕ) → Setting → (last : ℕ) → (after : Setting) → Type 0
+NamesInVain Vain entries zero s last after = (last ≡ 0) × (after ≡ s)
+NamesInVain Vain entries (suc count) s last after =
+    (one : ℕ) × (before : Setting) × NamesInVain Vain entries count s one before × NamesEntry before entries last × Vain (after_word before) last after
 
--- The entry is one that a word names behind fewer than 16 that name entries in vain; or, behind 16 of these, the first one from the last one named on.
-pub data DrawsEntry (Lacks : ℕ → Type 0) (entries : List Entry) (s : Setting) (n : ℕ) (after : Setting) : Type 0 where
-  by_word : (count last : ℕ) (before : Setting) → count < 16 → NamesInVain Lacks entries count s last before → NamesEntry before entries n →
-      after ≡ after_word before → DrawsEntry Lacks entries s n after
-  in_order : (last : ℕ) → NamesInVain Lacks entries 16 s last after → IsFirstFrom Lacks (length entries) last n → DrawsEntry Lacks entries s n after
+-- the entry is one from the one with the number `from` on, with attempts in vain at those from there up to it
+abbrev pub IsFirstBehind : (Vain : Setting → ℕ → Setting → Type 0) → (from n : ℕ) → Setting → (after : Setting) → Type 0
+IsFirstBehind Vain from n s after = (k : ℕ) × (n ≡ from + k) × EachInVain Vain (λ j. from + j) k s after
+
+-- it is one before that, with attempts in vain at those from there on, and then at those up to it
+abbrev pub IsFirstBefore : (Vain : Setting → ℕ → Setting → Type 0) → (count from n : ℕ) → Setting → (after : Setting) → Type 0
+IsFirstBefore Vain count from n s after =
+    (n < from) × (k : ℕ) × (middle : Setting) × (count ≡ from + k) × EachInVain Vain (λ j. from + j) k s middle × EachInVain Vain (λ j. j) n middle after
+
+-- The entry is one that a word names behind fewer than 16 that name entries in vain; or, behind 16 of these, the first one without an attempt in vain, from
+-- the last one named on, and then before that.
+pub data DrawsEntry (Vain : Setting → ℕ → Setting → Type 0) (entries : List Entry) (s : Setting) (n : ℕ) (after : Setting) : Type 0 where
+  by_word : (count last : ℕ) (before : Setting) → count < 16 → NamesInVain Vain entries count s last before → NamesEntry before entries n →
+      after ≡ after_word before → DrawsEntry Vain entries s n after
+  in_order : (last : ℕ) (middle : Setting) → NamesInVain Vain entries 16 s last middle →
+      IsFirstBehind Vain last n middle after ⊎ IsFirstBefore Vain (length entries) last n middle after → DrawsEntry Vain entries s n after

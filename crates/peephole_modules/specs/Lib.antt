@@ -1,7 +1,13 @@
+pub mod Scope
+pub mod Held
 pub mod Chosen
+pub mod ChosenTimes
 pub mod Drawing
 pub mod Function
 pub mod ReadAgain
+pub mod Writing
+pub mod EntryWords
 pub mod Mutated
 pub mod Mutates
+pub mod Seeded
 pub mod DoesAsBefore

@@ -1,5 +1,5 @@
 -- A module with the tree of an operator of one of its functions rewritten by a rule, in its place (this project).
-use Rattle.std.specs.Prelude.{◌≡◌, ◌⊎◌, ℕ, ◌+◌, ◌<◌, ◌≤◌, List, [], ◌++◌, length, map, Option, Some, None, slice_range}
+use Rattle.std.specs.Prelude.{◌≡◌, ◌⊎◌, ℕ, ◌+◌, ◌<◌, ◌≤◌, List, [], ◌++◌, length, map, Option, Some, None, Result, Ok, Err, slice_range}
 use Rattle.wasm_code.specs.declared.operator.Operator.{Operator}
 use Rattle.mutate_base.specs.Module.{Module}
 use Rattle.mutate_base.specs.declared.types.PrimitiveTypeInfo.{PrimitiveTypeInfo}
@@ -12,7 +12,6 @@ use Rattle.wasm_module.specs.Rewritten.{IsRewritten}
 use Rattle.wasm_sections.specs.declared.writing.WriteError.TheVariants as writes
 use Rattle.peephole_machine.specs.Values.{context_in}
 use Rattle.peephole_terms.specs.declared.encoder.request.ResourceRequest.{ResourceRequest}
-use Rattle.peephole_terms.specs.declared.encoder.request.ResourceRequest.TheVariants as requests
 use Rattle.peephole_terms.specs.Expansion.{Setting}
 use Rattle.peephole_terms.specs.Written.{without_offsets}
 use Rattle.peephole_rules.specs.declared.rule.Rule.{Rule}
@@ -21,12 +20,10 @@ use Rattle.peephole_rewrites.specs.Choice.{AppendsChosen, RefusesChosen}
 use Rattle.peephole_rewrites.specs.Rewriting.{AreTheRewrites}
 use Rattle.peephole_modules.specs.Function.{IsFunction}
 use Rattle.peephole_modules.specs.ReadAgain.{IsReadAgain}
+use Rattle.peephole_modules.specs.Scope.{Scope}
+use Rattle.peephole_modules.specs.Writing.{Exceeds, IsWritten, requested}
 use Rattle.peephole_modules.specs.declared.mutation.MutationError.{MutationError}
 use Rattle.peephole_modules.specs.declared.mutation.MutationError.TheVariants as mutations
-
--- the type of a requested global
-abbrev pub requested : ResourceRequest → PrimitiveTypeInfo
-requested (requests.Global tpe mutable shared) = tpe
 
 -- the function with that index may be rewritten: it is the one that was named, or none was
 abbrev pub IsChosen : Option ℕ → ℕ → Type 0
@@ -52,13 +49,14 @@ abbrev pub MutatesOne : List Rule → (bytes : List ℕ) → Module → Layout �
 MutatesOne rules bytes info layout function rewrite new =
     (n : ℕ) × (function ≡ layout.imported_functions + n) × MutatesEntry rules bytes info layout n rewrite new
 
--- The same of the bytes of a module, at a function that may be rewritten.
-pub record IsMutated (rules : List Rule) (only : Option ℕ) (bytes : List ℕ) (function : ℕ) (rewrite : Rewrite) (new : List ℕ) : Type 0 where
+-- The same of the bytes of a module, at a function that may be rewritten, and with no more bytes than a new module may have.
+pub record IsMutated (scope : Scope) (bytes : List ℕ) (function : ℕ) (rewrite : Rewrite) (new : List ℕ) : Type 0 where
   pub info : Module
   pub layout : Layout
   pub is : IsModule bytes info layout
-  pub chosen : IsChosen only function
-  pub mutates : MutatesOne rules bytes info layout function rewrite new
+  pub chosen : IsChosen scope.function function
+  pub fits : length new ≤ scope.most
+  pub mutates : MutatesOne scope.rules bytes info layout function rewrite new
 
 -- No rewrite can be made in the n-th code entry: it spells no function that can be read, or one of whose operators no rule rewrites a tree.
 abbrev pub HasNoMutation : List Rule → (bytes : List ℕ) → Module → Layout → (n : ℕ) → Type 0
@@ -67,11 +65,12 @@ HasNoMutation rules bytes info layout n =
     AreTheRewrites (context_in info locals) rules operators []
 
 -- No rewrite can be made in any function that may be rewritten.
-pub record CannotMutate (rules : List Rule) (only : Option ℕ) (bytes : List ℕ) : Type 0 where
+pub record CannotMutate (scope : Scope) (bytes : List ℕ) : Type 0 where
   pub info : Module
   pub layout : Layout
   pub is : IsModule bytes info layout
-  pub none : (n : ℕ) → n < length layout.entries → IsChosen only (layout.imported_functions + n) → HasNoMutation rules bytes info layout n
+  pub none : (n : ℕ) → n < length layout.entries → IsChosen scope.function (layout.imported_functions + n) →
+      HasNoMutation scope.rules bytes info layout n
 
 -- for a private function: the offset lies in the bytes, at or behind the start of the entry's contents
 pub record IsBehindLocals (bytes : List ℕ) (entry : Entry) (expression : ℕ) : Type 0 where
@@ -87,37 +86,50 @@ pub record RefusesFunction (rules : List Rule) (bytes : List ℕ) (info : Module
   pub function : IsFunction bytes info layout n locals expression operators
   pub refused : RefusesChosen locals info rules operators e
 
--- the n-th code entry, rewritten by one of the rules, with the globals that it asks for doesn't fit 32 bits
-pub record HasNoRoom (rules : List Rule) (bytes : List ℕ) (info : Module) (layout : Layout) (n : ℕ) : Type 0 where
-  pub locals : List PrimitiveTypeInfo
-  pub expression : ℕ
-  pub operators : List (Operator × ℕ)
-  pub function : IsFunction bytes info layout n locals expression operators
-  pub rewrite : Rewrite
-  pub body : List ℕ
-  pub requests : List ResourceRequest
-  pub left : Option Setting
-  pub rewritten : AppendsChosen locals info rules bytes operators rewrite [] body requests left
-  pub large : IsTooLarge bytes layout n (slice_range bytes function.entry.contents expression ++ body) (map requested requests)
-
--- Why there is no module with the n-th code entry rewritten: a rewrite is refused, what it writes doesn't fit 32 bits, or for want of memory.
-abbrev pub RefusesEntry : List Rule → (bytes : List ℕ) → Module → Layout → (n : ℕ) → MutationError → Type 0
-RefusesEntry rules bytes info layout n (mutations.Read e) = ⊥
-RefusesEntry rules bytes info layout n (mutations.Rewrite e) = (e ≡ errors.Memory) ⊎ RefusesFunction rules bytes info layout n e
-RefusesEntry rules bytes info layout n (mutations.Write writes.TooLarge) = HasNoRoom rules bytes info layout n
-RefusesEntry rules bytes info layout n (mutations.Write writes.Memory) = Unit {0}
+-- Why there is no module with the n-th code entry rewritten: a rewrite is refused, what it writes doesn't fit 32 bits or has too many bytes, or for want of
+-- memory.
+abbrev pub RefusesEntry : Scope → (bytes : List ℕ) → Module → Layout → (n : ℕ) → MutationError → Type 0
+RefusesEntry scope bytes info layout n (mutations.Read e) = ⊥
+RefusesEntry scope bytes info layout n (mutations.Rewrite e) = (e ≡ errors.Memory) ⊎ RefusesFunction scope.rules bytes info layout n e
+RefusesEntry scope bytes info layout n (mutations.Write writes.TooLarge) = IsWritten scope.rules bytes info layout n (IsTooLarge bytes layout n)
+RefusesEntry scope bytes info layout n (mutations.Write writes.Memory) = Unit {0}
+RefusesEntry scope bytes info layout n mutations.TooLong = IsWritten scope.rules bytes info layout n (Exceeds scope.most bytes layout n)
 
 -- The same of the bytes of a module, at a function that may be rewritten.
-pub record RefusesChosenEntry (rules : List Rule) (only : Option ℕ) (bytes : List ℕ) (e : MutationError) : Type 0 where
+pub record RefusesChosenEntry (scope : Scope) (bytes : List ℕ) (e : MutationError) : Type 0 where
   pub info : Module
   pub layout : Layout
   pub is : IsModule bytes info layout
   pub n : ℕ
   pub inside : n < length layout.entries
-  pub chosen : IsChosen only (layout.imported_functions + n)
-  pub refuses : RefusesEntry rules bytes info layout n e
+  pub chosen : IsChosen scope.function (layout.imported_functions + n)
+  pub refuses : RefusesEntry scope bytes info layout n e
 
 -- Why there is no new module: the bytes are none that can be read, or a code entry that may be rewritten is refused.
-abbrev pub RefusesMutation : List Rule → (only : Option ℕ) → (bytes : List ℕ) → MutationError → Type 0
-RefusesMutation rules only bytes (mutations.Read e) = IsModuleFault bytes e.kind e.offset
-RefusesMutation rules only bytes e = RefusesChosenEntry rules only bytes e
+abbrev pub RefusesMutation : Scope → (bytes : List ℕ) → MutationError → Type 0
+RefusesMutation scope bytes (mutations.Read e) = IsModuleFault bytes e.kind e.offset
+RefusesMutation scope bytes e = RefusesChosenEntry scope bytes e
+
+-- ---- for private functions
+
+-- the rewrite's module is too large: another rewrite may fit
+abbrev pub IsOfSize : MutationError → Type 0
+IsOfSize (mutations.Write writes.TooLarge) = Unit {0}
+IsOfSize mutations.TooLong = Unit {0}
+IsOfSize e = ⊥
+
+-- so it is
+abbrev pub IsRefusedForSize : {A : Type 0} → Result A MutationError → Type 0
+IsRefusedForSize (Ok made) = ⊥
+IsRefusedForSize (Err e) = IsOfSize e
+
+-- an attempt was in vain: no rewrite can be made, or the one that words chose doesn't fit
+abbrev pub IsInVain : {A : Type 0} → Result (Option A) MutationError → Type 0
+IsInVain (Ok None) = Unit {0}
+IsInVain (Ok (Some made)) = ⊥
+IsInVain (Err e) = IsOfSize e
+
+-- what several attempts in vain come to: the last refusal, if one was refused
+abbrev pub last_of : {A : Type 0} → (before after : Result (Option A) MutationError) → Result (Option A) MutationError
+last_of before (Ok None) = before
+last_of before after = after

@@ -1,13 +1,25 @@
 //! What holds of rewritten modules. A function here does nothing: its contract is the law.
-ghost use Rattle.std.specs.Prelude.{◌≡◌, ℕ, List, Option};
+ghost use Rattle.std.specs.Prelude.{◌≡◌, ◌<◌, ◌^◌, ℕ, List, Option, Contains, length};
+ghost use Rattle.std.specs.List.{sum_by};
+ghost use Rattle.wasm_code.specs.declared.operator.Operator.{Operator};
+ghost use Rattle.mutate_base.specs.Module.{Module};
+ghost use Rattle.mutate_base.specs.declared.types.PrimitiveTypeInfo.{PrimitiveTypeInfo};
 ghost use Rattle.wasm_sections.specs.declared.fault.ModuleFault.{ModuleFault};
 ghost use Rattle.wasm_sections.specs.declared.fault.ModuleFault.TheVariants.{Memory};
 ghost use Rattle.wasm_module.specs.Fault.{IsModuleFault};
+ghost use Rattle.wasm_module.specs.Module.{Layout};
+ghost use Rattle.peephole_machine.specs.Values.{context_in};
 ghost use Rattle.peephole_rules.specs.declared.rule.Rule.{Rule};
+ghost use Rattle.peephole_rewrites.specs.Rewriting.{IsMade};
 ghost use Rattle.peephole_rewrites.specs.declared.rewrite.Rewrite.{Rewrite};
 ghost use Rattle.peephole_modules.specs.DoesAsBefore.{DoesAsBefore};
+ghost use Rattle.peephole_modules.specs.Drawing.{contents_length};
+ghost use Rattle.peephole_modules.specs.EntryWords.{HasEntryWords};
+ghost use Rattle.peephole_modules.specs.Function.{IsFunction};
 ghost use Rattle.peephole_modules.specs.Mutated.{IsMutated};
 ghost use Rattle.peephole_modules.specs.Mutates.{Mutates};
+ghost use Rattle.peephole_modules.specs.Scope.{Scope};
+ghost use Rattle.peephole_modules.specs.declared.mutation.MutationError.{MutationError};
 ghost use Rattle.peephole_modules.specs.declared.times.MadeRewrite.{MadeRewrite};
 
 use peephole_programs::laws::{
@@ -15,14 +27,15 @@ use peephole_programs::laws::{
     valid_modules_do_more,
 };
 use peephole_programs::validity::validity_goes_by_types;
+use peephole_rewrites::laws::each_rewrite_has_words;
 use wasm_code::laws::one_list as one_list_of_operators;
 use wasm_declarations::laws::one_list;
 use wasm_module::laws::{modules_have_no_fault, one_reading};
 
 /// A rewritten module is a module, so that reading it is refused for want of memory alone.
 pub fn rewritten_modules_are_read_again()
-    ensures { (rules : List Rule) (only : Option ℕ) (bytes new : List ℕ) (function : ℕ)
-        (rewrite : Rewrite) → IsMutated rules only bytes function rewrite new
+    ensures { (scope : Scope) (bytes new : List ℕ) (function : ℕ) (rewrite : Rewrite)
+        → IsMutated scope bytes function rewrite new
         → (fault : ModuleFault) (offset : ℕ) → IsModuleFault new fault offset → fault ≡ Memory }
 {
     modules_have_no_fault();
@@ -31,11 +44,10 @@ pub fn rewritten_modules_are_read_again()
 /// A module in which a tree was rewritten (`one`), or several, one after another (`each`), is valid where it was, and does what it
 /// did.
 pub fn rewritten_modules_do_as_before()
-    ensures one { (rules : List Rule) (only : Option ℕ) (bytes new : List ℕ) (function : ℕ)
-        (rewrite : Rewrite) → IsMutated rules only bytes function rewrite new
-        → DoesAsBefore bytes new }
-    ensures each { (rules : List Rule) (only : Option ℕ) (count : ℕ) (bytes new : List ℕ)
-        (made : List MadeRewrite) → Mutates rules only count bytes made new
+    ensures one { (scope : Scope) (bytes new : List ℕ) (function : ℕ) (rewrite : Rewrite)
+        → IsMutated scope bytes function rewrite new → DoesAsBefore bytes new }
+    ensures each { (scope : Scope) (count : ℕ) (bytes new : List ℕ) (made : List MadeRewrite)
+        (stopped : Option MutationError) → Mutates scope count bytes made new stopped
         → DoesAsBefore bytes new }
 {
     one_reading();
@@ -47,4 +59,18 @@ pub fn rewritten_modules_do_as_before()
     rewritten_modules_do_more();
     sessions_do_more();
     valid_modules_do_more();
+}
+
+/// Every rewrite that there is of a code entry's function by one of the rules is drawn by four words, the first of which names the
+/// entry: there is none that no words draw. There are fewer than 2^64 rules, operators and bytes of entries.
+pub fn each_rewrite_is_drawn()
+    ensures { (rules : List Rule) (bytes : List ℕ) (info : Module) (layout : Layout) (n : ℕ)
+        (locals : List PrimitiveTypeInfo) (expression : ℕ) (operators : List (Operator × ℕ))
+        (r : Rewrite) → IsFunction bytes info layout n locals expression operators
+        → length rules < 2 ^ 64 → length operators < 2 ^ 64
+        → sum_by contents_length layout.entries < 2 ^ 64 → Contains rules r.rule
+        → IsMade (context_in info locals) operators r
+        → ¬ (¬ (HasEntryWords rules bytes info layout n r)) }
+{
+    each_rewrite_has_words();
 }

@@ -4,12 +4,15 @@
 
 mod drawing;
 mod function;
+mod held;
 pub mod laws;
 mod mutation;
+mod scope;
 mod seeded;
 mod times;
 
 pub use function::{FunctionBody, FunctionError, read_function};
 pub use mutation::{Mutated, MutationError, mutate_module};
+pub use scope::Scope;
 pub use seeded::mutate_with_seed;
 pub use times::{MadeRewrite, RewrittenModule, mutate_times};

@@ -16,6 +16,6 @@ returns c =
       calls = c.sessions_do_more.ensures.calls;
     } in
     record {
-      one = λ rules only bytes new function rewrite m. mutated_does one law c.one_reading.ensures rules only bytes function rewrite new m;
-      each = λ rules only count bytes new made m. mutates_does one law c.one_reading.ensures rules only count bytes made new m;
+      one = λ scope bytes new function rewrite m. mutated_does one law c.one_reading.ensures scope bytes function rewrite new m;
+      each = λ scope count bytes new made stopped m. mutates_does one law c.one_reading.ensures scope count bytes made new stopped m;
     }

@@ -1,6 +1,6 @@
 use Rattle.std.proofs.Common.{◌≡◌, take}
 use Rattle.std.specs.Prelude.{map}
-use Rattle.peephole_modules.specs.Mutated.{requested}
+use Rattle.peephole_modules.specs.Writing.{requested}
 use Rattle.peephole_modules.proofs.mutation.requested_types.Given as goal
 
 abbrev pub invariant-loop-request : goal.invariant-loop-request

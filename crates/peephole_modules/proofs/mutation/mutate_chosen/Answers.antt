@@ -1,0 +1,59 @@
+use Rattle.std.proofs.Common.{◌≡◌, ◌∙◌, ℕ, Option, Some, None, ap, sym, subst}
+use Rattle.mutate_base.specs.Config.{info_of}
+use Rattle.peephole_terms.specs.Expansion.{setting_of}
+use Rattle.peephole_modules.specs.Chosen.{ChoosesBy, GivesUpOn, Leads}
+use Rattle.peephole_modules.specs.Scope.{Scope}
+use Rattle.peephole_modules.proofs.MutationLemmas.{none_map, some_map}
+use Rattle.peephole_modules.proofs.ModuleLemmas.{cannot_any, cannot_one, err_of_size}
+use Rattle.peephole_modules.proofs.mutation.mutate_chosen.Goals as goal
+
+pub returns-in-None-clause-chosen : goal.returns-in-None-clause-chosen
+returns-in-None-clause-chosen g c =
+    let is : c.args.scope.now.function ≡ None = sym (ap (λ (s : Scope). s.function) c.scope.view_is) ∙ c.in-None.is in
+    some_map c.mutate_any.result (λ m h. subst (λ (w : Option ℕ). Leads (setting_of g.R.Rng.stream c.args.config.now)
+    (setting_of g.R.Rng.stream c.mutate_any.new.config)
+    (λ s t. ChoosesBy c.args.scope.now c.args.bytes.now c.args.layout.now w s m.function m.rewrite m.bytes.items t)) (sym is) h) c.mutate_any.ensures.chosen
+
+pub returns-in-None-clause-none : goal.returns-in-None-clause-none
+returns-in-None-clause-none g c =
+    let is : c.args.scope.now.function ≡ None = sym (ap (λ (s : Scope). s.function) c.scope.view_is) ∙ c.in-None.is in
+    none_map c.mutate_any.result
+    (cannot_any c.args.scope.now c.args.bytes.now c.args.layout.now (info_of c.args.config.now) c.requires.module)
+    c.mutate_any.ensures.none
+
+pub returns-in-None-clause-gives_up : goal.returns-in-None-clause-gives_up
+returns-in-None-clause-gives_up g c =
+    let is : c.args.scope.now.function ≡ None = sym (ap (λ (s : Scope). s.function) c.scope.view_is) ∙ c.in-None.is in
+    err_of_size c.mutate_any.result
+    (Leads (setting_of g.R.Rng.stream c.args.config.now) (setting_of g.R.Rng.stream c.mutate_any.new.config)
+    (λ s t. GivesUpOn c.args.scope.now c.args.bytes.now c.args.layout.now (None) s t))
+    (Leads (setting_of g.R.Rng.stream c.args.config.now) (setting_of g.R.Rng.stream c.mutate_any.new.config)
+    (λ s t. GivesUpOn c.args.scope.now c.args.bytes.now c.args.layout.now c.args.scope.now.function s t))
+    (λ h. subst (λ (w : Option ℕ). Leads (setting_of g.R.Rng.stream c.args.config.now) (setting_of g.R.Rng.stream c.mutate_any.new.config)
+    (λ s t. GivesUpOn c.args.scope.now c.args.bytes.now c.args.layout.now w s t)) (sym is) h) c.mutate_any.ensures.gives_up
+
+pub returns-in-Some-clause-chosen : goal.returns-in-Some-clause-chosen
+returns-in-Some-clause-chosen g c =
+    let is : c.args.scope.now.function ≡ Some c.in-Some.function = sym (ap (λ (s : Scope). s.function) c.scope.view_is) ∙ c.in-Some.is in
+    some_map c.mutate_function.result (λ m h. subst (λ (w : Option ℕ). Leads (setting_of g.R.Rng.stream c.args.config.now)
+    (setting_of g.R.Rng.stream c.mutate_function.new.config)
+    (λ s t. ChoosesBy c.args.scope.now c.args.bytes.now c.args.layout.now w s m.function m.rewrite m.bytes.items t)) (sym is) h)
+    c.mutate_function.ensures.chosen
+
+pub returns-in-Some-clause-none : goal.returns-in-Some-clause-none
+returns-in-Some-clause-none g c =
+    let is : c.args.scope.now.function ≡ Some c.in-Some.function = sym (ap (λ (s : Scope). s.function) c.scope.view_is) ∙ c.in-Some.is in
+    none_map c.mutate_function.result
+    (cannot_one c.args.scope.now c.args.bytes.now c.args.layout.now (info_of c.args.config.now) c.in-Some.function is c.requires.module)
+    c.mutate_function.ensures.none
+
+pub returns-in-Some-clause-gives_up : goal.returns-in-Some-clause-gives_up
+returns-in-Some-clause-gives_up g c =
+    let is : c.args.scope.now.function ≡ Some c.in-Some.function = sym (ap (λ (s : Scope). s.function) c.scope.view_is) ∙ c.in-Some.is in
+    err_of_size c.mutate_function.result
+    (Leads (setting_of g.R.Rng.stream c.args.config.now) (setting_of g.R.Rng.stream c.mutate_function.new.config)
+    (λ s t. GivesUpOn c.args.scope.now c.args.bytes.now c.args.layout.now (Some c.in-Some.function) s t))
+    (Leads (setting_of g.R.Rng.stream c.args.config.now) (setting_of g.R.Rng.stream c.mutate_function.new.config)
+    (λ s t. GivesUpOn c.args.scope.now c.args.bytes.now c.args.layout.now c.args.scope.now.function s t))
+    (λ h. subst (λ (w : Option ℕ). Leads (setting_of g.R.Rng.stream c.args.config.now) (setting_of g.R.Rng.stream c.mutate_function.new.config)
+    (λ s t. GivesUpOn c.args.scope.now c.args.bytes.now c.args.layout.now w s t)) (sym is) h) c.mutate_function.ensures.gives_up

@@ -1,0 +1,105 @@
+-- The rewrites follow one another.
+use Rattle.std.proofs.Common.{◌≡◌, ◌<◌, ◌∙◌, List, ℕ, Err, ap, refl, subst, sym, arith, rules}
+use Rattle.std.proofs.lemmas.Result.{err_from_is_err_and}
+use Rattle.mutate_base.specs.declared.error.Error.TheVariants as errors
+use Rattle.peephole_modules.specs.Chosen.{ChoosesOfModule, GivesUp}
+use Rattle.peephole_modules.specs.Held.{stream_held}
+use Rattle.peephole_modules.specs.Mutated.{IsMutated, IsOfSize, RefusesMutation}
+use Rattle.peephole_modules.specs.declared.mutation.MutationError.TheVariants.{Rewrite}
+use Rattle.peephole_modules.proofs.MutatesLemmas.{first, next, no_room, on_error, on_value, stops, times_none, times_stop}
+use Rattle.peephole_modules.proofs.times.mutate_repeatedly.Goals as goal
+
+pub returns-in_err-add_made-clause-refused : goal.returns-in_err-add_made-clause-refused
+returns-in_err-add_made-clause-refused g c =
+    let p = err_from_is_err_and c.from_residual.result c.from_residual.ensures.1 in
+    rw (p.1 ∙ ap (λ x. Err x) p.2)
+    (no_room c.args.scope.now c.args.bytes.now c.in-Ok-Some.first.function c.in-Ok-Some.first.rewrite c.in-Ok-Some.first.bytes.items
+    (rw c.in-Ok-Some.field-0-is at c.in-Ok-Some.ensures.mutated))
+
+pub rewrites-init : goal.rewrites-init
+rewrites-init g c = (
+  first c.args.scope.now c.args.bytes.now (stream_held g.R.Rng.stream c.args.held.now)
+      (record { function = c.in-Ok-Some.first.function; rewrite = c.in-Ok-Some.first.rewrite })
+      c.add_made.new.made.items c.in-Ok-Some.first.bytes.items (stream_held g.R.Rng.stream c.mutate_with.new.held) (search rules)
+      (rw c.in-Ok-Some.field-0-is at c.in-Ok-Some.ensures.mutated) (rw c.in-Ok-Some.field-0-is at c.in-Ok-Some.ensures.chosen),
+  refl,
+)
+
+pub rewrites-preserved : goal.rewrites-preserved
+rewrites-preserved g c =
+    let mutated : IsMutated c.args.scope.now c.rewrites.module.bytes.items c.in-Ok-Some-mutate_with.next.function c.in-Ok-Some-mutate_with.next.rewrite
+    c.in-Ok-Some-mutate_with.next.bytes.items =
+    subst (λ (b : List ℕ). IsMutated c.args.scope.now b c.in-Ok-Some-mutate_with.next.function c.in-Ok-Some-mutate_with.next.rewrite
+    c.in-Ok-Some-mutate_with.next.bytes.items) c.deref.ensures.value
+    (rw c.in-Ok-Some-mutate_with.field-0-is at c.in-Ok-Some-mutate_with.ensures.mutated) in
+    let chosen : ChoosesOfModule c.args.scope.now c.rewrites.module.bytes.items (stream_held g.R.Rng.stream c.rewrites.held)
+    c.in-Ok-Some-mutate_with.next.function
+    c.in-Ok-Some-mutate_with.next.rewrite c.in-Ok-Some-mutate_with.next.bytes.items (stream_held g.R.Rng.stream c.mutate_with-in-rewrites.new.held) =
+    subst (λ (b : List ℕ). ChoosesOfModule c.args.scope.now b (stream_held g.R.Rng.stream c.rewrites.held) c.in-Ok-Some-mutate_with.next.function
+    c.in-Ok-Some-mutate_with.next.rewrite c.in-Ok-Some-mutate_with.next.bytes.items (stream_held g.R.Rng.stream c.mutate_with-in-rewrites.new.held))
+    c.deref.ensures.value (rw c.in-Ok-Some-mutate_with.field-0-is at c.in-Ok-Some-mutate_with.ensures.chosen) in (
+      next c.args.scope.now c.rewrites.counter c.args.bytes.now (stream_held g.R.Rng.stream c.args.held.now) c.rewrites.module.made.items
+          c.rewrites.module.bytes.items (stream_held g.R.Rng.stream c.rewrites.held)
+          (record { function = c.in-Ok-Some-mutate_with.next.function; rewrite = c.in-Ok-Some-mutate_with.next.rewrite })
+          c.add_made-in-rewrites.new.made.items c.in-Ok-Some-mutate_with.next.bytes.items (stream_held g.R.Rng.stream c.mutate_with-in-rewrites.new.held)
+          c.rewrites.invariant.0
+          (on_value c.add_made-in-rewrites.result (sym c.is_err.ensures.value ∙ c.if-is_err.false) c.add_made-in-rewrites.ensures.added) mutated chosen,
+      c.rewrites.invariant.1,
+    )
+
+pub returns-in-Ok-None-mutate_with-clause-chosen : goal.returns-in-Ok-None-mutate_with-clause-chosen
+returns-in-Ok-None-mutate_with-clause-chosen g c =
+    times_none c.args.scope.now c.rewrites.counter c.args.bytes.now (stream_held g.R.Rng.stream c.args.held.now) c.rewrites.module.made.items
+    c.rewrites.module.bytes.items
+    (stream_held g.R.Rng.stream c.rewrites.held) c.rewrites.module.stopped c.rewrites.invariant.0 c.rewrites.invariant.1
+
+pub returns-clause-chosen : goal.returns-clause-chosen
+returns-clause-chosen g c =
+    times_none c.args.scope.now c.rewrites.counter c.args.bytes.now (stream_held g.R.Rng.stream c.args.held.now) c.rewrites.module.made.items
+    c.rewrites.module.bytes.items
+    (stream_held g.R.Rng.stream c.rewrites.held) c.rewrites.module.stopped c.rewrites.invariant.0 c.rewrites.invariant.1
+
+pub returns-in-Err-mutate_with-clause-mutated : goal.returns-in-Err-mutate_with-clause-mutated
+returns-in-Err-mutate_with-clause-mutated g c =
+    let below : c.rewrites.counter < c.args.count = c.rewrites-test.true in
+    let some : 0 < c.rewrites.counter = omega arith in
+    rw c.stopped.ensures.made (rw c.stopped.ensures.bytes
+    (stops c.rewritten_modules_are_read_again.ensures c.args.scope.now c.args.count c.rewrites.counter c.args.bytes.now
+    (stream_held g.R.Rng.stream c.args.held.now) c.rewrites.module.made.items c.rewrites.module.bytes.items
+    (stream_held g.R.Rng.stream c.rewrites.held) c.stopped.result.stopped c.in-Err-mutate_with.e c.rewrites.invariant.0 some below c.stopped.ensures.stopped
+    (subst (λ (b : List ℕ). RefusesMutation c.args.scope.now b c.in-Err-mutate_with.e) c.deref.ensures.value c.in-Err-mutate_with.ensures.refused)))
+
+pub returns-in-Err-mutate_with-clause-chosen : goal.returns-in-Err-mutate_with-clause-chosen
+returns-in-Err-mutate_with-clause-chosen g c =
+    rw c.stopped.ensures.made (rw c.stopped.ensures.bytes
+    (times_stop c.args.scope.now c.rewrites.counter c.args.bytes.now (stream_held g.R.Rng.stream c.args.held.now) c.rewrites.module.made.items
+    c.rewrites.module.bytes.items
+    (stream_held g.R.Rng.stream c.rewrites.held) c.stopped.result.stopped c.in-Err-mutate_with.e c.rewrites.invariant.0 c.stopped.ensures.stopped
+    (subst (λ (b : List ℕ). IsOfSize c.in-Err-mutate_with.e → GivesUp c.args.scope.now b (stream_held g.R.Rng.stream c.rewrites.held)) c.deref.ensures.value
+    c.in-Err-mutate_with.ensures.gives_up)))
+
+pub returns-then-is_err-clause-mutated : goal.returns-then-is_err-clause-mutated
+returns-then-is_err-clause-mutated g c =
+    let mutated : IsMutated c.args.scope.now c.rewrites.module.bytes.items c.in-Ok-Some-mutate_with.next.function c.in-Ok-Some-mutate_with.next.rewrite
+    c.in-Ok-Some-mutate_with.next.bytes.items =
+    subst (λ (b : List ℕ). IsMutated c.args.scope.now b c.in-Ok-Some-mutate_with.next.function c.in-Ok-Some-mutate_with.next.rewrite
+    c.in-Ok-Some-mutate_with.next.bytes.items) c.deref.ensures.value
+    (rw c.in-Ok-Some-mutate_with.field-0-is at c.in-Ok-Some-mutate_with.ensures.mutated) in
+    let below : c.rewrites.counter < c.args.count = c.rewrites-test.true in
+    let some : 0 < c.rewrites.counter = omega arith in
+    let kept = on_error c.add_made-in-rewrites.result (sym c.is_err.ensures.value ∙ c.if-is_err.true) c.add_made-in-rewrites.ensures.restored in
+    rw c.stopped-then-is_err.ensures.made (rw c.stopped-then-is_err.ensures.bytes (rw kept
+    (stops c.rewritten_modules_are_read_again.ensures c.args.scope.now c.args.count c.rewrites.counter c.args.bytes.now
+    (stream_held g.R.Rng.stream c.args.held.now) c.rewrites.module.made.items c.rewrites.module.bytes.items
+    (stream_held g.R.Rng.stream c.rewrites.held) c.stopped-then-is_err.result.stopped (Rewrite errors.Memory) c.rewrites.invariant.0 some below
+    c.stopped-then-is_err.ensures.stopped (no_room c.args.scope.now c.rewrites.module.bytes.items c.in-Ok-Some-mutate_with.next.function
+    c.in-Ok-Some-mutate_with.next.rewrite c.in-Ok-Some-mutate_with.next.bytes.items mutated))))
+
+pub returns-then-is_err-clause-chosen : goal.returns-then-is_err-clause-chosen
+returns-then-is_err-clause-chosen g c =
+    let kept = on_error c.add_made-in-rewrites.result (sym c.is_err.ensures.value ∙ c.if-is_err.true) c.add_made-in-rewrites.ensures.restored in
+    rw c.stopped-then-is_err.ensures.made (rw c.stopped-then-is_err.ensures.bytes (rw kept
+    (times_stop c.args.scope.now c.rewrites.counter c.args.bytes.now (stream_held g.R.Rng.stream c.args.held.now) c.rewrites.module.made.items
+    c.rewrites.module.bytes.items
+    (stream_held g.R.Rng.stream c.rewrites.held) c.stopped-then-is_err.result.stopped (Rewrite errors.Memory) c.rewrites.invariant.0
+    c.stopped-then-is_err.ensures.stopped (λ size. absurd size))))
