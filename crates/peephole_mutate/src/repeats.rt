@@ -2,7 +2,7 @@
 
 use crate::refused_modules::{SUM, TURNED};
 use mutate_base::Words;
-use peephole_modules::{mutate_times, mutate_with_seed};
+use peephole_modules::{MutationError, Scope, mutate_times, mutate_with_seed};
 use peephole_rules::{RULES, Rule};
 use rand::rngs::StdRng;
 use rand_core::SeedableRng;
@@ -11,6 +11,15 @@ use std::test::Fail;
 /// Functions whose entries contain 7, 10 and 4 bytes. The first two add their parameters, the last one answers its first one.
 const THREE: &[u8] = b"\0asm\x01\0\0\0\x01\x07\x01\x60\x02\x7f\x7f\x01\x7f\x03\x04\x03\0\0\0\
     \x0a\x19\x03\x07\0\x20\0\x20\x01\x6a\x0b\x0a\0\x20\0\x20\x01\x6a\x1a\x20\0\x0b\x04\0\x20\0\x0b";
+
+/// A scope of any function.
+fn any<'a>(rules: &'a [Rule], max_size: usize) -> Scope<'a> {
+    Scope {
+        rules,
+        function: None,
+        max_size,
+    }
+}
 
 /// Words, and the function whose operands they turn: the first word whose remainder by 21 names a byte of one that adds says
 /// which, or else, where the first 16 words don't, the next function that adds.
@@ -32,12 +41,18 @@ const DRAWS: &str = "
 fn turns_operands(rt: HostRuntime) -> Result<(), Fail> {
     let alloc = rt.alloc();
     let rules = [Rule::Commute];
-    let once = mutate_with_seed(alloc, &SUM, 0, &rules, None, 1)?.ok_or("a rewrite")?;
+    let once = mutate_with_seed(alloc, &SUM, 0, &any(&rules, 32), 1)?.ok_or("a rewrite")?;
     assert_eq!(rt; once.bytes.as_slice(), TURNED.as_slice());
-    let thrice = mutate_with_seed(alloc, &SUM, 0, &rules, Some(0), 3)?.ok_or("a rewrite")?;
+    let named = Scope {
+        rules: &rules,
+        function: Some(0),
+        max_size: 32,
+    };
+    let thrice = mutate_with_seed(alloc, &SUM, 0, &named, 3)?.ok_or("a rewrite")?;
     assert_eq!(rt; thrice.bytes.as_slice(), TURNED.as_slice());
     assert_eq!(rt; thrice.made.len(), 3);
-    let none = mutate_with_seed(alloc, &SUM, 0, &[Rule::Fold], None, 3)?;
+    assert!(rt; thrice.stopped.is_none());
+    let none = mutate_with_seed(alloc, &SUM, 0, &any(&[Rule::Fold], 32), 3)?;
     assert!(rt; none.is_none());
     Ok(())
 }
@@ -48,11 +63,12 @@ fn rewrites_twice(rt: HostRuntime) -> Result<(), Fail> {
     let alloc = rt.alloc();
     for seed in 0..4u64 {
         let mut generator = StdRng::seed_from_u64(seed);
-        let once = mutate_times(alloc, &SUM, &mut generator, &RULES, None, 1)?;
+        let all = any(&RULES, usize::MAX);
+        let once = mutate_times(alloc, &SUM, &mut generator, &all, 1)?;
         let once = once.ok_or("a rewrite")?;
-        let again = mutate_times(alloc, &once.bytes, &mut generator, &RULES, None, 1)?;
+        let again = mutate_times(alloc, &once.bytes, &mut generator, &all, 1)?;
         let again = again.ok_or("a rewrite")?;
-        let both = mutate_with_seed(alloc, &SUM, seed, &RULES, None, 2)?;
+        let both = mutate_with_seed(alloc, &SUM, seed, &all, 2)?;
         let both = both.ok_or("two rewrites")?;
         assert!(rt; both.bytes == again.bytes, "seed {seed}");
         assert!(rt; both.made.len() == 2);
@@ -71,10 +87,60 @@ fn draws_functions_by_their_sizes(rt: HostRuntime) -> Result<(), Fail> {
         }
         let function = function.trim().parse::<usize>()?;
         let generator = Words::new(list);
-        let new = mutate_times(alloc, THREE, generator, &[Rule::Commute], None, 1)?;
+        let new = mutate_times(alloc, THREE, generator, &any(&[Rule::Commute], 1000), 1)?;
         let new = new.ok_or("a rewrite")?;
         let made = new.made.first().ok_or("no rewrite")?;
         assert!(rt; made.function == function, "{case}");
+    }
+    Ok(())
+}
+
+/// The words choose a sum with zero, of three bytes more: where the module may not have as many, those behind them turn the operands.
+#[test]
+fn draws_another_that_fits(rt: HostRuntime) -> Result<(), Fail> {
+    let alloc = rt.alloc();
+    let rules = [Rule::Commute, Rule::AddZero];
+    for only in [None, Some(0usize)] {
+        for max_size in [35usize, 34, 32] {
+            let mut list = Vec::new(alloc);
+            if only.is_none() {
+                list.push(0u64)?;
+            }
+            list.push(1)?;
+            let scope = Scope {
+                rules: &rules,
+                function: only,
+                max_size,
+            };
+            let new = mutate_times(alloc, &SUM, Words::new(list), &scope, 1)?;
+            let new = new.ok_or("a rewrite")?;
+            let turned = new.bytes.as_slice() == TURNED.as_slice();
+            assert!(rt; new.bytes.len() == if max_size == 35 { 35 } else { 32 });
+            assert!(rt; turned == (max_size < 35), "{max_size}");
+        }
+    }
+    Ok(())
+}
+
+/// None fits, and there is none: only the first is an error. What was made before stays.
+#[test]
+fn keeps_what_was_made(rt: HostRuntime) -> Result<(), Fail> {
+    let alloc = rt.alloc();
+    let rules = [Rule::AddZero];
+    for made in 0..4usize {
+        let scope = any(&rules, 32 + 3 * made);
+        match mutate_with_seed(alloc, &SUM, 0, &scope, 3) {
+            Err(e) => {
+                assert!(rt; made == 0 && e == MutationError::TooLong);
+            }
+            Ok(new) => {
+                let new = new.ok_or("a rewrite")?;
+                assert!(rt; new.made.len() == made, "{made}");
+                assert!(rt; new.bytes.len() == 32 + 3 * made, "{made}");
+                let stopped = new.stopped == Some(MutationError::TooLong);
+                assert!(rt; stopped == (made < 3), "{made}");
+            }
+        }
     }
     Ok(())
 }
