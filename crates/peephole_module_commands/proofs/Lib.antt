@@ -1,3 +1,5 @@
 pub mod InputLemmas
 pub mod WritesLemmas
 pub mod ListingLemmas
+pub mod ArgumentsLemmas
+pub mod OptionsLemmas

@@ -1,6 +1,7 @@
 //! The program for modules but for its process: its options, and what a run reads, writes and answers, over any reader and writer.
 #![tactic(auto)]
 
+mod arguments;
 mod blocks;
 mod failure;
 mod functions;
@@ -10,7 +11,9 @@ mod mutating;
 mod options;
 mod running;
 mod stats;
+mod words;
 
 pub use failure::Failure;
-pub use options::{Options, Task, options_of, rule_names};
+pub use options::{Flags, Misuse, Options, Task};
 pub use running::run;
+pub use words::{options_from, options_of, rule_names};

@@ -37,6 +37,10 @@ const BEHIND_CALL_TURNED: &[u8] =
     b"\0asm\x01\0\0\0\x01\x0b\x02\x60\0\x01\x7f\x60\x02\x7f\x7f\x01\x7f\x03\x02\x01\x01\x04\x04\x01\x70\0\x01\
     \x0a\x0f\x01\x0d\0\x41\0\x11\0\0\x20\x01\x20\0\x6a\x6b\x0b";
 
+/// A function with two results, and one that calls it, drops both, and calls a function that isn't there in a block of its own.
+const RESULTS: &[u8] = b"\0asm\x01\0\0\0\x01\x09\x02\x60\0\0\x60\0\x02\x7f\x7f\x03\x03\x02\x01\0\
+    \x0a\x14\x02\x06\0\x41\0\x41\0\x0b\x0b\0\x10\0\x1a\x1a\x02\x40\x10\x05\x0b\x0b";
+
 /// Words of the command line, and the task, the seed, the count, the function, whether there are statistics, and the rules: all,
 /// or the number, the first and the last; or the kind of the error.
 const OPTIONS: &str = "
@@ -45,8 +49,14 @@ const OPTIONS: &str = "
 --list | List 0 1 None false all
 --blocks | Blocks 0 1 None false all
 --rule melt | InvalidValue
+--rule fold --rule melt --rule commute | InvalidValue
+--rule fold --rule fold | Rewrite 0 1 None false 2 Some(Fold) Some(Fold)
 --count 0 | ValueValidation
 --list --blocks | ArgumentConflict
+--list --stats | ArgumentConflict
+--stats --blocks | ArgumentConflict
+--list --list | ArgumentConflict
+--seed 18446744073709551616 | ValueValidation
 --melt | UnknownArgument
 ";
 
@@ -74,6 +84,23 @@ const RUNS: &str = "
 
 --blocks | TABLE | Ok(())
 > function 0 block 0..10, no graph: operator 5 call_indirect
+
+--blocks | RESULTS | Ok(())
+> function 0 block 0..2
+> function 1 block 0..3, no graph: operator 0 call of a function with several results
+> function 1 block 4..5, no graph: operator 4 call of the unknown function 5
+
+--blocks --function 0 | RESULTS | Ok(())
+> function 0 block 0..2
+
+--blocks --function 2 | RESULTS | Err(NoFunction(2))
+
+--stats --rule fold | RESULTS | Err(Nothing)
+! functions 2 unreadable 0
+
+--blocks | STRUCTURE | Ok(())
+> function 0 block 0..3
+> function 1 UnknownForm at 17
 
 --list --rule commute | BEHIND_CALL | Ok(())
 > function 0 operator 4 rule commute
@@ -114,6 +141,7 @@ fn module_of(name: &str) -> Option<&'static [u8]> {
         "SUM" => Some(&SUM),
         "TURNED" => Some(&TURNED),
         "TABLE" => Some(TABLE),
+        "RESULTS" => Some(RESULTS),
         "BEHIND_CALL" => Some(BEHIND_CALL),
         "BEHIND_CALL_TURNED" => Some(BEHIND_CALL_TURNED),
         "STRUCTURE" => Some(STRUCTURE),

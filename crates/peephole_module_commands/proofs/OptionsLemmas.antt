@@ -1,0 +1,127 @@
+-- What the getters of clap's matches read.
+use Rattle.std.proofs.Common.{◌≡◌, ◌≢◌, ◌⊎◌, ◌<◌, ℕ, Bool, true, false, List, [], ◌∷◌, ◌++◌, ◌+◌, map, take, length, get_or, Option, Some, None, Result, Ok, Err, refl, sym, ap, ap₂, ◌∙◌, subst, inl, inr}
+use Rattle.std.specs.Prelude.{◌^◌, IfSome, codes, option_map, slice_get, unwrap_or}
+use Rattle.std.specs.Borrow.{Bor}
+use Rattle.std.specs.Option.{option_map_or}
+use Rattle.std.specs.Str.{bytes_eq}
+use Rattle.std.specs.Str.Parse.{ParsesBool, ParsesUnsigned, false_text, true_text}
+use Rattle.std.proofs.lemmas.List.{map-append, map_more}
+use Rattle.std.proofs.lemmas.Option.{slice_get-get_or, slice_get-map}
+use Rattle.std.proofs.lemmas.Slice.Eq.{bytes_eq-Decides}
+use Rattle.clap.specs.Faults.{fault_of, is_simple_and_free}
+use Rattle.clap.specs.Kinds.{HasKind, IsAmong}
+use Rattle.clap.specs.Matches.{ReadsOne, found_of, matched_of, raw_values}
+use Rattle.clap.specs.Simple.{App, HasMatchesOf, is_simple, matches_of}
+use Rattle.clap.specs.Values.{kind_of}
+use Rattle.clap.specs.Walk.{Row, Text, all_of, rows_of, texts}
+use Rattle.clap.proofs.WalkLemmas.{raw_values-rows}
+use Rattle.clap.specs.declared.parser.matches.Found.{Found}
+use Rattle.clap.specs.declared.error.Error.{Error}
+use Rattle.clap.specs.declared.error.kind.ErrorKind.{ErrorKind}
+use Rattle.clap.specs.declared.parser.matches.ArgMatches.{ArgMatches}
+use Rattle.peephole_rules.specs.Rule.{rule_name}
+use Rattle.peephole_rules.specs.declared.rule.Rule.{Rule}
+use Rattle.peephole_module_commands.specs.Arguments.{command_line}
+use Rattle.peephole_module_commands.specs.Options.{AreMisused, AreOptions, AreRefused, IsNumberOf, NamesNone, SayOptions, Writes, kind_for}
+use Rattle.peephole_module_commands.specs.Options.AreRefused.{by_matches, by_memory, by_words}
+use Rattle.peephole_module_commands.specs.declared.options.Misuse.{Misuse}
+use Rattle.peephole_module_commands.specs.declared.options.Misuse.TheVariants.{Memory, UnknownRule}
+use Rattle.peephole_module_commands.specs.declared.options.Options.{Options}
+
+equal_texts : (a b : Text) → a ≡ b → bytes_eq a b ≡ true
+equal_texts a b e = (bytes_eq-Decides a b).1 e
+
+other_texts : (r : Bool) (P : Type 0) → (r ≡ true → P) → (P → ⊥) → r ≡ false
+other_texts true P h never = absurd (never (h refl))
+other_texts false P h never = refl
+
+-- a flag
+pub set_by : (E : Type 0) (text : Option Text) (r : Option Bool) → (text ≡ None → r ≡ None) →
+    ((t : Text) → text ≡ Some t → ReadsOne {T = Bool} {E = E} ParsesBool t r) → unwrap_or r false ≡ option_map_or (λ t. bytes_eq t (codes "true")) text false
+set_by E None r none some = ap (λ (o : Option Bool). unwrap_or o false) (none refl)
+set_by E (Some t) (Some true) none some = sym (equal_texts t true_text (some t refl))
+set_by E (Some t) (Some false) none some =
+    let is : t ≡ false_text = some t refl in
+    sym (ap (λ (x : Text). bytes_eq x (codes "true")) is)
+set_by E (Some t) None none some = sym (other_texts (bytes_eq t true_text) (t ≡ true_text) (bytes_eq-Decides t true_text).0 (some t refl).1.0)
+
+-- a number
+pub number_by : {E : Type 0} (gives : List ℕ → Result ℕ E → Type 0) → ((bs : List ℕ) (r : Result ℕ E) → gives bs r → ParsesUnsigned 64 10 bs r) →
+    (text : Option Text) (r : Option ℕ) → (text ≡ None → r ≡ None) → ((t : Text) → text ≡ Some t → ReadsOne gives t r) → IsNumberOf text r
+number_by gives parses None r none some = none refl
+number_by gives parses (Some t) (Some n) none some =
+    let is = parses t (Ok n) (some t refl) in
+    record { digits = is.0.0; value = is.1; fits = subst (λ (k : ℕ). k < 2 ^ 64) (sym is.1) is.0.1 }
+number_by gives parses (Some t) None none some =
+    let is = some t refl in
+    λ n w. parses t (Err is.0) is.1 (w.digits, subst (λ (k : ℕ). k < 2 ^ 64) w.value w.fits)
+
+-- a name that is no rule's
+pub names_none : (names : List (Bor Text)) (i : ℕ) (d : Bor Text) → i < length names → ((rule : Rule) → rule_name rule ≢ (get_or names i d).now) →
+    NamesNone (texts names)
+names_none names i d l none = record {
+  place = i;
+  name = (get_or names i d).now;
+  at = slice_get-map (λ (s : Bor Text). s.now) names i ∙ ap (option_map (λ (s : Bor Text). s.now)) (slice_get-get_or names i d l);
+  none = none;
+}
+
+-- one rule more
+pub named_more : (names : List (Bor Text)) (i : ℕ) (d : Bor Text) (rs next : List Rule) (rule : Rule) → i < length names →
+    map rule_name rs ≡ texts (take i names) → rule_name rule ≡ (get_or names i d).now → next ≡ rs ++ rule ∷ [] → map rule_name next ≡ texts (take (i + 1) names)
+named_more names i d rs next rule l h named is =
+    ap (map rule_name) is ∙ (map-append rule_name rs (rule ∷ [])
+    ∙ (ap₂ (λ (front : List Text) (name : Text). front ++ name ∷ []) h named ∙ sym (map_more (λ (s : Bor Text). s.now) names i d l)))
+
+-- ---- what clap makes of the words
+
+line_is_simple : (names : Bor (List (Bor Text))) → is_simple (command_line names) ≡ true
+line_is_simple names = refl
+
+line_is_free : (names : Bor (List (Bor Text))) → is_simple_and_free (command_line names) ≡ true
+line_is_free names = refl
+
+-- it takes them
+taken : (names : Bor (List (Bor Text))) (app : App) (words : List Text) → app ≡ command_line names → (is_simple_and_free app ≡ true → fault_of app words ≡ []) →
+    fault_of (command_line names) words ≡ []
+taken names app words is kinds = ap (λ (a : App). fault_of a words) (sym is) ∙ kinds (ap is_simple_and_free is ∙ line_is_free names)
+
+-- and these are its matches
+rows_are : (names : Bor (List (Bor Text))) (app : App) (words : List Text) (m : ArgMatches) → app ≡ command_line names → HasMatchesOf app words m →
+    rows_of (found_of m) ≡ matches_of (command_line names) words
+rows_are names app words m is has = (has (ap is_simple is ∙ line_is_simple names)).0 ∙ ap (λ (a : App). matches_of a words) is
+
+pub say_options : (names : Bor (List (Bor Text))) (app : App) (words : List Text) (m : ArgMatches) (options : Options) → app ≡ command_line names →
+    (is_simple_and_free app ≡ true → fault_of app words ≡ []) → HasMatchesOf app words m → AreOptions (rows_of (found_of m)) options →
+    SayOptions (command_line names) words options
+say_options names app words m options is kinds has are = record {
+  taken = taken names app words is kinds;
+  are = subst (λ (rows : List Row). AreOptions rows options) (rows_are names app words m is has) are;
+}
+
+pub refused_matches : (names : Bor (List (Bor Text))) (app : App) (words : List Text) (m : ArgMatches) (misuse : Misuse) (kind : ErrorKind) →
+    app ≡ command_line names → (is_simple_and_free app ≡ true → fault_of app words ≡ []) → HasMatchesOf app words m →
+    AreMisused (rows_of (found_of m)) misuse → kind ≡ kind_for misuse → AreRefused (command_line names) words kind
+refused_matches names app words m misuse kind is kinds has misused told =
+    by_matches (taken names app words is kinds) misuse (subst (λ (rows : List Row). AreMisused rows misuse) (rows_are names app words m is has) misused) told
+
+pub refused_words : (names : Bor (List (Bor Text))) (app : App) (words : List Text) (e : Error) → app ≡ command_line names →
+    (is_simple_and_free app ≡ true → HasKind (fault_of app words) e) → AreRefused (command_line names) words (kind_of e)
+refused_words names app words e is kinds = elim (kinds (ap is_simple_and_free is ∙ line_is_free names)) [
+  | inl memory ↦ by_memory memory
+  | inr among ↦ by_words (subst (λ (a : App). IsAmong (kind_of e) (fault_of a words)) is among)
+]
+
+-- ---- the rules that are named
+
+pub names_given : (found : Found) (given : Option (Bor (List (Bor Text)))) → option_map (λ s. map (λ v. v.now) s.now) given ≡
+    option_map raw_values (matched_of found (codes "rule")) → (o : Option (Bor (List (Bor Text)))) → given ≡ o →
+    all_of (codes "rule") (rows_of found) ≡ option_map (λ s. texts s.now) o
+names_given found given get o is =
+    sym (raw_values-rows found (codes "rule")) ∙ (sym get ∙ ap (option_map (λ (s : Bor (List (Bor Text))). texts s.now)) is)
+
+pub misused_name : (rows : List Row) (names : List Text) (e : Misuse) → all_of (codes "rule") rows ≡ Some names →
+    (e ≡ Memory) ⊎ ((e ≡ UnknownRule) × NamesNone names) → AreMisused rows e
+misused_name rows names e is (inl memory) = subst (AreMisused rows) (sym memory) tt
+misused_name rows names e is (inr unknown) =
+    subst (AreMisused rows) (sym unknown.0) (subst (λ (o : Option (List Text)). IfSome o NamesNone) (sym is) unknown.1)
