@@ -1,8 +1,8 @@
 -- Lines, one behind another.
-use Rattle.std.proofs.Common.{◌≡◌, ℕ, suc, ◌+◌, ◌-◌, ◌<◌, ◌≤◌, length, take, get_or, List, [], ◌∷◌, ◌++◌, Option, Some, None, Result, Ok, Err, refl, sym, ap, ◌∙◌, subst, append_assoc, append-nil, arith}
-use Rattle.std.specs.Prelude.{OnOk, ◌^◌}
+use Rattle.std.proofs.Common.{◌≡◌, ℕ, ◌+◌, ◌<◌, length, take, get_or, List, [], ◌∷◌, ◌++◌, Option, refl, sym, ap, ◌∙◌, subst, append_assoc, append-nil}
+use Rattle.std.specs.Prelude.{◌^◌}
 use Rattle.std.proofs.lemmas.List.{take_more}
-use Rattle.std.specs.Io.KnownBytes.{Appends, Keeps}
+use Rattle.std.specs.Io.KnownBytes.{Appends}
 use Rattle.wasm_code.specs.declared.operator.Operator.{Operator}
 use Rattle.mutate_base.specs.Module.{Module}
 use Rattle.mutate_base.specs.declared.types.PrimitiveTypeInfo.{PrimitiveTypeInfo}
@@ -12,20 +12,9 @@ use Rattle.peephole_rules.specs.declared.rule.Rule.{Rule}
 use Rattle.peephole_rewrites.specs.Rewriting.{AreTheRewrites}
 use Rattle.peephole_rewrites.specs.declared.rewrite.Rewrite.{Rewrite}
 use Rattle.peephole_modules.specs.Function.{IsFunction}
-use Rattle.peephole_module_commands.specs.Lines.{rewrite_line, rewrite_lines, ListsFunction, ListsFunctions, WritesList}
-use Rattle.peephole_module_commands.proofs.WritesLemmas.{appends_keeps}
-
--- nothing was written
-pub appends_nothing : (a : Option (List ℕ)) → Appends a a []
-appends_nothing None = tt
-appends_nothing (Some xs) = sym (append-nil xs)
-
--- one text behind another
-pub appends_more : (a b c : Option (List ℕ)) (front own : List ℕ) → Appends a b front → Appends b c own → Appends a c (front ++ own)
-appends_more None b c front own h k = tt
-appends_more (Some xs) None c front own h k = absurd h
-appends_more (Some xs) (Some ys) None front own h k = absurd k
-appends_more (Some xs) (Some ys) (Some zs) front own h k = k ∙ (ap (λ (l : List ℕ). l ++ own) h ∙ append_assoc xs front own)
+use Rattle.peephole_module_commands.specs.Lines.{rewrite_line, rewrite_lines}
+use Rattle.peephole_module_commands.specs.Lists.{ListsFunction}
+use Rattle.peephole_module_commands.proofs.TurnLemmas.{appends_more}
 
 -- one line more
 pub lines_more : (function : ℕ) (rs : List Rewrite) (r : Rewrite) → rewrite_lines function (rs ++ r ∷ []) ≡ rewrite_lines function rs ++ rewrite_line function r
@@ -33,16 +22,6 @@ lines_more function [] r = append-nil (rewrite_line function r)
 lines_more function (x ∷ rs) r =
     ap (λ (l : List ℕ). rewrite_line function x ++ l) (lines_more function rs r)
     ∙ sym (append_assoc (rewrite_line function x) (rewrite_lines function rs) (rewrite_line function r))
-
--- one function more
-pub lists_more : (rules : List Rule) (bytes : List ℕ) (info : Module) (layout : Layout) (from n : ℕ) (front own : List ℕ) → from ≤ n →
-    ListsFunctions rules bytes info layout from (n - from) front → ListsFunction rules bytes info layout n own →
-    ListsFunctions rules bytes info layout from ((n + 1) - from) (front ++ own)
-lists_more rules bytes info layout from n front own l h k =
-    let count : suc (n - from) ≡ (n + 1) - from = omega arith in
-    let place : n ≡ from + (n - from) = omega arith in
-    subst (λ (c : ℕ). ListsFunctions rules bytes info layout from c (front ++ own)) count
-    (front, own, refl, h, subst (λ (m : ℕ). ListsFunction rules bytes info layout m own) place k)
 
 -- the lines of the first so many, and the next one
 pub lines_next : (a b c : Option (List ℕ)) (function : ℕ) (rs : List Rewrite) (k : ℕ) (d : Rewrite) → k < length rs →
@@ -84,13 +63,3 @@ lists_nothing rules bytes info layout n never = record {
   none = λ _. refl;
   lines = λ _. refl;
 }
-
--- what a call leaves where it succeeds
-pub ok_map : {X E : Type 0} {P Q : Type 0} (r : Result X E) → (P → Q) → OnOk r P → OnOk r Q
-ok_map (Ok x) f h = f h
-ok_map (Err e) f h = h
-
--- the list was written, and nothing behind it
-pub list_kept : (rules : List Rule) (only : Option ℕ) (bytes : List ℕ) (a b c : Option (List ℕ)) → WritesList rules only bytes a b → Keeps b c →
-    WritesList rules only bytes a c
-list_kept rules only bytes a b c h k = record { text = h.text; lists = h.lists; written = appends_keeps a b c h.text h.written k }

@@ -2,29 +2,15 @@
 use Rattle.std.proofs.Common.{◌≡◌, ℕ, List, [], ◌∷◌, ◌∙◌, sym, subst, Option, Some, None, Result, Ok, Err, IfErr, append-nil}
 use Rattle.std.specs.Prelude.{IfSome}
 use Rattle.std.specs.Io.KnownBytes.{Appends, Keeps, Consumes, IsAtEnd}
-use Rattle.peephole_rules.specs.declared.rule.Rule.{Rule}
-use Rattle.peephole_modules.specs.declared.times.MadeRewrite.{MadeRewrite}
-use Rattle.peephole_modules.specs.DoesAsBefore.{DoesAsBefore}
-use Rattle.peephole_modules.specs.Mutates.{Mutates}
-use Rattle.peephole_module_commands.specs.Writes.{WritesMutated}
+use Rattle.mutate_base.specs.Module.{Module}
+use Rattle.wasm_module.specs.Module.{Layout}
+use Rattle.peephole_module_commands.specs.Lists.{WritesOfFunctions}
 
 pub appends_keeps : (a b c : Option (List ℕ)) (bytes : List ℕ) → Appends a b bytes → Keeps b c → Appends a c bytes
 appends_keeps None b c bytes h k = tt
 appends_keeps (Some us) None c bytes h k = absurd h
 appends_keeps (Some us) (Some vs) None bytes h k = absurd k
 appends_keeps (Some us) (Some vs) (Some ws) bytes h k = k ∙ h
-
--- the new module was written, and nothing behind it
-pub writes_mutated : (rules : List Rule) (only : Option ℕ) (count : ℕ) (bytes : List ℕ) (made : List MadeRewrite) (new written : List ℕ)
-    (a b c : Option (List ℕ)) → Mutates rules only count bytes made new → DoesAsBefore bytes new → written ≡ new → Appends a b written → Keeps b c →
-    WritesMutated rules only count bytes a c
-writes_mutated rules only count bytes made new written a b c mutates does is h k = record {
-  made = made;
-  module_bytes = new;
-  mutates = mutates;
-  does = does;
-  written = subst (λ (t : List ℕ). Appends a c t) is (appends_keeps a b c written h k);
-}
 
 -- what holds of the bytes that were read, to the end, holds of those that were there
 pub of_all : (P : List ℕ → Type 0) (old left : Option (List ℕ)) (text given : List ℕ) → Consumes old left text → IsAtEnd left → given ≡ text → P given →
@@ -38,3 +24,8 @@ of_all P (Some bytes) (Some (b ∷ bs)) text given c e is h = absurd (let none :
 pub err_map : {X E : Type 0} {P Q : E → Type 0} (r : Result X E) → ((e : E) → P e → Q e) → IfErr r P → IfErr r Q
 err_map (Ok x) f h = h
 err_map (Err e) f h = f e h
+
+-- the list was written, and nothing behind it
+pub list_kept : (Tells : Module → Layout → ℕ → List ℕ → Type 0) (only : Option ℕ) (bytes : List ℕ) (a b c : Option (List ℕ)) →
+    WritesOfFunctions Tells only bytes a b → Keeps b c → WritesOfFunctions Tells only bytes a c
+list_kept Tells only bytes a b c h k = record { text = h.text; of = h.of; written = appends_keeps a b c h.text h.written k }

@@ -12,6 +12,8 @@ use Rattle.peephole_modules.specs.Mutated.{CannotMutate, IsChosen}
 use Rattle.peephole_modules.specs.declared.mutation.MutationError.TheVariants.{Read}
 use Rattle.peephole_modules.specs.Mutates.{RefusesMutations}
 use Rattle.peephole_module_commands.specs.declared.failure.Failure.{Failure}
+use Rattle.peephole_module_commands.specs.declared.options.Task.{Task}
+use Rattle.peephole_module_commands.specs.declared.options.Task.TheVariants.{Rewrite}
 use Rattle.peephole_module_commands.specs.declared.failure.Failure.TheVariants.{Nothing, Unreadable, NoFunction, UnknownImport, Refused, Input, TooLong, Output, Memory}
 
 -- the module can't be read: it is refused
@@ -24,6 +26,11 @@ abbrev pub FailsToReport : Failure → Type 0
 FailsToReport Output = Unit {0}
 FailsToReport Memory = Unit {0}
 FailsToReport e = ⊥
+
+-- the module isn't reported on: as it is refused, or as reporting fails
+abbrev pub FailsToInform : (bytes : List ℕ) → Failure → Type 0
+FailsToInform bytes (Refused e) = FailsToRead bytes (Refused e)
+FailsToInform bytes e = FailsToReport e
 
 -- the input isn't read, whose bytes may be known: the reader fails, they are more than 1 GiB, or no memory is left
 abbrev pub FailsToTake : (input : Option (List ℕ)) → Failure → Type 0
@@ -96,3 +103,21 @@ FailsToRewrite rules only count bytes Input = Unit {0}
 FailsToRewrite rules only count bytes TooLong = 1073741824 < length bytes
 FailsToRewrite rules only count bytes Output = Unit {0}
 FailsToRewrite rules only count bytes Memory = Unit {0}
+
+-- ---- a list that isn't written
+
+-- No list is written: no function is looked at, the module can't be read, or as reading the input or writing fails.
+abbrev pub FailsToList : (only : Option ℕ) → (bytes : List ℕ) → Failure → Type 0
+FailsToList only bytes (NoFunction function) = RefusesIndexOf only bytes (NoFunction function)
+FailsToList only bytes (UnknownImport e) = RefusesIndexOf only bytes (UnknownImport e)
+FailsToList only bytes (Refused e) = FailsToRead bytes (Refused e)
+FailsToList only bytes TooLong = 1073741824 < length bytes
+FailsToList only bytes Input = Unit {0}
+FailsToList only bytes Output = Unit {0}
+FailsToList only bytes Memory = Unit {0}
+FailsToList only bytes e = ⊥
+
+-- What a run was asked for isn't done.
+abbrev pub FailsToDo : Task → List Rule → (only : Option ℕ) → (count : ℕ) → (bytes : List ℕ) → Failure → Type 0
+FailsToDo Rewrite rules only count bytes e = FailsToRewrite rules only count bytes e
+FailsToDo task rules only count bytes e = FailsToList only bytes e

@@ -1,6 +1,9 @@
+pub mod Arguments
+pub mod Blocks
 pub mod Failures
 pub mod Lines
+pub mod Lists
+pub mod Options
+pub mod Reports
 pub mod Status
 pub mod Writes
-pub mod Arguments
-pub mod Options

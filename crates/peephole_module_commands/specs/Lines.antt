@@ -1,20 +1,18 @@
--- The lines that `--list` writes (this project).
-use Rattle.std.specs.Prelude.{◌≡◌, ◌↔◌, ℕ, zero, suc, ◌+◌, ◌^◌, ◌<◌, ◌≤◌, List, [], ◌∷◌, ◌++◌, length, codes, decimal, Option}
-use Rattle.std.specs.Io.KnownBytes.{Appends}
-use Rattle.wasm_code.specs.declared.operator.Operator.{Operator}
-use Rattle.mutate_base.specs.Module.{Module}
-use Rattle.mutate_base.specs.declared.types.PrimitiveTypeInfo.{PrimitiveTypeInfo}
-use Rattle.wasm_module.specs.Module.{Layout, IsModule}
-use Rattle.peephole_machine.specs.Values.{context_in}
+-- The lines that a run writes (this project).
+use Rattle.std.specs.Prelude.{ℕ, List, [], ◌∷◌, ◌++◌, codes, decimal, Option, Some, None}
+use Rattle.wasm_code.specs.Fault.{kind_name}
+use Rattle.wasm_sections.specs.Fault.{fault_name}
 use Rattle.peephole_rules.specs.Rule.{rule_name}
-use Rattle.peephole_rules.specs.declared.rule.Rule.{Rule}
-use Rattle.peephole_rewrites.specs.Rewriting.{AreTheRewrites}
 use Rattle.peephole_rewrites.specs.declared.rewrite.Rewrite.{Rewrite}
-use Rattle.peephole_modules.specs.Function.{IsFunction}
-use Rattle.peephole_modules.specs.Mutated.{IsChosen}
-use Rattle.peephole_module_commands.specs.Failures.{CanRead}
+use Rattle.peephole_modules.specs.declared.function.FunctionError.{FunctionError}
+use Rattle.peephole_modules.specs.declared.function.FunctionError.TheVariants.{Unknown, UnknownType, Locals, Body}
+use Rattle.peephole_module_commands.specs.declared.unfit.Unfit.{Unfit}
+use Rattle.peephole_module_commands.specs.declared.unfit.Unfit.TheVariants as unfit
+use Rattle.peephole_module_commands.specs.declared.unfit.UnfitOperator.{UnfitOperator}
+use Rattle.peephole_module_commands.specs.declared.blocks.BlockLine.{BlockLine}
 
--- a rewrite of the function with the index
+-- ---- a rewrite of the function with the index
+
 abbrev pub rewrite_line : (function : ℕ) → Rewrite → List ℕ
 rewrite_line function r =
     codes "function " ++ (decimal function ++ (codes " operator " ++ (decimal r.operator ++ (codes " rule " ++ (rule_name r.rule ++ codes "\n")))))
@@ -24,34 +22,55 @@ abbrev pub rewrite_lines : (function : ℕ) → List Rewrite → List ℕ
 rewrite_lines function [] = []
 rewrite_lines function (r ∷ rs) = rewrite_line function r ++ rewrite_lines function rs
 
--- The text has a line for each rewrite that there is by one of the rules of the function of the n-th code entry, and no other; none where that can't be
--- read. (An index has 64 bits.)
-pub record ListsFunction (rules : List Rule) (bytes : List ℕ) (info : Module) (layout : Layout) (n : ℕ) (text : List ℕ) : Type 0 where
-  pub list : List Rewrite
-  pub are : (locals : List PrimitiveTypeInfo) (expression : ℕ) (operators : List (Operator × ℕ)) →
-      IsFunction bytes info layout n locals expression operators → AreTheRewrites (context_in info locals) rules operators list
-  pub none : ¬ (CanRead bytes info layout n) → list ≡ []
-  pub lines : layout.imported_functions + n < 2 ^ 64 → text ≡ rewrite_lines (layout.imported_functions + n) list
+-- ---- a function that can't be read: "function" and its index, or "entry" and its number; its first fault, and where that is. Its entry starts at `start`.
 
--- The same of so many code entries from the one with the number `from` on, one behind another.
-abbrev pub ListsFunctions : List Rule → (bytes : List ℕ) → Module → Layout → (from count : ℕ) → (text : List ℕ) → Type 0
-ListsFunctions rules bytes info layout from zero text = text ≡ []
-ListsFunctions rules bytes info layout from (suc count) text =
-    (front : List ℕ) × (own : List ℕ) × (text ≡ front ++ own) × ListsFunctions rules bytes info layout from count front
-    × ListsFunction rules bytes info layout (from + count) own
+abbrev pub fault_text : FunctionError → List ℕ
+fault_text (Unknown e) = fault_name e.kind
+fault_text UnknownType = codes "UnknownType"
+fault_text (Locals e) = fault_name e.kind
+fault_text (Body e) = kind_name e.kind
 
--- The same of the functions that are looked at of the module with these bytes.
-pub record ListsModule (rules : List Rule) (only : Option ℕ) (bytes text : List ℕ) : Type 0 where
-  pub info : Module
-  pub layout : Layout
-  pub is : IsModule bytes info layout
-  pub from : ℕ
-  pub count : ℕ
-  pub chosen : (n : ℕ) → ((from ≤ n) × (n < from + count)) ↔ ((n < length layout.entries) × IsChosen only (layout.imported_functions + n))
-  pub lists : ListsFunctions rules bytes info layout from count text
+abbrev pub fault_offset : (start : ℕ) → FunctionError → ℕ
+fault_offset start (Unknown e) = e.offset
+fault_offset start UnknownType = start
+fault_offset start (Locals e) = e.offset
+fault_offset start (Body e) = e.offset
 
--- A device has grown by the lines of that list.
-pub record WritesList (rules : List Rule) (only : Option ℕ) (bytes : List ℕ) (old new : Option (List ℕ)) : Type 0 where
-  pub text : List ℕ
-  pub lists : ListsModule rules only bytes text
-  pub written : Appends old new text
+abbrev pub fault_line : (word : List ℕ) (number start : ℕ) → FunctionError → List ℕ
+fault_line word number start e =
+    word ++ (decimal number ++ (codes " " ++ (fault_text e ++ (codes " at " ++ (decimal (fault_offset start e) ++ codes "\n")))))
+
+-- ---- a block
+
+-- why no graph holds an operator
+abbrev pub unfit_text : Unfit → List ℕ
+unfit_text unfit.CallIndirect = codes "call_indirect"
+unfit_text (unfit.TypedSelect count) = codes "select of " ++ (decimal count ++ codes " types")
+unfit_text unfit.SeveralResults = codes "call of a function with several results"
+unfit_text (unfit.UnknownFunction function) = codes "call of the unknown function " ++ decimal function
+unfit_text unfit.Other = codes "no instruction"
+
+-- the place of such an operator
+abbrev pub place_part : (operator : ℕ) → List ℕ
+place_part operator = codes ", no graph: operator " ++ (decimal operator ++ codes " ")
+
+-- the first operator of a block that no graph holds, where there is one
+abbrev pub unfit_part : Option UnfitOperator → List ℕ
+unfit_part None = []
+unfit_part (Some u) = place_part u.operator ++ unfit_text u.reason
+
+abbrev pub range_part : (function start end : ℕ) → List ℕ
+range_part function start end = codes "function " ++ (decimal function ++ (codes " block " ++ (decimal start ++ (codes ".." ++ decimal end))))
+
+abbrev pub block_line : BlockLine → List ℕ
+block_line l = (range_part l.function l.start l.end ++ unfit_part l.unfit) ++ codes "\n"
+
+-- ---- what is counted
+
+-- the module's own functions, and those of them that can't be read
+abbrev pub functions_line : (count unreadable : ℕ) → List ℕ
+functions_line count unreadable = codes "functions " ++ (decimal count ++ (codes " unreadable " ++ (decimal unreadable ++ codes "\n")))
+
+-- the bytes of the module, and of the new one
+abbrev pub sizes_line : (before behind : ℕ) → List ℕ
+sizes_line before behind = codes "bytes " ++ (decimal before ++ (codes " new " ++ (decimal behind ++ codes "\n")))

@@ -2,7 +2,6 @@
 ghost use Rattle.std.specs.Prelude.{◌≡◌};
 ghost use Rattle.peephole_module_commands.specs.Status.{status_of};
 
-use mutate_base::Error;
 use peephole_modules::MutationError;
 use std::alloc::AllocError;
 use std::io;
@@ -75,11 +74,5 @@ impl From<io::Error> for Failure {
 
     fn from(_error: io::Error) -> Failure {
         Failure::Output
-    }
-}
-
-impl From<Error> for Failure {
-    fn from(error: Error) -> Failure {
-        Failure::Refused(MutationError::Rewrite(error))
     }
 }

@@ -7,7 +7,7 @@ ghost use Rattle.wasm_module.specs.Module.{IsModule};
 
 use crate::failure::Failure;
 use mutate_base::ModuleInfo;
-use peephole_modules::{FunctionError, MutationError, read_function};
+use peephole_modules::{MutationError, read_function};
 use std::alloc::Global;
 use std::ops::Range;
 use wasm_module::{Layout, Module, read_module};
@@ -85,15 +85,4 @@ pub fn can_read_any(
         }
     }
     Ok(false)
-}
-
-/// Why a function can't be read: the name of the first fault, and its offset in the module. `start` is where the function's code
-/// entry starts.
-pub fn fault_of(error: &FunctionError, start: usize) -> (&'static str, usize) {
-    match error {
-        FunctionError::Unknown(e) => (e.kind.name(), e.offset),
-        FunctionError::UnknownType => ("UnknownType", start),
-        FunctionError::Locals(e) => (e.kind.name(), e.offset),
-        FunctionError::Body(e) => (e.name(), e.offset),
-    }
 }

@@ -4,6 +4,7 @@
 mod arguments;
 mod blocks;
 mod failure;
+mod faults;
 mod functions;
 mod input;
 mod listing;
@@ -11,6 +12,7 @@ mod mutating;
 mod options;
 mod running;
 mod stats;
+mod unfit;
 mod words;
 
 pub use failure::Failure;

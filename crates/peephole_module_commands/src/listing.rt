@@ -1,7 +1,9 @@
 //! The rewrites that there are of a module.
 ghost use Rattle.std.specs.Prelude.{◌≡◌, ◌<◌, ℕ, List, length, IfErr, OnOk};
 ghost use Rattle.std.specs.Io.KnownBytes.{Appends};
-ghost use Rattle.peephole_module_commands.specs.Lines.{ListsFunction, WritesList, rewrite_line, rewrite_lines};
+ghost use Rattle.peephole_module_commands.specs.Failures.{FailsToList, FailsToReport};
+ghost use Rattle.peephole_module_commands.specs.Lines.{rewrite_line, rewrite_lines};
+ghost use Rattle.peephole_module_commands.specs.Lists.{ListsFunction, WritesList};
 ghost use Rattle.peephole_module_commands.specs.declared.failure.Failure.TheVariants.{Output};
 ghost use Rattle.wasm_module.specs.Module.{IsModule};
 
@@ -40,8 +42,9 @@ fn write_rewrites<W: Write>(
     function: usize,
     rewrites: &[Rewrite],
 ) -> Result<(), Failure>
-    ensures { OnOk result (Appends (W.contents output.old) (W.contents output.new)
+    ensures lines { OnOk result (Appends (W.contents output.old) (W.contents output.new)
         (rewrite_lines function rewrites.now)) }
+    ensures fails { IfErr result (λ e. e ≡ Output) }
 {
     for rewrite in rewrites {
         write_rewrite(output, function, rewrite)?;
@@ -61,9 +64,10 @@ fn list_function<W: Write>(
 ) -> Result<(), Failure>
     requires module { IsModule bytes.now info.now layout.now }
     requires inside { n < length layout.now.entries }
-    ensures { OnOk result ((text : List ℕ)
+    ensures lines { OnOk result ((text : List ℕ)
         × Appends (W.contents output.old) (W.contents output.new) text
         × ListsFunction rules.now bytes.now info.now layout.now n text) }
+    ensures fails { IfErr result FailsToReport }
 {
     let function = match read_function(alloc, bytes, info, layout, n) {
         Ok(function) => function,
@@ -74,7 +78,10 @@ fn list_function<W: Write>(
             return Ok(());
         }
     };
-    let rewrites = rewrites_of_body(alloc, &function.locals, info, rules, &function.operators)?;
+    let Ok(rewrites) = rewrites_of_body(alloc, &function.locals, info, rules, &function.operators)
+    else {
+        return Err(Failure::Memory);
+    };
     write_rewrites(output, index_of(layout, n), &rewrites)
 }
 
@@ -82,6 +89,7 @@ fn list_function<W: Write>(
 /// the function with that index alone.
 ///
 /// Fails as the module can't be read, and as `chosen_entries` finds no such function.
+#[tactic(auto, using(crate::proofs::FaultsLemmas::read_fails, crate::proofs::FaultsLemmas::index_fails, crate::proofs::FaultsLemmas::report_fails))]
 pub fn list_rewrites<W: Write>(
     alloc: Global,
     bytes: &[u8],
@@ -89,8 +97,9 @@ pub fn list_rewrites<W: Write>(
     only: Option<usize>,
     output: &mut W,
 ) -> Result<(), Failure>
-    ensures { OnOk result (WritesList rules.now only bytes.now (W.contents output.old)
+    ensures lines { OnOk result (WritesList rules.now only bytes.now (W.contents output.old)
         (W.contents output.new)) }
+    ensures fails { IfErr result (FailsToList only bytes.now) }
 {
     let module = module_of(alloc, bytes)?;
     let layout = module.layout;

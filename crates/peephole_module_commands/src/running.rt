@@ -1,8 +1,13 @@
 //! A run: a module in, and out goes what the options ask for.
-ghost use Rattle.std.specs.Prelude.{◌≡◌, ◌≢◌, OnOk, IfErr, IfSome};
-ghost use Rattle.peephole_module_commands.specs.Failures.{FailsToRewrite};
+ghost use Rattle.std.specs.Prelude.{◌≡◌, ◌≢◌, false, OnOk, IfOk, IfErr, IfSome, IsTrue};
+ghost use Rattle.std.specs.Io.KnownBytes.{Appends};
+ghost use Rattle.peephole_modules.specs.DoesAsBefore.{DoesAsBefore};
+ghost use Rattle.peephole_modules.specs.Mutates.{Mutates};
+ghost use Rattle.peephole_module_commands.specs.Blocks.{WritesBlocks};
+ghost use Rattle.peephole_module_commands.specs.Failures.{FailsToDo, FailsToInform, FailsToRewrite};
 ghost use Rattle.peephole_module_commands.specs.declared.failure.Failure.TheVariants.{Output};
-ghost use Rattle.peephole_module_commands.specs.Lines.{WritesList};
+ghost use Rattle.peephole_module_commands.specs.Lists.{WritesList};
+ghost use Rattle.peephole_module_commands.specs.Reports.{ReportsModule, ReportsMutated};
 ghost use Rattle.peephole_module_commands.specs.Writes.{WritesMutated};
 
 use crate::blocks::list_blocks;
@@ -13,8 +18,42 @@ use crate::listing::list_rewrites;
 use crate::mutating::rewritten;
 use crate::options::{Options, Task};
 use crate::stats::{report_functions, report_rewrites};
+use peephole_modules::RewrittenModule;
 use std::alloc::Global;
 use std::io::{Read, Write};
+
+// Reports on the functions of the module.
+fn report_module<E: Write>(alloc: Global, bytes: &[u8], notes: &mut E) -> Result<(), Failure>
+    ensures reports { OnOk result (ReportsModule bytes.now (E.contents notes.old)
+        (E.contents notes.new)) }
+    ensures fails { IfErr result (FailsToInform bytes.now) }
+{
+    let module = module_of(alloc, bytes)?;
+    report_functions(alloc, bytes, &module.info, &module.layout, notes)
+}
+
+// Writes the module rewritten, and answers it.
+fn write_rewritten<W: Write>(
+    alloc: Global,
+    options: &Options,
+    bytes: &[u8],
+    output: &mut W,
+) -> Result<RewrittenModule, Failure>
+    ensures mutated { IfOk result (λ m. Mutates options.now.rules.items options.now.function
+        options.now.count bytes.now m.made.items m.bytes.items) }
+    ensures does_as_before { IfOk result (λ m. DoesAsBefore bytes.now m.bytes.items) }
+    ensures written { IfOk result (λ m. Appends (W.contents output.old) (W.contents output.new)
+        m.bytes.items) }
+    ensures fails { IfErr result (FailsToRewrite options.now.rules.items options.now.function
+        options.now.count bytes.now) }
+    ensures kept { IfErr result (λ e. e ≢ Output
+        → W.contents output.new ≡ W.contents output.old) }
+{
+    let new = rewritten(alloc, bytes, options)?;
+    output.write_all(&new.bytes)?;
+    output.flush()?;
+    Ok(new)
+}
 
 // Writes the module rewritten. Where the options ask for that, reports on its functions first, so also where no rule applies, and
 // on the rewrites behind that.
@@ -27,22 +66,23 @@ fn rewrite<W: Write, E: Write>(
 ) -> Result<(), Failure>
     ensures written { OnOk result (WritesMutated options.now.rules.items options.now.function
         options.now.count bytes.now (W.contents output.old) (W.contents output.new)) }
+    ensures reported { IsTrue options.now.stats → OnOk result (ReportsMutated
+        options.now.rules.items options.now.function options.now.count bytes.now
+        (W.contents output.old) (W.contents output.new) (E.contents notes.old)
+        (E.contents notes.new)) }
+    ensures quiet { options.now.stats ≡ false → E.contents notes.new ≡ E.contents notes.old }
     ensures fails { IfErr result (FailsToRewrite options.now.rules.items options.now.function
         options.now.count bytes.now) }
     ensures kept { IfErr result (λ e. e ≢ Output
         → W.contents output.new ≡ W.contents output.old) }
 {
-    if options.stats {
-        let module = module_of(alloc, bytes)?;
-        report_functions(alloc, bytes, &module.info, &module.layout, notes)?;
+    if !options.stats {
+        write_rewritten(alloc, options, bytes, output)?;
+        return Ok(());
     }
-    let new = rewritten(alloc, bytes, options)?;
-    output.write_all(&new.bytes)?;
-    output.flush()?;
-    if options.stats {
-        report_rewrites(bytes, &new, notes)?;
-    }
-    Ok(())
+    report_module(alloc, bytes, notes)?;
+    let new = write_rewritten(alloc, options, bytes, output)?;
+    report_rewrites(bytes, &new, notes)
 }
 
 /// Reads all of the input, and does what the options ask for: what it writes goes to the output, and what it reports to the notes.
@@ -64,10 +104,20 @@ pub fn run<R: Read, W: Write, E: Write>(
     ensures listed { options.now.task ≡ Task.List → OnOk result
         (IfSome (R.remaining input.old) (λ bytes. WritesList options.now.rules.items
         options.now.function bytes (W.contents output.old) (W.contents output.new))) }
+    // The blocks have a line each, and what of them is the first that no graph holds, of the functions that are looked at.
+    ensures blocks { options.now.task ≡ Task.Blocks → OnOk result
+        (IfSome (R.remaining input.old) (λ bytes. WritesBlocks
+        options.now.function bytes (W.contents output.old) (W.contents output.new))) }
+    // Where the options ask for it, the notes tell of functions and rewrites; else they stay as they are.
+    ensures reported { options.now.task ≡ Task.Rewrite → IsTrue options.now.stats → OnOk result
+        (IfSome (R.remaining input.old) (λ bytes. ReportsMutated options.now.rules.items
+        options.now.function options.now.count bytes (W.contents output.old)
+        (W.contents output.new) (E.contents notes.old) (E.contents notes.new))) }
+    ensures quiet { options.now.stats ≡ false → E.contents notes.new ≡ E.contents notes.old }
     // Why it fails: with `Nothing`, only where no rule applies in a function that can be read; with `Unreadable`, only where none can.
-    ensures fails { options.now.task ≡ Task.Rewrite → IfErr result (λ e.
-        IfSome (R.remaining input.old) (λ bytes. FailsToRewrite options.now.rules.items
-        options.now.function options.now.count bytes e)) }
+    ensures fails { IfErr result (λ e. IfSome (R.remaining input.old) (λ bytes. FailsToDo
+        options.now.task options.now.rules.items options.now.function options.now.count
+        bytes e)) }
     // Nothing is written then, unless the output, or the notes, can't be written.
     ensures kept { options.now.task ≡ Task.Rewrite → IfErr result (λ e. e ≢ Output
         → W.contents output.new ≡ W.contents output.old) }

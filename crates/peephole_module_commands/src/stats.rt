@@ -1,19 +1,22 @@
 //! What a run reports of a module and its rewrites.
-ghost use Rattle.std.specs.Prelude.{◌≡◌, ◌<◌, length, IfErr};
+ghost use Rattle.std.specs.Prelude.{◌≡◌, ◌<◌, ◌≤◌, ℕ, List, length, IfOk, IfErr, OnOk};
+ghost use Rattle.std.specs.Io.KnownBytes.{Appends};
 ghost use Rattle.peephole_module_commands.specs.Failures.{FailsToReport};
+ghost use Rattle.peephole_module_commands.specs.Lines.{functions_line, sizes_line};
+ghost use Rattle.peephole_module_commands.specs.Reports.{ReportsFunctions, TellsIfUnread, made_lines, rewrites_report};
 ghost use Rattle.peephole_module_commands.specs.declared.failure.Failure.TheVariants.{Output};
 ghost use Rattle.wasm_module.specs.Module.{IsModule};
 
-use crate::blocks::write_fault;
 use crate::failure::Failure;
+use crate::faults::write_fault;
 use crate::listing::write_rewrite;
 use mutate_base::ModuleInfo;
-use peephole_modules::{RewrittenModule, read_function};
+use peephole_modules::{MadeRewrite, RewrittenModule, read_function};
 use std::alloc::Global;
 use std::io::Write;
 use wasm_module::Layout;
 
-// Writes the line of the n-th of the module's own functions, where that can't be read; answers whether it can't.
+// Writes the line of the n-th of the module's own functions, where that can't be read; answers 1 then, else 0.
 fn report_function<W: Write>(
     alloc: Global,
     bytes: &[u8],
@@ -21,21 +24,34 @@ fn report_function<W: Write>(
     layout: &Layout,
     n: usize,
     notes: &mut W,
-) -> Result<bool, Failure>
+) -> Result<usize, Failure>
     requires module { IsModule bytes.now info.now layout.now }
     requires inside { n < length layout.now.entries }
-    ensures { IfErr result FailsToReport }
+    ensures told { IfOk result (λ one. (text : List ℕ)
+        × Appends (W.contents notes.old) (W.contents notes.new) text
+        × TellsIfUnread bytes.now info.now layout.now n one text) }
+    ensures most { IfOk result (λ one. one ≤ 1) }
+    ensures fails { IfErr result FailsToReport }
 {
-    match read_function(alloc, bytes, info, layout, n) {
-        Ok(_) => Ok(false),
-        Err(e) => {
-            if e.is_memory() {
-                return Err(Failure::Memory);
-            }
-            write_fault(notes, layout, n, &e)?;
-            Ok(true)
-        }
+    let error = match read_function(alloc, bytes, info, layout, n) {
+        Ok(_) => return Ok(0),
+        Err(e) => e,
+    };
+    if error.is_memory() {
+        return Err(Failure::Memory);
     }
+    write_fault(notes, layout, n, &error)?;
+    Ok(1)
+}
+
+// Writes the line that counts functions.
+fn write_functions<W: Write>(notes: &mut W, count: usize, unreadable: usize) -> Result<(), Failure>
+    ensures line { OnOk result (Appends (W.contents notes.old) (W.contents notes.new)
+        (functions_line count unreadable)) }
+    ensures fails { IfErr result (λ e. e ≡ Output) }
+{
+    writeln!(notes, "functions {count} unreadable {unreadable}")?;
+    Ok(())
 }
 
 /// Reports on the functions of a module: a line for each that can't be read, with its first fault and where that is, and how many
@@ -48,16 +64,37 @@ pub fn report_functions<W: Write>(
     notes: &mut W,
 ) -> Result<(), Failure>
     requires { IsModule bytes.now info.now layout.now }
-    ensures { IfErr result FailsToReport }
+    ensures reports { OnOk result (ReportsFunctions bytes.now info.now layout.now
+        (W.contents notes.old) (W.contents notes.new)) }
+    ensures fails { IfErr result FailsToReport }
 {
     let count = layout.entries.len();
     let mut unreadable = 0usize;
     for n in 0..count {
-        if report_function(alloc, bytes, info, layout, n, notes)? {
-            unreadable += 1;
-        }
+        unreadable += report_function(alloc, bytes, info, layout, n, notes)?;
     }
-    writeln!(notes, "functions {count} unreadable {unreadable}")?;
+    write_functions(notes, count, unreadable)
+}
+
+// Writes the lines of the rewrites that were made.
+fn write_made<W: Write>(notes: &mut W, made: &[MadeRewrite]) -> Result<(), Failure>
+    ensures lines { OnOk result (Appends (W.contents notes.old) (W.contents notes.new)
+        (made_lines made.now)) }
+    ensures fails { IfErr result (λ e. e ≡ Output) }
+{
+    for one in made {
+        write_rewrite(notes, one.function, &one.rewrite)?;
+    }
+    Ok(())
+}
+
+// Writes the line of the sizes.
+fn write_sizes<W: Write>(notes: &mut W, before: usize, behind: usize) -> Result<(), Failure>
+    ensures line { OnOk result (Appends (W.contents notes.old) (W.contents notes.new)
+        (sizes_line before behind)) }
+    ensures fails { IfErr result (λ e. e ≡ Output) }
+{
+    writeln!(notes, "bytes {before} new {behind}")?;
     Ok(())
 }
 
@@ -67,13 +104,10 @@ pub fn report_rewrites<W: Write>(
     new: &RewrittenModule,
     notes: &mut W,
 ) -> Result<(), Failure>
-    ensures { IfErr result (λ e. e ≡ Output) }
+    ensures reports { OnOk result (Appends (W.contents notes.old) (W.contents notes.new)
+        (rewrites_report bytes.now new.now.made.items new.now.bytes.items)) }
+    ensures fails { IfErr result (λ e. e ≡ Output) }
 {
-    for made in &new.made {
-        write_rewrite(notes, made.function, &made.rewrite)?;
-    }
-    let before = bytes.len();
-    let behind = new.bytes.len();
-    writeln!(notes, "bytes {before} new {behind}")?;
-    Ok(())
+    write_made(notes, &new.made)?;
+    write_sizes(notes, bytes.len(), new.bytes.len())
 }

@@ -1,11 +1,12 @@
 -- The lines of a function, or none where it can't be read.
 use Rattle.std.proofs.Common.{[], ap}
 use Rattle.peephole_module_commands.specs.Lines.{rewrite_lines}
-use Rattle.peephole_module_commands.proofs.ListingLemmas.{appends_nothing, lists_function, lists_nothing, ok_map}
+use Rattle.peephole_module_commands.proofs.ListingLemmas.{lists_function, lists_nothing}
+use Rattle.peephole_module_commands.proofs.TurnLemmas.{appends_nothing, ok_map}
 use Rattle.peephole_module_commands.proofs.listing.list_function.Goals as goal
 
-pub returns-in-Err : goal.returns-in-Err
-returns-in-Err g c = (
+pub returns-in-Err-clause-lines : goal.returns-in-Err-clause-lines
+returns-in-Err-clause-lines g c = (
   [],
   appends_nothing (g.W.Write.contents c.args.output.now),
   lists_nothing c.args.rules.now c.args.bytes.now c.args.info.now c.args.layout.now c.args.n (λ l x o f.
@@ -14,14 +15,14 @@ returns-in-Err g c = (
       absurd cc),
 )
 
-pub returns : goal.returns
-returns g c =
+pub returns-clause-lines : goal.returns-clause-lines
+returns-clause-lines g c =
     let lines = rewrite_lines c.index_of.result c.deref-3.result.now in
     ok_map c.write_rewrites.result (λ h. (
       lines,
       h,
       lists_function c.args.rules.now c.args.bytes.now c.args.info.now c.args.layout.now c.args.n c.in-Ok.function.locals.items c.deref.result.now
-          c.in-Ok.function.expression c.in-Ok.function.operators.items c.deref-2.result.now c.in_ok-rewrites.rewrites.items c.index_of.result lines
-          c.deref.ensures.value c.deref-2.ensures.value c.in-Ok.ensures.read c.in-Ok.ensures.only c.in_ok-rewrites.ensures.rewrites
+          c.in-Ok.function.expression c.in-Ok.function.operators.items c.deref-2.result.now c.in-Ok-rewrites_of_body.rewrites.items c.index_of.result lines
+          c.deref.ensures.value c.deref-2.ensures.value c.in-Ok.ensures.read c.in-Ok.ensures.only c.in-Ok-rewrites_of_body.ensures.rewrites
           c.index_of.ensures (ap (rewrite_lines c.index_of.result) c.deref-3.ensures.value),
-    )) c.write_rewrites.ensures
+    )) c.write_rewrites.ensures.lines

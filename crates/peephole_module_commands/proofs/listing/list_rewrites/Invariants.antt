@@ -1,9 +1,9 @@
 use Rattle.std.proofs.Common.{ℕ, ◌-◌, List}
 use Rattle.std.specs.Io.KnownBytes.{Appends}
-use Rattle.peephole_module_commands.specs.Lines.{ListsFunctions}
+use Rattle.peephole_module_commands.specs.Lists.{InTurn, ListsFunction}
 use Rattle.peephole_module_commands.proofs.listing.list_rewrites.Given as goal
 
 abbrev pub invariant-loop-n : goal.invariant-loop-n
 invariant-loop-n g l =
     (text : List ℕ) × Appends (g.W.Write.contents l.initial.output) (g.W.Write.contents l.output) text
-    × ListsFunctions l.rules l.bytes l.module.info l.module.layout l.from (l.n - l.from) text
+    × InTurn (ListsFunction l.rules l.bytes l.module.info l.module.layout) l.from (l.n - l.from) text

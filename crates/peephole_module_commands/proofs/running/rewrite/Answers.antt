@@ -1,11 +1,18 @@
--- What was written is the new module.
-use Rattle.peephole_module_commands.proofs.WritesLemmas.{writes_mutated}
+-- What was reported is of the module that was written.
+use Rattle.peephole_module_commands.proofs.TurnLemmas.{ok_map}
 use Rattle.peephole_module_commands.proofs.running.rewrite.Goals as goal
 
-pub returns-clause-written : goal.returns-clause-written
-returns-clause-written g c =
-    writes_mutated c.args.options.now.rules.items c.args.options.now.function c.args.options.now.count c.args.bytes.now
-    c.in_ok-new.new.made.items c.in_ok-new.new.bytes.items c.deref.result.now (g.W.Write.contents c.args.output.now)
-    (g.W.Write.contents c.write_all.new.self) (g.W.Write.contents c.flush.new.self) c.in_ok-new.ensures.mutated c.in_ok-new.ensures.does_as_before
-    c.deref.ensures.value
-    c.in_ok-write_all.ensures.bytes c.in_ok-flush.ensures.bytes
+pub returns-clause-reported : goal.returns-clause-reported
+returns-clause-reported g c asked =
+    ok_map c.report_rewrites.result (λ h. record {
+      writes = record {
+        made = c.in_ok-new.new.made.items;
+        module_bytes = c.in_ok-new.new.bytes.items;
+        mutates = c.in_ok-new.ensures.mutated;
+        does = c.in_ok-new.ensures.does_as_before;
+        written = c.in_ok-new.ensures.written;
+      };
+      between = g.E.Write.contents c.report_module.new.notes;
+      functions = c.in_ok-report_module.ensures.reports;
+      rewrites = h;
+    }) c.report_rewrites.ensures.reports

@@ -1,6 +1,10 @@
--- At most as many functions can't be read as were looked at.
-use Rattle.std.proofs.Common.{◌≤◌}
+-- What was told of the functions so far, of which at most as many can't be read.
+use Rattle.std.proofs.Common.{◌≤◌, ℕ, List}
+use Rattle.std.specs.Io.KnownBytes.{Appends}
+use Rattle.peephole_module_commands.specs.Reports.{TellsUnreadable}
 use Rattle.peephole_module_commands.proofs.stats.report_functions.Given as goal
 
 abbrev pub invariant-loop-n : goal.invariant-loop-n
-invariant-loop-n g l = l.unreadable ≤ l.n
+invariant-loop-n g l =
+    (l.unreadable ≤ l.n) × (text : List ℕ) × Appends (g.W.Write.contents l.initial.notes) (g.W.Write.contents l.notes) text
+    × TellsUnreadable l.bytes l.info l.layout l.n l.unreadable text
