@@ -1,25 +1,30 @@
 -- Words that name a code entry.
-use Rattle.std.proofs.Common.{◌≡◌, ℕ, ◌+◌, ◌-◌, ◌*◌, ◌%◌, ◌^◌, ◌<◌, ◌≤◌, List, [], ◌∷◌, length, take, drop, Some, ap, subst, sym, ◌∙◌, arith}
+use Rattle.std.proofs.Common.{◌≡◌, inl, inr, ℕ, zero, suc, ◌+◌, ◌-◌, ◌*◌, ◌%◌, ◌^◌, ◌<◌, ◌≤◌, List, [], ◌∷◌, length, take, drop, Some, ap, ap₂, subst, sym, ◌∙◌, arith}
 use Rattle.std.specs.Prelude.{IsTrue, slice_get, slice_range}
 use Rattle.std.specs.List.{sum_by}
+use Rattle.std.proofs.lemmas.Bool.{cases_eq, cases_lt}
 use Rattle.std.proofs.lemmas.List.{length-append, length-take}
-use Rattle.std.proofs.lemmas.List.Sums.{sum_by_more, sum_by-take-le}
+use Rattle.std.proofs.lemmas.List.Sums.{sum_by-cons, sum_by_more, sum_by-take-le}
 use Rattle.std.proofs.lemmas.Nat.{mod-mul-add}
-use Rattle.std.proofs.lemmas.Option.{get_or_from_slice_get, slice_get_within}
+use Rattle.std.proofs.lemmas.Option.{get_or_from_slice_get, same_Some, slice_get_within}
 use Rattle.rand_core.specs.Stream.{Stream, next_u64}
-use Rattle.wasm_code.specs.Body.{SpellsBody, ends}
+use Rattle.wasm_code.specs.Body.{SpellsAll, SpellsBody, ends}
 use Rattle.wasm_code.specs.Operator.{Spells}
 use Rattle.wasm_code.specs.declared.operator.Operator.{Operator}
 use Rattle.mutate_base.specs.Module.{Module}
 use Rattle.mutate_base.specs.declared.types.PrimitiveTypeInfo.{PrimitiveTypeInfo}
 use Rattle.wasm_declarations.specs.declared.entries.Entry.{Entry}
+use Rattle.wasm_declarations.specs.Locals.{SpellsLocals}
 use Rattle.wasm_module.specs.Module.{Layout}
+use Rattle.peephole_terms.specs.Expansion.{Setting}
 use Rattle.peephole_rules.specs.declared.rule.Rule.{Rule}
+use Rattle.peephole_rewrites.specs.Choice.{Chooses, after_word}
 use Rattle.peephole_rewrites.specs.HasWords.{BeginsWith, HasWords}
 use Rattle.peephole_rewrites.specs.declared.rewrite.Rewrite.{Rewrite}
 use Rattle.peephole_modules.specs.Drawing.{ContainsByte, NamesEntry, contents_length}
-use Rattle.peephole_modules.specs.EntryWords.{HasEntryWords}
+use Rattle.peephole_modules.specs.EntryWords.{DrawsRewrite, HasEntryWords}
 use Rattle.peephole_modules.specs.Function.{IsFunction}
+use Rattle.peephole_modules.proofs.DoesAsBeforeLemmas.{OneReading}
 
 -- an operator takes a byte or more
 some_byte : (text : List ℕ) (x : Operator) → Spells text x → 0 < length text
@@ -103,3 +108,62 @@ module _ (rules : List Rule) (bytes : List ℕ) (info : Module) (layout : Layout
           chooses = w.choose (next_u64 stream).1 begins.1;
         };
       }
+
+-- ---- one rewrite at most
+
+-- more entries contain no fewer bytes
+contain_more : (entries : List Entry) (i j : ℕ) → i ≤ j → sum_by contents_length (take i entries) ≤ sum_by contents_length (take j entries)
+contain_more entries zero j less = omega arith
+contain_more entries (suc i) zero less = absurd (omega (arith, less))
+contain_more [] (suc i) (suc j) less = omega arith
+contain_more (x ∷ entries) (suc i) (suc j) less =
+    let rest = contain_more entries i j (omega (arith, less)) in
+    let one = sum_by-cons contents_length x (take i entries) in
+    let two = sum_by-cons contents_length x (take j entries) in
+    omega (arith, rest, one, two)
+
+-- a byte is one entry's
+pub named_one : (entries : List Entry) (n m byte : ℕ) → ContainsByte entries n byte → ContainsByte entries m byte → n ≡ m
+named_one entries n m byte a b = elim (cases_lt n m) [
+  | inl less ↦ let most = contain_more entries (n + 1) m (omega (arith, less)) in
+      let from = b.from in
+      let to = a.to in
+      absurd (omega (arith, most, from, to))
+  | inr no_less ↦ elim (cases_eq n m) [
+    | inl same ↦ same
+    | inr other ↦ let most = contain_more entries (m + 1) n (omega (arith, no_less, other)) in
+        let from = a.from in
+        let to = b.to in
+        absurd (omega (arith, most, from, to))
+  ]
+]
+
+-- an entry is one function's
+pub same_function : OneReading → (bytes : List ℕ) (info : Module) (layout : Layout) (n : ℕ) (locals types : List PrimitiveTypeInfo) (expression place : ℕ)
+    (operators located : List (Operator × ℕ)) → IsFunction bytes info layout n locals expression operators →
+    IsFunction bytes info layout n types place located → (locals ≡ types) × (operators ≡ located)
+same_function one bytes info layout n locals types expression place operators located f g =
+    let entry : g.entry ≡ f.entry = same_Some _ _ (sym g.is.at ∙ f.is.at) in
+    let params : g.params ≡ f.params = same_Some _ _ (sym g.is.parameters ∙ f.is.parameters) in
+    let there : SpellsLocals f.params f.entry.contents (slice_range bytes f.entry.contents f.entry.end) types place =
+    subst (λ (p : Entry × List PrimitiveTypeInfo). SpellsLocals p.1 p.0.contents (slice_range bytes p.0.contents p.0.end) types place)
+    (ap₂ (λ (e : Entry) (ps : List PrimitiveTypeInfo). (e, ps)) entry params) g.locals_are in
+    let (same, at) = one.locals f.params f.entry.contents (slice_range bytes f.entry.contents f.entry.end) locals types expression place f.locals_are there in
+    let all : SpellsAll located expression (slice_range bytes expression f.entry.end) =
+    subst (λ (p : ℕ × Entry). SpellsAll located p.0 (slice_range bytes p.0 p.1.end)) (ap₂ (λ (k : ℕ) (e : Entry). (k, e)) (sym at) entry) g.body.all in
+    (same, one.operators operators located expression (slice_range bytes expression f.entry.end) f.body.all all)
+
+pub draws_one : OneReading → ((locals : List PrimitiveTypeInfo) (s : Setting) (rules : List Rule) (operators : List (Operator × ℕ)) (r q : Rewrite) →
+    Chooses locals s rules operators r → Chooses locals s rules operators q → r ≡ q) → (rules : List Rule) (bytes : List ℕ) (layout : Layout)
+    (s : Setting) (n m : ℕ) (r q : Rewrite) → 0 < sum_by contents_length layout.entries → sum_by contents_length layout.entries < 2 ^ 64 →
+    DrawsRewrite rules bytes layout s n r → DrawsRewrite rules bytes layout s m q → (n ≡ m) × (r ≡ q)
+draws_one one law rules bytes layout s n m r q some few a b =
+    let same : n ≡ m = named_one layout.entries n m ((next_u64 s.stream).0 % sum_by contents_length layout.entries) (a.names.contains some few)
+    (b.names.contains some few) in
+    let there : IsFunction bytes s.info layout n b.locals b.expression b.operators =
+    subst (λ k. IsFunction bytes s.info layout k b.locals b.expression b.operators) (sym same) b.function in
+    let alike = same_function one bytes s.info layout n a.locals b.locals a.expression b.expression a.operators b.operators a.function there in
+    let chooses : Chooses a.locals (after_word s) rules a.operators q =
+    subst (λ (ts : List PrimitiveTypeInfo). Chooses ts (after_word s) rules a.operators q) (sym alike.0)
+    (subst (λ (os : List (Operator × ℕ)). Chooses b.locals (after_word s) rules os q) (sym alike.1) b.chooses) in
+    (same, law a.locals (after_word s) rules a.operators r q a.chooses chooses)

@@ -9,12 +9,13 @@ ghost use Rattle.wasm_sections.specs.declared.fault.ModuleFault.TheVariants.{Mem
 ghost use Rattle.wasm_module.specs.Fault.{IsModuleFault};
 ghost use Rattle.wasm_module.specs.Module.{Layout};
 ghost use Rattle.peephole_machine.specs.Values.{context_in};
+ghost use Rattle.peephole_terms.specs.Expansion.{Setting};
 ghost use Rattle.peephole_rules.specs.declared.rule.Rule.{Rule};
 ghost use Rattle.peephole_rewrites.specs.Rewriting.{IsMade};
 ghost use Rattle.peephole_rewrites.specs.declared.rewrite.Rewrite.{Rewrite};
 ghost use Rattle.peephole_modules.specs.DoesAsBefore.{DoesAsBefore};
 ghost use Rattle.peephole_modules.specs.Drawing.{contents_length};
-ghost use Rattle.peephole_modules.specs.EntryWords.{HasEntryWords};
+ghost use Rattle.peephole_modules.specs.EntryWords.{DrawsRewrite, HasEntryWords};
 ghost use Rattle.peephole_modules.specs.Function.{IsFunction};
 ghost use Rattle.peephole_modules.specs.Mutated.{IsMutated};
 ghost use Rattle.peephole_modules.specs.Mutates.{Mutates};
@@ -27,7 +28,7 @@ use peephole_programs::laws::{
     valid_modules_do_more,
 };
 use peephole_programs::validity::validity_goes_by_types;
-use peephole_rewrites::laws::each_rewrite_has_words;
+use peephole_rewrites::laws::{each_rewrite_has_words, words_choose_one_rewrite};
 use wasm_code::laws::one_list as one_list_of_operators;
 use wasm_declarations::laws::one_list;
 use wasm_module::laws::{modules_have_no_fault, one_reading};
@@ -73,4 +74,17 @@ pub fn each_rewrite_is_drawn()
         → ¬ (¬ (HasEntryWords rules bytes info layout n r)) }
 {
     each_rewrite_has_words();
+}
+
+/// A word names one code entry at most, and the words behind it choose one rewrite of its function at most, where the entries
+/// contain any byte, and fewer than 2^64.
+pub fn words_draw_one_rewrite()
+    ensures { (rules : List Rule) (bytes : List ℕ) (layout : Layout) (s : Setting) (n m : ℕ)
+        (r q : Rewrite) → 0 < sum_by contents_length layout.entries
+        → sum_by contents_length layout.entries < 2 ^ 64 → DrawsRewrite rules bytes layout s n r
+        → DrawsRewrite rules bytes layout s m q → (n ≡ m) × (r ≡ q) }
+{
+    one_list();
+    one_list_of_operators();
+    words_choose_one_rewrite();
 }

@@ -1,10 +1,11 @@
-use Rattle.std.proofs.Common.{◌≡◌, ◌+◌, ◌-◌, ap, refl, arith}
+use Rattle.std.proofs.Common.{◌≡◌, ◌+◌, ◌-◌, Some, ap, refl, arith}
 use Rattle.mutate_base.specs.Config.{info_of}
 use Rattle.wasm_module.specs.Module.{Layout}
 use Rattle.peephole_terms.specs.Expansion.{setting_of}
-use Rattle.peephole_modules.proofs.DrawnLemmas.{named_here}
+use Rattle.peephole_modules.specs.Chosen.{GivesUpAgain, GivesUpOn, Leads}
+use Rattle.peephole_modules.proofs.DrawnLemmas.{named_gives_up, named_here}
 use Rattle.peephole_modules.proofs.MutationLemmas.{none_map, some_map}
-use Rattle.peephole_modules.proofs.ModuleLemmas.{none_at}
+use Rattle.peephole_modules.proofs.ModuleLemmas.{err_of_size, none_at}
 use Rattle.peephole_modules.proofs.mutation.mutate_function.Goals as goal
 
 pub returns-clause-none : goal.returns-clause-none
@@ -22,3 +23,16 @@ returns-clause-chosen g c =
     some_map c.mutate_again.result (λ m h.
     named_here c.args.scope.now c.args.bytes.now c.args.layout.now (setting_of g.R.Rng.stream c.args.config.now)
     (setting_of g.R.Rng.stream c.mutate_again.new.config) n c.args.function m.function m.rewrite m.bytes.items named h) c.mutate_again.ensures.chosen
+
+pub returns-clause-gives_up : goal.returns-clause-gives_up
+returns-clause-gives_up g c =
+    let imported = ap (λ (l : Layout). l.imported_functions) c.layout.view_is in
+    let n = c.args.function - c.layout.inside.imported_functions in
+    let named : c.args.layout.now.imported_functions + n ≡ c.args.function = omega (arith, imported) in
+    err_of_size c.mutate_again.result
+    (Leads (setting_of g.R.Rng.stream c.args.config.now) (setting_of g.R.Rng.stream c.mutate_again.new.config)
+    (λ s t. GivesUpAgain c.args.scope.now c.args.bytes.now c.args.layout.now n s t))
+    (Leads (setting_of g.R.Rng.stream c.args.config.now) (setting_of g.R.Rng.stream c.mutate_again.new.config)
+    (λ s t. GivesUpOn c.args.scope.now c.args.bytes.now c.args.layout.now (Some c.args.function) s t))
+    (named_gives_up c.args.scope.now c.args.bytes.now c.args.layout.now (setting_of g.R.Rng.stream c.args.config.now)
+    (setting_of g.R.Rng.stream c.mutate_again.new.config) n c.args.function named) c.mutate_again.ensures.gives_up
