@@ -41,7 +41,8 @@ const DRAWS: &str = "
 fn turns_operands(rt: HostRuntime) -> Result<(), Fail> {
     let alloc = rt.alloc();
     let rules = [Rule::Commute];
-    let once = mutate_with_seed(alloc, &SUM, 0, &any(&rules, 32), 1)?.ok_or("a rewrite")?;
+    let scope = any(&rules, 32);
+    let once = mutate_with_seed(alloc, &SUM, 0, &scope, 1)?.ok_or("a rewrite")?;
     assert_eq!(rt; once.bytes.as_slice(), TURNED.as_slice());
     let named = Scope {
         rules: &rules,
@@ -52,7 +53,8 @@ fn turns_operands(rt: HostRuntime) -> Result<(), Fail> {
     assert_eq!(rt; thrice.bytes.as_slice(), TURNED.as_slice());
     assert_eq!(rt; thrice.made.len(), 3);
     assert!(rt; thrice.stopped.is_none());
-    let none = mutate_with_seed(alloc, &SUM, 0, &any(&[Rule::Fold], 32), 3)?;
+    let folding = [Rule::Fold];
+    let none = mutate_with_seed(alloc, &SUM, 0, &any(&folding, 32), 3)?;
     assert!(rt; none.is_none());
     Ok(())
 }
@@ -61,9 +63,9 @@ fn turns_operands(rt: HostRuntime) -> Result<(), Fail> {
 #[test]
 fn rewrites_twice(rt: HostRuntime) -> Result<(), Fail> {
     let alloc = rt.alloc();
+    let all = any(&RULES, usize::MAX);
     for seed in 0..4u64 {
         let mut generator = StdRng::seed_from_u64(seed);
-        let all = any(&RULES, usize::MAX);
         let once = mutate_times(alloc, &SUM, &mut generator, &all, 1)?;
         let once = once.ok_or("a rewrite")?;
         let again = mutate_times(alloc, &once.bytes, &mut generator, &all, 1)?;
@@ -79,6 +81,8 @@ fn rewrites_twice(rt: HostRuntime) -> Result<(), Fail> {
 #[test]
 fn draws_functions_by_their_sizes(rt: HostRuntime) -> Result<(), Fail> {
     let alloc = rt.alloc();
+    let rules = [Rule::Commute];
+    let scope = any(&rules, 1000);
     for case in DRAWS.trim().lines() {
         let (words, function) = case.split_once('|').ok_or("no function")?;
         let mut list = Vec::new(alloc);
@@ -87,7 +91,7 @@ fn draws_functions_by_their_sizes(rt: HostRuntime) -> Result<(), Fail> {
         }
         let function = function.trim().parse::<usize>()?;
         let generator = Words::new(list);
-        let new = mutate_times(alloc, THREE, generator, &any(&[Rule::Commute], 1000), 1)?;
+        let new = mutate_times(alloc, THREE, generator, &scope, 1)?;
         let new = new.ok_or("a rewrite")?;
         let made = new.made.first().ok_or("no rewrite")?;
         assert!(rt; made.function == function, "{case}");
@@ -95,7 +99,8 @@ fn draws_functions_by_their_sizes(rt: HostRuntime) -> Result<(), Fail> {
     Ok(())
 }
 
-/// The words choose a sum with zero, of three bytes more: where the module may not have as many, those behind them turn the operands.
+/// The words choose a sum with zero, of three bytes more: where the module may not have as many, those behind them turn the
+/// operands.
 #[test]
 fn draws_another_that_fits(rt: HostRuntime) -> Result<(), Fail> {
     let alloc = rt.alloc();
@@ -115,7 +120,8 @@ fn draws_another_that_fits(rt: HostRuntime) -> Result<(), Fail> {
             let new = mutate_times(alloc, &SUM, Words::new(list), &scope, 1)?;
             let new = new.ok_or("a rewrite")?;
             let turned = new.bytes.as_slice() == TURNED.as_slice();
-            assert!(rt; new.bytes.len() == if max_size == 35 { 35 } else { 32 });
+            let size = if max_size == 35 { 35usize } else { 32 };
+            assert!(rt; new.bytes.len() == size, "{max_size}");
             assert!(rt; turned == (max_size < 35), "{max_size}");
         }
     }
