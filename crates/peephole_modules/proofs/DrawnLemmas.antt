@@ -16,8 +16,8 @@ use Rattle.peephole_rules.specs.declared.rule.Rule.{Rule}
 use Rattle.peephole_rewrites.specs.declared.rewrite.Rewrite.{Rewrite}
 use Rattle.peephole_rewrites.specs.Choice.{after_word, AppendsByWords, AppendsChosen, RefusesByWords, RefusesChosen}
 use Rattle.peephole_modules.specs.Chosen.{AllInVain, ChoosesAgain, ChoosesBy, ChoosesFrom, ChoosesOfModule, ChoosesWithin, GivesUp, GivesUpInOrder, GivesUpOn, Leads, TriesInVain, by_lack, by_size}
-use Rattle.peephole_modules.specs.Drawing.{EachInVain, IsFirstBefore, IsFirstBehind, NamesEntry, NamesInVain, by_word, in_order}
-use Rattle.peephole_modules.specs.Mutated.{HasNoMutation, IsInVain, IsOfSize}
+use Rattle.peephole_modules.specs.Drawing.{EachInVain, IsFirstBehind, NamesEntry, NamesInVain, by_word, in_order}
+use Rattle.peephole_modules.specs.Mutated.{HasNoMutation, IsInVain}
 use Rattle.peephole_modules.specs.Scope.{Scope}
 use Rattle.peephole_modules.specs.Writing.{Exceeds, MakesAt, WritesAt}
 use Rattle.peephole_modules.specs.declared.mutation.MutationError.{MutationError}

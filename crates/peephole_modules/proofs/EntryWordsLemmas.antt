@@ -7,7 +7,7 @@ use Rattle.std.proofs.lemmas.List.{length-append, length-take}
 use Rattle.std.proofs.lemmas.List.Sums.{sum_by-cons, sum_by_more, sum_by-take-le}
 use Rattle.std.proofs.lemmas.Nat.{mod-mul-add}
 use Rattle.std.proofs.lemmas.Option.{get_or_from_slice_get, same_Some, slice_get_within}
-use Rattle.rand_core.specs.Stream.{Stream, next_u64}
+use Rattle.rand_core.specs.Stream.{next_u64}
 use Rattle.wasm_code.specs.Body.{SpellsAll, SpellsBody, ends}
 use Rattle.wasm_code.specs.Operator.{Spells}
 use Rattle.wasm_code.specs.declared.operator.Operator.{Operator}
@@ -19,9 +19,9 @@ use Rattle.wasm_module.specs.Module.{Layout}
 use Rattle.peephole_terms.specs.Expansion.{Setting}
 use Rattle.peephole_rules.specs.declared.rule.Rule.{Rule}
 use Rattle.peephole_rewrites.specs.Choice.{Chooses, after_word}
-use Rattle.peephole_rewrites.specs.HasWords.{BeginsWith, HasWords}
+use Rattle.peephole_rewrites.specs.HasWords.{HasWords}
 use Rattle.peephole_rewrites.specs.declared.rewrite.Rewrite.{Rewrite}
-use Rattle.peephole_modules.specs.Drawing.{ContainsByte, NamesEntry, contents_length}
+use Rattle.peephole_modules.specs.Drawing.{ContainsByte, contents_length}
 use Rattle.peephole_modules.specs.EntryWords.{DrawsRewrite, HasEntryWords}
 use Rattle.peephole_modules.specs.Function.{IsFunction}
 use Rattle.peephole_modules.proofs.DoesAsBeforeLemmas.{OneReading}

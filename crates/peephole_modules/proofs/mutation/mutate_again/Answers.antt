@@ -1,6 +1,5 @@
 -- Attempt by attempt.
-use Rattle.std.proofs.Common.{◌≡◌, ◌+◌, ◌∙◌, suc, ap, subst, arith, refl, rules}
-use Rattle.mutate_base.specs.Config.{info_of}
+use Rattle.std.proofs.Common.{◌≡◌, ◌+◌, ◌∙◌, suc, arith, refl}
 use Rattle.peephole_terms.specs.Expansion.{setting_of}
 use Rattle.peephole_modules.specs.Chosen.{Leads, TriesInVain}
 use Rattle.peephole_modules.specs.Drawing.{EachInVain}

@@ -1,6 +1,5 @@
 -- Word by word.
-use Rattle.std.proofs.Common.{rules, ◌≡◌, ◌+◌, ap, ◌∙◌, arith}
-use Rattle.mutate_base.specs.Config.{info_of}
+use Rattle.std.proofs.Common.{rules, ◌≡◌, ◌+◌, ◌∙◌, arith}
 use Rattle.peephole_terms.specs.Expansion.{setting_of}
 use Rattle.peephole_modules.specs.Chosen.{GivesUpOn, Leads}
 use Rattle.peephole_modules.specs.Writing.{MakesAt}

@@ -1,4 +1,4 @@
-use Rattle.std.proofs.Common.{◌≡◌, ◌≤◌, ◌+◌, ◌∙◌, ℕ, Option, Result, sym, subst, arith}
+use Rattle.std.proofs.Common.{◌≡◌, ◌≤◌, ◌+◌, ◌∙◌, Option, Result, sym, subst, arith}
 use Rattle.std.specs.Prelude.{IfOk, IfErr, IfNone, IfSome}
 use Rattle.std.proofs.lemmas.Grind.{common_steps}
 use Rattle.mutate_base.specs.Config.{info_of}

@@ -1,5 +1,5 @@
 -- Attempts at the entries so far were in vain.
-use Rattle.std.proofs.Common.{◌≤◌, ◌<◌, ℕ}
+use Rattle.std.proofs.Common.{◌≤◌}
 use Rattle.std.specs.Prelude.{IfOk, IfErr, IfNone, IfSome}
 use Rattle.mutate_base.specs.Config.{info_of, ChangesGeneratorAlone}
 use Rattle.peephole_terms.specs.Expansion.{setting_of}

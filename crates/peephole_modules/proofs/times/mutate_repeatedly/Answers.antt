@@ -1,5 +1,5 @@
 -- The rewrites follow one another.
-use Rattle.std.proofs.Common.{◌≡◌, ◌<◌, ◌∙◌, List, ℕ, Err, ap, refl, subst, sym, arith, rules}
+use Rattle.std.proofs.Common.{◌<◌, ◌∙◌, List, ℕ, Err, ap, refl, subst, sym, arith, rules}
 use Rattle.std.proofs.lemmas.Result.{err_from_is_err_and}
 use Rattle.mutate_base.specs.declared.error.Error.TheVariants as errors
 use Rattle.peephole_modules.specs.Chosen.{ChoosesOfModule, GivesUp}
