@@ -6,3 +6,4 @@ pub mod ModuleLemmas
 pub mod DoesAsBeforeLemmas
 pub mod MutatesLemmas
 pub mod EntryWordsLemmas
+pub mod AttemptLemmas

@@ -11,3 +11,4 @@ pub mod Mutated
 pub mod Mutates
 pub mod Seeded
 pub mod DoesAsBefore
+pub mod Attempt

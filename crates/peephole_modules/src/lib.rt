@@ -2,6 +2,7 @@
 //! in its place, so that what stands round it runs as before; and the same several times over, by a seed.
 #![tactic(auto)]
 
+mod attempt;
 mod drawing;
 mod function;
 mod held;
@@ -11,6 +12,7 @@ mod scope;
 mod seeded;
 mod times;
 
+pub use attempt::{Reason, chosen_entries, index_of, rewrite_with_seed};
 pub use function::{FunctionBody, FunctionError, read_function};
 pub use mutation::{Mutated, MutationError, mutate_module};
 pub use scope::Scope;
