@@ -1,8 +1,8 @@
 -- A command line, argument by argument.
-use Rattle.std.proofs.Common.{◌≡◌, ◌∙◌, List, true, false, Some, ap, ap₂}
+use Rattle.std.proofs.Common.{◌≡◌, ◌∙◌, true, false, Some, ap, ap₂}
 use Rattle.std.specs.Borrow.{Bor}
 use Rattle.clap.specs.Built.{AddsArg}
-use Rattle.clap.specs.Simple.{App, app_of, app_of_fields, new_app, with_rule}
+use Rattle.clap.specs.Simple.{App, app_of, app_of_fields, with_rule}
 use Rattle.clap.specs.Walk.{Rule, Text, rule_of}
 use Rattle.clap.specs.declared.builder.arg.Arg.{Arg}
 use Rattle.clap.specs.declared.builder.command.Command.{Command}

@@ -7,16 +7,19 @@ use Rattle.wasm_code.specs.declared.operator.Operator.{Operator}
 use Rattle.mutate_base.specs.Module.{Module}
 use Rattle.mutate_base.specs.declared.types.PrimitiveTypeInfo.{PrimitiveTypeInfo}
 use Rattle.wasm_module.specs.Module.{Layout, IsModule}
+use Rattle.peephole_modules.specs.Attempt.{RefusesIndex}
 use Rattle.peephole_modules.specs.Function.{IsFunction, IsFunctionFault}
+use Rattle.peephole_modules.specs.declared.attempt.Reason.{Reason}
+use Rattle.peephole_modules.specs.declared.attempt.Reason.TheVariants.{NoRule, Unreadable, NoFunction, UnknownImport, Refused}
 use Rattle.peephole_modules.specs.declared.function.FunctionError.{FunctionError}
 use Rattle.peephole_modules.specs.declared.times.MadeRewrite.{MadeRewrite}
 use Rattle.peephole_module_commands.specs.Blocks.{TellsBlock, TellsBlocks, TellsFault}
-use Rattle.peephole_module_commands.specs.Failures.{FailsToList, FailsToRead, FailsToReport, RefusesIndex}
+use Rattle.peephole_module_commands.specs.Failures.{FailsToList, FailsToRead, FailsToReport, IsReasonToListNone}
 use Rattle.peephole_module_commands.specs.Lines.{rewrite_line}
 use Rattle.peephole_module_commands.specs.Lists.{InTurn}
 use Rattle.peephole_module_commands.specs.Reports.{TellsIfUnread, TellsUnreadable, made_lines}
 use Rattle.peephole_module_commands.specs.declared.failure.Failure.{Failure}
-use Rattle.peephole_module_commands.specs.declared.failure.Failure.TheVariants.{Nothing, Unreadable, NoFunction, UnknownImport, Refused, Input, TooLong, Output, Memory}
+use Rattle.peephole_module_commands.specs.declared.failure.Failure.TheVariants.{Nothing, Input, TooLong, Output, Memory}
 use Rattle.peephole_module_commands.proofs.TurnLemmas.{appends_more}
 
 abbrev Types : Type 0
@@ -80,34 +83,29 @@ only_output (Ok x) h = tt
 only_output (Err e) h = subst FailsToReport (sym h) tt
 
 pub read_fails : (only : Option ℕ) (bytes : List ℕ) (e : Failure) → FailsToRead bytes e → FailsToList only bytes e
-read_fails only bytes Nothing h = h
-read_fails only bytes Unreadable h = h
-read_fails only bytes (NoFunction f) h = absurd h
-read_fails only bytes (UnknownImport e) h = absurd h
-read_fails only bytes (Refused e) h = h
+read_fails only bytes (Nothing NoRule) h = absurd h
+read_fails only bytes (Nothing Unreadable) h = absurd h
+read_fails only bytes (Nothing (NoFunction f)) h = absurd h
+read_fails only bytes (Nothing (UnknownImport e)) h = absurd h
+read_fails only bytes (Nothing (Refused e)) h = h
 read_fails only bytes Input h = tt
 read_fails only bytes TooLong h = absurd h
 read_fails only bytes Output h = tt
 read_fails only bytes Memory h = tt
 
-pub index_fails : (only : Option ℕ) (bytes : List ℕ) (info : Module) (layout : Layout) (e : Failure) → IsModule bytes info layout →
-    RefusesIndex layout only e → FailsToList only bytes e
-index_fails only bytes info layout Nothing is h = h
-index_fails only bytes info layout Unreadable is h = h
-index_fails only bytes info layout (NoFunction f) is h = record { info = info; layout = layout; is = is; refuses = h }
-index_fails only bytes info layout (UnknownImport e) is h = record { info = info; layout = layout; is = is; refuses = h }
-index_fails only bytes info layout (Refused e) is h = absurd h
-index_fails only bytes info layout Input is h = tt
-index_fails only bytes info layout TooLong is h = absurd h
-index_fails only bytes info layout Output is h = tt
-index_fails only bytes info layout Memory is h = tt
+pub index_fails : (only : Option ℕ) (bytes : List ℕ) (info : Module) (layout : Layout) (e : Failure) (reason : Reason) → IsModule bytes info layout →
+    RefusesIndex layout only reason → e ≡ Nothing reason → FailsToList only bytes e
+index_fails only bytes info layout e reason is h because = subst (FailsToList only bytes) (sym because) (listed reason h)
+  where
+    listed : (r : Reason) → RefusesIndex layout only r → IsReasonToListNone only bytes r
+    listed NoRule k = k
+    listed Unreadable k = k
+    listed (NoFunction f) k = record { info = info; layout = layout; is = is; refuses = k }
+    listed (UnknownImport x) k = record { info = info; layout = layout; is = is; refuses = k }
+    listed (Refused x) k = absurd k
 
 pub report_fails : (only : Option ℕ) (bytes : List ℕ) (e : Failure) → FailsToReport e → FailsToList only bytes e
-report_fails only bytes Nothing h = h
-report_fails only bytes Unreadable h = h
-report_fails only bytes (NoFunction f) h = absurd h
-report_fails only bytes (UnknownImport e) h = absurd h
-report_fails only bytes (Refused e) h = absurd h
+report_fails only bytes (Nothing reason) h = absurd h
 report_fails only bytes Input h = tt
 report_fails only bytes TooLong h = absurd h
 report_fails only bytes Output h = tt

@@ -1,6 +1,6 @@
 -- What the getters of clap's matches read.
 use Rattle.std.proofs.Common.{◌≡◌, ◌≢◌, ◌⊎◌, ◌<◌, ℕ, Bool, true, false, List, [], ◌∷◌, ◌++◌, ◌+◌, map, take, length, get_or, Option, Some, None, Result, Ok, Err, refl, sym, ap, ap₂, ◌∙◌, subst, inl, inr}
-use Rattle.std.specs.Prelude.{◌^◌, IfSome, codes, option_map, slice_get, unwrap_or}
+use Rattle.std.specs.Prelude.{◌^◌, IfSome, codes, option_map, unwrap_or}
 use Rattle.std.specs.Borrow.{Bor}
 use Rattle.std.specs.Option.{option_map_or}
 use Rattle.std.specs.Str.{bytes_eq}
@@ -22,7 +22,7 @@ use Rattle.clap.specs.declared.parser.matches.ArgMatches.{ArgMatches}
 use Rattle.peephole_rules.specs.Rule.{rule_name}
 use Rattle.peephole_rules.specs.declared.rule.Rule.{Rule}
 use Rattle.peephole_module_commands.specs.Arguments.{command_line}
-use Rattle.peephole_module_commands.specs.Options.{AreMisused, AreOptions, AreRefused, IsNumberOf, NamesNone, SayOptions, Writes, kind_for}
+use Rattle.peephole_module_commands.specs.Options.{AreMisused, AreOptions, AreRefused, IsNumberOf, NamesNone, SayOptions, kind_for}
 use Rattle.peephole_module_commands.specs.Options.AreRefused.{by_matches, by_memory, by_words}
 use Rattle.peephole_module_commands.specs.declared.options.Misuse.{Misuse}
 use Rattle.peephole_module_commands.specs.declared.options.Misuse.TheVariants.{Memory, UnknownRule}

@@ -31,7 +31,8 @@ rule_rule names = record (valued (codes "rule") (Names names)) { action = Some A
 
 abbrev pub arguments : (names : Bor (List (Bor Text))) → List Rule
 arguments names =
-    seed_rule ∷ count_rule ∷ valued (codes "function") number ∷ rule_rule names ∷ flag (codes "list") ∷ flag (codes "blocks") ∷ flag (codes "stats") ∷ []
+    seed_rule ∷ count_rule ∷ valued (codes "function") number ∷ rule_rule names ∷ valued (codes "max-size") number ∷ flag (codes "list")
+    ∷ flag (codes "blocks") ∷ flag (codes "stats") ∷ flag (codes "strip-debug") ∷ []
 
 -- The command line, where the rules have these names.
 abbrev pub command_line : (names : Bor (List (Bor Text))) → App

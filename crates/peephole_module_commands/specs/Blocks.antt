@@ -12,9 +12,9 @@ use Rattle.wasm_sections.specs.declared.fault.ModuleError.{ModuleError}
 use Rattle.wasm_module.specs.Module.{Layout}
 use Rattle.peephole_graphs.specs.Block.{IsBlockIn}
 use Rattle.peephole_graphs.specs.Shape.{IsFit, judge}
+use Rattle.peephole_modules.specs.Attempt.{CanRead}
 use Rattle.peephole_modules.specs.Function.{IsFunction, IsFunctionFault}
 use Rattle.peephole_modules.specs.declared.function.FunctionError.{FunctionError}
-use Rattle.peephole_module_commands.specs.Failures.{CanRead}
 use Rattle.peephole_module_commands.specs.Lines.{block_line, fault_line}
 use Rattle.peephole_module_commands.specs.Lists.{InTurn, WritesOfFunctions}
 use Rattle.peephole_module_commands.specs.declared.unfit.Unfit.{Unfit}

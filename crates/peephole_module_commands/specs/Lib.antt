@@ -5,5 +5,6 @@ pub mod Lines
 pub mod Lists
 pub mod Options
 pub mod Reports
+pub mod Scope
 pub mod Status
 pub mod Writes

@@ -6,6 +6,10 @@ use Rattle.peephole_rules.specs.Rule.{rule_name}
 use Rattle.peephole_rewrites.specs.declared.rewrite.Rewrite.{Rewrite}
 use Rattle.peephole_modules.specs.declared.function.FunctionError.{FunctionError}
 use Rattle.peephole_modules.specs.declared.function.FunctionError.TheVariants.{Unknown, UnknownType, Locals, Body}
+use Rattle.mutate_base.specs.Error.{error_name}
+use Rattle.wasm_sections.specs.declared.writing.WriteError.TheVariants as writes
+use Rattle.peephole_modules.specs.declared.mutation.MutationError.{MutationError}
+use Rattle.peephole_modules.specs.declared.mutation.MutationError.TheVariants.{Read, Rewrite as Rewriting, Write, TooLong}
 use Rattle.peephole_module_commands.specs.declared.unfit.Unfit.{Unfit}
 use Rattle.peephole_module_commands.specs.declared.unfit.Unfit.TheVariants as unfit
 use Rattle.peephole_module_commands.specs.declared.unfit.UnfitOperator.{UnfitOperator}
@@ -71,6 +75,20 @@ block_line l = (range_part l.function l.start l.end ++ unfit_part l.unfit) ++ co
 abbrev pub functions_line : (count unreadable : ℕ) → List ℕ
 functions_line count unreadable = codes "functions " ++ (decimal count ++ (codes " unreadable " ++ (decimal unreadable ++ codes "\n")))
 
--- the bytes of the module, and of the new one
+-- the bytes of the module, and of what is written
 abbrev pub sizes_line : (before behind : ℕ) → List ℕ
 sizes_line before behind = codes "bytes " ++ (decimal before ++ (codes " new " ++ (decimal behind ++ codes "\n")))
+
+-- ---- why no further rewrite was made
+
+abbrev pub stopped_name : MutationError → List ℕ
+stopped_name (Read e) = fault_name e.kind
+stopped_name (Rewriting e) = error_name e
+stopped_name (Write writes.TooLarge) = codes "TooLarge"
+stopped_name (Write writes.Memory) = codes "Memory"
+stopped_name TooLong = codes "TooLong"
+
+-- the line of a refusal, where there is one
+abbrev pub stopped_part : Option MutationError → List ℕ
+stopped_part None = []
+stopped_part (Some e) = codes "stopped " ++ (stopped_name e ++ codes "\n")

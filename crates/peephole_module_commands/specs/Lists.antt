@@ -9,9 +9,9 @@ use Rattle.peephole_machine.specs.Values.{context_in}
 use Rattle.peephole_rules.specs.declared.rule.Rule.{Rule}
 use Rattle.peephole_rewrites.specs.Rewriting.{AreTheRewrites}
 use Rattle.peephole_rewrites.specs.declared.rewrite.Rewrite.{Rewrite}
+use Rattle.peephole_modules.specs.Attempt.{CanRead}
 use Rattle.peephole_modules.specs.Function.{IsFunction}
 use Rattle.peephole_modules.specs.Mutated.{IsChosen}
-use Rattle.peephole_module_commands.specs.Failures.{CanRead}
 use Rattle.peephole_module_commands.specs.Lines.{rewrite_lines}
 
 -- The text is that of each of so many things from the one with the number `from` on, one behind another.

@@ -1,6 +1,5 @@
 -- The options that the matches of a command line are (this project).
 use Rattle.std.specs.Prelude.{◌≡◌, ◌≢◌, ◌<◌, ◌^◌, ◌&&◌, ◌||◌, ℕ, Bool, true, false, List, [], map, slice_get, codes, Option, Some, None, unwrap_or, IfSome, if◌then◌else◌}
-use Rattle.std.specs.Borrow.{Bor}
 use Rattle.std.specs.Option.{option_map_or}
 use Rattle.std.specs.Str.{bytes_eq}
 use Rattle.std.specs.Str.Parse.{IsNumeral, digits_value, without_leading_plus}
@@ -81,6 +80,7 @@ pub record AreOptions (rows : List Row) (options : Options) : Type 0 where
   pub count : IsNumberOr 1 (one_of (codes "count") rows) options.count
   pub function : IsNumberOf (one_of (codes "function") rows) options.function
   pub rules : AreRules (all_of (codes "rule") rows) options.rules.items
+  pub max_size : IsNumberOr 18446744073709551615 (one_of (codes "max-size") rows) options.max_size
   pub stats : options.stats ≡ (flags_of rows).stats
   pub strip_debug : options.strip_debug ≡ (flags_of rows).strip_debug
 

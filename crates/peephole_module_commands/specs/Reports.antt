@@ -3,12 +3,13 @@ use Rattle.std.specs.Prelude.{◌≡◌, ◌⊎◌, ℕ, zero, suc, ◌+◌, Lis
 use Rattle.std.specs.Io.KnownBytes.{Appends}
 use Rattle.mutate_base.specs.Module.{Module}
 use Rattle.wasm_module.specs.Module.{Layout, IsModule}
-use Rattle.peephole_rules.specs.declared.rule.Rule.{Rule}
+use Rattle.peephole_modules.specs.Attempt.{CanRead}
+use Rattle.peephole_modules.specs.declared.mutation.MutationError.{MutationError}
 use Rattle.peephole_modules.specs.declared.times.MadeRewrite.{MadeRewrite}
 use Rattle.peephole_module_commands.specs.Blocks.{TellsUnread}
-use Rattle.peephole_module_commands.specs.Failures.{CanRead}
-use Rattle.peephole_module_commands.specs.Lines.{functions_line, rewrite_line, sizes_line}
+use Rattle.peephole_module_commands.specs.Lines.{functions_line, rewrite_line, sizes_line, stopped_part}
 use Rattle.peephole_module_commands.specs.Writes.{WritesMutated}
+use Rattle.peephole_module_commands.specs.declared.options.Options.{Options}
 
 -- ---- functions that can't be read
 
@@ -44,13 +45,13 @@ abbrev pub made_lines : List MadeRewrite → List ℕ
 made_lines [] = []
 made_lines (m ∷ ms) = rewrite_line m.function m.rewrite ++ made_lines ms
 
--- the rewrites that were made, in order, and the sizes of the module and the new one
-abbrev pub rewrites_report : (bytes : List ℕ) → List MadeRewrite → (new : List ℕ) → List ℕ
-rewrites_report bytes made new = made_lines made ++ sizes_line (length bytes) (length new)
+-- the rewrites that were made, in order, why there are no more where one was refused, and the sizes of the module and of what is written
+abbrev pub rewrites_report : (bytes : List ℕ) → List MadeRewrite → Option MutationError → (written : List ℕ) → List ℕ
+rewrites_report bytes made stopped written = (made_lines made ++ stopped_part stopped) ++ sizes_line (length bytes) (length written)
 
 -- The notes have grown by what is told of the module's functions, and then of the rewrites that were made and the module that was written.
-pub record ReportsMutated (rules : List Rule) (only : Option ℕ) (count : ℕ) (bytes : List ℕ) (old new notes_old notes_new : Option (List ℕ)) : Type 0 where
-  pub writes : WritesMutated rules only count bytes old new
+pub record ReportsMutated (options : Options) (bytes : List ℕ) (old new notes_old notes_new : Option (List ℕ)) : Type 0 where
+  pub writes : WritesMutated options bytes old new
   pub between : Option (List ℕ)
   pub functions : ReportsModule bytes notes_old between
-  pub rewrites : Appends between notes_new (rewrites_report bytes writes.made writes.module_bytes)
+  pub rewrites : Appends between notes_new (rewrites_report bytes writes.made writes.stopped writes.written_bytes)

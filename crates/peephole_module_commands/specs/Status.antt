@@ -1,15 +1,21 @@
 -- The exit status of a run that has no success (this project).
 use Rattle.std.specs.Prelude.{ℕ}
+use Rattle.peephole_modules.specs.declared.attempt.Reason.{Reason}
+use Rattle.peephole_modules.specs.declared.attempt.Reason.TheVariants.{NoRule, Unreadable, NoFunction, UnknownImport, Refused}
 use Rattle.peephole_module_commands.specs.declared.failure.Failure.{Failure}
-use Rattle.peephole_module_commands.specs.declared.failure.Failure.TheVariants.{Nothing, Unreadable, NoFunction, UnknownImport, Refused, Input, TooLong, Output, Memory}
+use Rattle.peephole_module_commands.specs.declared.failure.Failure.TheVariants.{Nothing, Input, TooLong, Output, Memory}
 
--- 2 where nothing applies, else 1
+-- 1 where the module is refused, else 2
+abbrev pub status_for : Reason → ℕ
+status_for NoRule = 2
+status_for Unreadable = 2
+status_for (NoFunction index) = 2
+status_for (UnknownImport e) = 2
+status_for (Refused e) = 1
+
+-- that of the reason where there is one, else 1
 abbrev pub status_of : Failure → ℕ
-status_of Nothing = 2
-status_of Unreadable = 2
-status_of (NoFunction index) = 2
-status_of (UnknownImport e) = 2
-status_of (Refused e) = 1
+status_of (Nothing reason) = status_for reason
 status_of Input = 1
 status_of TooLong = 1
 status_of Output = 1

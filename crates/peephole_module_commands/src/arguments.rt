@@ -56,6 +56,17 @@ fn rule_argument<'a>(alloc: Global, names: &'a [&'a str]) -> Arg<'a>
         )
 }
 
+fn size_argument<'a>(alloc: Global) -> Arg<'a>
+    ensures rule { rule_of result ≡ valued (codes "max-size") number }
+    ensures local { result.global ≡ false }
+{
+    Arg::new(alloc, "max-size")
+        .long("max-size")
+        .value_name("BYTES")
+        .value_parser(value_parser!(usize))
+        .help("The most bytes that the rewritten module may have")
+}
+
 // A flag with the name.
 fn flag_argument<'a>(alloc: Global, name: &'a str, help: &'a str) -> Arg<'a>
     ensures rule { rule_of result ≡ flag name.entry.now }
@@ -100,6 +111,17 @@ fn stats_argument<'a>(alloc: Global) -> Arg<'a>
     )
 }
 
+fn strip_argument<'a>(alloc: Global) -> Arg<'a>
+    ensures rule { rule_of result ≡ flag (codes "strip-debug") }
+    ensures local { result.global ≡ false }
+{
+    flag_argument(
+        alloc,
+        "strip-debug",
+        "Drops the custom sections that name places in the code, which are others once it is rewritten",
+    )
+}
+
 /// The command line, with the names of the rules.
 pub fn command<'a>(alloc: Global, names: &'a [&'a str]) -> Result<Command<'a>, AllocError>
     ensures { IfOk result (λ c. app_of c ≡ command_line names.entry) }
@@ -113,7 +135,9 @@ pub fn command<'a>(alloc: Global, names: &'a [&'a str]) -> Result<Command<'a>, A
         .arg(count_argument(alloc))?
         .arg(function_argument(alloc))?
         .arg(rule_argument(alloc, names))?
+        .arg(size_argument(alloc))?
         .arg(list_argument(alloc))?
         .arg(blocks_argument(alloc))?
-        .arg(stats_argument(alloc))
+        .arg(stats_argument(alloc))?
+        .arg(strip_argument(alloc))
 }

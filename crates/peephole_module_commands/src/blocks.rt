@@ -11,11 +11,11 @@ ghost use Rattle.wasm_module.specs.Module.{IsModule};
 
 use crate::failure::Failure;
 use crate::faults::write_fault;
-use crate::functions::{chosen_entries, index_of, module_of};
+use crate::functions::module_of;
 use crate::unfit::{UnfitOperator, first_unfit, write_unfit};
 use mutate_base::ModuleInfo;
 use peephole_graphs::BBlock;
-use peephole_modules::read_function;
+use peephole_modules::{chosen_entries, index_of, read_function};
 use std::alloc::Global;
 use std::io::Write;
 use wasm_code::OperatorAndByteOffset;

@@ -1,31 +1,18 @@
 //! Why a run has no success, and its exit status.
 ghost use Rattle.std.specs.Prelude.{◌≡◌};
-ghost use Rattle.peephole_module_commands.specs.Status.{status_of};
+ghost use Rattle.peephole_module_commands.specs.Status.{status_for, status_of};
 
-use peephole_modules::MutationError;
+use peephole_modules::Reason;
 use std::alloc::AllocError;
 use std::io;
 use thiserror::Error as ErrorTexts;
-use wasm_module::ModuleError;
 
 /// Why a run has no success. Its text is the message on standard error.
 #[derive(Clone, Copy, Debug, PartialEq, Eq, ErrorTexts)]
 pub enum Failure {
-    /// No rule applies.
-    #[error("no rule applies")]
-    Nothing,
-    /// None of the functions that are looked at can be read.
-    #[error("no function can be read")]
-    Unreadable,
-    /// The module has no function of its own with this index.
-    #[error("the module has no function {0} of its own")]
-    NoFunction(usize),
-    /// An import isn't known, and so no function's index is.
-    #[error("an import isn't known, and so no function's index is: {0}")]
-    UnknownImport(ModuleError),
-    /// The module, or a rewrite of it, is refused.
+    /// Nothing of the module is rewritten or listed, for this reason.
     #[error("{0}")]
-    Refused(MutationError),
+    Nothing(Reason),
     /// The input can't be read.
     #[error("the input can't be read")]
     Input,
@@ -40,18 +27,36 @@ pub enum Failure {
     Memory,
 }
 
+// The exit status for a reason.
+fn status_for(reason: &Reason) -> u8
+    ensures { result ≡ status_for reason.now }
+{
+    match reason {
+        Reason::NoRule | Reason::Unreadable | Reason::NoFunction(_) | Reason::UnknownImport(_) => 2,
+        Reason::Refused(_) => 1,
+    }
+}
+
 impl Failure {
     /// The exit status: 2 where nothing applies, else 1.
     pub fn status(&self) -> u8
         ensures { result ≡ status_of self.now }
     {
         match self {
-            Failure::Nothing
-            | Failure::Unreadable
-            | Failure::NoFunction(_)
-            | Failure::UnknownImport(_) => 2,
+            Failure::Nothing(reason) => status_for(reason),
             _ => 1,
         }
+    }
+}
+
+impl From<Reason> for Failure {
+    ghost use Rattle.std.specs.Prelude.{◌≡◌};
+    ghost use Rattle.peephole_module_commands.specs.declared.failure.Failure.TheVariants.{Nothing};
+
+    ghost from_gives = { λ reason failure. failure ≡ Nothing reason };
+
+    fn from(reason: Reason) -> Failure {
+        Failure::Nothing(reason)
     }
 }
 

@@ -6,8 +6,7 @@ ghost use Rattle.peephole_module_commands.specs.Lines.{fault_line, fault_offset,
 ghost use Rattle.peephole_module_commands.specs.declared.failure.Failure.TheVariants.{Output};
 
 use crate::failure::Failure;
-use crate::functions::index_of;
-use peephole_modules::FunctionError;
+use peephole_modules::{FunctionError, index_of};
 use std::io::Write;
 use wasm_module::Layout;
 

@@ -8,9 +8,9 @@ ghost use Rattle.peephole_module_commands.specs.declared.failure.Failure.TheVari
 ghost use Rattle.wasm_module.specs.Module.{IsModule};
 
 use crate::failure::Failure;
-use crate::functions::{chosen_entries, index_of, module_of};
+use crate::functions::module_of;
 use mutate_base::ModuleInfo;
-use peephole_modules::read_function;
+use peephole_modules::{chosen_entries, index_of, read_function};
 use peephole_rewrites::{Rewrite, rewrites_of_body};
 use peephole_rules::Rule;
 use std::alloc::Global;

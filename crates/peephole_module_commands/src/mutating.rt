@@ -1,61 +1,55 @@
 //! The module rewritten as the options say.
-ghost use Rattle.std.specs.Prelude.{◌<◌, ℕ, List, IfOk, IfErr};
+ghost use Rattle.std.specs.Prelude.{◌≡◌, true, IfOk, IfErr};
 ghost use Rattle.peephole_module_commands.specs.Failures.{FailsToRewrite};
-ghost use Rattle.peephole_modules.specs.DoesAsBefore.{DoesAsBefore};
-ghost use Rattle.peephole_modules.specs.Mutated.{CannotMutate};
-ghost use Rattle.peephole_modules.specs.Mutates.{Mutates};
-ghost use Rattle.peephole_rules.specs.declared.rule.Rule.{Rule};
+ghost use Rattle.peephole_module_commands.specs.Writes.{IsOutcome, IsWrittenAs};
+ghost use Rattle.peephole_module_commands.specs.declared.failure.Failure.TheVariants.{Memory};
 
 use crate::failure::Failure;
-use crate::functions::{can_read_any, chosen_entries, module_of};
 use crate::options::Options;
-use peephole_modules::{RewrittenModule, mutate_with_seed};
+use peephole_modules::{RewrittenModule, rewrite_with_seed};
 use std::alloc::Global;
+use wasm_sections::{read_sections, without_debug};
 
-// Why a module in which nothing can be rewritten isn't: the function that is named isn't there, no function can be read, or no rule
-// applies.
-fn without_rewrite(alloc: Global, bytes: &[u8], only: Option<usize>) -> Failure
-    ensures { (rules : List Rule) (count : ℕ) → 0 < count → CannotMutate rules only bytes.now
-        → FailsToRewrite rules only count bytes.now result }
+// The module without its custom sections that name places in the code. A module that rewrites made is one, so that it isn't read for
+// want of memory alone.
+fn stripped(alloc: Global, bytes: &[u8]) -> Result<Vec<u8>, Failure>
+    ensures stripped { IfOk result (λ new. IsWrittenAs true bytes.now new.items) }
+    ensures memory { IfErr result (λ e. e ≡ Memory) }
 {
-    let module = match module_of(alloc, bytes) {
-        Ok(module) => module,
-        Err(failure) => return failure,
+    let Ok(sections) = read_sections(alloc, bytes) else {
+        return Err(Failure::Memory);
     };
-    let layout = module.layout;
-    let entries = match chosen_entries(&layout, only) {
-        Ok(entries) => entries,
-        Err(failure) => return failure,
-    };
-    match can_read_any(alloc, bytes, &module.info, &layout, entries) {
-        Ok(true) => Failure::Nothing,
-        Ok(false) => Failure::Unreadable,
-        Err(failure) => failure,
-    }
+    Ok(without_debug(alloc, bytes, &sections)?)
 }
 
-/// The module rewritten as many times as the options say, by their rules, with a generator made from their seed: it is valid where it
-/// was, and does what it did.
-///
-/// `Nothing` only where no rule applies in any of the functions that can be read, of which there is one; `Unreadable` only where none
-/// can be read; `NoFunction` and `UnknownImport` as `chosen_entries` refuses; `Refused` where the module, or one on the way, is refused.
-pub fn rewritten(alloc: Global, bytes: &[u8], options: &Options) -> Result<RewrittenModule, Failure>
-    ensures mutated { IfOk result (λ m. Mutates options.now.rules.items options.now.function
-        options.now.count bytes.now m.made.items m.bytes.items) }
-    ensures does_as_before { IfOk result (λ m. DoesAsBefore bytes.now m.bytes.items) }
-    ensures fails { IfErr result (FailsToRewrite options.now.rules.items options.now.function
-        options.now.count bytes.now) }
+// The same where these sections are to be dropped, else the module as it is.
+fn finished(alloc: Global, strip: bool, new: RewrittenModule) -> Result<RewrittenModule, Failure>
+    ensures made { IfOk result (λ m. m.made.items ≡ new.made.items) }
+    ensures stopped { IfOk result (λ m. m.stopped ≡ new.stopped) }
+    ensures bytes { IfOk result (λ m. IsWrittenAs strip new.bytes.items m.bytes.items) }
+    ensures memory { IfErr result (λ e. e ≡ Memory) }
 {
-    match mutate_with_seed(
-        alloc,
-        bytes,
-        options.seed,
-        &options.rules,
-        options.function,
-        options.count,
-    ) {
-        Ok(Some(module)) => Ok(module),
-        Ok(None) => Err(without_rewrite(alloc, bytes, options.function)),
-        Err(e) => Err(Failure::Refused(e)),
+    if !strip {
+        return Ok(new);
     }
+    let bytes = stripped(alloc, &new.bytes)?;
+    Ok(RewrittenModule {
+        bytes,
+        made: new.made,
+        stopped: new.stopped,
+    })
+}
+
+/// What is written of the module, rewritten as many times as the options say, by their rules, with a generator made from their seed:
+/// it is valid where it was, and does what it did. Where the options say so, its custom sections that name places in the code are
+/// dropped then.
+///
+/// `Nothing` as `rewrite_with_seed` refuses.
+pub fn rewritten(alloc: Global, bytes: &[u8], options: &Options) -> Result<RewrittenModule, Failure>
+    ensures outcome { IfOk result (λ m. IsOutcome options.now bytes.now m.made.items m.stopped
+        m.bytes.items) }
+    ensures fails { IfErr result (FailsToRewrite options.now bytes.now) }
+{
+    let new = rewrite_with_seed(alloc, bytes, options.seed, &options.scope(), options.count)?;
+    finished(alloc, options.strip_debug, new)
 }

@@ -1,6 +1,7 @@
 //! The options of the command line.
 ghost use Rattle.std.specs.Prelude.{◌<◌};
 
+use peephole_modules::Scope;
 use peephole_rules::Rule;
 use std::alloc::{AllocError, AllocFailed};
 
@@ -28,11 +29,29 @@ pub struct Options {
     pub function: Option<usize>,
     /// The rules that rewrite.
     pub rules: Vec<Rule>,
+    /// The most bytes that a rewritten module may have.
+    pub max_size: usize,
     /// Whether the functions, the rewrites and the sizes are reported.
     pub stats: bool,
-    /// Whether custom sections that name places in the code are dropped.
+    /// Whether custom sections that name places in the code are dropped once the module is rewritten.
     pub strip_debug: bool,
     pub ghost some: { 0 < count },
+}
+
+impl Options {
+    ghost use Rattle.std.specs.Prelude.{◌≡◌};
+    ghost use Rattle.peephole_module_commands.specs.Scope.{scope_of};
+
+    /// What of a module may be rewritten.
+    pub fn scope<'a>(&'a self) -> Scope<'a>
+        ensures { result ≡ scope_of self.now }
+    {
+        Scope {
+            rules: &self.rules,
+            function: self.function,
+            max_size: self.max_size,
+        }
+    }
 }
 
 /// Why the matches of a command line are no options.

@@ -1,14 +1,12 @@
 //! A run: a module in, and out goes what the options ask for.
 ghost use Rattle.std.specs.Prelude.{◌≡◌, ◌≢◌, false, OnOk, IfOk, IfErr, IfSome, IsTrue};
 ghost use Rattle.std.specs.Io.KnownBytes.{Appends};
-ghost use Rattle.peephole_modules.specs.DoesAsBefore.{DoesAsBefore};
-ghost use Rattle.peephole_modules.specs.Mutates.{Mutates};
 ghost use Rattle.peephole_module_commands.specs.Blocks.{WritesBlocks};
 ghost use Rattle.peephole_module_commands.specs.Failures.{FailsToDo, FailsToInform, FailsToRewrite};
 ghost use Rattle.peephole_module_commands.specs.declared.failure.Failure.TheVariants.{Output};
 ghost use Rattle.peephole_module_commands.specs.Lists.{WritesList};
 ghost use Rattle.peephole_module_commands.specs.Reports.{ReportsModule, ReportsMutated};
-ghost use Rattle.peephole_module_commands.specs.Writes.{WritesMutated};
+ghost use Rattle.peephole_module_commands.specs.Writes.{IsOutcome, WritesMutated};
 
 use crate::blocks::list_blocks;
 use crate::failure::Failure;
@@ -39,13 +37,11 @@ fn write_rewritten<W: Write>(
     bytes: &[u8],
     output: &mut W,
 ) -> Result<RewrittenModule, Failure>
-    ensures mutated { IfOk result (λ m. Mutates options.now.rules.items options.now.function
-        options.now.count bytes.now m.made.items m.bytes.items) }
-    ensures does_as_before { IfOk result (λ m. DoesAsBefore bytes.now m.bytes.items) }
+    ensures outcome { IfOk result (λ m. IsOutcome options.now bytes.now m.made.items m.stopped
+        m.bytes.items) }
     ensures written { IfOk result (λ m. Appends (W.contents output.old) (W.contents output.new)
         m.bytes.items) }
-    ensures fails { IfErr result (FailsToRewrite options.now.rules.items options.now.function
-        options.now.count bytes.now) }
+    ensures fails { IfErr result (FailsToRewrite options.now bytes.now) }
     ensures kept { IfErr result (λ e. e ≢ Output
         → W.contents output.new ≡ W.contents output.old) }
 {
@@ -64,15 +60,13 @@ fn rewrite<W: Write, E: Write>(
     output: &mut W,
     notes: &mut E,
 ) -> Result<(), Failure>
-    ensures written { OnOk result (WritesMutated options.now.rules.items options.now.function
-        options.now.count bytes.now (W.contents output.old) (W.contents output.new)) }
-    ensures reported { IsTrue options.now.stats → OnOk result (ReportsMutated
-        options.now.rules.items options.now.function options.now.count bytes.now
+    ensures written { OnOk result (WritesMutated options.now bytes.now (W.contents output.old)
+        (W.contents output.new)) }
+    ensures reported { IsTrue options.now.stats → OnOk result (ReportsMutated options.now bytes.now
         (W.contents output.old) (W.contents output.new) (E.contents notes.old)
         (E.contents notes.new)) }
     ensures quiet { options.now.stats ≡ false → E.contents notes.new ≡ E.contents notes.old }
-    ensures fails { IfErr result (FailsToRewrite options.now.rules.items options.now.function
-        options.now.count bytes.now) }
+    ensures fails { IfErr result (FailsToRewrite options.now bytes.now) }
     ensures kept { IfErr result (λ e. e ≢ Output
         → W.contents output.new ≡ W.contents output.old) }
 {
@@ -94,12 +88,11 @@ pub fn run<R: Read, W: Write, E: Write>(
     output: &mut W,
     notes: &mut E,
 ) -> Result<(), Failure>
-    // What is written is the input rewritten, valid where that was; what stands round each rewritten tree runs as before, and its
-    // functions do what they did.
+    // What is written is the input rewritten as the seed chooses, valid where that was; what stands round each rewritten tree runs as
+    // before, and its functions do what they did. Where the options say so, custom sections that name places in the code are dropped.
     ensures written { options.now.task ≡ Task.Rewrite → OnOk result
-        (IfSome (R.remaining input.old) (λ bytes. WritesMutated options.now.rules.items
-        options.now.function options.now.count bytes (W.contents output.old)
-        (W.contents output.new))) }
+        (IfSome (R.remaining input.old) (λ bytes. WritesMutated options.now bytes
+        (W.contents output.old) (W.contents output.new))) }
     // A list has a line for each rewrite that there is in the functions that are looked at, and no other.
     ensures listed { options.now.task ≡ Task.List → OnOk result
         (IfSome (R.remaining input.old) (λ bytes. WritesList options.now.rules.items
@@ -110,14 +103,13 @@ pub fn run<R: Read, W: Write, E: Write>(
         options.now.function bytes (W.contents output.old) (W.contents output.new))) }
     // Where the options ask for it, the notes tell of functions and rewrites; else they stay as they are.
     ensures reported { options.now.task ≡ Task.Rewrite → IsTrue options.now.stats → OnOk result
-        (IfSome (R.remaining input.old) (λ bytes. ReportsMutated options.now.rules.items
-        options.now.function options.now.count bytes (W.contents output.old)
-        (W.contents output.new) (E.contents notes.old) (E.contents notes.new))) }
+        (IfSome (R.remaining input.old) (λ bytes. ReportsMutated options.now bytes
+        (W.contents output.old) (W.contents output.new) (E.contents notes.old)
+        (E.contents notes.new))) }
     ensures quiet { options.now.stats ≡ false → E.contents notes.new ≡ E.contents notes.old }
-    // Why it fails: with `Nothing`, only where no rule applies in a function that can be read; with `Unreadable`, only where none can.
+    // Why it fails: with `NoRule`, only where no rule applies in a function that can be read; with `Unreadable`, only where none can.
     ensures fails { IfErr result (λ e. IfSome (R.remaining input.old) (λ bytes. FailsToDo
-        options.now.task options.now.rules.items options.now.function options.now.count
-        bytes e)) }
+        options.now.task options.now bytes e)) }
     // Nothing is written then, unless the output, or the notes, can't be written.
     ensures kept { options.now.task ≡ Task.Rewrite → IfErr result (λ e. e ≢ Output
         → W.contents output.new ≡ W.contents output.old) }

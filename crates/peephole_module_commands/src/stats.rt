@@ -1,8 +1,8 @@
 //! What a run reports of a module and its rewrites.
-ghost use Rattle.std.specs.Prelude.{◌≡◌, ◌<◌, ◌≤◌, ℕ, List, length, IfOk, IfErr, OnOk};
+ghost use Rattle.std.specs.Prelude.{◌≡◌, ◌<◌, ◌≤◌, ℕ, List, length, Some, IfOk, IfErr, OnOk};
 ghost use Rattle.std.specs.Io.KnownBytes.{Appends};
 ghost use Rattle.peephole_module_commands.specs.Failures.{FailsToReport};
-ghost use Rattle.peephole_module_commands.specs.Lines.{functions_line, sizes_line};
+ghost use Rattle.peephole_module_commands.specs.Lines.{functions_line, sizes_line, stopped_name, stopped_part};
 ghost use Rattle.peephole_module_commands.specs.Reports.{ReportsFunctions, TellsIfUnread, made_lines, rewrites_report};
 ghost use Rattle.peephole_module_commands.specs.declared.failure.Failure.TheVariants.{Output};
 ghost use Rattle.wasm_module.specs.Module.{IsModule};
@@ -11,10 +11,10 @@ use crate::failure::Failure;
 use crate::faults::write_fault;
 use crate::listing::write_rewrite;
 use mutate_base::ModuleInfo;
-use peephole_modules::{MadeRewrite, RewrittenModule, read_function};
+use peephole_modules::{MadeRewrite, MutationError, RewrittenModule, read_function};
 use std::alloc::Global;
 use std::io::Write;
-use wasm_module::Layout;
+use wasm_module::{Layout, WriteError};
 
 // Writes the line of the n-th of the module's own functions, where that can't be read; answers 1 then, else 0.
 fn report_function<W: Write>(
@@ -88,6 +88,42 @@ fn write_made<W: Write>(notes: &mut W, made: &[MadeRewrite]) -> Result<(), Failu
     Ok(())
 }
 
+// The name of what was refused.
+fn stopped_name(error: &MutationError) -> &'static str
+    ensures { result.now ≡ stopped_name error.now }
+{
+    match error {
+        MutationError::Read(e) => e.kind.name(),
+        MutationError::Rewrite(e) => e.name(),
+        MutationError::Write(WriteError::TooLarge) => "TooLarge",
+        MutationError::Write(WriteError::Memory) => "Memory",
+        MutationError::TooLong => "TooLong",
+    }
+}
+
+// Writes the line of a refusal.
+fn write_refusal<W: Write>(notes: &mut W, error: &MutationError) -> Result<(), Failure>
+    ensures line { OnOk result (Appends (W.contents notes.old) (W.contents notes.new)
+        (stopped_part (Some error.now))) }
+    ensures fails { IfErr result (λ e. e ≡ Output) }
+{
+    let name = stopped_name(error);
+    writeln!(notes, "stopped {name}")?;
+    Ok(())
+}
+
+// The same, where a further rewrite was refused.
+fn write_stopped<W: Write>(notes: &mut W, stopped: &Option<MutationError>) -> Result<(), Failure>
+    ensures text { OnOk result (Appends (W.contents notes.old) (W.contents notes.new)
+        (stopped_part stopped.now)) }
+    ensures fails { IfErr result (λ e. e ≡ Output) }
+{
+    match stopped {
+        None => Ok(()),
+        Some(error) => write_refusal(notes, error),
+    }
+}
+
 // Writes the line of the sizes.
 fn write_sizes<W: Write>(notes: &mut W, before: usize, behind: usize) -> Result<(), Failure>
     ensures line { OnOk result (Appends (W.contents notes.old) (W.contents notes.new)
@@ -98,16 +134,18 @@ fn write_sizes<W: Write>(notes: &mut W, before: usize, behind: usize) -> Result<
     Ok(())
 }
 
-/// Reports on a module that was rewritten: each rewrite that was made, in order, and the bytes of the module and of the new one.
+/// Reports on a module that was rewritten: each rewrite that was made, in order, why there are no more where one was refused, and the
+/// bytes of the module and of what is written.
 pub fn report_rewrites<W: Write>(
     bytes: &[u8],
     new: &RewrittenModule,
     notes: &mut W,
 ) -> Result<(), Failure>
     ensures reports { OnOk result (Appends (W.contents notes.old) (W.contents notes.new)
-        (rewrites_report bytes.now new.now.made.items new.now.bytes.items)) }
+        (rewrites_report bytes.now new.now.made.items new.now.stopped new.now.bytes.items)) }
     ensures fails { IfErr result (λ e. e ≡ Output) }
 {
     write_made(notes, &new.made)?;
+    write_stopped(notes, &new.stopped)?;
     write_sizes(notes, bytes.len(), new.bytes.len())
 }

@@ -128,6 +128,7 @@ pub fn options_from(alloc: Global, matches: &ArgMatches<'_>) -> Result<Options, 
         count,
         function: size_of(matches, "function"),
         rules: rules_of(alloc, matches)?,
+        max_size: size_of(matches, "max-size").unwrap_or(usize::MAX),
         stats: flags.stats,
         strip_debug: flags.strip_debug,
     })

@@ -1,15 +1,11 @@
 -- Why nothing of a module is rewritten.
 use Rattle.std.proofs.Common.{◌≡◌, ℕ, List, Option, subst}
 use Rattle.mutate_base.specs.Module.{Module}
-use Rattle.mutate_base.specs.declared.error.Error.TheVariants as errors
 use Rattle.wasm_module.specs.Module.{Layout, IsModule}
 use Rattle.peephole_modules.specs.Attempt.{IsForSize, IsReason, RefusesIndex}
-use Rattle.peephole_modules.specs.Mutated.{IsOfSize}
 use Rattle.peephole_modules.specs.Scope.{Scope}
 use Rattle.peephole_modules.specs.declared.attempt.Reason.{Reason}
 use Rattle.peephole_modules.specs.declared.attempt.Reason.TheVariants.{NoRule, Unreadable, NoFunction, UnknownImport, Refused}
-use Rattle.peephole_modules.specs.declared.mutation.MutationError.{MutationError}
-use Rattle.peephole_modules.specs.declared.mutation.MutationError.TheVariants.{Rewrite}
 
 -- no function may be rewritten
 index_reason_of : (scope : Scope) (bytes : List ℕ) (info : Module) (layout : Layout) (r : Reason) → IsModule bytes info layout →
@@ -32,7 +28,3 @@ index_not_for_size layout only Unreadable h size = size
 index_not_for_size layout only (NoFunction f) h size = size
 index_not_for_size layout only (UnknownImport e) h size = size
 index_not_for_size layout only (Refused e) h size = h
-
--- nor is want of memory
-pub memory_not_for_size : (e : MutationError) → e ≡ Rewrite errors.Memory → ¬ (IsForSize (Refused e))
-memory_not_for_size e is size = subst IsOfSize is size

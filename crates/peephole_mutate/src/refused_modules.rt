@@ -2,7 +2,7 @@
 //! request in turn.
 
 use mutate_base::{Error, PrimitiveTypeInfo};
-use peephole_modules::{MutationError, mutate_with_seed};
+use peephole_modules::{MutationError, Reason, RewrittenModule, Scope, rewrite_with_seed};
 use peephole_rules::Rule;
 use std::alloc::Global;
 use std::process::Abort;
@@ -75,25 +75,48 @@ pub fn writings(rt: &impl Abort, alloc: Global) -> Option<bool> {
     }
 }
 
-/// Whether memory was refused to `mutate_with_seed`.
-pub fn rewrites(rt: &impl Abort, alloc: Global) -> bool {
-    match mutate_with_seed(alloc, &SUM, 0, &[Rule::Commute], None, 1) {
-        Ok(Some(new)) => {
-            assert!(rt; new.bytes.as_slice() == TURNED.as_slice() && new.made.len() == 1);
-            false
-        }
-        Ok(None) => panic!(rt; "nothing to rewrite"),
-        Err(MutationError::Read(error)) => {
+/// The sum rewritten once by the rule.
+fn rewrite(alloc: Global, rule: Rule) -> Result<RewrittenModule, Reason> {
+    let rules = [rule];
+    let scope = Scope {
+        rules: &rules,
+        function: None,
+        max_size: SUM.len(),
+    };
+    rewrite_with_seed(alloc, &SUM, 0, &scope, 1)
+}
+
+/// Whether memory was refused, where the outcome isn't the wanted reason.
+fn is_refused(rt: &impl Abort, reason: Reason, wanted: Option<Reason>) -> bool {
+    if wanted == Some(reason) {
+        return false;
+    }
+    match reason {
+        Reason::Refused(MutationError::Read(error)) => {
             assert!(rt; error.kind == ModuleFault::Memory);
-            true
         }
-        Err(error) => {
+        Reason::Refused(error) => {
             assert!(rt;
                 error == MutationError::Rewrite(Error::Memory)
                     || error == MutationError::Write(WriteError::Memory)
             );
-            true
         }
+        _ => panic!(rt; "another reason"),
+    }
+    true
+}
+
+/// Whether memory was refused to `rewrite_with_seed`, where a rule applies, and where none does.
+pub fn rewrites(rt: &impl Abort, alloc: Global) -> bool {
+    match rewrite(alloc, Rule::Commute) {
+        Ok(new) => {
+            assert!(rt; new.bytes.as_slice() == TURNED.as_slice() && new.made.len() == 1);
+        }
+        Err(reason) => return is_refused(rt, reason, None),
+    }
+    match rewrite(alloc, Rule::Fold) {
+        Ok(_) => panic!(rt; "a sum of constants"),
+        Err(reason) => is_refused(rt, reason, Some(Reason::NoRule)),
     }
 }
 

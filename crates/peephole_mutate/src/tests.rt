@@ -3,6 +3,7 @@
 use crate::refused_modules::{SUM, TURNED};
 use failing_devices::{FailingReader, FailingWriter};
 use peephole_module_commands::{Failure, Options, options_of, rule_names, run};
+use peephole_modules::Reason;
 use peephole_rules::{RULES, Rule};
 use std::alloc::{AllocError, Global};
 use std::io::Write;
@@ -18,9 +19,9 @@ const STRUCTURE: &[u8] = b"\0asm\x01\0\0\0\x01\x0b\x02\x60\x02\x7f\x7f\x01\x7f\x
 const STRUCTURE_TURNED: &[u8] = b"\0asm\x01\0\0\0\x01\x0b\x02\x60\x02\x7f\x7f\x01\x7f\x5f\x01\x7f\0\
     \x03\x03\x02\0\x01\x0a\x0c\x02\x07\0\x20\x01\x20\0\x6a\x0b\x02\0\x0b";
 
-/// The sum, and an imported global that is any reference of the garbage collector.
+/// The sum, and an imported global that is any reference to a continuation.
 const REFERENCE: &[u8] = b"\0asm\x01\0\0\0\x01\x07\x01\x60\x02\x7f\x7f\x01\x7f\
-    \x02\x08\x01\x01m\x01g\x03\x6e\0\x03\x02\x01\0\x0a\x09\x01\x07\0\x20\0\x20\x01\x6a\x0b";
+    \x02\x08\x01\x01m\x01g\x03\x68\0\x03\x02\x01\0\x0a\x09\x01\x07\0\x20\0\x20\x01\x6a\x0b";
 
 /// A function of two i32 that drops their sum, calls through a table, and drops the double of the first.
 const TABLE: &[u8] =
@@ -41,16 +42,30 @@ const BEHIND_CALL_TURNED: &[u8] =
 const RESULTS: &[u8] = b"\0asm\x01\0\0\0\x01\x09\x02\x60\0\0\x60\0\x02\x7f\x7f\x03\x03\x02\x01\0\
     \x0a\x14\x02\x06\0\x41\0\x41\0\x0b\x0b\0\x10\0\x1a\x1a\x02\x40\x10\x05\x0b\x0b";
 
-/// Words of the command line, and the task, the seed, the count, the function, whether there are statistics, and the rules: all,
-/// or the number, the first and the last; or the kind of the error.
+/// A function of an i32 that answers it.
+const SAME: &[u8] = b"\0asm\x01\0\0\0\x01\x06\x01\x60\x01\x7f\x01\x7f\x03\x02\x01\0\
+    \x0a\x06\x01\x04\0\x20\0\x0b";
+
+/// The same with zero added.
+const SAME_AND_ZERO: &[u8] = b"\0asm\x01\0\0\0\x01\x06\x01\x60\x01\x7f\x01\x7f\x03\x02\x01\0\
+    \x0a\x09\x01\x07\0\x20\0\x41\0\x6a\x0b";
+
+/// The sum, and a custom section of debugging information.
+const DEBUG: &[u8] = b"\0asm\x01\0\0\0\x01\x07\x01\x60\x02\x7f\x7f\x01\x7f\x03\x02\x01\0\
+    \x0a\x09\x01\x07\0\x20\0\x20\x01\x6a\x0b\0\x0d\x0b.debug_info\x05";
+
+/// Words of the command line, and the task, the seed, the count, the function, whether there are statistics, whether sections are
+/// dropped, and the rules: all, or the number, the first and the last; or the kind of the error.
 const OPTIONS: &str = "
-| Rewrite 0 1 None false all
---seed=7 --count 3 --function 2 --rule fold --rule commute --stats | Rewrite 7 3 Some(2) true 2 Some(Fold) Some(Commute)
---list | List 0 1 None false all
---blocks | Blocks 0 1 None false all
+| Rewrite 0 1 None false false all
+--seed=7 --count 3 --function 2 --rule fold --rule commute --stats | Rewrite 7 3 Some(2) true false 2 Some(Fold) Some(Commute)
+--list | List 0 1 None false false all
+--blocks | Blocks 0 1 None false false all
+--strip-debug | Rewrite 0 1 None false true all
+--list --strip-debug | ArgumentConflict
 --rule melt | InvalidValue
 --rule fold --rule melt --rule commute | InvalidValue
---rule fold --rule fold | Rewrite 0 1 None false 2 Some(Fold) Some(Fold)
+--rule fold --rule fold | Rewrite 0 1 None false false 2 Some(Fold) Some(Fold)
 --count 0 | ValueValidation
 --list --blocks | ArgumentConflict
 --list --stats | ArgumentConflict
@@ -93,14 +108,14 @@ const RUNS: &str = "
 --blocks --function 0 | RESULTS | Ok(())
 > function 0 block 0..2
 
---blocks --function 2 | RESULTS | Err(NoFunction(2))
+--blocks --function 2 | RESULTS | Err(Nothing(NoFunction(2)))
 
---stats --rule fold | RESULTS | Err(Nothing)
+--stats --rule fold | RESULTS | Err(Nothing(NoRule))
 ! functions 2 unreadable 0
 
 --blocks | STRUCTURE | Ok(())
 > function 0 block 0..3
-> function 1 UnknownForm at 17
+> function 1 UnknownType at 37
 
 --list --rule commute | BEHIND_CALL | Ok(())
 > function 0 operator 4 rule commute
@@ -110,29 +125,44 @@ const RUNS: &str = "
 
 --rule commute --stats | STRUCTURE | Ok(())
 > STRUCTURE_TURNED
-! function 1 UnknownForm at 17
+! function 1 UnknownType at 37
 ! functions 2 unreadable 1
 ! function 0 operator 2 rule commute
 ! bytes 40 new 40
 
---stats | REFERENCE | Err(Unreadable)
+--stats | REFERENCE | Err(Nothing(Unreadable))
 ! entry 0 UnknownForm at 20
 ! functions 1 unreadable 1
 
 --blocks | REFERENCE | Ok(())
 > entry 0 UnknownForm at 20
 
---list --function 0 | REFERENCE | Err(UnknownImport(ModuleError { kind: UnknownForm, offset: 20 }))
+--list --function 0 | REFERENCE | Err(Nothing(UnknownImport(ModuleError { kind: UnknownForm, offset: 20 })))
 
---rule fold | SUM | Err(Nothing)
+--rule fold | SUM | Err(Nothing(NoRule))
 
---function 1 | SUM | Err(NoFunction(1))
+--function 1 | SUM | Err(Nothing(NoFunction(1)))
 
---function 0 | REFERENCE | Err(UnknownImport(ModuleError { kind: UnknownForm, offset: 20 }))
+--function 0 | REFERENCE | Err(Nothing(UnknownImport(ModuleError { kind: UnknownForm, offset: 20 })))
 
---function 1 --rule commute | STRUCTURE | Err(Unreadable)
+--function 1 --rule commute | STRUCTURE | Err(Nothing(Unreadable))
 
---list --function 1 | SUM | Err(NoFunction(1))
+--list --function 1 | SUM | Err(Nothing(NoFunction(1)))
+
+--rule add_zero --count 2 --max-size 31 --stats | SAME | Ok(())
+> SAME_AND_ZERO
+! functions 1 unreadable 0
+! function 0 operator 0 rule add_zero
+! stopped TooLong
+! bytes 28 new 31
+
+--rule add_zero --max-size 30 | SAME | Err(Nothing(Refused(TooLong)))
+
+--rule commute --strip-debug --stats | DEBUG | Ok(())
+> TURNED
+! functions 1 unreadable 0
+! function 0 operator 2 rule commute
+! bytes 47 new 32
 ";
 
 /// The module of a name.
@@ -147,6 +177,9 @@ fn module_of(name: &str) -> Option<&'static [u8]> {
         "STRUCTURE" => Some(STRUCTURE),
         "STRUCTURE_TURNED" => Some(STRUCTURE_TURNED),
         "REFERENCE" => Some(REFERENCE),
+        "SAME" => Some(SAME),
+        "SAME_AND_ZERO" => Some(SAME_AND_ZERO),
+        "DEBUG" => Some(DEBUG),
         _ => None,
     }
 }
@@ -179,8 +212,13 @@ fn reads_options(rt: HostRuntime) -> Result<(), Fail> {
             Ok(found) => {
                 let rules = rules_text(alloc, &found.rules)?;
                 format!(in alloc;
-                    "{:?} {} {} {:?} {} {rules}",
-                    found.task, found.seed, found.count, found.function, found.stats
+                    "{:?} {} {} {:?} {} {} {rules}",
+                    found.task,
+                    found.seed,
+                    found.count,
+                    found.function,
+                    found.stats,
+                    found.strip_debug
                 )?
             }
             Err(error) => format!(in alloc; "{:?}", error.kind())?,
@@ -249,6 +287,6 @@ fn fails(rt: HostRuntime) -> Result<(), Fail> {
     };
     let text = format!(in alloc; "{failure} {}", failure.status())?;
     assert!(rt; text.as_str() == "BadMagic at 0 1");
-    assert!(rt; Failure::Nothing.status() == 2 && Failure::Input.status() == 1);
+    assert!(rt; Failure::Nothing(Reason::NoRule).status() == 2 && Failure::Input.status() == 1);
     Ok(())
 }

@@ -1,8 +1,5 @@
 -- One argument after another.
-use Rattle.std.proofs.Common.{◌≡◌, codes, true}
 use Rattle.std.proofs.lemmas.Result.{IfOk-weaker}
-use Rattle.clap.specs.Simple.{App, app_of, new_app, with_rule}
-use Rattle.peephole_module_commands.specs.Arguments.{count_rule, flag, number, rule_rule, seed_rule, valued}
 use Rattle.peephole_module_commands.proofs.ArgumentsLemmas.{one_more, versioned}
 use Rattle.peephole_module_commands.proofs.arguments.command.Goals as goal
 
@@ -13,6 +10,8 @@ returns c =
     let two = one_more _ _ _ _ _ one c.in_ok-arg-2.ensures c.count_argument.ensures.local c.count_argument.ensures.rule in
     let three = one_more _ _ _ _ _ two c.in_ok-arg-3.ensures c.function_argument.ensures.local c.function_argument.ensures.rule in
     let four = one_more _ _ _ _ _ three c.in_ok-arg-4.ensures c.rule_argument.ensures.local c.rule_argument.ensures.rule in
-    let five = one_more _ _ _ _ _ four c.in_ok-arg-5.ensures c.list_argument.ensures.local c.list_argument.ensures.rule in
-    let six = one_more _ _ _ _ _ five c.in_ok-arg-6.ensures c.blocks_argument.ensures.local c.blocks_argument.ensures.rule in
-    IfOk-weaker c.arg-7.result _ _ (λ r h. one_more _ r _ _ _ six h c.stats_argument.ensures.local c.stats_argument.ensures.rule) c.arg-7.ensures
+    let five = one_more _ _ _ _ _ four c.in_ok-arg-5.ensures c.size_argument.ensures.local c.size_argument.ensures.rule in
+    let six = one_more _ _ _ _ _ five c.in_ok-arg-6.ensures c.list_argument.ensures.local c.list_argument.ensures.rule in
+    let seven = one_more _ _ _ _ _ six c.in_ok-arg-7.ensures c.blocks_argument.ensures.local c.blocks_argument.ensures.rule in
+    let eight = one_more _ _ _ _ _ seven c.in_ok-arg-8.ensures c.stats_argument.ensures.local c.stats_argument.ensures.rule in
+    IfOk-weaker c.arg-9.result _ _ (λ r h. one_more _ r _ _ _ eight h c.strip_argument.ensures.local c.strip_argument.ensures.rule) c.arg-9.ensures

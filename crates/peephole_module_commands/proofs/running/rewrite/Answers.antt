@@ -7,9 +7,9 @@ returns-clause-reported g c asked =
     ok_map c.report_rewrites.result (λ h. record {
       writes = record {
         made = c.in_ok-new.new.made.items;
-        module_bytes = c.in_ok-new.new.bytes.items;
-        mutates = c.in_ok-new.ensures.mutated;
-        does = c.in_ok-new.ensures.does_as_before;
+        stopped = c.in_ok-new.new.stopped;
+        written_bytes = c.in_ok-new.new.bytes.items;
+        outcome = c.in_ok-new.ensures.outcome;
         written = c.in_ok-new.ensures.written;
       };
       between = g.E.Write.contents c.report_module.new.notes;

@@ -13,22 +13,18 @@ use Rattle.peephole_module_commands.proofs.running.run.Goals as goal
 
 pub returns-in-Rewrite-clause-fails : goal.returns-in-Rewrite-clause-fails
 returns-in-Rewrite-clause-fails g c =
-    let rules = c.args.options.now.rules.items in
-    let only = c.args.options.now.function in
-    let count = c.args.options.now.count in
-    err_map c.rewrite.result (λ e h. subst (λ (task : Task). IfSome (g.R.Read.remaining c.args.input.now) (λ bytes. FailsToDo task rules only count bytes e))
-    (sym c.in-Rewrite.is) (of_all (λ bytes. FailsToRewrite rules only count bytes e) (g.R.Read.remaining c.args.input.now)
+    let options = c.args.options.now in
+    err_map c.rewrite.result (λ e h. subst (λ (task : Task). IfSome (g.R.Read.remaining c.args.input.now) (λ bytes. FailsToDo task options bytes e))
+    (sym c.in-Rewrite.is) (of_all (λ bytes. FailsToRewrite options bytes e) (g.R.Read.remaining c.args.input.now)
     (g.R.Read.remaining c.read_input.new.input) c.in_ok-bytes.bytes.items c.deref.result.now c.in_ok-bytes.ensures.bytes c.in_ok-bytes.ensures.end
     c.deref.ensures.value h)) c.rewrite.ensures.fails
 
 pub returns-in-Rewrite-clause-reported : goal.returns-in-Rewrite-clause-reported
 returns-in-Rewrite-clause-reported g c task asked =
-    let rules = c.args.options.now.rules.items in
-    let only = c.args.options.now.function in
-    let count = c.args.options.now.count in
+    let options = c.args.options.now in
     let before = g.W.Write.contents c.args.output.now in
     let behind = g.W.Write.contents c.rewrite.new.output in
-    ok_map c.rewrite.result (of_all (λ bytes. ReportsMutated rules only count bytes before behind (g.E.Write.contents c.args.notes.now)
+    ok_map c.rewrite.result (of_all (λ bytes. ReportsMutated options bytes before behind (g.E.Write.contents c.args.notes.now)
     (g.E.Write.contents c.rewrite.new.notes)) (g.R.Read.remaining c.args.input.now) (g.R.Read.remaining c.read_input.new.input) c.in_ok-bytes.bytes.items
     c.deref.result.now c.in_ok-bytes.ensures.bytes c.in_ok-bytes.ensures.end c.deref.ensures.value) (c.rewrite.ensures.reported asked)
 

@@ -1,5 +1,5 @@
 -- By the text that is read.
-use Rattle.std.proofs.Common.{◌≡◌, ◌∙◌, ap, codes, false, Option}
+use Rattle.std.proofs.Common.{◌∙◌, ap, codes, false, Option}
 use Rattle.std.specs.Option.{option_map_or}
 use Rattle.std.specs.Str.{bytes_eq}
 use Rattle.clap.specs.Matches.{found_of}

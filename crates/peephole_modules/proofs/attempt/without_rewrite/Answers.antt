@@ -2,7 +2,7 @@
 use Rattle.std.proofs.Common.{◌≡◌, ◌+◌, ap, subst, sym}
 use Rattle.peephole_modules.specs.Mutated.{IsChosen}
 use Rattle.peephole_modules.specs.Scope.{Scope}
-use Rattle.peephole_modules.proofs.AttemptLemmas.{index_not_for_size, index_reason, memory_not_for_size}
+use Rattle.peephole_modules.proofs.AttemptLemmas.{index_not_for_size, index_reason}
 use Rattle.peephole_modules.proofs.attempt.without_rewrite.Goals as goal
 
 pub returns-in-Err-chosen_entries-clause-reason : goal.returns-in-Err-chosen_entries-clause-reason
