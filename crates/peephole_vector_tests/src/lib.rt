@@ -1,5 +1,5 @@
-//! Tests by vectors from outside: of bytes and operators, of modules, their sections and what these declare, of what is known of
-//! a module, of what each row takes and gives, of scripts and of every node.
+//! Tests by vectors from outside: of bytes and operators, of modules, their sections, what these declare and the names of
+//! functions, of what is known of a module, of what each row takes and gives, of scripts and of every node.
 #![tactic(auto)]
 
 #[cfg(test)]
@@ -12,6 +12,8 @@ mod declarations;
 mod devices;
 #[cfg(test)]
 mod module;
+#[cfg(test)]
+mod names;
 #[cfg(test)]
 mod nodes;
 #[cfg(test)]
