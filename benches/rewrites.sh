@@ -3,30 +3,32 @@
 # One line a measurement:
 #   - a call of teddertempo_mutate from C on each module of tests/modules: the mean over some seeds (8, or SEEDS), of all calls,
 #     those that find nothing to rewrite too, each in a process of its own, less what the process takes without the call;
-#   - a run of peephole_mutate with --list, and one with --blocks, on each of them, less what a run with --version takes;
+#   - a run of teddertempo with --list, and one with --blocks, on each of them, less what a run with --version takes;
 #   - one rewrite, and --list, of a function that is one chain of 5,000 operators, and of one of 100,000, and the growth of what an
 #     operator takes, which stays near 1 where the time is linear;
 #   - one rewrite and eight, one after another, of a module of about 10 MB with many small functions, and what each further rewrite
 #     takes; seconds too, the least of three runs.
 #
-# Usage: rewrites.sh, once the program and the library are built. PEEPHOLE_MUTATE names the program, TEDDERTEMPO_LIB the folder of
-# the library, and RATTLE_C the kit's folder of liblibc_c.a; else they are those that `rt run` leaves in crates/peephole_mutate/out
-# and `rt lib` in crates/peephole_mutate_c/out, and that of the kit whose rt is on the path. Needs valgrind, Python and a C compiler,
-# and takes some minutes.
+# Usage: rewrites.sh, once the program is built. TEDDERTEMPO names it, else it is the one that `rt run` leaves in
+# crates/teddertempo/out. TEDDERTEMPO_LIB names the folder of libteddertempo.a, else it is built by tools/library.sh. Needs valgrind,
+# Python and a C compiler, and takes some minutes.
 set -euo pipefail
-program=$(realpath "${PEEPHOLE_MUTATE:-$(dirname "$0")/../crates/peephole_mutate/out/peephole_mutate}")
-library=$(realpath "${TEDDERTEMPO_LIB:-$(dirname "$0")/../crates/peephole_mutate_c/out}")
-if [ -z "${RATTLE_C:-}" ]; then RATTLE_C=$(dirname "$(realpath "$(command -v rt)")")/../c; fi
-RATTLE_C=$(realpath "$RATTLE_C")
+program=$(realpath "${TEDDERTEMPO:-$(dirname "$0")/../crates/teddertempo/out/teddertempo}")
+if [ -n "${TEDDERTEMPO_LIB:-}" ]; then library=$(realpath "$TEDDERTEMPO_LIB"); fi
 seeds=${SEEDS:-8}
 cd "$(dirname "$0")/.."
 
 work=$(mktemp -d)
 trap 'rm -rf "$work"' EXIT
 
+if [ -z "${library:-}" ]; then
+    library=$work/lib
+    tools/library.sh "$library" > /dev/null
+fi
+
 # Calls the library on the module of the first argument under the seed of the second, or doesn't where there is none.
 cat > "$work/call.c" <<'END'
-#include "teddertempo_mutate.h"
+#include <teddertempo.h>
 
 #include <stdio.h>
 #include <stdlib.h>
@@ -51,7 +53,7 @@ int main(int count, char **arguments)
     return 0;
 }
 END
-"${CC:-cc}" -std=c99 -O2 -I examples "$work/call.c" "$library/libpeephole_mutate_c.a" "$RATTLE_C/liblibc_c.a" -o "$work/call"
+"${CC:-cc}" -std=c99 -O2 -I include "$work/call.c" "$library/libteddertempo.a" -o "$work/call"
 
 # A module of one function that is a chain of so many operators, or of so many functions of ten operators each.
 module() {

@@ -5,12 +5,12 @@
 # and after each thousand rewrites.
 #
 # Usage: chained.sh [REWRITES [SEEDS [PROGRAM]]], rewrites in thousands; seeds are 1 if no number is given. The program is
-# peephole_mutate; where neither an argument nor the variable PEEPHOLE_MUTATE names one, it is the one that tests/modules.sh built.
+# teddertempo; where neither an argument nor the variable TEDDERTEMPO names one, it is the one that tests/modules.sh built.
 # Needs wabt (spectest-interp, wasm-interp, wasm-validate).
 set -euo pipefail
 rewrites=${1:-20000}
 seeds=${2:-1}
-program=${3:-${PEEPHOLE_MUTATE:-crates/peephole_mutate/out/peephole_mutate}}
+program=${3:-${TEDDERTEMPO:-crates/teddertempo/out/teddertempo}}
 cd "$(dirname "$0")/.."
 program=$(realpath "$program")
 source tests/modules/calls.sh

@@ -6,12 +6,12 @@
 # that no seed rewrites is a failure too, and so is a rule that rewrites no module, and a module whose own answers aren't those of
 # its list, which gcc made.
 #
-# Usage: modules.sh [SEEDS [PROGRAM]]. The program is peephole_mutate; where neither an argument nor the variable PEEPHOLE_MUTATE
-# names one, it is proved and built from crates/peephole_mutate. Needs wabt (spectest-interp, wasm-interp, wasm-validate); a
+# Usage: modules.sh [SEEDS [PROGRAM]]. The program is teddertempo; where neither an argument nor the variable TEDDERTEMPO
+# names one, it is proved and built from crates/teddertempo. Needs wabt (spectest-interp, wasm-interp, wasm-validate); a
 # few minutes for 200 seeds. A new module that fails is kept in the folder of the variable KEEP, where that is set.
 set -euo pipefail
 seeds=${1:-200}
-program=${2:-${PEEPHOLE_MUTATE:-}}
+program=${2:-${TEDDERTEMPO:-}}
 if [ -n "$program" ]; then program=$(realpath "$program"); fi
 cd "$(dirname "$0")/.."
 source tests/modules/calls.sh
@@ -20,8 +20,8 @@ work=$(mktemp -d)
 trap 'rm -rf "$work"' EXIT
 
 if [ -z "$program" ]; then
-    program=$PWD/crates/peephole_mutate/out/peephole_mutate
-    if ! (cd crates/peephole_mutate && rt run -- --seed 1 < ../../tests/modules/numbers.wasm) > /dev/null 2> "$work/log"; then
+    program=$PWD/crates/teddertempo/out/teddertempo
+    if ! (cd crates/teddertempo && rt run -- --seed 1 < ../../tests/modules/numbers.wasm) > /dev/null 2> "$work/log"; then
         cat "$work/log"
         exit 1
     fi

@@ -1,7 +1,7 @@
 #!/usr/bin/env bash
 # Refuses to each call that takes memory each of its requests in turn, and prints a line for each call: how many requests were
 # refused, one a run, and how many of them to the call itself. Fails where an answer is none of those allowed: a test in
-# peephole_worked_tests (src/refused.rt), peephole_rule_tests (src/refused_rewrites.rt), peephole_mutate
+# peephole_worked_tests (src/refused.rt), peephole_rule_tests (src/refused_rewrites.rt), teddertempo
 # (src/refused_modules.rt) or peephole_run (src/refused_memory.rt) says which, and stops at any other.
 #
 # The program in tests/refused_memory makes a call of those tests over all its samples. It is built twice: without a refusal,
@@ -28,7 +28,7 @@ mkdir -p "$program/src" "$work/counted" "$work/cases"
 cp tests/refused_memory/main.rt.in "$program/src/main.rt"
 cp crates/peephole_worked_tests/src/{graphs,refused,samples,table,terms,writing}.rt "$program/src"
 cp crates/peephole_rule_tests/src/refused_rewrites.rt "$program/src"
-cp crates/peephole_mutate/src/refused_modules.rt crates/peephole_run/src/refused_memory.rt "$program/src"
+cp crates/teddertempo/src/refused_modules.rt crates/peephole_run/src/refused_memory.rt "$program/src"
 libraries=$(grep '^peephole_rule_tests:' crates.txt | cut -d: -f2)
 { cat crates.txt; echo "refused_memory:$libraries wasm_module peephole_modules peephole_commands"; } > "$work/crates.txt"
 

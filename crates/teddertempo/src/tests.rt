@@ -187,7 +187,7 @@ fn module_of(name: &str) -> Option<&'static [u8]> {
 /// The options of the words of a command line behind the program's name.
 fn options(alloc: Global, line: &str) -> Result<Options, clap::Error> {
     let mut words: Vec<&str> = Vec::new(alloc);
-    words.push("peephole_mutate")?;
+    words.push("teddertempo")?;
     for word in line.split_whitespace() {
         words.push(word)?;
     }
