@@ -1,5 +1,6 @@
 pub mod PlainTypes
 pub mod Rewriting
+pub mod Extent
 pub mod Trees
 pub mod Choice
 pub mod HasWords

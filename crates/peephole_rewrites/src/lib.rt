@@ -4,6 +4,7 @@
 
 mod choice;
 mod counts;
+mod extent;
 pub mod laws;
 mod random;
 mod rewrite;
@@ -13,6 +14,7 @@ mod tree;
 mod trees;
 mod word;
 
+pub use extent::tree_start;
 pub use random::{Rewritten, rewrite_tree_at_random};
 pub use rewrite::Rewrite;
 pub use rewrites::rewrites_of_body;

@@ -87,8 +87,8 @@ fn tree_of(
     Ok(expr)
 }
 
-// The tree of the operator, found by reading the operators up to it.
-fn found_at(
+/// The tree of the operator, found by reading the operators up to it.
+pub(crate) fn found_at(
     alloc: Global,
     locals: &[PrimitiveTypeInfo],
     info: &ModuleInfo<'_>,
