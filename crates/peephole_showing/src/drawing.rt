@@ -7,12 +7,18 @@ use peephole_graphs::{BBlock, DFGBuilder, MiniDFG};
 use std::alloc::Global;
 use wasm_code::OperatorAndByteOffset;
 
-// The graph of the operators; none where there is none.
+// The most operators that are drawn: a deep tree's drawing grows with the square of its depth.
+const MOST_DRAWN: usize = 256;
+
+// The graph of the operators; none where there is none, or they are too many to be drawn.
 fn graph_of(
     alloc: Global,
     info: &ModuleInfo<'_>,
     operators: &[OperatorAndByteOffset],
 ) -> Result<Option<MiniDFG>, ShowError> {
+    if operators.len() > MOST_DRAWN {
+        return Ok(None);
+    }
     let Some(block) = BBlock::of_range(0, operators.len(), operators) else {
         return Ok(None);
     };
@@ -51,8 +57,8 @@ fn add_graph(alloc: Global, text: &mut String, graph: &MiniDFG) -> Result<(), Sh
     Ok(())
 }
 
-/// Adds the lines of the operators, drawn as the trees of their graph, one root's behind another's; where they have no graph, the
-/// operators one a line.
+/// Adds the lines of the operators, drawn as the trees of their graph, one root's behind another's; where they have no graph, or are
+/// more than 256, the operators one a line.
 pub(crate) fn add_drawn(
     alloc: Global,
     text: &mut String,

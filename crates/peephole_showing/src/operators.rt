@@ -1,4 +1,4 @@
-//! Operators one a line, where they have no graph.
+//! Operators one a line, where they aren't drawn.
 
 use crate::error::ShowError;
 use mutate_base::ModuleInfo;

@@ -4,7 +4,8 @@ use crate::{ShowError, write_shown};
 use peephole_modules::MadeRewrite;
 use peephole_rewrites::Rewrite;
 use peephole_rules::Rule;
-use std::alloc::Global;
+use std::alloc::{AllocError, Global};
+use std::str;
 use std::test::Fail;
 
 /// A function of two i32 that answers their sum, with a name that has a line feed.
@@ -100,5 +101,35 @@ fn shows_no_tree_where_none_is(rt: HostRuntime) -> Result<(), Fail> {
     };
     let text = shown(rt.alloc(), PARTS, FOLDED, 0, rewrite)?;
     assert!(rt; text.as_slice() == TREELESS.as_bytes());
+    Ok(())
+}
+
+/// What stands in the module before the body of `deep`: a function that takes nothing and gives nothing.
+const BEFORE_DEEP: &[u8] = b"\0asm\x01\0\0\0\x01\x04\x01\x60\0\0\x03\x02\x01\0\
+    \x0a\xb4\x02\x01\xb1\x02\0\x41\0";
+
+/// A function that drops what `i32.eqz` makes of 0, 300 times over.
+fn deep(alloc: Global) -> Result<Vec<u8>, AllocError> {
+    let mut bytes = Vec::from_slice(alloc, BEFORE_DEEP)?;
+    for _ in 0..300 {
+        bytes.push(0x45)?;
+    }
+    bytes.extend_from_slice(b"\x1a\x0b")?;
+    Ok(bytes)
+}
+
+#[test]
+fn lists_a_large_tree(rt: HostRuntime) -> Result<(), Fail> {
+    let alloc = rt.alloc();
+    let bytes = deep(alloc)?;
+    let rewrite = Rewrite {
+        operator: 300,
+        rule: Rule::XorZero,
+    };
+    let text = shown(alloc, &bytes, &bytes, 0, rewrite)?;
+    let text = str::from_utf8(&text)?;
+    assert!(rt; text.lines().count() == 606);
+    assert!(rt; text.lines().nth(3) == Some("    i32.const.0"));
+    assert!(rt; text.lines().last() == Some("    i32.eqz"));
     Ok(())
 }

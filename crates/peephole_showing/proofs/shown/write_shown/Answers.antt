@@ -1,5 +1,4 @@
 -- The first line, and the others behind it.
-use Rattle.std.proofs.Common.{string_bytes}
 use Rattle.peephole_showing.specs.Shown.{first_line}
 use Rattle.peephole_showing.proofs.ShownLemmas.{appends_more, ok_map}
 use Rattle.peephole_showing.proofs.shown.write_shown.Goals as goal
