@@ -1,14 +1,18 @@
 #!/usr/bin/env bash
-# Builds the static library, and the examples over it in C and in Rust, and runs both on the modules of tests/modules under some
-# seeds (8, or the number that is given): both say the same and write the same bytes, which wasm-validate accepts, where it is
-# there. Also compiles the header as C++, runs the tests of the Rust crate, and, where clang has libFuzzer, some runs of the fuzz
-# target. The last line is `N passed, N failed`.
+# Builds the examples in C, in Rust and for fuzzers over the static library, and runs them:
+#   - the two programs rewrite the modules of tests/modules under some seeds (8, or the number that is given), each with options of its
+#     own: both say the same and write the same bytes, which wasm-validate accepts, where it is there;
+#   - the header is compiled as C++, and the tests of the Rust crate are run;
+#   - where clang has libFuzzer, 2,000 runs of the fuzz target;
+#   - where AFL++ is there, three instances of afl-fuzz for a minute (or AFL_SECONDS; none where that is 0): two over one output
+#     folder, and one that changes inputs by the custom mutator alone. Each has run the target, and what the mutator made was kept.
+# The last line is `N passed, N failed`.
 #
-# Usage: run.sh [SEEDS]. Needs a C compiler and cargo. TEDDERTEMPO_LIB names the folder of a library that is built already, and
-# RATTLE_C the kit's folder of liblibc_c.a; else they are crates/peephole_mutate_c/out, after `rt lib` there, and that of the kit
-# whose rt is on the path.
+# Usage: run.sh [SEEDS]. Needs a C compiler and cargo. TEDDERTEMPO_LIB names the folder of libteddertempo.a; where it isn't set,
+# tools/library.sh proves and builds the library first.
 set -euo pipefail
 seeds=${1:-8}
+afl_seconds=${AFL_SECONDS:-60}
 if [ -n "${TEDDERTEMPO_LIB:-}" ]; then TEDDERTEMPO_LIB=$(realpath "$TEDDERTEMPO_LIB"); fi
 cd "$(dirname "$0")/.."
 
@@ -16,15 +20,15 @@ work=$(mktemp -d)
 trap 'rm -rf "$work"' EXIT
 
 if [ -z "${TEDDERTEMPO_LIB:-}" ]; then
-    if ! (cd crates/peephole_mutate_c && rt lib) > "$work/log" 2>&1; then
-        cat "$work/log"
-        exit 1
-    fi
-    TEDDERTEMPO_LIB=$PWD/crates/peephole_mutate_c/out
+    tools/library.sh "$work/lib"
+    TEDDERTEMPO_LIB=$work/lib
 fi
-if [ -z "${RATTLE_C:-}" ]; then RATTLE_C=$(realpath "$(dirname "$(realpath "$(command -v rt)")")/../c"); fi
-export TEDDERTEMPO_LIB RATTLE_C
-libraries="$TEDDERTEMPO_LIB/libpeephole_mutate_c.a $RATTLE_C/liblibc_c.a"
+export TEDDERTEMPO_LIB
+library=$TEDDERTEMPO_LIB/libteddertempo.a
+if [ ! -f "$library" ]; then
+    echo "run.sh needs $library: TEDDERTEMPO_LIB names its folder, and tools/library.sh builds it" >&2
+    exit 1
+fi
 
 passed=0
 failed=0
@@ -42,55 +46,132 @@ judge() {
     fi
 }
 
-# Writes a module that either program makes under a seed: the same, with the same status.
+finish() {
+    echo "$passed passed, $failed failed"
+    [ "$failed" -eq 0 ]
+    exit
+}
+
+# The options of the programs for a seed: each eight times of them differ.
+options_of() {
+    echo "--seed $1"
+    case $(($1 % 8)) in
+        1) echo "--count 5" ;;
+        2) echo "--rule $rule" ;;
+        3) echo "--growth 0" ;;
+        4) echo "--function $(($1 / 8))" ;;
+        5) echo "--count 100 --growth 40" ;;
+        6) echo "--rule no_such_rule" ;;
+    esac
+}
+
+# Writes a module that either program makes with some options: the same, with the same words and the same status.
 compare() {
-    local module=$1 seed=$2 by_c=0 by_rust=0
-    rm -f "$work/c.wasm" "$work/rust.wasm"
-    timeout 60 "$work/mutate" "$module" "$seed" "$work/c.wasm" || by_c=$?
-    timeout 60 "$work/target/release/teddertempo_mutate" "$module" "$seed" "$work/rust.wasm" || by_rust=$?
+    local module=$1 by_c=0 by_rust=0
+    shift
+    rm -f "$work"/{c,rust}.wasm
+    timeout 60 "$work/mutate" "$@" "$module" "$work/c.wasm" > "$work/c.said" 2> "$work/c.message" || by_c=$?
+    timeout 60 "$work/target/release/examples/mutate" "$@" "$module" "$work/rust.wasm" > "$work/rust.said" 2> "$work/rust.message" || by_rust=$?
+    cat "$work"/{c,rust}.{said,message}
     if [ "$by_c" -ne "$by_rust" ]; then
         echo "status $by_c in C, $by_rust in Rust"
         return 1
     fi
-    if [ "$by_c" -eq 2 ]; then
-        test ! -e "$work/c.wasm" && test ! -e "$work/rust.wasm"
+    cmp "$work/c.said" "$work/rust.said" && cmp "$work/c.message" "$work/rust.message" || return 1
+    if [ "$by_c" -ne 0 ]; then
+        test "$by_c" -le 2 && test ! -e "$work/c.wasm" && test ! -e "$work/rust.wasm"
         return
     fi
-    test "$by_c" -eq 0 && cmp "$work/c.wasm" "$work/rust.wasm" || return 1
+    cmp "$work/c.wasm" "$work/rust.wasm" || return 1
     echo rewritten >> "$work/count"
     if command -v wasm-validate > /dev/null; then wasm-validate --enable-threads "$work/c.wasm"; fi
 }
 
-# shellcheck disable=SC2086
-judge "examples/c/mutate.c" "${CC:-cc}" -std=c99 -pedantic -Wall -Wextra -Werror -O2 examples/c/mutate.c $libraries -o "$work/mutate"
+# The crate doesn't build without the library, and says what to do.
+explains() {
+    local status=0
+    env -u TEDDERTEMPO_LIB PKG_CONFIG_PATH= PKG_CONFIG_LIBDIR="$work" CARGO_TARGET_DIR="$work/target_without" \
+        cargo build --quiet --locked --offline --manifest-path examples/rust/Cargo.toml > "$work/said" 2>&1 || status=$?
+    cat "$work/said"
+    test "$status" -ne 0 && grep -q "set TEDDERTEMPO_LIB to its folder" "$work/said"
+}
+
+# Compiles C that stands beside this script, with the header and the library.
+compile() {
+    local source=$1 compiler=$2
+    shift 2
+    "$compiler" -std=c99 -Wall -Wextra -Werror -I include "examples/$source" "$@"
+}
+
+judge "c/mutate.c" compile c/mutate.c "${CC:-cc}" -pedantic -O2 "$library" -o "$work/mutate"
 if command -v "${CXX:-c++}" > /dev/null; then
-    judge "the header in C++" "${CXX:-c++}" -x c++ -std=c++11 -Wall -Wextra -Werror -fsyntax-only - < examples/teddertempo_mutate.h
+    judge "the header in C++" "${CXX:-c++}" -x c++ -std=c++11 -Wall -Wextra -Werror -fsyntax-only - < include/teddertempo.h
 fi
 export CARGO_TARGET_DIR=$work/target
-judge "examples/rust" cargo build --quiet --release --locked --offline --manifest-path examples/rust/Cargo.toml
-judge "the tests of examples/rust" timeout 300 cargo test --quiet --locked --offline --manifest-path examples/rust/Cargo.toml
+cargo=(--quiet --locked --offline --manifest-path examples/rust/Cargo.toml)
+judge "examples/rust" cargo build "${cargo[@]}" --release --all-targets
+judge "the tests of examples/rust" timeout 300 cargo test "${cargo[@]}"
+judge "what examples/rust says without the library" explains
 
 : > "$work/count"
-if [ ! -x "$work/mutate" ] || [ ! -x "$work/target/release/teddertempo_mutate" ]; then
-    echo "$passed passed, $failed failed"
-    exit 1
-fi
-for module in tests/modules/*.wasm; do
+if [ ! -x "$work/mutate" ] || [ ! -x "$work/target/release/examples/mutate" ]; then finish; fi
+rule=$("$work/mutate" --seed 0 tests/modules/numbers.wasm "$work/new.wasm" | sed -n 's/.*, the last by \(.*\) in function .*/\1/p')
+rule=${rule:-commute}
+for module in tests/modules/*.wasm README.md; do
     for seed in $(seq 0 $((seeds - 1))); do
-        judge "$(basename "$module") under seed $seed" compare "$module" "$seed"
+        read -ra options <<< "$(options_of "$seed" | tr '\n' ' ')"
+        judge "$(basename "$module") with ${options[*]}" compare "$module" "${options[@]}"
     done
 done
 judge "rewriting any module" test -s "$work/count"
 
+mkdir "$work/corpus"
+cp tests/modules/*.wasm "$work/corpus"
 if command -v clang > /dev/null && echo 'int LLVMFuzzerTestOneInput(const char *d, long n) { return d && n < 0; }' \
     | clang -fsanitize=fuzzer -x c - -o "$work/has_fuzzer" 2> /dev/null; then
-    mkdir "$work/corpus"
-    cp tests/modules/*.wasm "$work/corpus"
-    # shellcheck disable=SC2086
-    judge "examples/c/fuzz.c" clang -std=c99 -Wall -Wextra -O1 -g -fsanitize=fuzzer,address examples/c/fuzz.c $libraries -o "$work/fuzz"
-    judge "2,000 runs of the fuzz target" timeout 300 "$work/fuzz" -runs=2000 -seed=1 -max_len=65536 -artifact_prefix="$work/" "$work/corpus"
+    judge "c/fuzz.c" compile c/fuzz.c clang -O1 -g -fsanitize=fuzzer,address "$library" -o "$work/fuzz"
+    cp -r "$work/corpus" "$work/fuzzed"
+    judge "2,000 runs of the fuzz target" timeout 300 "$work/fuzz" -runs=2000 -seed=1 -max_len=65536 -artifact_prefix="$work/" "$work/fuzzed"
+fi
+
+# Starts an instance of AFL++ that ends by itself.
+start_afl() {
+    local folder=$1 name=$2
+    shift 2
+    AFL_SKIP_CPUFREQ=1 AFL_I_DONT_CARE_ABOUT_MISSING_CRASHES=1 AFL_NO_AFFINITY=1 AFL_NO_UI=1 AFL_DISABLE_TRIM=1 \
+        AFL_CUSTOM_MUTATOR_LIBRARY=$work/teddertempo.so timeout $((afl_seconds + 120)) \
+        afl-fuzz -i "$work/corpus" -o "$work/$folder" -V "$afl_seconds" "$@" -- "$work/target_afl" > "$work/$folder-$name.log" 2>&1
+}
+
+# Judges an instance: it ran the target, and kept what the mutator made.
+fuzzed() {
+    local folder=$1 name=$2 execs kept
+    if ! execs=$(sed -n 's/^execs_done *: //p' "$work/$folder/$name/fuzzer_stats"); then
+        tail -n 30 "$work/$folder-$name.log"
+        return 1
+    fi
+    kept=$(find "$work/$folder/$name/queue" -maxdepth 1 -name '*op:teddertempo*' | wc -l)
+    echo "$folder $name: $execs runs, $(sed -n 's/^corpus_found *: //p' "$work/$folder/$name/fuzzer_stats") kept, $kept of the mutator's" \
+        | tee -a "$work/afl"
+    test "$execs" -ge $((afl_seconds * 10)) && test "$kept" -gt 0
+}
+
+# Nothing is kept but what the mutator made.
+kept_alone() { test "$(find "$work/alone/default/queue" -maxdepth 1 -name 'id:*' | grep -c -v -e ',orig:' -e 'op:teddertempo')" -eq 0; }
+
+if command -v afl-fuzz > /dev/null && command -v afl-clang-fast > /dev/null && [ "$afl_seconds" -gt 0 ]; then
+    judge "afl/target.c" compile afl/target.c afl-clang-fast -O1 -o "$work/target_afl"
+    judge "afl/mutator.c" compile afl/mutator.c "${CC:-cc}" -pedantic -O2 -shared -fPIC "$library" -o "$work/teddertempo.so"
+    start_afl together main -M main & instances=($!)
+    start_afl together second -S second & instances+=($!)
+    AFL_CUSTOM_MUTATOR_ONLY=1 start_afl alone default & instances+=($!)
+    for instance in "${instances[@]}"; do judge "an instance of AFL++" wait "$instance"; done
+    judge "AFL++, main" fuzzed together main
+    judge "AFL++, second" fuzzed together second
+    judge "AFL++, with the mutator alone" fuzzed alone default
+    judge "what AFL++ keeps with the mutator alone" kept_alone
+    cat "$work/afl"
 fi
 
 echo "$(wc -l < "$work/count") modules rewritten"
-echo "$passed passed, $failed failed"
-[ "$failed" -eq 0 ]
+finish

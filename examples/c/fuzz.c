@@ -1,15 +1,17 @@
 /*
- * A fuzz target for libFuzzer whose mutator rewrites modules so that they run as before, and leaves other bytes to libFuzzer's own.
+ * A fuzz target for libFuzzer whose mutator rewrites modules so that they do what they did, and leaves other bytes to libFuzzer's own:
  *
- *     clang -fsanitize=fuzzer fuzz.c libpeephole_mutate_c.a liblibc_c.a -o fuzz && ./fuzz CORPUS
- *
- * LLVMFuzzerTestOneInput is where the fuzzer of an engine runs the module; this one looks at the first bytes alone.
+ *     clang -fsanitize=fuzzer fuzz.c $(pkg-config --cflags --libs teddertempo) -o fuzz && ./fuzz CORPUS
  */
-#include "../teddertempo_mutate.h"
+#include <teddertempo.h>
 
 #include <string.h>
 
 size_t LLVMFuzzerMutate(uint8_t *data, size_t size, size_t max_size);
+size_t LLVMFuzzerCustomMutator(uint8_t *data, size_t size, size_t max_size, unsigned int seed);
+size_t LLVMFuzzerCustomCrossOver(const uint8_t *data1, size_t size1, const uint8_t *data2, size_t size2, uint8_t *out,
+                                 size_t max_out_size, unsigned int seed);
+int LLVMFuzzerTestOneInput(const uint8_t *data, size_t size);
 
 /* A module begins with these bytes, the magic and the version. */
 static const uint8_t preamble[8] = {0x00, 0x61, 0x73, 0x6d, 0x01, 0x00, 0x00, 0x00};
@@ -19,15 +21,23 @@ static int begins_as_module(const uint8_t *data, size_t size)
     return size >= sizeof preamble && memcmp(data, preamble, sizeof preamble) == 0;
 }
 
+/* What is no module, and a module that can't be rewritten, libFuzzer changes as it would any bytes. */
 size_t LLVMFuzzerCustomMutator(uint8_t *data, size_t size, size_t max_size, unsigned int seed)
 {
-    if (begins_as_module(data, size)) {
-        size_t new_size = teddertempo_mutate(data, size, max_size, seed);
-        if (new_size != 0) {
-            return new_size;
-        }
-    }
-    return LLVMFuzzerMutate(data, size, max_size);
+    size_t new_size = teddertempo_mutate(data, size, max_size, seed);
+
+    return new_size != 0 ? new_size : LLVMFuzzerMutate(data, size, max_size);
+}
+
+/*
+ * A part of one module with a part of another behind it is no module. Where this returns 0, libFuzzer takes the mutator above, which
+ * crosses other bytes by way of LLVMFuzzerMutate.
+ */
+size_t LLVMFuzzerCustomCrossOver(const uint8_t *data1, size_t size1, const uint8_t *data2, size_t size2, uint8_t *out,
+                                 size_t max_out_size, unsigned int seed)
+{
+    (void)data1, (void)size1, (void)data2, (void)size2, (void)out, (void)max_out_size, (void)seed;
+    return 0;
 }
 
 int LLVMFuzzerTestOneInput(const uint8_t *data, size_t size)
@@ -35,6 +45,6 @@ int LLVMFuzzerTestOneInput(const uint8_t *data, size_t size)
     if (!begins_as_module(data, size)) {
         return 0;
     }
-    /* Here an engine reads the module, runs it, and compares what it gives with what another engine gives. */
+    /* Here an engine reads the module and runs it, and what it gives is compared with what another engine gives. */
     return 0;
 }

@@ -1,20 +1,32 @@
 /*
- * Reads a module from a file, rewrites it under a seed and writes it to another file:
+ * Rewrites a module and says what was done, or why nothing was:
  *
- *     mutate MODULE SEED NEW
+ *     mutate [--seed N] [--count N] [--function N] [--growth N] [--rule NAME].. MODULE NEW
  *
- * The status is 2 where the library writes no module (the file holds none, nothing can be rewritten, the new one has no room),
- * and 1 where a file can't be read or written.
+ * Numbers are decimal. Without --rule all rules are meant; --growth is how many bytes NEW may have more than MODULE. The status is 2
+ * where the library writes no module, and 1 where the options can't be read, or a file can't be read or written.
  */
-#include "../teddertempo_mutate.h"
+#include <teddertempo.h>
 
 #include <errno.h>
 #include <inttypes.h>
 #include <stdio.h>
 #include <stdlib.h>
+#include <string.h>
 
-/* How many bytes more than the old module the new one may have. */
-enum { EXTRA = 4096 };
+/* How many bytes more than the old module the new one may have, and how many the name of a rule. */
+enum { EXTRA = 1 << 16, LONGEST_NAME = 64 };
+
+/* Why nothing was done, by the outcome. */
+static const char *const reasons[] = {
+    [TEDDERTEMPO_LINKABLE_OBJECT] = "a linkable object",
+    [TEDDERTEMPO_UNREADABLE] = "no function can be read",
+    [TEDDERTEMPO_NO_RULE] = "no rule applies",
+    [TEDDERTEMPO_NO_FUNCTION] = "no function with that index",
+    [TEDDERTEMPO_TOO_LARGE] = "no rewrite fits",
+    [TEDDERTEMPO_NO_MEMORY] = "no memory",
+    [TEDDERTEMPO_BAD_OPTIONS] = "bad options",
+};
 
 /* Reads a file into a new buffer with EXTRA bytes of room behind it; null where that fails. */
 static uint8_t *read_file(const char *name, size_t *size)
@@ -51,37 +63,92 @@ static int write_file(const char *name, const uint8_t *data, size_t size)
 }
 
 /* Reads a decimal number of 64 bits; 0 where the text is none. */
-static int read_seed(const char *text, uint64_t *seed)
+static int read_number(const char *text, uint64_t *number)
 {
     char *end;
 
     errno = 0;
-    *seed = strtoumax(text, &end, 10);
+    *number = strtoumax(text, &end, 10);
     return *text >= '0' && *text <= '9' && *end == '\0' && errno == 0;
+}
+
+/* Adds the rule with a name to those that may be used; 0 where there is none. */
+static int add_rule(const char *text, struct teddertempo_options *options)
+{
+    char name[LONGEST_NAME];
+    size_t size;
+    uint32_t rule;
+
+    for (rule = 0; (size = teddertempo_rule_name(rule, name, sizeof name)) != 0; rule++) {
+        if (size <= sizeof name && size == strlen(text) && memcmp(name, text, size) == 0) {
+            options->rules[rule / 64] |= (uint64_t)1 << (rule % 64);
+            return 1;
+        }
+    }
+    return 0;
+}
+
+/* Reads an option and its value; 0 where there is no such option, or the value is none for it. */
+static int read_option(const char *option, const char *value, struct teddertempo_options *options)
+{
+    if (strcmp(option, "--seed") == 0) {
+        return read_number(value, &options->seed);
+    }
+    if (strcmp(option, "--count") == 0) {
+        return read_number(value, &options->count);
+    }
+    if (strcmp(option, "--function") == 0) {
+        return read_number(value, &options->function);
+    }
+    if (strcmp(option, "--growth") == 0) {
+        return read_number(value, &options->max_growth);
+    }
+    return strcmp(option, "--rule") == 0 && add_rule(value, options);
+}
+
+/* Says what a call has made of a module of so many bytes. */
+static void tell(const struct teddertempo_report *report, size_t size, size_t new_size)
+{
+    char name[LONGEST_NAME];
+    size_t length;
+
+    if (report->outcome == TEDDERTEMPO_REWRITTEN) {
+        length = teddertempo_rule_name(report->rule, name, sizeof name);
+        printf("%zu bytes, now %zu; rewrites %" PRIu64 ", the last by %.*s in function %" PRIu64 "\n", size, new_size, report->made,
+               (int)(length < sizeof name ? length : sizeof name), name, report->function);
+    } else if (report->outcome == TEDDERTEMPO_NOT_A_MODULE) {
+        printf("not rewritten: no module, by its byte %" PRIu64 "\n", report->offset);
+    } else {
+        printf("not rewritten: %s\n", reasons[report->outcome]);
+    }
 }
 
 int main(int count, char **arguments)
 {
-    uint64_t seed;
+    struct teddertempo_options options = {0, {0, 0}, TEDDERTEMPO_ANY_FUNCTION, 1, TEDDERTEMPO_ANY_GROWTH};
+    struct teddertempo_report report;
     uint8_t *data;
-    size_t size = 0;
-    int status = 0;
+    size_t size = 0, new_size;
+    int at = 1, status = 0;
 
-    if (count != 4 || !read_seed(arguments[2], &seed)) {
-        fprintf(stderr, "usage: mutate MODULE SEED NEW\n");
+    while (at + 1 < count && read_option(arguments[at], arguments[at + 1], &options)) {
+        at += 2;
+    }
+    if (count - at != 2) {
+        fprintf(stderr, "usage: mutate [--seed N] [--count N] [--function N] [--growth N] [--rule NAME].. MODULE NEW\n");
         return 1;
     }
-    data = read_file(arguments[1], &size);
+    data = read_file(arguments[at], &size);
     if (data == NULL) {
-        fprintf(stderr, "mutate: %s can't be read\n", arguments[1]);
+        fprintf(stderr, "mutate: %s can't be read\n", arguments[at]);
         return 1;
     }
-    size = teddertempo_mutate(data, size, size + EXTRA, seed);
-    if (size == 0) {
-        fprintf(stderr, "mutate: not rewritten\n");
+    new_size = teddertempo_mutate_with(data, size, size + EXTRA, &options, &report);
+    tell(&report, size, new_size);
+    if (new_size == 0) {
         status = 2;
-    } else if (!write_file(arguments[3], data, size)) {
-        fprintf(stderr, "mutate: %s can't be written\n", arguments[3]);
+    } else if (!write_file(arguments[at + 1], data, new_size)) {
+        fprintf(stderr, "mutate: %s can't be written\n", arguments[at + 1]);
         status = 1;
     }
     free(data);

@@ -1,21 +1,49 @@
-//! Links the static library of Teddertempo, and the Rattle kit's, by which it takes memory.
-//!
-//! `TEDDERTEMPO_LIB` names the folder of `libpeephole_mutate_c.a`, and `RATTLE_C` that of the kit's `liblibc_c.a`
-//! (`/opt/rattle/c` where it is not set).
+//! Links `libteddertempo.a`: from the folder that `TEDDERTEMPO_LIB` names, or where `pkg-config` finds it.
 
 use std::env;
+use std::process::Command;
+
+/// The folders and libraries that `pkg-config` names for the linker, if they are of this crate's version.
+fn ask_pkg_config() -> Result<String, String> {
+    let program = env::var("PKG_CONFIG").unwrap_or_else(|_| "pkg-config".into());
+    let wanted = concat!("teddertempo = ", env!("CARGO_PKG_VERSION"));
+    let output = Command::new(&program)
+        .args(["--libs", wanted])
+        .output()
+        .map_err(|e| format!("{program}: {e}"))?;
+    if output.status.success() {
+        Ok(String::from_utf8_lossy(&output.stdout).into_owned())
+    } else {
+        let message = String::from_utf8_lossy(&output.stderr);
+        Err(message.split_whitespace().collect::<Vec<_>>().join(" "))
+    }
+}
 
 fn main() {
-    println!("cargo::rerun-if-env-changed=TEDDERTEMPO_LIB");
-    println!("cargo::rerun-if-env-changed=RATTLE_C");
-    let Ok(library) = env::var("TEDDERTEMPO_LIB") else {
-        println!("cargo::error=set TEDDERTEMPO_LIB to the folder of libpeephole_mutate_c.a");
+    for variable in ["TEDDERTEMPO_LIB", "PKG_CONFIG", "PKG_CONFIG_PATH"] {
+        println!("cargo::rerun-if-env-changed={variable}");
+    }
+    if let Ok(folder) = env::var("TEDDERTEMPO_LIB") {
+        println!("cargo::rerun-if-changed={folder}/libteddertempo.a");
+        println!("cargo::rustc-link-search=native={folder}");
+        println!("cargo::rustc-link-lib=static=teddertempo");
         return;
-    };
-    let kit = env::var("RATTLE_C").unwrap_or_else(|_| "/opt/rattle/c".into());
-    println!("cargo::rerun-if-changed={library}/libpeephole_mutate_c.a");
-    println!("cargo::rustc-link-search=native={library}");
-    println!("cargo::rustc-link-search=native={kit}");
-    println!("cargo::rustc-link-lib=static=peephole_mutate_c");
-    println!("cargo::rustc-link-lib=static=libc_c");
+    }
+    match ask_pkg_config() {
+        Ok(words) => {
+            for folder in words
+                .split_whitespace()
+                .filter_map(|w| w.strip_prefix("-L"))
+            {
+                println!("cargo::rustc-link-search=native={folder}");
+            }
+            println!("cargo::rustc-link-lib=teddertempo");
+        }
+        Err(message) => {
+            println!(
+                "cargo::error=libteddertempo.a isn't found: set TEDDERTEMPO_LIB to its folder, or install \
+                 Teddertempo's package, or set PKG_CONFIG_PATH to the folder of teddertempo.pc ({message})"
+            );
+        }
+    }
 }

@@ -1,31 +1,86 @@
-//! Rewrites some instructions of a WebAssembly module so that what stands round them runs as before: safe Rust over the static
-//! library `peephole_mutate_c`.
+//! Rewrites instructions of a WebAssembly module so that it does what it did: safe Rust over the static library of Teddertempo,
+//! whose header, `teddertempo.h`, says what is proved of the calls.
 //!
-//! Nothing compares the declaration below with the library's own, or a call of it with what the library asks of its callers.
-//! [`mutate`] meets that on every argument.
+//! [`mutate`] is one rewrite of any kind, [`mutate_with`] takes [`Options`] and answers a [`Report`], and [`mutate_slice`] rewrites
+//! in place, as a fuzzer's mutator does. With cargo-fuzz:
+//!
+//! ```ignore
+//! libfuzzer_sys::fuzz_mutator!(|data: &mut [u8], size: usize, max_size: usize, seed: u32| {
+//!     let options = teddertempo::Options::new().seed(seed.into());
+//!     let (new_size, report) = teddertempo::mutate_slice(&mut data[..max_size], size, &options);
+//!     if report.is_rewritten() {
+//!         new_size
+//!     } else {
+//!         libfuzzer_sys::fuzzer_mutate(data, size, max_size)
+//!     }
+//! });
+//! ```
 
-// The header `examples/teddertempo_mutate.h` says what the call does. A slice of bytes crosses as a pointer and a length.
-unsafe extern "C" {
-    fn teddertempo_mutate_module(data: *mut u8, max_size: usize, size: usize, seed: u64) -> usize;
+mod options;
+mod raw;
+mod report;
+mod rule;
+
+pub use options::Options;
+pub use report::{Outcome, Report, Rewrite};
+pub use rule::{NoSuchRule, Rule};
+
+/// Rewrites the module in `data[..size]` in place, to one of at most `data.len()` bytes, and answers the new size.
+///
+/// Where it isn't rewritten, the size and the bytes are as they were. Bytes behind the new module stay as they were.
+pub fn mutate_slice(data: &mut [u8], size: usize, options: &Options) -> (usize, Report) {
+    let Some(options) = options.raw() else {
+        return (size, Report::of_nothing(Outcome::BadOptions));
+    };
+    let mut report = raw::Report::default();
+    // SAFETY: the declaration is the header's. The pointers are those of a slice, whose length is handed over and which isn't null
+    // even where that is 0, and of two values that lie apart from it; nothing else reads or writes them during the call. That
+    // `size` is at most the length, the library checks.
+    let new_size = unsafe {
+        raw::teddertempo_mutate_with(
+            data.as_mut_ptr(),
+            size,
+            data.len(),
+            &raw const options,
+            &raw mut report,
+        )
+    };
+    let report = Report::of_raw(&report);
+    if new_size == 0 {
+        (size, report)
+    } else {
+        (new_size, report)
+    }
 }
 
-/// Rewrites `module` at one place that `seed` draws. The new module has at most `extra` bytes more than the old one.
-///
-/// Returns `None` where the bytes are no module that can be read, where nothing in it can be rewritten, where the new module is
-/// longer, or where no memory is left for it. Equal modules and seeds give equal bytes.
-#[must_use]
-pub fn mutate(module: &[u8], extra: usize, seed: u64) -> Option<Vec<u8>> {
-    let room = module.len().checked_add(extra)?;
-    let mut data = Vec::new();
-    data.try_reserve_exact(room).ok()?;
-    data.extend_from_slice(module);
-    data.resize(room, 0);
-    // SAFETY: the declaration above is the header's. The pointer is that of a vector of `room` initialized bytes, which is not
-    // null even where `room` is 0, and which nothing else reads or writes during the call; `module.len()` is at most `room`.
-    let size = unsafe { teddertempo_mutate_module(data.as_mut_ptr(), room, module.len(), seed) };
-    if size == 0 {
-        return None;
+/// Rewrites a module to one of at most `max` bytes; so many are taken meanwhile. Where it isn't rewritten, it is as it was.
+pub fn mutate_with(module: &mut Vec<u8>, max: usize, options: &Options) -> Report {
+    let size = module.len();
+    let Some(extra) = max.checked_sub(size) else {
+        return Report::of_nothing(Outcome::BadOptions);
+    };
+    if module.try_reserve_exact(extra).is_err() {
+        return Report::of_nothing(Outcome::NoMemory);
     }
-    data.truncate(size);
-    Some(data)
+    module.resize(max, 0);
+    let (new_size, report) = mutate_slice(module, size, options);
+    module.truncate(new_size);
+    report
+}
+
+/// Rewrites a module once, by any rule in any function, to one of at most `max` bytes, and tells whether it did.
+///
+/// ```
+/// let mut module = b"\0asm\x01\0\0\0".to_vec();
+/// assert!(!teddertempo::mutate(&mut module, 4096, 7));
+/// ```
+pub fn mutate(module: &mut Vec<u8>, max: usize, seed: u64) -> bool {
+    mutate_with(module, max, &Options::new().seed(seed)).is_rewritten()
+}
+
+/// The library's version as a number, 0x000200 for 0.2.0.
+#[must_use]
+pub fn version() -> u32 {
+    // SAFETY: the declaration is the header's.
+    unsafe { raw::teddertempo_version() }
 }

@@ -2,7 +2,7 @@
 
 use std::fs;
 use std::thread;
-use teddertempo_mutate::mutate;
+use teddertempo::{Options, Outcome, Report, Rule, mutate, mutate_slice, mutate_with};
 
 /// The bytes with which each module begins: the magic and the version.
 const PREAMBLE: [u8; 8] = [0x00, 0x61, 0x73, 0x6d, 0x01, 0x00, 0x00, 0x00];
@@ -15,66 +15,150 @@ fn module() -> Vec<u8> {
     .unwrap()
 }
 
+/// A module, rewritten under a seed to at most so many bytes more.
+fn rewritten(module: &[u8], extra: usize, seed: u64) -> Option<Vec<u8>> {
+    let mut new = module.to_vec();
+    let is_rewritten = mutate(&mut new, module.len() + extra, seed);
+    assert!(is_rewritten || new == module);
+    is_rewritten.then_some(new)
+}
+
 #[test]
 fn a_module_is_rewritten_within_its_room() {
     let module = module();
-    let mut rewritten = 0;
+    let mut count = 0;
     for seed in 0..50 {
         for extra in [0, 1, 5, 64, 4096] {
-            if let Some(new) = mutate(&module, extra, seed) {
+            if let Some(new) = rewritten(&module, extra, seed) {
                 assert!(new.len() <= module.len() + extra);
                 assert!(new.starts_with(&PREAMBLE));
-                rewritten += 1;
+                count += 1;
             }
         }
     }
-    assert!(rewritten > 0);
+    assert!(count > 0);
 }
 
 #[test]
 fn equal_modules_and_seeds_give_equal_bytes() {
     let module = module();
     for seed in [0, 1, 2, 3, 1 << 40, u64::MAX] {
-        let first = mutate(&module, 4096, seed);
-        assert_eq!(first, mutate(&module, 4096, seed));
+        let first = rewritten(&module, 4096, seed);
+        assert_eq!(first, rewritten(&module, 4096, seed));
         // The room matters only where it is too small.
-        assert_eq!(first, mutate(&module, 8192, seed));
+        assert_eq!(first, rewritten(&module, 8192, seed));
     }
-}
-
-#[test]
-fn a_rewritten_module_is_rewritten_again() {
-    let mut module = module();
-    let mut rewritten = 0;
-    for seed in 0..50 {
-        if let Some(new) = mutate(&module, 4096, seed) {
-            module = new;
-            rewritten += 1;
-        }
-    }
-    assert!(rewritten > 1);
 }
 
 #[test]
 fn other_bytes_are_refused() {
-    assert_eq!(mutate(&[], 0, 1), None);
-    assert_eq!(mutate(&[], 4096, 1), None);
-    assert_eq!(mutate(b"no module", 4096, 1), None);
-    assert_eq!(mutate(&PREAMBLE, 4096, 1), None);
-    assert_eq!(mutate(&PREAMBLE, usize::MAX, 1), None);
+    for bytes in [&b""[..], b"no module", &module()[..1000]] {
+        let mut new = bytes.to_vec();
+        let report = mutate_with(&mut new, 4096, &Options::new());
+        assert!(matches!(report.outcome, Outcome::NotAModule(offset) if offset <= 1000));
+        assert_eq!(new, bytes);
+    }
+    let mut empty = PREAMBLE.to_vec();
+    assert!(!mutate(&mut empty, 4096, 1));
+    assert_eq!(empty, PREAMBLE);
+}
+
+#[test]
+fn what_has_no_room_is_refused() {
+    let old = module();
+    let mut new = old.clone();
+    let outcome = |new: &mut Vec<u8>, max| mutate_with(new, max, &Options::new()).outcome;
+    assert_eq!(outcome(&mut new, old.len() - 1), Outcome::BadOptions);
+    assert_eq!(outcome(&mut new, usize::MAX), Outcome::NoMemory);
+    assert_eq!(new, old);
+}
+
+#[test]
+fn a_slice_is_rewritten_in_place() {
     let module = module();
-    assert_eq!(mutate(&module[..module.len() - 1], 4096, 1), None);
+    let options = Options::new().seed(3);
+    let mut data = [&module[..], &[0xee; 8192]].concat();
+    let (size, report) = mutate_slice(&mut data, module.len(), &options);
+    let mut new = module.clone();
+    assert_eq!(report, mutate_with(&mut new, module.len() + 8192, &options));
+    assert_eq!(data[..size], new);
+    assert!(data[size.max(module.len())..].iter().all(|&b| b == 0xee));
+    // More bytes than there are.
+    let (size, report) = mutate_slice(&mut data[..5], 6, &options);
+    assert_eq!((size, report.outcome), (6, Outcome::BadOptions));
+}
+
+/// Rewrites the module by options, under a seed that has something to rewrite.
+fn by_options(options: &Options) -> (Report, Vec<u8>) {
+    for seed in 0..50 {
+        let mut module = module();
+        let report = mutate_with(&mut module, 1 << 16, &options.clone().seed(seed));
+        if report.is_rewritten() {
+            return (report, module);
+        }
+    }
+    panic!("nothing is rewritten under any seed");
+}
+
+#[test]
+fn options_choose_rules_functions_and_counts() {
+    let first = Rule::all().next().unwrap();
+    for rule in Rule::all().take(2) {
+        let (report, _) = by_options(&Options::new().rule(rule));
+        assert_eq!(report.last.unwrap().rule, rule);
+    }
+    let (report, _) = by_options(&Options::new().not_rule(first));
+    assert_ne!(report.last.unwrap().rule, first);
+    let function = report.last.unwrap().function;
+    let (report, _) = by_options(&Options::new().function(function).count(5));
+    assert_eq!(report.last.unwrap().function, function);
+    assert_eq!(report.made, 5);
+    let (_, new) = by_options(&Options::new().count(2).max_growth(20));
+    assert!(new.len() <= module().len() + 20);
+}
+
+#[test]
+fn options_that_name_nothing_are_refused() {
+    let mut module = module();
+    let none = Rule::all().fold(Options::new(), Options::not_rule);
+    let outcome = mutate_with(&mut module, 1 << 16, &none).outcome;
+    assert_eq!(outcome, Outcome::BadOptions);
+    let none = Options::new().function(1 << 40);
+    let outcome = mutate_with(&mut module, 1 << 16, &none).outcome;
+    assert_eq!(outcome, Outcome::NoFunction);
+}
+
+#[test]
+fn rules_have_names() {
+    for rule in Rule::all() {
+        assert_eq!(rule.name().parse(), Ok(rule));
+        assert_eq!(rule.to_string(), rule.name());
+    }
+    assert!(Rule::all().count() > 1);
+    assert!("melt".parse::<Rule>().is_err() && "".parse::<Rule>().is_err());
+}
+
+#[test]
+fn the_version_is_this_crates() {
+    let parts: Vec<u32> = env!("CARGO_PKG_VERSION")
+        .split('.')
+        .map(|part| part.parse().unwrap())
+        .collect();
+    assert_eq!(
+        teddertempo::version(),
+        parts[0] << 16 | parts[1] << 8 | parts[2]
+    );
 }
 
 #[test]
 fn threads_have_their_own_buffers() {
     let module = module();
-    let alone: Vec<_> = (0..8).map(|seed| mutate(&module, 4096, seed)).collect();
+    let alone: Vec<_> = (0..8).map(|seed| rewritten(&module, 4096, seed)).collect();
     let together: Vec<_> = thread::scope(|scope| {
         let calls: Vec<_> = (0..8)
             .map(|seed| {
                 let module = &module;
-                scope.spawn(move || mutate(module, 4096, seed))
+                scope.spawn(move || rewritten(module, 4096, seed))
             })
             .collect();
         calls.into_iter().map(|call| call.join().unwrap()).collect()

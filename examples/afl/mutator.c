@@ -1,0 +1,113 @@
+/*
+ * A custom mutator for AFL++ (4 and later) that rewrites modules so that they do what they did. As a shared object:
+ *
+ *     cc -O2 -shared -fPIC mutator.c $(pkg-config --cflags --libs teddertempo) -o teddertempo.so
+ *     AFL_CUSTOM_MUTATOR_LIBRARY=$PWD/teddertempo.so afl-fuzz -i CORPUS -o FINDINGS -- ./target
+ *
+ * With AFL_CUSTOM_MUTATOR_ONLY=1 nothing else changes the inputs, so that valid modules stay valid; AFL_DISABLE_TRIM=1 is wanted then
+ * too, since trimming cuts bytes out of them.
+ */
+#include <teddertempo.h>
+
+#include <stdio.h>
+#include <stdlib.h>
+#include <string.h>
+
+struct mutator {
+    uint8_t *data;  /* of room bytes: AFL++ reads here what was made, until the next call */
+    size_t room;
+    uint64_t state; /* of the generator that seeds the calls; each instance of AFL++ starts with a seed of its own */
+    uint32_t rule;  /* of the last rewrite */
+    char text[64];
+};
+
+/* AFL++ looks these up by name. */
+void *afl_custom_init(void *afl, unsigned int seed);
+size_t afl_custom_fuzz(void *data, unsigned char *buf, size_t buf_size, unsigned char **out_buf, unsigned char *add_buf,
+                       size_t add_buf_size, size_t max_size);
+const char *afl_custom_describe(void *data, size_t max_description_len);
+void afl_custom_deinit(void *data);
+
+/* The next word of the generator SplitMix64, which seeds a call. */
+static uint64_t next_word(uint64_t *state)
+{
+    uint64_t word = *state += UINT64_C(0x9e3779b97f4a7c15);
+
+    word = (word ^ (word >> 30)) * UINT64_C(0xbf58476d1ce4e5b9);
+    word = (word ^ (word >> 27)) * UINT64_C(0x94d049bb133111eb);
+    return word ^ (word >> 31);
+}
+
+void *afl_custom_init(void *afl, unsigned int seed)
+{
+    struct mutator *mutator = calloc(1, sizeof *mutator);
+
+    (void)afl;
+    if (mutator != NULL) {
+        mutator->state = seed;
+    }
+    return mutator;
+}
+
+/* Makes room for so many bytes; 0 where no memory is left. */
+static int grow(struct mutator *mutator, size_t room)
+{
+    uint8_t *data;
+
+    if (room <= mutator->room) {
+        return 1;
+    }
+    data = realloc(mutator->data, room);
+    if (data == NULL) {
+        return 0;
+    }
+    mutator->data = data;
+    mutator->room = room;
+    return 1;
+}
+
+/* The bytes in buf are AFL++'s, so a copy is rewritten. Where this returns 0, AFL++ runs nothing and goes on, if *out_buf isn't null. */
+size_t afl_custom_fuzz(void *data, unsigned char *buf, size_t buf_size, unsigned char **out_buf, unsigned char *add_buf,
+                       size_t add_buf_size, size_t max_size)
+{
+    struct teddertempo_options options = {0, {0, 0}, TEDDERTEMPO_ANY_FUNCTION, 1, TEDDERTEMPO_ANY_GROWTH};
+    struct teddertempo_report report;
+    struct mutator *mutator = data;
+    size_t new_size;
+
+    (void)add_buf, (void)add_buf_size;
+    *out_buf = buf;
+    if (buf_size > max_size || !grow(mutator, max_size)) {
+        return 0;
+    }
+    memcpy(mutator->data, buf, buf_size);
+    options.seed = next_word(&mutator->state);
+    new_size = teddertempo_mutate_with(mutator->data, buf_size, max_size, &options, &report);
+    if (new_size != 0) {
+        *out_buf = mutator->data;
+        mutator->rule = report.rule;
+    }
+    return new_size;
+}
+
+/* A text for the name of the file in which AFL++ keeps what was made: the rule. */
+const char *afl_custom_describe(void *data, size_t max_description_len)
+{
+    struct mutator *mutator = data;
+    char name[40];
+    size_t size = teddertempo_rule_name(mutator->rule, name, sizeof name);
+
+    if (size > sizeof name) {
+        size = sizeof name;
+    }
+    snprintf(mutator->text, sizeof mutator->text, "op:teddertempo,rule:%.*s", (int)size, name);
+    return strlen(mutator->text) <= max_description_len ? mutator->text : NULL;
+}
+
+void afl_custom_deinit(void *data)
+{
+    struct mutator *mutator = data;
+
+    free(mutator->data);
+    free(mutator);
+}

@@ -1,0 +1,117 @@
+//! What a call is asked to do.
+
+use crate::Rule;
+use crate::raw;
+
+/// Which rewrites are made: by default one, by any rule in any function, of any size, under the seed 0.
+///
+/// ```
+/// use teddertempo::Options;
+/// let options = Options::new().seed(7).count(3).rule("commute".parse().unwrap());
+/// ```
+#[derive(Clone, Debug, PartialEq, Eq)]
+pub struct Options {
+    seed: u64,
+    // A bit for each rule; none where no rule was named.
+    rules: Option<[u64; 2]>,
+    function: Option<u64>,
+    count: u64,
+    max_growth: Option<u64>,
+}
+
+impl Default for Options {
+    fn default() -> Options {
+        Options {
+            seed: 0,
+            rules: None,
+            function: None,
+            count: 1,
+            max_growth: None,
+        }
+    }
+}
+
+/// The bit of a rule, and its word; none where there is no such word.
+fn bit(rules: &mut [u64; 2], rule: Rule) -> Option<(&mut u64, u64)> {
+    let word = rules.get_mut(usize::try_from(rule.0 / 64).ok()?)?;
+    Some((word, 1 << (rule.0 % 64)))
+}
+
+/// The bits of all rules.
+fn all_rules() -> [u64; 2] {
+    let mut rules = [0; 2];
+    for rule in Rule::all() {
+        if let Some((word, bit)) = bit(&mut rules, rule) {
+            *word |= bit;
+        }
+    }
+    rules
+}
+
+impl Options {
+    /// The default.
+    #[must_use]
+    pub fn new() -> Options {
+        Options::default()
+    }
+
+    /// The seed of the generator that chooses functions, rules and places. Equal modules and options give equal bytes.
+    #[must_use]
+    pub fn seed(mut self, seed: u64) -> Options {
+        self.seed = seed;
+        self
+    }
+
+    /// Only this rule, and others that are named so.
+    #[must_use]
+    pub fn rule(mut self, rule: Rule) -> Options {
+        if let Some((word, bit)) = bit(self.rules.get_or_insert_default(), rule) {
+            *word |= bit;
+        }
+        self
+    }
+
+    /// Not this rule, nor others that are named so.
+    #[must_use]
+    pub fn not_rule(mut self, rule: Rule) -> Options {
+        if let Some((word, bit)) = bit(self.rules.get_or_insert_with(all_rules), rule) {
+            *word &= !bit;
+        }
+        self
+    }
+
+    /// Only the function with this index, imported ones counted first.
+    #[must_use]
+    pub fn function(mut self, function: u64) -> Options {
+        self.function = Some(function);
+        self
+    }
+
+    /// So many rewrites, one after another; 0 counts as 1. Fewer are made where no rule applies any more.
+    #[must_use]
+    pub fn count(mut self, count: u64) -> Options {
+        self.count = count;
+        self
+    }
+
+    /// The new module has at most so many bytes more than the old one.
+    #[must_use]
+    pub fn max_growth(mut self, bytes: u64) -> Options {
+        self.max_growth = Some(bytes);
+        self
+    }
+
+    /// As the library reads them; none where no rule is left, which the library takes for all of them.
+    pub(crate) fn raw(&self) -> Option<raw::Options> {
+        if self.rules == Some([0, 0]) {
+            return None;
+        }
+        Some(raw::Options {
+            seed: self.seed,
+            rules: self.rules.unwrap_or_default(),
+            function: self.function.unwrap_or(raw::ANY),
+            count: self.count,
+            max_growth: self.max_growth.unwrap_or(raw::ANY),
+        })
+    }
+}

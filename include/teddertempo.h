@@ -1,0 +1,90 @@
+/*
+ * Teddertempo 0.2.0: rewrites instructions of a WebAssembly module so that it does what it did.
+ *
+ * Link libteddertempo.a (pkg-config --cflags --libs teddertempo).
+ *
+ * A valid module stays valid, and each of its functions, called with any arguments in any memory, tables and globals, does what it
+ * did: that is proved, of validity by types, of functions that can be read, and with the exceptions that docs/PROMISES.md of the
+ * sources has (a host that lists globals or compares bytes, limits of stack and fuel, threads at a shared memory, bits of NaNs,
+ * instantiation). Whether the module is valid to begin with, no call checks. A rewrite may append globals, so that many rewrites may
+ * pass an engine's limits.
+ *
+ * The caller sees to it that
+ *   - data points to max_size bytes that may be read and written, and the other pointers to what their types say; none is null, even
+ *     where max_size or room is 0, and no two of them overlap;
+ *   - nothing else reads or writes these during the call.
+ *
+ * No state is kept between calls, and any thread may call on buffers of its own. A call takes memory from malloc and realloc, and has
+ * given all of it back with free when it returns. It is not called from a signal handler, or in the forked child of a process with
+ * several threads.
+ */
+#ifndef TEDDERTEMPO_H
+#define TEDDERTEMPO_H
+
+#include <stddef.h>
+#include <stdint.h>
+
+#ifdef __cplusplus
+extern "C" {
+#endif
+
+#define TEDDERTEMPO_VERSION "0.2.0"
+#define TEDDERTEMPO_VERSION_NUMBER 0x000200u
+
+/*
+ * The simple call, with the arguments of libFuzzer's LLVMFuzzerCustomMutator: rewrites the module in data[0..size] once, in place, by
+ * any rule in any function. Returns the new size, at most max_size, or 0, and data is as it was. Bytes of data behind the new module
+ * stay as they were.
+ */
+size_t teddertempo_mutate(uint8_t *data, size_t size, size_t max_size, uint64_t seed);
+
+/* What a call has done, or why it has done nothing. */
+enum {
+    TEDDERTEMPO_REWRITTEN = 0,       /* the module is rewritten */
+    TEDDERTEMPO_NOT_A_MODULE = 1,    /* the bytes are no module that can be read: report->offset says where */
+    TEDDERTEMPO_LINKABLE_OBJECT = 2, /* an object file, whose relocations name places in its code */
+    TEDDERTEMPO_UNREADABLE = 3,      /* none of the functions that may be rewritten can be read */
+    TEDDERTEMPO_NO_RULE = 4,         /* no rule applies in them */
+    TEDDERTEMPO_NO_FUNCTION = 5,     /* the module has no function of its own with that index */
+    TEDDERTEMPO_TOO_LARGE = 6,       /* no rewrite that was tried fits */
+    TEDDERTEMPO_NO_MEMORY = 7,       /* malloc failed */
+    TEDDERTEMPO_BAD_OPTIONS = 8      /* size is above max_size, or options name no rule that there is */
+};
+
+#define TEDDERTEMPO_ANY_FUNCTION UINT64_MAX
+#define TEDDERTEMPO_ANY_GROWTH UINT64_MAX
+
+struct teddertempo_options {
+    uint64_t seed;       /* equal modules and options give equal bytes */
+    uint64_t rules[2];   /* bit i % 64 of rules[i / 64] is rule i; all zero: every rule */
+    uint64_t function;   /* the only function that is rewritten, imported ones counted first; or TEDDERTEMPO_ANY_FUNCTION */
+    uint64_t count;      /* so many rewrites, one after another; 0 counts as 1 */
+    uint64_t max_growth; /* the new module has at most so many bytes more than the old one; or TEDDERTEMPO_ANY_GROWTH */
+};
+
+struct teddertempo_report {
+    uint32_t outcome;  /* one of the values above */
+    uint32_t rule;     /* the rule of the last rewrite that was made */
+    uint64_t function; /* the function of it, imported ones counted first */
+    uint64_t made;     /* how many rewrites were made */
+    uint64_t offset;   /* where the module is at fault, where it isn't a module */
+};
+
+/* As teddertempo_mutate, by options, and with a report. */
+size_t teddertempo_mutate_with(uint8_t *data, size_t size, size_t max_size, const struct teddertempo_options *options,
+                               struct teddertempo_report *report);
+
+/* The version as a number, 0x000200 for 0.2.0. */
+uint32_t teddertempo_version(void);
+
+/*
+ * Writes the name of a rule, which has no NUL behind it, to at most room bytes, and returns the length of the name; 0 where there is
+ * no such rule, and the rules are those below the first of these.
+ */
+size_t teddertempo_rule_name(uint32_t rule, char *name, size_t room);
+
+#ifdef __cplusplus
+}
+#endif
+
+#endif

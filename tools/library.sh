@@ -1,0 +1,36 @@
+#!/usr/bin/env bash
+# Proves and builds the static library, and writes FOLDER/libteddertempo.a: the library of the crate teddertempo_c with the kit's part
+# by which it takes memory merged in, so that a program links one archive.
+#
+# Usage: library.sh FOLDER. Needs a Rattle kit, whose rt is on the path, and ar. RATTLE_C names the kit's folder of liblibc_c.a, where
+# that isn't the one beside rt.
+set -euo pipefail
+if [ $# -ne 1 ]; then
+    echo "usage: library.sh FOLDER" >&2
+    exit 64
+fi
+for needed in rt ar; do
+    if ! command -v "$needed" > /dev/null; then
+        echo "library.sh needs $needed on the path" >&2
+        exit 1
+    fi
+done
+mkdir -p "$1"
+folder=$(realpath "$1")
+kit=$(realpath "${RATTLE_C:-$(dirname "$(realpath "$(command -v rt)")")/../c}")
+crate=$(dirname "$(realpath "$0")")/../crates/teddertempo_c
+
+log=$(mktemp)
+trap 'rm -f "$log"' EXIT
+if ! (cd "$crate" && rt lib) > "$log" 2>&1; then
+    cat "$log"
+    exit 1
+fi
+rm -f "$folder/libteddertempo.a"
+ar -M <<END
+create $folder/libteddertempo.a
+addlib $(realpath "$crate/out/libteddertempo_c.a")
+addlib $kit/liblibc_c.a
+save
+end
+END
