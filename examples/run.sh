@@ -87,13 +87,25 @@ compare() {
     if command -v wasm-validate > /dev/null; then wasm-validate --enable-threads "$work/c.wasm"; fi
 }
 
-# The crate doesn't build without the library, and says what to do.
+# Builds the crate with nothing but a folder in which pkg-config looks.
+build_by_pkg_config() {
+    env -u TEDDERTEMPO_LIB -u PKG_CONFIG_PATH PKG_CONFIG_LIBDIR="$1" CARGO_TARGET_DIR="$work/by_pkg_config" \
+        cargo build "${cargo[@]}" --all-targets
+}
+
+# Where pkg-config finds no library, the crate says what to do.
 explains() {
-    local status=0
-    env -u TEDDERTEMPO_LIB PKG_CONFIG_PATH= PKG_CONFIG_LIBDIR="$work" CARGO_TARGET_DIR="$work/target_without" \
-        cargo build --quiet --locked --offline --manifest-path examples/rust/Cargo.toml > "$work/said" 2>&1 || status=$?
+    if build_by_pkg_config "$work" > "$work/said" 2>&1; then return 1; fi
     cat "$work/said"
-    test "$status" -ne 0 && grep -q "set TEDDERTEMPO_LIB to its folder" "$work/said"
+    grep -q "set TEDDERTEMPO_LIB to its folder" "$work/said"
+}
+
+# Where it finds one, the crate is built.
+builds_by_pkg_config() {
+    mkdir "$work/pkgconfig"
+    printf 'Name: teddertempo\nDescription: examples\nVersion: %s\nLibs: -L%s -lteddertempo\n' "$(cat VERSION)" "$TEDDERTEMPO_LIB" \
+        > "$work/pkgconfig/teddertempo.pc"
+    build_by_pkg_config "$work/pkgconfig"
 }
 
 # Compiles C that stands beside this script, with the header and the library.
@@ -112,6 +124,7 @@ cargo=(--quiet --locked --offline --manifest-path examples/rust/Cargo.toml)
 judge "examples/rust" cargo build "${cargo[@]}" --release --all-targets
 judge "the tests of examples/rust" timeout 300 cargo test "${cargo[@]}"
 judge "what examples/rust says without the library" explains
+if command -v pkg-config > /dev/null; then judge "examples/rust by pkg-config" builds_by_pkg_config; fi
 
 : > "$work/count"
 if [ ! -x "$work/mutate" ] || [ ! -x "$work/target/release/examples/mutate" ]; then finish; fi
@@ -139,7 +152,7 @@ start_afl() {
     local folder=$1 name=$2
     shift 2
     AFL_SKIP_CPUFREQ=1 AFL_I_DONT_CARE_ABOUT_MISSING_CRASHES=1 AFL_NO_AFFINITY=1 AFL_NO_UI=1 AFL_DISABLE_TRIM=1 \
-        AFL_CUSTOM_MUTATOR_LIBRARY=$work/teddertempo.so timeout $((afl_seconds + 120)) \
+        AFL_CUSTOM_MUTATOR_LIBRARY=$work/teddertempo_afl.so timeout $((afl_seconds + 120)) \
         afl-fuzz -i "$work/corpus" -o "$work/$folder" -V "$afl_seconds" "$@" -- "$work/target_afl" > "$work/$folder-$name.log" 2>&1
 }
 
@@ -161,7 +174,7 @@ kept_alone() { test "$(find "$work/alone/default/queue" -maxdepth 1 -name 'id:*'
 
 if command -v afl-fuzz > /dev/null && command -v afl-clang-fast > /dev/null && [ "$afl_seconds" -gt 0 ]; then
     judge "afl/target.c" compile afl/target.c afl-clang-fast -O1 -o "$work/target_afl"
-    judge "afl/mutator.c" compile afl/mutator.c "${CC:-cc}" -pedantic -O2 -shared -fPIC "$library" -o "$work/teddertempo.so"
+    judge "afl/mutator.c" compile afl/mutator.c "${CC:-cc}" -pedantic -O2 -shared -fPIC "$library" -o "$work/teddertempo_afl.so"
     start_afl together main -M main & instances=($!)
     start_afl together second -S second & instances+=($!)
     AFL_CUSTOM_MUTATOR_ONLY=1 start_afl alone default & instances+=($!)

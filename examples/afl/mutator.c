@@ -1,8 +1,8 @@
 /*
  * A custom mutator for AFL++ (4 and later) that rewrites modules so that they do what they did. As a shared object:
  *
- *     cc -O2 -shared -fPIC mutator.c $(pkg-config --cflags --libs teddertempo) -o teddertempo.so
- *     AFL_CUSTOM_MUTATOR_LIBRARY=$PWD/teddertempo.so afl-fuzz -i CORPUS -o FINDINGS -- ./target
+ *     cc -O2 -shared -fPIC mutator.c $(pkg-config --cflags --libs teddertempo) -o teddertempo_afl.so
+ *     AFL_CUSTOM_MUTATOR_LIBRARY=$PWD/teddertempo_afl.so afl-fuzz -i CORPUS -o FINDINGS -- ./target
  *
  * With AFL_CUSTOM_MUTATOR_ONLY=1 nothing else changes the inputs, so that valid modules stay valid; AFL_DISABLE_TRIM=1 is wanted then
  * too, since trimming cuts bytes out of them.

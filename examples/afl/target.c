@@ -1,6 +1,6 @@
 /*
- * A small program for AFL++ to fuzz, in the place of an engine: it reads the sections of a module on standard input, and runs some
- * operators of its function bodies on a stack. With AFL++'s compiler:
+ * A small program for AFL++ to fuzz, in the place of an engine: it reads the sections of a module, from standard input or the file that
+ * is named, and runs some operators of its function bodies on a stack. With AFL++'s compiler:
  *
  *     afl-clang-fast -O1 target.c -o target
  */
@@ -114,10 +114,11 @@ static uint32_t run_bodies(struct reader section)
     return sum;
 }
 
-int main(void)
+int main(int count, char **arguments)
 {
     static uint8_t data[1 << 20];
-    size_t size = fread(data, 1, sizeof data, stdin);
+    FILE *file = count > 1 ? fopen(arguments[1], "rb") : stdin;
+    size_t size = file != NULL ? fread(data, 1, sizeof data, file) : 0;
     struct reader module = {data + sizeof preamble, data + size};
     uint32_t globals = 0, sum = 0;
 

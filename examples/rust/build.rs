@@ -1,6 +1,7 @@
 //! Links `libteddertempo.a`: from the folder that `TEDDERTEMPO_LIB` names, or where `pkg-config` finds it.
 
 use std::env;
+use std::path::Path;
 use std::process::Command;
 
 /// The folders and libraries that `pkg-config` names for the linker, if they are of this crate's version.
@@ -25,6 +26,11 @@ fn main() {
     }
     if let Ok(folder) = env::var("TEDDERTEMPO_LIB") {
         println!("cargo::rerun-if-changed={folder}/libteddertempo.a");
+        if !Path::new(&folder).join("libteddertempo.a").is_file() {
+            println!(
+                "cargo::error=TEDDERTEMPO_LIB is {folder}, and there is no {folder}/libteddertempo.a"
+            );
+        }
         println!("cargo::rustc-link-search=native={folder}");
         println!("cargo::rustc-link-lib=static=teddertempo");
         return;

@@ -1,0 +1,139 @@
+#!/usr/bin/env bash
+# Proves and builds the programs and the library, and writes into dist/
+#   - teddertempo-VERSION-x86_64-linux.tar.gz, which runs where it is unpacked: the programs teddertempo and peephole_run,
+#     libteddertempo.a, teddertempo.h, teddertempo.pc, the man page, LICENSE and README.md;
+#   - teddertempo_VERSION_amd64.deb, a Debian package of the same.
+# The version is that of the file VERSION; it fails where the header, the Rust crate, CHANGELOG.md or the program has another one.
+# Equal commits and equal builds give equal packages.
+#
+# Usage: package.sh, on x86-64 Linux. TEDDERTEMPO_BIN names the folder of programs that are built already, and TEDDERTEMPO_LIB that of
+# libteddertempo.a; what isn't named is proved and built first, which needs a Rattle kit, whose rt is on the path.
+set -euo pipefail
+if [ -n "${TEDDERTEMPO_BIN:-}" ]; then TEDDERTEMPO_BIN=$(realpath "$TEDDERTEMPO_BIN"); fi
+if [ -n "${TEDDERTEMPO_LIB:-}" ]; then TEDDERTEMPO_LIB=$(realpath "$TEDDERTEMPO_LIB"); fi
+cd "$(dirname "$0")/.."
+
+fail() {
+    echo "package.sh: $1" >&2
+    exit 1
+}
+
+# Fails where a program isn't there; the second word is the package of Debian that has it.
+need() { command -v "$1" > /dev/null || fail "needs $1 on the path (package $2)"; }
+
+need tar tar
+need gzip gzip
+need strip binutils
+need objdump binutils
+need dpkg-deb dpkg
+if [ "$(uname -sm)" != "Linux x86_64" ]; then fail "makes packages for x86-64 Linux, and runs there alone"; fi
+if [ -z "${TEDDERTEMPO_BIN:-}" ] || [ -z "${TEDDERTEMPO_LIB:-}" ]; then
+    command -v rt > /dev/null || fail "needs a Rattle kit, whose rt is on the path; or TEDDERTEMPO_BIN and TEDDERTEMPO_LIB name what is built"
+    need ar binutils
+fi
+
+work=$(mktemp -d)
+trap 'rm -rf "$work"' EXIT
+version=$(cat VERSION)
+SOURCE_DATE_EPOCH=${SOURCE_DATE_EPOCH:-$(git log -1 --format=%ct 2> /dev/null || stat -c %Y VERSION)}
+export SOURCE_DATE_EPOCH
+
+# Fails where a place has another version.
+agree() { [ "$2" = "$version" ] || fail "VERSION is $version, and $1 has ${2:-none}"; }
+
+agree_all() {
+    local major minor patch
+    IFS=. read -r major minor patch <<< "$version"
+    agree "include/teddertempo.h" "$(sed -n 's/^#define TEDDERTEMPO_VERSION "\(.*\)"$/\1/p' include/teddertempo.h)"
+    grep -q "^#define TEDDERTEMPO_VERSION_NUMBER $(printf '0x%02x%02x%02x' "$major" "$minor" "$patch")u\$" include/teddertempo.h \
+        || fail "VERSION is $version, and TEDDERTEMPO_VERSION_NUMBER of include/teddertempo.h another one"
+    agree "the first comment of include/teddertempo.h" "$(sed -n '2s/^ \* Teddertempo \([0-9.]*\): .*/\1/p' include/teddertempo.h)"
+    agree "examples/rust/Cargo.toml" "$(sed -n 's/^version = "\(.*\)"$/\1/p' examples/rust/Cargo.toml)"
+    agree "examples/rust/Cargo.lock" "$(sed -n '/^name = "teddertempo"$/{n;s/^version = "\(.*\)"$/\1/p}' examples/rust/Cargo.lock)"
+    agree "CHANGELOG.md" "$(sed -n 's/^## \([0-9.]*\).*/\1/p' CHANGELOG.md | head -1)"
+}
+
+# Proves and builds a program in its crate, with a run of it, and leaves it in the folder of programs.
+build() {
+    local program=$1 input=$2
+    shift 2
+    (cd "crates/$program" && rt run "$@") < "$input" > "$work/log" 2>&1 || { cat "$work/log"; fail "$program isn't built"; }
+    cp "crates/$program/out/$program" "$work/built/"
+}
+
+agree_all
+mkdir "$work/built"
+if [ -z "${TEDDERTEMPO_BIN:-}" ]; then
+    build teddertempo /dev/null -- --version
+    build peephole_run crates/peephole_run/stdin
+    TEDDERTEMPO_BIN=$work/built
+fi
+if [ -z "${TEDDERTEMPO_LIB:-}" ]; then
+    tools/library.sh "$work/built"
+    TEDDERTEMPO_LIB=$work/built
+fi
+for file in "$TEDDERTEMPO_BIN"/{teddertempo,peephole_run} "$TEDDERTEMPO_LIB/libteddertempo.a"; do
+    [ -f "$file" ] || fail "needs $file"
+done
+agree "teddertempo --version" "$("$TEDDERTEMPO_BIN/teddertempo" --version | sed -n 's/^teddertempo \([0-9.]*\)$/\1/p')"
+
+# Fills the places @NAME@ of a template.
+fill() {
+    local template=$1 word
+    shift
+    for word in "$@"; do set -- "$@" -e "s|@${word%%=*}@|${word#*=}|g"; shift; done
+    sed -e "s|@VERSION@|$version|g" "$@" "tools/package/$template"
+}
+
+# Lays out the files under a prefix, with the library in the folder that is named; the rest of the words is the prefix that
+# teddertempo.pc has.
+lay_out() {
+    local root=$1 library=$2 prefix=$3
+    mkdir -p "$root"/{bin,include,share/man/man1} "$root/$library/pkgconfig"
+    cp "$TEDDERTEMPO_BIN"/{teddertempo,peephole_run} "$root/bin/"
+    strip --strip-unneeded "$root"/bin/*
+    cp "$TEDDERTEMPO_LIB/libteddertempo.a" "$root/$library/"
+    strip --strip-debug --enable-deterministic-archives "$root/$library/libteddertempo.a"
+    cp include/teddertempo.h "$root/include/"
+    fill teddertempo.pc.in "PREFIX=$prefix" "LIBDIR=$library" > "$root/$library/pkgconfig/teddertempo.pc"
+    fill teddertempo.1.in "DATE=$(date -u -d "@$SOURCE_DATE_EPOCH" +%Y-%m-%d)" > "$root/share/man/man1/teddertempo.1"
+}
+
+settle() {
+    chmod -R u=rwX,go=rX "$1"
+    chmod 755 "$2"/*
+    find "$1" -exec touch -h -d "@$SOURCE_DATE_EPOCH" {} +
+}
+
+# What the Debian package depends on: the C library, at least of the version by whose symbols the programs are linked.
+depends() {
+    local other glibc
+    other=$(objdump -p "$@" | sed -n 's/^ *NEEDED *//p' | sort -u | grep -v -x -e libc.so.6 -e libm.so.6 -e ld-linux-x86-64.so.2 || true)
+    if [ -n "$other" ]; then fail "knows no package of Debian for $other, by which the programs are linked"; fi
+    glibc=$(objdump -T "$@" 2> /dev/null | grep -o 'GLIBC_[0-9.]*' | sort -uV | tail -1 || true)
+    echo "libc6${glibc:+ (>= ${glibc#GLIBC_})}"
+}
+
+mkdir -p dist
+name=teddertempo-$version-x86_64-linux
+lay_out "$work/$name" lib "\${pcfiledir}/../.."
+cp LICENSE README.md "$work/$name/"
+settle "$work/$name" "$work/$name/bin"
+tar -C "$work" --sort=name --owner=0 --group=0 --numeric-owner -cf "$work/$name.tar" "$name"
+gzip -9n "$work/$name.tar"
+mv "$work/$name.tar.gz" dist/
+
+root=$work/debian
+lay_out "$root/usr" lib/x86_64-linux-gnu /usr
+gzip -9n "$root/usr/share/man/man1/teddertempo.1"
+documents=$root/usr/share/doc/teddertempo
+mkdir -p "$documents" "$root/DEBIAN"
+cp README.md "$documents/"
+cp LICENSE "$documents/copyright"
+gzip -9nc CHANGELOG.md > "$documents/changelog.gz"
+fill control.in "SIZE=$(du -sk --apparent-size "$root/usr" | cut -f1)" "DEPENDS=$(depends "$root"/usr/bin/*)" > "$root/DEBIAN/control"
+(cd "$root" && find usr -type f -print0 | sort -z | xargs -0 md5sum) > "$root/DEBIAN/md5sums"
+settle "$root" "$root/usr/bin"
+dpkg-deb --root-owner-group -Zxz --build "$root" "dist/teddertempo_${version}_amd64.deb" > "$work/log" || { cat "$work/log"; exit 1; }
+
+ls -l dist/*"$version"*

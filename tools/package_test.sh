@@ -1,0 +1,163 @@
+#!/usr/bin/env bash
+# Tests the packages that tools/package.sh wrote into dist/ (or the folder that is named), with no Rattle kit on the path:
+#   - the archive, unpacked into an empty folder: both programs run, the C example is linked by pkg-config alone and rewrites a module,
+#     header and library have one version, and the man page has the options that the program has;
+#   - the Debian package: installed, the same program and example; then removed, and nothing of it is left.
+# The last line is `N passed, N failed`.
+#
+# Usage: package_test.sh [FOLDER]. Needs a C compiler and pkg-config; for the Debian package also dpkg and root, and is there none, or
+# the package is installed already, a line says so and that part is left out.
+set -euo pipefail
+packages=$(realpath "${1:-$(dirname "$0")/../dist}")
+cd "$(dirname "$0")/.."
+version=$(cat VERSION)
+name=teddertempo-$version-x86_64-linux
+
+fail() {
+    echo "package_test.sh: $1" >&2
+    exit 1
+}
+
+for file in "$name.tar.gz" "teddertempo_${version}_amd64.deb"; do
+    [ -f "$packages/$file" ] || fail "needs $packages/$file: tools/package.sh writes it"
+done
+PATH=/usr/sbin:/usr/bin:/sbin:/bin
+export PATH
+for needed in tar gzip "${CC:-cc}" pkg-config; do
+    command -v "$needed" > /dev/null || fail "needs $needed on the path $PATH"
+done
+! command -v rt > /dev/null || fail "finds a Rattle kit in $PATH, and is to show that none is needed"
+
+work=$(mktemp -d)
+installed=
+leave() {
+    if [ -n "$installed" ]; then dpkg --purge teddertempo > /dev/null; fi
+    rm -rf "$work"
+}
+trap leave EXIT
+
+passed=0
+failed=0
+
+# Runs a function of this script, and counts what it says of the thing that is named.
+judge() {
+    local what=$1
+    shift
+    if "$@" > "$work/log" 2>&1; then
+        passed=$((passed + 1))
+    else
+        failed=$((failed + 1))
+        echo "$what failed:"
+        tail -n 30 "$work/log"
+    fi
+}
+
+# All that the tests use, beside the packages, stands in one folder.
+mkdir "$work/here"
+cp examples/c/mutate.c tests/modules/numbers.wasm "$work/here/"
+cp crates/peephole_run/stdin crates/peephole_run/stdout "$work/here/"
+tar -C "$work" -xzf "$packages/$name.tar.gz"
+cd "$work/here"
+
+is_valid() { ! command -v wasm-validate > /dev/null || wasm-validate --enable-threads "$1"; }
+
+# The program under a path says its version, and rewrites a module: between files and in a pipe the same.
+program_runs() {
+    local teddertempo=$1 status=0
+    "$teddertempo" --version | tee version
+    test "$(cat version)" = "teddertempo $version" || return 1
+    rm -f new.wasm
+    "$teddertempo" --seed 7 --count 3 numbers.wasm -o new.wasm || return 1
+    "$teddertempo" --seed 0x7 --count 3 < numbers.wasm > piped.wasm || return 1
+    cmp new.wasm piped.wasm && ! cmp -s new.wasm numbers.wasm && is_valid new.wasm || return 1
+    "$teddertempo" < stdin > none.wasm || status=$?
+    test "$status" -eq 1 && test ! -s none.wasm || return 1
+    status=0
+    "$teddertempo" --no-such-option < numbers.wasm || status=$?
+    test "$status" -eq 64
+}
+
+peephole_run_runs() { "$1" < stdin > printed && cmp printed stdout; }
+
+# The example is compiled and linked by what pkg-config says, and rewrites a module.
+example_links() {
+    rm -f mutate new.wasm
+    # shellcheck disable=SC2046
+    "${CC:-cc}" -std=c99 -Wall -Wextra -Werror -O2 mutate.c $(pkg-config --cflags --libs teddertempo) -o mutate || return 1
+    ./mutate --seed 7 --count 3 numbers.wasm new.wasm || return 1
+    ! cmp -s new.wasm numbers.wasm && is_valid new.wasm
+}
+
+versions_agree() {
+    cat > version.c <<'END'
+#include <teddertempo.h>
+
+#include <stdio.h>
+
+int main(void)
+{
+    puts(TEDDERTEMPO_VERSION);
+    return teddertempo_version() != TEDDERTEMPO_VERSION_NUMBER;
+}
+END
+    # shellcheck disable=SC2046
+    "${CC:-cc}" version.c $(pkg-config --cflags --libs teddertempo) -o version && ./version > said || return 1
+    cat said
+    test "$(cat said)" = "$version" && test "$(pkg-config --modversion teddertempo)" = "$version"
+}
+
+# The long options of a text, one a line.
+options_in() { sed 's/\\-/-/g' "$1" | grep -o -e '--[a-z][a-z-]*' | grep -v -x -e --cflags -e --libs -e --invoke | sort -u; }
+
+page_has_options() {
+    local page=$1 teddertempo=$2
+    "$teddertempo" --help > help || return 1
+    options_in help > of_program
+    options_in "$page" > of_page
+    diff of_program of_page
+}
+
+page_is_set() { man --warnings -E UTF-8 -l -Tutf8 -Z "$1" 2>&1 > /dev/null | tee warnings && test ! -s warnings; }
+
+unpacked=$work/$name
+for file in bin/teddertempo bin/peephole_run lib/libteddertempo.a lib/pkgconfig/teddertempo.pc include/teddertempo.h \
+    share/man/man1/teddertempo.1 LICENSE README.md; do
+    judge "$file in the archive" test -s "$unpacked/$file"
+done
+judge "teddertempo" program_runs "$unpacked/bin/teddertempo"
+judge "peephole_run" peephole_run_runs "$unpacked/bin/peephole_run"
+export PKG_CONFIG_PATH=$unpacked/lib/pkgconfig
+judge "c/mutate.c by pkg-config" example_links
+judge "the version of header and library" versions_agree
+unset PKG_CONFIG_PATH
+judge "the options of the man page" page_has_options "$unpacked/share/man/man1/teddertempo.1" "$unpacked/bin/teddertempo"
+if command -v man > /dev/null; then judge "the man page" page_is_set "$unpacked/share/man/man1/teddertempo.1"; fi
+
+# The files, not the folders, that the package installs.
+files_of() { dpkg-deb --fsys-tarfile "$packages/teddertempo_${version}_amd64.deb" | tar -t | sed -n 's|^\.\(/.*[^/]\)$|\1|p'; }
+
+nothing_is_left() {
+    local file
+    for file in $(files_of); do test ! -e "$file" || { echo "$file"; return 1; }; done
+    ! dpkg-query -W teddertempo && ! pkg-config --exists teddertempo
+}
+
+if ! command -v dpkg > /dev/null || [ "$(id -u)" -ne 0 ]; then
+    echo "the Debian package isn't tested: that needs dpkg, and root"
+elif dpkg-query -W teddertempo > /dev/null 2>&1; then
+    echo "the Debian package isn't tested: teddertempo is installed already"
+else
+    installed=yes
+    judge "installing the Debian package" dpkg --install "$packages/teddertempo_${version}_amd64.deb"
+    judge "teddertempo, installed" program_runs /usr/bin/teddertempo
+    judge "peephole_run, installed" peephole_run_runs /usr/bin/peephole_run
+    judge "c/mutate.c by pkg-config, installed" example_links
+    judge "the version of header and library, installed" versions_agree
+    judge "removing the Debian package" dpkg --remove teddertempo
+    judge "what is left of the Debian package" nothing_is_left
+    dpkg --purge teddertempo > /dev/null 2>&1 || true
+    installed=
+fi
+
+echo "$passed passed, $failed failed"
+[ "$failed" -eq 0 ]
