@@ -1,7 +1,7 @@
 #!/usr/bin/env bash
 # Builds the examples in C, in Rust and for fuzzers over the static library, and runs them:
-#   - the two programs rewrite the modules of tests/modules under some seeds (8, or the number that is given), each with options of its
-#     own: both say the same and write the same bytes, which wasm-validate accepts, where it is there;
+#   - the two programs rewrite the modules of tests/modules under some seeds (8, or the number that is given), each with options
+#     of its own: both say the same and write the same bytes, which wasm-validate accepts, where it is there;
 #   - the header is compiled as C++, and the tests of the Rust crate are run;
 #   - where clang has libFuzzer, 2,000 runs of the fuzz target;
 #   - where AFL++ is there, three instances of afl-fuzz for a minute (or AFL_SECONDS; none where that is 0): two over one output
@@ -71,7 +71,8 @@ compare() {
     shift
     rm -f "$work"/{c,rust}.wasm
     timeout 60 "$work/mutate" "$@" "$module" "$work/c.wasm" > "$work/c.said" 2> "$work/c.message" || by_c=$?
-    timeout 60 "$work/target/release/examples/mutate" "$@" "$module" "$work/rust.wasm" > "$work/rust.said" 2> "$work/rust.message" || by_rust=$?
+    timeout 60 "$work/target/release/examples/mutate" "$@" "$module" "$work/rust.wasm" \
+        > "$work/rust.said" 2> "$work/rust.message" || by_rust=$?
     cat "$work"/{c,rust}.{said,message}
     if [ "$by_c" -ne "$by_rust" ]; then
         echo "status $by_c in C, $by_rust in Rust"
@@ -144,7 +145,8 @@ if command -v clang > /dev/null && echo 'int LLVMFuzzerTestOneInput(const char *
     | clang -fsanitize=fuzzer -x c - -o "$work/has_fuzzer" 2> /dev/null; then
     judge "c/fuzz.c" compile c/fuzz.c clang -O1 -g -fsanitize=fuzzer,address "$library" -o "$work/fuzz"
     cp -r "$work/corpus" "$work/fuzzed"
-    judge "2,000 runs of the fuzz target" timeout 300 "$work/fuzz" -runs=2000 -seed=1 -max_len=65536 -artifact_prefix="$work/" "$work/fuzzed"
+    judge "2,000 runs of the fuzz target" timeout 300 \
+        "$work/fuzz" -runs=2000 -seed=1 -max_len=65536 -artifact_prefix="$work/" "$work/fuzzed"
 fi
 
 # Starts an instance of AFL++ that ends by itself.
@@ -158,22 +160,22 @@ start_afl() {
 
 # Judges an instance: it ran the target, and kept what the mutator made.
 fuzzed() {
-    local folder=$1 name=$2 execs kept
+    local folder=$1 name=$2 execs found made
     if ! execs=$(sed -n 's/^execs_done *: //p' "$work/$folder/$name/fuzzer_stats"); then
         tail -n 30 "$work/$folder-$name.log"
         return 1
     fi
-    kept=$(find "$work/$folder/$name/queue" -maxdepth 1 -name '*op:teddertempo*' | wc -l)
-    echo "$folder $name: $execs runs, $(sed -n 's/^corpus_found *: //p' "$work/$folder/$name/fuzzer_stats") kept, $kept of the mutator's" \
-        | tee -a "$work/afl"
-    test "$execs" -ge $((afl_seconds * 10)) && test "$kept" -gt 0
+    found=$(sed -n 's/^corpus_found *: //p' "$work/$folder/$name/fuzzer_stats")
+    made=$(find "$work/$folder/$name/queue" -maxdepth 1 -name '*op:teddertempo*' | wc -l)
+    echo "AFL++, $folder, $name: $execs runs, $found kept, $made of them made by the mutator" | tee -a "$work/afl"
+    test "$execs" -ge $((afl_seconds * 10)) && test "$made" -gt 0
 }
 
 # Nothing is kept but what the mutator made.
-kept_alone() { test "$(find "$work/alone/default/queue" -maxdepth 1 -name 'id:*' | grep -c -v -e ',orig:' -e 'op:teddertempo')" -eq 0; }
+kept_alone() { ! find "$work/alone/default/queue" -maxdepth 1 -name 'id:*' | grep -v -e ',orig:' -e 'op:teddertempo'; }
 
-if command -v afl-fuzz > /dev/null && command -v afl-clang-fast > /dev/null && [ "$afl_seconds" -gt 0 ]; then
-    judge "afl/target.c" compile afl/target.c afl-clang-fast -O1 -o "$work/target_afl"
+if command -v afl-fuzz > /dev/null && command -v afl-cc > /dev/null && [ "$afl_seconds" -gt 0 ]; then
+    judge "afl/target.c" compile afl/target.c afl-cc -O1 -o "$work/target_afl"
     judge "afl/mutator.c" compile afl/mutator.c "${CC:-cc}" -pedantic -O2 -shared -fPIC "$library" -o "$work/teddertempo_afl.so"
     start_afl together main -M main & instances=($!)
     start_afl together second -S second & instances+=($!)

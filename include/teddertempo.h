@@ -3,20 +3,20 @@
  *
  * Link libteddertempo.a (pkg-config --cflags --libs teddertempo).
  *
- * A valid module stays valid, and each of its functions, called with any arguments in any memory, tables and globals, does what it
- * did: that is proved, of validity by types, of functions that can be read, and with the exceptions that docs/PROMISES.md of the
- * sources has (a host that lists globals or compares bytes, limits of stack and fuel, threads at a shared memory, bits of NaNs,
- * instantiation). Whether the module is valid to begin with, no call checks. A rewrite may append globals, so that many rewrites may
- * pass an engine's limits.
+ * A valid module stays valid, and each of its functions, called with any arguments in any memory, tables and globals, does what
+ * it did: that is proved, of validity by types, of functions that can be read, and with the exceptions that docs/PROMISES.md of
+ * the sources has (a host that lists globals or compares bytes, limits of stack and fuel, threads at a shared memory, bits of
+ * NaNs, instantiation). Whether the module is valid to begin with, no call checks. A rewrite may append globals, so that many
+ * rewrites may pass an engine's limits.
  *
  * The caller sees to it that
- *   - data points to max_size bytes that may be read and written, and the other pointers to what their types say; none is null, even
- *     where max_size or room is 0, and no two of them overlap;
+ *   - data points to max_size bytes that may be read and written, and the other pointers to what their types say; none is null,
+ *     even where max_size or room is 0, and no two of them overlap;
  *   - nothing else reads or writes these during the call.
  *
- * No state is kept between calls, and any thread may call on buffers of its own. A call takes memory from malloc and realloc, and has
- * given all of it back with free when it returns. It is not called from a signal handler, or in the forked child of a process with
- * several threads.
+ * No state is kept between calls, and any thread may call on buffers of its own. A call takes memory from malloc and realloc,
+ * and has given all of it back with free when it returns. It is not called from a signal handler, or in the forked child of a
+ * process with several threads.
  */
 #ifndef TEDDERTEMPO_H
 #define TEDDERTEMPO_H
@@ -32,9 +32,9 @@ extern "C" {
 #define TEDDERTEMPO_VERSION_NUMBER 0x000200u
 
 /*
- * The simple call, with the arguments of libFuzzer's LLVMFuzzerCustomMutator: rewrites the module in data[0..size] once, in place, by
- * any rule in any function. Returns the new size, at most max_size, or 0, and data is as it was. Bytes of data behind the new module
- * stay as they were.
+ * The simple call, with the arguments of libFuzzer's LLVMFuzzerCustomMutator: rewrites the module in data[0..size] once, in
+ * place, by any rule in any function. Returns the new size, at most max_size, or 0, and data is as it was. Bytes of data behind
+ * the new module stay as they were.
  */
 size_t teddertempo_mutate(uint8_t *data, size_t size, size_t max_size, uint64_t seed);
 
@@ -78,8 +78,8 @@ size_t teddertempo_mutate_with(uint8_t *data, size_t size, size_t max_size, cons
 uint32_t teddertempo_version(void);
 
 /*
- * Writes the name of a rule, which has no NUL behind it, to at most room bytes, and returns the length of the name; 0 where there is
- * no such rule, and the rules are those below the first of these.
+ * Writes the name of a rule, which has no NUL behind it, to at most room bytes, and returns the length of the name; 0 where
+ * there is no such rule, and the rules are those below the first of these.
  */
 size_t teddertempo_rule_name(uint32_t rule, char *name, size_t room);
 

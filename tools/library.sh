@@ -1,9 +1,9 @@
 #!/usr/bin/env bash
-# Proves and builds the static library, and writes FOLDER/libteddertempo.a: the library of the crate teddertempo_c with the kit's part
-# by which it takes memory merged in, so that a program links one archive.
+# Proves and builds the static library, and writes FOLDER/libteddertempo.a: the library of the crate teddertempo_c with the
+# kit's part by which it takes memory merged in, so that a program links one archive.
 #
-# Usage: library.sh FOLDER. Needs a Rattle kit, whose rt is on the path, and ar. RATTLE_C names the kit's folder of liblibc_c.a, where
-# that isn't the one beside rt.
+# Usage: library.sh FOLDER. Needs a Rattle kit, whose rt is on the path, and ar. RATTLE_C names the kit's folder of liblibc_c.a,
+# where that isn't the one beside rt.
 set -euo pipefail
 if [ $# -ne 1 ]; then
     echo "usage: library.sh FOLDER" >&2

@@ -6,8 +6,8 @@
 # The version is that of the file VERSION; it fails where the header, the Rust crate, CHANGELOG.md or the program has another one.
 # Equal commits and equal builds give equal packages.
 #
-# Usage: package.sh, on x86-64 Linux. TEDDERTEMPO_BIN names the folder of programs that are built already, and TEDDERTEMPO_LIB that of
-# libteddertempo.a; what isn't named is proved and built first, which needs a Rattle kit, whose rt is on the path.
+# Usage: package.sh, on x86-64 Linux. TEDDERTEMPO_BIN names the folder of programs that are built already, and TEDDERTEMPO_LIB
+# that of libteddertempo.a; what isn't named is proved and built first, which needs a Rattle kit, whose rt is on the path.
 set -euo pipefail
 if [ -n "${TEDDERTEMPO_BIN:-}" ]; then TEDDERTEMPO_BIN=$(realpath "$TEDDERTEMPO_BIN"); fi
 if [ -n "${TEDDERTEMPO_LIB:-}" ]; then TEDDERTEMPO_LIB=$(realpath "$TEDDERTEMPO_LIB"); fi
@@ -28,7 +28,8 @@ need objdump binutils
 need dpkg-deb dpkg
 if [ "$(uname -sm)" != "Linux x86_64" ]; then fail "makes packages for x86-64 Linux, and runs there alone"; fi
 if [ -z "${TEDDERTEMPO_BIN:-}" ] || [ -z "${TEDDERTEMPO_LIB:-}" ]; then
-    command -v rt > /dev/null || fail "needs a Rattle kit, whose rt is on the path; or TEDDERTEMPO_BIN and TEDDERTEMPO_LIB name what is built"
+    command -v rt > /dev/null \
+        || fail "needs a Rattle kit, whose rt is on the path; or TEDDERTEMPO_BIN and TEDDERTEMPO_LIB name what is built"
     need ar binutils
 fi
 
@@ -108,7 +109,8 @@ settle() {
 # What the Debian package depends on: the C library, at least of the version by whose symbols the programs are linked.
 depends() {
     local other glibc
-    other=$(objdump -p "$@" | sed -n 's/^ *NEEDED *//p' | sort -u | grep -v -x -e libc.so.6 -e libm.so.6 -e ld-linux-x86-64.so.2 || true)
+    other=$(objdump -p "$@" | sed -n 's/^ *NEEDED *//p' | sort -u \
+        | grep -v -x -e libc.so.6 -e libm.so.6 -e ld-linux-x86-64.so.2 || true)
     if [ -n "$other" ]; then fail "knows no package of Debian for $other, by which the programs are linked"; fi
     glibc=$(objdump -T "$@" 2> /dev/null | grep -o 'GLIBC_[0-9.]*' | sort -uV | tail -1 || true)
     echo "libc6${glibc:+ (>= ${glibc#GLIBC_})}"
@@ -131,9 +133,12 @@ mkdir -p "$documents" "$root/DEBIAN"
 cp README.md "$documents/"
 cp LICENSE "$documents/copyright"
 gzip -9nc CHANGELOG.md > "$documents/changelog.gz"
-fill control.in "SIZE=$(du -sk --apparent-size "$root/usr" | cut -f1)" "DEPENDS=$(depends "$root"/usr/bin/*)" > "$root/DEBIAN/control"
+size=$(du -sk --apparent-size "$root/usr" | cut -f1)
+depends=$(depends "$root"/usr/bin/*)
+fill control.in "SIZE=$size" "DEPENDS=$depends" > "$root/DEBIAN/control"
 (cd "$root" && find usr -type f -print0 | sort -z | xargs -0 md5sum) > "$root/DEBIAN/md5sums"
 settle "$root" "$root/usr/bin"
-dpkg-deb --root-owner-group -Zxz --build "$root" "dist/teddertempo_${version}_amd64.deb" > "$work/log" || { cat "$work/log"; exit 1; }
+dpkg-deb --root-owner-group -Zxz --build "$root" "dist/teddertempo_${version}_amd64.deb" > "$work/log" \
+    || fail "dpkg-deb: $(cat "$work/log")"
 
 ls -l dist/*"$version"*

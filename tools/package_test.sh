@@ -1,12 +1,12 @@
 #!/usr/bin/env bash
 # Tests the packages that tools/package.sh wrote into dist/ (or the folder that is named), with no Rattle kit on the path:
-#   - the archive, unpacked into an empty folder: both programs run, the C example is linked by pkg-config alone and rewrites a module,
-#     header and library have one version, and the man page has the options that the program has;
+#   - the archive, unpacked into an empty folder: both programs run, the C example is linked by pkg-config alone and rewrites a
+#     module, header and library have one version, and the man page has the options that the program has;
 #   - the Debian package: installed, the same program and example; then removed, and nothing of it is left.
 # The last line is `N passed, N failed`.
 #
-# Usage: package_test.sh [FOLDER]. Needs a C compiler and pkg-config; for the Debian package also dpkg and root, and is there none, or
-# the package is installed already, a line says so and that part is left out.
+# Usage: package_test.sh [FOLDER]. Needs a C compiler and pkg-config; for the Debian package also dpkg and root. Where these aren't
+# there, or the package is installed already, a line says so, and that part is left out.
 set -euo pipefail
 packages=$(realpath "${1:-$(dirname "$0")/../dist}")
 cd "$(dirname "$0")/.."

@@ -4,8 +4,8 @@
  *     cc -O2 -shared -fPIC mutator.c $(pkg-config --cflags --libs teddertempo) -o teddertempo_afl.so
  *     AFL_CUSTOM_MUTATOR_LIBRARY=$PWD/teddertempo_afl.so afl-fuzz -i CORPUS -o FINDINGS -- ./target
  *
- * With AFL_CUSTOM_MUTATOR_ONLY=1 nothing else changes the inputs, so that valid modules stay valid; AFL_DISABLE_TRIM=1 is wanted then
- * too, since trimming cuts bytes out of them.
+ * With AFL_CUSTOM_MUTATOR_ONLY=1 nothing else changes the inputs, so that valid modules stay valid; AFL_DISABLE_TRIM=1 is
+ * wanted then too, since trimming cuts bytes out of them.
  */
 #include <teddertempo.h>
 
@@ -66,7 +66,7 @@ static int grow(struct mutator *mutator, size_t room)
     return 1;
 }
 
-/* The bytes in buf are AFL++'s, so a copy is rewritten. Where this returns 0, AFL++ runs nothing and goes on, if *out_buf isn't null. */
+/* The bytes in buf are AFL++'s, so a copy is rewritten. Where this returns 0 AFL++ goes on without a run; *out_buf isn't null. */
 size_t afl_custom_fuzz(void *data, unsigned char *buf, size_t buf_size, unsigned char **out_buf, unsigned char *add_buf,
                        size_t add_buf_size, size_t max_size)
 {
@@ -77,7 +77,7 @@ size_t afl_custom_fuzz(void *data, unsigned char *buf, size_t buf_size, unsigned
 
     (void)add_buf, (void)add_buf_size;
     *out_buf = buf;
-    if (buf_size > max_size || !grow(mutator, max_size)) {
+    if (buf_size == 0 || buf_size > max_size || !grow(mutator, max_size)) {
         return 0;
     }
     memcpy(mutator->data, buf, buf_size);

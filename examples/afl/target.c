@@ -1,8 +1,8 @@
 /*
- * A small program for AFL++ to fuzz, in the place of an engine: it reads the sections of a module, from standard input or the file that
- * is named, and runs some operators of its function bodies on a stack. With AFL++'s compiler:
+ * A small program for AFL++ to fuzz, in the place of an engine: it reads the sections of a module, from standard input or the
+ * file that is named, and runs some operators of its function bodies on a stack. With AFL++'s compiler:
  *
- *     afl-clang-fast -O1 target.c -o target
+ *     afl-cc -O1 target.c -o target
  */
 #include <stdint.h>
 #include <stdio.h>
@@ -114,6 +114,20 @@ static uint32_t run_bodies(struct reader section)
     return sum;
 }
 
+/* Answers how many globals are mutable: each has a type, a byte for that, and an initializer up to an `end`. */
+static uint32_t count_mutable(struct reader section)
+{
+    uint32_t count = read_number(&section), sum = 0;
+
+    while (count-- > 0 && section.end - section.at > 2) {
+        sum += section.at[1];
+        section.at += 2;
+        while (section.at < section.end && *section.at++ != 0x0b) {
+        }
+    }
+    return sum;
+}
+
 int main(int count, char **arguments)
 {
     static uint8_t data[1 << 20];
@@ -129,11 +143,11 @@ int main(int count, char **arguments)
         uint8_t id = *module.at++;
         struct reader section = read_part(&module);
         if (id == 6) {
-            globals = read_number(&section);
+            globals = count_mutable(section);
         } else if (id == 10) {
             sum = run_bodies(section);
         }
     }
-    printf("%u globals, %u\n", (unsigned int)globals, (unsigned int)sum);
+    printf("%u mutable globals, %u\n", (unsigned int)globals, (unsigned int)sum);
     return 0;
 }

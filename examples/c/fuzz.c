@@ -1,5 +1,6 @@
 /*
- * A fuzz target for libFuzzer whose mutator rewrites modules so that they do what they did, and leaves other bytes to libFuzzer's own:
+ * A fuzz target for libFuzzer whose mutator rewrites modules so that they do what they did, and leaves other bytes to
+ * libFuzzer's own:
  *
  *     clang -fsanitize=fuzzer fuzz.c $(pkg-config --cflags --libs teddertempo) -o fuzz && ./fuzz CORPUS
  */
@@ -30,8 +31,8 @@ size_t LLVMFuzzerCustomMutator(uint8_t *data, size_t size, size_t max_size, unsi
 }
 
 /*
- * A part of one module with a part of another behind it is no module. Where this returns 0, libFuzzer takes the mutator above, which
- * crosses other bytes by way of LLVMFuzzerMutate.
+ * A part of one module with a part of another behind it is no module. Where this returns 0, libFuzzer takes the mutator above,
+ * which crosses other bytes by way of LLVMFuzzerMutate.
  */
 size_t LLVMFuzzerCustomCrossOver(const uint8_t *data1, size_t size1, const uint8_t *data2, size_t size2, uint8_t *out,
                                  size_t max_out_size, unsigned int seed)

@@ -3,8 +3,8 @@
  *
  *     mutate [--seed N] [--count N] [--function N] [--growth N] [--rule NAME].. MODULE NEW
  *
- * Numbers are decimal. Without --rule all rules are meant; --growth is how many bytes NEW may have more than MODULE. The status is 2
- * where the library writes no module, and 1 where the options can't be read, or a file can't be read or written.
+ * Numbers are decimal. Without --rule all rules are meant; --growth is how many bytes NEW may have more than MODULE. The status
+ * is 2 where the library writes no module, and 1 where the options can't be read, or a file can't be read or written.
  */
 #include <teddertempo.h>
 

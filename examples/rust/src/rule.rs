@@ -20,7 +20,8 @@ impl Rule {
 
     fn length(self) -> usize {
         let mut name = [0; 1];
-        // SAFETY: the declaration is the header's. The pointer is that of a byte that nothing else reads or writes; none is written.
+        // SAFETY: the declaration is the header's. The pointer is that of a byte that nothing else reads or writes; none is
+        // written.
         unsafe { raw::teddertempo_rule_name(self.0, name.as_mut_ptr(), 0) }
     }
 
