@@ -20,17 +20,21 @@ folder=$(realpath "$1")
 kit=$(realpath "${RATTLE_C:-$(dirname "$(realpath "$(command -v rt)")")/../c}")
 crate=$(dirname "$(realpath "$0")")/../crates/teddertempo_c
 
-log=$(mktemp)
-trap 'rm -f "$log"' EXIT
-if ! (cd "$crate" && rt lib) > "$log" 2>&1; then
-    cat "$log"
+work=$(mktemp -d)
+trap 'rm -rf "$work"' EXIT
+if ! (cd "$crate" && rt lib) > "$work/log" 2>&1; then
+    cat "$work/log"
     exit 1
 fi
-rm -f "$folder/libteddertempo.a"
+
+# Plain names, since ar reads others from its script in part only.
+cp "$crate/out/libteddertempo_c.a" "$kit/liblibc_c.a" "$work/"
+cd "$work"
 ar -M <<END
-create $folder/libteddertempo.a
-addlib $(realpath "$crate/out/libteddertempo_c.a")
-addlib $kit/liblibc_c.a
+create libteddertempo.a
+addlib libteddertempo_c.a
+addlib liblibc_c.a
 save
 end
 END
+mv libteddertempo.a "$folder/"
