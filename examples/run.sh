@@ -17,7 +17,15 @@ if [ -n "${TEDDERTEMPO_LIB:-}" ]; then TEDDERTEMPO_LIB=$(realpath "$TEDDERTEMPO_
 cd "$(dirname "$0")/.."
 
 work=$(mktemp -d)
-trap 'rm -rf "$work"' EXIT
+instances=()
+leave() {
+    if [ "${#instances[@]}" -gt 0 ]; then
+        kill "${instances[@]}" 2> /dev/null || true
+        wait
+    fi
+    rm -rf "$work"
+}
+trap leave EXIT
 
 if [ -z "${TEDDERTEMPO_LIB:-}" ]; then
     tools/library.sh "$work/lib"
@@ -149,11 +157,11 @@ if command -v clang > /dev/null && echo 'int LLVMFuzzerTestOneInput(const char *
         "$work/fuzz" -runs=2000 -seed=1 -max_len=65536 -artifact_prefix="$work/" "$work/fuzzed"
 fi
 
-# Starts an instance of AFL++ that ends by itself.
-start_afl() {
+# Becomes an instance of AFL++ that ends by itself.
+run_afl() {
     local folder=$1 name=$2
     shift 2
-    AFL_SKIP_CPUFREQ=1 AFL_I_DONT_CARE_ABOUT_MISSING_CRASHES=1 AFL_NO_AFFINITY=1 AFL_NO_UI=1 AFL_DISABLE_TRIM=1 \
+    exec env AFL_SKIP_CPUFREQ=1 AFL_I_DONT_CARE_ABOUT_MISSING_CRASHES=1 AFL_NO_AFFINITY=1 AFL_NO_UI=1 AFL_DISABLE_TRIM=1 \
         AFL_CUSTOM_MUTATOR_LIBRARY=$work/teddertempo_afl.so timeout $((afl_seconds + 120)) \
         afl-fuzz -i "$work/corpus" -o "$work/$folder" -V "$afl_seconds" "$@" -- "$work/target_afl" > "$work/$folder-$name.log" 2>&1
 }
@@ -177,10 +185,11 @@ kept_alone() { ! find "$work/alone/default/queue" -maxdepth 1 -name 'id:*' | gre
 if command -v afl-fuzz > /dev/null && command -v afl-cc > /dev/null && [ "$afl_seconds" -gt 0 ]; then
     judge "afl/target.c" compile afl/target.c afl-cc -O1 -o "$work/target_afl"
     judge "afl/mutator.c" compile afl/mutator.c "${CC:-cc}" -pedantic -O2 -shared -fPIC "$library" -o "$work/teddertempo_afl.so"
-    start_afl together main -M main & instances=($!)
-    start_afl together second -S second & instances+=($!)
-    AFL_CUSTOM_MUTATOR_ONLY=1 start_afl alone default & instances+=($!)
+    run_afl together main -M main & instances=($!)
+    run_afl together second -S second & instances+=($!)
+    AFL_CUSTOM_MUTATOR_ONLY=1 run_afl alone default & instances+=($!)
     for instance in "${instances[@]}"; do judge "an instance of AFL++" wait "$instance"; done
+    instances=()
     judge "AFL++, main" fuzzed together main
     judge "AFL++, second" fuzzed together second
     judge "AFL++, with the mutator alone" fuzzed alone default
