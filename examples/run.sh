@@ -60,7 +60,7 @@ finish() {
     exit
 }
 
-# The options of the programs for a seed: each eight times of them differ.
+# The options of the programs under a seed, of eight kinds in turn.
 options_of() {
     echo "--seed $1"
     case $(($1 % 8)) in

@@ -86,8 +86,7 @@ fill() {
     sed -e "s|@VERSION@|$version|g" "$@" "tools/package/$template"
 }
 
-# Lays out the files under a prefix, with the library in the folder that is named; the rest of the words is the prefix that
-# teddertempo.pc has.
+# Lays out the files in a folder, with the library in the one of it that is named; the last word is the prefix for teddertempo.pc.
 lay_out() {
     local root=$1 library=$2 prefix=$3
     mkdir -p "$root"/{bin,include,share/man/man1} "$root/$library/pkgconfig"
@@ -100,6 +99,7 @@ lay_out() {
     fill teddertempo.1.in "DATE=$(date -u -d "@$SOURCE_DATE_EPOCH" +%Y-%m-%d)" > "$root/share/man/man1/teddertempo.1"
 }
 
+# Gives the files of a folder, of which one has programs, their modes and one time.
 settle() {
     chmod -R u=rwX,go=rX "$1"
     chmod 755 "$2"/*
