@@ -1,5 +1,4 @@
 -- The tree that was found begins there.
-use Rattle.std.proofs.Common.{◌≡◌}
 use Rattle.peephole_rewrites.proofs.extent.tree_start.Goals as goal
 
 pub returns-in-Some-clause-found : goal.returns-in-Some-clause-found
