@@ -1,0 +1,69 @@
+-- A module rewritten as is asked for, and what options ask for.
+use Rattle.std.proofs.Common.{◌≡◌, ℕ, ◌+◌, ◌≤◌, List, Option, Result, Ok, Err, ap, subst, ◌∙◌, arith}
+use Rattle.std.specs.Prelude.{IfOk, IfErr, min}
+use Rattle.std.proofs.Math.Nat.{min-le_left}
+use Rattle.peephole_rules.specs.declared.rule.Rule.{Rule}
+use Rattle.peephole_modules.specs.Attempt.{IsForSize, IsReason}
+use Rattle.peephole_modules.specs.Chosen.{GivesUp}
+use Rattle.peephole_modules.specs.ChosenTimes.{ChoosesTimes}
+use Rattle.peephole_modules.specs.DoesAsBefore.{DoesAsBefore}
+use Rattle.peephole_modules.specs.Mutates.{Mutates}
+use Rattle.peephole_modules.specs.Seeded.{seeded}
+use Rattle.peephole_modules.specs.declared.attempt.Reason.{Reason}
+use Rattle.peephole_modules.specs.declared.times.MadeRewrite.{MadeRewrite}
+use Rattle.peephole_modules.specs.declared.times.RewrittenModule.{RewrittenModule}
+use Rattle.teddertempo_c.specs.Options.{rules_of, function_of, count_of, most_of}
+use Rattle.teddertempo_c.specs.Reports.{asked_of}
+use Rattle.teddertempo_c.specs.Writes.{Asked, Fits, IsRefusedFor, IsRewrittenBy}
+use Rattle.teddertempo_c.specs.declared.options.Options.{Options}
+use Rattle.teddertempo_c.proofs.FitsLemmas.{fits_mutated}
+
+module _ (asked : Asked) (bytes : List ℕ) (result : Result RewrittenModule Reason)
+    (mutates : IfOk result (λ m. Mutates asked.scope asked.count bytes m.made.items m.bytes.items m.stopped)) where
+  pub rewritten_so : IfOk result (λ m. DoesAsBefore bytes m.bytes.items) →
+      IfOk result (λ m. ChoosesTimes asked.scope bytes (seeded asked.seed) m.made.items m.bytes.items m.stopped) →
+      IfOk result (λ m. IsRewrittenBy asked bytes m.made.items m.bytes.items)
+  rewritten_so does chosen = each result mutates does chosen
+    where
+      each : (r : Result RewrittenModule Reason) → IfOk r (λ m. Mutates asked.scope asked.count bytes m.made.items m.bytes.items m.stopped) →
+          IfOk r (λ m. DoesAsBefore bytes m.bytes.items) →
+          IfOk r (λ m. ChoosesTimes asked.scope bytes (seeded asked.seed) m.made.items m.bytes.items m.stopped) →
+          IfOk r (λ m. IsRewrittenBy asked bytes m.made.items m.bytes.items)
+      each (Ok m) a b c = record { stopped = m.stopped; mutates = a; chosen = c; does_as_before = b }
+      each (Err e) a b c = tt
+
+  pub fits_so : IfOk result (λ m. Fits asked.scope.most m.made.items m.bytes.items)
+  fits_so = each result mutates
+    where
+      each : (r : Result RewrittenModule Reason) → IfOk r (λ m. Mutates asked.scope asked.count bytes m.made.items m.bytes.items m.stopped) →
+          IfOk r (λ m. Fits asked.scope.most m.made.items m.bytes.items)
+      each (Ok m) a = fits_mutated asked.scope asked.count bytes m.made.items m.bytes.items m.stopped a
+      each (Err e) a = tt
+
+pub refused_so : (asked : Asked) (bytes : List ℕ) (r : Result RewrittenModule Reason) → IfErr r (IsReason asked.scope bytes) →
+    IfErr r (λ e. IsForSize e → GivesUp asked.scope bytes (seeded asked.seed)) → IfErr r (IsRefusedFor asked bytes)
+refused_so asked bytes (Ok m) a b = tt
+refused_so asked bytes (Err e) a b = record { is = a; gives_up = b }
+
+-- ---- by options
+
+abbrev pub asked_with : Options → List Rule → Option ℕ → (most count : ℕ) → Asked
+asked_with options rules function most count = record {
+  seed = options.seed;
+  scope = record { rules = rules; function = function; most = most };
+  count = count;
+}
+
+pub asked_same : (options : Options) (size room : ℕ) (rules : List Rule) (function : Option ℕ) (most count : ℕ) → rules ≡ rules_of options →
+    function ≡ function_of options → most ≡ most_of options size room → count ≡ count_of options →
+    asked_with options rules function most count ≡ asked_of options size room
+asked_same options size room rules function most count a b c d =
+    ap (λ r. asked_with options r function most count) a ∙ ap (λ f. asked_with options (rules_of options) f most count) b
+    ∙ ap (λ m. asked_with options (rules_of options) (function_of options) m count) c
+    ∙ ap (λ n. asked_with options (rules_of options) (function_of options) (most_of options size room) n) d
+
+pub fits_room : (options : Options) (size room : ℕ) (r : Result RewrittenModule Reason) →
+    IfOk r (λ m. Fits (most_of options size room) m.made.items m.bytes.items) → IfOk r (λ m. Fits room m.made.items m.bytes.items)
+fits_room options size room (Ok m) f =
+    let below = min-le_left room (size + options.max_growth) in record { one = f.one; some = f.some; fits = omega (arith, f.fits, below) }
+fits_room options size room (Err e) f = tt

@@ -1,0 +1,45 @@
+-- A module that rewrites made has bytes, and no more than it may have.
+use Rattle.std.proofs.Common.{◌≡◌, ℕ, ◌<◌, ◌≤◌, List, [], ◌∷◌, ◌++◌, length, drop, Option, sym, ap, subst, arith, length-append}
+use Rattle.wasm_code.specs.Code.{shortest}
+use Rattle.mutate_base.specs.declared.types.PrimitiveTypeInfo.{PrimitiveTypeInfo}
+use Rattle.wasm_sections.specs.declared.id.SectionId.TheVariants as ids
+use Rattle.wasm_sections.specs.Id.{id_code}
+use Rattle.wasm_module.specs.Module.{Layout}
+use Rattle.wasm_module.specs.Rewritten.{code_with, IsRewritten}
+use Rattle.peephole_modules.specs.Mutated.{IsMutated}
+use Rattle.peephole_modules.specs.Mutates.{Mutates, RewritesEach}
+use Rattle.peephole_modules.specs.Scope.{Scope}
+use Rattle.peephole_modules.specs.declared.mutation.MutationError.{MutationError}
+use Rattle.peephole_modules.specs.declared.times.MadeRewrite.{MadeRewrite}
+use Rattle.teddertempo_c.specs.Writes.{Fits}
+
+not_empty : (front size contents behind new : List ℕ) (id : ℕ) → new ≡ (front ++ (id ∷ size ++ contents)) ++ behind → 0 < length new
+not_empty front size contents behind new id is = omega (arith, simp length-append at (ap length is))
+
+length-rewritten : (bytes : List ℕ) (layout : Layout) (n : ℕ) (contents : List ℕ) (more : List PrimitiveTypeInfo) (new : List ℕ) →
+    IsRewritten bytes layout n contents more new → 0 < length new
+length-rewritten bytes layout n contents more new w =
+    let code = code_with bytes w.code w.entry contents in
+    not_empty w.front (shortest (length code)) code (drop w.code.end bytes) new (id_code ids.Code) w.new_is
+
+record HasSize (most : ℕ) (new : List ℕ) : Type 0 where
+  some : 0 < length new
+  fits : length new ≤ most
+
+size_of_one : (scope : Scope) (bytes : List ℕ) (m : MadeRewrite) (new : List ℕ) → IsMutated scope bytes m.function m.rewrite new → HasSize scope.most new
+size_of_one scope bytes m new mutated = record { some = length-rewritten _ _ _ _ _ new mutated.mutates.2.written; fits = mutated.fits }
+
+size_of_each : (scope : Scope) (bytes : List ℕ) (m : MadeRewrite) (ms : List MadeRewrite) (new : List ℕ) → RewritesEach scope bytes (m ∷ ms) new →
+    HasSize scope.most new
+size_of_each scope bytes m [] new (next, mutated, is) = subst (HasSize scope.most) (sym is) (size_of_one scope bytes m next mutated)
+size_of_each scope bytes m (k ∷ ks) new (next, mutated, each) = size_of_each scope next k ks new each
+
+fits_each : (scope : Scope) (bytes : List ℕ) (made : List MadeRewrite) (new : List ℕ) → 0 < length made → RewritesEach scope bytes made new →
+    Fits scope.most made new
+fits_each scope bytes [] new some each = absurd (omega arith)
+fits_each scope bytes (m ∷ ms) new some each =
+    let size = size_of_each scope bytes m ms new each in record { one = some; some = size.some; fits = size.fits }
+
+pub fits_mutated : (scope : Scope) (count : ℕ) (bytes : List ℕ) (made : List MadeRewrite) (new : List ℕ) (stopped : Option MutationError) →
+    Mutates scope count bytes made new stopped → Fits scope.most made new
+fits_mutated scope count bytes made new stopped m = fits_each scope bytes made new m.some m.each

@@ -1,0 +1,89 @@
+-- What is written over the front of a buffer, and what is told of it.
+use Rattle.std.proofs.Common.{◌≡◌, ◌≢◌, ℕ, ◌<◌, ◌≤◌, inl, inr, List, [], ◌∷◌, ◌++◌, length, take, drop, refl, sym, ap, subst, ◌∙◌, arith, length-append, length-drop}
+use Rattle.std.proofs.lemmas.List.{take_at, drop_at}
+use Rattle.peephole_modules.specs.declared.attempt.Reason.{Reason}
+use Rattle.peephole_modules.specs.declared.times.MadeRewrite.{MadeRewrite}
+use Rattle.teddertempo_c.specs.Outcome.{outcome_number}
+use Rattle.teddertempo_c.specs.Reports.{IsAttempt, IsRefusal, IsWhy, MutatesWith, TellsMade, TellsNone}
+use Rattle.teddertempo_c.specs.Writes.{Fits, IsPut, IsRefusedFor, IsRewrittenBy, MutatesOnce, WritesFront, once}
+use Rattle.teddertempo_c.specs.declared.options.Options.{Options}
+use Rattle.teddertempo_c.specs.declared.outcome.Outcome.{Outcome}
+use Rattle.teddertempo_c.specs.declared.outcome.Outcome.TheVariants.{Rewritten, BadOptions}
+use Rattle.teddertempo_c.specs.declared.report.Report.{Report}
+
+module _ (bytes old : List ℕ) (result : ℕ) (new : List ℕ) (put : IsPut bytes old result new) where
+  pub front_is : take result new ≡ bytes
+  front_is = ap (take result) put.is ∙ take_at bytes (drop (length bytes) old) result (sym put.size)
+
+  writes_front : length bytes ≤ length old → 0 < length bytes → WritesFront old result new
+  writes_front fits some = record {
+    inside = omega (arith, put.size);
+    whole = omega (arith, fits, ap length put.is, length-append bytes (drop (length bytes) old), length-drop (length bytes) old);
+    behind =
+        ap (drop result) put.is ∙ drop_at bytes (drop (length bytes) old) result (sym put.size)
+        ∙ ap (λ n. drop n old) (sym put.size);
+    untouched = λ none. absurd (omega (arith, put.size, some));
+  }
+
+-- nothing is written
+writes_nothing : (old : List ℕ) → WritesFront old 0 old
+writes_nothing old = record { inside = omega arith; whole = refl; behind = refl; untouched = λ none. refl }
+
+-- ---- the simple call
+
+module _ (seed size : ℕ) (old : List ℕ) where
+  pub once_made : (made : List MadeRewrite) (bytes : List ℕ) (result : ℕ) (new : List ℕ) → size ≤ length old →
+      IsRewrittenBy (once seed (length old)) (take size old) made bytes → Fits (length old) made bytes → IsPut bytes old result new →
+      MutatesOnce seed size old result new
+  once_made made bytes result new inside is fits put = record {
+    writes = writes_front bytes old result new put fits.fits fits.some;
+    rewritten = λ some. record {
+      inside = inside;
+      made = made;
+      is = subst (IsRewrittenBy (once seed (length old)) (take size old) made) (sym (front_is bytes old result new put)) is;
+    };
+    refused = λ none. absurd (omega (arith, put.size, fits.some));
+  }
+
+  pub once_outside : length old < size → MutatesOnce seed size old 0 old
+  once_outside outside = record { writes = writes_nothing old; rewritten = λ some. absurd (some refl); refused = λ none. inl outside }
+
+  pub once_refused : (reason : Reason) → IsRefusedFor (once seed (length old)) (take size old) reason → MutatesOnce seed size old 0 old
+  once_refused reason why = record { writes = writes_nothing old; rewritten = λ some. absurd (some refl); refused = λ none. inr (reason, why) }
+
+-- ---- the call with options
+
+module _ (options : Options) (size : ℕ) (old : List ℕ) where
+  pub with_made : (made : List MadeRewrite) (bytes : List ℕ) (result : ℕ) (new : List ℕ) (report : Report) → IsAttempt options size old made bytes →
+      IsPut bytes old result new → report.outcome ≡ 0 → TellsMade made report → MutatesWith options size old result new report
+  with_made made bytes result new report is put number tells = record {
+    writes = writes_front bytes old result new put is.fits.fits is.fits.some;
+    outcome = Rewritten;
+    number = number;
+    some = ((λ some. refl), (λ same none. absurd (omega (arith, put.size, is.fits.some, none))));
+    rewritten = λ same. record {
+      inside = is.inside;
+      made = made;
+      is = subst (IsRewrittenBy _ (take size old) made) (sym (front_is bytes old result new put)) is.is;
+      tells = tells;
+    };
+    none = λ other. absurd (other refl);
+    why = λ other. absurd (other refl);
+    bad = λ bad. absurd (is.good bad);
+  }
+
+  never : (offset : ℕ) (outcome : Outcome) → IsWhy options size old offset outcome → outcome ≡ Rewritten → ⊥
+  never offset outcome why same = subst (IsWhy options size old offset) same why
+
+  pub with_refusal : (outcome : Outcome) (offset : ℕ) (report : Report) → IsRefusal options size old outcome offset →
+      report.outcome ≡ outcome_number outcome → TellsNone report → report.offset ≡ offset → MutatesWith options size old 0 old report
+  with_refusal outcome offset report is number tells place = record {
+    writes = writes_nothing old;
+    outcome = outcome;
+    number = number;
+    some = ((λ some. absurd (some refl)), (λ same. absurd (never offset outcome is.why same)));
+    rewritten = λ same. absurd (never offset outcome is.why same);
+    none = λ other. tells;
+    why = λ other. subst (λ at. IsWhy options size old at outcome) (sym place) is.why;
+    bad = is.bad;
+  }

@@ -1,0 +1,6 @@
+pub mod Buffer
+pub mod Options
+pub mod Outcome
+pub mod Writes
+pub mod Reports
+pub mod Naming

@@ -1,0 +1,111 @@
+-- What calls come to, and when (this project).
+use Rattle.std.specs.Prelude.{◌≡◌, ℕ, List}
+use Rattle.mutate_base.specs.declared.error.Error.{Error}
+use Rattle.mutate_base.specs.declared.error.Error.TheVariants as errors
+use Rattle.wasm_sections.specs.declared.fault.ModuleFault.{ModuleFault}
+use Rattle.wasm_sections.specs.declared.fault.ModuleFault.TheVariants as faults
+use Rattle.wasm_sections.specs.declared.writing.WriteError.{WriteError}
+use Rattle.wasm_sections.specs.declared.writing.WriteError.TheVariants as writes
+use Rattle.wasm_module.specs.Fault.{IsModuleFault}
+use Rattle.peephole_modules.specs.Attempt.{RefusesIndexOf}
+use Rattle.peephole_modules.specs.declared.attempt.Reason.{Reason}
+use Rattle.peephole_modules.specs.declared.attempt.Reason.TheVariants as reasons
+use Rattle.peephole_modules.specs.declared.mutation.MutationError.{MutationError}
+use Rattle.peephole_modules.specs.declared.mutation.MutationError.TheVariants as mutations
+use Rattle.teddertempo_c.specs.Writes.{Asked, IsRefusedFor}
+use Rattle.teddertempo_c.specs.declared.outcome.Outcome.{Outcome}
+use Rattle.teddertempo_c.specs.declared.outcome.Outcome.TheVariants.{Rewritten, NotAModule, LinkableObject, Unreadable, NoRule, NoFunction, TooLarge, NoMemory, BadOptions}
+
+-- the header's constants
+abbrev pub outcome_number : Outcome → ℕ
+outcome_number Rewritten = 0
+outcome_number NotAModule = 1
+outcome_number LinkableObject = 2
+outcome_number Unreadable = 3
+outcome_number NoRule = 4
+outcome_number NoFunction = 5
+outcome_number TooLarge = 6
+outcome_number NoMemory = 7
+outcome_number BadOptions = 8
+
+-- the fault is neither that of linkable objects nor a want of memory
+abbrev pub IsOther : ModuleFault → Type 0
+IsOther faults.Linkable = ⊥
+IsOther faults.Memory = ⊥
+IsOther fault = Unit {0}
+
+-- the bytes have such a fault there
+pub record IsNoModule (bytes : List ℕ) (offset : ℕ) : Type 0 where
+  pub kind : ModuleFault
+  pub is : IsModuleFault bytes kind offset
+  pub other : IsOther kind
+
+-- a rewrite is refused since it is too large: its module for the bytes that it may have or for sizes of 32 bits, or its tree or code for the rules
+abbrev pub IsTooLarge : MutationError → Type 0
+IsTooLarge (mutations.Read e) = ⊥
+IsTooLarge (mutations.Rewrite errors.Memory) = ⊥
+IsTooLarge (mutations.Rewrite e) = Unit {0}
+IsTooLarge (mutations.Write writes.TooLarge) = Unit {0}
+IsTooLarge (mutations.Write writes.Memory) = ⊥
+IsTooLarge mutations.TooLong = Unit {0}
+
+-- so one is
+pub record IsRefusedAsTooLarge (asked : Asked) (bytes : List ℕ) : Type 0 where
+  pub error : MutationError
+  pub large : IsTooLarge error
+  pub is : IsRefusedFor asked bytes (reasons.Refused error)
+
+-- Why nothing of the module is rewritten; the offset is that of its fault, or 0. Nothing is said of a want of memory.
+abbrev pub IsOutcome : Asked → (bytes : List ℕ) → (offset : ℕ) → Outcome → Type 0
+IsOutcome asked bytes offset Rewritten = ⊥
+IsOutcome asked bytes offset NotAModule = IsNoModule bytes offset
+IsOutcome asked bytes offset LinkableObject = IsModuleFault bytes faults.Linkable offset
+IsOutcome asked bytes offset Unreadable = (offset ≡ 0) × IsRefusedFor asked bytes reasons.Unreadable
+IsOutcome asked bytes offset NoRule = (offset ≡ 0) × IsRefusedFor asked bytes reasons.NoRule
+IsOutcome asked bytes offset NoFunction = (offset ≡ 0) × ((reason : Reason) × RefusesIndexOf asked.scope.function bytes reason)
+IsOutcome asked bytes offset TooLarge = (offset ≡ 0) × IsRefusedAsTooLarge asked bytes
+IsOutcome asked bytes offset NoMemory = offset ≡ 0
+IsOutcome asked bytes offset BadOptions = ⊥
+
+-- ---- for private functions
+
+-- what a module's fault comes to, and the offset that is told
+abbrev pub outcome_by_fault : ModuleFault → Outcome
+outcome_by_fault faults.Linkable = LinkableObject
+outcome_by_fault faults.Memory = NoMemory
+outcome_by_fault fault = NotAModule
+
+abbrev pub offset_by_fault : ModuleFault → (offset : ℕ) → ℕ
+offset_by_fault faults.Memory offset = 0
+offset_by_fault fault offset = offset
+
+-- what the refusal of a rewrite comes to
+abbrev pub outcome_by_error : Error → Outcome
+outcome_by_error errors.Memory = NoMemory
+outcome_by_error e = TooLarge
+
+abbrev pub outcome_by_write : WriteError → Outcome
+outcome_by_write writes.TooLarge = TooLarge
+outcome_by_write writes.Memory = NoMemory
+
+abbrev pub outcome_by_refusal : MutationError → Outcome
+outcome_by_refusal (mutations.Read e) = outcome_by_fault e.kind
+outcome_by_refusal (mutations.Rewrite e) = outcome_by_error e
+outcome_by_refusal (mutations.Write e) = outcome_by_write e
+outcome_by_refusal mutations.TooLong = TooLarge
+
+abbrev pub offset_by_refusal : MutationError → ℕ
+offset_by_refusal (mutations.Read e) = offset_by_fault e.kind e.offset
+offset_by_refusal e = 0
+
+-- what a reason comes to
+abbrev pub outcome_by : Reason → Outcome
+outcome_by reasons.NoRule = NoRule
+outcome_by reasons.Unreadable = Unreadable
+outcome_by (reasons.NoFunction function) = NoFunction
+outcome_by (reasons.UnknownImport e) = NoFunction
+outcome_by (reasons.Refused e) = outcome_by_refusal e
+
+abbrev pub offset_by : Reason → ℕ
+offset_by (reasons.Refused e) = offset_by_refusal e
+offset_by reason = 0

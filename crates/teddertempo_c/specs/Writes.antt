@@ -1,0 +1,72 @@
+-- What a call leaves in the buffer that it was given (this project).
+use Rattle.std.specs.Prelude.{◌≡◌, ◌≢◌, ◌⊎◌, ℕ, ◌<◌, ◌≤◌, List, ◌++◌, length, take, drop, Option, None}
+use Rattle.peephole_rules.specs.declared.rule.TheConstants.{RULES}
+use Rattle.peephole_modules.specs.Attempt.{IsForSize, IsReason}
+use Rattle.peephole_modules.specs.Chosen.{GivesUp}
+use Rattle.peephole_modules.specs.ChosenTimes.{ChoosesTimes}
+use Rattle.peephole_modules.specs.DoesAsBefore.{DoesAsBefore}
+use Rattle.peephole_modules.specs.Mutates.{Mutates}
+use Rattle.peephole_modules.specs.Scope.{Scope}
+use Rattle.peephole_modules.specs.Seeded.{seeded}
+use Rattle.peephole_modules.specs.declared.attempt.Reason.{Reason}
+use Rattle.peephole_modules.specs.declared.mutation.MutationError.{MutationError}
+use Rattle.peephole_modules.specs.declared.times.MadeRewrite.{MadeRewrite}
+
+-- What is asked for: the generator's seed, what of the module may be rewritten, and how many rewrites at most.
+pub record Asked : Type 0 where
+  pub seed : ℕ
+  pub scope : Scope
+  pub count : ℕ
+
+-- The new bytes are the module with these rewrites made, which the seed chooses; it is valid where the old one was, and does what that did.
+pub record IsRewrittenBy (asked : Asked) (bytes : List ℕ) (made : List MadeRewrite) (new : List ℕ) : Type 0 where
+  pub stopped : Option MutationError
+  pub mutates : Mutates asked.scope asked.count bytes made new stopped
+  pub chosen : ChoosesTimes asked.scope bytes (seeded asked.seed) made new stopped
+  pub does_as_before : DoesAsBefore bytes new
+
+-- Nothing of the module is rewritten, for this reason; for a size only where the seed chooses no rewrite that fits.
+pub record IsRefusedFor (asked : Asked) (bytes : List ℕ) (reason : Reason) : Type 0 where
+  pub is : IsReason asked.scope bytes reason
+  pub gives_up : IsForSize reason → GivesUp asked.scope bytes (seeded asked.seed)
+
+-- Of the buffer only the first bytes are written, the result says how many: none, where it is 0.
+pub record WritesFront (old : List ℕ) (result : ℕ) (new : List ℕ) : Type 0 where
+  pub inside : result ≤ length old
+  pub whole : length new ≡ length old
+  pub behind : drop result new ≡ drop result old
+  pub untouched : result ≡ 0 → new ≡ old
+
+-- ---- the simple call
+
+-- one rewrite, by any rule in any function, in so many bytes
+abbrev pub once : (seed room : ℕ) → Asked
+once seed room = record { seed = seed; scope = record { rules = RULES; function = None; most = room }; count = 1 }
+
+-- The first `size` bytes were a module, and the first ones now, the result says how many, are that module rewritten once.
+pub record IsRewrittenOnce (seed size : ℕ) (old : List ℕ) (result : ℕ) (new : List ℕ) : Type 0 where
+  pub inside : size ≤ length old
+  pub made : List MadeRewrite
+  pub is : IsRewrittenBy (once seed (length old)) (take size old) made (take result new)
+
+-- The buffer doesn't have so many bytes, or there is a reason.
+abbrev pub IsNotRewritten : (seed size : ℕ) → (old : List ℕ) → Type 0
+IsNotRewritten seed size old = (length old < size) ⊎ ((reason : Reason) × IsRefusedFor (once seed (length old)) (take size old) reason)
+
+pub record MutatesOnce (seed size : ℕ) (old : List ℕ) (result : ℕ) (new : List ℕ) : Type 0 where
+  pub writes : WritesFront old result new
+  pub rewritten : result ≢ 0 → IsRewrittenOnce seed size old result new
+  pub refused : result ≡ 0 → IsNotRewritten seed size old
+
+-- ---- for private functions
+
+-- a module that rewrites made: there is one, and its bytes are some, and at most so many
+pub record Fits (most : ℕ) (made : List MadeRewrite) (new : List ℕ) : Type 0 where
+  pub one : 0 < length made
+  pub some : 0 < length new
+  pub fits : length new ≤ most
+
+-- the bytes are written over the front of the buffer, and the result is how many they are
+pub record IsPut (bytes old : List ℕ) (result : ℕ) (new : List ℕ) : Type 0 where
+  pub size : result ≡ length bytes
+  pub is : new ≡ bytes ++ drop (length bytes) old

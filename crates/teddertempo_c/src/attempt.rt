@@ -1,0 +1,91 @@
+//! A module rewritten, or why nothing of it is.
+ghost use Rattle.std.specs.Prelude.{◌≡◌, ◌<◌, length, IfOk, IfErr};
+ghost use Rattle.teddertempo_c.specs.Options.{rules_of};
+ghost use Rattle.teddertempo_c.specs.Reports.{IsAttempt, IsRefusal, asked_of};
+ghost use Rattle.teddertempo_c.specs.Writes.{Fits, IsRefusedFor, IsRewrittenBy};
+
+use crate::options::{Options, count_of, function_of, most_of, rules_of};
+use crate::outcome::{Outcome, Refusal, refusal_by};
+use peephole_modules::{Reason, RewrittenModule, Scope, rewrite_with_seed};
+use peephole_rules::Rule;
+use std::alloc::Global;
+
+/// The module rewritten as `rewrite_with_seed` rewrites it: it has bytes, and no more than it may have. Condition: `count` is not 0.
+pub fn rewritten(
+    alloc: Global,
+    bytes: &[u8],
+    seed: u64,
+    scope: &Scope<'_>,
+    count: usize,
+) -> Result<RewrittenModule, Reason>
+    requires some { 0 < count }
+    ensures rewritten { IfOk result (λ m. IsRewrittenBy
+        (record { seed = seed; scope = scope.now; count = count })
+        bytes.now m.made.items m.bytes.items) }
+    ensures fits { IfOk result (λ m. Fits scope.now.most m.made.items m.bytes.items) }
+    ensures refused { IfErr result (IsRefusedFor
+        (record { seed = seed; scope = scope.now; count = count }) bytes.now) }
+{
+    rewrite_with_seed(alloc, bytes, seed, scope, count)
+}
+
+// An outcome that no place in the module belongs to.
+fn without_place(outcome: Outcome) -> Refusal
+    ensures outcome { result.outcome ≡ outcome }
+    ensures offset { result.offset ≡ 0 }
+{
+    Refusal { outcome, offset: 0 }
+}
+
+// The module rewritten by these rules, and for the rest as the options say.
+fn rewritten_by(
+    alloc: Global,
+    bytes: &[u8],
+    options: &Options,
+    rules: &[Rule],
+    room: usize,
+) -> Result<RewrittenModule, Reason>
+    requires rules { rules.now ≡ rules_of options.now }
+    ensures rewritten { IfOk result (λ m. IsRewrittenBy
+        (asked_of options.now (length bytes.now) room)
+        bytes.now m.made.items m.bytes.items) }
+    ensures fits { IfOk result (λ m. Fits room m.made.items m.bytes.items) }
+    ensures refused { IfErr result
+        (IsRefusedFor (asked_of options.now (length bytes.now) room) bytes.now) }
+{
+    let scope = Scope {
+        rules,
+        function: function_of(options),
+        max_size: most_of(options, bytes.len(), room),
+    };
+    rewritten(alloc, bytes, options.seed, &scope, count_of(options))
+}
+
+/// The module that the first `size` bytes of the buffer are, rewritten as the options say, or why nothing of it is.
+#[tactic(auto, using(crate::proofs::RefusalLemmas::attempt_so, crate::proofs::RefusalLemmas::refusal_so, crate::proofs::RefusalLemmas::refusal_memory, crate::proofs::RefusalLemmas::refusal_bad))]
+pub fn attempt(
+    alloc: Global,
+    buffer: &[u8],
+    size: usize,
+    options: &Options,
+) -> Result<RewrittenModule, Refusal>
+    ensures made { IfOk result (λ m.
+        IsAttempt options.now size buffer.now m.made.items m.bytes.items) }
+    ensures refused { IfErr result (λ e.
+        IsRefusal options.now size buffer.now e.outcome e.offset) }
+{
+    if size > buffer.len() {
+        return Err(without_place(Outcome::BadOptions));
+    }
+    let rules = match rules_of(alloc, options) {
+        Ok(rules) => rules,
+        Err(_) => return Err(without_place(Outcome::NoMemory)),
+    };
+    if rules.is_empty() {
+        return Err(without_place(Outcome::BadOptions));
+    }
+    match rewritten_by(alloc, &buffer[..size], options, &rules, buffer.len()) {
+        Ok(module) => Ok(module),
+        Err(reason) => Err(refusal_by(reason)),
+    }
+}

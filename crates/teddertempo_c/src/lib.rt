@@ -1,0 +1,117 @@
+//! The calls by which fuzzers and other programs in C rewrite instructions of a module, in place, so that it does what it did. They
+//! are those of the header `teddertempo.h`.
+#![tactic(auto)]
+
+ghost use Rattle.std.specs.Prelude.{◌≡◌, ℕ, ◌^◌, ◌<◌, List, slice_get};
+ghost use Rattle.std.specs.Borrow.{sem};
+ghost use Rattle.teddertempo_c.specs.Buffer.{bytes_at};
+ghost use Rattle.teddertempo_c.specs.Naming.{HoldsName, WritesName};
+ghost use Rattle.teddertempo_c.specs.Reports.{MutatesWith};
+ghost use Rattle.teddertempo_c.specs.Writes.{MutatesOnce};
+
+mod attempt;
+mod mutating;
+mod options;
+mod outcome;
+mod report;
+
+use mutating::{mutate_in, mutate_with_in};
+pub use options::Options;
+use peephole_rules::{RULES, Rule};
+pub use report::Report;
+use std::alloc::Global;
+
+/// Rewrites the module that the first `size` of the `max_size` bytes at `data` are, once and by any rule in any function, under a
+/// seed, and writes the new module over them. Answers the new module's size, which is `max_size` at most.
+///
+/// Answers 0, and leaves the bytes as they were, where `size` is above `max_size`, or for one of the reasons for which
+/// `rewrite_with_seed` refuses. One of these is that no memory is left, which may be so at any time: so no contract can tell this
+/// call from one that always answers 0.
+///
+/// The new module is valid where the old one was, and its functions do what they did. Equal modules, seeds and `max_size` give
+/// equal bytes. C passes `data`, `size`, `max_size` and `seed`; the bytes may be read and written, and `data` isn't null.
+#[unsafe(no_mangle)]
+pub unsafe extern "C" fn teddertempo_mutate(
+    alloc: Global,
+    data: *mut u8,
+    size: usize,
+    max_size: usize,
+    seed: u64,
+) -> usize
+    ghost old: { List ℕ }
+    requires* { sem 𝓛 (bytes_at «data» max_size old) ∗ ⌜ max_size < 2 ^ 63 ⌝ }
+    ensures* { ∃ₛ (λ new. sem 𝓛 (bytes_at «data» max_size new) ∗
+        ⌜ MutatesOnce seed size old result new ⌝) }
+{
+    mutate_in(
+        alloc,
+        std::slice::from_raw_parts_mut(data, max_size),
+        size,
+        seed,
+    )
+}
+
+/// The same by options, and the report says what was done, or why nothing was. It is written whole.
+///
+/// C passes `data`, `size`, `max_size`, and pointers to the options and the report, which aren't null and don't overlap the bytes.
+#[unsafe(no_mangle)]
+pub unsafe extern "C" fn teddertempo_mutate_with(
+    alloc: Global,
+    data: *mut u8,
+    size: usize,
+    max_size: usize,
+    options: &Options,
+    report: &mut Report,
+) -> usize
+    ghost old: { List ℕ }
+    requires* { sem 𝓛 (bytes_at «data» max_size old) ∗ ⌜ max_size < 2 ^ 63 ⌝ }
+    ensures* { ∃ₛ (λ new. sem 𝓛 (bytes_at «data» max_size new) ∗
+        ⌜ MutatesWith options.now size old result new report.new ⌝) }
+{
+    mutate_with_in(
+        alloc,
+        std::slice::from_raw_parts_mut(data, max_size),
+        size,
+        options,
+        report,
+    )
+}
+
+/// The version as a number: 0x000200 for 0.2.0.
+#[unsafe(no_mangle)]
+pub extern "C" fn teddertempo_version() -> u32
+    ensures { result ≡ 512 }
+{
+    0x00_02_00
+}
+
+// The one of the rules with the number.
+fn rule_in(rules: &[Rule], number: u32) -> Option<Rule>
+    ensures { result ≡ slice_get rules.now number }
+{
+    rules.get(number as usize).copied()
+}
+
+// Writes as much of the text to the front of the room as there is room for, and answers the text's length.
+#[tactic(auto, using(crate::proofs::NamingLemmas::holds_name))]
+fn hold(text: &[u8], room: &mut [u8]) -> usize
+    ensures { HoldsName text.now room.old result room.new }
+{
+    let count = text.len().min(room.len());
+    room[..count].copy_from_slice(&text[..count]);
+    text.len()
+}
+
+/// Writes the name of the rule with the number to the front of `name`, as much of it as there is room for, and answers the name's
+/// length; 0 where no rule has the number.
+///
+/// C passes the rule's number, a pointer to the room, which isn't null, and how many bytes there are.
+#[unsafe(no_mangle)]
+pub extern "C" fn teddertempo_rule_name(rule: u32, name: &mut [u8]) -> usize
+    ensures { WritesName rule name.old result name.new }
+{
+    match rule_in(&RULES, rule) {
+        Some(rule) => hold(rule.name().as_bytes(), name),
+        None => 0,
+    }
+}

@@ -1,0 +1,152 @@
+//! What a call comes to.
+ghost use Rattle.std.specs.Prelude.{◌≡◌};
+ghost use Rattle.teddertempo_c.specs.Outcome.{offset_by, offset_by_fault, offset_by_refusal, outcome_by, outcome_by_error, outcome_by_fault, outcome_by_refusal, outcome_by_write, outcome_number};
+
+use mutate_base::Error;
+use peephole_modules::{MutationError, Reason};
+use wasm_module::{ModuleError, ModuleFault, WriteError};
+
+/// What a call has done, or why it has done nothing. The header has a constant for each.
+#[derive(Clone, Copy, Debug, PartialEq, Eq)]
+pub enum Outcome {
+    /// The module is rewritten.
+    Rewritten,
+    /// The bytes are no module that can be read.
+    NotAModule,
+    /// They are an object file, whose relocations name places in its code.
+    LinkableObject,
+    /// None of the functions that may be rewritten can be read.
+    Unreadable,
+    /// No rule applies in them.
+    NoRule,
+    /// The module has no function of its own with the index that is named, or an import isn't known, so that no function's index is.
+    NoFunction,
+    /// No rewrite that was tried fits.
+    TooLarge,
+    /// No memory was left.
+    NoMemory,
+    /// The size is above that of the buffer, or the options name no rule that there is.
+    BadOptions,
+}
+
+impl Outcome {
+    /// The constant of the header.
+    pub fn number(self) -> u32
+        ensures { result ≡ outcome_number self }
+    {
+        match self {
+            Outcome::Rewritten => 0,
+            Outcome::NotAModule => 1,
+            Outcome::LinkableObject => 2,
+            Outcome::Unreadable => 3,
+            Outcome::NoRule => 4,
+            Outcome::NoFunction => 5,
+            Outcome::TooLarge => 6,
+            Outcome::NoMemory => 7,
+            Outcome::BadOptions => 8,
+        }
+    }
+}
+
+/// Why nothing is rewritten, and where the module is at fault.
+#[derive(Clone, Copy, Debug, PartialEq, Eq)]
+pub struct Refusal {
+    pub outcome: Outcome,
+    pub offset: usize,
+}
+
+// What a module's fault comes to.
+fn outcome_by_fault(fault: ModuleFault) -> Outcome
+    ensures { result ≡ outcome_by_fault fault }
+{
+    match fault {
+        ModuleFault::Linkable => Outcome::LinkableObject,
+        ModuleFault::Memory => Outcome::NoMemory,
+        _ => Outcome::NotAModule,
+    }
+}
+
+// Where it is: nowhere for want of memory.
+fn offset_by_fault(e: ModuleError) -> usize
+    ensures { result ≡ offset_by_fault e.kind e.offset }
+{
+    match e.kind {
+        ModuleFault::Memory => 0,
+        _ => e.offset,
+    }
+}
+
+// What an error of a rewrite comes to.
+fn outcome_by_error(e: Error) -> Outcome
+    ensures { result ≡ outcome_by_error e }
+{
+    match e {
+        Error::Memory => Outcome::NoMemory,
+        _ => Outcome::TooLarge,
+    }
+}
+
+// What an error of writing comes to.
+fn outcome_by_write(e: WriteError) -> Outcome
+    ensures { result ≡ outcome_by_write e }
+{
+    match e {
+        WriteError::TooLarge => Outcome::TooLarge,
+        WriteError::Memory => Outcome::NoMemory,
+    }
+}
+
+// What a refusal comes to.
+fn outcome_by_refusal(e: MutationError) -> Outcome
+    ensures { result ≡ outcome_by_refusal e }
+{
+    match e {
+        MutationError::Read(e) => outcome_by_fault(e.kind),
+        MutationError::Rewrite(e) => outcome_by_error(e),
+        MutationError::Write(e) => outcome_by_write(e),
+        MutationError::TooLong => Outcome::TooLarge,
+    }
+}
+
+// Where the module is at fault.
+fn offset_by_refusal(e: MutationError) -> usize
+    ensures { result ≡ offset_by_refusal e }
+{
+    match e {
+        MutationError::Read(e) => offset_by_fault(e),
+        _ => 0,
+    }
+}
+
+// What a reason comes to.
+fn outcome_by(reason: Reason) -> Outcome
+    ensures { result ≡ outcome_by reason }
+{
+    match reason {
+        Reason::NoRule => Outcome::NoRule,
+        Reason::Unreadable => Outcome::Unreadable,
+        Reason::NoFunction(_) | Reason::UnknownImport(_) => Outcome::NoFunction,
+        Reason::Refused(e) => outcome_by_refusal(e),
+    }
+}
+
+// Where the module is at fault.
+fn offset_by(reason: Reason) -> usize
+    ensures { result ≡ offset_by reason }
+{
+    match reason {
+        Reason::Refused(e) => offset_by_refusal(e),
+        _ => 0,
+    }
+}
+
+/// Why nothing is rewritten, for this reason.
+pub fn refusal_by(reason: Reason) -> Refusal
+    ensures outcome { result.outcome ≡ outcome_by reason }
+    ensures offset { result.offset ≡ offset_by reason }
+{
+    Refusal {
+        outcome: outcome_by(reason),
+        offset: offset_by(reason),
+    }
+}
