@@ -11,10 +11,12 @@ use Rattle.clap.specs.declared.builder.command.Command.TheViews.{out-Command}
 abbrev with_version : App → App
 with_version a = record a { top = record a.top { has_version = true } }
 
--- a version, and what the program is about
-pub versioned : (a b c : Command) (version about : Bor Text) (app : App) → app_of a ≡ app → out-Command b ≡ record (out-Command a) { version = Some version } →
-    out-Command c ≡ record (out-Command b) { about = Some about } → app_of c ≡ record app { top = record app.top { has_version = true } }
-versioned a b c version about app is with_v with_a = ap app_of_fields with_a ∙ (ap app_of_fields with_v ∙ ap with_version is)
+-- a version, what the program is about, and what stands behind its help
+pub versioned : (a b c d : Command) (version about after : Bor Text) (app : App) → app_of a ≡ app →
+    out-Command b ≡ record (out-Command a) { version = Some version } → out-Command c ≡ record (out-Command b) { about = Some about } →
+    out-Command d ≡ record (out-Command c) { after_help = Some after } → app_of d ≡ record app { top = record app.top { has_version = true } }
+versioned a b c d version about after app is with_v with_a with_h =
+    ap app_of_fields with_h ∙ (ap app_of_fields with_a ∙ (ap app_of_fields with_v ∙ ap with_version is))
 
 -- one argument more
 pub one_more : (old new : Command) (a : Arg) (r : Rule) (app : App) → app_of old ≡ app → AddsArg old a new → a.global ≡ false → rule_of a ≡ r →

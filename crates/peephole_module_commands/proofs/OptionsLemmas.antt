@@ -1,28 +1,32 @@
 -- What the getters of clap's matches read.
 use Rattle.std.proofs.Common.{◌≡◌, ◌≢◌, ◌⊎◌, ◌<◌, ℕ, Bool, true, false, List, [], ◌∷◌, ◌++◌, ◌+◌, map, take, length, get_or, Option, Some, None, Result, Ok, Err, refl, sym, ap, ap₂, ◌∙◌, subst, inl, inr}
-use Rattle.std.specs.Prelude.{◌^◌, IfSome, codes, option_map, unwrap_or}
+use Rattle.std.specs.Prelude.{◌^◌, IfSome, codes, option_and_then, option_map, slice_get, unwrap_or}
 use Rattle.std.specs.Borrow.{Bor}
 use Rattle.std.specs.Option.{option_map_or}
 use Rattle.std.specs.Str.{bytes_eq}
 use Rattle.std.specs.Str.Parse.{ParsesBool, ParsesUnsigned, false_text, true_text}
-use Rattle.std.proofs.lemmas.List.{map-append, map_more}
+use Rattle.std.proofs.lemmas.List.{get_or-map, length-map, map-append, map_more}
+use Rattle.std.proofs.lemmas.List.Folds.{list_any_at}
+use Rattle.std.specs.List.{filter}
 use Rattle.std.proofs.lemmas.Option.{slice_get-get_or, slice_get-map}
 use Rattle.std.proofs.lemmas.Slice.Eq.{bytes_eq-Decides}
 use Rattle.clap.specs.Faults.{fault_of, is_simple_and_free}
 use Rattle.clap.specs.Kinds.{HasKind, IsAmong}
-use Rattle.clap.specs.Matches.{ReadsOne, found_of, matched_of, raw_values}
+use Rattle.clap.specs.Matches.{ReadsOne, first_value, found_of, matched_of, raw_values}
 use Rattle.clap.specs.Simple.{App, HasMatchesOf, is_simple, matches_of}
 use Rattle.clap.specs.Values.{kind_of}
 use Rattle.clap.specs.Walk.{Row, Text, all_of, rows_of, texts}
 use Rattle.clap.proofs.WalkLemmas.{raw_values-rows}
 use Rattle.clap.specs.declared.parser.matches.Found.{Found}
+use Rattle.clap.specs.declared.parser.matches.MatchedArg.{MatchedArg}
 use Rattle.clap.specs.declared.error.Error.{Error}
 use Rattle.clap.specs.declared.error.kind.ErrorKind.{ErrorKind}
 use Rattle.clap.specs.declared.parser.matches.ArgMatches.{ArgMatches}
 use Rattle.peephole_rules.specs.Rule.{rule_name}
 use Rattle.peephole_rules.specs.declared.rule.Rule.{Rule}
 use Rattle.peephole_module_commands.specs.Arguments.{command_line}
-use Rattle.peephole_module_commands.specs.Options.{AreMisused, AreOptions, AreRefused, IsNumberOf, NamesNone, SayOptions, kind_for}
+use Rattle.peephole_module_commands.specs.Options.{AreMisused, AreNamed, AreOptions, AreRefused, AreRules, IsNumberOf, NamesNone, SayOptions, WritesSeed, first_of, is_named, is_wanted, kind_for, names_or_none}
+use Rattle.peephole_module_commands.specs.Options.WritesSeed.{in_hexadecimal}
 use Rattle.peephole_module_commands.specs.Options.AreRefused.{by_matches, by_memory, by_words}
 use Rattle.peephole_module_commands.specs.declared.options.Misuse.{Misuse}
 use Rattle.peephole_module_commands.specs.declared.options.Misuse.TheVariants.{Memory, UnknownRule}
@@ -56,6 +60,21 @@ number_by gives parses (Some t) None none some =
     let is = some t refl in
     λ n w. parses t (Err is.0) is.1 (w.digits, subst (λ (k : ℕ). k < 2 ^ 64) w.value w.fits)
 
+-- the first text
+pub first_text : (found : Found) (name : Text) → first_value found name ≡ first_of name (rows_of found)
+first_text found name =
+    of (matched_of found name) ∙ ap (λ (o : Option (List Text)). option_and_then (λ values. slice_get values 0) o) (raw_values-rows found name)
+  where
+    of : (m : Option MatchedArg) → option_and_then (λ a. option_map (λ (s : Bor Text). s.now) (slice_get a.vals.items 0)) m
+        ≡ option_and_then (λ values. slice_get values 0) (option_map raw_values m)
+    of None = refl
+    of (Some a) = sym (slice_get-map (λ (s : Bor Text). s.now) a.vals.items 0)
+
+-- a seed behind `0x`
+pub seed_in_hexadecimal : (text digits : Text) (n : ℕ) → text ≡ codes "0x" ++ digits → ParsesUnsigned {E = Text} 64 16 digits (Ok n) → WritesSeed text n
+seed_in_hexadecimal text digits n front is =
+    in_hexadecimal digits front (record { digits = is.0.0; value = is.1; fits = subst (λ (k : ℕ). k < 2 ^ 64) (sym is.1) is.0.1 })
+
 -- a name that is no rule's
 pub names_none : (names : List (Bor Text)) (i : ℕ) (d : Bor Text) → i < length names → ((rule : Rule) → rule_name rule ≢ (get_or names i d).now) →
     NamesNone (texts names)
@@ -72,6 +91,15 @@ pub named_more : (names : List (Bor Text)) (i : ℕ) (d : Bor Text) (rs next : L
 named_more names i d rs next rule l h named is =
     ap (map rule_name) is ∙ (map-append rule_name rs (rule ∷ [])
     ∙ (ap₂ (λ (front : List Text) (name : Text). front ++ name ∷ []) h named ∙ sym (map_more (λ (s : Bor Text). s.now) names i d l)))
+
+-- a name that is the rule's
+pub named_here : (names : List (Bor Text)) (i : ℕ) (d : Bor Text) (rule : Rule) (own : Text) (same : Bool) → i < length names → own ≡ rule_name rule →
+    same ≡ bytes_eq (get_or names i d).now own → same ≡ true → is_named (texts names) rule ≡ true
+named_here names i d rule own same l own_is same_is is =
+    list_any_at (λ (name : Text). bytes_eq name (rule_name rule)) (texts names) i d.now
+    (subst (λ (n : ℕ). i < n) (sym (length-map names (λ (s : Bor Text). s.now))) l)
+    (ap (λ (t : Text). bytes_eq t (rule_name rule)) (get_or-map (λ (s : Bor Text). s.now) names i d d.now l)
+    ∙ (ap (bytes_eq (get_or names i d).now) (sym own_is) ∙ (sym same_is ∙ is)))
 
 -- ---- what clap makes of the words
 
@@ -114,11 +142,21 @@ refused_words names app words e is kinds = elim (kinds (ap is_simple_and_free is
 
 -- ---- the rules that are named
 
-pub names_given : (found : Found) (given : Option (Bor (List (Bor Text)))) → option_map (λ s. map (λ v. v.now) s.now) given ≡
-    option_map raw_values (matched_of found (codes "rule")) → (o : Option (Bor (List (Bor Text)))) → given ≡ o →
-    all_of (codes "rule") (rows_of found) ≡ option_map (λ s. texts s.now) o
-names_given found given get o is =
-    sym (raw_values-rows found (codes "rule")) ∙ (sym get ∙ ap (option_map (λ (s : Bor (List (Bor Text))). texts s.now)) is)
+pub names_given : (found : Found) (option : Text) (given : Option (Bor (List (Bor Text)))) → option_map (λ s. map (λ v. v.now) s.now) given ≡
+    option_map raw_values (matched_of found option) → (o : Option (Bor (List (Bor Text)))) → given ≡ o →
+    all_of option (rows_of found) ≡ option_map (λ s. texts s.now) o
+names_given found option given get o is =
+    sym (raw_values-rows found option) ∙ (sym get ∙ ap (option_map (λ (s : Bor (List (Bor Text))). texts s.now)) is)
+
+-- those of the rules that are wanted
+pub rules_wanted : (named others : Option (List Text)) (shrink set : Bool) (given lent wanted : List Rule) (names : List Text) → AreNamed named given →
+    lent ≡ given → names ≡ names_or_none others → set ≡ shrink → wanted ≡ filter (is_wanted names set) lent → AreRules named others shrink wanted
+rules_wanted named others shrink set given lent wanted names are lent_is names_are set_is is = record {
+  given = given;
+  are_named = are;
+  are = is ∙ (ap (λ (b : Bool). filter (is_wanted names b) lent) set_is
+      ∙ (ap (λ (ns : List Text). filter (is_wanted ns shrink) lent) names_are ∙ ap (filter (is_wanted (names_or_none others) shrink)) lent_is));
+}
 
 pub misused_name : (rows : List Row) (names : List Text) (e : Misuse) → all_of (codes "rule") rows ≡ Some names →
     (e ≡ Memory) ⊎ ((e ≡ UnknownRule) × NamesNone names) → AreMisused rows e

@@ -19,21 +19,30 @@ valued name parser = record (new_rule name) { long = Some name; value_names = 1;
 abbrev pub number : ValueParser
 number = Unsigned 0 18446744073709551615
 
+-- an option `--name` that has a text
+abbrev pub texted : (name : Text) → Rule
+texted name = record (new_rule name) { long = Some name; value_names = 1 }
+
+-- the module that is read, and where to the other one is written, also `-o`
+abbrev pub input_rule : Rule
+input_rule = record (new_rule (codes "input")) { value_names = 1 }
+
+abbrev pub output_rule : Rule
+output_rule = record (texted (codes "output")) { short = Some 111 }
+
 abbrev pub seed_rule : Rule
-seed_rule = record (valued (codes "seed") number) { defaults = codes "0" ∷ [] }
+seed_rule = record (texted (codes "seed")) { defaults = codes "0" ∷ [] }
 
-abbrev pub count_rule : Rule
-count_rule = record (valued (codes "count") number) { defaults = codes "1" ∷ [] }
-
--- one of these names, at each use
-abbrev pub rule_rule : (names : Bor (List (Bor Text))) → Rule
-rule_rule names = record (valued (codes "rule") (Names names)) { action = Some Append }
+-- an option `--name` that has one of these names at each use
+abbrev pub naming : (name : Text) → (names : Bor (List (Bor Text))) → Rule
+naming name names = record (valued name (Names names)) { action = Some Append }
 
 abbrev pub arguments : (names : Bor (List (Bor Text))) → List Rule
 arguments names =
-    seed_rule ∷ count_rule ∷ valued (codes "function") number ∷ rule_rule names ∷ valued (codes "max-size") number ∷ flag (codes "list")
-    ∷ flag (codes "blocks") ∷ flag (codes "stats") ∷ flag (codes "strip-debug") ∷ []
+    input_rule ∷ output_rule ∷ seed_rule ∷ valued (codes "count") number ∷ valued (codes "function") number ∷ naming (codes "rule") names
+    ∷ naming (codes "not-rule") names ∷ flag (codes "shrink") ∷ valued (codes "max-size") number ∷ flag (codes "list") ∷ flag (codes "blocks") ∷ flag (codes "stats")
+    ∷ flag (codes "strip-debug") ∷ []
 
 -- The command line, where the rules have these names.
 abbrev pub command_line : (names : Bor (List (Bor Text))) → App
-command_line names = record { top = record (new_shape (codes "peephole_mutate")) { rules = arguments names; has_version = true }; subs = [] }
+command_line names = record { top = record (new_shape (codes "teddertempo")) { rules = arguments names; has_version = true }; subs = [] }

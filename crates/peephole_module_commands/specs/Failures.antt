@@ -1,7 +1,9 @@
 -- Why a run has no success (this project).
 use Rattle.std.specs.Prelude.{ℕ, ◌<◌, List, length, Option, IfSome}
 use Rattle.wasm_module.specs.Fault.{IsModuleFault}
-use Rattle.peephole_modules.specs.Attempt.{IsReason, RefusesIndexOf}
+use Rattle.peephole_modules.specs.Attempt.{IsForSize, IsReason, RefusesIndexOf}
+use Rattle.peephole_modules.specs.Chosen.{GivesUp}
+use Rattle.peephole_modules.specs.Seeded.{seeded}
 use Rattle.peephole_modules.specs.declared.attempt.Reason.{Reason}
 use Rattle.peephole_modules.specs.declared.attempt.Reason.TheVariants.{NoRule, Unreadable, NoFunction, UnknownImport, Refused}
 use Rattle.peephole_modules.specs.declared.mutation.MutationError.TheVariants.{Read}
@@ -35,9 +37,14 @@ FailsToTake input TooLong = IfSome input (λ bytes. 1073741824 < length bytes)
 FailsToTake input Memory = Unit {0}
 FailsToTake input e = ⊥
 
+-- nothing of the module is rewritten for that reason; for a size only where the words that the seed gives choose no rewrite that fits
+pub record IsReasonFor (options : Options) (bytes : List ℕ) (reason : Reason) : Type 0 where
+  pub is : IsReason (scope_of options) bytes reason
+  pub gives_up : IsForSize reason → GivesUp (scope_of options) bytes (seeded options.seed)
+
 -- The module isn't written rewritten: for a reason why nothing of it is, or as reading the input or reporting fails.
 abbrev pub FailsToRewrite : Options → (bytes : List ℕ) → Failure → Type 0
-FailsToRewrite options bytes (Nothing reason) = IsReason (scope_of options) bytes reason
+FailsToRewrite options bytes (Nothing reason) = IsReasonFor options bytes reason
 FailsToRewrite options bytes Input = Unit {0}
 FailsToRewrite options bytes TooLong = 1073741824 < length bytes
 FailsToRewrite options bytes Output = Unit {0}

@@ -1,5 +1,6 @@
 -- The options that the matches of a command line are (this project).
-use Rattle.std.specs.Prelude.{◌≡◌, ◌≢◌, ◌<◌, ◌^◌, ◌&&◌, ◌||◌, ℕ, Bool, true, false, List, [], map, slice_get, codes, Option, Some, None, unwrap_or, IfSome, if◌then◌else◌}
+use Rattle.std.specs.Prelude.{◌≡◌, ◌≢◌, ◌<◌, ◌^◌, ◌&&◌, ◌||◌, ℕ, Bool, true, false, List, [], ◌++◌, map, slice_get, codes, Option, Some, None, option_and_then, option_map, string_bytes, unwrap_or, not, IfSome, if◌then◌else◌}
+use Rattle.std.specs.List.{filter, list_any}
 use Rattle.std.specs.Option.{option_map_or}
 use Rattle.std.specs.Str.{bytes_eq}
 use Rattle.std.specs.Str.Parse.{IsNumeral, digits_value, without_leading_plus}
@@ -9,12 +10,15 @@ use Rattle.clap.specs.Kinds.{IsAmong}
 use Rattle.clap.specs.Faults.{fault_of}
 use Rattle.clap.specs.declared.error.kind.ErrorKind.{ErrorKind}
 use Rattle.clap.specs.declared.error.kind.ErrorKind.TheVariants.{ArgumentConflict, InvalidValue, OutOfMemory, ValueValidation}
+use Rattle.peephole_rules.specs.Growth.{growth_of}
 use Rattle.peephole_rules.specs.Rule.{rule_name}
+use Rattle.peephole_rules.specs.declared.growth.Growth.{Growth}
+use Rattle.peephole_rules.specs.declared.growth.Growth.TheVariants as growths
 use Rattle.peephole_rules.specs.declared.rule.Rule.{Rule}
 use Rattle.peephole_rules.specs.declared.rule.TheConstants.{RULES}
 use Rattle.peephole_module_commands.specs.declared.options.Flags.{Flags}
 use Rattle.peephole_module_commands.specs.declared.options.Misuse.{Misuse}
-use Rattle.peephole_module_commands.specs.declared.options.Misuse.TheVariants.{Conflict, NoCount, UnknownRule, Memory}
+use Rattle.peephole_module_commands.specs.declared.options.Misuse.TheVariants.{Conflict, NoSeed, NoCount, UnknownRule, Memory}
 use Rattle.peephole_module_commands.specs.declared.options.Options.{Options}
 use Rattle.peephole_module_commands.specs.declared.options.Task.{Task}
 use Rattle.peephole_module_commands.specs.declared.options.Task.TheVariants.{Rewrite, List as Lists, Blocks}
@@ -42,26 +46,72 @@ exclude flags = (flags.list && flags.blocks) || ((flags.stats || flags.strip_deb
 
 -- ---- values
 
--- the text writes that number, below 2^64, in decimal digits behind a plus at most
-pub record Writes (text : Text) (n : ℕ) : Type 0 where
-  pub digits : IsNumeral 10 (without_leading_plus text)
-  pub value : n ≡ digits_value 10 (without_leading_plus text)
+-- the text writes that number, below 2^64, in digits to that base behind a plus at most
+pub record Writes (base : ℕ) (text : Text) (n : ℕ) : Type 0 where
+  pub digits : IsNumeral base (without_leading_plus text)
+  pub value : n ≡ digits_value base (without_leading_plus text)
   pub fits : n < 2 ^ 64
 
 -- the number that an option has, by its text: none where it has no text, or one that writes none
 abbrev pub IsNumberOf : Option Text → Option ℕ → Type 0
 IsNumberOf None found = found ≡ None
-IsNumberOf (Some text) (Some n) = Writes text n
-IsNumberOf (Some text) None = (n : ℕ) → ¬ (Writes text n)
+IsNumberOf (Some text) (Some n) = Writes 10 text n
+IsNumberOf (Some text) None = (n : ℕ) → ¬ (Writes 10 text n)
 
 -- the same, and where it has none the other one
 abbrev pub IsNumberOr : (other : ℕ) → Option Text → ℕ → Type 0
 IsNumberOr other text n = (found : Option ℕ) × IsNumberOf text found × (n ≡ unwrap_or found other)
 
+-- the text of an option, the first where it has several
+abbrev pub first_of : (name : Text) → List Row → Option Text
+first_of name rows = option_and_then (λ values. slice_get values 0) (all_of name rows)
+
+-- the text writes that number in decimal digits, or behind `0x` in hexadecimal ones
+pub data WritesSeed (text : Text) (n : ℕ) : Type 0 where
+  in_decimal : Writes 10 text n → WritesSeed text n
+  in_hexadecimal : (digits : Text) → text ≡ codes "0x" ++ digits → Writes 16 digits n → WritesSeed text n
+
+-- the number that it writes, if it writes one
+abbrev pub IsSeedOf : Text → Option ℕ → Type 0
+IsSeedOf text (Some n) = WritesSeed text n
+IsSeedOf text None = (n : ℕ) → ¬ (WritesSeed text n)
+
+-- the number that is given, 0 where none is
+abbrev pub IsSeed : Option Text → ℕ → Type 0
+IsSeed None seed = seed ≡ 0
+IsSeed (Some text) seed = WritesSeed text seed
+
+-- the file that a text names: none where it is `-`
+abbrev pub file_of : Option Text → Option Text
+file_of text = option_and_then (λ name. if bytes_eq name (codes "-") then None else Some name) text
+
 -- all rules where no name is given, else those that are named, one for each name
-abbrev pub AreRules : Option (List Text) → List Rule → Type 0
-AreRules None rules = rules ≡ RULES
-AreRules (Some names) rules = map rule_name rules ≡ names
+abbrev pub AreNamed : Option (List Text) → List Rule → Type 0
+AreNamed None rules = rules ≡ RULES
+AreNamed (Some names) rules = map rule_name rules ≡ names
+
+-- one of the names is the rule's
+abbrev pub is_named : (names : List Text) → Rule → Bool
+is_named names rule = list_any (λ name. bytes_eq name (rule_name rule)) names
+
+abbrev pub is_shrinking : Growth → Bool
+is_shrinking growths.Shrinks = true
+is_shrinking growths.Keeps = false
+is_shrinking growths.Grows = false
+
+-- none of the names is the rule's, and where code is to become smaller alone, the rule makes it so
+abbrev pub is_wanted : (others : List Text) → (shrink : Bool) → Rule → Bool
+is_wanted others shrink rule = not (is_named others rule) && (not shrink || is_shrinking (growth_of rule))
+
+-- the names, none where none are given
+abbrev pub names_or_none : Option (List Text) → List Text
+names_or_none names = unwrap_or names []
+
+-- Those of the named rules, or of all, that are wanted, in their order.
+pub record AreRules (named others : Option (List Text)) (shrink : Bool) (rules : List Rule) : Type 0 where
+  pub given : List Rule
+  pub are_named : AreNamed named given
+  pub are : rules ≡ filter (is_wanted (names_or_none others) shrink) given
 
 -- one of the names is no rule's
 pub record NamesNone (names : List Text) : Type 0 where
@@ -70,16 +120,22 @@ pub record NamesNone (names : List Text) : Type 0 where
   pub at : slice_get names place ≡ Some name
   pub none : (rule : Rule) → rule_name rule ≢ name
 
+-- how many rewrites are made where no number is given: one, or where code is to become smaller, as many as there are
+abbrev pub default_count : (shrink : Bool) → ℕ
+default_count shrink = if shrink then 18446744073709551615 else 1
+
 -- ---- options
 
 -- The options that the matches are.
 pub record AreOptions (rows : List Row) (options : Options) : Type 0 where
   pub apart : exclude (flags_of rows) ≡ false
   pub task : options.task ≡ task_of (flags_of rows)
-  pub seed : IsNumberOr 0 (one_of (codes "seed") rows) options.seed
-  pub count : IsNumberOr 1 (one_of (codes "count") rows) options.count
+  pub input : option_map string_bytes options.input ≡ file_of (first_of (codes "input") rows)
+  pub output : option_map string_bytes options.output ≡ file_of (first_of (codes "output") rows)
+  pub seed : IsSeed (first_of (codes "seed") rows) options.seed
+  pub count : IsNumberOr (default_count (is_set (codes "shrink") rows)) (one_of (codes "count") rows) options.count
   pub function : IsNumberOf (one_of (codes "function") rows) options.function
-  pub rules : AreRules (all_of (codes "rule") rows) options.rules.items
+  pub rules : AreRules (all_of (codes "rule") rows) (all_of (codes "not-rule") rows) (is_set (codes "shrink") rows) options.rules.items
   pub max_size : IsNumberOr 18446744073709551615 (one_of (codes "max-size") rows) options.max_size
   pub stats : options.stats ≡ (flags_of rows).stats
   pub strip_debug : options.strip_debug ≡ (flags_of rows).strip_debug
@@ -87,13 +143,15 @@ pub record AreOptions (rows : List Row) (options : Options) : Type 0 where
 -- Why they are none.
 abbrev pub AreMisused : List Row → Misuse → Type 0
 AreMisused rows Conflict = exclude (flags_of rows) ≡ true
-AreMisused rows NoCount = IsNumberOr 1 (one_of (codes "count") rows) 0
+AreMisused rows NoSeed = IfSome (first_of (codes "seed") rows) (λ text. IsSeedOf text None)
+AreMisused rows NoCount = IsNumberOr (default_count (is_set (codes "shrink") rows)) (one_of (codes "count") rows) 0
 AreMisused rows UnknownRule = IfSome (all_of (codes "rule") rows) NamesNone
 AreMisused rows Memory = Unit {0}
 
 -- how that is told
 abbrev pub kind_for : Misuse → ErrorKind
 kind_for Conflict = ArgumentConflict
+kind_for NoSeed = ValueValidation
 kind_for NoCount = ValueValidation
 kind_for UnknownRule = InvalidValue
 kind_for Memory = OutOfMemory

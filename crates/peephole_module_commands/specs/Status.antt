@@ -5,12 +5,12 @@ use Rattle.peephole_modules.specs.declared.attempt.Reason.TheVariants.{NoRule, U
 use Rattle.peephole_module_commands.specs.declared.failure.Failure.{Failure}
 use Rattle.peephole_module_commands.specs.declared.failure.Failure.TheVariants.{Nothing, Input, TooLong, Output, Memory}
 
--- 1 where the module is refused, else 2
+-- 1 where the module is refused, 2 where no rule applies, 3 where there is no function that can be read
 abbrev pub status_for : Reason → ℕ
 status_for NoRule = 2
-status_for Unreadable = 2
-status_for (NoFunction index) = 2
-status_for (UnknownImport e) = 2
+status_for Unreadable = 3
+status_for (NoFunction index) = 3
+status_for (UnknownImport e) = 3
 status_for (Refused e) = 1
 
 -- that of the reason where there is one, else 1

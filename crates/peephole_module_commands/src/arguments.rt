@@ -2,10 +2,30 @@
 ghost use Rattle.std.specs.Prelude.{◌≡◌, codes, false, IfOk};
 ghost use Rattle.clap.specs.Simple.{app_of};
 ghost use Rattle.clap.specs.Walk.{rule_of};
-ghost use Rattle.peephole_module_commands.specs.Arguments.{command_line, count_rule, flag, number, rule_rule, seed_rule, valued};
+ghost use Rattle.peephole_module_commands.specs.Arguments.{command_line, flag, input_rule, naming, number, output_rule, seed_rule, valued};
 
 use clap::{Arg, ArgAction, Command, value_parser};
 use std::alloc::{AllocError, Global};
+
+fn input_argument<'a>(alloc: Global) -> Arg<'a>
+    ensures rule { rule_of result ≡ input_rule }
+    ensures local { result.global ≡ false }
+{
+    Arg::new(alloc, "input")
+        .value_name("INPUT")
+        .help("The module; standard input where none is named, or -")
+}
+
+fn output_argument<'a>(alloc: Global) -> Arg<'a>
+    ensures rule { rule_of result ≡ output_rule }
+    ensures local { result.global ≡ false }
+{
+    Arg::new(alloc, "output")
+        .short('o')
+        .long("output")
+        .value_name("OUTPUT")
+        .help("What is written goes there; to standard output where none is named, or -")
+}
 
 fn seed_argument<'a>(alloc: Global) -> Arg<'a>
     ensures rule { rule_of result ≡ seed_rule }
@@ -14,21 +34,23 @@ fn seed_argument<'a>(alloc: Global) -> Arg<'a>
     Arg::new(alloc, "seed")
         .long("seed")
         .value_name("N")
-        .value_parser(value_parser!(u64))
         .default_value("0")
-        .help("The seed of the generator that draws the places and rules")
+        .help(
+            "The seed of the generator that draws the places and rules, also as 0x and hexadecimal digits",
+        )
 }
 
 fn count_argument<'a>(alloc: Global) -> Arg<'a>
-    ensures rule { rule_of result ≡ count_rule }
+    ensures rule { rule_of result ≡ valued (codes "count") number }
     ensures local { result.global ≡ false }
 {
     Arg::new(alloc, "count")
         .long("count")
         .value_name("K")
         .value_parser(value_parser!(usize))
-        .default_value("1")
-        .help("How many rewrites are made, one after another; fewer where no rule applies any more")
+        .help(
+            "How many rewrites are made, one after another; fewer where no rule applies any more [default: 1; with --shrink as many as there are]",
+        )
 }
 
 fn function_argument<'a>(alloc: Global) -> Arg<'a>
@@ -43,7 +65,7 @@ fn function_argument<'a>(alloc: Global) -> Arg<'a>
 }
 
 fn rule_argument<'a>(alloc: Global, names: &'a [&'a str]) -> Arg<'a>
-    ensures rule { rule_of result ≡ rule_rule names.entry }
+    ensures rule { rule_of result ≡ naming (codes "rule") names.entry }
     ensures local { result.global ≡ false }
 {
     Arg::new(alloc, "rule")
@@ -54,6 +76,19 @@ fn rule_argument<'a>(alloc: Global, names: &'a [&'a str]) -> Arg<'a>
         .help(
             "Only the rules that are named so, each by an option of its own; all rules where none is named",
         )
+}
+
+fn other_argument<'a>(alloc: Global, names: &'a [&'a str]) -> Arg<'a>
+    ensures rule { rule_of result ≡ naming (codes "not-rule") names.entry }
+    ensures local { result.global ≡ false }
+{
+    Arg::new(alloc, "not-rule")
+        .long("not-rule")
+        .value_name("NAME")
+        .action(ArgAction::Append)
+        .value_parser(names)
+        .hide_possible_values(true)
+        .help("Not the rules that are named so, each by an option of its own")
 }
 
 fn size_argument<'a>(alloc: Global) -> Arg<'a>
@@ -76,6 +111,13 @@ fn flag_argument<'a>(alloc: Global, name: &'a str, help: &'a str) -> Arg<'a>
         .long(name)
         .action(ArgAction::SetTrue)
         .help(help)
+}
+
+fn shrink_argument<'a>(alloc: Global) -> Arg<'a>
+    ensures rule { rule_of result ≡ flag (codes "shrink") }
+    ensures local { result.global ≡ false }
+{
+    flag_argument(alloc, "shrink", "Only the rules that make the code smaller")
 }
 
 fn list_argument<'a>(alloc: Global) -> Arg<'a>
@@ -122,19 +164,37 @@ fn strip_argument<'a>(alloc: Global) -> Arg<'a>
     )
 }
 
+// The exit statuses, and how the program is used.
+const AFTER_HELP: &str = "\
+Exit status:
+  0   what was asked for is written
+  1   the module is refused, or input, output or memory fails
+  2   no rule applies
+  3   none of the functions can be read, or there is none with that index
+  64  the options can't be read
+
+Examples:
+  teddertempo module.wasm -o rewritten.wasm --seed 7 --count 20
+  teddertempo --list --rule fold < module.wasm";
+
 /// The command line, with the names of the rules.
 pub fn command<'a>(alloc: Global, names: &'a [&'a str]) -> Result<Command<'a>, AllocError>
     ensures { IfOk result (λ c. app_of c ≡ command_line names.entry) }
 {
-    Command::new(alloc, "peephole_mutate")
+    Command::new(alloc, "teddertempo")
         .version("1.0.0")
         .about(
             "Rewrites instructions of the WebAssembly module on standard input so that what stands round them runs as before, and writes it to standard output",
         )
+        .after_help(AFTER_HELP)
+        .arg(input_argument(alloc))?
+        .arg(output_argument(alloc))?
         .arg(seed_argument(alloc))?
         .arg(count_argument(alloc))?
         .arg(function_argument(alloc))?
         .arg(rule_argument(alloc, names))?
+        .arg(other_argument(alloc, names))?
+        .arg(shrink_argument(alloc))?
         .arg(size_argument(alloc))?
         .arg(list_argument(alloc))?
         .arg(blocks_argument(alloc))?

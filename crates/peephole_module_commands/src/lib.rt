@@ -8,6 +8,7 @@ mod faults;
 mod functions;
 mod input;
 mod listing;
+mod messages;
 mod mutating;
 mod options;
 mod running;

@@ -50,6 +50,8 @@ pub fn rewritten(alloc: Global, bytes: &[u8], options: &Options) -> Result<Rewri
         m.bytes.items) }
     ensures fails { IfErr result (FailsToRewrite options.now bytes.now) }
 {
-    let new = rewrite_with_seed(alloc, bytes, options.seed, &options.scope(), options.count)?;
-    finished(alloc, options.strip_debug, new)
+    match rewrite_with_seed(alloc, bytes, options.seed, &options.scope(), options.count) {
+        Ok(new) => finished(alloc, options.strip_debug, new),
+        Err(reason) => Err(Failure::Nothing(reason)),
+    }
 }

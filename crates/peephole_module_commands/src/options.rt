@@ -21,6 +21,10 @@ pub enum Task {
 pub struct Options {
     /// What it does.
     pub task: Task,
+    /// The file that the module is read from; none: standard input.
+    pub input: Option<String>,
+    /// The file that it is written to; none: standard output.
+    pub output: Option<String>,
     /// What the generator is made from.
     pub seed: u64,
     /// How many rewrites are made, one after another.
@@ -59,6 +63,8 @@ impl Options {
 pub enum Misuse {
     /// Flags exclude each other.
     Conflict,
+    /// The seed is no number.
+    NoSeed,
     /// The count is 0.
     NoCount,
     /// A name is no rule's.

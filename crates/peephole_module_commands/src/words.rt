@@ -1,18 +1,20 @@
 //! Reads the options from the words of the command line.
-ghost use Rattle.std.specs.Prelude.{◌≡◌, ◌⊎◌, codes, map, IfOk, IfErr};
+ghost use Rattle.std.specs.Prelude.{◌≡◌, ◌⊎◌, codes, map, option_map, string_bytes, IfOk, IfErr};
+ghost use Rattle.std.specs.List.{filter};
+ghost use Rattle.peephole_rules.specs.Growth.{growth_of};
 ghost use Rattle.clap.specs.Matches.{found_of};
 ghost use Rattle.clap.specs.Simple.{matches_of};
 ghost use Rattle.clap.specs.Values.{kind_of};
 ghost use Rattle.clap.specs.Walk.{all_of, one_of, rows_of, texts};
 ghost use Rattle.peephole_rules.specs.Rule.{rule_name};
 ghost use Rattle.peephole_module_commands.specs.Arguments.{command_line};
-ghost use Rattle.peephole_module_commands.specs.Options.{AreMisused, AreOptions, AreRefused, AreRules, IsNumberOf, NamesNone, SayOptions, exclude, flags_of, is_set, kind_for, task_of};
+ghost use Rattle.peephole_module_commands.specs.Options.{AreMisused, AreOptions, AreNamed, AreRefused, AreRules, IsNumberOf, IsNumberOr, IsSeed, IsSeedOf, NamesNone, SayOptions, default_count, exclude, file_of, first_of, flags_of, is_named, is_set, is_shrinking, is_wanted, kind_for, task_of};
 
 use crate::arguments::command;
 use crate::options::{Flags, Misuse, Options, Task};
 use clap::error::ErrorKind;
 use clap::{ArgMatches, Error};
-use peephole_rules::{RULES, Rule};
+use peephole_rules::{Growth, RULES, Rule};
 use std::alloc::{AllocError, Global};
 use std::convert::AsStr;
 
@@ -63,14 +65,63 @@ fn exclude(flags: Flags) -> bool
     (flags.list && flags.blocks) || ((flags.stats || flags.strip_debug) && other)
 }
 
-// The number that an option has.
-fn number_of(matches: &ArgMatches<'_>, name: &str) -> Option<u64>
-    ensures { IsNumberOf (one_of name.now (rows_of (found_of matches.now))) result }
+// The text that an option has.
+fn text_of<'a>(matches: &ArgMatches<'a>, name: &str) -> Option<&'a str>
+    ensures { option_map (λ text. text.now) result
+        ≡ first_of name.now (rows_of (found_of matches.now)) }
 {
-    matches.get_one::<u64>(name)
+    matches.get_str(name)
 }
 
-// The same, as a size.
+// The number that a text writes, in decimal digits, or behind `0x` in hexadecimal ones.
+fn seed_from(text: &str) -> Option<u64>
+    ensures { IsSeedOf text.now result }
+{
+    if let Ok(seed) = text.parse::<u64>() {
+        return Some(seed);
+    }
+    let Some(digits) = text.strip_prefix("0x") else {
+        return None;
+    };
+    match u64::from_str_radix(digits, 16) {
+        Ok(seed) => Some(seed),
+        Err(_) => None,
+    }
+}
+
+// The seed.
+fn seed_of(matches: &ArgMatches<'_>) -> Result<u64, Misuse>
+    ensures seed { IfOk result (IsSeed (first_of (codes "seed") (rows_of (found_of matches.now)))) }
+    ensures misuse { IfErr result (AreMisused (rows_of (found_of matches.now))) }
+{
+    let Some(text) = text_of(matches, "seed") else {
+        return Ok(0);
+    };
+    match seed_from(text) {
+        Some(seed) => Ok(seed),
+        None => Err(Misuse::NoSeed),
+    }
+}
+
+// The file that an option names.
+fn file_of(
+    alloc: Global,
+    matches: &ArgMatches<'_>,
+    name: &str,
+) -> Result<Option<String>, AllocError>
+    ensures { IfOk result (λ file. option_map string_bytes file
+        ≡ file_of (first_of name.now (rows_of (found_of matches.now)))) }
+{
+    let Some(text) = text_of(matches, name) else {
+        return Ok(None);
+    };
+    if text == "-" {
+        return Ok(None);
+    }
+    Ok(Some(String::from_str(alloc, text)?))
+}
+
+// The number that an option has.
 fn size_of(matches: &ArgMatches<'_>, name: &str) -> Option<usize>
     ensures { IsNumberOf (one_of name.now (rows_of (found_of matches.now))) result }
 {
@@ -95,7 +146,7 @@ fn named_rules(alloc: Global, names: &[&str]) -> Result<Vec<Rule>, Misuse>
 
 // The rules that are named, or all where none is.
 fn rules_of(alloc: Global, matches: &ArgMatches<'_>) -> Result<Vec<Rule>, Misuse>
-    ensures rules { IfOk result (λ rules. AreRules
+    ensures rules { IfOk result (λ rules. AreNamed
         (all_of (codes "rule") (rows_of (found_of matches.now))) rules.items) }
     ensures unknown { IfErr result (AreMisused (rows_of (found_of matches.now))) }
 {
@@ -109,6 +160,90 @@ fn rules_of(alloc: Global, matches: &ArgMatches<'_>) -> Result<Vec<Rule>, Misuse
     }
 }
 
+// Whether one of the names is the rule's.
+fn is_named(names: &[&str], rule: Rule) -> bool
+    ensures { result ≡ is_named (texts names.now) rule }
+{
+    let own = rule.name();
+    for name in names {
+        if *name == own {
+            return true;
+        }
+    }
+    false
+}
+
+// Whether a rule that does so makes code smaller.
+fn is_shrinking(growth: Growth) -> bool
+    ensures { result ≡ is_shrinking growth }
+{
+    match growth {
+        Growth::Shrinks => true,
+        Growth::Keeps => false,
+        Growth::Grows => false,
+    }
+}
+
+// Whether the rule is none of the others, and makes code smaller, where that is asked for.
+fn is_wanted(others: &[&str], shrink: bool, rule: Rule) -> bool
+    ensures { result ≡ is_wanted (texts others.now) shrink rule }
+{
+    let other = is_named(others, rule);
+    let smaller = is_shrinking(rule.growth());
+    !other && (!shrink || smaller)
+}
+
+// Those of the rules that are.
+fn wanted_of(
+    alloc: Global,
+    rules: &[Rule],
+    others: &[&str],
+    shrink: bool,
+) -> Result<Vec<Rule>, AllocError>
+    ensures { IfOk result (λ wanted.
+        wanted.items ≡ filter (is_wanted (texts others.now) shrink) rules.now) }
+{
+    let mut wanted = Vec::new(alloc);
+    for rule in rules {
+        if is_wanted(others, shrink, *rule) {
+            wanted.push(*rule)?;
+        }
+    }
+    Ok(wanted)
+}
+
+// The rules that the options name, or all, without those that they exclude.
+fn wanted_rules(alloc: Global, matches: &ArgMatches<'_>) -> Result<Vec<Rule>, Misuse>
+    ensures rules { IfOk result (λ rules. AreRules
+        (all_of (codes "rule") (rows_of (found_of matches.now)))
+        (all_of (codes "not-rule") (rows_of (found_of matches.now)))
+        (is_set (codes "shrink") (rows_of (found_of matches.now))) rules.items) }
+    ensures unknown { IfErr result (AreMisused (rows_of (found_of matches.now))) }
+{
+    let given = rules_of(alloc, matches)?;
+    let shrink = is_set(matches, "shrink");
+    match matches.get_strs("not-rule") {
+        Some(others) => Ok(wanted_of(alloc, &given, others, shrink)?),
+        None => Ok(wanted_of(alloc, &given, &[], shrink)?),
+    }
+}
+
+// How many rewrites are made where no number is given.
+fn default_count(shrink: bool) -> usize
+    ensures { result ≡ default_count shrink }
+{
+    if shrink { usize::MAX } else { 1 }
+}
+
+// How many rewrites are made.
+fn count_of(matches: &ArgMatches<'_>) -> usize
+    ensures { IsNumberOr (default_count (is_set (codes "shrink") (rows_of (found_of matches.now))))
+        (one_of (codes "count") (rows_of (found_of matches.now))) result }
+{
+    let other = default_count(is_set(matches, "shrink"));
+    size_of(matches, "count").unwrap_or(other)
+}
+
 /// The options that the matches of a command line are.
 pub fn options_from(alloc: Global, matches: &ArgMatches<'_>) -> Result<Options, Misuse>
     ensures options { IfOk result (AreOptions (rows_of (found_of matches.now))) }
@@ -118,16 +253,18 @@ pub fn options_from(alloc: Global, matches: &ArgMatches<'_>) -> Result<Options, 
     if exclude(flags) {
         return Err(Misuse::Conflict);
     }
-    let count = size_of(matches, "count").unwrap_or(1);
+    let count = count_of(matches);
     if count == 0 {
         return Err(Misuse::NoCount);
     }
     Ok(Options {
         task: task_of(flags),
-        seed: number_of(matches, "seed").unwrap_or(0),
+        input: file_of(alloc, matches, "input")?,
+        output: file_of(alloc, matches, "output")?,
+        seed: seed_of(matches)?,
         count,
         function: size_of(matches, "function"),
-        rules: rules_of(alloc, matches)?,
+        rules: wanted_rules(alloc, matches)?,
         max_size: size_of(matches, "max-size").unwrap_or(usize::MAX),
         stats: flags.stats,
         strip_debug: flags.strip_debug,
@@ -140,6 +277,7 @@ fn kind_for(misuse: Misuse) -> ErrorKind
 {
     match misuse {
         Misuse::Conflict => ErrorKind::ArgumentConflict,
+        Misuse::NoSeed => ErrorKind::ValueValidation,
         Misuse::NoCount => ErrorKind::ValueValidation,
         Misuse::UnknownRule => ErrorKind::InvalidValue,
         Misuse::Memory => ErrorKind::OutOfMemory,
@@ -152,6 +290,8 @@ fn text_for(misuse: Misuse) -> &'static str {
         Misuse::Conflict => {
             "--list and --blocks exclude each other, and with them --stats and --strip-debug"
         }
+        Misuse::NoSeed =>
+            "--seed is no number below 2^64 in decimal digits, or behind 0x in hexadecimal ones",
         Misuse::NoCount => "--count is 0",
         Misuse::UnknownRule => "--rule names no rule",
         Misuse::Memory => "no memory is left",

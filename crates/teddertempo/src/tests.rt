@@ -63,6 +63,11 @@ const OPTIONS: &str = "
 --blocks | Blocks 0 1 None false false all
 --strip-debug | Rewrite 0 1 None false true all
 --list --strip-debug | ArgumentConflict
+--rule fold --rule commute --not-rule fold | Rewrite 0 1 None false false 1 Some(Commute) Some(Commute)
+--rule fold --not-rule fold | Rewrite 0 1 None false false 0 None None
+--not-rule melt | InvalidValue
+--rule commute --rule drop_add_zero --rule add_zero --shrink | Rewrite 0 18446744073709551615 None false false 1 Some(DropAddZero) Some(DropAddZero)
+--shrink --count 5 --rule drop_add_zero | Rewrite 0 5 None false false 1 Some(DropAddZero) Some(DropAddZero)
 --rule melt | InvalidValue
 --rule fold --rule melt --rule commute | InvalidValue
 --rule fold --rule fold | Rewrite 0 1 None false false 2 Some(Fold) Some(Fold)
@@ -72,6 +77,14 @@ const OPTIONS: &str = "
 --stats --blocks | ArgumentConflict
 --list --list | ArgumentConflict
 --seed 18446744073709551616 | ValueValidation
+--seed 0x1F | Rewrite 31 1 None false false all
+--seed 0xffffffffffffffff | Rewrite 18446744073709551615 1 None false false all
+--seed 0x10000000000000000 | ValueValidation
+--seed 0x | ValueValidation
+--seed 1f | ValueValidation
+a.wasm -o b.wasm | Rewrite 0 1 None false false all
+- --output=- | Rewrite 0 1 None false false all
+a.wasm b.wasm | UnknownArgument
 --melt | UnknownArgument
 ";
 
@@ -155,6 +168,9 @@ const RUNS: &str = "
 ! function 0 operator 0 rule add_zero
 ! stopped TooLong
 ! bytes 28 new 31
+
+--shrink | SAME_AND_ZERO | Ok(())
+> SAME
 
 --rule add_zero --max-size 30 | SAME | Err(Nothing(Refused(TooLong)))
 
@@ -286,7 +302,8 @@ fn fails(rt: HostRuntime) -> Result<(), Fail> {
         panic!(rt; "a module of another magic number");
     };
     let text = format!(in alloc; "{failure} {}", failure.status())?;
-    assert!(rt; text.as_str() == "BadMagic at 0 1");
+    assert!(rt; text.as_str() == "BadMagic at 0x0: the bytes don't begin with \\0asm 1");
     assert!(rt; Failure::Nothing(Reason::NoRule).status() == 2 && Failure::Input.status() == 1);
+    assert!(rt; Failure::Nothing(Reason::NoFunction(1)).status() == 3);
     Ok(())
 }
