@@ -182,9 +182,9 @@ pub fn command<'a>(alloc: Global, names: &'a [&'a str]) -> Result<Command<'a>, A
     ensures { IfOk result (λ c. app_of c ≡ command_line names.entry) }
 {
     Command::new(alloc, "teddertempo")
-        .version("1.0.0")
+        .version("0.2.0")
         .about(
-            "Rewrites instructions of the WebAssembly module on standard input so that what stands round them runs as before, and writes it to standard output",
+            "Rewrites instructions of a WebAssembly module without changing what the module computes",
         )
         .after_help(AFTER_HELP)
         .arg(input_argument(alloc))?

@@ -1,11 +1,12 @@
-//! Rewrites instructions of a WebAssembly module so that what stands round them runs as before: a module comes in on standard input,
-//! and a rewritten one goes to standard output. `--list` and `--blocks` write lines about the module instead.
+//! Rewrites instructions of a WebAssembly module without changing what it computes: a module comes in from a file or on standard
+//! input, and a rewritten one goes to a file or to standard output. `--list` and `--blocks` write lines about the module instead.
 //!
-//! Exit status: 0 on success, and for `--help` and `--version`; 2 where nothing applies, also where `--function` names no function
-//! of the module's own, or an import isn't known and so no function's index is; 1 where the module is refused, the input can't be
-//! read, the output can't be written, or no memory is left; 64 where the options can't be read.
+//! Exit status: 0 on success, and for `--help` and `--version`; 1 where the module is refused, the input can't be read, the output
+//! can't be written, or no memory is left; 2 where no rule applies; 3 where no function can be read, or `--function` names none of
+//! the module's own, or one whose index isn't known; 64 where the options can't be read, or a module would go to a terminal.
 #![tactic(auto)]
 
+mod files;
 #[cfg(test)]
 mod refused_modules;
 #[cfg(test)]
@@ -13,9 +14,9 @@ mod repeats;
 #[cfg(test)]
 mod tests;
 
-use peephole_module_commands::{options_of, rule_names, run};
+use crate::files::{Trouble, run_on_files};
+use peephole_module_commands::{Options, options_of, rule_names};
 use std::env::Env;
-use std::io::BufWriter;
 use std::process::ExitCode;
 use std::{env, io};
 
@@ -39,6 +40,20 @@ fn refuse(rt: &(impl Print + Eprint), error: &clap::Error) -> ExitCode {
     }
 }
 
+// Prints why a run has no success, behind the names of the program and of the file.
+fn tell(rt: &impl Eprint, options: &Options, trouble: &Trouble) {
+    let (path, standard) = if trouble.is_of_output() {
+        (&options.output, "standard output")
+    } else {
+        (&options.input, "standard input")
+    };
+    let name = match path {
+        Some(path) => path.as_str(),
+        None => standard,
+    };
+    let _ = eprintln!(rt; "teddertempo: {name}: {trouble}");
+}
+
 fn main(rt: HostRuntime) -> ExitCode {
     let alloc = rt.alloc();
     let Ok(words) = words(&rt) else {
@@ -51,20 +66,11 @@ fn main(rt: HostRuntime) -> ExitCode {
         Ok(options) => options,
         Err(error) => return refuse(&rt, &error),
     };
-    let Ok(mut output) = BufWriter::new(alloc, rt.stdout()) else {
-        return ExitCode::FAILURE;
-    };
-    match run(
-        alloc,
-        &options,
-        &mut rt.stdin(),
-        &mut output,
-        &mut rt.stderr(),
-    ) {
+    match run_on_files(&rt, &options) {
         Ok(()) => ExitCode::SUCCESS,
-        Err(failure) => {
-            let _ = eprintln!(rt; "{failure}");
-            ExitCode::from(failure.status())
+        Err(trouble) => {
+            tell(&rt, &options, &trouble);
+            ExitCode::from(trouble.status())
         }
     }
 }
