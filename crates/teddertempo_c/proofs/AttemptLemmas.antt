@@ -1,6 +1,6 @@
 -- A module rewritten as is asked for, and what options ask for.
-use Rattle.std.proofs.Common.{◌≡◌, ℕ, ◌+◌, ◌≤◌, List, Option, Result, Ok, Err, ap, subst, ◌∙◌, arith}
-use Rattle.std.specs.Prelude.{IfOk, IfErr, min}
+use Rattle.std.proofs.Common.{◌≡◌, ℕ, ◌+◌, List, Option, Result, Ok, Err, ap, ◌∙◌, arith}
+use Rattle.std.specs.Prelude.{IfOk, IfErr}
 use Rattle.std.proofs.Math.Nat.{min-le_left}
 use Rattle.peephole_rules.specs.declared.rule.Rule.{Rule}
 use Rattle.peephole_modules.specs.Attempt.{IsForSize, IsReason}
@@ -10,7 +10,6 @@ use Rattle.peephole_modules.specs.DoesAsBefore.{DoesAsBefore}
 use Rattle.peephole_modules.specs.Mutates.{Mutates}
 use Rattle.peephole_modules.specs.Seeded.{seeded}
 use Rattle.peephole_modules.specs.declared.attempt.Reason.{Reason}
-use Rattle.peephole_modules.specs.declared.times.MadeRewrite.{MadeRewrite}
 use Rattle.peephole_modules.specs.declared.times.RewrittenModule.{RewrittenModule}
 use Rattle.teddertempo_c.specs.Options.{rules_of, function_of, count_of, most_of}
 use Rattle.teddertempo_c.specs.Reports.{asked_of}

@@ -1,5 +1,5 @@
 -- What a reason comes to is right.
-use Rattle.std.proofs.Common.{◌≡◌, ℕ, List, refl}
+use Rattle.std.proofs.Common.{ℕ, List, refl}
 use Rattle.mutate_base.specs.declared.error.Error.{Error}
 use Rattle.mutate_base.specs.declared.error.Error.TheVariants as errors
 use Rattle.wasm_sections.specs.declared.fault.ModuleFault.{ModuleFault}
@@ -8,9 +8,8 @@ use Rattle.wasm_sections.specs.declared.writing.WriteError.TheVariants as writes
 use Rattle.wasm_module.specs.Fault.{IsModuleFault}
 use Rattle.peephole_modules.specs.declared.attempt.Reason.{Reason}
 use Rattle.peephole_modules.specs.declared.attempt.Reason.TheVariants as reasons
-use Rattle.peephole_modules.specs.declared.mutation.MutationError.{MutationError}
 use Rattle.peephole_modules.specs.declared.mutation.MutationError.TheVariants as mutations
-use Rattle.teddertempo_c.specs.Outcome.{IsOther, IsOutcome, offset_by, offset_by_fault, outcome_by, outcome_by_error, outcome_by_fault}
+use Rattle.teddertempo_c.specs.Outcome.{IsOutcome, offset_by, offset_by_fault, outcome_by, outcome_by_error, outcome_by_fault}
 use Rattle.teddertempo_c.specs.Writes.{Asked, IsRefusedFor}
 
 module _ (asked : Asked) (bytes : List ℕ) where

@@ -1,5 +1,5 @@
 -- What an attempt with options comes to.
-use Rattle.std.proofs.Common.{◌≡◌, ◌≢◌, ℕ, ◌<◌, ◌≤◌, inl, inr, List, [], length, take, refl, sym, subst, arith}
+use Rattle.std.proofs.Common.{◌≡◌, ◌≢◌, ℕ, ◌≤◌, inl, inr, List, [], length, take, sym, subst, arith}
 use Rattle.std.proofs.lemmas.List.{length-take-le}
 use Rattle.peephole_modules.specs.declared.attempt.Reason.{Reason}
 use Rattle.peephole_modules.specs.declared.times.MadeRewrite.{MadeRewrite}

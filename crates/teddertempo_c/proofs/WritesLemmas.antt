@@ -1,5 +1,5 @@
 -- What is written over the front of a buffer, and what is told of it.
-use Rattle.std.proofs.Common.{◌≡◌, ◌≢◌, ℕ, ◌<◌, ◌≤◌, inl, inr, List, [], ◌∷◌, ◌++◌, length, take, drop, refl, sym, ap, subst, ◌∙◌, arith, length-append, length-drop}
+use Rattle.std.proofs.Common.{◌≡◌, ℕ, ◌<◌, ◌≤◌, inl, inr, List, length, take, drop, refl, sym, ap, subst, ◌∙◌, arith, length-append, length-drop}
 use Rattle.std.proofs.lemmas.List.{take_at, drop_at}
 use Rattle.peephole_modules.specs.declared.attempt.Reason.{Reason}
 use Rattle.peephole_modules.specs.declared.times.MadeRewrite.{MadeRewrite}
@@ -8,7 +8,7 @@ use Rattle.teddertempo_c.specs.Reports.{IsAttempt, IsRefusal, IsWhy, MutatesWith
 use Rattle.teddertempo_c.specs.Writes.{Fits, IsPut, IsRefusedFor, IsRewrittenBy, MutatesOnce, WritesFront, once}
 use Rattle.teddertempo_c.specs.declared.options.Options.{Options}
 use Rattle.teddertempo_c.specs.declared.outcome.Outcome.{Outcome}
-use Rattle.teddertempo_c.specs.declared.outcome.Outcome.TheVariants.{Rewritten, BadOptions}
+use Rattle.teddertempo_c.specs.declared.outcome.Outcome.TheVariants.{Rewritten}
 use Rattle.teddertempo_c.specs.declared.report.Report.{Report}
 
 module _ (bytes old : List ℕ) (result : ℕ) (new : List ℕ) (put : IsPut bytes old result new) where

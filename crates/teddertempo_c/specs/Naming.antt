@@ -1,7 +1,6 @@
 -- What is written of a rule's name (this project).
 use Rattle.std.specs.Prelude.{◌≡◌, ℕ, List, ◌++◌, length, take, drop, slice_get, MatchOption}
 use Rattle.peephole_rules.specs.Rule.{rule_name}
-use Rattle.peephole_rules.specs.declared.rule.Rule.{Rule}
 use Rattle.peephole_rules.specs.declared.rule.TheConstants.{RULES}
 
 -- The room holds as much of the name as fits, and behind it what it held.

@@ -10,7 +10,7 @@ use peephole_modules::{Reason, RewrittenModule, Scope, rewrite_with_seed};
 use peephole_rules::Rule;
 use std::alloc::Global;
 
-/// The module rewritten as `rewrite_with_seed` rewrites it: it has bytes, and no more than it may have. Condition: `count` is not 0.
+/// The module rewritten as `rewrite_with_seed` rewrites it: it has bytes, and no more than it may. Condition: `count` is not 0.
 pub fn rewritten(
     alloc: Global,
     bytes: &[u8],

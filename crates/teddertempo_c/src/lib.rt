@@ -51,7 +51,8 @@ pub unsafe extern "C" fn teddertempo_mutate(
     )
 }
 
-/// The same by options, and the report says what was done, or why nothing was. It is written whole.
+/// The same by options, and the report says what was done, or why nothing was: each reason but a want of memory only where it is so,
+/// and bad options always. It is written whole. Nothing is said of when memory is wanting, which may be so at any time.
 ///
 /// C passes `data`, `size`, `max_size`, and pointers to the options and the report, which aren't null and don't overlap the bytes.
 #[unsafe(no_mangle)]

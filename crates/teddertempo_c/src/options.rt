@@ -17,7 +17,7 @@ pub struct Options {
     pub low_rules: u64,
     /// The same of the rule with the number 64 + i. In C `rules[1]`.
     pub high_rules: u64,
-    /// The only function that is rewritten, by its index among all functions of the module, imported ones first; `u64::MAX`: any is.
+    /// The only function that is rewritten, by its index among all functions of the module, imported ones first; `u64::MAX`: any.
     pub function: u64,
     /// How many rewrites are made, one after another; 0 counts as 1.
     pub count: u64,

@@ -19,7 +19,7 @@ pub enum Outcome {
     Unreadable,
     /// No rule applies in them.
     NoRule,
-    /// The module has no function of its own with the index that is named, or an import isn't known, so that no function's index is.
+    /// The module has no function of its own with the index that is named, or an import isn't known, and so no index is.
     NoFunction,
     /// No rewrite that was tried fits.
     TooLarge,
