@@ -10,8 +10,8 @@
  * rewrites may pass an engine's limits.
  *
  * The caller sees to it that
- *   - data points to max_size bytes, fewer than 2^63, that may be read and written, and the other pointers to what their types say; none is null,
- *     even where max_size or room is 0, and no two of them overlap;
+ *   - data points to max_size bytes, fewer than 2^63, that may be read and written, and the other pointers to what their types
+ *     say; none is null, even where max_size or room is 0, and no two of them overlap;
  *   - nothing else reads or writes these during the call.
  *
  * No state is kept between calls, and any thread may call on buffers of its own. A call takes memory from malloc and realloc,
