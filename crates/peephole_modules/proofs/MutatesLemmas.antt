@@ -14,6 +14,7 @@ use Rattle.peephole_modules.specs.ChosenTimes.{ChoosesEach, ChoosesTimes}
 use Rattle.peephole_modules.specs.Mutated.{CannotMutate, IsChosen, IsMutated, IsOfSize, RefusesMutation}
 use Rattle.peephole_modules.specs.Mutates.{Mutates, RewritesEach, IsReadOnceMade}
 use Rattle.peephole_modules.specs.Scope.{Scope}
+use Rattle.peephole_modules.specs.Watched.{Seeing, Standing, SeesOne, SeesEach}
 use Rattle.peephole_modules.specs.declared.mutation.MutationError.{MutationError}
 use Rattle.peephole_modules.specs.declared.mutation.MutationError.TheVariants.{Read, Rewrite as Refused, TooLong, Write}
 use Rattle.peephole_modules.specs.declared.times.MadeRewrite.{MadeRewrite}
@@ -64,6 +65,23 @@ next scope number bytes stream old last now m made new after so e mutated chosen
       chooses = chooses_more scope bytes stream old last now m new after so.chooses chosen;
       number_is = length-append old (m ∷ []) ∙ ap (λ (n : ℕ). n + 1) so.number_is;
     })
+
+-- the watcher sees one rewrite more
+sees_more : {W : Type 0} (saw : Seeing W) (scope : Scope) (from : Standing W) (made : List MadeRewrite) (last : Standing W) (m : MadeRewrite)
+    (to : Standing W) → SeesEach saw scope from made last → SeesOne saw scope last m to → SeesEach saw scope from (made ++ m ∷ []) to
+sees_more {W} saw scope from [] last m to e one = (to, subst (λ (s : Standing W). SeesOne saw scope s m to) e one, refl)
+sees_more saw scope from (x ∷ made) last m to each one = (each.0, each.1, sees_more saw scope each.0 made last m to each.2 one)
+
+pub sees_next : {W : Type 0} (saw : Seeing W) (scope : Scope) (from : Standing W) (old : List MadeRewrite) (last : List ℕ) (now : Stream) (between : W)
+    (m : MadeRewrite) (made : List MadeRewrite) (new : List ℕ) (after : Stream) (watcher : W) →
+    SeesEach saw scope from old (record { bytes = last; stream = now; watcher = between }) → made ≡ old ++ m ∷ [] →
+    IsMutated scope last m.function m.rewrite new → ChoosesOfModule scope last now m.function m.rewrite new after → saw between last new m watcher →
+    SeesEach saw scope from made (record { bytes = new; stream = after; watcher = watcher })
+sees_next {W} saw scope from old last now between m made new after watcher each e mutated chosen seen =
+    let to : Standing W = record { bytes = new; stream = after; watcher = watcher } in
+    let here : Standing W = record { bytes = last; stream = now; watcher = between } in
+    subst (λ (ms : List MadeRewrite). SeesEach saw scope from ms to) (sym e)
+    (sees_more saw scope from old here m to each (record { mutated = mutated; chosen = chosen; seen = seen }))
 
 -- as many rewrites as were asked for
 pub ends : (scope : Scope) (count number : ℕ) (bytes : List ℕ) (stream : Stream) (made : List MadeRewrite) (new : List ℕ) (now : Stream)

@@ -9,6 +9,7 @@ pub mod Writing
 pub mod EntryWords
 pub mod Mutated
 pub mod Mutates
+pub mod Watched
 pub mod Seeded
 pub mod DoesAsBefore
 pub mod Attempt

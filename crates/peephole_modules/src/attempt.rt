@@ -1,5 +1,5 @@
 //! A module rewritten several times over, or why nothing of it is; the functions of a module that may be rewritten.
-ghost use Rattle.std.specs.Prelude.{◌≡◌, ◌↔◌, ◌≤◌, ◌<◌, ◌+◌, ◌^◌, ℕ, length, IfOk, IfErr, IsTrue, false};
+ghost use Rattle.std.specs.Prelude.{◌≡◌, ◌↔◌, ◌≤◌, ◌<◌, ◌+◌, ◌^◌, ℕ, length, IfOk, IfErr, OnErr, IsTrue, false};
 ghost use Rattle.mutate_base.specs.declared.error.Error.TheVariants as errors;
 ghost use Rattle.peephole_modules.specs.Attempt.{CanRead, IsForSize, IsReason, RefusesIndex};
 ghost use Rattle.peephole_modules.specs.Chosen.{GivesUp};
@@ -8,15 +8,18 @@ ghost use Rattle.peephole_modules.specs.DoesAsBefore.{DoesAsBefore};
 ghost use Rattle.peephole_modules.specs.Mutated.{CannotMutate, IsChosen};
 ghost use Rattle.peephole_modules.specs.Mutates.{Mutates};
 ghost use Rattle.peephole_modules.specs.Seeded.{seeded};
+ghost use Rattle.peephole_modules.specs.Watched.{SeesAll};
 ghost use Rattle.peephole_modules.specs.declared.mutation.MutationError.TheVariants.{Rewrite};
 ghost use Rattle.wasm_module.specs.Module.{IsModule};
 
 use crate::function::read_function;
 use crate::mutation::MutationError;
 use crate::scope::Scope;
-use crate::seeded::mutate_with_seed;
-use crate::times::RewrittenModule;
+use crate::times::{RewrittenModule, watch_times};
+use crate::watch::{Unwatched, Watch};
 use mutate_base::{Error, ModuleInfo};
+use rand::rngs::StdRng;
+use rand_core::SeedableRng;
 use std::alloc::Global;
 use std::ops::Range;
 use thiserror::Error as ErrorTexts;
@@ -154,7 +157,36 @@ pub fn rewrite_with_seed(
     ensures gives_up { IfErr result (λ e. IsForSize e
         → GivesUp scope.now bytes.now (seeded seed)) }
 {
-    match mutate_with_seed(alloc, bytes, seed, scope, count) {
+    let mut unwatched = Unwatched;
+    rewrite_watched(alloc, bytes, seed, scope, count, &mut unwatched)
+}
+
+/// The same as `rewrite_with_seed`, watched: each rewrite is shown once it stands in `made`. Condition: `count` is not 0.
+pub fn rewrite_watched<W: Watch>(
+    alloc: Global,
+    bytes: &[u8],
+    seed: u64,
+    scope: &Scope<'_>,
+    count: usize,
+    watch: &mut W,
+) -> Result<RewrittenModule, Reason>
+    requires some { 0 < count }
+    ensures mutated { IfOk result (λ m.
+        Mutates scope.now count bytes.now m.made.items m.bytes.items m.stopped) }
+    ensures does_as_before { IfOk result (λ m. DoesAsBefore bytes.now m.bytes.items) }
+    ensures chosen { IfOk result (λ m. ChoosesTimes
+        scope.now bytes.now (seeded seed) m.made.items m.bytes.items m.stopped) }
+    ensures fails { IfErr result (IsReason scope.now bytes.now) }
+    ensures gives_up { IfErr result (λ e. IsForSize e
+        → GivesUp scope.now bytes.now (seeded seed)) }
+    // Each rewrite that is made is seen, once and in order, between the bytes before it and those with it.
+    ensures seen { IfOk result (λ m. SeesAll W.saw scope.now bytes.now (seeded seed)
+        m.made.items m.bytes.items watch.old watch.new) }
+    // Nothing is seen where none is made.
+    ensures unseen { OnErr result (watch.new ≡ watch.old) }
+{
+    let generator = StdRng::seed_from_u64(seed);
+    match watch_times(alloc, bytes, generator, scope, count, watch) {
         Ok(Some(module)) => Ok(module),
         Ok(None) => Err(without_rewrite(alloc, bytes, scope)),
         Err(e) => Err(Reason::Refused(e)),

@@ -1,5 +1,5 @@
 //! Modules rewritten by rules: a module in, and out comes one in which the tree of an operator of one of its functions is rewritten
-//! in its place, so that what stands round it runs as before; and the same several times over, by a seed.
+//! in its place, so that what stands round it runs as before; and the same several times over, by a seed, and watched.
 #![tactic(auto)]
 
 mod attempt;
@@ -11,10 +11,12 @@ mod mutation;
 mod scope;
 mod seeded;
 mod times;
+mod watch;
 
-pub use attempt::{Reason, chosen_entries, index_of, rewrite_with_seed};
+pub use attempt::{Reason, chosen_entries, index_of, rewrite_watched, rewrite_with_seed};
 pub use function::{FunctionBody, FunctionError, read_function};
 pub use mutation::{Mutated, MutationError, mutate_module};
 pub use scope::Scope;
 pub use seeded::mutate_with_seed;
-pub use times::{MadeRewrite, RewrittenModule, mutate_times};
+pub use times::{MadeRewrite, RewrittenModule, mutate_times, watch_times};
+pub use watch::{Unwatched, Watch};

@@ -6,11 +6,13 @@ ghost use Rattle.peephole_modules.specs.DoesAsBefore.{DoesAsBefore};
 ghost use Rattle.peephole_modules.specs.Held.{stream_held};
 ghost use Rattle.peephole_modules.specs.Mutated.{CannotMutate, IsOfSize, RefusesMutation};
 ghost use Rattle.peephole_modules.specs.Mutates.{Mutates};
+ghost use Rattle.peephole_modules.specs.Watched.{SeesAll};
 
 use crate::held::Held;
 use crate::laws::{rewritten_modules_are_read_again, rewritten_modules_do_as_before};
-use crate::mutation::{MutationError, mutate_with};
+use crate::mutation::{Mutated, MutationError, mutate_with};
 use crate::scope::Scope;
+use crate::watch::{Unwatched, Watch};
 use mutate_base::Error;
 use peephole_rewrites::Rewrite;
 use rand_core::Rng;
@@ -36,17 +38,27 @@ pub struct RewrittenModule {
     pub stopped: Option<MutationError>,
 }
 
-// One rewrite more.
-fn add_made(
+// One rewrite more: it is put into the list, and then shown.
+fn add_made<W: Watch>(
+    alloc: Global,
     made: &mut Vec<MadeRewrite>,
-    function: usize,
-    rewrite: Rewrite,
+    old: &[u8],
+    new: &Mutated,
+    watch: &mut W,
 ) -> Result<(), AllocError>
-    ensures added { OnOk result (made.new.items
-        ≡ made.old.items ++ record { function = function; rewrite = rewrite } ∷ []) }
+    ensures added { OnOk result (made.new.items ≡ made.old.items
+        ++ record { function = new.now.function; rewrite = new.now.rewrite } ∷ []) }
     ensures restored { OnErr result (made.new.items ≡ made.old.items) }
+    ensures seen { OnOk result (W.saw watch.old old.now new.now.bytes.items
+        (record { function = new.now.function; rewrite = new.now.rewrite }) watch.new) }
+    ensures unseen { OnErr result (watch.new ≡ watch.old) }
 {
-    made.push(MadeRewrite { function, rewrite })?;
+    let rewrite = MadeRewrite {
+        function: new.function,
+        rewrite: new.rewrite,
+    };
+    made.push(rewrite)?;
+    watch.see(alloc, old, &new.bytes, rewrite);
     Ok(())
 }
 
@@ -63,13 +75,14 @@ fn stopped(rewritten: RewrittenModule, e: MutationError) -> RewrittenModule
     }
 }
 
-// As `mutate_times`, by a generator that then stands behind the words that were drawn.
-fn mutate_repeatedly<R: Rng + Drop>(
+// As `watch_times`, by a generator that then stands behind the words that were drawn.
+fn mutate_repeatedly<R: Rng + Drop, W: Watch>(
     alloc: Global,
     bytes: &[u8],
     held: &mut Held<R>,
     scope: &Scope<'_>,
     count: usize,
+    watch: &mut W,
 ) -> Result<Option<RewrittenModule>, MutationError>
     requires some { 0 < count }
     ensures mutated { IfOk result (λ o. IfSome o (λ m.
@@ -80,6 +93,10 @@ fn mutate_repeatedly<R: Rng + Drop>(
     ensures refused { IfErr result (RefusesMutation scope.now bytes.now) }
     ensures gives_up { IfErr result (λ e. IsOfSize e
         → GivesUp scope.now bytes.now (stream_held R.stream held.old)) }
+    ensures seen { IfOk result (λ o. IfSome o (λ m. SeesAll W.saw scope.now bytes.now
+        (stream_held R.stream held.old) m.made.items m.bytes.items watch.old watch.new)) }
+    ensures unseen_none { IfOk result (λ o. IfNone o (watch.new ≡ watch.old)) }
+    ensures unseen_refused { OnErr result (watch.new ≡ watch.old) }
 {
     rewritten_modules_are_read_again();
     let first = match mutate_with(alloc, bytes, held, scope) {
@@ -88,7 +105,7 @@ fn mutate_repeatedly<R: Rng + Drop>(
         Err(e) => return Err(e),
     };
     let mut made = Vec::new(alloc);
-    add_made(&mut made, first.function, first.rewrite)?;
+    add_made(alloc, &mut made, bytes, &first, watch)?;
     let mut module = RewrittenModule {
         bytes: first.bytes,
         made,
@@ -100,7 +117,7 @@ fn mutate_repeatedly<R: Rng + Drop>(
             Ok(None) => return Ok(Some(module)),
             Err(e) => return Ok(Some(stopped(module, e))),
         };
-        if add_made(&mut module.made, next.function, next.rewrite).is_err() {
+        if add_made(alloc, &mut module.made, &module.bytes, &next, watch).is_err() {
             return Ok(Some(stopped(module, MutationError::Rewrite(Error::Memory))));
         }
         module.bytes = next.bytes;
@@ -139,7 +156,39 @@ pub fn mutate_times<R: Rng + Drop>(
     ensures gives_up { IfErr result (λ e. IsOfSize e
         → GivesUp scope.now bytes.now (R.stream generator)) }
 {
+    let mut unwatched = Unwatched;
+    watch_times(alloc, bytes, generator, scope, count, &mut unwatched)
+}
+
+/// The same as `mutate_times`, watched: each rewrite is shown once it stands in `made`. One for which no memory was left there is not
+/// shown. Condition: `count` is not 0.
+pub fn watch_times<R: Rng + Drop, W: Watch>(
+    alloc: Global,
+    bytes: &[u8],
+    generator: R,
+    scope: &Scope<'_>,
+    count: usize,
+    watch: &mut W,
+) -> Result<Option<RewrittenModule>, MutationError>
+    requires some { 0 < count }
+    ensures mutated { IfOk result (λ o. IfSome o (λ m.
+        Mutates scope.now count bytes.now m.made.items m.bytes.items m.stopped)) }
+    ensures does_as_before { IfOk result (λ o. IfSome o (λ m.
+        DoesAsBefore bytes.now m.bytes.items)) }
+    ensures chosen { IfOk result (λ o. IfSome o (λ m. ChoosesTimes
+        scope.now bytes.now (R.stream generator) m.made.items m.bytes.items m.stopped)) }
+    ensures none { IfOk result (λ o. IfNone o (CannotMutate scope.now bytes.now)) }
+    ensures refused { IfErr result (RefusesMutation scope.now bytes.now) }
+    ensures gives_up { IfErr result (λ e. IsOfSize e
+        → GivesUp scope.now bytes.now (R.stream generator)) }
+    // Each rewrite that is made is seen, once and in order, between the bytes before it and those with it.
+    ensures seen { IfOk result (λ o. IfSome o (λ m. SeesAll W.saw scope.now bytes.now
+        (R.stream generator) m.made.items m.bytes.items watch.old watch.new)) }
+    // Nothing is seen where none is made.
+    ensures unseen_none { IfOk result (λ o. IfNone o (watch.new ≡ watch.old)) }
+    ensures unseen_refused { OnErr result (watch.new ≡ watch.old) }
+{
     rewritten_modules_do_as_before();
     let mut held = Held::new(generator);
-    mutate_repeatedly(alloc, bytes, &mut held, scope, count)
+    mutate_repeatedly(alloc, bytes, &mut held, scope, count, watch)
 }

@@ -1,12 +1,12 @@
 -- The rewrites follow one another.
-use Rattle.std.proofs.Common.{◌<◌, ◌∙◌, List, ℕ, Err, ap, refl, subst, sym, arith, rules}
+use Rattle.std.proofs.Common.{◌<◌, ◌∙◌, List, [], ℕ, Err, ap, refl, subst, sym, arith, rules}
 use Rattle.std.proofs.lemmas.Result.{err_from_is_err_and}
 use Rattle.mutate_base.specs.declared.error.Error.TheVariants as errors
 use Rattle.peephole_modules.specs.Chosen.{ChoosesOfModule, GivesUp}
 use Rattle.peephole_modules.specs.Held.{stream_held}
 use Rattle.peephole_modules.specs.Mutated.{IsMutated, IsOfSize, RefusesMutation}
 use Rattle.peephole_modules.specs.declared.mutation.MutationError.TheVariants.{Rewrite}
-use Rattle.peephole_modules.proofs.MutatesLemmas.{first, next, no_room, on_error, on_value, stops, times_none, times_stop}
+use Rattle.peephole_modules.proofs.MutatesLemmas.{first, next, no_room, on_error, on_value, sees_next, stops, times_none, times_stop}
 use Rattle.peephole_modules.proofs.times.mutate_repeatedly.Goals as goal
 
 pub returns-in_err-add_made-clause-refused : goal.returns-in_err-add_made-clause-refused
@@ -23,6 +23,13 @@ rewrites-init g c = (
       c.add_made.new.made.items c.in-Ok-Some.first.bytes.items (stream_held g.R.Rng.stream c.mutate_with.new.held) (search rules)
       (rw c.in-Ok-Some.field-0-is at c.in-Ok-Some.ensures.mutated) (rw c.in-Ok-Some.field-0-is at c.in-Ok-Some.ensures.chosen),
   refl,
+  sees_next g.W.Watch.saw c.args.scope.now
+      (record { bytes = c.args.bytes.now; stream = stream_held g.R.Rng.stream c.args.held.now; watcher = c.args.watch.now }) []
+      c.args.bytes.now (stream_held g.R.Rng.stream c.args.held.now) c.args.watch.now
+      (record { function = c.in-Ok-Some.first.function; rewrite = c.in-Ok-Some.first.rewrite })
+      c.add_made.new.made.items c.in-Ok-Some.first.bytes.items (stream_held g.R.Rng.stream c.mutate_with.new.held) c.add_made.new.watch refl (search rules)
+      (rw c.in-Ok-Some.field-0-is at c.in-Ok-Some.ensures.mutated) (rw c.in-Ok-Some.field-0-is at c.in-Ok-Some.ensures.chosen)
+      c.in_ok-add_made.ensures.seen,
 )
 
 pub rewrites-preserved : goal.rewrites-preserved
@@ -37,14 +44,26 @@ rewrites-preserved g c =
     c.in-Ok-Some-mutate_with.next.rewrite c.in-Ok-Some-mutate_with.next.bytes.items (stream_held g.R.Rng.stream c.mutate_with-in-rewrites.new.held) =
     subst (λ (b : List ℕ). ChoosesOfModule c.args.scope.now b (stream_held g.R.Rng.stream c.rewrites.held) c.in-Ok-Some-mutate_with.next.function
     c.in-Ok-Some-mutate_with.next.rewrite c.in-Ok-Some-mutate_with.next.bytes.items (stream_held g.R.Rng.stream c.mutate_with-in-rewrites.new.held))
-    c.deref.ensures.value (rw c.in-Ok-Some-mutate_with.field-0-is at c.in-Ok-Some-mutate_with.ensures.chosen) in (
+    c.deref.ensures.value (rw c.in-Ok-Some-mutate_with.field-0-is at c.in-Ok-Some-mutate_with.ensures.chosen) in
+    let went = sym c.is_err.ensures.value ∙ c.if-is_err.false in
+    let added = on_value c.add_made-in-rewrites.result went c.add_made-in-rewrites.ensures.added in
+    let seen : g.W.Watch.saw c.rewrites.watch c.rewrites.module.bytes.items c.in-Ok-Some-mutate_with.next.bytes.items
+    (record { function = c.in-Ok-Some-mutate_with.next.function; rewrite = c.in-Ok-Some-mutate_with.next.rewrite }) c.add_made-in-rewrites.new.watch =
+    subst (λ (b : List ℕ). g.W.Watch.saw c.rewrites.watch b c.in-Ok-Some-mutate_with.next.bytes.items
+    (record { function = c.in-Ok-Some-mutate_with.next.function; rewrite = c.in-Ok-Some-mutate_with.next.rewrite }) c.add_made-in-rewrites.new.watch)
+    c.deref-in-rewrites.ensures.value (on_value c.add_made-in-rewrites.result went c.add_made-in-rewrites.ensures.seen) in (
       next c.args.scope.now c.rewrites.counter c.args.bytes.now (stream_held g.R.Rng.stream c.args.held.now) c.rewrites.module.made.items
           c.rewrites.module.bytes.items (stream_held g.R.Rng.stream c.rewrites.held)
           (record { function = c.in-Ok-Some-mutate_with.next.function; rewrite = c.in-Ok-Some-mutate_with.next.rewrite })
           c.add_made-in-rewrites.new.made.items c.in-Ok-Some-mutate_with.next.bytes.items (stream_held g.R.Rng.stream c.mutate_with-in-rewrites.new.held)
-          c.rewrites.invariant.0
-          (on_value c.add_made-in-rewrites.result (sym c.is_err.ensures.value ∙ c.if-is_err.false) c.add_made-in-rewrites.ensures.added) mutated chosen,
+          c.rewrites.invariant.0 added mutated chosen,
       c.rewrites.invariant.1,
+      sees_next g.W.Watch.saw c.args.scope.now
+          (record { bytes = c.args.bytes.now; stream = stream_held g.R.Rng.stream c.args.held.now; watcher = c.args.watch.now })
+          c.rewrites.module.made.items c.rewrites.module.bytes.items (stream_held g.R.Rng.stream c.rewrites.held) c.rewrites.watch
+          (record { function = c.in-Ok-Some-mutate_with.next.function; rewrite = c.in-Ok-Some-mutate_with.next.rewrite })
+          c.add_made-in-rewrites.new.made.items c.in-Ok-Some-mutate_with.next.bytes.items (stream_held g.R.Rng.stream c.mutate_with-in-rewrites.new.held)
+          c.add_made-in-rewrites.new.watch c.rewrites.invariant.2 added mutated chosen seen,
     )
 
 pub returns-in-Ok-None-mutate_with-clause-chosen : goal.returns-in-Ok-None-mutate_with-clause-chosen
@@ -103,3 +122,11 @@ returns-then-is_err-clause-chosen g c =
     c.rewrites.module.bytes.items
     (stream_held g.R.Rng.stream c.rewrites.held) c.stopped-then-is_err.result.stopped (Rewrite errors.Memory) c.rewrites.invariant.0
     c.stopped-then-is_err.ensures.stopped (λ size. absurd size))))
+
+pub returns-then-is_err-clause-seen : goal.returns-then-is_err-clause-seen
+returns-then-is_err-clause-seen g c =
+    let failed = sym c.is_err.ensures.value ∙ c.if-is_err.true in
+    let kept = on_error c.add_made-in-rewrites.result failed c.add_made-in-rewrites.ensures.restored in
+    let unseen = on_error c.add_made-in-rewrites.result failed c.add_made-in-rewrites.ensures.unseen in
+    rw c.stopped-then-is_err.ensures.made (rw c.stopped-then-is_err.ensures.bytes (rw kept (rw unseen
+    (record { left = stream_held g.R.Rng.stream c.rewrites.held; each = c.rewrites.invariant.2 }))))

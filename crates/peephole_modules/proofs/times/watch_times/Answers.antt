@@ -1,5 +1,5 @@
 use Rattle.peephole_modules.proofs.MutationLemmas.{some_map}
-use Rattle.peephole_modules.proofs.times.mutate_times.Goals as goal
+use Rattle.peephole_modules.proofs.times.watch_times.Goals as goal
 
 pub returns-clause-does_as_before : goal.returns-clause-does_as_before
 returns-clause-does_as_before g c =
