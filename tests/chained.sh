@@ -31,7 +31,7 @@ rewrite_on() {
         fail "$case" "$(tail -1 "$work/notes" | head -c 300)"
         return 1
     fi
-    made=$(grep -c '^function [0-9]* operator [0-9]* rule ' "$work/notes" || true)
+    made=$(grep -c '^function [0-9]* *operator [0-9]* *rule ' "$work/notes" || true)
     if [ "$made" -ne 1000 ]; then
         fail "$case" "$made rewrites"
         return 1

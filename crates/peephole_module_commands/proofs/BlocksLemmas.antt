@@ -9,6 +9,7 @@ use Rattle.peephole_graphs.specs.Block.{BlockRange, HasNoDelimiter, IsBlockOf, I
 use Rattle.peephole_graphs.specs.Shape.{IsFit, judge}
 use Rattle.peephole_module_commands.specs.Blocks.{FitBetween, IsBlock, IsFirstUnfit, IsFirstUnfitAt, IsUnfit, TellsBlock}
 use Rattle.peephole_module_commands.specs.Lines.{block_line}
+use Rattle.peephole_module_commands.specs.declared.form.Form.{Form}
 use Rattle.peephole_module_commands.specs.declared.unfit.Unfit.{Unfit}
 use Rattle.peephole_module_commands.specs.declared.unfit.UnfitOperator.{UnfitOperator}
 
@@ -103,21 +104,22 @@ same_start operators a b end h k = elim (cases_lt b a) [
 ]
 
 -- the line of a block
-pub tells_block : (info : Module) (function : ℕ) (operators : Operators) (n start end : ℕ) (unfit : Option UnfitOperator) (text : List ℕ) → end ≡ n + 1 →
+pub tells_block : (form : Form) (info : Module) (function : ℕ) (operators : Operators) (n start end : ℕ) (unfit : Option UnfitOperator)
+    (text : List ℕ) → end ≡ n + 1 →
     IsBlock operators start (n + 1) → IsFirstUnfit info operators start end unfit →
-    text ≡ block_line (record { function = function; start = start; end = end; unfit = unfit }) → TellsBlock info function operators n text
-tells_block info function operators n start end unfit text last block first is = record {
+    text ≡ block_line form (record { function = function; start = start; end = end; unfit = unfit }) → TellsBlock form info function operators n text
+tells_block form info function operators n start end unfit text last block first is = record {
   block = λ other h. subst (λ (s : ℕ). (u : Option UnfitOperator) × IsFirstUnfit info operators s (n + 1) u
-      × (text ≡ block_line (record { function = function; start = s; end = n + 1; unfit = u }))) (same_start operators start other (n + 1) block h)
+      × (text ≡ block_line form (record { function = function; start = s; end = n + 1; unfit = u }))) (same_start operators start other (n + 1) block h)
       (subst (λ (e : ℕ). (u : Option UnfitOperator) × IsFirstUnfit info operators start e u
-      × (text ≡ block_line (record { function = function; start = start; end = e; unfit = u }))) last (unfit, first, is));
+      × (text ≡ block_line form (record { function = function; start = start; end = e; unfit = u }))) last (unfit, first, is));
   none = λ never. absurd (never start block);
 }
 
 -- no line
-pub tells_none : (info : Module) (function : ℕ) (operators : Operators) (n : ℕ) → ((start : ℕ) → ¬ (IsBlock operators start (n + 1))) →
-    TellsBlock info function operators n []
-tells_none info function operators n never = record { block = λ start h. absurd (never start h); none = λ _. refl }
+pub tells_none : (form : Form) (info : Module) (function : ℕ) (operators : Operators) (n : ℕ) → ((start : ℕ) → ¬ (IsBlock operators start (n + 1))) →
+    TellsBlock form info function operators n []
+tells_none form info function operators n never = record { block = λ start h. absurd (never start h); none = λ _. refl }
 
 -- the first operator that no graph holds
 pub unfit_at : (info : Module) (operators : Operators) (start end n : ℕ) (d : Operator × ℕ) (reason : Unfit) → start ≤ n → n < end → end ≤ length operators →

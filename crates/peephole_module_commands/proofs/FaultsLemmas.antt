@@ -1,6 +1,6 @@
 -- What is told of functions that can be read, and of those that can't; why no list is written.
-use Rattle.std.proofs.Common.{◌≡◌, ℕ, suc, ◌+◌, ◌<◌, List, [], ◌∷◌, ◌++◌, length, take, get_or, Option, Result, Ok, Err, refl, sym, ap, ◌∙◌, subst, append_assoc, append-nil, arith}
-use Rattle.std.specs.Prelude.{◌^◌, IfErr}
+use Rattle.std.proofs.Common.{◌≡◌, ℕ, suc, ◌+◌, ◌<◌, List, [], ◌∷◌, ◌++◌, length, take, get_or, Option, refl, sym, ap, ◌∙◌, subst, append_assoc, append-nil, arith}
+use Rattle.std.specs.Prelude.{◌^◌}
 use Rattle.std.proofs.lemmas.List.{take_more}
 use Rattle.std.specs.Io.KnownBytes.{Appends}
 use Rattle.wasm_code.specs.declared.operator.Operator.{Operator}
@@ -20,6 +20,7 @@ use Rattle.peephole_module_commands.specs.Lists.{InTurn}
 use Rattle.peephole_module_commands.specs.Reports.{TellsIfUnread, TellsUnreadable, made_lines}
 use Rattle.peephole_module_commands.specs.declared.failure.Failure.{Failure}
 use Rattle.peephole_module_commands.specs.declared.failure.Failure.TheVariants.{Nothing, Input, TooLong, Output, Memory}
+use Rattle.peephole_module_commands.specs.declared.form.Form.{Form}
 use Rattle.peephole_module_commands.proofs.TurnLemmas.{appends_more}
 
 abbrev Types : Type 0
@@ -31,24 +32,24 @@ Operators = List (Operator × ℕ)
 -- ---- blocks
 
 -- of a function that was read
-pub tells_read : (bytes : List ℕ) (info : Module) (layout : Layout) (n : ℕ) (locals : Types) (expression : ℕ) (operators given : Operators) (index : ℕ)
-    (text : List ℕ) → given ≡ operators → IsFunction bytes info layout n locals expression operators →
+pub tells_read : (form : Form) (bytes : List ℕ) (info : Module) (layout : Layout) (n : ℕ) (locals : Types) (expression : ℕ) (operators given : Operators)
+    (index : ℕ) (text : List ℕ) → given ≡ operators → IsFunction bytes info layout n locals expression operators →
     ((l : Types) (x : ℕ) (o : Operators) → IsFunction bytes info layout n l x o → (locals ≡ l) × (operators ≡ o)) →
-    (layout.imported_functions + n < 2 ^ 64 → index ≡ layout.imported_functions + n) → InTurn (TellsBlock info index given) 0 (length given) text →
-    TellsBlocks bytes info layout n text
-tells_read bytes info layout n locals expression operators given index text given_is f only at told = record {
+    (layout.imported_functions + n < 2 ^ 64 → index ≡ layout.imported_functions + n) → InTurn (TellsBlock form info index given) 0 (length given) text →
+    TellsBlocks form bytes info layout n text
+tells_read form bytes info layout n locals expression operators given index text given_is f only at told = record {
   read = λ l x o k small.
       let s = only l x o k in
-      subst (λ (os : Operators). InTurn (TellsBlock info (layout.imported_functions + n) os) 0 (length os) text) (given_is ∙ s.1)
-      (subst (λ (i : ℕ). InTurn (TellsBlock info i given) 0 (length given) text) (at small) told);
+      subst (λ (os : Operators). InTurn (TellsBlock form info (layout.imported_functions + n) os) 0 (length os) text) (given_is ∙ s.1)
+      (subst (λ (i : ℕ). InTurn (TellsBlock form info i given) 0 (length given) text) (at small) told);
   unread = λ never. absurd (never (record { locals = locals; expression = expression; operators = operators; is = f }));
 }
 
 -- of one that can't be
-pub tells_unread : (bytes : List ℕ) (info : Module) (layout : Layout) (n : ℕ) (error : FunctionError) (text : List ℕ) →
+pub tells_unread : (form : Form) (bytes : List ℕ) (info : Module) (layout : Layout) (n : ℕ) (error : FunctionError) (text : List ℕ) →
     ((l : Types) (x : ℕ) (o : Operators) → IsFunction bytes info layout n l x o → ⊥) → IsFunctionFault bytes info layout n error →
-    TellsFault layout n error text → TellsBlocks bytes info layout n text
-tells_unread bytes info layout n error text never fault tells = record {
+    TellsFault form layout n error text → TellsBlocks form bytes info layout n text
+tells_unread form bytes info layout n error text never fault tells = record {
   read = λ l x o k _. absurd (never l x o k);
   unread = λ _. (error, fault, tells);
 }
@@ -56,31 +57,29 @@ tells_unread bytes info layout n error text never fault tells = record {
 -- ---- reports
 
 -- one function more
-pub more_told : (bytes : List ℕ) (info : Module) (layout : Layout) (n unreadable one : ℕ) (front own : List ℕ) →
-    TellsUnreadable bytes info layout n unreadable front → TellsIfUnread bytes info layout n one own →
-    TellsUnreadable bytes info layout (n + 1) (unreadable + one) (front ++ own)
-more_told bytes info layout n unreadable one front own h k =
+pub more_told : (form : Form) (bytes : List ℕ) (info : Module) (layout : Layout) (n unreadable one : ℕ) (front own : List ℕ) →
+    TellsUnreadable form bytes info layout n unreadable front → TellsIfUnread form bytes info layout n one own →
+    TellsUnreadable form bytes info layout (n + 1) (unreadable + one) (front ++ own)
+more_told form bytes info layout n unreadable one front own h k =
     let next : suc n ≡ n + 1 = omega arith in
-    subst (λ (m : ℕ). TellsUnreadable bytes info layout m (unreadable + one) (front ++ own)) next (unreadable, one, front, own, refl, refl, h, k)
+    subst (λ (m : ℕ). TellsUnreadable form bytes info layout m (unreadable + one) (front ++ own)) next (unreadable, one, front, own, refl, refl, h, k)
 
 -- one rewrite more
-made_more : (ms : List MadeRewrite) (m : MadeRewrite) → made_lines (ms ++ m ∷ []) ≡ made_lines ms ++ rewrite_line m.function m.rewrite
-made_more [] m = append-nil (rewrite_line m.function m.rewrite)
-made_more (x ∷ ms) m =
-    ap (λ (l : List ℕ). rewrite_line x.function x.rewrite ++ l) (made_more ms m)
-    ∙ sym (append_assoc (rewrite_line x.function x.rewrite) (made_lines ms) (rewrite_line m.function m.rewrite))
+made_more : (form : Form) (ms : List MadeRewrite) (m : MadeRewrite) →
+    made_lines form (ms ++ m ∷ []) ≡ made_lines form ms ++ rewrite_line form m.function m.rewrite
+made_more form [] m = append-nil (rewrite_line form m.function m.rewrite)
+made_more form (x ∷ ms) m =
+    ap (λ (l : List ℕ). rewrite_line form x.function x.rewrite ++ l) (made_more form ms m)
+    ∙ sym (append_assoc (rewrite_line form x.function x.rewrite) (made_lines form ms) (rewrite_line form m.function m.rewrite))
 
-pub made_next : (a b c : Option (List ℕ)) (ms : List MadeRewrite) (k : ℕ) (d : MadeRewrite) → k < length ms → Appends a b (made_lines (take k ms)) →
-    Appends b c (rewrite_line (get_or ms k d).function (get_or ms k d).rewrite) → Appends a c (made_lines (take (k + 1) ms))
-made_next a b c ms k d l front own =
-    subst (Appends a c) (sym (ap made_lines (take_more ms k d l) ∙ made_more (take k ms) (get_or ms k d)))
-    (appends_more a b c (made_lines (take k ms)) (rewrite_line (get_or ms k d).function (get_or ms k d).rewrite) front own)
+pub made_next : (a b c : Option (List ℕ)) (form : Form) (ms : List MadeRewrite) (k : ℕ) (d : MadeRewrite) → k < length ms →
+    Appends a b (made_lines form (take k ms)) → Appends b c (rewrite_line form (get_or ms k d).function (get_or ms k d).rewrite) →
+    Appends a c (made_lines form (take (k + 1) ms))
+made_next a b c form ms k d l front own =
+    subst (Appends a c) (sym (ap (made_lines form) (take_more ms k d l) ∙ made_more form (take k ms) (get_or ms k d)))
+    (appends_more a b c (made_lines form (take k ms)) (rewrite_line form (get_or ms k d).function (get_or ms k d).rewrite) front own)
 
 -- ---- failures
-
-pub only_output : {X : Type 0} (r : Result X Failure) → IfErr r (λ e. e ≡ Output) → IfErr r FailsToReport
-only_output (Ok x) h = tt
-only_output (Err e) h = subst FailsToReport (sym h) tt
 
 pub read_fails : (only : Option ℕ) (bytes : List ℕ) (e : Failure) → FailsToRead bytes e → FailsToList only bytes e
 read_fails only bytes (Nothing NoRule) h = absurd h

@@ -1,8 +1,11 @@
 pub mod InputLemmas
 pub mod WritesLemmas
 pub mod TurnLemmas
+pub mod ColumnsLemmas
 pub mod ListingLemmas
 pub mod BlocksLemmas
 pub mod FaultsLemmas
 pub mod ArgumentsLemmas
 pub mod OptionsLemmas
+pub mod ReachLemmas
+pub mod ShownLemmas

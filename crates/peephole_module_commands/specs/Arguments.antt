@@ -40,8 +40,8 @@ naming name names = record (valued name (Names names)) { action = Some Append }
 abbrev pub arguments : (names : Bor (List (Bor Text))) → List Rule
 arguments names =
     input_rule ∷ output_rule ∷ seed_rule ∷ valued (codes "count") number ∷ valued (codes "function") number ∷ naming (codes "rule") names
-    ∷ naming (codes "not-rule") names ∷ flag (codes "shrink") ∷ valued (codes "max-size") number ∷ flag (codes "list") ∷ flag (codes "blocks") ∷ flag (codes "stats")
-    ∷ flag (codes "strip-debug") ∷ []
+    ∷ naming (codes "not-rule") names ∷ flag (codes "shrink") ∷ valued (codes "max-size") number ∷ flag (codes "list")
+    ∷ flag (codes "blocks") ∷ flag (codes "stats") ∷ flag (codes "json") ∷ flag (codes "show") ∷ flag (codes "strip-debug") ∷ []
 
 -- The command line, where the rules have these names.
 abbrev pub command_line : (names : Bor (List (Bor Text))) → App

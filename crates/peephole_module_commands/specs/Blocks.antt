@@ -1,5 +1,5 @@
 -- The lines that `--blocks` writes (this project).
-use Rattle.std.specs.Prelude.{◌≡◌, ℕ, ◌+◌, ◌^◌, ◌<◌, ◌≤◌, List, [], length, slice_get, codes, Option, Some, None, option_map}
+use Rattle.std.specs.Prelude.{◌≡◌, ℕ, ◌+◌, ◌^◌, ◌<◌, ◌≤◌, List, [], length, slice_get, Option, Some, None, option_map}
 use Rattle.wasm_code.specs.declared.immediate.Imm.{Imm}
 use Rattle.wasm_code.specs.declared.immediate.Imm.TheVariants.{Index}
 use Rattle.wasm_code.specs.declared.operator.Operator.{Operator}
@@ -15,8 +15,9 @@ use Rattle.peephole_graphs.specs.Shape.{IsFit, judge}
 use Rattle.peephole_modules.specs.Attempt.{CanRead}
 use Rattle.peephole_modules.specs.Function.{IsFunction, IsFunctionFault}
 use Rattle.peephole_modules.specs.declared.function.FunctionError.{FunctionError}
-use Rattle.peephole_module_commands.specs.Lines.{block_line, fault_line}
+use Rattle.peephole_module_commands.specs.Lines.{block_line, entry_line, function_line}
 use Rattle.peephole_module_commands.specs.Lists.{InTurn, WritesOfFunctions}
+use Rattle.peephole_module_commands.specs.declared.form.Form.{Form}
 use Rattle.peephole_module_commands.specs.declared.unfit.Unfit.{Unfit}
 use Rattle.peephole_module_commands.specs.declared.unfit.Unfit.TheVariants.{CallIndirect, TypedSelect, SeveralResults, UnknownFunction, Other}
 use Rattle.peephole_module_commands.specs.declared.unfit.UnfitOperator.{UnfitOperator}
@@ -71,34 +72,34 @@ pub record IsBlock (operators : List (Operator × ℕ)) (start end : ℕ) : Type
   pub longest : (from to : ℕ) → from ≤ start → end ≤ to → IsBlockIn operators (record { start = from; end = to }) → (from ≡ start) × (to ≡ end)
 
 -- The text is the line of the block whose last operator is the n-th of the function with the index; none where no block ends there.
-pub record TellsBlock (info : Module) (function : ℕ) (operators : List (Operator × ℕ)) (n : ℕ) (text : List ℕ) : Type 0 where
+pub record TellsBlock (form : Form) (info : Module) (function : ℕ) (operators : List (Operator × ℕ)) (n : ℕ) (text : List ℕ) : Type 0 where
   pub block : (start : ℕ) → IsBlock operators start (n + 1) → (unfit : Option UnfitOperator) × IsFirstUnfit info operators start (n + 1) unfit
-      × (text ≡ block_line (record { function = function; start = start; end = n + 1; unfit = unfit }))
+      × (text ≡ block_line form (record { function = function; start = start; end = n + 1; unfit = unfit }))
   pub none : ((start : ℕ) → ¬ (IsBlock operators start (n + 1))) → text ≡ []
 
 -- ---- a function that can't be read
 
 -- The text is the line of that error of the n-th code entry: under the function's index, or where an import isn't known, and so no index is, under the
 -- entry's number. (An index has 64 bits.)
-pub record TellsFault (layout : Layout) (n : ℕ) (error : FunctionError) (text : List ℕ) : Type 0 where
+pub record TellsFault (form : Form) (layout : Layout) (n : ℕ) (error : FunctionError) (text : List ℕ) : Type 0 where
   pub start : ℕ
   pub at : option_map (λ e. e.start) (slice_get layout.entries n) ≡ Some start
   pub known : layout.unknown.imports ≡ None → layout.imported_functions + n < 2 ^ 64 →
-      text ≡ fault_line (codes "function ") (layout.imported_functions + n) start error
-  pub unknown : (e : ModuleError) → layout.unknown.imports ≡ Some e → text ≡ fault_line (codes "entry ") n start error
+      text ≡ function_line form (layout.imported_functions + n) start error
+  pub unknown : (e : ModuleError) → layout.unknown.imports ≡ Some e → text ≡ entry_line form n start error
 
 -- the same of its first fault
-abbrev pub TellsUnread : (bytes : List ℕ) → Module → Layout → (n : ℕ) → (text : List ℕ) → Type 0
-TellsUnread bytes info layout n text = (error : FunctionError) × IsFunctionFault bytes info layout n error × TellsFault layout n error text
+abbrev pub TellsUnread : Form → (bytes : List ℕ) → Module → Layout → (n : ℕ) → (text : List ℕ) → Type 0
+TellsUnread form bytes info layout n text = (error : FunctionError) × IsFunctionFault bytes info layout n error × TellsFault form layout n error text
 
 -- ---- the blocks of a module
 
 -- The text is a line for each block of the function of the n-th code entry, in order; or where that can't be read, the line of its first fault.
-pub record TellsBlocks (bytes : List ℕ) (info : Module) (layout : Layout) (n : ℕ) (text : List ℕ) : Type 0 where
+pub record TellsBlocks (form : Form) (bytes : List ℕ) (info : Module) (layout : Layout) (n : ℕ) (text : List ℕ) : Type 0 where
   pub read : (locals : List PrimitiveTypeInfo) (expression : ℕ) (operators : List (Operator × ℕ)) → IsFunction bytes info layout n locals expression operators →
-      layout.imported_functions + n < 2 ^ 64 → InTurn (TellsBlock info (layout.imported_functions + n) operators) 0 (length operators) text
-  pub unread : ¬ (CanRead bytes info layout n) → TellsUnread bytes info layout n text
+      layout.imported_functions + n < 2 ^ 64 → InTurn (TellsBlock form info (layout.imported_functions + n) operators) 0 (length operators) text
+  pub unread : ¬ (CanRead bytes info layout n) → TellsUnread form bytes info layout n text
 
 -- A device has grown by the lines of the functions that are looked at.
-abbrev pub WritesBlocks : (only : Option ℕ) → (bytes : List ℕ) → (old new : Option (List ℕ)) → Type 0
-WritesBlocks only bytes old new = WritesOfFunctions (TellsBlocks bytes) only bytes old new
+abbrev pub WritesBlocks : Form → (only : Option ℕ) → (bytes : List ℕ) → (old new : Option (List ℕ)) → Type 0
+WritesBlocks form only bytes old new = WritesOfFunctions (TellsBlocks form bytes) only bytes old new

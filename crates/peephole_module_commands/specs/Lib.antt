@@ -1,10 +1,13 @@
 pub mod Arguments
 pub mod Blocks
 pub mod Failures
+pub mod Form
 pub mod Lines
 pub mod Lists
 pub mod Options
+pub mod Reach
 pub mod Reports
 pub mod Scope
+pub mod Shown
 pub mod Status
 pub mod Writes

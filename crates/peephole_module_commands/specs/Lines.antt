@@ -1,5 +1,7 @@
--- The lines that a run writes (this project).
-use Rattle.std.specs.Prelude.{ℕ, List, [], ◌∷◌, ◌++◌, codes, decimal, Option, Some, None}
+-- The lines that a run writes, as text and as JSON (this project).
+use Rattle.std.specs.Prelude.{ℕ, ◌-◌, List, [], ◌∷◌, ◌++◌, length, replicate, codes, decimal, Option, Some, None}
+use Rattle.serde_json.specs.Data.{Data, Members, member, no_members, number, object, string, unsigned}
+use Rattle.serde_json.specs.Written.{compact_text}
 use Rattle.wasm_code.specs.Fault.{kind_name}
 use Rattle.wasm_sections.specs.Fault.{fault_name}
 use Rattle.peephole_rules.specs.Rule.{rule_name}
@@ -14,19 +16,56 @@ use Rattle.peephole_module_commands.specs.declared.unfit.Unfit.{Unfit}
 use Rattle.peephole_module_commands.specs.declared.unfit.Unfit.TheVariants as unfit
 use Rattle.peephole_module_commands.specs.declared.unfit.UnfitOperator.{UnfitOperator}
 use Rattle.peephole_module_commands.specs.declared.blocks.BlockLine.{BlockLine}
+use Rattle.peephole_module_commands.specs.declared.form.Form.{Form}
+use Rattle.peephole_module_commands.specs.declared.reach.Part.{Part}
+use Rattle.peephole_module_commands.specs.declared.reach.Reach.{Reach}
+use Rattle.peephole_module_commands.specs.declared.form.Form.TheVariants.{Text, Json}
+
+-- ---- columns of text
+
+-- the number in a column that is so wide: spaces stand behind its digits where they are fewer
+unfoldable pub left_aligned : (width n : ℕ) → List ℕ
+left_aligned width n = decimal n ++ replicate (width - length (decimal n)) 32
+
+-- the same with the spaces before them
+unfoldable pub right_aligned : (width n : ℕ) → List ℕ
+right_aligned width n = replicate (width - length (decimal n)) 32 ++ decimal n
+
+-- ---- objects of JSON, whose members stand in the order of their names
+
+-- members, the first of them a number
+abbrev pub with_number : (name : List ℕ) → ℕ → Members → Members
+with_number name n rest = member name (number (unsigned n)) rest
+
+-- members, the first of them a text
+abbrev pub with_text : (name text : List ℕ) → Members → Members
+with_text name text rest = member name (string text) rest
+
+-- the object with no spaces, and the line's end
+unfoldable pub json_line : Data → List ℕ
+json_line value = compact_text value ++ codes "\n"
 
 -- ---- a rewrite of the function with the index
 
-abbrev pub rewrite_line : (function : ℕ) → Rewrite → List ℕ
-rewrite_line function r =
-    codes "function " ++ (decimal function ++ (codes " operator " ++ (decimal r.operator ++ (codes " rule " ++ (rule_name r.rule ++ codes "\n")))))
+abbrev pub rewrite_text : (function : ℕ) → Rewrite → List ℕ
+rewrite_text function r =
+    codes "function " ++ (left_aligned 6 function ++ (codes " operator " ++ (left_aligned 6 r.operator
+    ++ (codes " rule " ++ (rule_name r.rule ++ codes "\n")))))
+
+abbrev pub rewrite_object : (function : ℕ) → Rewrite → Data
+rewrite_object function r =
+    object (with_number (codes "function") function (with_number (codes "operator") r.operator (with_text (codes "rule") (rule_name r.rule) no_members)))
+
+abbrev pub rewrite_line : Form → (function : ℕ) → Rewrite → List ℕ
+rewrite_line Text function r = rewrite_text function r
+rewrite_line Json function r = json_line (rewrite_object function r)
 
 -- some of them, one line behind another
-abbrev pub rewrite_lines : (function : ℕ) → List Rewrite → List ℕ
-rewrite_lines function [] = []
-rewrite_lines function (r ∷ rs) = rewrite_line function r ++ rewrite_lines function rs
+abbrev pub rewrite_lines : Form → (function : ℕ) → List Rewrite → List ℕ
+rewrite_lines form function [] = []
+rewrite_lines form function (r ∷ rs) = rewrite_line form function r ++ rewrite_lines form function rs
 
--- ---- a function that can't be read: "function" and its index, or "entry" and its number; its first fault, and where that is. Its entry starts at `start`.
+-- ---- a function that can't be read: its index, or the number of its code entry; its first fault, and where that is. Its entry starts at `start`.
 
 abbrev pub fault_text : FunctionError → List ℕ
 fault_text (Unknown e) = fault_name e.kind
@@ -40,11 +79,30 @@ fault_offset start UnknownType = start
 fault_offset start (Locals e) = e.offset
 fault_offset start (Body e) = e.offset
 
-abbrev pub fault_line : (word : List ℕ) (number start : ℕ) → FunctionError → List ℕ
-fault_line word number start e =
-    word ++ (decimal number ++ (codes " " ++ (fault_text e ++ (codes " at " ++ (decimal (fault_offset start e) ++ codes "\n")))))
+-- the text behind a word for the number
+abbrev pub fault_words : (word : List ℕ) (index start : ℕ) → FunctionError → List ℕ
+fault_words word index start e =
+    word ++ (left_aligned 6 index ++ (codes " " ++ (fault_text e ++ (codes " at " ++ (decimal (fault_offset start e) ++ codes "\n")))))
 
--- ---- a block
+-- the function with the index
+abbrev pub function_object : (index start : ℕ) → FunctionError → Data
+function_object index start e =
+    object (with_text (codes "fault") (fault_text e) (with_number (codes "function") index (with_number (codes "offset") (fault_offset start e) no_members)))
+
+abbrev pub function_line : Form → (index start : ℕ) → FunctionError → List ℕ
+function_line Text index start e = fault_words (codes "function ") index start e
+function_line Json index start e = json_line (function_object index start e)
+
+-- the code entry with the number
+abbrev pub entry_object : (entry start : ℕ) → FunctionError → Data
+entry_object entry start e =
+    object (with_number (codes "entry") entry (with_text (codes "fault") (fault_text e) (with_number (codes "offset") (fault_offset start e) no_members)))
+
+abbrev pub entry_line : Form → (entry start : ℕ) → FunctionError → List ℕ
+entry_line Text entry start e = fault_words (codes "entry    ") entry start e
+entry_line Json entry start e = json_line (entry_object entry start e)
+
+-- ---- a block, and the first of its operators that no graph holds, where there is one
 
 -- why no graph holds an operator
 abbrev pub unfit_text : Unfit → List ℕ
@@ -54,30 +112,71 @@ unfit_text unfit.SeveralResults = codes "call of a function with several results
 unfit_text (unfit.UnknownFunction function) = codes "call of the unknown function " ++ decimal function
 unfit_text unfit.Other = codes "no instruction"
 
--- the place of such an operator
-abbrev pub place_part : (operator : ℕ) → List ℕ
-place_part operator = codes ", no graph: operator " ++ (decimal operator ++ codes " ")
+abbrev pub block_text : (function start end : ℕ) → Option UnfitOperator → List ℕ
+block_text function start end None =
+    codes "function " ++ (left_aligned 6 function ++ (codes " block " ++ (right_aligned 6 start ++ (codes ".." ++ (decimal end ++ codes "\n")))))
+block_text function start end (Some u) =
+    codes "function " ++ (left_aligned 6 function ++ (codes " block " ++ (right_aligned 6 start ++ (codes ".." ++ (left_aligned 6 end
+    ++ (codes " no graph: operator " ++ (decimal u.operator ++ (codes " " ++ (unfit_text u.reason ++ codes "\n")))))))))
 
--- the first operator of a block that no graph holds, where there is one
-abbrev pub unfit_part : Option UnfitOperator → List ℕ
-unfit_part None = []
-unfit_part (Some u) = place_part u.operator ++ unfit_text u.reason
+abbrev pub block_object : (function start end : ℕ) → Option UnfitOperator → Data
+block_object function start end None =
+    object (with_number (codes "end") end (with_number (codes "function") function (with_number (codes "start") start no_members)))
+block_object function start end (Some u) =
+    object (with_number (codes "end") end (with_number (codes "function") function (with_number (codes "operator") u.operator
+    (with_text (codes "reason") (unfit_text u.reason) (with_number (codes "start") start no_members)))))
 
-abbrev pub range_part : (function start end : ℕ) → List ℕ
-range_part function start end = codes "function " ++ (decimal function ++ (codes " block " ++ (decimal start ++ (codes ".." ++ decimal end))))
+abbrev pub block_line : Form → BlockLine → List ℕ
+block_line Text l = block_text l.function l.start l.end l.unfit
+block_line Json l = json_line (block_object l.function l.start l.end l.unfit)
 
-abbrev pub block_line : BlockLine → List ℕ
-block_line l = (range_part l.function l.start l.end ++ unfit_part l.unfit) ++ codes "\n"
+-- where there is a block, its line
+abbrev pub block_lines : Form → Option BlockLine → List ℕ
+block_lines form None = []
+block_lines form (Some l) = block_line form l
 
 -- ---- what is counted
 
 -- the module's own functions, and those of them that can't be read
-abbrev pub functions_line : (count unreadable : ℕ) → List ℕ
-functions_line count unreadable = codes "functions " ++ (decimal count ++ (codes " unreadable " ++ (decimal unreadable ++ codes "\n")))
+abbrev pub functions_text : (count unreadable : ℕ) → List ℕ
+functions_text count unreadable = codes "functions  " ++ (left_aligned 10 count ++ (codes " unreadable " ++ (decimal unreadable ++ codes "\n")))
+
+abbrev pub functions_object : (count unreadable : ℕ) → Data
+functions_object count unreadable = object (with_number (codes "functions") count (with_number (codes "unreadable") unreadable no_members))
+
+abbrev pub functions_line : Form → (count unreadable : ℕ) → List ℕ
+functions_line Text count unreadable = functions_text count unreadable
+functions_line Json count unreadable = json_line (functions_object count unreadable)
+
+-- how many there are of something, and how many of them a rule may rewrite
+abbrev pub part_text : (word : List ℕ) → Part → List ℕ
+part_text word part = word ++ (left_aligned 10 part.all ++ (codes " rewritable " ++ (decimal part.within ++ codes "\n")))
+
+abbrev pub part_object : (name : List ℕ) → Part → Data
+part_object name part =
+    object (with_number (codes "all") part.all (with_text (codes "of") name (with_number (codes "rewritable") part.within no_members)))
+
+-- the word with the spaces behind it that line up its column
+abbrev pub part_line : Form → (name word : List ℕ) → Part → List ℕ
+part_line Text name word part = part_text word part
+part_line Json name word part = json_line (part_object name part)
+
+-- the operators, the blocks and the integer instructions
+abbrev pub reach_lines : Form → Reach → List ℕ
+reach_lines form reach =
+    (part_line form (codes "operators") (codes "operators  ") reach.operators ++ part_line form (codes "blocks") (codes "blocks     ") reach.blocks)
+    ++ part_line form (codes "integers") (codes "integers   ") reach.integers
 
 -- the bytes of the module, and of what is written
-abbrev pub sizes_line : (before behind : ℕ) → List ℕ
-sizes_line before behind = codes "bytes " ++ (decimal before ++ (codes " new " ++ (decimal behind ++ codes "\n")))
+abbrev pub sizes_text : (before behind : ℕ) → List ℕ
+sizes_text before behind = codes "bytes      " ++ (left_aligned 10 before ++ (codes " new " ++ (decimal behind ++ codes "\n")))
+
+abbrev pub sizes_object : (before behind : ℕ) → Data
+sizes_object before behind = object (with_number (codes "bytes") before (with_number (codes "new") behind no_members))
+
+abbrev pub sizes_line : Form → (before behind : ℕ) → List ℕ
+sizes_line Text before behind = sizes_text before behind
+sizes_line Json before behind = json_line (sizes_object before behind)
 
 -- ---- why no further rewrite was made
 
@@ -88,7 +187,17 @@ stopped_name (Write writes.TooLarge) = codes "TooLarge"
 stopped_name (Write writes.Memory) = codes "Memory"
 stopped_name TooLong = codes "TooLong"
 
+abbrev pub stopped_text : MutationError → List ℕ
+stopped_text e = codes "stopped " ++ (stopped_name e ++ codes "\n")
+
+abbrev pub stopped_object : MutationError → Data
+stopped_object e = object (with_text (codes "stopped") (stopped_name e) no_members)
+
+abbrev pub stopped_line : Form → MutationError → List ℕ
+stopped_line Text e = stopped_text e
+stopped_line Json e = json_line (stopped_object e)
+
 -- the line of a refusal, where there is one
-abbrev pub stopped_part : Option MutationError → List ℕ
-stopped_part None = []
-stopped_part (Some e) = codes "stopped " ++ (stopped_name e ++ codes "\n")
+abbrev pub stopped_part : Form → Option MutationError → List ℕ
+stopped_part form None = []
+stopped_part form (Some e) = stopped_line form e

@@ -13,6 +13,7 @@ use Rattle.peephole_modules.specs.Attempt.{CanRead}
 use Rattle.peephole_modules.specs.Function.{IsFunction}
 use Rattle.peephole_modules.specs.Mutated.{IsChosen}
 use Rattle.peephole_module_commands.specs.Lines.{rewrite_lines}
+use Rattle.peephole_module_commands.specs.declared.form.Form.{Form}
 
 -- The text is that of each of so many things from the one with the number `from` on, one behind another.
 abbrev pub InTurn : (Tells : ℕ → List ℕ → Type 0) → (from count : ℕ) → (text : List ℕ) → Type 0
@@ -40,13 +41,13 @@ pub record WritesOfFunctions (Tells : Module → Layout → ℕ → List ℕ →
 
 -- The text has a line for each rewrite that there is by one of the rules of the function of the n-th code entry, and no other; none where that can't be
 -- read. (An index has 64 bits.)
-pub record ListsFunction (rules : List Rule) (bytes : List ℕ) (info : Module) (layout : Layout) (n : ℕ) (text : List ℕ) : Type 0 where
+pub record ListsFunction (form : Form) (rules : List Rule) (bytes : List ℕ) (info : Module) (layout : Layout) (n : ℕ) (text : List ℕ) : Type 0 where
   pub list : List Rewrite
   pub are : (locals : List PrimitiveTypeInfo) (expression : ℕ) (operators : List (Operator × ℕ)) →
       IsFunction bytes info layout n locals expression operators → AreTheRewrites (context_in info locals) rules operators list
   pub none : ¬ (CanRead bytes info layout n) → list ≡ []
-  pub lines : layout.imported_functions + n < 2 ^ 64 → text ≡ rewrite_lines (layout.imported_functions + n) list
+  pub lines : layout.imported_functions + n < 2 ^ 64 → text ≡ rewrite_lines form (layout.imported_functions + n) list
 
 -- A device has grown by the lines of the functions that are looked at.
-abbrev pub WritesList : List Rule → (only : Option ℕ) → (bytes : List ℕ) → (old new : Option (List ℕ)) → Type 0
-WritesList rules only bytes old new = WritesOfFunctions (ListsFunction rules bytes) only bytes old new
+abbrev pub WritesList : Form → List Rule → (only : Option ℕ) → (bytes : List ℕ) → (old new : Option (List ℕ)) → Type 0
+WritesList form rules only bytes old new = WritesOfFunctions (ListsFunction form rules bytes) only bytes old new

@@ -9,7 +9,7 @@ use Rattle.clap.specs.Simple.{App, matches_of}
 use Rattle.clap.specs.Kinds.{IsAmong}
 use Rattle.clap.specs.Faults.{fault_of}
 use Rattle.clap.specs.declared.error.kind.ErrorKind.{ErrorKind}
-use Rattle.clap.specs.declared.error.kind.ErrorKind.TheVariants.{ArgumentConflict, InvalidValue, OutOfMemory, ValueValidation}
+use Rattle.clap.specs.declared.error.kind.ErrorKind.TheVariants.{ArgumentConflict, InvalidValue, MissingRequiredArgument, OutOfMemory, ValueValidation}
 use Rattle.peephole_rules.specs.Growth.{growth_of}
 use Rattle.peephole_rules.specs.Rule.{rule_name}
 use Rattle.peephole_rules.specs.declared.growth.Growth.{Growth}
@@ -18,7 +18,7 @@ use Rattle.peephole_rules.specs.declared.rule.Rule.{Rule}
 use Rattle.peephole_rules.specs.declared.rule.TheConstants.{RULES}
 use Rattle.peephole_module_commands.specs.declared.options.Flags.{Flags}
 use Rattle.peephole_module_commands.specs.declared.options.Misuse.{Misuse}
-use Rattle.peephole_module_commands.specs.declared.options.Misuse.TheVariants.{Conflict, NoSeed, NoCount, UnknownRule, Memory}
+use Rattle.peephole_module_commands.specs.declared.options.Misuse.TheVariants.{Conflict, NothingToTell, NoSeed, NoCount, UnknownRule, Memory}
 use Rattle.peephole_module_commands.specs.declared.options.Options.{Options}
 use Rattle.peephole_module_commands.specs.declared.options.Task.{Task}
 use Rattle.peephole_module_commands.specs.declared.options.Task.TheVariants.{Rewrite, List as Lists, Blocks}
@@ -34,6 +34,8 @@ flags_of rows = record {
   list = is_set (codes "list") rows;
   blocks = is_set (codes "blocks") rows;
   stats = is_set (codes "stats") rows;
+  json = is_set (codes "json") rows;
+  show = is_set (codes "show") rows;
   strip_debug = is_set (codes "strip-debug") rows;
 }
 
@@ -42,7 +44,11 @@ task_of flags = if flags.list then Lists else if flags.blocks then Blocks else R
 
 -- they ask for two tasks, or for something of a module that is written where none is
 abbrev pub exclude : Flags → Bool
-exclude flags = (flags.list && flags.blocks) || ((flags.stats || flags.strip_debug) && (flags.list || flags.blocks))
+exclude flags = (flags.list && flags.blocks) || ((flags.stats || flags.show || flags.strip_debug) && (flags.list || flags.blocks))
+
+-- they ask for JSON, and for nothing that is written in it
+abbrev pub tell_nothing : Flags → Bool
+tell_nothing flags = flags.json && not (flags.list || flags.blocks || flags.stats)
 
 -- ---- values
 
@@ -129,6 +135,7 @@ default_count shrink = if shrink then 18446744073709551615 else 1
 -- The options that the matches are.
 pub record AreOptions (rows : List Row) (options : Options) : Type 0 where
   pub apart : exclude (flags_of rows) ≡ false
+  pub tell : tell_nothing (flags_of rows) ≡ false
   pub task : options.task ≡ task_of (flags_of rows)
   pub input : option_map string_bytes options.input ≡ file_of (first_of (codes "input") rows)
   pub output : option_map string_bytes options.output ≡ file_of (first_of (codes "output") rows)
@@ -138,11 +145,14 @@ pub record AreOptions (rows : List Row) (options : Options) : Type 0 where
   pub rules : AreRules (all_of (codes "rule") rows) (all_of (codes "not-rule") rows) (is_set (codes "shrink") rows) options.rules.items
   pub max_size : IsNumberOr 18446744073709551615 (one_of (codes "max-size") rows) options.max_size
   pub stats : options.stats ≡ (flags_of rows).stats
+  pub json : options.json ≡ (flags_of rows).json
+  pub show : options.show ≡ (flags_of rows).show
   pub strip_debug : options.strip_debug ≡ (flags_of rows).strip_debug
 
 -- Why they are none.
 abbrev pub AreMisused : List Row → Misuse → Type 0
 AreMisused rows Conflict = exclude (flags_of rows) ≡ true
+AreMisused rows NothingToTell = tell_nothing (flags_of rows) ≡ true
 AreMisused rows NoSeed = IfSome (first_of (codes "seed") rows) (λ text. IsSeedOf text None)
 AreMisused rows NoCount = IsNumberOr (default_count (is_set (codes "shrink") rows)) (one_of (codes "count") rows) 0
 AreMisused rows UnknownRule = IfSome (all_of (codes "rule") rows) NamesNone
@@ -151,6 +161,7 @@ AreMisused rows Memory = Unit {0}
 -- how that is told
 abbrev pub kind_for : Misuse → ErrorKind
 kind_for Conflict = ArgumentConflict
+kind_for NothingToTell = MissingRequiredArgument
 kind_for NoSeed = ValueValidation
 kind_for NoCount = ValueValidation
 kind_for UnknownRule = InvalidValue

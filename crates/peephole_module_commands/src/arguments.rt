@@ -149,7 +149,29 @@ fn stats_argument<'a>(alloc: Global) -> Arg<'a>
     flag_argument(
         alloc,
         "stats",
-        "Reports functions, rewrites and sizes on standard error",
+        "Reports functions, the reach of the rules, rewrites and sizes on standard error",
+    )
+}
+
+fn json_argument<'a>(alloc: Global) -> Arg<'a>
+    ensures rule { rule_of result ≡ flag (codes "json") }
+    ensures local { result.global ≡ false }
+{
+    flag_argument(
+        alloc,
+        "json",
+        "Writes what is listed or reported as JSON, one object a line",
+    )
+}
+
+fn show_argument<'a>(alloc: Global) -> Arg<'a>
+    ensures rule { rule_of result ≡ flag (codes "show") }
+    ensures local { result.global ≡ false }
+{
+    flag_argument(
+        alloc,
+        "show",
+        "Shows each rewrite that is made on standard error: the function, the block, and the tree before and after",
     )
 }
 
@@ -199,5 +221,7 @@ pub fn command<'a>(alloc: Global, names: &'a [&'a str]) -> Result<Command<'a>, A
         .arg(list_argument(alloc))?
         .arg(blocks_argument(alloc))?
         .arg(stats_argument(alloc))?
+        .arg(json_argument(alloc))?
+        .arg(show_argument(alloc))?
         .arg(strip_argument(alloc))
 }

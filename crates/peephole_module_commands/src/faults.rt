@@ -1,12 +1,17 @@
 //! Functions that can't be read.
-ghost use Rattle.std.specs.Prelude.{◌≡◌, ◌<◌, ℕ, List, length, slice_get, option_map, Some, IfErr, OnOk};
+ghost use Rattle.std.specs.Prelude.{◌≡◌, ◌<◌, ℕ, List, length, slice_get, option_map, Some, IfOk, IfErr, OnOk};
 ghost use Rattle.std.specs.Io.KnownBytes.{Appends};
+ghost use Rattle.serde_json.specs.View.{view};
 ghost use Rattle.peephole_module_commands.specs.Blocks.{TellsFault};
-ghost use Rattle.peephole_module_commands.specs.Lines.{fault_line, fault_offset, fault_text};
-ghost use Rattle.peephole_module_commands.specs.declared.failure.Failure.TheVariants.{Output};
+ghost use Rattle.peephole_module_commands.specs.Failures.{FailsToReport};
+ghost use Rattle.peephole_module_commands.specs.Lines.{entry_line, entry_object, fault_offset, fault_text, fault_words, function_line, function_object};
 
 use crate::failure::Failure;
+use crate::form::Form;
+use crate::objects::write_value;
 use peephole_modules::{FunctionError, index_of};
+use serde_json::{Value, json};
+use std::alloc::{AllocError, Global};
 use std::io::Write;
 use wasm_module::Layout;
 
@@ -42,8 +47,8 @@ fn entry_start(layout: &Layout, n: usize) -> usize
     layout.entries[n].start
 }
 
-// Writes the line under a word and a number.
-fn write_line<W: Write>(
+// Writes the text under a word and a number.
+fn write_words<W: Write>(
     output: &mut W,
     word: &str,
     number: usize,
@@ -51,19 +56,93 @@ fn write_line<W: Write>(
     error: &FunctionError,
 ) -> Result<(), Failure>
     ensures line { OnOk result (Appends (W.contents output.old) (W.contents output.new)
-        (fault_line word.now number start error.now)) }
-    ensures fails { IfErr result (λ e. e ≡ Output) }
+        (fault_words word.now number start error.now)) }
+    ensures fails { IfErr result FailsToReport }
 {
     let name = fault_name(error);
     let offset = fault_offset(error, start);
-    writeln!(output, "{word}{number} {name} at {offset}")?;
+    writeln!(output, "{word}{number:<6} {name} at {offset}")?;
     Ok(())
+}
+
+// The object of the function with the index.
+fn function_value(
+    alloc: Global,
+    function: usize,
+    start: usize,
+    error: &FunctionError,
+) -> Result<Value, AllocError>
+    ensures { IfOk result (λ v. view v ≡ function_object function start error.now) }
+{
+    let fault = fault_name(error);
+    let offset = fault_offset(error, start);
+    json!(in alloc; {"fault": fault, "function": function, "offset": offset})
+}
+
+// The object of the code entry with the number.
+fn entry_value(
+    alloc: Global,
+    entry: usize,
+    start: usize,
+    error: &FunctionError,
+) -> Result<Value, AllocError>
+    ensures { IfOk result (λ v. view v ≡ entry_object entry start error.now) }
+{
+    let fault = fault_name(error);
+    let offset = fault_offset(error, start);
+    json!(in alloc; {"entry": entry, "fault": fault, "offset": offset})
+}
+
+// Writes the line of the function with the index.
+fn write_function<W: Write>(
+    alloc: Global,
+    output: &mut W,
+    form: Form,
+    function: usize,
+    start: usize,
+    error: &FunctionError,
+) -> Result<(), Failure>
+    ensures line { OnOk result (Appends (W.contents output.old) (W.contents output.new)
+        (function_line form function start error.now)) }
+    ensures fails { IfErr result FailsToReport }
+{
+    match form {
+        Form::Text => write_words(output, "function ", function, start, error),
+        Form::Json => {
+            let value = function_value(alloc, function, start, error)?;
+            write_value(alloc, output, &value)
+        }
+    }
+}
+
+// Writes the line of the code entry with the number.
+fn write_entry<W: Write>(
+    alloc: Global,
+    output: &mut W,
+    form: Form,
+    entry: usize,
+    start: usize,
+    error: &FunctionError,
+) -> Result<(), Failure>
+    ensures line { OnOk result (Appends (W.contents output.old) (W.contents output.new)
+        (entry_line form entry start error.now)) }
+    ensures fails { IfErr result FailsToReport }
+{
+    match form {
+        Form::Text => write_words(output, "entry    ", entry, start, error),
+        Form::Json => {
+            let value = entry_value(alloc, entry, start, error)?;
+            write_value(alloc, output, &value)
+        }
+    }
 }
 
 /// Writes the line of the n-th of the module's own functions, which can't be read: the name of its first fault, and where that is in
 /// the module. Where an import isn't known, and so no function's index is, the line names the code entry.
 pub fn write_fault<W: Write>(
+    alloc: Global,
     output: &mut W,
+    form: Form,
     layout: &Layout,
     n: usize,
     error: &FunctionError,
@@ -71,12 +150,12 @@ pub fn write_fault<W: Write>(
     requires inside { n < length layout.now.entries }
     ensures line { OnOk result ((text : List ℕ)
         × Appends (W.contents output.old) (W.contents output.new) text
-        × TellsFault layout.now n error.now text) }
-    ensures fails { IfErr result (λ e. e ≡ Output) }
+        × TellsFault form layout.now n error.now text) }
+    ensures fails { IfErr result FailsToReport }
 {
     let start = entry_start(layout, n);
     match layout.unknown.imports {
-        None => write_line(output, "function ", index_of(layout, n), start, error),
-        Some(_) => write_line(output, "entry ", n, start, error),
+        None => write_function(alloc, output, form, index_of(layout, n), start, error),
+        Some(_) => write_entry(alloc, output, form, n, start, error),
     }
 }

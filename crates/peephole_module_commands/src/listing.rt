@@ -1,53 +1,84 @@
 //! The rewrites that there are of a module.
-ghost use Rattle.std.specs.Prelude.{◌≡◌, ◌<◌, ℕ, List, length, IfErr, OnOk};
+ghost use Rattle.std.specs.Prelude.{◌≡◌, ◌<◌, ℕ, List, length, IfOk, IfErr, OnOk};
 ghost use Rattle.std.specs.Io.KnownBytes.{Appends};
+ghost use Rattle.serde_json.specs.View.{view};
 ghost use Rattle.peephole_module_commands.specs.Failures.{FailsToList, FailsToReport};
-ghost use Rattle.peephole_module_commands.specs.Lines.{rewrite_line, rewrite_lines};
+ghost use Rattle.peephole_module_commands.specs.Form.{form_of};
+ghost use Rattle.peephole_module_commands.specs.Lines.{rewrite_line, rewrite_lines, rewrite_object, rewrite_text};
 ghost use Rattle.peephole_module_commands.specs.Lists.{ListsFunction, WritesList};
-ghost use Rattle.peephole_module_commands.specs.declared.failure.Failure.TheVariants.{Output};
 ghost use Rattle.wasm_module.specs.Module.{IsModule};
 
 use crate::failure::Failure;
+use crate::form::Form;
 use crate::functions::module_of;
-use mutate_base::ModuleInfo;
+use crate::objects::write_value;
+use crate::options::Options;
 use peephole_modules::{chosen_entries, index_of, read_function};
 use peephole_rewrites::{Rewrite, rewrites_of_body};
-use peephole_rules::Rule;
-use std::alloc::Global;
+use serde_json::{Value, json};
+use std::alloc::{AllocError, Global};
 use std::io::Write;
-use wasm_module::Layout;
+use wasm_module::Module;
 
-/// Writes the line of a rewrite of the function with the index.
-pub fn write_rewrite<W: Write>(
-    output: &mut W,
-    function: usize,
-    rewrite: &Rewrite,
-) -> Result<(), Failure>
+// Writes the text of a rewrite of the function with the index.
+fn write_text<W: Write>(output: &mut W, function: usize, rewrite: &Rewrite) -> Result<(), Failure>
     ensures line { OnOk result (Appends (W.contents output.old) (W.contents output.new)
-        (rewrite_line function rewrite.now)) }
-    ensures fails { IfErr result (λ e. e ≡ Output) }
+        (rewrite_text function rewrite.now)) }
+    ensures fails { IfErr result FailsToReport }
 {
     let operator = rewrite.operator;
     let rule = rewrite.rule.name();
     writeln!(
         output,
-        "function {function} operator {operator} rule {rule}"
+        "function {function:<6} operator {operator:<6} rule {rule}"
     )?;
     Ok(())
 }
 
+// The object of a rewrite of the function with the index.
+fn value_of(alloc: Global, function: usize, rewrite: &Rewrite) -> Result<Value, AllocError>
+    ensures { IfOk result (λ v. view v ≡ rewrite_object function rewrite.now) }
+{
+    let operator = rewrite.operator;
+    let rule = rewrite.rule.name();
+    json!(in alloc; {"function": function, "operator": operator, "rule": rule})
+}
+
+/// Writes the line of a rewrite of the function with the index.
+pub fn write_rewrite<W: Write>(
+    alloc: Global,
+    output: &mut W,
+    form: Form,
+    function: usize,
+    rewrite: &Rewrite,
+) -> Result<(), Failure>
+    ensures line { OnOk result (Appends (W.contents output.old) (W.contents output.new)
+        (rewrite_line form function rewrite.now)) }
+    ensures fails { IfErr result FailsToReport }
+{
+    match form {
+        Form::Text => write_text(output, function, rewrite),
+        Form::Json => {
+            let value = value_of(alloc, function, rewrite)?;
+            write_value(alloc, output, &value)
+        }
+    }
+}
+
 // Writes the lines of the rewrites of the function with the index.
 fn write_rewrites<W: Write>(
+    alloc: Global,
     output: &mut W,
+    form: Form,
     function: usize,
     rewrites: &[Rewrite],
 ) -> Result<(), Failure>
     ensures lines { OnOk result (Appends (W.contents output.old) (W.contents output.new)
-        (rewrite_lines function rewrites.now)) }
-    ensures fails { IfErr result (λ e. e ≡ Output) }
+        (rewrite_lines form function rewrites.now)) }
+    ensures fails { IfErr result FailsToReport }
 {
     for rewrite in rewrites {
-        write_rewrite(output, function, rewrite)?;
+        write_rewrite(alloc, output, form, function, rewrite)?;
     }
     Ok(())
 }
@@ -55,21 +86,22 @@ fn write_rewrites<W: Write>(
 // Writes the lines of the n-th of the module's own functions, where that can be read.
 fn list_function<W: Write>(
     alloc: Global,
-    info: &ModuleInfo<'_>,
+    wasm: &Module<'_>,
     bytes: &[u8],
-    layout: &Layout,
     n: usize,
-    rules: &[Rule],
+    options: &Options,
     output: &mut W,
 ) -> Result<(), Failure>
-    requires module { IsModule bytes.now info.now layout.now }
-    requires inside { n < length layout.now.entries }
+    requires module { IsModule bytes.now wasm.now.info wasm.now.layout }
+    requires inside { n < length wasm.now.layout.entries }
     ensures lines { OnOk result ((text : List ℕ)
         × Appends (W.contents output.old) (W.contents output.new) text
-        × ListsFunction rules.now bytes.now info.now layout.now n text) }
+        × ListsFunction (form_of options.now) options.now.rules.items bytes.now wasm.now.info
+        wasm.now.layout n text) }
     ensures fails { IfErr result FailsToReport }
 {
-    let function = match read_function(alloc, bytes, info, layout, n) {
+    let info = &wasm.info;
+    let function = match read_function(alloc, bytes, info, &wasm.layout, n) {
         Ok(function) => function,
         Err(e) => {
             if e.is_memory() {
@@ -78,36 +110,36 @@ fn list_function<W: Write>(
             return Ok(());
         }
     };
+    let rules = options.rules.as_slice();
     let Ok(rewrites) = rewrites_of_body(alloc, &function.locals, info, rules, &function.operators)
     else {
         return Err(Failure::Memory);
     };
-    write_rewrites(output, index_of(layout, n), &rewrites)
+    let index = index_of(&wasm.layout, n);
+    write_rewrites(alloc, output, options.form(), index, &rewrites)
 }
 
-/// Writes a line for each rewrite by one of the rules that there is in a function of the module that can be read; with `only`, in
-/// the function with that index alone.
+/// Writes a line for each rewrite by one of the rules that there is in a function of the module that can be read; where the options
+/// name a function, in that alone.
 ///
 /// Fails as the module can't be read, and as `chosen_entries` finds no such function.
 #[tactic(auto, using(crate::proofs::FaultsLemmas::read_fails, crate::proofs::FaultsLemmas::index_fails, crate::proofs::FaultsLemmas::report_fails))]
 pub fn list_rewrites<W: Write>(
     alloc: Global,
     bytes: &[u8],
-    rules: &[Rule],
-    only: Option<usize>,
+    options: &Options,
     output: &mut W,
 ) -> Result<(), Failure>
-    ensures lines { OnOk result (WritesList rules.now only bytes.now (W.contents output.old)
-        (W.contents output.new)) }
-    ensures fails { IfErr result (FailsToList only bytes.now) }
+    ensures lines { OnOk result (WritesList (form_of options.now) options.now.rules.items
+        options.now.function bytes.now (W.contents output.old) (W.contents output.new)) }
+    ensures fails { IfErr result (FailsToList options.now.function bytes.now) }
 {
     let module = module_of(alloc, bytes)?;
-    let layout = module.layout;
-    let chosen = chosen_entries(&layout, only)?;
+    let chosen = chosen_entries(&module.layout, options.function)?;
     let from = chosen.start;
     let to = chosen.end;
     for n in from..to {
-        list_function(alloc, &module.info, bytes, &layout, n, rules, output)?;
+        list_function(alloc, &module, bytes, n, options, output)?;
     }
     Ok(())
 }

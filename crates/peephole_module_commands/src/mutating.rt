@@ -1,12 +1,14 @@
 //! The module rewritten as the options say.
 ghost use Rattle.std.specs.Prelude.{◌≡◌, true, IfOk, IfErr};
 ghost use Rattle.peephole_module_commands.specs.Failures.{FailsToRewrite};
+ghost use Rattle.peephole_module_commands.specs.Shown.{IsShown};
 ghost use Rattle.peephole_module_commands.specs.Writes.{IsOutcome, IsWrittenAs};
 ghost use Rattle.peephole_module_commands.specs.declared.failure.Failure.TheVariants.{Memory};
 
 use crate::failure::Failure;
 use crate::options::Options;
-use peephole_modules::{RewrittenModule, rewrite_with_seed};
+use crate::showing::Shower;
+use peephole_modules::{RewrittenModule, Watch, rewrite_watched};
 use std::alloc::Global;
 use wasm_sections::{read_sections, without_debug};
 
@@ -40,18 +42,44 @@ fn finished(alloc: Global, strip: bool, new: RewrittenModule) -> Result<Rewritte
     })
 }
 
+/// A module that was rewritten, and what is shown of the rewrites.
+#[derive(Drop)]
+pub struct Outcome {
+    pub module: RewrittenModule,
+    pub shown: Vec<u8>,
+}
+
 /// What is written of the module, rewritten as many times as the options say, by their rules, with a generator made from their seed:
 /// it is valid where it was, and does what it did. Where the options say so, its custom sections that name places in the code are
-/// dropped then.
+/// dropped then. What is shown of the rewrites where the options ask for it; `watch` sees each of them, too.
 ///
-/// `Nothing` as `rewrite_with_seed` refuses.
-pub fn rewritten(alloc: Global, bytes: &[u8], options: &Options) -> Result<RewrittenModule, Failure>
-    ensures outcome { IfOk result (λ m. IsOutcome options.now bytes.now m.made.items m.stopped
-        m.bytes.items) }
+/// `Nothing` as `rewrite_watched` refuses.
+pub fn rewritten<P: Watch + Drop>(
+    alloc: Global,
+    bytes: &[u8],
+    options: &Options,
+    watch: P,
+) -> Result<Outcome, Failure>
+    ensures outcome { IfOk result (λ o. IsOutcome options.now bytes.now o.module.made.items
+        o.module.stopped o.module.bytes.items) }
+    ensures shown { IfOk result (λ o.
+        IsShown options.now.show o.module.made.items o.shown.items) }
     ensures fails { IfErr result (FailsToRewrite options.now bytes.now) }
 {
-    match rewrite_with_seed(alloc, bytes, options.seed, &options.scope(), options.count) {
-        Ok(new) => finished(alloc, options.strip_debug, new),
+    let mut shower = Shower::new(alloc, options.show, watch);
+    match rewrite_watched(
+        alloc,
+        bytes,
+        options.seed,
+        &options.scope(),
+        options.count,
+        &mut shower,
+    ) {
+        Ok(new) => {
+            let shown = shower.shown()?;
+            let module = finished(alloc, options.strip_debug, new)?;
+            Ok(Outcome { module, shown })
+        }
         Err(reason) => Err(Failure::Nothing(reason)),
     }
 }

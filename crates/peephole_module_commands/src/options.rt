@@ -1,6 +1,7 @@
 //! The options of the command line.
 ghost use Rattle.std.specs.Prelude.{◌<◌};
 
+use crate::form::Form;
 use peephole_modules::Scope;
 use peephole_rules::Rule;
 use std::alloc::{AllocError, AllocFailed};
@@ -37,6 +38,10 @@ pub struct Options {
     pub max_size: usize,
     /// Whether the functions, the rewrites and the sizes are reported.
     pub stats: bool,
+    /// Whether what is listed or reported is written as JSON.
+    pub json: bool,
+    /// Whether each rewrite that is made is shown.
+    pub show: bool,
     /// Whether custom sections that name places in the code are dropped once the module is rewritten.
     pub strip_debug: bool,
     pub ghost some: { 0 < count },
@@ -44,6 +49,7 @@ pub struct Options {
 
 impl Options {
     ghost use Rattle.std.specs.Prelude.{◌≡◌};
+    ghost use Rattle.peephole_module_commands.specs.Form.{form_of};
     ghost use Rattle.peephole_module_commands.specs.Scope.{scope_of};
 
     /// What of a module may be rewritten.
@@ -56,6 +62,13 @@ impl Options {
             max_size: self.max_size,
         }
     }
+
+    /// The form of what is listed and reported.
+    pub fn form(&self) -> Form
+        ensures { result ≡ form_of self.now }
+    {
+        if self.json { Form::Json } else { Form::Text }
+    }
 }
 
 /// Why the matches of a command line are no options.
@@ -63,6 +76,8 @@ impl Options {
 pub enum Misuse {
     /// Flags exclude each other.
     Conflict,
+    /// JSON is asked for, and nothing that is written in it.
+    NothingToTell,
     /// The seed is no number.
     NoSeed,
     /// The count is 0.
@@ -101,5 +116,7 @@ pub struct Flags {
     pub list: bool,
     pub blocks: bool,
     pub stats: bool,
+    pub json: bool,
+    pub show: bool,
     pub strip_debug: bool,
 }

@@ -1,12 +1,14 @@
 //! A run: a module in, and out goes what the options ask for.
-ghost use Rattle.std.specs.Prelude.{◌≡◌, ◌≢◌, false, OnOk, IfOk, IfErr, IfSome, IsTrue};
+ghost use Rattle.std.specs.Prelude.{◌≡◌, ◌≢◌, true, false, OnOk, IfErr, IfSome, IsTrue};
 ghost use Rattle.std.specs.Io.KnownBytes.{Appends};
 ghost use Rattle.peephole_module_commands.specs.Blocks.{WritesBlocks};
 ghost use Rattle.peephole_module_commands.specs.Failures.{FailsToDo, FailsToInform, FailsToRewrite};
 ghost use Rattle.peephole_module_commands.specs.declared.failure.Failure.TheVariants.{Output};
+ghost use Rattle.peephole_module_commands.specs.Form.{form_of};
 ghost use Rattle.peephole_module_commands.specs.Lists.{WritesList};
 ghost use Rattle.peephole_module_commands.specs.Reports.{ReportsModule, ReportsMutated};
-ghost use Rattle.peephole_module_commands.specs.Writes.{IsOutcome, WritesMutated};
+ghost use Rattle.peephole_module_commands.specs.Shown.{ShowsMutated};
+ghost use Rattle.peephole_module_commands.specs.Writes.{WritesMutated};
 
 use crate::blocks::list_blocks;
 use crate::failure::Failure;
@@ -15,78 +17,139 @@ use crate::input::read_input;
 use crate::listing::list_rewrites;
 use crate::mutating::rewritten;
 use crate::options::{Options, Task};
-use crate::stats::{report_functions, report_rewrites};
-use peephole_modules::RewrittenModule;
+use crate::reach::reach_of;
+use crate::stats::{report_functions, report_reach, rewrites_report};
+use peephole_modules::Watch;
 use std::alloc::Global;
 use std::io::{Read, Write};
 
-// Reports on the functions of the module.
-fn report_module<E: Write>(alloc: Global, bytes: &[u8], notes: &mut E) -> Result<(), Failure>
-    ensures reports { OnOk result (ReportsModule bytes.now (E.contents notes.old)
-        (E.contents notes.new)) }
+// Reports on the functions of the module, and on how much of it the rules reach.
+fn report_module<E: Write>(
+    alloc: Global,
+    bytes: &[u8],
+    options: &Options,
+    notes: &mut E,
+) -> Result<(), Failure>
+    ensures reports { OnOk result (ReportsModule (form_of options.now) options.now.rules.items
+        bytes.now (E.contents notes.old) (E.contents notes.new)) }
     ensures fails { IfErr result (FailsToInform bytes.now) }
 {
+    let form = options.form();
     let module = module_of(alloc, bytes)?;
-    report_functions(alloc, bytes, &module.info, &module.layout, notes)
+    report_functions(alloc, bytes, &module, form, notes)?;
+    let reach = reach_of(alloc, bytes, &module.info, &module.layout, &options.rules)?;
+    report_reach(alloc, notes, form, reach)
 }
 
-// Writes the module rewritten, and answers it.
-fn write_rewritten<W: Write>(
-    alloc: Global,
-    options: &Options,
-    bytes: &[u8],
-    output: &mut W,
-) -> Result<RewrittenModule, Failure>
-    ensures outcome { IfOk result (λ m. IsOutcome options.now bytes.now m.made.items m.stopped
-        m.bytes.items) }
-    ensures written { IfOk result (λ m. Appends (W.contents output.old) (W.contents output.new)
-        m.bytes.items) }
-    ensures fails { IfErr result (FailsToRewrite options.now bytes.now) }
-    ensures kept { IfErr result (λ e. e ≢ Output
-        → W.contents output.new ≡ W.contents output.old) }
+// Writes all of the bytes.
+fn write_bytes<W: Write>(output: &mut W, bytes: &[u8]) -> Result<(), Failure>
+    ensures written { OnOk result (Appends (W.contents output.old) (W.contents output.new)
+        bytes.now) }
+    ensures fails { IfErr result (λ e. e ≡ Output) }
 {
-    let new = rewritten(alloc, bytes, options)?;
-    output.write_all(&new.bytes)?;
+    output.write_all(bytes)?;
     output.flush()?;
-    Ok(new)
+    Ok(())
 }
 
-// Writes the module rewritten. Where the options ask for that, reports on its functions first, so also where no rule applies, and
-// on the rewrites behind that.
-fn rewrite<W: Write, E: Write>(
+// Writes what is shown of rewrites, where they are to be shown.
+fn show<E: Write>(notes: &mut E, wanted: bool, shown: &[u8]) -> Result<(), Failure>
+    ensures shown { wanted ≡ true → OnOk result (Appends (E.contents notes.old)
+        (E.contents notes.new) shown.now) }
+    ensures quiet { wanted ≡ false → notes.new ≡ notes.old }
+    ensures fails { IfErr result (λ e. e ≡ Output) }
+{
+    if wanted {
+        notes.write_all(shown)?;
+    }
+    Ok(())
+}
+
+// Writes the module rewritten, and what is shown of the rewrites.
+fn write_rewritten<W: Write, E: Write, P: Watch + Drop>(
     alloc: Global,
     options: &Options,
     bytes: &[u8],
     output: &mut W,
     notes: &mut E,
+    watch: P,
+) -> Result<(), Failure>
+    ensures shown { OnOk result (ShowsMutated options.now bytes.now (W.contents output.old)
+        (W.contents output.new) (E.contents notes.old) (E.contents notes.new)) }
+    ensures quiet { options.now.show ≡ false → notes.new ≡ notes.old }
+    ensures fails { IfErr result (FailsToRewrite options.now bytes.now) }
+    ensures kept { IfErr result (λ e. e ≢ Output
+        → W.contents output.new ≡ W.contents output.old) }
+{
+    let new = rewritten(alloc, bytes, options, watch)?;
+    write_bytes(output, &new.module.bytes)?;
+    show(notes, options.show, &new.shown)
+}
+
+// The same, and reports: first on the module, so also where no rule applies, and on the rewrites behind that. What is said of the
+// rewrites is made before the module is written, so that nothing is written where memory is refused to it.
+fn write_reported<W: Write, E: Write, P: Watch + Drop>(
+    alloc: Global,
+    options: &Options,
+    bytes: &[u8],
+    output: &mut W,
+    notes: &mut E,
+    watch: P,
+) -> Result<(), Failure>
+    ensures reported { OnOk result (ReportsMutated options.now bytes.now (W.contents output.old)
+        (W.contents output.new) (E.contents notes.old) (E.contents notes.new)) }
+    ensures fails { IfErr result (FailsToRewrite options.now bytes.now) }
+    ensures kept { IfErr result (λ e. e ≢ Output
+        → W.contents output.new ≡ W.contents output.old) }
+{
+    report_module(alloc, bytes, options, notes)?;
+    let new = rewritten(alloc, bytes, options, watch)?;
+    let report = rewrites_report(alloc, bytes, &new.module, options.form())?;
+    write_bytes(output, &new.module.bytes)?;
+    notes.write_all(&new.shown)?;
+    notes.write_all(&report)?;
+    Ok(())
+}
+
+// Writes the module rewritten, with what is shown and reported where the options ask for it.
+fn rewrite<W: Write, E: Write, P: Watch + Drop>(
+    alloc: Global,
+    options: &Options,
+    bytes: &[u8],
+    output: &mut W,
+    notes: &mut E,
+    watch: P,
 ) -> Result<(), Failure>
     ensures written { OnOk result (WritesMutated options.now bytes.now (W.contents output.old)
         (W.contents output.new)) }
     ensures reported { IsTrue options.now.stats → OnOk result (ReportsMutated options.now bytes.now
         (W.contents output.old) (W.contents output.new) (E.contents notes.old)
         (E.contents notes.new)) }
-    ensures quiet { options.now.stats ≡ false → E.contents notes.new ≡ E.contents notes.old }
+    ensures shown { options.now.stats ≡ false → OnOk result (ShowsMutated options.now bytes.now
+        (W.contents output.old) (W.contents output.new) (E.contents notes.old)
+        (E.contents notes.new)) }
+    ensures quiet { options.now.stats ≡ false → options.now.show ≡ false
+        → notes.new ≡ notes.old }
     ensures fails { IfErr result (FailsToRewrite options.now bytes.now) }
     ensures kept { IfErr result (λ e. e ≢ Output
         → W.contents output.new ≡ W.contents output.old) }
 {
-    if !options.stats {
-        write_rewritten(alloc, options, bytes, output)?;
-        return Ok(());
+    if options.stats {
+        return write_reported(alloc, options, bytes, output, notes, watch);
     }
-    report_module(alloc, bytes, notes)?;
-    let new = write_rewritten(alloc, options, bytes, output)?;
-    report_rewrites(bytes, &new, notes)
+    write_rewritten(alloc, options, bytes, output, notes, watch)
 }
 
-/// Reads all of the input, and does what the options ask for: what it writes goes to the output, and what it reports to the notes.
-/// Fails as the task fails, and as the input can't be read or the output written.
-pub fn run<R: Read, W: Write, E: Write>(
+/// Reads all of the input, and does what the options ask for: what it writes goes to the output, and what it reports and shows to the
+/// notes. What it lists and reports has the form that they ask for. Each rewrite is shown to `watch`, too. Fails as the task fails,
+/// and as the input can't be read or the output written.
+pub fn run<R: Read, W: Write, E: Write, P: Watch + Drop>(
     alloc: Global,
     options: &Options,
     input: &mut R,
     output: &mut W,
     notes: &mut E,
+    watch: P,
 ) -> Result<(), Failure>
     // What is written is the input rewritten as the seed chooses, valid where that was; what stands round each rewritten tree runs as
     // before, and its functions do what they did. Where the options say so, custom sections that name places in the code are dropped.
@@ -95,18 +158,25 @@ pub fn run<R: Read, W: Write, E: Write>(
         (W.contents output.old) (W.contents output.new))) }
     // A list has a line for each rewrite that there is in the functions that are looked at, and no other.
     ensures listed { options.now.task ≡ Task.List → OnOk result
-        (IfSome (R.remaining input.old) (λ bytes. WritesList options.now.rules.items
-        options.now.function bytes (W.contents output.old) (W.contents output.new))) }
+        (IfSome (R.remaining input.old) (λ bytes. WritesList (form_of options.now)
+        options.now.rules.items options.now.function bytes (W.contents output.old)
+        (W.contents output.new))) }
     // The blocks have a line each, and what of them is the first that no graph holds, of the functions that are looked at.
     ensures blocks { options.now.task ≡ Task.Blocks → OnOk result
-        (IfSome (R.remaining input.old) (λ bytes. WritesBlocks
+        (IfSome (R.remaining input.old) (λ bytes. WritesBlocks (form_of options.now)
         options.now.function bytes (W.contents output.old) (W.contents output.new))) }
-    // Where the options ask for it, the notes tell of functions and rewrites; else they stay as they are.
+    // Where the options ask for it, the notes tell of functions, of the rules' reach and of rewrites.
     ensures reported { options.now.task ≡ Task.Rewrite → IsTrue options.now.stats → OnOk result
         (IfSome (R.remaining input.old) (λ bytes. ReportsMutated options.now bytes
         (W.contents output.old) (W.contents output.new) (E.contents notes.old)
         (E.contents notes.new))) }
-    ensures quiet { options.now.stats ≡ false → E.contents notes.new ≡ E.contents notes.old }
+    // Where the options ask for it, the notes show each rewrite. Else they stay as they are.
+    ensures shown { options.now.task ≡ Task.Rewrite → options.now.stats ≡ false → OnOk result
+        (IfSome (R.remaining input.old) (λ bytes. ShowsMutated options.now bytes
+        (W.contents output.old) (W.contents output.new) (E.contents notes.old)
+        (E.contents notes.new))) }
+    ensures quiet { options.now.stats ≡ false → options.now.show ≡ false
+        → notes.new ≡ notes.old }
     // Why it fails: with `NoRule`, only where no rule applies in a function that can be read; with `Unreadable`, only where none can.
     ensures fails { IfErr result (λ e. IfSome (R.remaining input.old) (λ bytes. FailsToDo
         options.now.task options.now bytes e)) }
@@ -116,14 +186,14 @@ pub fn run<R: Read, W: Write, E: Write>(
 {
     let bytes = read_input(alloc, input)?;
     match options.task {
-        Task::Rewrite => rewrite(alloc, options, &bytes, output, notes),
+        Task::Rewrite => rewrite(alloc, options, &bytes, output, notes, watch),
         Task::List => {
-            list_rewrites(alloc, &bytes, &options.rules, options.function, output)?;
+            list_rewrites(alloc, &bytes, options, output)?;
             output.flush()?;
             Ok(())
         }
         Task::Blocks => {
-            list_blocks(alloc, &bytes, options.function, output)?;
+            list_blocks(alloc, &bytes, options, output)?;
             output.flush()?;
             Ok(())
         }

@@ -1,57 +1,89 @@
 //! What a run reports of a module and its rewrites.
-ghost use Rattle.std.specs.Prelude.{◌≡◌, ◌<◌, ◌≤◌, ℕ, List, length, Some, IfOk, IfErr, OnOk};
+ghost use Rattle.std.specs.Prelude.{◌≡◌, ◌<◌, ◌≤◌, ℕ, List, length, IfOk, IfErr, OnOk};
 ghost use Rattle.std.specs.Io.KnownBytes.{Appends};
+ghost use Rattle.serde_json.specs.View.{view};
 ghost use Rattle.peephole_module_commands.specs.Failures.{FailsToReport};
-ghost use Rattle.peephole_module_commands.specs.Lines.{functions_line, sizes_line, stopped_name, stopped_part};
+ghost use Rattle.peephole_module_commands.specs.Lines.{functions_line, functions_object, functions_text, part_line, part_object, part_text, reach_lines, sizes_line, sizes_object, sizes_text, stopped_line, stopped_name, stopped_object, stopped_part, stopped_text};
 ghost use Rattle.peephole_module_commands.specs.Reports.{ReportsFunctions, TellsIfUnread, made_lines, rewrites_report};
-ghost use Rattle.peephole_module_commands.specs.declared.failure.Failure.TheVariants.{Output};
+ghost use Rattle.peephole_module_commands.specs.declared.failure.Failure.TheVariants.{Memory};
 ghost use Rattle.wasm_module.specs.Module.{IsModule};
 
 use crate::failure::Failure;
 use crate::faults::write_fault;
+use crate::form::Form;
 use crate::listing::write_rewrite;
-use mutate_base::ModuleInfo;
+use crate::objects::write_value;
+use crate::reach::{Part, Reach};
 use peephole_modules::{MadeRewrite, MutationError, RewrittenModule, read_function};
-use std::alloc::Global;
+use serde_json::{Value, json};
+use std::alloc::{AllocError, Global};
 use std::io::Write;
-use wasm_module::{Layout, WriteError};
+use wasm_module::{Module, WriteError};
 
 // Writes the line of the n-th of the module's own functions, where that can't be read; answers 1 then, else 0.
 fn report_function<W: Write>(
     alloc: Global,
     bytes: &[u8],
-    info: &ModuleInfo<'_>,
-    layout: &Layout,
+    wasm: &Module<'_>,
+    form: Form,
     n: usize,
     notes: &mut W,
 ) -> Result<usize, Failure>
-    requires module { IsModule bytes.now info.now layout.now }
-    requires inside { n < length layout.now.entries }
+    requires module { IsModule bytes.now wasm.now.info wasm.now.layout }
+    requires inside { n < length wasm.now.layout.entries }
     ensures told { IfOk result (λ one. (text : List ℕ)
         × Appends (W.contents notes.old) (W.contents notes.new) text
-        × TellsIfUnread bytes.now info.now layout.now n one text) }
+        × TellsIfUnread form bytes.now wasm.now.info wasm.now.layout n one text) }
     ensures most { IfOk result (λ one. one ≤ 1) }
     ensures fails { IfErr result FailsToReport }
 {
-    let error = match read_function(alloc, bytes, info, layout, n) {
+    let error = match read_function(alloc, bytes, &wasm.info, &wasm.layout, n) {
         Ok(_) => return Ok(0),
         Err(e) => e,
     };
     if error.is_memory() {
         return Err(Failure::Memory);
     }
-    write_fault(notes, layout, n, &error)?;
+    write_fault(alloc, notes, form, &wasm.layout, n, &error)?;
     Ok(1)
 }
 
-// Writes the line that counts functions.
-fn write_functions<W: Write>(notes: &mut W, count: usize, unreadable: usize) -> Result<(), Failure>
+// Writes the text that counts functions.
+fn write_counts<W: Write>(notes: &mut W, count: usize, unreadable: usize) -> Result<(), Failure>
     ensures line { OnOk result (Appends (W.contents notes.old) (W.contents notes.new)
-        (functions_line count unreadable)) }
-    ensures fails { IfErr result (λ e. e ≡ Output) }
+        (functions_text count unreadable)) }
+    ensures fails { IfErr result FailsToReport }
 {
-    writeln!(notes, "functions {count} unreadable {unreadable}")?;
+    writeln!(notes, "functions  {count:<10} unreadable {unreadable}")?;
     Ok(())
+}
+
+// The object that counts functions.
+fn counts_value(alloc: Global, count: usize, unreadable: usize) -> Result<Value, AllocError>
+    ensures { IfOk result (λ v. view v ≡ functions_object count unreadable) }
+{
+    json!(in alloc; {"functions": count, "unreadable": unreadable})
+}
+
+// Writes the line that counts functions.
+fn write_functions<W: Write>(
+    alloc: Global,
+    notes: &mut W,
+    form: Form,
+    count: usize,
+    unreadable: usize,
+) -> Result<(), Failure>
+    ensures line { OnOk result (Appends (W.contents notes.old) (W.contents notes.new)
+        (functions_line form count unreadable)) }
+    ensures fails { IfErr result FailsToReport }
+{
+    match form {
+        Form::Text => write_counts(notes, count, unreadable),
+        Form::Json => {
+            let value = counts_value(alloc, count, unreadable)?;
+            write_value(alloc, notes, &value)
+        }
+    }
 }
 
 /// Reports on the functions of a module: a line for each that can't be read, with its first fault and where that is, and how many
@@ -59,31 +91,107 @@ fn write_functions<W: Write>(notes: &mut W, count: usize, unreadable: usize) -> 
 pub fn report_functions<W: Write>(
     alloc: Global,
     bytes: &[u8],
-    info: &ModuleInfo<'_>,
-    layout: &Layout,
+    wasm: &Module<'_>,
+    form: Form,
     notes: &mut W,
 ) -> Result<(), Failure>
-    requires { IsModule bytes.now info.now layout.now }
-    ensures reports { OnOk result (ReportsFunctions bytes.now info.now layout.now
-        (W.contents notes.old) (W.contents notes.new)) }
+    requires { IsModule bytes.now wasm.now.info wasm.now.layout }
+    ensures reports { OnOk result (ReportsFunctions form bytes.now wasm.now.info
+        wasm.now.layout (W.contents notes.old) (W.contents notes.new)) }
     ensures fails { IfErr result FailsToReport }
 {
-    let count = layout.entries.len();
+    let count = wasm.layout.entries.len();
     let mut unreadable = 0usize;
     for n in 0..count {
-        unreadable += report_function(alloc, bytes, info, layout, n, notes)?;
+        unreadable += report_function(alloc, bytes, wasm, form, n, notes)?;
     }
-    write_functions(notes, count, unreadable)
+    write_functions(alloc, notes, form, count, unreadable)
+}
+
+// Writes the text of a part of what rules reach, behind a word.
+fn write_part_text<W: Write>(notes: &mut W, word: &str, part: Part) -> Result<(), Failure>
+    ensures line { OnOk result (Appends (W.contents notes.old) (W.contents notes.new)
+        (part_text word.now part)) }
+    ensures fails { IfErr result FailsToReport }
+{
+    let (all, within) = (part.all, part.within);
+    writeln!(notes, "{word}{all:<10} rewritable {within}")?;
+    Ok(())
+}
+
+// The object of a part of what rules reach.
+fn part_value(alloc: Global, name: &str, part: Part) -> Result<Value, AllocError>
+    ensures { IfOk result (λ v. view v ≡ part_object name.now part) }
+{
+    let (all, within) = (part.all, part.within);
+    json!(in alloc; {"all": all, "of": name, "rewritable": within})
+}
+
+// Writes the line of a part of what rules reach: its name, and the word that the text has for it.
+fn write_part<W: Write>(
+    alloc: Global,
+    notes: &mut W,
+    form: Form,
+    name: &str,
+    word: &str,
+    part: Part,
+) -> Result<(), Failure>
+    ensures line { OnOk result (Appends (W.contents notes.old) (W.contents notes.new)
+        (part_line form name.now word.now part)) }
+    ensures fails { IfErr result FailsToReport }
+{
+    match form {
+        Form::Text => write_part_text(notes, word, part),
+        Form::Json => {
+            let value = part_value(alloc, name, part)?;
+            write_value(alloc, notes, &value)
+        }
+    }
+}
+
+/// Reports how much of a module rules reach.
+pub fn report_reach<W: Write>(
+    alloc: Global,
+    notes: &mut W,
+    form: Form,
+    reach: Reach,
+) -> Result<(), Failure>
+    ensures reports { OnOk result (Appends (W.contents notes.old) (W.contents notes.new)
+        (reach_lines form reach)) }
+    ensures fails { IfErr result FailsToReport }
+{
+    write_part(
+        alloc,
+        notes,
+        form,
+        "operators",
+        "operators  ",
+        reach.operators,
+    )?;
+    write_part(alloc, notes, form, "blocks", "blocks     ", reach.blocks)?;
+    write_part(
+        alloc,
+        notes,
+        form,
+        "integers",
+        "integers   ",
+        reach.integers,
+    )
 }
 
 // Writes the lines of the rewrites that were made.
-fn write_made<W: Write>(notes: &mut W, made: &[MadeRewrite]) -> Result<(), Failure>
+fn write_made<W: Write>(
+    alloc: Global,
+    notes: &mut W,
+    form: Form,
+    made: &[MadeRewrite],
+) -> Result<(), Failure>
     ensures lines { OnOk result (Appends (W.contents notes.old) (W.contents notes.new)
-        (made_lines made.now)) }
-    ensures fails { IfErr result (λ e. e ≡ Output) }
+        (made_lines form made.now)) }
+    ensures fails { IfErr result FailsToReport }
 {
     for one in made {
-        write_rewrite(notes, one.function, &one.rewrite)?;
+        write_rewrite(alloc, notes, form, one.function, &one.rewrite)?;
     }
     Ok(())
 }
@@ -101,51 +209,134 @@ fn stopped_name(error: &MutationError) -> &'static str
     }
 }
 
-// Writes the line of a refusal.
+// Writes the text of a refusal.
 fn write_refusal<W: Write>(notes: &mut W, error: &MutationError) -> Result<(), Failure>
     ensures line { OnOk result (Appends (W.contents notes.old) (W.contents notes.new)
-        (stopped_part (Some error.now))) }
-    ensures fails { IfErr result (λ e. e ≡ Output) }
+        (stopped_text error.now)) }
+    ensures fails { IfErr result FailsToReport }
 {
     let name = stopped_name(error);
     writeln!(notes, "stopped {name}")?;
     Ok(())
 }
 
-// The same, where a further rewrite was refused.
-fn write_stopped<W: Write>(notes: &mut W, stopped: &Option<MutationError>) -> Result<(), Failure>
-    ensures text { OnOk result (Appends (W.contents notes.old) (W.contents notes.new)
-        (stopped_part stopped.now)) }
-    ensures fails { IfErr result (λ e. e ≡ Output) }
+// The object of a refusal.
+fn refusal_value(alloc: Global, error: &MutationError) -> Result<Value, AllocError>
+    ensures { IfOk result (λ v. view v ≡ stopped_object error.now) }
 {
-    match stopped {
-        None => Ok(()),
-        Some(error) => write_refusal(notes, error),
+    let stopped = stopped_name(error);
+    json!(in alloc; {"stopped": stopped})
+}
+
+// Writes the line of a refusal.
+fn write_stop<W: Write>(
+    alloc: Global,
+    notes: &mut W,
+    form: Form,
+    error: &MutationError,
+) -> Result<(), Failure>
+    ensures line { OnOk result (Appends (W.contents notes.old) (W.contents notes.new)
+        (stopped_line form error.now)) }
+    ensures fails { IfErr result FailsToReport }
+{
+    match form {
+        Form::Text => write_refusal(notes, error),
+        Form::Json => {
+            let value = refusal_value(alloc, error)?;
+            write_value(alloc, notes, &value)
+        }
     }
 }
 
-// Writes the line of the sizes.
-fn write_sizes<W: Write>(notes: &mut W, before: usize, behind: usize) -> Result<(), Failure>
-    ensures line { OnOk result (Appends (W.contents notes.old) (W.contents notes.new)
-        (sizes_line before behind)) }
-    ensures fails { IfErr result (λ e. e ≡ Output) }
+// The same, where a further rewrite was refused.
+fn write_stopped<W: Write>(
+    alloc: Global,
+    notes: &mut W,
+    form: Form,
+    stopped: &Option<MutationError>,
+) -> Result<(), Failure>
+    ensures text { OnOk result (Appends (W.contents notes.old) (W.contents notes.new)
+        (stopped_part form stopped.now)) }
+    ensures fails { IfErr result FailsToReport }
 {
-    writeln!(notes, "bytes {before} new {behind}")?;
+    match stopped {
+        None => Ok(()),
+        Some(error) => write_stop(alloc, notes, form, error),
+    }
+}
+
+// Writes the text of the sizes.
+fn write_bytes<W: Write>(notes: &mut W, before: usize, behind: usize) -> Result<(), Failure>
+    ensures line { OnOk result (Appends (W.contents notes.old) (W.contents notes.new)
+        (sizes_text before behind)) }
+    ensures fails { IfErr result FailsToReport }
+{
+    writeln!(notes, "bytes      {before:<10} new {behind}")?;
     Ok(())
 }
 
-/// Reports on a module that was rewritten: each rewrite that was made, in order, why there are no more where one was refused, and the
-/// bytes of the module and of what is written.
-pub fn report_rewrites<W: Write>(
+// The object of the sizes.
+fn bytes_value(alloc: Global, before: usize, behind: usize) -> Result<Value, AllocError>
+    ensures { IfOk result (λ v. view v ≡ sizes_object before behind) }
+{
+    json!(in alloc; {"bytes": before, "new": behind})
+}
+
+// Writes the line of the sizes.
+fn write_sizes<W: Write>(
+    alloc: Global,
+    notes: &mut W,
+    form: Form,
+    before: usize,
+    behind: usize,
+) -> Result<(), Failure>
+    ensures line { OnOk result (Appends (W.contents notes.old) (W.contents notes.new)
+        (sizes_line form before behind)) }
+    ensures fails { IfErr result FailsToReport }
+{
+    match form {
+        Form::Text => write_bytes(notes, before, behind),
+        Form::Json => {
+            let value = bytes_value(alloc, before, behind)?;
+            write_value(alloc, notes, &value)
+        }
+    }
+}
+
+// Reports on a module that was rewritten.
+fn report_rewrites<W: Write>(
+    alloc: Global,
     bytes: &[u8],
     new: &RewrittenModule,
+    form: Form,
     notes: &mut W,
 ) -> Result<(), Failure>
     ensures reports { OnOk result (Appends (W.contents notes.old) (W.contents notes.new)
-        (rewrites_report bytes.now new.now.made.items new.now.stopped new.now.bytes.items)) }
-    ensures fails { IfErr result (λ e. e ≡ Output) }
+        (rewrites_report form bytes.now new.now.made.items new.now.stopped
+        new.now.bytes.items)) }
+    ensures fails { IfErr result FailsToReport }
 {
-    write_made(notes, &new.made)?;
-    write_stopped(notes, &new.stopped)?;
-    write_sizes(notes, bytes.len(), new.bytes.len())
+    write_made(alloc, notes, form, &new.made)?;
+    write_stopped(alloc, notes, form, &new.stopped)?;
+    write_sizes(alloc, notes, form, bytes.len(), new.bytes.len())
+}
+
+/// What is reported of a module that was rewritten: each rewrite that was made, in order, why there are no more where one was
+/// refused, and the bytes of the module and of what is written. Fails with `Memory` where no memory is left: nothing else keeps a
+/// `Vec` from being written.
+pub fn rewrites_report(
+    alloc: Global,
+    bytes: &[u8],
+    new: &RewrittenModule,
+    form: Form,
+) -> Result<Vec<u8>, Failure>
+    ensures report { IfOk result (λ report. report.items ≡ rewrites_report form bytes.now
+        new.now.made.items new.now.stopped new.now.bytes.items) }
+    ensures memory { IfErr result (λ e. e ≡ Memory) }
+{
+    let mut report: Vec<u8> = Vec::new(alloc);
+    match report_rewrites(alloc, bytes, new, form, &mut report) {
+        Ok(()) => Ok(report),
+        Err(_) => Err(Failure::Memory),
+    }
 }

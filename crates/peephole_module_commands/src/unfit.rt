@@ -1,18 +1,14 @@
 //! Why no graph holds an operator.
-ghost use Rattle.std.specs.Prelude.{◌≡◌, ◌≤◌, ◌<◌, length, slice_get, Some, IfErr, OnOk};
-ghost use Rattle.std.specs.Io.KnownBytes.{Appends};
+ghost use Rattle.std.specs.Prelude.{◌≡◌, ◌≤◌, ◌<◌, length};
 ghost use Rattle.peephole_module_commands.specs.Blocks.{IsFirstUnfit, IsUnfit, callee_reason, instruction_reason, reason_of};
-ghost use Rattle.peephole_module_commands.specs.Lines.{place_part, unfit_part, unfit_text};
-ghost use Rattle.peephole_module_commands.specs.declared.failure.Failure.TheVariants.{Output};
 ghost use Rattle.mutate_base.specs.Module.{function_type};
 
-use crate::failure::Failure;
 use mutate_base::{ModuleInfo, TypeInfo};
 use peephole_graphs::fits_graph;
-use std::io::Write;
+use std::fmt;
 use wasm_code::{Imm, Operator, OperatorAndByteOffset};
 
-/// Why no graph holds an operator.
+/// Why no graph holds an operator. Its text says so.
 #[derive(Clone, Copy, Debug, PartialEq, Eq)]
 pub enum Unfit {
     /// It calls through a table.
@@ -25,6 +21,25 @@ pub enum Unfit {
     UnknownFunction(u32),
     /// It is no instruction of the table.
     Other,
+}
+
+impl fmt::Display for Unfit {
+    ghost use Rattle.std.specs.Prelude.{Some};
+    ghost use Rattle.peephole_module_commands.specs.Lines.{unfit_text};
+
+    ghost output = { λ u. Some (unfit_text u) };
+
+    fn fmt<W: fmt::Write>(&self, f: &mut fmt::Formatter<W>) -> fmt::Result {
+        match *self {
+            Unfit::CallIndirect => write!(f, "call_indirect"),
+            Unfit::TypedSelect(count) => write!(f, "select of {count} types"),
+            Unfit::SeveralResults => write!(f, "call of a function with several results"),
+            Unfit::UnknownFunction(function) => {
+                write!(f, "call of the unknown function {function}")
+            }
+            Unfit::Other => write!(f, "no instruction"),
+        }
+    }
 }
 
 /// An operator that no graph holds, by its index in the body, and why.
@@ -93,45 +108,4 @@ pub fn first_unfit(
         }
     }
     None
-}
-
-// Writes why no graph holds an operator.
-fn write_reason<W: Write>(output: &mut W, reason: Unfit) -> Result<(), Failure>
-    ensures text { OnOk result (Appends (W.contents output.old) (W.contents output.new)
-        (unfit_text reason)) }
-    ensures fails { IfErr result (λ e. e ≡ Output) }
-{
-    match reason {
-        Unfit::CallIndirect => write!(output, "call_indirect")?,
-        Unfit::TypedSelect(count) => write!(output, "select of {count} types")?,
-        Unfit::SeveralResults => write!(output, "call of a function with several results")?,
-        Unfit::UnknownFunction(function) => {
-            write!(output, "call of the unknown function {function}")?
-        }
-        Unfit::Other => write!(output, "no instruction")?,
-    }
-    Ok(())
-}
-
-// Writes the place of an operator that no graph holds.
-fn write_place<W: Write>(output: &mut W, operator: usize) -> Result<(), Failure>
-    ensures text { OnOk result (Appends (W.contents output.old) (W.contents output.new)
-        (place_part operator)) }
-    ensures fails { IfErr result (λ e. e ≡ Output) }
-{
-    write!(output, ", no graph: operator {operator} ")?;
-    Ok(())
-}
-
-/// Writes what the first operator of a block is that no graph holds, where there is one.
-pub fn write_unfit<W: Write>(output: &mut W, unfit: Option<UnfitOperator>) -> Result<(), Failure>
-    ensures text { OnOk result (Appends (W.contents output.old) (W.contents output.new)
-        (unfit_part unfit)) }
-    ensures fails { IfErr result (λ e. e ≡ Output) }
-{
-    let Some(unfit) = unfit else {
-        return Ok(());
-    };
-    write_place(output, unfit.operator)?;
-    write_reason(output, unfit.reason)
 }

@@ -8,7 +8,7 @@ ghost use Rattle.clap.specs.Values.{kind_of};
 ghost use Rattle.clap.specs.Walk.{all_of, one_of, rows_of, texts};
 ghost use Rattle.peephole_rules.specs.Rule.{rule_name};
 ghost use Rattle.peephole_module_commands.specs.Arguments.{command_line};
-ghost use Rattle.peephole_module_commands.specs.Options.{AreMisused, AreOptions, AreNamed, AreRefused, AreRules, IsNumberOf, IsNumberOr, IsSeed, IsSeedOf, NamesNone, SayOptions, default_count, exclude, file_of, first_of, flags_of, is_named, is_set, is_shrinking, is_wanted, kind_for, task_of};
+ghost use Rattle.peephole_module_commands.specs.Options.{AreMisused, AreOptions, AreNamed, AreRefused, AreRules, IsNumberOf, IsNumberOr, IsSeed, IsSeedOf, NamesNone, SayOptions, default_count, exclude, file_of, first_of, flags_of, is_named, is_set, is_shrinking, is_wanted, kind_for, task_of, tell_nothing};
 
 use crate::arguments::command;
 use crate::options::{Flags, Misuse, Options, Task};
@@ -41,6 +41,8 @@ fn flags_of(matches: &ArgMatches<'_>) -> Flags
         list: is_set(matches, "list"),
         blocks: is_set(matches, "blocks"),
         stats: is_set(matches, "stats"),
+        json: is_set(matches, "json"),
+        show: is_set(matches, "show"),
         strip_debug: is_set(matches, "strip-debug"),
     }
 }
@@ -62,7 +64,16 @@ fn exclude(flags: Flags) -> bool
     ensures { result ≡ exclude flags }
 {
     let other = flags.list || flags.blocks;
-    (flags.list && flags.blocks) || ((flags.stats || flags.strip_debug) && other)
+    let of_module = flags.stats || flags.show || flags.strip_debug;
+    (flags.list && flags.blocks) || (of_module && other)
+}
+
+// Whether the flags ask for JSON, and for nothing that is written in it.
+fn tell_nothing(flags: Flags) -> bool
+    ensures { result ≡ tell_nothing flags }
+{
+    let told = flags.list || flags.blocks || flags.stats;
+    flags.json && !told
 }
 
 // The text that an option has.
@@ -253,6 +264,9 @@ pub fn options_from(alloc: Global, matches: &ArgMatches<'_>) -> Result<Options, 
     if exclude(flags) {
         return Err(Misuse::Conflict);
     }
+    if tell_nothing(flags) {
+        return Err(Misuse::NothingToTell);
+    }
     let count = count_of(matches);
     if count == 0 {
         return Err(Misuse::NoCount);
@@ -267,6 +281,8 @@ pub fn options_from(alloc: Global, matches: &ArgMatches<'_>) -> Result<Options, 
         rules: wanted_rules(alloc, matches)?,
         max_size: size_of(matches, "max-size").unwrap_or(usize::MAX),
         stats: flags.stats,
+        json: flags.json,
+        show: flags.show,
         strip_debug: flags.strip_debug,
     })
 }
@@ -277,6 +293,7 @@ fn kind_for(misuse: Misuse) -> ErrorKind
 {
     match misuse {
         Misuse::Conflict => ErrorKind::ArgumentConflict,
+        Misuse::NothingToTell => ErrorKind::MissingRequiredArgument,
         Misuse::NoSeed => ErrorKind::ValueValidation,
         Misuse::NoCount => ErrorKind::ValueValidation,
         Misuse::UnknownRule => ErrorKind::InvalidValue,
@@ -288,8 +305,9 @@ fn kind_for(misuse: Misuse) -> ErrorKind
 fn text_for(misuse: Misuse) -> &'static str {
     match misuse {
         Misuse::Conflict => {
-            "--list and --blocks exclude each other, and with them --stats and --strip-debug"
+            "--list and --blocks exclude each other, and with them --stats, --show and --strip-debug"
         }
+        Misuse::NothingToTell => "--json goes with --list, --blocks or --stats",
         Misuse::NoSeed =>
             "--seed is no number below 2^64 in decimal digits, or behind 0x in hexadecimal ones",
         Misuse::NoCount => "--count is 0",
@@ -301,7 +319,8 @@ fn text_for(misuse: Misuse) -> &'static str {
 /// The options that the words of the command line say, the program's own name first. `names` are those of the rules.
 ///
 /// An error where they say none, with clap's text: an unknown rule is told with the names of all rules; and for `--help` and
-/// `--version`, with what is to be printed. A count of 0 is an error too, and so are flags that exclude each other.
+/// `--version`, with what is to be printed. A count of 0 is an error too, and so are flags that exclude each other, and
+/// `--json` where nothing is written in it.
 pub fn options_of<'a, S: AsStr>(
     alloc: Global,
     names: &'a [&'a str],

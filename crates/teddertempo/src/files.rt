@@ -1,5 +1,6 @@
 //! What a run reads from and writes to: files, or the process's own input and output.
 
+use crate::progress::Progress;
 use peephole_module_commands::{Failure, Options, Task, run};
 use std::alloc::AllocError;
 use std::fs::{File, OpenOptions};
@@ -66,7 +67,16 @@ fn run_to<R: Read, W: Write + Drop>(
     let Ok(mut output) = BufWriter::new(rt.alloc(), output) else {
         return Err(Trouble::Run(Failure::Memory));
     };
-    run(rt.alloc(), options, input, &mut output, &mut rt.stderr())?;
+    let mut notes = rt.stderr();
+    let progress = Progress::new(rt);
+    run(
+        rt.alloc(),
+        options,
+        input,
+        &mut output,
+        &mut notes,
+        progress,
+    )?;
     Ok(())
 }
 

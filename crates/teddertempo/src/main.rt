@@ -7,6 +7,7 @@
 #![tactic(auto)]
 
 mod files;
+mod progress;
 #[cfg(test)]
 mod refused_modules;
 #[cfg(test)]

@@ -3,7 +3,7 @@
 use crate::refused_modules::{SUM, TURNED};
 use failing_devices::{FailingReader, FailingWriter};
 use peephole_module_commands::{Failure, Options, options_of, rule_names, run};
-use peephole_modules::Reason;
+use peephole_modules::{Reason, Unwatched};
 use peephole_rules::{RULES, Rule};
 use std::alloc::{AllocError, Global};
 use std::io::Write;
@@ -54,101 +54,198 @@ const SAME_AND_ZERO: &[u8] = b"\0asm\x01\0\0\0\x01\x06\x01\x60\x01\x7f\x01\x7f\x
 const DEBUG: &[u8] = b"\0asm\x01\0\0\0\x01\x07\x01\x60\x02\x7f\x7f\x01\x7f\x03\x02\x01\0\
     \x0a\x09\x01\x07\0\x20\0\x20\x01\x6a\x0b\0\x0d\x0b.debug_info\x05";
 
-/// Words of the command line, and the task, the seed, the count, the function, whether there are statistics, whether sections are
-/// dropped, and the rules: all, or the number, the first and the last; or the kind of the error.
+/// Words of the command line, and the task, the seed, the count, the function, the names of the flags that hold, and the rules: all,
+/// or the number, the first and the last; or the kind of the error.
 const OPTIONS: &str = "
-| Rewrite 0 1 None false false all
---seed=7 --count 3 --function 2 --rule fold --rule commute --stats | Rewrite 7 3 Some(2) true false 2 Some(Fold) Some(Commute)
---list | List 0 1 None false false all
---blocks | Blocks 0 1 None false false all
---strip-debug | Rewrite 0 1 None false true all
+| Rewrite 0 1 None all
+--seed=7 --count 3 --function 2 --rule fold --rule commute --stats | Rewrite 7 3 Some(2) stats 2 Some(Fold) Some(Commute)
+--list | List 0 1 None all
+--blocks | Blocks 0 1 None all
+--strip-debug | Rewrite 0 1 None strip-debug all
+--show | Rewrite 0 1 None show all
+--list --json | List 0 1 None json all
+--blocks --json | Blocks 0 1 None json all
+--json --stats | Rewrite 0 1 None stats json all
+--stats --json --show --strip-debug | Rewrite 0 1 None stats json show strip-debug all
+--json | MissingRequiredArgument
+--json --show | MissingRequiredArgument
 --list --strip-debug | ArgumentConflict
---rule fold --rule commute --not-rule fold | Rewrite 0 1 None false false 1 Some(Commute) Some(Commute)
---rule fold --not-rule fold | Rewrite 0 1 None false false 0 None None
+--list --show | ArgumentConflict
+--show --blocks | ArgumentConflict
+--rule fold --rule commute --not-rule fold | Rewrite 0 1 None 1 Some(Commute) Some(Commute)
+--rule fold --not-rule fold | Rewrite 0 1 None 0 None None
 --not-rule melt | InvalidValue
---rule commute --rule drop_add_zero --rule add_zero --shrink | Rewrite 0 18446744073709551615 None false false 1 Some(DropAddZero) Some(DropAddZero)
---shrink --count 5 --rule drop_add_zero | Rewrite 0 5 None false false 1 Some(DropAddZero) Some(DropAddZero)
+--rule commute --rule drop_add_zero --rule add_zero --shrink | Rewrite 0 18446744073709551615 None 1 Some(DropAddZero) Some(DropAddZero)
+--shrink --count 5 --rule drop_add_zero | Rewrite 0 5 None 1 Some(DropAddZero) Some(DropAddZero)
 --rule melt | InvalidValue
 --rule fold --rule melt --rule commute | InvalidValue
---rule fold --rule fold | Rewrite 0 1 None false false 2 Some(Fold) Some(Fold)
+--rule fold --rule fold | Rewrite 0 1 None 2 Some(Fold) Some(Fold)
 --count 0 | ValueValidation
 --list --blocks | ArgumentConflict
 --list --stats | ArgumentConflict
 --stats --blocks | ArgumentConflict
 --list --list | ArgumentConflict
 --seed 18446744073709551616 | ValueValidation
---seed 0x1F | Rewrite 31 1 None false false all
---seed 0xffffffffffffffff | Rewrite 18446744073709551615 1 None false false all
+--seed 0x1F | Rewrite 31 1 None all
+--seed 0xffffffffffffffff | Rewrite 18446744073709551615 1 None all
 --seed 0x10000000000000000 | ValueValidation
 --seed 0x | ValueValidation
 --seed 1f | ValueValidation
-a.wasm -o b.wasm | Rewrite 0 1 None false false all
-- --output=- | Rewrite 0 1 None false false all
+a.wasm -o b.wasm | Rewrite 0 1 None all
+- --output=- | Rewrite 0 1 None all
 a.wasm b.wasm | UnknownArgument
 --melt | UnknownArgument
 ";
 
 /// Runs: the words of the command line, the module, and the outcome; then what is written behind `>`, a module or a line, and
 /// behind `!` the lines that are reported.
-const RUNS: &str = "
+const RUNS: &str = r#"
 --rule commute --stats | SUM | Ok(())
 > TURNED
-! functions 1 unreadable 0
-! function 0 operator 2 rule commute
-! bytes 32 new 32
+! functions  1          unreadable 0
+! operators  4          rewritable 1
+! blocks     1          rewritable 1
+! integers   1          rewritable 1
+! function 0      operator 2      rule commute
+! bytes      32         new 32
+
+--rule commute --stats --json | SUM | Ok(())
+> TURNED
+! {"functions":1,"unreadable":0}
+! {"all":4,"of":"operators","rewritable":1}
+! {"all":1,"of":"blocks","rewritable":1}
+! {"all":1,"of":"integers","rewritable":1}
+! {"function":0,"operator":2,"rule":"commute"}
+! {"bytes":32,"new":32}
 
 --rule commute --count 2 | SUM | Ok(())
 > SUM
 
+--rule commute --count 2 --show | SUM | Ok(())
+> SUM
+! function 0 operator 2 rule commute
+!   block 0..3
+!   before
+!     i32.add
+!     ├──local.get.0
+!     └──local.get.1
+!   after
+!     i32.add
+!     ├──local.get.1
+!     └──local.get.0
+! function 0 operator 2 rule commute
+!   block 0..3
+!   before
+!     i32.add
+!     ├──local.get.1
+!     └──local.get.0
+!   after
+!     i32.add
+!     ├──local.get.0
+!     └──local.get.1
+
+--rule commute --show --stats | SUM | Ok(())
+> TURNED
+! functions  1          unreadable 0
+! operators  4          rewritable 1
+! blocks     1          rewritable 1
+! integers   1          rewritable 1
+! function 0 operator 2 rule commute
+!   block 0..3
+!   before
+!     i32.add
+!     ├──local.get.0
+!     └──local.get.1
+!   after
+!     i32.add
+!     ├──local.get.1
+!     └──local.get.0
+! function 0      operator 2      rule commute
+! bytes      32         new 32
+
+--rule fold --show | SUM | Err(Nothing(NoRule))
+
 --list --rule commute | SUM | Ok(())
-> function 0 operator 2 rule commute
+> function 0      operator 2      rule commute
 
 --blocks | SUM | Ok(())
-> function 0 block 0..3
+> function 0      block      0..3
 
 --list --rule commute | TABLE | Ok(())
-> function 0 operator 2 rule commute
-> function 0 operator 8 rule commute
+> function 0      operator 2      rule commute
+> function 0      operator 8      rule commute
+
+--list --rule commute --json | TABLE | Ok(())
+> {"function":0,"operator":2,"rule":"commute"}
+> {"function":0,"operator":8,"rule":"commute"}
 
 --blocks | TABLE | Ok(())
-> function 0 block 0..10, no graph: operator 5 call_indirect
+> function 0      block      0..10     no graph: operator 5 call_indirect
+
+--blocks --json | TABLE | Ok(())
+> {"end":10,"function":0,"operator":5,"reason":"call_indirect","start":0}
 
 --blocks | RESULTS | Ok(())
-> function 0 block 0..2
-> function 1 block 0..3, no graph: operator 0 call of a function with several results
-> function 1 block 4..5, no graph: operator 4 call of the unknown function 5
+> function 0      block      0..2
+> function 1      block      0..3      no graph: operator 0 call of a function with several results
+> function 1      block      4..5      no graph: operator 4 call of the unknown function 5
+
+--blocks --json | RESULTS | Ok(())
+> {"end":2,"function":0,"start":0}
+> {"end":3,"function":1,"operator":0,"reason":"call of a function with several results","start":0}
+> {"end":5,"function":1,"operator":4,"reason":"call of the unknown function 5","start":4}
 
 --blocks --function 0 | RESULTS | Ok(())
-> function 0 block 0..2
+> function 0      block      0..2
 
 --blocks --function 2 | RESULTS | Err(Nothing(NoFunction(2)))
 
 --stats --rule fold | RESULTS | Err(Nothing(NoRule))
-! functions 2 unreadable 0
+! functions  2          unreadable 0
+! operators  10         rewritable 0
+! blocks     3          rewritable 0
+! integers   2          rewritable 0
 
 --blocks | STRUCTURE | Ok(())
-> function 0 block 0..3
-> function 1 UnknownType at 37
+> function 0      block      0..3
+> function 1      UnknownType at 37
+
+--blocks --json | STRUCTURE | Ok(())
+> {"end":3,"function":0,"start":0}
+> {"fault":"UnknownType","function":1,"offset":37}
 
 --list --rule commute | BEHIND_CALL | Ok(())
-> function 0 operator 4 rule commute
+> function 0      operator 4      rule commute
 
 --rule commute | BEHIND_CALL | Ok(())
 > BEHIND_CALL_TURNED
 
 --rule commute --stats | STRUCTURE | Ok(())
 > STRUCTURE_TURNED
-! function 1 UnknownType at 37
-! functions 2 unreadable 1
-! function 0 operator 2 rule commute
-! bytes 40 new 40
+! function 1      UnknownType at 37
+! functions  2          unreadable 1
+! operators  4          rewritable 1
+! blocks     1          rewritable 1
+! integers   1          rewritable 1
+! function 0      operator 2      rule commute
+! bytes      40         new 40
 
 --stats | REFERENCE | Err(Nothing(Unreadable))
-! entry 0 UnknownForm at 20
-! functions 1 unreadable 1
+! entry    0      UnknownForm at 20
+! functions  1          unreadable 1
+! operators  0          rewritable 0
+! blocks     0          rewritable 0
+! integers   0          rewritable 0
+
+--stats --json | REFERENCE | Err(Nothing(Unreadable))
+! {"entry":0,"fault":"UnknownForm","offset":20}
+! {"functions":1,"unreadable":1}
+! {"all":0,"of":"operators","rewritable":0}
+! {"all":0,"of":"blocks","rewritable":0}
+! {"all":0,"of":"integers","rewritable":0}
 
 --blocks | REFERENCE | Ok(())
-> entry 0 UnknownForm at 20
+> entry    0      UnknownForm at 20
 
 --list --function 0 | REFERENCE | Err(Nothing(UnknownImport(ModuleError { kind: UnknownForm, offset: 20 })))
 
@@ -164,10 +261,23 @@ const RUNS: &str = "
 
 --rule add_zero --count 2 --max-size 31 --stats | SAME | Ok(())
 > SAME_AND_ZERO
-! functions 1 unreadable 0
-! function 0 operator 0 rule add_zero
+! functions  1          unreadable 0
+! operators  2          rewritable 1
+! blocks     1          rewritable 1
+! integers   0          rewritable 0
+! function 0      operator 0      rule add_zero
 ! stopped TooLong
-! bytes 28 new 31
+! bytes      28         new 31
+
+--rule add_zero --count 2 --max-size 31 --stats --json | SAME | Ok(())
+> SAME_AND_ZERO
+! {"functions":1,"unreadable":0}
+! {"all":2,"of":"operators","rewritable":1}
+! {"all":1,"of":"blocks","rewritable":1}
+! {"all":0,"of":"integers","rewritable":0}
+! {"function":0,"operator":0,"rule":"add_zero"}
+! {"stopped":"TooLong"}
+! {"bytes":28,"new":31}
 
 --shrink | SAME_AND_ZERO | Ok(())
 > SAME
@@ -176,10 +286,13 @@ const RUNS: &str = "
 
 --rule commute --strip-debug --stats | DEBUG | Ok(())
 > TURNED
-! functions 1 unreadable 0
-! function 0 operator 2 rule commute
-! bytes 47 new 32
-";
+! functions  1          unreadable 0
+! operators  4          rewritable 1
+! blocks     1          rewritable 1
+! integers   1          rewritable 1
+! function 0      operator 2      rule commute
+! bytes      47         new 32
+"#;
 
 /// The module of a name.
 fn module_of(name: &str) -> Option<&'static [u8]> {
@@ -219,6 +332,20 @@ fn rules_text(alloc: Global, rules: &[Rule]) -> Result<String, AllocError> {
     format!(in alloc; "{} {first:?} {last:?}", rules.len())
 }
 
+/// The name, where the flag holds.
+fn if_set(flag: bool, name: &'static str) -> &'static str {
+    if flag { name } else { "" }
+}
+
+/// The names of the flags that hold.
+fn flags_text(alloc: Global, options: &Options) -> Result<String, AllocError> {
+    let stats = if_set(options.stats, "stats ");
+    let json = if_set(options.json, "json ");
+    let show = if_set(options.show, "show ");
+    let strip = if_set(options.strip_debug, "strip-debug ");
+    format!(in alloc; "{stats}{json}{show}{strip}")
+}
+
 #[test]
 fn reads_options(rt: HostRuntime) -> Result<(), Fail> {
     let alloc = rt.alloc();
@@ -226,15 +353,11 @@ fn reads_options(rt: HostRuntime) -> Result<(), Fail> {
         let (line, wanted) = case.split_once('|').ok_or("no options")?;
         let text = match options(alloc, line) {
             Ok(found) => {
+                let flags = flags_text(alloc, &found)?;
                 let rules = rules_text(alloc, &found.rules)?;
                 format!(in alloc;
-                    "{:?} {} {} {:?} {} {} {rules}",
-                    found.task,
-                    found.seed,
-                    found.count,
-                    found.function,
-                    found.stats,
-                    found.strip_debug
+                    "{:?} {} {} {:?} {flags}{rules}",
+                    found.task, found.seed, found.count, found.function
                 )?
             }
             Err(error) => format!(in alloc; "{:?}", error.kind())?,
@@ -268,7 +391,14 @@ fn is_run(rt: &impl Abort, alloc: Global, case: &str) -> Result<(), Fail> {
     let options = options(alloc, line)?;
     let mut module = module_of(name.trim()).ok_or("no such module")?;
     let (mut output, mut notes) = (Vec::new(alloc), Vec::new(alloc));
-    let result = run(alloc, &options, &mut module, &mut output, &mut notes);
+    let result = run(
+        alloc,
+        &options,
+        &mut module,
+        &mut output,
+        &mut notes,
+        Unwatched,
+    );
     let ended = format!(in alloc; "{result:?}")?;
     assert!(rt; ended.as_str() == outcome.trim(), "{case}");
     let (written, reported) = wanted_of(alloc, lines)?;
@@ -291,14 +421,35 @@ fn fails(rt: HostRuntime) -> Result<(), Fail> {
     let mut notes = Vec::new(alloc);
     let mut output = Vec::new(alloc);
     let mut input = FailingReader::new(&SUM);
-    let result = run(alloc, &options, &mut input, &mut output, &mut notes);
+    let result = run(
+        alloc,
+        &options,
+        &mut input,
+        &mut output,
+        &mut notes,
+        Unwatched,
+    );
     assert!(rt; result == Err(Failure::Input) && output.is_empty());
     let mut module: &[u8] = &SUM;
     let mut sink = FailingWriter::refusing(20);
-    let result = run(alloc, &options, &mut module, &mut sink, &mut notes);
+    let result = run(
+        alloc,
+        &options,
+        &mut module,
+        &mut sink,
+        &mut notes,
+        Unwatched,
+    );
     assert!(rt; result == Err(Failure::Output));
     let mut bad: &[u8] = b"\0asn\x01\0\0\0";
-    let Err(failure) = run(alloc, &options, &mut bad, &mut output, &mut notes) else {
+    let Err(failure) = run(
+        alloc,
+        &options,
+        &mut bad,
+        &mut output,
+        &mut notes,
+        Unwatched,
+    ) else {
         panic!(rt; "a module of another magic number");
     };
     let text = format!(in alloc; "{failure} {}", failure.status())?;

@@ -12,3 +12,8 @@ pub returns-clause-none : goal.returns-clause-none
 returns-clause-none c =
     let ends = c.if-not-ends_block.ensures.0 refl in
     (ending c.args.operators.now c.args.last c.of_operator.result c.requires ends.0 ends.1 c.of_operator.ensures.block c.of_operator.ensures.none).1
+
+pub returns-clause-block : goal.returns-clause-block
+returns-clause-block c =
+    let ends = c.if-not-ends_block.ensures.0 refl in
+    (ending c.args.operators.now c.args.last c.of_operator.result c.requires ends.0 ends.1 c.of_operator.ensures.block c.of_operator.ensures.none).0

@@ -2,6 +2,7 @@
 use Rattle.std.proofs.Common.{◌≡◌, ◌+◌, ◌-◌, ◌≤◌, ℕ, [], ◌++◌, refl, sym, subst, arith}
 use Rattle.peephole_module_commands.specs.Blocks.{TellsBlocks}
 use Rattle.peephole_module_commands.specs.Lists.{InTurn}
+use Rattle.peephole_module_commands.specs.declared.form.Form.{Form}
 use Rattle.peephole_module_commands.proofs.TurnLemmas.{appends_more, appends_nothing, turn_more}
 use Rattle.peephole_module_commands.proofs.blocks.list_blocks.Goals as goal
 
@@ -11,7 +12,8 @@ loop-n-init g c =
     let none : 0 ≡ from - from = omega arith in (
       [],
       appends_nothing (g.W.Write.contents c.args.output.now),
-      subst (λ (k : ℕ). InTurn (TellsBlocks c.args.bytes.now c.in_ok-module.module.info c.in_ok-module.module.layout) from k []) none refl,
+      subst (λ (k : ℕ). InTurn (TellsBlocks c.form-form.result c.args.bytes.now c.in_ok-module.module.info c.in_ok-module.module.layout) from k [])
+          none refl,
     )
 
 pub loop-n-preserved : goal.loop-n-preserved
@@ -21,7 +23,7 @@ loop-n-preserved g c =
       front.0 ++ own.0,
       appends_more (g.W.Write.contents c.args.output.now) (g.W.Write.contents c.loop-n.output) (g.W.Write.contents c.write_function.new.output)
           front.0 own.0 front.1 own.1,
-      turn_more (TellsBlocks c.args.bytes.now c.in_ok-module.module.info c.in_ok-module.module.layout) c.in_ok-chosen.chosen.start
+      turn_more (TellsBlocks c.form-form.result c.args.bytes.now c.in_ok-module.module.info c.in_ok-module.module.layout) c.in_ok-chosen.chosen.start
           c.loop-n.n front.0 own.0 c.loop-n.auto.n front.2 own.2,
     )
 
@@ -41,8 +43,10 @@ returns-clause-lines g c =
         from = from;
         count = to - from;
         chosen = λ n. rw (sym whole) (c.in_ok-chosen.ensures.chosen n);
-        told = subst (λ (k : ℕ). InTurn (TellsBlocks c.args.bytes.now c.in_ok-module.module.info c.in_ok-module.module.layout) from
-            (k - from) c.loop-n.invariant.0) end c.loop-n.invariant.2;
+        told = subst (λ (form : Form). InTurn (TellsBlocks form c.args.bytes.now c.in_ok-module.module.info c.in_ok-module.module.layout) from
+            (to - from) c.loop-n.invariant.0) c.form-form.ensures
+            (subst (λ (k : ℕ). InTurn (TellsBlocks c.form-form.result c.args.bytes.now c.in_ok-module.module.info c.in_ok-module.module.layout) from
+            (k - from) c.loop-n.invariant.0) end c.loop-n.invariant.2);
       };
       written = c.loop-n.invariant.1;
     }

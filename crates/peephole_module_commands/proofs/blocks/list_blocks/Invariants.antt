@@ -7,4 +7,4 @@ use Rattle.peephole_module_commands.proofs.blocks.list_blocks.Given as goal
 abbrev pub invariant-loop-n : goal.invariant-loop-n
 invariant-loop-n g l =
     (text : List ℕ) × Appends (g.W.Write.contents l.initial.output) (g.W.Write.contents l.output) text
-    × InTurn (TellsBlocks l.bytes l.module.info l.module.layout) l.from (l.n - l.from) text
+    × InTurn (TellsBlocks l.form l.bytes l.module.info l.module.layout) l.from (l.n - l.from) text

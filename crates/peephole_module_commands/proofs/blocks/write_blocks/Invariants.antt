@@ -7,4 +7,4 @@ use Rattle.peephole_module_commands.proofs.blocks.write_blocks.Given as goal
 abbrev pub invariant-loop-last : goal.invariant-loop-last
 invariant-loop-last g l =
     (text : List ℕ) × Appends (g.W.Write.contents l.initial.output) (g.W.Write.contents l.output) text
-    × InTurn (TellsBlock l.info l.function l.operators) 0 l.last text
+    × InTurn (TellsBlock l.form l.info l.function l.operators) 0 l.last text

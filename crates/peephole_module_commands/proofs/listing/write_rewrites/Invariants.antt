@@ -5,4 +5,4 @@ use Rattle.peephole_module_commands.proofs.listing.write_rewrites.Given as goal
 
 abbrev pub invariant-loop-rewrite : goal.invariant-loop-rewrite
 invariant-loop-rewrite g l =
-    Appends (g.W.Write.contents l.initial.output) (g.W.Write.contents l.output) (rewrite_lines l.function (take l.rewrite-index l.rewrites))
+    Appends (g.W.Write.contents l.initial.output) (g.W.Write.contents l.output) (rewrite_lines l.form l.function (take l.rewrite-index l.rewrites))

@@ -19,13 +19,13 @@ loop-n-preserved g c =
       so_far.1 ++ own.0,
       appends_more (g.W.Write.contents c.args.notes.now) (g.W.Write.contents c.loop-n.notes) (g.W.Write.contents c.report_function.new.notes)
           so_far.1 own.0 so_far.2 own.1,
-      more_told c.args.bytes.now c.args.info.now c.args.layout.now c.loop-n.n c.loop-n.unreadable _ so_far.1 own.0 so_far.3 own.2,
+      more_told c.args.form c.args.bytes.now c.args.wasm.now.info c.args.wasm.now.layout c.loop-n.n c.loop-n.unreadable _ so_far.1 own.0 so_far.3 own.2,
     )
 
 pub returns-clause-reports : goal.returns-clause-reports
 returns-clause-reports g c =
     let so_far = c.loop-n.invariant in
-    let entries = c.args.layout.now.entries in
+    let entries = c.args.wasm.now.layout.entries in
     let past : length entries ≤ c.loop-n.n = grind (arith, common_steps) in
     let within : c.loop-n.n ≤ length entries = grind (arith, common_steps) in
     let end : c.loop-n.n ≡ length entries = omega (arith, past, within) in
@@ -35,8 +35,9 @@ returns-clause-reports g c =
     ok_map c.write_functions.result (λ h. record {
       unreadable = c.loop-n.unreadable;
       lines = so_far.1;
-      told = subst (λ (n : ℕ). TellsUnreadable c.args.bytes.now c.args.info.now c.args.layout.now n c.loop-n.unreadable so_far.1) end so_far.3;
+      told = subst (λ (n : ℕ). TellsUnreadable c.args.form c.args.bytes.now c.args.wasm.now.info c.args.wasm.now.layout n c.loop-n.unreadable so_far.1)
+          end so_far.3;
       written = appends_more before between (g.W.Write.contents c.write_functions.new.notes) so_far.1
-          (functions_line (length entries) c.loop-n.unreadable) so_far.2
-          (subst (λ (n : ℕ). Appends between (g.W.Write.contents c.write_functions.new.notes) (functions_line n c.loop-n.unreadable)) sized h);
+          (functions_line c.args.form (length entries) c.loop-n.unreadable) so_far.2
+          (subst (λ (n : ℕ). Appends between (g.W.Write.contents c.write_functions.new.notes) (functions_line c.args.form n c.loop-n.unreadable)) sized h);
     }) c.write_functions.ensures.line

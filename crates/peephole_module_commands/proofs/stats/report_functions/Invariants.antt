@@ -7,4 +7,4 @@ use Rattle.peephole_module_commands.proofs.stats.report_functions.Given as goal
 abbrev pub invariant-loop-n : goal.invariant-loop-n
 invariant-loop-n g l =
     (l.unreadable ≤ l.n) × (text : List ℕ) × Appends (g.W.Write.contents l.initial.notes) (g.W.Write.contents l.notes) text
-    × TellsUnreadable l.bytes l.info l.layout l.n l.unreadable text
+    × TellsUnreadable l.form l.bytes l.wasm.info l.wasm.layout l.n l.unreadable text

@@ -4,4 +4,4 @@ use Rattle.peephole_module_commands.specs.Reports.{made_lines}
 use Rattle.peephole_module_commands.proofs.stats.write_made.Given as goal
 
 abbrev pub invariant-loop-one : goal.invariant-loop-one
-invariant-loop-one g l = Appends (g.W.Write.contents l.initial.notes) (g.W.Write.contents l.notes) (made_lines (take l.one-index l.made))
+invariant-loop-one g l = Appends (g.W.Write.contents l.initial.notes) (g.W.Write.contents l.notes) (made_lines l.form (take l.one-index l.made))
