@@ -1,6 +1,6 @@
 -- What is counted, one operator and one function more each time.
-use Rattle.std.proofs.Common.{◌≡◌, ◌⊎◌, inl, inr, ℕ, suc, ◌+◌, ◌-◌, ◌^◌, ◌<◌, ◌≤◌, min, not, ◌&&◌, ◌||◌, Bool, true, false, List, [], ◌∷◌, ◌++◌, length, take, set, get_or, replicate, Option, Some, None, refl, sym, ap, ap₂, ◌∙◌, subst, arith}
-use Rattle.std.specs.Prelude.{◌≢◌, ◌↔◌, IsTrue, Contains, is_some, option_map, slice_get, if◌then◌else◌}
+use Rattle.std.proofs.Common.{◌≡◌, inl, inr, ℕ, suc, ◌+◌, ◌-◌, ◌^◌, ◌<◌, min, not, ◌&&◌, ◌||◌, Bool, true, false, List, [], ◌∷◌, ◌++◌, length, take, set, get_or, replicate, Option, Some, None, refl, sym, ap, ap₂, ◌∙◌, subst, arith}
+use Rattle.std.specs.Prelude.{◌≢◌, ◌↔◌, IsTrue, Contains, IfSome, IfNone, is_some, option_map, slice_get}
 use Rattle.std.proofs.lemmas.Bool.{false≢true, not-true, not_from_false, cases_eq, cases_lt, and_parts, and_from, or_cases, or_left, or_right}
 use Rattle.std.proofs.lemmas.List.{take_more, length_push, length-set, get_or-replicate, get_or-set_same, get_or-set_other}
 use Rattle.std.proofs.lemmas.List.Elements.{Contains-append_left, Contains-get_or, Contains-push, Contains-push_cases}
@@ -10,17 +10,16 @@ use Rattle.mutate_base.specs.Module.{Module}
 use Rattle.mutate_base.specs.declared.types.PrimitiveTypeInfo.{PrimitiveTypeInfo}
 use Rattle.wasm_module.specs.Module.{Layout}
 use Rattle.peephole_machine.specs.Values.{Context, context_in}
-use Rattle.peephole_graphs.specs.Block.{BlockRange, FindsTheBlock, HasNoDelimiter, IsBlockIn, block_start, delimits, is_delimiter_of}
+use Rattle.peephole_graphs.specs.Block.{BlockRange, HasNoDelimiter, IsBlockIn, delimits, is_delimiter_of}
 use Rattle.peephole_rules.specs.declared.rule.Rule.{Rule}
 use Rattle.peephole_rewrites.specs.Choice.{AreThose, numbers_below}
 use Rattle.peephole_rewrites.specs.Rewriting.{AreTheRewrites}
 use Rattle.peephole_rewrites.specs.declared.rewrite.Rewrite.{Rewrite}
 use Rattle.peephole_modules.specs.Function.{IsFunction}
 use Rattle.peephole_module_commands.specs.Blocks.{IsBlock}
-use Rattle.peephole_module_commands.specs.Reach.{AreCounted, AreCountedAt, AreInside, AreMarks, AreOfBody, AreOfEntries, AreOfEntry, Counts, EndsBlock, EndsReached, HoldsReached, IsIntegerAt, IsMarked, IsOfOne, IsOneIf, IsReached, Told, nothing, number_of, part_in_64_bits, part_of, part_sum, reach_in_64_bits, stops_at, sum_of}
+use Rattle.peephole_module_commands.specs.Reach.{AreCounted, AreCountedAt, AreInside, AreMarks, AreOfBody, AreOfEntries, AreOfEntry, Counts, EndsBlock, EndsReached, HoldsReached, IsIntegerAt, IsMarked, IsOfOne, IsOneIf, IsReached, Told, nothing, number_of, part_in_64_bits, part_of, part_sum, reach_in_64_bits, sum_of}
 use Rattle.peephole_module_commands.specs.declared.reach.Part.{Part}
 use Rattle.peephole_module_commands.specs.declared.reach.Reach.{Reach}
-use Rattle.peephole_module_commands.proofs.BlocksLemmas.{ending, ends_of}
 
 abbrev Operators : Type 0
 Operators = List (Operator × ℕ)
@@ -201,54 +200,12 @@ some_alike f o found is = sym (some_map f o) ∙ ap is_some is
 
 -- ---- blocks
 
-stops_false : (o : Option (Operator × ℕ)) → stops_at o ≡ false → is_delimiter_of o ≡ false
-stops_false None e = absurd (false≢true (sym e))
-stops_false (Some o) e = e
-
--- where an operator stands, it stops a block as a delimiter
-stops_is : (operators : Operators) (at : ℕ) → at < length operators → stops_at (slice_get operators at) ≡ delimits operators at
-stops_is operators at inside = elim (slice_get_cases operators at).1 [
-  | inl x ↦ ap stops_at x.2 ∙ sym (ap is_delimiter_of x.2)
-  | inr past ↦ absurd (omega (arith, past.0, inside))
-]
-
-pub stops_past : (operators : Operators) (at : ℕ) → length operators ≤ at → stops_at (slice_get operators at) ≡ true
-stops_past operators at past = ap stops_at (slice_get_past operators at past)
-
-stops_next : (operators : Operators) (at : ℕ) → at < length operators → stops_at (slice_get operators (at + 1)) ≡ true →
-    (at + 1 ≡ length operators) ⊎ (delimits operators (at + 1) ≡ true)
-stops_next operators at inside e = elim (cases_lt (at + 1) (length operators)) [
-  | inl more ↦ inr (sym (stops_is operators (at + 1) more) ∙ e)
-  | inr least ↦ inl (omega (arith, inside, least))
-]
-
-next_stops : (operators : Operators) (at : ℕ) → (at + 1 ≡ length operators) ⊎ (delimits operators (at + 1) ≡ true) →
-    stops_at (slice_get operators (at + 1)) ≡ true
-next_stops operators at (inl whole) = stops_past operators (at + 1) (omega (arith, whole))
-next_stops operators at (inr delimiter) = elim (cases_lt (at + 1) (length operators)) [
-  | inl more ↦ stops_is operators (at + 1) more ∙ delimiter
-  | inr past ↦ stops_past operators (at + 1) past
-]
-
-pub ends_if : FindsTheBlock → (operators : Operators) (at : ℕ) (stopped stops : Bool) → at < length operators →
-    stopped ≡ stops_at (slice_get operators at) → stops ≡ stops_at (slice_get operators (at + 1)) →
-    IsTrue (not stopped && stops) ↔ EndsBlock operators at
-ends_if finds operators at stopped stops inside stopped_is stops_are = (forth, back)
-  where
-    forth : IsTrue (not stopped && stops) → EndsBlock operators at
-    forth t =
-        let parts = and_parts (not stopped) stops t in
-        let own : delimits operators at ≡ false = stops_false (slice_get operators at) (sym stopped_is ∙ not-true stopped parts.0) in
-        let next = stops_next operators at inside (sym stops_are ∙ parts.1) in
-        let block : BlockRange = record { start = block_start operators at; end = at + 1 } in
-        let found = (finds operators at block).0 (ap (λ d. if d then None else Some block) own) in
-        (block.start, (ending operators at (Some block) inside own next found tt).0.1)
-
-    back : EndsBlock operators at → IsTrue (not stopped && stops)
-    back (start, h) =
-        let parts = ends_of operators at start inside h in
-        and_from (not stopped) stops (not_from_false stopped (stopped_is ∙ (stops_is operators at inside ∙ parts.0)))
-        (stops_are ∙ next_stops operators at parts.1)
+-- one ends there where one is found that does
+pub ends_if_found : (operators : Operators) (at : ℕ) (found : Option BlockRange) →
+    IfSome found (λ b. (b.end ≡ at + 1) × IsBlock operators b.start (at + 1)) → IfNone found ((start : ℕ) → ¬ (IsBlock operators start (at + 1))) →
+    IsTrue (is_some found) ↔ EndsBlock operators at
+ends_if_found operators at None h none = (λ t. absurd (false≢true t), λ ends. absurd (none ends.0 ends.1))
+ends_if_found operators at (Some block) h none = (λ t. (block.start, h.1), λ ends. refl)
 
 -- ---- a reached operator with no delimiter from it on
 
@@ -256,7 +213,7 @@ pub holds_none : (Reached : ℕ → Type 0) (operators : Operators) → IsTrue f
 holds_none Reached operators = (λ t. absurd (false≢true t), λ h. let none : h.0 < 0 = h.1 in absurd (omega arith))
 
 pub holds_next : (Reached : ℕ → Type 0) (operators : Operators) (at : ℕ) (stopped marked held : Bool) → at < length operators →
-    stopped ≡ stops_at (slice_get operators at) → (IsTrue marked ↔ Reached at) → (IsTrue held ↔ HoldsReached Reached operators at) →
+    stopped ≡ delimits operators at → (IsTrue marked ↔ Reached at) → (IsTrue held ↔ HoldsReached Reached operators at) →
     IsTrue (not stopped && (held || marked)) ↔ HoldsReached Reached operators (at + 1)
 holds_next Reached operators at stopped marked held inside stopped_is is_marked is_held = (forth, back)
   where
@@ -270,7 +227,7 @@ holds_next Reached operators at stopped marked held inside stopped_is is_marked 
     forth : IsTrue (not stopped && (held || marked)) → HoldsReached Reached operators (at + 1)
     forth t =
         let parts = and_parts (not stopped) (held || marked) t in
-        let own : delimits operators at ≡ false = stops_false (slice_get operators at) (sym stopped_is ∙ not-true stopped parts.0) in
+        let own : delimits operators at ≡ false = sym stopped_is ∙ not-true stopped parts.0 in
         elim (or_cases held marked parts.1) [
           | inl h ↦
               let before = is_held.0 h in
@@ -286,7 +243,7 @@ holds_next Reached operators at stopped marked held inside stopped_is is_marked 
           | inl x ↦ ap is_delimiter_of x.2 ∙ h.2 at x.0 (omega (arith, below)) (omega arith) x.2
           | inr past ↦ absurd (omega (arith, past.0, inside))
         ] in
-        and_from (not stopped) (held || marked) (not_from_false stopped (stopped_is ∙ (stops_is operators at inside ∙ own))) (elim (cases_eq h.0 at) [
+        and_from (not stopped) (held || marked) (not_from_false stopped (stopped_is ∙ own)) (elim (cases_eq h.0 at) [
           | inl e ↦ or_right held marked (is_marked.1 (subst Reached e h.3))
           | inr other ↦
               let before : h.0 < at = omega (arith, below, other) in

@@ -1,6 +1,5 @@
 -- How much of a module rules reach (this project).
 use Rattle.std.specs.Prelude.{◌≡◌, ◌⊎◌, ◌↔◌, ◌==◌, ◌&&◌, if◌then◌else◌, ℕ, zero, suc, ◌+◌, ◌-◌, ◌^◌, ◌<◌, ◌≤◌, min, Bool, true, false, List, length, All, Contains, Option, Some, None, is_some, slice_get}
-use Rattle.wasm_code.specs.Operator.{is_delimiter}
 use Rattle.wasm_code.specs.declared.operator.Operator.{Operator}
 use Rattle.wasm_code.specs.declared.operator.Operator.TheVariants as op
 use Rattle.mutate_base.specs.Module.{Module}
@@ -163,11 +162,6 @@ pub record AreCountedAt (Reached : ℕ → Type 0) (operators : List (Operator �
   pub blocks_within : IsOneIf (EndsReached Reached operators at) reach.blocks.within
   pub integers_all : IsOneIf (IsIntegerAt operators at) reach.integers.all
   pub integers_within : IsOneIf (IsIntegerAt operators at × Reached at) reach.integers.within
-
--- no block goes on to there: no operator stands there, or a delimiter
-abbrev pub stops_at : Option (Operator × ℕ) → Bool
-stops_at None = true
-stops_at (Some o) = is_delimiter o.0
 
 -- a reached operator stands before `end`, and no delimiter from it on
 abbrev pub HoldsReached : (Reached : ℕ → Type 0) → List (Operator × ℕ) → (end : ℕ) → Type 0

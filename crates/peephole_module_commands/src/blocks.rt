@@ -153,7 +153,7 @@ fn write_lines<W: Write>(
 }
 
 // Whether the operator there is a delimiter.
-fn delimits(operators: &[OperatorAndByteOffset], index: usize) -> bool
+pub(crate) fn delimits(operators: &[OperatorAndByteOffset], index: usize) -> bool
     requires { index < length operators.now }
     ensures { result ≡ delimits operators.now index }
 {
@@ -176,7 +176,7 @@ fn ends_block(operators: &[OperatorAndByteOffset], index: usize) -> bool
 }
 
 // The block whose last operator is that one, where there is one.
-fn block_ending(operators: &[OperatorAndByteOffset], last: usize) -> Option<BBlock>
+pub(crate) fn block_ending(operators: &[OperatorAndByteOffset], last: usize) -> Option<BBlock>
     requires { last < length operators.now }
     ensures block { IfSome result (λ b. (b.end ≡ last + 1)
         × IsBlock operators.now b.start (last + 1)) }

@@ -5,13 +5,13 @@ ghost use Rattle.peephole_machine.specs.IntegerRow.{bare_operator};
 ghost use Rattle.peephole_machine.specs.Row.{instruction_byte};
 ghost use Rattle.peephole_machine.specs.Values.{context_in};
 ghost use Rattle.peephole_module_commands.specs.Reach.{AreCounted, AreCountedAt, AreInside, AreMarks, AreOfBody, AreOfEntry, EndsBlock, HoldsReached, IsMarked, IsReach, Told};
-ghost use Rattle.peephole_module_commands.specs.Reach.{is_integer, is_integer_byte, is_integer_of, is_integer_opcode, nothing, number_of, part_in_64_bits, part_of, part_sum, reach_in_64_bits, stops_at, sum_of};
+ghost use Rattle.peephole_module_commands.specs.Reach.{is_integer, is_integer_byte, is_integer_of, is_integer_opcode, nothing, number_of, part_in_64_bits, part_of, part_sum, reach_in_64_bits, sum_of};
 ghost use Rattle.peephole_module_commands.specs.declared.failure.Failure.TheVariants.{Memory};
 ghost use Rattle.wasm_module.specs.Module.{IsModule};
 
+use crate::blocks::{block_ending, delimits};
 use crate::failure::Failure;
 use mutate_base::{ModuleInfo, PrimitiveTypeInfo};
-use peephole_graphs::laws::blocks_are_found;
 use peephole_machine::{Operation, opcode_byte};
 use peephole_modules::read_function;
 use peephole_rewrites::{Rewrite, rewrites_of_body};
@@ -142,25 +142,12 @@ fn is_integer_at(operators: &[OperatorAndByteOffset], at: usize) -> bool
     is_integer(&operators[at].0)
 }
 
-// Whether no operator stands there, or a delimiter.
-fn stops_at(operators: &[OperatorAndByteOffset], at: usize) -> bool
-    ensures { result ≡ stops_at (slice_get operators.now at) }
-{
-    if at >= operators.len() {
-        return true;
-    }
-    operators[at].0.is_delimiter()
-}
-
 // Whether a block ends with the operator there.
 fn ends_block(operators: &[OperatorAndByteOffset], at: usize) -> bool
     requires { at < length operators.now }
     ensures { IsTrue result ↔ EndsBlock operators.now at }
 {
-    blocks_are_found();
-    let stopped = stops_at(operators, at);
-    let stops_next = stops_at(operators, at + 1);
-    !stopped && stops_next
+    block_ending(operators, at).is_some()
 }
 
 // Whether the operator there is marked.
@@ -179,7 +166,7 @@ fn holds_marked(operators: &[OperatorAndByteOffset], marks: &[bool], at: usize, 
     requires held { IsTrue held ↔ HoldsReached (IsMarked marks.now) operators.now at }
     ensures { IsTrue result ↔ HoldsReached (IsMarked marks.now) operators.now (at + 1) }
 {
-    let stopped = stops_at(operators, at);
+    let stopped = delimits(operators, at);
     let marked = is_marked(marks, at);
     !stopped && (held || marked)
 }

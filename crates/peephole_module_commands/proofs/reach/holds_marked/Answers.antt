@@ -9,19 +9,19 @@ pub returns-then-held : goal.returns-then-held
 returns-then-held c =
     subst (λ (b : Bool). IsTrue b ↔ HoldsReached (IsMarked c.args.marks.now) c.args.operators.now (c.args.at + 1))
     (ap (λ b. not b && (c.args.held || c.is_marked-marked.result)) c.if-not-stopped.true ∙ (ap (λ b. b || c.is_marked-marked.result) c.if-held.true ∙ sym c.if-held.true))
-    (holds_next (IsMarked c.args.marks.now) c.args.operators.now c.args.at c.stops_at-stopped.result c.is_marked-marked.result c.args.held c.requires.inside
-    c.stops_at-stopped.ensures c.is_marked-marked.ensures c.requires.held)
+    (holds_next (IsMarked c.args.marks.now) c.args.operators.now c.args.at c.delimits-stopped.result c.is_marked-marked.result c.args.held c.requires.inside
+    c.delimits-stopped.ensures c.is_marked-marked.ensures c.requires.held)
 
 pub returns-else-held : goal.returns-else-held
 returns-else-held c =
     subst (λ (b : Bool). IsTrue b ↔ HoldsReached (IsMarked c.args.marks.now) c.args.operators.now (c.args.at + 1))
     (ap (λ b. not b && (c.args.held || c.is_marked-marked.result)) c.if-not-stopped.true ∙ ap (λ b. b || c.is_marked-marked.result) c.if-held.false)
-    (holds_next (IsMarked c.args.marks.now) c.args.operators.now c.args.at c.stops_at-stopped.result c.is_marked-marked.result c.args.held c.requires.inside
-    c.stops_at-stopped.ensures c.is_marked-marked.ensures c.requires.held)
+    (holds_next (IsMarked c.args.marks.now) c.args.operators.now c.args.at c.delimits-stopped.result c.is_marked-marked.result c.args.held c.requires.inside
+    c.delimits-stopped.ensures c.is_marked-marked.ensures c.requires.held)
 
 pub returns-else-not-stopped : goal.returns-else-not-stopped
 returns-else-not-stopped c =
     subst (λ (b : Bool). IsTrue b ↔ HoldsReached (IsMarked c.args.marks.now) c.args.operators.now (c.args.at + 1))
     (ap (λ b. not b && (c.args.held || c.is_marked-marked.result)) c.if-not-stopped.false ∙ sym (ap not c.if-not-stopped.false))
-    (holds_next (IsMarked c.args.marks.now) c.args.operators.now c.args.at c.stops_at-stopped.result c.is_marked-marked.result c.args.held c.requires.inside
-    c.stops_at-stopped.ensures c.is_marked-marked.ensures c.requires.held)
+    (holds_next (IsMarked c.args.marks.now) c.args.operators.now c.args.at c.delimits-stopped.result c.is_marked-marked.result c.args.held c.requires.inside
+    c.delimits-stopped.ensures c.is_marked-marked.ensures c.requires.held)
