@@ -58,13 +58,17 @@ fn add_graph(alloc: Global, text: &mut String, graph: &MiniDFG) -> Result<(), Sh
 }
 
 /// Adds the lines of the operators, drawn as the trees of their graph, one root's behind another's; where they have no graph, or are
-/// more than 256, the operators one a line.
+/// more than 256, the operators one a line; and where there are none, `nothing`.
 pub(crate) fn add_drawn(
     alloc: Global,
     text: &mut String,
     info: &ModuleInfo<'_>,
     operators: &[OperatorAndByteOffset],
 ) -> Result<(), ShowError> {
+    if operators.is_empty() {
+        text.push_str("    nothing\n")?;
+        return Ok(());
+    }
     match graph_of(alloc, info, operators)? {
         Some(graph) => add_graph(alloc, text, &graph),
         None => add_operators(alloc, text, info, operators),

@@ -185,12 +185,12 @@ fn write_text<W: Write>(output: &mut W, text: &str) -> Result<(), ShowError>
     Ok(())
 }
 
-/// Writes what a rewrite made of a module, for people to read. `old` is the module before that one rewrite, `new` the module with it.
-/// A first line says which operator of which function, and the rule; the lines behind it are indented: the function's name, in
+/// Writes what a rewrite made of a module, for people to read. `old` is the module before that one rewrite, `new` the module with
+/// it. A first line says which operator of which function, and the rule; the lines behind it are indented: the function's name, in
 /// quotes, where the module has one; the operator's block, by the indexes of its first operator and of what is behind its last one;
 /// the operator's tree as it was, and what stands in its place, drawn as graphs draw forests, or one operator a line where there is
-/// no graph, or there are more than 256. Where `old` has no such function that can be read, or the operator no tree in it, the lines
-/// that there would be of these are left out.
+/// no graph, or there are more than 256, or `nothing` where there are none. Where `old` has no such function that can be read, or
+/// the operator no tree in it, the lines that there would be of these are left out.
 ///
 /// It takes time linear in the modules. Nothing is written for want of memory (`Memory`).
 pub fn write_shown<W: Write>(

@@ -49,6 +49,20 @@ const PARTS_FOLDED: &str = "function 0 operator 5 rule fold
     i32.const.6
 ";
 
+/// The same without what is dropped first.
+const FORGOTTEN: &[u8] = b"\0asm\x01\0\0\0\x01\x04\x01\x60\0\0\x03\x02\x01\0\
+    \x0a\x0d\x01\x0b\0\x02\x40\x41\x05\x41\x01\x6a\x1a\x0b\x0b";
+
+/// What is shown of these.
+const PARTS_FORGOTTEN: &str = "function 0 operator 1 rule forget
+  block 0..2
+  before
+    drop
+    └──i32.const.7
+  after
+    nothing
+";
+
 /// What is shown of a function that isn't there.
 const ABSENT: &str = "function 1 operator 5 rule fold\n";
 
@@ -90,6 +104,17 @@ fn shows_a_shorter_tree(rt: HostRuntime) -> Result<(), Fail> {
     assert!(rt; text.as_slice() == PARTS_FOLDED.as_bytes());
     let absent = shown(rt.alloc(), PARTS, FOLDED, 1, rewrite)?;
     assert!(rt; absent.as_slice() == ABSENT.as_bytes());
+    Ok(())
+}
+
+#[test]
+fn shows_nothing_in_a_tree_s_place(rt: HostRuntime) -> Result<(), Fail> {
+    let rewrite = Rewrite {
+        operator: 1,
+        rule: Rule::Forget,
+    };
+    let text = shown(rt.alloc(), PARTS, FORGOTTEN, 0, rewrite)?;
+    assert!(rt; text.as_slice() == PARTS_FORGOTTEN.as_bytes());
     Ok(())
 }
 
