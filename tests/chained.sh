@@ -2,7 +2,7 @@
 # Rewrites each module of tests/modules many times over, one rewrite after another (20,000, or the number that is given), and fails
 # where a rewrite isn't made, where the module isn't accepted by wasm-validate after each thousand, or where a call of the module's
 # list has another answer at the end than in the module as it was. Prints a line for each module and seed: its size at the start
-# and after each thousand rewrites.
+# and after each thousand rewrites. The last line is `N passed, N failed`: each thousand rewrites, and the answers at the end.
 #
 # Usage: chained.sh [REWRITES [SEEDS [PROGRAM]]], rewrites in thousands; seeds are 1 if no number is given. The program is
 # teddertempo; where neither an argument nor the variable TEDDERTEMPO names one, it is the one that tests/modules.sh built.
@@ -17,7 +17,10 @@ source tests/modules/calls.sh
 
 work=$(mktemp -d)
 trap 'rm -rf "$work"' EXIT
+passed=0
 failed=0
+
+pass() { passed=$((passed + 1)); }
 
 fail() {
     failed=$((failed + 1))
@@ -52,13 +55,17 @@ for path in tests/modules/*.wasm; do
         sizes=$(stat -c %s "$work/module.wasm")
         for step in $(seq 1 $((rewrites / 1000))); do
             rewrite_on "$name-$seed-$step" $((seed * 1000 + step)) || break
+            pass
             sizes="$sizes $(stat -c %s "$work/module.wasm")"
         done
         answers_of "$work" > "$work/answers"
         if ! cmp -s "$work/answers" "$work/wanted"; then
             fail "$name-$seed" "other answers: $(diff "$work/wanted" "$work/answers" | head -3 | tr '\n' ' ')"
+        else
+            pass
         fi
         echo "$name, seed $seed: bytes $sizes"
     done
 done
+echo "$passed passed, $failed failed"
 [ "$failed" -eq 0 ]
