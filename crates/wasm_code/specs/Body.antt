@@ -25,6 +25,7 @@ abbrev pub SpellsAll : List (Operator × ℕ) → ℕ → List ℕ → Type 0
 SpellsAll [] start text = text ≡ []
 SpellsAll (x ∷ xs) start text = IsNext (SpellsAll xs) start text x
 
+-- the operator `end`, which closes a block or the body itself
 abbrev pub is_end : Operator → Bool
 is_end op.End = true
 is_end _ = false
@@ -100,6 +101,7 @@ IsFault start to text kinds.BadImmediate offset = StopsAt start text offset BadI
 IsFault start to text kinds.NoEnd offset = LacksEnd start text × (offset ≡ to)
 IsFault start to text kinds.Memory offset = offset ≡ start
 
+-- the kind of fault that reading a body reports for a cause; no cause stands for a missing `end` or a lack of memory
 abbrev pub kind_of : Cause → ReadKind
 kind_of Truncated = kinds.Truncated
 kind_of UnknownOpcode = kinds.UnknownOpcode

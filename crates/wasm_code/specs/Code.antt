@@ -31,6 +31,7 @@ unfoldable pub signed_within : ℕ → Bool → ℕ → List ℕ
 signed_within zero negative n = low_bits negative n ∷ []
 signed_within (suc more) negative n = if nat_lt n 64 then low_bits negative n ∷ [] else (low_bits negative n + 128) ∷ signed_within more negative (n / 128)
 
+-- the shortest spelling of n, or of -1 - n where it is negative, in at most the ten bytes of a number of 64 bits
 unfoldable pub signed_form : Bool → ℕ → List ℕ
 signed_form negative n = signed_within 9 negative n
 
@@ -47,6 +48,7 @@ memarg_code m = if m.memory == 0 then shortest m.align ++ shortest m.offset else
 unfoldable pub v128_code : ℤ → List ℕ
 v128_code z = to_le_bytes w128 (cast_unsigned w128 z)
 
+-- what stands behind the opcode: floats with the lowest byte first, a written value type behind the count 1
 unfoldable pub imm_code : Imm → List ℕ
 imm_code imm.Nothing = []
 imm_code (imm.Index n) = shortest n
@@ -63,11 +65,13 @@ imm_code (imm.Shuffle lanes) = lanes
 imm_code (imm.Heap t) = heap_type_code t ∷ []
 imm_code (imm.Val t) = 1 ∷ val_type_code t ∷ []
 
+-- one byte, or the prefix FC or FD and the shortest spelling of the number behind it
 unfoldable pub opcode_code : Opcode → List ℕ
 opcode_code (Byte b) = b ∷ []
 opcode_code (Fc n) = 0xfc ∷ shortest n
 opcode_code (Fd n) = 0xfd ∷ shortest n
 
+-- the opcode of a row; no bytes where the table has no such row
 abbrev pub row_code : Option Row → List ℕ
 row_code None = []
 row_code (Some row) = opcode_code row.opcode

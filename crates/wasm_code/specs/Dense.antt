@@ -9,6 +9,7 @@ abbrev pub cell_in : Option ℕ → Option ℕ
 cell_in None = None
 cell_in (Some c) = if c == 65535 then None else Some c
 
+-- the row's number in a cell of a dense table; none in an empty cell, and none behind the last one
 abbrev pub cell : List ℕ → ℕ → Option ℕ
 cell cells n = cell_in (slice_get cells n)
 

@@ -5,6 +5,7 @@ use Rattle.wasm_code.specs.declared.table.Opcode.TheVariants.{Byte, Fc, Fd}
 use Rattle.wasm_code.specs.declared.table.Row.{Row}
 use Rattle.wasm_code.specs.Table.{table}
 
+-- one number behind one prefix, or behind none: a prefixed opcode is never the same as one of a single byte
 abbrev pub same_opcode : Opcode → Opcode → Bool
 same_opcode (Byte a) (Byte b) = a == b
 same_opcode (Fc a) (Fc b) = a == b

@@ -80,6 +80,7 @@ pub record FailsBehind {A : Type 0} (First : List ℕ → A → Type 0) (FailsSe
 abbrev pub FailsThen : {A : Type 0} → (List ℕ → Cause → Type 0) → (List ℕ → A → Type 0) → (A → List ℕ → Cause → Type 0) → List ℕ → Cause → Type 0
 FailsThen FailsFirst First FailsSecond bytes cause = FailsFirst bytes cause ⊎ FailsBehind First FailsSecond bytes cause
 
+-- how the one fails that `Choose` takes of two grammars
 abbrev pub FailsChosen : Bool → (List ℕ → Cause → Type 0) → (List ℕ → Cause → Type 0) → List ℕ → Cause → Type 0
 FailsChosen true Yes No bytes cause = Yes bytes cause
 FailsChosen false Yes No bytes cause = No bytes cause

@@ -40,6 +40,7 @@ heap_type_code (Abstract Extern) = 0x6f
 abbrev pub SpellsValType : List ℕ → ValType → Type 0
 SpellsValType = IsCode val_type_code
 
+-- there is no byte, or the first one is that of none of the seven value types
 abbrev pub FailsValType : List ℕ → Cause → Type 0
 FailsValType = FailsCode val_type_code
 
@@ -47,6 +48,7 @@ FailsValType = FailsCode val_type_code
 abbrev pub SpellsHeapType : List ℕ → HeapType → Type 0
 SpellsHeapType = IsCode heap_type_code
 
+-- there is no byte, or the first one is that of neither `func` nor `extern`
 abbrev pub FailsHeapType : List ℕ → Cause → Type 0
 FailsHeapType = FailsCode heap_type_code
 
@@ -84,6 +86,7 @@ SpellsMemArg = Then (SpellsUnsigned 32) (λ n.
     Choose (nat_lt n 64) (SpellsOffset n 0)
     (Choose (nat_lt n 128) (Then (SpellsUnsigned 32) (λ memory. SpellsOffset (n - 64) memory)) Never))
 
+-- No memory argument begins the bytes: one of its numbers fails, or the first one is 128 or more.
 abbrev pub FailsMemArg : List ℕ → Cause → Type 0
 FailsMemArg = FailsThen (FailsUnsigned 32) (SpellsUnsigned 32) (λ n.
     FailsChosen (nat_lt n 64) (FailsUnsigned 64)
@@ -95,6 +98,7 @@ FailsMemArg = FailsThen (FailsUnsigned 32) (SpellsUnsigned 32) (λ n.
 abbrev pub SpellsPair : List ℕ → ℕ × ℕ → Type 0
 SpellsPair = Then (SpellsUnsigned 32) (λ a. Of (λ b. (a, b)) (SpellsUnsigned 32))
 
+-- the first number fails, or the second one behind it
 abbrev pub FailsPair : List ℕ → Cause → Type 0
 FailsPair = FailsThen (FailsUnsigned 32) (SpellsUnsigned 32) (λ _. FailsUnsigned 32)
 
@@ -102,6 +106,7 @@ FailsPair = FailsThen (FailsUnsigned 32) (SpellsUnsigned 32) (λ _. FailsUnsigne
 abbrev pub SpellsLabels : List ℕ → ℕ → Type 0
 SpellsLabels = Then (SpellsUnsigned 32) (λ n. Of (λ _. n) (Times (n + 1) (SpellsUnsigned 32)))
 
+-- the count fails, or one of the labels behind it, the default one included
 abbrev pub FailsLabels : List ℕ → Cause → Type 0
 FailsLabels = FailsThen (FailsUnsigned 32) (SpellsUnsigned 32) (λ n. FailsTimes (n + 1) (FailsUnsigned 32) (SpellsUnsigned 32))
 
@@ -114,6 +119,7 @@ SpellsFirst (suc n) = Then SpellsValType (λ t. Of (λ _. Some t) (Times n Spell
 abbrev pub SpellsTypes : List ℕ → ℕ × Option ValType → Type 0
 SpellsTypes = Then (SpellsUnsigned 32) (λ n. Of (λ first. (n, first)) (SpellsFirst n))
 
+-- the count fails, or one of the value types behind it
 abbrev pub FailsTypes : List ℕ → Cause → Type 0
 FailsTypes = FailsThen (FailsUnsigned 32) (SpellsUnsigned 32) (λ n. FailsTimes n FailsValType SpellsValType)
 

@@ -32,10 +32,12 @@ is_of_kind kind.Heap (imm.Heap t) = true
 is_of_kind kind.Val (imm.Val t) = true
 is_of_kind _ _ = false
 
+-- an immediate of the kind that the row asks for; none fits where the table has no such row
 abbrev pub fits_row : Option Row → Imm → Bool
 fits_row None i = false
 fits_row (Some row) i = is_of_kind row.kind i
 
+-- the memory's index has 32 bits, the offset 64, and the exponent of the alignment 8
 abbrev pub MemArgInRange : MemArg → Type 0
 MemArgInRange m = (m.memory < 2 ^ 32) × (m.offset < 2 ^ 64) × (m.align < 256)
 

@@ -72,6 +72,7 @@ pub record IsOut (Out : List ℕ → Type 0) (most : ℕ) (bytes : List ℕ) : T
   pub short : length group ≤ most
   pub out : Out group
 
+-- no number begins the bytes: they end inside it, or it is too long or, as `Out` says of its group, out of range
 abbrev pub FailsNumber : (List ℕ → Type 0) → ℕ → List ℕ → Cause → Type 0
 FailsNumber Out most bytes Truncated = EndsInside most bytes
 FailsNumber Out most bytes BadInteger = GoesOn most bytes ⊎ IsOut Out most bytes

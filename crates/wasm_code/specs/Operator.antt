@@ -36,6 +36,7 @@ SpellsOpcode = Then IsByte (λ b.
     Choose (b == 0xfc) (Of (λ n. Fc n) (SpellsUnsigned 32))
     (Choose (b == 0xfd) (Of (λ n. Fd n) (SpellsUnsigned 32)) (NoBytes (Byte b))))
 
+-- there is no byte, or the number behind FC or FD fails; whether anything has the opcode isn't asked
 abbrev pub FailsOpcode : List ℕ → Cause → Type 0
 FailsOpcode = FailsThen LacksByte IsByte (λ b.
     FailsChosen (b == 0xfc) (FailsUnsigned 32)

@@ -40,6 +40,7 @@ abbrev pub Gives : {X Y : Type 0} → (X → Y) → Result X Cause → Result Y 
 Gives view (Ok x) read = read ≡ Ok (view x)
 Gives view (Err e) read = read ≡ Err e
 
+-- the first byte, and what follows it
 abbrev pub byte_at : List ℕ → Result (ℕ × List ℕ) Cause
 byte_at [] = Err Truncated
 byte_at (b ∷ rest) = Ok (b, rest)
@@ -69,14 +70,17 @@ within_at half most bytes = do
   g ← group_at most bytes
   if fits_half half (signed_value g.0) then Ok (signed_value g.0, g.1) else Err BadInteger
 
+-- an unsigned number of so many bits; one that is too long or too large is a bad integer
 abbrev pub unsigned_at : (bits : ℕ) → List ℕ → Result (ℕ × List ℕ) Cause
 unsigned_at bits bytes = below_at (2 ^ bits) (most_bytes bits) bytes
 
+-- a signed number of so many bits, of which the sign is one; one that is too long or out of range is a bad integer
 abbrev pub signed_at : (bits : ℕ) → List ℕ → Result (ℤ × List ℕ) Cause
 signed_at bits bytes = within_at (2 ^ (bits - 1)) (most_bytes bits) bytes
 
 -- ---- operators
 
+-- an opcode, whether or not any operator has it
 unfoldable pub opcode_at : List ℕ → Result (Opcode × List ℕ) Cause
 opcode_at bytes = byte_at bytes >>= λ b.
     if b.0 == 0xfc then (unsigned_at 32 b.1 >>= λ n. Ok (Fc n.0, n.1))
@@ -100,32 +104,40 @@ val_type_of b = if b == 0x7f then Some I32 else if b == 0x7e then Some I64 else 
 unfoldable pub heap_type_of : ℕ → Option HeapType
 heap_type_of b = if b == 0x70 then Some (Abstract Func) else if b == 0x6f then Some (Abstract Extern) else None
 
+-- a value type in one byte; a byte that stands for none is a bad immediate
 unfoldable pub val_type_at : List ℕ → Result (ValType × List ℕ) Cause
 val_type_at bytes = byte_at bytes >>= λ b. named_at (val_type_of b.0) b.1
 
+-- `func` or `extern` in one byte; another byte is a bad immediate
 unfoldable pub heap_type_at : List ℕ → Result (HeapType × List ℕ) Cause
 heap_type_at bytes = byte_at bytes >>= λ b. named_at (heap_type_of b.0) b.1
 
+-- the block type that a number of 33 bits names: the index of a function type; below zero there is none
 abbrev pub func_type_at : ℤ → List ℕ → Result (BlockType × List ℕ) Cause
 func_type_at (pos n) rest = Ok (FuncType n, rest)
 func_type_at (negsuc n) rest = Err BadImmediate
 
+-- the block type of the value type that was found, with `rest` behind it; else the bytes begin with a type's index
 unfoldable pub block_type_of : Option ValType → List ℕ → List ℕ → Result (BlockType × List ℕ) Cause
 block_type_of (Some t) bytes rest = Ok (Value t, rest)
 block_type_of None bytes rest = signed_at 33 bytes >>= λ z. func_type_at z.0 z.1
 
+-- a block type: the byte 40 for none, a value type, or the index of a function type
 unfoldable pub block_type_at : List ℕ → Result (BlockType × List ℕ) Cause
 block_type_at bytes = byte_at bytes >>= λ b. if b.0 == 0x40 then Ok (Empty, b.1) else block_type_of (val_type_of b.0) bytes b.1
 
+-- the offset of a memory argument, whose alignment and memory stand before it
 unfoldable pub offset_at : ℕ → ℕ → List ℕ → Result (MemArg × List ℕ) Cause
 offset_at align memory bytes = unsigned_at 64 bytes >>= λ offset. Ok (record { offset = offset.0; align = align; memory = memory }, offset.1)
 
+-- a memory argument; its first number is 64 more where the index of a memory follows, and never 128 or more
 unfoldable pub memarg_at : List ℕ → Result (MemArg × List ℕ) Cause
 memarg_at bytes = unsigned_at 32 bytes >>= λ n.
     if nat_lt n.0 64 then offset_at n.0 0 n.1
     else if nat_lt n.0 128 then (unsigned_at 32 n.1 >>= λ memory. offset_at (n.0 - 64) memory.0 memory.1)
     else Err BadImmediate
 
+-- two indices, each of 32 bits
 unfoldable pub pair_at : List ℕ → Result ((ℕ × ℕ) × List ℕ) Cause
 pair_at bytes = unsigned_at 32 bytes >>= λ a. unsigned_at 32 a.1 >>= λ b. Ok ((a.0, b.0), b.1)
 
@@ -134,12 +146,15 @@ unfoldable pub times_at : {A : Type 0} → ℕ → (List ℕ → Result (A × Li
 times_at zero at bytes = Ok (tt, bytes)
 times_at (suc n) at bytes = at bytes >>= λ x. times_at n at x.1
 
+-- the labels of a `br_table`, of which the count alone is kept; the default one, not counted, stands behind them
 unfoldable pub labels_at : List ℕ → Result (ℕ × List ℕ) Cause
 labels_at bytes = unsigned_at 32 bytes >>= λ n. times_at (n.0 + 1) (unsigned_at 32) n.1 >>= λ rest. Ok (n.0, rest.1)
 
+-- so many value types, of which the first is kept, where there is one
 unfoldable pub first_at : ℕ → List ℕ → Result (Option ValType × List ℕ) Cause
 first_at n bytes = if n == 0 then Ok (None, bytes) else (val_type_at bytes >>= λ t. times_at (n - 1) val_type_at t.1 >>= λ rest. Ok (Some t.0, rest.1))
 
+-- the types of a select: how many, and the first, where there is one
 unfoldable pub types_at : List ℕ → Result ((ℕ × Option ValType) × List ℕ) Cause
 types_at bytes = unsigned_at 32 bytes >>= λ n. first_at n.0 n.1 >>= λ first. Ok ((n.0, first.0), first.1)
 
@@ -164,10 +179,12 @@ imm_at kind.Val bytes = Err BadImmediate
 abbrev pub instr_at : ℕ → Kind → List ℕ → Result (Operator × List ℕ) Cause
 instr_at number kind bytes = imm_at kind bytes >>= λ i. Ok (op.Instr (record { row = number; imm = i.0 }), i.1)
 
+-- the form of the row that was found, with its number
 abbrev pub row_form : Option (ℕ × Row) → Option Form
 row_form None = None
 row_form (Some found) = Some (form.Row found.0 found.1)
 
+-- the form of an opcode of one byte: that of an operator that is no row of the table, or the row's
 abbrev pub byte_form : ℕ → Option Form
 byte_form b =
     if b == 0x00 then Some form.Unreachable else if b == 0x02 then Some form.Block else if b == 0x03 then Some form.Loop
@@ -176,6 +193,7 @@ byte_form b =
     else if b == 0x0f then Some form.Return else if b == 0x11 then Some form.CallIndirect else if b == 0x1c then Some form.TypedSelect
     else row_form (row_with (Byte b))
 
+-- how what stands behind the opcode is read; none where no operator has the opcode
 unfoldable pub form_of : Opcode → Option Form
 form_of (Byte b) = byte_form b
 form_of (Fc n) = row_form (row_with (Fc n))
@@ -191,6 +209,7 @@ abbrev pub select_of : ℕ → Option ValType → Operator
 select_of count None = op.TypedSelect count None
 select_of count (Some t) = if count == 1 then op.Instr (record { row = 445; imm = imm.Val t }) else op.TypedSelect count (Some t)
 
+-- the operator of a form, by what stands behind its opcode
 unfoldable pub behind_at : Form → List ℕ → Result (Operator × List ℕ) Cause
 behind_at (form.Row number row) bytes = instr_at number row.kind bytes
 behind_at form.Unreachable bytes = Ok (op.Unreachable, bytes)
@@ -206,10 +225,12 @@ behind_at form.Return bytes = Ok (op.Return, bytes)
 behind_at form.CallIndirect bytes = pair_at bytes >>= λ p. Ok (op.CallIndirect p.0.0 p.0.1, p.1)
 behind_at form.TypedSelect bytes = types_at bytes >>= λ t. Ok (select_of t.0.0 t.0.1, t.1)
 
+-- the same where there is a form; else the opcode is unknown
 abbrev pub formed_at : Option Form → List ℕ → Result (Operator × List ℕ) Cause
 formed_at None bytes = Err UnknownOpcode
 formed_at (Some f) bytes = behind_at f bytes
 
+-- one whole operator, and what follows it
 unfoldable pub operator_at : List ℕ → Result (Operator × List ℕ) Cause
 operator_at bytes = opcode_at bytes >>= λ o. formed_at (form_of o.0) o.1
 
@@ -219,10 +240,12 @@ operator_at bytes = opcode_at bytes >>= λ o. formed_at (form_of o.0) o.1
 abbrev pub Read : Type 0
 Read = Result (List (Operator × ℕ)) (ReadKind × ℕ)
 
+-- one operator more before those that were read; a fault behind it stays the answer
 abbrev pub and_first : Operator × ℕ → Read → Read
 and_first x (Ok xs) = Ok (x ∷ xs)
 and_first x (Err e) = Err e
 
+-- no more operators, or else the fault that the last one isn't `end`, at the offset behind the bytes
 abbrev pub at_end : Bool → ℕ → Read
 at_end true to = Ok []
 at_end false to = Err (kinds.NoEnd, to)

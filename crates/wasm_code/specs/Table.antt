@@ -30,24 +30,31 @@ fc = span (λ n. Fc n)
 abbrev fd : (first count : ℕ) → Kind → Option ℕ → ResultKind → ℕ → List Row
 fd = span (λ n. Fd n)
 
+-- one result, a whole number of 32 bits, whatever the operands are
 abbrev i32 : ResultKind
 i32 = results.Fixed types.I32
 
+-- one result, a whole number of 64 bits
 abbrev i64 : ResultKind
 i64 = results.Fixed types.I64
 
+-- one result, a float of 32 bits
 abbrev f32 : ResultKind
 f32 = results.Fixed types.F32
 
+-- one result, a float of 64 bits
 abbrev f64 : ResultKind
 f64 = results.Fixed types.F64
 
+-- one result, a vector of 128 bits
 abbrev v128 : ResultKind
 v128 = results.Fixed types.V128
 
+-- one result, a reference to a function
 abbrev funcref : ResultKind
 funcref = results.Fixed types.FuncRef
 
+-- the rows of the spans, one span behind another
 abbrev all_of : List (List Row) → List Row
 all_of [] = []
 all_of (rows ∷ more) = rows ++ all_of more
@@ -196,6 +203,7 @@ table = all_of spans
 unfoldable pub row_at : ℕ → Option Row
 row_at n = slice_get table n
 
+-- the opcode of a row, where the table has that row
 abbrev pub opcode_in : Option Row → Option Opcode
 opcode_in None = None
 opcode_in (Some row) = Some row.opcode
@@ -204,6 +212,7 @@ opcode_in (Some row) = Some row.opcode
 unfoldable pub HasOpcode : ℕ → Opcode → Type 0
 HasOpcode r o = opcode_in (row_at r) ≡ Some o
 
+-- operands, result and rise of the colour of a row, where the table has that row
 abbrev pub info_in : Option Row → Option RowInfo
 info_in None = None
 info_in (Some row) = Some row.info
