@@ -3,6 +3,7 @@ use Rattle.std.specs.Prelude.{ℕ, List, codes}
 use Rattle.wasm_sections.specs.declared.fault.ModuleFault.{ModuleFault}
 use Rattle.wasm_sections.specs.declared.fault.ModuleFault.TheVariants as faults
 
+-- what a caller is told of bytes that are no module, or none that can be read here
 abbrev pub fault_name : ModuleFault → List ℕ
 fault_name faults.BadMagic = codes "BadMagic"
 fault_name faults.BadVersion = codes "BadVersion"

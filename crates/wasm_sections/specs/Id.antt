@@ -38,6 +38,7 @@ rank_of ids.DataCount = 11
 rank_of ids.Code = 12
 rank_of ids.Data = 13
 
+-- what the grammar calls the section, in lower case: `datacount` is one word
 abbrev pub id_name : SectionId → List ℕ
 id_name ids.Custom = codes "custom"
 id_name ids.Type = codes "type"

@@ -69,10 +69,11 @@ AreFinal (p ∷ parts) = (p.0 ≡ ids.Custom → IsLinkable p.1 → ⊥) × AreF
 
 -- ---- modules
 
--- `\0asm`, and the version 1 in four bytes
+-- the magic number `\0asm`, without which bytes are no module at all
 abbrev pub magic : List ℕ
 magic = 0x00 ∷ 0x61 ∷ 0x73 ∷ 0x6d ∷ []
 
+-- `\0asm`, and the version 1 in four bytes, the lowest first: what stands before the first section
 abbrev pub preamble : List ℕ
 preamble = 0x00 ∷ 0x61 ∷ 0x73 ∷ 0x6d ∷ 0x01 ∷ 0x00 ∷ 0x00 ∷ 0x00 ∷ []
 

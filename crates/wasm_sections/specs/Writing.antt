@@ -11,6 +11,7 @@ use Rattle.wasm_sections.specs.Id.{id_code}
 abbrev pub section_code : SectionId → List ℕ → List ℕ
 section_code id contents = id_code id ∷ shortest (length contents) ++ contents
 
+-- what a caller is told of a section that isn't written
 abbrev pub write_error_name : WriteError → List ℕ
 write_error_name errors.TooLarge = codes "TooLarge"
 write_error_name errors.Memory = codes "Memory"
