@@ -42,6 +42,7 @@ arithmetic t =
     ∷ binary t add ∷ binary t sub ∷ binary t mul ∷ binary t div_s ∷ binary t div_u ∷ binary t rem_s ∷ binary t rem_u
     ∷ binary t and_ ∷ binary t or_ ∷ binary t xor_ ∷ binary t shl ∷ binary t shr_s ∷ binary t shr_u ∷ binary t rotl ∷ binary t rotr ∷ []
 
+-- the extensions of the low 8, 16 and 32 bits within one type, `C0` to `C4`
 abbrev pub extensions : List IntegerOperator
 extensions =
     extend_low_s integer.I32 w8 ∷ extend_low_s integer.I32 w16
@@ -51,6 +52,7 @@ extensions =
 abbrev pub from_byte : ℕ → List IntegerOperator → ℕ → Option IntegerOperator
 from_byte first operators byte = if nat_lt byte first then None else slice_get operators (byte - first)
 
+-- the first operator that is there, of two
 abbrev pub or_else : Option IntegerOperator → Option IntegerOperator → Option IntegerOperator
 or_else (Some f) o = Some f
 or_else None o = o
@@ -64,6 +66,7 @@ bare_operator byte =
     (or_else (from_byte 0xac (extend_i32_s ∷ extend_i32_u ∷ []) byte)
     (from_byte 0xc0 extensions byte))))
 
+-- the row of an operator, where one was found
 abbrev pub operator_row : Option IntegerOperator → Option IntegerRow
 operator_row o = option_map operation o
 
@@ -104,6 +107,7 @@ opcode_row (Some (Fc n)) i = None
 opcode_row (Some (Fd n)) i = None
 opcode_row None i = None
 
+-- the integer row that was found, or else the instruction as another one
 abbrev pub row_or_other : Instruction → Option IntegerRow → IntegerRow
 row_or_other i (Some row) = row
 row_or_other i None = other i
@@ -119,10 +123,12 @@ is_other row = false
 
 -- ---- what a row takes and gives
 
+-- how many operands an instruction of these types takes; 0 where its types aren't known
 abbrev pub count_of : Option OtherType → ℕ
 count_of (Some t) = length t.operands
 count_of None = 0
 
+-- how many operands a row takes from the stack; of a call and the like, as the module says of what it names
 abbrev pub operand_count : Module → IntegerRow → ℕ
 operand_count info (operation f) = length f.operands
 operand_count info (set x) = 1
@@ -132,6 +138,7 @@ operand_count info select = 3
 operand_count info (other i) = count_of (other_type (names_in info i.imm) i)
 operand_count info row = 0
 
+-- what is given where the operands are of the row's types, and else nothing
 abbrev pub if_typed : {A : Type 0} → Bool → A → Option A
 if_typed b a = if b then Some a else None
 

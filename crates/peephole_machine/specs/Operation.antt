@@ -11,11 +11,13 @@ use Rattle.peephole_machine.specs.declared.operation.Operation.{Operation}
 use Rattle.peephole_machine.specs.declared.operation.Operation.TheVariants as operation
 use Rattle.peephole_machine.specs.Integer.{IntegerOperator, Unary, Binary, Comparison, binary, unary, eqz, compare, wrap, extend_i32_s, extend_i32_u, extend_low_s, add, sub, mul, div_s, div_u, rem_s, rem_u, and_, or_, xor_, shl, shr_s, shr_u, rotl, rotr, clz, ctz, popcnt, eq, ne, lt_s, lt_u, gt_s, gt_u, le_s, le_u, ge_s, ge_u}
 
+-- the operator on one number that the code's variant names
 abbrev pub unary_of : CodeUnary → Unary
 unary_of Clz = clz
 unary_of Ctz = ctz
 unary_of Popcnt = popcnt
 
+-- the operator on two numbers that the code's variant names
 abbrev pub binary_of : CodeBinary → Binary
 binary_of Add = add
 binary_of Sub = sub
@@ -33,6 +35,7 @@ binary_of ShrU = shr_u
 binary_of Rotl = rotl
 binary_of Rotr = rotr
 
+-- the relation that the code's variant names
 abbrev pub comparison_of : CodeComparison → Comparison
 comparison_of Eq = eq
 comparison_of Ne = ne
@@ -45,6 +48,7 @@ comparison_of LeU = le_u
 comparison_of GeS = ge_s
 comparison_of GeU = ge_u
 
+-- the operator with its types, of the code's variant; extensions by the width of the low bits
 abbrev pub operator_of : Operation → IntegerOperator
 operator_of (operation.Eqz t) = eqz t
 operator_of (operation.Compare t c) = compare t (comparison_of c)

@@ -31,6 +31,7 @@ use Rattle.peephole_machine.specs.declared.operand.OperandColumn.TheVariants as 
 
 -- ---- what an immediate names
 
+-- the type of values that an immediate writes, as modules' lists have it
 abbrev pub value_type : ValType → PrimitiveTypeInfo
 value_type value.I32 = I32
 value_type value.I64 = I64
@@ -40,10 +41,12 @@ value_type value.V128 = V128
 value_type value.FuncRef = FuncRef
 value_type value.ExternRef = ExternRef
 
+-- the type of references to what the heap type names
 abbrev pub reference_type : HeapType → PrimitiveTypeInfo
 reference_type (Abstract heap.Func) = FuncRef
 reference_type (Abstract heap.Extern) = ExternRef
 
+-- the type of a table's elements; `Empty` stands for any that is neither a funcref nor an externref
 abbrev pub element_type : ElementType → PrimitiveTypeInfo
 element_type elements.Func = FuncRef
 element_type elements.Extern = ExternRef
@@ -67,6 +70,7 @@ abbrev pub second_index : Imm → ℕ
 second_index (imm.Pair i j) = j
 second_index _ = 0
 
+-- the type that an immediate writes: that of a `ref.null`, or of a select; other immediates write none
 abbrev pub named_type : Imm → Option PrimitiveTypeInfo
 named_type (imm.Heap h) = Some (reference_type h)
 named_type (imm.Val t) = Some (value_type t)
@@ -83,12 +87,15 @@ pub record Named : Type 0 where
   pub function : Option TypeInfo
   pub type : Option PrimitiveTypeInfo
 
+-- the type of addresses in the memory with the index; none where there is no such memory
 abbrev pub address_in : List MemoryType → ℕ → Option PrimitiveTypeInfo
 address_in memories i = option_map (λ x. address_type x.memory64) (slice_get memories i)
 
+-- the type of indices into the table with the index; none where there is no such table
 abbrev pub index_in : List TableType → ℕ → Option PrimitiveTypeInfo
 index_in tables i = option_map (λ x. address_type x.table64) (slice_get tables i)
 
+-- an index is looked up in every list, whichever of them the instruction means
 abbrev pub names_in : Module → Imm → Named
 names_in m i = record {
   address = address_in m.memories (first_index i);
@@ -112,6 +119,7 @@ abbrev pub smaller : Option PrimitiveTypeInfo → Option PrimitiveTypeInfo → O
 smaller (Some I64) o = o
 smaller o r = o
 
+-- the operand that an entry of the column means, by what the instruction's immediate names
 abbrev pub operand_by : Named → OperandKind → Operand
 operand_by n (kind.Of t) = typed (Some t)
 operand_by n kind.Reference = reference
@@ -124,11 +132,13 @@ operand_by n kind.SmallerIndex = typed (smaller n.index n.other_index)
 operand_by n kind.Element = typed n.element
 operand_by n kind.Named = typed n.type
 
+-- what a call takes: the parameters of the function's type; none where that is no known function type
 abbrev pub parameters : Option TypeInfo → Option (List Operand)
 parameters None = None
 parameters (Some (Func t)) = Some (map (λ p. typed (Some p)) t.params)
 parameters (Some Other) = None
 
+-- the operands of a column, the last on top of the stack; none where they aren't known
 abbrev pub operands_in : Named → OperandColumn → Option (List Operand)
 operands_in n column.Unknown = None
 operands_in n column.Parameters = parameters n.function
@@ -139,42 +149,55 @@ operands_in n (column.Three a b c) = Some (operand_by n a ∷ operand_by n b ∷
 
 -- ---- the operand column
 
+-- an operand of type i32, whatever the immediate names
 abbrev pub i32 : OperandKind
 i32 = kind.Of I32
 
+-- an operand of type i64
 abbrev pub i64 : OperandKind
 i64 = kind.Of I64
 
+-- an operand of type f32
 abbrev pub f32 : OperandKind
 f32 = kind.Of F32
 
+-- an operand of type f64
 abbrev pub f64 : OperandKind
 f64 = kind.Of F64
 
+-- an operand of type v128
 abbrev pub v128 : OperandKind
 v128 = kind.Of V128
 
+-- an address in the memory that the immediate names: i32, or i64 in a memory of 64 bits
 abbrev pub address : OperandKind
 address = kind.Address
 
+-- an index into the table that the immediate names, of its address type
 abbrev pub index : OperandKind
 index = kind.Index
 
+-- a reference of the element type of the table that the immediate names
 abbrev pub element : OperandKind
 element = kind.Element
 
+-- no operands are told: no row has the opcode, or it is that of an integer row
 abbrev pub unknown : OperandColumn
 unknown = column.Unknown
 
+-- the instruction takes nothing
 abbrev pub none : OperandColumn
 none = column.Zero
 
+-- one operand
 abbrev pub one : OperandKind → OperandColumn
 one a = column.One a
 
+-- two operands, the second on top
 abbrev pub two : OperandKind → OperandKind → OperandColumn
 two a b = column.Two a b
 
+-- three operands, the third on top
 abbrev pub three : OperandKind → OperandKind → OperandKind → OperandColumn
 three a b c = column.Three a b c
 
@@ -219,30 +242,36 @@ abbrev pub is_in_span : List (ℕ × ℕ) → ℕ → Bool
 is_in_span [] n = false
 is_in_span (span ∷ spans) n = (nat_le span.0 n && nat_le n span.1) || is_in_span spans n
 
+-- as many vectors as the instruction table counts operands
 abbrev pub vectors : Option ℕ → OperandColumn
 vectors (Some n) = if n == 1 then one v128 else (if n == 2 then two v128 v128 else three v128 v128 v128)
 vectors None = unknown
 
+-- of the opcodes behind FD from 94 on: vectors alone, but for the shifts, whose count is an i32
 abbrev pub vector_column : Option ℕ → ℕ → OperandColumn
 vector_column count opcode =
     if is_in_span ((107, 109) ∷ (139, 141) ∷ (171, 173) ∷ (203, 205) ∷ []) opcode then two v128 i32 else vectors count
 
+-- the column of an opcode; the count of operands, by the instruction table, matters for vectors alone
 abbrev pub column_by : Option ℕ → Opcode → OperandColumn
 column_by count (Byte byte) = by_spans byte_spans byte
 column_by count (Fc opcode) = by_spans fc_spans opcode
 column_by count (Fd opcode) = if nat_lt opcode 94 then by_spans fd_spans opcode else vector_column count opcode
 
+-- the column of a row, where the table has that row
 abbrev pub column_in : Option Row → OperandColumn
 column_in None = unknown
 column_in (Some row) = column_by row.info.operands row.opcode
 
 -- ---- results, by the table
 
+-- what a call gives: the results of the function's type; none where that is no known function type
 abbrev pub returned : Option TypeInfo → Option (List PrimitiveTypeInfo)
 returned None = None
 returned (Some (Func t)) = Some t.returns
 returned (Some Other) = None
 
+-- the result types; not there where the module lacks what is named, nor where a variable or an operand decides
 abbrev pub results_by : Named → ResultKind → Option (List PrimitiveTypeInfo)
 results_by n by.Nothing = Some []
 results_by n (by.Fixed t) = Some (value_type t ∷ [])
@@ -255,13 +284,16 @@ results_by n _ = None
 
 -- ---- both
 
+-- the type of an instruction: what it takes, the last operand on top, and what it gives
 pub record OtherType : Type 0 where
   pub operands : List Operand
   pub results : List PrimitiveTypeInfo
 
+-- a type, where operands and results both are known
 abbrev pub both_of : Option (List Operand) → Option (List PrimitiveTypeInfo) → Option OtherType
 both_of o r = option_and_then (λ operands. option_map (λ results. record { operands = operands; results = results }) r) o
 
+-- the type of a row's instruction, where the table has the row and the module what it names
 abbrev pub type_by_row : Named → Option Row → Option OtherType
 type_by_row n None = None
 type_by_row n (Some row) = both_of (operands_in n (column_by row.info.operands row.opcode)) (results_by n row.info.result)

@@ -20,6 +20,7 @@ use Rattle.peephole_machine.specs.Integer.{select_operator}
 use Rattle.peephole_machine.specs.IntegerRow.{IntegerRow, constant, operation, get, set, tee, discard, select, nop, other, if_typed, operand_count, row_types, integer_row}
 use Rattle.peephole_machine.specs.Operation.{operator_of}
 
+-- the variable that the code's variant names
 abbrev pub variable_of : CodeVariable → Variable
 variable_of (variable.Local n) = local n
 variable_of (variable.Global n) = global n
@@ -44,6 +45,7 @@ byte_of (Some (Fc n)) = None
 byte_of (Some (Fd n)) = None
 byte_of None = None
 
+-- an instruction's opcode, where that is one byte; none behind FC and FD, nor where the table has no such row
 abbrev pub instruction_byte : Instruction → Option ℕ
 instruction_byte i = byte_of (opcode_in (row_at i.row))
 
@@ -54,14 +56,17 @@ list_of None = []
 
 -- ---- what single rows give, by the type of their variable, where they have one (as `row_types` says)
 
+-- it takes nothing, and gives a value of the variable's type
 abbrev pub get_types : Option PrimitiveTypeInfo → List PrimitiveTypeInfo → Option (List PrimitiveTypeInfo)
 get_types o [] = option_and_then (λ u. Some (u ∷ [])) o
 get_types o ts = None
 
+-- it takes a value of the variable's type, and gives nothing
 abbrev pub set_types : Option PrimitiveTypeInfo → List PrimitiveTypeInfo → Option (List PrimitiveTypeInfo)
 set_types o (t ∷ []) = option_and_then (λ u. if_typed (same_type t u) []) o
 set_types o ts = None
 
+-- it takes a value of the variable's type, and gives it
 abbrev pub tee_types : Option PrimitiveTypeInfo → List PrimitiveTypeInfo → Option (List PrimitiveTypeInfo)
 tee_types o (t ∷ []) = option_and_then (λ u. if_typed (same_type t u) (t ∷ [])) o
 tee_types o ts = None
@@ -70,9 +75,11 @@ tee_types o ts = None
 abbrev pub no_variables : Context
 no_variables = record { info = module_of []; locals = [] }
 
+-- no type is left of one operand of any type; another number of operands isn't taken
 abbrev pub drop_types : List PrimitiveTypeInfo → Option (List PrimitiveTypeInfo)
 drop_types ts = row_types no_variables discard ts
 
+-- the type of the first two operands, where they are of one numeric or vector type and the condition is an i32
 abbrev pub select_types : List PrimitiveTypeInfo → Option (List PrimitiveTypeInfo)
 select_types ts = row_types no_variables select ts
 
@@ -84,14 +91,17 @@ at_most_one [] = Some None
 at_most_one (t ∷ []) = Some (Some t)
 at_most_one ts = None
 
+-- the element type of the table with the index; none where there is no such table
 abbrev pub element_in : List TableType → ℕ → Option PrimitiveTypeInfo
 element_in tables i = option_map (λ x. element_type x.element_type) (slice_get tables i)
 
+-- the operands are of the parameters' types; not where the function's type isn't known
 abbrev pub accept_parameters : Option TypeInfo → List PrimitiveTypeInfo → Bool
 accept_parameters None ts = false
 accept_parameters (Some (Func t)) ts = same_types t.params ts
 accept_parameters (Some Other) ts = false
 
+-- the operands may have these types; not where they aren't known
 abbrev pub accept_some : Option (List Operand) → List PrimitiveTypeInfo → Bool
 accept_some None ts = false
 accept_some (Some os) ts = accept os ts
@@ -109,6 +119,7 @@ abbrev pub count_in : Option (List Operand) → ℕ
 count_in None = 0
 count_in (Some os) = length os
 
+-- how many operands a row takes, of another instruction by its operand column
 abbrev pub count_by : Module → IntegerRow → ℕ
 count_by info (other i) = count_in (operands_in (names_in info i.imm) (column_in (row_at i.row)))
 count_by info row = operand_count info row

@@ -21,6 +21,7 @@ abbrev pub type_of : IntegerType → PrimitiveTypeInfo
 type_of integer.I32 = primitive.I32
 type_of integer.I64 = primitive.I64
 
+-- the number of bits of an integer type, 32 or 64
 abbrev pub width_of : IntegerType → Width
 width_of integer.I32 = w32
 width_of integer.I64 = w64
@@ -36,9 +37,11 @@ type_number primitive.FuncRef = 5
 type_number primitive.ExternRef = 6
 type_number primitive.Empty = 7
 
+-- equal types: there are no subtypes among the eight
 abbrev pub same_type : PrimitiveTypeInfo → PrimitiveTypeInfo → Bool
 same_type t u = type_number t == type_number u
 
+-- as many types as there are others, equal in turn
 abbrev pub same_types : List PrimitiveTypeInfo → List PrimitiveTypeInfo → Bool
 same_types [] [] = true
 same_types (t ∷ ts) (u ∷ us) = same_type t u && same_types ts us
@@ -50,16 +53,19 @@ is_reference primitive.FuncRef = true
 is_reference primitive.ExternRef = true
 is_reference _ = false
 
+-- the operand may be of the type; an operand whose type isn't there takes none
 abbrev pub accepts : Operand → PrimitiveTypeInfo → Bool
 accepts (typed (Some t)) u = same_type t u
 accepts (typed None) u = false
 accepts reference u = is_reference u
 
+-- as many operands as types, each of which it may have
 abbrev pub accept : List Operand → List PrimitiveTypeInfo → Bool
 accept [] [] = true
 accept (o ∷ os) (t ∷ ts) = accepts o t && accept os ts
 accept os ts = false
 
+-- what an instruction of that type gives on operands of these types; none where it takes others
 abbrev pub results_on : List PrimitiveTypeInfo → OtherType → Option (List PrimitiveTypeInfo)
 results_on ts t = if accept t.operands ts then Some t.results else None
 
@@ -80,6 +86,7 @@ IsOfType primitive.I32 n = n < 2 ^ 32
 IsOfType primitive.I64 n = n < 2 ^ 64
 IsOfType _ n = ⊤
 
+-- the number is one of the value's type
 abbrev pub IsValue : Value → Type 0
 IsValue v = IsOfType v.type v.number
 
@@ -87,6 +94,7 @@ IsValue v = IsOfType v.type v.number
 abbrev pub whole : IntegerType → ℕ → Value
 whole t n = record { type = type_of t; number = n % 2 ^ bits (width_of t) }
 
+-- the types of values, in their order
 abbrev pub types : List Value → List PrimitiveTypeInfo
 types vs = map (λ v. v.type) vs
 
@@ -97,6 +105,7 @@ pub record Context : Type 0 where
   pub info : Module
   pub locals : List PrimitiveTypeInfo
 
+-- the context of a function's code: the module, and its parameters and locals
 abbrev pub context_in : Module → (locals : List PrimitiveTypeInfo) → Context
 context_in info locals = record { info = info; locals = locals }
 
@@ -129,16 +138,20 @@ pub record State : Type 0 where
 abbrev pub own_globals : State → List Value
 own_globals s = take (length s.world.info.globals) s.globals
 
+-- the requested ones
 abbrev pub further_globals : State → List Value
 further_globals s = drop (length s.world.info.globals) s.globals
 
+-- a local or a global, by its index
 pub data Variable : Type 0 where
   local global : ℕ → Variable
 
+-- the value of a variable, where it is there
 abbrev pub read : Variable → State → Option Value
 read (local i) s = slice_get s.locals i
 read (global i) s = slice_get s.globals i
 
+-- the state with another value in the variable; the same state where it isn't there
 abbrev pub write : Variable → Value → State → State
 write (local i) v s = record s { locals = slice_set s.locals i v }
 write (global i) v s = record s { globals = slice_set s.globals i v }
@@ -177,6 +190,7 @@ pub data Outcome : Type 0 where
   Traps : Cause → (globals : List Value) → (rest : ℕ) → Outcome
   Stuck : Outcome
 
+-- what follows a run that ends; a trap stays a trap, and a stuck run stuck
 abbrev pub then_run : Outcome → (List Value → State → Outcome) → Outcome
 then_run (Ends vs s) next = next vs s
 then_run (Traps cause globals rest) next = Traps cause globals rest
