@@ -17,17 +17,21 @@ pub record IsBack (m : Module) (i back : Instruction) : Type 0 where
   pub types_are : (operands : List PrimitiveTypeInfo) → other_types m i operands ≡ other_types m back operands
   pub changes_all : changes i ≡ true
 
+-- each instruction that comes back is of the types of the call that it becomes, and may change anything
 abbrev pub CallsBack : Module → Backs → Type 0
 CallsBack m backs = (i back : Instruction) → backs i ≡ Some back → IsBack m i back
 
+-- an instruction that comes back doesn't end where no call does; the others answer as before
 abbrev pub answer_unfinished : Option Instruction → Answer → (globals : List Value) → (rest : ℕ) → Answer
 answer_unfinished None a gs r = a
 answer_unfinished (Some back) a gs r = Fails unfinished gs r
 
+-- an instruction that comes back answers as the world answers the call that it becomes; the others as before
 abbrev pub answer_back : Option Instruction → World → Answer → (operands globals : List Value) → (rest : ℕ) → Answer
 answer_back None w a vs gs r = a
 answer_back (Some back) w a vs gs r = w.answer back vs gs r
 
+-- the same of what becomes of the globals behind the module's
 abbrev pub others_back : Option Instruction → World → List Value → (operands globals : List Value) → (rest : ℕ) → List Value → List Value
 others_back None w after vs gs r more = after
 others_back (Some back) w after vs gs r more = w.others back vs gs r more

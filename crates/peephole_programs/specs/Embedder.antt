@@ -19,6 +19,7 @@ pub record Embedder : Type 0 where
   pub base : Module → Deeds
   pub over : Module → World → Deeds
 
+-- the host that the embedder is for the module
 abbrev pub host_in : Embedder → Module → Host
 host_in e m = record { info = m; base = e.base m; over = e.over m }
 
@@ -52,6 +53,7 @@ leaving w =
 abbrev pub Functions : Type 0
 Functions = ℕ → Option Body
 
+-- what a body's operators don't carry, such as the labels of a `br_table`, by the function's index
 abbrev pub Beyonds : Type 0
 Beyonds = ℕ → Beyond
 
@@ -75,6 +77,7 @@ pub record IsValidFunction (m : Module) (f : ℕ) (beyond : Beyond) (b : Body) :
   pub valid : IsValid (context_for m b) (arity_at m f).ends beyond b.operators
   pub targets : HasTargets m (structural b.operators) beyond
 
+-- each function that has a body is valid; those without one aren't asked
 abbrev pub AreValid : Module → Functions → Beyonds → Type 0
 AreValid m functions beyonds = (f : ℕ) (b : Body) → functions f ≡ Some b → IsValidFunction m f (beyonds f) b
 
@@ -86,6 +89,7 @@ pub record DoesAs (m : Module) (input : List ℕ) (more : List PrimitiveTypeInfo
   pub pieces : RunsPieceByPiece (context_for m old) more old.operators new.operators
   pub valid : StaysValid (context_for m old) (wider input more (context_for m old)) old.operators new.operators
 
+-- both modules have a body, which do the same, or neither has one
 abbrev pub BothDo : Module → (input : List ℕ) → (more : List PrimitiveTypeInfo) → Option Body → Option Body → Type 0
 BothDo m input more (Some old) (Some new) = DoesAs m input more old new
 BothDo m input more None None = ⊤
@@ -95,6 +99,7 @@ BothDo m input more old new = ⊥
 abbrev pub DoAsFunctions : Module → (input : List ℕ) → (more : List PrimitiveTypeInfo) → Functions → Functions → Type 0
 DoAsFunctions m input more old new = (f : ℕ) → BothDo m input more (old f) (new f)
 
+-- the body with other operators; parameters and locals stay
 abbrev pub with_operators : List Operator → Body → Body
 with_operators operators b = record b { operators = operators }
 

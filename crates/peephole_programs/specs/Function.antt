@@ -13,6 +13,7 @@ use Rattle.peephole_machine.specs.StateLemmas.{with_more, Follows}
 
 -- ---- pieces
 
+-- the operators with one more before them, unless that is an instruction of the table
 abbrev pub and_structural : Operator → List Operator → List Operator
 and_structural (Instr i) later = later
 and_structural o later = o ∷ later
@@ -51,6 +52,7 @@ pub data Reached : Type 0 where
 abbrev pub Control : Type 0
 Control = (k : ℕ) (labels : List Label) (stack : List Value) (s : State) → Reached
 
+-- where a run ends, what follows it; a trap and a stuck run leave the function
 abbrev pub go_on : (List Value → State → Reached) → Outcome → Reached
 go_on next (Ends vs s) = next vs s
 go_on next (Traps cause globals rest) = Done (Traps cause globals rest)
@@ -97,14 +99,17 @@ AreKept o = (i : Instruction) (operands globals : List Value) (rest : ℕ) (othe
 abbrev pub world_by : Others → World → World
 world_by o w = record w { others = o }
 
+-- the state in the world where these become that
 abbrev pub state_by : Others → State → State
 state_by o s = record s { world = world_by o s.world }
 
+-- the outcome whose state is in that world; a trap has none
 abbrev pub outcome_by : Others → Outcome → Outcome
 outcome_by o (Ends vs s) = Ends vs (state_by o s)
 outcome_by o (Traps c gs r) = Traps c gs r
 outcome_by o Stuck = Stuck
 
+-- the same of where a run stands
 abbrev pub reached_by : Others → Reached → Reached
 reached_by o (At k labels stack s) = At k labels stack (state_by o s)
 reached_by o (Done p) = Done (outcome_by o p)

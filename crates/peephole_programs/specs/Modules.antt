@@ -76,10 +76,12 @@ pub record Called : Type 0 where
   pub instruction : Instruction
   pub operands : List Value
 
+-- the instruction takes operands of these types in the module, and they are values
 abbrev pub IsTypedCall : Module → Called → Type 0
 IsTypedCall info c =
     (results : List PrimitiveTypeInfo) × (other_types info c.instruction (types c.operands) ≡ Some results) × All IsValue c.operands
 
+-- the answer, and those of the next calls; after a trap there are none
 abbrev pub and_on : Answer → (List Value → ℕ → List Answer) → List Answer
 and_on (Gives vs gs r) next = Gives vs gs r ∷ next gs r
 and_on (Fails cause gs r) next = Fails cause gs r ∷ []
@@ -89,6 +91,7 @@ abbrev pub session : World → List Called → (globals : List Value) → (rest 
 session w [] gs r = []
 session w (c ∷ cs) gs r = and_on (w.answer c.instruction c.operands gs r) (session w cs)
 
+-- as many answers, each like the first module's
 abbrev pub AreMore : List Answer → List Answer → Type 0
 AreMore [] [] = ⊤
 AreMore (a ∷ xs) (b ∷ ys) = IsMore a b × AreMore xs ys

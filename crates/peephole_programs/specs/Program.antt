@@ -15,6 +15,7 @@ use Rattle.peephole_programs.specs.Function.{structural, Reached, At, Done, Cont
 
 -- ---- calls
 
+-- the index that the opcode of `call` has behind it; none of any other instruction
 abbrev pub opcode_callee : Option Opcode → Imm → Option ℕ
 opcode_callee (Some (Byte byte)) (imm.Index f) = if byte == 0x10 then Some f else None
 opcode_callee o i = None
@@ -40,6 +41,7 @@ pub record Program : Type 0 where
 abbrev pub Controls : Type 0
 Controls = (f : ℕ) (structure : List Operator) → Control
 
+-- a function of the module that has a body: its index, and the body
 pub record Callee : Type 0 where
   pub index : ℕ
   pub body : Body
@@ -51,15 +53,18 @@ own_callee p (Some f) = option_map (λ b. record { index = f; body = b }) (p.bod
 
 -- ---- values
 
+-- the default values that locals and requested globals begin with
 abbrev pub zeros : List PrimitiveTypeInfo → List Value
 zeros [] = []
 zeros (t ∷ ts) = record { type = t; number = 0 } ∷ zeros ts
 
+-- the number is one of the type; of types that aren't i32 or i64 any mark is
 abbrev pub is_number : PrimitiveTypeInfo → ℕ → Bool
 is_number primitive.I32 n = nat_lt n (2 ^ 32)
 is_number primitive.I64 n = nat_lt n (2 ^ 64)
 is_number _ n = true
 
+-- each number is one of its value's type
 abbrev pub are_values : List Value → Bool
 are_values [] = true
 are_values (v ∷ vs) = is_number v.type v.number && are_values vs
@@ -87,6 +92,7 @@ abbrev pub others_of : (more : List Value) → Reached → List Value
 others_of more (Done (Ends us s)) = if same_types (types (further_globals s)) (types more) then further_globals s else more
 others_of more p = more
 
+-- the types, or where they aren't known those of no results
 abbrev pub results_or_none : Option (List PrimitiveTypeInfo) → List PrimitiveTypeInfo
 results_or_none (Some ts) = ts
 results_or_none None = []
@@ -98,6 +104,7 @@ pub record Deeds : Type 0 where
   pub answer : Instruction → (operands globals : List Value) → (rest : ℕ) → Answer
   pub others : Others
 
+-- the world of a module in which instructions do that
 abbrev pub world_with : Module → Deeds → World
 world_with info d = record { info = info; answer = d.answer; others = d.others }
 
@@ -107,9 +114,11 @@ pub record Host : Type 0 where
   pub base : Deeds
   pub over : World → Deeds
 
+-- the host's world where no call of an own function ends
 abbrev pub base_world : Host → World
 base_world host = world_with host.info host.base
 
+-- the host's world over another, in which the exports run that imports call
 abbrev pub over_world : Host → World → World
 over_world host w = world_with host.info (host.over w)
 
@@ -159,6 +168,7 @@ module _ (host : Host) (controls : Controls) (fuel : ℕ) where
   others_in w None i vs gs r more = (host.over w).others i vs gs r more
   others_in w (Some c) i vs gs r more = if can_call c vs gs then others_of more (call c w vs (gs ++ more) r) else more
 
+  -- the world of depth zero, in which a call of an own function answers that it is unfinished
   abbrev pub ground : Program → World
   ground p = record {
     info = host.info;
@@ -166,6 +176,7 @@ module _ (host : Host) (controls : Controls) (fuel : ℕ) where
     others = host.base.others;
   }
 
+  -- the world of calls one deeper than those of the world below; the programs are those of `world`
   abbrev pub deeper : (answering behind : Program) → World → World
   deeper answering behind w = record {
     info = host.info;
@@ -195,6 +206,7 @@ pub record IsRewritten (info : Module) (requests : List PrimitiveTypeInfo) (cont
   pub free : (fuel : ℕ) (s : State) → HasTypes (context_for info old) s →
       runs (control (structural old.operators)) old.operators fuel (At 0 [] [] s) ≢ Done Stuck
 
+-- both modules have a body, the new one rewritten from the old one, or neither has one
 abbrev pub BothRewritten : Module → (requests : List PrimitiveTypeInfo) → (List Operator → Control) → Option Body → Option Body → Type 0
 BothRewritten info requests control (Some old) (Some new) = IsRewritten info requests control old new
 BothRewritten info requests control None None = ⊤

@@ -19,15 +19,18 @@ use Rattle.peephole_programs.specs.Function.{Label, Reached, At, Done, Control, 
 
 -- ---- block types
 
+-- a block type or a function type: what is taken at the start, and what is left at the end
 pub record Arity : Type 0 where
   pub starts : List PrimitiveTypeInfo
   pub ends : List PrimitiveTypeInfo
 
+-- what a function type takes and leaves: nothing where the module has none such
 abbrev pub function_arity : Option TypeInfo → Arity
 function_arity (Some (Func t)) = record { starts = t.params; ends = t.returns }
 function_arity (Some Other) = record { starts = []; ends = [] }
 function_arity None = record { starts = []; ends = [] }
 
+-- the type of a block: none, one result, or a function type of the module
 abbrev pub arity_of : Module → BlockType → Arity
 arity_of m block.Empty = record { starts = []; ends = [] }
 arity_of m (block.Value t) = record { starts = []; ends = value_type t ∷ [] }
@@ -39,10 +42,12 @@ is_arity (Some (Func t)) = true
 is_arity (Some Other) = false
 is_arity None = false
 
+-- the block type is valid: a function type that it names is there
 abbrev pub has_arity : Module → BlockType → Bool
 has_arity m (block.FuncType i) = is_arity (slice_get m.types i)
 has_arity m t = true
 
+-- the type of a table's indices; i32 where there is no such table
 abbrev pub index_type : Option TableType → PrimitiveTypeInfo
 index_type (Some t) = address_type t.table64
 index_type None = primitive.I32
@@ -59,6 +64,7 @@ call_arity m type table =
 pub data Nesting : Type 0 where
   opens parts closes stays : Nesting
 
+-- the operators that open, part and close blocks; all others stand in them
 abbrev pub nesting : Operator → Nesting
 nesting (op.Block t) = opens
 nesting (op.Loop t) = opens
@@ -67,6 +73,7 @@ nesting op.Else = parts
 nesting op.End = closes
 nesting o = stays
 
+-- one step of `closing`, by what the operator with number k is to blocks
 abbrev pub closing_at : Nesting → (depth k : ℕ) → (later : ℕ → ℕ) → ℕ
 closing_at closes zero k later = k
 closing_at closes (suc depth) k later = later depth
@@ -79,6 +86,7 @@ abbrev pub closing : (depth k : ℕ) → List Operator → ℕ
 closing depth k [] = k
 closing depth k (o ∷ os) = closing_at (nesting o) depth k (λ d. closing d (suc k) os)
 
+-- one step of `other_part`, which stops at the end of the conditional itself
 abbrev pub other_part_at : Nesting → (depth k : ℕ) → (later : ℕ → Option ℕ) → Option ℕ
 other_part_at parts zero k later = Some k
 other_part_at parts (suc depth) k later = later (suc depth)
@@ -108,6 +116,7 @@ chosen primitive.I32 zero taken other = other
 chosen primitive.I32 (suc n) taken other = taken
 chosen t n taken other = Done Stuck
 
+-- the one value that was popped chooses; of no value the run is stuck
 abbrev pub choose : (popped : List Value) → (taken other : Reached) → Reached
 choose (c ∷ []) taken other = chosen c.type c.number taken other
 choose vs taken other = Done Stuck
@@ -133,6 +142,7 @@ label_at (l ∷ ls) default zero = l
 label_at (l ∷ ls) default (suc i) = label_at ls default i
 
 module _ (m : Module) (results : List PrimitiveTypeInfo) (structure : List Operator) where
+  -- the number of the end that belongs to that opener
   abbrev pub end_of : ℕ → ℕ
   end_of opener = closing zero (suc opener) (drop (suc opener) structure)
 
@@ -140,6 +150,7 @@ module _ (m : Module) (results : List PrimitiveTypeInfo) (structure : List Opera
   abbrev pub leave : List Value → State → Reached
   leave stack s = Done (Ends (last_of (length results) stack) s)
 
+  -- into the block, with its label; its parameters stand above the label's height
   abbrev pub enter : (k : ℕ) → BlockType → List Label → List Value → State → Reached
   enter k t labels stack s = At (suc k) (record { opener = k; height = length stack - length (arity_of m t).starts } ∷ labels) stack s
 
@@ -166,6 +177,7 @@ module _ (m : Module) (results : List PrimitiveTypeInfo) (structure : List Opera
       At (suc e) (record { opener = k; height = length stack - length (arity_of m t).starts } ∷ labels) stack s
   otherwise None k t labels stack s = At (suc (end_of k)) labels stack s
 
+  -- an end leaves its block for what stands behind it; the body's own end leaves the function
   abbrev pub close : (next : ℕ) → List Label → List Value → State → Reached
   close next [] stack s = leave stack s
   close next (label ∷ outer) stack s = At next outer stack s
@@ -180,6 +192,7 @@ module _ (m : Module) (results : List PrimitiveTypeInfo) (structure : List Opera
   branch_by beyond k primitive.I32 i labels stack s = branch (label_at (beyond.labels k) (beyond.default k) i) labels stack s
   branch_by beyond k t i labels stack s = Done Stuck
 
+  -- the one value that was popped is that index; of no value the run is stuck
   abbrev pub branch_on : (beyond : Beyond) → (k : ℕ) → (popped : List Value) → List Label → List Value → State → Reached
   branch_on beyond k (c ∷ []) labels stack s = branch_by beyond k c.type c.number labels stack s
   branch_on beyond k vs labels stack s = Done Stuck
@@ -189,6 +202,7 @@ module _ (m : Module) (results : List PrimitiveTypeInfo) (structure : List Opera
   call_target (fails mark) k labels stack s = Done (Traps (met mark) (own_globals s) s.rest)
   call_target (calls i) k labels stack s = go_on (At (suc k) labels) (run (i ∷ []) stack s)
 
+  -- the one value that was popped is the index into the table; of no value the run is stuck
   abbrev pub call_at : (beyond : Beyond) → (k : ℕ) → (popped : List Value) → List Label → List Value → State → Reached
   call_at beyond k (c ∷ []) labels stack s = call_target (beyond.target k c s.rest) k labels stack s
   call_at beyond k vs labels stack s = Done Stuck
@@ -214,5 +228,6 @@ module _ (m : Module) (results : List PrimitiveTypeInfo) (structure : List Opera
       call_at beyond k (last_of 1 stack) labels (take (length stack - 1) stack) s
   by_operator beyond o k labels stack s = Done Stuck
 
+  -- the control of a body: the operator with the number acts; there is none behind the last one
   abbrev pub standard : Beyond → Control
   standard beyond k labels stack s = by_operator beyond (slice_get structure k) k labels stack s

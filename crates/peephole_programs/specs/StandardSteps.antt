@@ -19,6 +19,7 @@ pop ts f =
     let n = length ts in
     if can_pop n f && all_may_be (popped n f) ts then Some (with_pushed n f []) else None
 
+-- the frame with values of known types on top of its operands
 abbrev pub push : List PrimitiveTypeInfo → Frame → Frame
 push ts f = record f { operands = f.operands ++ known ts }
 
@@ -26,6 +27,7 @@ push ts f = record f { operands = f.operands ++ known ts }
 abbrev pub cut_off : Frame → Frame
 cut_off f = record f { operands = []; unreachable = true }
 
+-- the frame that an operator opens, with what it takes as operands
 abbrev pub opened_by : Operator → Arity → Frame
 opened_by o a = record { opened = Some o; starts = a.starts; ends = a.ends; operands = known a.starts; unreachable = false }
 
@@ -33,9 +35,11 @@ opened_by o a = record { opened = Some o; starts = a.starts; ends = a.ends; oper
 abbrev pub body_frame : (results : List PrimitiveTypeInfo) → Frame
 body_frame results = record { opened = None; starts = []; ends = results; operands = []; unreachable = false }
 
+-- the operator takes its operands from the innermost frame, and opens one of its own
 abbrev pub open_frame : Operator → Arity → List Frame → Option (List Frame)
 open_frame o a frames = option_map (λ fs. opened_by o a ∷ fs) (on_innermost (pop a.starts) frames)
 
+-- a loop is entered again by its label, any other block is left
 abbrev pub types_by : Option Operator → Frame → List PrimitiveTypeInfo
 types_by (Some (op.Loop t)) f = f.starts
 types_by o f = f.ends
@@ -49,6 +53,7 @@ abbrev pub is_empty : Option Frame → Bool
 is_empty (Some f) = length f.operands == 0
 is_empty None = false
 
+-- the frame may end: the types of its end are all that is left of its operands
 abbrev pub can_close : Frame → Bool
 can_close f = is_empty (pop f.ends f)
 
@@ -70,6 +75,7 @@ other_of (Some (op.If t)) f fs =
     if can_close f then Some (opened_by op.Else (record { starts = f.starts; ends = f.ends }) ∷ fs) else None
 other_of o f fs = None
 
+-- an `else`; not valid but in the first part of a conditional
 abbrev pub other_frame : List Frame → Option (List Frame)
 other_frame [] = None
 other_frame (f ∷ fs) = other_of f.opened f fs
@@ -80,6 +86,7 @@ can_jump frames default f l =
     is_some (option_and_then (λ (to : Frame). if length (label_types to) == length (label_types default) then pop (label_types to) f else None)
     (slice_get frames l))
 
+-- the same of each label of a `br_table`
 abbrev pub can_jump_all : List Frame → (default f : Frame) → List ℕ → Bool
 can_jump_all frames default f [] = true
 can_jump_all frames default f (l ∷ ls) = can_jump frames default f l && can_jump_all frames default f ls
@@ -90,6 +97,7 @@ is_function element.Func = true
 is_function element.Extern = false
 is_function element.Other = true
 
+-- there is a table, whose elements may be functions
 abbrev pub has_functions : Option TableType → Bool
 has_functions (Some t) = is_function t.element_type
 has_functions None = false
@@ -98,10 +106,12 @@ has_functions None = false
 abbrev pub can_call : Module → (type table : ℕ) → Bool
 can_call m type table = is_arity (slice_get m.types type) && has_functions (slice_get m.tables table)
 
+-- the frames, where what else validation asks for holds
 abbrev pub only_where : Bool → Option (List Frame) → Option (List Frame)
 only_where b o = if b then o else None
 
 module _ (m : Module) (results : List PrimitiveTypeInfo) where
+  -- the operator with number k on the frames, the innermost first; a select of several types is never valid
   abbrev pub by_step : Beyond → Option Operator → Structural
   by_step beyond (Some (op.Block t)) k frames = only_where (has_arity m t) (open_frame (op.Block t) (arity_of m t) frames)
   by_step beyond (Some (op.Loop t)) k frames = only_where (has_arity m t) (open_frame (op.Loop t) (arity_of m t) frames)
@@ -124,5 +134,6 @@ module _ (m : Module) (results : List PrimitiveTypeInfo) where
       only_where (can_call m type table) (on_innermost (λ g. option_map (push a.ends) (pop a.starts g)) frames)
   by_step beyond o k frames = None
 
+  -- the steps of a body by its structural operators; none where there is no k-th one
   abbrev pub standard_steps : List Operator → Beyond → Structural
   standard_steps structure beyond k frames = by_step beyond (slice_get structure k) k frames

@@ -12,9 +12,11 @@ use Rattle.peephole_programs.specs.Function.{Label, Reached, At, Done, Control}
 abbrev pub wider_module : (input : List ℕ) → (more : List PrimitiveTypeInfo) → Module → Module
 wider_module input more m = record m { input = input; globals = m.globals ++ more }
 
+-- a function's context in that module; the locals are the same
 abbrev pub wider : (input : List ℕ) → (more : List PrimitiveTypeInfo) → Context → Context
 wider input more context = record { info = wider_module input more context.info; locals = context.locals }
 
+-- the state in that world with these values, and the rest
 abbrev pub state_of : World → (locals globals : List Value) → (rest : ℕ) → State
 state_of w ls gs r = record { locals = ls; globals = gs; rest = r; world = w }
 
@@ -51,6 +53,7 @@ IsWiderOutcome w v (Traps cause gs r) (Traps why hs q) = (why ≡ cause) × Begi
 IsWiderOutcome w v Stuck Stuck = ⊤
 IsWiderOutcome w v o q = ⊥
 
+-- the same place, labels and stack, each in its own world, or the same outcome
 abbrev pub IsWiderReached : (w v : World) → Reached → Reached → Type 0
 IsWiderReached w v (At k labels stack s) (At j others values t) =
     (j ≡ k) × (others ≡ labels) × (values ≡ stack) × (t ≡ record s { world = v }) × (s.world ≡ w)
