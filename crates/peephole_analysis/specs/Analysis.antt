@@ -37,6 +37,7 @@ pub record Analysis : Type 0 where
 
 -- ---- types by their names in the standard
 
+-- of a value of the type that an immediate or a row of the table writes
 abbrev pub value_type : ValType → PrimitiveTypeInfo
 value_type value.I32 = I32
 value_type value.I64 = I64
@@ -51,6 +52,7 @@ abbrev pub reference_type : HeapType → PrimitiveTypeInfo
 reference_type (Abstract heap.Func) = FuncRef
 reference_type (Abstract heap.Extern) = ExternRef
 
+-- of an element of a table: `empty` where it is a reference of another type than funcref and externref
 abbrev pub element_type : ElementType → PrimitiveTypeInfo
 element_type element.Func = FuncRef
 element_type element.Extern = ExternRef
@@ -109,10 +111,12 @@ result_type a first i by.First = or_refusal first UnknownOperand
 result_type a first i by.Immediate = Ok (immediate_type i)
 result_type a first i kind = index_type a kind (immediate_index i)
 
+-- of an instruction with that row; `empty` where the table has no such row
 abbrev pub row_type : Analysis → (first : Option PrimitiveTypeInfo) → Imm → Option RowInfo → Result PrimitiveTypeInfo Error
 row_type a first i None = Ok Empty
 row_type a first i (Some row) = result_type a first i row.result
 
+-- of an instruction outside any node; `first` is the type of its first operand, where that is known
 abbrev pub instruction_type : Analysis → (first : Option PrimitiveTypeInfo) → Instruction → Result PrimitiveTypeInfo Error
 instruction_type a first i = row_type a first i.imm (row_info_of i.row)
 
@@ -123,6 +127,7 @@ instruction_type a first i = row_type a first i.imm (row_info_of i.row)
 abbrev pub rowless_types : List PrimitiveTypeInfo
 rowless_types = I32 ∷ I64 ∷ F32 ∷ F64 ∷ Empty ∷ I32 ∷ I64 ∷ I32 ∷ I64 ∷ F32 ∷ F64 ∷ Empty ∷ []
 
+-- the type, where the list of those nodes has one; it always has
 abbrev pub or_empty : Option PrimitiveTypeInfo → PrimitiveTypeInfo
 or_empty None = Empty
 or_empty (Some t) = t

@@ -9,14 +9,17 @@ use Rattle.peephole_lang.specs.Lang.{place_of, ids_of}
 use Rattle.peephole_lang.specs.declared.lang.Lang.{Lang}
 use Rattle.peephole_nodes.specs.declared.id.Id.{Id}
 
+-- the place of the first operand, where there is one
 abbrev pub first_place : List Id → Option ℕ
 first_place [] = None
 first_place (id ∷ ids) = Some id.0
 
+-- that place where the result is of the first operand's type, as of a `select`; else none
 abbrev pub deciding_by : ResultKind → List Id → Option ℕ
 deciding_by First ids = first_place ids
 deciding_by _ ids = None
 
+-- the same by a row of the table; none where there is no such row
 abbrev pub deciding_in : Option RowInfo → List Id → Option ℕ
 deciding_in None ids = None
 deciding_in (Some row) ids = deciding_by row.result ids
