@@ -27,9 +27,11 @@ texted name = record (new_rule name) { long = Some name; value_names = 1 }
 abbrev pub input_rule : Rule
 input_rule = record (new_rule (codes "input")) { value_names = 1 }
 
+-- where the written module goes; 111 is the letter o
 abbrev pub output_rule : Rule
 output_rule = record (texted (codes "output")) { short = Some 111 }
 
+-- the generator's seed, 0 where none is given; a text, since it may be hexadecimal
 abbrev pub seed_rule : Rule
 seed_rule = record (texted (codes "seed")) { defaults = codes "0" ∷ [] }
 
@@ -37,6 +39,7 @@ seed_rule = record (texted (codes "seed")) { defaults = codes "0" ∷ [] }
 abbrev pub naming : (name : Text) → (names : Bor (List (Bor Text))) → Rule
 naming name names = record (valued name (Names names)) { action = Some Append }
 
+-- all that the command line takes: the file of the module, options with a value, and flags
 abbrev pub arguments : (names : Bor (List (Bor Text))) → List Rule
 arguments names =
     input_rule ∷ output_rule ∷ seed_rule ∷ valued (codes "count") number ∷ valued (codes "function") number ∷ naming (codes "rule") names

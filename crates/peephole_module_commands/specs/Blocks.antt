@@ -35,6 +35,7 @@ abbrev pub instruction_reason : Module → Imm → Unfit
 instruction_reason info (Index function) = callee_reason function (function_type info function)
 instruction_reason info imm = Other
 
+-- why no graph holds the operator, if none does; of one that a graph holds it says nothing
 abbrev pub reason_of : Module → Operator → Unfit
 reason_of info (op.Instr i) = instruction_reason info i.imm
 reason_of info (op.CallIndirect type table) = CallIndirect

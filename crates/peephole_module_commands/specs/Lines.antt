@@ -47,15 +47,18 @@ json_line value = compact_text value ++ codes "\n"
 
 -- ---- a rewrite of the function with the index
 
+-- the index of the function, the number of the operator in its body, and the name of the rule
 abbrev pub rewrite_text : (function : ℕ) → Rewrite → List ℕ
 rewrite_text function r =
     codes "function " ++ (left_aligned 6 function ++ (codes " operator " ++ (left_aligned 6 r.operator
     ++ (codes " rule " ++ (rule_name r.rule ++ codes "\n")))))
 
+-- the same three as an object
 abbrev pub rewrite_object : (function : ℕ) → Rewrite → Data
 rewrite_object function r =
     object (with_number (codes "function") function (with_number (codes "operator") r.operator (with_text (codes "rule") (rule_name r.rule) no_members)))
 
+-- one rewrite, in the form that was asked for
 abbrev pub rewrite_line : Form → (function : ℕ) → Rewrite → List ℕ
 rewrite_line Text function r = rewrite_text function r
 rewrite_line Json function r = json_line (rewrite_object function r)
@@ -67,12 +70,14 @@ rewrite_lines form function (r ∷ rs) = rewrite_line form function r ++ rewrite
 
 -- ---- a function that can't be read: its index, or the number of its code entry; its first fault, and where that is. Its entry starts at `start`.
 
+-- the kind of the fault; `UnknownType` where the function's own type isn't there
 abbrev pub fault_text : FunctionError → List ℕ
 fault_text (Unknown e) = fault_name e.kind
 fault_text UnknownType = codes "UnknownType"
 fault_text (Locals e) = fault_name e.kind
 fault_text (Body e) = kind_name e.kind
 
+-- the offset in the module; that of the entry's first byte where the type isn't there
 abbrev pub fault_offset : (start : ℕ) → FunctionError → ℕ
 fault_offset start (Unknown e) = e.offset
 fault_offset start UnknownType = start
@@ -89,6 +94,7 @@ abbrev pub function_object : (index start : ℕ) → FunctionError → Data
 function_object index start e =
     object (with_text (codes "fault") (fault_text e) (with_number (codes "function") index (with_number (codes "offset") (fault_offset start e) no_members)))
 
+-- one such function, in the form that was asked for
 abbrev pub function_line : Form → (index start : ℕ) → FunctionError → List ℕ
 function_line Text index start e = fault_words (codes "function ") index start e
 function_line Json index start e = json_line (function_object index start e)
@@ -98,6 +104,7 @@ abbrev pub entry_object : (entry start : ℕ) → FunctionError → Data
 entry_object entry start e =
     object (with_number (codes "entry") entry (with_text (codes "fault") (fault_text e) (with_number (codes "offset") (fault_offset start e) no_members)))
 
+-- the same where no index is known, since an import isn't
 abbrev pub entry_line : Form → (entry start : ℕ) → FunctionError → List ℕ
 entry_line Text entry start e = fault_words (codes "entry    ") entry start e
 entry_line Json entry start e = json_line (entry_object entry start e)
@@ -112,6 +119,7 @@ unfit_text unfit.SeveralResults = codes "call of a function with several results
 unfit_text (unfit.UnknownFunction function) = codes "call of the unknown function " ++ decimal function
 unfit_text unfit.Other = codes "no instruction"
 
+-- its function's index, the range of its operators, whose last one is before `end`, and why no graph holds it
 abbrev pub block_text : (function start end : ℕ) → Option UnfitOperator → List ℕ
 block_text function start end None =
     codes "function " ++ (left_aligned 6 function ++ (codes " block " ++ (right_aligned 6 start ++ (codes ".." ++ (decimal end ++ codes "\n")))))
@@ -119,6 +127,7 @@ block_text function start end (Some u) =
     codes "function " ++ (left_aligned 6 function ++ (codes " block " ++ (right_aligned 6 start ++ (codes ".." ++ (left_aligned 6 end
     ++ (codes " no graph: operator " ++ (decimal u.operator ++ (codes " " ++ (unfit_text u.reason ++ codes "\n")))))))))
 
+-- the same as an object, without operator and reason where a graph holds the block
 abbrev pub block_object : (function start end : ℕ) → Option UnfitOperator → Data
 block_object function start end None =
     object (with_number (codes "end") end (with_number (codes "function") function (with_number (codes "start") start no_members)))
@@ -126,6 +135,7 @@ block_object function start end (Some u) =
     object (with_number (codes "end") end (with_number (codes "function") function (with_number (codes "operator") u.operator
     (with_text (codes "reason") (unfit_text u.reason) (with_number (codes "start") start no_members)))))
 
+-- one block, in the form that was asked for
 abbrev pub block_line : Form → BlockLine → List ℕ
 block_line Text l = block_text l.function l.start l.end l.unfit
 block_line Json l = json_line (block_object l.function l.start l.end l.unfit)
@@ -141,9 +151,11 @@ block_lines form (Some l) = block_line form l
 abbrev pub functions_text : (count unreadable : ℕ) → List ℕ
 functions_text count unreadable = codes "functions  " ++ (left_aligned 10 count ++ (codes " unreadable " ++ (decimal unreadable ++ codes "\n")))
 
+-- the same two numbers as an object
 abbrev pub functions_object : (count unreadable : ℕ) → Data
 functions_object count unreadable = object (with_number (codes "functions") count (with_number (codes "unreadable") unreadable no_members))
 
+-- the numbers of functions, in the form that was asked for
 abbrev pub functions_line : Form → (count unreadable : ℕ) → List ℕ
 functions_line Text count unreadable = functions_text count unreadable
 functions_line Json count unreadable = json_line (functions_object count unreadable)
@@ -152,6 +164,7 @@ functions_line Json count unreadable = json_line (functions_object count unreada
 abbrev pub part_text : (word : List ℕ) → Part → List ℕ
 part_text word part = word ++ (left_aligned 10 part.all ++ (codes " rewritable " ++ (decimal part.within ++ codes "\n")))
 
+-- the same two numbers as an object, `of` what they are
 abbrev pub part_object : (name : List ℕ) → Part → Data
 part_object name part =
     object (with_number (codes "all") part.all (with_text (codes "of") name (with_number (codes "rewritable") part.within no_members)))
@@ -171,15 +184,18 @@ reach_lines form reach =
 abbrev pub sizes_text : (before behind : ℕ) → List ℕ
 sizes_text before behind = codes "bytes      " ++ (left_aligned 10 before ++ (codes " new " ++ (decimal behind ++ codes "\n")))
 
+-- the same two sizes as an object
 abbrev pub sizes_object : (before behind : ℕ) → Data
 sizes_object before behind = object (with_number (codes "bytes") before (with_number (codes "new") behind no_members))
 
+-- the sizes in bytes, in the form that was asked for
 abbrev pub sizes_line : Form → (before behind : ℕ) → List ℕ
 sizes_line Text before behind = sizes_text before behind
 sizes_line Json before behind = json_line (sizes_object before behind)
 
 -- ---- why no further rewrite was made
 
+-- the name of the module's fault, of the rewrite's error, or of why the new module isn't written
 abbrev pub stopped_name : MutationError → List ℕ
 stopped_name (Read e) = fault_name e.kind
 stopped_name (Rewriting e) = error_name e
@@ -187,12 +203,15 @@ stopped_name (Write writes.TooLarge) = codes "TooLarge"
 stopped_name (Write writes.Memory) = codes "Memory"
 stopped_name TooLong = codes "TooLong"
 
+-- that name behind the word `stopped`
 abbrev pub stopped_text : MutationError → List ℕ
 stopped_text e = codes "stopped " ++ (stopped_name e ++ codes "\n")
 
+-- the same as an object
 abbrev pub stopped_object : MutationError → Data
 stopped_object e = object (with_text (codes "stopped") (stopped_name e) no_members)
 
+-- the refusal, in the form that was asked for
 abbrev pub stopped_line : Form → MutationError → List ℕ
 stopped_line Text e = stopped_text e
 stopped_line Json e = json_line (stopped_object e)

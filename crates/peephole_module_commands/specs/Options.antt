@@ -29,6 +29,7 @@ use Rattle.peephole_module_commands.specs.declared.options.Task.TheVariants.{Rew
 abbrev pub is_set : (name : Text) → List Row → Bool
 is_set name rows = option_map_or (λ text. bytes_eq text (codes "true")) (one_of name rows) false
 
+-- the six flags; one that isn't given is false
 abbrev pub flags_of : List Row → Flags
 flags_of rows = record {
   list = is_set (codes "list") rows;
@@ -39,6 +40,7 @@ flags_of rows = record {
   strip_debug = is_set (codes "strip-debug") rows;
 }
 
+-- what the program does: where neither list nor blocks are asked for, it rewrites
 abbrev pub task_of : Flags → Task
 task_of flags = if flags.list then Lists else if flags.blocks then Blocks else Rewrite
 
@@ -100,6 +102,7 @@ AreNamed (Some names) rules = map rule_name rules ≡ names
 abbrev pub is_named : (names : List Text) → Rule → Bool
 is_named names rule = list_any (λ name. bytes_eq name (rule_name rule)) names
 
+-- the rule makes a body smaller; one that keeps its size doesn't
 abbrev pub is_shrinking : Growth → Bool
 is_shrinking growths.Shrinks = true
 is_shrinking growths.Keeps = false

@@ -53,10 +53,12 @@ abbrev pub is_integer_opcode : Option ℕ → Bool
 is_integer_opcode None = false
 is_integer_opcode (Some byte) = is_integer_byte byte
 
+-- an operator that is an integer instruction; no control operator is one
 abbrev pub is_integer : Operator → Bool
 is_integer (op.Instr i) = is_integer_opcode (instruction_byte i)
 is_integer operator = false
 
+-- the same of an operator with its offset, where there is one
 abbrev pub is_integer_of : Option (Operator × ℕ) → Bool
 is_integer_of None = false
 is_integer_of (Some o) = is_integer o.0
@@ -83,6 +85,7 @@ AreOfBody context rules operators reach = AreCounted (IsReached context rules op
 
 -- ---- the numbers of a module
 
+-- nothing of one kind is counted
 abbrev pub no_part : Part
 no_part = record { all = 0; within = 0 }
 
@@ -90,9 +93,11 @@ no_part = record { all = 0; within = 0 }
 abbrev pub nothing : Reach
 nothing = record { operators = no_part; blocks = no_part; integers = no_part }
 
+-- two counts of one thing, together
 abbrev pub part_sum : Part → Part → Part
 part_sum p q = record { all = p.all + q.all; within = p.within + q.within }
 
+-- the numbers of two sets of functions, together
 abbrev pub sum_of : Reach → Reach → Reach
 sum_of r s = record {
   operators = part_sum r.operators s.operators;
@@ -119,9 +124,11 @@ AreOfEntries rules bytes info layout (suc n) reach =
 abbrev pub in_64_bits : ℕ → ℕ
 in_64_bits n = min n (2 ^ 64 - 1)
 
+-- the counts of one kind so
 abbrev pub part_in_64_bits : Part → Part
 part_in_64_bits p = record { all = in_64_bits p.all; within = in_64_bits p.within }
 
+-- the counts of all kinds so
 abbrev pub reach_in_64_bits : Reach → Reach
 reach_in_64_bits r = record {
   operators = part_in_64_bits r.operators;

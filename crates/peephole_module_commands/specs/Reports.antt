@@ -51,6 +51,7 @@ pub record ReportsModule (form : Form) (rules : List Rule) (bytes : List ℕ) (o
 
 -- ---- rewrites
 
+-- a line for each rewrite, in the order in which they were made
 abbrev pub made_lines : Form → List MadeRewrite → List ℕ
 made_lines form [] = []
 made_lines form (m ∷ ms) = rewrite_line form m.function m.rewrite ++ made_lines form ms
