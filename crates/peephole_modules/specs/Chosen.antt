@@ -106,5 +106,6 @@ pub record ChoosesAgain (scope : Scope) (bytes : List ℕ) (layout : Layout) (n 
   pub vain : EachInVain (TriesInVain scope bytes layout) (λ j. n) count s found
   pub makes : MakesAt scope bytes layout found n rewrite new after
 
+-- sixteen attempts at the n-th entry, as many as are made, are in vain
 abbrev pub GivesUpAgain : Scope → (bytes : List ℕ) → Layout → (n : ℕ) → Setting → (after : Setting) → Type 0
 GivesUpAgain scope bytes layout n s after = EachInVain (TriesInVain scope bytes layout) (λ j. n) 16 s after

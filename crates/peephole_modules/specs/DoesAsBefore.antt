@@ -35,6 +35,7 @@ pub record StaysFunction (m : Module) (input : List ℕ) (more : List PrimitiveT
   pub locals_are : old.locals ≡ new.locals
   pub valid : StaysValid (context_for m old) (wider input more (context_for m old)) old.operators new.operators
 
+-- both modules have a body, the new one valid where the old one is, or neither has one
 abbrev pub BothStay : Module → (input : List ℕ) → (more : List PrimitiveTypeInfo) → Option Body → Option Body → Type 0
 BothStay m input more (Some old) (Some new) = StaysFunction m input more old new
 BothStay m input more None None = ⊤
