@@ -85,5 +85,6 @@ abbrev pub AppendsChosen : (locals : List PrimitiveTypeInfo) → Module → List
 AppendsChosen locals info rules input operators r old new requests left =
     (s : Setting) × (s.info ≡ info) × AppendsByWords locals s rules input operators r old new requests left
 
+-- why no rewrite was written under the module, by what some generator gives
 abbrev pub RefusesChosen : (locals : List PrimitiveTypeInfo) → Module → List Rule → List (Operator × ℕ) → Error → Type 0
 RefusesChosen locals info rules operators e = (s : Setting) × (s.info ≡ info) × RefusesByWords locals s rules operators e

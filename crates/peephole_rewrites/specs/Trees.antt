@@ -45,6 +45,7 @@ abbrev pub root_type : Context → Term Head → Option PrimitiveTypeInfo
 root_type context absent = None
 root_type context (node h kids) = head_type context [] h
 
+-- of each term the type of its value, in their order
 abbrev pub root_types : Context → Terms Head → List (Option PrimitiveTypeInfo)
 root_types context no_terms = []
 root_types context (t ▸ ts) = root_type context t ∷ root_types context ts
