@@ -22,21 +22,25 @@ use Rattle.peephole_examples.specs.declared.arith.Arith.TheVariants.{Num, Neg, A
 use Rattle.peephole_examples.specs.declared.arith.ArithHead.{ArithHead}
 use Rattle.peephole_examples.specs.declared.arith.ArithHead.TheVariants as head
 
+-- what a node is, apart from its children
 abbrev pub head_of : Arith → ArithHead
 head_of (Num z) = head.Num z
 head_of (Neg _) = head.Neg
 head_of (Add _) = head.Add
 head_of (Sum _) = head.Sum
 
+-- the children of a node, in their order; a number has none
 abbrev pub ids_of : Arith → List Id
 ids_of (Num _) = []
 ids_of (Neg children) = children
 ids_of (Add children) = children
 ids_of (Sum children) = children.items
 
+-- the children, each by the number of its node or class
 abbrev pub children_of : Arith → List ℕ
 children_of a = numbers_of (ids_of a)
 
+-- the node with other children; a number stays as it is
 abbrev pub with_ids : Arith → List Id → Arith
 with_ids (Num z) _ = Num z
 with_ids (Neg _) w = Neg w
@@ -48,12 +52,14 @@ abbrev pub IsEqual : Arith → Arith → Type 0
 IsEqual (Sum a) (Sum b) = a.items ≡ b.items
 IsEqual a b = a ≡ b
 
+-- a number has 32 bits with its sign; a negative has one child, `add` two, and `sum` any number of them
 abbrev pub IsNode : Arith → Type 0
 IsNode (Num z) = (neg_ℤ (pos (2 ^ 31)) ≤ℤ z) × (z <ℤ pos (2 ^ 31))
 IsNode (Neg children) = length children ≡ 1
 IsNode (Add children) = length children ≡ 2
 IsNode (Sum _) = Unit {0}
 
+-- the same head and as many children, whichever they are
 abbrev pub arith_matches : Arith → Arith → Bool
 arith_matches (Num z) (Num y) = int_eq z y
 arith_matches (Neg a) (Neg b) = length a == length b
@@ -70,9 +76,11 @@ head_text head.Neg = codes "neg"
 head_text head.Add = codes "add"
 head_text head.Sum = codes "sum"
 
+-- a node's text, which doesn't tell its children
 abbrev pub text_of : Arith → List ℕ
 text_of a = head_text (head_of a)
 
+-- the head of a number that was read, or its refusal
 abbrev pub numbered : Result ℤ TermError → Result ArithHead TermError
 numbered (Ok z) = Ok (head.Num z)
 numbered (Err e) = Err e
@@ -81,6 +89,7 @@ numbered (Err e) = Err e
 abbrev pub read_number : List ℕ → Result ArithHead TermError
 read_number digits = numbered (ok_or (read_signed 32 digits) BadInteger)
 
+-- what stands behind `num.`, where that begins the text: digits, and no children
 abbrev pub read_num : Option (List ℕ) → ℕ → Result ArithHead TermError
 read_num None count = Err InvalidToken
 read_num (Some digits) count = if count == 0 then read_number digits else Err ExpectedZeroChildren
@@ -101,6 +110,7 @@ reads text count =
 pub says : (a b : Arith) → head_of a ≡ head_of b → text_of a ≡ text_of b
 says a b e = ap head_text e
 
+-- a node reads back from its text, given as many children as it has
 pub reads_back : (a : Arith) → IsNode a → reads (text_of a) (length (ids_of a)) ≡ Ok (head_of a)
 reads_back (Num z) fits = rw (signed_in_range_back 32 z (lit≤ tt) fits.0 fits.1) refl
 reads_back (Neg _) given = rw given refl
@@ -122,12 +132,14 @@ equal_says a b e = (ap head_of (sym e), ap ids_of (sym e))
 
 -- ---- children that are written
 
+-- other children leave the head as it is
 pub keeps_head : (a : Arith) (w : List Id) → head_of (with_ids a w) ≡ head_of a
 keeps_head (Num _) w = refl
 keeps_head (Neg _) w = refl
 keeps_head (Add _) w = refl
 keeps_head (Sum _) w = refl
 
+-- as many children as before are those that the node then has
 pub has_written : (a : Arith) (w : List Id) → length w ≡ length (ids_of a) → ids_of (with_ids a w) ≡ w
 has_written (Num _) w e = none_written w e
 has_written (Neg _) w e = refl
@@ -136,6 +148,7 @@ has_written (Sum children) w e = any_written children w e
 
 -- ---- matching
 
+-- nodes that match have the same head and as many children
 matches_says : (a b : Arith) → arith_matches a b ≡ true → IsAlike head_of ids_of a b
 matches_says (Num z) (Num y) e = (ap (λ k. head.Num k) ((signed_Decides z y).0 e), refl)
 matches_says (Neg a) (Neg b) e = (refl, (unsigned_Decides (length a) (length b)).0 e)
@@ -143,6 +156,7 @@ matches_says (Add a) (Add b) e = (refl, (unsigned_Decides (length a) (length b))
 matches_says (Sum a) (Sum b) e = (refl, (unsigned_Decides (length a.items) (length b.items)).0 e)
 matches_says _ _ e = absurd (true≢false (sym e))
 
+-- and such nodes match
 alike_matches : (a b : Arith) → IsAlike head_of ids_of a b → arith_matches a b ≡ true
 alike_matches (Num z) (Num y) s = (signed_Decides z y).1 (let same = s.0 in cc)
 alike_matches (Neg a) (Neg b) s = (unsigned_Decides (length a) (length b)).1 s.1
@@ -150,8 +164,10 @@ alike_matches (Add a) (Add b) s = (unsigned_Decides (length a) (length b)).1 s.1
 alike_matches (Sum a) (Sum b) s = (unsigned_Decides (length a.items) (length b.items)).1 s.1
 alike_matches _ _ s = let same = s.0 in absurd cc
 
+-- so nodes match where they are alike, and nowhere else
 pub matches_exactly : (a b : Arith) → Decides (arith_matches a b) (IsAlike head_of ids_of a b)
 matches_exactly a b = (matches_says a b, alike_matches a b)
 
+-- matching is an equivalence, as being alike is
 pub matches_equivalence : IsEquivalence arith_matches
 matches_equivalence = alike_equivalence head_of ids_of arith_matches matches_exactly
