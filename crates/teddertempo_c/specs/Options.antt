@@ -14,6 +14,7 @@ names_none options = eqb options.low_rules 0 && eqb options.high_rules 0
 abbrev pub word_of : Options → (number : ℕ) → ℕ
 word_of options number = if ltb number 64 then options.low_rules else options.high_rules
 
+-- the word has the bit of the rule with that number, of its 64 bits
 abbrev pub has_bit : (word number : ℕ) → Bool
 has_bit word number = eqb ((word / 2 ^ (number % 64)) % 2) 1
 

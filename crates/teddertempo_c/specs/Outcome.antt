@@ -75,6 +75,7 @@ outcome_by_fault faults.Linkable = LinkableObject
 outcome_by_fault faults.Memory = NoMemory
 outcome_by_fault fault = NotAModule
 
+-- 0 where memory was wanting, which is at no place in the bytes
 abbrev pub offset_by_fault : ModuleFault → (offset : ℕ) → ℕ
 offset_by_fault faults.Memory offset = 0
 offset_by_fault fault offset = offset
@@ -84,16 +85,19 @@ abbrev pub outcome_by_error : Error → Outcome
 outcome_by_error errors.Memory = NoMemory
 outcome_by_error e = TooLarge
 
+-- what it comes to that a section isn't written
 abbrev pub outcome_by_write : WriteError → Outcome
 outcome_by_write writes.TooLarge = TooLarge
 outcome_by_write writes.Memory = NoMemory
 
+-- the same of any refusal: that of reading, of rewriting, of writing, or for the size of the module
 abbrev pub outcome_by_refusal : MutationError → Outcome
 outcome_by_refusal (mutations.Read e) = outcome_by_fault e.kind
 outcome_by_refusal (mutations.Rewrite e) = outcome_by_error e
 outcome_by_refusal (mutations.Write e) = outcome_by_write e
 outcome_by_refusal mutations.TooLong = TooLarge
 
+-- the offset that is told of a refusal; 0 where nothing of the module's bytes is at fault
 abbrev pub offset_by_refusal : MutationError → ℕ
 offset_by_refusal (mutations.Read e) = offset_by_fault e.kind e.offset
 offset_by_refusal e = 0
@@ -106,6 +110,7 @@ outcome_by (reasons.NoFunction function) = NoFunction
 outcome_by (reasons.UnknownImport e) = NoFunction
 outcome_by (reasons.Refused e) = outcome_by_refusal e
 
+-- the offset that is told of a reason; 0 of one that is no refusal
 abbrev pub offset_by : Reason → ℕ
 offset_by (reasons.Refused e) = offset_by_refusal e
 offset_by reason = 0
