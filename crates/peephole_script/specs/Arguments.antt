@@ -16,6 +16,7 @@ cons_some None xs = None
 cons_some (Some x) None = None
 cons_some (Some x) (Some xs) = Some (x ∷ xs)
 
+-- a value for each of the words; none at all where one word has none
 abbrev pub all_of : {A : Type 0} → (List ℕ → Option A) → List (List ℕ) → Option (List A)
 all_of f [] = Some []
 all_of f (word ∷ words) = cons_some (f word) (all_of f words)

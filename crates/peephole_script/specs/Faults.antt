@@ -12,6 +12,7 @@ use Rattle.std.specs.Io.KnownBytes.{Consumes}
 abbrev pub ConsumesMore : Option (List ℕ) → Option (List ℕ) → ℕ → Type 0
 ConsumesMore old new most = (bytes : List ℕ) × Consumes old new bytes × (most < length bytes)
 
+-- the name of what ends a whole run, other than a faulty line
 abbrev pub run_error_name : RunError → List ℕ
 run_error_name run.Memory = codes "Memory"
 run_error_name run.Input = codes "Input"

@@ -1,6 +1,7 @@
 -- A device that is watched, and when a call has failed (this project's).
 use Rattle.std.specs.Prelude.{ℕ, Bool, true, ◌&&◌, ◌==◌, nat_lt, Result, Ok, Err}
 
+-- the device that a run writes to, and whether it still works
 pub record Watched (D : Type 0) : Type 0 where
   pub device : D
   -- whether a call has answered an error, or a write none of some bytes
