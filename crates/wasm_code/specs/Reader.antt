@@ -30,6 +30,7 @@ use Rattle.wasm_code.specs.Body.{is_end, kind_of}
 use Rattle.wasm_code.specs.Table.{row_at}
 use Rattle.wasm_code.specs.Finding.{row_with}
 
+-- what is read first decides how reading goes on; its fault is that of both
 infixl 10 ◌>>=◌
 abbrev pub ◌>>=◌ : {A B : Type 0} → Result A Cause → (A → Result B Cause) → Result B Cause
 (Ok x) >>= f = f x
