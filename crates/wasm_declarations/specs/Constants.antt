@@ -29,6 +29,7 @@ SpellsMaking = Then (SpellsUnsigned 32) (λ n. Choose (is_making n) (Times (indi
 abbrev pub NamesNoOperator : List ℕ → Cause → Type 0
 NamesNoOperator bytes cause = cause ≡ UnknownOpcode
 
+-- No such operator stands behind the byte FB.
 abbrev pub FailsMaking : List ℕ → Cause → Type 0
 FailsMaking = FailsThen (FailsUnsigned 32) (SpellsUnsigned 32) (λ n.
     FailsChosen (is_making n) (FailsTimes (indices_behind n) (FailsUnsigned 32) (SpellsUnsigned 32)) NamesNoOperator)
@@ -41,6 +42,7 @@ abbrev pub SpellsConstant : List ℕ → Bool → Type 0
 SpellsConstant = ByFirst (λ b. b == 0xd0) (λ _. Of (λ _. false) SpellsHeapType)
     (ByFirst (λ b. b == 0xfb) (λ _. Of (λ _. false) SpellsMaking) (Of is_end operator.Spells))
 
+-- No operator of a constant expression begins the bytes.
 abbrev pub FailsConstant : List ℕ → Cause → Type 0
 FailsConstant = FailsByFirst (λ b. b == 0xd0) (λ _. FailsHeapType) (FailsByFirst (λ b. b == 0xfb) (λ _. FailsMaking) operator.Fails)
 
@@ -59,6 +61,7 @@ pub record SpellsInitialiser (text : List ℕ) (x : Unit {0}) : Type 0 where
   pub most : ℕ
   pub spells : EndsWithin most text x
 
+-- Behind some operators that are no `end` stand bytes that begin with none.
 pub record FailsInitialiser (bytes : List ℕ) (cause : Cause) : Type 0 where
   pub most : ℕ
   pub fails : FailsWithin most bytes cause

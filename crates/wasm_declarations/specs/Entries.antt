@@ -16,6 +16,7 @@ pub record Measured {A : Type 0} (Spells : List ℕ → A → Type 0) (text : Li
 abbrev pub SpellsSized : List ℕ → ℕ × ℕ → Type 0
 SpellsSized = Then (Measured (SpellsUnsigned 32)) (λ size. Of (λ _. size) (AreBytes size.0))
 
+-- No size begins the bytes, or fewer bytes follow it.
 abbrev pub FailsSized : List ℕ → Cause → Type 0
 FailsSized = FailsThen (FailsUnsigned 32) (Measured (SpellsUnsigned 32)) (λ size. LacksBytes size.0)
 

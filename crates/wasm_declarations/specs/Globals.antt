@@ -11,6 +11,7 @@ use Rattle.wasm_declarations.specs.ValueTypes.{SpellsPrimitive, FailsPrimitive, 
 abbrev pub SpellsGlobalType : List ℕ → PrimitiveTypeInfo → Type 0
 SpellsGlobalType = Then SpellsPrimitive (λ type. Of (λ _. type) (IsCode mutable_code))
 
+-- No value type begins the bytes, or neither 0 nor 1 follows it.
 abbrev pub FailsGlobalType : List ℕ → Cause → Type 0
 FailsGlobalType = FailsThen FailsPrimitive SpellsPrimitive (λ _. FailsCode mutable_code)
 
@@ -18,5 +19,6 @@ FailsGlobalType = FailsThen FailsPrimitive SpellsPrimitive (λ _. FailsCode muta
 abbrev pub SpellsGlobal : List ℕ → PrimitiveTypeInfo → Type 0
 SpellsGlobal = Then SpellsGlobalType (λ type. Of (λ _. type) SpellsInitialiser)
 
+-- No global type begins the bytes, or no initialiser follows it.
 abbrev pub FailsGlobal : List ℕ → Cause → Type 0
 FailsGlobal = FailsThen FailsGlobalType SpellsGlobalType (λ _. FailsInitialiser)

@@ -13,6 +13,7 @@ use Rattle.wasm_declarations.specs.Globals.{SpellsGlobalType, FailsGlobalType}
 abbrev pub SpellsName : List ℕ → Unit {0} → Type 0
 SpellsName = Then (SpellsUnsigned 32) (λ n. Of (λ _. tt) (AreBytes n))
 
+-- No length begins the bytes, or fewer bytes follow it.
 abbrev pub FailsName : List ℕ → Cause → Type 0
 FailsName = FailsThen (FailsUnsigned 32) (SpellsUnsigned 32) (λ n. LacksBytes n)
 
@@ -26,6 +27,7 @@ SpellsExternal = Then IsByte (λ b.
     (Choose (b == 0x03) (Of (λ t. imports.Global t) SpellsGlobalType)
     (Choose (b == 0x04) (Then (IsMark 0x00) (λ _. Of (λ n. imports.Tag n) (SpellsUnsigned 32))) Never)))))
 
+-- There is no byte, or it is none of these, or what it asks for fails.
 abbrev pub FailsExternal : List ℕ → Cause → Type 0
 FailsExternal = FailsThen LacksByte IsByte (λ b.
     FailsChosen (b == 0x00) (FailsUnsigned 32)
@@ -38,5 +40,6 @@ FailsExternal = FailsThen LacksByte IsByte (λ b.
 abbrev pub SpellsImport : List ℕ → Import → Type 0
 SpellsImport = Then SpellsName (λ _. Then SpellsName (λ _. SpellsExternal))
 
+-- One of the names fails, or what is imported.
 abbrev pub FailsImport : List ℕ → Cause → Type 0
 FailsImport = FailsThen FailsName SpellsName (λ _. FailsThen FailsName SpellsName (λ _. FailsExternal))

@@ -39,6 +39,7 @@ pub record IsCut {A : Type 0} (Spells : List ℕ → A → Type 0) (Fails : List
   pub counted : count ≡ item.number
   pub before : items ≡ item.items
 
+-- These are the items that are known, and the error is that of the first one behind them, if there is one of an unknown form.
 abbrev pub IsKnown : {A : Type 0} → (List ℕ → A → Type 0) → (List ℕ → Cause → Type 0) → ℕ → List ℕ → ℕ → List A → Option ModuleError → Type 0
 IsKnown Spells Fails start text count items None = IsWhole Spells text count items
 IsKnown Spells Fails start text count items (Some e) = IsCut Spells Fails start text count items e

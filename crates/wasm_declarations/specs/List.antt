@@ -44,6 +44,7 @@ pub record ItemFails {A : Type 0} (Spells : List ℕ → A → Type 0) (Fails : 
   pub at : offset ≡ start + length count + length front
   pub fails : Fails back cause
 
+-- The count fails, or the first item that fails starts at the offset.
 abbrev pub StopsAt : {A : Type 0} → (List ℕ → A → Type 0) → (List ℕ → Cause → Type 0) → ℕ → List ℕ → Cause → ℕ → Type 0
 StopsAt Spells Fails start text cause offset = CountFails start text cause offset ⊎ ItemFails Spells Fails start text cause offset
 

@@ -15,6 +15,7 @@ use Rattle.wasm_declarations.specs.ValueTypes.{SpellsPrimitive, FailsPrimitive}
 abbrev pub SpellsGroup : List ℕ → ℕ × PrimitiveTypeInfo → Type 0
 SpellsGroup = Then (SpellsUnsigned 32) (λ n. Of (λ type. (n, type)) SpellsPrimitive)
 
+-- No number begins the bytes, or no value type follows it.
 abbrev pub FailsGroup : List ℕ → Cause → Type 0
 FailsGroup = FailsThen (FailsUnsigned 32) (SpellsUnsigned 32) (λ _. FailsPrimitive)
 

@@ -60,6 +60,7 @@ pub record StopsEach {A : Type 0} (at : List ℕ → Result (A × List ℕ) Caus
   pub fails : at rest ≡ Err cause
   pub is_left : left ≡ length rest
 
+-- the same for a refusal: nothing is said of one for want of memory
 abbrev pub StopsBy : {A : Type 0} → (List ℕ → Result (A × List ℕ) Cause) → ℕ → List ℕ → Refusal → ℕ → Type 0
 StopsBy at number bytes (refusals.Bytes cause) left = StopsEach at number bytes cause left
 StopsBy at number bytes refusals.Memory left = Unit {0}
@@ -101,15 +102,18 @@ FailsWhole at start text e =
 
 -- ---- lists with items of unknown forms
 
+-- the refusal says that bytes name nothing that is known here
 abbrev pub IsUnknownBy : Refusal → Type 0
 IsUnknownBy (refusals.Bytes cause) = IsUnknown cause
 IsUnknownBy refusals.Memory = ⊥
 
+-- the text is a list of so many items, which are all read
 pub record ReadsWhole {A : Type 0} (at : List ℕ → Result (A × List ℕ) Cause) (text : List ℕ) (count : ℕ) (items : List A) : Type 0 where
   pub rest : List ℕ
   pub counts : unsigned_at 32 text ≡ Ok (count, rest)
   pub reads : list_at at text ≡ Ok (items, [])
 
+-- the list has so many items, of which these are read; the next one is of an unknown form, as the error says
 pub record ReadsCut {A : Type 0} (at : List ℕ → Result (A × List ℕ) Cause) (start : ℕ) (text : List ℕ) (count : ℕ) (items : List A)
     (e : ModuleError) : Type 0 where
   pub cause : Cause
@@ -136,9 +140,11 @@ FailsKnown at start text e =
 
 -- ---- types
 
+-- the byte of i8 or i16, or a value type
 unfoldable pub storage_type_at : List ℕ → Result (Unit {0} × List ℕ) Cause
 storage_type_at bytes = byte_at bytes >>= λ b. if is_packed b.0 then Ok (tt, b.1) else (primitive_at bytes >>= λ t. Ok (tt, t.1))
 
+-- what is stored, and whether it may be written
 unfoldable pub field_at : List ℕ → Result (Unit {0} × List ℕ) Cause
 field_at bytes = storage_type_at bytes >>= λ stored. mutable_at stored.1 >>= λ m. Ok (tt, m.1)
 
@@ -146,10 +152,12 @@ field_at bytes = storage_type_at bytes >>= λ stored. mutable_at stored.1 >>= λ
 unfoldable pub counted_at : {A : Type 0} → (List ℕ → Result (A × List ℕ) Cause) → List ℕ → Result (Unit {0} × List ℕ) Cause
 counted_at at bytes = unsigned_at 32 bytes >>= λ n. times_at n.0 at n.1
 
+-- the types of the parameters and of the results of a function
 unfoldable pub signature_at : List ℕ → Result (TypeInfo × List ℕ) Cause
 signature_at bytes = list_at primitive_at bytes >>= λ params. list_at primitive_at params.1 >>= λ returns.
     Ok (kinds.Func (record { params = params.0; returns = returns.0 }), returns.1)
 
+-- a function's type, a structure's or an array's, as the first byte says
 unfoldable pub composite_type_at : List ℕ → Result (TypeInfo × List ℕ) Cause
 composite_type_at bytes = byte_at bytes >>= λ b.
     if b.0 == 0x60 then signature_at b.1
@@ -157,10 +165,12 @@ composite_type_at bytes = byte_at bytes >>= λ b.
     else if b.0 == 0x5e then (field_at b.1 >>= λ x. Ok (kinds.Other, x.1))
     else Err BadImmediate
 
+-- a composite type, with the indices of those that it is a subtype of where the first byte says so
 unfoldable pub sub_type_at : List ℕ → Result (TypeInfo × List ℕ) Cause
 sub_type_at bytes = byte_at bytes >>= λ b.
     if is_sub b.0 then (counted_at (unsigned_at 32) b.1 >>= λ x. composite_type_at x.1) else composite_type_at bytes
 
+-- a list of subtypes behind the byte 4E, or one alone
 unfoldable pub type_group_at : List ℕ → Result (List TypeInfo × List ℕ) Cause
 type_group_at bytes = byte_at bytes >>= λ b.
     if b.0 == 0x4e then list_at sub_type_at b.1 else (sub_type_at bytes >>= λ t. Ok (t.0 ∷ [], t.1))
@@ -173,19 +183,24 @@ flag_of b =
     if b == 0 then Some (false, None) else if b == 1 then Some (false, Some false) else if b == 3 then Some (false, Some true)
     else if b == 4 then Some (true, None) else if b == 5 then Some (true, Some false) else if b == 7 then Some (true, Some true) else None
 
+-- the flag of limits: whether 64 bits index, and of a maximum whether what has it is shared
 unfoldable pub flag_at : List ℕ → Result ((Bool × Option Bool) × List ℕ) Cause
 flag_at bytes = byte_at bytes >>= λ b. named_at (flag_of b.0) b.1
 
+-- limits: whether 64 bits index
 unfoldable pub limits_at : List ℕ → Result (Bool × List ℕ) Cause
 limits_at bytes = flag_at bytes >>= λ flag. times_at (bounds flag.0) (unsigned_at 64) flag.1 >>= λ x. Ok (flag.0.0, x.1)
 
+-- a memory type
 unfoldable pub memory_type_at : List ℕ → Result (MemoryType × List ℕ) Cause
 memory_type_at bytes = limits_at bytes >>= λ wide. Ok (record { memory64 = wide.0 }, wide.1)
 
+-- a table type
 unfoldable pub table_type_at : List ℕ → Result (TableType × List ℕ) Cause
 table_type_at bytes = reference_type_at bytes >>= λ element. limits_at element.1 >>= λ wide.
     Ok (record { element_type = element.0; table64 = wide.0 }, wide.1)
 
+-- a table, with an initialiser where the first byte is 40
 unfoldable pub table_at : List ℕ → Result (TableType × List ℕ) Cause
 table_at bytes = byte_at bytes >>= λ b.
     if b.0 == 0x40 then (mark_at 0x00 b.1 >>= λ m. table_type_at m.1 >>= λ type. initialiser_at type.1 >>= λ x. Ok (type.0, x.1))
@@ -193,9 +208,11 @@ table_at bytes = byte_at bytes >>= λ b.
 
 -- ---- globals
 
+-- a value type, and whether it may be written
 unfoldable pub global_type_at : List ℕ → Result (PrimitiveTypeInfo × List ℕ) Cause
 global_type_at bytes = primitive_at bytes >>= λ type. mutable_at type.1 >>= λ m. Ok (type.0, m.1)
 
+-- a global type and an initialiser
 unfoldable pub global_at : List ℕ → Result (PrimitiveTypeInfo × List ℕ) Cause
 global_at bytes = global_type_at bytes >>= λ type. initialiser_at type.1 >>= λ x. Ok (type.0, x.1)
 
@@ -205,9 +222,11 @@ global_at bytes = global_type_at bytes >>= λ type. initialiser_at type.1 >>= λ
 unfoldable pub skip_at : ℕ → List ℕ → Result (Unit {0} × List ℕ) Cause
 skip_at n bytes = bytes_at n bytes >>= λ b. Ok (tt, b.1)
 
+-- a length and as many bytes
 unfoldable pub name_at : List ℕ → Result (Unit {0} × List ℕ) Cause
 name_at bytes = unsigned_at 32 bytes >>= λ n. skip_at n.0 n.1
 
+-- what is imported, as the first byte says
 unfoldable pub external_at : List ℕ → Result (Import × List ℕ) Cause
 external_at bytes = byte_at bytes >>= λ b.
     if b.0 == 0x00 then (unsigned_at 32 b.1 >>= λ n. Ok (imports.Function n.0, n.1))
@@ -217,6 +236,7 @@ external_at bytes = byte_at bytes >>= λ b.
     else if b.0 == 0x04 then (mark_at 0x00 b.1 >>= λ m. unsigned_at 32 m.1 >>= λ n. Ok (imports.Tag n.0, n.1))
     else Err BadImmediate
 
+-- two names and what is imported
 unfoldable pub import_at : List ℕ → Result (Import × List ℕ) Cause
 import_at bytes = name_at bytes >>= λ first. name_at first.1 >>= λ name. external_at name.1
 
@@ -226,6 +246,7 @@ import_at bytes = name_at bytes >>= λ first. name_at first.1 >>= λ name. exter
 unfoldable pub measured_at : {A : Type 0} → (List ℕ → Result (A × List ℕ) Cause) → List ℕ → Result ((A × ℕ) × List ℕ) Cause
 measured_at at bytes = at bytes >>= λ x. Ok ((x.0, length bytes - length x.1), x.1)
 
+-- a size (first) with the number of the bytes that spell it (second), and that many bytes
 unfoldable pub sized_at : List ℕ → Result ((ℕ × ℕ) × List ℕ) Cause
 sized_at bytes = measured_at (unsigned_at 32) bytes >>= λ size. bytes_at size.0.0 size.1 >>= λ b. Ok (size.0, b.1)
 
@@ -246,6 +267,7 @@ pub record AreRead (start : ℕ) (text : List ℕ) (entries : List Entry) : Type
   pub reads : list_at sized_at text ≡ Ok (sizes, [])
   pub placed : entries ≡ entries_from (start + (length text - length rest)) sizes
 
+-- so many locals of one type
 unfoldable pub group_at : List ℕ → Result ((ℕ × PrimitiveTypeInfo) × List ℕ) Cause
 group_at bytes = unsigned_at 32 bytes >>= λ n. primitive_at n.1 >>= λ type. Ok ((n.0, type.0), type.1)
 
@@ -282,18 +304,22 @@ pub record HasTooMany (before : List PrimitiveTypeInfo) (number : ℕ) (bytes : 
   pub next : group_at rest ≡ Ok (group, behind)
   pub many : 50000 < length before + locals_in groups + group.0
 
+-- the same for a refusal: nothing is said of one for want of memory
 abbrev pub FailsGroupsBy : List PrimitiveTypeInfo → ℕ → List ℕ → Refusal → ℕ → Type 0
 FailsGroupsBy before number bytes (refusals.Bytes cause) left = FailsGroups before number bytes cause left
 FailsGroupsBy before number bytes refusals.Memory left = Unit {0}
 
+-- why the groups aren't read to their end is right
 abbrev pub StopsGroups : List PrimitiveTypeInfo → ℕ → List ℕ → GroupStop → Type 0
 StopsGroups before number bytes (stops.Refused s) = FailsGroupsBy before number bytes s.refusal s.left
 StopsGroups before number bytes (stops.TooMany left) = HasTooMany before number bytes left
 
+-- how many bytes were left there
 abbrev pub left_of : GroupStop → ℕ
 left_of (stops.Refused s) = s.left
 left_of (stops.TooMany left) = left
 
+-- the error of groups that stop at that offset, in contents that start at the other one
 abbrev pub group_error_at : GroupStop → ℕ → ℕ → ModuleError
 group_error_at (stops.Refused s) offset start = error_at s.refusal offset start
 group_error_at (stops.TooMany left) offset start = record { kind = faults.TooManyLocals; offset = offset }

@@ -28,6 +28,7 @@ bounds flag = if is_some flag.1 then 2 else 1
 abbrev pub SpellsLimits : List ℕ → Bool → Type 0
 SpellsLimits = Then (IsCode flag_code) (λ flag. Of (λ _. flag.0) (Times (bounds flag) (SpellsUnsigned 64)))
 
+-- No flag begins the bytes, or fewer numbers follow it than it says.
 abbrev pub FailsLimits : List ℕ → Cause → Type 0
 FailsLimits = FailsThen (FailsCode flag_code) (IsCode flag_code) (λ flag. FailsTimes (bounds flag) (FailsUnsigned 64) (SpellsUnsigned 64))
 
@@ -35,6 +36,7 @@ FailsLimits = FailsThen (FailsCode flag_code) (IsCode flag_code) (λ flag. Fails
 abbrev pub SpellsMemoryType : List ℕ → MemoryType → Type 0
 SpellsMemoryType = Of (λ wide. record { memory64 = wide }) SpellsLimits
 
+-- The limits fail.
 abbrev pub FailsMemoryType : List ℕ → Cause → Type 0
 FailsMemoryType = FailsLimits
 
@@ -44,6 +46,7 @@ FailsMemoryType = FailsLimits
 abbrev pub SpellsTableType : List ℕ → TableType → Type 0
 SpellsTableType = Then SpellsReferenceType (λ element. Of (λ wide. record { element_type = element; table64 = wide }) SpellsLimits)
 
+-- No reference type begins the bytes, or no limits follow it.
 abbrev pub FailsTableType : List ℕ → Cause → Type 0
 FailsTableType = FailsThen FailsReferenceType SpellsReferenceType (λ _. FailsLimits)
 
@@ -52,6 +55,7 @@ abbrev pub SpellsTable : List ℕ → TableType → Type 0
 SpellsTable = ByFirst (λ b. b == 0x40)
     (λ _. Then (IsMark 0x00) (λ _. Then SpellsTableType (λ type. Of (λ _. type) SpellsInitialiser))) SpellsTableType
 
+-- What the first byte asks for fails, or there is none.
 abbrev pub FailsTable : List ℕ → Cause → Type 0
 FailsTable = FailsByFirst (λ b. b == 0x40)
     (λ _. FailsThen (FailsMark 0x00) (IsMark 0x00) (λ _. FailsThen FailsTableType SpellsTableType (λ _. FailsInitialiser))) FailsTableType

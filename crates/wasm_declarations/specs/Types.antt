@@ -20,6 +20,7 @@ is_packed b = (b == 0x77) || (b == 0x78)
 abbrev pub SpellsStorageType : List ℕ → Unit {0} → Type 0
 SpellsStorageType = ByFirst is_packed (λ _. NoBytes tt) (Of (λ _. tt) SpellsPrimitive)
 
+-- There is no byte, or it is of no such type and no value type begins the bytes.
 abbrev pub FailsStorageType : List ℕ → Cause → Type 0
 FailsStorageType = FailsByFirst is_packed (λ _. NeverFails) FailsPrimitive
 
@@ -27,6 +28,7 @@ FailsStorageType = FailsByFirst is_packed (λ _. NeverFails) FailsPrimitive
 abbrev pub SpellsField : List ℕ → Unit {0} → Type 0
 SpellsField = Then SpellsStorageType (λ _. Of (λ _. tt) (IsCode mutable_code))
 
+-- Nothing that is stored begins the bytes, or neither 0 nor 1 follows it.
 abbrev pub FailsField : List ℕ → Cause → Type 0
 FailsField = FailsThen FailsStorageType SpellsStorageType (λ _. FailsCode mutable_code)
 
@@ -34,6 +36,7 @@ FailsField = FailsThen FailsStorageType SpellsStorageType (λ _. FailsCode mutab
 abbrev pub SpellsFields : List ℕ → Unit {0} → Type 0
 SpellsFields = Then (SpellsUnsigned 32) (λ n. Times n SpellsField)
 
+-- The count fails, or one of the fields.
 abbrev pub FailsFields : List ℕ → Cause → Type 0
 FailsFields = FailsThen (FailsUnsigned 32) (SpellsUnsigned 32) (λ n. FailsTimes n FailsField SpellsField)
 
@@ -44,6 +47,7 @@ abbrev pub SpellsSignature : List ℕ → TypeInfo → Type 0
 SpellsSignature = Then (SpellsList SpellsPrimitive) (λ params.
     Of (λ returns. Func (record { params = params; returns = returns })) (SpellsList SpellsPrimitive))
 
+-- The list of the parameters fails, or that of the results.
 abbrev pub FailsSignature : List ℕ → Cause → Type 0
 FailsSignature =
     FailsThen (FailsList SpellsPrimitive FailsPrimitive) (SpellsList SpellsPrimitive) (λ _. FailsList SpellsPrimitive FailsPrimitive)
@@ -53,6 +57,7 @@ abbrev pub SpellsCompositeType : List ℕ → TypeInfo → Type 0
 SpellsCompositeType = ByFirst (λ b. b == 0x60) (λ _. SpellsSignature)
     (ByFirst (λ b. b == 0x5f) (λ _. Of (λ _. Other) SpellsFields) (ByFirst (λ b. b == 0x5e) (λ _. Of (λ _. Other) SpellsField) Never))
 
+-- There is no byte, or it is none of these, or what it asks for fails.
 abbrev pub FailsCompositeType : List ℕ → Cause → Type 0
 FailsCompositeType = FailsByFirst (λ b. b == 0x60) (λ _. FailsSignature)
     (FailsByFirst (λ b. b == 0x5f) (λ _. FailsFields) (FailsByFirst (λ b. b == 0x5e) (λ _. FailsField) NamesNothing))
@@ -67,6 +72,7 @@ is_sub b = (b == 0x4f) || (b == 0x50)
 abbrev pub SpellsIndices : List ℕ → Unit {0} → Type 0
 SpellsIndices = Then (SpellsUnsigned 32) (λ n. Times n (SpellsUnsigned 32))
 
+-- The count fails, or one of the indices.
 abbrev pub FailsIndices : List ℕ → Cause → Type 0
 FailsIndices = FailsThen (FailsUnsigned 32) (SpellsUnsigned 32) (λ n. FailsTimes n (FailsUnsigned 32) (SpellsUnsigned 32))
 
@@ -74,6 +80,7 @@ FailsIndices = FailsThen (FailsUnsigned 32) (SpellsUnsigned 32) (λ n. FailsTime
 abbrev pub SpellsSubType : List ℕ → TypeInfo → Type 0
 SpellsSubType = ByFirst is_sub (λ _. Then SpellsIndices (λ _. SpellsCompositeType)) SpellsCompositeType
 
+-- The indices fail, or the composite type.
 abbrev pub FailsSubType : List ℕ → Cause → Type 0
 FailsSubType = FailsByFirst is_sub (λ _. FailsThen FailsIndices SpellsIndices (λ _. FailsCompositeType)) FailsCompositeType
 
@@ -81,6 +88,7 @@ FailsSubType = FailsByFirst is_sub (λ _. FailsThen FailsIndices SpellsIndices (
 abbrev pub SpellsTypeGroup : List ℕ → List TypeInfo → Type 0
 SpellsTypeGroup = ByFirst (λ b. b == 0x4e) (λ _. SpellsList SpellsSubType) (Of (λ type. type ∷ []) SpellsSubType)
 
+-- The list of subtypes fails, or the one subtype.
 abbrev pub FailsTypeGroup : List ℕ → Cause → Type 0
 FailsTypeGroup = FailsByFirst (λ b. b == 0x4e) (λ _. FailsList SpellsSubType FailsSubType) FailsSubType
 

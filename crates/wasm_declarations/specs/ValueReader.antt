@@ -18,6 +18,7 @@ abbrev pub first_at : {A : Type 0} → (ℕ → Bool) → (ℕ → List ℕ → 
     → Result (A × List ℕ) Cause
 first_at test behind other bytes = byte_at bytes >>= λ b. if test b.0 then behind b.0 b.1 else other bytes
 
+-- what is told by a byte that can be one alone
 abbrev pub mark_of : ℕ → ℕ → Option (Unit {0})
 mark_of mark b = if b == mark then Some tt else None
 
@@ -31,13 +32,16 @@ mark_at mark bytes = byte_at bytes >>= λ b. named_at (mark_of mark b.0) b.1
 abbrev pub not_below_zero : List ℕ → ℕ × List ℕ → Result (ℕ × List ℕ) Cause
 not_below_zero bytes n = if nat_le 64 (slice_index bytes (length bytes - length n.1 - 1)) then Err BadImmediate else Ok n
 
+-- an index that a heap type spells: a signed number of 33 bits that isn't below zero
 unfoldable pub index_at : List ℕ → Result (ℕ × List ℕ) Cause
 index_at bytes = unsigned_at 32 bytes >>= λ n. not_below_zero bytes n
 
+-- a heap type: an abstract one, or an index
 unfoldable pub heap_type_at : List ℕ → Result (ElementType × List ℕ) Cause
 heap_type_at bytes = byte_at bytes >>= λ b.
     if is_abstract b.0 then Ok (abstract_element b.0, b.1) else (index_at bytes >>= λ n. Ok (Other, n.1))
 
+-- a reference type, by what it refers to
 unfoldable pub reference_type_at : List ℕ → Result (ElementType × List ℕ) Cause
 reference_type_at bytes = byte_at bytes >>= λ b.
     if b.0 == 0x63 then heap_type_at b.1
@@ -45,6 +49,7 @@ reference_type_at bytes = byte_at bytes >>= λ b.
     else if is_abstract b.0 then Ok (abstract_element b.0, b.1)
     else Err BadImmediate
 
+-- a value type
 unfoldable pub primitive_at : List ℕ → Result (PrimitiveTypeInfo × List ℕ) Cause
 primitive_at bytes = byte_at bytes >>= λ b.
     if is_plain b.0 then Ok (plain_type b.0, b.1) else (reference_type_at bytes >>= λ t. Ok (reference t.0, t.1))
@@ -53,15 +58,18 @@ primitive_at bytes = byte_at bytes >>= λ b.
 abbrev pub mutable_of : ℕ → Option Bool
 mutable_of b = if b == 0 then Some false else if b == 1 then Some true else None
 
+-- whether something may be written
 unfoldable pub mutable_at : List ℕ → Result (Bool × List ℕ) Cause
 mutable_at bytes = byte_at bytes >>= λ b. named_at (mutable_of b.0) b.1
 
 -- ---- constant expressions
 
+-- an operator behind the byte FB
 unfoldable pub making_at : List ℕ → Result (Unit {0} × List ℕ) Cause
 making_at bytes = unsigned_at 32 bytes >>= λ n.
     if is_making n.0 then times_at (indices_behind n.0) (unsigned_at 32) n.1 else Err UnknownOpcode
 
+-- an operator of a constant expression: whether it is the `end`
 unfoldable pub constant_at : List ℕ → Result (Bool × List ℕ) Cause
 constant_at bytes = byte_at bytes >>= λ b.
     if b.0 == 0xd0 then (heap_type_at b.1 >>= λ t. Ok (false, t.1))

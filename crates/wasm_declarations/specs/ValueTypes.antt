@@ -42,6 +42,7 @@ abstract_element b = if b == 0x70 then Func else if b == 0x6f then Extern else O
 abbrev pub SpellsHeapType : List ℕ → ElementType → Type 0
 SpellsHeapType = ByFirst is_abstract (λ b. NoBytes (abstract_element b)) (Of (λ _. Other) SpellsTypeIndex)
 
+-- No heap type begins the bytes.
 abbrev pub FailsHeapType : List ℕ → Cause → Type 0
 FailsHeapType = FailsByFirst is_abstract (λ _. NeverFails) FailsTypeIndex
 
@@ -51,6 +52,7 @@ FailsHeapType = FailsByFirst is_abstract (λ _. NeverFails) FailsTypeIndex
 abbrev pub SpellsAbstract : List ℕ → ElementType → Type 0
 SpellsAbstract = ByFirst is_abstract (λ b. NoBytes (abstract_element b)) Never
 
+-- There is no byte, or it is that of no abstract heap type.
 abbrev pub FailsAbstract : List ℕ → Cause → Type 0
 FailsAbstract = FailsByFirst is_abstract (λ _. NeverFails) NamesNothing
 
@@ -59,6 +61,7 @@ FailsAbstract = FailsByFirst is_abstract (λ _. NeverFails) NamesNothing
 abbrev pub SpellsReferenceType : List ℕ → ElementType → Type 0
 SpellsReferenceType = ByFirst (λ b. b == 0x63) (λ _. SpellsHeapType) (ByFirst (λ b. b == 0x64) (λ _. Of (λ _. Other) SpellsHeapType) SpellsAbstract)
 
+-- No reference type begins the bytes.
 abbrev pub FailsReferenceType : List ℕ → Cause → Type 0
 FailsReferenceType = FailsByFirst (λ b. b == 0x63) (λ _. FailsHeapType) (FailsByFirst (λ b. b == 0x64) (λ _. FailsHeapType) FailsAbstract)
 
@@ -84,6 +87,7 @@ reference Other = primitives.Empty
 abbrev pub SpellsPrimitive : List ℕ → PrimitiveTypeInfo → Type 0
 SpellsPrimitive = ByFirst is_plain (λ b. NoBytes (plain_type b)) (Of reference SpellsReferenceType)
 
+-- No value type begins the bytes.
 abbrev pub FailsPrimitive : List ℕ → Cause → Type 0
 FailsPrimitive = FailsByFirst is_plain (λ _. NeverFails) FailsReferenceType
 

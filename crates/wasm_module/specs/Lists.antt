@@ -19,6 +19,7 @@ use Rattle.wasm_declarations.specs.Entries.{SpellsEntries}
 use Rattle.wasm_module.specs.declared.unknown.Unknown.{Unknown}
 use Rattle.wasm_module.specs.Module.{Lists, Knows}
 
+-- what is known of the lists of the sections
 pub record Listed : Type 0 where
   pub types : Known (List TypeInfo)
   pub imports : Known Import

@@ -60,6 +60,7 @@ functions_of (imports.Memory t ∷ is) = functions_of is
 functions_of (imports.Global t ∷ is) = functions_of is
 functions_of (imports.Tag n ∷ is) = functions_of is
 
+-- the tables
 abbrev pub tables_of : List Import → List TableType
 tables_of [] = []
 tables_of (imports.Function n ∷ is) = tables_of is
@@ -68,6 +69,7 @@ tables_of (imports.Memory t ∷ is) = tables_of is
 tables_of (imports.Global t ∷ is) = tables_of is
 tables_of (imports.Tag n ∷ is) = tables_of is
 
+-- the memories
 abbrev pub memories_of : List Import → List MemoryType
 memories_of [] = []
 memories_of (imports.Function n ∷ is) = memories_of is
@@ -76,6 +78,7 @@ memories_of (imports.Memory t ∷ is) = t ∷ memories_of is
 memories_of (imports.Global t ∷ is) = memories_of is
 memories_of (imports.Tag n ∷ is) = memories_of is
 
+-- the types of the globals
 abbrev pub globals_of : List Import → List PrimitiveTypeInfo
 globals_of [] = []
 globals_of (imports.Function n ∷ is) = globals_of is

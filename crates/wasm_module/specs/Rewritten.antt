@@ -33,6 +33,7 @@ global_code primitives.FuncRef = global_of 0x70 (0xd0 ∷ 0x70 ∷ [])
 global_code primitives.ExternRef = global_of 0x6f (0xd0 ∷ 0x6f ∷ [])
 global_code primitives.Empty = []
 
+-- globals of these types, one after another
 abbrev pub globals_code : List PrimitiveTypeInfo → List ℕ
 globals_code [] = []
 globals_code (t ∷ ts) = global_code t ++ globals_code ts
