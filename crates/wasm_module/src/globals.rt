@@ -2,6 +2,7 @@
 ghost use Rattle.std.specs.Prelude.{◌≡◌, ◌≤◌, ◌^◌, ◌++◌, length, IfOk, IfErr, OnOk};
 ghost use Rattle.wasm_module.specs.Rewritten.{global_code, globals_code};
 ghost use Rattle.wasm_module.specs.Room.{globals_with};
+ghost use Rattle.wasm_sections.specs.declared.writing.WriteError.TheVariants.{TooLarge};
 
 use crate::sizes::{number_size, sum};
 use mutate_base::PrimitiveTypeInfo;
@@ -44,6 +45,7 @@ pub fn globals_size(
     ensures ok { IfOk result (λ n. n ≡ length (globals_with count items.now types.now)) }
     ensures too_large { IfErr result (λ _.
         2 ^ 32 ≤ length (globals_with count items.now types.now)) }
+    ensures error { IfErr result (λ e. e ≡ TooLarge) }
 {
     let mut size = sum(number_size(count), items.len())?;
     for tpe in types {

@@ -1,6 +1,7 @@
 //! Sizes of what is written.
 ghost use Rattle.std.specs.Prelude.{◌≡◌, ◌≤◌, ◌<◌, ◌+◌, ◌^◌, length, IfOk, IfErr, OnOk};
 ghost use Rattle.wasm_code.specs.Code.{shortest};
+ghost use Rattle.wasm_sections.specs.declared.writing.WriteError.TheVariants.{TooLarge};
 
 use wasm_code::laws::{shortest_is_a_spelling, shortest_is_least};
 use wasm_sections::WriteError;
@@ -10,6 +11,7 @@ pub fn sum(a: usize, b: usize) -> Result<u32, WriteError>
     ensures ok { IfOk result (λ n. n ≡ a + b) }
     ensures small { OnOk result (a + b < 2 ^ 32) }
     ensures too_large { IfErr result (λ _. 2 ^ 32 ≤ a + b) }
+    ensures error { IfErr result (λ e. e ≡ TooLarge) }
 {
     match a.checked_add(b) {
         Some(n) if n <= u32::MAX as usize => Ok(n as u32),
