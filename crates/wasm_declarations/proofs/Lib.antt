@@ -3,6 +3,7 @@ pub mod ValueLemmas
 pub mod TimesLemmas
 pub mod ConstantLemmas
 pub mod ListLemmas
+pub mod KnownLemmas
 pub mod ItemLemmas
 pub mod GlobalLemmas
 pub mod EntryLemmas

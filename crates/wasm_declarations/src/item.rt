@@ -1,6 +1,7 @@
 //! Items of lists.
-ghost use Rattle.std.specs.Prelude.{◌≤◌, ℕ, List, length, Result, IfOk};
+ghost use Rattle.std.specs.Prelude.{ℕ, List, Result};
 ghost use Rattle.wasm_code.specs.declared.fault.Cause.{Cause};
+ghost use Rattle.wasm_code.specs.laws.GrammarLemmas.{Exact};
 ghost use Rattle.wasm_declarations.specs.Reader.{Answers};
 
 use crate::refusal::Refusal;
@@ -11,11 +12,20 @@ pub trait Item {
     /// What is kept of an item.
     type Value: Drop;
 
+    // what spells an item
+    ghost Spells: { List ℕ → Self.Value → Type 0 };
+
+    // none begins the bytes, for that cause
+    ghost Fails: { List ℕ → Cause → Type 0 };
+
     // the item that begins the bytes, and what follows it
     ghost at: { List ℕ → Result (Self.Value × List ℕ) Cause };
 
+    /// Law: as a function, reading an item takes exactly what spells one, and fails exactly where none begins the bytes.
+    fn items_are_read()
+        ensures { Exact Spells Fails at };
+
     /// The item that begins the bytes, and what follows it.
     fn read(alloc: Global, bytes: &[u8]) -> Result<(Self::Value, &[u8]), Refusal>
-        ensures gives { Answers (λ x. (x.0, x.1.now)) result (at bytes.now) }
-        ensures within { IfOk result (λ x. length x.1.now ≤ length bytes.now) };
+        ensures { Answers (λ x. (x.0, x.1.now)) result (at bytes.now) };
 }

@@ -19,11 +19,14 @@ mod types;
 mod value_types;
 
 pub use entries::{Entry, read_entries};
-pub use globals::read_globals;
+pub use globals::Globals;
 pub use import::Import;
-pub use imports::{read_functions, read_imports};
+pub use imports::{Imports, Indices};
+pub use item::Item;
 pub use known::Known;
+pub use list::{read_known, read_list};
 pub use locals::{Locals, read_locals};
-pub use tables::{read_memories, read_tables};
+pub use refusal::Refusal;
+pub use tables::{Memories, Tables};
 pub use type_group::TypeGroup;
-pub use types::read_types;
+pub use types::TypeGroups;

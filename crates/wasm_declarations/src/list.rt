@@ -1,6 +1,9 @@
 //! Lists: the number of the items, and the items, one after another.
-ghost use Rattle.std.specs.Prelude.{◌≡◌, ◌↔◌, ◌≤◌, ◌+◌, ◌-◌, [], length, Ok, IfOk, IfErr, IsTrue};
+ghost use Rattle.std.specs.Prelude.{◌≡◌, ◌↔◌, ◌≤◌, ◌+◌, ◌-◌, List, [], length, Ok, IfOk, IfErr, MatchResult, IsTrue};
+ghost use Rattle.wasm_declarations.specs.Known.{Known as Knowledge, SpellsKnown, IsKnownFault};
+ghost use Rattle.wasm_declarations.specs.List.{SpellsList, IsListFault};
 ghost use Rattle.wasm_declarations.specs.Reader.{Answers, RunsTo, IsUnknownBy, list_at, error_at, FailsWhole, ReadsKnown, FailsKnown};
+ghost use Rattle.wasm_sections.specs.declared.fault.ModuleFault.TheVariants as faults;
 
 use crate::item::Item;
 use crate::known::Known;
@@ -27,6 +30,7 @@ fn each_of<T: Item>(
     ensures runs { RunsTo T.at count bytes.now result.0.items result.1.now result.2 }
     ensures within { length result.1.now ≤ length bytes.now }
 {
+    T::items_are_read();
     let mut items = Vec::new(alloc);
     let mut rest = bytes;
     for _ in 0..count {
@@ -84,8 +88,8 @@ fn is_unknown(refusal: Refusal) -> bool
     )
 }
 
-/// What is known of a list that is the whole of a section's contents, whose first byte has the offset `start`.
-pub fn read_known<T: Item>(
+/// What is known of a list that is the whole of the contents, as `read_known` says.
+fn known_of<T: Item>(
     alloc: Global,
     contents: &[u8],
     start: usize,
@@ -129,8 +133,8 @@ pub fn read_known<T: Item>(
     }
 }
 
-/// The items of a list that is the whole of a section's contents, whose first byte has the offset `start`.
-pub fn read_list<T: Item>(
+/// The items of a list that is the whole of the contents, as `read_list` says.
+fn items_of<T: Item>(
     alloc: Global,
     contents: &[u8],
     start: usize,
@@ -139,9 +143,59 @@ pub fn read_list<T: Item>(
     ensures found { IfOk result (λ v. list_at T.at contents.now ≡ Ok (v.items, [])) }
     ensures fault { IfErr result (λ e. FailsWhole T.at start contents.now e) }
 {
-    let known = read_known::<T>(alloc, contents, start)?;
+    let known = known_of::<T>(alloc, contents, start)?;
     match known.unknown {
         None => Ok(known.items),
         Some(error) => Err(error),
     }
+}
+
+/// Reads what is known of the list that a section contains: the number of its items, and the items before the first of a form that
+/// isn't known here. `contents` are the section's contents, whose first byte has the offset `start` in the module (WebAssembly Core
+/// Specification 3.0, Binary Format, Conventions, Lists).
+///
+/// It reads exactly a list of such items with nothing behind it. Where an item is of an unknown form, `unknown` says where that one
+/// starts, with `UnknownForm`, or with `UnknownOpcode` for an operator in it. What stands behind it isn't looked at.
+///
+/// An error names the first fault from the left and where the item at fault starts, or `start` where the number of the items is at
+/// fault: `Truncated` where the contents end inside it, `BadInteger` where a number has too many bytes or doesn't fit;
+/// `TrailingBytes` at the first byte behind the items; `Memory` at `start` where no memory was left.
+pub fn read_known<T: Item>(
+    alloc: Global,
+    contents: &[u8],
+    start: usize,
+) -> Result<Known<T::Value>, ModuleError>
+    requires { start + length contents.now ≤ usize.MAX }
+    // What is read is spelled so.
+    ensures found { IfOk result (SpellsKnown T.Spells T.Fails start contents.now) }
+    // What is spelled so is read, unless memory runs out.
+    ensures only { (known : Knowledge T.Value)
+        → SpellsKnown T.Spells T.Fails start contents.now known
+        → MatchResult result (λ k. k ≡ known) (λ e. e.kind ≡ faults.Memory) }
+    // What doesn't come from memory is the first fault.
+    ensures fault { IfErr result (λ e.
+        IsKnownFault T.Spells T.Fails start contents.now e.kind e.offset) }
+{
+    T::items_are_read();
+    known_of::<T>(alloc, contents, start)
+}
+
+/// Reads the list that a section contains, as `read_known` does, but that an item of an unknown form is an error too.
+pub fn read_list<T: Item>(
+    alloc: Global,
+    contents: &[u8],
+    start: usize,
+) -> Result<Vec<T::Value>, ModuleError>
+    requires { start + length contents.now ≤ usize.MAX }
+    // What is read is spelled so.
+    ensures found { IfOk result (λ v. SpellsList T.Spells contents.now v.items) }
+    // What is spelled so is read, unless memory runs out.
+    ensures only { (xs : List T.Value) → SpellsList T.Spells contents.now xs
+        → MatchResult result (λ v. v.items ≡ xs) (λ e. e.kind ≡ faults.Memory) }
+    // What doesn't come from memory is the first fault.
+    ensures fault { IfErr result (λ e.
+        IsListFault T.Spells T.Fails start contents.now e.kind e.offset) }
+{
+    T::items_are_read();
+    items_of::<T>(alloc, contents, start)
 }

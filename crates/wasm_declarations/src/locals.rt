@@ -152,7 +152,7 @@ fn locals_of(
 /// Modules, Code Section); `params` are the types of its parameters.
 ///
 /// A list of groups begins them, each a number of locals and their type, and the expression follows, which isn't looked at. Value
-/// types are those of `read_types`.
+/// types are those of `TypeGroups`.
 ///
 /// An error names the first fault from the left and where the group at fault starts, or `start` where the number of the groups
 /// is at fault: `Truncated` where the contents end inside it, `BadInteger` where a number has too many bytes or doesn't fit,

@@ -1,24 +1,17 @@
 //! Limits, tables and memories.
-ghost use Rattle.std.specs.Prelude.{◌≡◌, ◌≤◌, ◌+◌, length, IfOk, IfErr, MatchResult};
-ghost use Rattle.mutate_base.specs.declared.types.MemoryType.{MemoryType};
-ghost use Rattle.mutate_base.specs.declared.types.TableType.{TableType};
+ghost use Rattle.std.specs.Prelude.{◌≡◌};
 ghost use Rattle.wasm_code.specs.Reader.{Gives};
-ghost use Rattle.wasm_declarations.specs.Known.{Known as Knowledge, SpellsKnown, IsKnownFault};
 ghost use Rattle.wasm_declarations.specs.Reader.{flag_of, flag_at, limits_at, table_type_at, table_at, memory_type_at};
 ghost use Rattle.wasm_declarations.specs.Tables.{SpellsTable, FailsTable, SpellsMemoryType, FailsMemoryType};
-ghost use Rattle.wasm_sections.specs.declared.fault.ModuleFault.TheVariants.{Memory};
 
 use crate::constants::past_initialiser;
 use crate::item::Item;
-use crate::known::Known;
-use crate::list::read_known;
 use crate::refusal::Refusal;
 use crate::value_types::{past_mark, reference_type_from};
 use mutate_base::{MemoryType, TableType};
 use std::alloc::Global;
 use wasm_code::laws::parts_are_read;
 use wasm_code::{Cause, byte_of, u64_of};
-use wasm_sections::ModuleError;
 
 /// Whether 64 bits index, and, where a maximum follows the minimum, whether the limits are shared.
 fn flag(b: u8) -> Option<(bool, Option<bool>)>
@@ -104,90 +97,49 @@ pub fn memory_type_from(bytes: &[u8]) -> Result<(MemoryType, &[u8]), Cause>
     Ok((MemoryType { memory64 }, rest))
 }
 
-/// Tables.
-struct Tables;
+/// The tables that a table section lists (WebAssembly Core Specification 3.0, Binary Format, Modules, Table Section).
+///
+/// Each is a table type, with or without an initialiser. Neither the limits nor the initialiser are kept, and of references but
+/// `funcref` and `externref` no more than that they are others (`ElementType::Other`). Reference types are those of `TypeGroups`, and
+/// operators of initialisers those of `Globals`. Tables of others or of other limits are of an unknown form.
+pub struct Tables;
 
 impl Item for Tables {
     type Value = TableType;
 
+    ghost Spells = { SpellsTable };
+
+    ghost Fails = { FailsTable };
+
     ghost at = { table_at };
 
-    fn read(_alloc: Global, bytes: &[u8]) -> Result<(TableType, &[u8]), Refusal> {
+    fn items_are_read() {
         parts_are_read();
+    }
+
+    fn read(_alloc: Global, bytes: &[u8]) -> Result<(TableType, &[u8]), Refusal> {
         Ok(table_from(bytes)?)
     }
 }
 
-/// Memories.
-struct Memories;
+/// The memories that a memory section lists (WebAssembly Core Specification 3.0, Binary Format, Modules, Memory Section).
+///
+/// Each is a memory type, shared ones of the threads proposal among them. The limits aren't kept. Memories of other limits are of an
+/// unknown form.
+pub struct Memories;
 
 impl Item for Memories {
     type Value = MemoryType;
 
+    ghost Spells = { SpellsMemoryType };
+
+    ghost Fails = { FailsMemoryType };
+
     ghost at = { memory_type_at };
+
+    fn items_are_read() {}
 
     fn read(_alloc: Global, bytes: &[u8]) -> Result<(MemoryType, &[u8]), Refusal> {
         Ok(memory_type_from(bytes)?)
     }
-}
-
-/// Reads the tables that a table section lists. `contents` are the section's contents, whose first byte has the offset
-/// `start` in the module (WebAssembly Core Specification 3.0, Binary Format, Modules, Table Section).
-///
-/// It reads exactly a list of tables with nothing behind it, each a table type, with or without an initialiser. Neither the limits nor
-/// the initialiser are kept, and of references but `funcref` and `externref` no more than that they are others (`ElementType::Other`).
-/// Reference types are those of `read_types`, and operators of initialisers those of `read_globals`. Tables of others or of other
-/// limits are not known here: what is known are then the tables before the first such one, and `unknown` says with `UnknownForm`, or
-/// `UnknownOpcode` for an operator, where that one starts. What stands behind it isn't looked at.
-///
-/// An error names the first fault from the left and where the table at fault starts, or `start` where the number of the
-/// tables is at fault: `Truncated` where the contents end inside it, `BadInteger` where a number has too many bytes or doesn't
-/// fit; `TrailingBytes` at the first byte behind the tables; `Memory` at `start` where no memory was left.
-pub fn read_tables(
-    alloc: Global,
-    contents: &[u8],
-    start: usize,
-) -> Result<Known<TableType>, ModuleError>
-    requires { start + length contents.now ≤ usize.MAX }
-    // What is read is spelled so.
-    ensures found { IfOk result (SpellsKnown SpellsTable FailsTable start contents.now) }
-    // What is spelled so is read, unless memory runs out.
-    ensures only { (known : Knowledge TableType)
-        → SpellsKnown SpellsTable FailsTable start contents.now known
-        → MatchResult result (λ k. k ≡ known) (λ e. e.kind ≡ Memory) }
-    // What doesn't come from memory is the first fault.
-    ensures fault { IfErr result (λ e.
-        IsKnownFault SpellsTable FailsTable start contents.now e.kind e.offset) }
-{
-    parts_are_read();
-    read_known::<Tables>(alloc, contents, start)
-}
-
-/// Reads the memories that a memory section lists. `contents` are the section's contents, whose first byte has the offset
-/// `start` in the module (WebAssembly Core Specification 3.0, Binary Format, Modules, Memory Section).
-///
-/// It reads exactly a list of memory types, with nothing behind it, shared ones of the threads proposal among them. The limits
-/// aren't kept. Memories of other limits are not known here: what is known are then the memories before the first such one, and
-/// `unknown` says with `UnknownForm` where that one starts. What stands behind it isn't looked at.
-///
-/// An error names the first fault from the left and where the memory at fault starts, or `start` where the number of the
-/// memories is at fault: `Truncated` where the contents end inside it, `BadInteger` where a number has too many bytes or
-/// doesn't fit; `TrailingBytes` at the first byte behind the memories; `Memory` at `start` where no memory was left.
-pub fn read_memories(
-    alloc: Global,
-    contents: &[u8],
-    start: usize,
-) -> Result<Known<MemoryType>, ModuleError>
-    requires { start + length contents.now ≤ usize.MAX }
-    // What is read is spelled so.
-    ensures found { IfOk result (SpellsKnown SpellsMemoryType FailsMemoryType start contents.now) }
-    // What is spelled so is read, unless memory runs out.
-    ensures only { (known : Knowledge MemoryType)
-        → SpellsKnown SpellsMemoryType FailsMemoryType start contents.now known
-        → MatchResult result (λ k. k ≡ known) (λ e. e.kind ≡ Memory) }
-    // What doesn't come from memory is the first fault.
-    ensures fault { IfErr result (λ e.
-        IsKnownFault SpellsMemoryType FailsMemoryType start contents.now e.kind e.offset) }
-{
-    read_known::<Memories>(alloc, contents, start)
 }

@@ -1,23 +1,18 @@
 //! The types that a module declares.
-ghost use Rattle.std.specs.Prelude.{◌≡◌, ◌≤◌, ◌+◌, List, length, IfOk, IfErr, MatchResult};
-ghost use Rattle.mutate_base.specs.declared.types.TypeInfo.{TypeInfo};
+ghost use Rattle.std.specs.Prelude.{◌≡◌};
 ghost use Rattle.wasm_code.specs.Reader.{Gives, times_at, unsigned_at};
-ghost use Rattle.wasm_declarations.specs.Known.{Known as Knowledge, SpellsKnown, IsKnownFault};
 ghost use Rattle.wasm_declarations.specs.Reader.{Answers, storage_type_at, field_at, counted_at, signature_at, composite_type_at, sub_type_at, type_group_at};
-ghost use Rattle.wasm_declarations.specs.Types.{is_packed, is_sub, SpellsTypeGroup, FailsTypeGroup};
-ghost use Rattle.wasm_sections.specs.declared.fault.ModuleFault.TheVariants.{Memory};
+ghost use Rattle.wasm_declarations.specs.Types.{is_packed, is_sub, SpellsSubType, FailsSubType, SpellsTypeGroup, FailsTypeGroup};
 
 use crate::constants::past_indices;
 use crate::item::Item;
-use crate::known::Known;
-use crate::list::{list_of, read_known};
+use crate::list::list_of;
 use crate::refusal::Refusal;
 use crate::type_group::TypeGroup;
 use crate::value_types::{ValueTypes, mutable_from, primitive_from};
 use mutate_base::{FuncInfo, TypeInfo};
 use std::alloc::Global;
 use wasm_code::{Cause, byte_of, u32_of};
-use wasm_sections::ModuleError;
 
 /// The byte that begins a group.
 const GROUP: u8 = 0x4e;
@@ -149,7 +144,13 @@ struct SubTypes;
 impl Item for SubTypes {
     type Value = TypeInfo;
 
+    ghost Spells = { SpellsSubType };
+
+    ghost Fails = { FailsSubType };
+
     ghost at = { sub_type_at };
+
+    fn items_are_read() {}
 
     fn read(alloc: Global, bytes: &[u8]) -> Result<(TypeInfo, &[u8]), Refusal> {
         Ok(sub_type_from(alloc, bytes)?)
@@ -171,47 +172,26 @@ fn type_group_from(alloc: Global, bytes: &[u8]) -> Result<(TypeGroup, &[u8]), Re
     }
 }
 
-/// Groups of types.
-struct TypeGroups;
+/// The groups of types that a type section lists (WebAssembly Core Specification 3.0, Binary Format, Modules, Type Section).
+///
+/// Each is a recursive group or one type alone: a function's, of which parameters and results are kept, or a structure's or an array's,
+/// of which nothing is (`TypeInfo::Other`), with or without the types that it is a subtype of. Value types are numbers, vectors, and
+/// references of every heap type, abstract or by index; those but `funcref` and `externref` are kept as `Empty`. Whether there are such
+/// types isn't asked. Everything else is of an unknown form, such as shared heap types, continuations, and what describes other types.
+pub struct TypeGroups;
 
 impl Item for TypeGroups {
     type Value = TypeGroup;
 
+    ghost Spells = { SpellsTypeGroup };
+
+    ghost Fails = { FailsTypeGroup };
+
     ghost at = { type_group_at };
+
+    fn items_are_read() {}
 
     fn read(alloc: Global, bytes: &[u8]) -> Result<(TypeGroup, &[u8]), Refusal> {
         Ok(type_group_from(alloc, bytes)?)
     }
-}
-
-/// Reads the types that a type section lists. `contents` are the section's contents, whose first byte has the offset `start`
-/// in the module (WebAssembly Core Specification 3.0, Binary Format, Modules, Type Section).
-///
-/// It reads exactly a list of groups of types with nothing behind it, each a recursive group or one type alone: a function's, of which
-/// parameters and results are kept, or a structure's or an array's, of which nothing is (`TypeInfo::Other`), with or without the types
-/// that it is a subtype of. Value types are numbers, vectors, and references of every heap type, abstract or by index; those but
-/// `funcref` and `externref` are kept as `Empty`. Whether there are such types isn't asked. Everything else is of an unknown form, such
-/// as shared heap types, continuations, and what describes other types: what is known are then the groups before the first such one,
-/// and `unknown` says with `UnknownForm` where that one starts. What stands behind it isn't looked at.
-///
-/// An error names the first fault from the left and where the group at fault starts, or `start` where the number of the groups
-/// is at fault: `Truncated` where the contents end inside it, `BadInteger` where a number has too many bytes or doesn't fit;
-/// `TrailingBytes` at the first byte behind the groups; `Memory` at `start` where no memory was left.
-pub fn read_types(
-    alloc: Global,
-    contents: &[u8],
-    start: usize,
-) -> Result<Known<TypeGroup>, ModuleError>
-    requires { start + length contents.now ≤ usize.MAX }
-    // What is read is spelled so.
-    ensures found { IfOk result (SpellsKnown SpellsTypeGroup FailsTypeGroup start contents.now) }
-    // What is spelled so is read, unless memory runs out.
-    ensures only { (known : Knowledge (List TypeInfo))
-        → SpellsKnown SpellsTypeGroup FailsTypeGroup start contents.now known
-        → MatchResult result (λ k. k ≡ known) (λ e. e.kind ≡ Memory) }
-    // What doesn't come from memory is the first fault.
-    ensures fault { IfErr result (λ e.
-        IsKnownFault SpellsTypeGroup FailsTypeGroup start contents.now e.kind e.offset) }
-{
-    read_known::<TypeGroups>(alloc, contents, start)
 }

@@ -2,7 +2,7 @@
 ghost use Rattle.std.specs.Prelude.{◌≡◌};
 ghost use Rattle.wasm_code.specs.Reader.{Gives};
 ghost use Rattle.wasm_declarations.specs.ValueReader.{mark_at, index_at, heap_type_at, reference_type_at, primitive_at, mutable_of, mutable_at};
-ghost use Rattle.wasm_declarations.specs.ValueTypes.{is_abstract, abstract_element, is_plain, plain_type, reference};
+ghost use Rattle.wasm_declarations.specs.ValueTypes.{is_abstract, abstract_element, is_plain, plain_type, reference, SpellsPrimitive, FailsPrimitive};
 
 use crate::item::Item;
 use crate::refusal::Refusal;
@@ -135,7 +135,13 @@ pub struct ValueTypes;
 impl Item for ValueTypes {
     type Value = PrimitiveTypeInfo;
 
+    ghost Spells = { SpellsPrimitive };
+
+    ghost Fails = { FailsPrimitive };
+
     ghost at = { primitive_at };
+
+    fn items_are_read() {}
 
     fn read(_alloc: Global, bytes: &[u8]) -> Result<(PrimitiveTypeInfo, &[u8]), Refusal> {
         Ok(primitive_from(bytes)?)

@@ -3,74 +3,49 @@ ghost use Rattle.std.specs.Prelude.{◌≡◌, ℕ, List, IfOk, IfErr};
 ghost use Rattle.wasm_code.specs.Number.{SpellsUnsigned};
 ghost use Rattle.wasm_sections.specs.Section.{SpellsModule};
 ghost use Rattle.wasm_sections.specs.declared.id.SectionId.TheVariants as ids;
-ghost use Rattle.wasm_declarations.specs.Known.{Known as Knowledge};
+ghost use Rattle.wasm_sections.specs.declared.fault.ModuleFault.{ModuleFault};
+ghost use Rattle.wasm_sections.specs.declared.fault.ModuleFault.TheVariants.{Memory};
+ghost use Rattle.wasm_declarations.specs.Known.{Known as Knowledge, IsKnownFault};
 ghost use Rattle.wasm_declarations.specs.List.{SpellsList};
-ghost use Rattle.wasm_declarations.specs.Types.{SpellsTypeGroup, FailsTypeGroup};
-ghost use Rattle.wasm_declarations.specs.Imports.{SpellsImport, FailsImport};
-ghost use Rattle.wasm_declarations.specs.Tables.{SpellsTable, FailsTable, SpellsMemoryType, FailsMemoryType};
-ghost use Rattle.wasm_declarations.specs.Globals.{SpellsGlobal, FailsGlobal};
 ghost use Rattle.wasm_declarations.specs.Entries.{SpellsEntries};
+ghost use Rattle.wasm_declarations.specs.declared.entries.Entry.{Entry};
 ghost use Rattle.wasm_module.specs.Module.{Lists, Knows};
 ghost use Rattle.wasm_module.specs.Lists.{Listed as Listing, AreListed};
-ghost use Rattle.wasm_sections.specs.declared.fault.ModuleFault.TheVariants.{Memory};
-ghost use Rattle.mutate_base.specs.declared.types.PrimitiveTypeInfo.{PrimitiveTypeInfo};
-ghost use Rattle.mutate_base.specs.declared.types.TypeInfo.{TypeInfo};
-ghost use Rattle.mutate_base.specs.declared.types.TableType.{TableType};
-ghost use Rattle.mutate_base.specs.declared.types.MemoryType.{MemoryType};
-ghost use Rattle.wasm_declarations.specs.declared.import.Import.{Import};
-ghost use Rattle.wasm_declarations.specs.declared.entries.Entry.{Entry};
-ghost use Rattle.wasm_module.specs.Fault.{HasFault, HasListFault};
+ghost use Rattle.wasm_module.specs.Fault.{IsFaultOf, HasFault, HasListFault};
 
 use crate::contents::contents_with;
 use crate::listed::Listed;
-use mutate_base::{MemoryType, PrimitiveTypeInfo, TableType};
 use std::alloc::Global;
 use wasm_declarations::{
-    Entry, Import, Known, TypeGroup, read_entries, read_functions, read_globals, read_imports,
-    read_memories, read_tables, read_types,
+    Entry, Globals, Imports, Indices, Item, Known, Memories, Tables, TypeGroups, read_entries,
+    read_known, read_list,
 };
 use wasm_sections::{ModuleError, Section, SectionId};
 
-fn types_in(
+/// What is known of the list in the section with the id; nothing is listed where there is none.
+fn list_in<T: Item>(
     alloc: Global,
     bytes: &[u8],
     sections: &[Section],
-) -> Result<Known<TypeGroup>, ModuleError>
-    requires { SpellsModule bytes.now sections.now }
-    ensures found { IfOk result (Knows SpellsTypeGroup FailsTypeGroup
-        bytes.now sections.now ids.Type) }
-    ensures only { (known : Knowledge (List TypeInfo))
-        → Knows SpellsTypeGroup FailsTypeGroup bytes.now sections.now ids.Type known
+    id: SectionId,
+) -> Result<Known<T::Value>, ModuleError>
+    requires sections { SpellsModule bytes.now sections.now }
+    requires faults { (start : ℕ) (text : List ℕ) (kind : ModuleFault) (offset : ℕ)
+        → IsKnownFault T.Spells T.Fails start text kind offset
+        → IsFaultOf id start text kind offset }
+    ensures found { IfOk result (Knows T.Spells T.Fails bytes.now sections.now id) }
+    ensures only { (known : Knowledge T.Value)
+        → Knows T.Spells T.Fails bytes.now sections.now id known
         → IfErr result (λ e. e.kind ≡ Memory) }
-    ensures fault { IfErr result (λ e.
-        HasFault bytes.now sections.now ids.Type e.kind e.offset) }
+    ensures fault { IfErr result (λ e. HasFault bytes.now sections.now id e.kind e.offset) }
 {
-    match contents_with(bytes, sections, SectionId::Type) {
-        Some((contents, start)) => read_types(alloc, contents, start),
+    match contents_with(bytes, sections, id) {
+        Some((contents, start)) => read_known::<T>(alloc, contents, start),
         None => Ok(Known::none(alloc)),
     }
 }
 
-fn imports_in(
-    alloc: Global,
-    bytes: &[u8],
-    sections: &[Section],
-) -> Result<Known<Import>, ModuleError>
-    requires { SpellsModule bytes.now sections.now }
-    ensures found { IfOk result (Knows SpellsImport FailsImport
-        bytes.now sections.now ids.Import) }
-    ensures only { (known : Knowledge Import)
-        → Knows SpellsImport FailsImport bytes.now sections.now ids.Import known
-        → IfErr result (λ e. e.kind ≡ Memory) }
-    ensures fault { IfErr result (λ e.
-        HasFault bytes.now sections.now ids.Import e.kind e.offset) }
-{
-    match contents_with(bytes, sections, SectionId::Import) {
-        Some((contents, start)) => read_imports(alloc, contents, start),
-        None => Ok(Known::none(alloc)),
-    }
-}
-
+/// Of each function of the module's own the index of its type.
 fn functions_in(alloc: Global, bytes: &[u8], sections: &[Section]) -> Result<Vec<u32>, ModuleError>
     requires { SpellsModule bytes.now sections.now }
     ensures found { IfOk result (λ v. Lists (λ _. SpellsList (SpellsUnsigned 32))
@@ -82,71 +57,12 @@ fn functions_in(alloc: Global, bytes: &[u8], sections: &[Section]) -> Result<Vec
         HasFault bytes.now sections.now ids.Function e.kind e.offset) }
 {
     match contents_with(bytes, sections, SectionId::Function) {
-        Some((contents, start)) => read_functions(alloc, contents, start),
+        Some((contents, start)) => read_list::<Indices>(alloc, contents, start),
         None => Ok(Vec::new(alloc)),
     }
 }
 
-fn tables_in(
-    alloc: Global,
-    bytes: &[u8],
-    sections: &[Section],
-) -> Result<Known<TableType>, ModuleError>
-    requires { SpellsModule bytes.now sections.now }
-    ensures found { IfOk result (Knows SpellsTable FailsTable
-        bytes.now sections.now ids.Table) }
-    ensures only { (known : Knowledge TableType)
-        → Knows SpellsTable FailsTable bytes.now sections.now ids.Table known
-        → IfErr result (λ e. e.kind ≡ Memory) }
-    ensures fault { IfErr result (λ e.
-        HasFault bytes.now sections.now ids.Table e.kind e.offset) }
-{
-    match contents_with(bytes, sections, SectionId::Table) {
-        Some((contents, start)) => read_tables(alloc, contents, start),
-        None => Ok(Known::none(alloc)),
-    }
-}
-
-fn memories_in(
-    alloc: Global,
-    bytes: &[u8],
-    sections: &[Section],
-) -> Result<Known<MemoryType>, ModuleError>
-    requires { SpellsModule bytes.now sections.now }
-    ensures found { IfOk result (Knows SpellsMemoryType FailsMemoryType
-        bytes.now sections.now ids.Memory) }
-    ensures only { (known : Knowledge MemoryType)
-        → Knows SpellsMemoryType FailsMemoryType bytes.now sections.now ids.Memory known
-        → IfErr result (λ e. e.kind ≡ Memory) }
-    ensures fault { IfErr result (λ e.
-        HasFault bytes.now sections.now ids.Memory e.kind e.offset) }
-{
-    match contents_with(bytes, sections, SectionId::Memory) {
-        Some((contents, start)) => read_memories(alloc, contents, start),
-        None => Ok(Known::none(alloc)),
-    }
-}
-
-fn globals_in(
-    alloc: Global,
-    bytes: &[u8],
-    sections: &[Section],
-) -> Result<Known<PrimitiveTypeInfo>, ModuleError>
-    requires { SpellsModule bytes.now sections.now }
-    ensures found { IfOk result (Knows SpellsGlobal FailsGlobal
-        bytes.now sections.now ids.Global) }
-    ensures only { (known : Knowledge PrimitiveTypeInfo)
-        → Knows SpellsGlobal FailsGlobal bytes.now sections.now ids.Global known
-        → IfErr result (λ e. e.kind ≡ Memory) }
-    ensures fault { IfErr result (λ e.
-        HasFault bytes.now sections.now ids.Global e.kind e.offset) }
-{
-    match contents_with(bytes, sections, SectionId::Global) {
-        Some((contents, start)) => read_globals(alloc, contents, start),
-        None => Ok(Known::none(alloc)),
-    }
-}
-
+/// The entries of the code.
 fn entries_in(alloc: Global, bytes: &[u8], sections: &[Section]) -> Result<Vec<Entry>, ModuleError>
     requires { SpellsModule bytes.now sections.now }
     ensures found { IfOk result (λ v. Lists SpellsEntries
@@ -171,12 +87,12 @@ pub fn read_lists(alloc: Global, bytes: &[u8], sections: &[Section]) -> Result<L
     ensures fault { IfErr result (λ e. HasListFault bytes.now e.kind e.offset) }
 {
     Ok(Listed {
-        types: types_in(alloc, bytes, sections)?,
-        imports: imports_in(alloc, bytes, sections)?,
+        types: list_in::<TypeGroups>(alloc, bytes, sections, SectionId::Type)?,
+        imports: list_in::<Imports>(alloc, bytes, sections, SectionId::Import)?,
         functions: functions_in(alloc, bytes, sections)?,
-        tables: tables_in(alloc, bytes, sections)?,
-        memories: memories_in(alloc, bytes, sections)?,
-        globals: globals_in(alloc, bytes, sections)?,
+        tables: list_in::<Tables>(alloc, bytes, sections, SectionId::Table)?,
+        memories: list_in::<Memories>(alloc, bytes, sections, SectionId::Memory)?,
+        globals: list_in::<Globals>(alloc, bytes, sections, SectionId::Global)?,
         entries: entries_in(alloc, bytes, sections)?,
     })
 }

@@ -91,9 +91,9 @@ fn module_of<'a>(
 /// Modules).
 ///
 /// It accepts exactly modules of which these are known: the sections are told apart by `read_sections`; those of types, imports,
-/// functions, tables, memories, globals and code are read, each by the call of its name in `wasm_declarations`; and there are as
-/// many code entries as functions of the module's own. The contents of the other sections and the bodies aren't read, and whether
-/// the module is valid isn't asked.
+/// functions, tables, memories, globals and code are read, each as its items in `wasm_declarations` say; and there are as many code
+/// entries as functions of the module's own. The contents of the other sections and the bodies aren't read, and whether the module is
+/// valid isn't asked.
 ///
 /// Types are numbered across their groups; structures and arrays are `TypeInfo::Other`, and of references but `funcref` and `externref`
 /// no more is kept than that they are others: `Empty` as the type of a value, `ElementType::Other` as what a table holds.
@@ -101,7 +101,7 @@ fn module_of<'a>(
 /// A group of types, an import, a table, a memory or a global of a form that isn't known here is no error: what its section lists from
 /// there on isn't known, and the layout's `unknown` says so.
 ///
-/// An error names a fault that is there: as `read_sections` refuses the bytes; as one of those calls refuses its section; or
+/// An error names a fault that is there: as `read_sections` refuses the bytes; as `wasm_declarations` refuses one of those lists; or
 /// `CodeCount` where the numbers differ, at the start of the code section, or at the end of the bytes where there is none. `Memory`
 /// where no memory was left.
 pub fn read_module<'a>(alloc: Global, bytes: &'a [u8]) -> Result<Module<'a>, ModuleError>

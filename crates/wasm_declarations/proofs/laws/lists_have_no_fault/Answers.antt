@@ -2,7 +2,8 @@ use Rattle.wasm_code.specs.laws.NumberExact.{unsigned_exact}
 use Rattle.wasm_declarations.proofs.ItemLemmas.{type_group_exact, import_exact, memory_type_exact}
 use Rattle.wasm_declarations.proofs.GlobalLemmas.{table_exact, global_exact}
 use Rattle.wasm_declarations.proofs.EntryLemmas.{sized_exact}
-use Rattle.wasm_declarations.proofs.ListLemmas.{no_list_fault, no_known_fault}
+use Rattle.wasm_declarations.proofs.ListLemmas.{no_list_fault}
+use Rattle.wasm_declarations.proofs.KnownLemmas.{no_known_fault}
 use Rattle.wasm_declarations.proofs.laws.lists_have_no_fault.Goals as goal
 
 pub returns-clause-types : goal.returns-clause-types

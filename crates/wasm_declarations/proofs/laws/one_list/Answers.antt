@@ -1,7 +1,8 @@
 use Rattle.wasm_code.specs.laws.NumberExact.{unsigned_exact}
 use Rattle.wasm_declarations.proofs.ItemLemmas.{type_group_exact, import_exact, memory_type_exact}
 use Rattle.wasm_declarations.proofs.GlobalLemmas.{table_exact, global_exact}
-use Rattle.wasm_declarations.proofs.ListLemmas.{one_list, one_known}
+use Rattle.wasm_declarations.proofs.ListLemmas.{one_list}
+use Rattle.wasm_declarations.proofs.KnownLemmas.{one_known}
 use Rattle.wasm_declarations.proofs.EntryLemmas.{one_list_of_entries}
 use Rattle.wasm_declarations.proofs.LocalLemmas.{same_locals}
 use Rattle.wasm_declarations.proofs.laws.one_list.Goals as goal

@@ -7,4 +7,4 @@ use Rattle.wasm_module.proofs.lists.functions_in.Goals as goal
 
 pub returns-in-Some-clause-only : goal.returns-in-Some-clause-only
 returns-in-Some-clause-only c xs l =
-    only_memory [] (λ _. SpellsList (SpellsUnsigned 32)) (λ v. v.items) _ _ ids.Function _ _ xs _ c.in-Some.ensures.found l c.read_functions.ensures.only
+    only_memory [] (λ _. SpellsList (SpellsUnsigned 32)) (λ v. v.items) _ _ ids.Function _ _ xs _ c.in-Some.ensures.found l c.read_list.ensures.only

@@ -1,8 +1,0 @@
-use Rattle.wasm_declarations.proofs.ListLemmas.{shorter}
-use Rattle.wasm_declarations.proofs.GlobalLemmas.{global_exact}
-use Rattle.wasm_declarations.proofs.globals.GlobalsItem.read.Goals as goal
-
-pub returns-clause-within : goal.returns-clause-within
-returns-clause-within c =
-    shorter (global_exact c.parts_are_read.ensures.operators) c.args.bytes.now c.in_ok-global_from.field-0.0 c.in_ok-global_from.field-0.1.now
-    c.in_ok-global_from.ensures

@@ -1,9 +1,0 @@
-use Rattle.wasm_sections.specs.declared.id.SectionId.TheVariants as ids
-use Rattle.wasm_declarations.specs.Known.{nothing, SpellsKnown}
-use Rattle.wasm_declarations.specs.Globals.{SpellsGlobal, FailsGlobal}
-use Rattle.wasm_module.proofs.ListedLemmas.{only_memory}
-use Rattle.wasm_module.proofs.lists.globals_in.Goals as goal
-
-pub returns-in-Some-clause-only : goal.returns-in-Some-clause-only
-returns-in-Some-clause-only c known l =
-    only_memory nothing (SpellsKnown SpellsGlobal FailsGlobal) (λ k. k) _ _ ids.Global _ _ known _ c.in-Some.ensures.found l c.read_globals.ensures.only
