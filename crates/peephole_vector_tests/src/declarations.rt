@@ -7,8 +7,8 @@ use std::fmt::Debug;
 use std::process::Abort;
 use std::test::Fail;
 use wasm_declarations::{
-    Known, Locals, TypeGroup, read_entries, read_functions, read_globals, read_imports,
-    read_locals, read_memories, read_tables, read_types,
+    Globals, Imports, Indices, Known, Locals, Memories, Tables, TypeGroup, TypeGroups,
+    read_entries, read_known, read_list, read_locals,
 };
 use wasm_sections::ModuleError;
 
@@ -114,13 +114,13 @@ fn shown_types(
 fn read_as(alloc: Global, list: &str, contents: &[u8], start: u16) -> Result<String, Fail> {
     let start = usize::from(start);
     match list {
-        "types" => shown_types(alloc, read_types(alloc, contents, start)),
-        "imports" => shown_items(alloc, read_imports(alloc, contents, start)),
-        "memories" => shown_items(alloc, read_memories(alloc, contents, start)),
-        "tables" => shown_items(alloc, read_tables(alloc, contents, start)),
-        "globals" => shown_items(alloc, read_globals(alloc, contents, start)),
+        "types" => shown_types(alloc, read_known::<TypeGroups>(alloc, contents, start)),
+        "imports" => shown_items(alloc, read_known::<Imports>(alloc, contents, start)),
+        "memories" => shown_items(alloc, read_known::<Memories>(alloc, contents, start)),
+        "tables" => shown_items(alloc, read_known::<Tables>(alloc, contents, start)),
+        "globals" => shown_items(alloc, read_known::<Globals>(alloc, contents, start)),
         "entries" => shown(alloc, read_entries(alloc, contents, start)),
-        "functions" => shown(alloc, read_functions(alloc, contents, start)),
+        "functions" => shown(alloc, read_list::<Indices>(alloc, contents, start)),
         "locals" => {
             let params = [PrimitiveTypeInfo::I32];
             shown(alloc, read_locals(alloc, &params, contents, start))
