@@ -18,29 +18,38 @@ use Rattle.wasm_declarations.specs.declared.refusal.Refusal.{Refusal}
 use Rattle.wasm_declarations.specs.declared.refusal.Refusal.TheVariants as refusals
 use Rattle.wasm_declarations.proofs.ListLemmas.{counted, whole, behind_fails, stops_of, fails_whole, error, each_exact, whole_spells, whole_reads, item_of, item_stops, fault_is, only_of, stops_list, list_goes_on}
 
-pub all_known : {A : Type 0} (at : Reader A) (text rest behind : List ℕ) (n : ℕ) (xs : List A) → unsigned_at 32 text ≡ Ok (n, rest) →
-    each_at n at rest ≡ Ok (xs, behind) → length behind ≡ 0 → ReadsWhole at text n xs
-all_known at text rest behind n xs e f none = record { rest = rest; counts = e; reads = whole at text rest behind n xs e f none }
+pub all_known : {A : Type 0} (at : Reader A) (text rest behind : List ℕ) (n : ℕ) (xs : List A) (o : Option Refusal) → unsigned_at 32 text ≡ Ok (n, rest) →
+    RunsTo at n rest xs behind o → o ≡ None → length behind ≡ 0 → ReadsWhole at text n xs
+all_known at text rest behind n xs o e r is none =
+    let reads = subst (λ (q : Option Refusal). RunsTo at n rest xs behind q) is r in
+    record { rest = rest; counts = e; reads = whole at text rest behind n xs e reads none }
 
-pub more_known : {A : Type 0} (at : Reader A) (start : ℕ) (text rest behind : List ℕ) (n : ℕ) (xs : List A) (e : ModuleError) →
-    unsigned_at 32 text ≡ Ok (n, rest) → each_at n at rest ≡ Ok (xs, behind) → 0 < length behind → e.kind ≡ faults.TrailingBytes
+pub more_known : {A : Type 0} (at : Reader A) (start : ℕ) (text rest behind : List ℕ) (n : ℕ) (xs : List A) (o : Option Refusal) (e : ModuleError) →
+    unsigned_at 32 text ≡ Ok (n, rest) → RunsTo at n rest xs behind o → o ≡ None → 0 < length behind → e.kind ≡ faults.TrailingBytes
     → e.offset ≡ start + (length text - length behind) → FailsKnown at start text e
-more_known at start text rest behind n xs e counts reads some kind offset =
+more_known at start text rest behind n xs o e counts r is some kind offset =
+    let reads = subst (λ (q : Option Refusal). RunsTo at n rest xs behind q) is r in
     inr (inr (inl (kind, record { items = xs; rest = behind; reads = counted at text rest n counts ∙ reads; some = some; is_at = offset })))
 
-pub some_known : {A : Type 0} (at : Reader A) (start : ℕ) (text rest back : List ℕ) (n : ℕ) (xs : List A) (refusal : Refusal) →
-    unsigned_at 32 text ≡ Ok (n, rest) → RunsTo at n rest xs back (Some refusal) → IsUnknownBy refusal
+pub some_known : {A : Type 0} (at : Reader A) (start : ℕ) (text rest back : List ℕ) (n : ℕ) (xs : List A) (o : Option Refusal) (refusal : Refusal) →
+    unsigned_at 32 text ≡ Ok (n, rest) → RunsTo at n rest xs back o → o ≡ Some refusal → IsUnknownBy refusal
     → ReadsCut at start text n xs (error_at refusal (start + (length text - length back)) start)
-some_known at start text rest back n xs (refusals.Bytes cause) e r unknown =
-    record { cause = cause; unknown = unknown; kind = refl; rest = rest; back = back; counts = e; fails = r; is_at = refl }
-some_known at start text rest back n xs refusals.Memory e r unknown = absurd unknown
+some_known at start text rest back n xs o (refusals.Bytes cause) e r is unknown =
+    let fails = subst (λ (q : Option Refusal). RunsTo at n rest xs back q) is r in
+    record { cause = cause; unknown = unknown; kind = refl; rest = rest; back = back; counts = e; fails = fails; is_at = refl }
+some_known at start text rest back n xs o refusals.Memory e r is unknown = absurd unknown
 
-pub none_known : {A : Type 0} (at : Reader A) (start : ℕ) (text rest back : List ℕ) (n : ℕ) (xs : List A) (refusal : Refusal) →
-    unsigned_at 32 text ≡ Ok (n, rest) → RunsTo at n rest xs back (Some refusal) → (IsUnknownBy refusal → ⊥)
+pub none_known : {A : Type 0} (at : Reader A) (start : ℕ) (text rest back : List ℕ) (n : ℕ) (xs : List A) (o : Option Refusal) (refusal : Refusal) →
+    unsigned_at 32 text ≡ Ok (n, rest) → RunsTo at n rest xs back o → o ≡ Some refusal → (IsUnknownBy refusal → ⊥)
     → FailsKnown at start text (error_at refusal (start + (length text - length back)) start)
-none_known at start text rest back n xs (refusals.Bytes cause) e r known =
-    inr (inl (cause, known, refl, stops_of at start text rest back n xs cause _ e r refl))
-none_known at start text rest back n xs refusals.Memory e r known = inr (inr (inr (refl, refl)))
+none_known at start text rest back n xs o (refusals.Bytes cause) e r is known =
+    let fails = subst (λ (q : Option Refusal). RunsTo at n rest xs back q) is r in
+    inr (inl (cause, known, refl, stops_of at start text rest back n xs cause _ e fails refl))
+none_known at start text rest back n xs o refusals.Memory e r is known = inr (inr (inr (refl, refl)))
+
+-- what is read doesn't fail
+never : {X : Type 0} (r : Result X Cause) (x : X) (cause : Cause) → r ≡ Ok x → r ≡ Err cause → ⊥
+never r x cause e f = cc
 
 -- where reading fails at once no items are read
 none_fails : {A : Type 0} (at : Reader A) (j : ℕ) (bytes rest : List ℕ) (ys : List A) (cause : Cause) (start : List ℕ) (xs : List A) →
@@ -51,9 +60,6 @@ none_fails {A} at j bytes rest ys cause start xs p f q =
     let here : at bytes ≡ Err cause = ap (λ (z : List A × List ℕ). at z.1) s ∙ f in
     let a = bind_ok (at bytes) (λ y. each_at j at y.1 >>= λ zs. Ok (y.0 ∷ zs.0, zs.1)) (ys, rest) q in
     never (at bytes) a.0 cause a.1 here
-  where
-    never : {X : Type 0} (r : Result X Cause) (x : X) (cause : Cause) → r ≡ Ok x → r ≡ Err cause → ⊥
-    never r x cause e f = cc
 
 one_more : {A : Type 0} (x y : A) (xs ys : List A) (p q : List ℕ) → x ≡ y → ◌≡◌ {A = List A × List ℕ} (xs, p) (ys, q) →
     ◌≡◌ {A = List A × List ℕ} (x ∷ xs, p) (y ∷ ys, q)
@@ -93,12 +99,6 @@ known_is {A} k j count items unknown =
     ∙ ap (λ (xs : List A). record { count = j.count; items = xs; unknown = k.unknown }) items
     ∙ ap (λ (o : Option ModuleError). record { count = j.count; items = j.items; unknown = o }) unknown
 
-number_fails : (n : ℕ) (rest : List ℕ) (cause : Cause) (text : List ℕ) → unsigned_at 32 text ≡ Ok (n, rest) → unsigned_at 32 text ≡ Err cause → ⊥
-number_fails n rest cause text e f = cc
-
-list_fails : {A : Type 0} (at : Reader A) (text : List ℕ) (x : List A × List ℕ) (cause : Cause) → list_at at text ≡ Ok x → list_at at text ≡ Err cause → ⊥
-list_fails at text x cause e f = cc
-
 -- a list of which an item isn't known isn't read
 cut_list : {A : Type 0} (at : Reader A) (start : ℕ) (text : List ℕ) (n : ℕ) (xs : List A) (e : ModuleError) (c : ReadsCut at start text n xs e) →
     list_at at text ≡ Err c.cause
@@ -106,7 +106,7 @@ cut_list at start text n xs e c = counted at text c.rest n c.counts ∙ behind_f
 
 whole_goes_on : {A : Type 0} (at : Reader A) (start : ℕ) (text : List ℕ) (n : ℕ) (xs ys : List A) (rest : List ℕ) (e : ModuleError) →
     list_at at text ≡ Ok (ys, rest) → ReadsCut at start text n xs e → ⊥
-whole_goes_on at start text n xs ys rest e reads c = list_fails at text (ys, rest) c.cause reads (cut_list at start text n xs e c)
+whole_goes_on at start text n xs ys rest e reads c = never (list_at at text) (ys, rest) c.cause reads (cut_list at start text n xs e c)
 
 -- a number that isn't read is no unknown form
 known_number : (cause : Cause) (text : List ℕ) → FailsUnsigned 32 text cause → IsUnknown cause → ⊥
@@ -200,7 +200,7 @@ module _ {A : Type 0} {Spells : List ℕ → A → Type 0} {Fails : List ℕ →
   known_only_of : (start : ℕ) (text : List ℕ) (n : ℕ) (xs : List A) (o : Option ModuleError) (e : ModuleError) → ReadsKnown at start text n xs o →
       FailsKnown at start text e → e.kind ≡ faults.Memory
   known_only_of start text n xs None e r f = only_of one start text xs e r.reads (fails_whole at start text e f)
-  known_only_of start text n xs (Some u) e r (inl f) = absurd (number_fails n r.rest f.0 text r.counts f.2)
+  known_only_of start text n xs (Some u) e r (inl f) = absurd (never (unsigned_at 32 text) (n, r.rest) f.0 r.counts f.2)
   known_only_of start text n xs (Some u) e r (inr (inl f)) =
       let s = f.3 in
       let counts = ok_is (n, r.rest) (s.number, s.rest) (sym r.counts ∙ s.counts) in

@@ -1,5 +1,5 @@
 -- The loop that reads a list's items, and that what it answers is what is spelled.
-use Rattle.std.proofs.Common.{◌≡◌, inl, inr, ℕ, zero, suc, ◌+◌, ◌-◌, ◌<◌, ◌≤◌, List, [], ◌∷◌, ◌++◌, length, Some, Result, Ok, Err, refl, sym, ap, subst, ◌∙◌, add-one, arith}
+use Rattle.std.proofs.Common.{◌≡◌, inl, inr, ℕ, zero, suc, ◌+◌, ◌-◌, ◌<◌, ◌≤◌, List, [], ◌∷◌, ◌++◌, length, Option, Some, Result, Ok, Err, refl, sym, ap, subst, ◌∙◌, add-one, arith}
 use Rattle.std.specs.Prelude.{IfOk, IfErr, MatchResult}
 use Rattle.std.specs.Global.{Vec}
 use Rattle.std.proofs.lemmas.List.{length-append, append-nil}
@@ -90,11 +90,13 @@ stopped at n i bytes xs rest (refusals.Bytes cause) view lt e f = record { befor
 stopped at n i bytes xs rest refusals.Memory view lt e f = tt
 
 -- a list of which the items aren't read
-pub refused : {A X : Type 0} (at : Reader A) (text rest : List ℕ) (n : ℕ) (refusal : Refusal) (xs : List A) (back : List ℕ) (view : X → List A × List ℕ) →
-    unsigned_at 32 text ≡ Ok (n, rest) → RunsTo at n rest xs back (Some refusal) → Answers view (Err refusal) (list_at at text)
+pub refused : {A X : Type 0} (at : Reader A) (text rest : List ℕ) (n : ℕ) (o : Option Refusal) (refusal : Refusal) (xs : List A) (back : List ℕ)
+    (view : X → List A × List ℕ) → unsigned_at 32 text ≡ Ok (n, rest) → RunsTo at n rest xs back o → o ≡ Some refusal
+    → Answers view (Err refusal) (list_at at text)
 unfolding list_at
-refused at text rest n (refusals.Bytes cause) xs back view e s = rw e (behind_fails at n rest cause xs back s)
-refused at text rest n refusals.Memory xs back view e s = tt
+refused at text rest n o (refusals.Bytes cause) xs back view e r is =
+    rw e (behind_fails at n rest cause xs back (subst (λ (q : Option Refusal). RunsTo at n rest xs back q) is r))
+refused at text rest n o refusals.Memory xs back view e r is = tt
 
 -- ---- a list that is the whole of a text
 
