@@ -161,14 +161,12 @@ sizes_of to (suc n) bytes entries rest fits e =
 pub sizes_stop : (to n : ℕ) (bytes : List ℕ) (refusal : Refusal) (left : ℕ) → length bytes ≤ to → StopsBy (entry_at to) n bytes refusal left →
     StopsBy sized_at n bytes refusal left
 sizes_stop to n bytes (refusals.Bytes cause) left fits s =
-    let t = sizes_of to s.before bytes s.items s.rest fits s.reads in
+    let b = s.behind in
+    let t = sizes_of to b.before bytes s.items s.rest fits b.reads in
     record {
-      before = s.before;
       items = t.0;
       rest = s.rest;
-      fewer = s.fewer;
-      reads = t.1;
-      fails = sized_fails to s.rest cause s.fails;
+      behind = record { before = b.before; fewer = b.fewer; reads = t.1; fails = sized_fails to s.rest cause b.fails };
       is_left = s.is_left;
     }
 sizes_stop to n bytes refusals.Memory left fits s = tt

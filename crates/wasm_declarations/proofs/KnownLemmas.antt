@@ -204,11 +204,11 @@ module _ {A : Type 0} {Spells : List ℕ → A → Type 0} {Fails : List ℕ →
   known_only_of start text n xs (Some u) e r (inr (inl f)) =
       let s = f.3 in
       let counts = ok_is (n, r.rest) (s.number, s.rest) (sym r.counts ∙ s.counts) in
-      let from : each_at s.stops.before at r.rest ≡ Ok (s.stops.items, s.stops.rest) =
-      ap (λ (q : ℕ × List ℕ). each_at s.stops.before at q.1) counts ∙ s.stops.reads in
-      let both = behind_one at r.fails.before s.stops.before r.rest xs s.stops.items r.back s.stops.rest r.cause f.0 r.fails.reads r.fails.fails from
-      s.stops.fails in
-      let cause = err_is (at r.back) r.cause f.0 r.fails.fails (ap at (ap (λ (q : List A × List ℕ). q.1) both) ∙ s.stops.fails) in
+      let from : each_at s.stops.behind.before at r.rest ≡ Ok (s.stops.items, s.stops.rest) =
+      ap (λ (q : ℕ × List ℕ). each_at s.stops.behind.before at q.1) counts ∙ s.stops.behind.reads in
+      let both = behind_one at r.fails.before s.stops.behind.before r.rest xs s.stops.items r.back s.stops.rest r.cause f.0 r.fails.reads r.fails.fails from
+      s.stops.behind.fails in
+      let cause = err_is (at r.back) r.cause f.0 r.fails.fails (ap at (ap (λ (q : List A × List ℕ). q.1) both) ∙ s.stops.behind.fails) in
       absurd (f.1 (subst IsUnknown cause r.unknown))
   known_only_of start text n xs (Some u) e r (inr (inr (inl f))) = absurd (whole_goes_on at start text n xs f.1.items f.1.rest u f.1.reads r)
   known_only_of start text n xs (Some u) e r (inr (inr (inr f))) = f.0

@@ -76,13 +76,13 @@ each_fails {A} at (suc before) (suc n) bytes xs rest cause lt e f =
     let f' : at b.0.1 ≡ Err cause = ap (λ (q : List A × List ℕ). at q.1) p ∙ f in
     rw (a.1, each_fails at before n a.0.1 b.0.0 b.0.1 cause (omega (arith, lt)) b.1 f') refl
 
-pub stops_fails : {A : Type 0} (at : Reader A) (n : ℕ) (bytes : List ℕ) (cause : Cause) (left : ℕ) → StopsEach at n bytes cause left →
-    each_at n at bytes ≡ Err cause
-stops_fails at n bytes cause left s = each_fails at s.before n bytes s.items s.rest cause s.fewer s.reads s.fails
-
 pub behind_fails : {A : Type 0} (at : Reader A) (n : ℕ) (bytes : List ℕ) (cause : Cause) (xs : List A) (back : List ℕ) →
     FailsBehind at n bytes cause xs back → each_at n at bytes ≡ Err cause
 behind_fails at n bytes cause xs back s = each_fails at s.before n bytes xs back cause s.fewer s.reads s.fails
+
+pub stops_fails : {A : Type 0} (at : Reader A) (n : ℕ) (bytes : List ℕ) (cause : Cause) (left : ℕ) → StopsEach at n bytes cause left →
+    each_at n at bytes ≡ Err cause
+stops_fails at n bytes cause left s = behind_fails at n bytes cause s.items s.rest s.behind
 
 pub stopped : {A X : Type 0} (at : Reader A) (n i : ℕ) (bytes : List ℕ) (xs : List A) (rest : List ℕ) (refusal : Refusal) (view : X → A × List ℕ)
     → i < n → each_at i at bytes ≡ Ok (xs, rest) → Answers view (Err refusal) (at rest) → RunsTo at n bytes xs rest (Some refusal)
@@ -134,7 +134,7 @@ stops_of at start text rest back n xs cause offset e f is = record {
   rest = rest;
   left = length back;
   counts = e;
-  stops = record { before = f.before; items = xs; rest = back; fewer = f.fewer; reads = f.reads; fails = f.fails; is_left = refl };
+  stops = record { items = xs; rest = back; behind = f; is_left = refl };
   is_at = is;
 }
 
@@ -200,10 +200,8 @@ module _ {A : Type 0} {Spells : List ℕ → A → Type 0} {Fails : List ℕ →
       StopsAt Spells Fails start text cause offset
   item_stops start text cause offset s =
       let stops = s.stops in
-      let behind : FailsBehind at s.number s.rest cause stops.items stops.rest =
-      record { before = stops.before; fewer = stops.fewer; reads = stops.reads; fails = stops.fails } in
       let place : offset ≡ start + (length text - length stops.rest) = s.is_at ∙ ap (λ (k : ℕ). start + (length text - k)) stops.is_left in
-      inr (item_of start text s.rest stops.rest s.number stops.items cause offset s.counts behind place)
+      inr (item_of start text s.rest stops.rest s.number stops.items cause offset s.counts stops.behind place)
 
   pub fault_is : (start : ℕ) (text : List ℕ) (e : ModuleError) → FailsWhole at start text e → IsListFault Spells Fails start text e.kind e.offset
   fault_is start text e (inl s) =
@@ -267,12 +265,14 @@ module _ {A : Type 0} {Spells : List ℕ → A → Type 0} {Fails : List ℕ →
     left = length i.back;
     counts = ap (unsigned_at 32) i.parts ∙ (unsigned_exact 32).again i.count (i.front ++ i.back) i.number i.counts;
     stops = record {
-      before = i.before;
       items = i.items;
       rest = i.back;
-      fewer = i.fewer;
-      reads = (each_exact one i.before).again i.front i.back i.items i.spelled;
-      fails = one.fails i.back cause i.fails;
+      behind = record {
+        before = i.before;
+        fewer = i.fewer;
+        reads = (each_exact one i.before).again i.front i.back i.items i.spelled;
+        fails = one.fails i.back cause i.fails;
+      };
       is_left = refl;
     };
     is_at = omega (arith, i.at, ap length i.parts, length-append i.count (i.front ++ i.back), length-append i.front i.back);

@@ -52,12 +52,9 @@ pub record FailsBehind {A : Type 0} (at : List ℕ → Result (A × List ℕ) Ca
 
 -- behind some of so many values reading fails, where so many bytes are left
 pub record StopsEach {A : Type 0} (at : List ℕ → Result (A × List ℕ) Cause) (number : ℕ) (bytes : List ℕ) (cause : Cause) (left : ℕ) : Type 0 where
-  pub before : ℕ
   pub items : List A
   pub rest : List ℕ
-  pub fewer : before < number
-  pub reads : each_at before at bytes ≡ Ok (items, rest)
-  pub fails : at rest ≡ Err cause
+  pub behind : FailsBehind at number bytes cause items rest
   pub is_left : left ≡ length rest
 
 -- the same for a refusal: nothing is said of one for want of memory

@@ -18,7 +18,7 @@ abbrev pub first_at : {A : Type 0} → (ℕ → Bool) → (ℕ → List ℕ → 
     → Result (A × List ℕ) Cause
 first_at test behind other bytes = byte_at bytes >>= λ b. if test b.0 then behind b.0 b.1 else other bytes
 
--- what is told by a byte that can be one alone
+-- whether the byte is that mark
 abbrev pub mark_of : ℕ → ℕ → Option (Unit {0})
 mark_of mark b = if b == mark then Some tt else None
 

@@ -22,11 +22,8 @@ returns-then-is_err-clause-left c = c.loop.invariant.within
 
 pub returns-in-Err-clause-stops : goal.returns-in-Err-clause-stops
 returns-in-Err-clause-stops c = record {
-  before = c.loop.counter;
   items = c.loop.entries.items;
   rest = c.loop.rest.now;
-  fewer = c.loop-test.true;
-  reads = c.loop.invariant.reads;
-  fails = c.in-Err.ensures.gives;
+  behind = record { before = c.loop.counter; fewer = c.loop-test.true; reads = c.loop.invariant.reads; fails = c.in-Err.ensures.gives };
   is_left = refl;
 }
