@@ -36,6 +36,7 @@ abbrev pub is_delimiter_of : Option (Operator × ℕ) → Bool
 is_delimiter_of None = false
 is_delimiter_of (Some o) = is_delimiter o.0
 
+-- whether there is an operator with the index, and it is a delimiter
 abbrev pub delimits : List (Operator × ℕ) → ℕ → Bool
 delimits operators n = is_delimiter_of (slice_get operators n)
 

@@ -13,6 +13,7 @@ abbrev pub downwards : List Kin → ℕ → List ℕ
 downwards [] i = []
 downwards (e ∷ earlier) i = if length earlier == i then flat_map (downwards earlier) e.children ++ length earlier ∷ [] else downwards earlier i
 
+-- the entry with an index; past the last one, an entry without children
 abbrev pub kin_at : List Kin → ℕ → Kin
 kin_at kins i = item (record { children = []; color = 0 }) kins i
 

@@ -26,6 +26,7 @@ pub record EntryView : Type 0 where
   pub operator : ℕ
   pub color : ℕ
 
+-- the same of an entry of the code, whose node tells the instruction and the children
 abbrev pub entry_view : StackEntry → EntryView
 entry_view e = record { instr = instr_of e.operator; children = children_of e.operator; operator = e.operator_idx; color = e.color }
 
@@ -33,6 +34,7 @@ entry_view e = record { instr = instr_of e.operator; children = children_of e.op
 abbrev pub kin : StackEntry → Kin
 kin e = record { children = children_of e.operator; color = e.color }
 
+-- those of all entries, the last one first
 abbrev pub kins_of : List StackEntry → List Kin
 kins_of entries = reverse (map kin entries)
 
@@ -41,6 +43,7 @@ abbrev pub shape_of_judged : Instruction → Judged → Shape
 shape_of_judged i (Fits s) = s
 shape_of_judged i _ = record { instr = i; operands = 0; has_result = false; change = 0 }
 
+-- the shape of an instruction under a module's information
 abbrev pub shape_of : Module → Instruction → Shape
 shape_of info i = shape_of_judged i (judge_instruction info i)
 
@@ -48,6 +51,7 @@ shape_of info i = shape_of_judged i (judge_instruction info i)
 abbrev pub graph_entry : Module → ℕ → EntryView → GraphEntry
 graph_entry info first e = record { shape = option_map (shape_of info) e.instr; children = e.children; number = e.operator - first; color = e.color }
 
+-- all of them, the last one first
 abbrev pub graph_entries : Module → ℕ → List StackEntry → List GraphEntry
 graph_entries info first entries = reverse (map (graph_entry info first) (map entry_view entries))
 

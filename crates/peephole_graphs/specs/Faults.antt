@@ -35,6 +35,7 @@ fault_among info preserving (o ∷ earlier) = option_or (fault_among info preser
 abbrev pub fault_of : Module → Bool → List (Operator × ℕ) → Option Fault
 fault_of info preserving operators = fault_among info preserving (reverse operators)
 
+-- a value, or the fault where there is one
 abbrev pub unless : {A : Type 0} → Option Fault → A → Result A Fault
 unless None x = Ok x
 unless (Some fault) x = Err fault
@@ -50,11 +51,14 @@ abbrev pub HasNoFault : Type 0
 HasNoFault = (info : Module) (preserving : Bool) (operators : List (Operator × ℕ)) →
     (fault_of info preserving operators ≡ None) ↔ (AreFit info operators × IsSmall preserving (shapes_of_block info operators))
 
+-- it answers `held_by_none` exactly where the first operator at fault is one that no graph holds
 abbrev pub FindsNoGraph : Type 0
 FindsNoGraph = (s : Source) → (fault_of s.info s.preserving s.operators ≡ Some held_by_none) ↔ HasNoGraph s
 
+-- `calls_unknown` exactly where it calls the function, and that one isn't known
 abbrev pub FindsUnknown : Type 0
 FindsUnknown = (s : Source) (function : ℕ) → (fault_of s.info s.preserving s.operators ≡ Some (calls_unknown function)) ↔ CallsUnknown s function
 
+-- and `too_large` exactly where its index or its colour does not fit
 abbrev pub FindsTooLarge : Type 0
 FindsTooLarge = (s : Source) → (fault_of s.info s.preserving s.operators ≡ Some too_large) ↔ IsTooLarge s

@@ -85,6 +85,7 @@ AreTogether (s ∷ earlier) =
 
 -- ---- the order as a test
 
+-- whether the operators in postfix are the block's, ascending, compared one by one
 abbrev pub is_in_order : List Shape → Bool
 is_in_order block = pointwise nat_eq (postfix (forest block)) (range_from 0 (length block))
 

@@ -6,6 +6,7 @@ use Rattle.peephole_lang.specs.Term.{Terms, pick, numbers_of}
 use Rattle.peephole_graphs.specs.declared.dfg.StackEntry.{StackEntry}
 use Rattle.peephole_graphs.specs.ForestText.{Line, edge, child_lines, entry_term, entry_text}
 
+-- whether a level has children that are still to come
 abbrev pub has_some : List Id → Bool
 has_some [] = false
 has_some (i ∷ is) = true
@@ -15,6 +16,7 @@ abbrev pub edges : List (List Id) → List ℕ
 edges [] = []
 edges (ids ∷ levels) = edge (has_some ids) ++ edges levels
 
+-- the trees of these children
 abbrev pub trees_of : List StackEntry → List Id → Terms StackEntry
 trees_of entries ids = pick (entry_term entries) (numbers_of ids)
 

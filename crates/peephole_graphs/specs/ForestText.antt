@@ -60,6 +60,7 @@ abbrev pub root_lines : List StackEntry → List ℕ → List Line
 root_lines entries [] = []
 root_lines entries (i ∷ is) = tree_lines [] [] (entry_term entries i) ++ root_lines entries is
 
+-- the lines of the forest, the roots ascending
 abbrev pub forest_lines : List StackEntry → List (Option ℕ) → List Line
 forest_lines entries parents = root_lines entries (roots_of parents)
 
@@ -78,9 +79,11 @@ abbrev pub with_text : List ℕ → StackEntry → Result (List ℕ) Error → R
 with_text before e (Ok text) = Ok (before ++ entry_text e text)
 with_text before e (Err refusal) = Err refusal
 
+-- with the text that `said` tells of the entry
 abbrev pub with_entry : (StackEntry → Result (List ℕ) Error) → List ℕ → StackEntry → Result (List ℕ) Error
 with_entry said before e = with_text before e (said e)
 
+-- what comes after a text, or the refusal
 abbrev pub then_text : Result (List ℕ) Error → (List ℕ → Result (List ℕ) Error) → Result (List ℕ) Error
 then_text (Ok text) go = go text
 then_text (Err refusal) go = Err refusal
@@ -90,6 +93,7 @@ abbrev pub with_lines : (StackEntry → Result (List ℕ) Error) → List ℕ �
 with_lines said before [] = Ok before
 with_lines said before (l ∷ ls) = then_text (with_entry said (before ++ l.prefix) l.entry) (λ text. with_lines said text ls)
 
+-- the text of the forest: its first line, and then its lines, or the first refusal
 abbrev pub forest_text : (StackEntry → Result (List ℕ) Error) → List StackEntry → List (Option ℕ) → Result (List ℕ) Error
 forest_text said entries parents = with_lines said (codes "DFG forest\n") (forest_lines entries parents)
 
@@ -100,6 +104,7 @@ abbrev pub default_lines : List Line → List ℕ
 default_lines [] = []
 default_lines (l ∷ ls) = (l.prefix ++ entry_text l.entry (text_of l.entry.operator)) ++ default_lines ls
 
+-- the text of the forest where each entry's own text is its operator's
 abbrev pub default_text : List StackEntry → List (Option ℕ) → List ℕ
 default_text entries parents = codes "DFG forest\n" ++ default_lines (forest_lines entries parents)
 

@@ -10,6 +10,7 @@ pub record GraphEntry : Type 0 where
   pub number : ℕ
   pub color : ℕ
 
+-- the trees of these indexes, in order
 abbrev pub trees_at : (ℕ → Tree) → List ℕ → Trees
 trees_at at [] = no_trees
 trees_at at (i ∷ is) = at i ▸ trees_at at is
@@ -24,6 +25,7 @@ abbrev pub tree_of_entry : Option Shape → List ℕ → ℕ → ℕ → (ℕ �
 tree_of_entry None children number missing at = entry missing
 tree_of_entry (Some s) children number missing at = node number s (trees_at at children)
 
+-- the tree of the entry with an index, by its children's trees, which are those of earlier entries
 abbrev pub tree_at_entry : List GraphEntry → ℕ → Tree
 tree_at_entry [] i = entry 0
 tree_at_entry (e ∷ earlier) i = if length earlier == i then tree_of_entry e.shape e.children e.number (undefs earlier) (tree_at_entry earlier) else tree_at_entry earlier i

@@ -12,14 +12,18 @@ tree_order block = reverse (shapes (forest block))
 abbrev pub HasSameTrees : Type 0
 HasSameTrees = (block : List Shape) → forest (tree_order block) ≡ renumber 0 (forest block)
 
+-- What was written is in order.
 abbrev pub IsWrittenInOrder : Type 0
 IsWrittenInOrder = (block : List Shape) → IsInOrder (tree_order block)
 
+-- Written again, it is the same block.
 abbrev pub StaysWhenWrittenAgain : Type 0
 StaysWhenWrittenAgain = (block : List Shape) → tree_order (tree_order block) ≡ tree_order block
 
+-- A block is in order exactly where the operators of each operator's tree have consecutive numbers.
 abbrev pub OrderIsTogether : Type 0
 OrderIsTogether = (block : List Shape) → IsInOrder block ↔ AreTogether block
 
+-- A block in order is what is written with its own trees.
 abbrev pub OrderedIsPostfix : Type 0
 OrderedIsPostfix = (block : List Shape) → IsInOrder block → tree_order block ≡ block

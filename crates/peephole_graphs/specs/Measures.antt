@@ -6,20 +6,23 @@ use Rattle.peephole_graphs.specs.Graph.{item}
 use Rattle.peephole_graphs.specs.Downwards.{Kin, downwards, kin_at}
 use Rattle.peephole_graphs.specs.Entries.{kins_of}
 
+-- the colours of entries
 abbrev pub colors : List StackEntry → List ℕ
 colors entries = map (λ (e : StackEntry). e.color) entries
 
--- what is kept of the entries from each one downwards: how many they are, and whether they have one colour
+-- what is kept of the entries from each one downwards: how many they are
 abbrev pub sizes_kept : List Subtree → List ℕ
 sizes_kept subtrees = map (λ (t : Subtree). t.len) subtrees
 
+-- and whether they have one colour
 abbrev pub flags_kept : List Subtree → List Bool
 flags_kept subtrees = map (λ (t : Subtree). t.one_color) subtrees
 
--- of the entry with an index
+-- how many they are from the entry with an index downwards
 abbrev pub size_kept : List Subtree → ℕ → ℕ
 size_kept subtrees i = slice_index (sizes_kept subtrees) i
 
+-- whether these have one colour; false past the last entry
 abbrev pub flag_kept : List Subtree → ℕ → Bool
 flag_kept subtrees i = slice_index_or (flags_kept subtrees) i false
 

@@ -20,5 +20,6 @@ operators_among entries is = map (λ i. slice_index (operators_of entries) i) (f
 abbrev pub forest_operators : List StackEntry → List (Option ℕ) → List ℕ
 forest_operators entries parents = operators_among entries (flat_map (downwards (kins_of entries)) (roots_of parents))
 
+-- the trees lie one after another: these operators ascend
 abbrev pub AreInOrder : List StackEntry → List (Option ℕ) → Type 0
 AreInOrder entries parents = IsStrictlyIncreasing (forest_operators entries parents)

@@ -66,9 +66,11 @@ pub record Piece (H : Type 0) : Type 0 where
   pub head : H
   pub count : ℕ
 
+-- of a node, by the parts of its language
 abbrev pub piece_by : {L H : Type 0} → (L → H) → (L → List ℕ) → L → Piece H
 piece_by head children l = record { head = head l; count = length (children l) }
 
+-- how many terms there are
 abbrev pub child_count : {H : Type 0} → Terms H → ℕ
 child_count no_terms = 0
 child_count (t ▸ ts) = suc (child_count ts)

@@ -21,6 +21,7 @@ pub use Rattle.peephole_graphs.specs.declared.shape.Shape.{Shape}
 pub use Rattle.peephole_graphs.specs.declared.shape.Judged.{Judged}
 pub use Rattle.peephole_graphs.specs.declared.shape.Judged.TheVariants.{Fits, Unfit, Unknown}
 
+-- an instruction has a result unless its row says that it has none
 abbrev pub has_result : ResultKind → Bool
 has_result Nothing = false
 has_result _ = true
@@ -47,10 +48,12 @@ abbrev pub judge_row : Module → Instruction → RowInfo → Option ℕ → Jud
 judge_row info i row None = judge_call info i i.imm
 judge_row info i row (Some operands) = Fits (record { instr = i; operands = operands; has_result = has_result row.result; change = row.change })
 
+-- by the instruction's row; unfit where there is none
 abbrev pub judge_found : Module → Instruction → Option RowInfo → Judged
 judge_found info i None = Unfit
 judge_found info i (Some row) = judge_row info i row row.operands
 
+-- what an instruction is to a graph, by the row that its number names
 abbrev pub judge_instruction : Module → Instruction → Judged
 judge_instruction info i = judge_found info i (row_info_of i.row)
 
@@ -59,6 +62,7 @@ abbrev pub judge : Module → Operator → Judged
 judge info (Instr i) = judge_instruction info i
 judge info _ = Unfit
 
+-- an operator that a graph can hold
 abbrev pub IsFit : Judged → Type 0
 IsFit (Fits s) = Unit {0}
 IsFit _ = ⊥
@@ -67,6 +71,7 @@ IsFit _ = ⊥
 abbrev pub AreFit : Module → List (Operator × ℕ) → Type 0
 AreFit info operators = All (λ (o : Operator × ℕ). IsFit (judge info o.0)) operators
 
+-- the operator's shape in front of those of later ones, where it fits
 abbrev pub and_shape : Judged → List Shape → List Shape
 and_shape (Fits s) later = s ∷ later
 and_shape _ later = later

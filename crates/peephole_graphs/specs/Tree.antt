@@ -14,6 +14,7 @@ mutual
     no_trees : Trees
     ◌▸◌ : Tree → Trees → Trees
 
+-- the trees of one list in front of those of another
 abbrev pub join : Trees → Trees → Trees
 join no_trees us = us
 join (t ▸ ts) us = t ▸ join ts us

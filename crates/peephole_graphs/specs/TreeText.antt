@@ -18,6 +18,7 @@ abbrev pub written_payload : Option Payload → List ℕ
 written_payload None = []
 written_payload (Some p) = payload_text p
 
+-- the name of a variant, and behind it the text of its payload
 abbrev pub variant_text : Option Variant → Imm → List ℕ
 variant_text None imm = []
 variant_text (Some v) imm = v.name ++ written_payload (payload_of_imm v.payload imm)
@@ -26,6 +27,7 @@ variant_text (Some v) imm = v.name ++ written_payload (payload_of_imm v.payload 
 abbrev pub instruction_text : Instruction → List ℕ
 instruction_text i = variant_text (variant_at (12 + i.row)) i.imm
 
+-- whether there is a tree
 abbrev pub are_some : Trees → Bool
 are_some no_trees = false
 are_some (t ▸ ts) = true
