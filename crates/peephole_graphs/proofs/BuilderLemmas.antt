@@ -1,13 +1,11 @@
 -- What the loop of `build` keeps.
 use Rattle.std.proofs.Common.{◌≡◌, ℕ, suc, ◌+◌, ◌-◌, ◌<◌, ◌≤◌, Bool, true, false, List, [], ◌∷◌, ◌++◌, length, take, drop, get_or, map, replicate, Option}
 use Rattle.std.proofs.Common.{None, Some, refl, sym, ap, ap₂, ◌∙◌, subst, arith, ⊎_elim}
-use Rattle.std.specs.Prelude.{◌⊎◌, nat_le, option_map, reverse, if◌then◌else◌}
-use Rattle.std.specs.Bool.{nat_eq}
+use Rattle.std.specs.Prelude.{◌⊎◌, option_map, reverse, slice_get, if◌then◌else◌}
 use Rattle.std.specs.List.{All, sum_by}
-use Rattle.std.specs.HashMap as hash
 use Rattle.std.proofs.lemmas.Bool.Decides.{nat_tests}
 use Rattle.std.proofs.lemmas.Bool.{eq-eqb}
-use Rattle.std.proofs.lemmas.List.{reverse-append, length-reverse, map-append, length-map, take-append-drop, drop_more, take_more, length-take}
+use Rattle.std.proofs.lemmas.List.{reverse-append, length-append, length-reverse, map-append, length-map, take-append-drop, drop_more, take_more, length-take}
 use Rattle.std.proofs.lemmas.Simd.{map-map}
 use Rattle.std.proofs.lemmas.List.Elements.{All-head, All-tail, All-append, All-push, All-map, All-replicate}
 use Rattle.wasm_code.specs.Instruction.{Instruction}
@@ -31,6 +29,7 @@ use Rattle.peephole_graphs.specs.Step.{down, grown, Growth}
 use Rattle.peephole_graphs.specs.Entries.{EntryView, entry_view, shape_of_judged, shape_of, graph_entry, graph_entries}
 use Rattle.peephole_graphs.specs.Measures.{sizes_kept, size_kept, Measured}
 use Rattle.peephole_graphs.specs.Growing.{undef_entry, lacks, taken_of, own_index, IsConsistent, Added}
+use Rattle.peephole_graphs.proofs.OwnEntriesLemmas.{slice_get_push}
 use Rattle.peephole_graphs.proofs.Represents.{IsOwnOrUndef}
 use Rattle.peephole_lang.specs.Lang.{place_of, ids_of}
 use Rattle.peephole_lang.specs.Node.{is_count, takes, takes_children}
@@ -139,10 +138,6 @@ shapes_length info (o ∷ os) h = go (judge info o.0) (All-head (λ (o : Operato
 pub block_length : (info : Module) (os : List (Operator × ℕ)) → AreFit info os → length (shapes_of_block info os) ≡ length os
 block_length info os h = length-reverse (operator_shapes info os) ∙ shapes_length info os h
 
--- the index of the own entry of the operator with the body's index `k`, if the block has one
-abbrev pub named : ℕ → List GraphEntry → ℕ → Option ℕ
-named first nodes k = if nat_le first k then own nodes (k - first) else None
-
 -- the graph's lists as the theory has them
 abbrev pub nodes_in : Source → Growing → List GraphEntry
 nodes_in source g = graph_entries source.info source.first g.entries.items
@@ -161,7 +156,9 @@ pub record Kept (source : Source) (g : Growing) : Type 0 where
   pub fit : AreFit source.info source.operators
   pub small : IsSmall source.preserving (shapes_in source)
   pub state : state_of source g ≡ graph source.preserving (shapes_in source)
-  pub names : (k : ℕ) → hash.get nat_eq g.map k ≡ named source.first (nodes_in source g) k
+  pub first : g.map.first ≡ source.first
+  pub count : length g.map.entries.items ≡ length source.operators
+  pub names : (n : ℕ) → slice_get g.map.entries.items n ≡ own (nodes_in source g) n
   pub later : All (λ (x : EntryView). source.first ≤ x.operator) (map entry_view g.entries.items)
   pub color : g.color ≡ color_after source.preserving (shapes_in source)
   pub measured : Measured g.entries.items g.subtrees.items
@@ -252,19 +249,19 @@ color_more true s block = refl
 color_more false s block = refl
 
 names_more : (source : Source) (n : ℕ) (s : Shape) (old new : Growing) → state_of source new ≡ grown (state_of source old) s n old.color →
-    ((k : ℕ) → hash.get nat_eq old.map k ≡ named source.first (nodes_in source old) k) → Added s (source.first + n) old new →
-    (k : ℕ) → hash.get nat_eq new.map k ≡ named source.first (nodes_in source new) k
-names_more source n s old new e h a k =
+    length old.map.entries.items ≡ n → ((m : ℕ) → slice_get old.map.entries.items m ≡ own (nodes_in source old) m) → Added s (source.first + n) old new →
+    (m : ℕ) → slice_get new.map.entries.items m ≡ own (nodes_in source new) m
+names_more source n s old new e count h a m =
     let first = source.first in
     let nodes = nodes_in source old in
     let more = s.operands - length (reverse old.stack.items) in
     let place_is : own_index s.operands old ≡ length (replicate more (undef n) ++ nodes) =
     omega (arith, behind (undef n) more nodes, nodes_length source.info first old.entries.items, length-reverse old.stack.items) in
-    let here = a.named k in
-    let old_is = h k in
-    let rest = own_replicate more n (k - first) nodes in
-    let next : hash.get nat_eq new.map k ≡ named first (grown (state_of source old) s n old.color).nodes k = grind (arith, nat_tests) in
-    next ∙ ap (λ (x : Growth). named first x.nodes k) (sym e)
+    let here = ap (λ (x : List ℕ). slice_get x m) a.named ∙ slice_get_push old.map.entries.items (own_index s.operands old) m in
+    let old_is = h m in
+    let rest = own_replicate more n m nodes in
+    let next : slice_get new.map.entries.items m ≡ own (grown (state_of source old) s n old.color).nodes m = grind (arith, nat_tests) in
+    next ∙ ap (λ (x : Growth). own x.nodes m) (sym e)
 
 split_at : (operators : List (Operator × ℕ)) (i : ℕ) (d : Operator × ℕ) → i < length operators → operators ≡ take i operators ++
     get_or operators i d ∷ drop (i + 1) operators
@@ -323,7 +320,10 @@ kept_more source o s old new h e a p q r =
       missing = All_added IsOwnOrUndef s (source.first + n) old new a h.missing (λ e. refl)
           (λ e. some_none s.instr (sym a.own_instr ∙ e));
       state = state ∙ (next ∙ ap (graph source.preserving) (sym push));
-      names = names_more source n s old new state h.names a;
+      first = a.first ∙ h.first;
+      count = ap length a.named ∙ (length-append old.map.entries.items (own_index s.operands old ∷ []) ∙
+          (ap (λ x. x + 1) h.count ∙ sym (length-append source.operators (o ∷ []))));
+      names = names_more source n s old new state h.count h.names a;
       later = All-map (λ (x : EntryView). source.first ≤ x.operator) entry_view new.entries.items (All_added after s (source.first + n)
           old new a (later_entries source.first old.entries.items h.later) (omega arith) (let at = a.own_operator in omega arith));
       measured = measured_more source.info source.first n s block old.entries.items new.entries.items old.subtrees.items

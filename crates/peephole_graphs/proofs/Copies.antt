@@ -4,8 +4,7 @@ use Rattle.std.specs.Prelude.{◌↔◌, IsTrue, false, filter, is_some, reverse
 use Rattle.std.specs.Bool.{nat_eq}
 use Rattle.std.specs.List.{All, AllZip, IsDistinct, flat_map}
 use Rattle.std.specs.List.Sorted.{IsStrictlyIncreasing}
-use Rattle.std.specs.Map.{lookup}
-use Rattle.std.proofs.lemmas.List.Elements.{AllZip-get_or, length_all_zip, same_from_all_zip}
+use Rattle.std.proofs.lemmas.List.Elements.{AllZip-get_or, length_all_zip}
 use Rattle.peephole_nodes.specs.declared.id.Id.{Id}
 use Rattle.peephole_lang.specs.declared.lang.Head.{Head}
 use Rattle.peephole_lang.specs.Node.{node_of, head_of, children_of, instr_of, instr_of_head}
@@ -38,17 +37,6 @@ map_same f same [] [] h = refl
 map_same f same [] (g ∷ gs) h = absurd h
 map_same f same (e ∷ es) [] h = absurd h
 map_same f same (e ∷ es) (g ∷ gs) h = ap₂ (λ x y. x ∷ y) (same e g h.0) (map_same f same es gs h.1)
-
-pub each : {A : Type 0} (xs ys : List A) → AllZip (λ x y. y ≡ x) xs ys → ys ≡ xs
-each xs ys h = same_from_all_zip (λ x y. y ≡ x) xs ys h (λ x y e. e)
-
--- equal keys and values
-pairs_same : {K V : Type 0} (ms ns : List (K × V)) → AllZip (λ p q. (q.0 ≡ p.0) × (q.1 ≡ p.1)) ms ns → ns ≡ ms
-pairs_same ms ns h = same_from_all_zip (λ p q. (q.0 ≡ p.0) × (q.1 ≡ p.1)) ms ns h (λ p q e. λ i. (e.0 i, e.1 i))
-
--- the same values at the same keys
-pub found_same : {K V : Type 0} (test : K → Bool) (ms ns : List (K × V)) → AllZip (λ p q. (q.0 ≡ p.0) × (q.1 ≡ p.1)) ms ns → lookup test ns ≡ lookup test ms
-found_same test ms ns h = ap (lookup test) (pairs_same ms ns h)
 
 child_same : (e f : StackEntry) → IsSameEntry e f → children_of f.operator ≡ children_of e.operator
 child_same e f h = ap numbers_of h.0.1

@@ -1,8 +1,6 @@
 -- What has grown is the graph of the block.
 use Rattle.std.proofs.Common.{Bool, ◌≡◌, ℕ, suc, ◌+◌, ◌-◌, ◌≤◌, List, length, get_or, Option, None, Some, sym, ap, ◌∙◌, subst, arith, ⊎_elim, refl}
-use Rattle.std.specs.Prelude.{◌↔◌, IsTrue, is_some, option_map, reverse, slice_get}
-use Rattle.std.specs.Bool.{nat_eq}
-use Rattle.std.specs.HashMap as hash
+use Rattle.std.specs.Prelude.{◌↔◌, IsTrue, nat_le, is_some, option_map, reverse, slice_get, if◌then◌else◌}
 use Rattle.std.proofs.lemmas.Bool.{cond-true, cond-false, le-leb, lt-leb, cases_lt}
 use Rattle.std.proofs.lemmas.List.{take_all}
 use Rattle.std.proofs.lemmas.Option.{slice_get-get_or, slice_get_within}
@@ -21,6 +19,7 @@ use Rattle.peephole_graphs.specs.Entries.{kins_of, shape_of}
 use Rattle.peephole_graphs.specs.Growing.{undef_entry}
 use Rattle.peephole_graphs.specs.GraphOf.{IsSmall, IsGraphOf, IsOwnEntry}
 use Rattle.peephole_graphs.specs.Building.{HasGrown, graph_in}
+use Rattle.peephole_graphs.specs.OwnEntries.{own_entry_in}
 use Rattle.peephole_graphs.proofs.Lists.{all_slice_get}
 use Rattle.peephole_graphs.proofs.Stands.{parent_at, is_operator, Stands}
 use Rattle.peephole_graphs.proofs.StackGraph.{graph}
@@ -32,7 +31,7 @@ use Rattle.peephole_graphs.proofs.Raising.{block_raises}
 use Rattle.peephole_graphs.proofs.Contiguous.{contiguous}
 use Rattle.peephole_graphs.proofs.OrderLemmas.{in_order}
 use Rattle.peephole_graphs.proofs.GraphOfLemmas.{is_graph_of, entry_here}
-use Rattle.peephole_graphs.proofs.BuilderLemmas.{Kept, named, nodes_in, state_of, over, front, block_length, kept_parents}
+use Rattle.peephole_graphs.proofs.BuilderLemmas.{Kept, nodes_in, state_of, over, front, block_length, kept_parents}
 
 none_index : {P : Type 0} (i : ℕ) → ◌≡◌ {A = Option ℕ} None (Some i) → P
 none_index i e = cc
@@ -40,6 +39,10 @@ none_index i e = cc
 operator_some : (info : Module) (o : Option Instruction) → is_operator (option_map (shape_of info) o) ≡ is_some o
 operator_some info None = refl
 operator_some info (Some i) = refl
+
+-- the index of the own entry of the operator with the body's index `k`, if the block has one
+abbrev named : ℕ → List GraphEntry → ℕ → Option ℕ
+named first nodes k = if nat_le first k then own nodes (k - first) else None
 
 named_key : (first n : ℕ) (nodes : List GraphEntry) → named first nodes (first + n) ≡ own nodes n
 named_key first n nodes =
@@ -58,12 +61,16 @@ module _ (source : Source) (g : Growing) (h : Kept source g) where
   low : (i : ℕ) (x : StackEntry) → slice_get g.entries.items i ≡ Some x → source.first ≤ x.operator_idx
   low i x s = all_slice_get (λ (e : StackEntry). source.first ≤ e.operator_idx) g.entries.items i x s (later_entries source.first g.entries.items h.later)
 
+  names : (k : ℕ) → own_entry_in g.map k ≡ named source.first (nodes_in source g) k
+  names k = ap (λ first. if nat_le first k then slice_get g.map.entries.items (k - first) else None) h.first ∙
+      ap (λ (x : Option ℕ). if nat_le source.first k then x else None) (h.names (k - source.first))
+
   -- the map finds the own entry of each operator, and nothing else
-  found_is_own : (k i : ℕ) → hash.get nat_eq g.map k ≡ Some i → IsOwnEntry g.entries.items k i
+  found_is_own : (k i : ℕ) → own_entry_in g.map k ≡ Some i → IsOwnEntry g.entries.items k i
   found_is_own k i e = ⊎_elim
-      (λ u. none_index i (sym (cond-false _ _ _ (lt-leb source.first k u)) ∙ (sym (h.names k) ∙ e)))
+      (λ u. none_index i (sym (cond-false _ _ _ (lt-leb source.first k u)) ∙ (sym (names k) ∙ e)))
       (λ u.
-      let o = facts_are.owned (k - source.first) i (sym (cond-true _ _ _ (le-leb source.first k u)) ∙ (sym (h.names k) ∙ e)) in
+      let o = facts_are.owned (k - source.first) i (sym (cond-true _ _ _ (le-leb source.first k u)) ∙ (sym (names k) ∙ e)) in
       let x = get_or g.entries.items i (undef_entry 0) in
       let n = count in
       let inside = o.0 in
@@ -74,7 +81,7 @@ module _ (source : Source) (g : Growing) (h : Kept source g) where
       (x, s, omega arith, sym (operator_some source.info (instr_of x.operator)) ∙ (sym (ap (λ (e : GraphEntry). is_operator e.shape) q) ∙ o.1)))
       (cases_lt k source.first)
 
-  own_is_found : (k i : ℕ) → IsOwnEntry g.entries.items k i → hash.get nat_eq g.map k ≡ Some i
+  own_is_found : (k i : ℕ) → IsOwnEntry g.entries.items k i → own_entry_in g.map k ≡ Some i
   own_is_found k i w =
       let n = count in
       let l = slice_get_within g.entries.items i w.0 w.1 in
@@ -84,9 +91,9 @@ module _ (source : Source) (g : Growing) (h : Kept source g) where
       let o = facts_are.owner i (omega arith)
       (ap (λ (e : GraphEntry). is_operator e.shape) q ∙ (operator_some source.info (instr_of (w.0).operator) ∙ w.3)) in
       let m = ap (λ (e : GraphEntry). e.number) q ∙ ap (λ x. x - source.first) c in
-      h.names k ∙ (cond-true _ _ _ (le-leb source.first k (omega arith)) ∙ (ap (own (nodes_in source g)) (sym m) ∙ o))
+      names k ∙ (cond-true _ _ _ (le-leb source.first k (omega arith)) ∙ (ap (own (nodes_in source g)) (sym m) ∙ o))
 
-  last_is_found : (n : ℕ) → length source.operators ≡ suc n → (hash.get nat_eq g.map (source.first + n) ≡ Some (length g.entries.items - 1))
+  last_is_found : (n : ℕ) → length source.operators ≡ suc n → (own_entry_in g.map (source.first + n) ≡ Some (length g.entries.items - 1))
       × (slice_get g.parents.items (length g.entries.items - 1) ≡ Some None)
   last_is_found n e =
       let ps = g.parents.items in
@@ -95,7 +102,7 @@ module _ (source : Source) (g : Growing) (h : Kept source g) where
       let p = kept_parents source g h in
       let b = block_length source.info source.operators h.fit in
       let f = facts_are.last n (omega arith) in (
-        h.names (source.first + n) ∙ (named_key source.first n (nodes_in source g) ∙ (f.0 ∙ ap (λ k. Some (k - 1)) m)),
+        names (source.first + n) ∙ (named_key source.first n (nodes_in source g) ∙ (f.0 ∙ ap (λ k. Some (k - 1)) m)),
         slice_get-get_or ps (length g.entries.items - 1) None (omega arith) ∙ ap Some (get_item None ps (length g.entries.items - 1) ∙
             (ap (λ k. parent_at (reverse ps) (k - 1)) (sym m) ∙ f.1)),
       )
@@ -107,7 +114,7 @@ module _ (source : Source) (g : Growing) (h : Kept source g) where
     stands = subst (λ (x : Growth). Stands source.preserving (shapes_in source) x.nodes x.parents) state_is (stands source.preserving (shapes_in source));
     finds = λ k i. (found_is_own k i, own_is_found k i);
     keys = λ m l. let b = block_length source.info source.operators h.fit in let w = facts_are.owns m (omega arith) in
-        ap is_some (h.names (source.first + m) ∙ (named_key source.first m (nodes_in source g) ∙ w.2));
+        ap is_some (names (source.first + m) ∙ (named_key source.first m (nodes_in source g) ∙ w.2));
     last = last_is_found;
     later = h.later;
     missing = h.missing;

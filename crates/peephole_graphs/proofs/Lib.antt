@@ -21,6 +21,7 @@ pub mod Raising
 pub mod Contiguous
 pub mod OrderLemmas
 pub mod Represents
+pub mod OwnEntriesLemmas
 pub mod BuilderLemmas
 pub mod GraphOfLemmas
 pub mod GrownLemmas

@@ -1,17 +1,17 @@
 -- What a graph shows, and its copies. This project.
 use Rattle.std.specs.Prelude.{◌≡◌, ℕ}
 use Rattle.std.specs.List.{AllZip}
-use Rattle.std.specs.Bool.{nat_eq}
-use Rattle.std.specs.HashMap as hash
 use Rattle.peephole_lang.specs.Node.{SameNode}
 use Rattle.peephole_graphs.specs.declared.dfg.StackEntry.{StackEntry}
 use Rattle.peephole_graphs.specs.declared.dfg.MiniDFG.{MiniDFG}
 use Rattle.peephole_graphs.specs.GraphOf.{IsGraphOf}
 use Rattle.peephole_graphs.specs.Source.{Source}
+use Rattle.peephole_graphs.specs.OwnEntries.{own_entry_in}
 pub use Rattle.peephole_graphs.specs.Entries.{Graph}
 
+-- the entries, their parents, and the own entry of each operator, as a contract sees them
 abbrev pub graph_of : MiniDFG → Graph
-graph_of g = record { entries = g.entries.items; parents = g.parents.items; own_entry = λ k. hash.get nat_eq g.map k }
+graph_of g = record { entries = g.entries.items; parents = g.parents.items; own_entry = own_entry_in g.map }
 
 -- the same node, with the same colour, of the same operator
 abbrev pub IsSameEntry : StackEntry → StackEntry → Type 0

@@ -1,8 +1,6 @@
 -- How the builder's lists change by one operator. This project's rule, for the builder alone.
 use Rattle.std.specs.Prelude.{ℕ, suc, ◌+◌, ◌-◌, ◌≡◌, ◌<◌, ◌≤◌, ◌==◌, ◌&&◌, true, List, [], ◌∷◌, ◌++◌, length, take, drop, replicate, slice_set, slice_index, Option, None, Some, if◌then◌else◌}
 use Rattle.std.specs.List.{All, sum_by}
-use Rattle.std.specs.HashMap as hash
-use Rattle.std.specs.Bool.{nat_eq}
 use Rattle.peephole_lang.specs.Node.{instr_of, children_of}
 use Rattle.peephole_lang.specs.declared.lang.Lang.TheVariants.{Undef}
 use Rattle.peephole_graphs.specs.declared.dfg.StackEntry.{StackEntry}
@@ -25,6 +23,7 @@ set_each p (i ∷ is) ps = set_each p is (slice_set ps i (Some p))
 abbrev pub lacks : ℕ → Growing → ℕ
 lacks operands old = operands - length old.stack.items
 
+-- the index of the operator's own entry: behind those of its missing operands
 abbrev pub own_index : ℕ → Growing → ℕ
 own_index operands old = length old.entries.items + lacks operands old
 
@@ -69,5 +68,5 @@ pub record Added (s : Shape) (operator : ℕ) (old new : Growing) : Type 0 where
       if s.has_result then left ++ own_index s.operands old ∷ [] else left)
   pub subtrees : new.subtrees.items ≡ (old.subtrees.items ++ replicate (lacks s.operands old) missing_subtree)
       ++ own_subtree s.operands (lacks s.operands old) old.color old ∷ []
-  pub named : (k : ℕ) → hash.get nat_eq new.map k
-      ≡ (if operator == k then Some (own_index s.operands old) else hash.get nat_eq old.map k)
+  pub first : new.map.first ≡ old.map.first
+  pub named : new.map.entries.items ≡ old.map.entries.items ++ own_index s.operands old ∷ []

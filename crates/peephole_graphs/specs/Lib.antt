@@ -14,6 +14,7 @@ pub mod Contiguous
 pub mod Order
 pub mod GraphOf
 pub mod Faults
+pub mod OwnEntries
 pub mod Dfg
 pub mod Growing
 pub mod Building

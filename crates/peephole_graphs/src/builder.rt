@@ -1,7 +1,6 @@
 //! Blocks and their graphs.
 
 ghost use Rattle.std.specs.Prelude.{◌≡◌, ◌+◌, ◌^◌, ◌<◌, ◌≤◌, ℕ, length, IsTrue, IfOk, IfSome, IfNone, IfErr, MatchOption, MatchResult};
-ghost use Rattle.std.specs.HashMap as hash;
 ghost use Rattle.peephole_graphs.specs.Block.{IsDelimiterAt, IsBlockIn, IsBlockOf};
 ghost use Rattle.peephole_graphs.specs.Source.{Source, source_of};
 ghost use Rattle.peephole_graphs.specs.Dfg.{graph_of};
@@ -49,7 +48,7 @@ fn build(
       operators = operators.now;
     } in MatchResult result (λ o. MatchOption o (HasNoGraph s) (HasGrown s)) (IsRefused s) }
 {
-    let mut growing = start_graph(alloc, operators.len())?;
+    let mut growing = start_graph(alloc, first, operators.len())?;
     for (number, operator) in operators.iter().enumerate() {
         match judge_operator(info, &operator.0) {
             Judged::Fits(shape) => add_operator(

@@ -1,7 +1,6 @@
 //! The graph of a block.
 
-ghost use Rattle.std.specs.Prelude.{◌≡◌, ◌<◌, ◌+◌, ◌-◌, ◌↔◌, ◌&&◌, ℕ, IsTrue, length, take, nat_eq};
-ghost use Rattle.std.specs.HashMap as hash;
+ghost use Rattle.std.specs.Prelude.{◌≡◌, ◌<◌, ◌+◌, ◌-◌, ◌↔◌, ◌&&◌, ℕ, IsTrue, length, take};
 ghost use Rattle.std.proofs.Props.{props};
 ghost use Rattle.std.proofs.lemmas.Map.Keys.{IsDistinct-prop};
 ghost use Rattle.peephole_graphs.specs.Downwards.{downwards, HasOneColor};
@@ -9,15 +8,16 @@ ghost use Rattle.peephole_graphs.specs.Entries.{kins_of, IsForest};
 ghost use Rattle.peephole_graphs.specs.Measures.{Measured, forwards};
 ghost use Rattle.peephole_graphs.specs.Order.{AreInOrder};
 ghost use Rattle.peephole_graphs.specs.Layout.{HasTrees, Lang-set};
+ghost use Rattle.peephole_graphs.specs.OwnEntries.{own_entry_in};
 
 use crate::forest_text::{operator_text, print_forest};
 use crate::layout::lay_out;
+use crate::own_entries::OwnEntries;
 use crate::span::{copy_span, is_span, lie_one_behind_another};
 use crate::subtree::Subtree;
 use mutate_base::Error;
 use peephole_lang::{Lang, RecExpr};
 use std::alloc::{AllocError, Global};
-use std::collections::HashMap;
 use std::fmt;
 
 /// An entry of a graph: an operator of the block, or a missing operand.
@@ -34,13 +34,13 @@ pub struct StackEntry {
 /// The graph of a block: its entries, each with the indexes of its operands' entries as children. What it says of the block is said at `DFGBuilder::get_dfg`.
 #[derive(Drop)]
 pub struct MiniDFG {
-    map: HashMap<usize, usize>,
+    map: OwnEntries,
     entries: Vec<StackEntry>,
     parents: Vec<Option<usize>>,
     // Of the entries from each one downwards.
     subtrees: Vec<Subtree>,
     ghost measured: { Measured entries.items subtrees.items } by { Prim.hlevel props },
-    ghost trees: { HasTrees entries.items (hash.get nat_eq map) } by { Prim.hlevel (props, Lang-set) },
+    ghost trees: { HasTrees entries.items (own_entry_in map) } by { Prim.hlevel (props, Lang-set) },
     ghost forest: { IsForest entries.items parents.items } by { Prim.hlevel (props, IsDistinct-prop) },
     // Whether the trees lie one after another is seen from the entries' sizes alone.
     ghost lies: { IsTrue (forwards (kins_of entries.items)) ↔ AreInOrder entries.items parents.items } by { Prim.hlevel props },
@@ -85,17 +85,17 @@ impl MiniDFG {
 
     // The graph of these parts.
     pub(crate) fn of_parts(
-        map: HashMap<usize, usize>,
+        map: OwnEntries,
         entries: Vec<StackEntry>,
         parents: Vec<Option<usize>>,
         subtrees: Vec<Subtree>,
     ) -> MiniDFG
         requires measured { Measured entries.items subtrees.items }
-        requires trees { HasTrees entries.items (hash.get nat_eq map) }
+        requires trees { HasTrees entries.items (own_entry_in map) }
         requires forest { IsForest entries.items parents.items }
         requires lies { IsTrue (forwards (kins_of entries.items))
             ↔ AreInOrder entries.items parents.items }
-        ensures map { (k : ℕ) → (graph_of result).own_entry k ≡ hash.get nat_eq map k }
+        ensures map { (k : ℕ) → (graph_of result).own_entry k ≡ own_entry_in map k }
         ensures entries { (graph_of result).entries ≡ entries.items }
         ensures parents { (graph_of result).parents ≡ parents.items }
     {
@@ -114,7 +114,7 @@ impl MiniDFG {
         ensures parents { (graph_of result).parents ≡ [] }
     {
         MiniDFG::of_parts(
-            HashMap::new(alloc),
+            OwnEntries::new(alloc),
             Vec::new(alloc),
             Vec::new(alloc),
             Vec::new(alloc),
@@ -122,8 +122,8 @@ impl MiniDFG {
     }
 
     /// The index of the own entry of each of the block's operators, by the operator's index in the body.
-    pub fn map(&self) -> &HashMap<usize, usize>
-        ensures { (k : ℕ) → hash.get nat_eq result.now k ≡ (graph_of self.now).own_entry k }
+    pub fn map(&self) -> &OwnEntries
+        ensures { (k : ℕ) → own_entry_in result.now k ≡ (graph_of self.now).own_entry k }
     {
         &self.map
     }
@@ -157,8 +157,8 @@ impl MiniDFG {
         ensures writable { IfOk result (λ expr. AreWritable expr) }
         ensures refused { IfErr result (λ e. e ≡ Error.Memory) }
     {
-        match self.map.get(&at) {
-            Some(root) => self.lay_out_at(alloc, *root),
+        match self.map.get(at) {
+            Some(root) => self.lay_out_at(alloc, root),
             None => unreachable!(),
         }
     }

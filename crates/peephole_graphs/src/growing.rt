@@ -3,7 +3,6 @@
 ghost use Rattle.std.specs.Prelude.{◌≡◌, ◌+◌, ◌-◌, ◌^◌, ◌<◌, ◌≤◌, ◌++◌, ◌∷◌, [], ◌⊎◌, if◌then◌else◌};
 ghost use Rattle.std.specs.Prelude.{true, slice_index, nat_eq, ◌==◌, ℕ, length, drop, replicate, IfOk, OnOk, IfErr};
 ghost use Rattle.std.specs.List.{All, sum_by};
-ghost use Rattle.std.specs.HashMap as hash;
 ghost use Rattle.peephole_lang.specs.Node.{instr_of, children_of, takes_children};
 ghost use Rattle.peephole_lang.specs.Term.{numbers_of};
 ghost use Rattle.peephole_graphs.specs.Measures.{colors, size_kept, flag_kept, are_alike};
@@ -12,18 +11,18 @@ ghost use Rattle.peephole_graphs.specs.Growing.{missing_subtree, own_subtree, Is
 ghost use Rattle.peephole_graphs.specs.Step.{down};
 
 use crate::dfg::StackEntry;
+use crate::own_entries::OwnEntries;
 use crate::shape::Shape;
 use crate::subtree::Subtree;
 use mutate_base::Error;
 use peephole_lang::{Id, Lang};
 use std::alloc::{AllocError, Global};
-use std::collections::HashMap;
 use wasm_code::Instr;
 
 /// A graph with the entries whose results no operator has taken yet, and the colour of the next operator.
 #[derive(Drop)]
 pub struct Growing {
-    pub map: HashMap<usize, usize>,
+    pub map: OwnEntries,
     pub entries: Vec<StackEntry>,
     pub parents: Vec<Option<usize>>,
     pub subtrees: Vec<Subtree>,
@@ -33,9 +32,10 @@ pub struct Growing {
     pub children: Vec<Id>,
 }
 
-/// A graph without entries, with room for `count` of them.
-pub fn start_graph(alloc: Global, count: usize) -> Result<Growing, AllocError>
-    ensures map { IfOk result (λ g. (k : ℕ) → hash.get nat_eq g.map k ≡ None) }
+/// The graph of no operators yet, the first of which will have the index `first` in the body, with room for `count` of them.
+pub fn start_graph(alloc: Global, first: usize, count: usize) -> Result<Growing, AllocError>
+    ensures first { IfOk result (λ g. g.map.first ≡ first) }
+    ensures map { IfOk result (λ g. g.map.entries.items ≡ []) }
     ensures entries { IfOk result (λ g. g.entries.items ≡ []) }
     ensures parents { IfOk result (λ g. g.parents.items ≡ []) }
     ensures subtrees { IfOk result (λ g. g.subtrees.items ≡ []) }
@@ -43,7 +43,7 @@ pub fn start_graph(alloc: Global, count: usize) -> Result<Growing, AllocError>
     ensures color { IfOk result (λ g. g.color ≡ 0) }
 {
     Ok(Growing {
-        map: HashMap::with_capacity(alloc, count)?,
+        map: OwnEntries::with_capacity(alloc, first, count)?,
         entries: Vec::with_capacity(alloc, count)?,
         parents: Vec::with_capacity(alloc, count)?,
         subtrees: Vec::with_capacity(alloc, count)?,
@@ -213,7 +213,7 @@ fn measure(growing: &Growing, operands: usize, missing: u32, color: u32) -> Subt
 fn add_own(
     growing: &mut Growing,
     entry: StackEntry,
-    own: usize,
+    own: u32,
     subtree: Subtree,
 ) -> Result<(), AllocError>
     ensures entries { OnOk result (growing.new.entries.items
@@ -222,16 +222,16 @@ fn add_own(
         ≡ growing.old.parents.items ++ None ∷ []) }
     ensures subtrees { OnOk result (growing.new.subtrees.items
         ≡ growing.old.subtrees.items ++ subtree ∷ []) }
-    ensures named { OnOk result ((k : ℕ) → hash.get nat_eq growing.new.map k
-        ≡ (if entry.operator_idx == k then Some own else hash.get nat_eq growing.old.map k)) }
-    ensures others { OnOk result ((growing.new.stack ≡ growing.old.stack)
+    ensures named { OnOk result (growing.new.map.entries.items
+        ≡ growing.old.map.entries.items ++ own ∷ []) }
+    ensures others { OnOk result ((growing.new.map.first ≡ growing.old.map.first)
+        × (growing.new.stack ≡ growing.old.stack)
         × (growing.new.color ≡ growing.old.color)) }
 {
-    let operator_idx = entry.operator_idx;
     growing.entries.push(entry)?;
     growing.parents.push(None)?;
     growing.subtrees.push(subtree)?;
-    growing.map.insert(operator_idx, own)?;
+    growing.map.push(own)?;
     Ok(())
 }
 
@@ -287,7 +287,7 @@ pub fn add_operator(
         color: color as u32,
         operator_idx,
     };
-    add_own(growing, entry, own as usize, subtree)?;
+    add_own(growing, entry, own, subtree)?;
     if has_result {
         growing.stack.push(own)?;
     }

@@ -35,7 +35,7 @@ fn is_laid_out(
     at: usize,
     children: &[Id],
 ) -> Result<usize, Error> {
-    assert!(rt; graph.map().contains_key(&at));
+    assert!(rt; graph.map().get(at).is_some());
     let expr = graph.get_expr(alloc, at)?;
     match expr.as_ref().last() {
         Some(root) => assert!(rt; root.children() == children),

@@ -149,7 +149,7 @@ fn entry_text(
     let children = node.children();
     let at = entry.operator_idx;
     let color = entry.color;
-    assert!(rt; color == u32::MAX || graph.map().get(&at) == Some(&index));
+    assert!(rt; color == u32::MAX || graph.map().get(at) == Some(index));
     let copy = entry.clone()?;
     assert!(rt; copy.operator == *node && copy.operator_idx == at && copy.color == color);
     let parent = graph.parents()[index];

@@ -92,7 +92,7 @@ fn trees_of_operators(rt: HostRuntime) -> Result<(), Fail> {
         let bytes = bytes_in(alloc, case, "body")?;
         let place = place_of(&rt, case, &bytes);
         let graph = graph_of(&rt, alloc, &place)?;
-        assert!(&rt; graph.map().contains_key(&place.last), "{case}");
+        assert!(&rt; graph.map().get(place.last).is_some(), "{case}");
         let expr = graph.get_expr(alloc, place.last)?;
         are_nodes(&rt, alloc, &expr, field_of(case, "laid"))?;
     }

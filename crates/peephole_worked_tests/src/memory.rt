@@ -42,7 +42,7 @@ fn is_whole(rt: &impl Abort, graph: &MiniDFG) {
         assert!(rt; graph.parents()[index] == *parent);
     }
     for (operator, entry) in [(0, 1), (1, 2), (2, 4)] {
-        assert!(rt; graph.map().get(&operator) == Some(&entry));
+        assert!(rt; graph.map().get(operator) == Some(entry));
     }
 }
 

@@ -63,7 +63,7 @@ fn is_graph(rt: &impl Abort, graph: &MiniDFG, sample: &Sample) {
     for (entry, wanted) in graph.entries().iter().zip(&sample.entries) {
         assert!(rt; entry.operator_idx as u64 == *wanted);
     }
-    assert!(rt; graph.map().contains_key(&sample.point));
+    assert!(rt; graph.map().get(sample.point).is_some());
 }
 
 /// The graph that a builder answers of the sample's block.
@@ -137,7 +137,7 @@ fn lacks_nodes(
 fn lacks_own_tree(rt: &impl Abort, alloc: Global, sample: &Sample) -> Result<bool, Error> {
     let graph = graph_of(rt, alloc, sample)?;
     let wanted = sample.nodes(rt, alloc, "own")?;
-    assert!(rt; graph.map().contains_key(&sample.point));
+    assert!(rt; graph.map().get(sample.point).is_some());
     let answer = graph.get_expr(alloc, sample.point);
     is_graph(rt, &graph, sample);
     Ok(lacks_nodes(rt, answer, &wanted))

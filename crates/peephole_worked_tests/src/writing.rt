@@ -32,7 +32,7 @@ pub fn term_at(
         assert_writable(rt, &term);
         return Ok(term);
     }
-    assert!(rt; graph.map().contains_key(&point));
+    assert!(rt; graph.map().get(point).is_some());
     graph.get_expr(alloc, point)
 }
 

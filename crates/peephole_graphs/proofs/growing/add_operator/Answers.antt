@@ -39,5 +39,6 @@ returns-clause-added c = record {
       (lacks c.args.shape.operands c.args.growing.now) c.measure-subtree.result
       (grind (arith, common_steps)) (grind (arith, common_steps)) c.measure-subtree.ensures (grind (arith, common_steps));
   stack = grind (arith, common_steps);
-  named = λ k. grind (arith, common_steps);
+  first = grind (arith, common_steps);
+  named = grind (arith, common_steps);
 }
