@@ -24,25 +24,25 @@ use Rattle.peephole_graphs.specs.Shape.{judge_callee, judge_call, judge_row, jud
 use Rattle.peephole_graphs.specs.Color.{color_after}
 use Rattle.peephole_graphs.specs.Graph.{undef, GraphEntry}
 use Rattle.peephole_graphs.specs.GraphOf.{IsSmall, FirstFault, IsRefused, IsLarge}
-use Rattle.peephole_graphs.proofs.Stands.{standing, lacking}
+use Rattle.peephole_graphs.proofs.graph.BlockGraph.{result_count, missing_count}
 use Rattle.peephole_graphs.specs.Step.{down, grown, Growth}
 use Rattle.peephole_graphs.specs.Entries.{EntryView, entry_view, shape_of_judged, shape_of, graph_entry, graph_entries}
 use Rattle.peephole_graphs.specs.Measures.{sizes_kept, size_kept, Measured}
 use Rattle.peephole_graphs.specs.Growing.{undef_entry, lacks, taken_of, own_index, IsConsistent, Added}
 use Rattle.peephole_graphs.proofs.OwnEntriesLemmas.{slice_get_push}
-use Rattle.peephole_graphs.proofs.Represents.{IsOwnOrUndef}
+use Rattle.peephole_graphs.proofs.graph.Representation.{IsOwnOrUndef}
 use Rattle.peephole_lang.specs.Lang.{place_of, ids_of}
 use Rattle.peephole_lang.specs.Node.{is_count, takes, takes_children}
-use Rattle.peephole_graphs.proofs.StackGraph.{graph, is_graph, IsGraph, behind}
-use Rattle.peephole_graphs.proofs.Standing.{own, facts, stack_standing, own_replicate}
+use Rattle.peephole_graphs.proofs.graph.StackGraph.{graph, is_graph, IsGraph, behind}
+use Rattle.peephole_graphs.proofs.graph.BlockGraphLemmas.{own, facts, stack_height, own_replicate}
 use Rattle.peephole_graphs.specs.declared.growing.Growing.{Growing}
 use Rattle.peephole_graphs.specs.declared.dfg.StackEntry.{StackEntry}
 use Rattle.mutate_base.specs.declared.error.Error.{Error}
 use Rattle.mutate_base.specs.declared.error.Error.TheVariants.{Memory, TooLarge}
 use Rattle.peephole_graphs.proofs.GrowingLemmas.{grown_is, stack_below}
 use Rattle.peephole_graphs.proofs.DfgLemmas.{nodes_length, later_entries, measured_more, stack_room, kept_count}
-use Rattle.peephole_graphs.proofs.LayoutForest.{wholes-forest}
-use Rattle.peephole_graphs.proofs.Totals.{map_replicate, stack_total, size_of_entry}
+use Rattle.peephole_graphs.proofs.graph.NodeCount.{wholes-forest}
+use Rattle.peephole_graphs.proofs.graph.Totals.{map_replicate, stack_total, size_of_entry}
 use Rattle.peephole_graphs.specs.Source.{Source, shapes_in}
 
 fits_same : (s t : Shape) → Fits s ≡ Fits t → s ≡ t
@@ -188,13 +188,13 @@ module _ (source : Source) (g : Growing) (h : Kept source g) where
   }
 
   -- the index of the next operator's entry
-  place_is : (s : Shape) → own_index s.operands g ≡ length (shapes_in source) + lacking (s ∷ shapes_in source)
+  place_is : (s : Shape) → own_index s.operands g ≡ length (shapes_in source) + missing_count (s ∷ shapes_in source)
   place_is s =
       let block = shapes_in source in
-      let count : length g.entries.items ≡ length block + lacking block = sym (nodes_length source.info source.first g.entries.items) ∙
+      let count : length g.entries.items ≡ length block + missing_count block = sym (nodes_length source.info source.first g.entries.items) ∙
       (ap (λ (x : Growth). length x.nodes) h.state ∙ (facts source.preserving block).count) in
-      let stack_is : length g.stack.items ≡ standing block = sym (length-reverse g.stack.items) ∙ stack_standing block (state_of source g) kept_graph in
-      let lacks_is : lacks s.operands g ≡ s.operands - standing block = ap (λ x. s.operands - x) stack_is in
+      let stack_is : length g.stack.items ≡ result_count block = sym (length-reverse g.stack.items) ∙ stack_height block (state_of source g) kept_graph in
+      let lacks_is : lacks s.operands g ≡ s.operands - result_count block = ap (λ x. s.operands - x) stack_is in
       omega arith
 
 -- ---- an operator more

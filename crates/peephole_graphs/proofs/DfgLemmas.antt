@@ -11,7 +11,7 @@ use Rattle.std.proofs.lemmas.List.{length-append, length-map, length-reverse, ma
 use Rattle.std.proofs.lemmas.List.{length-take, take_more, take-map, get_or-map}
 use Rattle.peephole_graphs.specs.Shape.{Shape}
 use Rattle.peephole_graphs.specs.Graph.{undef, item}
-use Rattle.peephole_graphs.proofs.Stands.{entry_at}
+use Rattle.peephole_graphs.proofs.graph.BlockGraph.{entry_at}
 use Rattle.peephole_graphs.specs.Step.{Growth, grown}
 use Rattle.peephole_graphs.specs.Downwards.{Kin, HasOneColor, downwards, kin_at}
 use Rattle.std.proofs.Math.ListN as list
@@ -22,10 +22,10 @@ use Rattle.peephole_graphs.specs.Growing.{missing_subtree}
 use Rattle.peephole_graphs.specs.declared.subtree.Subtree.{Subtree}
 use Rattle.peephole_lang.specs.Node.{children_of}
 use Rattle.mutate_base.specs.Module.{Module}
-use Rattle.peephole_graphs.proofs.StackGraph.{IsGraph}
+use Rattle.peephole_graphs.proofs.graph.StackGraph.{IsGraph}
 use Rattle.peephole_graphs.proofs.Lists.{sum_by-reverse}
-use Rattle.peephole_graphs.proofs.Sizes.{sizes_length, flags_length, size_at, flag_at, alike_reverse}
-use Rattle.peephole_graphs.proofs.Totals.{map_replicate, kin_of, kins, sizes_grown, flags_grown, size_of_entry}
+use Rattle.peephole_graphs.proofs.graph.Sizes.{sizes_length, flags_length, size_at, flag_at, alike_reverse}
+use Rattle.peephole_graphs.proofs.graph.Totals.{map_replicate, kin_of, kins, sizes_grown, flags_grown, size_of_entry}
 use Rattle.peephole_graphs.specs.declared.dfg.StackEntry.{StackEntry}
 use Rattle.peephole_graphs.proofs.GrowingLemmas.{take_reverse, drop_reverse, reverse_push, reverse_replicate}
 

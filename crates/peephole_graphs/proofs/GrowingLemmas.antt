@@ -14,7 +14,7 @@ use Rattle.peephole_graphs.specs.Graph.{undef}
 use Rattle.peephole_graphs.specs.Step.{mark, down, grown, Growth}
 use Rattle.peephole_graphs.specs.Growing.{set_each}
 use Rattle.peephole_graphs.proofs.Lists.{all_reverse, has_reverse}
-use Rattle.peephole_graphs.proofs.StackGraph.{IsGraph, length-mark, taken_below}
+use Rattle.peephole_graphs.proofs.graph.StackGraph.{IsGraph, length-mark, taken_below}
 use Rattle.peephole_graphs.specs.Graph as graph
 
 pub reverse_push : {A : Type 0} (xs : List A) (x : A) → reverse (xs ++ x ∷ []) ≡ x ∷ reverse xs

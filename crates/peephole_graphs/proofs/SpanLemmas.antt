@@ -22,9 +22,9 @@ use Rattle.peephole_graphs.specs.Entries.{kin, kins_of, children_at}
 use Rattle.peephole_graphs.specs.Layout.{node_count_of, node_count, root_indexes, layout_from, layouts_from, entry_nodes, IsWhole}
 use Rattle.peephole_graphs.specs.Span.{lie_behind, IsSpan, HoldsItsChildren, node_from}
 use Rattle.peephole_graphs.proofs.DfgLemmas.{map_reverse, size_read}
-use Rattle.peephole_graphs.proofs.LayoutWalk as walk
+use Rattle.peephole_graphs.proofs.terms.LayoutWalk as walk
 use Rattle.peephole_graphs.proofs.LayoutLemmas.{some_nodes}
-use Rattle.peephole_graphs.proofs.LayoutTrees.{node_of_entry, map_turned, entries_below}
+use Rattle.peephole_graphs.proofs.graph.LayoutTrees.{node_of_entry, map_turned, entries_below}
 
 -- ---- a tree has as many nodes as there are entries downwards
 

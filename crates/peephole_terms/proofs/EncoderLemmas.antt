@@ -19,9 +19,9 @@ use Rattle.peephole_graphs.specs.GraphOf.{IsGraphOf}
 use Rattle.peephole_graphs.specs.Layout.{entry_nodes}
 use Rattle.peephole_graphs.specs.Order.{AreInOrder}
 use Rattle.peephole_graphs.specs.Source.{Source}
-use Rattle.peephole_graphs.proofs.GraphLemmas.{children_below, roots_root, roots_child}
-use Rattle.peephole_graphs.proofs.LayoutTrees.{entries_below}
-use Rattle.peephole_graphs.proofs.OrderLemmas.{in_order}
+use Rattle.peephole_graphs.proofs.graph.GraphLemmas.{children_below, roots_root, roots_child}
+use Rattle.peephole_graphs.proofs.graph.LayoutTrees.{entries_below}
+use Rattle.peephole_graphs.proofs.graph.OrderLemmas.{in_order}
 use Rattle.peephole_terms.specs.declared.encoder.request.ResourceRequest.{ResourceRequest}
 use Rattle.peephole_terms.specs.EncoderSteps.{operator_of_entry, root_term, root_terms, root_steps, IsWalkable, IsInRange, Step, Writing, writing_of}
 use Rattle.peephole_terms.specs.EncoderSteps.{steps_of, steps, take_steps, then_steps, IsRefusal, Does}

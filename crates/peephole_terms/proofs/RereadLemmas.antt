@@ -25,10 +25,10 @@ use Rattle.peephole_terms.specs.Written.{Site, site_at, without_offsets, block_o
 use Rattle.peephole_terms.specs.ReadAgain.{IsReread}
 use Rattle.peephole_terms.proofs.RootTerms.{All-reverse, All-front, All-back}
 use Rattle.peephole_graphs.proofs.BuilderLemmas.{block_length, operator_fits}
-use Rattle.peephole_graphs.proofs.ForestLemmas.{forest_is}
-use Rattle.peephole_graphs.proofs.Rereading.{same_trees}
-use Rattle.peephole_graphs.proofs.Order.{written_in_order, shapes-renumber}
-use Rattle.peephole_graphs.proofs.OrderLemmas.{count_all}
+use Rattle.peephole_graphs.proofs.forest.ForestLemmas.{forest_is}
+use Rattle.peephole_graphs.proofs.forest.SameTrees.{same_trees}
+use Rattle.peephole_graphs.proofs.forest.TreeOrder.{written_in_order, shapes-renumber}
+use Rattle.peephole_graphs.proofs.graph.OrderLemmas.{count_all}
 use Rattle.peephole_terms.proofs.SpellingLemmas.{CodesSpell, Spelling, named_placed, length-with_offsets, spelling_of, coded}
 use Rattle.peephole_terms.proofs.ReadAgainLemmas.{alone_are, count_is, with_code, spelled_with, written_is, again_of, spells_again, block_before_last, spelled_in}
 

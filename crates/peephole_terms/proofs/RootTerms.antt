@@ -26,9 +26,9 @@ use Rattle.peephole_graphs.specs.Layout.{entry_nodes}
 use Rattle.peephole_graphs.specs.Source.{Source, shapes_in}
 use Rattle.peephole_graphs.specs.Tree as tree
 use Rattle.peephole_graphs.specs.Tree.{Tree, Trees, entry, node, no_trees, join, instructions_of, instructions}
-use Rattle.peephole_graphs.proofs.EntryTreeLemmas.{own_tree, entry_operand}
-use Rattle.peephole_graphs.proofs.ForestLemmas.{rev, forest_is, Falling, Falling-stacked}
-use Rattle.peephole_graphs.proofs.Stacked.{stacked}
+use Rattle.peephole_graphs.proofs.graph.EntryTreeLemmas.{own_tree, entry_operand}
+use Rattle.peephole_graphs.proofs.forest.ForestLemmas.{rev, forest_is, Falling, Falling-tree_stack}
+use Rattle.peephole_graphs.proofs.forest.TreeStack.{tree_stack}
 use Rattle.peephole_terms.specs.EncoderSteps.{operator_of_entry, root_term, root_terms}
 use Rattle.peephole_terms.specs.Expansion.{then_code, joined_code, expansion_of, expansion, requests_of, requests, draws_of, draws}
 use Rattle.peephole_terms.specs.NodeKind.{NumberType}
@@ -70,7 +70,7 @@ rising_rev (tree.◌▸◌ (entry m) ts) n f = absurd f
 rising_rev (tree.◌▸◌ (node i s kids) ts) n f = rising_joined (rev ts) 0 i n s kids (rising_rev ts i f.1) f.0
 
 rising_forest : (block : List Shape) → AreRising 0 (length block) (forest block)
-rising_forest block = rw (forest_is block) (rising_rev (stacked block) (length block) (Falling-stacked block))
+rising_forest block = rw (forest_is block) (rising_rev (tree_stack block) (length block) (Falling-tree_stack block))
 
 -- no root has a smaller number
 no_root : (first at : ℕ) (ts : Trees) (low high : ℕ) → AreRising low high ts → at < first + low → has_root first at ts ≡ false

@@ -22,7 +22,7 @@ use Rattle.peephole_graphs.specs.GraphOf.{IsGraphOf}
 use Rattle.peephole_graphs.specs.Source.{Source}
 use Rattle.peephole_graphs.specs.Layout.{entry_nodes}
 use Rattle.peephole_graphs.proofs.BuilderLemmas.{operator_fits}
-use Rattle.peephole_graphs.proofs.Order.{in_order_code}
+use Rattle.peephole_graphs.proofs.forest.TreeOrder.{in_order_code}
 use Rattle.peephole_machine.specs.Values.{Value, IsValue, types, Context, context_in, State, HasTypes, Outcome, Ends, Traps, Stuck, then_run, above}
 use Rattle.peephole_machine.specs.Machine.{run}
 use Rattle.peephole_machine.specs.Agreement.{with_globals, SameOutcome}

@@ -4,7 +4,7 @@ use Rattle.wasm_code.specs.declared.operator.Operator.{Operator}
 use Rattle.mutate_base.specs.Module.{Module}
 use Rattle.peephole_graphs.specs.Shape.{Judged, Unfit, Unknown, judge}
 use Rattle.peephole_graphs.proofs.BuilderLemmas.{shape_makes, kept_consistent, kept_next, refused, fault}
-use Rattle.peephole_graphs.proofs.GrownLemmas.{kept_all}
+use Rattle.peephole_graphs.proofs.graph.BuilderGraph.{kept_all}
 use Rattle.peephole_graphs.proofs.builder.build.Goals as goal
 use Rattle.peephole_graphs.specs.Source.{Source}
 

@@ -1,6 +1,6 @@
 use Rattle.std.proofs.Common.{sym, ap}
 use Rattle.peephole_graphs.specs.ForestText.{branch}
-use Rattle.peephole_graphs.proofs.ForestWalk.{none_later, some_later}
+use Rattle.peephole_graphs.proofs.text.ForestWalk.{none_later, some_later}
 use Rattle.peephole_graphs.proofs.forest_text.branch.Goals as goal
 
 pub returns-then-is_empty : goal.returns-then-is_empty

@@ -1,5 +1,5 @@
 use Rattle.std.proofs.Common.{◌++◌, ap, ◌∙◌, string_bytes}
-use Rattle.peephole_graphs.proofs.ForestWalk.{edge_added}
+use Rattle.peephole_graphs.proofs.text.ForestWalk.{edge_added}
 use Rattle.peephole_graphs.proofs.forest_text.write_edges.Goals as goal
 
 pub loop-ids-preserved : goal.loop-ids-preserved

@@ -1,6 +1,6 @@
 use Rattle.std.proofs.Common.{inl, string_bytes}
 use Rattle.std.proofs.lemmas.Result.{err_from_is_err_and}
-use Rattle.peephole_graphs.proofs.ForestWalk.{refused, answered}
+use Rattle.peephole_graphs.proofs.text.ForestWalk.{refused, answered}
 use Rattle.peephole_graphs.proofs.forest_text.write_entry.Goals as goal
 
 pub returns-in_err-own : goal.returns-in_err-own

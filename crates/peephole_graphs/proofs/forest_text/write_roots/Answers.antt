@@ -1,8 +1,8 @@
 use Rattle.std.proofs.Common.{None, get_or, string_bytes}
 use Rattle.std.proofs.lemmas.Result.{err_from_is_err_and}
 use Rattle.peephole_graphs.specs.ForestText.{AnswersAmong}
-use Rattle.peephole_graphs.proofs.Parents.{no_parent, some_parent}
-use Rattle.peephole_graphs.proofs.ForestWalk.{root_failed, root_written, child_passed}
+use Rattle.peephole_graphs.proofs.graph.Parents.{no_parent, some_parent}
+use Rattle.peephole_graphs.proofs.text.ForestWalk.{root_failed, root_written, child_passed}
 use Rattle.peephole_graphs.proofs.forest_text.write_roots.Goals.{then-is_none+in_ok-write_tree, else-is_none}
 use Rattle.peephole_graphs.proofs.forest_text.write_roots.Goals as goal
 

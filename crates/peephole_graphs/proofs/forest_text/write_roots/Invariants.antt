@@ -1,6 +1,6 @@
 use Rattle.std.proofs.Common.{Ok, string_bytes}
 use Rattle.peephole_graphs.specs.ForestText.{AnswersAmong, HasLines}
-use Rattle.peephole_graphs.proofs.ForestWalk.{first_lines}
+use Rattle.peephole_graphs.proofs.text.ForestWalk.{first_lines}
 use Rattle.peephole_graphs.proofs.forest_text.write_roots.Given as goal
 
 abbrev pub invariant-loop-index : goal.invariant-loop-index

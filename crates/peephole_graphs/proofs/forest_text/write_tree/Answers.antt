@@ -3,9 +3,9 @@ use Rattle.peephole_graphs.specs.ForestSteps.{edges, has_some}
 use Rattle.std.proofs.lemmas.List.{nil_from_length}
 use Rattle.std.proofs.lemmas.Result.{err_from_is_err_and}
 use Rattle.peephole_graphs.specs.ForestText.{CanTell, AnswersAmong, branch, tree_lines, entry_term}
-use Rattle.peephole_graphs.proofs.ForestWalk.{shown, among, among_fails, entry_there, child_there, at_child_of}
-use Rattle.peephole_graphs.proofs.ForestWalk.{start_failed, start_inside, walk_start, child_inside, child_failed, child_written}
-use Rattle.peephole_graphs.proofs.ForestWalk.{down_inside, down_smaller, IsTaken, taken, walk_up, up_inside, up_smaller}
+use Rattle.peephole_graphs.proofs.text.ForestWalk.{shown, among, among_fails, entry_there, child_there, at_child_of}
+use Rattle.peephole_graphs.proofs.text.ForestWalk.{start_failed, start_inside, walk_start, child_inside, child_failed, child_written}
+use Rattle.peephole_graphs.proofs.text.ForestWalk.{down_inside, down_smaller, IsTaken, taken, walk_up, up_inside, up_smaller}
 use Rattle.peephole_graphs.proofs.forest_text.write_tree.Goals as goal
 
 pub returns-in_err-write_entry : goal.returns-in_err-write_entry

@@ -1,6 +1,6 @@
 use Rattle.std.proofs.Common.{[], string_bytes}
 use Rattle.peephole_graphs.specs.ForestText.{AnswersAmong, tree_lines, entry_term}
-use Rattle.peephole_graphs.proofs.ForestWalk.{IsInside, IsRest, measure}
+use Rattle.peephole_graphs.proofs.text.ForestWalk.{IsInside, IsRest, measure}
 use Rattle.peephole_graphs.proofs.forest_text.write_tree.Given as goal
 
 abbrev pub invariant-loop-ids : goal.invariant-loop-ids

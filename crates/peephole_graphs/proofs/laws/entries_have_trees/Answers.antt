@@ -1,4 +1,4 @@
-use Rattle.peephole_graphs.proofs.EntryTreeLemmas.{children_before, own_tree, entry_operand, last_tree}
+use Rattle.peephole_graphs.proofs.graph.EntryTreeLemmas.{children_before, own_tree, entry_operand, last_tree}
 use Rattle.peephole_graphs.proofs.laws.entries_have_trees.Goals as goal
 
 pub returns-clause-last : goal.returns-clause-last

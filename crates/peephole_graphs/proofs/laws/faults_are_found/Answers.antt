@@ -1,4 +1,4 @@
-use Rattle.peephole_graphs.proofs.FaultLemmas.{has_no_fault, finds_no_graph, finds_unknown, finds_too_large}
+use Rattle.peephole_graphs.proofs.graph.FaultLemmas.{has_no_fault, finds_no_graph, finds_unknown, finds_too_large}
 use Rattle.peephole_graphs.proofs.laws.faults_are_found.Goals as goal
 
 pub returns-clause-none : goal.returns-clause-none

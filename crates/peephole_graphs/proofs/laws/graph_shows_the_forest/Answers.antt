@@ -1,6 +1,6 @@
-use Rattle.peephole_graphs.proofs.OrderLemmas.{in_order}
-use Rattle.peephole_graphs.proofs.TreeTextLemmas.{shows_the_forest}
-use Rattle.peephole_graphs.proofs.TreeColorLemmas.{shows_the_color}
+use Rattle.peephole_graphs.proofs.graph.OrderLemmas.{in_order}
+use Rattle.peephole_graphs.proofs.text.TreeTextLemmas.{shows_the_forest}
+use Rattle.peephole_graphs.proofs.graph.TreeColorLemmas.{shows_the_color}
 use Rattle.peephole_graphs.proofs.laws.graph_shows_the_forest.Goals as goal
 
 pub returns-clause-text : goal.returns-clause-text

@@ -2,9 +2,9 @@
 use Rattle.std.proofs.Common.{◌∙◌, ap}
 use Rattle.std.specs.Prelude.{reverse}
 use Rattle.std.proofs.lemmas.List.{reverse-reverse}
-use Rattle.peephole_graphs.proofs.Rereading.{same_trees}
-use Rattle.peephole_graphs.proofs.Order.{written_in_order, written_again, in_order_code}
-use Rattle.peephole_graphs.proofs.Together.{together_from_order, order_from_together}
+use Rattle.peephole_graphs.proofs.forest.SameTrees.{same_trees}
+use Rattle.peephole_graphs.proofs.forest.TreeOrder.{written_in_order, written_again, in_order_code}
+use Rattle.peephole_graphs.proofs.forest.ConsecutiveOperators.{together_from_order, order_from_together}
 use Rattle.peephole_graphs.proofs.laws.laws_of_forests.Goals as goal
 
 pub returns-clause-same : goal.returns-clause-same

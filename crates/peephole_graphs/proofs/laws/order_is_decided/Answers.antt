@@ -1,4 +1,4 @@
-use Rattle.peephole_graphs.proofs.OrderTest.{decides_the_order}
+use Rattle.peephole_graphs.proofs.forest.OrderTest.{decides_the_order}
 use Rattle.peephole_graphs.proofs.laws.order_is_decided.Goals as goal
 
 pub returns : goal.returns

@@ -2,8 +2,8 @@ use Rattle.std.proofs.Common.{map}
 use Rattle.peephole_lang.specs.Node.{node_of}
 use Rattle.peephole_lang.specs.Term.{numbers_of}
 use Rattle.peephole_graphs.specs.Layout.{entry_nodes}
-use Rattle.peephole_graphs.proofs.LayoutTrees.{missing}
-use Rattle.peephole_graphs.proofs.LayoutWalk.{IsWalk, laying, measure}
+use Rattle.peephole_graphs.proofs.graph.LayoutTrees.{missing}
+use Rattle.peephole_graphs.proofs.terms.LayoutWalk.{IsWalk, laying, measure}
 use Rattle.peephole_graphs.proofs.layout.lay_out.Given as goal
 
 abbrev pub invariant-loop-turn : goal.invariant-loop-turn

@@ -1,6 +1,6 @@
 use Rattle.std.proofs.Common.{◌∷◌, [], ◌++◌, ◌∙◌, List, ap, inr, refl, length, arith, length-append}
 use Rattle.peephole_nodes.specs.declared.id.Id.{Id}
-use Rattle.peephole_graphs.proofs.Answering.{answering_starts, answering_goes_on, answering_ends, answering_too_long}
+use Rattle.peephole_graphs.proofs.terms.NodeRequests.{answering_starts, answering_goes_on, answering_ends, answering_too_long}
 use Rattle.peephole_graphs.proofs.rebuild.ask_tree.Goals as goal
 
 pub loop-id-init : goal.loop-id-init

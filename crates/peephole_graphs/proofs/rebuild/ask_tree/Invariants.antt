@@ -2,7 +2,7 @@ use Rattle.std.proofs.Common.{◌≤◌, ◌-◌, ◌^◌, map, length}
 use Rattle.std.specs.Prelude.{reverse}
 use Rattle.peephole_lang.specs.Term.{numbers_of}
 use Rattle.peephole_graphs.specs.Rebuild.{CanAnswer, piece_by}
-use Rattle.peephole_graphs.proofs.Answering.{IsAsking}
+use Rattle.peephole_graphs.proofs.terms.NodeRequests.{IsAsking}
 use Rattle.peephole_graphs.proofs.rebuild.ask_tree.Given as goal
 
 abbrev pub invariant-loop-id : goal.invariant-loop-id

@@ -1,8 +1,8 @@
 use Rattle.std.proofs.Common.{inl, inr, subst, arith}
 use Rattle.std.proofs.lemmas.Result.{err_from_is_err_and, IfOk-weaker, IfErr-weaker}
 use Rattle.peephole_graphs.specs.Rebuild.{IsLaidOut}
-use Rattle.peephole_graphs.proofs.ReachedOnce.{not_too_long}
-use Rattle.peephole_graphs.proofs.ToldTree.{told_whole, told_too_long}
+use Rattle.peephole_graphs.proofs.terms.ReachBound.{not_too_long}
+use Rattle.peephole_graphs.proofs.terms.NodeTrees.{told_whole, told_too_long}
 use Rattle.peephole_graphs.proofs.rebuild.build_expr.Goals as goal
 
 pub returns-clause-laid : goal.returns-clause-laid

@@ -1,7 +1,7 @@
 use Rattle.std.proofs.Common.{◌∷◌, [], ap, length, length-append, arith}
 use Rattle.std.proofs.lemmas.List.{length-map}
 use Rattle.peephole_graphs.specs.Layout.{node_by}
-use Rattle.peephole_graphs.proofs.RebuildLayout.{asked_begins, asked_enough, asked_goes_on, asked_laid, one_longer}
+use Rattle.peephole_graphs.proofs.terms.RebuildLayout.{asked_begins, asked_enough, asked_goes_on, asked_laid, one_longer}
 use Rattle.peephole_graphs.proofs.rebuild.lay_asked.Goals as goal
 
 pub loop-node-init : goal.loop-node-init

@@ -1,9 +1,9 @@
 use Rattle.std.proofs.Common.{◌≡◌, ◌+◌, length}
 use Rattle.peephole_graphs.specs.Layout.{IsWhole}
 use Rattle.peephole_graphs.specs.Rebuild.{AreAsked}
-use Rattle.peephole_graphs.proofs.Answering.{pieces_of}
-use Rattle.peephole_graphs.proofs.LayoutWalk.{IsLaying}
-use Rattle.peephole_graphs.proofs.RebuildLayout.{now_laid}
+use Rattle.peephole_graphs.proofs.terms.NodeRequests.{pieces_of}
+use Rattle.peephole_graphs.proofs.terms.LayoutWalk.{IsLaying}
+use Rattle.peephole_graphs.proofs.terms.RebuildLayout.{now_laid}
 use Rattle.peephole_graphs.proofs.rebuild.lay_asked.Given as goal
 
 abbrev pub invariant-loop-node : goal.invariant-loop-node

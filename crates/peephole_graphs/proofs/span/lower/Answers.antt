@@ -1,4 +1,4 @@
-use Rattle.peephole_graphs.proofs.Lowering.{next_large, lowered_more, lowered_all}
+use Rattle.peephole_graphs.proofs.terms.LowerIds.{next_large, lowered_more, lowered_all}
 use Rattle.peephole_graphs.proofs.span.lower.Goals as goal
 
 pub overflow_sub-id : goal.overflow_sub-id

@@ -1,5 +1,5 @@
 use Rattle.std.proofs.Common.{◌≡◌, ◌++◌, map, take, drop}
-use Rattle.peephole_graphs.proofs.Lowering.{lower_id}
+use Rattle.peephole_graphs.proofs.terms.LowerIds.{lower_id}
 use Rattle.peephole_graphs.proofs.span.lower.Given as goal
 
 abbrev pub invariant-loop-id : goal.invariant-loop-id

@@ -2,7 +2,7 @@ use Rattle.std.proofs.Common.{ap, sym, get_or, refl, None, Vec, Global, arith}
 use Rattle.std.proofs.lemmas.Grind.{common_steps}
 use Rattle.std.proofs.lemmas.List.{take_all}
 use Rattle.std.proofs.lemmas.List.Elements.{All-nil}
-use Rattle.peephole_graphs.proofs.Parents.{no_parent, some_parent}
+use Rattle.peephole_graphs.proofs.graph.Parents.{no_parent, some_parent}
 use Rattle.peephole_terms.specs.declared.encoder.request.ResourceRequest.{ResourceRequest}
 use Rattle.peephole_terms.specs.EncoderSteps.{IsInRange}
 use Rattle.peephole_terms.specs.Expansion.{term_in}

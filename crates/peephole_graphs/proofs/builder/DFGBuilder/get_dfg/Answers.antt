@@ -11,7 +11,7 @@ use Rattle.peephole_graphs.specs.Source.{Source}
 use Rattle.peephole_graphs.specs.Dfg.{Graph, graph_of}
 use Rattle.peephole_graphs.specs.GraphOf.{IsGraphOf, HasNoGraph}
 use Rattle.peephole_graphs.specs.Building.{HasGrown, graph_in}
-use Rattle.peephole_graphs.proofs.LayoutTrees.{has_trees}
+use Rattle.peephole_graphs.proofs.graph.LayoutTrees.{has_trees}
 use Rattle.peephole_graphs.proofs.builder.DFGBuilder.get_dfg.Goals.{in-None, in-Some}
 use Rattle.peephole_graphs.proofs.builder.DFGBuilder.get_dfg.Goals as goal
 

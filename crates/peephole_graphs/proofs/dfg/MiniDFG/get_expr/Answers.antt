@@ -5,7 +5,7 @@ use Rattle.peephole_lang.specs.Term.{tree_at}
 use Rattle.peephole_graphs.specs.Layout.{entry_nodes}
 use Rattle.peephole_graphs.proofs.LayoutLemmas.{term_is, some_expr}
 use Rattle.peephole_graphs.proofs.SpanLemmas.{entry_whole}
-use Rattle.peephole_graphs.proofs.WritableLemmas.{laid_out_writable}
+use Rattle.peephole_graphs.proofs.graph.WritableLemmas.{laid_out_writable}
 use Rattle.peephole_graphs.proofs.dfg.MiniDFG.get_expr.Goals as goal
 
 pub lay_out_at-requires : goal.lay_out_at-requires

@@ -8,7 +8,7 @@ use Rattle.peephole_graphs.specs.declared.subtree.Subtree.{Subtree}
 use Rattle.peephole_graphs.specs.Measures.{sizes_kept, Measured}
 use Rattle.peephole_graphs.specs.Span.{IsSpan}
 use Rattle.peephole_graphs.proofs.DfgLemmas.{sizes_count, kept_count, kept_size}
-use Rattle.peephole_graphs.proofs.LayoutTrees.{entries_below}
+use Rattle.peephole_graphs.proofs.graph.LayoutTrees.{entries_below}
 use Rattle.peephole_graphs.proofs.SpanLemmas.{Below, IsCopying, span_laid, span_holds, span_small}
 use Rattle.peephole_graphs.proofs.dfg.MiniDFG.lay_out_at.Goals as goal
 

@@ -1,4 +1,4 @@
-use Rattle.peephole_graphs.proofs.ForestWalk.{as_nodes_below, said_text}
+use Rattle.peephole_graphs.proofs.text.ForestWalk.{as_nodes_below, said_text}
 use Rattle.peephole_graphs.proofs.dfg.MiniDFG.pretty_print.Goals as goal
 
 pub print_forest-requires-clause-below : goal.print_forest-requires-clause-below

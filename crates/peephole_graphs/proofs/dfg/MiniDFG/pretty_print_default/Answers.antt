@@ -1,6 +1,6 @@
 use Rattle.std.proofs.Common.{get_or, rules}
 use Rattle.peephole_graphs.specs.Dfg.{graph_of}
-use Rattle.peephole_graphs.proofs.ForestWalk.{by_operator, default_told, told}
+use Rattle.peephole_graphs.proofs.text.ForestWalk.{by_operator, default_told, told}
 use Rattle.peephole_graphs.proofs.dfg.MiniDFG.pretty_print_default.Goals as goal
 
 pub returns : goal.returns

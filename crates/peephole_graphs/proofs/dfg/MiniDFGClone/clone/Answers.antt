@@ -1,5 +1,5 @@
 use Rattle.std.proofs.Common.{◌∙◌}
-use Rattle.peephole_graphs.proofs.Copies.{copied_measured, copied_trees, copied_forest, copied_order}
+use Rattle.peephole_graphs.proofs.graph.EntryCopies.{copied_measured, copied_trees, copied_forest, copied_order}
 use Rattle.peephole_graphs.specs.OwnEntries.{own_entry_in}
 use Rattle.peephole_graphs.proofs.OwnEntriesLemmas.{copied_entries}
 use Rattle.peephole_graphs.proofs.dfg.MiniDFGClone.clone.Goals as goal

@@ -1,0 +1,25 @@
+-- The graph that is built of a block, and what a reader of it sees.
+pub mod BlockGraph
+pub mod StackGraph
+pub mod DistinctChildren
+pub mod BlockGraphLemmas
+pub mod Sizes
+pub mod Totals
+pub mod OrderBySizes
+pub mod ForwardOrder
+pub mod ContiguousLemmas
+pub mod OrderLemmas
+pub mod Representation
+pub mod GraphOfLemmas
+pub mod BuilderGraph
+pub mod GraphLemmas
+pub mod NodeCount
+pub mod WritableLemmas
+pub mod LayoutTrees
+pub mod TermOfLemmas
+pub mod EntryCopies
+pub mod GraphCopies
+pub mod EntryTreeLemmas
+pub mod TreeColorLemmas
+pub mod Parents
+pub mod FaultLemmas

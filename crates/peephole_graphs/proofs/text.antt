@@ -1,0 +1,3 @@
+-- Texts of forests.
+pub mod ForestWalk
+pub mod TreeTextLemmas
