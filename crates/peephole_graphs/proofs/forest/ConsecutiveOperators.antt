@@ -147,7 +147,8 @@ rev_join no_trees us = sym (join_nil (rev us))
 rev_join (t ▸ ts) us = ap (λ x. join x (t ▸ no_trees)) (rev_join ts us) ∙ join_assoc (rev us) (rev ts) (t ▸ no_trees)
 
 on_top-numbers : (ts : Trees) (k : ℕ) → AreOnTop ts k → numbers (without_open ts k) ++ numbers (last_open ts k) ≡ numbers ts
-on_top-numbers ts k e = sym (numbers-join (rev (without_open ts k)) (rev (last_open ts k))) ∙ ap postfix (sym (rev_join (last_open ts k) (without_open ts k)) ∙ ap rev e)
+on_top-numbers ts k e = sym (numbers-join (rev (without_open ts k)) (rev (last_open ts k))) ∙
+    ap postfix (sym (rev_join (last_open ts k) (without_open ts k)) ∙ ap rev e)
 
 open_on_top : (t : Tree) (ts : Trees) (k : ℕ) → is_open t ≡ true → AreOnTop ts k → AreOnTop (t ▸ ts) (suc k)
 open_on_top t ts k w e = rw w (ap (λ x. t ▸ x) e)
@@ -155,7 +156,8 @@ open_on_top t ts k w e = rw w (ap (λ x. t ▸ x) e)
 done_on_top : (t : Tree) (ts : Trees) (k : ℕ) → is_open t ≡ false → last_open ts (suc k) ≡ no_trees → AreOnTop (t ▸ ts) (suc k)
 done_on_top t ts k w x = rw (w, x) (ap (λ y. t ▸ y) (without_open_if_none ts k x))
 
-last_open_on_top : (t : Tree) (ts : Trees) (k : ℕ) → is_open t ≡ true → numbers (last_open (t ▸ ts) (suc k)) ≡ numbers (last_open ts k) ++ postfix_of t
+last_open_on_top : (t : Tree) (ts : Trees) (k : ℕ) → is_open t ≡ true →
+    numbers (last_open (t ▸ ts) (suc k)) ≡ numbers (last_open ts k) ++ postfix_of t
 last_open_on_top t ts k w = rw w (numbers_rev t (last_open ts k))
 
 gather_open : (t : Tree) (ts : Trees) (a z k : ℕ) → is_open t ≡ true → numbers (t ▸ ts) ≡ range_from a z →
@@ -231,7 +233,8 @@ on_top (node i s kids ▸ ts) a z n (suc k) f e =
       ]
     ]
 
-pub spread : (ts : Trees) (a z n k : ℕ) → Falling ts n → numbers (without_open ts k) ++ numbers (last_open ts k) ≡ range_from a z → numbers ts ≡ range_from a z
+pub spread : (ts : Trees) (a z n k : ℕ) → Falling ts n → numbers (without_open ts k) ++ numbers (last_open ts k) ≡ range_from a z →
+    numbers ts ≡ range_from a z
 spread ts a z n k f e = sym (on_top-numbers ts k (on_top ts a z n k f e)) ∙ e
 
 pub order_tree_stack : (block : List Shape) → IsInOrder block → numbers (tree_stack block) ≡ range_from 0 (length block)

@@ -41,7 +41,10 @@ pub data Reads : ℕ → ℕ → Trees → ℕ → Type 0 where
 pub all_last_open : (forest : Trees) (k : ℕ) → AllOpen (last_open forest k)
 all_last_open no_trees k = tt
 all_last_open (t ▸ forest) zero = tt
-all_last_open (t ▸ forest) (suc k) = elim (cases_Bool (is_open t)) [ inl e ↦ rw e (e, all_last_open forest k) | inr e ↦ rw e (all_last_open forest (suc k)) ]
+all_last_open (t ▸ forest) (suc k) = elim (cases_Bool (is_open t)) [
+  | inl e ↦ rw e (e, all_last_open forest k)
+  | inr e ↦ rw e (all_last_open forest (suc k))
+]
 
 pub count_last_open : (forest : Trees) (k : ℕ) → (k - opens forest) + count (last_open forest k) ≡ k
 count_last_open no_trees k = omega arith
@@ -73,7 +76,8 @@ top_last_open (t ▸ forest) m (suc k) =
       | inl e ↦
           let n : suc k - suc (opens forest) ≡ k - opens forest = omega arith in
           rw (e, n) (top_first f k ∙ (ap₂ (λ x y. join x (y ▸ no_trees)) (top_same (λ d. f (suc d)) g (λ d. forest_value_under t forest m d e) k
-          ∙ top_last_open forest m k) (forest_value_top t forest m e) ∙ join_assoc (entries m (k - opens forest)) (rev (last_open forest k)) (t ▸ no_trees)))
+          ∙ top_last_open forest m k) (forest_value_top t forest m e) ∙ join_assoc (entries m (k - opens forest))
+          (rev (last_open forest k)) (t ▸ no_trees)))
       | inr e ↦ rw e (top_same f g (λ d. forest_value_done t forest m d e) (suc k) ∙ top_last_open forest m (suc k))
     ]
 
@@ -147,7 +151,8 @@ split {stand} {m} {m'} (suc k) (one_more {m0 = m0} {m1 = m1} {ts = ts} i s kids 
   | inr h ↦
       let (b, C, D) = split_done stand m m0 k i ts o q (split (suc k) r) in
       let later = subst (λ x. Reads (stand + x) b (last_open ts (suc k)) m') (sym (opens_done (node i s kids) (without_open ts (suc k)) h)) D in
-      subst₂ (λ x y. AreRead stand m x y m') (sym (without_open_behind (node i s kids) ts (suc k) h)) (sym (last_open_behind (node i s kids) ts (suc k) h)) (b, C, later)
+      subst₂ (λ x y. AreRead stand m x y m') (sym (without_open_behind (node i s kids) ts (suc k) h))
+      (sym (last_open_behind (node i s kids) ts (suc k) h)) (b, C, later)
 ]
 
 pub reads_tree_stack : (block : List Shape) → Reads 0 0 (tree_stack block) (missing block)

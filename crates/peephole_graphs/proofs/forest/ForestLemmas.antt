@@ -120,7 +120,8 @@ is_root_entries : (j m k : ℕ) → is_root j (top (forest_value no_trees m) k) 
 is_root_entries j m zero = refl
 is_root_entries j m (suc k) = is_root_entries j m k
 
-is_root_under : (j : ℕ) (t : Tree) (ts : Trees) (m k : ℕ) → is_open t ≡ false → is_root j (top (forest_value ts m) k) ≡ is_root j (last_open ts k) →
+is_root_under : (j : ℕ) (t : Tree) (ts : Trees) (m k : ℕ) → is_open t ≡ false →
+    is_root j (top (forest_value ts m) k) ≡ is_root j (last_open ts k) →
     is_root j (top (forest_value (t ▸ ts) m) k) ≡ is_root j (last_open (t ▸ ts) k)
 is_root_under j t ts m k e h =
     ap (is_root j) (top_same (forest_value (t ▸ ts) m) (forest_value ts m) (λ d. forest_value_done t ts m d e) k) ∙
@@ -149,7 +150,8 @@ tree_in_stack s earlier =
     (top_same (value earlier) (forest_value (tree_stack earlier) (missing earlier)) (value_tree_stack earlier) s.operands)
 
 -- which operators an operator takes
-taken_by : (s : Shape) (earlier : List Shape) (j : ℕ) → is_operand j (operator_tree s earlier ▸ no_trees) ≡ is_root j (last_open (tree_stack earlier) s.operands)
+taken_by : (s : Shape) (earlier : List Shape) (j : ℕ) →
+    is_operand j (operator_tree s earlier ▸ no_trees) ≡ is_root j (last_open (tree_stack earlier) s.operands)
 taken_by s earlier j = ap (λ t. is_operand j (t ▸ no_trees)) (tree_in_stack s earlier) ∙
     (or_nil _ ∙ is_root_top j (tree_stack earlier) (missing earlier) s.operands)
 

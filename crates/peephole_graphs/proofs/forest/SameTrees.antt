@@ -116,7 +116,8 @@ forest_value_closed no_trees m d h = refl
 forest_value_closed (t ▸ forest) m zero h = let more = forest_value_closed forest m zero in grind arith
 forest_value_closed (t ▸ forest) m (suc d) h = let more = forest_value_closed forest m (suc d) in grind arith
 
-rest_same : (forest : Trees) (m more : ℕ) → (0 < more → opens forest ≡ 0) → (without_open forest more ≡ forest) × (top (forest_value forest m) more ≡ entries m more)
+rest_same : (forest : Trees) (m more : ℕ) → (0 < more → opens forest ≡ 0) →
+    (without_open forest more ≡ forest) × (top (forest_value forest m) more ≡ entries m more)
 rest_same forest m zero z = (without_open_zero forest, refl)
 rest_same forest m (suc more) z =
     let n = z (omega arith) in (

@@ -37,7 +37,8 @@ last_open (t ▸ forest) (suc count) = cond (is_open t) (t ▸ last_open forest 
 abbrev mutual
   pub tree_stack : List Shape → Trees
   tree_stack [] = no_trees
-  tree_stack (s ∷ earlier) = node (length earlier) s (top (forest_value (tree_stack earlier) (missing earlier)) s.operands) ▸ without_open (tree_stack earlier) s.operands
+  tree_stack (s ∷ earlier) = node (length earlier) s (top (forest_value (tree_stack earlier) (missing earlier)) s.operands)
+      ▸ without_open (tree_stack earlier) s.operands
 
   pub missing : List Shape → ℕ
   missing [] = 0
@@ -101,7 +102,8 @@ value_tree_stack (s ∷ earlier) zero =
     let below = forest_value_without_open (tree_stack earlier) (missing earlier) s.operands 0 in
     grind arith
 value_tree_stack (s ∷ earlier) (suc d) =
-    let under = λ (e : ℕ). value_tree_stack earlier (e + s.operands) ∙ sym (forest_value_without_open (tree_stack earlier) (missing earlier) s.operands e) in
+    let under = λ (e : ℕ). value_tree_stack earlier (e + s.operands) ∙
+    sym (forest_value_without_open (tree_stack earlier) (missing earlier) s.operands e) in
     let u = under d in
     let v = under (suc d) in
     grind arith

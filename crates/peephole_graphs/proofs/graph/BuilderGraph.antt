@@ -111,7 +111,8 @@ module _ (source : Source) (g : Growing) (h : Kept source g) where
   is_graph = is_graph_of source (graph_in g) (record {
     fit = h.fit;
     small = h.small;
-    block_graph = subst (λ (x : Growth). IsBlockGraph source.preserving (shapes_in source) x.nodes x.parents) state_is (block_graph source.preserving (shapes_in source));
+    block_graph = subst (λ (x : Growth). IsBlockGraph source.preserving (shapes_in source) x.nodes x.parents) state_is
+        (block_graph source.preserving (shapes_in source));
     finds = λ k i. (found_is_own k i, own_is_found k i);
     keys = λ m l. let b = block_length source.info source.operators h.fit in let w = facts_are.owns m (omega arith) in
         ap is_some (names (source.first + m) ∙ (named_key source.first m (nodes_in source g) ∙ w.2));

@@ -124,7 +124,10 @@ contig_without_open test size (i ∷ is) end n (suc k) c f h = elim (cases_Bool 
       let rest : chain size end (take (suc k) (filter test is)) ≡ true = grind arith in
       let none = chain_none size end i (take (suc k) (filter test is)) c.0 (taken_falling test is i (suc k) f.1) rest in
       let still : end ≡ end - 0 = omega arith in
-      rw (e, none) (subst (λ x. Contig size x (i ∷ without_open_ids test is (suc k))) still (c.0, subst (Contig size (end - size i)) (sym (without_open_none is k none)) c.1))
+      rw (e, none) (subst (λ x. Contig size x (i ∷ without_open_ids test is (suc k))) still (
+        c.0,
+        subst (Contig size (end - size i)) (sym (without_open_none is k none)) c.1,
+      ))
 ]
   where
     without_open_none : (is : List ℕ) (k : ℕ) → take (suc k) (filter test is) ≡ [] → without_open_ids test is (suc k) ≡ is
@@ -160,18 +163,19 @@ contig preserving (s ∷ earlier) h =
     let base = length g.nodes in
     let rs = roots g.parents in
     let test = open_at (tree_at_entry g.nodes) in
-    let without_open = without_open_ids test rs s.operands in
+    let others = without_open_ids test rs s.operands in
     let falling = roots_fall earlier g ig in
     let f = size_of_entry g in
     let f' = size_of_entry (grown g s n c) in
     let own = size_own s earlier g n c ig in
     let b = behind (undef n) (more_of s g) g.nodes in
-    let rest : Contig f (base - sum_by f (taken_of s g)) without_open = subst (λ x. Contig f (base - sum_by f (take s.operands x)) without_open) (sym ig.stack_is)
+    let rest : Contig f (base - sum_by f (taken_of s g)) others =
+    subst (λ x. Contig f (base - sum_by f (take s.operands x)) others) (sym ig.stack_is)
     (contig_without_open test f rs base base s.operands (contig preserving earlier h.0) falling (chained_roots s earlier g ig h.1)) in
-    let rest' = contig_same f f' without_open (base - sum_by f (taken_of s g)) base (FallingIds-without_open test rs base s.operands falling)
+    let rest' = contig_same f f' others (base - sum_by f (taken_of s g)) base (FallingIds-without_open test rs base s.operands falling)
     (λ i l. sym (size_old s earlier g n c ig i l)) rest in
     let end : base - sum_by f (taken_of s g) ≡ length (grown g s n c).nodes - f' (place_of s g) = omega arith in
-    subst (Contig f' (length (grown g s n c).nodes)) (sym (new_roots earlier g ig s n c)) (omega arith, subst (λ x. Contig f' x without_open) end rest')
+    subst (Contig f' (length (grown g s n c).nodes)) (sym (new_roots earlier g ig s n c)) (omega arith, subst (λ x. Contig f' x others) end rest')
 
 pub chains_from_order : (preserving : Bool) (block : List Shape) → IsInOrder block → ChainsOk preserving block
 chains_from_order preserving [] o = tt

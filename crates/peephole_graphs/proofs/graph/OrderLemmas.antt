@@ -104,7 +104,8 @@ parts (t ▸ ts) (suc k) =
       | inl e ↦
           let K = numbers (without_open ts k) in
           let P = numbers (last_open ts k) in
-          let left : K ++ numbers (t ▸ last_open ts k) ≡ (K ++ P) ++ own = ap (λ x. K ++ x) (numbers_rev t (last_open ts k)) ∙ sym (append_assoc K P own) in
+          let left : K ++ numbers (t ▸ last_open ts k) ≡ (K ++ P) ++ own = ap (λ x. K ++ x) (numbers_rev t (last_open ts k))
+          ∙ sym (append_assoc K P own) in
           rw (e, left, numbers_rev t ts) (IsPermutation-append_left own (numbers ts) (K ++ P) (parts ts k))
       | inr e ↦
           let K = numbers (without_open ts (suc k)) in

@@ -110,7 +110,8 @@ filter_same p q (i ∷ is) n h e = ap₂ (λ b x. cond b (i ∷ x) x) (e i (All-
 pub FallingIds-without_open : (test : ℕ → Bool) (is : List ℕ) (n k : ℕ) → FallingIds is n → FallingIds (without_open_ids test is k) n
 FallingIds-without_open test [] n k f = tt
 FallingIds-without_open test (i ∷ is) n zero f = f
-FallingIds-without_open test (i ∷ is) n (suc k) f = cond_both (test i) (without_open_ids test is k) (i ∷ without_open_ids test is (suc k)) (λ x. FallingIds x n)
+FallingIds-without_open test (i ∷ is) n (suc k) f = cond_both (test i) (without_open_ids test is k) (i ∷ without_open_ids test is (suc k))
+    (λ x. FallingIds x n)
     (λ e. FallingIds-weaker (without_open_ids test is k) i n (let l = f.0 in omega arith) (FallingIds-without_open test is i k f.1))
     (λ e. (f.0, FallingIds-without_open test is i (suc k) f.1))
 
@@ -208,7 +209,8 @@ module _ (block : List Shape) (g : Growth) (ig : IsGraph block g) where
         omega (arith, behind (Some (place_of s g)) (more_of s g) before, length-mark (place_of s g) (taken_of s g) g.parents)
 
     -- the roots behind a step
-    pub new_roots : (n c : ℕ) → roots (grown g s n c).parents ≡ place_of s g ∷ without_open_ids (open_at (tree_at_entry g.nodes)) (roots g.parents) s.operands
+    pub new_roots : (n c : ℕ) → roots (grown g s n c).parents ≡
+        place_of s g ∷ without_open_ids (open_at (tree_at_entry g.nodes)) (roots g.parents) s.operands
     new_roots n c =
         let own = place_of s g in
         let rs = roots g.parents in

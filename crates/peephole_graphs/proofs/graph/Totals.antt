@@ -70,7 +70,8 @@ module _ (s : Shape) (earlier : List Shape) (g : Growth) (n c : ℕ) (ig : IsGra
 
 -- ---- the sum of the roots' sizes
 
-sum_by_parts : (f : ℕ → ℕ) (test : ℕ → Bool) (is : List ℕ) (k : ℕ) → sum_by f is ≡ sum_by f (without_open_ids test is k) + sum_by f (take k (filter test is))
+sum_by_parts : (f : ℕ → ℕ) (test : ℕ → Bool) (is : List ℕ) (k : ℕ) →
+    sum_by f is ≡ sum_by f (without_open_ids test is k) + sum_by f (take k (filter test is))
 sum_by_parts f test [] zero = refl
 sum_by_parts f test [] (suc k) = refl
 sum_by_parts f test (i ∷ is) zero = omega arith
