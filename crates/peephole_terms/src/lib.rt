@@ -18,7 +18,7 @@ pub use mutate_base::{
 pub use peephole_analysis;
 pub use peephole_analysis::{ClassData, OperandTypes, PeepholeMutationAnalysis};
 pub use peephole_graphs;
-pub use peephole_graphs::{BBlock, DFGBuilder, MiniDFG, StackEntry, build_expr};
+pub use peephole_graphs::{BBlock, DFGBuilder, MiniDFG, OwnEntries, StackEntry, build_expr};
 pub use peephole_lang;
 pub use peephole_lang::{
     Children, Head, Id, Lang, Language, Numeric, Payload, RecExpr, Simd, no_children,
