@@ -42,41 +42,41 @@ take_front : (d p : List ℕ) (n : ℕ) → n ≡ length d → take n (d ++ p) �
 take_front d p n e = grind (arith, common_steps)
 
 -- The nodes laid out, and the indexes of the finished ones that are no children yet.
-pub record Laying (H : Type 0) : Type 0 where
+pub record LayoutState (H : Type 0) : Type 0 where
   pub nodes : List (Node H)
   pub done : List ℕ
 
 module _ {H : Type 0} where
-  abbrev making : H → ℕ → Piece H
-  making h n = record { head = h; count = n }
+  abbrev piece : H → ℕ → Piece H
+  piece h n = record { head = h; count = n }
 
   abbrev own_of : Node H → Piece H
-  own_of n = making n.head (length n.children)
+  own_of n = piece n.head (length n.children)
 
-  abbrev pub laying : List (Node H) → List ℕ → Laying H
-  laying nodes done = record { nodes = nodes; done = done }
+  abbrev pub layout_state : List (Node H) → List ℕ → LayoutState H
+  layout_state nodes done = record { nodes = nodes; done = done }
 
-  abbrev pub put : Piece H → Laying H → Laying H
+  abbrev pub put : Piece H → LayoutState H → LayoutState H
   put s w = record {
     nodes = w.nodes ++ record { head = s.head; children = drop (length w.done - s.count) w.done } ∷ [];
     done = take (length w.done - s.count) w.done ++ length w.nodes ∷ [];
   }
 
-  abbrev some_laying : Laying H → Option (Laying H)
-  some_laying w = Some w
+  abbrev some_state : LayoutState H → Option (LayoutState H)
+  some_state w = Some w
 
-  abbrev make : Piece H → Laying H → Option (Laying H)
-  make s w = if nat_le s.count (length w.done) then some_laying (put s w) else None
+  abbrev make : Piece H → LayoutState H → Option (LayoutState H)
+  make s w = if nat_le s.count (length w.done) then some_state (put s w) else None
 
-  abbrev after : Option (Laying H) → (Laying H → Option (Laying H)) → Option (Laying H)
+  abbrev after : Option (LayoutState H) → (LayoutState H → Option (LayoutState H)) → Option (LayoutState H)
   after None go = None
   after (Some w) go = go w
 
-  abbrev pub make_all : List (Piece H) → Laying H → Option (Laying H)
+  abbrev pub make_all : List (Piece H) → LayoutState H → Option (LayoutState H)
   make_all [] w = Some w
   make_all (s ∷ ss) w = after (make s w) (make_all ss)
 
-  make_all-append : (xs ys : List (Piece H)) (w : Laying H) → make_all (xs ++ ys) w ≡ after (make_all xs w) (make_all ys)
+  make_all-append : (xs ys : List (Piece H)) (w : LayoutState H) → make_all (xs ++ ys) w ≡ after (make_all xs w) (make_all ys)
   make_all-append [] ys w = refl
   make_all-append (x ∷ xs) ys w =
       elim (make x w) as (λ r. after r (make_all (xs ++ ys)) ≡ after (after r (make_all xs)) (make_all ys)) [
@@ -88,67 +88,67 @@ module _ {H : Type 0} where
   length_root_indexes first no_terms = refl
   length_root_indexes first (t ▸ ts) = ap (λ n. suc n) (length_root_indexes (first + node_count_of t) ts)
 
-  make_is : (s : Piece H) (w : Laying H) → s.count ≤ length w.done → make s w ≡ Some (put s w)
-  make_is s w l = cond-true (nat_le s.count (length w.done)) (some_laying (put s w)) None (grind arith)
+  make_is : (s : Piece H) (w : LayoutState H) → s.count ≤ length w.done → make s w ≡ Some (put s w)
+  make_is s w l = cond-true (nat_le s.count (length w.done)) (some_state (put s w)) None (grind arith)
 
   make_taken : (s : Piece H) (ns : List (Node H)) (d p : List ℕ) (at : ℕ) → length p ≡ s.count → length ns ≡ at →
-      make s (laying ns (d ++ p)) ≡ Some (laying (ns ++ record { head = s.head; children = p } ∷ []) (d ++ at ∷ []))
+      make s (layout_state ns (d ++ p)) ≡ Some (layout_state (ns ++ record { head = s.head; children = p } ∷ []) (d ++ at ∷ []))
   make_taken s ns d p at l n =
       let k = length (d ++ p) - s.count in
       let m : k ≡ length d = omega (arith, length-append d p) in
-      make_is s (laying ns (d ++ p)) (omega (arith, length-append d p))
-      ∙ ap₂ (λ (x y : List ℕ). some_laying (laying (ns ++ record { head = s.head; children = x } ∷ []) y))
+      make_is s (layout_state ns (d ++ p)) (omega (arith, length-append d p))
+      ∙ ap₂ (λ (x y : List ℕ). some_state (layout_state (ns ++ record { head = s.head; children = x } ∷ []) y))
       (drop_front d p k m) (ap₂ (λ (x : List ℕ) (y : ℕ). x ++ y ∷ []) (take_front d p k m) n)
 
   mutual
     -- a term's steps lay it out and finish it
     laid_steps : (t : Term H) (ns : List (Node H)) (d : List ℕ) (first : ℕ) → length ns ≡ first → IsWhole t →
-        make_all (in_postfix t) (laying ns d) ≡ Some (laying (ns ++ layout_from first t) (d ++ (first + node_count_of t - 1) ∷ []))
+        make_all (in_postfix t) (layout_state ns d) ≡ Some (layout_state (ns ++ layout_from first t) (d ++ (first + node_count_of t - 1) ∷ []))
     laid_steps absent ns d first l w = absurd w
     laid_steps (node h kids) ns d first l w =
-        let own = making h (child_count kids) in
+        let own = piece h (child_count kids) in
         let at = first + suc (node_count kids) - 1 in
         let earlier = layouts_from first kids in
         let n : length (ns ++ earlier) ≡ at = omega (arith, length-append ns earlier, length_all first kids) in
-        make_all-append (all_in_postfix kids) (own ∷ []) (laying ns d)
-        ∙ (ap (λ (r : Option (Laying H)). after r (make_all (own ∷ []))) (all_steps kids ns d first l w)
-        ∙ (ap (λ (r : Option (Laying H)). after r some_laying)
+        make_all-append (all_in_postfix kids) (own ∷ []) (layout_state ns d)
+        ∙ (ap (λ (r : Option (LayoutState H)). after r (make_all (own ∷ []))) (all_steps kids ns d first l w)
+        ∙ (ap (λ (r : Option (LayoutState H)). after r some_state)
         (make_taken own (ns ++ earlier) d (root_indexes first kids) at (length_root_indexes first kids) n)
-        ∙ ap (λ (x : List (Node H)). some_laying (laying x (d ++ at ∷ []))) (append_assoc ns earlier _)))
+        ∙ ap (λ (x : List (Node H)). some_state (layout_state x (d ++ at ∷ []))) (append_assoc ns earlier _)))
 
     all_steps : (ts : Terms H) (ns : List (Node H)) (d : List ℕ) (first : ℕ) → length ns ≡ first → AreWhole ts →
-        make_all (all_in_postfix ts) (laying ns d) ≡ Some (laying (ns ++ layouts_from first ts) (d ++ root_indexes first ts))
+        make_all (all_in_postfix ts) (layout_state ns d) ≡ Some (layout_state (ns ++ layouts_from first ts) (d ++ root_indexes first ts))
     all_steps no_terms ns d first l w =
-        ap₂ (λ (x : List (Node H)) (y : List ℕ). some_laying (laying x y)) (sym (append-nil ns)) (sym (append-nil d))
+        ap₂ (λ (x : List (Node H)) (y : List ℕ). some_state (layout_state x y)) (sym (append-nil ns)) (sym (append-nil d))
     all_steps (t ▸ ts) ns d first l w =
         let next = first + node_count_of t in
         let n : length (ns ++ layout_from first t) ≡ next = omega (arith, length-append ns (layout_from first t), length_laid first t) in
-        make_all-append (in_postfix t) (all_in_postfix ts) (laying ns d)
-        ∙ (ap (λ (r : Option (Laying H)). after r (make_all (all_in_postfix ts))) (laid_steps t ns d first l w.0)
+        make_all-append (in_postfix t) (all_in_postfix ts) (layout_state ns d)
+        ∙ (ap (λ (r : Option (LayoutState H)). after r (make_all (all_in_postfix ts))) (laid_steps t ns d first l w.0)
         ∙ (all_steps ts (ns ++ layout_from first t) (d ++ (next - 1) ∷ []) next n w.1
-        ∙ ap₂ (λ (x : List (Node H)) (y : List ℕ). some_laying (laying x y)) (append_assoc ns (layout_from first t) (layouts_from next ts))
+        ∙ ap₂ (λ (x : List (Node H)) (y : List ℕ). some_state (layout_state x y)) (append_assoc ns (layout_from first t) (layouts_from next ts))
         (append_assoc d ((next - 1) ∷ []) (root_indexes next ts))))
 
   -- a step that is made found its children
-  found_children : (s : Piece H) (ss : List (Piece H)) (w v : Laying H) → make_all (s ∷ ss) w ≡ Some v → s.count ≤ length w.done
+  found_children : (s : Piece H) (ss : List (Piece H)) (w v : LayoutState H) → make_all (s ∷ ss) w ≡ Some v → s.count ≤ length w.done
   found_children s ss w v e = grind arith
 
   -- and leaves the rest
-  made_rest : (s : Piece H) (ss : List (Piece H)) (w v : Laying H) → make_all (s ∷ ss) w ≡ Some v → make_all ss (put s w) ≡ Some v
-  made_rest s ss w v e = sym (ap (λ (r : Option (Laying H)). after r (make_all ss)) (make_is s w (found_children s ss w v e))) ∙ e
+  made_rest : (s : Piece H) (ss : List (Piece H)) (w v : LayoutState H) → make_all (s ∷ ss) w ≡ Some v → make_all ss (put s w) ≡ Some v
+  made_rest s ss w v e = sym (ap (λ (r : Option (LayoutState H)). after r (make_all ss)) (make_is s w (found_children s ss w v e))) ∙ e
 
-  same_laying : (w v : Laying H) → some_laying w ≡ Some v → w.nodes ≡ v.nodes
-  same_laying w v e = cc
+  same_state : (w v : LayoutState H) → some_state w ≡ Some v → w.nodes ≡ v.nodes
+  same_state w v e = cc
 
   -- a step a node
-  made_count : (ss : List (Piece H)) (w v : Laying H) → make_all ss w ≡ Some v → length v.nodes ≡ length w.nodes + length ss
-  made_count [] w v e = let n = ap length (same_laying w v e) in omega arith
+  made_count : (ss : List (Piece H)) (w v : LayoutState H) → make_all ss w ≡ Some v → length v.nodes ≡ length w.nodes + length ss
+  made_count [] w v e = let n = ap length (same_state w v e) in omega arith
   made_count (s ∷ ss) w v e =
       let more = made_count ss (put s w) v (made_rest s ss w v e) in
       omega (arith, more, length-append w.nodes (record { head = s.head; children = drop (length w.done - s.count) w.done } ∷ []))
 
   -- the finished indexes stay below the nodes laid out
-  put_below : (s : Piece H) (w : Laying H) → All (λ (k : ℕ). k < length w.nodes) w.done →
+  put_below : (s : Piece H) (w : LayoutState H) → All (λ (k : ℕ). k < length w.nodes) w.done →
       All (λ (k : ℕ). k < length (put s w).nodes) (put s w).done
   put_below s w below =
       let P : ℕ → Type 0 = λ k. k < length w.nodes in
@@ -159,45 +159,45 @@ module _ {H : Type 0} where
       (omega arith)
 
   -- the tree, laid out and finished
-  abbrev pub whole_of : Term H → Laying H
-  whole_of t = laying (layout_from 0 t) ((0 + node_count_of t - 1) ∷ [])
+  abbrev pub whole_of : Term H → LayoutState H
+  whole_of t = layout_state (layout_from 0 t) ((0 + node_count_of t - 1) ∷ [])
 
   -- What is left, made from here, gives the whole; the finished indexes are below the nodes laid out.
-  pub record IsLaying (t : Term H) (pieces : List (Piece H)) (w : Laying H) : Type 0 where
+  pub record LeadsTo (t : Term H) (pieces : List (Piece H)) (w : LayoutState H) : Type 0 where
     pub same : make_all pieces w ≡ Some (whole_of t)
     pub below : All (λ (k : ℕ). k < length w.nodes) w.done
 
-  pub laying_begins : (t : Term H) → IsWhole t → IsLaying t (in_postfix t) (laying [] [])
-  laying_begins t w = record { same = laid_steps t [] [] 0 refl w; below = All-nil (λ (k : ℕ). k < 0) }
+  pub layout_begins : (t : Term H) → IsWhole t → LeadsTo t (in_postfix t) (layout_state [] [])
+  layout_begins t w = record { same = laid_steps t [] [] 0 refl w; below = All-nil (λ (k : ℕ). k < 0) }
 
-  pub laying_step : {t : Term H} {p : Piece H} {pieces : List (Piece H)} {w : Laying H} → IsLaying t (p ∷ pieces) w →
-      (p.count ≤ length w.done) × IsLaying t pieces (put p w)
-  laying_step {t} {p} {pieces} {w} h = (
+  pub layout_step : {t : Term H} {p : Piece H} {pieces : List (Piece H)} {w : LayoutState H} → LeadsTo t (p ∷ pieces) w →
+      (p.count ≤ length w.done) × LeadsTo t pieces (put p w)
+  layout_step {t} {p} {pieces} {w} h = (
     found_children p pieces w (whole_of t) h.same,
     record { same = made_rest p pieces w (whole_of t) h.same; below = put_below p w h.below },
   )
 
-  pub laying_ends : {t : Term H} {w : Laying H} → IsLaying t [] w → w.nodes ≡ layout_from 0 t
-  laying_ends {t} {w} h = same_laying w (whole_of t) h.same
+  pub layout_ends : {t : Term H} {w : LayoutState H} → LeadsTo t [] w → w.nodes ≡ layout_from 0 t
+  layout_ends {t} {w} h = same_state w (whole_of t) h.same
 
   -- the next piece by the ids of the code: a node over the last of the finished ones
   module _ {t : Term H} {n : Node H} {rest : List (Piece H)} {nodes : List (Node H)} (finished ids : List Id)
-      (k : n.children ≡ numbers_of ids) (h : IsLaying t (own_of n ∷ rest) (laying nodes (numbers_of finished))) where
+      (k : n.children ≡ numbers_of ids) (h : LeadsTo t (own_of n ∷ rest) (layout_state nodes (numbers_of finished))) where
     as_many : length n.children ≡ length ids
     as_many = ap (λ (x : List ℕ). length x) k ∙ length-map ids (λ (x : Id). x.0)
 
     pub enough_finished : length ids ≤ length finished
-    enough_finished = let enough = (laying_step h).0 in omega (arith, enough, as_many, length-map finished (λ (x : Id). x.0))
+    enough_finished = let enough = (layout_step h).0 in omega (arith, enough, as_many, length-map finished (λ (x : Id). x.0))
 
     pub own_added : (nodes' : List (Node H)) (done' : List ℕ) → nodes' ≡ nodes ++ record { head = n.head; children = last_ones ids finished } ∷ [] →
-        done' ≡ first_ones ids finished ++ length nodes ∷ [] → IsLaying t rest (laying nodes' done')
+        done' ≡ first_ones ids finished ++ length nodes ∷ [] → LeadsTo t rest (layout_state nodes' done')
     own_added nodes' done' a d =
         let at : length finished - length ids ≡ length (numbers_of finished) - length n.children =
         omega (arith, as_many, length-map finished (λ (x : Id). x.0)) in
         let children_from : ℕ → Node H = λ z. record { head = n.head; children = drop z (numbers_of finished) } in
-        subst (λ w. IsLaying t rest w)
-        (sym (ap₂ laying a d ∙ ap (λ z. laying (nodes ++ children_from z ∷ []) (take z (numbers_of finished) ++ length nodes ∷ [])) at))
-        (laying_step h).1
+        subst (λ w. LeadsTo t rest w)
+        (sym (ap₂ layout_state a d ∙ ap (λ z. layout_state (nodes ++ children_from z ∷ []) (take z (numbers_of finished) ++ length nodes ∷ [])) at))
+        (layout_step h).1
 
 -- Past the last node there is one of the head `missing`.
 module _ {H : Type 0} (missing : H) where
@@ -278,7 +278,7 @@ module _ {H : Type 0} (missing : H) where
     is_tree : (i : ℕ) → AreBelow ns → i < length ns → IsTreeOf pieces_at own_at i (kids_at i)
     is_tree i b l =
         ap in_postfix (tree_is ns i b l)
-        ∙ ap₂ (λ x n. x ++ making (node_at ns i).head n ∷ []) (all_picked (kids_at i)) (count_picked (tree_at ns) (kids_at i))
+        ∙ ap₂ (λ x n. x ++ piece (node_at ns i).head n ∷ []) (all_picked (kids_at i)) (count_picked (tree_at ns) (kids_at i))
 
     kids_inside : (i : ℕ) → AreBelow ns → i < length ns → All Inside (kids_at i)
     kids_inside i b l = All-weaker (λ k. k < i) Inside (λ k h. omega arith) (kids_at i) (place.children_in (own_place ns i l) b)
@@ -286,35 +286,35 @@ module _ {H : Type 0} (missing : H) where
     -- ---- the invariant
 
     -- What is left of the tree at `root` is left of its pieces, and the nodes of the turns are there.
-    pub record IsWalk (root : ℕ) (turns : List Turn) (w : Laying H) : Type 0 where
-      pub made : IsLaying (tree_at ns root) (pieces_left turns) w
+    pub record IsWalk (root : ℕ) (turns : List Turn) (w : LayoutState H) : Type 0 where
+      pub made : LeadsTo (tree_at ns root) (pieces_left turns) w
       pub inside : AllOn Inside turns
 
-    walk_start : (root : ℕ) → AreBelow ns → root < length ns → IsWalk root (turns_of root (kids_at root) ++ []) (laying [] [])
+    walk_start : (root : ℕ) → AreBelow ns → root < length ns → IsWalk root (turns_of root (kids_at root) ++ []) (layout_state [] [])
     walk_start root b l =
         let t = tree_at ns root in
         let all = entered pieces_at own_at root (kids_at root) [] (is_tree root b l) ∙ append-nil (pieces_at root) in
         record {
-          made = subst (λ x. IsLaying t x (laying [] [])) (sym all) (laying_begins t (whole_at ns root b l));
+          made = subst (λ x. LeadsTo t x (layout_state [] [])) (sym all) (layout_begins t (whole_at ns root b l));
           inside = entered_on Inside root (kids_at root) [] l (kids_inside root b l) (All-nil Inside);
         }
 
-    walk_down : {root i : ℕ} {w : Laying H} {old new later : List Turn} → AreBelow ns → old ≡ Child i ∷ new →
+    walk_down : {root i : ℕ} {w : LayoutState H} {old new later : List Turn} → AreBelow ns → old ≡ Child i ∷ new →
         later ≡ turns_of i (kids_at i) ++ new → IsWalk root old w → IsWalk root later w × (measure later < measure old)
     walk_down {root} {i} {w} {old} {new} {later} b g e h =
         let on = child_on Inside g h.inside in
         let comes = child_comes pieces_at own_at (kids_at i) g e (is_tree i b on.0) in (
           record {
-            made = subst (λ x. IsLaying (tree_at ns root) x w) (sym comes.0) h.made;
+            made = subst (λ x. LeadsTo (tree_at ns root) x w) (sym comes.0) h.made;
             inside = subst (AllOn Inside) (sym e) (entered_on Inside i (kids_at i) new on.0 (kids_inside i b on.0) on.1);
           },
           comes.1,
         )
 
     -- the node that comes is the next piece
-    next_piece : {root i : ℕ} {w : Laying H} {old new : List Turn} → old ≡ Own i ∷ new → IsWalk root old w →
-        IsLaying (tree_at ns root) (own_at i ∷ pieces_left new) w
-    next_piece {root} {i} {w} g h = subst (λ x. IsLaying (tree_at ns root) x w) (own_comes pieces_at own_at g).0 h.made
+    next_piece : {root i : ℕ} {w : LayoutState H} {old new : List Turn} → old ≡ Own i ∷ new → IsWalk root old w →
+        LeadsTo (tree_at ns root) (own_at i ∷ pieces_left new) w
+    next_piece {root} {i} {w} g h = subst (λ x. LeadsTo (tree_at ns root) x w) (own_comes pieces_at own_at g).0 h.made
 
   -- ---- the nodes by what the code looks up
 
@@ -343,8 +343,8 @@ module _ {H : Type 0} (missing : H) where
     kids_are items i x l is = ap (λ (n : Node H). n.children) (node_at_is items i x l is)
 
     -- the root that is entered
-    pub start : (items : List A) (root : ℕ) (turns : List Turn) (w : Laying H) (x : A) → AreBelow (nodes_in items) → root < length items →
-        x ≡ get_or items root x → turns ≡ turns_of root (held x).children ++ [] → w ≡ laying [] [] → IsWalk (nodes_in items) root turns w
+    pub start : (items : List A) (root : ℕ) (turns : List Turn) (w : LayoutState H) (x : A) → AreBelow (nodes_in items) → root < length items →
+        x ≡ get_or items root x → turns ≡ turns_of root (held x).children ++ [] → w ≡ layout_state [] [] → IsWalk (nodes_in items) root turns w
     start items root turns w x b l is e v =
         let ns = nodes_in items in
         let n = length-held held items in
@@ -352,27 +352,27 @@ module _ {H : Type 0} (missing : H) where
         subst (λ y. IsWalk ns root y w) to (subst (λ y. IsWalk ns root (turns_of root (kids_at ns root) ++ []) y) (sym v) (walk_start ns root b (omega arith)))
 
     module _ (items : List A) {root : ℕ} {old new : List Turn} {i : ℕ} where
-      pub child_inside : {w : Laying H} → old ≡ Child i ∷ new → IsWalk (nodes_in items) root old w → i < length items
+      pub child_inside : {w : LayoutState H} → old ≡ Child i ∷ new → IsWalk (nodes_in items) root old w → i < length items
       child_inside g h = let l = (child_on (Inside (nodes_in items)) g h.inside).0 in let n = length-held held items in omega arith
 
-      pub own_inside : {w : Laying H} → old ≡ Own i ∷ new → IsWalk (nodes_in items) root old w → i < length items
+      pub own_inside : {w : LayoutState H} → old ≡ Own i ∷ new → IsWalk (nodes_in items) root old w → i < length items
       own_inside g h = let l = (own_on (Inside (nodes_in items)) g h.inside).0 in let n = length-held held items in omega arith
 
-      pub down : {w : Laying H} {later : List Turn} (x : A) → AreBelow (nodes_in items) → old ≡ Child i ∷ new →
+      pub down : {w : LayoutState H} {later : List Turn} (x : A) → AreBelow (nodes_in items) → old ≡ Child i ∷ new →
           x ≡ get_or items i x → later ≡ turns_of i (held x).children ++ new → IsWalk (nodes_in items) root old w →
           IsWalk (nodes_in items) root later w × (measure (nodes_in items) later < measure (nodes_in items) old)
       down x b g is e h =
           walk_down (nodes_in items) b g (e ∙ ap (λ k. turns_of i k ++ new) (sym (kids_are items i x (child_inside g h) is))) h
 
-      next_own : {w : Laying H} {x : A} → old ≡ Own i ∷ new → x ≡ get_or items i x → IsWalk (nodes_in items) root old w →
-          IsLaying (tree_at (nodes_in items) root) (own_of (held x) ∷ pieces_left (nodes_in items) new) w
+      next_own : {w : LayoutState H} {x : A} → old ≡ Own i ∷ new → x ≡ get_or items i x → IsWalk (nodes_in items) root old w →
+          LeadsTo (tree_at (nodes_in items) root) (own_of (held x) ∷ pieces_left (nodes_in items) new) w
       next_own {w} {x} g is h =
-          subst (λ n. IsLaying (tree_at (nodes_in items) root) (own_of n ∷ pieces_left (nodes_in items) new) w)
+          subst (λ n. LeadsTo (tree_at (nodes_in items) root) (own_of n ∷ pieces_left (nodes_in items) new) w)
           (node_at_is items i x (own_inside g h) is) (next_piece (nodes_in items) g h)
 
       -- the finished indexes of which an item's children are the last ones
       pub found : {nodes : List (Node H)} {x : A} (finished ids : List Id) → old ≡ Own i ∷ new → x ≡ get_or items i x →
-          (held x).children ≡ numbers_of ids → IsWalk (nodes_in items) root old (laying nodes (numbers_of finished)) →
+          (held x).children ≡ numbers_of ids → IsWalk (nodes_in items) root old (layout_state nodes (numbers_of finished)) →
           length ids ≤ length finished
       found finished ids g is k h = enough_finished finished ids k (next_own g is h)
 
@@ -380,8 +380,8 @@ module _ {H : Type 0} (missing : H) where
           (held x).children ≡ numbers_of ids →
           nodes' ≡ nodes ++ record { head = (held x).head; children = last_ones ids finished } ∷ [] →
           numbers_of finished' ≡ first_ones ids finished ++ length nodes ∷ [] →
-          IsWalk (nodes_in items) root old (laying nodes (numbers_of finished)) →
-          IsWalk (nodes_in items) root new (laying nodes' (numbers_of finished')) × (measure (nodes_in items) new < measure (nodes_in items) old)
+          IsWalk (nodes_in items) root old (layout_state nodes (numbers_of finished)) →
+          IsWalk (nodes_in items) root new (layout_state nodes' (numbers_of finished')) × (measure (nodes_in items) new < measure (nodes_in items) old)
       own_done {nodes} {nodes'} finished finished' ids g is k a d h =
           let ns = nodes_in items in (
             record {
@@ -392,7 +392,7 @@ module _ {H : Type 0} (missing : H) where
           )
 
       -- as long as a node is to be made, those made are fewer than the tree's
-      pub still_more : {w : Laying H} → old ≡ Own i ∷ new → IsWalk (nodes_in items) root old w →
+      pub still_more : {w : LayoutState H} → old ≡ Own i ∷ new → IsWalk (nodes_in items) root old w →
           length w.nodes < node_count_of (tree_at (nodes_in items) root)
       still_more {w} g h =
           let ns = nodes_in items in
@@ -401,11 +401,11 @@ module _ {H : Type 0} (missing : H) where
           omega (arith, n, length_laid 0 t)
 
     -- the expression at the end
-    pub end_laid : (items : List A) {root : ℕ} {old : List Turn} {w : Laying H} → old ≡ [] → IsWalk (nodes_in items) root old w →
+    pub end_laid : (items : List A) {root : ℕ} {old : List Turn} {w : LayoutState H} → old ≡ [] → IsWalk (nodes_in items) root old w →
         w.nodes ≡ layout_from 0 (tree_at (nodes_in items) root)
     end_laid items {root} {old} {w} e h =
         let ns = nodes_in items in
-        laying_ends (subst (λ x. IsLaying (tree_at ns root) x w) (ap (pieces_left ns) e) h.made)
+        layout_ends (subst (λ x. LeadsTo (tree_at ns root) x w) (ap (pieces_left ns) e) h.made)
 
     pub end_whole : (items : List A) (root : ℕ) → AreBelow (nodes_in items) → root < length items → IsWhole (tree_at (nodes_in items) root)
     end_whole items root b l = let n = length-held held items in whole_at (nodes_in items) root b (omega arith)

@@ -77,12 +77,12 @@ module _ {H : Type 0} (Answers : ℕ → Node H → Type 0) where
       let (us, vs, a, b, e) = split is js ts p.1 in (t ▸ us, vs, (p.0, a), b, ap (λ x. t ▸ x) e)
 
   -- What was asked, and trees of the ids that are left, are a tree of the root; the ids are reached.
-  pub record IsAsking (root : ℕ) (ids : List ℕ) (asked : List (Piece H)) : Type 0 where
+  pub record HasRequests (root : ℕ) (ids : List ℕ) (asked : List (Piece H)) : Type 0 where
     pub reached : All (IsReached Answers root) ids
     pub grows : (ts : Terms H) → AreParts Answers ids ts →
         (t : Term H) × IsPart Answers root t × (AreWhole ts → IsWhole t) × (in_postfix t ≡ all_in_postfix ts ++ asked)
 
-  start : (root : ℕ) → IsAsking root (root ∷ []) []
+  start : (root : ℕ) → HasRequests root (root ∷ []) []
   start root = record { reached = All-cons (IsReached Answers root) root [] the_root (All-nil (IsReached Answers root)); grows = first }
     where
       first : (ts : Terms H) → AreParts Answers (root ∷ []) ts →
@@ -112,8 +112,8 @@ module _ {H : Type 0} (Answers : ℕ → Node H → Type 0) where
       moved xs ys p zs = grind (arith, common_steps)
 
   -- a node was asked for, and its children are left in its place
-  step : (root : ℕ) (rest : List ℕ) (id : ℕ) (n : Node H) (asked : List (Piece H)) → Answers id n → IsAsking root (rest ++ id ∷ []) asked →
-      IsAsking root (rest ++ n.children) (own_piece n ∷ asked)
+  step : (root : ℕ) (rest : List ℕ) (id : ℕ) (n : Node H) (asked : List (Piece H)) → Answers id n → HasRequests root (rest ++ id ∷ []) asked →
+      HasRequests root (rest ++ n.children) (own_piece n ∷ asked)
   step root rest id n asked a h =
       let reached = All-pop (IsReached Answers root) (rest ++ id ∷ []) rest (Some id) refl h.reached in
       record {
@@ -130,12 +130,12 @@ module _ {H : Type 0} (Answers : ℕ → Node H → Type 0) where
       }
 
   -- none is left
-  end : (root : ℕ) (asked : List (Piece H)) → IsAsking root [] asked → (t : Term H) × IsTree Answers root t × (asked ≡ in_postfix t)
+  end : (root : ℕ) (asked : List (Piece H)) → HasRequests root [] asked → (t : Term H) × IsTree Answers root t × (asked ≡ in_postfix t)
   end root asked h = let of = h.grows no_terms tt in (of.0, (of.1, of.2 tt), sym of.3)
 
   -- with the node that was asked for last there are too many
   long : (root : ℕ) (rest : List ℕ) (id : ℕ) (n : Node H) (asked : List (Piece H)) → Answers id n → 2 ^ 32 ≤ length asked →
-      IsAsking root (rest ++ id ∷ []) asked → IsTooLong Answers root
+      HasRequests root (rest ++ id ∷ []) asked → IsTooLong Answers root
   long root rest id n asked a l h =
       let us = absents rest in
       let kids = absents n.children in
@@ -164,31 +164,31 @@ numbers_append : (xs ys : List Id) → numbers_of (xs ++ ys) ≡ numbers_of xs +
 numbers_append xs ys = map-append (λ (id : Id). id.0) xs ys
 
 module _ {L H : Type 0} (head : L → H) (children : L → List ℕ) (post : Id → Bor L → Type 0) where
-  abbrev Asking : ℕ → List Id → List (Bor L) → Type 0
-  Asking root ids nodes = IsAsking (CanAnswer head children post) root (numbers_of ids) (pieces_of head children nodes)
+  abbrev Requests : ℕ → List Id → List (Bor L) → Type 0
+  Requests root ids nodes = HasRequests (CanAnswer head children post) root (numbers_of ids) (pieces_of head children nodes)
 
   abbrev own : Bor L → Node H
   own n = record { head = head n.now; children = children n.now }
 
-  pub answering_starts : (root : Id) (ids : List Id) (nodes : List (Bor L)) → ids ≡ root ∷ [] → nodes ≡ [] → Asking root.0 ids nodes
-  answering_starts root ids nodes e n = rw (e, n) (start (CanAnswer head children post) root.0)
+  pub requests_start : (root : Id) (ids : List Id) (nodes : List (Bor L)) → ids ≡ root ∷ [] → nodes ≡ [] → Requests root.0 ids nodes
+  requests_start root ids nodes e n = rw (e, n) (start (CanAnswer head children post) root.0)
 
-  pub answering_goes_on : (root id : Id) (ids rest ids' kids : List Id) (nodes nodes' : List (Bor L)) (n : Bor L) →
+  pub requests_go_on : (root id : Id) (ids rest ids' kids : List Id) (nodes nodes' : List (Bor L)) (n : Bor L) →
       ids ≡ rest ++ id ∷ [] → post id n → nodes' ≡ nodes ++ n ∷ [] → ids' ≡ rest ++ kids → numbers_of kids ≡ children n.now →
-      Asking root.0 ids nodes → Asking root.0 ids' nodes'
-  answering_goes_on root id ids rest ids' kids nodes nodes' n top a more left are h =
+      Requests root.0 ids nodes → Requests root.0 ids' nodes'
+  requests_go_on root id ids rest ids' kids nodes nodes' n top a more left are h =
       let before = rw (top, numbers_append rest (id ∷ [])) at h in
       rw (left, numbers_append rest kids, are, more, one_more head children nodes n)
       (step (CanAnswer head children post) root.0 (numbers_of rest) id.0 (own n) (pieces_of head children nodes) (n, a, refl) before)
 
-  pub answering_ends : (root count : ℕ) (ids : List Id) (nodes : List (Bor L)) → count ≡ length ids → count ≡ 0 → Asking root ids nodes →
+  pub requests_end : (root count : ℕ) (ids : List Id) (nodes : List (Bor L)) → count ≡ length ids → count ≡ 0 → Requests root ids nodes →
       (t : Term H) × IsTree (CanAnswer head children post) root t × AreAsked head children nodes t
-  answering_ends root count [] nodes e z h = end (CanAnswer head children post) root (pieces_of head children nodes) h
-  answering_ends root count (id ∷ ids) nodes e z h = absurd (omega arith)
+  requests_end root count [] nodes e z h = end (CanAnswer head children post) root (pieces_of head children nodes) h
+  requests_end root count (id ∷ ids) nodes e z h = absurd (omega arith)
 
-  pub answering_too_long : (root id : Id) (ids rest : List Id) (nodes : List (Bor L)) (n : Bor L) → ids ≡ rest ++ id ∷ [] → post id n →
-      2 ^ 32 ≤ length nodes → Asking root.0 ids nodes → IsTooLong (CanAnswer head children post) root.0
-  answering_too_long root id ids rest nodes n top a l h =
+  pub requests_too_long : (root id : Id) (ids rest : List Id) (nodes : List (Bor L)) (n : Bor L) → ids ≡ rest ++ id ∷ [] → post id n →
+      2 ^ 32 ≤ length nodes → Requests root.0 ids nodes → IsTooLong (CanAnswer head children post) root.0
+  requests_too_long root id ids rest nodes n top a l h =
       let many = length_pieces head children nodes in
       let before = rw (top, numbers_append rest (id ∷ [])) at h in
       long (CanAnswer head children post) root.0 (numbers_of rest) id.0 (own n) (pieces_of head children nodes) (n, a, refl) (omega arith) before

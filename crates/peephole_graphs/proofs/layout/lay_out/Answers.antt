@@ -10,7 +10,7 @@ use Rattle.peephole_graphs.specs.declared.postfix.Turn.{Turn}
 use Rattle.peephole_graphs.specs.Postfix.{turns_of}
 use Rattle.peephole_graphs.proofs.LayoutLemmas.{term_is, some_expr}
 use Rattle.peephole_graphs.proofs.graph.LayoutTrees.{missing, node_of_entry}
-use Rattle.peephole_graphs.proofs.terms.LayoutWalk.{laying, first_ones, start, child_inside, own_inside, down, found, own_done, still_more, end_laid, end_whole}
+use Rattle.peephole_graphs.proofs.terms.LayoutWalk.{layout_state, first_ones, start, child_inside, own_inside, down, found, own_done, still_more, end_laid, end_whole}
 use Rattle.peephole_graphs.proofs.layout.lay_out.Goals as goal
 
 pub loop-turn-init : goal.loop-turn-init
@@ -19,7 +19,7 @@ loop-turn-init c =
     c.index-entries-root.is
     (c.in_ok-enter.ensures.entered ∙ ap₂ (λ (ids : List Id) (turns : List Turn). turns_of c.args.root (numbers_of ids) ++ turns)
     c.children.ensures.value c.new-walk.ensures)
-    (ap₂ (λ x (y : List Id). laying (map node_of x) (numbers_of y)) c.new-expr.ensures c.new-finished.ensures.items)
+    (ap₂ (λ x (y : List Id). layout_state (map node_of x) (numbers_of y)) c.new-expr.ensures c.new-finished.ensures.items)
 
 pub bounds-entries-index : goal.bounds-entries-index
 bounds-entries-index c =
