@@ -4,11 +4,16 @@ use Rattle.std.specs.Prelude.{IsTrue, IsFalse, IfSome, IfNone, is_some, ◌&&◌
 use Rattle.std.proofs.lemmas.Bool.{cond-false, true≢false, false≢true}
 use Rattle.std.proofs.lemmas.Option.{same_Some, slice_get_within}
 use Rattle.wasm_code.specs.declared.immediate.Imm.{Imm}
+use Rattle.wasm_code.specs.declared.immediate.Imm.TheVariants as imm
+use Rattle.wasm_code.specs.declared.table.Kind.TheVariants as Kind
 use Rattle.wasm_code.specs.declared.table.Row.{Row}
 use Rattle.wasm_code.specs.Instruction.{Instruction, IsInstruction, is_of_kind, fits_row}
 use Rattle.wasm_code.specs.Table.{table, row_at, info_in, row_info_of}
 use Rattle.peephole_lang.specs.declared.lang.Lang.{Lang}
 use Rattle.peephole_nodes.specs.declared.payload.Payload.{Payload}
+use Rattle.peephole_nodes.specs.declared.payload.Payload.TheVariants as payload
+use Rattle.peephole_nodes.specs.declared.payload.PayloadKind.{PayloadKind}
+use Rattle.peephole_nodes.specs.declared.payload.PayloadKind.TheVariants as kind
 use Rattle.peephole_lang.specs.declared.variants.VariantRow.{VariantRow}
 use Rattle.peephole_lang.specs.VariantRows.{variant_row}
 use Rattle.peephole_lang.specs.laws.Fits.{fits_own}
@@ -23,6 +28,7 @@ use Rattle.peephole_nodes.specs.laws.PayloadLemmas.{imm_fits, of_imm_back, of_im
 use Rattle.peephole_lang.specs.laws.TableLemmas.{place_is}
 use Rattle.peephole_nodes.specs.Variants.{Variant, variant_at, is_right, is_node_of, fits}
 use Rattle.std.specs.Option.{option_map}
+use Rattle.peephole_lang.proofs.InstrLaws.{takes_own}
 use Rattle.peephole_lang.proofs.RowLemmas.{IsOfRow, has_row}
 use Rattle.peephole_lang.proofs.RowLemmas.{has_variant as has_variant_of_row}
 
@@ -157,7 +163,51 @@ takes_made i is v p node result given at same count made =
     ∙ (ap (λ (w : Variant). is_right w.children given) (sym same_variant)
     ∙ (sym (known.1.1.1.1.0.operands given) ∙ sym (ap (λ r. takes (info_in r) given) known.1.1.1.0))))))
 
+-- a node at the place of the instruction's row that says its immediate says the instruction
+pub says_imm : (i : Instruction) → IsInstruction i → (l : Lang) → place_of l ≡ 12 + i.row → imm_of (payload_of l) ≡ i.imm → instr_of l ≡ Some i
+says_imm i is l at same =
+    let above : 12 ≤ place_of l = omega (arith, at) in
+    let row : place_of l - 12 ≡ i.row = omega (arith, at) in
+    let fits : fits_row (row_at i.row) i.imm ≡ is_writable (payload_of l) = sym (ap₂ (λ n x. fits_row (row_at n) x) row same) ∙ is_row l above in
+    let whole : record { row = place_of l - 12; imm = imm_of (payload_of l) } ≡ i = ap₂ (λ (n : ℕ) (x : Imm). record { row = n; imm = x }) row same in
+    cond-false _ _ _ (not_below (place_of l) 12 above)
+    ∙ (written (is_writable (payload_of l)) _ (sym fits ∙ is.kind) ∙ ap (λ (x : Instruction). Some x) whole)
+
+-- an immediate of the kind without one
+only_nothing : (x : Imm) → is_of_kind Kind.Nothing x ≡ true → x ≡ imm.Nothing
+only_nothing imm.Nothing e = refl
+only_nothing _ e = absurd (false≢true e)
+
+kind_of_nothing : (k : PayloadKind) → is_of k payload.Nothing ≡ true → imm_kind k ≡ Kind.Nothing
+kind_of_nothing kind.Nothing e = refl
+kind_of_nothing _ e = absurd (false≢true e)
+
+-- a node at that place without a payload says the instruction
+pub says_nothing : (i : Instruction) → IsInstruction i → (l : Lang) → place_of l ≡ 12 + i.row → payload_of l ≡ payload.Nothing → instr_of l ≡ Some i
+says_nothing i is l at plain =
+    let own = has_variant (place_of l) (payload_of l) (count_of l) (fits_own l) in
+    let known = variant_of_instr i is in
+    let same : known.0 ≡ own.variant = same_Some _ _ (sym known.1.0 ∙ (ap variant_at (sym at) ∙ own.at)) in
+    let kind : imm_kind known.0.payload ≡ Kind.Nothing = ap (λ (v : Variant). imm_kind v.payload) same
+    ∙ kind_of_nothing own.variant.payload (sym (ap (is_of own.variant.payload) plain) ∙ own.kind) in
+    let none : i.imm ≡ imm.Nothing = only_nothing i.imm (sym (ap (λ k. is_of_kind k i.imm) (known.1.1.1.1.0.kind ∙ kind)) ∙ known.1.1.1.1.1) in
+    says_imm i is l at (ap imm_of plain ∙ sym none)
+
 -- ---- the steps of `of_instr`
+
+-- what is made of the place alone says the instruction
+pub operation_says : (i : Instruction) → IsInstruction i → (row : ℕ) → row ≡ i.row → (l : Lang) → place_of l ≡ 12 + row → payload_of l ≡ payload.Nothing →
+    instr_of l ≡ Some i
+operation_says i is row same l at plain = says_nothing i is l (at ∙ ap (λ n. 12 + n) same) plain
+
+-- and what is made of the place and the immediate
+pub imm_says : (i : Instruction) → IsInstruction i → (row : ℕ) → row ≡ i.row → (x : Imm) → x ≡ i.imm → (l : Lang) → place_of l ≡ 12 + row →
+    imm_of (payload_of l) ≡ x → instr_of l ≡ Some i
+imm_says i is row same x whose l at says = says_imm i is l (at ∙ ap (λ n. 12 + n) same) (says ∙ whose)
+
+-- with as many children as the row takes
+pub made_takes : (i : Instruction) (l : Lang) (given : ℕ) → count_of l ≡ given → instr_of l ≡ Some i → true ≡ takes_children i.row given
+made_takes i l given count says = sym (takes_own l i given says (sym count))
 
 found_row : (i : Instruction) → IsInstruction i → (o : Option VariantRow) → o ≡ option_map variant_row (variant_at (12 + i.row)) →
     (v : Variant) × ((variant_at (12 + i.row) ≡ Some v) × (o ≡ Some (variant_row v)))

@@ -2,14 +2,14 @@
 ghost use Rattle.std.specs.Prelude.{◌≡◌, IfOk, IfSome, Some, is_some, length};
 ghost use Rattle.peephole_lang.specs.Lang.{payload_of, ids_of};
 ghost use Rattle.peephole_lang.specs.Node.{instr_of, takes_children};
-ghost use Rattle.peephole_nodes.specs.Payload.{is_writable};
+ghost use Rattle.peephole_nodes.specs.Payload.{imm_of, is_writable};
 
 use crate::lang::Lang;
-use crate::making::{make, make_in};
+use crate::making::{make, make_in, make_of_imm, make_operation};
 use crate::names::variant_row_at;
 use peephole_nodes::Id;
 use std::alloc::{AllocError, Global};
-use wasm_code::Instr;
+use wasm_code::{Imm, Instr};
 
 impl Lang {
     /// False exactly where the node has a memory argument whose `align` is 64 or more: such a node has no bytes (WebAssembly
@@ -28,7 +28,21 @@ impl Lang {
         if place < 12 {
             return None;
         }
-        Instr::new(place - 12, self.payload().imm())
+        Instr::new(place - 12, self.imm())
+    }
+
+    // The immediate that stands for the payload.
+    #[tactic(auto, unfolding(crate::specs::Lang::payload_of))]
+    fn imm(&self) -> Imm
+        ensures { result ≡ imm_of (payload_of self.now) }
+    {
+        match self {
+            Lang::Numeric(_) => Imm::Nothing,
+            Lang::LocalGet(index) => Imm::Index(*index),
+            Lang::I32(number) => Imm::I32(*number),
+            Lang::Simd(node) => node.payload().imm(),
+            _ => self.payload().imm(),
+        }
     }
 
     /// The node of an instruction with these children, the first operand first, or None where the number of the children
@@ -54,7 +68,14 @@ impl Lang {
         ensures complete { IfOk result (λ made.
             is_some made ≡ takes_children instr.now.row (length children.now)) }
     {
-        let Some(variant) = variant_row_at(12 + instr.row()) else {
+        let place = 12 + instr.row();
+        if let Some(node) = make_operation(place, children) {
+            return Ok(Some(node));
+        }
+        if let Some(node) = make_of_imm(place, instr.imm(), children) {
+            return Ok(Some(node));
+        }
+        let Some(variant) = variant_row_at(place) else {
             return Ok(None);
         };
         let Some(payload) = variant.payload.of_imm(instr.imm()) else {

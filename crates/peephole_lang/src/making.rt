@@ -2,6 +2,7 @@
 ghost use Rattle.std.specs.Prelude.{◌≡◌, ◌==◌, ◌||◌, true, false, IfOk, IfSome, is_some, length, [], ◌∷◌};
 ghost use Rattle.peephole_lang.specs.Lang.{place_of, payload_of, ids_of, count_of};
 ghost use Rattle.peephole_lang.specs.Making.{has_list, is_few, is_plain, is_index, is_memory, is_single, is_made};
+ghost use Rattle.peephole_nodes.specs.Payload.{imm_of};
 ghost use Rattle.peephole_nodes.specs.SimdShapes.{is_simd};
 ghost use Rattle.peephole_nodes.specs.declared.payload.Payload.TheVariants as P;
 
@@ -10,6 +11,7 @@ use crate::lang_shapes as lang;
 use mutate_base::MemArg;
 use peephole_nodes::{Id, Numeric, Payload, Simd};
 use std::alloc::{AllocError, Global};
+use wasm_code::Imm;
 
 /// The node with this place, payload and children, or None where no variant of the place has that kind of payload and
 /// that many children.
@@ -45,6 +47,57 @@ pub fn make_in(
         Ok(Some(make_with_list(place, &payload, children.to_vec(alloc)?)))
     } else {
         Ok(make_without_list(place, &payload, children))
+    }
+}
+
+/// The node of a numeric instruction with operands, or of a vector instruction without immediate, or None where there is none:
+/// the places of the former are 52 to 190, those of the latter from 201 on.
+#[tactic(auto, unfolding(crate::specs::Lang::place_of, crate::specs::Lang::payload_of, crate::specs::Lang::ids_of, crate::specs::Lang::count_of))]
+pub fn make_operation(place: u16, children: &[Id]) -> Option<Lang>
+    ensures place { IfSome result (λ l. place_of l ≡ place) }
+    ensures payload { IfSome result (λ l. payload_of l ≡ P.Nothing) }
+    ensures children { IfSome result (λ l. ids_of l ≡ children.now) }
+    ensures count { IfSome result (λ l. count_of l ≡ length children.now) }
+{
+    if place < 52 {
+        None
+    } else if place < 201 {
+        Some(Lang::Numeric(Numeric::make(place, children)?))
+    } else {
+        Some(Lang::Simd(Simd::make_plain(place, children)?))
+    }
+}
+
+/// The node of an instruction whose immediate alone says the payload, or None where there is none and for any other
+/// immediate; None for `call`, whose children are a list.
+pub fn make_of_imm(place: u16, imm: Imm, children: &[Id]) -> Option<Lang>
+    ensures place { IfSome result (λ l. place_of l ≡ place) }
+    ensures imm { IfSome result (λ l. imm_of (payload_of l) ≡ imm) }
+    ensures children { IfSome result (λ l. ids_of l ≡ children.now) }
+    ensures count { IfSome result (λ l. count_of l ≡ length children.now) }
+{
+    match imm {
+        Imm::Nothing => make_few(place, children),
+        Imm::Index(index) if place != 13 => make_index(place, index, children),
+        Imm::Mem(memarg) => make_memory(place, (&memarg).into(), children),
+        _ => match children {
+            [] => make_number(place, imm),
+            _ => None,
+        },
+    }
+}
+
+// The node of a constant integer.
+fn make_number(place: u16, imm: Imm) -> Option<Lang>
+    ensures place { IfSome result (λ l. place_of l ≡ place) }
+    ensures imm { IfSome result (λ l. imm_of (payload_of l) ≡ imm) }
+    ensures children { IfSome result (λ l. ids_of l ≡ []) }
+    ensures count { IfSome result (λ l. count_of l ≡ 0) }
+{
+    match imm {
+        Imm::I32(number) => lang::i32_leaf(place, number),
+        Imm::I64(number) => lang::i64_leaf(place, number),
+        _ => None,
     }
 }
 
@@ -110,7 +163,7 @@ fn make_plain(place: u16, children: &[Id]) -> Option<Lang>
     if let Some(node) = Numeric::make(place, children) {
         return Some(Lang::Numeric(node));
     }
-    if let Some(node) = Simd::make(place, Payload::Nothing, children) {
+    if let Some(node) = Simd::make_plain(place, children) {
         return Some(Lang::Simd(node));
     }
     make_few(place, children)
@@ -159,7 +212,7 @@ fn make_memory(place: u16, memarg: MemArg, children: &[Id]) -> Option<Lang>
     ensures complete { is_some result ≡ is_simd place (P.Memory memarg)
         (length children.now) || is_memory place (length children.now) }
 {
-    if let Some(node) = Simd::make(place, Payload::Memory(memarg), children) {
+    if let Some(node) = Simd::make_memory(place, memarg, children) {
         return Some(Lang::Simd(node));
     }
     match children {

@@ -13,6 +13,7 @@ use crate::numeric::Numeric;
 use crate::payload::Payload;
 use crate::simd::Simd;
 use crate::{numeric_shapes as numeric, simd_shapes as simd};
+use mutate_base::MemArg;
 
 impl Numeric {
     /// The numeric node with this place and these children, or None where no numeric node has this place and so many
@@ -40,6 +41,40 @@ impl Simd {
         ensures complete { is_some result ≡ is_simd place payload (length children.now) }
     {
         simd_of(place, payload, children)
+    }
+
+    /// The vector node with this place, no payload and these children, or None where there is none.
+    pub fn make_plain(place: u16, children: &[Id]) -> Option<Simd>
+        ensures place { IfSome result (λ l. simd_place_of l ≡ place) }
+        ensures payload { IfSome result (λ l. simd_payload_of l ≡ P.Nothing) }
+        ensures children { IfSome result (λ l. simd_ids_of l ≡ children.now) }
+        ensures count { IfSome result (λ l. simd_count_of l ≡ length children.now) }
+        ensures complete { is_some result ≡ is_simd_plain place (length children.now) }
+    {
+        match children {
+            [child] => match simd::simd_plain_one_to_383(place, *child) {
+                Some(node) => Some(node),
+                None => simd::simd_plain_one_from_384(place, *child),
+            },
+            [first, second] => simd_two(place, *first, *second),
+            [first, second, third] => simd::simd_plain_three(place, *first, *second, *third),
+            _ => None,
+        }
+    }
+
+    /// The vector node with this place, a memory argument and these children, or None where there is none.
+    pub fn make_memory(place: u16, memarg: MemArg, children: &[Id]) -> Option<Simd>
+        ensures place { IfSome result (λ l. simd_place_of l ≡ place) }
+        ensures payload { IfSome result (λ l. simd_payload_of l ≡ P.Memory memarg) }
+        ensures children { IfSome result (λ l. simd_ids_of l ≡ children.now) }
+        ensures count { IfSome result (λ l. simd_count_of l ≡ length children.now) }
+        ensures complete { is_some result ≡ is_simd place (P.Memory memarg) (length children.now) }
+    {
+        match children {
+            [child] => simd::simd_memory_one(place, memarg, *child),
+            [first, second] => simd::simd_memory_two(place, memarg, *first, *second),
+            _ => None,
+        }
     }
 }
 
@@ -72,39 +107,17 @@ fn simd_of(place: u16, payload: Payload, children: &[Id]) -> Option<Simd>
     ensures complete { is_some result ≡ is_simd place payload (length children.now) }
 {
     match (payload, children) {
-        (Payload::Nothing, _) => simd_plain(place, children),
+        (Payload::Nothing, _) => Simd::make_plain(place, children),
         (Payload::Lane(lane), [child]) => simd::simd_lane_one(place, lane, *child),
         (Payload::Lane(lane), [first, second]) => simd::simd_lane_two(place, lane, *first, *second),
         (Payload::V128(number), []) => simd::simd_v128_leaf(place, number),
-        (Payload::Memory(memarg), [child]) => simd::simd_memory_one(place, memarg, *child),
-        (Payload::Memory(memarg), [first, second]) => simd::simd_memory_two(
-            place, memarg, *first, *second,
-        ),
+        (Payload::Memory(memarg), _) => Simd::make_memory(place, memarg, children),
         (Payload::MemoryLane(memarg), [first, second]) => simd::simd_memory_lane_two(
             place, memarg, *first, *second,
         ),
         (Payload::Shuffle(shuffle), [first, second]) => simd::simd_shuffle_two(
             place, shuffle, *first, *second,
         ),
-        _ => None,
-    }
-}
-
-// A vector node without payload.
-fn simd_plain(place: u16, children: &[Id]) -> Option<Simd>
-    ensures place { IfSome result (λ l. simd_place_of l ≡ place) }
-    ensures payload { IfSome result (λ l. simd_payload_of l ≡ P.Nothing) }
-    ensures children { IfSome result (λ l. simd_ids_of l ≡ children.now) }
-    ensures count { IfSome result (λ l. simd_count_of l ≡ length children.now) }
-    ensures complete { is_some result ≡ is_simd_plain place (length children.now) }
-{
-    match children {
-        [child] => match simd::simd_plain_one_to_383(place, *child) {
-            Some(node) => Some(node),
-            None => simd::simd_plain_one_from_384(place, *child),
-        },
-        [first, second] => simd_two(place, *first, *second),
-        [first, second, third] => simd::simd_plain_three(place, *first, *second, *third),
         _ => None,
     }
 }
