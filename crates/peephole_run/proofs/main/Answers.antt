@@ -1,5 +1,5 @@
 use Rattle.std.proofs.Common.{ap}
 use Rattle.peephole_run.proofs.main.Goals as goal
 
-pub run-requires-clause-output_sound : goal.run-requires-clause-output_sound
-run-requires-clause-output_sound c = ap (λ t. t.failed) c.new-output.ensures
+pub run-answer-requires-clause-output_sound : goal.run-answer-requires-clause-output_sound
+run-answer-requires-clause-output_sound c = ap (λ t. t.failed) c.new-output.ensures
