@@ -21,3 +21,4 @@ pub mod IntegerBlockLemmas
 pub mod TermOfLemmas
 pub mod SameAnswersLemmas
 pub mod SpliceLemmas
+pub mod WriterLemmas

@@ -11,3 +11,4 @@ pub mod ReadAgain
 pub mod SameAnswers
 pub mod Laws
 pub mod EncoderSteps
+pub mod Writer

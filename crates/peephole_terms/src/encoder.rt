@@ -10,165 +10,106 @@ ghost use Rattle.peephole_graphs.specs.GraphOf.{IsGraphOf};
 ghost use Rattle.peephole_graphs.specs.Layout.{AreWritable, entry_nodes};
 ghost use Rattle.peephole_graphs.specs.Source.{source_of};
 ghost use Rattle.peephole_terms.specs.Expansion.{setting_of, term_in};
-ghost use Rattle.peephole_terms.specs.EncoderSteps.{Does, IsWalkable, IsInside, around, nodes_in, root_term, root_steps, steps_of, writing_of};
+ghost use Rattle.peephole_terms.specs.EncoderSteps.{IsWalkable, around, nodes_in, root_term, root_steps, steps_of};
 ghost use Rattle.peephole_terms.specs.ReadAgain.{AppendsReadable, RereadsOwnTrees};
 ghost use Rattle.peephole_terms.specs.SameRun.{AppendsSameRun};
-ghost use Rattle.peephole_terms.specs.Spliced.{piece};
-ghost use Rattle.peephole_terms.specs.Written.{site_at, AppendsBody, IsBodyIn, KeepsOrder, RefusesBody, offset_of, before_block, after_block, block_shapes, term_requests, StandsBehind};
+ghost use Rattle.peephole_terms.specs.Written.{site_at, AppendsBody, IsBodyIn, KeepsOrder, RefusesBody, block_shapes, term_requests, StandsBehind};
 
 pub(crate) mod expr2wasm;
 mod holds;
 pub(crate) mod node_kind;
+mod outside;
 mod own;
 pub(crate) mod request;
+mod rows;
 pub(crate) mod splice;
 mod walk;
+pub(crate) mod writer;
 
+use self::outside::Outside;
 use self::request::ResourceRequest;
-use self::walk::write_tree;
+use self::writer::Writer;
 use mutate_base::{Error, WasmMutate};
 use peephole_graphs::{BBlock, MiniDFG, StackEntry};
 use peephole_lang::{Lang, RecExpr};
 use rand_core::Rng;
 use std::alloc::Global;
-use std::ops::Range;
 use wasm_code::laws::code_spells;
 use wasm_code::{Function, OperatorAndByteOffset};
 
-// Where an operator starts in the input.
-fn offset_at(operators: &[OperatorAndByteOffset], index: usize) -> usize
-    requires { index < length operators.now }
-    ensures { result ≡ offset_of operators.now index }
-{
-    operators[index].1
-}
+impl<R: Rng> Writer<'_, R> {
+    ghost use Rattle.peephole_terms.specs.Writer.{IsSame, Takes};
 
-// The input's bytes of the body before a range of its operators, and after it.
-fn outside<'a>(
-    input: &'a [u8],
-    operators: &[OperatorAndByteOffset],
-    range: Range<usize>,
-) -> (&'a [u8], &'a [u8])
-    requires { IsInside input.now operators.now (piece range.start range.end) }
-    ensures before { result.0.now
-        ≡ before_block input.now operators.now (piece range.start range.end) }
-    ensures after { result.1.now
-        ≡ after_block input.now operators.now (piece range.start range.end) }
-{
-    let first = offset_at(operators, 0);
-    let start = offset_at(operators, range.start);
-    let end = offset_at(operators, range.end);
-    let last = offset_at(operators, operators.len() - 1);
-    (&input[first..start], &input[end..last + 1])
-}
-
-// Writes a root's own tree, or the term where the root is the insertion point.
-fn write_root<R: Rng>(
-    alloc: Global,
-    globals: usize,
-    insertion_point: usize,
-    expr: &[Lang],
-    entries: &[StackEntry],
-    root: usize,
-    rng: &mut R,
-    newfunc: &mut Function,
-    requests: &mut Vec<ResourceRequest>,
-) -> Result<(), Error>
-    requires some { 0 < length expr.now }
-    requires expr_below { AreBelow (nodes_in (λ l. l) expr.now) }
-    requires entries_below { AreBelow (entry_nodes entries.now) }
-    requires root { root < length entries.now }
-    ensures { Does globals
-        (steps_of (root_term insertion_point (term_in expr.now) entries.now root))
-        (writing_of newfunc.old requests.old.items (R.stream rng.old))
-        (writing_of newfunc.new requests.new.items (R.stream rng.new)) result }
-{
-    if entries[root].operator_idx == insertion_point {
-        write_tree(alloc, globals, expr, expr.len() - 1, rng, newfunc, requests)
-    } else {
-        write_tree(alloc, globals, entries, root, rng, newfunc, requests)
-    }
-}
-
-// Writes the roots' trees in ascending order, the term in the place of the insertion point's.
-fn write_roots<R: Rng>(
-    alloc: Global,
-    globals: usize,
-    insertion_point: usize,
-    expr: &[Lang],
-    entries: &[StackEntry],
-    parents: &[Option<usize>],
-    rng: &mut R,
-    newfunc: &mut Function,
-    requests: &mut Vec<ResourceRequest>,
-) -> Result<(), Error>
-    requires some { 0 < length expr.now }
-    requires expr_below { AreBelow (nodes_in (λ l. l) expr.now) }
-    requires walkable { IsWalkable entries.now parents.now }
-    ensures { Does globals (root_steps insertion_point (term_in expr.now) entries.now parents.now)
-        (writing_of newfunc.old requests.old.items (R.stream rng.old))
-        (writing_of newfunc.new requests.new.items (R.stream rng.new)) result }
-{
-    for index in 0..parents.len() {
-        if parents[index].is_none() {
-            match write_root(
-                alloc,
-                globals,
-                insertion_point,
-                expr,
-                entries,
-                index,
-                rng,
-                newfunc,
-                requests,
-            ) {
-                Ok(()) => {}
-                Err(refusal) => return Err(refusal),
-            }
+    // Writes a root's own tree, or the term where the root is the insertion point.
+    fn write_root(
+        &mut self,
+        insertion_point: usize,
+        expr: &[Lang],
+        entries: &[StackEntry],
+        root: usize,
+    ) -> Result<(), Error>
+        requires some { 0 < length expr.now }
+        requires expr_below { AreBelow (nodes_in (λ l. l) expr.now) }
+        requires entries_below { AreBelow (entry_nodes entries.now) }
+        requires root { root < length entries.now }
+        ensures taken { Takes R.stream
+            (steps_of (root_term insertion_point (term_in expr.now) entries.now root))
+            self.old self.new result }
+        ensures same { IsSame self.old self.new }
+    {
+        if entries[root].operator_idx == insertion_point {
+            self.write_tree(expr, expr.len() - 1)
+        } else {
+            self.write_tree(entries, root)
         }
     }
-    Ok(())
-}
 
-// Writes the bytes before the block, the roots' trees and the bytes after it.
-fn write_body<R: Rng>(
-    alloc: Global,
-    globals: usize,
-    insertion_point: usize,
-    expr: &[Lang],
-    dfg: &MiniDFG,
-    before: &[u8],
-    after: &[u8],
-    rng: &mut R,
-    newfunc: &mut Function,
-    requests: &mut Vec<ResourceRequest>,
-) -> Result<(), Error>
-    requires some { 0 < length expr.now }
-    requires expr_below { AreBelow (nodes_in (λ l. l) expr.now) }
-    requires walkable { IsWalkable (graph_of dfg.now).entries (graph_of dfg.now).parents }
-    ensures { Does globals (around before.now
-        (root_steps insertion_point (term_in expr.now)
-        (graph_of dfg.now).entries (graph_of dfg.now).parents) after.now)
-        (writing_of newfunc.old requests.old.items (R.stream rng.old))
-        (writing_of newfunc.new requests.new.items (R.stream rng.new)) result }
-{
-    newfunc.raw(before)?;
-    match write_roots(
-        alloc,
-        globals,
-        insertion_point,
-        expr,
-        dfg.entries(),
-        dfg.parents(),
-        rng,
-        newfunc,
-        requests,
-    ) {
-        Ok(()) => {}
-        Err(refusal) => return Err(refusal),
+    // Writes the roots' trees in ascending order, the term in the place of the insertion point's.
+    fn write_roots(
+        &mut self,
+        insertion_point: usize,
+        expr: &[Lang],
+        entries: &[StackEntry],
+        parents: &[Option<usize>],
+    ) -> Result<(), Error>
+        requires some { 0 < length expr.now }
+        requires expr_below { AreBelow (nodes_in (λ l. l) expr.now) }
+        requires walkable { IsWalkable entries.now parents.now }
+        ensures taken { Takes R.stream
+            (root_steps insertion_point (term_in expr.now) entries.now parents.now)
+            self.old self.new result }
+        ensures same { IsSame self.old self.new }
+    {
+        for index in 0..parents.len() {
+            if parents[index].is_none() {
+                self.write_root(insertion_point, expr, entries, index)?;
+            }
+        }
+        Ok(())
     }
-    newfunc.raw(after)?;
-    Ok(())
+
+    // Writes the bytes before the block, the roots' trees and the bytes after it.
+    fn write_body(
+        &mut self,
+        insertion_point: usize,
+        expr: &[Lang],
+        dfg: &MiniDFG,
+        outside: &Outside<'_>,
+    ) -> Result<(), Error>
+        requires some { 0 < length expr.now }
+        requires expr_below { AreBelow (nodes_in (λ l. l) expr.now) }
+        requires walkable { IsWalkable (graph_of dfg.now).entries (graph_of dfg.now).parents }
+        ensures taken { Takes R.stream (around outside.now.before.now
+            (root_steps insertion_point (term_in expr.now)
+            (graph_of dfg.now).entries (graph_of dfg.now).parents) outside.now.after.now)
+            self.old self.new result }
+        ensures same { IsSame self.old self.new }
+    {
+        self.sink.raw(outside.before)?;
+        self.write_roots(insertion_point, expr, dfg.entries(), dfg.parents())?;
+        self.sink.raw(outside.after)?;
+        Ok(())
+    }
 }
 
 /// Writes bodies in which a term stands for a tree.
@@ -252,23 +193,19 @@ impl Encoder {
             return Err(Error::NoMutationsApplicable);
         }
         code_spells();
-        let globals = config.info().get_global_count();
-        let (before, after) = outside(input_wasm, operators, basicblock.range());
+        let outside = Outside::of(input_wasm, operators, basicblock.range());
         let old_len = newfunc.len();
         let mut requests = Vec::new(alloc);
+        let globals = config.info().get_global_count();
         let rng = config.rng();
-        match write_body(
+        let mut writer = Writer {
             alloc,
             globals,
-            insertion_point,
-            expr.as_ref(),
-            dfg,
-            before,
-            after,
-            rng,
-            newfunc,
-            &mut requests,
-        ) {
+            rng: &mut *rng,
+            sink: newfunc,
+            requests: &mut requests,
+        };
+        match writer.write_body(insertion_point, expr.as_ref(), dfg, &outside) {
             Ok(()) => Ok(requests),
             Err(refusal) => {
                 newfunc.truncate(old_len);

@@ -7,7 +7,7 @@ ghost use Rattle.peephole_terms.specs.Expansion.{AppendsCode, Refuses, setting_o
 ghost use Rattle.peephole_terms.specs.StackCode.{AppendsStackCode};
 
 use super::request::ResourceRequest;
-use super::walk::write_tree;
+use super::writer::Writer;
 use mutate_base::{Error, WasmMutate};
 use peephole_lang::{Lang, RecExpr};
 use rand_core::Rng;
@@ -55,20 +55,19 @@ pub fn expr2wasm<R: Rng + Drop>(
     // Of the configuration the generator alone changes.
     ensures unchanged { ChangesGeneratorAlone config.old config.new }
 {
-    let globals = config.info().get_global_count();
     let old_len = newfunc.len();
     let nodes = expr.as_ref();
     let mut requests = Vec::new(alloc);
+    let globals = config.info().get_global_count();
     let rng = config.rng();
-    match write_tree(
+    let mut writer = Writer {
         alloc,
         globals,
-        nodes,
-        nodes.len() - 1,
-        rng,
-        newfunc,
-        &mut requests,
-    ) {
+        rng: &mut *rng,
+        sink: newfunc,
+        requests: &mut requests,
+    };
+    match writer.write_tree(nodes, nodes.len() - 1) {
         Ok(()) => Ok(requests),
         Err(refusal) => {
             newfunc.truncate(old_len);

@@ -5,13 +5,13 @@ ghost use Rattle.mutate_base.specs.Config.{ChangesGeneratorAlone};
 ghost use Rattle.peephole_lang.specs.Term.{AreBelow};
 ghost use Rattle.peephole_graphs.specs.Layout.{AreWritable};
 ghost use Rattle.peephole_terms.specs.Expansion.{Refuses, setting_of, expansion_in, after_term, request, requests_of, term_in};
-ghost use Rattle.peephole_terms.specs.EncoderSteps.{Does, around, nodes_in, steps_of, writing_of};
+ghost use Rattle.peephole_terms.specs.EncoderSteps.{around, nodes_in, steps_of};
 ghost use Rattle.peephole_terms.specs.Spliced.{AppendsSpliced};
 ghost use Rattle.peephole_terms.specs.Written.{IsBodyIn};
 
-use super::outside;
+use super::outside::Outside;
 use super::request::ResourceRequest;
-use super::walk::write_tree;
+use super::writer::Writer;
 use mutate_base::{Error, WasmMutate};
 use peephole_lang::{Lang, RecExpr};
 use peephole_programs::validity::typed_rows_check;
@@ -21,30 +21,23 @@ use std::ops::Range;
 use wasm_code::laws::code_spells;
 use wasm_code::{Function, OperatorAndByteOffset};
 
-// Writes bytes, the term of the last node and bytes.
-fn write_around<R: Rng>(
-    alloc: Global,
-    globals: usize,
-    expr: &[Lang],
-    before: &[u8],
-    after: &[u8],
-    rng: &mut R,
-    newfunc: &mut Function,
-    requests: &mut Vec<ResourceRequest>,
-) -> Result<(), Error>
-    requires some { 0 < length expr.now }
-    requires below { AreBelow (nodes_in (λ l. l) expr.now) }
-    ensures { Does globals (around before.now (steps_of (term_in expr.now)) after.now)
-        (writing_of newfunc.old requests.old.items (R.stream rng.old))
-        (writing_of newfunc.new requests.new.items (R.stream rng.new)) result }
-{
-    newfunc.raw(before)?;
-    match write_tree(alloc, globals, expr, expr.len() - 1, rng, newfunc, requests) {
-        Ok(()) => {}
-        Err(refusal) => return Err(refusal),
+impl<R: Rng> Writer<'_, R> {
+    ghost use Rattle.peephole_terms.specs.Writer.{IsSame, Takes};
+
+    // Writes bytes, the term of the last node and bytes.
+    fn write_around(&mut self, expr: &[Lang], outside: &Outside<'_>) -> Result<(), Error>
+        requires some { 0 < length expr.now }
+        requires below { AreBelow (nodes_in (λ l. l) expr.now) }
+        ensures taken { Takes R.stream
+            (around outside.now.before.now (steps_of (term_in expr.now)) outside.now.after.now)
+            self.old self.new result }
+        ensures same { IsSame self.old self.new }
+    {
+        self.sink.raw(outside.before)?;
+        self.write_tree(expr, expr.len() - 1)?;
+        self.sink.raw(outside.after)?;
+        Ok(())
     }
-    newfunc.raw(after)?;
-    Ok(())
 }
 
 /// Writes a body behind what the sink holds: the bytes of `input_wasm` before the first operator of the range and from the
@@ -95,21 +88,19 @@ pub fn splice_term<R: Rng + Drop>(
 {
     code_spells();
     typed_rows_check();
-    let globals = config.info().get_global_count();
-    let (before, after) = outside(input_wasm, operators, range);
+    let outside = Outside::of(input_wasm, operators, range);
     let old_len = newfunc.len();
     let mut requests = Vec::new(alloc);
+    let globals = config.info().get_global_count();
     let rng = config.rng();
-    match write_around(
+    let mut writer = Writer {
         alloc,
         globals,
-        expr.as_ref(),
-        before,
-        after,
-        rng,
-        newfunc,
-        &mut requests,
-    ) {
+        rng: &mut *rng,
+        sink: newfunc,
+        requests: &mut requests,
+    };
+    match writer.write_around(expr.as_ref(), &outside) {
         Ok(()) => Ok(requests),
         Err(refusal) => {
             newfunc.truncate(old_len);

@@ -1,20 +1,22 @@
-use Rattle.std.proofs.Common.{Err, ap, ◌∙◌, ◌++◌, List, arith}
+use Rattle.std.proofs.Common.{Err, ap, refl, ◌∙◌, ◌++◌, List, arith}
 use Rattle.std.proofs.lemmas.Grind.{common_steps}
 use Rattle.std.proofs.lemmas.Result.{err_from_is_err_and}
 use Rattle.peephole_lang.specs.Term.{numbers_of}
 use Rattle.peephole_graphs.specs.declared.postfix.Turn.{Turn}
 use Rattle.peephole_graphs.specs.Postfix.{turns_of}
-use Rattle.peephole_terms.specs.EncoderSteps.{writing_of}
+use Rattle.peephole_terms.specs.Writer.{writing_in}
 use Rattle.peephole_terms.proofs.WalkLemmas.{walk_of, start, child_inside, own_inside, down, own_done, own_refused, passed_on, kids_in, kept_more, arrived}
-use Rattle.peephole_terms.proofs.encoder.walk.write_tree.Goals as goal
+use Rattle.peephole_terms.proofs.WriterLemmas.{goes_on, same_more}
+use Rattle.peephole_terms.proofs.encoder.writer.Writer.write_tree.Goals as goal
 
 pub loop-turn-init : goal.loop-turn-init
 loop-turn-init g c = record {
-  walk = start {k = walk_of g.N.Holds.held c.args.nodes.now c.args.globals c.args.root
-      (writing_of c.args.newfunc.now c.args.requests.now.items (g.R.Rng.stream c.args.rng.now))} c.children_to_write.result.now c.requires.below c.requires.root
+  walk = start {k = walk_of g.N.Holds.held c.args.nodes.now c.args.self.now.globals c.args.root (writing_in g.R.Rng.stream c.args.self.now)}
+      c.children_to_write.result.now c.requires.below c.requires.root
       (record { is = c.index-nodes-root.is; held_is = c.node-node.ensures }) c.children_to_write.ensures
       (c.in_ok-enter.ensures.entered ∙ ap (λ (turns : List Turn). turns_of c.args.root (numbers_of c.children_to_write.result.now) ++ turns) c.new-walk.ensures);
   kept = grind (arith, common_steps);
+  same = record { globals = refl; sink = refl; requests = refl; rng = refl };
 }
 
 pub bounds-nodes-index : goal.bounds-nodes-index
@@ -30,8 +32,8 @@ pub offset_bounds-nodes-index-in-Own : goal.offset_bounds-nodes-index-in-Own
 offset_bounds-nodes-index-in-Own g c = let there = own_inside c.loop-turn.invariant.walk (rw c.in-Own.is at c.in-Some.ensures) in omega arith
 
 pub write_own-requires-clause-below : goal.write_own-requires-clause-below
-write_own-requires-clause-below g c = kids_in {k = walk_of g.N.Holds.held c.args.nodes.now c.args.globals c.args.root
-    (writing_of c.args.newfunc.now c.args.requests.now.items (g.R.Rng.stream c.args.rng.now))}
+write_own-requires-clause-below g c =
+    kids_in {k = walk_of g.N.Holds.held c.args.nodes.now c.args.self.now.globals c.args.root (writing_in g.R.Rng.stream c.args.self.now)}
     (own_inside c.loop-turn.invariant.walk (rw c.in-Own.is at c.in-Some.ensures)) c.requires.below
     (record { is = c.index-nodes-index-in-Own.is; held_is = c.node-node-in-Own.ensures })
 
@@ -40,6 +42,7 @@ loop-turn-preserved-in-Continue-branch-2 g c = record {
   walk = (down c.loop-turn.invariant.walk c.children_to_write-in-Child.result.now (rw c.in-Child.is at c.in-Some.ensures)
       (record { is = c.index-nodes-index.is; held_is = c.node-node-in-Child.ensures }) c.children_to_write-in-Child.ensures c.in_ok-enter-in-Child.ensures.entered).0;
   kept = c.loop-turn.invariant.kept;
+  same = c.loop-turn.invariant.same;
 }
 
 pub loop-turn-smaller-in-Continue-branch-2 : goal.loop-turn-smaller-in-Continue-branch-2
@@ -50,18 +53,24 @@ loop-turn-smaller-in-Continue-branch-2 g c =
 pub loop-turn-preserved : goal.loop-turn-preserved
 loop-turn-preserved g c = record {
   walk = (own_done c.loop-turn.invariant.walk (rw c.in-Own.is at c.in-Some.ensures)
-      (record { is = c.index-nodes-index-in-Own.is; held_is = c.node-node-in-Own.ensures }) c.in_ok-write_own-in-Own.ensures).0;
-  kept = kept_more _ _ _ c.loop-turn.invariant.kept c.in_ok-write_own-in-Own.ensures.kept;
+      (record { is = c.index-nodes-index-in-Own.is; held_is = c.node-node-in-Own.ensures })
+      (goes_on c.loop-turn.invariant.same.globals c.in_ok-write_own-in-Own.ensures.taken)).0;
+  kept = kept_more _ _ _ c.loop-turn.invariant.kept c.in_ok-write_own-in-Own.ensures.taken.kept;
+  same = same_more c.loop-turn.invariant.same c.in_ok-write_own-in-Own.ensures.same;
 }
 
-pub returns-in_err-write_own-in-Own : goal.returns-in_err-write_own-in-Own
-returns-in_err-write_own-in-Own g c =
+pub returns-in_err-write_own-in-Own-clause-taken : goal.returns-in_err-write_own-in-Own-clause-taken
+returns-in_err-write_own-in-Own-clause-taken g c =
     let result = c.from_residual-in_err-write_own-in-Own.result in
     let p = err_from_is_err_and result c.from_residual-in_err-write_own-in-Own.ensures.1 in
     passed_on result c.in_err-write_own-in-Own.field-0.0 (p.1 ∙ ap (λ x. Err x) p.2)
     (own_refused c.loop-turn.invariant.walk c.in_err-write_own-in-Own.field-0.0 (rw c.in-Own.is at c.in-Some.ensures)
-    (record { is = c.index-nodes-index-in-Own.is; held_is = c.node-node-in-Own.ensures }) c.in_err-write_own-in-Own.ensures.err)
-    (kept_more _ _ _ c.loop-turn.invariant.kept c.in_err-write_own-in-Own.ensures.kept)
+    (record { is = c.index-nodes-index-in-Own.is; held_is = c.node-node-in-Own.ensures })
+    (goes_on c.loop-turn.invariant.same.globals c.in_err-write_own-in-Own.ensures.taken).err)
+    (kept_more _ _ _ c.loop-turn.invariant.kept c.in_err-write_own-in-Own.ensures.taken.kept)
 
-pub returns : goal.returns
-returns g c = arrived c.loop-turn.invariant.walk c.in_default.ensures.0 c.loop-turn.invariant.kept
+pub returns-in_err-write_own-in-Own-clause-same : goal.returns-in_err-write_own-in-Own-clause-same
+returns-in_err-write_own-in-Own-clause-same g c = same_more c.loop-turn.invariant.same c.in_err-write_own-in-Own.ensures.same
+
+pub returns-clause-taken : goal.returns-clause-taken
+returns-clause-taken g c = arrived c.loop-turn.invariant.walk c.in_default.ensures.0 c.loop-turn.invariant.kept
