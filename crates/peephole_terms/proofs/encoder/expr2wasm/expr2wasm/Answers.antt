@@ -1,4 +1,4 @@
-use Rattle.std.proofs.Common.{◌≡◌, ap, sym, ◌∙◌, ℕ, List, take, refl, rules, Vec, Global}
+use Rattle.std.proofs.Common.{◌≡◌, ap, ◌∙◌, ℕ, List, take, refl, rules, Vec, Global}
 use Rattle.peephole_terms.specs.declared.encoder.request.ResourceRequest.{ResourceRequest}
 use Rattle.peephole_terms.specs.Expansion.{Setting, term_in}
 use Rattle.peephole_terms.specs.StackCode.{words_for}
