@@ -133,12 +133,6 @@ pub record Does (globals : ℕ) (taken : List Step) (old new : Writing) (result 
   pub in_range : OnOk result (All IsInRange taken)
   pub kept : take (length old.bytes) new.bytes ≡ old.bytes
 
--- The same of one step that asks for nothing, whatever was asked for before.
-abbrev pub DoesAlone : Step → (old new : List ℕ) → (later left : Stream) → Result (Unit {0}) Error → Type 0
-DoesAlone step old new later left result =
-    (globals : ℕ) (requests : List ResourceRequest) →
-    Does globals (step ∷ []) (writing_of old requests later) (writing_of new requests left) result
-
 -- ---- nodes
 
 -- the nodes that the items of a list hold, the last one first
