@@ -3,6 +3,7 @@ ghost use Rattle.std.specs.Prelude.{◌≡◌, [], ◌∷◌, map, slice_get, op
 ghost use Rattle.peephole_machine.specs.Values.{type_of};
 ghost use Rattle.peephole_machine.specs.IntegerRow.{bare_operator, from_byte};
 ghost use Rattle.peephole_machine.specs.Operation.{operator_of};
+ghost use Rattle.peephole_machine.specs.Opcode.{by_type, unary_opcodes, binary_opcodes, comparison_opcodes, opcode, at_opcode, operation_of};
 
 use crate::integer::IntegerType;
 use mutate_base::PrimitiveTypeInfo;
@@ -184,13 +185,76 @@ const EXTENSIONS: [Operation; 5] = [
 
 // The operator of an opcode, where the operators have consecutive opcodes from the first on.
 fn operation_at(first: u8, operations: &[Operation], byte: u8) -> Option<Operation>
-    ensures { option_map operator_of result
+    ensures operator { option_map operator_of result
         ≡ from_byte first (map operator_of operations.now) byte }
+    ensures place { result ≡ at_opcode first operations.now byte }
 {
     if byte < first {
         None
     } else {
         operations.get((byte - first) as usize).copied()
+    }
+}
+
+// One of the two opcodes, by the type.
+fn by_type(t: IntegerType, opcodes: (u8, u8)) -> u8
+    ensures { result ≡ by_type t opcodes.0 opcodes.1 }
+{
+    match t {
+        IntegerType::I32 => opcodes.0,
+        IntegerType::I64 => opcodes.1,
+    }
+}
+
+// Of i32 and of i64.
+fn unary_opcodes(f: Unary) -> (u8, u8)
+    ensures { result ≡ unary_opcodes f }
+{
+    match f {
+        Unary::Clz => (0x67, 0x79),
+        Unary::Ctz => (0x68, 0x7A),
+        Unary::Popcnt => (0x69, 0x7B),
+    }
+}
+
+// Of i32 and of i64.
+fn binary_opcodes(f: Binary) -> (u8, u8)
+    ensures { result ≡ binary_opcodes f }
+{
+    match f {
+        Binary::Add => (0x6A, 0x7C),
+        Binary::Sub => (0x6B, 0x7D),
+        Binary::Mul => (0x6C, 0x7E),
+        Binary::DivS => (0x6D, 0x7F),
+        Binary::DivU => (0x6E, 0x80),
+        Binary::RemS => (0x6F, 0x81),
+        Binary::RemU => (0x70, 0x82),
+        Binary::And => (0x71, 0x83),
+        Binary::Or => (0x72, 0x84),
+        Binary::Xor => (0x73, 0x85),
+        Binary::Shl => (0x74, 0x86),
+        Binary::ShrS => (0x75, 0x87),
+        Binary::ShrU => (0x76, 0x88),
+        Binary::Rotl => (0x77, 0x89),
+        Binary::Rotr => (0x78, 0x8A),
+    }
+}
+
+// Of i32 and of i64.
+fn comparison_opcodes(f: Comparison) -> (u8, u8)
+    ensures { result ≡ comparison_opcodes f }
+{
+    match f {
+        Comparison::Eq => (0x46, 0x51),
+        Comparison::Ne => (0x47, 0x52),
+        Comparison::LtS => (0x48, 0x53),
+        Comparison::LtU => (0x49, 0x54),
+        Comparison::GtS => (0x4A, 0x55),
+        Comparison::GtU => (0x4B, 0x56),
+        Comparison::LeS => (0x4C, 0x57),
+        Comparison::LeU => (0x4D, 0x58),
+        Comparison::GeS => (0x4E, 0x59),
+        Comparison::GeU => (0x4F, 0x5A),
     }
 }
 
@@ -216,13 +280,32 @@ impl Operation {
     /// The operator of an opcode of one byte, or none where no operator on whole numbers without an immediate has it
     /// (WebAssembly Core Specification 3.0, Binary Format, Instructions): 45 to 5A, 67 to 8A, A7, AC, AD, C0 to C4.
     pub fn from_byte(byte: u8) -> Option<Operation>
-        ensures { option_map operator_of result ≡ bare_operator byte }
+        ensures operator { option_map operator_of result ≡ bare_operator byte }
+        ensures opcode { result ≡ operation_of byte }
     {
         operation_at(0x45, &TESTS, byte)
             .or(operation_at(0x67, &ARITHMETIC, byte))
             .or(operation_at(0xA7, &[Operation::WrapI64], byte))
             .or(operation_at(0xAC, &CONVERSIONS, byte))
             .or(operation_at(0xC0, &EXTENSIONS, byte))
+    }
+
+    /// Its opcode, which is one byte (WebAssembly Core Specification 3.0, Binary Format, Instructions).
+    pub fn opcode(self) -> u8
+        ensures { result ≡ opcode self }
+    {
+        match self {
+            Operation::Eqz(t) => by_type(t, (0x45, 0x50)),
+            Operation::Compare(t, f) => by_type(t, comparison_opcodes(f)),
+            Operation::Unary(t, f) => by_type(t, unary_opcodes(f)),
+            Operation::Binary(t, f) => by_type(t, binary_opcodes(f)),
+            Operation::WrapI64 => 0xA7,
+            Operation::ExtendI32S => 0xAC,
+            Operation::ExtendI32U => 0xAD,
+            Operation::Extend8S(t) => by_type(t, (0xC0, 0xC2)),
+            Operation::Extend16S(t) => by_type(t, (0xC1, 0xC3)),
+            Operation::Extend32S => 0xC4,
+        }
     }
 
     /// The types of its operands, the first one first (WebAssembly Core Specification 3.0, Validation, Instructions).
