@@ -6,4 +6,4 @@ use Rattle.peephole_module_commands.proofs.ReachLemmas.{some_alike}
 use Rattle.peephole_module_commands.proofs.reach.operates.Goals as goal
 
 pub returns : goal.returns
-returns c = c.is_some.ensures ∙ some_alike operator_of c.from_byte.result (bare_operator c.args.byte) c.from_byte.ensures
+returns c = c.is_some.ensures ∙ some_alike operator_of c.from_byte.result (bare_operator c.args.byte) c.from_byte.ensures.operator
