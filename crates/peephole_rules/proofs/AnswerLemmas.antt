@@ -5,10 +5,12 @@ use Rattle.peephole_lang.specs.declared.lang.Head.{Head}
 use Rattle.peephole_lang.specs.Term.{Term}
 use Rattle.peephole_machine.specs.declared.integer.IntegerType.{IntegerType}
 use Rattle.peephole_machine.specs.declared.integer.IntegerType.TheVariants as integer
+use Rattle.peephole_machine.specs.declared.operation.Operation.{Operation}
+use Rattle.peephole_machine.specs.Opcode.{opcode}
 use Rattle.peephole_rules.specs.declared.replacement.Replacement.{Replacement}
 use Rattle.peephole_rules.specs.Operator.{of_type, operator, numbered, two}
 use Rattle.peephole_rules.specs.Rewriting.{answer_if, with_constant}
-use Rattle.peephole_rules.specs.Replacement.{term_by, IsBinary, CanReplace, IsAnswer}
+use Rattle.peephole_rules.specs.Replacement.{term_by, CanReplace, IsAnswer}
 
 pub no_answer : (x : Term Head) → IsAnswer None x None
 no_answer x = record { term = refl; fits = tt }
@@ -44,14 +46,31 @@ pub each_map : {A : Type 0} (o : Option A) (x : Term Head) (f : A → Replacemen
 each_map None x f g h = no_answer x
 each_map (Some a) x f g h = h a refl
 
+-- where what is made of an operator is what is made of its opcode
+pub each_operation : (p : Option Operation) (q : Option ℕ) → option_map opcode p ≡ q → (x : Term Head) (f : Operation → Option Replacement)
+    (g : ℕ → Option (Term Head)) → ((a : Operation) → p ≡ Some a → IsAnswer (f a) x (g (opcode a))) →
+    IsAnswer (option_and_then f p) x (option_and_then g q)
+each_operation p q e x f g h = subst (λ r. IsAnswer (option_and_then f p) x (option_and_then g r)) e (go p h)
+  where
+    go : (p : Option Operation) → ((a : Operation) → p ≡ Some a → IsAnswer (f a) x (g (opcode a))) →
+        IsAnswer (option_and_then f p) x (option_and_then g (option_map opcode p))
+    go None h = no_answer x
+    go (Some a) h = h a refl
+
+pub each_made : (p : Option Operation) (q : Option ℕ) → option_map opcode p ≡ q → (x : Term Head) (f : Operation → Replacement)
+    (g : ℕ → Term Head) → ((a : Operation) → p ≡ Some a → IsAnswer (Some (f a)) x (Some (g (opcode a)))) →
+    IsAnswer (option_map f p) x (option_map g q)
+each_made p q e x f g h = subst (λ r. IsAnswer (option_map f p) x (option_map g r)) e (go p h)
+  where
+    go : (p : Option Operation) → ((a : Operation) → p ≡ Some a → IsAnswer (Some (f a)) x (Some (g (opcode a)))) →
+        IsAnswer (option_map f p) x (option_map g (option_map opcode p))
+    go None h = no_answer x
+    go (Some a) h = h a refl
+
 pub none_answers : (x : Term Head) (u : Option (Term Head)) → u ≡ None → IsAnswer None x u
 none_answers x u e = record { term = sym e; fits = tt }
 
--- ---- what fits
-
-pub typed_binary : (t : IntegerType) (a b : ℕ) → IsBinary a → IsBinary b → IsBinary (of_type t a b)
-typed_binary integer.I32 a b p q = p
-typed_binary integer.I64 a b p q = q
+-- ---- what a constant is
 
 -- 0 and 1 are within each width
 pub small_constant : (t : IntegerType) (a b e : ℕ) (x : Term Head) → e ≡ 0 → two (operator (of_type t a b)) x (numbered t e) ≡ with_constant t a b e x

@@ -16,50 +16,65 @@ use Rattle.peephole_machine.specs.declared.integer.IntegerType.TheVariants as in
 use Rattle.peephole_machine.specs.Values.{width_of, Context}
 use Rattle.peephole_machine.specs.Integer.{IntegerOperator}
 use Rattle.peephole_machine.specs.IntegerRow.{bare_operator}
+use Rattle.peephole_machine.specs.declared.operation.Binary.{Binary as BinaryOperator}
+use Rattle.peephole_machine.specs.declared.operation.Binary.TheVariants.{Add, Sub, Mul, DivU, RemU, And, Or, Xor, Shl, ShrS, ShrU, Rotl, Rotr}
+use Rattle.peephole_machine.specs.declared.operation.Comparison.{Comparison}
+use Rattle.peephole_machine.specs.declared.operation.Comparison.TheVariants.{Eq, Ne}
+use Rattle.peephole_machine.specs.declared.operation.Operation.TheVariants.{Eqz, Compare, Binary, WrapI64, ExtendI32U}
+use Rattle.peephole_machine.specs.Opcode.{binary_opcodes, comparison_opcodes, opcode}
 use Rattle.peephole_machine.specs.Computed.{kept, computed}
 use Rattle.peephole_rules.specs.declared.rule.Rule.{Rule}
 use Rattle.peephole_rules.specs.declared.rule.Rule.TheVariants as rule
 use Rattle.peephole_rules.specs.declared.replacement.Replacement.{Replacement}
 use Rattle.peephole_rules.specs.declared.replacement.Replacement.TheVariants.{Swap, Turn, GroupLeft, GroupRight, Twice, First, FirstWith, FirstBy, TurnSelect, Empty, Number, FirstTwice, Drawn, Negated, FirstByBoth, ByBoth, FirstWithBoth, SetAndGet}
+use Rattle.peephole_rules.specs.declared.shape.Operator.{Operator}
 use Rattle.peephole_rules.specs.declared.shape.Operand.{Operand}
-use Rattle.peephole_rules.specs.Operator.{opcode_byte, type_by, turned, of_type, operator, constant_number, number_in, within_width, constant_term, numbered, one, two, unfold_head, opposite_of, bits_left_out}
+use Rattle.peephole_rules.specs.Operator.{opcode_byte, type_by, turned, of_type, operator, constant_number, number_in, within_width, constant_term, numbered, one, two, unfold_head, opposite_of, bits_left_out, has_one_value}
+use Rattle.peephole_rules.specs.Classes.{operator_on, head_operator, binary_type, comparison_type, turned_operation, opposite_operation}
 use Rattle.peephole_rules.specs.Effects.{writes, asks, may_trap}
-use Rattle.peephole_rules.specs.Rewriting.{answer_if, commute, turn_comparison, turn_select, associate_left, associate_right, with_constant, with_ones, with_itself, all_ones, lowest_bit, of_constant, by_its_type, by_its_number_type, by_way_of_global, unfold_constant, type_of_constant, forget, numbers_of_types, fold, test_to_comparison, comparison_to_test, negated, rewrite, remainder_to_mask, mask_to_remainder, as_double, element_alone, typed_constant, behind_drawn, negate_comparison, difference_to_tests, wrap_extended, in_parts, extension_to_shifts, tee_to_set, same_local, of_same, drop_select}
+use Rattle.peephole_rules.specs.Rewriting.{answer_if, undisturbed, commute, turn_comparison, turn_select, associate_left, associate_right, with_constant, with_ones, with_itself, all_ones, lowest_bit, of_constant, by_its_type, by_its_number_type, by_way_of_global, unfold_constant, type_of_constant, forget, numbers_of_types, fold, test_to_comparison, comparison_to_test, negated, rewrite, remainder_to_mask, mask_to_remainder, as_double, element_alone, typed_constant, behind_drawn, negate_comparison, difference_to_tests, wrap_extended, in_parts, extension_to_shifts, tee_to_set, same_local, of_same, drop_select}
 use Rattle.peephole_rules.specs.ValueTypes.{integer_of, type_of_value, integer_type, number_type}
-use Rattle.peephole_rules.specs.Shape.{operand_of, operands_of, opcode_of, shape_of}
-use Rattle.peephole_rules.specs.Replacement.{IsBinary, IsAnswer}
-use Rattle.peephole_rules.specs.Choice.{number_of, number_behind, swap, turn, group_left, group_right, with_number, with_all_ones, complements, twice, without, comparison, opposite, with_opposite, lowest_place, with_power, with_place, with_mask, with_divisor, with_rest, constant_type, unfolded, through_global, forgotten, typed_number, on_one, on_two, folded, choice, by_first, double, alone, drawn, both_tests, wrapped, unnegated, part, distributed, shifts, inner_opcode, difference, narrowed, collected, set_apart, type_of_same, cancelled, first_of_same, same_with, selected_same}
+use Rattle.peephole_rules.specs.Shape.{operand_of, operands_of, root_operator, shape_of}
+use Rattle.peephole_rules.specs.Replacement.{IsAnswer}
+use Rattle.peephole_rules.specs.Choice.{number_of, number_of_second, numeric_operator, swap, turn, group_left, group_right, with_number, with_all_ones, complements, twice, without, comparison, opposite, with_opposite, lowest_place, with_power, with_place, with_mask, with_divisor, with_rest, unfolded, through_global, forgotten, typed_number, on_one, on_two, folded, choice, by_first, double, alone, drawn, both_tests, wrapped, part, distributed, shifts, set_apart, type_of_same, cancelled, first_of_same, same_with, selected_same}
 use Rattle.peephole_rules.specs.Choice as choice_of
-use Rattle.peephole_rules.proofs.TurnedLemmas.{turned_binary, is_written, is_test, opposite_binary, is_extension, is_wrap}
-use Rattle.peephole_rules.proofs.AnswerLemmas.{no_answer, answered, answered_if, each_some, each_mapped, each_map, none_answers, typed_binary, small_constant}
+use Rattle.peephole_rules.proofs.TurnedLemmas.{is_binary, is_comparison, turned_binary, is_test, opposite_binary, is_extension, is_wrap}
+use Rattle.peephole_rules.proofs.ClassLemmas as class
+use Rattle.peephole_rules.proofs.AnswerLemmas.{no_answer, answered, answered_if, each_some, each_mapped, each_map, each_operation, each_made, none_answers, small_constant}
 use Rattle.peephole_rules.proofs.InnerChoiceLemmas.{unnegated_told, part_told, difference_told, narrowed_told, collected_told}
 
 -- ---- operands in another order, and in other groups
 
-swapped : (x : Term Head) → IsAnswer (swap (opcode_of x) (operands_of x)) x (commute x)
+swapped : (x : Term Head) → IsAnswer (swap (root_operator x) (operands_of x)) x (commute x)
 swapped absent = no_answer absent
 swapped (node h no_terms) = no_answer (node h no_terms)
 swapped (node h (x ▸ no_terms)) = no_answer (node h (x ▸ no_terms))
-swapped (node h (x ▸ y ▸ no_terms)) = answered_if _ Swap (node h (x ▸ y ▸ no_terms)) tt
+swapped (node h (x ▸ y ▸ no_terms)) =
+    subst (λ b. IsAnswer (answer_if (b && undisturbed x y) Swap) (node h (x ▸ y ▸ no_terms)) (commute (node h (x ▸ y ▸ no_terms))))
+    (sym (class.commutes (opcode_byte h))) (answered_if _ Swap (node h (x ▸ y ▸ no_terms)) tt)
 swapped (node h (x ▸ y ▸ z ▸ no_terms)) = no_answer (node h (x ▸ y ▸ z ▸ no_terms))
 swapped (node h (x ▸ y ▸ z ▸ w ▸ ts)) = no_answer (node h (x ▸ y ▸ z ▸ w ▸ ts))
 
-turned_over : (x : Term Head) → IsAnswer (turn (opcode_of x) (operands_of x)) x (turn_comparison x)
+turned_over : (x : Term Head) → IsAnswer (turn (root_operator x) (operands_of x)) x (turn_comparison x)
 turned_over absent = no_answer absent
 turned_over (node h no_terms) = no_answer (node h no_terms)
 turned_over (node h (x ▸ no_terms)) = no_answer (node h (x ▸ no_terms))
 turned_over (node h (x ▸ y ▸ no_terms)) =
     let t = node h (x ▸ y ▸ no_terms) in
-    each_some (option_and_then turned (opcode_byte h)) t _ _ (λ byte e. answered_if _ (Turn byte) t (turned_binary (opcode_byte h) byte e))
+    each_operation (turned_operation (head_operator h)) (option_and_then turned (opcode_byte h)) (class.turns (opcode_byte h)) t
+    (λ f. answer_if (undisturbed x y) (Turn f)) (λ byte. answer_if (undisturbed x y) (two (operator byte) y x))
+    (λ f e. answered_if _ (Turn f) t (turned_binary (head_operator h) f e))
 turned_over (node h (x ▸ y ▸ z ▸ no_terms)) = no_answer (node h (x ▸ y ▸ z ▸ no_terms))
 turned_over (node h (x ▸ y ▸ z ▸ w ▸ ts)) = no_answer (node h (x ▸ y ▸ z ▸ w ▸ ts))
 
-select_turned : (x : Term Head) → IsAnswer (choice_of.turn_select (opcode_of x) (operands_of x)) x (turn_select x)
+select_turned : (x : Term Head) → IsAnswer (choice_of.turn_select (root_operator x) (operands_of x)) x (turn_select x)
 select_turned absent = no_answer absent
 select_turned (node h no_terms) = no_answer (node h no_terms)
 select_turned (node h (x ▸ no_terms)) = no_answer (node h (x ▸ no_terms))
 select_turned (node h (x ▸ y ▸ no_terms)) = no_answer (node h (x ▸ y ▸ no_terms))
-select_turned (node h (x ▸ y ▸ z ▸ no_terms)) = answered_if _ TurnSelect (node h (x ▸ y ▸ z ▸ no_terms)) tt
+select_turned (node h (x ▸ y ▸ z ▸ no_terms)) =
+    subst (λ b. IsAnswer (answer_if (b && undisturbed x y) TurnSelect) (node h (x ▸ y ▸ z ▸ no_terms)) (turn_select (node h (x ▸ y ▸ z ▸ no_terms))))
+    (sym (class.selects (opcode_byte h))) (answered_if _ TurnSelect (node h (x ▸ y ▸ z ▸ no_terms)) tt)
 select_turned (node h (x ▸ y ▸ z ▸ w ▸ ts)) = no_answer (node h (x ▸ y ▸ z ▸ w ▸ ts))
 
 -- an operator on three operands or more isn't grouped
@@ -70,7 +85,7 @@ not_left h x (node g (p ▸ no_terms)) z ts = refl
 not_left h x (node g (p ▸ q ▸ no_terms)) z ts = refl
 not_left h x (node g (p ▸ q ▸ r ▸ rs)) z ts = refl
 
-grouped_left : (x : Term Head) → IsAnswer (group_left (opcode_of x) (operands_of x)) x (associate_left x)
+grouped_left : (x : Term Head) → IsAnswer (group_left (root_operator x) (operands_of x)) x (associate_left x)
 grouped_left absent = no_answer absent
 grouped_left (node h no_terms) = no_answer (node h no_terms)
 grouped_left (node h (x ▸ no_terms)) = no_answer (node h (x ▸ no_terms))
@@ -78,7 +93,9 @@ grouped_left (node h (x ▸ absent ▸ no_terms)) = no_answer (node h (x ▸ abs
 grouped_left (node h (x ▸ node g no_terms ▸ no_terms)) = no_answer (node h (x ▸ node g no_terms ▸ no_terms))
 grouped_left (node h (x ▸ node g (y ▸ no_terms) ▸ no_terms)) = no_answer (node h (x ▸ node g (y ▸ no_terms) ▸ no_terms))
 grouped_left (node h (x ▸ node g (y ▸ z ▸ no_terms) ▸ no_terms)) =
-    answered_if _ GroupLeft (node h (x ▸ node g (y ▸ z ▸ no_terms) ▸ no_terms)) tt
+    let t = node h (x ▸ node g (y ▸ z ▸ no_terms) ▸ no_terms) in
+    subst (λ b. IsAnswer (answer_if (b && has_one_value y) GroupLeft) t (associate_left t)) (sym (class.groups (opcode_byte h) (opcode_byte g)))
+    (answered_if _ GroupLeft t tt)
 grouped_left (node h (x ▸ node g (y ▸ z ▸ w ▸ ts) ▸ no_terms)) = no_answer (node h (x ▸ node g (y ▸ z ▸ w ▸ ts) ▸ no_terms))
 grouped_left (node h (x ▸ y ▸ z ▸ no_terms)) = none_answers (node h (x ▸ y ▸ z ▸ no_terms)) _ (not_left h x y z no_terms)
 grouped_left (node h (x ▸ y ▸ z ▸ w ▸ ts)) = none_answers (node h (x ▸ y ▸ z ▸ w ▸ ts)) _ (not_left h x y z (w ▸ ts))
@@ -97,7 +114,7 @@ not_right h (node g (p ▸ no_terms)) y z ts = refl
 not_right h (node g (p ▸ q ▸ no_terms)) y z ts = refl
 not_right h (node g (p ▸ q ▸ r ▸ rs)) y z ts = refl
 
-grouped_right : (x : Term Head) → IsAnswer (group_right (opcode_of x) (operands_of x)) x (associate_right x)
+grouped_right : (x : Term Head) → IsAnswer (group_right (root_operator x) (operands_of x)) x (associate_right x)
 grouped_right absent = no_answer absent
 grouped_right (node h no_terms) = no_answer (node h no_terms)
 grouped_right (node h (x ▸ no_terms)) = none_answers (node h (x ▸ no_terms)) _ (right_alone h x)
@@ -105,7 +122,9 @@ grouped_right (node h (absent ▸ z ▸ no_terms)) = no_answer (node h (absent �
 grouped_right (node h (node g no_terms ▸ z ▸ no_terms)) = no_answer (node h (node g no_terms ▸ z ▸ no_terms))
 grouped_right (node h (node g (x ▸ no_terms) ▸ z ▸ no_terms)) = no_answer (node h (node g (x ▸ no_terms) ▸ z ▸ no_terms))
 grouped_right (node h (node g (x ▸ y ▸ no_terms) ▸ z ▸ no_terms)) =
-    answered_if _ GroupRight (node h (node g (x ▸ y ▸ no_terms) ▸ z ▸ no_terms)) tt
+    let t = node h (node g (x ▸ y ▸ no_terms) ▸ z ▸ no_terms) in
+    subst (λ b. IsAnswer (answer_if (b && has_one_value y) GroupRight) t (associate_right t)) (sym (class.groups (opcode_byte h) (opcode_byte g)))
+    (answered_if _ GroupRight t tt)
 grouped_right (node h (node g (x ▸ y ▸ w ▸ ts) ▸ z ▸ no_terms)) = no_answer (node h (node g (x ▸ y ▸ w ▸ ts) ▸ z ▸ no_terms))
 grouped_right (node h (x ▸ y ▸ z ▸ no_terms)) = none_answers (node h (x ▸ y ▸ z ▸ no_terms)) _ (not_right h x y z no_terms)
 grouped_right (node h (x ▸ y ▸ z ▸ w ▸ ts)) = none_answers (node h (x ▸ y ▸ z ▸ w ▸ ts)) _ (not_right h x y z (w ▸ ts))
@@ -117,29 +136,33 @@ one_constant integer.I32 a b x = refl
 one_constant integer.I64 a b x = refl
 
 module _ (context : Context) (x : Term Head) where
-  numbered_behind : (a b e : ℕ) → IsBinary a → IsBinary b →
-      ((t : IntegerType) → two (operator (of_type t a b)) x (numbered t e) ≡ with_constant t a b e x) →
-      IsAnswer (with_number a b e (integer_type (type_of_value context x))) x (by_its_type context (λ t y. Some (with_constant t a b e y)) x)
-  numbered_behind a b e p q k = each_mapped (integer_type (type_of_value context x)) x _ _
-      (λ t. record { term = ap (λ (y : Term Head). Some y) (k t); fits = typed_binary t a b p q })
+  numbered_behind : (f : BinaryOperator) (e : ℕ) →
+      ((t : IntegerType) → two (operator (opcode (Binary t f))) x (numbered t e) ≡ with_constant t (binary_opcodes f).0 (binary_opcodes f).1 e x) →
+      IsAnswer (with_number f e (integer_type (type_of_value context x))) x
+      (by_its_type context (λ t y. Some (with_constant t (binary_opcodes f).0 (binary_opcodes f).1 e y)) x)
+  numbered_behind f e k = each_mapped (integer_type (type_of_value context x)) x _ _
+      (λ t. record { term = ap (λ (y : Term Head). Some y) (k t); fits = is_binary t f })
 
-  zero_behind : (a b : ℕ) → IsBinary a → IsBinary b →
-      IsAnswer (with_number a b 0 (integer_type (type_of_value context x))) x (by_its_type context (λ t y. Some (with_constant t a b 0 y)) x)
-  zero_behind a b p q = numbered_behind a b 0 p q (λ t. small_constant t a b 0 x refl)
+  zero_behind : (f : BinaryOperator) →
+      IsAnswer (with_number f 0 (integer_type (type_of_value context x))) x
+      (by_its_type context (λ t y. Some (with_constant t (binary_opcodes f).0 (binary_opcodes f).1 0 y)) x)
+  zero_behind f = numbered_behind f 0 (λ t. small_constant t (binary_opcodes f).0 (binary_opcodes f).1 0 x refl)
 
-  ones_behind : (a b : ℕ) → IsBinary a → IsBinary b →
-      IsAnswer (with_all_ones a b (integer_type (type_of_value context x))) x (by_its_type context (λ t y. Some (with_ones t a b y)) x)
-  ones_behind a b p q = each_mapped (integer_type (type_of_value context x)) x _ _ (λ t. record { term = refl; fits = typed_binary t a b p q })
+  ones_behind : (f : BinaryOperator) →
+      IsAnswer (with_all_ones f (integer_type (type_of_value context x))) x
+      (by_its_type context (λ t y. Some (with_ones t (binary_opcodes f).0 (binary_opcodes f).1 y)) x)
+  ones_behind f = each_mapped (integer_type (type_of_value context x)) x _ _ (λ t. record { term = refl; fits = is_binary t f })
 
-  complements_behind : (a b : ℕ) → IsBinary a → IsBinary b →
-      IsAnswer (complements a b (integer_type (type_of_value context x))) x
-      (by_its_type context (λ t y. Some (with_ones t a b (with_ones t a b y))) x)
-  complements_behind a b p q = each_mapped (integer_type (type_of_value context x)) x _ _ (λ t. record { term = refl; fits = typed_binary t a b p q })
+  complements_behind : (f : BinaryOperator) →
+      IsAnswer (complements f (integer_type (type_of_value context x))) x
+      (by_its_type context (λ t y. Some (with_ones t (binary_opcodes f).0 (binary_opcodes f).1 (with_ones t (binary_opcodes f).0 (binary_opcodes f).1 y))) x)
+  complements_behind f = each_mapped (integer_type (type_of_value context x)) x _ _ (λ t. record { term = refl; fits = is_binary t f })
 
-  doubled : (a b : ℕ) → IsBinary a → IsBinary b →
-      IsAnswer (twice a b (writes x) (asks x) (integer_type (type_of_value context x))) x (by_its_type context (λ t y. with_itself t a b y) x)
-  doubled a b p q = each_some (integer_type (type_of_value context x)) x _ _
-      (λ t e. answered_if _ (Twice (of_type t a b)) x (typed_binary t a b p q))
+  doubled : (f : BinaryOperator) →
+      IsAnswer (twice f (writes x) (asks x) (integer_type (type_of_value context x))) x
+      (by_its_type context (λ t y. with_itself t (binary_opcodes f).0 (binary_opcodes f).1 y) x)
+  doubled f = each_some (integer_type (type_of_value context x)) x _ _
+      (λ t e. answered_if _ (Twice (Binary t f)) x (is_binary t f))
 
   by_global : IsAnswer (through_global (number_type (type_of_value context x))) x (by_its_number_type context (λ t y. Some (by_way_of_global t y)) x)
   by_global = each_mapped (number_type (type_of_value context x)) x _ _ (λ t. record { term = refl; fits = tt })
@@ -162,11 +185,14 @@ is_within t (node h no_terms) n e = told t h.place h.payload e
     told t place p e = absurd cc
 
 -- what is made of the type and the number
-each_number : (a b : ℕ) (h : Head) (x c : Term Head) (f : IntegerType × ℕ → Option Replacement) (make : IntegerType → Term Head → ℕ → Option (Term Head)) →
+each_number : (a b : ℕ) (h : Head) (x c : Term Head) (o : Option IntegerType) → o ≡ type_by a b (opcode_byte h) →
+    (f : IntegerType × ℕ → Option Replacement) (make : IntegerType → Term Head → ℕ → Option (Term Head)) →
     ((t : IntegerType) (n : ℕ) → within_width t n ≡ n → IsAnswer (f (t, n)) (node h (x ▸ c ▸ no_terms)) (make t x n)) →
-    IsAnswer (option_and_then f (number_behind a b (opcode_byte h) (operands_of (node h (x ▸ c ▸ no_terms))))) (node h (x ▸ c ▸ no_terms))
+    IsAnswer (option_and_then f (number_of_second o (operands_of (node h (x ▸ c ▸ no_terms))))) (node h (x ▸ c ▸ no_terms))
     (of_constant a b make (node h (x ▸ c ▸ no_terms)))
-each_number a b h x c f make k = of_type_told (type_by a b (opcode_byte h))
+each_number a b h x c o is f make k =
+    subst (λ r. IsAnswer (option_and_then f (number_of_second o (operands_of (node h (x ▸ c ▸ no_terms))))) (node h (x ▸ c ▸ no_terms))
+    (option_and_then (λ t. option_and_then (make t x) (constant_number t c)) r)) is (of_type_told o)
   where
     of_number : (t : IntegerType) (o : Option ℕ) → constant_number t c ≡ o →
         IsAnswer (option_and_then f (option_map (λ n. (t, n)) o)) (node h (x ▸ c ▸ no_terms)) (option_and_then (make t x) o)
@@ -180,30 +206,50 @@ each_number a b h x c f make k = of_type_told (type_by a b (opcode_byte h))
     of_type_told (Some integer.I32) = of_number integer.I32 (constant_number integer.I32 c) refl
     of_type_told (Some integer.I64) = of_number integer.I64 (constant_number integer.I64 c) refl
 
-behind : (a b : ℕ) (f : IntegerType × ℕ → Option Replacement) (make : IntegerType → Term Head → ℕ → Option (Term Head)) →
-    ((h : Head) (x c : Term Head) (t : IntegerType) (n : ℕ) → within_width t n ≡ n → IsAnswer (f (t, n)) (node h (x ▸ c ▸ no_terms)) (make t x n)) →
-    (x : Term Head) → IsAnswer (option_and_then f (number_behind a b (opcode_of x) (operands_of x))) x (of_constant a b make x)
-behind a b f make k absent = no_answer absent
-behind a b f make k (node h no_terms) = no_answer (node h no_terms)
-behind a b f make k (node h (x ▸ no_terms)) = no_answer (node h (x ▸ no_terms))
-behind a b f make k (node h (x ▸ c ▸ no_terms)) = each_number a b h x c f make (k h x c)
-behind a b f make k (node h (x ▸ y ▸ z ▸ no_terms)) = no_answer (node h (x ▸ y ▸ z ▸ no_terms))
-behind a b f make k (node h (x ▸ y ▸ z ▸ w ▸ ts)) = no_answer (node h (x ▸ y ▸ z ▸ w ▸ ts))
+-- where the type is read by an operator that has these opcodes
+module _ (read : Option Operator → Option IntegerType) (a b : ℕ) (is : (o : Option ℕ) → read (operator_on o) ≡ type_by a b o)
+    (make : IntegerType → Term Head → ℕ → Option (Term Head)) where
+  behind_read : (f : IntegerType × ℕ → Option Replacement) →
+      ((h : Head) (x c : Term Head) (t : IntegerType) (n : ℕ) → within_width t n ≡ n → IsAnswer (f (t, n)) (node h (x ▸ c ▸ no_terms)) (make t x n)) →
+      (x : Term Head) → IsAnswer (option_and_then f (number_of_second (read (root_operator x)) (operands_of x))) x (of_constant a b make x)
+  behind_read f k absent = no_answer absent
+  behind_read f k (node h no_terms) = no_answer (node h no_terms)
+  behind_read f k (node h (x ▸ no_terms)) = no_answer (node h (x ▸ no_terms))
+  behind_read f k (node h (x ▸ c ▸ no_terms)) = each_number a b h x c (read (head_operator h)) (is (opcode_byte h)) f make (k h x c)
+  behind_read f k (node h (x ▸ y ▸ z ▸ no_terms)) = no_answer (node h (x ▸ y ▸ z ▸ no_terms))
+  behind_read f k (node h (x ▸ y ▸ z ▸ w ▸ ts)) = no_answer (node h (x ▸ y ▸ z ▸ w ▸ ts))
 
-dropped : (a b e : ℕ) (x : Term Head) → IsAnswer (without e (number_behind a b (opcode_of x) (operands_of x))) x
-    (of_constant a b (λ t y n. answer_if (n == e) y) x)
-dropped a b e x = behind a b (λ p. answer_if (p.1 == e) First) (λ t y n. answer_if (n == e) y)
+-- the type and the number behind an operator on two numbers, and behind a comparison
+abbrev second : BinaryOperator → Term Head → Option (IntegerType × ℕ)
+second g x = number_of_second (binary_type g (root_operator x)) (operands_of x)
+
+abbrev compared_second : Comparison → Term Head → Option (IntegerType × ℕ)
+compared_second g x = number_of_second (comparison_type g (root_operator x)) (operands_of x)
+
+behind : (g : BinaryOperator) (f : IntegerType × ℕ → Option Replacement) (make : IntegerType → Term Head → ℕ → Option (Term Head)) →
+    ((h : Head) (x c : Term Head) (t : IntegerType) (n : ℕ) → within_width t n ≡ n → IsAnswer (f (t, n)) (node h (x ▸ c ▸ no_terms)) (make t x n)) →
+    (x : Term Head) → IsAnswer (option_and_then f (second g x)) x (of_constant (binary_opcodes g).0 (binary_opcodes g).1 make x)
+behind g f make k x = behind_read (binary_type g) (binary_opcodes g).0 (binary_opcodes g).1 (class.binaries g) make f k x
+
+behind_comparison : (g : Comparison) (f : IntegerType × ℕ → Option Replacement) (make : IntegerType → Term Head → ℕ → Option (Term Head)) →
+    ((h : Head) (x c : Term Head) (t : IntegerType) (n : ℕ) → within_width t n ≡ n → IsAnswer (f (t, n)) (node h (x ▸ c ▸ no_terms)) (make t x n)) →
+    (x : Term Head) → IsAnswer (option_and_then f (compared_second g x)) x (of_constant (comparison_opcodes g).0 (comparison_opcodes g).1 make x)
+behind_comparison g f make k x = behind_read (comparison_type g) (comparison_opcodes g).0 (comparison_opcodes g).1 (class.compares g) make f k x
+
+dropped : (g : BinaryOperator) (e : ℕ) (x : Term Head) → IsAnswer (without e (second g x)) x
+    (of_constant (binary_opcodes g).0 (binary_opcodes g).1 (λ t y n. answer_if (n == e) y) x)
+dropped g e x = behind g (λ p. answer_if (p.1 == e) First) (λ t y n. answer_if (n == e) y)
     (λ h y c t n k. answered_if (n == e) First (node h (y ▸ c ▸ no_terms)) tt) x
 
-dropped_ones : (a b : ℕ) (x : Term Head) → IsAnswer (choice_of.without_all_ones (number_behind a b (opcode_of x) (operands_of x))) x
-    (of_constant a b (λ t y n. answer_if (n == all_ones t) y) x)
-dropped_ones a b x = behind a b (λ p. answer_if (p.1 == all_ones p.0) First) (λ t y n. answer_if (n == all_ones t) y)
+dropped_ones : (g : BinaryOperator) (x : Term Head) → IsAnswer (choice_of.without_all_ones (second g x)) x
+    (of_constant (binary_opcodes g).0 (binary_opcodes g).1 (λ t y n. answer_if (n == all_ones t) y) x)
+dropped_ones g x = behind g (λ p. answer_if (p.1 == all_ones p.0) First) (λ t y n. answer_if (n == all_ones t) y)
     (λ h y c t n k. answered_if (n == all_ones t) First (node h (y ▸ c ▸ no_terms)) tt) x
 
-tested : (x : Term Head) → IsAnswer (choice_of.test (number_behind 0x46 0x51 (opcode_of x) (operands_of x))) x (comparison_to_test x)
-tested x = behind 0x46 0x51 (λ p. answer_if (p.1 == 0) (FirstBy (of_type p.0 0x45 0x50)))
+tested : (x : Term Head) → IsAnswer (choice_of.test (compared_second Eq x)) x (comparison_to_test x)
+tested x = behind_comparison Eq (λ p. answer_if (p.1 == 0) (FirstBy (Eqz p.0)))
     (λ t y n. answer_if (n == 0) (one (operator (of_type t 0x45 0x50)) y))
-    (λ h y c t n k. answered_if (n == 0) (FirstBy (of_type t 0x45 0x50)) (node h (y ▸ c ▸ no_terms)) (is_test t)) x
+    (λ h y c t n k. answered_if (n == 0) (FirstBy (Eqz t)) (node h (y ▸ c ▸ no_terms)) (is_test t)) x
 
 opposed : (t : IntegerType) (n : ℕ) → within_width t n ≡ n → numbered t (opposite t n) ≡ negated t n
 opposed integer.I32 n k = ap (λ m. numbered integer.I32 (2 ^ 32 - m)) k
@@ -217,52 +263,56 @@ mapped_by : (f : IntegerType × ℕ → Replacement) (o : Option (IntegerType ×
 mapped_by f None = refl
 mapped_by f (Some v) = refl
 
-opposite_behind : (a b c d : ℕ) → IsBinary c → IsBinary d → (x : Term Head) →
-    IsAnswer (with_opposite c d (number_behind a b (opcode_of x) (operands_of x))) x
-    (of_constant a b (λ t y n. Some (two (operator (of_type t c d)) y (negated t n))) x)
-opposite_behind a b c d p q x =
-    subst (λ o. IsAnswer o x (of_constant a b (λ t y n. Some (two (operator (of_type t c d)) y (negated t n))) x))
-    (mapped_by (λ (v : IntegerType × ℕ). FirstWith (of_type v.0 c d) v.0 (opposite v.0 v.1)) (number_behind a b (opcode_of x) (operands_of x)))
-    (behind a b (λ v. Some (FirstWith (of_type v.0 c d) v.0 (opposite v.0 v.1))) (λ t y n. Some (two (operator (of_type t c d)) y (negated t n)))
-    (λ h y e t n k. record {
-      term = ap (λ (z : Term Head). Some (two (operator (of_type t c d)) y z)) (opposed t n k);
-      fits = typed_binary t c d p q;
+opposite_behind : (g k : BinaryOperator) (x : Term Head) →
+    IsAnswer (with_opposite k (second g x)) x
+    (of_constant (binary_opcodes g).0 (binary_opcodes g).1 (λ t y n. Some (two (operator (opcode (Binary t k))) y (negated t n))) x)
+opposite_behind g k x =
+    subst (λ o. IsAnswer o x (of_constant (binary_opcodes g).0 (binary_opcodes g).1 (λ t y n. Some (two (operator (opcode (Binary t k))) y (negated t n))) x))
+    (mapped_by (λ (v : IntegerType × ℕ). FirstWith (Binary v.0 k) v.0 (opposite v.0 v.1)) (second g x))
+    (behind g (λ v. Some (FirstWith (Binary v.0 k) v.0 (opposite v.0 v.1))) (λ t y n. Some (two (operator (opcode (Binary t k))) y (negated t n)))
+    (λ h y e t n l. record {
+      term = ap (λ (z : Term Head). Some (two (operator (opcode (Binary t k))) y z)) (opposed t n l);
+      fits = is_binary t k;
     }) x)
 
-module _ (a b c d : ℕ) (p : IsBinary c) (q : IsBinary d) where
-  powered : (x : Term Head) → IsAnswer (with_power c d (number_behind a b (opcode_of x) (operands_of x))) x
-      (of_constant a b (λ t y n. answer_if (nat_lt n (bits (width_of t))) (two (operator (of_type t c d)) y (numbered t (2 ^ n)))) x)
-  powered x = behind a b (λ p. answer_if (nat_lt p.1 (bits (width_of p.0))) (FirstWith (of_type p.0 c d) p.0 (2 ^ p.1)))
-      (λ t y n. answer_if (nat_lt n (bits (width_of t))) (two (operator (of_type t c d)) y (numbered t (2 ^ n))))
-      (λ h y e t n k. answered_if _ (FirstWith (of_type t c d) t (2 ^ n)) (node h (y ▸ e ▸ no_terms)) (typed_binary t c d p q)) x
+module _ (g k : BinaryOperator) where
+  powered : (x : Term Head) → IsAnswer (with_power k (second g x)) x
+      (of_constant (binary_opcodes g).0 (binary_opcodes g).1
+      (λ t y n. answer_if (nat_lt n (bits (width_of t))) (two (operator (opcode (Binary t k))) y (numbered t (2 ^ n)))) x)
+  powered x = behind g (λ p. answer_if (nat_lt p.1 (bits (width_of p.0))) (FirstWith (Binary p.0 k) p.0 (2 ^ p.1)))
+      (λ t y n. answer_if (nat_lt n (bits (width_of t))) (two (operator (opcode (Binary t k))) y (numbered t (2 ^ n))))
+      (λ h y e t n l. answered_if _ (FirstWith (Binary t k) t (2 ^ n)) (node h (y ▸ e ▸ no_terms)) (is_binary t k)) x
 
-  placed : (x : Term Head) → IsAnswer (with_place c d (number_behind a b (opcode_of x) (operands_of x))) x
-      (of_constant a b (λ t y n. answer_if (2 ^ lowest_bit t n == n) (two (operator (of_type t c d)) y (numbered t (lowest_bit t n)))) x)
-  placed x = behind a b
-      (λ p. answer_if (2 ^ lowest_place p.0 p.1 == p.1) (FirstWith (of_type p.0 c d) p.0 (lowest_place p.0 p.1)))
-      (λ t y n. answer_if (2 ^ lowest_bit t n == n) (two (operator (of_type t c d)) y (numbered t (lowest_bit t n))))
-      (λ h y e t n k. subst (λ m. IsAnswer (answer_if (2 ^ lowest_bit t m == n) (FirstWith (of_type t c d) t (lowest_bit t m))) (node h (y ▸ e ▸ no_terms))
-      (answer_if (2 ^ lowest_bit t n == n) (two (operator (of_type t c d)) y (numbered t (lowest_bit t n))))) (sym k)
-      (answered_if _ (FirstWith (of_type t c d) t (lowest_bit t n)) (node h (y ▸ e ▸ no_terms)) (typed_binary t c d p q))) x
+  placed : (x : Term Head) → IsAnswer (with_place k (second g x)) x
+      (of_constant (binary_opcodes g).0 (binary_opcodes g).1
+      (λ t y n. answer_if (2 ^ lowest_bit t n == n) (two (operator (opcode (Binary t k))) y (numbered t (lowest_bit t n)))) x)
+  placed x = behind g
+      (λ p. answer_if (2 ^ lowest_place p.0 p.1 == p.1) (FirstWith (Binary p.0 k) p.0 (lowest_place p.0 p.1)))
+      (λ t y n. answer_if (2 ^ lowest_bit t n == n) (two (operator (opcode (Binary t k))) y (numbered t (lowest_bit t n))))
+      (λ h y e t n l. subst (λ m. IsAnswer (answer_if (2 ^ lowest_bit t m == n) (FirstWith (Binary t k) t (lowest_bit t m))) (node h (y ▸ e ▸ no_terms))
+      (answer_if (2 ^ lowest_bit t n == n) (two (operator (opcode (Binary t k))) y (numbered t (lowest_bit t n))))) (sym l)
+      (answered_if _ (FirstWith (Binary t k) t (lowest_bit t n)) (node h (y ▸ e ▸ no_terms)) (is_binary t k))) x
 
-  rested : (x : Term Head) → IsAnswer (with_rest c d (number_behind a b (opcode_of x) (operands_of x))) x
-      (of_constant a b (λ t y n. Some (two (operator (of_type t c d)) y (numbered t (bits (width_of t) - n % bits (width_of t))))) x)
+  rested : (x : Term Head) → IsAnswer (with_rest k (second g x)) x
+      (of_constant (binary_opcodes g).0 (binary_opcodes g).1
+      (λ t y n. Some (two (operator (opcode (Binary t k))) y (numbered t (bits (width_of t) - n % bits (width_of t))))) x)
   rested x =
-      subst (λ o. IsAnswer o x (of_constant a b (λ t y n. Some (two (operator (of_type t c d)) y (numbered t (bits (width_of t) - n % bits (width_of t))))) x))
-      (mapped_by (λ (v : IntegerType × ℕ). FirstWith (of_type v.0 c d) v.0 (bits (width_of v.0) - v.1 % bits (width_of v.0)))
-      (number_behind a b (opcode_of x) (operands_of x)))
-      (behind a b (λ v. Some (FirstWith (of_type v.0 c d) v.0 (bits (width_of v.0) - v.1 % bits (width_of v.0))))
-      (λ t y n. Some (two (operator (of_type t c d)) y (numbered t (bits (width_of t) - n % bits (width_of t)))))
-      (λ h y e t n k. record { term = refl; fits = typed_binary t c d p q }) x)
+      subst (λ o. IsAnswer o x (of_constant (binary_opcodes g).0 (binary_opcodes g).1
+      (λ t y n. Some (two (operator (opcode (Binary t k))) y (numbered t (bits (width_of t) - n % bits (width_of t))))) x))
+      (mapped_by (λ (v : IntegerType × ℕ). FirstWith (Binary v.0 k) v.0 (bits (width_of v.0) - v.1 % bits (width_of v.0)))
+      (second g x))
+      (behind g (λ v. Some (FirstWith (Binary v.0 k) v.0 (bits (width_of v.0) - v.1 % bits (width_of v.0))))
+      (λ t y n. Some (two (operator (opcode (Binary t k))) y (numbered t (bits (width_of t) - n % bits (width_of t)))))
+      (λ h y e t n l. record { term = refl; fits = is_binary t k }) x)
 
-masked : (x : Term Head) → IsAnswer (with_mask (number_behind 0x70 0x82 (opcode_of x) (operands_of x))) x (remainder_to_mask x)
-masked x = behind 0x70 0x82
-    (λ p. answer_if (2 ^ lowest_place p.0 p.1 == p.1) (FirstWith (of_type p.0 0x71 0x83) p.0 (p.1 - 1)))
+masked : (x : Term Head) → IsAnswer (with_mask (second RemU x)) x (remainder_to_mask x)
+masked x = behind RemU
+    (λ p. answer_if (2 ^ lowest_place p.0 p.1 == p.1) (FirstWith (Binary p.0 And) p.0 (p.1 - 1)))
     (λ t y n. answer_if (2 ^ lowest_bit t n == n) (two (operator (of_type t 0x71 0x83)) y (numbered t (n - 1))))
-    (λ h y e t n k. subst (λ m. IsAnswer (answer_if (2 ^ lowest_bit t m == n) (FirstWith (of_type t 0x71 0x83) t (n - 1))) (node h (y ▸ e ▸ no_terms))
-    (answer_if (2 ^ lowest_bit t n == n) (two (operator (of_type t 0x71 0x83)) y (numbered t (n - 1))))) (sym k)
-    (answered_if _ (FirstWith (of_type t 0x71 0x83) t (n - 1)) (node h (y ▸ e ▸ no_terms))
-    (typed_binary t 0x71 0x83 (is_written 0x71 refl) (is_written 0x83 refl)))) x
+    (λ h y e t n l. subst (λ m. IsAnswer (answer_if (2 ^ lowest_bit t m == n) (FirstWith (Binary t And) t (n - 1))) (node h (y ▸ e ▸ no_terms))
+    (answer_if (2 ^ lowest_bit t n == n) (two (operator (of_type t 0x71 0x83)) y (numbered t (n - 1))))) (sym l)
+    (answered_if _ (FirstWith (Binary t And) t (n - 1)) (node h (y ▸ e ▸ no_terms))
+    (is_binary t And))) x
 
 -- a number of the width stays as it is, also one more than one below -1
 one_more : (t : IntegerType) (n : ℕ) (b : Bool) → nat_lt n (all_ones t) ≡ b → (b && (2 ^ lowest_place t (n + 1) == n + 1)) ≡ (b && (2 ^ lowest_bit t (n + 1) == n + 1))
@@ -275,27 +325,29 @@ one_more t n true e =
     below_size : (n M : ℕ) → n < M - 1 → 0 < M → n + 1 < M
     below_size n M l p = omega arith
 
-divided : (x : Term Head) → IsAnswer (with_divisor (number_behind 0x71 0x83 (opcode_of x) (operands_of x))) x (mask_to_remainder x)
-divided x = behind 0x71 0x83
-    (λ p. answer_if (nat_lt p.1 (all_ones p.0) && (2 ^ lowest_place p.0 (p.1 + 1) == p.1 + 1)) (FirstWith (of_type p.0 0x70 0x82) p.0 (p.1 + 1)))
+divided : (x : Term Head) → IsAnswer (with_divisor (second And x)) x (mask_to_remainder x)
+divided x = behind And
+    (λ p. answer_if (nat_lt p.1 (all_ones p.0) && (2 ^ lowest_place p.0 (p.1 + 1) == p.1 + 1)) (FirstWith (Binary p.0 RemU) p.0 (p.1 + 1)))
     (λ t y n. answer_if (nat_lt n (all_ones t) && (2 ^ lowest_bit t (n + 1) == n + 1)) (two (operator (of_type t 0x70 0x82)) y (numbered t (n + 1))))
-    (λ h y e t n k. subst (λ (b : Bool). IsAnswer (answer_if b (FirstWith (of_type t 0x70 0x82) t (n + 1))) (node h (y ▸ e ▸ no_terms))
+    (λ h y e t n l. subst (λ (b : Bool). IsAnswer (answer_if b (FirstWith (Binary t RemU) t (n + 1))) (node h (y ▸ e ▸ no_terms))
     (answer_if (nat_lt n (all_ones t) && (2 ^ lowest_bit t (n + 1) == n + 1)) (two (operator (of_type t 0x70 0x82)) y (numbered t (n + 1)))))
     (sym (one_more t n (nat_lt n (all_ones t)) refl))
-    (answered_if _ (FirstWith (of_type t 0x70 0x82) t (n + 1)) (node h (y ▸ e ▸ no_terms))
-    (typed_binary t 0x70 0x82 (is_written 0x70 refl) (is_written 0x82 refl)))) x
+    (answered_if _ (FirstWith (Binary t RemU) t (n + 1)) (node h (y ▸ e ▸ no_terms))
+    (is_binary t RemU))) x
 
-compared : (x : Term Head) → IsAnswer (comparison (opcode_of x) (operands_of x)) x (test_to_comparison x)
+compared : (x : Term Head) → IsAnswer (comparison (root_operator x) (operands_of x)) x (test_to_comparison x)
 compared absent = no_answer absent
 compared (node h no_terms) = no_answer (node h no_terms)
-compared (node h (x ▸ no_terms)) = go (type_by 0x45 0x50 (opcode_byte h))
+compared (node h (x ▸ no_terms)) =
+    subst (λ o. IsAnswer (option_map (λ t. FirstWith (Compare t Eq) t 0) o) (node h (x ▸ no_terms)) (test_to_comparison (node h (x ▸ no_terms))))
+    (sym (class.tests (opcode_byte h))) (go (type_by 0x45 0x50 (opcode_byte h)))
   where
-    go : (o : Option IntegerType) → IsAnswer (option_map (λ t. FirstWith (of_type t 0x46 0x51) t 0) o) (node h (x ▸ no_terms))
+    go : (o : Option IntegerType) → IsAnswer (option_map (λ t. FirstWith (Compare t Eq) t 0) o) (node h (x ▸ no_terms))
         (option_map (λ t. with_constant t 0x46 0x51 0 x) o)
     go None = no_answer (node h (x ▸ no_terms))
     go (Some t) = record {
       term = ap (λ (y : Term Head). Some y) (small_constant t 0x46 0x51 0 x refl);
-      fits = typed_binary t 0x46 0x51 (is_written 0x46 refl) (is_written 0x51 refl);
+      fits = is_comparison t Eq;
     }
 compared (node h (x ▸ y ▸ no_terms)) = no_answer (node h (x ▸ y ▸ no_terms))
 compared (node h (x ▸ y ▸ z ▸ no_terms)) = no_answer (node h (x ▸ y ▸ z ▸ no_terms))
@@ -324,10 +376,12 @@ summed (node h no_terms) = by_payload h.place h.payload
     by_payload place (payload.I64 z) = i64 (place == 49) (within_width integer.I64 (cast_unsigned w64 z))
     by_payload place p = no_answer (node h no_terms)
 
-emptied : (x : Term Head) → IsAnswer (forgotten (opcode_of x) (operands_of x)) x (forget x)
+emptied : (x : Term Head) → IsAnswer (forgotten (root_operator x) (operands_of x)) x (forget x)
 emptied absent = no_answer absent
 emptied (node h no_terms) = no_answer (node h no_terms)
-emptied (node h (x ▸ no_terms)) = answered_if _ Empty (node h (x ▸ no_terms)) tt
+emptied (node h (x ▸ no_terms)) =
+    subst (λ b. IsAnswer (answer_if (b && (not (writes x) && not (may_trap x))) Empty) (node h (x ▸ no_terms)) (forget (node h (x ▸ no_terms))))
+    (sym (class.drops (opcode_byte h))) (answered_if _ Empty (node h (x ▸ no_terms)) tt)
 emptied (node h (x ▸ y ▸ no_terms)) = no_answer (node h (x ▸ y ▸ no_terms))
 emptied (node h (x ▸ y ▸ z ▸ no_terms)) = no_answer (node h (x ▸ y ▸ z ▸ no_terms))
 emptied (node h (x ▸ y ▸ z ▸ w ▸ ts)) = no_answer (node h (x ▸ y ▸ z ▸ w ▸ ts))
@@ -421,141 +475,166 @@ nothing_folded : (o : Option IntegerOperator) (x : Term Head) →
 nothing_folded None x = no_answer x
 nothing_folded (Some f) x = no_answer x
 
-computed_folded : (x : Term Head) → IsAnswer (folded (opcode_of x) (operands_of x)) x (fold x)
+computed_folded : (x : Term Head) → IsAnswer (folded (root_operator x) (operands_of x)) x (fold x)
 computed_folded absent = no_answer absent
-computed_folded (node h no_terms) = nothing_folded (option_and_then bare_operator (opcode_byte h)) (node h no_terms)
-computed_folded (node h (x ▸ no_terms)) = each_some (option_and_then bare_operator (opcode_byte h)) (node h (x ▸ no_terms)) _ _
-    (λ f e. one_folded f f.operands h x)
-computed_folded (node h (x ▸ y ▸ no_terms)) = each_some (option_and_then bare_operator (opcode_byte h)) (node h (x ▸ y ▸ no_terms)) _ _
-    (λ f e. two_folded f f.operands h x y)
+computed_folded (node h no_terms) = nothing_folded (numeric_operator (head_operator h)) (node h no_terms)
+computed_folded (node h (x ▸ no_terms)) =
+    subst (λ o. IsAnswer (option_and_then (λ f. option_map (λ n. Number f.result n) (on_one f f.operands (operand_of x))) o) (node h (x ▸ no_terms))
+    (fold (node h (x ▸ no_terms)))) (sym (class.numbers (opcode_byte h)))
+    (each_some (option_and_then bare_operator (opcode_byte h)) (node h (x ▸ no_terms)) _ _ (λ f e. one_folded f f.operands h x))
+computed_folded (node h (x ▸ y ▸ no_terms)) =
+    subst (λ o. IsAnswer (option_and_then (λ f. option_map (λ n. Number f.result n) (on_two f f.operands (operand_of x) (operand_of y))) o)
+    (node h (x ▸ y ▸ no_terms)) (fold (node h (x ▸ y ▸ no_terms)))) (sym (class.numbers (opcode_byte h)))
+    (each_some (option_and_then bare_operator (opcode_byte h)) (node h (x ▸ y ▸ no_terms)) _ _ (λ f e. two_folded f f.operands h x y))
 computed_folded (node h (x ▸ y ▸ z ▸ no_terms)) =
-    nothing_folded (option_and_then bare_operator (opcode_byte h)) (node h (x ▸ y ▸ z ▸ no_terms))
+    nothing_folded (numeric_operator (head_operator h)) (node h (x ▸ y ▸ z ▸ no_terms))
 computed_folded (node h (x ▸ y ▸ z ▸ w ▸ ts)) =
-    nothing_folded (option_and_then bare_operator (opcode_byte h)) (node h (x ▸ y ▸ z ▸ w ▸ ts))
+    nothing_folded (numeric_operator (head_operator h)) (node h (x ▸ y ▸ z ▸ w ▸ ts))
 
 -- ---- by the first of two operands, and the number of the second
 
-by_both : (a b : ℕ) (f : Operand → IntegerType × ℕ → Option Replacement) (make : IntegerType → Term Head → ℕ → Option (Term Head)) →
+by_both : (g : BinaryOperator) (f : Operand → IntegerType × ℕ → Option Replacement) (make : IntegerType → Term Head → ℕ → Option (Term Head)) →
     ((h : Head) (x c : Term Head) (t : IntegerType) (n : ℕ) → within_width t n ≡ n →
     IsAnswer (f (operand_of x) (t, n)) (node h (x ▸ c ▸ no_terms)) (make t x n)) →
-    (x : Term Head) → IsAnswer (by_first (operands_of x) f (number_behind a b (opcode_of x) (operands_of x))) x (of_constant a b make x)
-by_both a b f make k absent = no_answer absent
-by_both a b f make k (node h no_terms) = no_answer (node h no_terms)
-by_both a b f make k (node h (x ▸ no_terms)) = no_answer (node h (x ▸ no_terms))
-by_both a b f make k (node h (x ▸ c ▸ no_terms)) = each_number a b h x c (f (operand_of x)) make (k h x c)
-by_both a b f make k (node h (x ▸ y ▸ z ▸ no_terms)) = no_answer (node h (x ▸ y ▸ z ▸ no_terms))
-by_both a b f make k (node h (x ▸ y ▸ z ▸ w ▸ ts)) = no_answer (node h (x ▸ y ▸ z ▸ w ▸ ts))
+    (x : Term Head) → IsAnswer (by_first (operands_of x) f (second g x)) x (of_constant (binary_opcodes g).0 (binary_opcodes g).1 make x)
+by_both g f make k absent = no_answer absent
+by_both g f make k (node h no_terms) = no_answer (node h no_terms)
+by_both g f make k (node h (x ▸ no_terms)) = no_answer (node h (x ▸ no_terms))
+by_both g f make k (node h (x ▸ c ▸ no_terms)) = each_number (binary_opcodes g).0 (binary_opcodes g).1 h x c (binary_type g (head_operator h))
+    (class.binaries g (opcode_byte h)) (f (operand_of x)) make (k h x c)
+by_both g f make k (node h (x ▸ y ▸ z ▸ no_terms)) = no_answer (node h (x ▸ y ▸ z ▸ no_terms))
+by_both g f make k (node h (x ▸ y ▸ z ▸ w ▸ ts)) = no_answer (node h (x ▸ y ▸ z ▸ w ▸ ts))
 
-double_told : (a b e : ℕ) (x : Term Head) →
-    IsAnswer (double e (operands_of x) (number_behind a b (opcode_of x) (operands_of x))) x (as_double a b e x)
-double_told a b e x = by_both a b
-    (λ x p. answer_if ((p.1 == e) && (not x.writes && not x.asks)) (FirstTwice (of_type p.0 0x6a 0x7c)))
+double_told : (g : BinaryOperator) (e : ℕ) (x : Term Head) →
+    IsAnswer (double e (operands_of x) (second g x)) x (as_double (binary_opcodes g).0 (binary_opcodes g).1 e x)
+double_told g e x = by_both g
+    (λ x p. answer_if ((p.1 == e) && (not x.writes && not x.asks)) (FirstTwice (Binary p.0 Add)))
     (λ t x n. answer_if ((n == e) && (not (writes x) && not (asks x))) (two (operator (of_type t 0x6a 0x7c)) x x))
-    (λ h y c t n k. answered_if _ (FirstTwice (of_type t 0x6a 0x7c)) (node h (y ▸ c ▸ no_terms))
-    (typed_binary t 0x6a 0x7c (is_written 0x6a refl) (is_written 0x7c refl))) x
+    (λ h y c t n k. answered_if _ (FirstTwice (Binary t Add)) (node h (y ▸ c ▸ no_terms))
+    (is_binary t Add)) x
 
-alone_told : (a b : ℕ) (element : IntegerType → ℕ) (x : Term Head) →
-    IsAnswer (alone element (operands_of x) (number_behind a b (opcode_of x) (operands_of x))) x (element_alone a b element x)
-alone_told a b element x = by_both a b
+alone_told : (g : BinaryOperator) (element : IntegerType → ℕ) (x : Term Head) →
+    IsAnswer (alone element (operands_of x) (second g x)) x (element_alone (binary_opcodes g).0 (binary_opcodes g).1 element x)
+alone_told g element x = by_both g
     (λ x p. answer_if ((p.1 == element p.0) && (not x.writes && not x.may_trap)) (Number p.0 p.1))
     (λ t x n. answer_if ((n == element t) && (not (writes x) && not (may_trap x))) (numbered t n))
     (λ h y c t n k. answered_if _ (Number t n) (node h (y ▸ c ▸ no_terms)) tt) x
 
-drawn_told : (a b : ℕ) (element : IntegerType → ℕ) → IsBinary a → IsBinary b → (x : Term Head) →
-    IsAnswer (drawn a b element (typed_constant (constant_number integer.I32 x) (constant_number integer.I64 x))) x (behind_drawn a b element x)
-drawn_told a b element p q x = each_some (typed_constant (constant_number integer.I32 x) (constant_number integer.I64 x)) x _ _
-    (λ v e. answered_if _ (Drawn (of_type v.0 a b) v.0) x (typed_binary v.0 a b p q))
+drawn_told : (g : BinaryOperator) (element : IntegerType → ℕ) (x : Term Head) →
+    IsAnswer (drawn g element (typed_constant (constant_number integer.I32 x) (constant_number integer.I64 x))) x
+    (behind_drawn (binary_opcodes g).0 (binary_opcodes g).1 element x)
+drawn_told g element x = each_some (typed_constant (constant_number integer.I32 x) (constant_number integer.I64 x)) x _ _
+    (λ v e. answered_if _ (Drawn (Binary v.0 g) v.0) x (is_binary v.0 g))
 
 -- ---- operands that read the same local
 
-same_told : (a b : ℕ) (r : IntegerType → Replacement) (make : IntegerType → Term Head → Term Head) →
+same_told : (g : BinaryOperator) (r : IntegerType → Replacement) (make : IntegerType → Term Head → Term Head) →
     ((h : Head) (x y : Term Head) (t : IntegerType) → IsAnswer (Some (r t)) (node h (x ▸ y ▸ no_terms)) (Some (make t x))) →
-    (x : Term Head) → IsAnswer (option_map r (type_of_same a b (opcode_of x) (operands_of x))) x (of_same a b make x)
-same_told a b r make k absent = no_answer absent
-same_told a b r make k (node h no_terms) = no_answer (node h no_terms)
-same_told a b r make k (node h (x ▸ no_terms)) = no_answer (node h (x ▸ no_terms))
-same_told a b r make k (node h (x ▸ y ▸ no_terms)) = go (type_by a b (opcode_byte h)) (same_local x y)
+    (x : Term Head) → IsAnswer (option_map r (type_of_same (binary_type g (root_operator x)) (operands_of x))) x
+    (of_same (binary_opcodes g).0 (binary_opcodes g).1 make x)
+same_told g r make k absent = no_answer absent
+same_told g r make k (node h no_terms) = no_answer (node h no_terms)
+same_told g r make k (node h (x ▸ no_terms)) = no_answer (node h (x ▸ no_terms))
+same_told g r make k (node h (x ▸ y ▸ no_terms)) =
+    subst (λ o. IsAnswer (option_map r (option_and_then (λ t. answer_if (same_local x y) t) o)) (node h (x ▸ y ▸ no_terms))
+    (of_same (binary_opcodes g).0 (binary_opcodes g).1 make (node h (x ▸ y ▸ no_terms)))) (sym (class.binaries g (opcode_byte h)))
+    (go (type_by (binary_opcodes g).0 (binary_opcodes g).1 (opcode_byte h)) (same_local x y))
   where
     go : (o : Option IntegerType) (same : Bool) → IsAnswer (option_map r (option_and_then (λ t. answer_if same t) o)) (node h (x ▸ y ▸ no_terms))
         (option_and_then (λ t. answer_if same (make t x)) o)
     go None same = no_answer (node h (x ▸ y ▸ no_terms))
     go (Some t) true = k h x y t
     go (Some t) false = no_answer (node h (x ▸ y ▸ no_terms))
-same_told a b r make k (node h (x ▸ y ▸ z ▸ no_terms)) = no_answer (node h (x ▸ y ▸ z ▸ no_terms))
-same_told a b r make k (node h (x ▸ y ▸ z ▸ w ▸ ts)) = no_answer (node h (x ▸ y ▸ z ▸ w ▸ ts))
+same_told g r make k (node h (x ▸ y ▸ z ▸ no_terms)) = no_answer (node h (x ▸ y ▸ z ▸ no_terms))
+same_told g r make k (node h (x ▸ y ▸ z ▸ w ▸ ts)) = no_answer (node h (x ▸ y ▸ z ▸ w ▸ ts))
 
-cancelled_told : (a b : ℕ) (x : Term Head) →
-    IsAnswer (cancelled (type_of_same a b (opcode_of x) (operands_of x))) x (of_same a b (λ t y. numbered t 0) x)
-cancelled_told a b x = same_told a b (λ t. Number t 0) (λ t y. numbered t 0) (λ h y z t. answered (Number t 0) (node h (y ▸ z ▸ no_terms)) tt) x
+cancelled_told : (g : BinaryOperator) (x : Term Head) →
+    IsAnswer (cancelled (type_of_same (binary_type g (root_operator x)) (operands_of x))) x
+    (of_same (binary_opcodes g).0 (binary_opcodes g).1 (λ t y. numbered t 0) x)
+cancelled_told g x = same_told g (λ t. Number t 0) (λ t y. numbered t 0) (λ h y z t. answered (Number t 0) (node h (y ▸ z ▸ no_terms)) tt) x
 
-first_told : (a b : ℕ) (x : Term Head) →
-    IsAnswer (first_of_same (type_of_same a b (opcode_of x) (operands_of x))) x (of_same a b (λ t y. y) x)
-first_told a b x = same_told a b (λ t. First) (λ t y. y) (λ h y z t. answered First (node h (y ▸ z ▸ no_terms)) tt) x
+first_told : (g : BinaryOperator) (x : Term Head) →
+    IsAnswer (first_of_same (type_of_same (binary_type g (root_operator x)) (operands_of x))) x
+    (of_same (binary_opcodes g).0 (binary_opcodes g).1 (λ t y. y) x)
+first_told g x = same_told g (λ t. First) (λ t y. y) (λ h y z t. answered First (node h (y ▸ z ▸ no_terms)) tt) x
 
-same_with_told : (a b c d n : ℕ) → IsBinary c → IsBinary d → (x : Term Head) →
-    IsAnswer (same_with c d n (type_of_same a b (opcode_of x) (operands_of x))) x
-    (of_same a b (λ t y. two (operator (of_type t c d)) y (numbered t n)) x)
-same_with_told a b c d n p q x = same_told a b (λ t. FirstWith (of_type t c d) t n) (λ t y. two (operator (of_type t c d)) y (numbered t n))
-    (λ h y z t. answered (FirstWith (of_type t c d) t n) (node h (y ▸ z ▸ no_terms)) (typed_binary t c d p q)) x
+same_with_told : (g k : BinaryOperator) (n : ℕ) (x : Term Head) →
+    IsAnswer (same_with k n (type_of_same (binary_type g (root_operator x)) (operands_of x))) x
+    (of_same (binary_opcodes g).0 (binary_opcodes g).1 (λ t y. two (operator (opcode (Binary t k))) y (numbered t n)) x)
+same_with_told g k n x = same_told g (λ t. FirstWith (Binary t k) t n) (λ t y. two (operator (opcode (Binary t k))) y (numbered t n))
+    (λ h y z t. answered (FirstWith (Binary t k) t n) (node h (y ▸ z ▸ no_terms)) (is_binary t k)) x
 
-selected_told : (x : Term Head) → IsAnswer (selected_same (opcode_of x) (operands_of x)) x (drop_select x)
+selected_told : (x : Term Head) → IsAnswer (selected_same (root_operator x) (operands_of x)) x (drop_select x)
 selected_told absent = no_answer absent
 selected_told (node h no_terms) = no_answer (node h no_terms)
 selected_told (node h (x ▸ no_terms)) = no_answer (node h (x ▸ no_terms))
 selected_told (node h (x ▸ y ▸ no_terms)) = no_answer (node h (x ▸ y ▸ no_terms))
-selected_told (node h (x ▸ y ▸ c ▸ no_terms)) = answered_if _ First (node h (x ▸ y ▸ c ▸ no_terms)) tt
+selected_told (node h (x ▸ y ▸ c ▸ no_terms)) =
+    subst (λ b. IsAnswer (answer_if ((b && same_local x y) && (not (writes c) && not (may_trap c))) First) (node h (x ▸ y ▸ c ▸ no_terms))
+    (drop_select (node h (x ▸ y ▸ c ▸ no_terms)))) (sym (class.selects (opcode_byte h)))
+    (answered_if _ First (node h (x ▸ y ▸ c ▸ no_terms)) tt)
 selected_told (node h (x ▸ y ▸ z ▸ w ▸ ts)) = no_answer (node h (x ▸ y ▸ z ▸ w ▸ ts))
 
 -- ---- comparisons and tests
 
-negated_told : (x : Term Head) → IsAnswer (choice_of.negated (opcode_of x) (operands_of x)) x (negate_comparison x)
+negated_told : (x : Term Head) → IsAnswer (choice_of.negated (root_operator x) (operands_of x)) x (negate_comparison x)
 negated_told absent = no_answer absent
 negated_told (node h no_terms) = no_answer (node h no_terms)
 negated_told (node h (x ▸ no_terms)) = no_answer (node h (x ▸ no_terms))
-negated_told (node h (x ▸ y ▸ no_terms)) = each_map (option_and_then opposite_of (opcode_byte h)) (node h (x ▸ y ▸ no_terms)) _ _
-    (λ byte e. answered (Negated byte) (node h (x ▸ y ▸ no_terms)) (opposite_binary (opcode_byte h) byte e))
+negated_told (node h (x ▸ y ▸ no_terms)) =
+    each_made (opposite_operation (head_operator h)) (option_and_then opposite_of (opcode_byte h)) (class.opposites (opcode_byte h))
+    (node h (x ▸ y ▸ no_terms)) (λ f. Negated f) (λ byte. one (operator 0x45) (two (operator byte) x y))
+    (λ f e. answered (Negated f) (node h (x ▸ y ▸ no_terms)) (opposite_binary (head_operator h) f e))
 negated_told (node h (x ▸ y ▸ z ▸ no_terms)) = no_answer (node h (x ▸ y ▸ z ▸ no_terms))
 negated_told (node h (x ▸ y ▸ z ▸ w ▸ ts)) = no_answer (node h (x ▸ y ▸ z ▸ w ▸ ts))
 
-tests_told : (x : Term Head) → IsAnswer (both_tests (number_behind 0x47 0x52 (opcode_of x) (operands_of x))) x (difference_to_tests x)
-tests_told x = behind 0x47 0x52 (λ p. answer_if (p.1 == 0) (FirstByBoth (of_type p.0 0x45 0x50) 0x45))
+tests_told : (x : Term Head) → IsAnswer (both_tests (compared_second Ne x)) x (difference_to_tests x)
+tests_told x = behind_comparison Ne (λ p. answer_if (p.1 == 0) (FirstByBoth (Eqz p.0) (Eqz integer.I32)))
     (λ t y n. answer_if (n == 0) (one (operator 0x45) (one (operator (of_type t 0x45 0x50)) y)))
-    (λ h y c t n k. answered_if (n == 0) (FirstByBoth (of_type t 0x45 0x50) 0x45) (node h (y ▸ c ▸ no_terms)) (is_test t, is_test integer.I32)) x
+    (λ h y c t n k. answered_if (n == 0) (FirstByBoth (Eqz t) (Eqz integer.I32)) (node h (y ▸ c ▸ no_terms)) (is_test t, is_test integer.I32)) x
 
 wrapped_told : (context : Context) (x : Term Head) → IsAnswer (wrapped (integer_type (type_of_value context x))) x (by_its_type context wrap_extended x)
 wrapped_told context x = go (integer_type (type_of_value context x))
   where
     go : (o : Option IntegerType) → IsAnswer (wrapped o) x (option_and_then (λ t. wrap_extended t x) o)
     go None = no_answer x
-    go (Some integer.I32) = answered (ByBoth 0xad 0xa7) x (is_extension, is_wrap)
+    go (Some integer.I32) = answered (ByBoth ExtendI32U WrapI64) x (is_extension, is_wrap)
     go (Some integer.I64) = no_answer x
 
 -- ---- operators over the parts of an operand
 
-distributed_told : (a b c d e f : ℕ) (test : IntegerType → ℕ → Bool) → IsBinary c → IsBinary d → IsBinary e → IsBinary f → (x : Term Head) →
-    IsAnswer (distributed a b c d e f test (operands_of x) (number_behind e f (opcode_of x) (operands_of x))) x
-    (of_constant e f (in_parts a b c d e f test) x)
-distributed_told a b c d e f test pc pd pe pf x = by_both e f (λ x p. part a b c d e f x p (test p.0 p.1)) (in_parts a b c d e f test)
-    (λ h y k t n l. part_told a b c d e f test pc pd pe pf h y k t n) x
+distributed_told : (parts joins own : BinaryOperator) (test : IntegerType → ℕ → Bool) (x : Term Head) →
+    IsAnswer (distributed parts joins own test (operands_of x) (second own x)) x
+    (of_constant (binary_opcodes own).0 (binary_opcodes own).1
+    (in_parts (binary_opcodes parts).0 (binary_opcodes parts).1 (binary_opcodes joins).0 (binary_opcodes joins).1
+    (binary_opcodes own).0 (binary_opcodes own).1 test) x)
+distributed_told parts joins own test x = by_both own (λ x p. part parts joins own x p (test p.0 p.1))
+    (in_parts (binary_opcodes parts).0 (binary_opcodes parts).1 (binary_opcodes joins).0 (binary_opcodes joins).1
+    (binary_opcodes own).0 (binary_opcodes own).1 test)
+    (λ h y k t n l. part_told parts joins own test h y k t n) x
 
 -- ---- extensions
 
-shifts_told : (x : Term Head) → IsAnswer (shifts (opcode_of x) (operands_of x)) x (extension_to_shifts x)
+shifts_told : (x : Term Head) → IsAnswer (shifts (root_operator x) (operands_of x)) x (extension_to_shifts x)
 shifts_told absent = no_answer absent
 shifts_told (node h no_terms) = no_answer (node h no_terms)
-shifts_told (node h (x ▸ no_terms)) = each_map (option_and_then bits_left_out (opcode_byte h)) (node h (x ▸ no_terms)) _ _
-    (λ p e. answered (FirstWithBoth (of_type p.0 0x74 0x86) (of_type p.0 0x75 0x87) p.0 p.1) (node h (x ▸ no_terms))
-    (typed_binary p.0 0x74 0x86 (is_written 0x74 refl) (is_written 0x86 refl), typed_binary p.0 0x75 0x87 (is_written 0x75 refl) (is_written 0x87 refl)))
+shifts_told (node h (x ▸ no_terms)) =
+    subst (λ o. IsAnswer (option_map (λ p. FirstWithBoth (Binary p.0 Shl) (Binary p.0 ShrS) p.0 p.1) o) (node h (x ▸ no_terms))
+    (extension_to_shifts (node h (x ▸ no_terms)))) (sym (class.extends (opcode_byte h)))
+    (each_map (option_and_then bits_left_out (opcode_byte h)) (node h (x ▸ no_terms)) _ _
+    (λ p e. answered (FirstWithBoth (Binary p.0 Shl) (Binary p.0 ShrS) p.0 p.1) (node h (x ▸ no_terms)) (is_binary p.0 Shl, is_binary p.0 ShrS)))
 shifts_told (node h (x ▸ y ▸ no_terms)) = no_answer (node h (x ▸ y ▸ no_terms))
 shifts_told (node h (x ▸ y ▸ z ▸ no_terms)) = no_answer (node h (x ▸ y ▸ z ▸ no_terms))
 shifts_told (node h (x ▸ y ▸ z ▸ w ▸ ts)) = no_answer (node h (x ▸ y ▸ z ▸ w ▸ ts))
 
 -- ---- a local that is set
 
-set_apart_told : (x : Term Head) → IsAnswer (set_apart (opcode_of x) (operands_of x)) x (tee_to_set x)
+set_apart_told : (x : Term Head) → IsAnswer (set_apart (root_operator x) (operands_of x)) x (tee_to_set x)
 set_apart_told absent = no_answer absent
 set_apart_told (node h no_terms) = no_answer (node h no_terms)
-set_apart_told (node h (x ▸ no_terms)) = answered_if _ SetAndGet (node h (x ▸ no_terms)) tt
+set_apart_told (node h (x ▸ no_terms)) =
+    subst (λ b. IsAnswer (answer_if b SetAndGet) (node h (x ▸ no_terms)) (tee_to_set (node h (x ▸ no_terms)))) (sym (class.tees (opcode_byte h)))
+    (answered_if _ SetAndGet (node h (x ▸ no_terms)) tt)
 set_apart_told (node h (x ▸ y ▸ no_terms)) = no_answer (node h (x ▸ y ▸ no_terms))
 set_apart_told (node h (x ▸ y ▸ z ▸ no_terms)) = no_answer (node h (x ▸ y ▸ z ▸ no_terms))
 set_apart_told (node h (x ▸ y ▸ z ▸ w ▸ ts)) = no_answer (node h (x ▸ y ▸ z ▸ w ▸ ts))
@@ -568,21 +647,21 @@ chosen context rule.Commute x = swapped x
 chosen context rule.TurnComparison x = turned_over x
 chosen context rule.AssociateLeft x = grouped_left x
 chosen context rule.AssociateRight x = grouped_right x
-chosen context rule.AddZero x = zero_behind context x 0x6a 0x7c (is_written 0x6a refl) (is_written 0x7c refl)
-chosen context rule.SubZero x = zero_behind context x 0x6b 0x7d (is_written 0x6b refl) (is_written 0x7d refl)
-chosen context rule.MulOne x = numbered_behind context x 0x6c 0x7e 1 (is_written 0x6c refl) (is_written 0x7e refl)
+chosen context rule.AddZero x = zero_behind context x Add
+chosen context rule.SubZero x = zero_behind context x Sub
+chosen context rule.MulOne x = numbered_behind context x Mul 1
     (λ t. one_constant t 0x6c 0x7e x)
-chosen context rule.OrZero x = zero_behind context x 0x72 0x84 (is_written 0x72 refl) (is_written 0x84 refl)
-chosen context rule.XorZero x = zero_behind context x 0x73 0x85 (is_written 0x73 refl) (is_written 0x85 refl)
-chosen context rule.AndOnes x = ones_behind context x 0x71 0x83 (is_written 0x71 refl) (is_written 0x83 refl)
-chosen context rule.ShiftByZero x = zero_behind context x 0x74 0x86 (is_written 0x74 refl) (is_written 0x86 refl)
-chosen context rule.OrSelf x = doubled context x 0x72 0x84 (is_written 0x72 refl) (is_written 0x84 refl)
-chosen context rule.AndSelf x = doubled context x 0x71 0x83 (is_written 0x71 refl) (is_written 0x83 refl)
-chosen context rule.DoubleComplement x = complements_behind context x 0x73 0x85 (is_written 0x73 refl) (is_written 0x85 refl)
-chosen context rule.ShiftToProduct x = powered 0x74 0x86 0x6c 0x7e (is_written 0x6c refl) (is_written 0x7e refl) x
-chosen context rule.ProductToShift x = placed 0x6c 0x7e 0x74 0x86 (is_written 0x74 refl) (is_written 0x86 refl) x
-chosen context rule.DifferenceToSum x = opposite_behind 0x6b 0x7d 0x6a 0x7c (is_written 0x6a refl) (is_written 0x7c refl) x
-chosen context rule.SumToDifference x = opposite_behind 0x6a 0x7c 0x6b 0x7d (is_written 0x6b refl) (is_written 0x7d refl) x
+chosen context rule.OrZero x = zero_behind context x Or
+chosen context rule.XorZero x = zero_behind context x Xor
+chosen context rule.AndOnes x = ones_behind context x And
+chosen context rule.ShiftByZero x = zero_behind context x Shl
+chosen context rule.OrSelf x = doubled context x Or
+chosen context rule.AndSelf x = doubled context x And
+chosen context rule.DoubleComplement x = complements_behind context x Xor
+chosen context rule.ShiftToProduct x = powered Shl Mul x
+chosen context rule.ProductToShift x = placed Mul Shl x
+chosen context rule.DifferenceToSum x = opposite_behind Sub Add x
+chosen context rule.SumToDifference x = opposite_behind Add Sub x
 chosen context rule.TestToComparison x = compared x
 chosen context rule.ComparisonToTest x = tested x
 chosen context rule.TurnSelect x = select_turned x
@@ -590,54 +669,54 @@ chosen context rule.Unfold x = summed x
 chosen context rule.ThroughGlobal x = by_global context x
 chosen context rule.WithNop x = record { term = refl; fits = tt }
 chosen context rule.Fold x = computed_folded x
-chosen context rule.DropAddZero x = dropped 0x6a 0x7c 0 x
-chosen context rule.DropSubZero x = dropped 0x6b 0x7d 0 x
-chosen context rule.DropMulOne x = dropped 0x6c 0x7e 1 x
-chosen context rule.DropOrZero x = dropped 0x72 0x84 0 x
-chosen context rule.DropXorZero x = dropped 0x73 0x85 0 x
-chosen context rule.DropAndOnes x = dropped_ones 0x71 0x83 x
-chosen context rule.DropShiftByZero x = dropped 0x74 0x86 0 x
+chosen context rule.DropAddZero x = dropped Add 0 x
+chosen context rule.DropSubZero x = dropped Sub 0 x
+chosen context rule.DropMulOne x = dropped Mul 1 x
+chosen context rule.DropOrZero x = dropped Or 0 x
+chosen context rule.DropXorZero x = dropped Xor 0 x
+chosen context rule.DropAndOnes x = dropped_ones And x
+chosen context rule.DropShiftByZero x = dropped Shl 0 x
 chosen context rule.Forget x = emptied x
-chosen context rule.ShrSByZero x = zero_behind context x 0x75 0x87 (is_written 0x75 refl) (is_written 0x87 refl)
-chosen context rule.ShrUByZero x = zero_behind context x 0x76 0x88 (is_written 0x76 refl) (is_written 0x88 refl)
-chosen context rule.RotlByZero x = zero_behind context x 0x77 0x89 (is_written 0x77 refl) (is_written 0x89 refl)
-chosen context rule.RotrByZero x = zero_behind context x 0x78 0x8a (is_written 0x78 refl) (is_written 0x8a refl)
-chosen context rule.DropShrSByZero x = dropped 0x75 0x87 0 x
-chosen context rule.DropShrUByZero x = dropped 0x76 0x88 0 x
-chosen context rule.DropRotlByZero x = dropped 0x77 0x89 0 x
-chosen context rule.DropRotrByZero x = dropped 0x78 0x8a 0 x
-chosen context rule.QuotientToShift x = placed 0x6e 0x80 0x76 0x88 (is_written 0x76 refl) (is_written 0x88 refl) x
-chosen context rule.ShiftToQuotient x = powered 0x76 0x88 0x6e 0x80 (is_written 0x6e refl) (is_written 0x80 refl) x
+chosen context rule.ShrSByZero x = zero_behind context x ShrS
+chosen context rule.ShrUByZero x = zero_behind context x ShrU
+chosen context rule.RotlByZero x = zero_behind context x Rotl
+chosen context rule.RotrByZero x = zero_behind context x Rotr
+chosen context rule.DropShrSByZero x = dropped ShrS 0 x
+chosen context rule.DropShrUByZero x = dropped ShrU 0 x
+chosen context rule.DropRotlByZero x = dropped Rotl 0 x
+chosen context rule.DropRotrByZero x = dropped Rotr 0 x
+chosen context rule.QuotientToShift x = placed DivU ShrU x
+chosen context rule.ShiftToQuotient x = powered ShrU DivU x
 chosen context rule.RemainderToMask x = masked x
 chosen context rule.MaskToRemainder x = divided x
-chosen context rule.RotlToRotr x = rested 0x77 0x89 0x78 0x8a (is_written 0x78 refl) (is_written 0x8a refl) x
-chosen context rule.RotrToRotl x = rested 0x78 0x8a 0x77 0x89 (is_written 0x77 refl) (is_written 0x89 refl) x
-chosen context rule.ProductToDouble x = double_told 0x6c 0x7e 2 x
-chosen context rule.ShiftToDouble x = double_told 0x74 0x86 1 x
-chosen context rule.CancelSub x = cancelled_told 0x6b 0x7d x
-chosen context rule.CancelXor x = cancelled_told 0x73 0x85 x
-chosen context rule.DropOrSelf x = first_told 0x72 0x84 x
-chosen context rule.DropAndSelf x = first_told 0x71 0x83 x
-chosen context rule.DoubleToProduct x = same_with_told 0x6a 0x7c 0x6c 0x7e 2 (is_written 0x6c refl) (is_written 0x7e refl) x
-chosen context rule.DoubleToShift x = same_with_told 0x6a 0x7c 0x74 0x86 1 (is_written 0x74 refl) (is_written 0x86 refl) x
+chosen context rule.RotlToRotr x = rested Rotl Rotr x
+chosen context rule.RotrToRotl x = rested Rotr Rotl x
+chosen context rule.ProductToDouble x = double_told Mul 2 x
+chosen context rule.ShiftToDouble x = double_told Shl 1 x
+chosen context rule.CancelSub x = cancelled_told Sub x
+chosen context rule.CancelXor x = cancelled_told Xor x
+chosen context rule.DropOrSelf x = first_told Or x
+chosen context rule.DropAndSelf x = first_told And x
+chosen context rule.DoubleToProduct x = same_with_told Add Mul 2 x
+chosen context rule.DoubleToShift x = same_with_told Add Shl 1 x
 chosen context rule.DropSelect x = selected_told x
-chosen context rule.AndZero x = drawn_told 0x71 0x83 (λ t. 0) (is_written 0x71 refl) (is_written 0x83 refl) x
-chosen context rule.MulZero x = drawn_told 0x6c 0x7e (λ t. 0) (is_written 0x6c refl) (is_written 0x7e refl) x
-chosen context rule.OrOnes x = drawn_told 0x72 0x84 all_ones (is_written 0x72 refl) (is_written 0x84 refl) x
-chosen context rule.DropAndZero x = alone_told 0x71 0x83 (λ t. 0) x
-chosen context rule.DropMulZero x = alone_told 0x6c 0x7e (λ t. 0) x
-chosen context rule.DropOrOnes x = alone_told 0x72 0x84 all_ones x
+chosen context rule.AndZero x = drawn_told And (λ t. 0) x
+chosen context rule.MulZero x = drawn_told Mul (λ t. 0) x
+chosen context rule.OrOnes x = drawn_told Or all_ones x
+chosen context rule.DropAndZero x = alone_told And (λ t. 0) x
+chosen context rule.DropMulZero x = alone_told Mul (λ t. 0) x
+chosen context rule.DropOrOnes x = alone_told Or all_ones x
 chosen context rule.NegateComparison x = negated_told x
 chosen context rule.DifferenceToTests x = tests_told x
 chosen context rule.WrapExtended x = wrapped_told context x
 chosen context rule.DropNegation x = unnegated_told x
-chosen context rule.DistributeProduct x = distributed_told 0x6a 0x7c 0x6a 0x7c 0x6c 0x7e (λ t n. true) (is_written 0x6a refl) (is_written 0x7c refl) (is_written 0x6c refl) (is_written 0x7e refl) x
-chosen context rule.DistributeMask x = distributed_told 0x72 0x84 0x72 0x84 0x71 0x83 (λ t n. true) (is_written 0x72 refl) (is_written 0x84 refl) (is_written 0x71 refl) (is_written 0x83 refl) x
-chosen context rule.ComplementOfAnd x = distributed_told 0x71 0x83 0x72 0x84 0x73 0x85 (λ t n. n == all_ones t) (is_written 0x72 refl) (is_written 0x84 refl) (is_written 0x73 refl) (is_written 0x85 refl) x
-chosen context rule.ComplementOfOr x = distributed_told 0x72 0x84 0x71 0x83 0x73 0x85 (λ t n. n == all_ones t) (is_written 0x71 refl) (is_written 0x83 refl) (is_written 0x73 refl) (is_written 0x85 refl) x
+chosen context rule.DistributeProduct x = distributed_told Add Add Mul (λ t n. true) x
+chosen context rule.DistributeMask x = distributed_told Or Or And (λ t n. true) x
+chosen context rule.ComplementOfAnd x = distributed_told And Or Xor (λ t n. n == all_ones t) x
+chosen context rule.ComplementOfOr x = distributed_told Or And Xor (λ t n. n == all_ones t) x
 chosen context rule.ExtensionToShifts x = shifts_told x
 chosen context rule.TestsToDifference x = difference_told x
 chosen context rule.DropWrapExtended x = narrowed_told x
-chosen context rule.OrOfComplements x = collected_told 0x72 0x84 0x71 0x83 (is_written 0x71 refl) (is_written 0x83 refl) x
-chosen context rule.AndOfComplements x = collected_told 0x71 0x83 0x72 0x84 (is_written 0x72 refl) (is_written 0x84 refl) x
+chosen context rule.OrOfComplements x = collected_told Or And x
+chosen context rule.AndOfComplements x = collected_told And Or x
 chosen context rule.TeeToSet x = set_apart_told x

@@ -213,25 +213,25 @@ module _ {H : Type 0} (at by : ℕ) (u : Term H) (old : List (Node H)) (is_below
 
 few_more : (r : Replacement) → more r ≤ 3
 few_more Swap = omega arith
-few_more (Turn byte) = omega arith
+few_more (Turn f) = omega arith
 few_more GroupLeft = omega arith
 few_more GroupRight = omega arith
-few_more (Constant byte t number) = omega arith
-few_more (Complements byte t number) = omega arith
-few_more (Twice byte) = omega arith
+few_more (Constant f t number) = omega arith
+few_more (Complements f t number) = omega arith
+few_more (Twice f) = omega arith
 few_more First = omega arith
-few_more (FirstWith byte t number) = omega arith
-few_more (FirstBy byte) = omega arith
+few_more (FirstWith f t number) = omega arith
+few_more (FirstBy f) = omega arith
 few_more TurnSelect = omega arith
-few_more (FirstTwice byte) = omega arith
-few_more (Drawn byte t) = omega arith
-few_more (Negated byte) = omega arith
+few_more (FirstTwice f) = omega arith
+few_more (Drawn f t) = omega arith
+few_more (Negated f) = omega arith
 few_more (FirstByBoth inner outer) = omega arith
 few_more (ByBoth inner outer) = omega arith
-few_more (InnerBy byte) = omega arith
+few_more (InnerBy f) = omega arith
 few_more (Distribute outer inner t number) = omega arith
 few_more (FirstWithBoth inner outer t number) = omega arith
-few_more (InnerWith byte t number) = omega arith
+few_more (InnerWith f t number) = omega arith
 few_more Inner = omega arith
 few_more (Collect inner outer t number) = omega arith
 few_more SetAndGet = omega arith

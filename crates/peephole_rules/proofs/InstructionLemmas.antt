@@ -16,11 +16,13 @@ use Rattle.peephole_machine.specs.declared.integer.IntegerType.TheVariants as in
 use Rattle.peephole_machine.specs.ResultColumn.{column_type}
 use Rattle.peephole_machine.specs.Row.{list_of}
 use Rattle.peephole_machine.specs.Values.{Context}
+use Rattle.peephole_rules.specs.declared.shape.Operator.{Operator}
 use Rattle.peephole_rules.specs.declared.shape.Operand.{Operand}
 use Rattle.peephole_rules.specs.declared.shape.Operands.{Operands}
 use Rattle.peephole_rules.specs.declared.shape.Shape.{Shape}
 use Rattle.peephole_rules.specs.Operator.{instruction_byte, is_value, local_by, local_of, number_in, constant_number, within_width}
 use Rattle.peephole_rules.specs.Effects.{is_writer, is_trapper, is_asker, any_writes, any_may_trap, any_asks}
+use Rattle.peephole_rules.specs.Classes.{operator_on}
 use Rattle.peephole_rules.specs.ValueTypes.{head_type, first_types}
 use Rattle.peephole_rules.specs.Shape.{values_in, is_single, complements_in, operand_of, operands_in, shape_of}
 use Rattle.peephole_rules.specs.ReadAlike.{AreReadAlike}
@@ -87,7 +89,7 @@ single_is no_terms = refl
 single_is (x ▸ no_terms) = refl
 single_is (x ▸ y ▸ ts) = refl
 
-complement_is : (o : Option ℕ) (kids : Terms Head) → complement_read o (operands_read kids) ≡ complements_in o kids
+complement_is : (o : Option Operator) (kids : Terms Head) → complement_read o (operands_read kids) ≡ complements_in o kids
 complement_is o no_terms = refl
 complement_is o (x ▸ no_terms) = refl
 complement_is o (x ▸ y ▸ no_terms) = refl
@@ -125,15 +127,15 @@ with_all (t ▸ ts) o = with_all ts (with_operand o (operand_of t)) ∙ effects_
 read_is : (h : Head) (i : Instruction) (kids : Terms Head) → instr_of_head h ≡ Some i →
     with_operands (alone_read i (operands_read kids)) (operands_read kids) ≡ operand_of (node h kids)
 read_is h i kids e = with_all kids (alone_read i (operands_read kids)) ∙ same_fields
-    (sym (ap instruction_byte e)) (number_is integer.I32 h i kids e) (number_is integer.I64 h i kids e) (local_is h i kids e)
+    (sym (ap (λ o. operator_on (instruction_byte o)) e)) (number_is integer.I32 h i kids e) (number_is integer.I64 h i kids e) (local_is h i kids e)
     (sym (ap is_value e))
     (sym (ap (λ o. is_writer o || any_writes kids) e)) (sym (ap (λ o. is_trapper o || any_may_trap kids) e))
     (sym (ap (λ o. is_asker o || any_asks kids) e)) (values_are kids) (single_is kids)
-    (complement_is (instruction_byte (Some i)) kids ∙ sym (ap (λ o. complements_in (instruction_byte o) kids) e))
+    (complement_is (operator_on (instruction_byte (Some i))) kids ∙ sym (ap (λ o. complements_in (operator_on (instruction_byte o)) kids) e))
   where
-    same_fields : {a b : Option ℕ} {c d e f p q : Option ℕ} {g h i j k l m n : Bool} {u v : Option (Bool × Bool)} {w x y z : Bool} →
+    same_fields : {a b : Option Operator} {c d e f p q : Option ℕ} {g h i j k l m n : Bool} {u v : Option (Bool × Bool)} {w x y z : Bool} →
         a ≡ b → c ≡ d → e ≡ f → p ≡ q → g ≡ h → i ≡ j → k ≡ l → m ≡ n → u ≡ v → w ≡ x → y ≡ z → let before : Operand = record {
-          opcode = a;
+          operator = a;
           i32_number = c;
           i64_number = e;
           local = p;
@@ -145,7 +147,7 @@ read_is h i kids e = with_all kids (alone_read i (operands_read kids)) ∙ same_
           single = w;
           complement = y;
         } in before ≡ record {
-          opcode = b;
+          operator = b;
           i32_number = d;
           i64_number = f;
           local = q;

@@ -1,4 +1,5 @@
 pub mod RuleLemmas
+pub mod ClassLemmas
 pub mod ByteLemmas
 pub mod RowLemmas
 pub mod PureLemmas

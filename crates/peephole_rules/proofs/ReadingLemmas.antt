@@ -18,9 +18,10 @@ use Rattle.peephole_machine.specs.declared.integer.IntegerType.TheVariants as in
 use Rattle.peephole_rules.specs.declared.shape.Operand.{Operand}
 use Rattle.peephole_rules.specs.declared.shape.Operands.{Operands}
 use Rattle.peephole_rules.specs.declared.shape.Operands.TheVariants.{Leaf, One, Two, Three, More}
-use Rattle.peephole_rules.specs.Operator.{opcode_byte, is_value, has_one_value, local_of, constant_number}
+use Rattle.peephole_rules.specs.Operator.{is_value, has_one_value, local_of, constant_number}
 use Rattle.peephole_rules.specs.Effects.{writes, may_trap, asks}
-use Rattle.peephole_rules.specs.Rewriting.{complements_by}
+use Rattle.peephole_rules.specs.declared.shape.Operator.{Operator}
+use Rattle.peephole_rules.specs.Classes.{head_operator, gives_complement}
 use Rattle.peephole_rules.specs.ValueTypes.{head_type, first_types, type_of_value}
 use Rattle.peephole_rules.specs.Grafted.{expression_nodes, term_at, term_over}
 use Rattle.peephole_rules.proofs.StandingLemmas.{past_end}
@@ -84,18 +85,29 @@ module _ (f : ℕ → Term Head) where
   two_values (x ∷ y ∷ z ∷ ids) d e a b h p q = absurd (omega arith)
 
 -- whether it is a complement
-pub complement_told : (f : ℕ → Term Head) (l : Lang) (ids : List Id) (o : Option ℕ) (d : Id) (b : Bool) → ids ≡ ids_of l → length ids ≡ 2 →
-    b ≡ complements_by o (constant_number integer.I32 (f (get_or ids 1 d).0)) (constant_number integer.I64 (f (get_or ids 1 d).0)) →
+pub complement_told : (f : ℕ → Term Head) (l : Lang) (ids : List Id) (o : Option Operator) (d : Id) (b : Bool) → ids ≡ ids_of l → length ids ≡ 2 →
+    b ≡ gives_complement o (constant_number integer.I32 (f (get_or ids 1 d).0)) (constant_number integer.I64 (f (get_or ids 1 d).0)) →
     b ≡ complements_in o (pick f (children_of l))
 complement_told f l ids o d b same h p = go ids h p ∙ ap (λ (x : List Id). complements_in o (pick f (numbers_of x))) same
   where
     go : (ids : List Id) → length ids ≡ 2 →
-        b ≡ complements_by o (constant_number integer.I32 (f (get_or ids 1 d).0)) (constant_number integer.I64 (f (get_or ids 1 d).0)) →
+        b ≡ gives_complement o (constant_number integer.I32 (f (get_or ids 1 d).0)) (constant_number integer.I64 (f (get_or ids 1 d).0)) →
         b ≡ complements_in o (pick f (numbers_of ids))
     go [] h p = absurd (omega arith)
     go (x ∷ []) h p = absurd (omega arith)
     go (x ∷ y ∷ []) h p = p
     go (x ∷ y ∷ z ∷ ids) h p = absurd (omega arith)
+
+-- a node with other than two children is none
+pub no_complement : (f : ℕ → Term Head) (l : Lang) (ids : List Id) (o : Option Operator) → ids ≡ ids_of l → length ids ≢ 2 →
+    false ≡ complements_in o (pick f (children_of l))
+no_complement f l ids o same d = go ids d ∙ ap (λ (x : List Id). complements_in o (pick f (numbers_of x))) same
+  where
+    go : (ids : List Id) → length ids ≢ 2 → false ≡ complements_in o (pick f (numbers_of ids))
+    go [] d = refl
+    go (x ∷ []) d = refl
+    go (x ∷ y ∷ []) d = absurd (d refl)
+    go (x ∷ y ∷ z ∷ ids) d = refl
 
 -- whether there is one
 pub single_told : (f : ℕ → Term Head) (l : Lang) (ids : List Id) (b : Bool) → ids ≡ ids_of l → b ≡ (length ids == 1) → b ≡ is_single (pick f (children_of l))
@@ -109,18 +121,18 @@ single_told f l ids b same told = told ∙ (go ids ∙ ap (λ (x : List Id). is_
 -- ---- an operand
 
 pub operand_told : (nodes : List Lang) (at : ℕ) (l : Lang) (o : Operand) → at < length nodes → l ≡ get_or nodes at l →
-    AreBelow (expression_nodes nodes) → o.opcode ≡ opcode_byte (head_of l) → o.i32_number ≡ constant_number integer.I32 (term_over (term_at nodes) l) →
+    AreBelow (expression_nodes nodes) → o.operator ≡ head_operator (head_of l) → o.i32_number ≡ constant_number integer.I32 (term_over (term_at nodes) l) →
     o.i64_number ≡ constant_number integer.I64 (term_over (term_at nodes) l) → o.local ≡ local_of (term_over (term_at nodes) l) → o.one_value ≡ is_value (instr_of_head (head_of l)) →
     o.writes ≡ writes (term_at nodes at) → o.may_trap ≡ may_trap (term_at nodes at) → o.asks ≡ asks (term_at nodes at) →
     o.values ≡ values_in (pick (term_at nodes) (children_of l)) → o.single ≡ is_single (pick (term_at nodes) (children_of l)) →
-    o.complement ≡ complements_in (opcode_byte (head_of l)) (pick (term_at nodes) (children_of l)) →
+    o.complement ≡ complements_in (head_operator (head_of l)) (pick (term_at nodes) (children_of l)) →
     o ≡ operand_of (term_at nodes at)
 operand_told nodes at l o inside is below p q r n s w t a v u m =
     let k = root_at nodes at l inside is below in
     rebuilt o ∙ (rw (p, q, r, n, s, w, t, a, v, u, m) (rw k refl))
   where
     rebuilt : (o : Operand) → o ≡ record {
-      opcode = o.opcode;
+      operator = o.operator;
       i32_number = o.i32_number;
       i64_number = o.i64_number;
       local = o.local;

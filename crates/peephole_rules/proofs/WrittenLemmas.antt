@@ -18,6 +18,7 @@ use Rattle.peephole_rules.specs.Grafted.{expression_nodes, term_at}
 use Rattle.peephole_rules.specs.Replacement.{term_by, CanReplace, HasTwo, CanBeWritten, Replaces, HasTwoInner, AreInner, HasOne, HasOneInner, IsInner, HasTwiceTwo, IsFirst, AreFirst}
 use Rattle.peephole_rules.proofs.GraftLemmas.{at_last, at_earlier, at_writable}
 use Rattle.peephole_machine.specs.declared.integer.IntegerType.{IntegerType}
+use Rattle.peephole_machine.specs.declared.operation.Operation.{Operation}
 
 pub swapped_below : (n : ℕ) (is js : List ℕ) → length is ≡ 2 → ((i j : ℕ) → is ≡ i ∷ j ∷ [] → js ≡ j ∷ i ∷ []) → All (λ k. k < n) is →
     All (λ k. k < n) js
@@ -39,17 +40,17 @@ module _ (h : Head) (f : ℕ → Term Head) where
   swap_two (i ∷ j ∷ []) k = refl
   swap_two (i ∷ j ∷ l ∷ is) k = absurd k
 
-  pub turn_two : (byte : ℕ) (is : List ℕ) → CanReplace (Turn byte) (node h (pick f is)) → length is ≡ 2
-  turn_two byte [] k = absurd k
-  turn_two byte (i ∷ []) k = absurd k
-  turn_two byte (i ∷ j ∷ []) k = refl
-  turn_two byte (i ∷ j ∷ l ∷ is) k = absurd k
+  pub turn_two : (o : Operation) (is : List ℕ) → CanReplace (Turn o) (node h (pick f is)) → length is ≡ 2
+  turn_two o [] k = absurd k
+  turn_two o (i ∷ []) k = absurd k
+  turn_two o (i ∷ j ∷ []) k = refl
+  turn_two o (i ∷ j ∷ l ∷ is) k = absurd k
 
-  pub negated_two : (byte : ℕ) (is : List ℕ) → CanReplace (Negated byte) (node h (pick f is)) → length is ≡ 2
-  negated_two byte [] k = absurd k
-  negated_two byte (i ∷ []) k = absurd k
-  negated_two byte (i ∷ j ∷ []) k = refl
-  negated_two byte (i ∷ j ∷ l ∷ is) k = absurd k
+  pub negated_two : (o : Operation) (is : List ℕ) → CanReplace (Negated o) (node h (pick f is)) → length is ≡ 2
+  negated_two o [] k = absurd k
+  negated_two o (i ∷ []) k = absurd k
+  negated_two o (i ∷ j ∷ []) k = refl
+  negated_two o (i ∷ j ∷ l ∷ is) k = absurd k
 
   pub select_three : (is : List ℕ) → CanReplace TurnSelect (node h (pick f is)) → length is ≡ 3
   select_three [] k = absurd k
@@ -76,11 +77,11 @@ module _ (h : Head) (f : ℕ → Term Head) where
   right_two (i ∷ j ∷ []) k = refl
   right_two (i ∷ j ∷ l ∷ is) k = absurd k
 
-  pub inner_two : (byte : ℕ) (is : List ℕ) → CanReplace (InnerBy byte) (node h (pick f is)) → HasTwoInner (node h (pick f is))
-  inner_two byte [] k = absurd k
-  inner_two byte (i ∷ is) k = k.0
+  pub inner_two : (o : Operation) (is : List ℕ) → CanReplace (InnerBy o) (node h (pick f is)) → HasTwoInner (node h (pick f is))
+  inner_two o [] k = absurd k
+  inner_two o (i ∷ is) k = k.0
 
-  pub distributed_two : (outer inner : ℕ) (t : IntegerType) (number : ℕ) (is : List ℕ) → CanReplace (Distribute outer inner t number) (node h (pick f is)) →
+  pub distributed_two : (outer inner : Operation) (t : IntegerType) (number : ℕ) (is : List ℕ) → CanReplace (Distribute outer inner t number) (node h (pick f is)) →
       HasTwoInner (node h (pick f is))
   distributed_two outer inner t number [] k = absurd k
   distributed_two outer inner t number (i ∷ is) k = k.0
@@ -90,10 +91,10 @@ module _ (h : Head) (f : ℕ → Term Head) where
   has_one (i ∷ []) k = refl
   has_one (i ∷ j ∷ is) k = absurd k
 
-  pub inner_with_one : (byte : ℕ) (t : IntegerType) (number : ℕ) (is : List ℕ) → CanReplace (InnerWith byte t number) (node h (pick f is)) →
+  pub inner_with_one : (o : Operation) (t : IntegerType) (number : ℕ) (is : List ℕ) → CanReplace (InnerWith o t number) (node h (pick f is)) →
       HasOneInner (node h (pick f is))
-  inner_with_one byte t number [] k = absurd k
-  inner_with_one byte t number (i ∷ is) k = k.0
+  inner_with_one o t number [] k = absurd k
+  inner_with_one o t number (i ∷ is) k = k.0
 
   pub inner_one : (is : List ℕ) → CanReplace Inner (node h (pick f is)) → HasOneInner (node h (pick f is))
   inner_one [] k = absurd k
@@ -107,7 +108,7 @@ module _ (h : Head) (f : ℕ → Term Head) where
       HasOneInner (node h (pick f is)) → HasOne (node g (pick f js))
   only_inner_of is i rest g js e k fits = subst HasOne k (subst (λ (ks : List ℕ). HasOneInner (node h (pick f ks))) e fits)
 
-  pub collected_two : (inner outer : ℕ) (t : IntegerType) (number : ℕ) (is : List ℕ) → CanReplace (Collect inner outer t number) (node h (pick f is)) →
+  pub collected_two : (inner outer : Operation) (t : IntegerType) (number : ℕ) (is : List ℕ) → CanReplace (Collect inner outer t number) (node h (pick f is)) →
       HasTwiceTwo (node h (pick f is))
   collected_two inner outer t number [] k = absurd k
   collected_two inner outer t number (i ∷ []) k = absurd k

@@ -7,18 +7,26 @@ use Rattle.peephole_machine.specs.declared.integer.IntegerType.{IntegerType}
 use Rattle.peephole_machine.specs.declared.integer.IntegerType.TheVariants as integer
 use Rattle.peephole_machine.specs.Values.{width_of}
 use Rattle.peephole_machine.specs.Integer.{IntegerOperator}
-use Rattle.peephole_machine.specs.IntegerRow.{bare_operator}
+use Rattle.peephole_machine.specs.declared.operation.Binary.{Binary as BinaryOperator}
+use Rattle.peephole_machine.specs.declared.operation.Binary.TheVariants.{Add, Sub, Mul, DivU, RemU, And, Or, Xor, Shl, ShrS, ShrU, Rotl, Rotr}
+use Rattle.peephole_machine.specs.declared.operation.Comparison.{Comparison}
+use Rattle.peephole_machine.specs.declared.operation.Comparison.TheVariants.{Eq, Ne}
+use Rattle.peephole_machine.specs.declared.operation.Operation.TheVariants.{Eqz, Compare, Binary, WrapI64, ExtendI32U}
+use Rattle.peephole_machine.specs.Operation.{operator_of}
 use Rattle.peephole_machine.specs.Computed.{computed}
 use Rattle.peephole_terms.specs.declared.encoder.node_kind.NumberType.{NumberType}
 use Rattle.peephole_rules.specs.declared.rule.Rule.{Rule}
 use Rattle.peephole_rules.specs.declared.rule.Rule.TheVariants as rule
 use Rattle.peephole_rules.specs.declared.shape.Operand.{Operand}
+use Rattle.peephole_rules.specs.declared.shape.Operator.{Operator}
+use Rattle.peephole_rules.specs.declared.shape.Operator.TheVariants.{Numeric}
 use Rattle.peephole_rules.specs.declared.shape.Operands.{Operands}
 use Rattle.peephole_rules.specs.declared.shape.Operands.TheVariants.{One, Two, Three}
 use Rattle.peephole_rules.specs.declared.shape.Shape.{Shape}
 use Rattle.peephole_rules.specs.declared.replacement.Replacement.{Replacement}
 use Rattle.peephole_rules.specs.declared.replacement.Replacement.TheVariants.{Swap, Turn, GroupLeft, GroupRight, Constant, Complements, Twice, First, FirstWith, FirstBy, TurnSelect, Unfold, UseGlobal, Nop, Empty, Number, FirstTwice, Drawn, Negated, FirstByBoth, ByBoth, InnerBy, Distribute, FirstWithBoth, InnerWith, Inner, Collect, SetAndGet}
-use Rattle.peephole_rules.specs.Operator.{is_among, are_same, type_by, commutative, associative, turned, of_type, within_width, opposite_of, bits_left_out, widening}
+use Rattle.peephole_rules.specs.Operator.{are_same, within_width}
+use Rattle.peephole_rules.specs.Classes.{is_drop, is_select, is_tee, is_negation, is_wrapping, is_widening, binary_type, comparison_type, test_type, is_binary, is_commutative, in_one_group, turned_operation, opposite_operation, bits_left_out}
 use Rattle.peephole_rules.specs.ValueTypes.{integer_of, integer_type, number_type}
 use Rattle.peephole_rules.specs.Rewriting.{answer_if, all_ones, lowest_bit, typed_constant}
 
@@ -28,56 +36,70 @@ use Rattle.peephole_rules.specs.Rewriting.{answer_if, all_ones, lowest_bit, type
 abbrev pub are_undisturbed : Operand → Operand → Bool
 are_undisturbed x y = (x.one_value && y.one_value) && ((not x.writes && not y.writes) && not (x.may_trap && y.may_trap))
 
+-- the number of an operand that is a constant of the type
 abbrev pub number_of : IntegerType → Operand → Option ℕ
 number_of integer.I32 x = x.i32_number
 number_of integer.I64 x = x.i64_number
 
--- the operator's type, by its opcodes of each type, and the number of its second operand, where that is a constant of the type
-abbrev pub number_behind : (i32_opcode i64_opcode : ℕ) → (opcode : Option ℕ) → Operands → Option (IntegerType × ℕ)
-number_behind a b opcode (Two x c) = option_and_then (λ t. option_map (λ n. (t, n)) (number_of t c)) (type_by a b opcode)
-number_behind a b opcode operands = None
+-- the type, and the number of the second of two operands, where that is a constant of the type
+abbrev pub number_of_second : Option IntegerType → Operands → Option (IntegerType × ℕ)
+number_of_second o (Two x c) = option_and_then (λ t. option_map (λ n. (t, n)) (number_of t c)) o
+number_of_second o operands = None
+
+-- that of this operator, and of this comparison, on two operands
+abbrev pub number_behind : BinaryOperator → Shape → Option (IntegerType × ℕ)
+number_behind f s = number_of_second (binary_type f s.root.operator) s.operands
+
+-- the same of a comparison
+abbrev pub number_compared : Comparison → Shape → Option (IntegerType × ℕ)
+number_compared f s = number_of_second (comparison_type f s.root.operator) s.operands
 
 -- ---- operands in another order, and in other groups
 
-abbrev pub swap : (opcode : Option ℕ) → Operands → Option Replacement
-swap opcode (Two x y) = answer_if (is_among commutative opcode && are_undisturbed x y) Swap
-swap opcode operands = None
+-- the operands in the other order, where they may change places
+abbrev pub swap : Option Operator → Operands → Option Replacement
+swap o (Two x y) = answer_if (is_commutative o && are_undisturbed x y) Swap
+swap o operands = None
 
-abbrev pub turn : (opcode : Option ℕ) → Operands → Option Replacement
-turn opcode (Two x y) = option_and_then (λ byte. answer_if (are_undisturbed x y) (Turn byte)) (option_and_then turned opcode)
-turn opcode operands = None
+-- the comparison that holds of the operands in the other order
+abbrev pub turn : Option Operator → Operands → Option Replacement
+turn o (Two x y) = option_and_then (λ f. answer_if (are_undisturbed x y) (Turn f)) (turned_operation o)
+turn o operands = None
 
-abbrev pub turn_select : (opcode : Option ℕ) → Operands → Option Replacement
-turn_select opcode (Three x y c) = answer_if (are_same opcode (Some 0x1b) && are_undisturbed x y) TurnSelect
-turn_select opcode operands = None
+-- the select of the operands in the other order, by the opposite condition
+abbrev pub turn_select : Option Operator → Operands → Option Replacement
+turn_select o (Three x y c) = answer_if (is_select o && are_undisturbed x y) TurnSelect
+turn_select o operands = None
 
--- both operators have the same opcode, of those that may be grouped either way
-abbrev pub in_one_group : (opcode other : Option ℕ) → Bool
-in_one_group opcode other = is_among associative opcode && are_same opcode other
+-- the second operand's first operand grouped with the first operand
+abbrev pub group_left : Option Operator → Operands → Option Replacement
+group_left o (Two x inner) =
+    option_and_then (λ values. answer_if (in_one_group o inner.operator && values.0) GroupLeft) inner.values
+group_left o operands = None
 
-abbrev pub group_left : (opcode : Option ℕ) → Operands → Option Replacement
-group_left opcode (Two x inner) =
-    option_and_then (λ values. answer_if (in_one_group opcode inner.opcode && values.0) GroupLeft) inner.values
-group_left opcode operands = None
-
-abbrev pub group_right : (opcode : Option ℕ) → Operands → Option Replacement
-group_right opcode (Two inner z) =
-    option_and_then (λ values. answer_if (in_one_group opcode inner.opcode && values.1) GroupRight) inner.values
-group_right opcode operands = None
+-- the first operand's second operand grouped with the second operand
+abbrev pub group_right : Option Operator → Operands → Option Replacement
+group_right o (Two inner z) =
+    option_and_then (λ values. answer_if (in_one_group o inner.operator && values.1) GroupRight) inner.values
+group_right o operands = None
 
 -- ---- an operand more
 
-abbrev pub with_number : (i32_opcode i64_opcode number : ℕ) → Option IntegerType → Option Replacement
-with_number a b n value = option_map (λ t. Constant (of_type t a b) t n) value
+-- the operator on the node and the number, of the type of the node's value
+abbrev pub with_number : BinaryOperator → ℕ → Option IntegerType → Option Replacement
+with_number f n value = option_map (λ t. Constant (Binary t f) t n) value
 
-abbrev pub with_all_ones : (i32_opcode i64_opcode : ℕ) → Option IntegerType → Option Replacement
-with_all_ones a b value = option_map (λ t. Constant (of_type t a b) t (all_ones t)) value
+-- the operator on the node and -1
+abbrev pub with_all_ones : BinaryOperator → Option IntegerType → Option Replacement
+with_all_ones f value = option_map (λ t. Constant (Binary t f) t (all_ones t)) value
 
-abbrev pub complements : (i32_opcode i64_opcode : ℕ) → Option IntegerType → Option Replacement
-complements a b value = option_map (λ t. Complements (of_type t a b) t (all_ones t)) value
+-- the operator on the node and -1, twice
+abbrev pub complements : BinaryOperator → Option IntegerType → Option Replacement
+complements f value = option_map (λ t. Complements (Binary t f) t (all_ones t)) value
 
-abbrev pub twice : (i32_opcode i64_opcode : ℕ) → (writes asks : Bool) → Option IntegerType → Option Replacement
-twice a b writes asks value = option_and_then (λ t. answer_if (not writes && not asks) (Twice (of_type t a b))) value
+-- the operator on the node twice, where that may not write and asks no world
+abbrev pub twice : BinaryOperator → (writes asks : Bool) → Option IntegerType → Option Replacement
+twice f writes asks value = option_and_then (λ t. answer_if (not writes && not asks) (Twice (Binary t f))) value
 
 -- ---- an operand that is a constant
 
@@ -85,48 +107,53 @@ twice a b writes asks value = option_and_then (λ t. answer_if (not writes && no
 abbrev pub without : ℕ → Option (IntegerType × ℕ) → Option Replacement
 without e c = option_and_then (λ p. answer_if (p.1 == e) First) c
 
+-- the first operand alone, where the second is -1
 abbrev pub without_all_ones : Option (IntegerType × ℕ) → Option Replacement
 without_all_ones c = option_and_then (λ p. answer_if (p.1 == all_ones p.0) First) c
 
+-- the test of the first operand, where the second is 0
 abbrev pub test : Option (IntegerType × ℕ) → Option Replacement
-test c = option_and_then (λ p. answer_if (p.1 == 0) (FirstBy (of_type p.0 0x45 0x50))) c
+test c = option_and_then (λ p. answer_if (p.1 == 0) (FirstBy (Eqz p.0))) c
 
-abbrev pub comparison : (opcode : Option ℕ) → Operands → Option Replacement
-comparison opcode (One x) = option_map (λ t. FirstWith (of_type t 0x46 0x51) t 0) (type_by 0x45 0x50 opcode)
-comparison opcode operands = None
+-- the comparison of a test's operand with 0
+abbrev pub comparison : Option Operator → Operands → Option Replacement
+comparison o (One x) = option_map (λ t. FirstWith (Compare t Eq) t 0) (test_type o)
+comparison o operands = None
 
 -- a number whose low bits are those of the number negated
 abbrev pub opposite : IntegerType → ℕ → ℕ
 opposite integer.I32 n = 2 ^ 32 - n % 2 ^ 32
 opposite integer.I64 n = if n == 0 then 0 else 2 ^ 64 - n
 
-abbrev pub with_opposite : (i32_opcode i64_opcode : ℕ) → Option (IntegerType × ℕ) → Option Replacement
-with_opposite a b c = option_map (λ p. FirstWith (of_type p.0 a b) p.0 (opposite p.0 p.1)) c
+-- the operator on the first operand and the number negated
+abbrev pub with_opposite : BinaryOperator → Option (IntegerType × ℕ) → Option Replacement
+with_opposite f c = option_map (λ p. FirstWith (Binary p.0 f) p.0 (opposite p.0 p.1)) c
 
 -- a power of two in the place of a number below the width
-abbrev pub with_power : (i32_opcode i64_opcode : ℕ) → Option (IntegerType × ℕ) → Option Replacement
-with_power a b c = option_and_then (λ p. answer_if (nat_lt p.1 (bits (width_of p.0))) (FirstWith (of_type p.0 a b) p.0 (2 ^ p.1))) c
+abbrev pub with_power : BinaryOperator → Option (IntegerType × ℕ) → Option Replacement
+with_power f c = option_and_then (λ p. answer_if (nat_lt p.1 (bits (width_of p.0))) (FirstWith (Binary p.0 f) p.0 (2 ^ p.1))) c
 
 -- the place of the lowest bit that is set, of the low bits
 abbrev pub lowest_place : IntegerType → ℕ → ℕ
 lowest_place t n = lowest_bit t (within_width t n)
 
 -- the place of its bit in the place of a number that has no other
-abbrev pub with_place : (i32_opcode i64_opcode : ℕ) → Option (IntegerType × ℕ) → Option Replacement
-with_place a b c = option_and_then (λ p.
-    answer_if (2 ^ lowest_place p.0 p.1 == p.1) (FirstWith (of_type p.0 a b) p.0 (lowest_place p.0 p.1))) c
+abbrev pub with_place : BinaryOperator → Option (IntegerType × ℕ) → Option Replacement
+with_place f c = option_and_then (λ p.
+    answer_if (2 ^ lowest_place p.0 p.1 == p.1) (FirstWith (Binary p.0 f) p.0 (lowest_place p.0 p.1))) c
 
 -- one less than a number with one bit, and one more than a number that is one less than such
 abbrev pub with_mask : Option (IntegerType × ℕ) → Option Replacement
-with_mask c = option_and_then (λ p. answer_if (2 ^ lowest_place p.0 p.1 == p.1) (FirstWith (of_type p.0 0x71 0x83) p.0 (p.1 - 1))) c
+with_mask c = option_and_then (λ p. answer_if (2 ^ lowest_place p.0 p.1 == p.1) (FirstWith (Binary p.0 And) p.0 (p.1 - 1))) c
 
+-- the remainder by one more than a number that is one less than one with one bit
 abbrev pub with_divisor : Option (IntegerType × ℕ) → Option Replacement
 with_divisor c = option_and_then (λ p.
-    answer_if (nat_lt p.1 (all_ones p.0) && (2 ^ lowest_place p.0 (p.1 + 1) == p.1 + 1)) (FirstWith (of_type p.0 0x70 0x82) p.0 (p.1 + 1))) c
+    answer_if (nat_lt p.1 (all_ones p.0) && (2 ^ lowest_place p.0 (p.1 + 1) == p.1 + 1)) (FirstWith (Binary p.0 RemU) p.0 (p.1 + 1))) c
 
 -- the turn that is left to the whole
-abbrev pub with_rest : (i32_opcode i64_opcode : ℕ) → Option (IntegerType × ℕ) → Option Replacement
-with_rest a b c = option_map (λ p. FirstWith (of_type p.0 a b) p.0 (bits (width_of p.0) - p.1 % bits (width_of p.0))) c
+abbrev pub with_rest : BinaryOperator → Option (IntegerType × ℕ) → Option Replacement
+with_rest f c = option_map (λ p. FirstWith (Binary p.0 f) p.0 (bits (width_of p.0) - p.1 % bits (width_of p.0))) c
 
 -- ---- constants, drop, and other ways to the same value
 
@@ -136,18 +163,22 @@ constant_type (Some n) o = Some integer.I32
 constant_type None (Some n) = Some integer.I64
 constant_type None None = None
 
+-- of a constant the sum of a drawn word and the rest
 abbrev pub unfolded : (i32_number i64_number : Option ℕ) → Option Replacement
 unfolded o r = option_map (λ t. Unfold t) (constant_type o r)
 
+-- the value by way of a requested global
 abbrev pub through_global : Option NumberType → Option Replacement
 through_global value = option_map (λ t. UseGlobal t) value
 
-abbrev pub forgotten : (opcode : Option ℕ) → Operands → Option Replacement
-forgotten opcode (One x) = answer_if (are_same opcode (Some 0x1a) && (not x.writes && not x.may_trap)) Empty
-forgotten opcode operands = None
+-- nothing in the place of a drop, where its operand may neither write nor trap
+abbrev pub forgotten : Option Operator → Operands → Option Replacement
+forgotten o (One x) = answer_if (is_drop o && (not x.writes && not x.may_trap)) Empty
+forgotten o operands = None
 
 -- ---- an operator on constants
 
+-- it is a constant of i32 or of i64
 abbrev pub is_constant : Operand → Bool
 is_constant x = is_some x.i32_number || is_some x.i64_number
 
@@ -166,18 +197,26 @@ abbrev pub on_one : IntegerOperator → List PrimitiveTypeInfo → Operand → O
 on_one f (u ∷ []) x = option_and_then (λ n. computed f (n ∷ [])) (typed_number u x)
 on_one f us x = None
 
+-- what it gives on two operands
 abbrev pub on_two : IntegerOperator → List PrimitiveTypeInfo → Operand → Operand → Option ℕ
 on_two f (u ∷ v ∷ []) x y = option_and_then (λ n. option_and_then (λ m. computed f (n ∷ m ∷ [])) (typed_number v y)) (typed_number u x)
 on_two f us x y = None
 
+-- what it gives on these operands
 abbrev pub folded_number : IntegerOperator → Operands → Option ℕ
 folded_number f (One x) = on_one f f.operands x
 folded_number f (Two x y) = on_two f f.operands x y
 folded_number f operands = None
 
-abbrev pub folded : (opcode : Option ℕ) → Operands → Option Replacement
-folded opcode operands =
-    option_and_then (λ f. option_map (λ n. Number f.result n) (folded_number f operands)) (option_and_then bare_operator opcode)
+-- the operator on numbers that it is
+abbrev pub numeric_operator : Option Operator → Option IntegerOperator
+numeric_operator (Some (Numeric f)) = Some (operator_of f)
+numeric_operator o = None
+
+-- the constant of what an operator on constants gives
+abbrev pub folded : Option Operator → Operands → Option Replacement
+folded o operands =
+    option_and_then (λ f. option_map (λ n. Number f.result n) (folded_number f operands)) (numeric_operator o)
 
 -- by the first of two operands, and the type and the number of the second
 abbrev pub by_first : Operands → (Operand → IntegerType × ℕ → Option Replacement) → Option (IntegerType × ℕ) → Option Replacement
@@ -187,32 +226,38 @@ by_first operands f c = None
 -- the first operand twice, where the second is that number
 abbrev pub double : ℕ → Operands → Option (IntegerType × ℕ) → Option Replacement
 double e operands c =
-    by_first operands (λ x p. answer_if ((p.1 == e) && (not x.writes && not x.asks)) (FirstTwice (of_type p.0 0x6a 0x7c))) c
+    by_first operands (λ x p. answer_if ((p.1 == e) && (not x.writes && not x.asks)) (FirstTwice (Binary p.0 Add))) c
 
 -- both operands read the same local
 abbrev pub have_same_local : Operand → Operand → Bool
 have_same_local x y = are_same x.local y.local
 
--- the operator's type, by its opcodes of each type, where both operands read the same local
-abbrev pub type_of_same : (i32_opcode i64_opcode : ℕ) → (opcode : Option ℕ) → Operands → Option IntegerType
-type_of_same a b opcode (Two x y) = option_and_then (λ t. answer_if (have_same_local x y) t) (type_by a b opcode)
-type_of_same a b opcode operands = None
+-- the type, where there are two operands that read the same local
+abbrev pub type_of_same : Option IntegerType → Operands → Option IntegerType
+type_of_same o (Two x y) = option_and_then (λ t. answer_if (have_same_local x y) t) o
+type_of_same o operands = None
+
+-- that of this operator on two operands
+abbrev pub same_behind : BinaryOperator → Shape → Option IntegerType
+same_behind f s = type_of_same (binary_type f s.root.operator) s.operands
 
 -- 0, the first operand alone, and the first operand and a number, in the place of an operator of the type on the same local twice
 abbrev pub cancelled : Option IntegerType → Option Replacement
 cancelled same = option_map (λ t. Number t 0) same
 
+-- the first operand alone, in such a place
 abbrev pub first_of_same : Option IntegerType → Option Replacement
 first_of_same same = option_map (λ t. First) same
 
-abbrev pub same_with : (i32_opcode i64_opcode number : ℕ) → Option IntegerType → Option Replacement
-same_with a b n same = option_map (λ t. FirstWith (of_type t a b) t n) same
+-- the operator on the first operand and the number, in such a place
+abbrev pub same_with : BinaryOperator → ℕ → Option IntegerType → Option Replacement
+same_with f n same = option_map (λ t. FirstWith (Binary t f) t n) same
 
 -- the first operand of a select alone, where the first two read the same local, and the condition may neither write nor trap
-abbrev pub selected_same : (opcode : Option ℕ) → Operands → Option Replacement
-selected_same opcode (Three x y c) =
-    answer_if ((are_same opcode (Some 0x1b) && have_same_local x y) && (not c.writes && not c.may_trap)) First
-selected_same opcode operands = None
+abbrev pub selected_same : Option Operator → Operands → Option Replacement
+selected_same o (Three x y c) =
+    answer_if ((is_select o && have_same_local x y) && (not c.writes && not c.may_trap)) First
+selected_same o operands = None
 
 -- the second operand alone, where that is the element of its type
 abbrev pub alone : (element : IntegerType → ℕ) → Operands → Option (IntegerType × ℕ) → Option Replacement
@@ -220,141 +265,151 @@ alone element operands c =
     by_first operands (λ x p. answer_if ((p.1 == element p.0) && (not x.writes && not x.may_trap)) (Number p.0 p.1)) c
 
 -- the element behind a drawn constant
-abbrev pub drawn : (i32_opcode i64_opcode : ℕ) → (element : IntegerType → ℕ) → Option (IntegerType × ℕ) → Option Replacement
-drawn a b element c = option_and_then (λ p. answer_if (p.1 == element p.0) (Drawn (of_type p.0 a b) p.0)) c
+abbrev pub drawn : BinaryOperator → (element : IntegerType → ℕ) → Option (IntegerType × ℕ) → Option Replacement
+drawn f element c = option_and_then (λ p. answer_if (p.1 == element p.0) (Drawn (Binary p.0 f) p.0)) c
 
-abbrev pub negated : (opcode : Option ℕ) → Operands → Option Replacement
-negated opcode (Two x y) = option_map (λ byte. Negated byte) (option_and_then opposite_of opcode)
-negated opcode operands = None
+-- the test of the comparison that holds where this one doesn't
+abbrev pub negated : Option Operator → Operands → Option Replacement
+negated o (Two x y) = option_map (λ f. Negated f) (opposite_operation o)
+negated o operands = None
 
+-- the test of the test of the first operand, where the second is 0
 abbrev pub both_tests : Option (IntegerType × ℕ) → Option Replacement
-both_tests c = option_and_then (λ p. answer_if (p.1 == 0) (FirstByBoth (of_type p.0 0x45 0x50) 0x45)) c
+both_tests c = option_and_then (λ p. answer_if (p.1 == 0) (FirstByBoth (Eqz p.0) (Eqz integer.I32))) c
 
+-- a value of i32, extended and wrapped
 abbrev pub wrapped : Option IntegerType → Option Replacement
-wrapped (Some integer.I32) = Some (ByBoth 0xad 0xa7)
+wrapped (Some integer.I32) = Some (ByBoth ExtendI32U WrapI64)
 wrapped value = None
 
 -- the comparison on the inner operands that holds where that doesn't of which this is the test
-abbrev pub unnegated : (opcode : Option ℕ) → Operands → Option Replacement
-unnegated opcode (One x) = if are_same opcode (Some 0x45) then
-    option_and_then (λ values. option_map (λ byte. InnerBy byte) (option_and_then opposite_of x.opcode)) x.values else None
-unnegated opcode operands = None
+abbrev pub unnegated : Option Operator → Operands → Option Replacement
+unnegated o (One x) = if is_negation o then
+    option_and_then (λ values. option_map (λ f. InnerBy f) (opposite_operation x.operator)) x.values else None
+unnegated o operands = None
 
--- an operator on the parts of the first operand, of this type and number
-abbrev pub part : (a b c d e f : ℕ) → Operand → IntegerType × ℕ → (met : Bool) → Option Replacement
-part a b c d e f x p met = option_and_then (λ values.
-    answer_if ((are_same x.opcode (Some (of_type p.0 a b)) && values.0) && met) (Distribute (of_type p.0 c d) (of_type p.0 e f) p.0 p.1)) x.values
+-- an operator on the parts of the first operand, of this type and number: with the operator that parts it, that which joins what is made
+-- of the parts, and the operator itself
+abbrev pub part : (parts joins own : BinaryOperator) → Operand → IntegerType × ℕ → (met : Bool) → Option Replacement
+part parts joins own x p met = option_and_then (λ values.
+    answer_if ((is_binary p.0 parts x.operator && values.0) && met) (Distribute (Binary p.0 joins) (Binary p.0 own) p.0 p.1)) x.values
 
-abbrev pub distributed : (a b c d e f : ℕ) → (test : IntegerType → ℕ → Bool) → Operands → Option (IntegerType × ℕ) → Option Replacement
-distributed a b c d e f test operands behind = by_first operands (λ x p. part a b c d e f x p (test p.0 p.1)) behind
+-- that, where the number passes the test
+abbrev pub distributed : (parts joins own : BinaryOperator) → (test : IntegerType → ℕ → Bool) → Operands → Option (IntegerType × ℕ) → Option Replacement
+distributed parts joins own test operands behind = by_first operands (λ x p. part parts joins own x p (test p.0 p.1)) behind
 
-abbrev pub shifts : (opcode : Option ℕ) → Operands → Option Replacement
-shifts opcode (One x) =
-    option_map (λ p. FirstWithBoth (of_type p.0 0x74 0x86) (of_type p.0 0x75 0x87) p.0 p.1) (option_and_then bits_left_out opcode)
-shifts opcode operands = None
+-- an extension of low bits as a shift there and one back
+abbrev pub shifts : Option Operator → Operands → Option Replacement
+shifts o (One x) =
+    option_map (λ p. FirstWithBoth (Binary p.0 Shl) (Binary p.0 ShrS) p.0 p.1) (bits_left_out o)
+shifts o operands = None
 
 -- ---- the operand of an operand
 
--- the opcode of the only operand, where that has one operand itself
-abbrev pub inner_opcode : Operands → Option ℕ
-inner_opcode (One x) = if x.single then x.opcode else None
-inner_opcode operands = None
+-- the operator of the only operand, where that has one operand itself
+abbrev pub inner_operator : Operands → Option Operator
+inner_operator (One x) = if x.single then x.operator else None
+inner_operator operands = None
 
-abbrev pub difference : (opcode inner : Option ℕ) → Option Replacement
-difference opcode inner = if are_same opcode (Some 0x45) then
-    option_map (λ t. InnerWith (of_type t 0x47 0x52) t 0) (type_by 0x45 0x50 inner) else None
+-- the comparison with 0 of what is tested twice
+abbrev pub difference : (operator inner : Option Operator) → Option Replacement
+difference o inner = if is_negation o then
+    option_map (λ t. InnerWith (Compare t Ne) t 0) (test_type inner) else None
 
-abbrev pub narrowed : (opcode inner : Option ℕ) → Option Replacement
-narrowed opcode inner = answer_if (are_same opcode (Some 0xa7) && is_among widening inner) Inner
+-- what is extended, where it is wrapped again
+abbrev pub narrowed : (operator inner : Option Operator) → Option Replacement
+narrowed o inner = answer_if (is_wrapping o && is_widening inner) Inner
 
 -- ---- complements
 
 -- the complement of what another operator makes of the first operands of both, which are complements
-abbrev pub collected : (a b c d : ℕ) → (opcode : Option ℕ) → Operands → Option Replacement
-collected a b c d opcode (Two x y) = option_and_then (λ t.
-    answer_if (x.complement && y.complement) (Collect (of_type t c d) (of_type t 0x73 0x85) t (all_ones t))) (type_by a b opcode)
-collected a b c d opcode operands = None
+abbrev pub collected : (own other : BinaryOperator) → Option Operator → Operands → Option Replacement
+collected own other o (Two x y) = option_and_then (λ t.
+    answer_if (x.complement && y.complement) (Collect (Binary t other) (Binary t Xor) t (all_ones t))) (binary_type own o)
+collected own other o operands = None
 
-abbrev pub set_apart : (opcode : Option ℕ) → Operands → Option Replacement
-set_apart opcode (One x) = answer_if (are_same opcode (Some 0x22)) SetAndGet
-set_apart opcode operands = None
+-- a write of the local that is set and left, and a read of it
+abbrev pub set_apart : Option Operator → Operands → Option Replacement
+set_apart o (One x) = answer_if (is_tee o) SetAndGet
+set_apart o operands = None
 
 -- ---- every rule
 
+-- what the rule puts in the place of a node of the shape
 abbrev pub choice : Rule → Shape → Option Replacement
-choice rule.Commute s = swap s.root.opcode s.operands
-choice rule.TurnComparison s = turn s.root.opcode s.operands
-choice rule.AssociateLeft s = group_left s.root.opcode s.operands
-choice rule.AssociateRight s = group_right s.root.opcode s.operands
-choice rule.AddZero s = with_number 0x6a 0x7c 0 (integer_type s.value)
-choice rule.SubZero s = with_number 0x6b 0x7d 0 (integer_type s.value)
-choice rule.MulOne s = with_number 0x6c 0x7e 1 (integer_type s.value)
-choice rule.OrZero s = with_number 0x72 0x84 0 (integer_type s.value)
-choice rule.XorZero s = with_number 0x73 0x85 0 (integer_type s.value)
-choice rule.AndOnes s = with_all_ones 0x71 0x83 (integer_type s.value)
-choice rule.ShiftByZero s = with_number 0x74 0x86 0 (integer_type s.value)
-choice rule.OrSelf s = twice 0x72 0x84 s.root.writes s.root.asks (integer_type s.value)
-choice rule.AndSelf s = twice 0x71 0x83 s.root.writes s.root.asks (integer_type s.value)
-choice rule.DoubleComplement s = complements 0x73 0x85 (integer_type s.value)
-choice rule.ShiftToProduct s = with_power 0x6c 0x7e (number_behind 0x74 0x86 s.root.opcode s.operands)
-choice rule.ProductToShift s = with_place 0x74 0x86 (number_behind 0x6c 0x7e s.root.opcode s.operands)
-choice rule.DifferenceToSum s = with_opposite 0x6a 0x7c (number_behind 0x6b 0x7d s.root.opcode s.operands)
-choice rule.SumToDifference s = with_opposite 0x6b 0x7d (number_behind 0x6a 0x7c s.root.opcode s.operands)
-choice rule.TestToComparison s = comparison s.root.opcode s.operands
-choice rule.ComparisonToTest s = test (number_behind 0x46 0x51 s.root.opcode s.operands)
-choice rule.TurnSelect s = turn_select s.root.opcode s.operands
+choice rule.Commute s = swap s.root.operator s.operands
+choice rule.TurnComparison s = turn s.root.operator s.operands
+choice rule.AssociateLeft s = group_left s.root.operator s.operands
+choice rule.AssociateRight s = group_right s.root.operator s.operands
+choice rule.AddZero s = with_number Add 0 (integer_type s.value)
+choice rule.SubZero s = with_number Sub 0 (integer_type s.value)
+choice rule.MulOne s = with_number Mul 1 (integer_type s.value)
+choice rule.OrZero s = with_number Or 0 (integer_type s.value)
+choice rule.XorZero s = with_number Xor 0 (integer_type s.value)
+choice rule.AndOnes s = with_all_ones And (integer_type s.value)
+choice rule.ShiftByZero s = with_number Shl 0 (integer_type s.value)
+choice rule.OrSelf s = twice Or s.root.writes s.root.asks (integer_type s.value)
+choice rule.AndSelf s = twice And s.root.writes s.root.asks (integer_type s.value)
+choice rule.DoubleComplement s = complements Xor (integer_type s.value)
+choice rule.ShiftToProduct s = with_power Mul (number_behind Shl s)
+choice rule.ProductToShift s = with_place Shl (number_behind Mul s)
+choice rule.DifferenceToSum s = with_opposite Add (number_behind Sub s)
+choice rule.SumToDifference s = with_opposite Sub (number_behind Add s)
+choice rule.TestToComparison s = comparison s.root.operator s.operands
+choice rule.ComparisonToTest s = test (number_compared Eq s)
+choice rule.TurnSelect s = turn_select s.root.operator s.operands
 choice rule.Unfold s = unfolded s.root.i32_number s.root.i64_number
 choice rule.ThroughGlobal s = through_global (number_type s.value)
 choice rule.WithNop s = Some Nop
-choice rule.Fold s = folded s.root.opcode s.operands
-choice rule.DropAddZero s = without 0 (number_behind 0x6a 0x7c s.root.opcode s.operands)
-choice rule.DropSubZero s = without 0 (number_behind 0x6b 0x7d s.root.opcode s.operands)
-choice rule.DropMulOne s = without 1 (number_behind 0x6c 0x7e s.root.opcode s.operands)
-choice rule.DropOrZero s = without 0 (number_behind 0x72 0x84 s.root.opcode s.operands)
-choice rule.DropXorZero s = without 0 (number_behind 0x73 0x85 s.root.opcode s.operands)
-choice rule.DropAndOnes s = without_all_ones (number_behind 0x71 0x83 s.root.opcode s.operands)
-choice rule.DropShiftByZero s = without 0 (number_behind 0x74 0x86 s.root.opcode s.operands)
-choice rule.Forget s = forgotten s.root.opcode s.operands
-choice rule.ShrSByZero s = with_number 0x75 0x87 0 (integer_type s.value)
-choice rule.ShrUByZero s = with_number 0x76 0x88 0 (integer_type s.value)
-choice rule.RotlByZero s = with_number 0x77 0x89 0 (integer_type s.value)
-choice rule.RotrByZero s = with_number 0x78 0x8a 0 (integer_type s.value)
-choice rule.DropShrSByZero s = without 0 (number_behind 0x75 0x87 s.root.opcode s.operands)
-choice rule.DropShrUByZero s = without 0 (number_behind 0x76 0x88 s.root.opcode s.operands)
-choice rule.DropRotlByZero s = without 0 (number_behind 0x77 0x89 s.root.opcode s.operands)
-choice rule.DropRotrByZero s = without 0 (number_behind 0x78 0x8a s.root.opcode s.operands)
-choice rule.QuotientToShift s = with_place 0x76 0x88 (number_behind 0x6e 0x80 s.root.opcode s.operands)
-choice rule.ShiftToQuotient s = with_power 0x6e 0x80 (number_behind 0x76 0x88 s.root.opcode s.operands)
-choice rule.RemainderToMask s = with_mask (number_behind 0x70 0x82 s.root.opcode s.operands)
-choice rule.MaskToRemainder s = with_divisor (number_behind 0x71 0x83 s.root.opcode s.operands)
-choice rule.RotlToRotr s = with_rest 0x78 0x8a (number_behind 0x77 0x89 s.root.opcode s.operands)
-choice rule.RotrToRotl s = with_rest 0x77 0x89 (number_behind 0x78 0x8a s.root.opcode s.operands)
-choice rule.ProductToDouble s = double 2 s.operands (number_behind 0x6c 0x7e s.root.opcode s.operands)
-choice rule.ShiftToDouble s = double 1 s.operands (number_behind 0x74 0x86 s.root.opcode s.operands)
-choice rule.CancelSub s = cancelled (type_of_same 0x6b 0x7d s.root.opcode s.operands)
-choice rule.CancelXor s = cancelled (type_of_same 0x73 0x85 s.root.opcode s.operands)
-choice rule.DropOrSelf s = first_of_same (type_of_same 0x72 0x84 s.root.opcode s.operands)
-choice rule.DropAndSelf s = first_of_same (type_of_same 0x71 0x83 s.root.opcode s.operands)
-choice rule.DoubleToProduct s = same_with 0x6c 0x7e 2 (type_of_same 0x6a 0x7c s.root.opcode s.operands)
-choice rule.DoubleToShift s = same_with 0x74 0x86 1 (type_of_same 0x6a 0x7c s.root.opcode s.operands)
-choice rule.DropSelect s = selected_same s.root.opcode s.operands
-choice rule.AndZero s = drawn 0x71 0x83 (λ t. 0) (typed_constant s.root.i32_number s.root.i64_number)
-choice rule.MulZero s = drawn 0x6c 0x7e (λ t. 0) (typed_constant s.root.i32_number s.root.i64_number)
-choice rule.OrOnes s = drawn 0x72 0x84 all_ones (typed_constant s.root.i32_number s.root.i64_number)
-choice rule.DropAndZero s = alone (λ t. 0) s.operands (number_behind 0x71 0x83 s.root.opcode s.operands)
-choice rule.DropMulZero s = alone (λ t. 0) s.operands (number_behind 0x6c 0x7e s.root.opcode s.operands)
-choice rule.DropOrOnes s = alone all_ones s.operands (number_behind 0x72 0x84 s.root.opcode s.operands)
-choice rule.NegateComparison s = negated s.root.opcode s.operands
-choice rule.DifferenceToTests s = both_tests (number_behind 0x47 0x52 s.root.opcode s.operands)
+choice rule.Fold s = folded s.root.operator s.operands
+choice rule.DropAddZero s = without 0 (number_behind Add s)
+choice rule.DropSubZero s = without 0 (number_behind Sub s)
+choice rule.DropMulOne s = without 1 (number_behind Mul s)
+choice rule.DropOrZero s = without 0 (number_behind Or s)
+choice rule.DropXorZero s = without 0 (number_behind Xor s)
+choice rule.DropAndOnes s = without_all_ones (number_behind And s)
+choice rule.DropShiftByZero s = without 0 (number_behind Shl s)
+choice rule.Forget s = forgotten s.root.operator s.operands
+choice rule.ShrSByZero s = with_number ShrS 0 (integer_type s.value)
+choice rule.ShrUByZero s = with_number ShrU 0 (integer_type s.value)
+choice rule.RotlByZero s = with_number Rotl 0 (integer_type s.value)
+choice rule.RotrByZero s = with_number Rotr 0 (integer_type s.value)
+choice rule.DropShrSByZero s = without 0 (number_behind ShrS s)
+choice rule.DropShrUByZero s = without 0 (number_behind ShrU s)
+choice rule.DropRotlByZero s = without 0 (number_behind Rotl s)
+choice rule.DropRotrByZero s = without 0 (number_behind Rotr s)
+choice rule.QuotientToShift s = with_place ShrU (number_behind DivU s)
+choice rule.ShiftToQuotient s = with_power DivU (number_behind ShrU s)
+choice rule.RemainderToMask s = with_mask (number_behind RemU s)
+choice rule.MaskToRemainder s = with_divisor (number_behind And s)
+choice rule.RotlToRotr s = with_rest Rotr (number_behind Rotl s)
+choice rule.RotrToRotl s = with_rest Rotl (number_behind Rotr s)
+choice rule.ProductToDouble s = double 2 s.operands (number_behind Mul s)
+choice rule.ShiftToDouble s = double 1 s.operands (number_behind Shl s)
+choice rule.CancelSub s = cancelled (same_behind Sub s)
+choice rule.CancelXor s = cancelled (same_behind Xor s)
+choice rule.DropOrSelf s = first_of_same (same_behind Or s)
+choice rule.DropAndSelf s = first_of_same (same_behind And s)
+choice rule.DoubleToProduct s = same_with Mul 2 (same_behind Add s)
+choice rule.DoubleToShift s = same_with Shl 1 (same_behind Add s)
+choice rule.DropSelect s = selected_same s.root.operator s.operands
+choice rule.AndZero s = drawn And (λ t. 0) (typed_constant s.root.i32_number s.root.i64_number)
+choice rule.MulZero s = drawn Mul (λ t. 0) (typed_constant s.root.i32_number s.root.i64_number)
+choice rule.OrOnes s = drawn Or all_ones (typed_constant s.root.i32_number s.root.i64_number)
+choice rule.DropAndZero s = alone (λ t. 0) s.operands (number_behind And s)
+choice rule.DropMulZero s = alone (λ t. 0) s.operands (number_behind Mul s)
+choice rule.DropOrOnes s = alone all_ones s.operands (number_behind Or s)
+choice rule.NegateComparison s = negated s.root.operator s.operands
+choice rule.DifferenceToTests s = both_tests (number_compared Ne s)
 choice rule.WrapExtended s = wrapped (integer_type s.value)
-choice rule.DropNegation s = unnegated s.root.opcode s.operands
-choice rule.DistributeProduct s = distributed 0x6a 0x7c 0x6a 0x7c 0x6c 0x7e (λ t n. true) s.operands (number_behind 0x6c 0x7e s.root.opcode s.operands)
-choice rule.DistributeMask s = distributed 0x72 0x84 0x72 0x84 0x71 0x83 (λ t n. true) s.operands (number_behind 0x71 0x83 s.root.opcode s.operands)
-choice rule.ComplementOfAnd s = distributed 0x71 0x83 0x72 0x84 0x73 0x85 (λ t n. n == all_ones t) s.operands (number_behind 0x73 0x85 s.root.opcode s.operands)
-choice rule.ComplementOfOr s = distributed 0x72 0x84 0x71 0x83 0x73 0x85 (λ t n. n == all_ones t) s.operands (number_behind 0x73 0x85 s.root.opcode s.operands)
-choice rule.ExtensionToShifts s = shifts s.root.opcode s.operands
-choice rule.TestsToDifference s = difference s.root.opcode (inner_opcode s.operands)
-choice rule.DropWrapExtended s = narrowed s.root.opcode (inner_opcode s.operands)
-choice rule.OrOfComplements s = collected 0x72 0x84 0x71 0x83 s.root.opcode s.operands
-choice rule.AndOfComplements s = collected 0x71 0x83 0x72 0x84 s.root.opcode s.operands
-choice rule.TeeToSet s = set_apart s.root.opcode s.operands
+choice rule.DropNegation s = unnegated s.root.operator s.operands
+choice rule.DistributeProduct s = distributed Add Add Mul (λ t n. true) s.operands (number_behind Mul s)
+choice rule.DistributeMask s = distributed Or Or And (λ t n. true) s.operands (number_behind And s)
+choice rule.ComplementOfAnd s = distributed And Or Xor (λ t n. n == all_ones t) s.operands (number_behind Xor s)
+choice rule.ComplementOfOr s = distributed Or And Xor (λ t n. n == all_ones t) s.operands (number_behind Xor s)
+choice rule.ExtensionToShifts s = shifts s.root.operator s.operands
+choice rule.TestsToDifference s = difference s.root.operator (inner_operator s.operands)
+choice rule.DropWrapExtended s = narrowed s.root.operator (inner_operator s.operands)
+choice rule.OrOfComplements s = collected Or And s.root.operator s.operands
+choice rule.AndOfComplements s = collected And Or s.root.operator s.operands
+choice rule.TeeToSet s = set_apart s.root.operator s.operands

@@ -31,5 +31,6 @@ grafted expr at u = tree_with at u (expression_nodes expr) (length expr - 1)
 abbrev pub raised : (at by : ℕ) → ℕ → ℕ
 raised at by i = if nat_lt i at then i else i + by
 
+-- the node, whose children are where they are then
 abbrev pub raised_node : {H : Type 0} → (at by : ℕ) → Node H → Node H
 raised_node at by n = record { head = n.head; children = map (raised at by) n.children }

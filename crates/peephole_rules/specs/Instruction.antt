@@ -9,12 +9,13 @@ use Rattle.peephole_lang.specs.declared.lang.Head.{Head}
 use Rattle.peephole_lang.specs.Term.{Terms, no_terms, ◌▸◌}
 use Rattle.peephole_machine.specs.declared.integer.IntegerType.{IntegerType}
 use Rattle.peephole_machine.specs.declared.integer.IntegerType.TheVariants as integer
+use Rattle.peephole_rules.specs.declared.shape.Operator.{Operator}
 use Rattle.peephole_rules.specs.declared.shape.Operand.{Operand}
 use Rattle.peephole_rules.specs.declared.shape.Operands.{Operands}
 use Rattle.peephole_rules.specs.declared.shape.Operands.TheVariants.{Leaf, One, Two, Three, More}
 use Rattle.peephole_rules.specs.Operator.{instruction_byte, is_value, local_by, within_width}
 use Rattle.peephole_rules.specs.Effects.{is_writer, is_trapper, is_asker}
-use Rattle.peephole_rules.specs.Rewriting.{complements_by}
+use Rattle.peephole_rules.specs.Classes.{operator_on, gives_complement}
 use Rattle.peephole_rules.specs.Shape.{operand_of}
 
 -- what is read of each term, in order
@@ -48,10 +49,10 @@ abbrev pub single_read : List Operand → Bool
 single_read (x ∷ []) = true
 single_read os = false
 
--- whether an operator of the opcode gives the complement of the first operand
-abbrev pub complement_read : (opcode : Option ℕ) → List Operand → Bool
-complement_read opcode (x ∷ c ∷ []) = complements_by opcode c.i32_number c.i64_number
-complement_read opcode os = false
+-- whether the operator gives the complement of the first operand
+abbrev pub complement_read : Option Operator → List Operand → Bool
+complement_read o (x ∷ c ∷ []) = gives_complement o c.i32_number c.i64_number
+complement_read o os = false
 
 -- the operands, of which rules see up to three
 abbrev pub listed : List Operand → Operands
@@ -64,7 +65,7 @@ listed os = More
 -- what is read of the instruction's term, but for what its operands may do
 abbrev pub alone_read : Instruction → List Operand → Operand
 alone_read i os = record {
-  opcode = instruction_byte (Some i);
+  operator = operator_on (instruction_byte (Some i));
   i32_number = number_read integer.I32 i os;
   i64_number = number_read integer.I64 i os;
   local = local_read i os;
@@ -74,7 +75,7 @@ alone_read i os = record {
   asks = is_asker (Some i);
   values = both_values os;
   single = single_read os;
-  complement = complement_read (instruction_byte (Some i)) os;
+  complement = complement_read (operator_on (instruction_byte (Some i))) os;
 }
 
 -- the term may do what its operand may

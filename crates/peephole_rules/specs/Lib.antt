@@ -6,6 +6,7 @@ pub mod Growth
 pub mod Grafted
 pub mod Rewriting
 pub mod Flags
+pub mod Classes
 pub mod Shape
 pub mod Instruction
 pub mod ReadAlike

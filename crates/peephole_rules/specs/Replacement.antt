@@ -4,6 +4,8 @@ use Rattle.peephole_nodes.specs.NumericShapes.{is_numeric}
 use Rattle.peephole_nodes.specs.Payload.{is_writable}
 use Rattle.peephole_lang.specs.declared.lang.Head.{Head}
 use Rattle.peephole_lang.specs.Term.{Term, Terms, node, no_terms, ◌▸◌, Node, pick, tree_at}
+use Rattle.peephole_machine.specs.declared.operation.Operation.{Operation}
+use Rattle.peephole_machine.specs.Opcode.{opcode}
 use Rattle.peephole_rules.specs.declared.replacement.Replacement.{Replacement}
 use Rattle.peephole_rules.specs.declared.replacement.Replacement.TheVariants.{Swap, Turn, GroupLeft, GroupRight, Constant, Complements, Twice, First, FirstWith, FirstBy, TurnSelect, Unfold, UseGlobal, Nop, Empty, Number, FirstTwice, Drawn, Negated, FirstByBoth, ByBoth, InnerBy, Distribute, FirstWithBoth, InnerWith, Inner, Collect, SetAndGet}
 use Rattle.peephole_rules.specs.Operator.{operator, numbered, one, two, container, unfold_head, use_global_head, random, index_in}
@@ -15,29 +17,30 @@ use Rattle.peephole_rules.specs.Grafted.{term_over, term_at}
 -- what they make of the term of the node
 abbrev pub term_by : Replacement → Term Head → Term Head
 term_by Swap (node h (x ▸ y ▸ no_terms)) = two h y x
-term_by (Turn byte) (node h (x ▸ y ▸ no_terms)) = two (operator byte) y x
+term_by (Turn f) (node h (x ▸ y ▸ no_terms)) = two (operator (opcode f)) y x
 term_by GroupLeft (node h (x ▸ node g (y ▸ z ▸ no_terms) ▸ no_terms)) = two h (two g x y) z
 term_by GroupRight (node h (node g (x ▸ y ▸ no_terms) ▸ z ▸ no_terms)) = two h x (two g y z)
-term_by (Constant byte t number) x = two (operator byte) x (numbered t number)
-term_by (Complements byte t number) x = two (operator byte) (two (operator byte) x (numbered t number)) (numbered t number)
-term_by (Twice byte) x = two (operator byte) x x
+term_by (Constant f t number) x = two (operator (opcode f)) x (numbered t number)
+term_by (Complements f t number) x = two (operator (opcode f)) (two (operator (opcode f)) x (numbered t number)) (numbered t number)
+term_by (Twice f) x = two (operator (opcode f)) x x
 term_by First (node h (x ▸ ts)) = x
-term_by (FirstWith byte t number) (node h (x ▸ ts)) = two (operator byte) x (numbered t number)
-term_by (FirstBy byte) (node h (x ▸ ts)) = one (operator byte) x
+term_by (FirstWith f t number) (node h (x ▸ ts)) = two (operator (opcode f)) x (numbered t number)
+term_by (FirstBy f) (node h (x ▸ ts)) = one (operator (opcode f)) x
 term_by TurnSelect (node h (x ▸ y ▸ c ▸ no_terms)) = node h (y ▸ x ▸ one (operator 0x45) c ▸ no_terms)
-term_by (FirstTwice byte) (node h (x ▸ ts)) = two (operator byte) x x
-term_by (Drawn byte t) x = two (operator byte) (random t) x
-term_by (Negated byte) (node h (x ▸ y ▸ no_terms)) = one (operator 0x45) (two (operator byte) x y)
-term_by (FirstByBoth inner outer) (node h (x ▸ ts)) = one (operator outer) (one (operator inner) x)
-term_by (ByBoth inner outer) x = one (operator outer) (one (operator inner) x)
-term_by (InnerBy byte) (node h (node g (x ▸ y ▸ no_terms) ▸ ts)) = two (operator byte) x y
+term_by (FirstTwice f) (node h (x ▸ ts)) = two (operator (opcode f)) x x
+term_by (Drawn f t) x = two (operator (opcode f)) (random t) x
+term_by (Negated f) (node h (x ▸ y ▸ no_terms)) = one (operator 0x45) (two (operator (opcode f)) x y)
+term_by (FirstByBoth inner outer) (node h (x ▸ ts)) = one (operator (opcode outer)) (one (operator (opcode inner)) x)
+term_by (ByBoth inner outer) x = one (operator (opcode outer)) (one (operator (opcode inner)) x)
+term_by (InnerBy f) (node h (node g (x ▸ y ▸ no_terms) ▸ ts)) = two (operator (opcode f)) x y
 term_by (Distribute outer inner t number) (node h (node g (x ▸ y ▸ no_terms) ▸ ts)) =
-    two (operator outer) (two (operator inner) x (numbered t number)) (two (operator inner) y (numbered t number))
-term_by (FirstWithBoth inner outer t number) (node h (x ▸ ts)) = two (operator outer) (two (operator inner) x (numbered t number)) (numbered t number)
-term_by (InnerWith byte t number) (node h (node g (x ▸ us) ▸ ts)) = two (operator byte) x (numbered t number)
+    two (operator (opcode outer)) (two (operator (opcode inner)) x (numbered t number)) (two (operator (opcode inner)) y (numbered t number))
+term_by (FirstWithBoth inner outer t number) (node h (x ▸ ts)) =
+    two (operator (opcode outer)) (two (operator (opcode inner)) x (numbered t number)) (numbered t number)
+term_by (InnerWith f t number) (node h (node g (x ▸ us) ▸ ts)) = two (operator (opcode f)) x (numbered t number)
 term_by Inner (node h (node g (x ▸ us) ▸ ts)) = x
-term_by (Collect inner outer t number) (node h (node f (x ▸ us) ▸ node g (y ▸ vs) ▸ no_terms)) =
-    two (operator outer) (two (operator inner) x y) (numbered t number)
+term_by (Collect inner outer t number) (node h (node g (x ▸ us) ▸ node k (y ▸ vs) ▸ no_terms)) =
+    two (operator (opcode outer)) (two (operator (opcode inner)) x y) (numbered t number)
 term_by SetAndGet (node h (x ▸ ts)) = set_and_get (index_in h.payload) x
 term_by (Unfold t) x = one (unfold_head t) x
 term_by (UseGlobal t) x = one (use_global_head t) x
@@ -49,25 +52,25 @@ term_by r x = x
 -- how many nodes there are more
 abbrev pub more : Replacement → ℕ
 more Swap = 0
-more (Turn byte) = 0
+more (Turn f) = 0
 more GroupLeft = 1
 more GroupRight = 1
-more (Constant byte t number) = 2
-more (Complements byte t number) = 3
-more (Twice byte) = 1
+more (Constant f t number) = 2
+more (Complements f t number) = 3
+more (Twice f) = 1
 more First = 0
-more (FirstWith byte t number) = 1
-more (FirstBy byte) = 0
+more (FirstWith f t number) = 1
+more (FirstBy f) = 0
 more TurnSelect = 1
-more (FirstTwice byte) = 0
-more (Drawn byte t) = 2
-more (Negated byte) = 1
+more (FirstTwice f) = 0
+more (Drawn f t) = 2
+more (Negated f) = 1
 more (FirstByBoth inner outer) = 1
 more (ByBoth inner outer) = 2
-more (InnerBy byte) = 0
+more (InnerBy f) = 0
 more (Distribute outer inner t number) = 3
 more (FirstWithBoth inner outer t number) = 2
-more (InnerWith byte t number) = 1
+more (InnerWith f t number) = 1
 more Inner = 0
 more (Collect inner outer t number) = 2
 more SetAndGet = 2
@@ -77,15 +80,15 @@ more Nop = 2
 more Empty = 0
 more (Number t number) = 0
 
--- a binary operator has the opcode
-pub record IsBinary (byte : ℕ) : Type 0 where
-  pub large : 17 ≤ byte
-  pub numeric : is_numeric (byte - 17) 2 ≡ true
+-- an operator on two operands
+pub record IsBinary (f : Operation) : Type 0 where
+  pub large : 17 ≤ opcode f
+  pub numeric : is_numeric (opcode f - 17) 2 ≡ true
 
--- a unary one
-pub record IsUnary (byte : ℕ) : Type 0 where
-  pub large : 17 ≤ byte
-  pub numeric : is_numeric (byte - 17) 1 ≡ true
+-- an operator on one operand
+pub record IsUnary (f : Operation) : Type 0 where
+  pub large : 17 ≤ opcode f
+  pub numeric : is_numeric (opcode f - 17) 1 ≡ true
 
 -- a node with two children
 abbrev pub HasTwo : Term Head → Type 0
@@ -147,25 +150,25 @@ pub record AreFirst (expr : List Lang) (l : Lang) (x y : ℕ) : Type 0 where
 -- The node has the children that are asked for, these have theirs, and there is such an operator.
 abbrev pub CanReplace : Replacement → Term Head → Type 0
 CanReplace Swap (node h (x ▸ y ▸ no_terms)) = ⊤
-CanReplace (Turn byte) (node h (x ▸ y ▸ no_terms)) = IsBinary byte
+CanReplace (Turn f) (node h (x ▸ y ▸ no_terms)) = IsBinary f
 CanReplace GroupLeft (node h (x ▸ y ▸ no_terms)) = HasTwo y
 CanReplace GroupRight (node h (x ▸ y ▸ no_terms)) = HasTwo x
-CanReplace (Constant byte t number) x = IsBinary byte
-CanReplace (Complements byte t number) x = IsBinary byte
-CanReplace (Twice byte) x = IsBinary byte
+CanReplace (Constant f t number) x = IsBinary f
+CanReplace (Complements f t number) x = IsBinary f
+CanReplace (Twice f) x = IsBinary f
 CanReplace First (node h (x ▸ ts)) = ⊤
-CanReplace (FirstWith byte t number) (node h (x ▸ ts)) = IsBinary byte
-CanReplace (FirstBy byte) (node h (x ▸ ts)) = IsUnary byte
+CanReplace (FirstWith f t number) (node h (x ▸ ts)) = IsBinary f
+CanReplace (FirstBy f) (node h (x ▸ ts)) = IsUnary f
 CanReplace TurnSelect (node h (x ▸ y ▸ c ▸ no_terms)) = ⊤
-CanReplace (FirstTwice byte) (node h (x ▸ ts)) = IsBinary byte
-CanReplace (Drawn byte t) x = IsBinary byte
-CanReplace (Negated byte) (node h (x ▸ y ▸ no_terms)) = IsBinary byte
+CanReplace (FirstTwice f) (node h (x ▸ ts)) = IsBinary f
+CanReplace (Drawn f t) x = IsBinary f
+CanReplace (Negated f) (node h (x ▸ y ▸ no_terms)) = IsBinary f
 CanReplace (FirstByBoth inner outer) (node h (x ▸ ts)) = IsUnary inner × IsUnary outer
 CanReplace (ByBoth inner outer) x = IsUnary inner × IsUnary outer
-CanReplace (InnerBy byte) (node h (x ▸ ts)) = HasTwo x × IsBinary byte
+CanReplace (InnerBy f) (node h (x ▸ ts)) = HasTwo x × IsBinary f
 CanReplace (Distribute outer inner t number) (node h (x ▸ ts)) = HasTwo x × IsBinary outer × IsBinary inner
 CanReplace (FirstWithBoth inner outer t number) (node h (x ▸ ts)) = IsBinary inner × IsBinary outer
-CanReplace (InnerWith byte t number) (node h (x ▸ ts)) = HasOne x × IsBinary byte
+CanReplace (InnerWith f t number) (node h (x ▸ ts)) = HasOne x × IsBinary f
 CanReplace Inner (node h (x ▸ ts)) = HasOne x
 CanReplace (Collect inner outer t number) (node h (x ▸ y ▸ no_terms)) = (HasTwo x × HasTwo y) × IsBinary inner × IsBinary outer
 CanReplace SetAndGet (node h (x ▸ ts)) = ⊤

@@ -22,6 +22,7 @@ use Rattle.peephole_rules.specs.Effects.{writes, may_trap, asks}
 use Rattle.peephole_rules.specs.ValueTypes.{integer_of, type_of_value, integer_type, number_type}
 use Rattle.peephole_rules.specs.Grafted.{term_at}
 
+-- it, where the condition is met
 abbrev pub answer_if : {A : Type 0} → Bool → A → Option A
 answer_if b a = if b then Some a else None
 
@@ -77,9 +78,11 @@ shift_by_zero t x = with_constant t 0x74 0x86 0 x
 abbrev pub with_itself : IntegerType → (i32_opcode i64_opcode : ℕ) → Term Head → Option (Term Head)
 with_itself t a b x = answer_if (not (writes x) && not (asks x)) (two (operator (of_type t a b)) x x)
 
+-- x, of type t → or x x
 abbrev pub or_self : IntegerType → Term Head → Option (Term Head)
 or_self t x = with_itself t 0x72 0x84 x
 
+-- x, of type t → and x x
 abbrev pub and_self : IntegerType → Term Head → Option (Term Head)
 and_self t x = with_itself t 0x71 0x83 x
 

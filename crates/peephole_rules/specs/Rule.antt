@@ -5,6 +5,7 @@ use Rattle.peephole_rules.specs.declared.rule.Rule.TheVariants.{Commute, TurnCom
 use Rattle.peephole_rules.specs.declared.rule.UnknownRule.{UnknownRule}
 use Rattle.peephole_rules.specs.declared.rule.TheConstants.{RULES}
 
+-- the name of a rule, as bytes
 abbrev pub rule_name : Rule → List ℕ
 rule_name Commute = codes "commute"
 rule_name TurnComparison = codes "turn_comparison"

@@ -6,16 +6,17 @@ ghost use Rattle.peephole_machine.specs.Values.{Context};
 ghost use Rattle.peephole_rules.specs.declared.rule.Rule.{Rule};
 ghost use Rattle.peephole_rules.specs.Rewriting.{rewrite};
 ghost use Rattle.peephole_rules.specs.Shape.{shape_of};
-ghost use Rattle.peephole_rules.specs.Candidates.{AreOnce, rules_at, rules_on};
+ghost use Rattle.peephole_rules.specs.Candidates.{AreOnce, test_rules, comparison_rules, binary_rules, numeric_rules, rules_of, rules_on};
 
 use crate::rule::Rule;
-use crate::shape::Shape;
+use crate::shape::{Operator, Shape};
+use peephole_machine::{Binary, Comparison, IntegerType, Operation};
 
-// To add a rule: one that asks nothing of the opcode stands in `ON_EACH`, any other in the arm of each opcode for which it may have an
-// answer, here in `rules_at` and in the same row of `opcode_rows` of `specs/Candidates.antt`. `is_listed` of
-// `proofs/CandidateLemmas.antt` has a line for each rule, which says that it was not forgotten.
+// To add a rule: one that asks nothing of the operator stands in `ON_EACH`, any other in the arm of each operator for which it may have
+// an answer, here and in the same line of `specs/Candidates.antt`. `is_listed` of `proofs/CandidateLemmas.antt` has a line for each
+// rule, which says that it was not forgotten.
 
-// The rules that ask nothing of the opcode.
+// The rules that ask nothing of the operator.
 const ON_EACH: [Rule; 22] = [
     Rule::AddZero,
     Rule::SubZero,
@@ -41,39 +42,29 @@ const ON_EACH: [Rule; 22] = [
     Rule::WrapExtended,
 ];
 
-// The rules that ask just this opcode.
-fn rules_at(byte: u8) -> &'static [Rule]
-    ensures { result.now ≡ rules_at byte }
+fn comparison_rules(f: Comparison) -> &'static [Rule]
+    ensures { result.now ≡ comparison_rules f }
 {
-    match byte {
-        0x1A => &[Rule::Forget],
-        0x1B => &[Rule::TurnSelect, Rule::DropSelect],
-        0x22 => &[Rule::TeeToSet],
-        0x45 => &[
-            Rule::TestToComparison,
-            Rule::DropNegation,
-            Rule::TestsToDifference,
-        ],
-        0x50 => &[Rule::TestToComparison],
-        0x46 | 0x51 => &[
+    match f {
+        Comparison::Eq => &[
             Rule::Commute,
             Rule::ComparisonToTest,
             Rule::NegateComparison,
         ],
-        0x47 | 0x52 => &[
+        Comparison::Ne => &[
             Rule::Commute,
             Rule::NegateComparison,
             Rule::DifferenceToTests,
         ],
-        0x48 | 0x49 | 0x4A | 0x4B | 0x4C | 0x4D | 0x4E | 0x4F => &[
-            Rule::TurnComparison,
-            Rule::NegateComparison,
-        ],
-        0x53 | 0x54 | 0x55 | 0x56 | 0x57 | 0x58 | 0x59 | 0x5A => &[
-            Rule::TurnComparison,
-            Rule::NegateComparison,
-        ],
-        0x6A | 0x7C => &[
+        _ => &[Rule::TurnComparison, Rule::NegateComparison],
+    }
+}
+
+fn binary_rules(f: Binary) -> &'static [Rule]
+    ensures { result.now ≡ binary_rules f }
+{
+    match f {
+        Binary::Add => &[
             Rule::Commute,
             Rule::AssociateLeft,
             Rule::AssociateRight,
@@ -82,8 +73,8 @@ fn rules_at(byte: u8) -> &'static [Rule]
             Rule::DoubleToProduct,
             Rule::DoubleToShift,
         ],
-        0x6B | 0x7D => &[Rule::DifferenceToSum, Rule::DropSubZero, Rule::CancelSub],
-        0x6C | 0x7E => &[
+        Binary::Sub => &[Rule::DifferenceToSum, Rule::DropSubZero, Rule::CancelSub],
+        Binary::Mul => &[
             Rule::Commute,
             Rule::AssociateLeft,
             Rule::AssociateRight,
@@ -93,9 +84,11 @@ fn rules_at(byte: u8) -> &'static [Rule]
             Rule::DropMulZero,
             Rule::DistributeProduct,
         ],
-        0x6E | 0x80 => &[Rule::QuotientToShift],
-        0x70 | 0x82 => &[Rule::RemainderToMask],
-        0x71 | 0x83 => &[
+        Binary::DivS => &[],
+        Binary::DivU => &[Rule::QuotientToShift],
+        Binary::RemS => &[],
+        Binary::RemU => &[Rule::RemainderToMask],
+        Binary::And => &[
             Rule::Commute,
             Rule::AssociateLeft,
             Rule::AssociateRight,
@@ -106,7 +99,7 @@ fn rules_at(byte: u8) -> &'static [Rule]
             Rule::DropAndSelf,
             Rule::AndOfComplements,
         ],
-        0x72 | 0x84 => &[
+        Binary::Or => &[
             Rule::Commute,
             Rule::AssociateLeft,
             Rule::AssociateRight,
@@ -115,7 +108,7 @@ fn rules_at(byte: u8) -> &'static [Rule]
             Rule::DropOrSelf,
             Rule::OrOfComplements,
         ],
-        0x73 | 0x85 => &[
+        Binary::Xor => &[
             Rule::Commute,
             Rule::AssociateLeft,
             Rule::AssociateRight,
@@ -124,39 +117,81 @@ fn rules_at(byte: u8) -> &'static [Rule]
             Rule::ComplementOfOr,
             Rule::CancelXor,
         ],
-        0x74 | 0x86 => &[
+        Binary::Shl => &[
             Rule::ShiftToProduct,
             Rule::DropShiftByZero,
             Rule::ShiftToDouble,
         ],
-        0x75 | 0x87 => &[Rule::DropShrSByZero],
-        0x76 | 0x88 => &[Rule::DropShrUByZero, Rule::ShiftToQuotient],
-        0x77 | 0x89 => &[Rule::DropRotlByZero, Rule::RotlToRotr],
-        0x78 | 0x8A => &[Rule::DropRotrByZero, Rule::RotrToRotl],
-        0xA7 => &[Rule::DropWrapExtended],
-        0xC0 | 0xC1 | 0xC2 | 0xC3 | 0xC4 => &[Rule::ExtensionToShifts],
-        _ => &[],
+        Binary::ShrS => &[Rule::DropShrSByZero],
+        Binary::ShrU => &[Rule::DropShrUByZero, Rule::ShiftToQuotient],
+        Binary::Rotl => &[Rule::DropRotlByZero, Rule::RotlToRotr],
+        Binary::Rotr => &[Rule::DropRotrByZero, Rule::RotrToRotl],
     }
 }
 
-fn rules_on(opcode: Option<u8>) -> &'static [Rule]
-    ensures { result.now ≡ rules_on opcode }
+fn test_rules(t: IntegerType) -> &'static [Rule]
+    ensures { result.now ≡ test_rules t }
 {
-    match opcode {
-        Some(byte) => rules_at(byte),
+    match t {
+        IntegerType::I32 => &[
+            Rule::TestToComparison,
+            Rule::DropNegation,
+            Rule::TestsToDifference,
+        ],
+        IntegerType::I64 => &[Rule::TestToComparison],
+    }
+}
+
+fn numeric_rules(f: Operation) -> &'static [Rule]
+    ensures { result.now ≡ numeric_rules f }
+{
+    match f {
+        Operation::Eqz(t) => test_rules(t),
+        Operation::Compare(_, f) => comparison_rules(f),
+        Operation::Unary(..) => &[],
+        Operation::Binary(_, f) => binary_rules(f),
+        Operation::WrapI64 => &[Rule::DropWrapExtended],
+        Operation::ExtendI32S => &[],
+        Operation::ExtendI32U => &[],
+        Operation::Extend8S(_) => &[Rule::ExtensionToShifts],
+        Operation::Extend16S(_) => &[Rule::ExtensionToShifts],
+        Operation::Extend32S => &[Rule::ExtensionToShifts],
+    }
+}
+
+// The rules that ask just this operator.
+fn rules_of(operator: Operator) -> &'static [Rule]
+    ensures { result.now ≡ rules_of operator }
+{
+    match operator {
+        Operator::Numeric(f) => numeric_rules(f),
+        Operator::Drop => &[Rule::Forget],
+        Operator::Select => &[Rule::TurnSelect, Rule::DropSelect],
+        Operator::LocalGet => &[],
+        Operator::LocalSet => &[],
+        Operator::LocalTee => &[Rule::TeeToSet],
+        Operator::GlobalSet => &[],
+    }
+}
+
+fn rules_on(operator: Option<Operator>) -> &'static [Rule]
+    ensures { result.now ≡ rules_on operator }
+{
+    match operator {
+        Some(operator) => rules_of(operator),
         None => &[],
     }
 }
 
 impl Shape {
-    /// The rules that may have an answer for a term of which this was read: those that ask nothing of the opcode at its root, and those
-    /// that ask just that opcode. Each other rule has none. It takes constant time.
+    /// The rules that may have an answer for a term of which this was read: those that ask nothing of the operator at its root, and
+    /// those that ask just that. Each other rule has none. It takes constant time.
     pub fn candidates(&self) -> (&'static [Rule], &'static [Rule])
         ensures complete { (rule : Rule) (context : Context) (t : Term Head)
             → self.now ≡ shape_of context t → IsTrue (is_some (rewrite context rule t))
             → Contains (result.0.now ++ result.1.now) rule }
         ensures once { AreOnce (result.0.now ++ result.1.now) }
     {
-        (&ON_EACH, rules_on(self.root.opcode))
+        (&ON_EACH, rules_on(self.root.operator))
     }
 }

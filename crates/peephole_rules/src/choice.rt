@@ -1,30 +1,17 @@
 //! What a rule puts in the place of a node, by what is read of the node and of its operands.
 ghost use Rattle.std.specs.Prelude.{◌≡◌, ◌==◌, true, option_map};
-ghost use Rattle.peephole_rules.specs.Rewriting.{answer_if, all_ones, typed_constant, complements_by};
-ghost use Rattle.peephole_rules.specs.Choice.{are_undisturbed, number_of, number_behind, swap, turn, turn_select, in_one_group, group_left, group_right, with_number, with_all_ones, complements, twice, without, without_all_ones, test, comparison, with_opposite, with_power, with_place, with_mask, with_divisor, with_rest, constant_type, unfolded, through_global, forgotten, double, alone, drawn, negated, both_tests, wrapped, unnegated, part, distributed, shifts, inner_opcode, difference, narrowed, collected, set_apart, have_same_local, type_of_same, cancelled, first_of_same, same_with, selected_same};
+ghost use Rattle.peephole_rules.specs.Rewriting.{answer_if, all_ones, typed_constant};
+ghost use Rattle.peephole_rules.specs.Choice.{are_undisturbed, number_of, number_of_second, swap, turn, turn_select, group_left, group_right, with_number, with_all_ones, complements, twice, without, without_all_ones, test, comparison, with_opposite, with_power, with_place, with_mask, with_divisor, with_rest, constant_type, unfolded, through_global, forgotten, double, alone, drawn, negated, both_tests, wrapped, unnegated, part, distributed, shifts, inner_operator, difference, narrowed, collected, set_apart, have_same_local, type_of_same, cancelled, first_of_same, same_with, selected_same};
 
-use crate::constant::{all_ones, lowest_bit, opposite, width};
-use crate::operator::{
-    are_same, bits_left_out, is_associative, is_commutative, is_widening, of_type, opposite_opcode,
-    turned_opcode, type_by,
+use crate::classes::{
+    binary_type, bits_left_out, in_one_group, is_binary, is_commutative, is_drop, is_negation,
+    is_select, is_tee, is_widening, is_wrapping, opposite_operation, test_type, turned_operation,
 };
+use crate::constant::{all_ones, lowest_bit, opposite, width};
 use crate::replacement::Replacement;
-use crate::shape::{Operand, Operands};
-use peephole_machine::IntegerType;
+use crate::shape::{Operand, Operands, Operator};
+use peephole_machine::{Binary, Comparison, IntegerType, Operation};
 use peephole_terms::NumberType;
-
-/// Whether xor with a second operand that has these numbers as a constant of each type gives the complement of its first: the
-/// opcode is its, and the number is -1.
-pub(crate) fn complements_by(
-    opcode: Option<u8>,
-    i32_number: Option<u64>,
-    i64_number: Option<u64>,
-) -> bool
-    ensures { result ≡ complements_by opcode i32_number i64_number }
-{
-    (opcode == Some(0x73) && i32_number == Some(0xFFFF_FFFF))
-        || (opcode == Some(0x85) && i64_number == Some(u64::MAX))
-}
 
 // The replacement, where the condition is met.
 fn answer_if(met: bool, replacement: Replacement) -> Option<Replacement>
@@ -56,141 +43,116 @@ fn typed_number(t: IntegerType, number: Option<u64>) -> Option<(IntegerType, u64
     Some((t, number?))
 }
 
-/// The operator's type, by its opcodes of each type, and the number of its second operand, where that is a constant of the type.
-pub(crate) fn number_behind(
-    i32_opcode: u8,
-    i64_opcode: u8,
-    opcode: Option<u8>,
+/// The type, and the number of the second of two operands, where that is a constant of the type.
+pub(crate) fn number_of_second(
+    t: Option<IntegerType>,
     operands: &Operands,
 ) -> Option<(IntegerType, u64)>
-    ensures { result ≡ number_behind i32_opcode i64_opcode opcode operands.now }
+    ensures { result ≡ number_of_second t operands.now }
 {
     let Operands::Two(_, number) = operands else {
         return None;
     };
-    let t = type_by(i32_opcode, i64_opcode, opcode)?;
+    let t = t?;
     typed_number(t, number_of(t, number))
 }
 
 /// The operands in the other order, where they may change places and don't disturb one another.
-pub(crate) fn swap(opcode: Option<u8>, operands: &Operands) -> Option<Replacement>
-    ensures { result ≡ swap opcode operands.now }
+pub(crate) fn swap(operator: Option<Operator>, operands: &Operands) -> Option<Replacement>
+    ensures { result ≡ swap operator operands.now }
 {
     let Operands::Two(x, y) = operands else {
         return None;
     };
-    let commutes = is_commutative(opcode);
+    let commutes = is_commutative(operator);
     let undisturbed = are_undisturbed(x, y);
     answer_if(commutes && undisturbed, Replacement::Swap)
 }
 
 /// The comparison that holds of the operands in the other order, where they don't disturb one another.
-pub(crate) fn turn(opcode: Option<u8>, operands: &Operands) -> Option<Replacement>
-    ensures { result ≡ turn opcode operands.now }
+pub(crate) fn turn(operator: Option<Operator>, operands: &Operands) -> Option<Replacement>
+    ensures { result ≡ turn operator operands.now }
 {
     let Operands::Two(x, y) = operands else {
         return None;
     };
-    let other = turned_opcode(opcode)?;
+    let other = turned_operation(operator)?;
     answer_if(are_undisturbed(x, y), Replacement::Turn(other))
 }
 
 /// The select of the operands in the other order by the opposite condition, where they don't disturb one another.
-pub(crate) fn turn_select(opcode: Option<u8>, operands: &Operands) -> Option<Replacement>
-    ensures { result ≡ turn_select opcode operands.now }
+pub(crate) fn turn_select(operator: Option<Operator>, operands: &Operands) -> Option<Replacement>
+    ensures { result ≡ turn_select operator operands.now }
 {
     let Operands::Three(x, y, _) = operands else {
         return None;
     };
-    let selects = are_same(opcode, Some(0x1B));
+    let selects = is_select(operator);
     let undisturbed = are_undisturbed(x, y);
     answer_if(selects && undisturbed, Replacement::TurnSelect)
 }
 
-// Whether both operators have the same opcode, of those that may be grouped either way.
-fn in_one_group(opcode: Option<u8>, other: Option<u8>) -> bool
-    ensures { result ≡ in_one_group opcode other }
-{
-    let associates = is_associative(opcode);
-    let same = are_same(opcode, other);
-    associates && same
-}
-
 /// The second operand's first operand grouped with the first operand, where it leaves one value.
-pub(crate) fn group_left(opcode: Option<u8>, operands: &Operands) -> Option<Replacement>
-    ensures { result ≡ group_left opcode operands.now }
+pub(crate) fn group_left(operator: Option<Operator>, operands: &Operands) -> Option<Replacement>
+    ensures { result ≡ group_left operator operands.now }
 {
     let Operands::Two(_, inner) = operands else {
         return None;
     };
     let (one_value, _) = inner.values?;
-    let grouped = in_one_group(opcode, inner.opcode);
+    let grouped = in_one_group(operator, inner.operator);
     answer_if(grouped && one_value, Replacement::GroupLeft)
 }
 
 /// The first operand's second operand grouped with the second operand, where it leaves one value.
-pub(crate) fn group_right(opcode: Option<u8>, operands: &Operands) -> Option<Replacement>
-    ensures { result ≡ group_right opcode operands.now }
+pub(crate) fn group_right(operator: Option<Operator>, operands: &Operands) -> Option<Replacement>
+    ensures { result ≡ group_right operator operands.now }
 {
     let Operands::Two(inner, _) = operands else {
         return None;
     };
     let (_, one_value) = inner.values?;
-    let grouped = in_one_group(opcode, inner.opcode);
+    let grouped = in_one_group(operator, inner.operator);
     answer_if(grouped && one_value, Replacement::GroupRight)
 }
 
 /// A number behind the node, with the operator of its type.
-pub(crate) fn with_number(
-    i32_opcode: u8,
-    i64_opcode: u8,
-    number: u64,
-    value: Option<IntegerType>,
-) -> Option<Replacement>
-    ensures { result ≡ with_number i32_opcode i64_opcode number value }
+pub(crate) fn with_number(f: Binary, number: u64, value: Option<IntegerType>) -> Option<Replacement>
+    ensures { result ≡ with_number f number value }
 {
     let t = value?;
-    Some(Replacement::Constant(of_type(t, i32_opcode, i64_opcode), t, number))
+    Some(Replacement::Constant(Operation::Binary(t, f), t, number))
 }
 
 /// -1 behind the node, with the operator of its type.
-pub(crate) fn with_all_ones(
-    i32_opcode: u8,
-    i64_opcode: u8,
-    value: Option<IntegerType>,
-) -> Option<Replacement>
-    ensures { result ≡ with_all_ones i32_opcode i64_opcode value }
+pub(crate) fn with_all_ones(f: Binary, value: Option<IntegerType>) -> Option<Replacement>
+    ensures { result ≡ with_all_ones f value }
 {
     let t = value?;
-    Some(Replacement::Constant(of_type(t, i32_opcode, i64_opcode), t, all_ones(t)))
+    Some(Replacement::Constant(Operation::Binary(t, f), t, all_ones(t)))
 }
 
 /// -1 behind the node, twice.
-pub(crate) fn complements(
-    i32_opcode: u8,
-    i64_opcode: u8,
-    value: Option<IntegerType>,
-) -> Option<Replacement>
-    ensures { result ≡ complements i32_opcode i64_opcode value }
+pub(crate) fn complements(f: Binary, value: Option<IntegerType>) -> Option<Replacement>
+    ensures { result ≡ complements f value }
 {
     let t = value?;
-    Some(Replacement::Complements(of_type(t, i32_opcode, i64_opcode), t, all_ones(t)))
+    Some(Replacement::Complements(Operation::Binary(t, f), t, all_ones(t)))
 }
 
 /// The node twice, with the operator of its type, where it may not write and asks no world.
 pub(crate) fn twice(
-    i32_opcode: u8,
-    i64_opcode: u8,
+    f: Binary,
     writes: bool,
     asks: bool,
     value: Option<IntegerType>,
 ) -> Option<Replacement>
-    ensures { result ≡ twice i32_opcode i64_opcode writes asks value }
+    ensures { result ≡ twice f writes asks value }
 {
     let t = value?;
     answer_if(
         !writes && !asks,
-        Replacement::Twice(of_type(t, i32_opcode, i64_opcode)),
+        Replacement::Twice(Operation::Binary(t, f)),
     )
 }
 
@@ -215,60 +177,48 @@ pub(crate) fn test(behind: Option<(IntegerType, u64)>) -> Option<Replacement>
     ensures { result ≡ test behind }
 {
     let (t, n) = behind?;
-    answer_if(n == 0, Replacement::FirstBy(of_type(t, 0x45, 0x50)))
+    answer_if(n == 0, Replacement::FirstBy(Operation::Eqz(t)))
 }
 
 /// The comparison of a test's operand with 0.
-pub(crate) fn comparison(opcode: Option<u8>, operands: &Operands) -> Option<Replacement>
-    ensures { result ≡ comparison opcode operands.now }
+pub(crate) fn comparison(operator: Option<Operator>, operands: &Operands) -> Option<Replacement>
+    ensures { result ≡ comparison operator operands.now }
 {
     let Operands::One(_) = operands else {
         return None;
     };
-    let t = type_by(0x45, 0x50, opcode)?;
-    Some(Replacement::FirstWith(of_type(t, 0x46, 0x51), t, 0))
+    let t = test_type(operator)?;
+    Some(Replacement::FirstWith(Operation::Compare(t, Comparison::Eq), t, 0))
 }
 
 /// The first operand and the number behind it negated, with the operator of its type.
-pub(crate) fn with_opposite(
-    i32_opcode: u8,
-    i64_opcode: u8,
-    behind: Option<(IntegerType, u64)>,
-) -> Option<Replacement>
-    ensures { result ≡ with_opposite i32_opcode i64_opcode behind }
+pub(crate) fn with_opposite(f: Binary, behind: Option<(IntegerType, u64)>) -> Option<Replacement>
+    ensures { result ≡ with_opposite f behind }
 {
     let (t, n) = behind?;
-    Some(Replacement::FirstWith(of_type(t, i32_opcode, i64_opcode), t, opposite(t, n)))
+    Some(Replacement::FirstWith(Operation::Binary(t, f), t, opposite(t, n)))
 }
 
 /// The first operand and a power of two, with the operator of its type, where the second operand is a number below the width.
-pub(crate) fn with_power(
-    i32_opcode: u8,
-    i64_opcode: u8,
-    behind: Option<(IntegerType, u64)>,
-) -> Option<Replacement>
-    ensures { result ≡ with_power i32_opcode i64_opcode behind }
+pub(crate) fn with_power(f: Binary, behind: Option<(IntegerType, u64)>) -> Option<Replacement>
+    ensures { result ≡ with_power f behind }
 {
     let (t, n) = behind?;
     if n >= width(t) {
         return None;
     }
-    Some(Replacement::FirstWith(of_type(t, i32_opcode, i64_opcode), t, 1 << n))
+    Some(Replacement::FirstWith(Operation::Binary(t, f), t, 1 << n))
 }
 
 /// The first operand and the place of a number's lowest bit, with the operator of its type, where the number has no other bit.
-pub(crate) fn with_place(
-    i32_opcode: u8,
-    i64_opcode: u8,
-    behind: Option<(IntegerType, u64)>,
-) -> Option<Replacement>
-    ensures { result ≡ with_place i32_opcode i64_opcode behind }
+pub(crate) fn with_place(f: Binary, behind: Option<(IntegerType, u64)>) -> Option<Replacement>
+    ensures { result ≡ with_place f behind }
 {
     let (t, n) = behind?;
     let place = lowest_bit(t, n);
     answer_if(
         1 << place == n,
-        Replacement::FirstWith(of_type(t, i32_opcode, i64_opcode), t, place),
+        Replacement::FirstWith(Operation::Binary(t, f), t, place),
     )
 }
 
@@ -280,7 +230,7 @@ pub(crate) fn with_mask(behind: Option<(IntegerType, u64)>) -> Option<Replacemen
     if 1 << lowest_bit(t, n) != n {
         return None;
     }
-    Some(Replacement::FirstWith(of_type(t, 0x71, 0x83), t, n - 1))
+    Some(Replacement::FirstWith(Operation::Binary(t, Binary::And), t, n - 1))
 }
 
 /// The remainder of the first operand by one more than a number, where that has one bit alone.
@@ -294,21 +244,17 @@ pub(crate) fn with_divisor(behind: Option<(IntegerType, u64)>) -> Option<Replace
     let divisor = n + 1;
     answer_if(
         1 << lowest_bit(t, divisor) == divisor,
-        Replacement::FirstWith(of_type(t, 0x70, 0x82), t, divisor),
+        Replacement::FirstWith(Operation::Binary(t, Binary::RemU), t, divisor),
     )
 }
 
 /// The first operand and what is left of a turn to the whole, with the operator of its type.
-pub(crate) fn with_rest(
-    i32_opcode: u8,
-    i64_opcode: u8,
-    behind: Option<(IntegerType, u64)>,
-) -> Option<Replacement>
-    ensures { result ≡ with_rest i32_opcode i64_opcode behind }
+pub(crate) fn with_rest(f: Binary, behind: Option<(IntegerType, u64)>) -> Option<Replacement>
+    ensures { result ≡ with_rest f behind }
 {
     let (t, n) = behind?;
     let bits = width(t);
-    Some(Replacement::FirstWith(of_type(t, i32_opcode, i64_opcode), t, bits - n % bits))
+    Some(Replacement::FirstWith(Operation::Binary(t, f), t, bits - n % bits))
 }
 
 fn constant_type(i32_number: Option<u64>, i64_number: Option<u64>) -> Option<IntegerType>
@@ -336,13 +282,13 @@ pub(crate) fn through_global(value: Option<NumberType>) -> Option<Replacement>
 }
 
 /// Nothing in the place of a drop, where its operand may neither write nor trap.
-pub(crate) fn forgotten(opcode: Option<u8>, operands: &Operands) -> Option<Replacement>
-    ensures { result ≡ forgotten opcode operands.now }
+pub(crate) fn forgotten(operator: Option<Operator>, operands: &Operands) -> Option<Replacement>
+    ensures { result ≡ forgotten operator operands.now }
 {
     let Operands::One(x) = operands else {
         return None;
     };
-    let drops = are_same(opcode, Some(0x1A));
+    let drops = is_drop(operator);
     answer_if(drops && (!x.writes && !x.may_trap), Replacement::Empty)
 }
 
@@ -360,7 +306,7 @@ pub(crate) fn double(
     let (t, n) = behind?;
     answer_if(
         n == number && (!x.writes && !x.asks),
-        Replacement::FirstTwice(of_type(t, 0x6A, 0x7C)),
+        Replacement::FirstTwice(Operation::Binary(t, Binary::Add)),
     )
 }
 
@@ -374,20 +320,15 @@ fn have_same_local(x: &Operand, y: &Operand) -> bool
     }
 }
 
-/// The operator's type, by its opcodes of each type, where both operands read the same local.
-pub(crate) fn type_of_same(
-    i32_opcode: u8,
-    i64_opcode: u8,
-    opcode: Option<u8>,
-    operands: &Operands,
-) -> Option<IntegerType>
-    ensures { result ≡ type_of_same i32_opcode i64_opcode opcode operands.now }
+/// The type, where there are two operands that read the same local.
+pub(crate) fn type_of_same(t: Option<IntegerType>, operands: &Operands) -> Option<IntegerType>
+    ensures { result ≡ type_of_same t operands.now }
 {
     let Operands::Two(x, y) = operands else {
         return None;
     };
     let same = have_same_local(x, y);
-    let t = type_by(i32_opcode, i64_opcode, opcode)?;
+    let t = t?;
     if same { Some(t) } else { None }
 }
 
@@ -407,26 +348,21 @@ pub(crate) fn first_of_same(same: Option<IntegerType>) -> Option<Replacement>
 }
 
 /// The first operand and a number, with the operator of their type, in the place of another on the same local twice.
-pub(crate) fn same_with(
-    i32_opcode: u8,
-    i64_opcode: u8,
-    number: u64,
-    same: Option<IntegerType>,
-) -> Option<Replacement>
-    ensures { result ≡ same_with i32_opcode i64_opcode number same }
+pub(crate) fn same_with(f: Binary, number: u64, same: Option<IntegerType>) -> Option<Replacement>
+    ensures { result ≡ same_with f number same }
 {
     let t = same?;
-    Some(Replacement::FirstWith(of_type(t, i32_opcode, i64_opcode), t, number))
+    Some(Replacement::FirstWith(Operation::Binary(t, f), t, number))
 }
 
 /// The first operand of a select alone, where the first two read the same local, and the condition may neither write nor trap.
-pub(crate) fn selected_same(opcode: Option<u8>, operands: &Operands) -> Option<Replacement>
-    ensures { result ≡ selected_same opcode operands.now }
+pub(crate) fn selected_same(operator: Option<Operator>, operands: &Operands) -> Option<Replacement>
+    ensures { result ≡ selected_same operator operands.now }
 {
     let Operands::Three(x, y, condition) = operands else {
         return None;
     };
-    let selects = are_same(opcode, Some(0x1B));
+    let selects = is_select(operator);
     let same = have_same_local(x, y);
     answer_if(
         (selects && same) && (!condition.writes && !condition.may_trap),
@@ -483,43 +419,32 @@ pub(crate) fn typed_constant(
 }
 
 /// A constant that is 0 behind a drawn one, with the operator of its type.
-pub(crate) fn drawn_zero(
-    i32_opcode: u8,
-    i64_opcode: u8,
-    own: Option<(IntegerType, u64)>,
-) -> Option<Replacement>
-    ensures { result ≡ drawn i32_opcode i64_opcode (λ t. 0) own }
+pub(crate) fn drawn_zero(f: Binary, own: Option<(IntegerType, u64)>) -> Option<Replacement>
+    ensures { result ≡ drawn f (λ t. 0) own }
 {
     let (t, n) = own?;
-    answer_if(
-        n == 0,
-        Replacement::Drawn(of_type(t, i32_opcode, i64_opcode), t),
-    )
+    answer_if(n == 0, Replacement::Drawn(Operation::Binary(t, f), t))
 }
 
 /// A constant that is -1 behind a drawn one, with the operator of its type.
-pub(crate) fn drawn_ones(
-    i32_opcode: u8,
-    i64_opcode: u8,
-    own: Option<(IntegerType, u64)>,
-) -> Option<Replacement>
-    ensures { result ≡ drawn i32_opcode i64_opcode all_ones own }
+pub(crate) fn drawn_ones(f: Binary, own: Option<(IntegerType, u64)>) -> Option<Replacement>
+    ensures { result ≡ drawn f all_ones own }
 {
     let (t, n) = own?;
     answer_if(
         n == all_ones(t),
-        Replacement::Drawn(of_type(t, i32_opcode, i64_opcode), t),
+        Replacement::Drawn(Operation::Binary(t, f), t),
     )
 }
 
 /// The test of the comparison that holds where this one doesn't.
-pub(crate) fn negated(opcode: Option<u8>, operands: &Operands) -> Option<Replacement>
-    ensures { result ≡ negated opcode operands.now }
+pub(crate) fn negated(operator: Option<Operator>, operands: &Operands) -> Option<Replacement>
+    ensures { result ≡ negated operator operands.now }
 {
     let Operands::Two(..) = operands else {
         return None;
     };
-    Some(Replacement::Negated(opposite_opcode(opcode)?))
+    Some(Replacement::Negated(opposite_operation(operator)?))
 }
 
 /// The test of the test of the first operand, where the second is 0.
@@ -529,7 +454,7 @@ pub(crate) fn both_tests(behind: Option<(IntegerType, u64)>) -> Option<Replaceme
     let (t, n) = behind?;
     answer_if(
         n == 0,
-        Replacement::FirstByBoth(of_type(t, 0x45, 0x50), 0x45),
+        Replacement::FirstByBoth(Operation::Eqz(t), Operation::Eqz(IntegerType::I32)),
     )
 }
 
@@ -538,141 +463,155 @@ pub(crate) fn wrapped(value: Option<IntegerType>) -> Option<Replacement>
     ensures { result ≡ wrapped value }
 {
     match value {
-        Some(IntegerType::I32) => Some(Replacement::ByBoth(0xAD, 0xA7)),
+        Some(IntegerType::I32) => Some(Replacement::ByBoth(
+            Operation::ExtendI32U,
+            Operation::WrapI64,
+        )),
         _ => None,
     }
 }
 
 /// The comparison that holds where that doesn't of which this is the test.
-pub(crate) fn unnegated(opcode: Option<u8>, operands: &Operands) -> Option<Replacement>
-    ensures { result ≡ unnegated opcode operands.now }
+pub(crate) fn unnegated(operator: Option<Operator>, operands: &Operands) -> Option<Replacement>
+    ensures { result ≡ unnegated operator operands.now }
 {
     let Operands::One(x) = operands else {
         return None;
     };
-    if !are_same(opcode, Some(0x45)) {
+    if !is_negation(operator) {
         return None;
     }
     let _values = x.values?;
-    Some(Replacement::InnerBy(opposite_opcode(x.opcode)?))
+    Some(Replacement::InnerBy(opposite_operation(x.operator)?))
 }
 
-// An operator on the parts of the first operand, with the opcodes of what parts it, of what joins the parts, and of its own, for
-// each type; where the first part leaves one value.
+/// The operators of a rule that goes over the parts of an operand: that which parts it, that which joins what is made of the parts,
+/// and the rule's own, which makes it.
+#[derive(Clone, Copy)]
+pub(crate) struct Distribution {
+    pub(crate) parts: Binary,
+    pub(crate) joins: Binary,
+    pub(crate) own: Binary,
+}
+
+// An operator on the parts of the first operand, where the first part leaves one value.
 fn part(
-    parts: (u8, u8),
-    joins: (u8, u8),
-    own: (u8, u8),
+    over: Distribution,
     x: &Operand,
     behind: (IntegerType, u64),
     met: bool,
 ) -> Option<Replacement>
-    ensures { result ≡ part parts.0 parts.1 joins.0 joins.1 own.0 own.1 x.now behind met }
+    ensures { result ≡ part over.parts over.joins over.own x.now behind met }
 {
     let (t, n) = behind;
     let (one_value, _) = x.values?;
-    let same = are_same(x.opcode, Some(of_type(t, parts.0, parts.1)));
+    let same = is_binary(t, over.parts, x.operator);
     answer_if(
         (same && one_value) && met,
-        Replacement::Distribute(of_type(t, joins.0, joins.1), of_type(t, own.0, own.1), t, n),
+        Replacement::Distribute(
+            Operation::Binary(t, over.joins),
+            Operation::Binary(t, over.own),
+            t,
+            n,
+        ),
     )
 }
 
 /// An operator on the parts of the first operand, whatever the second operand's number is.
 pub(crate) fn distributed(
-    parts: (u8, u8),
-    joins: (u8, u8),
-    own: (u8, u8),
+    over: Distribution,
     operands: &Operands,
     behind: Option<(IntegerType, u64)>,
 ) -> Option<Replacement>
-    ensures { result ≡ distributed parts.0 parts.1 joins.0 joins.1 own.0 own.1 (λ t n. true)
+    ensures { result ≡ distributed over.parts over.joins over.own (λ t n. true)
         operands.now behind }
 {
     let Operands::Two(x, _) = operands else {
         return None;
     };
-    part(parts, joins, own, x, behind?, true)
+    part(over, x, behind?, true)
 }
 
 /// An operator on the parts of the first operand, where the second is -1.
 pub(crate) fn distributed_ones(
-    parts: (u8, u8),
-    joins: (u8, u8),
-    own: (u8, u8),
+    over: Distribution,
     operands: &Operands,
     behind: Option<(IntegerType, u64)>,
 ) -> Option<Replacement>
-    ensures { result ≡ distributed parts.0 parts.1 joins.0 joins.1 own.0 own.1
-        (λ t n. n == all_ones t) operands.now behind }
+    ensures { result ≡ distributed over.parts over.joins over.own (λ t n. n == all_ones t)
+        operands.now behind }
 {
     let Operands::Two(x, _) = operands else {
         return None;
     };
     let (t, n) = behind?;
-    part(parts, joins, own, x, (t, n), n == all_ones(t))
+    part(over, x, (t, n), n == all_ones(t))
 }
 
 /// An extension of low bits as a shift there and one back.
-pub(crate) fn shifts(opcode: Option<u8>, operands: &Operands) -> Option<Replacement>
-    ensures { result ≡ shifts opcode operands.now }
+pub(crate) fn shifts(operator: Option<Operator>, operands: &Operands) -> Option<Replacement>
+    ensures { result ≡ shifts operator operands.now }
 {
     let Operands::One(_) = operands else {
         return None;
     };
-    let (t, n) = bits_left_out(opcode)?;
-    Some(Replacement::FirstWithBoth(of_type(t, 0x74, 0x86), of_type(t, 0x75, 0x87), t, n))
+    let (t, n) = bits_left_out(operator)?;
+    Some(Replacement::FirstWithBoth(
+        Operation::Binary(t, Binary::Shl),
+        Operation::Binary(t, Binary::ShrS),
+        t,
+        n,
+    ))
 }
 
-/// The opcode of the only operand, where that has one operand itself.
-pub(crate) fn inner_opcode(operands: &Operands) -> Option<u8>
-    ensures { result ≡ inner_opcode operands.now }
+/// The operator of the only operand, where that has one operand itself.
+pub(crate) fn inner_operator(operands: &Operands) -> Option<Operator>
+    ensures { result ≡ inner_operator operands.now }
 {
     let Operands::One(x) = operands else {
         return None;
     };
-    if x.single { x.opcode } else { None }
+    if x.single { x.operator } else { None }
 }
 
 /// The comparison with 0 of what is tested twice.
-pub(crate) fn difference(opcode: Option<u8>, inner: Option<u8>) -> Option<Replacement>
-    ensures { result ≡ difference opcode inner }
+pub(crate) fn difference(operator: Option<Operator>, inner: Option<Operator>) -> Option<Replacement>
+    ensures { result ≡ difference operator inner }
 {
-    if !are_same(opcode, Some(0x45)) {
+    if !is_negation(operator) {
         return None;
     }
-    let t = type_by(0x45, 0x50, inner)?;
-    Some(Replacement::InnerWith(of_type(t, 0x47, 0x52), t, 0))
+    let t = test_type(inner)?;
+    Some(Replacement::InnerWith(Operation::Compare(t, Comparison::Ne), t, 0))
 }
 
 /// What is extended, where it is wrapped again.
-pub(crate) fn narrowed(opcode: Option<u8>, inner: Option<u8>) -> Option<Replacement>
-    ensures { result ≡ narrowed opcode inner }
+pub(crate) fn narrowed(operator: Option<Operator>, inner: Option<Operator>) -> Option<Replacement>
+    ensures { result ≡ narrowed operator inner }
 {
-    let wraps = are_same(opcode, Some(0xA7));
+    let wraps = is_wrapping(operator);
     let extended = is_widening(inner);
     answer_if(wraps && extended, Replacement::Inner)
 }
 
-/// The complement of what another operator makes of the first operands of both, which are complements, with the opcodes of the
-/// operator and of the other for each type.
+/// The complement of what another operator makes of the first operands of both, which are complements.
 pub(crate) fn collected(
-    own: (u8, u8),
-    other: (u8, u8),
-    opcode: Option<u8>,
+    own: Binary,
+    other: Binary,
+    operator: Option<Operator>,
     operands: &Operands,
 ) -> Option<Replacement>
-    ensures { result ≡ collected own.0 own.1 other.0 other.1 opcode operands.now }
+    ensures { result ≡ collected own other operator operands.now }
 {
     let Operands::Two(x, y) = operands else {
         return None;
     };
-    let t = type_by(own.0, own.1, opcode)?;
+    let t = binary_type(own, operator)?;
     answer_if(
         x.complement && y.complement,
         Replacement::Collect(
-            of_type(t, other.0, other.1),
-            of_type(t, 0x73, 0x85),
+            Operation::Binary(t, other),
+            Operation::Binary(t, Binary::Xor),
             t,
             all_ones(t),
         ),
@@ -680,11 +619,11 @@ pub(crate) fn collected(
 }
 
 /// A write of the local that is set and left, and a read of it.
-pub(crate) fn set_apart(opcode: Option<u8>, operands: &Operands) -> Option<Replacement>
-    ensures { result ≡ set_apart opcode operands.now }
+pub(crate) fn set_apart(operator: Option<Operator>, operands: &Operands) -> Option<Replacement>
+    ensures { result ≡ set_apart operator operands.now }
 {
     let Operands::One(_) = operands else {
         return None;
     };
-    answer_if(are_same(opcode, Some(0x22)), Replacement::SetAndGet)
+    answer_if(is_tee(operator), Replacement::SetAndGet)
 }

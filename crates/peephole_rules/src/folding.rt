@@ -1,15 +1,14 @@
 //! What an operator on constants gives.
-ghost use Rattle.std.specs.Prelude.{◌≡◌, option_map, option_and_then, IfSome};
+ghost use Rattle.std.specs.Prelude.{◌≡◌, option_map, IfSome};
 ghost use Rattle.peephole_machine.specs.Values.{IsOfType};
-ghost use Rattle.peephole_machine.specs.IntegerRow.{bare_operator};
 ghost use Rattle.peephole_machine.specs.Operation.{operator_of};
-ghost use Rattle.peephole_rules.specs.Choice.{typed_number, folded_number, folded, on_one, on_two, is_constant, are_constants};
+ghost use Rattle.peephole_rules.specs.Choice.{typed_number, folded_number, numeric_operator, folded, on_one, on_two, is_constant, are_constants};
 ghost use Rattle.peephole_rules.specs.declared.replacement.Replacement.TheVariants.{Number};
 
 use crate::choice::number_of;
 use crate::constant::within_width;
 use crate::replacement::Replacement;
-use crate::shape::{Operand, Operands};
+use crate::shape::{Operand, Operands, Operator};
 use crate::value_types::integer_of;
 use mutate_base::PrimitiveTypeInfo;
 use peephole_machine::Operation;
@@ -53,11 +52,14 @@ fn folded_number(f: Operation, operands: &Operands) -> Option<u64>
     }
 }
 
-// The operator of an opcode.
-fn operation_of(opcode: Option<u8>) -> Option<Operation>
-    ensures { option_map operator_of result ≡ option_and_then bare_operator opcode }
+// The operator on numbers that it is.
+fn operation_of(operator: Option<Operator>) -> Option<Operation>
+    ensures { option_map operator_of result ≡ numeric_operator operator }
 {
-    Operation::from_byte(opcode?)
+    match operator {
+        Some(Operator::Numeric(f)) => Some(f),
+        _ => None,
+    }
 }
 
 // The number that it gives.
@@ -87,11 +89,11 @@ fn are_constants(operands: &Operands) -> bool
 }
 
 /// The constant of what an operator on constants gives, where it doesn't trap.
-pub(crate) fn folded(opcode: Option<u8>, operands: &Operands) -> Option<Replacement>
-    ensures { result ≡ folded opcode operands.now }
+pub(crate) fn folded(operator: Option<Operator>, operands: &Operands) -> Option<Replacement>
+    ensures { result ≡ folded operator operands.now }
 {
     if !are_constants(operands) {
         return None;
     }
-    number_by(operation_of(opcode)?, operands)
+    number_by(operation_of(operator)?, operands)
 }

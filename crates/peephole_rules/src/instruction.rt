@@ -6,14 +6,15 @@ ghost use Rattle.peephole_lang.specs.Node.{instr_of_head};
 ghost use Rattle.peephole_machine.specs.Values.{context_in};
 ghost use Rattle.peephole_machine.specs.Row.{list_of};
 ghost use Rattle.peephole_rules.specs.Operator.{instruction_byte};
+ghost use Rattle.peephole_rules.specs.Classes.{operator_on};
 ghost use Rattle.peephole_rules.specs.ValueTypes.{head_type};
 ghost use Rattle.peephole_rules.specs.Instruction.{constant_by, number_read, both_values, single_read, complement_read, listed, alone_read, with_operand, with_operands, local_read};
 
-use crate::choice::complements_by;
+use crate::classes::{gives_complement, operator_of};
 use crate::operator::{is_value, local_by, traps_by, writes_by};
-use crate::shape::{Operand, Operands, Shape};
+use crate::shape::{Operand, Operands, Operator, Shape};
 use mutate_base::{ModuleInfo, PrimitiveTypeInfo};
-use peephole_machine::{IntegerType, asks_world, column_type, opcode_byte};
+use peephole_machine::{IntegerType, asks_world, column_type};
 use wasm_code::{Imm, Instr};
 
 /// The type of the value that a term with this instruction at its root leaves, where the result column of the instruction's row
@@ -52,12 +53,12 @@ fn number_read(t: IntegerType, instr: &Instr, operands: &[Operand]) -> Option<u6
 }
 
 // The index of the local that an instruction on these operands reads, of which local.get has none.
-fn local_read(opcode: Option<u8>, instr: &Instr, operands: &[Operand]) -> Option<u32>
-    requires { opcode ≡ instruction_byte (Some instr.now) }
+fn local_read(operator: Option<Operator>, instr: &Instr, operands: &[Operand]) -> Option<u32>
+    requires { operator ≡ operator_on (instruction_byte (Some instr.now)) }
     ensures { result ≡ local_read instr.now operands.now }
 {
     match operands {
-        [] => local_by(opcode, instr),
+        [] => local_by(operator, instr),
         _ => None,
     }
 }
@@ -79,12 +80,12 @@ fn single_read(operands: &[Operand]) -> bool
     matches!(operands, [_])
 }
 
-// Whether an operator of the opcode gives the complement of the first operand.
-fn complement_read(opcode: Option<u8>, operands: &[Operand]) -> bool
-    ensures { result ≡ complement_read opcode operands.now }
+// Whether the operator gives the complement of the first operand.
+fn complement_read(operator: Option<Operator>, operands: &[Operand]) -> bool
+    ensures { result ≡ complement_read operator operands.now }
 {
     match operands {
-        [_, number] => complements_by(opcode, number.i32_number, number.i64_number),
+        [_, number] => gives_complement(operator, number.i32_number, number.i64_number),
         _ => false,
     }
 }
@@ -106,19 +107,19 @@ fn listed(operands: &[Operand]) -> Operands
 fn alone_read(instr: &Instr, operands: &[Operand]) -> Operand
     ensures { result ≡ alone_read instr.now operands.now }
 {
-    let opcode = opcode_byte(instr);
+    let operator = operator_of(instr);
     Operand {
-        opcode,
+        operator,
         i32_number: number_read(IntegerType::I32, instr, operands),
         i64_number: number_read(IntegerType::I64, instr, operands),
-        local: local_read(opcode, instr, operands),
+        local: local_read(operator, instr, operands),
         one_value: is_value(instr),
-        writes: writes_by(opcode, instr),
-        may_trap: traps_by(opcode, instr),
+        writes: writes_by(operator, instr),
+        may_trap: traps_by(operator, instr),
         asks: asks_world(instr),
         values: both_values(operands),
         single: single_read(operands),
-        complement: complement_read(opcode, operands),
+        complement: complement_read(operator, operands),
     }
 }
 

@@ -4,6 +4,7 @@
 mod apply;
 mod candidates;
 mod choice;
+mod classes;
 mod constant;
 mod effect;
 mod effects;

@@ -1,16 +1,20 @@
-//! Nodes by the opcode of their instruction, and the nodes that rules write.
-ghost use Rattle.std.specs.Prelude.{◌≡◌, [], ◌∷◌, option_and_then};
+//! What a node does by its instruction, and the nodes that rules write.
+ghost use Rattle.std.specs.Prelude.{◌≡◌, ◌-◌, ◌≤◌, [], ◌∷◌};
 ghost use Rattle.std.specs.Int.{cast_signed};
 ghost use Rattle.peephole_machine.specs.Values.{width_of};
 ghost use Rattle.peephole_lang.specs.Lang.{ids_of};
 ghost use Rattle.peephole_lang.specs.Node.{head_of, instr_of_head};
-ghost use Rattle.peephole_rules.specs.Operator.{instruction_byte, opcode_byte, is_among, are_same, type_by, commutative, associative, turned, writers, is_one, gives_one, is_value, of_type, operator, constant_head, within_width, unfold_head, use_global_head, random_head, opposite_of, bits_left_out, widening, index_in, index_of, local_by};
-ghost use Rattle.peephole_rules.specs.Effects.{is_writer, trappers, is_trapper, is_asker};
+ghost use Rattle.peephole_rules.specs.Operator.{instruction_byte, opcode_byte, is_one, gives_one, is_value, operator, constant_head, within_width, unfold_head, use_global_head, random_head, index_in, index_of, local_by};
+ghost use Rattle.peephole_rules.specs.Effects.{is_writer, is_trapper, is_asker};
+ghost use Rattle.peephole_machine.specs.Opcode.{opcode};
+ghost use Rattle.peephole_rules.specs.Classes.{operator_on};
 ghost use Rattle.peephole_rules.specs.Replacement.{IsBinary, IsUnary};
 
+use crate::classes::{is_divider, is_get, is_setter, operator_of};
 use crate::constant::low_half;
+use crate::shape::Operator;
 use peephole_lang::{Id, Lang, Numeric, Payload};
-use peephole_machine::{IntegerType, asks_world, changes, may_trap};
+use peephole_machine::{IntegerType, Operation, asks_world, changes, may_trap};
 use peephole_terms::NumberType;
 use wasm_code::{Imm, Instr, ResultKind, RowInfo, row_info};
 
@@ -20,135 +24,6 @@ pub fn opcode_byte(node: &Lang) -> Option<u8>
     ensures { result ≡ opcode_byte (head_of node.now) }
 {
     peephole_machine::opcode_byte(&node.instr()?)
-}
-
-/// Whether the opcode is that of an operator whose operands may change places: eq and ne; add, mul, and, or, xor; of i32 and of i64.
-pub(crate) fn is_commutative(opcode: Option<u8>) -> bool
-    ensures { result ≡ is_among commutative opcode }
-{
-    matches!(
-        opcode,
-        Some(
-            0x46 | 0x47
-                | 0x51
-                | 0x52
-                | 0x6A
-                | 0x6C
-                | 0x71
-                | 0x72
-                | 0x73
-                | 0x7C
-                | 0x7E
-                | 0x83
-                | 0x84
-                | 0x85
-        )
-    )
-}
-
-/// Whether the opcode is that of an operator that may be grouped either way: add, mul, and, or, xor.
-pub(crate) fn is_associative(opcode: Option<u8>) -> bool
-    ensures { result ≡ is_among associative opcode }
-{
-    matches!(
-        opcode,
-        Some(0x6A | 0x6C | 0x71 | 0x72 | 0x73 | 0x7C | 0x7E | 0x83 | 0x84 | 0x85)
-    )
-}
-
-/// Whether both opcodes are there, and equal.
-pub(crate) fn are_same(x: Option<u8>, y: Option<u8>) -> bool
-    ensures { result ≡ are_same x y }
-{
-    match (x, y) {
-        (Some(one), Some(other)) => one == other,
-        _ => false,
-    }
-}
-
-/// The type whose opcode of the two it is.
-pub(crate) fn type_by(i32_opcode: u8, i64_opcode: u8, opcode: Option<u8>) -> Option<IntegerType>
-    ensures { result ≡ type_by i32_opcode i64_opcode opcode }
-{
-    let byte = opcode?;
-    if byte == i32_opcode {
-        Some(IntegerType::I32)
-    } else if byte == i64_opcode {
-        Some(IntegerType::I64)
-    } else {
-        None
-    }
-}
-
-/// The opcode of the two that is for the type.
-pub(crate) fn of_type(t: IntegerType, i32_opcode: u8, i64_opcode: u8) -> u8
-    ensures { result ≡ of_type t i32_opcode i64_opcode }
-{
-    match t {
-        IntegerType::I32 => i32_opcode,
-        IntegerType::I64 => i64_opcode,
-    }
-}
-
-/// Of a comparison the opcode of that which holds of the operands in the other order.
-pub(crate) fn turned_opcode(opcode: Option<u8>) -> Option<u8>
-    ensures { result ≡ option_and_then turned opcode }
-{
-    turned(opcode?)
-}
-
-// The comparison that holds of the operands in the other order: of lt and le, and of gt and ge.
-fn turned(byte: u8) -> Option<u8>
-    ensures { result ≡ turned byte }
-{
-    match byte {
-        0x48 | 0x49 | 0x4C | 0x4D | 0x53 | 0x54 | 0x57 | 0x58 => Some(byte + 2),
-        0x4A | 0x4B | 0x4E | 0x4F | 0x55 | 0x56 | 0x59 | 0x5A => Some(byte - 2),
-        _ => None,
-    }
-}
-
-/// Of a comparison the opcode of that which holds where it doesn't.
-pub(crate) fn opposite_opcode(opcode: Option<u8>) -> Option<u8>
-    ensures { result ≡ option_and_then opposite_of opcode }
-{
-    opposite_of(opcode?)
-}
-
-// The comparison that holds where this one doesn't: of eq and ne, lt and ge, gt and le.
-fn opposite_of(byte: u8) -> Option<u8>
-    ensures { result ≡ opposite_of byte }
-{
-    match byte {
-        0x46 | 0x51 => Some(byte + 1),
-        0x47 | 0x52 => Some(byte - 1),
-        0x48 | 0x49 | 0x53 | 0x54 => Some(byte + 6),
-        0x4A | 0x4B | 0x55 | 0x56 => Some(byte + 2),
-        0x4C | 0x4D | 0x57 | 0x58 => Some(byte - 2),
-        0x4E | 0x4F | 0x59 | 0x5A => Some(byte - 6),
-        _ => None,
-    }
-}
-
-/// Of an opcode that extends low bits with sign the type, and how many bits it leaves out.
-pub(crate) fn bits_left_out(opcode: Option<u8>) -> Option<(IntegerType, u64)>
-    ensures { result ≡ option_and_then bits_left_out opcode }
-{
-    match opcode? {
-        0xC0 => Some((IntegerType::I32, 24)),
-        0xC1 => Some((IntegerType::I32, 16)),
-        0xC2 => Some((IntegerType::I64, 56)),
-        0xC3 => Some((IntegerType::I64, 48)),
-        0xC4 => Some((IntegerType::I64, 32)),
-        _ => None,
-    }
-}
-
-/// Whether the opcode is that of what makes an i64 of an i32, signed or unsigned.
-pub(crate) fn is_widening(opcode: Option<u8>) -> bool
-    ensures { result ≡ is_among widening opcode }
-{
-    matches!(opcode, Some(0xAC | 0xAD))
 }
 
 // Whether a column of results names one.
@@ -198,12 +73,12 @@ fn index_of(imm: Imm) -> Option<u32>
     }
 }
 
-/// The index of the local that the instruction reads, where it is local.get, by its opcode where that is one byte.
-pub(crate) fn local_by(opcode: Option<u8>, instr: &Instr) -> Option<u32>
-    requires { opcode ≡ instruction_byte (Some instr.now) }
+/// The index of the local that the instruction reads, where it is local.get.
+pub(crate) fn local_by(operator: Option<Operator>, instr: &Instr) -> Option<u32>
+    requires { operator ≡ operator_on (instruction_byte (Some instr.now)) }
     ensures { result ≡ local_by (Some instr.now) }
 {
-    if are_same(opcode, Some(0x20)) {
+    if is_get(operator) {
         index_of(instr.imm())
     } else {
         None
@@ -215,24 +90,17 @@ pub(crate) fn own_local(node: &Lang) -> Option<u32>
     ensures { result ≡ local_by (instr_of_head (head_of node.now)) }
 {
     match node.instr() {
-        Some(instr) => local_by(peephole_machine::opcode_byte(&instr), &instr),
+        Some(instr) => local_by(operator_of(&instr), &instr),
         None => None,
     }
 }
 
-// Whether the opcode is that of local.set, local.tee or global.set.
-fn is_setter(opcode: Option<u8>) -> bool
-    ensures { result ≡ is_among writers opcode }
-{
-    matches!(opcode, Some(0x21 | 0x22 | 0x24))
-}
-
-/// Whether the instruction sets a variable or changes anything else, by its opcode where that is one byte.
-pub(crate) fn writes_by(opcode: Option<u8>, instr: &Instr) -> bool
-    requires { opcode ≡ instruction_byte (Some instr.now) }
+/// Whether the instruction sets a variable or changes anything else.
+pub(crate) fn writes_by(operator: Option<Operator>, instr: &Instr) -> bool
+    requires { operator ≡ operator_on (instruction_byte (Some instr.now)) }
     ensures { result ≡ is_writer (Some instr.now) }
 {
-    is_setter(opcode) || changes(instr)
+    is_setter(operator) || changes(instr)
 }
 
 /// Whether the node may write a variable, or change anything else.
@@ -240,27 +108,17 @@ pub(crate) fn is_writer(node: &Lang) -> bool
     ensures { result ≡ is_writer (instr_of_head (head_of node.now)) }
 {
     match node.instr() {
-        Some(instr) => writes_by(peephole_machine::opcode_byte(&instr), &instr),
+        Some(instr) => writes_by(operator_of(&instr), &instr),
         None => true,
     }
 }
 
-// Whether the opcode is that of div_s, div_u, rem_s or rem_u.
-fn is_divider(opcode: Option<u8>) -> bool
-    ensures { result ≡ is_among trappers opcode }
-{
-    matches!(
-        opcode,
-        Some(0x6D | 0x6E | 0x6F | 0x70 | 0x7F | 0x80 | 0x81 | 0x82)
-    )
-}
-
-/// Whether the instruction may trap, by its opcode where that is one byte.
-pub(crate) fn traps_by(opcode: Option<u8>, instr: &Instr) -> bool
-    requires { opcode ≡ instruction_byte (Some instr.now) }
+/// Whether the instruction may trap.
+pub(crate) fn traps_by(operator: Option<Operator>, instr: &Instr) -> bool
+    requires { operator ≡ operator_on (instruction_byte (Some instr.now)) }
     ensures { result ≡ is_trapper (Some instr.now) }
 {
-    is_divider(opcode) || may_trap(instr)
+    is_divider(operator) || may_trap(instr)
 }
 
 /// Whether the node may trap.
@@ -268,7 +126,7 @@ pub(crate) fn is_trapper(node: &Lang) -> bool
     ensures { result ≡ is_trapper (instr_of_head (head_of node.now)) }
 {
     match node.instr() {
-        Some(instr) => traps_by(peephole_machine::opcode_byte(&instr), &instr),
+        Some(instr) => traps_by(operator_of(&instr), &instr),
         None => true,
     }
 }
@@ -283,24 +141,32 @@ pub(crate) fn is_asker(node: &Lang) -> bool
     }
 }
 
-/// An operator on two operands, by its opcode.
-#[tactic(auto, unfolding(peephole_lang::specs::Lang::place_of, peephole_lang::specs::Lang::payload_of, peephole_lang::specs::Lang::ids_of))]
-pub(crate) fn binary_node(byte: u8, x: Id, y: Id) -> Lang
-    requires { IsBinary byte }
-    ensures head { head_of result ≡ operator byte }
-    ensures children { ids_of result ≡ x ∷ y ∷ [] }
+// The place of an operator's nodes among all: those of numeric instructions follow one another as their opcodes do.
+fn numeric_place(f: Operation) -> u16
+    requires { 17 ≤ opcode f }
+    ensures { result ≡ opcode f - 17 }
 {
-    Numeric::make(byte as u16 - 17, &[x, y]).unwrap().into()
+    f.opcode() as u16 - 17
 }
 
-/// An operator on one operand, by its opcode.
+/// An operator on two operands.
 #[tactic(auto, unfolding(peephole_lang::specs::Lang::place_of, peephole_lang::specs::Lang::payload_of, peephole_lang::specs::Lang::ids_of))]
-pub(crate) fn unary_node(byte: u8, x: Id) -> Lang
-    requires { IsUnary byte }
-    ensures head { head_of result ≡ operator byte }
+pub(crate) fn binary_node(f: Operation, x: Id, y: Id) -> Lang
+    requires { IsBinary f }
+    ensures head { head_of result ≡ operator (opcode f) }
+    ensures children { ids_of result ≡ x ∷ y ∷ [] }
+{
+    Numeric::make(numeric_place(f), &[x, y]).unwrap().into()
+}
+
+/// An operator on one operand.
+#[tactic(auto, unfolding(peephole_lang::specs::Lang::place_of, peephole_lang::specs::Lang::payload_of, peephole_lang::specs::Lang::ids_of))]
+pub(crate) fn unary_node(f: Operation, x: Id) -> Lang
+    requires { IsUnary f }
+    ensures head { head_of result ≡ operator (opcode f) }
     ensures children { ids_of result ≡ x ∷ [] }
 {
-    Numeric::make(byte as u16 - 17, &[x]).unwrap().into()
+    Numeric::make(numeric_place(f), &[x]).unwrap().into()
 }
 
 /// The test of an i32.
@@ -308,7 +174,7 @@ pub(crate) fn test_node(x: Id) -> Lang
     ensures head { head_of result ≡ operator 0x45 }
     ensures children { ids_of result ≡ x ∷ [] }
 {
-    unary_node(0x45, x)
+    unary_node(Operation::Eqz(IntegerType::I32), x)
 }
 
 /// The constant of the type whose value has the low bits of the number.

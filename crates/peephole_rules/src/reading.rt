@@ -8,13 +8,13 @@ ghost use Rattle.peephole_machine.specs.Values.{context_in};
 ghost use Rattle.peephole_rules.specs.Operator.{local_of};
 ghost use Rattle.peephole_rules.specs.Grafted.{expression_nodes, term_at, term_over};
 ghost use Rattle.peephole_rules.specs.Flags.{AreEffects};
-ghost use Rattle.peephole_rules.specs.Operator.{opcode_byte};
+ghost use Rattle.peephole_rules.specs.Classes.{head_operator};
 ghost use Rattle.peephole_rules.specs.Shape.{values_in, is_single, complements_in, operand_of, operands_of, shape_of};
 
-use crate::choice::complements_by;
+use crate::classes::{gives_complement, node_operator};
 use crate::constant::constant_number;
 use crate::effects::Effects;
-use crate::operator::{has_one_value, opcode_byte, own_local};
+use crate::operator::{has_one_value, own_local};
 use crate::shape::{Operand, Operands, Shape};
 use crate::value_types::value_type;
 use mutate_base::{ModuleInfo, PrimitiveTypeInfo};
@@ -47,7 +47,7 @@ fn is_single(node: &Lang) -> bool
 fn is_complement(nodes: &[Lang], node: &Lang) -> bool
     requires below { AreBelow (expression_nodes nodes.now) }
     requires inside { All (λ i. i < length nodes.now) (children_of node.now) }
-    ensures { result ≡ complements_in (opcode_byte (head_of node.now))
+    ensures { result ≡ complements_in (head_operator (head_of node.now))
         (pick (term_at nodes.now) (children_of node.now)) }
 {
     let ids = node.children();
@@ -55,8 +55,8 @@ fn is_complement(nodes: &[Lang], node: &Lang) -> bool
         return false;
     }
     let second = &nodes[ids[1].0 as usize];
-    complements_by(
-        opcode_byte(node),
+    gives_complement(
+        node_operator(node),
         constant_number(IntegerType::I32, second),
         constant_number(IntegerType::I64, second),
     )
@@ -81,7 +81,7 @@ fn operand(effects: &Effects, nodes: &[Lang], at: usize) -> Operand
 {
     let node = &nodes[at];
     Operand {
-        opcode: opcode_byte(node),
+        operator: node_operator(node),
         i32_number: constant_number(IntegerType::I32, node),
         i64_number: constant_number(IntegerType::I64, node),
         local: local(node),

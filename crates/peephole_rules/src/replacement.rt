@@ -15,57 +15,57 @@ use crate::written::{
 };
 use mutate_base::Error;
 use peephole_lang::{Lang, RecExpr};
-use peephole_machine::IntegerType;
+use peephole_machine::{IntegerType, Operation};
 use peephole_terms::NumberType;
 use std::alloc::Global;
 
-/// The nodes that a rule puts in the place of one. Operators are told by their opcodes, numbers by their low bits.
+/// The nodes that a rule puts in the place of one. Numbers are told by their low bits.
 #[derive(Clone, Copy)]
 pub(crate) enum Replacement {
     /// The node with its two operands in the other order.
     Swap,
     /// An operator on the node's two operands in the other order.
-    Turn(u8),
+    Turn(Operation),
     /// The second operand's first operand grouped with the first operand.
     GroupLeft,
     /// The first operand's second operand grouped with the second operand.
     GroupRight,
     /// The node, a number of the type, and an operator on both.
-    Constant(u8, IntegerType, u64),
+    Constant(Operation, IntegerType, u64),
     /// The node, a number of the type, an operator on both, and the same operator on that and the number.
-    Complements(u8, IntegerType, u64),
+    Complements(Operation, IntegerType, u64),
     /// The node, and an operator on it twice.
-    Twice(u8),
+    Twice(Operation),
     /// The node's first operand.
     First,
     /// A number of the type, and an operator on the node's first operand and the number.
-    FirstWith(u8, IntegerType, u64),
+    FirstWith(Operation, IntegerType, u64),
     /// An operator on the node's first operand.
-    FirstBy(u8),
+    FirstBy(Operation),
     /// The test of the node's third operand, and the node with its first two in the other order and that test.
     TurnSelect,
     /// An operator on the node's first operand twice.
-    FirstTwice(u8),
+    FirstTwice(Operation),
     /// The node, a drawn constant of the type, and an operator on that and the node.
-    Drawn(u8, IntegerType),
+    Drawn(Operation, IntegerType),
     /// The test of an operator on the node's two operands.
-    Negated(u8),
+    Negated(Operation),
     /// An operator on the node's first operand, and another on that.
-    FirstByBoth(u8, u8),
+    FirstByBoth(Operation, Operation),
     /// The node, an operator on it, and another on that.
-    ByBoth(u8, u8),
+    ByBoth(Operation, Operation),
     /// An operator on the two operands of the node's first operand.
-    InnerBy(u8),
+    InnerBy(Operation),
     /// An operator on what another makes of each of the two operands of the node's first operand and a number of the type.
-    Distribute(u8, u8, IntegerType, u64),
+    Distribute(Operation, Operation, IntegerType, u64),
     /// A number of the type, an operator on the node's first operand and the number, and another on that and the number.
-    FirstWithBoth(u8, u8, IntegerType, u64),
+    FirstWithBoth(Operation, Operation, IntegerType, u64),
     /// A number of the type, and an operator on the operand of the node's first operand and the number.
-    InnerWith(u8, IntegerType, u64),
+    InnerWith(Operation, IntegerType, u64),
     /// The operand of the node's first operand.
     Inner,
     /// An operator on the first operands of the node's two operands, a number of the type, and another operator on both.
-    Collect(u8, u8, IntegerType, u64),
+    Collect(Operation, Operation, IntegerType, u64),
     /// A write of the node's first operand to the local of the node's index, a read of that local, and a container of both.
     SetAndGet,
     /// The node, and the sum of a drawn word and the rest of it.
@@ -131,35 +131,31 @@ impl Replacement {
     {
         match self {
             Replacement::Swap => write_swapped(expr, node),
-            Replacement::Turn(byte) => write_turned(expr, node, byte),
+            Replacement::Turn(f) => write_turned(expr, node, f),
             Replacement::GroupLeft => write_grouped_left(expr, node),
             Replacement::GroupRight => write_grouped_right(expr, node),
-            Replacement::Constant(byte, t, number) => write_constant(expr, node, byte, t, number),
-            Replacement::Complements(byte, t, number) => {
-                write_complements(expr, node, byte, t, number)
+            Replacement::Constant(f, t, number) => write_constant(expr, node, f, t, number),
+            Replacement::Complements(f, t, number) => {
+                write_complements(expr, node, f, t, number)
             }
-            Replacement::Twice(byte) => write_twice(expr, node, byte),
+            Replacement::Twice(f) => write_twice(expr, node, f),
             Replacement::First => write_first(expr, node),
-            Replacement::FirstWith(byte, t, number) => {
-                write_first_with(expr, node, byte, t, number)
-            }
-            Replacement::FirstBy(byte) => write_first_by(expr, node, byte),
+            Replacement::FirstWith(f, t, number) => { write_first_with(expr, node, f, t, number) }
+            Replacement::FirstBy(f) => write_first_by(expr, node, f),
             Replacement::TurnSelect => write_turned_select(expr, node),
-            Replacement::FirstTwice(byte) => write_first_twice(expr, node, byte),
-            Replacement::Drawn(byte, t) => write_drawn(expr, node, byte, t),
-            Replacement::Negated(byte) => write_negated(expr, node, byte),
+            Replacement::FirstTwice(f) => write_first_twice(expr, node, f),
+            Replacement::Drawn(f, t) => write_drawn(expr, node, f, t),
+            Replacement::Negated(f) => write_negated(expr, node, f),
             Replacement::FirstByBoth(inner, outer) => write_first_by_both(expr, node, inner, outer),
             Replacement::ByBoth(inner, outer) => write_by_both(expr, node, inner, outer),
-            Replacement::InnerBy(byte) => write_inner_by(expr, node, byte),
+            Replacement::InnerBy(f) => write_inner_by(expr, node, f),
             Replacement::Distribute(outer, inner, t, number) => write_distributed(
                 expr, node, outer, inner, t, number,
             ),
             Replacement::FirstWithBoth(inner, outer, t, number) => write_first_with_both(
                 expr, node, inner, outer, t, number,
             ),
-            Replacement::InnerWith(byte, t, number) => {
-                write_inner_with(expr, node, byte, t, number)
-            }
+            Replacement::InnerWith(f, t, number) => { write_inner_with(expr, node, f, t, number) }
             Replacement::Inner => write_inner(expr, node),
             Replacement::Collect(inner, outer, t, number) => {
                 write_collected(expr, node, inner, outer, t, number)

@@ -14,7 +14,7 @@ use crate::operator::{
 };
 use mutate_base::Error;
 use peephole_lang::{Id, Lang, Language, RecExpr};
-use peephole_machine::IntegerType;
+use peephole_machine::{IntegerType, Operation};
 use peephole_terms::NumberType;
 use std::alloc::Global;
 
@@ -142,18 +142,18 @@ pub(crate) fn write_swapped(expr: &mut RecExpr<Lang>, node: &Lang) -> Result<(),
 }
 
 /// An operator on the node's two operands in the other order.
-pub(crate) fn write_turned(expr: &mut RecExpr<Lang>, node: &Lang, byte: u8) -> Result<(), Error>
+pub(crate) fn write_turned(expr: &mut RecExpr<Lang>, node: &Lang, f: Operation) -> Result<(), Error>
     requires below { All (λ i. i < length expr.old) (children_of node.now) }
     requires few { length expr.old + 4 ≤ 2 ^ 32 }
-    requires operator { IsBinary byte }
+    requires operator { IsBinary f }
     requires two { length (children_of node.now) ≡ 2 }
     ensures nodes { IfOk result (λ _.
-        Replaces (Turn byte) (node_of node.now) (expression_nodes expr.old)
+        Replaces (Turn f) (node_of node.now) (expression_nodes expr.old)
         (expression_nodes expr.new)) }
     ensures refused { IfErr result (λ e. e ≡ Error.Memory) }
 {
     let ids = node.children();
-    put(expr, binary_node(byte, ids[1], ids[0]))?;
+    put(expr, binary_node(f, ids[1], ids[0]))?;
     Ok(())
 }
 
@@ -161,36 +161,36 @@ pub(crate) fn write_turned(expr: &mut RecExpr<Lang>, node: &Lang, byte: u8) -> R
 pub(crate) fn write_constant(
     expr: &mut RecExpr<Lang>,
     node: &Lang,
-    byte: u8,
+    f: Operation,
     t: IntegerType,
     number: u64,
 ) -> Result<(), Error>
     requires below { All (λ i. i < length expr.old) (children_of node.now) }
     requires few { length expr.old + 4 ≤ 2 ^ 32 }
-    requires operator { IsBinary byte }
+    requires operator { IsBinary f }
     ensures nodes { IfOk result (λ _.
-        Replaces (Constant byte t number) (node_of node.now) (expression_nodes expr.old)
+        Replaces (Constant f t number) (node_of node.now) (expression_nodes expr.old)
         (expression_nodes expr.new)) }
     ensures refused { IfErr result (λ e. e ≡ Error.Memory) }
 {
     let x = put_copy(expr, node)?;
     let y = put(expr, constant_node(t, number))?;
-    put(expr, binary_node(byte, x, y))?;
+    put(expr, binary_node(f, x, y))?;
     Ok(())
 }
 
 /// The node, and an operator on it twice.
-pub(crate) fn write_twice(expr: &mut RecExpr<Lang>, node: &Lang, byte: u8) -> Result<(), Error>
+pub(crate) fn write_twice(expr: &mut RecExpr<Lang>, node: &Lang, f: Operation) -> Result<(), Error>
     requires below { All (λ i. i < length expr.old) (children_of node.now) }
     requires few { length expr.old + 4 ≤ 2 ^ 32 }
-    requires operator { IsBinary byte }
+    requires operator { IsBinary f }
     ensures nodes { IfOk result (λ _.
-        Replaces (Twice byte) (node_of node.now) (expression_nodes expr.old)
+        Replaces (Twice f) (node_of node.now) (expression_nodes expr.old)
         (expression_nodes expr.new)) }
     ensures refused { IfErr result (λ e. e ≡ Error.Memory) }
 {
     let x = put_copy(expr, node)?;
-    put(expr, binary_node(byte, x, x))?;
+    put(expr, binary_node(f, x, x))?;
     Ok(())
 }
 
@@ -198,19 +198,19 @@ pub(crate) fn write_twice(expr: &mut RecExpr<Lang>, node: &Lang, byte: u8) -> Re
 pub(crate) fn write_first_twice(
     expr: &mut RecExpr<Lang>,
     node: &Lang,
-    byte: u8,
+    f: Operation,
 ) -> Result<(), Error>
     requires below { All (λ i. i < length expr.old) (children_of node.now) }
     requires few { length expr.old + 4 ≤ 2 ^ 32 }
-    requires operator { IsBinary byte }
+    requires operator { IsBinary f }
     requires some { 0 < length (children_of node.now) }
     ensures nodes { IfOk result (λ _.
-        Replaces (FirstTwice byte) (node_of node.now) (expression_nodes expr.old)
+        Replaces (FirstTwice f) (node_of node.now) (expression_nodes expr.old)
         (expression_nodes expr.new)) }
     ensures refused { IfErr result (λ e. e ≡ Error.Memory) }
 {
     let first = node.children()[0];
-    put(expr, binary_node(byte, first, first))?;
+    put(expr, binary_node(f, first, first))?;
     Ok(())
 }
 
@@ -218,37 +218,41 @@ pub(crate) fn write_first_twice(
 pub(crate) fn write_drawn(
     expr: &mut RecExpr<Lang>,
     node: &Lang,
-    byte: u8,
+    f: Operation,
     t: IntegerType,
 ) -> Result<(), Error>
     requires below { All (λ i. i < length expr.old) (children_of node.now) }
     requires few { length expr.old + 4 ≤ 2 ^ 32 }
-    requires operator { IsBinary byte }
+    requires operator { IsBinary f }
     ensures nodes { IfOk result (λ _.
-        Replaces (Drawn byte t) (node_of node.now) (expression_nodes expr.old)
+        Replaces (Drawn f t) (node_of node.now) (expression_nodes expr.old)
         (expression_nodes expr.new)) }
     ensures refused { IfErr result (λ e. e ≡ Error.Memory) }
 {
     let x = put_copy(expr, node)?;
     let drawn = put(expr, random_node(t))?;
-    put(expr, binary_node(byte, drawn, x))?;
+    put(expr, binary_node(f, drawn, x))?;
     Ok(())
 }
 
 /// The test of an operator on the node's two operands.
-pub(crate) fn write_negated(expr: &mut RecExpr<Lang>, node: &Lang, byte: u8) -> Result<(), Error>
+pub(crate) fn write_negated(
+    expr: &mut RecExpr<Lang>,
+    node: &Lang,
+    f: Operation,
+) -> Result<(), Error>
     requires below { All (λ i. i < length expr.old) (children_of node.now) }
     requires few { length expr.old + 4 ≤ 2 ^ 32 }
-    requires operator { IsBinary byte }
+    requires operator { IsBinary f }
     requires two { length (children_of node.now) ≡ 2 }
     ensures nodes { IfOk result (λ _.
-        Replaces (Negated byte) (node_of node.now) (expression_nodes expr.old)
+        Replaces (Negated f) (node_of node.now) (expression_nodes expr.old)
         (expression_nodes expr.new)) }
     ensures refused { IfErr result (λ e. e ≡ Error.Memory) }
 {
     let ids = node.children();
     let (x, y) = (ids[0], ids[1]);
-    let comparison = put(expr, binary_node(byte, x, y))?;
+    let comparison = put(expr, binary_node(f, x, y))?;
     put(expr, test_node(comparison))?;
     Ok(())
 }
@@ -257,8 +261,8 @@ pub(crate) fn write_negated(expr: &mut RecExpr<Lang>, node: &Lang, byte: u8) -> 
 pub(crate) fn write_first_by_both(
     expr: &mut RecExpr<Lang>,
     node: &Lang,
-    inner: u8,
-    outer: u8,
+    inner: Operation,
+    outer: Operation,
 ) -> Result<(), Error>
     requires below { All (λ i. i < length expr.old) (children_of node.now) }
     requires few { length expr.old + 4 ≤ 2 ^ 32 }
@@ -280,8 +284,8 @@ pub(crate) fn write_first_by_both(
 pub(crate) fn write_by_both(
     expr: &mut RecExpr<Lang>,
     node: &Lang,
-    inner: u8,
-    outer: u8,
+    inner: Operation,
+    outer: Operation,
 ) -> Result<(), Error>
     requires below { All (λ i. i < length expr.old) (children_of node.now) }
     requires few { length expr.old + 4 ≤ 2 ^ 32 }
@@ -302,8 +306,8 @@ pub(crate) fn write_by_both(
 pub(crate) fn write_first_with_both(
     expr: &mut RecExpr<Lang>,
     node: &Lang,
-    inner: u8,
-    outer: u8,
+    inner: Operation,
+    outer: Operation,
     t: IntegerType,
     number: u64,
 ) -> Result<(), Error>
@@ -382,22 +386,22 @@ pub(crate) fn write_nop(alloc: Global, expr: &mut RecExpr<Lang>, node: &Lang) ->
 pub(crate) fn write_complements(
     expr: &mut RecExpr<Lang>,
     node: &Lang,
-    byte: u8,
+    f: Operation,
     t: IntegerType,
     number: u64,
 ) -> Result<(), Error>
     requires below { All (λ i. i < length expr.old) (children_of node.now) }
     requires few { length expr.old + 4 ≤ 2 ^ 32 }
-    requires operator { IsBinary byte }
+    requires operator { IsBinary f }
     ensures nodes { IfOk result (λ _.
-        Replaces (Complements byte t number) (node_of node.now) (expression_nodes expr.old)
+        Replaces (Complements f t number) (node_of node.now) (expression_nodes expr.old)
         (expression_nodes expr.new)) }
     ensures refused { IfErr result (λ e. e ≡ Error.Memory) }
 {
     let x = put_copy(expr, node)?;
     let y = put(expr, constant_node(t, number))?;
-    let inner = put(expr, binary_node(byte, x, y))?;
-    put(expr, binary_node(byte, inner, y))?;
+    let inner = put(expr, binary_node(f, x, y))?;
+    put(expr, binary_node(f, inner, y))?;
     Ok(())
 }
 
@@ -420,38 +424,42 @@ pub(crate) fn write_first(expr: &mut RecExpr<Lang>, node: &Lang) -> Result<(), E
 pub(crate) fn write_first_with(
     expr: &mut RecExpr<Lang>,
     node: &Lang,
-    byte: u8,
+    f: Operation,
     t: IntegerType,
     number: u64,
 ) -> Result<(), Error>
     requires below { All (λ i. i < length expr.old) (children_of node.now) }
     requires few { length expr.old + 4 ≤ 2 ^ 32 }
-    requires operator { IsBinary byte }
+    requires operator { IsBinary f }
     requires some { 0 < length (children_of node.now) }
     ensures nodes { IfOk result (λ _.
-        Replaces (FirstWith byte t number) (node_of node.now) (expression_nodes expr.old)
+        Replaces (FirstWith f t number) (node_of node.now) (expression_nodes expr.old)
         (expression_nodes expr.new)) }
     ensures refused { IfErr result (λ e. e ≡ Error.Memory) }
 {
     let first = node.children()[0];
     let y = put(expr, constant_node(t, number))?;
-    put(expr, binary_node(byte, first, y))?;
+    put(expr, binary_node(f, first, y))?;
     Ok(())
 }
 
 /// An operator on the node's first operand.
-pub(crate) fn write_first_by(expr: &mut RecExpr<Lang>, node: &Lang, byte: u8) -> Result<(), Error>
+pub(crate) fn write_first_by(
+    expr: &mut RecExpr<Lang>,
+    node: &Lang,
+    f: Operation,
+) -> Result<(), Error>
     requires below { All (λ i. i < length expr.old) (children_of node.now) }
     requires few { length expr.old + 4 ≤ 2 ^ 32 }
-    requires operator { IsUnary byte }
+    requires operator { IsUnary f }
     requires some { 0 < length (children_of node.now) }
     ensures nodes { IfOk result (λ _.
-        Replaces (FirstBy byte) (node_of node.now) (expression_nodes expr.old)
+        Replaces (FirstBy f) (node_of node.now) (expression_nodes expr.old)
         (expression_nodes expr.new)) }
     ensures refused { IfErr result (λ e. e ≡ Error.Memory) }
 {
     let first = node.children()[0];
-    put(expr, unary_node(byte, first))?;
+    put(expr, unary_node(f, first))?;
     Ok(())
 }
 
@@ -544,18 +552,22 @@ pub(crate) fn write_number(
 }
 
 /// An operator on the two operands of the node's first operand.
-pub(crate) fn write_inner_by(expr: &mut RecExpr<Lang>, node: &Lang, byte: u8) -> Result<(), Error>
+pub(crate) fn write_inner_by(
+    expr: &mut RecExpr<Lang>,
+    node: &Lang,
+    f: Operation,
+) -> Result<(), Error>
     requires below { All (λ i. i < length expr.old) (children_of node.now) }
     requires few { length expr.old + 4 ≤ 2 ^ 32 }
-    requires operator { IsBinary byte }
+    requires operator { IsBinary f }
     requires two { HasTwoInner (term_over (tree_at (expression_nodes expr.old)) node.now) }
     ensures nodes { IfOk result (λ _.
-        Replaces (InnerBy byte) (node_of node.now) (expression_nodes expr.old)
+        Replaces (InnerBy f) (node_of node.now) (expression_nodes expr.old)
         (expression_nodes expr.new)) }
     ensures refused { IfErr result (λ e. e ≡ Error.Memory) }
 {
     let (x, y) = inner_children(expr, node);
-    put(expr, binary_node(byte, x, y))?;
+    put(expr, binary_node(f, x, y))?;
     Ok(())
 }
 
@@ -563,8 +575,8 @@ pub(crate) fn write_inner_by(expr: &mut RecExpr<Lang>, node: &Lang, byte: u8) ->
 pub(crate) fn write_distributed(
     expr: &mut RecExpr<Lang>,
     node: &Lang,
-    outer: u8,
-    inner: u8,
+    outer: Operation,
+    inner: Operation,
     t: IntegerType,
     number: u64,
 ) -> Result<(), Error>
@@ -590,22 +602,22 @@ pub(crate) fn write_distributed(
 pub(crate) fn write_inner_with(
     expr: &mut RecExpr<Lang>,
     node: &Lang,
-    byte: u8,
+    f: Operation,
     t: IntegerType,
     number: u64,
 ) -> Result<(), Error>
     requires below { All (λ i. i < length expr.old) (children_of node.now) }
     requires few { length expr.old + 4 ≤ 2 ^ 32 }
-    requires operator { IsBinary byte }
+    requires operator { IsBinary f }
     requires one { HasOneInner (term_over (tree_at (expression_nodes expr.old)) node.now) }
     ensures nodes { IfOk result (λ _.
-        Replaces (InnerWith byte t number) (node_of node.now) (expression_nodes expr.old)
+        Replaces (InnerWith f t number) (node_of node.now) (expression_nodes expr.old)
         (expression_nodes expr.new)) }
     ensures refused { IfErr result (λ e. e ≡ Error.Memory) }
 {
     let x = inner_child(expr, node);
     let y = put(expr, constant_node(t, number))?;
-    put(expr, binary_node(byte, x, y))?;
+    put(expr, binary_node(f, x, y))?;
     Ok(())
 }
 
@@ -628,8 +640,8 @@ pub(crate) fn write_inner(expr: &mut RecExpr<Lang>, node: &Lang) -> Result<(), E
 pub(crate) fn write_collected(
     expr: &mut RecExpr<Lang>,
     node: &Lang,
-    inner: u8,
-    outer: u8,
+    inner: Operation,
+    outer: Operation,
     t: IntegerType,
     number: u64,
 ) -> Result<(), Error>

@@ -6,15 +6,15 @@ use Rattle.mutate_base.specs.declared.types.PrimitiveTypeInfo.{PrimitiveTypeInfo
 use Rattle.peephole_machine.specs.declared.integer.IntegerType.{IntegerType}
 use Rattle.peephole_machine.specs.declared.integer.IntegerType.TheVariants as integer
 use Rattle.peephole_machine.specs.Integer.{IntegerOperator}
-use Rattle.peephole_machine.specs.IntegerRow.{bare_operator}
 use Rattle.peephole_machine.specs.Computed.{computed}
 use Rattle.peephole_rules.specs.declared.replacement.Replacement.TheVariants.{Number}
+use Rattle.peephole_rules.specs.declared.shape.Operator.{Operator}
 use Rattle.peephole_rules.specs.declared.shape.Operand.{Operand}
 use Rattle.peephole_rules.specs.declared.shape.Operands.{Operands}
 use Rattle.peephole_rules.specs.declared.shape.Operands.TheVariants.{One, Two}
 use Rattle.peephole_rules.specs.Operator.{within_width}
 use Rattle.peephole_rules.specs.ValueTypes.{integer_of}
-use Rattle.peephole_rules.specs.Choice.{is_constant, are_constants, number_of, typed_number, on_one, on_two, folded_number, folded}
+use Rattle.peephole_rules.specs.Choice.{numeric_operator, is_constant, are_constants, number_of, typed_number, on_one, on_two, folded_number, folded}
 use Rattle.peephole_rules.proofs.folding.folded.Goals as goal
 
 none_there : {A : Type 0} (o : Option A) → is_some o ≡ false → o ≡ None
@@ -54,12 +54,12 @@ none_of f (One x) h = none_on_one f f.operands x h
 none_of f (Two x y) h = none_on_two f f.operands x y h
 none_of f _ h = refl
 
-none_folded : (opcode : Option ℕ) (operands : Operands) → are_constants operands ≡ false → folded opcode operands ≡ None
-none_folded opcode operands h = by_operator (option_and_then bare_operator opcode)
+none_folded : (o : Option Operator) (operands : Operands) → are_constants operands ≡ false → folded o operands ≡ None
+none_folded o operands h = by_operator (numeric_operator o)
   where
     by_operator : (o : Option IntegerOperator) → option_and_then (λ f. option_map (λ n. Number f.result n) (folded_number f operands)) o ≡ None
     by_operator None = refl
     by_operator (Some f) = ap (option_map (λ n. Number f.result n)) (none_of f operands h)
 
 pub returns-then-not-are_constants : goal.returns-then-not-are_constants
-returns-then-not-are_constants c = sym (none_folded c.args.opcode c.args.operands.now (sym c.if-not-are_constants.ensures))
+returns-then-not-are_constants c = sym (none_folded c.args.operator c.args.operands.now (sym c.if-not-are_constants.ensures))

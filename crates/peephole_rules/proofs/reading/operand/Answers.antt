@@ -11,7 +11,7 @@ is_complement-requires-clause-inside c =
 
 pub returns : goal.returns
 returns c = operand_told c.args.nodes.now c.args.at c.index-nodes-at.result _ c.requires.inside c.index-nodes-at.is c.requires.below
-    c.opcode_byte.ensures (c.constant_number.ensures (term_at c.args.nodes.now)) (c.constant_number-2.ensures (term_at c.args.nodes.now))
+    c.node_operator.ensures (c.constant_number.ensures (term_at c.args.nodes.now)) (c.constant_number-2.ensures (term_at c.args.nodes.now))
     (c.local.ensures (term_at c.args.nodes.now)) c.has_one_value.ensures (c.writes.ensures c.args.nodes.now c.requires.effects)
     (c.may_trap.ensures c.args.nodes.now c.requires.effects) (c.asks.ensures c.args.nodes.now c.requires.effects) c.values.ensures
     (c.is_single.ensures (term_at c.args.nodes.now)) c.is_complement.ensures

@@ -11,7 +11,7 @@ write_swapped-requires-clause-two c = swap_two (head_of c.args.node.now) (tree_a
     (subst (λ r. CanReplace r (term_over (tree_at (expression_nodes c.args.expr.now)) c.args.node.now)) c.in-Swap.is c.requires.fits)
 
 pub write_turned-requires-clause-two : goal.write_turned-requires-clause-two
-write_turned-requires-clause-two c = turn_two (head_of c.args.node.now) (tree_at (expression_nodes c.args.expr.now)) c.in-Turn.byte
+write_turned-requires-clause-two c = turn_two (head_of c.args.node.now) (tree_at (expression_nodes c.args.expr.now)) c.in-Turn.f
     (children_of c.args.node.now)
     (subst (λ r. CanReplace r (term_over (tree_at (expression_nodes c.args.expr.now)) c.args.node.now)) c.in-Turn.is c.requires.fits)
 
@@ -20,12 +20,12 @@ write_turned_select-requires-clause-three c = select_three (head_of c.args.node.
     (subst (λ r. CanReplace r (term_over (tree_at (expression_nodes c.args.expr.now)) c.args.node.now)) c.in-TurnSelect.is c.requires.fits)
 
 pub write_negated-requires-clause-two : goal.write_negated-requires-clause-two
-write_negated-requires-clause-two c = negated_two (head_of c.args.node.now) (tree_at (expression_nodes c.args.expr.now)) c.in-Negated.byte
+write_negated-requires-clause-two c = negated_two (head_of c.args.node.now) (tree_at (expression_nodes c.args.expr.now)) c.in-Negated.f
     (children_of c.args.node.now)
     (subst (λ r. CanReplace r (term_over (tree_at (expression_nodes c.args.expr.now)) c.args.node.now)) c.in-Negated.is c.requires.fits)
 
 pub write_inner_by-requires-clause-two : goal.write_inner_by-requires-clause-two
-write_inner_by-requires-clause-two c = inner_two (head_of c.args.node.now) (tree_at (expression_nodes c.args.expr.now)) c.in-InnerBy.byte
+write_inner_by-requires-clause-two c = inner_two (head_of c.args.node.now) (tree_at (expression_nodes c.args.expr.now)) c.in-InnerBy.f
     (children_of c.args.node.now)
     (subst (λ r. CanReplace r (term_over (tree_at (expression_nodes c.args.expr.now)) c.args.node.now)) c.in-InnerBy.is c.requires.fits)
 
@@ -35,7 +35,7 @@ write_distributed-requires-clause-two c = distributed_two (head_of c.args.node.n
     (subst (λ r. CanReplace r (term_over (tree_at (expression_nodes c.args.expr.now)) c.args.node.now)) c.in-Distribute.is c.requires.fits)
 
 pub write_inner_with-requires-clause-one : goal.write_inner_with-requires-clause-one
-write_inner_with-requires-clause-one c = inner_with_one (head_of c.args.node.now) (tree_at (expression_nodes c.args.expr.now)) c.in-InnerWith.byte
+write_inner_with-requires-clause-one c = inner_with_one (head_of c.args.node.now) (tree_at (expression_nodes c.args.expr.now)) c.in-InnerWith.f
     c.in-InnerWith.t c.in-InnerWith.number (children_of c.args.node.now)
     (subst (λ r. CanReplace r (term_over (tree_at (expression_nodes c.args.expr.now)) c.args.node.now)) c.in-InnerWith.is c.requires.fits)
 

@@ -10,5 +10,5 @@ pub returns : goal.returns
 returns c = record {
   complete = λ r context t e h. subst (λ (rs : List Rule). Contains (ON_EACH ++ rs) r) (sym c.rules_on.ensures)
       (has_candidate context t c.args.self.now r e h);
-  once = subst (λ (rs : List Rule). AreOnce (ON_EACH ++ rs)) (sym c.rules_on.ensures) (candidates_once c.args.self.now.root.opcode);
+  once = subst (λ (rs : List Rule). AreOnce (ON_EACH ++ rs)) (sym c.rules_on.ensures) (candidates_once c.args.self.now.root.operator);
 }
