@@ -2,6 +2,8 @@ ghost use Rattle.std.specs.Prelude.{◌≡◌, false, is_some, IsSome, IsTrue};
 ghost use Rattle.std.specs.Borrow.{sem};
 ghost use Rattle.std.specs.Option.Follows.{option_follows_value};
 
+mod taking;
+
 use crate::module::ModuleInfo;
 use std::marker::Model;
 

@@ -5,6 +5,7 @@ mod config;
 mod error;
 mod float;
 pub mod laws;
+mod lent_words;
 mod module;
 pub mod number;
 mod payload;
@@ -16,6 +17,7 @@ mod words;
 pub use config::{Config, WasmMutate};
 pub use error::Error;
 pub use float::{F32, F64};
+pub use lent_words::LentWords;
 pub use module::ModuleInfo;
 pub use payload::{
     MemArg, MemArgLane, MemoryCopy, MemoryInit, RefType, Shuffle, TableCopy, TableInit,

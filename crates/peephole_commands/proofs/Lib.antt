@@ -1,6 +1,7 @@
 pub mod Devices
 pub mod Answer
 pub mod Steps
+pub mod Working
 pub mod Refusals
 pub mod Writings
 pub mod Shows

@@ -12,7 +12,7 @@ use Rattle.peephole_graphs.specs.GraphOf.{HasNoGraph, IsRefused}
 use Rattle.peephole_commands.specs.declared.graphs.Refusal.TheVariants as refusal
 use Rattle.peephole_commands.specs.declared.place.Place.{Place}
 use Rattle.peephole_terms.specs.Written.{Site, source_at, block_operators, block_shapes}
-use Rattle.peephole_commands.specs.Graphs.{refusal_of, shapes_or_refusal, site_of, module_in, IsGraphIn}
+use Rattle.peephole_commands.specs.Graphs.{refusal_of, shapes_or_refusal, site_of, IsGraphIn}
 
 -- a place whose block has a graph
 pub shapes_found : HasNoFault → (info : Module) (preserving : Bool) (p : Place) (graph : MiniDFG) → IsGraphIn info preserving p graph →
@@ -43,8 +43,7 @@ refused_for unknown large info preserving site (error.UnknownFunction function) 
     inr (at_fault info preserving site (calls_unknown function) ((unknown (source_at info preserving site) function).1 h))
 refused_for unknown large info preserving site _ h = absurd h
 
--- the same whatever the module, the mode and the operators are called
-pub called : (P : Module → Bool → List (Operator × ℕ) → Type 0) {under : Option Module} {info : Module} {preserving mode : Bool} {all os : List (Operator
-    × ℕ)} →
-    under ≡ Some info → mode ≡ preserving → os ≡ all → P info mode os → P (module_in under) preserving all
-called P u m e h = rw u (rw (m, e) at h)
+-- the same whatever the mode and the operators are called
+pub called : (P : Bool → List (Operator × ℕ) → Type 0) {preserving mode : Bool} {all os : List (Operator × ℕ)} →
+    mode ≡ preserving → os ≡ all → P mode os → P preserving all
+called P m e h = rw (m, e) at h

@@ -1,11 +1,13 @@
 -- What `show` answers, by what its calls answer.
-use Rattle.std.proofs.Common.{◌≡◌, ℕ, suc, ◌+◌, ◌-◌, ◌<◌, Bool, List, ◌++◌, length, sym, ap, ap₂, ◌∙◌, ◌≤◌, arith, Ok}
+use Rattle.std.proofs.Common.{◌≡◌, ℕ, suc, ◌+◌, ◌-◌, ◌<◌, Bool, List, ◌++◌, length, sym, ap, ap₂, ◌∙◌, ◌≤◌, arith, Ok, Err}
 use Rattle.std.proofs.lemmas.Grind.{common_steps}
-use Rattle.std.specs.Prelude.{◌↔◌, IsTrue, Result, slice_range}
+use Rattle.std.specs.Prelude.{◌↔◌, IsTrue, Result, MatchResult, slice_range}
 use Rattle.std.specs.Bool.{one_answer}
 use Rattle.std.proofs.lemmas.Option.{slice_get_within}
 use Rattle.wasm_code.specs.declared.operator.Operator.{Operator}
 use Rattle.mutate_base.specs.Module.{Module}
+use Rattle.mutate_base.specs.declared.error.Error.{Error}
+use Rattle.mutate_base.specs.declared.error.Error.TheVariants.{Memory}
 use Rattle.peephole_graphs.specs.declared.dfg.MiniDFG.{MiniDFG}
 use Rattle.peephole_graphs.specs.declared.shape.Shape.{Shape}
 use Rattle.peephole_graphs.specs.Dfg.{graph_of}
@@ -21,7 +23,7 @@ use Rattle.peephole_graphs.specs.TreeText.{block_text}
 use Rattle.peephole_commands.specs.declared.graphs.Refusal.{Refusal}
 use Rattle.peephole_commands.specs.declared.place.Place.{Place}
 use Rattle.peephole_commands.specs.Graphs.{of_graph, site_of, IsPlace, IsGraphIn}
-use Rattle.peephole_commands.specs.Show.{verdicts, is_consistent, block_with_verdicts, show_output}
+use Rattle.peephole_commands.specs.Show.{verdicts, is_consistent, block_with_verdicts, show_output, Shows}
 use Rattle.peephole_commands.proofs.Refusals.{shapes_found}
 
 length_range : (os : List (Operator × ℕ)) (start end : ℕ) → start ≤ end → end ≤ length os → length (slice_range os start end) ≡ end - start
@@ -65,3 +67,9 @@ shown_is fits decides text ordered color info preserving p graph in_order consis
     ∙ ap (λ (t : List ℕ). let r : Result (List ℕ) Refusal = Ok t in r)
     (sym (ap₂ (λ t b. t ++ verdicts b consistent) (text s (graph_of graph) g) order
     ∙ ap (λ b. block_text preserving first block ++ verdicts (is_in_order block) b) same))
+
+-- a call that made this text, or lacked memory, shows the graph
+pub shown_by : {T : Type 0} (graph : MiniDFG) (bytes : T → List ℕ) (line : List ℕ) → Shows graph line → (result : Result T Error) →
+    MatchResult result (λ text. bytes text ≡ line) (λ e. e ≡ Memory) → MatchResult result (λ text. Shows graph (bytes text)) (λ e. e ≡ Memory)
+shown_by graph bytes line shows (Ok text) h = rw h shows
+shown_by graph bytes line shows (Err e) h = h

@@ -116,9 +116,12 @@ place_in None point = Err fault.NoBlock
 place_in (Some body) None = Err fault.NoBlock
 place_in (Some body) (Some point) = place_at body point (block_at body.operators point)
 
+abbrev pub place_for : Option Contents → Option ℕ → List (List ℕ) → Result Site Fault
+place_for body point [] = place_in body point
+place_for body point _ = Err fault.BadArgument
+
 abbrev pub working_place : SessionState → List (List ℕ) → Result Site Fault
-working_place s [] = place_in s.body s.point
-working_place s _ = Err fault.BadArgument
+working_place s words = place_for s.body s.point words
 
 abbrev pub at_working_place : SessionState → Result Site Fault → (Site → List ℕ) → Result Reply Fault
 at_working_place s (Ok site) text = Ok (record { text = text site; next = s })

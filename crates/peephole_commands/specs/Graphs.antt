@@ -1,5 +1,5 @@
 -- Whether a block has a graph under a module and a mode, and what is refused where it has none (this project's rules).
-use Rattle.std.specs.Prelude.{◌≡◌, ◌⊎◌, ℕ, ◌<◌, MatchResult, Bool, List, [], length, Option, Some, None, Result, Ok, Err}
+use Rattle.std.specs.Prelude.{◌≡◌, ◌⊎◌, ℕ, ◌<◌, MatchResult, Bool, List, [], length, Option, Some, None, Result, Ok, Err, IfOk, IfSome}
 use Rattle.std.specs.Result.{result_map_both}
 use Rattle.mutate_base.specs.declared.error.Error.TheVariants.{Memory, TooLarge, UnknownFunction}
 use Rattle.mutate_base.specs.Config.{Config, info_of, generator_of}
@@ -66,9 +66,10 @@ IsGraphIn info preserving p graph =
 abbrev pub IsGraphAt : {R : Type 0} → Config Module R → Place → MiniDFG → Type 0
 IsGraphAt config = IsGraphIn (module_in (info_of config)) config.preserving
 
--- the shapes of the place's block under it
-abbrev pub shapes_at : {R : Type 0} → Config Module R → Place → Result (List Shape) Refusal
-shapes_at config p = shapes_or_refusal (module_in (info_of config)) config.preserving (site_of p)
+-- a graph that is kept is that of the site where commands work
+abbrev pub KeepsTheGraph : {E : Type 0} → Module → Bool → Result Site E → Option MiniDFG → Type 0
+KeepsTheGraph info preserving place kept =
+    IfSome kept (λ graph. IfOk place (λ site. IsGraphOf (source_at info preserving site) (graph_of graph)))
 
 -- a call answered what is said, which `read` reads of its answer, or memory was refused
 abbrev pub AnswersAs : {A B : Type 0} → (A → B) → Result B Refusal → Result A Refusal → Type 0

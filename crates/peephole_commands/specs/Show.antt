@@ -1,6 +1,7 @@
 -- What the command `show` tells of a block (this project's rules).
-use Rattle.std.specs.Prelude.{ℕ, Bool, true, false, List, ◌++◌, codes, Result, Ok}
+use Rattle.std.specs.Prelude.{◌≡◌, ℕ, Bool, true, false, List, ◌++◌, codes, Result, Ok}
 use Rattle.mutate_base.specs.Module.{Module}
+use Rattle.peephole_graphs.specs.declared.dfg.MiniDFG.{MiniDFG}
 use Rattle.peephole_graphs.specs.declared.shape.Shape.{Shape}
 use Rattle.peephole_graphs.specs.Color.{color_at}
 use Rattle.peephole_graphs.specs.Forest.{forest, is_in_order}
@@ -8,8 +9,9 @@ use Rattle.peephole_graphs.specs.Shown.{has_one_color, last_of}
 use Rattle.peephole_graphs.specs.Tree.{entry}
 use Rattle.peephole_graphs.specs.TreeText.{block_text}
 use Rattle.peephole_commands.specs.declared.graphs.Refusal.{Refusal}
+use Rattle.peephole_commands.specs.declared.place.Place.{Place}
 use Rattle.peephole_terms.specs.Written.{Site}
-use Rattle.peephole_commands.specs.Graphs.{shapes_or_refusal, of_graph}
+use Rattle.peephole_commands.specs.Graphs.{shapes_or_refusal, of_graph, site_of, IsPlace, IsGraphIn}
 
 abbrev pub yes_or_no : Bool → List ℕ
 yes_or_no true = codes "yes"
@@ -31,3 +33,8 @@ block_with_verdicts preserving first block = block_text preserving first block +
 abbrev pub show_output : Module → Bool → Site → Result (List ℕ) Refusal
 show_output info preserving site =
     of_graph (shapes_or_refusal info preserving site) (λ block. Ok (block_with_verdicts preserving site.block.start block))
+
+-- the text is what is told of each place whose block has the graph
+abbrev pub Shows : MiniDFG → List ℕ → Type 0
+Shows graph text =
+    (info : Module) (preserving : Bool) (p : Place) → IsPlace p → IsGraphIn info preserving p graph → show_output info preserving (site_of p) ≡ Ok text

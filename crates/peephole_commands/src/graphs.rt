@@ -1,12 +1,12 @@
 //! The graph of the point's block.
 
-ghost use Rattle.std.specs.Prelude.{◌≡◌, ◌⊎◌, is_some, IsTrue, Err, IfOk, IfErr};
+ghost use Rattle.std.specs.Prelude.{◌≡◌, ◌⊎◌, Err, IfOk, IfErr, IfSome};
 ghost use Rattle.mutate_base.specs.declared.error.Error.TheVariants.{Memory};
 ghost use Rattle.peephole_commands.specs.declared.graphs.Refusal.TheVariants.{Refused};
-ghost use Rattle.peephole_commands.specs.Graphs.{shapes_at, IsPlace, IsGraphAt};
+ghost use Rattle.peephole_commands.specs.Graphs.{shapes_or_refusal, site_of, IsPlace, IsGraphIn};
 
 use crate::place::Place;
-use mutate_base::{Error, WasmMutate, Words};
+use mutate_base::{Error, LentWords, ModuleInfo, WasmMutate};
 use peephole_terms::laws::faults_are_found;
 use peephole_terms::{DFGBuilder, MiniDFG};
 use std::alloc::Global;
@@ -31,21 +31,42 @@ impl From<Error> for Refusal {
     }
 }
 
-/// The graph of the place's block under a configuration that is set up.
+/// The graph of the place's block in a module and a mode: the one that is kept, or one that is made.
 pub fn point_graph(
     alloc: Global,
-    config: &WasmMutate<'_, Words>,
+    kept: Option<MiniDFG>,
+    info: &ModuleInfo,
+    preserving: bool,
     place: &Place,
 ) -> Result<MiniDFG, Refusal>
-    requires set_up { IsTrue (is_some config.now.setup) }
     requires place { IsPlace place.now }
-    ensures graph { IfOk result (λ graph. IsGraphAt config.now place.now graph) }
-    ensures refused { IfErr result (λ r.
-        (r ≡ Refused Memory) ⊎ (shapes_at config.now place.now ≡ Err r)) }
+    requires kept { IfSome kept (IsGraphIn info.now preserving place.now) }
+    ensures graph { IfOk result (IsGraphIn info.now preserving place.now) }
+    ensures refused { IfErr result (λ r. (r ≡ Refused Memory)
+        ⊎ (shapes_or_refusal info.now preserving (site_of place.now) ≡ Err r)) }
+{
+    match kept {
+        Some(graph) => Ok(graph),
+        None => make_graph(alloc, info, preserving, place),
+    }
+}
+
+fn make_graph(
+    alloc: Global,
+    info: &ModuleInfo,
+    preserving: bool,
+    place: &Place,
+) -> Result<MiniDFG, Refusal>
+    requires { IsPlace place.now }
+    ensures graph { IfOk result (IsGraphIn info.now preserving place.now) }
+    ensures refused { IfErr result (λ r. (r ≡ Refused Memory)
+        ⊎ (shapes_or_refusal info.now preserving (site_of place.now) ≡ Err r)) }
 {
     faults_are_found();
-    let mut builder = DFGBuilder::new(config);
-    match builder.get_dfg(alloc, config.info(), place.body.operators(), place.block) {
+    let mut config: WasmMutate<'_, LentWords<'_>> = WasmMutate::new();
+    config.preserve_semantics(preserving);
+    let mut builder = DFGBuilder::new(&config);
+    match builder.get_dfg(alloc, info, place.body.operators(), place.block) {
         Ok(Some(graph)) => Ok(graph),
         Ok(None) => Err(Refusal::NoGraph),
         Err(error) => Err(Refusal::Refused(error)),

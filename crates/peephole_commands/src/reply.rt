@@ -1,12 +1,13 @@
 //! The lines that commands print.
 
-ghost use Rattle.std.specs.Prelude.{◌≡◌, ◌≢◌, OnOk};
+ghost use Rattle.std.specs.Prelude.{◌≡◌, ◌≢◌, OnOk, IfErr};
 ghost use Rattle.mutate_base.specs.declared.error.Error.TheVariants.{Memory};
 ghost use Rattle.peephole_commands.specs.declared.graphs.Refusal.TheVariants.{Refused};
-ghost use Rattle.peephole_commands.specs.Commands.{block_line, bytes_line, global_line, output_lines, refusal_line, type_line, Prints};
+ghost use Rattle.peephole_commands.specs.Commands.{answer_text, block_line, bytes_line, global_line, output_lines, refusal_line, type_line, Prints};
 ghost use Rattle.peephole_commands.specs.Writing.{output};
 
 use crate::graphs::Refusal;
+use crate::writing::Written;
 use mutate_base::{Error, PrimitiveTypeInfo};
 use peephole_script::{Fault, write_digits};
 use peephole_terms::{BBlock, ResourceRequest};
@@ -27,8 +28,8 @@ pub fn block_line(alloc: Global, block: &Option<BBlock>) -> Result<Vec<u8>, Faul
     Ok(text?.into_bytes())
 }
 
-/// The line that `result` prints of a type. `Memory` where an allocation was refused.
-pub fn type_line(alloc: Global, ty: PrimitiveTypeInfo) -> Result<Vec<u8>, Fault>
+// The line that `result` prints of a type.
+fn type_line(alloc: Global, ty: PrimitiveTypeInfo) -> Result<Vec<u8>, Fault>
     ensures { Prints (type_line ty) result }
 {
     let name = ty.name();
@@ -64,8 +65,8 @@ fn global_line(alloc: Global, request: &ResourceRequest) -> Result<Vec<u8>, Faul
     }
 }
 
-/// The lines that `write` prints of a body, and of the globals that it asks for. `Memory` where an allocation was refused.
-pub fn output_lines(
+// The lines that `write` prints of a body, and of the globals that it asks for.
+fn output_lines(
     alloc: Global,
     sink: &Function,
     requests: &[ResourceRequest],
@@ -106,5 +107,28 @@ pub fn refusal_line(alloc: Global, refusal: Refusal) -> Result<Vec<u8>, Fault>
             Ok(text.into_bytes())
         }
         Refusal::Refused(error) => refused_line(alloc, error),
+    }
+}
+
+/// The line that `result` prints. `Memory` where an allocation was refused.
+pub fn told_line(alloc: Global, told: Result<PrimitiveTypeInfo, Refusal>) -> Result<Vec<u8>, Fault>
+    ensures line { Prints (answer_text type_line told) result }
+    ensures other { IfErr told (λ r. OnOk result (r ≢ Refused Memory)) }
+{
+    match told {
+        Ok(ty) => type_line(alloc, ty),
+        Err(refusal) => refusal_line(alloc, refusal),
+    }
+}
+
+/// The lines that `write` prints. `Memory` where an allocation was refused.
+pub fn written_lines(alloc: Global, written: Result<Written, Refusal>) -> Result<Vec<u8>, Fault>
+    ensures lines { Prints (answer_text (λ w. output_lines (output w.body w.requests.items)) written)
+        result }
+    ensures other { IfErr written (λ r. OnOk result (r ≢ Refused Memory)) }
+{
+    match written {
+        Ok(written) => output_lines(alloc, &written.body, written.requests.as_slice()),
+        Err(refusal) => refusal_line(alloc, refusal),
     }
 }

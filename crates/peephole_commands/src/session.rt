@@ -1,6 +1,6 @@
 //! What the program keeps between two lines, and what each command does to it.
 
-ghost use Rattle.std.specs.Prelude.{◌≡◌, ◌<◌, ◌≤◌, ◌^◌, All, List, [], map, option_map, length, Some, Ok, Err, IfOk, MatchResult};
+ghost use Rattle.std.specs.Prelude.{◌≡◌, ◌<◌, ◌≤◌, ◌^◌, All, List, [], map, option_map, length, Some, Ok, Err, IfOk, IfSome, MatchResult};
 ghost use Rattle.peephole_lang.specs.Node.{node_of};
 ghost use Rattle.peephole_lang.specs.Term.{numbers_of};
 ghost use Rattle.peephole_lang.specs.Text.{reads};
@@ -8,25 +8,29 @@ ghost use Rattle.peephole_graphs.specs.Layout.{AreWritable};
 ghost use Rattle.peephole_script.specs.Text.{texts};
 ghost use Rattle.peephole_commands.specs.Arguments.{named_children};
 ghost use Rattle.peephole_commands.specs.State.{SessionState, Reply, PointsInto, start};
-ghost use Rattle.peephole_commands.specs.Graphs.{IsPlace};
-ghost use Rattle.peephole_commands.specs.Commands.{step_line, words_step, command_step, declare_step, local_step, preserve_step, draw_step, body_step, at_step, node_step, node_with, node_read, working_place, show_step, result_step, write_step, Steps, Finds};
+ghost use Rattle.peephole_commands.specs.Graphs.{IsPlace, KeepsTheGraph};
+ghost use Rattle.peephole_commands.specs.Commands.{step_line, words_step, command_step, declare_step, local_step, preserve_step, draw_step, body_step, at_step, node_step, node_with, node_read, place_in, place_for, show_step, result_step, write_step, Steps, Finds};
 
 use crate::arguments::{ids_of, only};
 use crate::body::Body;
+use crate::graphs::point_graph;
 use crate::place::{Place, Point};
-use crate::reply::{block_line, output_lines, refusal_line, type_line};
-use crate::results::point_type;
-use crate::show::show_block;
-use crate::writing::write_answer;
-use mutate_base::{Error, ModuleInfo, PrimitiveTypeInfo, WasmMutate, Words};
+use crate::reply::{block_line, refusal_line, told_line, written_lines};
+use crate::results::{analysis_in, point_type};
+use crate::show::show_graph;
+use crate::writing::write_nodes;
+use mutate_base::{Error, LentWords, ModuleInfo, PrimitiveTypeInfo, WasmMutate};
+use peephole_analysis::PeepholeMutationAnalysis;
 use peephole_lang::{Id, Lang, RecExpr};
 use peephole_script::{
     Command, Declaration, Fault, command_of, declare, is_text, is_yes, number_of, read_digits,
     type_of, words_of,
 };
-use peephole_terms::laws::blocks_are_found;
-use std::alloc::{AllocError, Global};
+use peephole_terms::MiniDFG;
+use peephole_terms::laws::{blocks_are_found, own_trees_are_kept};
+use std::alloc::Global;
 use std::marker::Model;
+use std::mem;
 use wasm_code::ReadKind;
 
 /// What the program keeps between two lines: the module and the mode, the words to be drawn, the body, the operator that is
@@ -41,6 +45,9 @@ pub struct Session {
     body: Option<Body>,
     point: Option<Point>,
     nodes: RecExpr<Lang>,
+    // The graph of the point's block and the types of results, as long as what they were made from stays the same.
+    graph: Option<MiniDFG>,
+    analysis: Option<PeepholeMutationAnalysis<'static>>,
 }
 
 impl Model for Session {
@@ -56,7 +63,9 @@ impl Model for Session {
       nodes = map node_of s.nodes;
     } };
 
-    ghost invariant = { λ s. PointsInto s.body s.point × (length s.nodes ≤ 2 ^ 32) × AreWritable s.nodes };
+    ghost invariant = { λ s. PointsInto s.body s.point × (length s.nodes ≤ 2 ^ 32) × AreWritable s.nodes
+        × KeepsTheGraph s.info s.preserving (place_in s.body (option_map (λ p. p.index) s.point)) s.graph
+        × IfSome s.analysis (λ a. a ≡ record { info = s.info; locals = s.locals.items }) };
 }
 
 impl Session {
@@ -73,6 +82,8 @@ impl Session {
             body: None,
             point: None,
             nodes: RecExpr::new(alloc),
+            graph: None,
+            analysis: None,
         }
     }
 
@@ -124,6 +135,8 @@ impl Session {
     fn declare(&mut self, declaration: Declaration, arguments: &[&str]) -> Result<Vec<u8>, Fault>
         ensures { Steps (declare_step declaration self.old (texts arguments.now)) self.new result }
     {
+        self.graph = None;
+        self.analysis = None;
         declare(self.alloc, &mut self.info, declaration, arguments)?;
         Ok(Vec::new(self.alloc))
     }
@@ -134,6 +147,7 @@ impl Session {
         let Some(value) = type_of(only(arguments)?) else {
             return Err(Fault::BadArgument);
         };
+        self.analysis = None;
         self.locals.push(value)?;
         Ok(Vec::new(self.alloc))
     }
@@ -145,6 +159,7 @@ impl Session {
             return Err(Fault::BadArgument);
         };
         self.preserving = preserving;
+        self.graph = None;
         Ok(Vec::new(self.alloc))
     }
 
@@ -167,6 +182,7 @@ impl Session {
                 self.body = Some(body);
                 self.point = None;
                 self.nodes = RecExpr::new(self.alloc);
+                self.graph = None;
                 Ok(Vec::new(self.alloc))
             }
             Err(ReadKind::Memory) => Err(Fault::Memory),
@@ -191,6 +207,7 @@ impl Session {
         let line = block_line(self.alloc, &block)?;
         self.point = Some(Point { index, block });
         self.nodes = RecExpr::new(self.alloc);
+        self.graph = None;
         Ok(line)
     }
 
@@ -237,72 +254,103 @@ impl Session {
         }
     }
 
-    // The configuration of the module and the mode, and of the words from the first one on.
-    fn config(&self) -> Result<WasmMutate<'static, Words>, AllocError>
-        ensures mode { IfOk result (λ config. config.preserving ≡ self.now.preserving) }
-        ensures setup { IfOk result (λ config. config.setup
-            ≡ Some (record { info = self.now.info; generator = self.now.words })) }
+    fn show(&mut self, arguments: &[&str]) -> Result<Vec<u8>, Fault>
+        ensures { Steps (show_step self.old (texts arguments.now)) self.new result }
     {
-        let info = self.info.clone()?;
-        let words = self.words.clone()?;
-        let mut config = WasmMutate::new();
-        config.preserve_semantics(self.preserving);
-        config.set_up(info, Words::new(words));
-        Ok(config)
-    }
-
-    // Where a command without arguments works.
-    fn place(&self, arguments: &[&str]) -> Result<Place<'_>, Fault>
-        ensures place { Finds (working_place self.now (texts arguments.now)) result }
-        ensures is { IfOk result IsPlace }
-    {
-        blocks_are_found();
-        if !arguments.is_empty() {
-            return Err(Fault::BadArgument);
-        }
-        let (Some(body), Some(point)) = (&self.body, &self.point) else {
-            return Err(Fault::NoBlock);
-        };
-        match &point.block {
-            Some(block) => Ok(Place {
-                body,
-                point: point.index,
-                block,
-            }),
-            None => Err(Fault::NoBlock),
-        }
-    }
-
-    fn show(&self, arguments: &[&str]) -> Result<Vec<u8>, Fault>
-        ensures { Steps (show_step self.now (texts arguments.now)) self.now result }
-    {
-        let place = self.place(arguments)?;
-        let config = self.config()?;
-        match show_block(self.alloc, &config, &place) {
-            Ok(text) => Ok(text.into_bytes()),
+        let place = place_for(&self.body, &self.point, arguments)?;
+        let kept = self.graph.take();
+        match point_graph(self.alloc, kept, &self.info, self.preserving, &place) {
+            Ok(graph) => {
+                let Ok(text) = show_graph(self.alloc, &graph) else {
+                    return Err(Fault::Memory);
+                };
+                self.graph = Some(graph);
+                Ok(text.into_bytes())
+            }
             Err(refusal) => refusal_line(self.alloc, refusal),
         }
     }
 
-    fn tell_result(&self, arguments: &[&str]) -> Result<Vec<u8>, Fault>
-        ensures { Steps (result_step self.now (texts arguments.now)) self.now result }
+    fn tell_result(&mut self, arguments: &[&str]) -> Result<Vec<u8>, Fault>
+        ensures { Steps (result_step self.old (texts arguments.now)) self.new result }
     {
-        let place = self.place(arguments)?;
-        let config = self.config()?;
-        match point_type(self.alloc, &config, self.locals.as_slice(), &place) {
-            Ok(ty) => type_line(self.alloc, ty),
+        own_trees_are_kept();
+        let place = place_for(&self.body, &self.point, arguments)?;
+        let kept = self.graph.take();
+        match point_graph(self.alloc, kept, &self.info, self.preserving, &place) {
+            Ok(graph) => {
+                let kept = self.analysis.take();
+                let locals = self.locals.as_slice();
+                let Ok(analysis) = analysis_in(self.alloc, kept, &self.info, locals) else {
+                    return Err(Fault::Memory);
+                };
+                let told = point_type(self.alloc, &analysis, &graph, &place);
+                self.graph = Some(graph);
+                self.analysis = Some(analysis);
+                told_line(self.alloc, told)
+            }
             Err(refusal) => refusal_line(self.alloc, refusal),
         }
     }
 
-    fn write(&self, arguments: &[&str]) -> Result<Vec<u8>, Fault>
-        ensures { Steps (write_step self.now (texts arguments.now)) self.now result }
+    fn write(&mut self, arguments: &[&str]) -> Result<Vec<u8>, Fault>
+        ensures { Steps (write_step self.old (texts arguments.now)) self.new result }
     {
-        let place = self.place(arguments)?;
-        let mut config = self.config()?;
-        match write_answer(self.alloc, &mut config, &place, &self.nodes) {
-            Ok(written) => output_lines(self.alloc, &written.body, written.requests.as_slice()),
+        let place = place_for(&self.body, &self.point, arguments)?;
+        let kept = self.graph.take();
+        match point_graph(self.alloc, kept, &self.info, self.preserving, &place) {
+            Ok(graph) => {
+                let info = mem::replace(&mut self.info, ModuleInfo::new(self.alloc, &[]));
+                let mut config = config_of(info, self.preserving, self.words.as_slice());
+                let written = write_nodes(self.alloc, &mut config, &place, &self.nodes, &graph);
+                self.info = config.into_info();
+                self.graph = Some(graph);
+                written_lines(self.alloc, written)
+            }
             Err(refusal) => refusal_line(self.alloc, refusal),
         }
+    }
+}
+
+// The configuration of a module and a mode, and of words from the first one on.
+fn config_of<'a>(
+    info: ModuleInfo<'static>,
+    preserving: bool,
+    words: &'a [u64],
+) -> WasmMutate<'static, LentWords<'a>>
+    ensures mode { result.preserving ≡ preserving }
+    ensures setup { result.setup ≡ Some (record { info = info.entry; generator = words.now }) }
+{
+    let mut config = WasmMutate::new();
+    config.preserve_semantics(preserving);
+    config.set_up(info, LentWords::new(words));
+    config
+}
+
+// Where a command without arguments works.
+fn place_for<'a>(
+    body: &'a Option<Body>,
+    point: &'a Option<Point>,
+    arguments: &[&str],
+) -> Result<Place<'a>, Fault>
+    requires { PointsInto body.now point.now }
+    ensures place { Finds (place_for body.now (option_map (λ p. p.index) point.now)
+        (texts arguments.now)) result }
+    ensures is { IfOk result IsPlace }
+{
+    blocks_are_found();
+    if !arguments.is_empty() {
+        return Err(Fault::BadArgument);
+    }
+    let (Some(body), Some(point)) = (body, point) else {
+        return Err(Fault::NoBlock);
+    };
+    match &point.block {
+        Some(block) => Ok(Place {
+            body,
+            point: point.index,
+            block,
+        }),
+        None => Err(Fault::NoBlock),
     }
 }

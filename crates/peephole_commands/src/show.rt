@@ -1,16 +1,12 @@
 //! The forest of the point's block, as text.
 
-ghost use Rattle.std.specs.Prelude.{◌≡◌, ◌++◌, is_some, IsTrue, IfOk, MatchResult, string_bytes};
-ghost use Rattle.mutate_base.specs.Config.{info_of};
+ghost use Rattle.std.specs.Prelude.{◌≡◌, ◌<◌, ◌++◌, length, IfOk, MatchResult, string_bytes};
 ghost use Rattle.mutate_base.specs.declared.error.Error.TheVariants.{Memory};
 ghost use Rattle.peephole_graphs.specs.Dfg.{graph_of};
 ghost use Rattle.peephole_graphs.specs.ForestText.{default_text};
-ghost use Rattle.peephole_commands.specs.Graphs.{module_in, site_of, IsPlace, AnswersAs};
-ghost use Rattle.peephole_commands.specs.Show.{yes_or_no, verdicts, show_output};
+ghost use Rattle.peephole_commands.specs.Show.{yes_or_no, verdicts, Shows};
 
-use crate::graphs::{Refusal, point_graph};
-use crate::place::Place;
-use mutate_base::{Error, WasmMutate, Words};
+use mutate_base::Error;
 use peephole_terms::MiniDFG;
 use peephole_terms::laws::{faults_are_found, graph_shows_the_forest, order_is_decided};
 use std::alloc::{AllocError, Global};
@@ -49,25 +45,16 @@ fn with_verdicts(
     Ok(text)
 }
 
-/// The forest of the place's block, then whether the block is in order, and whether the tree of the operator at the point
-/// has one colour. Condition: the configuration is set up.
-pub fn show_block(
-    alloc: Global,
-    config: &WasmMutate<'_, Words>,
-    place: &Place,
-) -> Result<String, Refusal>
-    requires set_up { IsTrue (is_some config.now.setup) }
-    requires place { IsPlace place.now }
-    ensures { AnswersAs string_bytes
-        (show_output (module_in (info_of config.now)) config.now.preserving
-        (site_of place.now)) result }
+/// The forest of a block by its graph, then whether the block is in order, and whether the tree of its last operator has one
+/// colour.
+pub fn show_graph(alloc: Global, graph: &MiniDFG) -> Result<String, Error>
+    requires { 0 < length (graph_of graph.now).entries }
+    ensures { MatchResult result (λ text. Shows graph.now (string_bytes text)) (λ e. e ≡ Memory) }
 {
-    let graph = point_graph(alloc, config, place)?;
     faults_are_found();
     order_is_decided();
     graph_shows_the_forest();
     let in_order = graph.keeps_order();
     let consistent = graph.is_subtree_consistent_from_root();
-    let text = with_verdicts(alloc, &graph, in_order, consistent)?;
-    Ok(text)
+    with_verdicts(alloc, graph, in_order, consistent)
 }

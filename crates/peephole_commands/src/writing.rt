@@ -1,15 +1,16 @@
 //! The body with the term in it.
 
 ghost use Rattle.std.specs.Prelude.{◌<◌, map, length, is_some, IsTrue};
+ghost use Rattle.mutate_base.specs.Config.{ChangesGeneratorAlone};
 ghost use Rattle.peephole_lang.specs.Node.{node_of};
 ghost use Rattle.peephole_terms.specs.Expansion.{term_in};
 ghost use Rattle.peephole_commands.specs.Graphs.{setting_in, site_of, IsPlace, IsGraphAt, AnswersAs};
 ghost use Rattle.peephole_graphs.specs.Layout.{AreWritable};
 ghost use Rattle.peephole_commands.specs.Writing.{output, term_output, written_output};
 
-use crate::graphs::{Refusal, point_graph};
+use crate::graphs::Refusal;
 use crate::place::Place;
-use mutate_base::{WasmMutate, Words};
+use mutate_base::{LentWords, WasmMutate};
 use peephole_lang::{Lang, RecExpr};
 use peephole_terms::laws::{faults_are_found, order_is_decided, own_trees_are_kept};
 use peephole_terms::{Encoder, MiniDFG, ResourceRequest};
@@ -26,7 +27,7 @@ pub struct Written {
 // The body with the term of an expression in place of the tree of the operator at the point.
 fn write_term(
     alloc: Global,
-    config: &mut WasmMutate<'_, Words>,
+    config: &mut WasmMutate<'_, LentWords<'_>>,
     place: &Place,
     expr: &RecExpr<Lang>,
     graph: &MiniDFG,
@@ -36,9 +37,10 @@ fn write_term(
     requires some { 0 < length expr.now }
     requires writable { AreWritable expr.now }
     requires graph { IsGraphAt config.old place.now graph.now }
-    ensures { AnswersAs (λ w. output w.body w.requests.items)
+    ensures answer { AnswersAs (λ w. output w.body w.requests.items)
         (term_output (setting_in config.old) config.old.preserving
         (site_of place.now) (term_in expr.now)) result }
+    ensures unchanged { ChangesGeneratorAlone config.old config.new }
 {
     order_is_decided();
     let mut body = Function::new(alloc);
@@ -58,10 +60,11 @@ fn write_term(
     }
 }
 
-// The same with the nodes as the term; without nodes, with the operator's own tree.
-fn write_nodes(
+/// The body with the nodes' term in place of the tree of the operator at the point; without nodes with its own trees.
+/// Conditions: the configuration is set up, the nodes are writable, and the graph is that of the place's block.
+pub fn write_nodes(
     alloc: Global,
-    config: &mut WasmMutate<'_, Words>,
+    config: &mut WasmMutate<'_, LentWords<'_>>,
     place: &Place,
     nodes: &RecExpr<Lang>,
     graph: &MiniDFG,
@@ -70,9 +73,10 @@ fn write_nodes(
     requires place { IsPlace place.now }
     requires writable { AreWritable nodes.now }
     requires graph { IsGraphAt config.old place.now graph.now }
-    ensures { AnswersAs (λ w. output w.body w.requests.items)
+    ensures answer { AnswersAs (λ w. output w.body w.requests.items)
         (written_output (setting_in config.old) config.old.preserving
         (site_of place.now) (map node_of nodes.now)) result }
+    ensures unchanged { ChangesGeneratorAlone config.old config.new }
 {
     faults_are_found();
     own_trees_are_kept();
@@ -81,23 +85,4 @@ fn write_nodes(
     }
     let own = graph.get_expr(alloc, place.point)?;
     write_term(alloc, config, place, &own, graph)
-}
-
-/// The body with the term in place of the tree of the operator at the point; without nodes the body with its own trees.
-/// Conditions: the configuration is set up, and the nodes are writable.
-pub fn write_answer(
-    alloc: Global,
-    config: &mut WasmMutate<'_, Words>,
-    place: &Place,
-    nodes: &RecExpr<Lang>,
-) -> Result<Written, Refusal>
-    requires set_up { IsTrue (is_some config.old.setup) }
-    requires place { IsPlace place.now }
-    requires writable { AreWritable nodes.now }
-    ensures { AnswersAs (λ w. output w.body w.requests.items)
-        (written_output (setting_in config.old) config.old.preserving
-        (site_of place.now) (map node_of nodes.now)) result }
-{
-    let graph = point_graph(alloc, config, place)?;
-    write_nodes(alloc, config, place, nodes, &graph)
 }

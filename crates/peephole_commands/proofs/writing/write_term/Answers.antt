@@ -11,15 +11,15 @@ build_function-requires-clause-graph c =
     graph_under (info_of config) config.preserving c.args.place.now c.args.graph.now c.operators.result.now
     (is_some-info_of config ∙ c.requires.set_up) c.operators.ensures.value c.requires.graph
 
-pub returns-in-Ok : goal.returns-in-Ok
-returns-in-Ok c =
+pub returns-in-Ok-clause-answer : goal.returns-in-Ok-clause-answer
+returns-in-Ok-clause-answer c =
     let said = c.in-Ok.ensures in
     build_ok c.order_is_decided.ensures _ c.args.config.now.setup c.args.config.now.preserving c.args.place.now c.bytes.result.now
     c.operators.result.now (term_in c.args.expr.now) c.new-body.result c.build_function.new.newfunc c.in-Ok.requests.items _
     c.requires.set_up c.bytes.ensures c.operators.ensures.value c.new-body.ensures said.written said.requests said.order
 
-pub returns-in-Err : goal.returns-in-Err
-returns-in-Err c =
+pub returns-in-Err-clause-answer : goal.returns-in-Err-clause-answer
+returns-in-Err-clause-answer c =
     build_err c.order_is_decided.ensures _ c.args.config.now.setup c.args.config.now.preserving c.args.place.now c.bytes.result.now c.operators.result.now
     (term_in c.args.expr.now) c.in-Err.error c.requires.set_up c.bytes.ensures c.operators.ensures.value c.in-Err.ensures.order
     c.in-Err.ensures.refusal
