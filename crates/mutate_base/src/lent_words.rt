@@ -5,7 +5,7 @@ use rand_core::Rng;
 use rand_core::utils::{self, NextWord};
 use std::marker::Model;
 
-/// Words as [`Words`](crate::Words) are, that belong to someone else: to draw them anew copies none. A contract sees the
+/// Words as `Words` are, that belong to someone else: to draw them anew copies none. A contract sees the
 /// words that are left.
 #[derive(Drop)]
 pub struct LentWords<'a> {
