@@ -1,3 +1,1 @@
 pub mod WordsLemmas
-pub mod PayloadLemmas
-pub mod ShuffleLemmas

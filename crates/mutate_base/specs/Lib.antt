@@ -1,13 +1,7 @@
 pub mod Error
-pub mod TermError
 pub mod Types
 pub mod Module
 pub mod Config
 pub mod Lending
 pub mod Words
-pub mod Number
-pub mod Payload
-pub mod PayloadText
-pub mod Order
-pub mod Parts
 pub mod laws

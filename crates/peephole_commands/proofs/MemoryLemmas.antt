@@ -17,7 +17,7 @@ use Rattle.wasm_code.specs.declared.table.RowInfo.{RowInfo}
 use Rattle.mutate_base.specs.Module.{function_type}
 use Rattle.mutate_base.specs.declared.error.Error.{Error}
 use Rattle.mutate_base.specs.declared.error.Error.TheVariants as error
-use Rattle.mutate_base.specs.declared.term_error.TermError.{TermError}
+use Rattle.node_payloads.specs.declared.term_error.TermError.{TermError}
 use Rattle.mutate_base.specs.declared.types.PrimitiveTypeInfo.{PrimitiveTypeInfo}
 use Rattle.mutate_base.specs.declared.types.TypeInfo.{TypeInfo}
 use Rattle.mutate_base.specs.declared.types.TypeInfo.TheVariants.{Func, Other}

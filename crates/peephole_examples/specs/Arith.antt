@@ -8,12 +8,12 @@ use Rattle.std.specs.Fmt.{signed_decimal}
 use Rattle.std.specs.Option.{ok_or}
 use Rattle.std.specs.Vec.{with_items}
 use Rattle.std.proofs.Common.{true≢false, ap, sym, lit≤}
-use Rattle.mutate_base.specs.declared.term_error.TermError.{TermError}
-use Rattle.mutate_base.specs.declared.term_error.TermError.TheVariants.{InvalidToken, ExpectedZeroChildren, ExpectedChildren, BadInteger}
+use Rattle.node_payloads.specs.declared.term_error.TermError.{TermError}
+use Rattle.node_payloads.specs.declared.term_error.TermError.TheVariants.{InvalidToken, ExpectedZeroChildren, ExpectedChildren, BadInteger}
 use Rattle.peephole_nodes.specs.declared.id.Id.{Id}
 use Rattle.peephole_lang.specs.Language.{IsAlike, IsSame, alike_equivalence}
-use Rattle.mutate_base.specs.Number.{read_signed}
-use Rattle.mutate_base.specs.laws.NumberBack.{signed_in_range_back}
+use Rattle.node_payloads.specs.Number.{read_signed}
+use Rattle.node_payloads.specs.laws.NumberBack.{signed_in_range_back}
 use Rattle.peephole_lang.specs.Term.{numbers_of}
 use Rattle.peephole_lang.specs.Names.{rest_after}
 use Rattle.peephole_nodes.specs.Written.{none_written, any_written}

@@ -5,8 +5,9 @@ ghost use Rattle.peephole_lang.specs.Language.{ReadsInto};
 ghost use Rattle.peephole_lang.specs.Names.{rest_after};
 ghost use Rattle.peephole_examples.specs.Arith.{head_of, ids_of, children_of, with_ids, IsEqual, IsNode, arith_matches, text_of, read_number, reads, says, reads_back, determined, equal_says, keeps_head, has_written, matches_exactly, matches_equivalence};
 
-use mutate_base::number::read_i32;
-use mutate_base::{Error, TermError};
+use mutate_base::Error;
+use node_payloads::TermError;
+use node_payloads::number::read_i32;
 use peephole_lang::{Children, Id, Language, no_children};
 use std::fmt;
 

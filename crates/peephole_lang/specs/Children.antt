@@ -1,6 +1,6 @@
 -- The children of a node as a value of its own: one id, several, or any number of them (this project).
 use Rattle.std.specs.Prelude.{◌≡◌, ℕ, List, [], ◌∷◌, length, slice_index_or, Option, Some, None, Result, Ok, Err}
-use Rattle.mutate_base.specs.declared.term_error.TermError.{TermError}
+use Rattle.node_payloads.specs.declared.term_error.TermError.{TermError}
 use Rattle.peephole_nodes.specs.declared.id.Id.{Id}
 use Rattle.peephole_nodes.specs.Written.{one_written}
 

@@ -3,7 +3,7 @@ use Rattle.std.specs.Prelude.{◌≡◌, ℕ, List, length, Bool, Result, Ok, Er
 use Rattle.std.specs.Bool.{Decides, one_answer}
 use Rattle.std.specs.Cmp.{IsEquivalence}
 use Rattle.std.proofs.Common.{sym, ◌∙◌}
-use Rattle.mutate_base.specs.declared.term_error.TermError.{TermError}
+use Rattle.node_payloads.specs.declared.term_error.TermError.{TermError}
 use Rattle.peephole_nodes.specs.declared.id.Id.{Id}
 
 module _ {L H : Type 0} (head : L → H) (ids : L → List Id) where

@@ -1,8 +1,8 @@
 -- The text of a node, and which node a text reads as (this project): the name of its variant, and where it has a payload
 -- a dot and the payload.
 use Rattle.std.specs.Prelude.{◌≡◌, ℕ, ◌==◌, List, length, Option, Some, None, Result, Ok, Err, if◌then◌else◌}
-use Rattle.mutate_base.specs.declared.term_error.TermError.{TermError}
-use Rattle.mutate_base.specs.declared.term_error.TermError.TheVariants.{InvalidToken, ExpectedZeroChildren, ExpectedOneChild, ExpectedChildren}
+use Rattle.node_payloads.specs.declared.term_error.TermError.{TermError}
+use Rattle.node_payloads.specs.declared.term_error.TermError.TheVariants.{InvalidToken, ExpectedZeroChildren, ExpectedOneChild, ExpectedChildren}
 use Rattle.peephole_nodes.specs.declared.id.Id.{Id}
 use Rattle.peephole_lang.specs.declared.lang.Head.{Head}
 use Rattle.peephole_lang.specs.declared.lang.Lang.{Lang}

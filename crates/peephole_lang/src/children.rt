@@ -2,7 +2,7 @@
 ghost use Rattle.std.specs.Prelude.{◌≡◌, ℕ, List, length, Option, None, refl};
 ghost use Rattle.std.specs.Borrow.{sem, Lends, Array};
 ghost use Rattle.std.specs.Vec.{with_items};
-ghost use Rattle.mutate_base.specs.declared.term_error.TermError.{TermError};
+ghost use Rattle.node_payloads.specs.declared.term_error.TermError.{TermError};
 ghost use Rattle.peephole_nodes.specs.contracts.id.Id as id_row;
 ghost use Rattle.peephole_nodes.specs.declared.id.Id.{Id};
 ghost use Rattle.peephole_nodes.specs.declared.arity.Arity.TheVariants as arity;
@@ -10,7 +10,7 @@ ghost use Rattle.peephole_lang.specs.Text.{wrong_count};
 ghost use Rattle.peephole_nodes.specs.Written.{any_written};
 ghost use Rattle.peephole_lang.specs.Children.{IsMadeOf, only, with_only, only_one, only_same, only_written};
 
-use mutate_base::TermError;
+use node_payloads::TermError;
 use peephole_nodes::Id;
 
 /// The children of a node: an `Id` where it has one, `[Id; N]` where it has N, `Vec<Id>` where it may have any number.

@@ -1,5 +1,5 @@
 //! The nodes of peephole terms.
-use mutate_base::{F32, F64, MemArg, MemoryCopy, MemoryInit, RefType, TableCopy, TableInit};
+use node_payloads::{F32, F64, MemArg, MemoryCopy, MemoryInit, RefType, TableCopy, TableInit};
 use peephole_nodes::{Id, Numeric, Payload, Simd};
 use wasm_code::ValType;
 

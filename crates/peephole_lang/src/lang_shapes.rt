@@ -5,7 +5,7 @@ ghost use Rattle.peephole_lang.specs.LangShapes.{is_plain_leaf, is_plain_one, is
 ghost use Rattle.peephole_nodes.specs.declared.payload.Payload.TheVariants as P;
 
 use crate::lang::Lang;
-use mutate_base::{F32, F64, MemArg, MemoryCopy, MemoryInit, RefType, TableCopy, TableInit};
+use node_payloads::{F32, F64, MemArg, MemoryCopy, MemoryInit, RefType, TableCopy, TableInit};
 use peephole_nodes::Id;
 use wasm_code::ValType;
 

@@ -3,13 +3,14 @@ ghost use Rattle.std.specs.Prelude.{◌≡◌, ℕ, List, length, Bool, true, Op
 ghost use Rattle.std.specs.Bool.{Decides};
 ghost use Rattle.std.specs.Borrow.{sem, Lends, Array};
 ghost use Rattle.std.specs.Cmp.{IsEquivalence};
-ghost use Rattle.mutate_base.specs.declared.term_error.TermError.{TermError};
+ghost use Rattle.node_payloads.specs.declared.term_error.TermError.{TermError};
 ghost use Rattle.peephole_nodes.specs.contracts.id.Id as id_row;
 ghost use Rattle.peephole_nodes.specs.declared.id.Id.{Id};
 ghost use Rattle.peephole_lang.specs.Term.{numbers_of};
 ghost use Rattle.peephole_lang.specs.Language.{IsSame, IsAlike, ReadsInto};
 
-use mutate_base::{Error, TermError};
+use mutate_base::Error;
+use node_payloads::TermError;
 use peephole_nodes::Id;
 use std::fmt::Display;
 

@@ -22,7 +22,7 @@ pub use children::Children;
 pub use expr::RecExpr;
 pub use lang::{Head, Lang};
 pub use language::Language;
-pub use mutate_base::{
+pub use node_payloads::{
     F32, F64, MemArg, MemArgLane, MemoryCopy, MemoryInit, RefType, Shuffle, TableCopy, TableInit,
     TermError,
 };

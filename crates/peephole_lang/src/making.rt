@@ -8,7 +8,7 @@ ghost use Rattle.peephole_nodes.specs.declared.payload.Payload.TheVariants as P;
 
 use crate::lang::Lang;
 use crate::lang_shapes as lang;
-use mutate_base::MemArg;
+use node_payloads::MemArg;
 use peephole_nodes::{Id, Numeric, Payload, Simd};
 use std::alloc::{AllocError, Global};
 use wasm_code::Imm;

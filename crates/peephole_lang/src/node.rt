@@ -14,7 +14,8 @@ ghost use Rattle.peephole_lang.specs.laws.TextLemmas.{reads_back};
 
 use crate::lang::{Head, Lang};
 use crate::language::Language;
-use mutate_base::{Error, TermError};
+use mutate_base::Error;
+use node_payloads::TermError;
 use peephole_nodes::Id;
 
 impl Lang {

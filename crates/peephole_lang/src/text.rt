@@ -7,7 +7,7 @@ use crate::lang::Lang;
 use crate::making::make;
 use crate::names::find;
 use crate::variants::VariantRow;
-use mutate_base::TermError;
+use node_payloads::TermError;
 use peephole_nodes::{Arity, Id, Payload, PayloadText, front_at};
 use std::fmt;
 

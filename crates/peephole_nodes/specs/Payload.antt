@@ -7,9 +7,9 @@ use Rattle.wasm_code.specs.declared.immediate.AbstractHeapType.{AbstractHeapType
 use Rattle.wasm_code.specs.declared.immediate.HeapType.TheVariants.{Abstract}
 use Rattle.wasm_code.specs.declared.immediate.Imm.{Imm}
 use Rattle.wasm_code.specs.declared.immediate.Imm.TheVariants as imm
-use Rattle.mutate_base.specs.declared.payload.RefType.{RefType}
-use Rattle.mutate_base.specs.declared.payload.RefType.TheVariants as ref
-use Rattle.mutate_base.specs.Payload.{ref_heap_type, payload_of_mem_arg, mem_arg_of_payload}
+use Rattle.node_payloads.specs.declared.payload.RefType.{RefType}
+use Rattle.node_payloads.specs.declared.payload.RefType.TheVariants as ref
+use Rattle.node_payloads.specs.Payload.{ref_heap_type, payload_of_mem_arg, mem_arg_of_payload}
 use Rattle.peephole_nodes.specs.declared.payload.Payload.{Payload}
 use Rattle.peephole_nodes.specs.declared.payload.Payload.TheVariants as payload
 use Rattle.peephole_nodes.specs.declared.payload.PayloadKind.{PayloadKind}

@@ -13,7 +13,7 @@ use crate::numeric::Numeric;
 use crate::payload::Payload;
 use crate::simd::Simd;
 use crate::{numeric_shapes as numeric, simd_shapes as simd};
-use mutate_base::MemArg;
+use node_payloads::MemArg;
 
 impl Numeric {
     /// The numeric node with this place and these children, or None where no numeric node has this place and so many

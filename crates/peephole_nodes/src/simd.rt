@@ -1,6 +1,6 @@
 //! The nodes of the vector instructions.
 use crate::id::Id;
-use mutate_base::{MemArg, MemArgLane, Shuffle};
+use node_payloads::{MemArg, MemArgLane, Shuffle};
 
 /// A node of a vector instruction: one behind the byte FD.
 #[derive(Clone, Copy)]

@@ -17,8 +17,8 @@ use Rattle.wasm_code.specs.declared.operator.Operator.TheVariants.{Instr}
 use Rattle.wasm_code.specs.declared.table.Kind.{Kind}
 use Rattle.wasm_code.specs.declared.table.Kind.TheVariants as kind
 use Rattle.wasm_code.specs.declared.table.Row.{Row}
-use Rattle.mutate_base.specs.Payload.{payload_of_mem_arg}
-use Rattle.mutate_base.specs.declared.payload.RefType.TheVariants as ref
+use Rattle.node_payloads.specs.Payload.{payload_of_mem_arg}
+use Rattle.node_payloads.specs.declared.payload.RefType.TheVariants as ref
 use Rattle.mutate_base.specs.declared.types.PrimitiveTypeInfo.{PrimitiveTypeInfo}
 use Rattle.peephole_nodes.specs.Payload.{imm_of, is_writable}
 use Rattle.peephole_nodes.specs.declared.payload.Payload.{Payload}

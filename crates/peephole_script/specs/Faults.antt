@@ -1,7 +1,7 @@
 -- The names of the faults, and how much was read of a long input (this project's).
 use Rattle.std.specs.Prelude.{ℕ, ◌<◌, List, length, Option, codes}
 use Rattle.wasm_code.specs.Fault.{kind_name}
-use Rattle.mutate_base.specs.TermError.{term_error_name}
+use Rattle.node_payloads.specs.TermError.{term_error_name}
 use Rattle.peephole_script.specs.declared.fault.Fault.{Fault}
 use Rattle.peephole_script.specs.declared.fault.Fault.TheVariants as fault
 use Rattle.peephole_script.specs.declared.fault.RunError.{RunError}

@@ -3,7 +3,7 @@
 ghost use Rattle.std.specs.Prelude.{◌≡◌};
 ghost use Rattle.peephole_script.specs.Faults.{fault_name, run_error_name};
 
-use mutate_base::TermError;
+use node_payloads::TermError;
 use std::alloc::{AllocError, AllocFailed};
 use thiserror::Error;
 use wasm_code::ReadKind;

@@ -11,9 +11,13 @@ pub use encoder::request::ResourceRequest;
 pub use encoder::splice::splice_term;
 pub use mutate_base;
 pub use mutate_base::{
-    ElementType, Error, F32, F64, FuncInfo, MemArg, MemArgLane, MemoryCopy, MemoryInit, MemoryType,
-    ModuleInfo, PrimitiveTypeInfo, RefType, Shuffle, TableCopy, TableInit, TableType, TermError,
-    TypeInfo, WasmMutate, Words, read_val_type,
+    ElementType, Error, FuncInfo, MemoryType, ModuleInfo, PrimitiveTypeInfo, TableType, TypeInfo,
+    WasmMutate, Words,
+};
+pub use node_payloads;
+pub use node_payloads::{
+    F32, F64, MemArg, MemArgLane, MemoryCopy, MemoryInit, RefType, Shuffle, TableCopy, TableInit,
+    TermError, read_val_type,
 };
 pub use peephole_analysis;
 pub use peephole_analysis::{ClassData, OperandTypes, PeepholeMutationAnalysis};

@@ -1,6 +1,6 @@
 //! What ends a line or a run of the program is displayed by its name.
 
-use mutate_base::TermError;
+use node_payloads::TermError;
 use peephole_script::{Fault, RunError};
 use std::test::Fail;
 use wasm_code::ReadKind;

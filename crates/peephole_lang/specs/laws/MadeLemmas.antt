@@ -4,7 +4,7 @@ use Rattle.std.proofs.Common.{sym, ap, ap₂, ◌∙◌, inl, inr}
 use Rattle.std.specs.Option.{option_map}
 use Rattle.std.proofs.lemmas.Bool.{and_parts, and_from, cases_eq, ne_eqb, eqb-true}
 use Rattle.wasm_code.specs.declared.immediate.ValType.TheVariants as types
-use Rattle.mutate_base.specs.declared.payload.RefType.TheVariants as ref
+use Rattle.node_payloads.specs.declared.payload.RefType.TheVariants as ref
 use Rattle.peephole_nodes.specs.declared.payload.Payload.{Payload}
 use Rattle.peephole_nodes.specs.declared.payload.Payload.TheVariants as payload
 use Rattle.peephole_nodes.specs.declared.payload.PayloadKind.{PayloadKind}

@@ -12,12 +12,12 @@ use Rattle.wasm_code.specs.declared.immediate.AbstractHeapType.TheVariants as ty
 use Rattle.wasm_code.specs.declared.immediate.HeapType.TheVariants.{Abstract}
 use Rattle.wasm_code.specs.declared.immediate.Imm.{Imm}
 use Rattle.wasm_code.specs.declared.immediate.Imm.TheVariants as imm
-use Rattle.mutate_base.specs.laws.Equality as equal
-use Rattle.mutate_base.specs.laws.LawLemmas as law
-use Rattle.mutate_base.specs.laws.NumberBack.{signed_in_range_back}
-use Rattle.mutate_base.specs.laws.ReadBackLemmas.{unsigned_back}
-use Rattle.mutate_base.specs.declared.payload.RefType.TheVariants as ref
-use Rattle.mutate_base.specs.declared.term_error.TermError.{TermError}
+use Rattle.node_payloads.specs.laws.Equality as equal
+use Rattle.node_payloads.specs.laws.LawLemmas as law
+use Rattle.node_payloads.specs.laws.NumberBack.{signed_in_range_back}
+use Rattle.node_payloads.specs.laws.ReadBackLemmas.{unsigned_back}
+use Rattle.node_payloads.specs.declared.payload.RefType.TheVariants as ref
+use Rattle.node_payloads.specs.declared.term_error.TermError.{TermError}
 use Rattle.peephole_nodes.specs.contracts.payload.PayloadPartialEq.TheImpl as payload_eq
 use Rattle.peephole_nodes.specs.contracts.payload.PayloadEq.TheImpl.Laws.{laws-law as payload_equiv}
 use Rattle.peephole_nodes.specs.declared.payload.Payload.{Payload}

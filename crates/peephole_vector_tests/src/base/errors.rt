@@ -1,6 +1,7 @@
 //! Errors are displayed by their names.
 
-use mutate_base::{Error, TermError};
+use mutate_base::Error;
+use node_payloads::TermError;
 use std::test::Fail;
 
 const ERRORS: [Error; 16] = [

@@ -1,7 +1,7 @@
 //! The orders of payloads and of value types: each field in turn, with those behind it the other way round.
 
 use crate::table::fields_of;
-use mutate_base::{
+use node_payloads::{
     F32, F64, MemArg, MemArgLane, MemoryCopy, MemoryInit, RefType, Shuffle, TableCopy, TableInit,
     TermError, read_val_type,
 };

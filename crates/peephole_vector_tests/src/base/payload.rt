@@ -1,8 +1,8 @@
 //! Payloads' texts, written and read, with the refusals.
 
 use crate::table::fields_of;
-use mutate_base::number::{read_i32, read_u8};
-use mutate_base::{F32, F64, MemArg, MemArgLane, MemoryInit, RefType, Shuffle, TableCopy};
+use node_payloads::number::{read_i32, read_u8};
+use node_payloads::{F32, F64, MemArg, MemArgLane, MemoryInit, RefType, Shuffle, TableCopy};
 use std::alloc::{AllocError, Global};
 use std::test::Fail;
 

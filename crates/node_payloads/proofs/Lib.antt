@@ -1,0 +1,2 @@
+pub mod PayloadLemmas
+pub mod ShuffleLemmas
