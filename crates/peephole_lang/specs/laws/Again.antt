@@ -11,7 +11,7 @@ use Rattle.peephole_nodes.specs.declared.payload.Payload.TheVariants.{Nothing}
 use Rattle.peephole_nodes.specs.declared.simd.Simd.{Simd as VectorNode}
 use Rattle.peephole_lang.specs.declared.lang.Head.{Head}
 use Rattle.peephole_lang.specs.declared.lang.Lang.{Lang}
-use Rattle.peephole_lang.specs.declared.lang.Lang.TheVariants.{RandI32, RandI64, RandF32, RandF64, Undef, UnfoldI32, UnfoldI64, I32UseGlobal, I64UseGlobal, F32UseGlobal, F64UseGlobal, Container, Nop, Call, Drop, Select, LocalGet, LocalSet, LocalTee, GlobalGet, GlobalSet, TableGet, TableSet, I32Load, I64Load, F32Load, F64Load, I32Load8S, I32Load8U, I32Load16S, I32Load16U, I64Load8S, I64Load8U, I64Load16S, I64Load16U, I64Load32S, I64Load32U, I32Store, I64Store, F32Store, F64Store, I32Store8, I32Store16, I64Store8, I64Store16, I64Store32, MemorySize, MemoryGrow, I32, I64, F32, F64, RefNull, RefIsNull, RefFunc, MemoryInit, DataDrop, MemoryCopy, MemoryFill, TableInit, ElemDrop, TableCopy, TableGrow, TableSize, TableFill, TypedSelect, Numeric, Simd}
+use Rattle.peephole_lang.specs.declared.lang.Lang.TheVariants as lang
 use Rattle.peephole_nodes.specs.laws.Again.{no_child, one_child, several, no_node, plain, of_index, of_i32, of_i64, of_f32, of_f64, of_memory, of_ref, of_value, of_memory_init, of_memory_copy, of_table_init, of_table_copy, made, made_with}
 use Rattle.peephole_nodes.specs.Numeric.{numeric_place_of, numeric_ids_of}
 use Rattle.peephole_nodes.specs.laws.NumericAgain.{numeric_makers, numeric_again, numeric_given_back}
@@ -29,79 +29,79 @@ pub data Seen : Type 0 where
   other : Lang → Seen
 
 unfoldable pub seen : Lang → Seen
-seen (Container children) = container children.items
-seen (Call p children) = call p children.items
+seen (lang.Container children) = container children.items
+seen (lang.Call p children) = call p children.items
 seen l = other l
 
 -- the nodes that hold no other node, by place
 own_makers : List (Payload → List Id → Option Seen)
 own_makers =
-    plain (no_child (other RandI32))
-    ∷ plain (no_child (other RandI64))
-    ∷ plain (no_child (other RandF32))
-    ∷ plain (no_child (other RandF64))
-    ∷ plain (no_child (other Undef))
-    ∷ plain (one_child (λ child. other (UnfoldI32 child)))
-    ∷ plain (one_child (λ child. other (UnfoldI64 child)))
-    ∷ plain (one_child (λ child. other (I32UseGlobal child)))
-    ∷ plain (one_child (λ child. other (I64UseGlobal child)))
-    ∷ plain (one_child (λ child. other (F32UseGlobal child)))
-    ∷ plain (one_child (λ child. other (F64UseGlobal child)))
+    plain (no_child (other lang.RandI32))
+    ∷ plain (no_child (other lang.RandI64))
+    ∷ plain (no_child (other lang.RandF32))
+    ∷ plain (no_child (other lang.RandF64))
+    ∷ plain (no_child (other lang.Undef))
+    ∷ plain (one_child (λ child. other (lang.UnfoldI32 child)))
+    ∷ plain (one_child (λ child. other (lang.UnfoldI64 child)))
+    ∷ plain (one_child (λ child. other (lang.I32UseGlobal child)))
+    ∷ plain (one_child (λ child. other (lang.I64UseGlobal child)))
+    ∷ plain (one_child (λ child. other (lang.F32UseGlobal child)))
+    ∷ plain (one_child (λ child. other (lang.F64UseGlobal child)))
     ∷ plain (several (λ w. container w))
-    ∷ plain (no_child (other Nop))
+    ∷ plain (no_child (other lang.Nop))
     ∷ of_index (λ p. several (λ w. call p w))
-    ∷ plain (several (λ w. other (Drop w)))
-    ∷ plain (several (λ w. other (Select w)))
-    ∷ of_index (λ p. no_child (other (LocalGet p)))
-    ∷ of_index (λ p. one_child (λ child. other (LocalSet p child)))
-    ∷ of_index (λ p. one_child (λ child. other (LocalTee p child)))
-    ∷ of_index (λ p. no_child (other (GlobalGet p)))
-    ∷ of_index (λ p. one_child (λ child. other (GlobalSet p child)))
-    ∷ of_index (λ p. one_child (λ child. other (TableGet p child)))
-    ∷ of_index (λ p. several (λ w. other (TableSet p w)))
-    ∷ of_memory (λ p. one_child (λ child. other (I32Load p child)))
-    ∷ of_memory (λ p. one_child (λ child. other (I64Load p child)))
-    ∷ of_memory (λ p. one_child (λ child. other (F32Load p child)))
-    ∷ of_memory (λ p. one_child (λ child. other (F64Load p child)))
-    ∷ of_memory (λ p. one_child (λ child. other (I32Load8S p child)))
-    ∷ of_memory (λ p. one_child (λ child. other (I32Load8U p child)))
-    ∷ of_memory (λ p. one_child (λ child. other (I32Load16S p child)))
-    ∷ of_memory (λ p. one_child (λ child. other (I32Load16U p child)))
-    ∷ of_memory (λ p. one_child (λ child. other (I64Load8S p child)))
-    ∷ of_memory (λ p. one_child (λ child. other (I64Load8U p child)))
-    ∷ of_memory (λ p. one_child (λ child. other (I64Load16S p child)))
-    ∷ of_memory (λ p. one_child (λ child. other (I64Load16U p child)))
-    ∷ of_memory (λ p. one_child (λ child. other (I64Load32S p child)))
-    ∷ of_memory (λ p. one_child (λ child. other (I64Load32U p child)))
-    ∷ of_memory (λ p. several (λ w. other (I32Store p w)))
-    ∷ of_memory (λ p. several (λ w. other (I64Store p w)))
-    ∷ of_memory (λ p. several (λ w. other (F32Store p w)))
-    ∷ of_memory (λ p. several (λ w. other (F64Store p w)))
-    ∷ of_memory (λ p. several (λ w. other (I32Store8 p w)))
-    ∷ of_memory (λ p. several (λ w. other (I32Store16 p w)))
-    ∷ of_memory (λ p. several (λ w. other (I64Store8 p w)))
-    ∷ of_memory (λ p. several (λ w. other (I64Store16 p w)))
-    ∷ of_memory (λ p. several (λ w. other (I64Store32 p w)))
-    ∷ of_index (λ p. no_child (other (MemorySize p)))
-    ∷ of_index (λ p. one_child (λ child. other (MemoryGrow p child)))
-    ∷ of_i32 (λ p. no_child (other (I32 p)))
-    ∷ of_i64 (λ p. no_child (other (I64 p)))
-    ∷ of_f32 (λ p. no_child (other (F32 p)))
-    ∷ of_f64 (λ p. no_child (other (F64 p)))
-    ∷ of_ref (λ p. no_child (other (RefNull p)))
-    ∷ plain (one_child (λ child. other (RefIsNull child)))
-    ∷ of_index (λ p. no_child (other (RefFunc p)))
-    ∷ of_memory_init (λ p. several (λ w. other (MemoryInit p w)))
-    ∷ of_index (λ p. no_child (other (DataDrop p)))
-    ∷ of_memory_copy (λ p. several (λ w. other (MemoryCopy p w)))
-    ∷ of_index (λ p. several (λ w. other (MemoryFill p w)))
-    ∷ of_table_init (λ p. several (λ w. other (TableInit p w)))
-    ∷ of_index (λ p. no_child (other (ElemDrop p)))
-    ∷ of_table_copy (λ p. several (λ w. other (TableCopy p w)))
-    ∷ of_index (λ p. several (λ w. other (TableGrow p w)))
-    ∷ of_index (λ p. no_child (other (TableSize p)))
-    ∷ of_index (λ p. several (λ w. other (TableFill p w)))
-    ∷ of_value (λ p. several (λ w. other (TypedSelect p w)))
+    ∷ plain (several (λ w. other (lang.Drop w)))
+    ∷ plain (several (λ w. other (lang.Select w)))
+    ∷ of_index (λ p. no_child (other (lang.LocalGet p)))
+    ∷ of_index (λ p. one_child (λ child. other (lang.LocalSet p child)))
+    ∷ of_index (λ p. one_child (λ child. other (lang.LocalTee p child)))
+    ∷ of_index (λ p. no_child (other (lang.GlobalGet p)))
+    ∷ of_index (λ p. one_child (λ child. other (lang.GlobalSet p child)))
+    ∷ of_index (λ p. one_child (λ child. other (lang.TableGet p child)))
+    ∷ of_index (λ p. several (λ w. other (lang.TableSet p w)))
+    ∷ of_memory (λ p. one_child (λ child. other (lang.I32Load p child)))
+    ∷ of_memory (λ p. one_child (λ child. other (lang.I64Load p child)))
+    ∷ of_memory (λ p. one_child (λ child. other (lang.F32Load p child)))
+    ∷ of_memory (λ p. one_child (λ child. other (lang.F64Load p child)))
+    ∷ of_memory (λ p. one_child (λ child. other (lang.I32Load8S p child)))
+    ∷ of_memory (λ p. one_child (λ child. other (lang.I32Load8U p child)))
+    ∷ of_memory (λ p. one_child (λ child. other (lang.I32Load16S p child)))
+    ∷ of_memory (λ p. one_child (λ child. other (lang.I32Load16U p child)))
+    ∷ of_memory (λ p. one_child (λ child. other (lang.I64Load8S p child)))
+    ∷ of_memory (λ p. one_child (λ child. other (lang.I64Load8U p child)))
+    ∷ of_memory (λ p. one_child (λ child. other (lang.I64Load16S p child)))
+    ∷ of_memory (λ p. one_child (λ child. other (lang.I64Load16U p child)))
+    ∷ of_memory (λ p. one_child (λ child. other (lang.I64Load32S p child)))
+    ∷ of_memory (λ p. one_child (λ child. other (lang.I64Load32U p child)))
+    ∷ of_memory (λ p. several (λ w. other (lang.I32Store p w)))
+    ∷ of_memory (λ p. several (λ w. other (lang.I64Store p w)))
+    ∷ of_memory (λ p. several (λ w. other (lang.F32Store p w)))
+    ∷ of_memory (λ p. several (λ w. other (lang.F64Store p w)))
+    ∷ of_memory (λ p. several (λ w. other (lang.I32Store8 p w)))
+    ∷ of_memory (λ p. several (λ w. other (lang.I32Store16 p w)))
+    ∷ of_memory (λ p. several (λ w. other (lang.I64Store8 p w)))
+    ∷ of_memory (λ p. several (λ w. other (lang.I64Store16 p w)))
+    ∷ of_memory (λ p. several (λ w. other (lang.I64Store32 p w)))
+    ∷ of_index (λ p. no_child (other (lang.MemorySize p)))
+    ∷ of_index (λ p. one_child (λ child. other (lang.MemoryGrow p child)))
+    ∷ of_i32 (λ p. no_child (other (lang.I32 p)))
+    ∷ of_i64 (λ p. no_child (other (lang.I64 p)))
+    ∷ of_f32 (λ p. no_child (other (lang.F32 p)))
+    ∷ of_f64 (λ p. no_child (other (lang.F64 p)))
+    ∷ of_ref (λ p. no_child (other (lang.RefNull p)))
+    ∷ plain (one_child (λ child. other (lang.RefIsNull child)))
+    ∷ of_index (λ p. no_child (other (lang.RefFunc p)))
+    ∷ of_memory_init (λ p. several (λ w. other (lang.MemoryInit p w)))
+    ∷ of_index (λ p. no_child (other (lang.DataDrop p)))
+    ∷ of_memory_copy (λ p. several (λ w. other (lang.MemoryCopy p w)))
+    ∷ of_index (λ p. several (λ w. other (lang.MemoryFill p w)))
+    ∷ of_table_init (λ p. several (λ w. other (lang.TableInit p w)))
+    ∷ of_index (λ p. no_child (other (lang.ElemDrop p)))
+    ∷ of_table_copy (λ p. several (λ w. other (lang.TableCopy p w)))
+    ∷ of_index (λ p. several (λ w. other (lang.TableGrow p w)))
+    ∷ of_index (λ p. no_child (other (lang.TableSize p)))
+    ∷ of_index (λ p. several (λ w. other (lang.TableFill p w)))
+    ∷ of_value (λ p. several (λ w. other (lang.TypedSelect p w)))
     ∷ []
 
 -- where a place stands among those of these nodes: 0 to 51, 180 to 182, 191 to 200, and 457
@@ -112,93 +112,93 @@ own_again : ℕ → Payload → List Id → Option Seen
 own_again place p w = made_with (slice_get own_makers (own_index place)) p w
 
 numeric_seen : ℕ → List Id → Option Seen
-numeric_seen place w = option_map (λ n. other (Numeric n)) (numeric_again place w)
+numeric_seen place w = option_map (λ n. other (lang.Numeric n)) (numeric_again place w)
 
 simd_seen : ℕ → Payload → List Id → Option Seen
-simd_seen place p w = option_map (λ s. other (Simd s)) (simd_again place p w)
+simd_seen place p w = option_map (λ s. other (lang.Simd s)) (simd_again place p w)
 
 -- the node with that place, that payload and these children
 again : ℕ → Payload → List Id → Option Seen
 again place p w = option_or (numeric_seen place w) (option_or (simd_seen place p w) (own_again place p w))
 
-numeric_back : (n : NumericNode) → again (numeric_place_of n) Nothing (numeric_ids_of n) ≡ Some (other (Numeric n))
+numeric_back : (n : NumericNode) → again (numeric_place_of n) Nothing (numeric_ids_of n) ≡ Some (other (lang.Numeric n))
 unfolding again numeric_seen
 numeric_back n = rw (numeric_given_back n) refl
 
-simd_back : (s : VectorNode) → again (simd_place_of s) (simd_payload_of s) (simd_ids_of s) ≡ Some (other (Simd s))
+simd_back : (s : VectorNode) → again (simd_place_of s) (simd_payload_of s) (simd_ids_of s) ≡ Some (other (lang.Simd s))
 unfolding again numeric_seen simd_seen
 simd_back s = rw (simd_no_numeric s (simd_ids_of s), simd_given_back s) refl
 
 given_back : (l : Lang) → again (place_of l) (payload_of l) (ids_of l) ≡ Some (seen l)
 unfolding place_of payload_of ids_of no_child one_child several no_node plain of_index of_i32 of_i64 of_f32 of_f64 of_memory of_ref of_value of_memory_init of_memory_copy of_table_init of_table_copy made made_with numeric_makers numeric_again simd_makers simd_again seen own_makers own_index own_again numeric_seen simd_seen again
-given_back RandI32 = refl
-given_back RandI64 = refl
-given_back RandF32 = refl
-given_back RandF64 = refl
-given_back Undef = refl
-given_back (UnfoldI32 _) = refl
-given_back (UnfoldI64 _) = refl
-given_back (I32UseGlobal _) = refl
-given_back (I64UseGlobal _) = refl
-given_back (F32UseGlobal _) = refl
-given_back (F64UseGlobal _) = refl
-given_back (Container _) = refl
-given_back Nop = refl
-given_back (Call _ _) = refl
-given_back (Drop _) = refl
-given_back (Select _) = refl
-given_back (LocalGet _) = refl
-given_back (LocalSet _ _) = refl
-given_back (LocalTee _ _) = refl
-given_back (GlobalGet _) = refl
-given_back (GlobalSet _ _) = refl
-given_back (TableGet _ _) = refl
-given_back (TableSet _ _) = refl
-given_back (I32Load _ _) = refl
-given_back (I64Load _ _) = refl
-given_back (F32Load _ _) = refl
-given_back (F64Load _ _) = refl
-given_back (I32Load8S _ _) = refl
-given_back (I32Load8U _ _) = refl
-given_back (I32Load16S _ _) = refl
-given_back (I32Load16U _ _) = refl
-given_back (I64Load8S _ _) = refl
-given_back (I64Load8U _ _) = refl
-given_back (I64Load16S _ _) = refl
-given_back (I64Load16U _ _) = refl
-given_back (I64Load32S _ _) = refl
-given_back (I64Load32U _ _) = refl
-given_back (I32Store _ _) = refl
-given_back (I64Store _ _) = refl
-given_back (F32Store _ _) = refl
-given_back (F64Store _ _) = refl
-given_back (I32Store8 _ _) = refl
-given_back (I32Store16 _ _) = refl
-given_back (I64Store8 _ _) = refl
-given_back (I64Store16 _ _) = refl
-given_back (I64Store32 _ _) = refl
-given_back (MemorySize _) = refl
-given_back (MemoryGrow _ _) = refl
-given_back (I32 _) = refl
-given_back (I64 _) = refl
-given_back (F32 _) = refl
-given_back (F64 _) = refl
-given_back (RefNull _) = refl
-given_back (RefIsNull _) = refl
-given_back (RefFunc _) = refl
-given_back (MemoryInit _ _) = refl
-given_back (DataDrop _) = refl
-given_back (MemoryCopy _ _) = refl
-given_back (MemoryFill _ _) = refl
-given_back (TableInit _ _) = refl
-given_back (ElemDrop _) = refl
-given_back (TableCopy _ _) = refl
-given_back (TableGrow _ _) = refl
-given_back (TableSize _) = refl
-given_back (TableFill _ _) = refl
-given_back (TypedSelect _ _) = refl
-given_back (Numeric n) = numeric_back n
-given_back (Simd s) = simd_back s
+given_back lang.RandI32 = refl
+given_back lang.RandI64 = refl
+given_back lang.RandF32 = refl
+given_back lang.RandF64 = refl
+given_back lang.Undef = refl
+given_back (lang.UnfoldI32 _) = refl
+given_back (lang.UnfoldI64 _) = refl
+given_back (lang.I32UseGlobal _) = refl
+given_back (lang.I64UseGlobal _) = refl
+given_back (lang.F32UseGlobal _) = refl
+given_back (lang.F64UseGlobal _) = refl
+given_back (lang.Container _) = refl
+given_back lang.Nop = refl
+given_back (lang.Call _ _) = refl
+given_back (lang.Drop _) = refl
+given_back (lang.Select _) = refl
+given_back (lang.LocalGet _) = refl
+given_back (lang.LocalSet _ _) = refl
+given_back (lang.LocalTee _ _) = refl
+given_back (lang.GlobalGet _) = refl
+given_back (lang.GlobalSet _ _) = refl
+given_back (lang.TableGet _ _) = refl
+given_back (lang.TableSet _ _) = refl
+given_back (lang.I32Load _ _) = refl
+given_back (lang.I64Load _ _) = refl
+given_back (lang.F32Load _ _) = refl
+given_back (lang.F64Load _ _) = refl
+given_back (lang.I32Load8S _ _) = refl
+given_back (lang.I32Load8U _ _) = refl
+given_back (lang.I32Load16S _ _) = refl
+given_back (lang.I32Load16U _ _) = refl
+given_back (lang.I64Load8S _ _) = refl
+given_back (lang.I64Load8U _ _) = refl
+given_back (lang.I64Load16S _ _) = refl
+given_back (lang.I64Load16U _ _) = refl
+given_back (lang.I64Load32S _ _) = refl
+given_back (lang.I64Load32U _ _) = refl
+given_back (lang.I32Store _ _) = refl
+given_back (lang.I64Store _ _) = refl
+given_back (lang.F32Store _ _) = refl
+given_back (lang.F64Store _ _) = refl
+given_back (lang.I32Store8 _ _) = refl
+given_back (lang.I32Store16 _ _) = refl
+given_back (lang.I64Store8 _ _) = refl
+given_back (lang.I64Store16 _ _) = refl
+given_back (lang.I64Store32 _ _) = refl
+given_back (lang.MemorySize _) = refl
+given_back (lang.MemoryGrow _ _) = refl
+given_back (lang.I32 _) = refl
+given_back (lang.I64 _) = refl
+given_back (lang.F32 _) = refl
+given_back (lang.F64 _) = refl
+given_back (lang.RefNull _) = refl
+given_back (lang.RefIsNull _) = refl
+given_back (lang.RefFunc _) = refl
+given_back (lang.MemoryInit _ _) = refl
+given_back (lang.DataDrop _) = refl
+given_back (lang.MemoryCopy _ _) = refl
+given_back (lang.MemoryFill _ _) = refl
+given_back (lang.TableInit _ _) = refl
+given_back (lang.ElemDrop _) = refl
+given_back (lang.TableCopy _ _) = refl
+given_back (lang.TableGrow _ _) = refl
+given_back (lang.TableSize _) = refl
+given_back (lang.TableFill _ _) = refl
+given_back (lang.TypedSelect _ _) = refl
+given_back (lang.Numeric n) = numeric_back n
+given_back (lang.Simd s) = simd_back s
 
 same_seen : (l m : Lang) → head_of l ≡ head_of m → ids_of l ≡ ids_of m → seen l ≡ seen m
 same_seen l m head ids =
@@ -213,14 +213,14 @@ IsSeen (other l) m = l ≡ m
 
 itself : (l : Lang) → IsSeen (seen l) l
 unfolding seen IsSeen
-itself (Container children) = refl
-itself (Call p children) = (refl, refl)
+itself (lang.Container children) = refl
+itself (lang.Call p children) = (refl, refl)
 itself l = refl
 
 seen_equal : (l m : Lang) → IsSeen (seen l) m → IsEqual l m
 unfolding seen IsSeen IsEqual
-seen_equal (Container children) m e = e
-seen_equal (Call p children) m e = e
+seen_equal (lang.Container children) m e = e
+seen_equal (lang.Call p children) m e = e
 seen_equal l m e = e
 
 -- the head and the ids of the children decide a node
