@@ -123,7 +123,8 @@ pub fn told_line(alloc: Global, told: Result<PrimitiveTypeInfo, Refusal>) -> Res
 
 /// The lines that `write` prints. `Memory` where an allocation was refused.
 pub fn written_lines(alloc: Global, written: Result<Written, Refusal>) -> Result<Vec<u8>, Fault>
-    ensures lines { Prints (answer_text (λ w. output_lines (output w.body w.requests.items)) written)
+    ensures lines { Prints
+        (answer_text (λ w. output_lines (output w.body w.requests.items)) written)
         result }
     ensures other { IfErr written (λ r. OnOk result (r ≢ Refused Memory)) }
 {

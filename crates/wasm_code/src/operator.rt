@@ -12,6 +12,7 @@ use std::marker::Model;
 
 const _: () = prove!(size_of::<Operator>() <= 32);
 
+#[inline(always)]
 fn is_of(kind: Kind, imm: Imm) -> bool
     ensures kind { result ≡ is_of_kind kind imm }
     ensures in_range { result ≡ true → InRange imm }
@@ -61,6 +62,7 @@ impl Model for Instr {
 impl Instr {
     /// The instruction of row `row` (see `row_info`) with the immediate `imm`, or none where the table has no such row,
     /// the immediate isn't of the row's kind, or the exponent of its alignment is 64 or more.
+    #[inline(always)]
     pub fn new(row: u16, imm: Imm) -> Option<Instr>
         ensures some { IfSome result (λ i. (i ≡ record { row = row; imm = imm })
             × IsInstruction i) }
@@ -90,6 +92,7 @@ impl Instr {
     }
 
     /// The number of its row.
+    #[inline(always)]
     pub fn row(&self) -> u16
         ensures row { result ≡ self.now.row }
         ensures instruction { IsInstruction self.now }
@@ -98,6 +101,7 @@ impl Instr {
     }
 
     /// Its immediate.
+    #[inline(always)]
     pub fn imm(&self) -> Imm
         ensures { result ≡ self.now.imm }
     {

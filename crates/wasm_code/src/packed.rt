@@ -70,6 +70,7 @@ pub fn pack(row: u16, imm: Imm) -> Packed
 
 impl Packed {
     /// The row.
+    #[inline(always)]
     pub fn row(self) -> u16
         ensures { result ≡ (instruction_of self).row }
     {
@@ -92,6 +93,7 @@ impl Packed {
     }
 
     /// The immediate.
+    #[inline(always)]
     pub fn imm(self) -> Imm
         ensures { result ≡ (instruction_of self).imm }
     {

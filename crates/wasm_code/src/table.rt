@@ -104,6 +104,7 @@ fn row_in(rows: &[Row], number: usize) -> Option<Row>
 }
 
 /// The row with that number, or none.
+#[inline(always)]
 #[tactic(auto, using(crate::proofs::TableLemmas::same_rows), unfolding(crate::specs::Table::row_at))]
 pub fn find_row(number: u16) -> Option<Row>
     ensures { result ≡ row_at number }
