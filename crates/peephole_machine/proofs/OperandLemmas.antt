@@ -4,7 +4,6 @@ use Rattle.std.specs.Prelude.{map, slice_get}
 use Rattle.std.proofs.lemmas.Bool.{le-ltb}
 use Rattle.wasm_code.specs.Table.{table, row_at}
 use Rattle.wasm_code.specs.declared.table.Row.{Row}
-use Rattle.peephole_machine.specs.declared.operand.OperandKind.{OperandKind}
 use Rattle.peephole_machine.specs.declared.operand.OperandKind.TheVariants as kind
 use Rattle.peephole_machine.specs.declared.operand.OperandColumn.{OperandColumn}
 use Rattle.peephole_machine.specs.declared.operand.OperandColumn.TheVariants as column

@@ -1,8 +1,8 @@
 -- How many operands an instruction takes.
-use Rattle.std.proofs.Common.{◌≡◌, sym, subst, ap, ◌∙◌}
+use Rattle.std.proofs.Common.{sym, subst, ap, ◌∙◌}
 use Rattle.peephole_machine.specs.declared.row.Row.{Row}
 use Rattle.peephole_machine.specs.IntegerRow.{row_or_other}
-use Rattle.peephole_machine.specs.Row.{row_of, HasOperandCount, instruction_count}
+use Rattle.peephole_machine.specs.Row.{row_of, HasOperandCount}
 use Rattle.peephole_machine.specs.CountLemmas.{has_operand_count, other_counted, row_counted, its_row}
 use Rattle.peephole_machine.proofs.row.operand_count.Goals as goal
 
