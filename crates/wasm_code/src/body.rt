@@ -12,7 +12,7 @@ use std::alloc::Global;
 /// An operator, and the offset of its first byte.
 pub type OperatorAndByteOffset = (Operator, usize);
 
-const _: () = prove!(size_of::<OperatorAndByteOffset>() <= 40);
+const _: () = prove!(size_of::<OperatorAndByteOffset>() <= 32);
 
 fn kind(cause: Cause) -> ReadKind
     ensures { result ≡ kind_of cause }

@@ -10,7 +10,7 @@ use crate::table::{Kind, find_row};
 use std::fmt;
 use std::marker::Model;
 
-const _: () = prove!(size_of::<Operator>() <= 32);
+const _: () = prove!(size_of::<Operator>() <= 24);
 
 #[inline(always)]
 fn is_of(kind: Kind, imm: Imm) -> bool

@@ -5,7 +5,8 @@ ghost use Rattle.wasm_code.specs.Packed.{packed_of, instruction_of};
 
 use crate::immediate::{HeapType, Imm, MemArg, ValType};
 
-/// A row, and an immediate by its form: none of its parts asks for an alignment above eight bytes.
+/// A row, and an immediate by its form: none of its parts asks for an alignment above four bytes, so that numbers of 64 bits
+/// and more stand as their bytes, the lowest first.
 #[derive(Clone, Copy, PartialEq, Eq)]
 pub enum Packed {
     /// No immediate.
@@ -15,19 +16,19 @@ pub enum Packed {
     /// Two indexes.
     Pair(u16, u32, u32),
     /// A memory argument: the memory, the offset and the exponent of the alignment.
-    Mem(u16, u32, u64, u8),
+    Mem(u16, u32, [u8; 8], u8),
     /// The same, and the number of a lane.
-    MemLane(u16, u32, u64, u8, u8),
+    MemLane(u16, u32, [u8; 8], u8, u8),
     /// The number of a lane.
     Lane(u16, u8),
     /// A constant of type i32.
     I32(u16, i32),
-    /// A constant of type i64.
-    I64(u16, i64),
+    /// The bytes of a constant of type i64.
+    I64(u16, [u8; 8]),
     /// The bits of a constant of type f32.
     F32(u16, u32),
-    /// The bits of a constant of type f64.
-    F64(u16, u64),
+    /// The bytes of the bits of a constant of type f64.
+    F64(u16, [u8; 8]),
     /// The bytes of a constant of type v128.
     V128(u16, [u8; 16]),
     /// The lanes that a shuffle takes.
@@ -54,13 +55,15 @@ pub fn pack(row: u16, imm: Imm) -> Packed
         Imm::Nothing => Packed::Nothing(row),
         Imm::Index(n) => Packed::Index(row, n),
         Imm::Pair(a, b) => Packed::Pair(row, a, b),
-        Imm::Mem(m) => Packed::Mem(row, m.memory, m.offset, m.align),
-        Imm::MemLane(m, lane) => Packed::MemLane(row, m.memory, m.offset, m.align, lane),
+        Imm::Mem(m) => Packed::Mem(row, m.memory, m.offset.to_le_bytes(), m.align),
+        Imm::MemLane(m, lane) => {
+            Packed::MemLane(row, m.memory, m.offset.to_le_bytes(), m.align, lane)
+        },
         Imm::Lane(lane) => Packed::Lane(row, lane),
         Imm::I32(z) => Packed::I32(row, z),
-        Imm::I64(z) => Packed::I64(row, z),
+        Imm::I64(z) => Packed::I64(row, z.cast_unsigned().to_le_bytes()),
         Imm::F32(bits) => Packed::F32(row, bits),
-        Imm::F64(bits) => Packed::F64(row, bits),
+        Imm::F64(bits) => Packed::F64(row, bits.to_le_bytes()),
         Imm::V128(z) => Packed::V128(row, v128_bytes(z)),
         Imm::Shuffle(lanes) => Packed::Shuffle(row, lanes),
         Imm::Heap(t) => Packed::Heap(row, t),
@@ -102,13 +105,13 @@ impl Packed {
             Packed::Index(_, n) => Imm::Index(n),
             Packed::Pair(_, a, b) => Imm::Pair(a, b),
             Packed::Mem(_, memory, offset, align) => Imm::Mem(MemArg {
-                offset,
+                offset: u64::from_le_bytes(offset),
                 align,
                 memory,
             }),
             Packed::MemLane(_, memory, offset, align, lane) => Imm::MemLane(
                 MemArg {
-                    offset,
+                    offset: u64::from_le_bytes(offset),
                     align,
                     memory,
                 },
@@ -116,9 +119,9 @@ impl Packed {
             ),
             Packed::Lane(_, lane) => Imm::Lane(lane),
             Packed::I32(_, z) => Imm::I32(z),
-            Packed::I64(_, z) => Imm::I64(z),
+            Packed::I64(_, bytes) => Imm::I64(i64::from_le_bytes(bytes)),
             Packed::F32(_, bits) => Imm::F32(bits),
-            Packed::F64(_, bits) => Imm::F64(bits),
+            Packed::F64(_, bytes) => Imm::F64(u64::from_le_bytes(bytes)),
             Packed::V128(_, bytes) => Imm::V128(i128::from_le_bytes(bytes)),
             Packed::Shuffle(_, lanes) => Imm::Shuffle(lanes),
             Packed::Heap(_, t) => Imm::Heap(t),
