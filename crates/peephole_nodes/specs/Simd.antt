@@ -91,14 +91,14 @@ simd_place_of (vector.V128Or _) = 281
 simd_place_of (vector.V128Xor _) = 282
 simd_place_of (vector.V128Bitselect _) = 283
 simd_place_of (vector.V128AnyTrue _) = 284
-simd_place_of (vector.V128Load8Lane _ _) = 285
-simd_place_of (vector.V128Load16Lane _ _) = 286
-simd_place_of (vector.V128Load32Lane _ _) = 287
-simd_place_of (vector.V128Load64Lane _ _) = 288
-simd_place_of (vector.V128Store8Lane _ _) = 289
-simd_place_of (vector.V128Store16Lane _ _) = 290
-simd_place_of (vector.V128Store32Lane _ _) = 291
-simd_place_of (vector.V128Store64Lane _ _) = 292
+simd_place_of (vector.V128Load8Lane _ _ _) = 285
+simd_place_of (vector.V128Load16Lane _ _ _) = 286
+simd_place_of (vector.V128Load32Lane _ _ _) = 287
+simd_place_of (vector.V128Load64Lane _ _ _) = 288
+simd_place_of (vector.V128Store8Lane _ _ _) = 289
+simd_place_of (vector.V128Store16Lane _ _ _) = 290
+simd_place_of (vector.V128Store32Lane _ _ _) = 291
+simd_place_of (vector.V128Store64Lane _ _ _) = 292
 simd_place_of (vector.V128Load32Zero _ _) = 293
 simd_place_of (vector.V128Load64Zero _ _) = 294
 simd_place_of (vector.F32x4DemoteF64x2Zero _) = 295
@@ -294,14 +294,14 @@ simd_payload_of (vector.F32x4ExtractLane p _) = payload.Lane p
 simd_payload_of (vector.F32x4ReplaceLane p _) = payload.Lane p
 simd_payload_of (vector.F64x2ExtractLane p _) = payload.Lane p
 simd_payload_of (vector.F64x2ReplaceLane p _) = payload.Lane p
-simd_payload_of (vector.V128Load8Lane p _) = payload.MemoryLane p
-simd_payload_of (vector.V128Load16Lane p _) = payload.MemoryLane p
-simd_payload_of (vector.V128Load32Lane p _) = payload.MemoryLane p
-simd_payload_of (vector.V128Load64Lane p _) = payload.MemoryLane p
-simd_payload_of (vector.V128Store8Lane p _) = payload.MemoryLane p
-simd_payload_of (vector.V128Store16Lane p _) = payload.MemoryLane p
-simd_payload_of (vector.V128Store32Lane p _) = payload.MemoryLane p
-simd_payload_of (vector.V128Store64Lane p _) = payload.MemoryLane p
+simd_payload_of (vector.V128Load8Lane lane m _) = payload.MemoryLane (record { memarg = m; lane = lane })
+simd_payload_of (vector.V128Load16Lane lane m _) = payload.MemoryLane (record { memarg = m; lane = lane })
+simd_payload_of (vector.V128Load32Lane lane m _) = payload.MemoryLane (record { memarg = m; lane = lane })
+simd_payload_of (vector.V128Load64Lane lane m _) = payload.MemoryLane (record { memarg = m; lane = lane })
+simd_payload_of (vector.V128Store8Lane lane m _) = payload.MemoryLane (record { memarg = m; lane = lane })
+simd_payload_of (vector.V128Store16Lane lane m _) = payload.MemoryLane (record { memarg = m; lane = lane })
+simd_payload_of (vector.V128Store32Lane lane m _) = payload.MemoryLane (record { memarg = m; lane = lane })
+simd_payload_of (vector.V128Store64Lane lane m _) = payload.MemoryLane (record { memarg = m; lane = lane })
 simd_payload_of (vector.V128Load32Zero p _) = payload.Memory p
 simd_payload_of (vector.V128Load64Zero p _) = payload.Memory p
 simd_payload_of _ = payload.Nothing

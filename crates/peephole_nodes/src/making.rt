@@ -18,6 +18,7 @@ use node_payloads::MemArg;
 impl Numeric {
     /// The numeric node with this place and these children, or None where no numeric node has this place and so many
     /// children.
+    #[inline(always)]
     pub fn make(place: u16, children: &[Id]) -> Option<Numeric>
         ensures place { IfSome result (λ l. numeric_place_of l ≡ place) }
         ensures children { IfSome result (λ l. numeric_ids_of l ≡ children.now) }
@@ -44,6 +45,7 @@ impl Simd {
     }
 
     /// The vector node with this place, no payload and these children, or None where there is none.
+    #[inline(always)]
     pub fn make_plain(place: u16, children: &[Id]) -> Option<Simd>
         ensures place { IfSome result (λ l. simd_place_of l ≡ place) }
         ensures payload { IfSome result (λ l. simd_payload_of l ≡ P.Nothing) }

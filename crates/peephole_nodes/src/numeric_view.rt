@@ -7,6 +7,7 @@ use crate::numeric::Numeric;
 
 impl Numeric {
     /// The place of its variant in the order of nodes.
+    #[inline(always)]
     #[tactic(auto, unfolding(crate::specs::Numeric::numeric_place_of))]
     pub fn place(&self) -> u16
         ensures { result ≡ numeric_place_of self.now }

@@ -1,8 +1,9 @@
 //! The nodes of the vector instructions.
 use crate::id::Id;
-use node_payloads::{MemArg, MemArgLane, Shuffle};
+use node_payloads::{MemArg, Shuffle};
 
-/// A node of a vector instruction: one behind the byte FD.
+/// A node of a vector instruction: one behind the byte FD. Where it has a lane and a memory argument, these stand side by
+/// side, which takes eight bytes less than a `MemArgLane`.
 #[derive(Clone, Copy)]
 pub enum Simd {
     /// `v128.load`
@@ -174,21 +175,21 @@ pub enum Simd {
     /// `v128.any_true`
     V128AnyTrue([Id; 1]),
     /// `v128.load8_lane`
-    V128Load8Lane(MemArgLane, [Id; 2]),
+    V128Load8Lane(u8, MemArg, [Id; 2]),
     /// `v128.load16_lane`
-    V128Load16Lane(MemArgLane, [Id; 2]),
+    V128Load16Lane(u8, MemArg, [Id; 2]),
     /// `v128.load32_lane`
-    V128Load32Lane(MemArgLane, [Id; 2]),
+    V128Load32Lane(u8, MemArg, [Id; 2]),
     /// `v128.load64_lane`
-    V128Load64Lane(MemArgLane, [Id; 2]),
+    V128Load64Lane(u8, MemArg, [Id; 2]),
     /// `v128.store8_lane`
-    V128Store8Lane(MemArgLane, [Id; 2]),
+    V128Store8Lane(u8, MemArg, [Id; 2]),
     /// `v128.store16_lane`
-    V128Store16Lane(MemArgLane, [Id; 2]),
+    V128Store16Lane(u8, MemArg, [Id; 2]),
     /// `v128.store32_lane`
-    V128Store32Lane(MemArgLane, [Id; 2]),
+    V128Store32Lane(u8, MemArg, [Id; 2]),
     /// `v128.store64_lane`
-    V128Store64Lane(MemArgLane, [Id; 2]),
+    V128Store64Lane(u8, MemArg, [Id; 2]),
     /// `v128.load32_zero`
     V128Load32Zero(MemArg, Id),
     /// `v128.load64_zero`

@@ -1,9 +1,19 @@
 //! What a node of a vector instruction says besides its variant and its children.
 ghost use Rattle.std.specs.Prelude.{◌≡◌};
 ghost use Rattle.peephole_nodes.specs.Simd.{simd_payload_of};
+ghost use Rattle.peephole_nodes.specs.declared.payload.Payload.TheVariants as P;
 
 use crate::payload::Payload;
 use crate::simd::Simd;
+use node_payloads::{MemArg, MemArgLane};
+
+// The payload of a lane and a memory argument, which stand side by side in a node.
+#[inline(always)]
+fn memory_lane(lane: u8, memarg: MemArg) -> Payload
+    ensures { result ≡ P.MemoryLane (record { memarg = memarg; lane = lane }) }
+{
+    Payload::MemoryLane(MemArgLane { memarg, lane })
+}
 
 impl Simd {
     /// What it says besides its variant and its children.
@@ -96,14 +106,14 @@ impl Simd {
             Simd::V128Xor(..) => Payload::Nothing,
             Simd::V128Bitselect(..) => Payload::Nothing,
             Simd::V128AnyTrue(..) => Payload::Nothing,
-            Simd::V128Load8Lane(payload, _) => Payload::MemoryLane(*payload),
-            Simd::V128Load16Lane(payload, _) => Payload::MemoryLane(*payload),
-            Simd::V128Load32Lane(payload, _) => Payload::MemoryLane(*payload),
-            Simd::V128Load64Lane(payload, _) => Payload::MemoryLane(*payload),
-            Simd::V128Store8Lane(payload, _) => Payload::MemoryLane(*payload),
-            Simd::V128Store16Lane(payload, _) => Payload::MemoryLane(*payload),
-            Simd::V128Store32Lane(payload, _) => Payload::MemoryLane(*payload),
-            Simd::V128Store64Lane(payload, _) => Payload::MemoryLane(*payload),
+            Simd::V128Load8Lane(lane, memarg, _) => memory_lane(*lane, *memarg),
+            Simd::V128Load16Lane(lane, memarg, _) => memory_lane(*lane, *memarg),
+            Simd::V128Load32Lane(lane, memarg, _) => memory_lane(*lane, *memarg),
+            Simd::V128Load64Lane(lane, memarg, _) => memory_lane(*lane, *memarg),
+            Simd::V128Store8Lane(lane, memarg, _) => memory_lane(*lane, *memarg),
+            Simd::V128Store16Lane(lane, memarg, _) => memory_lane(*lane, *memarg),
+            Simd::V128Store32Lane(lane, memarg, _) => memory_lane(*lane, *memarg),
+            Simd::V128Store64Lane(lane, memarg, _) => memory_lane(*lane, *memarg),
             Simd::V128Load32Zero(payload, _) => Payload::Memory(*payload),
             Simd::V128Load64Zero(payload, _) => Payload::Memory(*payload),
             Simd::F32x4DemoteF64x2Zero(..) => Payload::Nothing,

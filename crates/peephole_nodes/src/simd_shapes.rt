@@ -454,14 +454,14 @@ pub(crate) fn simd_memory_lane_two(
     ensures complete { is_some result ≡ is_simd_memory_lane_two place }
 {
     match place {
-        285 => Some(Simd::V128Load8Lane(payload, [first, second])),
-        286 => Some(Simd::V128Load16Lane(payload, [first, second])),
-        287 => Some(Simd::V128Load32Lane(payload, [first, second])),
-        288 => Some(Simd::V128Load64Lane(payload, [first, second])),
-        289 => Some(Simd::V128Store8Lane(payload, [first, second])),
-        290 => Some(Simd::V128Store16Lane(payload, [first, second])),
-        291 => Some(Simd::V128Store32Lane(payload, [first, second])),
-        292 => Some(Simd::V128Store64Lane(payload, [first, second])),
+        285 => Some(Simd::V128Load8Lane(payload.lane, payload.memarg, [first, second])),
+        286 => Some(Simd::V128Load16Lane(payload.lane, payload.memarg, [first, second])),
+        287 => Some(Simd::V128Load32Lane(payload.lane, payload.memarg, [first, second])),
+        288 => Some(Simd::V128Load64Lane(payload.lane, payload.memarg, [first, second])),
+        289 => Some(Simd::V128Store8Lane(payload.lane, payload.memarg, [first, second])),
+        290 => Some(Simd::V128Store16Lane(payload.lane, payload.memarg, [first, second])),
+        291 => Some(Simd::V128Store32Lane(payload.lane, payload.memarg, [first, second])),
+        292 => Some(Simd::V128Store64Lane(payload.lane, payload.memarg, [first, second])),
         _ => None,
     }
 }

@@ -8,6 +8,7 @@ use crate::simd::Simd;
 
 impl Simd {
     /// The place of its variant in the order of nodes.
+    #[inline(always)]
     #[tactic(auto, unfolding(crate::specs::Simd::simd_place_of))]
     pub fn place(&self) -> u16
         ensures { result ≡ simd_place_of self.now }
@@ -355,14 +356,14 @@ impl Simd {
             | Simd::V128AndNot(children)
             | Simd::V128Or(children)
             | Simd::V128Xor(children)
-            | Simd::V128Load8Lane(_, children)
-            | Simd::V128Load16Lane(_, children)
-            | Simd::V128Load32Lane(_, children)
-            | Simd::V128Load64Lane(_, children)
-            | Simd::V128Store8Lane(_, children)
-            | Simd::V128Store16Lane(_, children)
-            | Simd::V128Store32Lane(_, children)
-            | Simd::V128Store64Lane(_, children)
+            | Simd::V128Load8Lane(_, _, children)
+            | Simd::V128Load16Lane(_, _, children)
+            | Simd::V128Load32Lane(_, _, children)
+            | Simd::V128Load64Lane(_, _, children)
+            | Simd::V128Store8Lane(_, _, children)
+            | Simd::V128Store16Lane(_, _, children)
+            | Simd::V128Store32Lane(_, _, children)
+            | Simd::V128Store64Lane(_, _, children)
             | Simd::I8x16NarrowI16x8S(children)
             | Simd::I8x16NarrowI16x8U(children)
             | Simd::I8x16Shl(children)

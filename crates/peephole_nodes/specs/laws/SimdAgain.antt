@@ -98,14 +98,14 @@ simd_makers =
     ∷ plain (several (λ w. vector.V128Xor w))
     ∷ plain (several (λ w. vector.V128Bitselect w))
     ∷ plain (several (λ w. vector.V128AnyTrue w))
-    ∷ of_memory_lane (λ p. several (λ w. vector.V128Load8Lane p w))
-    ∷ of_memory_lane (λ p. several (λ w. vector.V128Load16Lane p w))
-    ∷ of_memory_lane (λ p. several (λ w. vector.V128Load32Lane p w))
-    ∷ of_memory_lane (λ p. several (λ w. vector.V128Load64Lane p w))
-    ∷ of_memory_lane (λ p. several (λ w. vector.V128Store8Lane p w))
-    ∷ of_memory_lane (λ p. several (λ w. vector.V128Store16Lane p w))
-    ∷ of_memory_lane (λ p. several (λ w. vector.V128Store32Lane p w))
-    ∷ of_memory_lane (λ p. several (λ w. vector.V128Store64Lane p w))
+    ∷ of_memory_lane (λ p. several (λ w. vector.V128Load8Lane p.lane p.memarg w))
+    ∷ of_memory_lane (λ p. several (λ w. vector.V128Load16Lane p.lane p.memarg w))
+    ∷ of_memory_lane (λ p. several (λ w. vector.V128Load32Lane p.lane p.memarg w))
+    ∷ of_memory_lane (λ p. several (λ w. vector.V128Load64Lane p.lane p.memarg w))
+    ∷ of_memory_lane (λ p. several (λ w. vector.V128Store8Lane p.lane p.memarg w))
+    ∷ of_memory_lane (λ p. several (λ w. vector.V128Store16Lane p.lane p.memarg w))
+    ∷ of_memory_lane (λ p. several (λ w. vector.V128Store32Lane p.lane p.memarg w))
+    ∷ of_memory_lane (λ p. several (λ w. vector.V128Store64Lane p.lane p.memarg w))
     ∷ of_memory (λ p. one_child (λ child. vector.V128Load32Zero p child))
     ∷ of_memory (λ p. one_child (λ child. vector.V128Load64Zero p child))
     ∷ plain (several (λ w. vector.F32x4DemoteF64x2Zero w))
@@ -362,14 +362,14 @@ simd_given_back (vector.V128Or _) = refl
 simd_given_back (vector.V128Xor _) = refl
 simd_given_back (vector.V128Bitselect _) = refl
 simd_given_back (vector.V128AnyTrue _) = refl
-simd_given_back (vector.V128Load8Lane _ _) = refl
-simd_given_back (vector.V128Load16Lane _ _) = refl
-simd_given_back (vector.V128Load32Lane _ _) = refl
-simd_given_back (vector.V128Load64Lane _ _) = refl
-simd_given_back (vector.V128Store8Lane _ _) = refl
-simd_given_back (vector.V128Store16Lane _ _) = refl
-simd_given_back (vector.V128Store32Lane _ _) = refl
-simd_given_back (vector.V128Store64Lane _ _) = refl
+simd_given_back (vector.V128Load8Lane _ _ _) = refl
+simd_given_back (vector.V128Load16Lane _ _ _) = refl
+simd_given_back (vector.V128Load32Lane _ _ _) = refl
+simd_given_back (vector.V128Load64Lane _ _ _) = refl
+simd_given_back (vector.V128Store8Lane _ _ _) = refl
+simd_given_back (vector.V128Store16Lane _ _ _) = refl
+simd_given_back (vector.V128Store32Lane _ _ _) = refl
+simd_given_back (vector.V128Store64Lane _ _ _) = refl
 simd_given_back (vector.V128Load32Zero _ _) = refl
 simd_given_back (vector.V128Load64Zero _ _) = refl
 simd_given_back (vector.F32x4DemoteF64x2Zero _) = refl
