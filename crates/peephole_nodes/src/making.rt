@@ -1,5 +1,5 @@
 //! Numeric and vector nodes made of a place, a payload and children.
-ghost use Rattle.std.specs.Prelude.{◌≡◌, ◌||◌, IfSome, IfNone, is_some, length, [], ◌∷◌};
+ghost use Rattle.std.specs.Prelude.{◌≡◌, IfSome, IfNone, is_some, length, [], ◌∷◌};
 ghost use Rattle.peephole_nodes.specs.Numeric.{numeric_place_of, numeric_ids_of, numeric_count_of};
 ghost use Rattle.peephole_nodes.specs.NumericShapes.{is_numeric};
 ghost use Rattle.peephole_nodes.specs.Simd.{simd_place_of, simd_payload_of};
