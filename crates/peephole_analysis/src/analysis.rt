@@ -1,9 +1,7 @@
 //! The type of a node's result.
 
 ghost use Rattle.std.specs.Prelude.{◌≡◌, ◌<◌, ℕ, Option, slice_get, IfOk, IfErr};
-ghost use Rattle.wasm_code.specs.Table.{row_info_of};
 ghost use Rattle.mutate_base.specs.declared.types.PrimitiveTypeInfo.{PrimitiveTypeInfo};
-ghost use Rattle.peephole_lang.specs.Node.{head_of};
 ghost use Rattle.peephole_analysis.specs.Analysis.{value_type, reference_type, element_type, address_type, one_result, index_type, immediate_type, immediate_index, kind_type, rowless_types, or_empty, first_type, returning_type};
 
 use mutate_base::{ElementType, Error, ModuleInfo, PrimitiveTypeInfo, TypeInfo};

@@ -1,6 +1,6 @@
 //! Blocks and their graphs.
 
-ghost use Rattle.std.specs.Prelude.{◌≡◌, ◌+◌, ◌^◌, ◌<◌, ◌≤◌, ℕ, length, IsTrue, IfOk, IfSome, IfNone, IfErr, MatchOption, MatchResult};
+ghost use Rattle.std.specs.Prelude.{◌≡◌, ◌+◌, ◌^◌, ◌<◌, ◌≤◌, length, IsTrue, IfOk, IfSome, IfNone, IfErr, MatchOption, MatchResult};
 ghost use Rattle.peephole_graphs.specs.Block.{IsDelimiterAt, IsBlockIn, IsBlockOf};
 ghost use Rattle.peephole_graphs.specs.Source.{Source, source_of};
 ghost use Rattle.peephole_graphs.specs.Dfg.{graph_of};

@@ -1,7 +1,7 @@
 //! A graph as it grows by one operator after another.
 
 ghost use Rattle.std.specs.Prelude.{◌≡◌, ◌+◌, ◌-◌, ◌^◌, ◌<◌, ◌≤◌, ◌++◌, ◌∷◌, [], ◌⊎◌, if◌then◌else◌};
-ghost use Rattle.std.specs.Prelude.{true, slice_index, nat_eq, ◌==◌, ℕ, length, drop, replicate, IfOk, OnOk, IfErr};
+ghost use Rattle.std.specs.Prelude.{true, slice_index, ◌==◌, length, drop, replicate, IfOk, OnOk, IfErr};
 ghost use Rattle.std.specs.List.{All, sum_by};
 ghost use Rattle.peephole_lang.specs.Node.{instr_of, children_of, takes_children};
 ghost use Rattle.peephole_lang.specs.Term.{numbers_of};

@@ -2,7 +2,7 @@
 
 ghost use Rattle.std.specs.Prelude.{◌≡◌, ◌<◌, ◌≤◌, ◌^◌, ◌⊎◌, List, length, IfOk, IfErr};
 ghost use Rattle.peephole_nodes.specs.declared.id.Id.{Id};
-ghost use Rattle.peephole_lang.specs.Term.{Node, Term};
+ghost use Rattle.peephole_lang.specs.Term.{Term};
 ghost use Rattle.peephole_graphs.specs.Layout.{node_count_of, IsWhole};
 ghost use Rattle.peephole_graphs.specs.Rebuild.{CanAnswer, IsReached, IsReachedOnce, IsTooLong, IsTree};
 ghost use Rattle.peephole_graphs.specs.Rebuild.{told_tree, AreAsked, IsLaidOut, IsToldBy};

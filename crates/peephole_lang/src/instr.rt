@@ -21,6 +21,7 @@ impl Lang {
     }
 
     /// The node's instruction, or None for a node without one, and where the node isn't writable.
+    #[inline(always)]
     pub fn instr(&self) -> Option<Instr>
         ensures { result ≡ instr_of self.now }
     {
@@ -32,6 +33,7 @@ impl Lang {
     }
 
     // The immediate that stands for the payload.
+    #[inline(always)]
     #[tactic(auto, unfolding(crate::specs::Lang::payload_of))]
     fn imm(&self) -> Imm
         ensures { result ≡ imm_of (payload_of self.now) }
@@ -58,6 +60,7 @@ impl Lang {
     }
 
     /// As `of_instr`, with the children in a slice: memory is taken for the list of a `call` alone.
+    #[inline(always)]
     pub fn of_instr_in(
         alloc: Global,
         instr: &Instr,

@@ -3,6 +3,8 @@ use node_payloads::{F32, F64, MemArg, MemoryCopy, MemoryInit, RefType, TableCopy
 use peephole_nodes::{Id, Numeric, Payload, Simd};
 use wasm_code::ValType;
 
+const _: () = prove!(size_of::<Lang>() <= 48);
+
 /// What a node is, apart from its children.
 #[derive(Clone, Copy, Debug, PartialEq, Eq)]
 pub struct Head {

@@ -1,5 +1,5 @@
 //! What holds of nodes and their texts, for every caller.
-ghost use Rattle.std.specs.Prelude.{◌≡◌, ◌↔◌, ℕ, List, Bool, true, Some, IsSome, Ok, length};
+ghost use Rattle.std.specs.Prelude.{◌≡◌, ◌↔◌, ℕ, List, true, Some, IsSome, Ok, length};
 ghost use Rattle.std.specs.List.{Contains};
 ghost use Rattle.wasm_code.specs.Instruction.{Instruction};
 ghost use Rattle.peephole_nodes.specs.contracts.payload.PayloadPartialEq.TheImpl as payload_eq;

@@ -52,6 +52,7 @@ pub fn make_in(
 
 /// The node of a numeric instruction with operands, or of a vector instruction without immediate, or None where there is none:
 /// the places of the former are 52 to 190, those of the latter from 201 on.
+#[inline(always)]
 #[tactic(auto, unfolding(crate::specs::Lang::place_of, crate::specs::Lang::payload_of, crate::specs::Lang::ids_of, crate::specs::Lang::count_of))]
 pub fn make_operation(place: u16, children: &[Id]) -> Option<Lang>
     ensures place { IfSome result (λ l. place_of l ≡ place) }
@@ -70,6 +71,7 @@ pub fn make_operation(place: u16, children: &[Id]) -> Option<Lang>
 
 /// The node of an instruction whose immediate alone says the payload, or None where there is none and for any other
 /// immediate; None for `call`, whose children are a list.
+#[inline(always)]
 pub fn make_of_imm(place: u16, imm: Imm, children: &[Id]) -> Option<Lang>
     ensures place { IfSome result (λ l. place_of l ≡ place) }
     ensures imm { IfSome result (λ l. imm_of (payload_of l) ≡ imm) }
@@ -186,6 +188,7 @@ fn make_few(place: u16, children: &[Id]) -> Option<Lang>
 }
 
 // A node with an index but `call`.
+#[inline(always)]
 fn make_index(place: u16, index: u32, children: &[Id]) -> Option<Lang>
     requires { place == 13 ≡ false }
     ensures place { IfSome result (λ l. place_of l ≡ place) }

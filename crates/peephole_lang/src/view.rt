@@ -7,6 +7,7 @@ use peephole_nodes::{Id, Payload};
 
 impl Lang {
     /// The place of its variant in the order of nodes.
+    #[inline(always)]
     #[tactic(auto, unfolding(crate::specs::Lang::place_of))]
     pub fn place(&self) -> u16
         ensures { result ≡ place_of self.now }

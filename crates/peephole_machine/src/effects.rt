@@ -1,5 +1,5 @@
 //! Whether an instruction changes anything but a variable, and whether it traps.
-ghost use Rattle.std.specs.Prelude.{◌≡◌, [], ◌∷◌};
+ghost use Rattle.std.specs.Prelude.{◌≡◌};
 ghost use Rattle.peephole_machine.specs.OtherRow.{is_in_span, changes, may_trap};
 
 use wasm_code::Instr;

@@ -1,5 +1,5 @@
 //! The operators on whole numbers without an immediate, their opcodes and their types.
-ghost use Rattle.std.specs.Prelude.{◌≡◌, [], ◌∷◌, map, slice_get, option_map};
+ghost use Rattle.std.specs.Prelude.{◌≡◌, [], ◌∷◌, map, option_map};
 ghost use Rattle.peephole_machine.specs.Values.{type_of};
 ghost use Rattle.peephole_machine.specs.IntegerRow.{bare_operator, from_byte};
 ghost use Rattle.peephole_machine.specs.Operation.{operator_of};

@@ -1,9 +1,7 @@
 //! Reads the options from the words of the command line.
 ghost use Rattle.std.specs.Prelude.{◌≡◌, ◌⊎◌, codes, map, option_map, string_bytes, IfOk, IfErr};
 ghost use Rattle.std.specs.List.{filter};
-ghost use Rattle.peephole_rules.specs.Growth.{growth_of};
 ghost use Rattle.clap.specs.Matches.{found_of};
-ghost use Rattle.clap.specs.Simple.{matches_of};
 ghost use Rattle.clap.specs.Values.{kind_of};
 ghost use Rattle.clap.specs.Walk.{all_of, one_of, rows_of, texts};
 ghost use Rattle.peephole_rules.specs.Rule.{rule_name};

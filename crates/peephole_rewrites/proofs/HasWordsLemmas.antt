@@ -6,7 +6,7 @@ use Rattle.std.proofs.lemmas.List.{length-append}
 use Rattle.std.proofs.lemmas.List.Elements.{Contains-append_left, Contains-push}
 use Rattle.std.proofs.lemmas.Nat.{mod-mul-add}
 use Rattle.std.proofs.lemmas.Option.{same_Some}
-use Rattle.rand_core.specs.Stream.{Stream, next_u64}
+use Rattle.rand_core.specs.Stream.{next_u64}
 use Rattle.wasm_code.specs.declared.operator.Operator.{Operator}
 use Rattle.peephole_machine.specs.Values.{context_in}
 use Rattle.mutate_base.specs.Module.{Module}
@@ -17,7 +17,7 @@ use Rattle.peephole_rules.specs.declared.growth.Growth.{Growth}
 use Rattle.peephole_rules.specs.declared.growth.Growth.TheVariants.{Shrinks, Keeps, Grows}
 use Rattle.peephole_rules.specs.Growth.{growth_of, growths}
 use Rattle.peephole_rewrites.specs.Choice.{AreThose, Chooses, Draws, HasOpen, HasPlaceAt, IsOpen, after_word, numbers_below}
-use Rattle.peephole_rewrites.specs.HasWords.{BeginsWith, HasWords}
+use Rattle.peephole_rewrites.specs.HasWords.{HasWords}
 use Rattle.peephole_rewrites.specs.Rewriting.{IsMade}
 use Rattle.peephole_rewrites.specs.declared.rewrite.Rewrite.{Rewrite}
 use Rattle.peephole_rewrites.proofs.ThoseLemmas.{contained_cases, head_contained, tail_contained}

@@ -2,10 +2,9 @@
 ghost use Rattle.std.specs.Prelude.{◌≡◌, ◌+◌, ◌<◌, ◌≤◌, ◌^◌, length, map, IfOk, IfErr};
 ghost use Rattle.std.specs.List.{All};
 ghost use Rattle.mutate_base.specs.declared.error.Error.{Error};
-ghost use Rattle.peephole_lang.specs.Node.{children_of, node_of};
 ghost use Rattle.peephole_lang.specs.Term.{numbers_of, AreBelow};
 ghost use Rattle.peephole_terms.specs.Expansion.{term_in};
-ghost use Rattle.peephole_rules.specs.Grafted.{expression_nodes, term_at, grafted, raised, raised_node};
+ghost use Rattle.peephole_rules.specs.Grafted.{expression_nodes, term_at, grafted, raised};
 ghost use Rattle.peephole_graphs.specs.Layout.{AreWritable};
 ghost use Rattle.peephole_rules.specs.Replacement.{term_by, CanReplace};
 

@@ -3,7 +3,7 @@ ghost use Rattle.std.specs.Prelude.{◌≡◌, ◌+◌, ◌<◌, ◌≤◌, ◌^
 ghost use Rattle.std.specs.List.{All};
 ghost use Rattle.mutate_base.specs.declared.error.Error.{Error};
 ghost use Rattle.peephole_lang.specs.Node.{node_of, children_of};
-ghost use Rattle.peephole_lang.specs.Term.{AreBelow, numbers_of, tree_at};
+ghost use Rattle.peephole_lang.specs.Term.{numbers_of, tree_at};
 ghost use Rattle.peephole_rules.specs.Grafted.{expression_nodes, term_over};
 ghost use Rattle.peephole_rules.specs.Replacement.{CanReplace, Replaces, IsBinary, IsUnary, HasTwoInner, AreInner, HasOneInner, IsInner, HasTwo, HasTwiceTwo, IsFirst, AreFirst};
 ghost use Rattle.peephole_rules.specs.declared.replacement.Replacement.TheVariants.{Swap, Turn, GroupLeft, GroupRight, Constant, Complements, Twice, First, FirstWith, FirstBy, TurnSelect, Unfold, UseGlobal, Nop, Empty, Number, FirstTwice, Drawn, Negated, FirstByBoth, ByBoth, InnerBy, Distribute, FirstWithBoth, InnerWith, Inner, Collect, SetAndGet};

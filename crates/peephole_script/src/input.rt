@@ -1,6 +1,6 @@
 //! Reads the whole input.
 
-ghost use Rattle.std.specs.Prelude.{◌≡◌, ◌≢◌, ℕ, List, length, false, ◌≤◌, ◌<◌, IfOk, OnOk, IfErr, IsErrOf, IsTrue, vec_len};
+ghost use Rattle.std.specs.Prelude.{◌≡◌, ◌≢◌, length, false, ◌≤◌, ◌<◌, IfOk, OnOk, IsErrOf, IsTrue};
 ghost use Rattle.std.specs.Io.KnownBytes.{Consumes, IsAtEnd};
 ghost use Rattle.peephole_script.specs.Faults.{ConsumesMore};
 

@@ -1,6 +1,6 @@
 //! A device that is watched: whether one of the calls failed.
 
-ghost use Rattle.std.specs.Prelude.{◌≡◌, ℕ, List, length, Bool, true, false, ◌||◌, is_err, OnOk, IfOk, IfErr};
+ghost use Rattle.std.specs.Prelude.{◌≡◌, length, true, false, ◌||◌, is_err, OnOk};
 ghost use Rattle.std.specs.Io.{ReadsAtMost, WritesAtMost};
 ghost use Rattle.std.specs.Io.KnownBytes.{Keeps, Appends, Consumes, ReadConsumes, WriteAppends};
 ghost use Rattle.peephole_script.specs.Tally.{write_failed};

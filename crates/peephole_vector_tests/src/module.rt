@@ -1,5 +1,4 @@
 //! Small modules by hand, in bytes as the standard gives them.
-ghost use Rattle.std.specs.Prelude.{◌≢◌};
 
 use crate::table::{bytes_of, fields_of};
 use mutate_base::{ModuleInfo, PrimitiveTypeInfo};

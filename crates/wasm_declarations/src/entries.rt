@@ -1,5 +1,5 @@
 //! The entries of the code section.
-ghost use Rattle.std.specs.Prelude.{◌≡◌, ◌≤◌, ◌+◌, ◌-◌, ℕ, List, [], length, Ok, IfOk, IfErr, MatchResult};
+ghost use Rattle.std.specs.Prelude.{◌≡◌, ◌≤◌, ◌+◌, ◌-◌, List, length, Ok, IfOk, IfErr, MatchResult};
 ghost use Rattle.wasm_code.specs.Reader.{Gives};
 ghost use Rattle.wasm_declarations.specs.Entries.{SpellsSized, FailsSized, SpellsEntries};
 ghost use Rattle.wasm_declarations.specs.List.{IsListFault};

@@ -1,5 +1,5 @@
 //! What a module imports, by its kind, and behind it what it has of its own.
-ghost use Rattle.std.specs.Prelude.{◌≡◌, ◌++◌, IfOk};
+ghost use Rattle.std.specs.Prelude.{◌≡◌, IfOk};
 ghost use Rattle.wasm_module.specs.Module.{functions_of, tables_of, memories_of, globals_of};
 
 use mutate_base::{MemoryType, PrimitiveTypeInfo, TableType};

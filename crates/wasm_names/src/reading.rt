@@ -1,5 +1,4 @@
 //! What the name section has one after another, from the front of bytes.
-ghost use Rattle.std.specs.Prelude.{◌≡◌};
 ghost use Rattle.wasm_code.specs.Reader.{Gives};
 ghost use Rattle.wasm_names.specs.Reader.{sized_at, name_at, subsection_at, naming_at};
 
