@@ -1,5 +1,5 @@
 //! Numbers from the front of bytes.
-ghost use Rattle.std.specs.Prelude.{◌≡◌, ◌<◌, ◌≤◌, ◌^◌, ◌*◌, ◌+◌, ◌-◌, List, length, IfOk, IsTrue};
+ghost use Rattle.std.specs.Prelude.{◌≡◌, ◌<◌, ◌≤◌, ◌^◌, ◌*◌, ◌+◌, ◌-◌, length, IfOk, IsTrue};
 ghost use Rattle.wasm_code.specs.Number.{value};
 ghost use Rattle.wasm_code.specs.Reader.{Gives, fits_half, group_at, below_at, within_at, unsigned_at, signed_at};
 

@@ -1,5 +1,5 @@
 //! Instructions and operators as values.
-ghost use Rattle.std.specs.Prelude.{◌≡◌, true, IsTrue, IsFalse, IfSome, IfNone};
+ghost use Rattle.std.specs.Prelude.{◌≡◌, true, IsFalse, IfSome, IfNone};
 ghost use Rattle.wasm_code.specs.Table.{row_at};
 ghost use Rattle.wasm_code.specs.Instruction.{Instruction, IsInstruction, InRange, is_of_kind, fits_row};
 ghost use Rattle.wasm_code.specs.Operator.{is_delimiter};

@@ -1,6 +1,5 @@
 //! Operators from the front of bytes.
 ghost use Rattle.std.specs.Prelude.{◌≡◌, Some, IfSome};
-ghost use Rattle.wasm_code.specs.Table.{row_at};
 ghost use Rattle.wasm_code.specs.Finding.{row_with};
 ghost use Rattle.wasm_code.specs.Reader.{Gives, opcode_at, row_form, byte_form, form_of, behind_at, operator_at, IsForm, times_at, unsigned_at, val_type_at, labels_at, first_at, types_at, select_of};
 

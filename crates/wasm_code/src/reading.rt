@@ -1,6 +1,6 @@
 //! Immediates from the front of bytes.
 ghost use Rattle.std.specs.Prelude.{◌≡◌, ◌≢◌, ◌<◌, Some, IfOk, true};
-ghost use Rattle.wasm_code.specs.Instruction.{is_of_kind, InRange, MemArgInRange};
+ghost use Rattle.wasm_code.specs.Instruction.{is_of_kind, InRange};
 ghost use Rattle.wasm_code.specs.Table.{row_at};
 ghost use Rattle.wasm_code.specs.Reader.{Gives, byte_at, bytes_at, val_type_of, heap_type_of, val_type_at, heap_type_at, block_type_at, block_type_of, memarg_at, offset_at, pair_at, instr_at};
 ghost use Rattle.wasm_code.specs.declared.operator.Operator.TheVariants as op;
