@@ -1,4 +1,5 @@
 pub mod RowLemmas
+pub mod KindLemmas
 pub mod WalkLemmas
 pub mod ExpansionLemmas
 pub mod SpellingLemmas

@@ -1,7 +1,8 @@
 -- The walk over a tree of nodes: what is left to be written of it. Lists of nodes have the last one first.
 use Rattle.std.proofs.Common.{◌≡◌, ℕ, ◌<◌, ◌≤◌, List, [], ◌∷◌, ◌++◌, length, take, get_or, refl, sym, ap, ap₂, subst, ◌∙◌, arith, append-nil, None, Bool, true, false, cond, Result, Ok, Err}
-use Rattle.std.specs.Prelude.{All, map}
+use Rattle.std.specs.Prelude.{◌==◌, All, map}
 use Rattle.std.specs.List.{flat_map}
+use Rattle.std.proofs.lemmas.Bool.{eqb-true}
 use Rattle.std.proofs.lemmas.Grind.{common_steps}
 use Rattle.std.proofs.lemmas.List.{length-take, length-map, length-reverse}
 use Rattle.std.proofs.lemmas.List.Elements.{All-nil, All-cons, All-append, All-weaker, All-head, All-tail}
@@ -266,6 +267,36 @@ module _ {A : Type 0} {k : Walk A} {old new : List Turn} {i : ℕ} {w : Writing}
       let rest = steps_left (nodes k) new in
       refused_after d (take_steps k.count own w) (take_steps k.count (every k) k.start) (take_steps k.count rest)
       (sym (take_steps-append k.count own rest w) ∙ (ap (λ (y : List Step). take_steps k.count y w) (sym (own_next g r)) ∙ h.same)) q
+
+-- ---- leaves
+
+-- a node without children to write is its own step
+pub leaf_tree : {A : Type 0} {k : Walk A} {i : ℕ} {x : A} {l : Lang} → i < length k.items → AreBelow (nodes k) → IsRead k i x l → [] ≡ written_kids l →
+    steps_of (tree_at (nodes k) i) ≡ own_step_in (nodes k) l ∷ []
+leaf_tree {A} {k} {i} {x} {l} there b r leaf =
+    let ns = nodes k in
+    let at = read_at there r in
+    is_tree ns at b ∙ (ap (λ c. flat_map (steps_at ns) c ++ own_at ns i ∷ []) (sym leaf)
+    ∙ ap (λ (y : Term Head). root_step y ∷ []) (tree_is at b))
+
+module _ {A : Type 0} {k : Walk A} {old new : List Turn} {i : ℕ} {w : Writing} {x : A} {l : Lang} (h : IsUnderway k old w) (g : old ≡ Child i ∷ new)
+  (r : IsRead k i x l) (leaf : [] ≡ written_kids l) where
+  -- a child that is one stands for its own turn
+  at_leaf : IsUnderway k (Own i ∷ new) w × (measure (nodes k) (Own i ∷ new) < measure (nodes k) old)
+  at_leaf = down h [] g r leaf refl
+
+  pub leaf_done : {v : Writing} → Does k.count (own_step_in (nodes k) l ∷ []) w v (Ok tt) →
+      IsUnderway k new v × (measure (nodes k) new < measure (nodes k) old)
+  leaf_done own = let done = own_done at_leaf.0 refl r own in (done.0, omega (arith, at_leaf.1, done.1))
+
+  pub leaf_refused : (d : Error) → IsRefusal d (take_steps k.count (own_step_in (nodes k) l ∷ []) w) →
+      IsRefusal d (take_steps k.count (every k) k.start)
+  leaf_refused d q = own_refused at_leaf.0 d refl r q
+
+-- no ids
+pub no_ids : {kids : List ℕ} (ids : List Id) (b : Bool) → numbers_of ids ≡ kids → b ≡ (length ids == 0) → b ≡ true → [] ≡ kids
+no_ids [] b e is t = e
+no_ids (i ∷ ids) b e is t = let none = eqb-true (length (i ∷ ids)) 0 (sym is ∙ t) in absurd (omega arith)
 
 -- a refusal that is passed on
 pub passed_on : {count : ℕ} {taken : List Step} {w v : Writing} (out : Result (Unit {0}) Error) (d : Error) → out ≡ Err d →

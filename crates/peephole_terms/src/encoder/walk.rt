@@ -18,8 +18,8 @@ fn children_to_write(node: &Lang) -> &[Id]
     ensures { numbers_of result.now
         ≡ children_to_write (node_kind (head_of node.now)) (children_of node.now) }
 {
-    match node.place() {
-        5 | 6 => &[],
+    match node {
+        Lang::UnfoldI32(_) | Lang::UnfoldI64(_) => &[],
         _ => node.children(),
     }
 }
@@ -30,7 +30,8 @@ impl<R: Rng> Writer<'_, R> {
     ghost use Rattle.peephole_terms.specs.EncoderSteps.{nodes_in, steps_of};
     ghost use Rattle.peephole_terms.specs.Writer.{IsSame, Takes};
 
-    /// Writes the tree of a node, in postfix.
+    /// Writes the tree of a node, in postfix. The walk stops at nodes that have children to write, and asks for memory only
+    /// where the root is one.
     pub(crate) fn write_tree<N: Holds>(&mut self, nodes: &[N], root: usize) -> Result<(), Error>
         requires root { root < length nodes.now }
         requires below { AreBelow (nodes_in N.held nodes.now) }
@@ -38,14 +39,23 @@ impl<R: Rng> Writer<'_, R> {
             self.old self.new result }
         ensures same { IsSame self.old self.new }
     {
-        let mut walk = Postfix::new(self.alloc);
         let node = nodes[root].node();
-        walk.enter(root, children_to_write(node))?;
+        let children = children_to_write(node);
+        if children.is_empty() {
+            return self.write_own(nodes, node);
+        }
+        let mut walk = Postfix::new(self.alloc);
+        walk.enter(root, children)?;
         while let Some(turn) = walk.advance() {
             match turn {
                 Turn::Child(index) => {
                     let node = nodes[index].node();
-                    walk.enter(index, children_to_write(node))?;
+                    let children = children_to_write(node);
+                    if children.is_empty() {
+                        self.write_own(nodes, node)?;
+                    } else {
+                        walk.enter(index, children)?;
+                    }
                 }
                 Turn::Own(index) => {
                     let node = nodes[index].node();

@@ -1,0 +1,64 @@
+-- What a node is to the writer, by its variant.
+use Rattle.std.proofs.Common.{◌≡◌, ℕ, ◌≤◌, Bool, true, false, Option, Some, None, ◌⊎◌, inl, inr, refl, ap, ◌∙◌, arith}
+use Rattle.std.specs.Prelude.{nat_lt, slice_get, if◌then◌else◌}
+use Rattle.std.proofs.lemmas.Bool.{ltb-false}
+use Rattle.std.proofs.lemmas.Option.{slice_get_past}
+use Rattle.wasm_code.specs.Instruction.{Instruction}
+use Rattle.peephole_nodes.specs.declared.id.Id.{Id}
+use Rattle.peephole_nodes.specs.declared.numeric.Numeric.{Numeric}
+use Rattle.peephole_nodes.specs.declared.simd.Simd.{Simd}
+use Rattle.peephole_nodes.specs.Numeric.{numeric_place_of}
+use Rattle.peephole_nodes.specs.Simd.{simd_place_of}
+use Rattle.peephole_nodes.specs.laws.NumericAgain.{numeric_again, numeric_given_back}
+use Rattle.peephole_nodes.specs.laws.SimdAgain.{simd_again, simd_given_back}
+use Rattle.peephole_lang.specs.declared.lang.Head.{Head}
+use Rattle.peephole_lang.specs.declared.lang.Lang.{Lang}
+use Rattle.peephole_lang.specs.declared.lang.Lang.TheVariants as lang
+use Rattle.peephole_lang.specs.Lang.{place_of}
+use Rattle.peephole_lang.specs.Node.{head_of, instr_of_head}
+use Rattle.peephole_terms.specs.NodeKind.{NodeKind, rowless, kind_found, node_kind, of_instruction, is_unfold}
+
+-- ---- the places of nodes that are held in one
+
+behind : {A : Type 0} (early : Bool) (o : Option A) (x : A) → (if early then None else o) ≡ Some x → early ≡ false
+behind true o x e = absurd cc
+behind false o x e = refl
+
+numeric_behind : (n : Numeric) → 12 ≤ numeric_place_of n
+unfolding numeric_again
+numeric_behind n =
+    let late = ltb-false (numeric_place_of n) 52 (behind (nat_lt (numeric_place_of n) 52) _ n (numeric_given_back n)) in
+    omega arith
+
+simd_behind : (s : Simd) → 12 ≤ simd_place_of s
+unfolding simd_again
+simd_behind s =
+    let late = ltb-false (simd_place_of s) 201 (behind (nat_lt (simd_place_of s) 201) _ s (simd_given_back s)) in
+    omega arith
+
+-- ---- unfolds
+
+none_unfolds : (o : Option Instruction) → is_unfold (of_instruction o) ≡ false
+none_unfolds None = refl
+none_unfolds (Some i) = refl
+
+-- a node with a row is none
+row_unfolds : (h : Head) → 12 ≤ h.place → is_unfold (node_kind h) ≡ false
+row_unfolds h late =
+    ap (λ (k : Option NodeKind). is_unfold (kind_found k (instr_of_head h))) (slice_get_past rowless h.place late)
+    ∙ none_unfolds (instr_of_head h)
+
+-- the two variants that are
+pub one_unfolds : (l : Lang) → ((i : Id) × (l ≡ lang.UnfoldI32 i)) ⊎ ((i : Id) × (l ≡ lang.UnfoldI64 i)) → is_unfold (node_kind (head_of l)) ≡ true
+unfolding place_of
+one_unfolds l (inl h) = ap (λ (l : Lang). is_unfold (node_kind (head_of l))) h.1
+one_unfolds l (inr h) = ap (λ (l : Lang). is_unfold (node_kind (head_of l))) h.1
+
+-- no other one is
+pub other_unfolds : (l : Lang) → ((i : Id) → l ≡ lang.UnfoldI32 i → ⊥) → ((i : Id) → l ≡ lang.UnfoldI64 i → ⊥) → is_unfold (node_kind (head_of l)) ≡ false
+unfolding place_of
+other_unfolds (lang.UnfoldI32 i) a b = absurd (a i refl)
+other_unfolds (lang.UnfoldI64 i) a b = absurd (b i refl)
+other_unfolds (lang.Numeric n) a b = row_unfolds (head_of (lang.Numeric n)) (numeric_behind n)
+other_unfolds (lang.Simd s) a b = row_unfolds (head_of (lang.Simd s)) (simd_behind s)
+other_unfolds l a b = none_unfolds (instr_of_head (head_of l))
