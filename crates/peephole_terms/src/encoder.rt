@@ -30,7 +30,7 @@ use self::outside::Outside;
 use self::request::ResourceRequest;
 use self::writer::Writer;
 use mutate_base::{Error, WasmMutate};
-use peephole_graphs::{BBlock, MiniDFG, StackEntry};
+use peephole_graphs::{BBlock, MiniDFG, Postfix, StackEntry};
 use peephole_lang::{Lang, RecExpr};
 use rand_core::Rng;
 use std::alloc::Global;
@@ -38,16 +38,19 @@ use wasm_code::laws::code_spells;
 use wasm_code::{Function, OperatorAndByteOffset};
 
 impl<R: Rng> Writer<'_, R> {
+    ghost use Rattle.std.specs.Prelude.{[], OnOk};
     ghost use Rattle.peephole_terms.specs.Writer.{IsSame, Takes};
 
-    // Writes a root's own tree, or the term where the root is the insertion point.
-    fn write_root(
+    // Writes a root's own tree, or the term where the root is the insertion point, by a walk that stands nowhere.
+    fn write_root<'n>(
         &mut self,
+        walk: &mut Postfix<'n>,
         insertion_point: usize,
-        expr: &[Lang],
-        entries: &[StackEntry],
+        expr: &'n [Lang],
+        entries: &'n [StackEntry],
         root: usize,
     ) -> Result<(), Error>
+        requires rests { walk.old ≡ [] }
         requires some { 0 < length expr.now }
         requires expr_below { AreBelow (nodes_in (λ l. l) expr.now) }
         requires entries_below { AreBelow (entry_nodes entries.now) }
@@ -56,11 +59,12 @@ impl<R: Rng> Writer<'_, R> {
             (steps_of (root_term insertion_point (term_in expr.now) entries.now root))
             self.old self.new result }
         ensures same { IsSame self.old self.new }
+        ensures rests { OnOk result (walk.new ≡ []) }
     {
         if entries[root].operator_idx == insertion_point {
-            self.write_tree(expr, expr.len() - 1)
+            self.write_tree_by(walk, expr, expr.len() - 1)
         } else {
-            self.write_tree(entries, root)
+            self.write_tree_by(walk, entries, root)
         }
     }
 
@@ -80,9 +84,10 @@ impl<R: Rng> Writer<'_, R> {
             self.old self.new result }
         ensures same { IsSame self.old self.new }
     {
+        let mut walk = Postfix::new(self.alloc);
         for index in 0..parents.len() {
             if parents[index].is_none() {
-                self.write_root(insertion_point, expr, entries, index)?;
+                self.write_root(&mut walk, insertion_point, expr, entries, index)?;
             }
         }
         Ok(())

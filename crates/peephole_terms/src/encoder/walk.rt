@@ -25,26 +25,32 @@ fn children_to_write(node: &Lang) -> &[Id]
 }
 
 impl<R: Rng> Writer<'_, R> {
-    ghost use Rattle.std.specs.Prelude.{◌<◌, length};
+    ghost use Rattle.std.specs.Prelude.{◌≡◌, ◌<◌, [], OnOk, length};
     ghost use Rattle.peephole_lang.specs.Term.{AreBelow, tree_at};
     ghost use Rattle.peephole_terms.specs.EncoderSteps.{nodes_in, steps_of};
     ghost use Rattle.peephole_terms.specs.Writer.{IsSame, Takes};
 
-    /// Writes the tree of a node, in postfix. The walk stops at nodes that have children to write, and asks for memory only
-    /// where the root is one.
-    pub(crate) fn write_tree<N: Holds>(&mut self, nodes: &[N], root: usize) -> Result<(), Error>
+    /// Writes the tree of a node, in postfix, by a walk that stands nowhere, and then stands nowhere again. It stops at nodes
+    /// that have children to write, and asks for memory only where it never went as far down.
+    pub(crate) fn write_tree_by<'n, N: Holds>(
+        &mut self,
+        walk: &mut Postfix<'n>,
+        nodes: &'n [N],
+        root: usize,
+    ) -> Result<(), Error>
+        requires rests { walk.old ≡ [] }
         requires root { root < length nodes.now }
         requires below { AreBelow (nodes_in N.held nodes.now) }
         ensures taken { Takes R.stream (steps_of (tree_at (nodes_in N.held nodes.now) root))
             self.old self.new result }
         ensures same { IsSame self.old self.new }
+        ensures rests { OnOk result (walk.new ≡ []) }
     {
         let node = nodes[root].node();
         let children = children_to_write(node);
         if children.is_empty() {
             return self.write_own(nodes, node);
         }
-        let mut walk = Postfix::new(self.alloc);
         walk.enter(root, children)?;
         while let Some(turn) = walk.advance() {
             match turn {
@@ -64,5 +70,16 @@ impl<R: Rng> Writer<'_, R> {
             }
         }
         Ok(())
+    }
+
+    /// Writes the tree of a node, in postfix.
+    pub(crate) fn write_tree<N: Holds>(&mut self, nodes: &[N], root: usize) -> Result<(), Error>
+        requires root { root < length nodes.now }
+        requires below { AreBelow (nodes_in N.held nodes.now) }
+        ensures taken { Takes R.stream (steps_of (tree_at (nodes_in N.held nodes.now) root))
+            self.old self.new result }
+        ensures same { IsSame self.old self.new }
+    {
+        self.write_tree_by(&mut Postfix::new(self.alloc), nodes, root)
     }
 }

@@ -30,22 +30,25 @@ pub loop-index-init : goal.loop-index-init
 loop-index-init g c = record {
   taken = record { ok = refl; err = tt; in_range = All-nil IsInRange; kept = grind (arith, common_steps) };
   same = record { globals = refl; sink = refl; requests = refl; rng = refl };
+  rests = c.new-walk.ensures;
 }
 
 pub loop-index-preserved : goal.loop-index-preserved
 loop-index-preserved g c = elim c.if-is_none.branch [
-  | then-is_none+in_ok-write_root w ↦ rw w.self-is (record {
+  | then-is_none+in_ok-write_root w ↦ rw (w.self-is, w.walk-is) (record {
     taken = root_done c.args.insertion_point (term_in c.args.expr.now) c.args.entries.now c.args.parents.now c.loop-index.index c.loop-index-test.true
         (no_parent (get_or c.args.parents.now c.loop-index.index None) c.is_none.result c.is_none.ensures w.if-is_none.true)
         c.loop-index.invariant.taken (goes_on c.loop-index.invariant.same.globals w.in_ok-write_root.ensures.taken);
     same = same_more c.loop-index.invariant.same w.in_ok-write_root.ensures.same;
+    rests = w.in_ok-write_root.ensures.rests;
   })
   | else-is_none w ↦
       let some = some_parent (get_or c.args.parents.now c.loop-index.index None) c.is_none.result c.is_none.ensures w.if-is_none.false in
-      rw w.self-is (record {
+      rw (w.self-is, w.walk-is) (record {
         taken = child_done c.args.insertion_point (term_in c.args.expr.now) c.args.entries.now c.args.parents.now c.loop-index.index
             c.loop-index-test.true some.0 some.1 c.loop-index.invariant.taken;
         same = c.loop-index.invariant.same;
+        rests = c.loop-index.invariant.rests;
       })
 ]
 

@@ -7,14 +7,14 @@ use Rattle.peephole_graphs.specs.Postfix.{turns_of}
 use Rattle.peephole_terms.specs.Writer.{writing_in}
 use Rattle.peephole_terms.proofs.WalkLemmas.{walk_of, start, child_inside, own_inside, down, own_done, own_refused, leaf_tree, leaf_done, leaf_refused, no_ids, passed_on, kids_in, kept_more, arrived}
 use Rattle.peephole_terms.proofs.WriterLemmas.{goes_on, same_more}
-use Rattle.peephole_terms.proofs.encoder.writer.Writer.write_tree.Goals as goal
+use Rattle.peephole_terms.proofs.encoder.writer.Writer.write_tree_by.Goals as goal
 
 pub loop-turn-init : goal.loop-turn-init
 loop-turn-init g c = record {
   walk = start {k = walk_of g.N.Holds.held c.args.nodes.now c.args.self.now.globals c.args.root (writing_in g.R.Rng.stream c.args.self.now)}
       c.children_to_write-children.result.now c.requires.below c.requires.root
       (record { is = c.index-nodes-root.is; held_is = c.node-node.ensures }) c.children_to_write-children.ensures
-      (c.in_ok-enter.ensures.entered ∙ ap (λ (turns : List Turn). turns_of c.args.root (numbers_of c.children_to_write-children.result.now) ++ turns) c.new-walk.ensures);
+      (c.in_ok-enter.ensures.entered ∙ ap (λ (turns : List Turn). turns_of c.args.root (numbers_of c.children_to_write-children.result.now) ++ turns) c.requires.rests);
   kept = grind (arith, common_steps);
   same = record { globals = refl; sink = refl; requests = refl; rng = refl };
 }

@@ -2,7 +2,7 @@ use Rattle.std.proofs.Common.{◌≡◌, length, take}
 use Rattle.peephole_terms.specs.EncoderSteps.{nodes_in}
 use Rattle.peephole_terms.specs.Writer.{writing_in, IsSame}
 use Rattle.peephole_terms.proofs.WalkLemmas.{IsUnderway, measure, walk_of}
-use Rattle.peephole_terms.proofs.encoder.writer.Writer.write_tree.Given as goal
+use Rattle.peephole_terms.proofs.encoder.writer.Writer.write_tree_by.Given as goal
 
 abbrev pub invariant-loop-turn : goal.invariant-loop-turn
 invariant-loop-turn g l = record {
