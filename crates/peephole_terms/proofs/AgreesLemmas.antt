@@ -9,8 +9,7 @@ use Rattle.peephole_machine.specs.Values.{Value, IsValue, types, State, HasTypes
 use Rattle.peephole_machine.specs.Agreement.{SameOutcome, EndsTyped}
 use Rattle.peephole_machine.specs.RowLemmas.{and_then_some}
 use Rattle.peephole_machine.specs.SameLemmas.{same_is}
-use Rattle.peephole_terms.specs.declared.encoder.node_kind.NodeKind.TheVariants.{Own, Random, Unfold, UseGlobal, Container, Nothing}
-use Rattle.peephole_terms.specs.NodeKind.{NumberType, NodeKind, node_kind}
+use Rattle.peephole_terms.specs.NodeKind.{NumberType, NodeKind, node_kind, Own, Random, Unfold, UseGlobal, Container, Nothing}
 use Rattle.peephole_terms.specs.Expansion.{own_draws, with_own_draws, draws_of, draws}
 use Rattle.peephole_terms.specs.Typing.{own_types, with_own_types, joined_types, types_of, types_in}
 use Rattle.peephole_terms.specs.Meaning.{own_meaning, with_own_meaning, meaning_of, meaning}

@@ -12,8 +12,7 @@ use Rattle.mutate_base.specs.declared.error.Error.{Error}
 use Rattle.mutate_base.specs.declared.error.Error.TheVariants.{Memory, CannotUnfold, GlobalIndex}
 use Rattle.peephole_lang.specs.declared.lang.Head.{Head}
 use Rattle.peephole_lang.specs.Term.{Term, Terms, absent, node, no_terms, ◌▸◌}
-use Rattle.peephole_terms.specs.declared.encoder.node_kind.NodeKind.TheVariants.{Own, Random, Unfold, UseGlobal}
-use Rattle.peephole_terms.specs.NodeKind.{NumberType, IntegerType, NodeKind, node_kind, number_of, is_unfold}
+use Rattle.peephole_terms.specs.NodeKind.{NumberType, IntegerType, NodeKind, node_kind, number_of, is_unfold, Own, Random, Unfold, UseGlobal}
 use Rattle.peephole_terms.specs.EncoderSteps.{Step, Writing, writing_of, own_step, children_to_write, split, steps_of, steps, take_steps, then_steps, with_instruction}
 use Rattle.peephole_terms.specs.EncoderSteps.{with_request, IsRefusal}
 use Rattle.peephole_terms.specs.Expansion.{own_requests, with_own_requests, requests_of, requests, request, own_draws, with_own_draws, draws_of, draws}

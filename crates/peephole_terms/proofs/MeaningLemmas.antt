@@ -12,8 +12,7 @@ use Rattle.peephole_machine.specs.IntegerRow.{if_typed, integer_row}
 use Rattle.peephole_machine.specs.Agreement.{EndsTyped}
 use Rattle.peephole_machine.specs.RowLemmas.{some_if, and_then_some, map_some, same_types_is}
 use Rattle.peephole_machine.specs.TypeLemmas.{whole_is, one, act_typed, then_typed, then_above_typed}
-use Rattle.peephole_terms.specs.declared.encoder.node_kind.NodeKind.TheVariants.{Own, Random, Unfold, UseGlobal, Container}
-use Rattle.peephole_terms.specs.NodeKind.{IntegerType, NodeKind, node_kind, primitive_of}
+use Rattle.peephole_terms.specs.NodeKind.{IntegerType, NodeKind, node_kind, primitive_of, Own, Random, Unfold, UseGlobal, Container}
 use Rattle.peephole_terms.specs.Expansion.{constant, constant_in, draws_of, draws, first_word}
 use Rattle.peephole_terms.specs.Typing.{own_types, with_own_types, joined_types, types_of, types_in}
 use Rattle.peephole_terms.specs.Meaning.{number_meaning, own_meaning, with_own_meaning, meaning_of, meaning}

@@ -15,8 +15,7 @@ use Rattle.peephole_lang.specs.Term.{Term, Terms, absent, node, no_terms, ◌▸
 use Rattle.peephole_graphs.specs.Tree.{Trees}
 use Rattle.peephole_machine.specs.declared.integer.IntegerType.TheVariants as integer
 use Rattle.peephole_terms.specs.declared.encoder.node_kind.NumberType.TheVariants as number
-use Rattle.peephole_terms.specs.declared.encoder.node_kind.NodeKind.TheVariants.{Own, Random, Unfold, UseGlobal}
-use Rattle.peephole_terms.specs.NodeKind.{NumberType, IntegerType, NodeKind, node_kind, number_of}
+use Rattle.peephole_terms.specs.NodeKind.{NumberType, IntegerType, NodeKind, node_kind, number_of, Own, Random, Unfold, UseGlobal}
 use Rattle.peephole_terms.specs.EncoderSteps.{Step, IsInRange, split, store, own_step, children_to_write, steps_of, steps}
 use Rattle.peephole_terms.specs.Expansion.{constant, rest_of, add_of, set_global, get_global, constant_in, sum_of, first_word, joined_code, own_code}
 use Rattle.peephole_terms.specs.Expansion.{with_own_code}

@@ -18,8 +18,7 @@ use Rattle.peephole_machine.specs.OutcomeLemmas.{above_above, run_append, run_on
 use Rattle.peephole_machine.specs.RowLemmas.{and_then_some, row_types_count, step_at}
 use Rattle.peephole_machine.specs.StateLemmas.{own_is, own_front, with_more, above_more, Follows}
 use Rattle.peephole_machine.specs.SameLemmas.{act_follows}
-use Rattle.peephole_terms.specs.declared.encoder.node_kind.NodeKind.TheVariants.{Own, Random, Unfold, UseGlobal, Container}
-use Rattle.peephole_terms.specs.NodeKind.{NumberType, IntegerType, NodeKind, node_kind, primitive_of}
+use Rattle.peephole_terms.specs.NodeKind.{NumberType, IntegerType, NodeKind, node_kind, primitive_of, Own, Random, Unfold, UseGlobal, Container}
 use Rattle.peephole_terms.specs.Expansion.{constant, sum, set_global, get_global, constant_in, sum_of, through_global, joined_code, first_word}
 use Rattle.peephole_terms.specs.Expansion.{own_code, with_own_code, own_requests, with_own_requests, requests_of, requests, draws_of, draws, expansion_of}
 use Rattle.peephole_terms.specs.Expansion.{expansion}

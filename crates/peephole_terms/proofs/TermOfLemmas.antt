@@ -20,8 +20,7 @@ use Rattle.peephole_graphs.specs.TermOf.{IsTermOf, AreTermsOf}
 use Rattle.peephole_graphs.specs.Tree as tree
 use Rattle.peephole_graphs.specs.Tree.{Tree, Trees, instructions_of, instructions}
 use Rattle.peephole_graphs.proofs.graph.TermOfLemmas.{has_terms_of_trees}
-use Rattle.peephole_terms.specs.declared.encoder.node_kind.NodeKind.TheVariants.{Own}
-use Rattle.peephole_terms.specs.NodeKind.{NodeKind, NumberType, rowless, kind_found, node_kind, of_instruction}
+use Rattle.peephole_terms.specs.NodeKind.{NodeKind, NumberType, rowless, kind_found, node_kind, of_instruction, Own}
 use Rattle.peephole_terms.specs.Expansion.{draw_words, with_own_requests, requests_of, requests, with_own_draws, draws_of, draws, joined_code, with_own_code}
 use Rattle.peephole_terms.specs.Expansion.{expansion_of, expansion}
 use Rattle.peephole_terms.specs.Laws.{TreesAreWrittenAsTheyAre}

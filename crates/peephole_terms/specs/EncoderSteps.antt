@@ -14,7 +14,7 @@ use Rattle.peephole_lang.specs.Node.{head_of, children_of}
 use Rattle.peephole_lang.specs.Term.{Term, Terms, absent, node, no_terms, ◌▸◌, Node, AreBelow, pick, tree_at, nodes_of}
 use Rattle.peephole_graphs.specs.declared.dfg.StackEntry.{StackEntry}
 use Rattle.peephole_terms.specs.declared.encoder.request.ResourceRequest.{ResourceRequest}
-use Rattle.peephole_terms.specs.declared.encoder.node_kind.NodeKind.TheVariants as kind
+use Rattle.peephole_terms.specs.NodeKind as kind
 use Rattle.peephole_graphs.specs.Block.{BlockRange}
 use Rattle.peephole_graphs.specs.Entries.{roots_of}
 use Rattle.peephole_graphs.specs.Layout.{entry_nodes}

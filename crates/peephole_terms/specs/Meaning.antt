@@ -8,7 +8,7 @@ use Rattle.peephole_lang.specs.Term.{Term, Terms, absent, node, no_terms, ◌▸
 use Rattle.peephole_machine.specs.Values.{Value, width_of, whole, State, Outcome, Ends, Stuck, then_run, above}
 use Rattle.peephole_machine.specs.IntegerRow.{integer_row}
 use Rattle.peephole_machine.specs.Machine.{act}
-use Rattle.peephole_terms.specs.declared.encoder.node_kind.NodeKind.TheVariants as kind
+use Rattle.peephole_terms.specs.NodeKind as kind
 use Rattle.peephole_terms.specs.NodeKind.{IntegerType, NodeKind, node_kind}
 use Rattle.peephole_terms.specs.Expansion.{constant, constant_in, draws_of, draws, first_word}
 

@@ -5,34 +5,47 @@ use Rattle.mutate_base.specs.declared.types.PrimitiveTypeInfo.{PrimitiveTypeInfo
 use Rattle.mutate_base.specs.declared.types.PrimitiveTypeInfo.TheVariants as primitive
 use Rattle.peephole_lang.specs.declared.lang.Head.{Head}
 use Rattle.peephole_lang.specs.Node.{instr_of_head}
--- the types of numbers, those of whole numbers, and the kinds `Own`, `Random`, `Unfold`, `UseGlobal`, `Container` and `Nothing`
+-- the types of numbers, and those of whole numbers
 pub use Rattle.peephole_terms.specs.declared.encoder.node_kind.NumberType.{NumberType}
 pub use Rattle.peephole_machine.specs.declared.integer.IntegerType.{IntegerType}
-pub use Rattle.peephole_terms.specs.declared.encoder.node_kind.NodeKind.{NodeKind}
 use Rattle.peephole_terms.specs.declared.encoder.node_kind.NumberType.TheVariants as number
 use Rattle.peephole_machine.specs.declared.integer.IntegerType.TheVariants as integer
-use Rattle.peephole_terms.specs.declared.encoder.node_kind.NodeKind.TheVariants as kind
+
+-- what a node is to the writer
+pub data NodeKind : Type 0 where
+  -- an instruction, behind its operands
+  Own : Instruction → NodeKind
+  -- a constant of a drawn word
+  Random : NumberType → NodeKind
+  -- a constant as a sum
+  Unfold : IntegerType → NodeKind
+  -- a value that is put into a requested global and read from it again
+  UseGlobal : NumberType → NodeKind
+  -- its children, one after another, and their values
+  Container : NodeKind
+  -- its children, and no meaning: a missing operand, or a node that can't be written
+  Nothing : NodeKind
 
 -- the nodes without a row, by place
 abbrev pub rowless : List NodeKind
 rowless =
-    kind.Random number.I32  -- i32.rand
-    ∷ kind.Random number.I64  -- i64.rand
-    ∷ kind.Random number.F32  -- f32.rand
-    ∷ kind.Random number.F64  -- f64.rand
-    ∷ kind.Nothing  -- undef
-    ∷ kind.Unfold integer.I32  -- i32.unfold
-    ∷ kind.Unfold integer.I64  -- i64.unfold
-    ∷ kind.UseGlobal number.I32  -- i32.use_of_global
-    ∷ kind.UseGlobal number.I64  -- i64.use_of_global
-    ∷ kind.UseGlobal number.F32  -- f32.use_of_global
-    ∷ kind.UseGlobal number.F64  -- f64.use_of_global
-    ∷ kind.Container  -- container
+    Random number.I32  -- i32.rand
+    ∷ Random number.I64  -- i64.rand
+    ∷ Random number.F32  -- f32.rand
+    ∷ Random number.F64  -- f64.rand
+    ∷ Nothing  -- undef
+    ∷ Unfold integer.I32  -- i32.unfold
+    ∷ Unfold integer.I64  -- i64.unfold
+    ∷ UseGlobal number.I32  -- i32.use_of_global
+    ∷ UseGlobal number.I64  -- i64.use_of_global
+    ∷ UseGlobal number.F32  -- f32.use_of_global
+    ∷ UseGlobal number.F64  -- f64.use_of_global
+    ∷ Container  -- container
     ∷ []
 
 abbrev pub of_instruction : Option Instruction → NodeKind
-of_instruction None = kind.Nothing
-of_instruction (Some i) = kind.Own i
+of_instruction None = Nothing
+of_instruction (Some i) = Own i
 
 abbrev pub kind_found : Option NodeKind → Option Instruction → NodeKind
 kind_found (Some k) i = k
@@ -43,7 +56,7 @@ abbrev pub node_kind : Head → NodeKind
 node_kind h = kind_found (slice_get rowless h.place) (instr_of_head h)
 
 abbrev pub is_unfold : NodeKind → Bool
-is_unfold (kind.Unfold t) = true
+is_unfold (Unfold t) = true
 is_unfold _ = false
 
 -- among the types of values

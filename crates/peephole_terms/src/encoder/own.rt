@@ -1,7 +1,7 @@
 //! What a node itself adds, behind its children.
 
 use super::holds::Holds;
-use super::node_kind::{NodeKind, NumberType};
+use super::node_kind::NumberType;
 use super::request::ResourceRequest;
 use super::rows::{
     F32_CONST, F64_CONST, GLOBAL_GET, GLOBAL_SET, I32_ADD, I32_CONST, I64_ADD, I64_CONST,
@@ -132,7 +132,8 @@ impl<R: Rng> Writer<'_, R> {
         Ok(())
     }
 
-    /// Writes what a node itself adds.
+    /// Writes what a node itself adds: its instruction, or what its variant says where it has none.
+    #[tactic(auto, using(crate::proofs::TermOfLemmas::row_kind), unfolding(peephole_lang::specs::Lang::place_of))]
     pub(crate) fn write_own<N: Holds>(&mut self, nodes: &[N], node: &Lang) -> Result<(), Error>
         requires before { AreBelow (nodes_in N.held nodes.now) }
         requires below { All (λ k. k < length nodes.now) (children_of node.now) }
@@ -140,15 +141,22 @@ impl<R: Rng> Writer<'_, R> {
             self.old self.new result }
         ensures same { IsSame self.old self.new }
     {
-        match NodeKind::of(node) {
-            NodeKind::Own(instr) => {
-                self.sink.instruction(&instr)?;
-                Ok(())
-            }
-            NodeKind::Random(tpe) => self.write_random(tpe),
-            NodeKind::Unfold(tpe) => self.write_unfold(tpe, nodes, node),
-            NodeKind::UseGlobal(tpe) => self.write_through(tpe),
-            NodeKind::Container | NodeKind::Nothing => Ok(()),
+        if let Some(instr) = node.instr() {
+            self.sink.instruction(&instr)?;
+            return Ok(());
+        }
+        match node {
+            Lang::RandI32 => self.write_random(NumberType::I32),
+            Lang::RandI64 => self.write_random(NumberType::I64),
+            Lang::RandF32 => self.write_random(NumberType::F32),
+            Lang::RandF64 => self.write_random(NumberType::F64),
+            Lang::UnfoldI32(_) => self.write_unfold(IntegerType::I32, nodes, node),
+            Lang::UnfoldI64(_) => self.write_unfold(IntegerType::I64, nodes, node),
+            Lang::I32UseGlobal(_) => self.write_through(NumberType::I32),
+            Lang::I64UseGlobal(_) => self.write_through(NumberType::I64),
+            Lang::F32UseGlobal(_) => self.write_through(NumberType::F32),
+            Lang::F64UseGlobal(_) => self.write_through(NumberType::F64),
+            _ => Ok(()),
         }
     }
 }
