@@ -280,7 +280,7 @@ leaf_tree {A} {k} {i} {x} {l} there b r leaf =
     ∙ ap (λ (y : Term Head). root_step y ∷ []) (tree_is at b))
 
 module _ {A : Type 0} {k : Walk A} {old new : List Turn} {i : ℕ} {w : Writing} {x : A} {l : Lang} (h : IsUnderway k old w) (g : old ≡ Child i ∷ new)
-  (r : IsRead k i x l) (leaf : [] ≡ written_kids l) where
+    (r : IsRead k i x l) (leaf : [] ≡ written_kids l) where
   -- a child that is one stands for its own turn
   at_leaf : IsUnderway k (Own i ∷ new) w × (measure (nodes k) (Own i ∷ new) < measure (nodes k) old)
   at_leaf = down h [] g r leaf refl
