@@ -23,16 +23,16 @@ use Rattle.peephole_graphs.specs.Faults.{HasNoFault}
 use Rattle.peephole_graphs.specs.Forest.{IsInOrder, is_in_order, DecidesTheOrder}
 use Rattle.peephole_graphs.specs.GraphOf.{IsGraphOf}
 use Rattle.peephole_graphs.specs.Source.{source_of}
-use Rattle.peephole_graphs.specs.Layout.{entry_nodes}
 use Rattle.peephole_terms.specs.Laws.{OwnTreesAreKept}
-use Rattle.peephole_terms.specs.ReadAgain.{KeepsTheTrees}
 use Rattle.peephole_terms.specs.Written.{Site, AppendsBody, KeepsOrder, RefusesBody, site_at, term_code, term_requests, block_shapes, written_block}
 use Rattle.peephole_commands.specs.declared.graphs.Refusal.{Refusal}
 use Rattle.peephole_commands.specs.declared.graphs.Refusal.TheVariants as refusal
 use Rattle.peephole_commands.specs.declared.place.Place.{Place}
-use Rattle.peephole_commands.specs.Graphs.{of_graph, site_of, module_in, words_in, IsGraphIn}
+use Rattle.peephole_commands.specs.Graphs.{of_graph, site_of, module_in, words_in, IsGraphIn, IsPlace}
 use Rattle.peephole_commands.specs.Writing.{in_order_alone, Output, output, with_code, with_term, with_nodes, term_output, written_output}
 use Rattle.peephole_commands.proofs.Refusals.{shapes_found}
+use Rattle.peephole_commands.proofs.Shows.{place_length}
+use Rattle.peephole_commands.proofs.Unwritten.{written_nowhere}
 
 -- ---- the test of the order
 
@@ -166,22 +166,22 @@ pub some_nodes : HasNoFault → (s : Setting) (preserving : Bool) (p : Place) (g
 some_nodes fits s preserving p graph [] g n = absurd (omega arith)
 some_nodes fits s preserving p graph (l ∷ ls) g n = with_graph fits s preserving p graph (l ∷ ls) g ∙ rw (length-map (l ∷ ls) node_of)
 
-own_entry : (looked : Option ℕ) (P : ℕ → Type 0) → IsSome looked → IfSome looked P → (i : ℕ) × (looked ≡ Some i) × P i
-own_entry None P some h = absurd (cc some)
-own_entry (Some i) P some h = (i, refl, h)
+-- the same block, and another point
+abbrev moved : Place → ℕ → Place
+moved p at = record { body = p.body; point = at; block = p.block }
 
--- without nodes: `own` is the operator's own tree, which leaves the block's own trees, and asks for nothing
-pub no_nodes : HasNoFault → OwnTreesAreKept → (s : Setting) (preserving : Bool) (p : Place) (graph : MiniDFG) (nodes own : List Lang) →
-    IsGraphIn s.info preserving p graph → length nodes ≡ 0 → IsSome ((graph_of graph).own_entry p.point) →
-    IfSome ((graph_of graph).own_entry p.point) (λ i. term_in own ≡ tree_at (entry_nodes (graph_of graph).entries) i) →
-    answer_of s preserving p nodes ≡ term_output s preserving (site_of p) (term_in own)
-no_nodes fits kept s preserving p graph (x ∷ nodes) own g n some is = absurd (omega arith)
-no_nodes fits kept s preserving p graph [] own g n some is =
-    let t = term_in own in
-    let site = site_of p in
-    let keeps : KeepsTheTrees s.info site (graph_of graph) t =
-    inr (own_entry ((graph_of graph).own_entry p.point) (λ i. t ≡ tree_at (entry_nodes (graph_of graph).entries) i) some is) in
-    let trees = kept s preserving site (graph_of graph) t g keeps in
+-- without nodes: a term for the point behind the block is written nowhere, so that the block's own trees are
+pub no_nodes : HasNoFault → OwnTreesAreKept → (s : Setting) (preserving : Bool) (p : Place) (at : ℕ) (graph : MiniDFG) (nodes : List Lang) (t : Term Head) →
+    IsPlace p → IsGraphIn s.info preserving p graph → length nodes ≡ 0 → at ≡ p.block.now.end →
+    answer_of s preserving p nodes ≡ term_output s preserving (site_of (moved p at)) t
+no_nodes fits kept s preserving p at graph (x ∷ nodes) t place g n behind = absurd (omega arith)
+no_nodes fits kept s preserving p at graph [] t place g n behind =
+    let site = site_of (moved p at) in
+    let size = place_length p place in
+    let last = place.block.last in
+    let some = place.block.some in
+    let nowhere = written_nowhere s.info site (omega (arith, size, last, some, behind)) in
+    let trees = kept s preserving site (graph_of graph) t g (inl nowhere) in
     let answer : List ResourceRequest → List Instruction → Result Output Refusal = λ requests code. Ok (with_code site requests code) in
     with_graph fits s preserving p graph [] g
     ∙ ap (in_order_alone preserving (block_shapes s.info site)) (sym (ap (made s site t) trees.expands ∙ ap₂ answer trees.asks trees.trees))

@@ -1,16 +1,18 @@
 //! The body with the term in it.
 
-ghost use Rattle.std.specs.Prelude.{◌<◌, map, length, is_some, IsTrue};
+ghost use Rattle.std.specs.Prelude.{◌≡◌, ◌<◌, map, length, is_some, IsTrue, IfOk, IfErr};
 ghost use Rattle.mutate_base.specs.Config.{ChangesGeneratorAlone};
+ghost use Rattle.mutate_base.specs.declared.error.Error.TheVariants.{Memory};
 ghost use Rattle.peephole_lang.specs.Node.{node_of};
 ghost use Rattle.peephole_terms.specs.Expansion.{term_in};
 ghost use Rattle.peephole_commands.specs.Graphs.{setting_in, site_of, IsPlace, IsGraphAt, AnswersAs};
+ghost use Rattle.peephole_graphs.specs.Block.{IsBlockIn};
 ghost use Rattle.peephole_graphs.specs.Layout.{AreWritable};
 ghost use Rattle.peephole_commands.specs.Writing.{output, term_output, written_output};
 
 use crate::graphs::Refusal;
 use crate::place::Place;
-use mutate_base::{LentWords, WasmMutate};
+use mutate_base::{Error, LentWords, WasmMutate};
 use peephole_lang::{Lang, RecExpr};
 use peephole_terms::laws::{faults_are_found, order_is_decided, own_trees_are_kept};
 use peephole_terms::{Encoder, MiniDFG, ResourceRequest};
@@ -24,7 +26,18 @@ pub struct Written {
     pub requests: Vec<ResourceRequest>,
 }
 
-// The body with the term of an expression in place of the tree of the operator at the point.
+// An expression for a point at which no operator of the block stands: it is written nowhere.
+fn unwritten(alloc: Global) -> Result<RecExpr<Lang>, Error>
+    ensures some { IfOk result (λ expr. 0 < length expr) }
+    ensures writable { IfOk result AreWritable }
+    ensures refused { IfErr result (λ e. e ≡ Memory) }
+{
+    let mut expr = RecExpr::new(alloc);
+    expr.add(Lang::Undef)?;
+    Ok(expr)
+}
+
+// The body with the term of an expression in place of the tree of the operator at the point, if the block has one there.
 fn write_term(
     alloc: Global,
     config: &mut WasmMutate<'_, LentWords<'_>>,
@@ -33,7 +46,7 @@ fn write_term(
     graph: &MiniDFG,
 ) -> Result<Written, Refusal>
     requires set_up { IsTrue (is_some config.old.setup) }
-    requires place { IsPlace place.now }
+    requires block { IsBlockIn place.now.body.now.operators place.now.block.now }
     requires some { 0 < length expr.now }
     requires writable { AreWritable expr.now }
     requires graph { IsGraphAt config.old place.now graph.now }
@@ -83,6 +96,10 @@ pub fn write_nodes(
     if nodes.len() > 0 {
         return write_term(alloc, config, place, nodes, graph);
     }
-    let own = graph.get_expr(alloc, place.point)?;
-    write_term(alloc, config, place, &own, graph)
+    let behind = Place {
+        body: place.body,
+        point: place.block.range().end,
+        block: place.block,
+    };
+    write_term(alloc, config, &behind, &unwritten(alloc)?, graph)
 }
