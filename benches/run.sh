@@ -7,7 +7,11 @@
 # The program in benches/main.rt.in makes the calls one after another up to the one that it is told; the cost of a call, with
 # what it takes to give back its answer, is the difference of two runs. `build_function` is run by `replace`, which reads the
 # body and makes its graph again, so that these are taken off once more.
+#
+# Usage: run.sh [OTHER]. At the end programs.sh counts whole runs of peephole_run, beside those of the other program, where
+# peephole_run is built.
 set -euo pipefail
+if [ $# -gt 0 ]; then set -- "$(realpath "$1")"; fi
 cd "$(dirname "$0")/.."
 
 small=${SMALL:-10000}
@@ -75,3 +79,5 @@ for shape in chain trees; do
         { printf "  %-16s %9.1f %9.1f %6.2f\n", $1, $2 / small, $4 / large, ($4 / large) / ($2 / small) }
     '
 done
+
+if [ -x "${PEEPHOLE_RUN:-crates/peephole_run/out/peephole_run}" ]; then benches/programs.sh "$@"; fi
