@@ -178,6 +178,21 @@ impl<'a> PeepholeMutationAnalysis<'a> {
         })
     }
 
+    /// The same without a copy: the module and the locals are taken, and `into_parts` gives them back.
+    pub fn of(info: ModuleInfo<'a>, locals: Vec<PrimitiveTypeInfo>) -> PeepholeMutationAnalysis<'a>
+        ensures { result ≡ record { info = info.entry; locals = locals.items } }
+    {
+        PeepholeMutationAnalysis { info, locals }
+    }
+
+    /// The module and the locals.
+    pub fn into_parts(self) -> (ModuleInfo<'a>, Vec<PrimitiveTypeInfo>)
+        ensures info { result.0 ≡ self.entry.info }
+        ensures locals { result.1.items ≡ self.entry.locals }
+    {
+        (self.info, self.locals)
+    }
+
     // Of an instruction that names something by its index.
     fn of_index(&self, kind: ResultKind, index: u32) -> Result<PrimitiveTypeInfo, Error>
         ensures { result ≡ index_type self.now kind index }
