@@ -10,11 +10,10 @@ use Rattle.peephole_nodes.specs.declared.id.Id.{Id}
 use Rattle.peephole_lang.specs.Term.{numbers_of}
 use Rattle.peephole_lang.specs.Text.{reads}
 use Rattle.peephole_graphs.specs.Block.{BlockRange, IsBlockOf, FindsTheBlock, block_at}
-use Rattle.peephole_commands.specs.declared.place.Point.{Point}
 use Rattle.peephole_commands.specs.Arguments.{only_word, named_children}
 use Rattle.peephole_commands.specs.Body.{Contents, body_of}
 use Rattle.peephole_commands.specs.Commands.{quiet, body_step, at_body, node_read, node_with, block_line}
-use Rattle.peephole_commands.specs.State.{SessionState, IsPointOf, PointsInto}
+use Rattle.peephole_commands.specs.State.{SessionState, PointsInto, block_in}
 
 -- the only word decides
 pub only_is : {A : Type 0} (value : List ℕ → Option A) (words : List (List ℕ)) (word : List ℕ) → only_word (λ w. Some w) words ≡ Some word →
@@ -35,12 +34,9 @@ pub point_is : (s : SessionState) (n : ℕ) (body : Contents) → s.body ≡ Som
 point_is s n body e i = rw (e, below_true n (length body.operators) i)
 
 -- the place of a point that has a block
-pub point_place : FindsTheBlock → (body : Option Contents) (point : Option Point) (b : Contents) (p : Point) (block : BlockRange) →
-    PointsInto body point → body ≡ Some b → point ≡ Some p → p.block ≡ Some block →
-    (p.index < length b.operators) × IsBlockOf b.operators p.index block.start block.end
-point_place law body point b p block h e k i =
-    let here : IsPointOf b p = rw (e, k) at h in
-    (here.within, (law b.operators p.index block).0 (sym here.block ∙ i))
+pub point_place : FindsTheBlock → (body : Option Contents) (point : Option ℕ) (b : Contents) (n : ℕ) (block : BlockRange) → PointsInto body point →
+    body ≡ Some b → point ≡ Some n → block_in body point ≡ Some block → (n < length b.operators) × IsBlockOf b.operators n block.start block.end
+point_place law body point b n block h e k i = (rw (e, k) at h, (law b.operators n block).0 (rw (e, k) at i))
 
 -- a node whose children were read
 pub node_is : (s : SessionState) (text : List ℕ) (words : List (List ℕ)) (count : ℕ) (ids : List Id) → count ≡ length s.nodes →

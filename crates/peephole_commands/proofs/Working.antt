@@ -6,6 +6,7 @@ use Rattle.mutate_base.specs.Config.{Config, Setup, info_of}
 use Rattle.mutate_base.specs.Module.{Module}
 use Rattle.mutate_base.specs.declared.error.Error.TheVariants.{Memory}
 use Rattle.mutate_base.specs.declared.types.PrimitiveTypeInfo.{PrimitiveTypeInfo}
+use Rattle.peephole_graphs.specs.Block.{BlockRange}
 use Rattle.peephole_graphs.specs.declared.dfg.MiniDFG.{MiniDFG}
 use Rattle.peephole_terms.specs.Written.{Site}
 use Rattle.peephole_script.specs.declared.fault.Fault.{Fault}
@@ -16,7 +17,7 @@ use Rattle.peephole_commands.specs.declared.place.Place.{Place}
 use Rattle.peephole_commands.specs.Commands.{place_in, place_for, working_place, at_working_place, answer_text, refusal_line, result_step, type_line, analysis_of, Steps, Prints}
 use Rattle.peephole_commands.specs.Graphs.{site_of, AnswersAs, IsGraphIn, KeepsTheGraph}
 use Rattle.peephole_commands.specs.Results.{result_output}
-use Rattle.peephole_commands.specs.State.{SessionState, Reply}
+use Rattle.peephole_commands.specs.State.{SessionState, Reply, KeepsTheBlock, block_in}
 
 -- a reply that leaves the state as it was
 abbrev saying : SessionState → List ℕ → Result Reply Fault
@@ -65,9 +66,15 @@ module_back config new info back words e same taken = same_Some back info (sym t
     module_in_setup : Option (Setup Module (List ℕ)) → Option Module
     module_in_setup setup = option_map (λ s. s.info) setup
 
--- ---- the graph that is kept
+-- ---- the block and the graph that are kept
 
--- it is the place's
+-- the point's block may be kept
+pub keeps_block : (body : Option Contents) (point : Option ℕ) (found : Option BlockRange) → found ≡ block_in body point →
+    KeepsTheBlock body point found
+keeps_block body point None e = tt
+keeps_block body point (Some block) e = sym e
+
+-- a graph that is kept is the place's
 pub kept_here : (info : Module) (preserving : Bool) (body : Option Contents) (point : Option ℕ) (words : List (List ℕ)) (p : Place)
     (kept taken : Option MiniDFG) → place_for body point words ≡ Ok (site_of p) → taken ≡ kept →
     KeepsTheGraph info preserving (place_in body point) kept → IfSome taken (IsGraphIn info preserving p)

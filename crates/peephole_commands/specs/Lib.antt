@@ -1,5 +1,6 @@
 pub mod Arguments
 pub mod Body
+pub mod Starts
 pub mod State
 pub mod Graphs
 pub mod Writing

@@ -4,8 +4,7 @@ use Rattle.mutate_base.specs.Module.{Module, module_of}
 use Rattle.mutate_base.specs.declared.types.PrimitiveTypeInfo.{PrimitiveTypeInfo}
 use Rattle.peephole_lang.specs.Term.{Node}
 use Rattle.peephole_lang.specs.declared.lang.Head.{Head}
-use Rattle.peephole_graphs.specs.Block.{block_at}
-use Rattle.peephole_commands.specs.declared.place.Point.{Point}
+use Rattle.peephole_graphs.specs.Block.{BlockRange, block_at}
 use Rattle.peephole_commands.specs.Body.{Contents}
 
 pub record SessionState : Type 0 where
@@ -30,12 +29,17 @@ pub record Reply : Type 0 where
   pub text : List ℕ
   pub next : SessionState
 
--- the point is an operator of the body, and the block is its own
-pub record IsPointOf (body : Contents) (point : Point) : Type 0 where
-  pub within : point.index < length body.operators
-  pub block : point.block ≡ block_at body.operators point.index
-
--- so it is where there are a body and a point
-abbrev pub PointsInto : Option Contents → Option Point → Type 0
+-- the point is an operator of the body, where there are both
+abbrev pub PointsInto : Option Contents → Option ℕ → Type 0
 PointsInto None point = Unit {0}
-PointsInto (Some body) point = IfSome point (IsPointOf body)
+PointsInto (Some body) point = IfSome point (λ n. n < length body.operators)
+
+-- the point's block, if there is one
+abbrev pub block_in : Option Contents → Option ℕ → Option BlockRange
+block_in None point = None
+block_in (Some body) None = None
+block_in (Some body) (Some point) = block_at body.operators point
+
+-- a block that is kept is the point's
+abbrev pub KeepsTheBlock : Option Contents → Option ℕ → Option BlockRange → Type 0
+KeepsTheBlock body point kept = IfSome kept (λ block. block_in body point ≡ Some block)

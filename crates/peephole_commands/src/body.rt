@@ -1,15 +1,18 @@
 //! A body, read.
 
-ghost use Rattle.std.specs.Prelude.{◌≡◌, ◌<◌, ◌⊎◌, length, Ok, Err, MatchResult};
+ghost use Rattle.std.specs.Prelude.{◌≡◌, ◌<◌, ◌⊎◌, length, option_map, Ok, Err, MatchResult};
 ghost use Rattle.peephole_graphs.specs.Block.{block_at};
 ghost use Rattle.peephole_terms.specs.Written.{IsBodyIn};
 ghost use Rattle.wasm_code.specs.declared.fault.ReadKind.TheVariants.{Memory};
 ghost use Rattle.peephole_commands.specs.Body.{body_of};
+ghost use Rattle.peephole_commands.specs.Starts.{block_range};
 
+use crate::starts::{range_at, starts_of};
 use peephole_terms::BBlock;
 use peephole_terms::laws::blocks_are_found;
 use std::alloc::Global;
 use std::marker::Model;
+use std::ops::Range;
 use wasm_code::laws::body_at_reads;
 use wasm_code::{OperatorAndByteOffset, ReadKind, read_body};
 
@@ -18,17 +21,22 @@ use wasm_code::{OperatorAndByteOffset, ReadKind, read_body};
 pub struct Body {
     bytes: Vec<u8>,
     operators: Vec<OperatorAndByteOffset>,
+    // Of each operator where its block starts, if it has one.
+    starts: Vec<usize>,
 }
 
 impl Model for Body {
     ghost use Rattle.peephole_terms.specs.Written.{IsBodyIn};
+    ghost use Rattle.std.specs.Prelude.{length};
     ghost use Rattle.peephole_commands.specs.Body.{Contents};
+    ghost use Rattle.peephole_commands.specs.Starts.{AreStarts};
 
     ghost Value = { Contents };
 
     ghost view = { λ b. record { bytes = b.bytes.items; operators = b.operators.items } };
 
-    ghost invariant = { λ b. IsBodyIn b.bytes.items b.operators.items };
+    ghost invariant = { λ b. IsBodyIn b.bytes.items b.operators.items
+        × AreStarts b.operators.items (length b.operators.items) b.starts.items };
 }
 
 impl Body {
@@ -39,7 +47,16 @@ impl Body {
     {
         body_at_reads();
         match read_body(alloc, bytes.as_slice(), 0, bytes.len()) {
-            Ok(operators) => Ok(Body { bytes, operators }),
+            Ok(operators) => {
+                let Ok(starts) = starts_of(alloc, operators.as_slice()) else {
+                    return Err(ReadKind::Memory);
+                };
+                Ok(Body {
+                    bytes,
+                    operators,
+                    starts,
+                })
+            }
             Err(error) => Err(error.kind),
         }
     }
@@ -66,7 +83,16 @@ impl Body {
         self.operators.len()
     }
 
-    /// The block of an operator, if there is one.
+    /// The range of an operator's block, if there is one.
+    pub fn range_at(&self, point: usize) -> Option<Range<usize>>
+        requires { point < length self.now.operators }
+        ensures { option_map (λ r. block_range r.start r.end) result
+            ≡ block_at self.now.operators point }
+    {
+        range_at(self.starts.as_slice(), self.operators.as_slice(), point)
+    }
+
+    /// The block of an operator, if there is one. It takes time linear in the block.
     pub fn block_at(&self, point: usize) -> Option<BBlock>
         requires { point < length self.now.operators }
         ensures { result ≡ block_at self.now.operators point }

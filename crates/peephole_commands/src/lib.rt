@@ -11,6 +11,7 @@ mod results;
 mod runner;
 mod session;
 mod show;
+mod starts;
 mod writing;
 
 pub use peephole_script::{Fault, LIMIT, RunError, Tally};

@@ -1,28 +1,27 @@
 //! The lines that commands print.
 
-ghost use Rattle.std.specs.Prelude.{◌≡◌, ◌≢◌, OnOk, IfErr};
+ghost use Rattle.std.specs.Prelude.{◌≡◌, ◌≢◌, option_map, OnOk, IfErr};
 ghost use Rattle.mutate_base.specs.declared.error.Error.TheVariants.{Memory};
 ghost use Rattle.peephole_commands.specs.declared.graphs.Refusal.TheVariants.{Refused};
 ghost use Rattle.peephole_commands.specs.Commands.{answer_text, block_line, bytes_line, global_line, output_lines, refusal_line, type_line, Prints};
+ghost use Rattle.peephole_commands.specs.Starts.{block_range};
 ghost use Rattle.peephole_commands.specs.Writing.{output};
 
 use crate::graphs::Refusal;
 use crate::writing::Written;
 use mutate_base::{Error, PrimitiveTypeInfo};
 use peephole_script::{Fault, write_digits};
-use peephole_terms::{BBlock, ResourceRequest};
+use peephole_terms::ResourceRequest;
 use std::alloc::Global;
+use std::ops::Range;
 use wasm_code::Function;
 
-/// The line that `at` prints of the point's block. `Memory` where an allocation was refused.
-pub fn block_line(alloc: Global, block: &Option<BBlock>) -> Result<Vec<u8>, Fault>
-    ensures { Prints (block_line block.now) result }
+/// The line that `at` prints of the range of the point's block. `Memory` where an allocation was refused.
+pub fn block_line(alloc: Global, range: Option<Range<usize>>) -> Result<Vec<u8>, Fault>
+    ensures { Prints (block_line (option_map (λ r. block_range r.start r.end) range)) result }
 {
-    let text = match block {
-        Some(block) => {
-            let range = block.range();
-            format!(in alloc; "block {}..{}\n", range.start, range.end)
-        }
+    let text = match range {
+        Some(range) => format!(in alloc; "block {}..{}\n", range.start, range.end),
         None => format!(in alloc; "no block\n"),
     };
     Ok(text?.into_bytes())

@@ -1,6 +1,6 @@
 //! The type of the result of the operator at the point.
 
-ghost use Rattle.std.specs.Prelude.{◌≡◌, ◌⊎◌, IsSome, Ok, Err, IfOk, IfErr, IfSome, MatchResult};
+ghost use Rattle.std.specs.Prelude.{◌≡◌, ◌⊎◌, IsSome, Ok, Err, IfSome, MatchResult};
 ghost use Rattle.mutate_base.specs.declared.error.Error.TheVariants.{Memory};
 ghost use Rattle.peephole_lang.specs.Term.{tree_at};
 ghost use Rattle.peephole_analysis.specs.TermTypes.{term_type};
@@ -11,30 +11,13 @@ ghost use Rattle.peephole_commands.specs.Results.{Tells};
 
 use crate::graphs::Refusal;
 use crate::place::Place;
-use mutate_base::{Error, ModuleInfo, PrimitiveTypeInfo};
+use mutate_base::{Error, PrimitiveTypeInfo};
 use peephole_analysis::PeepholeMutationAnalysis;
 use peephole_terms::MiniDFG;
 use peephole_terms::laws::{
     entries_have_trees, faults_are_found, own_trees_are_kept, terms_stand_for_trees,
 };
 use std::alloc::Global;
-
-/// The types of results in a module and its function: those that are kept, or a copy that is made.
-pub fn analysis_in(
-    alloc: Global,
-    kept: Option<PeepholeMutationAnalysis<'static>>,
-    info: &ModuleInfo<'static>,
-    locals: &[PrimitiveTypeInfo],
-) -> Result<PeepholeMutationAnalysis<'static>, Error>
-    requires { IfSome kept (λ a. a ≡ record { info = info.now; locals = locals.now }) }
-    ensures made { IfOk result (λ a. a ≡ record { info = info.now; locals = locals.now }) }
-    ensures refused { IfErr result (λ e. e ≡ Memory) }
-{
-    match kept {
-        Some(analysis) => Ok(analysis),
-        None => PeepholeMutationAnalysis::new(info, locals.to_vec(alloc)?),
-    }
-}
 
 // The type of the result of the tree of an operator of a graph.
 fn own_type(

@@ -1,22 +1,22 @@
 //! What the program keeps between two lines, and what each command does to it.
 
-ghost use Rattle.std.specs.Prelude.{◌≡◌, ◌<◌, ◌≤◌, ◌^◌, All, List, [], map, option_map, length, Some, Ok, Err, IfOk, IfSome, MatchResult};
+ghost use Rattle.std.specs.Prelude.{◌≡◌, ◌<◌, ◌≤◌, ◌^◌, All, List, [], map, length, Some, Ok, Err, IfOk, MatchResult};
 ghost use Rattle.peephole_lang.specs.Node.{node_of};
 ghost use Rattle.peephole_lang.specs.Term.{numbers_of};
 ghost use Rattle.peephole_lang.specs.Text.{reads};
 ghost use Rattle.peephole_graphs.specs.Layout.{AreWritable};
 ghost use Rattle.peephole_script.specs.Text.{texts};
 ghost use Rattle.peephole_commands.specs.Arguments.{named_children};
-ghost use Rattle.peephole_commands.specs.State.{SessionState, Reply, PointsInto, start};
+ghost use Rattle.peephole_commands.specs.State.{SessionState, Reply, PointsInto, KeepsTheBlock, block_in, start};
 ghost use Rattle.peephole_commands.specs.Graphs.{IsPlace, KeepsTheGraph};
 ghost use Rattle.peephole_commands.specs.Commands.{step_line, words_step, command_step, declare_step, local_step, preserve_step, draw_step, body_step, at_step, node_step, node_with, node_read, place_in, place_for, show_step, result_step, write_step, Steps, Finds};
 
 use crate::arguments::{ids_of, only};
 use crate::body::Body;
 use crate::graphs::point_graph;
-use crate::place::{Place, Point};
+use crate::place::Place;
 use crate::reply::{block_line, refusal_line, told_line, written_lines};
-use crate::results::{analysis_in, point_type};
+use crate::results::point_type;
 use crate::show::show_graph;
 use crate::writing::write_nodes;
 use mutate_base::{Error, LentWords, ModuleInfo, PrimitiveTypeInfo, WasmMutate};
@@ -26,7 +26,7 @@ use peephole_script::{
     Command, Declaration, Fault, command_of, declare, is_text, is_yes, number_of, read_digits,
     type_of, words_of,
 };
-use peephole_terms::MiniDFG;
+use peephole_terms::{BBlock, MiniDFG};
 use peephole_terms::laws::{blocks_are_found, own_trees_are_kept};
 use std::alloc::Global;
 use std::marker::Model;
@@ -34,7 +34,7 @@ use std::mem;
 use wasm_code::ReadKind;
 
 /// What the program keeps between two lines: the module and the mode, the words to be drawn, the body, the operator that is
-/// the point with its block, and the term.
+/// the point, and the term.
 #[derive(Drop)]
 pub struct Session {
     alloc: Global,
@@ -43,11 +43,11 @@ pub struct Session {
     preserving: bool,
     words: Vec<u64>,
     body: Option<Body>,
-    point: Option<Point>,
+    point: Option<usize>,
     nodes: RecExpr<Lang>,
-    // The graph of the point's block and the types of results, as long as what they were made from stays the same.
+    // The point's block and its graph, once a command has asked for them, as long as what they were made from stays the same.
+    block: Option<BBlock>,
     graph: Option<MiniDFG>,
-    analysis: Option<PeepholeMutationAnalysis<'static>>,
 }
 
 impl Model for Session {
@@ -59,13 +59,13 @@ impl Model for Session {
       preserving = s.preserving;
       words = s.words.items;
       body = s.body;
-      point = option_map (λ p. p.index) s.point;
+      point = s.point;
       nodes = map node_of s.nodes;
     } };
 
     ghost invariant = { λ s. PointsInto s.body s.point × (length s.nodes ≤ 2 ^ 32) × AreWritable s.nodes
-        × KeepsTheGraph s.info s.preserving (place_in s.body (option_map (λ p. p.index) s.point)) s.graph
-        × IfSome s.analysis (λ a. a ≡ record { info = s.info; locals = s.locals.items }) };
+        × KeepsTheBlock s.body s.point s.block
+        × KeepsTheGraph s.info s.preserving (place_in s.body s.point) s.graph };
 }
 
 impl Session {
@@ -82,8 +82,8 @@ impl Session {
             body: None,
             point: None,
             nodes: RecExpr::new(alloc),
+            block: None,
             graph: None,
-            analysis: None,
         }
     }
 
@@ -136,7 +136,6 @@ impl Session {
         ensures { Steps (declare_step declaration self.old (texts arguments.now)) self.new result }
     {
         self.graph = None;
-        self.analysis = None;
         declare(self.alloc, &mut self.info, declaration, arguments)?;
         Ok(Vec::new(self.alloc))
     }
@@ -147,7 +146,6 @@ impl Session {
         let Some(value) = type_of(only(arguments)?) else {
             return Err(Fault::BadArgument);
         };
-        self.analysis = None;
         self.locals.push(value)?;
         Ok(Vec::new(self.alloc))
     }
@@ -182,6 +180,7 @@ impl Session {
                 self.body = Some(body);
                 self.point = None;
                 self.nodes = RecExpr::new(self.alloc);
+                self.block = None;
                 self.graph = None;
                 Ok(Vec::new(self.alloc))
             }
@@ -203,10 +202,10 @@ impl Session {
             return Err(Fault::OutOfRange);
         }
         let index = number as usize;
-        let block = body.block_at(index);
-        let line = block_line(self.alloc, &block)?;
-        self.point = Some(Point { index, block });
+        let line = block_line(self.alloc, body.range_at(index))?;
+        self.point = Some(index);
         self.nodes = RecExpr::new(self.alloc);
+        self.block = None;
         self.graph = None;
         Ok(line)
     }
@@ -257,7 +256,8 @@ impl Session {
     fn show(&mut self, arguments: &[&str]) -> Result<Vec<u8>, Fault>
         ensures { Steps (show_step self.old (texts arguments.now)) self.new result }
     {
-        let place = place_for(&self.body, &self.point, arguments)?;
+        self.block = point_block(&self.body, self.point, self.block.take());
+        let place = place_for(&self.body, self.point, &self.block, arguments)?;
         let kept = self.graph.take();
         match point_graph(self.alloc, kept, &self.info, self.preserving, &place) {
             Ok(graph) => {
@@ -275,18 +275,19 @@ impl Session {
         ensures { Steps (result_step self.old (texts arguments.now)) self.new result }
     {
         own_trees_are_kept();
-        let place = place_for(&self.body, &self.point, arguments)?;
+        self.block = point_block(&self.body, self.point, self.block.take());
+        let place = place_for(&self.body, self.point, &self.block, arguments)?;
         let kept = self.graph.take();
         match point_graph(self.alloc, kept, &self.info, self.preserving, &place) {
             Ok(graph) => {
-                let kept = self.analysis.take();
-                let locals = self.locals.as_slice();
-                let Ok(analysis) = analysis_in(self.alloc, kept, &self.info, locals) else {
-                    return Err(Fault::Memory);
-                };
+                let info = mem::replace(&mut self.info, ModuleInfo::new(self.alloc, &[]));
+                let locals = mem::replace(&mut self.locals, Vec::new(self.alloc));
+                let analysis = PeepholeMutationAnalysis::of(info, locals);
                 let told = point_type(self.alloc, &analysis, &graph, &place);
+                let (info, locals) = analysis.into_parts();
+                self.info = info;
+                self.locals = locals;
                 self.graph = Some(graph);
-                self.analysis = Some(analysis);
                 told_line(self.alloc, told)
             }
             Err(refusal) => refusal_line(self.alloc, refusal),
@@ -296,7 +297,8 @@ impl Session {
     fn write(&mut self, arguments: &[&str]) -> Result<Vec<u8>, Fault>
         ensures { Steps (write_step self.old (texts arguments.now)) self.new result }
     {
-        let place = place_for(&self.body, &self.point, arguments)?;
+        self.block = point_block(&self.body, self.point, self.block.take());
+        let place = place_for(&self.body, self.point, &self.block, arguments)?;
         let kept = self.graph.take();
         match point_graph(self.alloc, kept, &self.info, self.preserving, &place) {
             Ok(graph) => {
@@ -327,15 +329,35 @@ fn config_of<'a>(
     config
 }
 
+// The point's block, if there is one: the one that is kept, or one that is found, in time linear in the block.
+fn point_block(
+    body: &Option<Body>,
+    point: Option<usize>,
+    kept: Option<BBlock>,
+) -> Option<BBlock>
+    requires point { PointsInto body.now point }
+    requires kept { KeepsTheBlock body.now point kept }
+    ensures { result ≡ block_in body.now point }
+{
+    if kept.is_some() {
+        return kept;
+    }
+    match (body, point) {
+        (Some(body), Some(point)) => body.block_at(point),
+        _ => None,
+    }
+}
+
 // Where a command without arguments works.
 fn place_for<'a>(
     body: &'a Option<Body>,
-    point: &'a Option<Point>,
+    point: Option<usize>,
+    block: &'a Option<BBlock>,
     arguments: &[&str],
 ) -> Result<Place<'a>, Fault>
-    requires { PointsInto body.now point.now }
-    ensures place { Finds (place_for body.now (option_map (λ p. p.index) point.now)
-        (texts arguments.now)) result }
+    requires point { PointsInto body.now point }
+    requires block { block.now ≡ block_in body.now point }
+    ensures place { Finds (place_for body.now point (texts arguments.now)) result }
     ensures is { IfOk result IsPlace }
 {
     blocks_are_found();
@@ -345,12 +367,8 @@ fn place_for<'a>(
     let (Some(body), Some(point)) = (body, point) else {
         return Err(Fault::NoBlock);
     };
-    match &point.block {
-        Some(block) => Ok(Place {
-            body,
-            point: point.index,
-            block,
-        }),
+    match block {
+        Some(block) => Ok(Place { body, point, block }),
         None => Err(Fault::NoBlock),
     }
 }

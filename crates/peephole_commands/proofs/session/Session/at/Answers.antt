@@ -11,4 +11,4 @@ returns c =
       only_is number_of (texts c.args.arguments.now) _ c.in_ok-only.ensures ∙ sym c.in-Some.ensures,
       point_is c.args.self.now c.in-Some.number c.in-Some-body.body body below,
     )
-    (rw (← c.self.view_is, c.new.ensures, c.in_ok-line.ensures, c.block_at-block.ensures))
+    (rw (← c.self.view_is, c.new.ensures, c.in_ok-line.ensures, c.range_at.ensures))

@@ -1,14 +1,13 @@
-use Rattle.std.specs.Prelude.{option_map}
 use Rattle.peephole_script.specs.Text.{texts}
-use Rattle.peephole_commands.proofs.Working.{kept_here, keeps_here}
+use Rattle.peephole_commands.proofs.Working.{kept_here, keeps_block, keeps_here}
 use Rattle.peephole_commands.proofs.Shows.{some_entries}
 use Rattle.peephole_commands.proofs.session.Session.show.Goals as goal
 
 pub point_graph-requires-clause-kept : goal.point_graph-requires-clause-kept
 point_graph-requires-clause-kept c =
-    kept_here c.self.inside.info c.self.inside.preserving c.self.inside.body (option_map (λ p. p.index) c.self.inside.point)
+    kept_here c.self.inside.info c.self.inside.preserving c.self.inside.body c.self.inside.point
     (texts c.args.arguments.now) c.in_ok-place.place c.self.inside.graph c.take-kept.result c.in_ok-place.ensures.place c.take-kept.ensures.value
-    c.self.invariant.3
+    c.self.invariant.4
 
 pub show_graph-requires : goal.show_graph-requires
 show_graph-requires c =
@@ -19,7 +18,7 @@ invariant_of-self-in-Ok c = (
   c.self.invariant.0,
   c.self.invariant.1,
   c.self.invariant.2,
-  keeps_here c.self.inside.info c.self.inside.preserving c.self.inside.body (option_map (λ p. p.index) c.self.inside.point)
+  keeps_block c.self.inside.body c.self.inside.point c.point_block-self-inside.result c.point_block-self-inside.ensures,
+  keeps_here c.self.inside.info c.self.inside.preserving c.self.inside.body c.self.inside.point
       (texts c.args.arguments.now) c.in_ok-place.place c.in-Ok.graph c.in_ok-place.ensures.place c.in-Ok.ensures.graph,
-  c.self.invariant.4,
 )

@@ -1,0 +1,7 @@
+use Rattle.std.proofs.Common.{◌≡◌}
+use Rattle.peephole_graphs.specs.Block.{block_start}
+use Rattle.peephole_commands.specs.Starts.{AreStarts}
+use Rattle.peephole_commands.proofs.starts.starts_of.Given as goal
+
+abbrev pub invariant-loop-index : goal.invariant-loop-index
+invariant-loop-index l = AreStarts l.operators l.index l.starts.items × (l.start ≡ block_start l.operators l.index)

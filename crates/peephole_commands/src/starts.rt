@@ -1,0 +1,40 @@
+//! Where the blocks of a body start.
+
+ghost use Rattle.std.specs.Prelude.{◌≡◌, ◌<◌, length, option_map, IfOk};
+ghost use Rattle.peephole_graphs.specs.Block.{block_at};
+ghost use Rattle.peephole_commands.specs.Starts.{AreStarts, block_range};
+
+use std::alloc::{AllocError, Global};
+use std::ops::Range;
+use wasm_code::OperatorAndByteOffset;
+
+/// Of each operator the index behind the last delimiter before it.
+pub fn starts_of(alloc: Global, operators: &[OperatorAndByteOffset]) -> Result<Vec<usize>, AllocError>
+    ensures { IfOk result (λ starts. AreStarts operators.now (length operators.now) starts.items) }
+{
+    let mut starts = Vec::with_capacity(alloc, operators.len())?;
+    let mut start = 0;
+    for index in 0..operators.len() {
+        starts.push(start)?;
+        if operators[index].0.is_delimiter() {
+            start = index + 1;
+        }
+    }
+    Ok(starts)
+}
+
+/// The range of an operator's block, if there is one, by where blocks start.
+pub fn range_at(
+    starts: &[usize],
+    operators: &[OperatorAndByteOffset],
+    point: usize,
+) -> Option<Range<usize>>
+    requires there { point < length operators.now }
+    requires starts { AreStarts operators.now (length operators.now) starts.now }
+    ensures { option_map (λ r. block_range r.start r.end) result ≡ block_at operators.now point }
+{
+    if operators[point].0.is_delimiter() {
+        return None;
+    }
+    Some(starts[point]..point + 1)
+}
