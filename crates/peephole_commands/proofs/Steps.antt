@@ -1,5 +1,5 @@
 -- What single commands do where nothing is wrong with their words.
-use Rattle.std.proofs.Common.{◌≡◌, ℕ, true, List, [], ◌∷◌, length, ap, ◌∙◌, sym, arith, Some, None, Ok, ◌<◌}
+use Rattle.std.proofs.Common.{◌≡◌, ℕ, true, List, [], ◌∷◌, length, ap, ◌∙◌, arith, Some, None, Ok, ◌<◌}
 use Rattle.std.specs.Prelude.{Option, nat_lt}
 use Rattle.std.proofs.lemmas.Bool.Decides.{nat_tests}
 use Rattle.std.specs.List.{concat}

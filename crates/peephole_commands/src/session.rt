@@ -26,8 +26,8 @@ use peephole_script::{
     Command, Declaration, Fault, command_of, declare, is_text, is_yes, number_of, read_digits,
     type_of, words_of,
 };
-use peephole_terms::{BBlock, MiniDFG};
 use peephole_terms::laws::{blocks_are_found, own_trees_are_kept};
+use peephole_terms::{BBlock, MiniDFG};
 use std::alloc::Global;
 use std::marker::Model;
 use std::mem;
@@ -330,11 +330,7 @@ fn config_of<'a>(
 }
 
 // The point's block, if there is one: the one that is kept, or one that is found, in time linear in the block.
-fn point_block(
-    body: &Option<Body>,
-    point: Option<usize>,
-    kept: Option<BBlock>,
-) -> Option<BBlock>
+fn point_block(body: &Option<Body>, point: Option<usize>, kept: Option<BBlock>) -> Option<BBlock>
     requires point { PointsInto body.now point }
     requires kept { KeepsTheBlock body.now point kept }
     ensures { result ≡ block_in body.now point }

@@ -9,7 +9,10 @@ use std::ops::Range;
 use wasm_code::OperatorAndByteOffset;
 
 /// Of each operator the index behind the last delimiter before it.
-pub fn starts_of(alloc: Global, operators: &[OperatorAndByteOffset]) -> Result<Vec<usize>, AllocError>
+pub fn starts_of(
+    alloc: Global,
+    operators: &[OperatorAndByteOffset],
+) -> Result<Vec<usize>, AllocError>
     ensures { IfOk result (λ starts. AreStarts operators.now (length operators.now) starts.items) }
 {
     let mut starts = Vec::with_capacity(alloc, operators.len())?;
