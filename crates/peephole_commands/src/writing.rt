@@ -27,6 +27,7 @@ pub struct Written {
 }
 
 // An expression for a point at which no operator of the block stands: it is written nowhere.
+#[tactic(auto, unfolding(peephole_lang::specs::Lang::ids_of, peephole_lang::specs::Lang::payload_of))]
 fn unwritten(alloc: Global) -> Result<RecExpr<Lang>, Error>
     ensures some { IfOk result (λ expr. 0 < length expr) }
     ensures writable { IfOk result AreWritable }
