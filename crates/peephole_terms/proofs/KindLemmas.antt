@@ -20,8 +20,9 @@ use Rattle.peephole_lang.specs.Term.{Terms, Node, pick, tree_at}
 use Rattle.peephole_terms.specs.EncoderSteps.{own_step, own_step_in, nothing}
 use Rattle.peephole_terms.specs.NodeKind.{NodeKind, rowless, kind_found, node_kind, of_instruction, is_unfold}
 
--- ---- the places of nodes that are held in one
+-- ---- the places of nodes that are held in one: they have a row
 
+-- what is given back has a late place
 behind : {A : Type 0} (early : Bool) (o : Option A) (x : A) → (if early then None else o) ≡ Some x → early ≡ false
 behind true o x e = absurd cc
 behind false o x e = refl
@@ -40,11 +41,12 @@ simd_behind s =
 
 -- ---- unfolds
 
+-- an instruction is none
 none_unfolds : (o : Option Instruction) → is_unfold (of_instruction o) ≡ false
 none_unfolds None = refl
 none_unfolds (Some i) = refl
 
--- a node with a row is none
+-- nor is a node with a row
 row_unfolds : (h : Head) → 12 ≤ h.place → is_unfold (node_kind h) ≡ false
 row_unfolds h late =
     ap (λ (k : Option NodeKind). is_unfold (kind_found k (instr_of_head h))) (slice_get_past rowless h.place late)
@@ -80,11 +82,13 @@ pub record IsPlain (l : Lang) : Type 0 where
   pub global_f32 : (i : Id) → l ≡ lang.F32UseGlobal i → ⊥
   pub global_f64 : (i : Id) → l ≡ lang.F64UseGlobal i → ⊥
 
+-- a node with a row adds nothing, where it has no instruction
 row_adds : (h : Head) (kids : Terms Head) → 12 ≤ h.place → instr_of_head h ≡ None → own_step (node_kind h) kids ≡ nothing
 row_adds h kids late e =
     ap (λ (k : Option NodeKind). own_step (kind_found k (instr_of_head h)) kids) (slice_get_past rowless h.place late)
     ∙ ap (λ (i : Option Instruction). own_step (of_instruction i) kids) e
 
+-- nor does any other
 plain_adds : (l : Lang) (kids : Terms Head) → instr_of l ≡ None → IsPlain l → own_step (node_kind (head_of l)) kids ≡ nothing
 unfolding place_of
 plain_adds lang.RandI32 kids e h = absurd (h.rand_i32 refl)
@@ -101,10 +105,11 @@ plain_adds (lang.Numeric n) kids e h = row_adds (head_of (lang.Numeric n)) kids 
 plain_adds (lang.Simd s) kids e h = row_adds (head_of (lang.Simd s)) kids (simd_behind s) e
 plain_adds l kids e h = ap (λ (i : Option Instruction). own_step (of_instruction i) kids) e
 
--- nothing, where it has no instruction
+-- so it is with the children that are there
 pub adds_nothing : (ns : List (Node Head)) (l : Lang) → instr_of l ≡ None → IsPlain l → own_step_in ns l ≡ nothing
 adds_nothing ns l e h = plain_adds l (pick (tree_at ns) (children_of l)) e h
 
+-- what is nothing that is there is none
 pub none_left : {A : Type 0} (o : Option A) → ((x : A) → o ≡ Some x → ⊥) → o ≡ None
 none_left None h = refl
 none_left (Some x) h = absurd (h x refl)

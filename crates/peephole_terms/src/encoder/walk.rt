@@ -30,8 +30,8 @@ impl<R: Rng> Writer<'_, R> {
     ghost use Rattle.peephole_terms.specs.EncoderSteps.{nodes_in, steps_of};
     ghost use Rattle.peephole_terms.specs.Writer.{IsSame, Takes};
 
-    /// Writes the tree of a node, in postfix, by a walk that stands nowhere, and then stands nowhere again. It stops at nodes
-    /// that have children to write, and asks for memory only where it never went as far down.
+    /// Writes the tree of a node, in postfix, by a walk that stands nowhere, and then stands nowhere again. It goes down to
+    /// nodes with children to write alone, and asks for memory where it goes further down than for the trees before.
     pub(crate) fn write_tree_by<'n, N: Holds>(
         &mut self,
         walk: &mut Postfix<'n>,

@@ -14,7 +14,8 @@ loop-turn-init g c = record {
   walk = start {k = walk_of g.N.Holds.held c.args.nodes.now c.args.self.now.globals c.args.root (writing_in g.R.Rng.stream c.args.self.now)}
       c.children_to_write-children.result.now c.requires.below c.requires.root
       (record { is = c.index-nodes-root.is; held_is = c.node-node.ensures }) c.children_to_write-children.ensures
-      (c.in_ok-enter.ensures.entered ∙ ap (λ (turns : List Turn). turns_of c.args.root (numbers_of c.children_to_write-children.result.now) ++ turns) c.requires.rests);
+      (c.in_ok-enter.ensures.entered
+      ∙ ap (λ (turns : List Turn). turns_of c.args.root (numbers_of c.children_to_write-children.result.now) ++ turns) c.requires.rests);
   kept = grind (arith, common_steps);
   same = record { globals = refl; sink = refl; requests = refl; rng = refl };
 }
@@ -89,7 +90,8 @@ returns-in_err-write_own-in-Child-clause-taken g c =
 pub loop-turn-preserved-in-Continue-branch-3 : goal.loop-turn-preserved-in-Continue-branch-3
 loop-turn-preserved-in-Continue-branch-3 g c = record {
   walk = (down c.loop-turn.invariant.walk c.children_to_write-children-in-Child.result.now (rw c.in-Child.is at c.in-Some.ensures)
-      (record { is = c.index-nodes-index.is; held_is = c.node-node-in-Child.ensures }) c.children_to_write-children-in-Child.ensures c.in_ok-enter-in-Child.ensures.entered).0;
+      (record { is = c.index-nodes-index.is; held_is = c.node-node-in-Child.ensures })
+      c.children_to_write-children-in-Child.ensures c.in_ok-enter-in-Child.ensures.entered).0;
   kept = c.loop-turn.invariant.kept;
   same = c.loop-turn.invariant.same;
 }
@@ -97,7 +99,8 @@ loop-turn-preserved-in-Continue-branch-3 g c = record {
 pub loop-turn-smaller-in-Continue-branch-3 : goal.loop-turn-smaller-in-Continue-branch-3
 loop-turn-smaller-in-Continue-branch-3 g c =
     (down c.loop-turn.invariant.walk c.children_to_write-children-in-Child.result.now (rw c.in-Child.is at c.in-Some.ensures)
-    (record { is = c.index-nodes-index.is; held_is = c.node-node-in-Child.ensures }) c.children_to_write-children-in-Child.ensures c.in_ok-enter-in-Child.ensures.entered).1
+    (record { is = c.index-nodes-index.is; held_is = c.node-node-in-Child.ensures })
+    c.children_to_write-children-in-Child.ensures c.in_ok-enter-in-Child.ensures.entered).1
 
 pub loop-turn-preserved : goal.loop-turn-preserved
 loop-turn-preserved g c = record {
