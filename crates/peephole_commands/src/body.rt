@@ -21,7 +21,7 @@ use wasm_code::{OperatorAndByteOffset, ReadKind, read_body};
 pub struct Body {
     bytes: Vec<u8>,
     operators: Vec<OperatorAndByteOffset>,
-    // Of each operator where its block starts, if it has one.
+    // Of every sixteenth operator where its block starts, if it has one.
     starts: Vec<usize>,
 }
 

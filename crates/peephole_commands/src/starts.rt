@@ -1,29 +1,50 @@
 //! Where the blocks of a body start.
 
 ghost use Rattle.std.specs.Prelude.{◌≡◌, ◌<◌, length, option_map, IfOk};
-ghost use Rattle.peephole_graphs.specs.Block.{block_at};
+ghost use Rattle.peephole_graphs.specs.Block.{block_at, block_start};
 ghost use Rattle.peephole_commands.specs.Starts.{AreStarts, block_range};
 
 use std::alloc::{AllocError, Global};
 use std::ops::Range;
 use wasm_code::OperatorAndByteOffset;
 
-/// Of each operator the index behind the last delimiter before it.
+// One start is kept for so many operators, half a byte for each. From any of them the kept one before it is a few steps back.
+const STRIDE: usize = 16;
+
+/// Of every sixteenth operator the index behind the last delimiter before it.
 pub fn starts_of(
     alloc: Global,
     operators: &[OperatorAndByteOffset],
 ) -> Result<Vec<usize>, AllocError>
     ensures { IfOk result (λ starts. AreStarts operators.now (length operators.now) starts.items) }
 {
-    let mut starts = Vec::with_capacity(alloc, operators.len())?;
+    let mut starts = Vec::with_capacity(alloc, operators.len() / STRIDE + 1)?;
     let mut start = 0;
     for index in 0..operators.len() {
-        starts.push(start)?;
+        if index % STRIDE == 0 {
+            starts.push(start)?;
+        }
         if operators[index].0.is_delimiter() {
             start = index + 1;
         }
     }
     Ok(starts)
+}
+
+// The index behind the last delimiter before the operator at the point. It walks back to an operator whose start is kept.
+fn start_of(starts: &[usize], operators: &[OperatorAndByteOffset], point: usize) -> usize
+    requires there { point < length operators.now }
+    requires starts { AreStarts operators.now (length operators.now) starts.now }
+    ensures { result ≡ block_start operators.now point }
+{
+    let mut index = point;
+    while index % STRIDE > 0 {
+        if operators[index - 1].0.is_delimiter() {
+            return index;
+        }
+        index -= 1;
+    }
+    starts[index / STRIDE]
 }
 
 /// The range of an operator's block, if there is one, by where blocks start.
@@ -39,5 +60,5 @@ pub fn range_at(
     if operators[point].0.is_delimiter() {
         return None;
     }
-    Some(starts[point]..point + 1)
+    Some(start_of(starts, operators, point)..point + 1)
 }
