@@ -28,7 +28,7 @@ use Rattle.peephole_rules.specs.Classes.{is_drop, is_select, is_tee, is_negation
 use Rattle.peephole_rules.specs.Rule.{rule_number}
 use Rattle.peephole_rules.specs.Rewriting.{answer_if, all_ones, rewrite}
 use Rattle.peephole_rules.specs.Shape.{shape_of}
-use Rattle.peephole_rules.specs.Choice.{are_undisturbed, number_of, number_of_second, number_behind, number_compared, same_behind, swap, turn, turn_select, group_left, group_right, without, without_all_ones, test, comparison, with_opposite, with_power, with_place, with_mask, with_divisor, with_rest, forgotten, by_first, double, alone, negated, both_tests, unnegated, distributed, shifts, choice, have_same_local, type_of_same, cancelled, first_of_same, same_with, selected_same, collected, set_apart}
+use Rattle.peephole_rules.specs.Choice as choices
 use Rattle.peephole_rules.specs.Candidates.{AreOnce, comparison_rules, binary_rules, test_rules, rules_on}
 use Rattle.peephole_rules.proofs.AnswerLemmas.{has_answer}
 use Rattle.peephole_rules.proofs.ChoiceLemmas.{chosen}
@@ -280,12 +280,12 @@ listed_wrapping _ h = not_met h
 
 -- ---- what an answer says of the operator
 
-swaps : (o : Option Operator) (operands : Operands) → IsTrue (is_some (swap o operands)) → IsTrue (is_commutative o)
+swaps : (o : Option Operator) (operands : Operands) → IsTrue (is_some (choices.swap o operands)) → IsTrue (is_commutative o)
 swaps o (Two x y) h = (and_parts _ _ (is_met _ (Some Swap) h)).0
 swaps o _ h = absurd cc
 
-turns : (o : Option Operator) (operands : Operands) → IsTrue (is_some (turn o operands)) → IsTrue (is_some (turned_operation o))
-turns o (Two x y) h = is_there (λ p. option_and_then (λ f. answer_if (are_undisturbed x y) (Turn f)) p) (turned_operation o) refl h
+turns : (o : Option Operator) (operands : Operands) → IsTrue (is_some (choices.turn o operands)) → IsTrue (is_some (turned_operation o))
+turns o (Two x y) h = is_there (λ p. option_and_then (λ f. answer_if (choices.are_undisturbed x y) (Turn f)) p) (turned_operation o) refl h
 turns o _ h = absurd cc
 
 grouped : (o other : Option Operator) (values : Option (Bool × Bool)) (pick : Bool × Bool → Bool) (r : Replacement) →
@@ -294,86 +294,87 @@ grouped o other None pick r h = absurd cc
 grouped o other (Some v) pick r h = (and_parts (in_one_group o other) (pick v) (is_met _ (Some r) h)).0
 
 groups_left : (r : Rule) → ((f : BinaryOperator) → IsTrue (is_associative f) → IsTrue (has_number (binary_rules f) (rule_number r))) →
-    (o : Option Operator) (operands : Operands) → IsTrue (is_some (group_left o operands)) → IsListed r o
+    (o : Option Operator) (operands : Operands) → IsTrue (is_some (choices.group_left o operands)) → IsListed r o
 groups_left r k o (Two x inner) h = listed_grouped r k o inner.operator (grouped o inner.operator inner.values (λ v. v.0) GroupLeft h)
 groups_left r k o _ h = absurd cc
 
 groups_right : (r : Rule) → ((f : BinaryOperator) → IsTrue (is_associative f) → IsTrue (has_number (binary_rules f) (rule_number r))) →
-    (o : Option Operator) (operands : Operands) → IsTrue (is_some (group_right o operands)) → IsListed r o
+    (o : Option Operator) (operands : Operands) → IsTrue (is_some (choices.group_right o operands)) → IsListed r o
 groups_right r k o (Two inner z) h = listed_grouped r k o inner.operator (grouped o inner.operator inner.values (λ v. v.1) GroupRight h)
 groups_right r k o _ h = absurd cc
 
-compares : (o : Option Operator) (operands : Operands) → IsTrue (is_some (comparison o operands)) → IsTrue (is_some (test_type o))
+compares : (o : Option Operator) (operands : Operands) → IsTrue (is_some (choices.comparison o operands)) → IsTrue (is_some (test_type o))
 compares o (One x) h = is_there (option_map (λ t. FirstWith (Compare t Eq) t 0)) (test_type o) refl h
 compares o _ h = absurd cc
 
-selects : (o : Option Operator) (operands : Operands) → IsTrue (is_some (turn_select o operands)) → IsTrue (is_select o)
+selects : (o : Option Operator) (operands : Operands) → IsTrue (is_some (choices.turn_select o operands)) → IsTrue (is_select o)
 selects o (Three x y c) h = (and_parts _ _ (is_met _ (Some TurnSelect) h)).0
 selects o _ h = absurd cc
 
-drops : (o : Option Operator) (operands : Operands) → IsTrue (is_some (forgotten o operands)) → IsTrue (is_drop o)
+drops : (o : Option Operator) (operands : Operands) → IsTrue (is_some (choices.forgotten o operands)) → IsTrue (is_drop o)
 drops o (One x) h = (and_parts _ _ (is_met _ (Some Empty) h)).0
 drops o _ h = absurd cc
 
-negates : (o : Option Operator) (operands : Operands) → IsTrue (is_some (negated o operands)) → IsTrue (is_some (opposite_operation o))
+negates : (o : Option Operator) (operands : Operands) → IsTrue (is_some (choices.negated o operands)) → IsTrue (is_some (opposite_operation o))
 negates o (Two x y) h = is_there (option_map (λ f. Negated f)) (opposite_operation o) refl h
 negates o _ h = absurd cc
 
-tests : (o : Option Operator) (operands : Operands) → IsTrue (is_some (unnegated o operands)) → IsTrue (is_negation o)
+tests : (o : Option Operator) (operands : Operands) → IsTrue (is_some (choices.unnegated o operands)) → IsTrue (is_negation o)
 tests o (One x) h = is_met (is_negation o) _ h
 tests o _ h = absurd cc
 
-extends : (o : Option Operator) (operands : Operands) → IsTrue (is_some (shifts o operands)) → IsTrue (is_some (bits_left_out o))
+extends : (o : Option Operator) (operands : Operands) → IsTrue (is_some (choices.shifts o operands)) → IsTrue (is_some (bits_left_out o))
 extends o (One x) h = is_there (option_map (λ p. FirstWithBoth (Binary p.0 Shl) (Binary p.0 ShrS) p.0 p.1)) (bits_left_out o) refl h
 extends o _ h = absurd cc
 
 -- ---- each rule that has an answer
 
 -- a number is behind where the type is there
-second : (o : Option IntegerType) (operands : Operands) → IsTrue (is_some (number_of_second o operands)) → IsTrue (is_some o)
-second o (Two x c) h = is_there (option_and_then (λ t. option_map (λ n. (t, n)) (number_of t c))) o refl h
+second : (o : Option IntegerType) (operands : Operands) → IsTrue (is_some (choices.number_of_second o operands)) → IsTrue (is_some o)
+second o (Two x c) h = is_there (option_and_then (λ t. option_map (λ n. (t, n)) (choices.number_of t c))) o refl h
 second o _ h = absurd cc
 
 -- the answer is made of the number behind an operator
 listed_behind : (r : Rule) (f : BinaryOperator) (s : Shape) (make : Option (IntegerType × ℕ) → Option Replacement) → make None ≡ None →
-    IsTrue (has_number (binary_rules f) (rule_number r)) → IsTrue (is_some (make (number_behind f s))) → IsListed r s.root.operator
+    IsTrue (has_number (binary_rules f) (rule_number r)) → IsTrue (is_some (make (choices.number_behind f s))) → IsListed r s.root.operator
 listed_behind r f s make none e h =
-    listed_binary r f s.root.operator e (second (binary_type f s.root.operator) s.operands (is_there make (number_behind f s) none h))
+    listed_binary r f s.root.operator e (second (binary_type f s.root.operator) s.operands (is_there make (choices.number_behind f s) none h))
 
 listed_compared : (r : Rule) (f : Comparison) (s : Shape) (make : Option (IntegerType × ℕ) → Option Replacement) → make None ≡ None →
-    IsTrue (has_number (comparison_rules f) (rule_number r)) → IsTrue (is_some (make (number_compared f s))) → IsListed r s.root.operator
+    IsTrue (has_number (comparison_rules f) (rule_number r)) → IsTrue (is_some (make (choices.number_compared f s))) → IsListed r s.root.operator
 listed_compared r f s make none e h =
-    listed_comparison r f s.root.operator e (second (comparison_type f s.root.operator) s.operands (is_there make (number_compared f s) none h))
+    listed_comparison r f s.root.operator e (second (comparison_type f s.root.operator) s.operands (is_there make (choices.number_compared f s) none h))
 
-no_first : (operands : Operands) (make : Operand → IntegerType × ℕ → Option Replacement) → by_first operands make None ≡ None
+no_first : (operands : Operands) (make : Operand → IntegerType × ℕ → Option Replacement) → choices.by_first operands make None ≡ None
 no_first (Two x y) make = refl
 no_first _ make = refl
 
-selects_same : (o : Option Operator) (operands : Operands) → IsTrue (is_some (selected_same o operands)) → IsTrue (is_select o)
+selects_same : (o : Option Operator) (operands : Operands) → IsTrue (is_some (choices.selected_same o operands)) → IsTrue (is_select o)
 selects_same o (Three x y c) h = (and_parts _ _ (and_parts _ _ (is_met _ (Some First) h)).0).0
 selects_same o _ h = absurd cc
 
-collects : (own other : BinaryOperator) (o : Option Operator) (operands : Operands) → IsTrue (is_some (collected own other o operands)) →
+collects : (own other : BinaryOperator) (o : Option Operator) (operands : Operands) → IsTrue (is_some (choices.collected own other o operands)) →
     IsTrue (is_some (binary_type own o))
 collects own other o (Two x y) h = is_there (option_and_then (λ t.
     answer_if (x.complement && y.complement) (Collect (Binary t other) (Binary t Xor) t (all_ones t)))) (binary_type own o) refl h
 collects own other o _ h = absurd cc
 
-sets_apart : (o : Option Operator) (operands : Operands) → IsTrue (is_some (set_apart o operands)) → IsTrue (is_tee o)
+sets_apart : (o : Option Operator) (operands : Operands) → IsTrue (is_some (choices.set_apart o operands)) → IsTrue (is_tee o)
 sets_apart o (One x) h = is_met _ (Some SetAndGet) h
 sets_apart o _ h = absurd cc
 
 -- the answer is made of the type of an operator on the same local twice
 listed_same : (r : Rule) (f : BinaryOperator) (s : Shape) (make : Option IntegerType → Option Replacement) → make None ≡ None →
-    IsTrue (has_number (binary_rules f) (rule_number r)) → IsTrue (is_some (make (same_behind f s))) → IsListed r s.root.operator
-listed_same r f s make none e h = listed_binary r f s.root.operator e (same s.operands (is_there make (same_behind f s) none h))
+    IsTrue (has_number (binary_rules f) (rule_number r)) → IsTrue (is_some (make (choices.same_behind f s))) → IsListed r s.root.operator
+listed_same r f s make none e h = listed_binary r f s.root.operator e (same s.operands (is_there make (choices.same_behind f s) none h))
   where
-    same : (operands : Operands) → IsTrue (is_some (type_of_same (binary_type f s.root.operator) operands)) → IsTrue (is_some (binary_type f s.root.operator))
-    same (Two x y) h = is_there (option_and_then (λ t. answer_if (have_same_local x y) t)) (binary_type f s.root.operator) refl h
+    same : (operands : Operands) → IsTrue (is_some (choices.type_of_same (binary_type f s.root.operator) operands)) →
+        IsTrue (is_some (binary_type f s.root.operator))
+    same (Two x y) h = is_there (option_and_then (λ t. answer_if (choices.have_same_local x y) t)) (binary_type f s.root.operator) refl h
     same _ h = absurd cc
 
 -- Each rule by one of those above: that it stands in `ON_EACH`, or among the rules of each of its operators, is told by computation.
-is_listed : (r : Rule) (s : Shape) → IsTrue (is_some (choice r s)) → IsListed r s.root.operator
+is_listed : (r : Rule) (s : Shape) → IsTrue (is_some (choices.choice r s)) → IsListed r s.root.operator
 unfolding has_number
 is_listed rule.Commute s h = listed_commutative s.root.operator (swaps s.root.operator s.operands h)
 is_listed rule.TurnComparison s h = listed_turned s.root.operator (turns s.root.operator s.operands h)
@@ -391,67 +392,67 @@ is_listed rule.ShiftByZero s h = listed_on_each rule.ShiftByZero s.root.operator
 is_listed rule.OrSelf s h = listed_on_each rule.OrSelf s.root.operator refl
 is_listed rule.AndSelf s h = listed_on_each rule.AndSelf s.root.operator refl
 is_listed rule.DoubleComplement s h = listed_on_each rule.DoubleComplement s.root.operator refl
-is_listed rule.ShiftToProduct s h = listed_behind rule.ShiftToProduct Shl s (with_power Mul) refl refl h
-is_listed rule.ProductToShift s h = listed_behind rule.ProductToShift Mul s (with_place Shl) refl refl h
-is_listed rule.DifferenceToSum s h = listed_behind rule.DifferenceToSum Sub s (with_opposite Add) refl refl h
-is_listed rule.SumToDifference s h = listed_behind rule.SumToDifference Add s (with_opposite Sub) refl refl h
+is_listed rule.ShiftToProduct s h = listed_behind rule.ShiftToProduct Shl s (choices.with_power Mul) refl refl h
+is_listed rule.ProductToShift s h = listed_behind rule.ProductToShift Mul s (choices.with_place Shl) refl refl h
+is_listed rule.DifferenceToSum s h = listed_behind rule.DifferenceToSum Sub s (choices.with_opposite Add) refl refl h
+is_listed rule.SumToDifference s h = listed_behind rule.SumToDifference Add s (choices.with_opposite Sub) refl refl h
 is_listed rule.TestToComparison s h = listed_tested s.root.operator (compares s.root.operator s.operands h)
-is_listed rule.ComparisonToTest s h = listed_compared rule.ComparisonToTest Eq s test refl refl h
+is_listed rule.ComparisonToTest s h = listed_compared rule.ComparisonToTest Eq s choices.test refl refl h
 is_listed rule.TurnSelect s h = listed_selected rule.TurnSelect s.root.operator refl (selects s.root.operator s.operands h)
 is_listed rule.Unfold s h = listed_on_each rule.Unfold s.root.operator refl
 is_listed rule.ThroughGlobal s h = listed_on_each rule.ThroughGlobal s.root.operator refl
 is_listed rule.WithNop s h = listed_on_each rule.WithNop s.root.operator refl
 is_listed rule.Fold s h = listed_on_each rule.Fold s.root.operator refl
-is_listed rule.DropAddZero s h = listed_behind rule.DropAddZero Add s (without 0) refl refl h
-is_listed rule.DropSubZero s h = listed_behind rule.DropSubZero Sub s (without 0) refl refl h
-is_listed rule.DropMulOne s h = listed_behind rule.DropMulOne Mul s (without 1) refl refl h
-is_listed rule.DropOrZero s h = listed_behind rule.DropOrZero Or s (without 0) refl refl h
-is_listed rule.DropXorZero s h = listed_behind rule.DropXorZero Xor s (without 0) refl refl h
-is_listed rule.DropAndOnes s h = listed_behind rule.DropAndOnes And s without_all_ones refl refl h
-is_listed rule.DropShiftByZero s h = listed_behind rule.DropShiftByZero Shl s (without 0) refl refl h
+is_listed rule.DropAddZero s h = listed_behind rule.DropAddZero Add s (choices.without 0) refl refl h
+is_listed rule.DropSubZero s h = listed_behind rule.DropSubZero Sub s (choices.without 0) refl refl h
+is_listed rule.DropMulOne s h = listed_behind rule.DropMulOne Mul s (choices.without 1) refl refl h
+is_listed rule.DropOrZero s h = listed_behind rule.DropOrZero Or s (choices.without 0) refl refl h
+is_listed rule.DropXorZero s h = listed_behind rule.DropXorZero Xor s (choices.without 0) refl refl h
+is_listed rule.DropAndOnes s h = listed_behind rule.DropAndOnes And s choices.without_all_ones refl refl h
+is_listed rule.DropShiftByZero s h = listed_behind rule.DropShiftByZero Shl s (choices.without 0) refl refl h
 is_listed rule.Forget s h = listed_dropped s.root.operator (drops s.root.operator s.operands h)
 is_listed rule.ShrSByZero s h = listed_on_each rule.ShrSByZero s.root.operator refl
 is_listed rule.ShrUByZero s h = listed_on_each rule.ShrUByZero s.root.operator refl
 is_listed rule.RotlByZero s h = listed_on_each rule.RotlByZero s.root.operator refl
 is_listed rule.RotrByZero s h = listed_on_each rule.RotrByZero s.root.operator refl
-is_listed rule.DropShrSByZero s h = listed_behind rule.DropShrSByZero ShrS s (without 0) refl refl h
-is_listed rule.DropShrUByZero s h = listed_behind rule.DropShrUByZero ShrU s (without 0) refl refl h
-is_listed rule.DropRotlByZero s h = listed_behind rule.DropRotlByZero Rotl s (without 0) refl refl h
-is_listed rule.DropRotrByZero s h = listed_behind rule.DropRotrByZero Rotr s (without 0) refl refl h
-is_listed rule.QuotientToShift s h = listed_behind rule.QuotientToShift DivU s (with_place ShrU) refl refl h
-is_listed rule.ShiftToQuotient s h = listed_behind rule.ShiftToQuotient ShrU s (with_power DivU) refl refl h
-is_listed rule.RemainderToMask s h = listed_behind rule.RemainderToMask RemU s with_mask refl refl h
-is_listed rule.MaskToRemainder s h = listed_behind rule.MaskToRemainder And s with_divisor refl refl h
-is_listed rule.RotlToRotr s h = listed_behind rule.RotlToRotr Rotl s (with_rest Rotr) refl refl h
-is_listed rule.RotrToRotl s h = listed_behind rule.RotrToRotl Rotr s (with_rest Rotl) refl refl h
-is_listed rule.ProductToDouble s h = listed_behind rule.ProductToDouble Mul s (double 2 s.operands) (no_first s.operands _) refl h
-is_listed rule.ShiftToDouble s h = listed_behind rule.ShiftToDouble Shl s (double 1 s.operands) (no_first s.operands _) refl h
+is_listed rule.DropShrSByZero s h = listed_behind rule.DropShrSByZero ShrS s (choices.without 0) refl refl h
+is_listed rule.DropShrUByZero s h = listed_behind rule.DropShrUByZero ShrU s (choices.without 0) refl refl h
+is_listed rule.DropRotlByZero s h = listed_behind rule.DropRotlByZero Rotl s (choices.without 0) refl refl h
+is_listed rule.DropRotrByZero s h = listed_behind rule.DropRotrByZero Rotr s (choices.without 0) refl refl h
+is_listed rule.QuotientToShift s h = listed_behind rule.QuotientToShift DivU s (choices.with_place ShrU) refl refl h
+is_listed rule.ShiftToQuotient s h = listed_behind rule.ShiftToQuotient ShrU s (choices.with_power DivU) refl refl h
+is_listed rule.RemainderToMask s h = listed_behind rule.RemainderToMask RemU s choices.with_mask refl refl h
+is_listed rule.MaskToRemainder s h = listed_behind rule.MaskToRemainder And s choices.with_divisor refl refl h
+is_listed rule.RotlToRotr s h = listed_behind rule.RotlToRotr Rotl s (choices.with_rest Rotr) refl refl h
+is_listed rule.RotrToRotl s h = listed_behind rule.RotrToRotl Rotr s (choices.with_rest Rotl) refl refl h
+is_listed rule.ProductToDouble s h = listed_behind rule.ProductToDouble Mul s (choices.double 2 s.operands) (no_first s.operands _) refl h
+is_listed rule.ShiftToDouble s h = listed_behind rule.ShiftToDouble Shl s (choices.double 1 s.operands) (no_first s.operands _) refl h
 is_listed rule.AndZero s h = listed_on_each rule.AndZero s.root.operator refl
 is_listed rule.MulZero s h = listed_on_each rule.MulZero s.root.operator refl
 is_listed rule.OrOnes s h = listed_on_each rule.OrOnes s.root.operator refl
-is_listed rule.DropAndZero s h = listed_behind rule.DropAndZero And s (alone (λ t. 0) s.operands) (no_first s.operands _) refl h
-is_listed rule.DropMulZero s h = listed_behind rule.DropMulZero Mul s (alone (λ t. 0) s.operands) (no_first s.operands _) refl h
-is_listed rule.DropOrOnes s h = listed_behind rule.DropOrOnes Or s (alone all_ones s.operands) (no_first s.operands _) refl h
+is_listed rule.DropAndZero s h = listed_behind rule.DropAndZero And s (choices.alone (λ t. 0) s.operands) (no_first s.operands _) refl h
+is_listed rule.DropMulZero s h = listed_behind rule.DropMulZero Mul s (choices.alone (λ t. 0) s.operands) (no_first s.operands _) refl h
+is_listed rule.DropOrOnes s h = listed_behind rule.DropOrOnes Or s (choices.alone all_ones s.operands) (no_first s.operands _) refl h
 is_listed rule.NegateComparison s h = listed_opposite s.root.operator (negates s.root.operator s.operands h)
-is_listed rule.DifferenceToTests s h = listed_compared rule.DifferenceToTests Ne s both_tests refl refl h
+is_listed rule.DifferenceToTests s h = listed_compared rule.DifferenceToTests Ne s choices.both_tests refl refl h
 is_listed rule.WrapExtended s h = listed_on_each rule.WrapExtended s.root.operator refl
 is_listed rule.DropNegation s h = listed_negation rule.DropNegation s.root.operator refl (tests s.root.operator s.operands h)
 is_listed rule.DistributeProduct s h =
-    listed_behind rule.DistributeProduct Mul s (distributed Add Add Mul (λ t n. true) s.operands) (no_first s.operands _) refl h
+    listed_behind rule.DistributeProduct Mul s (choices.distributed Add Add Mul (λ t n. true) s.operands) (no_first s.operands _) refl h
 is_listed rule.DistributeMask s h =
-    listed_behind rule.DistributeMask And s (distributed Or Or And (λ t n. true) s.operands) (no_first s.operands _) refl h
+    listed_behind rule.DistributeMask And s (choices.distributed Or Or And (λ t n. true) s.operands) (no_first s.operands _) refl h
 is_listed rule.ComplementOfAnd s h =
-    listed_behind rule.ComplementOfAnd Xor s (distributed And Or Xor (λ t n. n == all_ones t) s.operands) (no_first s.operands _) refl h
+    listed_behind rule.ComplementOfAnd Xor s (choices.distributed And Or Xor (λ t n. n == all_ones t) s.operands) (no_first s.operands _) refl h
 is_listed rule.ComplementOfOr s h =
-    listed_behind rule.ComplementOfOr Xor s (distributed Or And Xor (λ t n. n == all_ones t) s.operands) (no_first s.operands _) refl h
+    listed_behind rule.ComplementOfOr Xor s (choices.distributed Or And Xor (λ t n. n == all_ones t) s.operands) (no_first s.operands _) refl h
 is_listed rule.ExtensionToShifts s h =
     listed_extended s.root.operator (extends s.root.operator s.operands h)
-is_listed rule.CancelSub s h = listed_same rule.CancelSub Sub s cancelled refl refl h
-is_listed rule.CancelXor s h = listed_same rule.CancelXor Xor s cancelled refl refl h
-is_listed rule.DropOrSelf s h = listed_same rule.DropOrSelf Or s first_of_same refl refl h
-is_listed rule.DropAndSelf s h = listed_same rule.DropAndSelf And s first_of_same refl refl h
-is_listed rule.DoubleToProduct s h = listed_same rule.DoubleToProduct Add s (same_with Mul 2) refl refl h
-is_listed rule.DoubleToShift s h = listed_same rule.DoubleToShift Add s (same_with Shl 1) refl refl h
+is_listed rule.CancelSub s h = listed_same rule.CancelSub Sub s choices.cancelled refl refl h
+is_listed rule.CancelXor s h = listed_same rule.CancelXor Xor s choices.cancelled refl refl h
+is_listed rule.DropOrSelf s h = listed_same rule.DropOrSelf Or s choices.first_of_same refl refl h
+is_listed rule.DropAndSelf s h = listed_same rule.DropAndSelf And s choices.first_of_same refl refl h
+is_listed rule.DoubleToProduct s h = listed_same rule.DoubleToProduct Add s (choices.same_with Mul 2) refl refl h
+is_listed rule.DoubleToShift s h = listed_same rule.DoubleToShift Add s (choices.same_with Shl 1) refl refl h
 is_listed rule.DropSelect s h = listed_selected rule.DropSelect s.root.operator refl (selects_same s.root.operator s.operands h)
 is_listed rule.TestsToDifference s h =
     listed_negation rule.TestsToDifference s.root.operator refl (is_met (is_negation s.root.operator) _ h)
@@ -465,5 +466,5 @@ is_listed rule.TeeToSet s h = listed_set s.root.operator (sets_apart s.root.oper
 
 pub has_candidate : (context : Context) (t : Term Head) (s : Shape) (r : Rule) → s ≡ shape_of context t → IsTrue (is_some (rewrite context r t)) →
     Contains (ON_EACH ++ rules_on s.root.operator) r
-has_candidate context t s r e h = is_candidate r s.root.operator (is_listed r s (ap (λ (q : Shape). is_some (choice r q)) e
-    ∙ has_answer (choice r (shape_of context t)) t (rewrite context r t) (chosen context r t) ∙ h))
+has_candidate context t s r e h = is_candidate r s.root.operator (is_listed r s (ap (λ (q : Shape). is_some (choices.choice r q)) e
+    ∙ has_answer (choices.choice r (shape_of context t)) t (rewrite context r t) (chosen context r t) ∙ h))

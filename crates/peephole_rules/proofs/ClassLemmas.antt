@@ -284,7 +284,8 @@ binaries g o = bridged (binary_type g) (type_by (binary_opcodes g).0 (binary_opc
     (λ byte e. no_type byte (binary_opcodes g).0 (binary_opcodes g).1 e (known_binary g).0 (known_binary g).1) o
 
 comparison_checked : (g : Comparison) →
-    all_pass (λ f. same_type (comparison_type g (Some (Numeric f))) (type_by (comparison_opcodes g).0 (comparison_opcodes g).1 (Some (opcode f)))) operations ≡ true
+    all_pass (λ f. same_type (comparison_type g (Some (Numeric f)))
+    (type_by (comparison_opcodes g).0 (comparison_opcodes g).1 (Some (opcode f)))) operations ≡ true
 comparison_checked Eq = refl
 comparison_checked _ = refl
 
@@ -327,7 +328,8 @@ none_is : (t : IntegerType) (g : BinaryOperator) → is_binary t g None ≡ fals
 none_is integer.I32 g = refl
 none_is integer.I64 g = refl
 
-is_binary_table : (t : IntegerType) (g : BinaryOperator) (f : Operator) → is_binary t g (Some f) ≡ are_same (Some (operator_opcode f)) (Some (opcode (Binary t g)))
+is_binary_table : (t : IntegerType) (g : BinaryOperator) (f : Operator) →
+    is_binary t g (Some f) ≡ are_same (Some (operator_opcode f)) (Some (opcode (Binary t g)))
 is_binary_table t g (Numeric f) = bool_is _ _ (every (λ f. same_bool (is_binary t g (Some (Numeric f))) (opcode f == opcode (Binary t g)))
     (is_binary_checked t g) f)
 is_binary_table t g Drop = none_is t g ∙ sym (is_binary_other t g 0x1a (omega arith))
@@ -441,7 +443,8 @@ extends o = bridged bits_left_out (option_and_then of_opcode.bits_left_out) refl
 
 -- the operator on numbers
 pub numbers : (o : Option ℕ) → numeric_operator (operator_on o) ≡ option_and_then bare_operator o
-numbers o = bridged numeric_operator (option_and_then bare_operator) refl number (λ byte e. bare_operator_is byte ∙ ap (option_map operator_of) (none_of byte e)) o
+numbers o = bridged numeric_operator (option_and_then bare_operator) refl number
+    (λ byte e. bare_operator_is byte ∙ ap (option_map operator_of) (none_of byte e)) o
   where
     number : (f : Operator) → numeric_operator (Some f) ≡ bare_operator (operator_opcode f)
     number (Numeric (Eqz integer.I32)) = refl

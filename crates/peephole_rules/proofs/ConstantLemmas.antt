@@ -25,7 +25,8 @@ use Rattle.peephole_terms.specs.Meaning.{meaning_of}
 use Rattle.peephole_terms.specs.Agrees.{Agree, LeavesItsTypes, IsCongruence}
 use Rattle.peephole_terms.specs.Laws.{MeanByTheirRows}
 use Rattle.peephole_rules.specs.Operator.{opcode_byte, is_in, type_by, operator, of_type, constant_head, constant_term, one, two, within_width, number_in, constant_number, numbered}
-use Rattle.peephole_rules.specs.Rewriting.{answer_if, with_constant, of_constant, test_to_comparison, comparison_to_test, without_constant, drop_add_zero, drop_sub_zero, drop_mul_one, drop_or_zero, drop_xor_zero, drop_shift_by_zero, all_ones, with_ones, and_ones, drop_and_ones, double_complement, negated, difference_to_sum, sum_to_difference, shift_to_product, lowest_bit, product_to_shift, drop_shr_s_by_zero, drop_shr_u_by_zero, drop_rotl_by_zero, drop_rotr_by_zero, quotient_to_shift, shift_to_quotient, remainder_to_mask, mask_to_remainder, rotl_to_rotr, rotr_to_rotl}
+use Rattle.peephole_rules.specs.Rewriting.{answer_if, all_ones, lowest_bit, of_constant}
+use Rattle.peephole_rules.specs.Rewriting as rewriting
 use Rattle.peephole_rules.specs.Laws.{AgreeAlways, KeepsMeaning, KeepsMeaningOfType}
 use Rattle.peephole_rules.proofs.NumberLemmas.{and_ones_is, twice_complement, sum_is, difference_is, cast_back, product_is, shift_is, quotient_is, remainder_is, mask_is, turned_left, turned_right, bit_place}
 use Rattle.peephole_rules.proofs.ByteLemmas.{with_immediate}
@@ -269,9 +270,9 @@ module _ (rows : MeanByTheirRows) (sound : LeavesItsTypes) where
     zero_test t v n s e hv =
         act_one (type_of t) (eqz t) v s refl hv ∙ sym (ap (λ m. Ends (whole integer.I32 (if v.number == m then 1 else 0) ∷ []) s) e)
 
-    pub test_to_comparison_keeps : KeepsMeaning test_to_comparison
+    pub test_to_comparison_keeps : KeepsMeaning rewriting.test_to_comparison
     test_to_comparison_keeps (node h (x ▸ no_terms)) u e context list typed w us vs =
-        let (t, a, made) = map_some (λ t. with_constant t 0x46 0x51 0 x) (type_by 0x45 0x50 (opcode_byte h)) u e in
+        let (t, a, made) = map_some (λ t. rewriting.with_constant t 0x46 0x51 0 x) (type_by 0x45 0x50 (opcode_byte h)) u e in
         let hd = own_does rows sound context list h (x ▸ no_terms) (of_type t 0x45 0x50) (operation (eqz t))
         (type_by_is 0x45 0x50 (opcode_byte h) t a) (tests.none t) (tests.row t) typed in
         let (ks, tx, b) = and_then_some (row_types context (operation (eqz t))) (types_in context (x ▸ no_terms)) list
@@ -281,7 +282,7 @@ module _ (rows : MeanByTheirRows) (sound : LeavesItsTypes) where
         alone_types context ks x tx ∙ ap Some (same_types_is ks (type_of t ∷ []) is) in
         let qd = written_does (of_type t 0x46 0x51) (operation (compare t eq)) (equals.written t) (equals.row t) in
         subst (Agree context us vs (node h (x ▸ no_terms))) made
-        (after_itself rows sound laws context list us vs (node h (x ▸ no_terms)) (with_constant t 0x46 0x51 0 x) typed w
+        (after_itself rows sound laws context list us vs (node h (x ▸ no_terms)) (rewriting.with_constant t 0x46 0x51 0 x) typed w
         (with_constant_types context t (compare t eq) qd x (pos 0) refl operand ∙ ap Some gives)
         (λ s hs. one_means rows vs (eqz t) hd x s
         ∙ (then_same context (type_of t) (meaning_of vs x s) (act (operation (eqz t))) (with_value t (compare t eq) (pos 0))
@@ -291,7 +292,7 @@ module _ (rows : MeanByTheirRows) (sound : LeavesItsTypes) where
         ∙ sym (with_constant_means context vs t (compare t eq) qd x (pos 0) s))))
     test_to_comparison_keeps t u e context list typed w us vs = absurd cc
 
-    pub comparison_to_test_keeps : KeepsMeaning comparison_to_test
+    pub comparison_to_test_keeps : KeepsMeaning rewriting.comparison_to_test
     comparison_to_test_keeps =
         kept 0x46 0x51 (λ t. compare t eq) equals (λ t. refl) (λ t x n. answer_if (n == 0) (one (operator (of_type t 0x45 0x50)) x)) go
       where
@@ -330,37 +331,37 @@ module _ (rows : MeanByTheirRows) (sound : LeavesItsTypes) where
         })
 
     without : (a b e : ℕ) (f : IntegerType → IntegerOperator) (k : AreOf a b f) → ((t : IntegerType) → LeavesFirst t (f t) e) →
-        KeepsMeaning (without_constant a b e)
+        KeepsMeaning (rewriting.without_constant a b e)
     without a b e f k leaves = kept a b f k (λ t. (leaves t).operands) (λ t x n. answer_if (n == e) x) (left f (λ t. e) leaves)
 
-    pub drop_add_zero_keeps : KeepsMeaning drop_add_zero
+    pub drop_add_zero_keeps : KeepsMeaning rewriting.drop_add_zero
     drop_add_zero_keeps = without 0x6a 0x7c 0 (λ t. binary t add) adds add_leaves
 
-    pub drop_sub_zero_keeps : KeepsMeaning drop_sub_zero
+    pub drop_sub_zero_keeps : KeepsMeaning rewriting.drop_sub_zero
     drop_sub_zero_keeps = without 0x6b 0x7d 0 (λ t. binary t sub) subs sub_leaves
 
-    pub drop_mul_one_keeps : KeepsMeaning drop_mul_one
+    pub drop_mul_one_keeps : KeepsMeaning rewriting.drop_mul_one
     drop_mul_one_keeps = without 0x6c 0x7e 1 (λ t. binary t mul) muls mul_leaves
 
-    pub drop_or_zero_keeps : KeepsMeaning drop_or_zero
+    pub drop_or_zero_keeps : KeepsMeaning rewriting.drop_or_zero
     drop_or_zero_keeps = without 0x72 0x84 0 (λ t. binary t or_) ors or_leaves
 
-    pub drop_xor_zero_keeps : KeepsMeaning drop_xor_zero
+    pub drop_xor_zero_keeps : KeepsMeaning rewriting.drop_xor_zero
     drop_xor_zero_keeps = without 0x73 0x85 0 (λ t. binary t xor_) xors xor_leaves
 
-    pub drop_shift_by_zero_keeps : KeepsMeaning drop_shift_by_zero
+    pub drop_shift_by_zero_keeps : KeepsMeaning rewriting.drop_shift_by_zero
     drop_shift_by_zero_keeps = without 0x74 0x86 0 (λ t. binary t shl) shls shl_leaves
 
-    pub drop_shr_s_by_zero_keeps : KeepsMeaning drop_shr_s_by_zero
+    pub drop_shr_s_by_zero_keeps : KeepsMeaning rewriting.drop_shr_s_by_zero
     drop_shr_s_by_zero_keeps = without 0x75 0x87 0 (λ t. binary t shr_s) shr_ss shr_s_leaves
 
-    pub drop_shr_u_by_zero_keeps : KeepsMeaning drop_shr_u_by_zero
+    pub drop_shr_u_by_zero_keeps : KeepsMeaning rewriting.drop_shr_u_by_zero
     drop_shr_u_by_zero_keeps = without 0x76 0x88 0 (λ t. binary t shr_u) shr_us shr_u_leaves
 
-    pub drop_rotl_by_zero_keeps : KeepsMeaning drop_rotl_by_zero
+    pub drop_rotl_by_zero_keeps : KeepsMeaning rewriting.drop_rotl_by_zero
     drop_rotl_by_zero_keeps = without 0x77 0x89 0 (λ t. binary t rotl) rotls rotl_leaves
 
-    pub drop_rotr_by_zero_keeps : KeepsMeaning drop_rotr_by_zero
+    pub drop_rotr_by_zero_keeps : KeepsMeaning rewriting.drop_rotr_by_zero
     drop_rotr_by_zero_keeps = without 0x78 0x8a 0 (λ t. binary t rotr) rotrs rotr_leaves
 
     -- ---- all ones
@@ -372,7 +373,7 @@ module _ (rows : MeanByTheirRows) (sound : LeavesItsTypes) where
       value = λ n l. (bit_and n (all_ones t), refl, and_ones_is (bits (width_of t)) n l);
     }
 
-    pub drop_and_ones_keeps : KeepsMeaning drop_and_ones
+    pub drop_and_ones_keeps : KeepsMeaning rewriting.drop_and_ones
     drop_and_ones_keeps = kept 0x71 0x83 (λ t. binary t and_) ands (λ t. refl) (λ t x n. answer_if (n == all_ones t) x)
         (left (λ t. binary t and_) all_ones and_leaves)
 
@@ -385,17 +386,17 @@ module _ (rows : MeanByTheirRows) (sound : LeavesItsTypes) where
         below_power : (M : ℕ) → 0 < M → M - 1 < M
         below_power M p = omega arith
 
-    pub and_ones_keeps : KeepsMeaningOfType and_ones
+    pub and_ones_keeps : KeepsMeaningOfType rewriting.and_ones
     and_ones_keeps t x = written_agrees rows sound laws t (of_type t 0x71 0x83) (cast_signed (width_of t) (within_width t (all_ones t))) (binary t and_) x
         (ands.written t) (ands.row t) (subst (LeavesFirst t (binary t and_)) (sym (ones_number t)) (and_leaves t))
 
-    pub double_complement_keeps : KeepsMeaningOfType double_complement
+    pub double_complement_keeps : KeepsMeaningOfType rewriting.double_complement
     double_complement_keeps t x context typed w us vs =
         let f = binary t xor_ in
         let d = written_does (of_type t 0x73 0x85) (operation f) (xors.written t) (xors.row t) in
         let z = cast_signed (width_of t) (within_width t (all_ones t)) in
-        let inner = with_ones t 0x73 0x85 x in
-        after_itself rows sound laws context (type_of t ∷ []) us vs x (double_complement t x) typed w
+        let inner = rewriting.with_ones t 0x73 0x85 x in
+        after_itself rows sound laws context (type_of t ∷ []) us vs x (rewriting.double_complement t x) typed w
         (with_constant_types context t f d inner z refl (with_constant_types context t f d x z refl typed))
         (λ s hs. sym (with_constant_means context vs t f d inner z s
         ∙ (ap (λ o. then_run o (with_value t f z)) (with_constant_means context vs t f d x z s)
@@ -441,21 +442,21 @@ module _ (rows : MeanByTheirRows) (sound : LeavesItsTypes) where
               ∙ ap₂ (λ r o. given r o (cause_of (v.number ∷ within_width t y ∷ [])) s) gr (gv v.number))));
         }
 
-    pub difference_to_sum_keeps : KeepsMeaning difference_to_sum
+    pub difference_to_sum_keeps : KeepsMeaning rewriting.difference_to_sum
     difference_to_sum_keeps =
-        kept 0x6b 0x7d (λ t. binary t sub) subs (λ t. refl) (λ t x n. Some (two (operator (of_type t 0x6a 0x7c)) x (negated t n)))
+        kept 0x6b 0x7d (λ t. binary t sub) subs (λ t. refl) (λ t x n. Some (two (operator (of_type t 0x6a 0x7c)) x (rewriting.negated t n)))
         (λ t x u n l e. let M = 2 ^ bits (width_of t) in subst (Replaces t (binary t sub) x n) (cc)
         (other_constant 0x6a 0x7c (binary t sub) (λ t. binary t add) adds t x n (M - n) refl refl refl refl (λ m. m + (M - n)) (λ m. m + (M - n) % M)
         (λ m. refl) (λ m. refl) (λ m. sum_is M m n)))
 
-    pub sum_to_difference_keeps : KeepsMeaning sum_to_difference
+    pub sum_to_difference_keeps : KeepsMeaning rewriting.sum_to_difference
     sum_to_difference_keeps =
-        kept 0x6a 0x7c (λ t. binary t add) adds (λ t. refl) (λ t x n. Some (two (operator (of_type t 0x6b 0x7d)) x (negated t n)))
+        kept 0x6a 0x7c (λ t. binary t add) adds (λ t. refl) (λ t x n. Some (two (operator (of_type t 0x6b 0x7d)) x (rewriting.negated t n)))
         (λ t x u n l e. let M = 2 ^ bits (width_of t) in subst (Replaces t (binary t add) x n) (cc)
         (other_constant 0x6b 0x7d (binary t add) (λ t. binary t sub) subs t x n (M - n) refl refl refl refl (λ m. m + n) (λ m. m + (M - (M - n) % M))
         (λ m. refl) (λ m. refl) (λ m. difference_is M m n l)))
 
-    pub shift_to_product_keeps : KeepsMeaning shift_to_product
+    pub shift_to_product_keeps : KeepsMeaning rewriting.shift_to_product
     shift_to_product_keeps =
         kept 0x74 0x86 (λ t. binary t shl) shls (λ t. refl)
         (λ t x n. answer_if (nat_lt n (bits (width_of t))) (two (operator (of_type t 0x6c 0x7e)) x (numbered t (2 ^ n))))
@@ -465,7 +466,7 @@ module _ (rows : MeanByTheirRows) (sound : LeavesItsTypes) where
         (other_constant 0x6c 0x7e (binary t shl) (λ t. binary t mul) muls t x n (2 ^ n) refl refl refl refl (λ m. m * 2 ^ (n % k)) (λ m. m * (2 ^ n % 2 ^ k))
         (λ m. refl) (λ m. refl) (λ m. product_is k m n (ltb-true n k c))))
 
-    pub product_to_shift_keeps : KeepsMeaning product_to_shift
+    pub product_to_shift_keeps : KeepsMeaning rewriting.product_to_shift
     product_to_shift_keeps =
         kept 0x6c 0x7e (λ t. binary t mul) muls (λ t. refl)
         (λ t x n. answer_if (2 ^ lowest_bit t n == n) (two (operator (of_type t 0x74 0x86)) x (numbered t (lowest_bit t n))))
@@ -478,7 +479,7 @@ module _ (rows : MeanByTheirRows) (sound : LeavesItsTypes) where
 
     -- ---- quotients and remainders by powers of two
 
-    pub quotient_to_shift_keeps : KeepsMeaning quotient_to_shift
+    pub quotient_to_shift_keeps : KeepsMeaning rewriting.quotient_to_shift
     quotient_to_shift_keeps =
         kept 0x6e 0x80 (λ t. binary t div_u) div_us (λ t. refl)
         (λ t x n. answer_if (2 ^ lowest_bit t n == n) (two (operator (of_type t 0x76 0x88)) x (numbered t (lowest_bit t n))))
@@ -491,7 +492,7 @@ module _ (rows : MeanByTheirRows) (sound : LeavesItsTypes) where
         (other_constant 0x76 0x88 (binary t div_u) (λ t. binary t shr_u) shr_us t x n y refl refl refl refl (λ m. m / n) (λ m. m / 2 ^ (y % 2 ^ k % k))
         (λ m. divides n (m / n) (subst (λ i. 0 < i) power (pow_pos y))) (λ m. refl) (λ m. bit_place k m n y small power)))
 
-    pub shift_to_quotient_keeps : KeepsMeaning shift_to_quotient
+    pub shift_to_quotient_keeps : KeepsMeaning rewriting.shift_to_quotient
     shift_to_quotient_keeps =
         kept 0x76 0x88 (λ t. binary t shr_u) shr_us (λ t. refl)
         (λ t x n. answer_if (nat_lt n (bits (width_of t))) (two (operator (of_type t 0x6e 0x80)) x (numbered t (2 ^ n))))
@@ -499,11 +500,12 @@ module _ (rows : MeanByTheirRows) (sound : LeavesItsTypes) where
         let (c, is) = some_answer_if (nat_lt n k) (two (operator (of_type t 0x6e 0x80)) x (numbered t (2 ^ n))) u e in
         let small = ltb-true n k c in
         subst (Replaces t (binary t shr_u) x n) is
-        (other_constant 0x6e 0x80 (binary t shr_u) (λ t. binary t div_u) div_us t x n (2 ^ n) refl refl refl refl (λ m. m / 2 ^ (n % k)) (λ m. m / (2 ^ n % 2 ^ k))
+        (other_constant 0x6e 0x80 (binary t shr_u) (λ t. binary t div_u) div_us t x n (2 ^ n) refl refl refl refl
+        (λ m. m / 2 ^ (n % k)) (λ m. m / (2 ^ n % 2 ^ k))
         (λ m. refl) (λ m. divides (2 ^ n % 2 ^ k) (m / (2 ^ n % 2 ^ k)) (subst (λ i. 0 < i) (sym (mod-eq_of_lt (pow_below n k small))) (pow_pos n)))
         (λ m. quotient_is k m n small)))
 
-    pub remainder_to_mask_keeps : KeepsMeaning remainder_to_mask
+    pub remainder_to_mask_keeps : KeepsMeaning rewriting.remainder_to_mask
     remainder_to_mask_keeps =
         kept 0x70 0x82 (λ t. binary t rem_u) rem_us (λ t. refl)
         (λ t x n. answer_if (2 ^ lowest_bit t n == n) (two (operator (of_type t 0x71 0x83)) x (numbered t (n - 1))))
@@ -516,7 +518,7 @@ module _ (rows : MeanByTheirRows) (sound : LeavesItsTypes) where
         (λ m. divides n (m % n) (subst (λ i. 0 < i) power (pow_pos y))) (λ m. refl)
         (λ m. remainder_is k m n y (mod-lt (trailing_zeros (width_of t) n) (positive_width t)) power)))
 
-    pub mask_to_remainder_keeps : KeepsMeaning mask_to_remainder
+    pub mask_to_remainder_keeps : KeepsMeaning rewriting.mask_to_remainder
     mask_to_remainder_keeps =
         kept 0x71 0x83 (λ t. binary t and_) ands (λ t. refl)
         (λ t x n. answer_if (nat_lt n (all_ones t) && (2 ^ lowest_bit t (n + 1) == n + 1)) (two (operator (of_type t 0x70 0x82)) x (numbered t (n + 1))))
@@ -538,7 +540,7 @@ module _ (rows : MeanByTheirRows) (sound : LeavesItsTypes) where
     rest integer.I32 n = mod-eq_of_lt (omega arith)
     rest integer.I64 n = mod-eq_of_lt (omega arith)
 
-    pub rotl_to_rotr_keeps : KeepsMeaning rotl_to_rotr
+    pub rotl_to_rotr_keeps : KeepsMeaning rewriting.rotl_to_rotr
     rotl_to_rotr_keeps =
         kept 0x77 0x89 (λ t. binary t rotl) rotls (λ t. refl)
         (λ t x n. Some (two (operator (of_type t 0x78 0x8a)) x (numbered t (bits (width_of t) - n % bits (width_of t)))))
@@ -549,7 +551,7 @@ module _ (rows : MeanByTheirRows) (sound : LeavesItsTypes) where
         (λ m. rotate_right w m (y % 2 ^ bits w)) (λ m. refl) (λ m. refl)
         (λ m. ap (λ i. i % 2 ^ bits w) (turned_right w m n (positive_width t) ∙ ap (rotate_right w m) (sym (rest t n))))))
 
-    pub rotr_to_rotl_keeps : KeepsMeaning rotr_to_rotl
+    pub rotr_to_rotl_keeps : KeepsMeaning rewriting.rotr_to_rotl
     rotr_to_rotl_keeps =
         kept 0x78 0x8a (λ t. binary t rotr) rotrs (λ t. refl)
         (λ t x n. Some (two (operator (of_type t 0x77 0x89)) x (numbered t (bits (width_of t) - n % bits (width_of t)))))

@@ -79,7 +79,8 @@ module _ (rows : MeanByTheirRows) (sound : LeavesItsTypes) where
         ∙ sym (ap (λ o. then_run o (with_value rows sound t f z)) (act_gives t g G pg v w s hv hw)
         ∙ value_gives t f F pf z n low (whole t (G v.number w.number)) s refl)))
 
-    parts_mean : {p o q r : Head} (pd : Does p (operation f)) (od : Does o (operation f)) (qd : Does q (operation g)) (rd : Does r (operation h)) (x y : Term Head) (s : State) →
+    parts_mean : {p o q r : Head} (pd : Does p (operation f)) (od : Does o (operation f)) (qd : Does q (operation g)) (rd : Does r (operation h))
+        (x y : Term Head) (s : State) →
         types_of context x ≡ Some (type_of t ∷ []) → types_of context y ≡ Some (type_of t ∷ []) → HasTypes context s →
         meaning_of words (two r (two p x (constant_term t i)) (two o y (constant_term t j))) s
         ≡ then_run (meaning_of words (two q x y) s) (with_value rows sound t f z)
@@ -92,7 +93,8 @@ module _ (rows : MeanByTheirRows) (sound : LeavesItsTypes) where
         let after : List Value → State → Outcome =
         λ vs m. then_run (meaning more (second ▸ no_terms) m) (λ us k. act (operation h) (vs ++ us) k) in
         does_means rows words rd (first ▸ second ▸ no_terms) s ∙ (behind words first (second ▸ no_terms) s (act (operation h))
-        ∙ (ap (λ (ns : List ℕ). then_run (meaning_of words first s) (λ vs m. then_run (meaning ns (second ▸ no_terms) m) (λ us k. act (operation h) (vs ++ us) k))) same_words
+        ∙ (ap (λ (ns : List ℕ). then_run (meaning_of words first s)
+        (λ vs m. then_run (meaning ns (second ▸ no_terms) m) (λ us k. act (operation h) (vs ++ us) k))) same_words
         ∙ (ap (λ o. then_run o after) (with_constant_means rows sound context words t f pd x i s)
         ∙ (then_then (meaning_of words x s) (with_value rows sound t f i) after
         ∙ (then_same context (type_of t) (meaning_of words x s) (λ vs m. then_run (with_value rows sound t f i vs m) after)
@@ -112,7 +114,8 @@ module _ (rows : MeanByTheirRows) (sound : LeavesItsTypes) where
         ∙ behind words x (y ▸ no_terms) s (λ vs m. then_run (act (operation g) vs m) (with_value rows sound t f z)))))))))
 
   -- the parts' types, of the operand's
-  module _ (context : Context) (t : IntegerType) (g : IntegerOperator) (G : ℕ → ℕ → ℕ) (pg : Gives t g G) {q : Head} (qd : Does q (operation g)) (x y : Term Head)
+  module _ (context : Context) (t : IntegerType) (g : IntegerOperator) (G : ℕ → ℕ → ℕ) (pg : Gives t g G)
+      {q : Head} (qd : Does q (operation g)) (x y : Term Head)
       (one : has_one_value x ≡ true) (typed : types_of context (two q x y) ≡ Some (type_of t ∷ [])) where
     part_types : (types_of context x ≡ Some (type_of t ∷ [])) × (types_of context y ≡ Some (type_of t ∷ []))
     part_types =
@@ -129,7 +132,8 @@ module _ (rows : MeanByTheirRows) (sound : LeavesItsTypes) where
     parted a b c d e f test p q r P Q R kq kr kp gp gq gr is =
         kept rows sound laws e f p kp (λ t. (gp t).operands) (in_parts a b c d e f test) go
       where
-        go : (t : IntegerType) (x u : Term Head) (n : ℕ) → n < 2 ^ bits (width_of t) → in_parts a b c d e f test t x n ≡ Some u → Replaces rows sound t (p t) x n u
+        go : (t : IntegerType) (x u : Term Head) (n : ℕ) → n < 2 ^ bits (width_of t) → in_parts a b c d e f test t x n ≡ Some u →
+            Replaces rows sound t (p t) x n u
         go t absent u n l made = absurd cc
         go t (node g no_terms) u n l made = absurd cc
         go t (node g (x ▸ no_terms)) u n l made = absurd cc
@@ -147,7 +151,8 @@ module _ (rows : MeanByTheirRows) (sound : LeavesItsTypes) where
             let opcode = same_is (opcode_byte g) (Some (of_type t a b)) k.0 in
             subst (Replaces rows sound t (p t) (two g x y) n) same (record {
               types = λ context typed.
-                  let qd = own_does rows sound context (type_of t ∷ []) g (x ▸ y ▸ no_terms) (of_type t a b) (operation (q t)) opcode (kq.none t) (kq.row t) typed in
+                  let qd = own_does rows sound context (type_of t ∷ []) g (x ▸ y ▸ no_terms) (of_type t a b) (operation (q t))
+                  opcode (kq.none t) (kq.row t) typed in
                   let both = part_types context t (q t) Q (gq t) qd x y k.1 typed in
                   let result : Some (type_of (p t).result ∷ []) ≡ Some (type_of t ∷ []) = ap (λ w. Some (type_of w ∷ [])) (gp t).result in
                   two_types rows context (type_of t) (r t) rd (two (operator inner) x (numbered t n)) (two (operator inner) y (numbered t n)) (gr t).operands
@@ -156,7 +161,8 @@ module _ (rows : MeanByTheirRows) (sound : LeavesItsTypes) where
                   ∙ (ap (λ w. Some (type_of w ∷ [])) (gr t).result ∙ sym result);
               next = with_value rows sound t (p t) z;
               means = λ context words s typed hs.
-                  let qd = own_does rows sound context (type_of t ∷ []) g (x ▸ y ▸ no_terms) (of_type t a b) (operation (q t)) opcode (kq.none t) (kq.row t) typed in
+                  let qd = own_does rows sound context (type_of t ∷ []) g (x ▸ y ▸ no_terms) (of_type t a b) (operation (q t))
+                  opcode (kq.none t) (kq.row t) typed in
                   let both = part_types context t (q t) Q (gq t) qd x y k.1 typed in
                   parts_mean context words t (p t) (q t) (r t) P Q R (gp t) (gq t) (gr t) z z z n low low low (is t n l m.1) pd pd qd rd x y s both.0 both.1 hs;
               same = λ w s hw small. sym (with_value_is rows sound t (p t) z w s (gp t).operands hw ∙ ap (λ i. applied (p t) (w.number ∷ i ∷ []) s) low);
@@ -192,7 +198,8 @@ module _ (rows : MeanByTheirRows) (sound : LeavesItsTypes) where
     distribute_mask_keeps = parted 0x72 0x84 0x72 0x84 0x71 0x83 (λ t n. true) (λ t. binary t and_) (λ t. binary t or_) (λ t. binary t or_)
         bit_and bit_or bit_or ors ors ands meets unites unites mask_distributes
 
-    and_complements : (t : IntegerType) (n : ℕ) → n < 2 ^ bits (width_of t) → (n == all_ones t) ≡ true → IsDistributive (2 ^ bits (width_of t)) bit_xor bit_and bit_or n
+    and_complements : (t : IntegerType) (n : ℕ) → n < 2 ^ bits (width_of t) → (n == all_ones t) ≡ true →
+        IsDistributive (2 ^ bits (width_of t)) bit_xor bit_and bit_or n
     and_complements t n l e a b p q =
         let M = 2 ^ bits (width_of t) in
         subst (λ m. bit_xor (bit_and a b % M) m % M ≡ bit_or (bit_xor a m % M) (bit_xor b m % M) % M) (sym (eqb-true n (all_ones t) e))
@@ -202,7 +209,8 @@ module _ (rows : MeanByTheirRows) (sound : LeavesItsTypes) where
     complement_of_and_keeps = parted 0x71 0x83 0x72 0x84 0x73 0x85 (λ t n. n == all_ones t) (λ t. binary t xor_) (λ t. binary t and_) (λ t. binary t or_)
         bit_xor bit_and bit_or ands ors xors differs meets unites and_complements
 
-    or_complements : (t : IntegerType) (n : ℕ) → n < 2 ^ bits (width_of t) → (n == all_ones t) ≡ true → IsDistributive (2 ^ bits (width_of t)) bit_xor bit_or bit_and n
+    or_complements : (t : IntegerType) (n : ℕ) → n < 2 ^ bits (width_of t) → (n == all_ones t) ≡ true →
+        IsDistributive (2 ^ bits (width_of t)) bit_xor bit_or bit_and n
     or_complements t n l e a b p q =
         let M = 2 ^ bits (width_of t) in
         subst (λ m. bit_xor (bit_or a b % M) m % M ≡ bit_and (bit_xor a m % M) (bit_xor b m % M) % M) (sym (eqb-true n (all_ones t) e))
@@ -250,7 +258,8 @@ module _ (rows : MeanByTheirRows) (sound : LeavesItsTypes) where
         let (met, same) = some_answer_if (complements_by (opcode_byte h) (constant_number integer.I32 c) (constant_number integer.I64 c)) y x made in
         let (r, opcode, number) = ones_of (opcode_byte h) c met in
         let (z, is, low) = constant_is r c (all_ones r) number in
-        let d = own_does rows sound context list h (y ▸ c ▸ no_terms) (of_type r 0x73 0x85) (operation (binary r xor_)) opcode (xors.none r) (xors.row r) typed in
+        let d = own_does rows sound context list h (y ▸ c ▸ no_terms) (of_type r 0x73 0x85) (operation (binary r xor_))
+        opcode (xors.none r) (xors.row r) typed in
         let k = takes_two rows context list (type_of r) (binary r xor_) d y c refl typed in
         let second : type_of r ∷ [] ≡ k.second = some_list (sym (ap (types_of context) is ∙ constant_types rows sound context r z) ∙ k.second_is) in
         let front = front_is k.first (type_of r) (ap (λ l. k.first ++ l) second ∙ k.whole) in (
@@ -281,7 +290,8 @@ module _ (rows : MeanByTheirRows) (sound : LeavesItsTypes) where
         let (t, told, rest) = and_then_some (λ t.
         option_and_then (λ x. option_map (λ y. with_ones t 0x73 0x85 (two (operator (of_type t c d)) x y)) (complemented n)) (complemented m))
         (type_by a b (opcode_byte h)) u made in
-        let (x, first, last) = and_then_some (λ x. option_map (λ y. with_ones t 0x73 0x85 (two (operator (of_type t c d)) x y)) (complemented n)) (complemented m) u rest in
+        let (x, first, last) = and_then_some (λ x. option_map (λ y. with_ones t 0x73 0x85 (two (operator (of_type t c d)) x y)) (complemented n))
+        (complemented m) u rest in
         let (y, second, same) = map_some (λ y. with_ones t 0x73 0x85 (two (operator (of_type t c d)) x y)) (complemented n) u last in
         let f = binary t xor_ in
         let rd = own_does rows sound context list h (m ▸ n ▸ no_terms) (of_type t a b) (operation (r t)) (type_by_is a b (opcode_byte h) t told) (kr.none t)
@@ -304,7 +314,8 @@ module _ (rows : MeanByTheirRows) (sound : LeavesItsTypes) where
         (after_itself rows sound laws context list us vs (two h m n) (with_ones t 0x73 0x85 joined) typed w
         (with_constant_types rows sound context t f xd joined z refl both ∙ ap Some (ap (λ v. type_of v ∷ []) (sym (gr t).result) ∙ k.gives))
         (λ s hs. ap₂ (λ v e. meaning_of vs (two h v e) s) (sym p.is) (sym o.is)
-        ∙ (parts_mean context vs t f (q t) (r t) bit_xor Q R (differs t) (gq t) (gr t) z p.number o.number (all_ones t) low p.low o.low (is t) p.does o.does qd rd
+        ∙ (parts_mean context vs t f (q t) (r t) bit_xor Q R (differs t) (gq t) (gr t) z p.number o.number (all_ones t)
+        low p.low o.low (is t) p.does o.does qd rd
         x y s p.typed o.typed hs
         ∙ sym (with_constant_means rows sound context vs t f xd joined z s))))
     collected a b c d q r Q R kr kq gq gr is t u made context list typed w us vs = absurd cc

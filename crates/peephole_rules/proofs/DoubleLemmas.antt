@@ -53,7 +53,8 @@ module _ (rows : MeanByTheirRows) (sound : LeavesItsTypes) where
   module _ (laws : IsCongruence) where
     -- an operator on an operand and a number that gives twice the operand
     as_double_keeps : (a b e : ℕ) (f : IntegerType → IntegerOperator) (k : AreOf a b f) → ((t : IntegerType) → (f t).operands ≡ type_of t ∷ type_of t ∷ []) →
-        ((t : IntegerType) (n : ℕ) (s : State) → applied (f t) (n ∷ e ∷ []) s ≡ applied (binary t add) (n ∷ n ∷ []) s) → ((t : IntegerType) → (f t).result ≡ t) →
+        ((t : IntegerType) (n : ℕ) (s : State) → applied (f t) (n ∷ e ∷ []) s ≡ applied (binary t add) (n ∷ n ∷ []) s) →
+        ((t : IntegerType) → (f t).result ≡ t) →
         KeepsMeaning (as_double a b e)
     as_double_keeps a b e f k o gives result = kept rows sound laws a b f k o
         (λ t x n. answer_if ((n == e) && (not (writes x) && not (asks x))) (two (operator (of_type t 0x6a 0x7c)) x x)) go
@@ -66,7 +67,8 @@ module _ (rows : MeanByTheirRows) (sound : LeavesItsTypes) where
             let w = is_not (writes x) (and_parts (not (writes x)) (not (asks x)) p.1).0 in
             let d = written_does (of_type t 0x6a 0x7c) (operation (binary t add)) (adds.written t) (adds.row t) in
             subst (Replaces rows sound t (f t) x n) is (record {
-              types = λ context typed. two_types rows context (type_of t) (binary t add) d x x refl typed typed ∙ ap (λ r. Some (type_of r ∷ [])) (sym (result t));
+              types = λ context typed. two_types rows context (type_of t) (binary t add) d x x refl typed typed
+                  ∙ ap (λ r. Some (type_of r ∷ [])) (sym (result t));
               next = λ vs m. act (operation (binary t add)) (vs ++ vs) m;
               means = λ context words s typed hs. twice_means context words t (binary t add) d x s typed hs w;
               same = λ v s hv small. ap (λ m. applied (f t) (v.number ∷ m ∷ []) s) (eqb-true n e p.0)

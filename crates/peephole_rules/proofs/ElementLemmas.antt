@@ -161,7 +161,8 @@ module _ (rows : MeanByTheirRows) (sound : LeavesItsTypes) where
         let c = constant_term t z in
         let list_is : Some list ≡ Some (type_of t ∷ []) = sym typed ∙ constant_types rows sound context t z in
         after_itself rows sound laws context list us vs c (two (operator (of_type t a b)) (random t) c) typed w
-        (with_constant_types rows sound context t (f t) d (random t) z g.operands (random_types context t) ∙ (ap (λ r. Some (type_of r ∷ [])) g.result ∙ sym list_is))
+        (with_constant_types rows sound context t (f t) d (random t) z g.operands (random_types context t)
+        ∙ (ap (λ r. Some (type_of r ∷ [])) g.result ∙ sym list_is))
         (λ s hs. let (v, m, hv, small) = random_means vs t s in
         constant_means rows sound context vs t z s
         ∙ sym (with_constant_means rows sound context vs t (f t) d (random t) z s ∙ (ap (λ o. then_run o (with_value rows sound t (f t) z)) m

@@ -156,7 +156,8 @@ told (Some byte) p e = (byte, refl, known byte p e)
 module _ (rows : MeanByTheirRows) (sound : LeavesItsTypes) (laws : IsCongruence) where
   pub extension_to_shifts_keeps : KeepsMeaning extension_to_shifts
   extension_to_shifts_keeps (node h (x ▸ no_terms)) u made context list typed w us vs =
-      let (p, left, is) = map_some (λ p. two (operator (of_type p.0 0x75 0x87)) (two (operator (of_type p.0 0x74 0x86)) x (numbered p.0 p.1)) (numbered p.0 p.1))
+      let (p, left, is) = map_some (λ p. two (operator (of_type p.0 0x75 0x87))
+      (two (operator (of_type p.0 0x74 0x86)) x (numbered p.0 p.1)) (numbered p.0 p.1))
       (option_and_then bits_left_out (opcode_byte h)) u made in
       let (byte, opcode, k) = told (opcode_byte h) p left in
       let t = p.0 in
@@ -173,7 +174,8 @@ module _ (rows : MeanByTheirRows) (sound : LeavesItsTypes) (laws : IsCongruence)
       let outer = two (operator (of_type t 0x75 0x87)) inner (numbered t p.1) in
       subst (Agree context us vs (node h (x ▸ no_terms))) is
       (after_itself rows sound laws context list us vs (node h (x ▸ no_terms)) outer typed w
-      (with_constant_types rows sound context t (binary t shr_s) r inner z refl (with_constant_types rows sound context t (binary t shl) l x z refl tx) ∙ ap Some gives)
+      (with_constant_types rows sound context t (binary t shr_s) r inner z refl
+      (with_constant_types rows sound context t (binary t shl) l x z refl tx) ∙ ap Some gives)
       (λ s hs. one_means rows vs f d x s
       ∙ (then_same context (type_of t) (meaning_of vs x s) (act (operation f))
       (λ ws m. then_run (with_value rows sound t (binary t shl) z ws m) (with_value rows sound t (binary t shr_s) z))

@@ -144,7 +144,8 @@ first_missing nodes expr x y same l =
 pub second_missing : (nodes expr : List Lang) (x y : ℕ) → nodes ≡ expr → length nodes ≤ y → false ≡ undisturbed (term_at expr x) (term_at expr y)
 second_missing nodes expr x y same l =
     subst (λ (z : List Lang). false ≡ undisturbed (term_at z x) (term_at z y)) same
-    (sym (second_is_none (has_one_value (term_at nodes x)) ((not (writes (term_at nodes x)) && not (writes absent)) && not (may_trap (term_at nodes x) && may_trap absent)))
+    (sym (second_is_none (has_one_value (term_at nodes x))
+    ((not (writes (term_at nodes x)) && not (writes absent)) && not (may_trap (term_at nodes x) && may_trap absent)))
     ∙ ap (undisturbed (term_at nodes x)) (sym (past_end (expression_nodes nodes) y (omega (arith, count_of nodes, l)))))
 
 pub both_told : (nodes expr : List Lang) (effects : Effects) (x y : ℕ) (l m : Lang) (a b d : Bool × Bool) → nodes ≡ expr →

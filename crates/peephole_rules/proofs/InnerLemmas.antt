@@ -88,7 +88,8 @@ widened (Some byte) e = (byte, refl, each Widens widening (signed, (unsigned, tt
 
 module _ (rows : MeanByTheirRows) (sound : LeavesItsTypes) (laws : IsCongruence) where
   -- the operand has the type that the operator takes, and the operator gives the list
-  takes_one : (context : Context) (list : List PrimitiveTypeInfo) (t : IntegerType) (f : IntegerOperator) {h : Head} (d : Does h (operation f)) (x : Term Head) →
+  takes_one : (context : Context) (list : List PrimitiveTypeInfo) (t : IntegerType) (f : IntegerOperator) {h : Head} (d : Does h (operation f))
+      (x : Term Head) →
       f.operands ≡ type_of t ∷ [] → types_of context (one h x) ≡ Some list → (types_of context x ≡ Some (type_of t ∷ [])) × (type_of f.result ∷ [] ≡ list)
   takes_one context list t f d x o typed =
       let (ks, a, b) = and_then_some (row_types context (operation f)) (types_in context (x ▸ no_terms)) list

@@ -193,8 +193,10 @@ known (Some byte) other e = (byte, refl, each_pair Negates opposites all_negate 
 -- the test of what the opposite gives
 truth : (b e : Bool) (s : State) → e ≡ not b →
     Ends (whole integer.I32 (if b then 1 else 0) ∷ []) s ≡ act (operation (eqz integer.I32)) (whole integer.I32 (if e then 1 else 0) ∷ []) s
-truth true e s k = subst (λ (x : Bool). Ends (whole integer.I32 1 ∷ []) s ≡ act (operation (eqz integer.I32)) (whole integer.I32 (if x then 1 else 0) ∷ []) s) (sym k) refl
-truth false e s k = subst (λ (x : Bool). Ends (whole integer.I32 0 ∷ []) s ≡ act (operation (eqz integer.I32)) (whole integer.I32 (if x then 1 else 0) ∷ []) s) (sym k) refl
+truth true e s k =
+    subst (λ (x : Bool). Ends (whole integer.I32 1 ∷ []) s ≡ act (operation (eqz integer.I32)) (whole integer.I32 (if x then 1 else 0) ∷ []) s) (sym k) refl
+truth false e s k =
+    subst (λ (x : Bool). Ends (whole integer.I32 0 ∷ []) s ≡ act (operation (eqz integer.I32)) (whole integer.I32 (if x then 1 else 0) ∷ []) s) (sym k) refl
 
 -- and the test of that
 pub truth_twice : (b : Bool) (s : State) → Ends (whole integer.I32 (if not b then 1 else 0) ∷ []) s
@@ -276,13 +278,15 @@ module _ (rows : MeanByTheirRows) (sound : LeavesItsTypes) (laws : IsCongruence)
   difference_to_tests_keeps = kept rows sound laws 0x47 0x52 (λ t. compare t ne) differs (λ t. refl)
       (λ t x n. answer_if (n == 0) (one (operator 0x45) (one (operator (of_type t 0x45 0x50)) x))) go
     where
-      made : (t : IntegerType) (x : Term Head) (n : ℕ) → n ≡ 0 → Replaces rows sound t (compare t ne) x n (one (operator 0x45) (one (operator (of_type t 0x45 0x50)) x))
+      made : (t : IntegerType) (x : Term Head) (n : ℕ) → n ≡ 0 →
+          Replaces rows sound t (compare t ne) x n (one (operator 0x45) (one (operator (of_type t 0x45 0x50)) x))
       made t x n z =
           let d = written_does (of_type t 0x45 0x50) (operation (eqz t)) (tests.written t) (tests.row t) in
           let q = written_does 0x45 (operation (eqz integer.I32)) (tests.written integer.I32) (tests.row integer.I32) in
           let inner = one (operator (of_type t 0x45 0x50)) x in
           record {
-            types = λ context e. one_types rows context (type_of integer.I32) (eqz integer.I32) q inner refl (one_types rows context (type_of t) (eqz t) d x refl e);
+            types = λ context e. one_types rows context (type_of integer.I32) (eqz integer.I32) q inner refl
+                (one_types rows context (type_of t) (eqz t) d x refl e);
             next = λ vs m. then_run (act (operation (eqz t)) vs m) (act (operation (eqz integer.I32)));
             means = λ context words s e hs. one_means rows words (eqz integer.I32) q inner s
                 ∙ (ap (λ o. then_run o (act (operation (eqz integer.I32)))) (one_means rows words (eqz t) d x s)

@@ -122,7 +122,8 @@ single_told f l ids b same told = told ∙ (go ids ∙ ap (λ (x : List Id). is_
 
 pub operand_told : (nodes : List Lang) (at : ℕ) (l : Lang) (o : Operand) → at < length nodes → l ≡ get_or nodes at l →
     AreBelow (expression_nodes nodes) → o.operator ≡ head_operator (head_of l) → o.i32_number ≡ constant_number integer.I32 (term_over (term_at nodes) l) →
-    o.i64_number ≡ constant_number integer.I64 (term_over (term_at nodes) l) → o.local ≡ local_of (term_over (term_at nodes) l) → o.one_value ≡ is_value (instr_of_head (head_of l)) →
+    o.i64_number ≡ constant_number integer.I64 (term_over (term_at nodes) l) → o.local ≡ local_of (term_over (term_at nodes) l) →
+    o.one_value ≡ is_value (instr_of_head (head_of l)) →
     o.writes ≡ writes (term_at nodes at) → o.may_trap ≡ may_trap (term_at nodes at) → o.asks ≡ asks (term_at nodes at) →
     o.values ≡ values_in (pick (term_at nodes) (children_of l)) → o.single ≡ is_single (pick (term_at nodes) (children_of l)) →
     o.complement ≡ complements_in (head_operator (head_of l)) (pick (term_at nodes) (children_of l)) →

@@ -23,7 +23,7 @@ use Rattle.peephole_rules.proofs.OrderLemmas.{some_answer_if, commute_keeps, tur
 use Rattle.peephole_rules.proofs.NeutralLemmas.{constant_types, add_zero_keeps, sub_zero_keeps, mul_one_keeps, or_zero_keeps, xor_zero_keeps, shift_by_zero_keeps, shr_s_by_zero_keeps, shr_u_by_zero_keeps, rotl_by_zero_keeps, rotr_by_zero_keeps}
 use Rattle.peephole_rules.proofs.TwiceLemmas.{or_self_keeps, and_self_keeps}
 use Rattle.peephole_rules.proofs.GroupLemmas.{associate_left_keeps, associate_right_keeps}
-use Rattle.peephole_rules.proofs.ConstantLemmas.{test_to_comparison_keeps, comparison_to_test_keeps, drop_add_zero_keeps, drop_sub_zero_keeps, drop_mul_one_keeps, drop_or_zero_keeps, drop_xor_zero_keeps, drop_shift_by_zero_keeps, and_ones_keeps, drop_and_ones_keeps, double_complement_keeps, difference_to_sum_keeps, sum_to_difference_keeps, shift_to_product_keeps, product_to_shift_keeps, drop_shr_s_by_zero_keeps, drop_shr_u_by_zero_keeps, drop_rotl_by_zero_keeps, drop_rotr_by_zero_keeps, quotient_to_shift_keeps, shift_to_quotient_keeps, remainder_to_mask_keeps, mask_to_remainder_keeps, rotl_to_rotr_keeps, rotr_to_rotl_keeps}
+use Rattle.peephole_rules.proofs.ConstantLemmas as constants
 use Rattle.peephole_rules.proofs.SelectLemmas.{turn_select_keeps}
 use Rattle.peephole_rules.proofs.ForgetLemmas.{forget_keeps}
 use Rattle.peephole_rules.proofs.FoldLemmas.{fold_keeps}
@@ -104,44 +104,44 @@ module _ (rows : MeanByTheirRows) (sound : LeavesItsTypes) (laws : IsCongruence)
   rewrite_keeps context rule.MulOne x u e = by_type mul_one (mul_one_keeps rows sound laws) context x u e
   rewrite_keeps context rule.OrZero x u e = by_type or_zero (or_zero_keeps rows sound laws) context x u e
   rewrite_keeps context rule.XorZero x u e = by_type xor_zero (xor_zero_keeps rows sound laws) context x u e
-  rewrite_keeps context rule.AndOnes x u e = by_type and_ones (and_ones_keeps rows sound laws) context x u e
+  rewrite_keeps context rule.AndOnes x u e = by_type and_ones (constants.and_ones_keeps rows sound laws) context x u e
   rewrite_keeps context rule.ShiftByZero x u e = by_type shift_by_zero (shift_by_zero_keeps rows sound laws) context x u e
   rewrite_keeps context rule.OrSelf x u e = of_its_type context or_self (or_self_keeps rows sound laws) x u e
   rewrite_keeps context rule.AndSelf x u e = of_its_type context and_self (and_self_keeps rows sound laws) x u e
-  rewrite_keeps context rule.DoubleComplement x u e = by_type double_complement (double_complement_keeps rows sound laws) context x u e
-  rewrite_keeps context rule.ShiftToProduct x u e = shift_to_product_keeps rows sound laws x u e context
-  rewrite_keeps context rule.ProductToShift x u e = product_to_shift_keeps rows sound laws x u e context
-  rewrite_keeps context rule.DifferenceToSum x u e = difference_to_sum_keeps rows sound laws x u e context
-  rewrite_keeps context rule.SumToDifference x u e = sum_to_difference_keeps rows sound laws x u e context
-  rewrite_keeps context rule.TestToComparison x u e = test_to_comparison_keeps rows sound laws x u e context
-  rewrite_keeps context rule.ComparisonToTest x u e = comparison_to_test_keeps rows sound laws x u e context
+  rewrite_keeps context rule.DoubleComplement x u e = by_type double_complement (constants.double_complement_keeps rows sound laws) context x u e
+  rewrite_keeps context rule.ShiftToProduct x u e = constants.shift_to_product_keeps rows sound laws x u e context
+  rewrite_keeps context rule.ProductToShift x u e = constants.product_to_shift_keeps rows sound laws x u e context
+  rewrite_keeps context rule.DifferenceToSum x u e = constants.difference_to_sum_keeps rows sound laws x u e context
+  rewrite_keeps context rule.SumToDifference x u e = constants.sum_to_difference_keeps rows sound laws x u e context
+  rewrite_keeps context rule.TestToComparison x u e = constants.test_to_comparison_keeps rows sound laws x u e context
+  rewrite_keeps context rule.ComparisonToTest x u e = constants.comparison_to_test_keeps rows sound laws x u e context
   rewrite_keeps context rule.TurnSelect x u e = turn_select_keeps rows sound laws x u e context
   rewrite_keeps context rule.Unfold x u e = unfold_stands context x u e
   rewrite_keeps context rule.ThroughGlobal x u e = global_stands context x u e
   rewrite_keeps context rule.WithNop x u e = subst (λ y. StandsFor context x y) (cc) (with_nop_keeps rows sound laws x context)
   rewrite_keeps context rule.Fold x u e = fold_keeps rows sound laws x u e context
-  rewrite_keeps context rule.DropAddZero x u e = drop_add_zero_keeps rows sound laws x u e context
-  rewrite_keeps context rule.DropSubZero x u e = drop_sub_zero_keeps rows sound laws x u e context
-  rewrite_keeps context rule.DropMulOne x u e = drop_mul_one_keeps rows sound laws x u e context
-  rewrite_keeps context rule.DropOrZero x u e = drop_or_zero_keeps rows sound laws x u e context
-  rewrite_keeps context rule.DropXorZero x u e = drop_xor_zero_keeps rows sound laws x u e context
-  rewrite_keeps context rule.DropAndOnes x u e = drop_and_ones_keeps rows sound laws x u e context
-  rewrite_keeps context rule.DropShiftByZero x u e = drop_shift_by_zero_keeps rows sound laws x u e context
+  rewrite_keeps context rule.DropAddZero x u e = constants.drop_add_zero_keeps rows sound laws x u e context
+  rewrite_keeps context rule.DropSubZero x u e = constants.drop_sub_zero_keeps rows sound laws x u e context
+  rewrite_keeps context rule.DropMulOne x u e = constants.drop_mul_one_keeps rows sound laws x u e context
+  rewrite_keeps context rule.DropOrZero x u e = constants.drop_or_zero_keeps rows sound laws x u e context
+  rewrite_keeps context rule.DropXorZero x u e = constants.drop_xor_zero_keeps rows sound laws x u e context
+  rewrite_keeps context rule.DropAndOnes x u e = constants.drop_and_ones_keeps rows sound laws x u e context
+  rewrite_keeps context rule.DropShiftByZero x u e = constants.drop_shift_by_zero_keeps rows sound laws x u e context
   rewrite_keeps context rule.Forget x u e = forget_keeps rows sound laws x u e context
   rewrite_keeps context rule.ShrSByZero x u e = by_type shr_s_by_zero (shr_s_by_zero_keeps rows sound laws) context x u e
   rewrite_keeps context rule.ShrUByZero x u e = by_type shr_u_by_zero (shr_u_by_zero_keeps rows sound laws) context x u e
   rewrite_keeps context rule.RotlByZero x u e = by_type rotl_by_zero (rotl_by_zero_keeps rows sound laws) context x u e
   rewrite_keeps context rule.RotrByZero x u e = by_type rotr_by_zero (rotr_by_zero_keeps rows sound laws) context x u e
-  rewrite_keeps context rule.DropShrSByZero x u e = drop_shr_s_by_zero_keeps rows sound laws x u e context
-  rewrite_keeps context rule.DropShrUByZero x u e = drop_shr_u_by_zero_keeps rows sound laws x u e context
-  rewrite_keeps context rule.DropRotlByZero x u e = drop_rotl_by_zero_keeps rows sound laws x u e context
-  rewrite_keeps context rule.DropRotrByZero x u e = drop_rotr_by_zero_keeps rows sound laws x u e context
-  rewrite_keeps context rule.QuotientToShift x u e = quotient_to_shift_keeps rows sound laws x u e context
-  rewrite_keeps context rule.ShiftToQuotient x u e = shift_to_quotient_keeps rows sound laws x u e context
-  rewrite_keeps context rule.RemainderToMask x u e = remainder_to_mask_keeps rows sound laws x u e context
-  rewrite_keeps context rule.MaskToRemainder x u e = mask_to_remainder_keeps rows sound laws x u e context
-  rewrite_keeps context rule.RotlToRotr x u e = rotl_to_rotr_keeps rows sound laws x u e context
-  rewrite_keeps context rule.RotrToRotl x u e = rotr_to_rotl_keeps rows sound laws x u e context
+  rewrite_keeps context rule.DropShrSByZero x u e = constants.drop_shr_s_by_zero_keeps rows sound laws x u e context
+  rewrite_keeps context rule.DropShrUByZero x u e = constants.drop_shr_u_by_zero_keeps rows sound laws x u e context
+  rewrite_keeps context rule.DropRotlByZero x u e = constants.drop_rotl_by_zero_keeps rows sound laws x u e context
+  rewrite_keeps context rule.DropRotrByZero x u e = constants.drop_rotr_by_zero_keeps rows sound laws x u e context
+  rewrite_keeps context rule.QuotientToShift x u e = constants.quotient_to_shift_keeps rows sound laws x u e context
+  rewrite_keeps context rule.ShiftToQuotient x u e = constants.shift_to_quotient_keeps rows sound laws x u e context
+  rewrite_keeps context rule.RemainderToMask x u e = constants.remainder_to_mask_keeps rows sound laws x u e context
+  rewrite_keeps context rule.MaskToRemainder x u e = constants.mask_to_remainder_keeps rows sound laws x u e context
+  rewrite_keeps context rule.RotlToRotr x u e = constants.rotl_to_rotr_keeps rows sound laws x u e context
+  rewrite_keeps context rule.RotrToRotl x u e = constants.rotr_to_rotl_keeps rows sound laws x u e context
   rewrite_keeps context rule.ProductToDouble x u e = product_to_double_keeps rows sound laws x u e context
   rewrite_keeps context rule.ShiftToDouble x u e = shift_to_double_keeps rows sound laws x u e context
   rewrite_keeps context rule.CancelSub x u e = cancel_sub_keeps rows sound laws x u e context

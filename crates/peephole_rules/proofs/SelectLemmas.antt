@@ -122,7 +122,8 @@ module _ (rows : MeanByTheirRows) (sound : LeavesItsTypes) (context : Context) w
           then_run (meaning words (a ▸ b ▸ d ▸ no_terms) s) (act select) ≡ Traps q.0 (own_globals s) s.rest
       stops a b d v p q =
           first_leaves words a (b ▸ d ▸ no_terms) s (act select) v p
-          ∙ first_stops (drop (length (draws_of a)) words) b (d ▸ no_terms) s (λ us m. act select (v ∷ us) m) q.0 (own_globals s) s.rest (q.1 (drop (length (draws_of a)) words))
+          ∙ first_stops (drop (length (draws_of a)) words) b (d ▸ no_terms) s (λ us m. act select (v ∷ us) m)
+          q.0 (own_globals s) s.rest (q.1 (drop (length (draws_of a)) words))
 
       go : LeavesValue rows sound t x s ⊎ Stops rows sound x s →
           LeavesValue rows sound t y s ⊎ Stops rows sound y s →

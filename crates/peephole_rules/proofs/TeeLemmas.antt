@@ -77,7 +77,8 @@ module _ (context : Context) (n : ℕ) (v : Value) (s : State) (there : slice_ge
 
   act_get : act (get (local n)) [] (write (local n) v s) ≡ Ends (v ∷ []) (write (local n) v s)
   act_get = act_is (get (local n)) [] (v.type ∷ []) (write (local n) v s)
-      (ap (option_and_then (λ u. Some (u ∷ []))) (slice_get-map (λ (w : Value). w.type) (slice_set s.locals n v) n ∙ ap (option_map (λ (w : Value). w.type)) found))
+      (ap (option_and_then (λ u. Some (u ∷ []))) (slice_get-map (λ (w : Value). w.type) (slice_set s.locals n v) n
+      ∙ ap (option_map (λ (w : Value). w.type)) found))
       ∙ ap (λ o. read_of o (write (local n) v s)) found
 
 -- ---- the nodes
@@ -112,7 +113,8 @@ module _ (rows : MeanByTheirRows) (sound : LeavesItsTypes) (laws : IsCongruence)
     behind_set words v s hv hs =
         let own = there ∙ ap Some (sym hv) in
         let after = write (local n) v s in
-        ap (λ o. then_run o (λ ws m. then_run (meaning words (node (get_head n) no_terms ▸ no_terms) m) (λ us k. Ends (ws ++ us) k))) (act_set context n v s own hs)
+        ap (λ o. then_run o (λ ws m. then_run (meaning words (node (get_head n) no_terms ▸ no_terms) m) (λ us k. Ends (ws ++ us) k)))
+        (act_set context n v s own hs)
         ∙ (behind_one words (node (get_head n) no_terms) after (λ us k. Ends us k)
         ∙ (ap (λ o. then_run o (λ us k. Ends us k)) (does_means rows words (get_does n) no_terms after ∙ act_get context n v s own hs)
         ∙ sym (act_tee context n v s own hs)))

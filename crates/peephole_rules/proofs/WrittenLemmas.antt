@@ -81,7 +81,8 @@ module _ (h : Head) (f : ℕ → Term Head) where
   inner_two o [] k = absurd k
   inner_two o (i ∷ is) k = k.0
 
-  pub distributed_two : (outer inner : Operation) (t : IntegerType) (number : ℕ) (is : List ℕ) → CanReplace (Distribute outer inner t number) (node h (pick f is)) →
+  pub distributed_two : (outer inner : Operation) (t : IntegerType) (number : ℕ) (is : List ℕ) →
+      CanReplace (Distribute outer inner t number) (node h (pick f is)) →
       HasTwoInner (node h (pick f is))
   distributed_two outer inner t number [] k = absurd k
   distributed_two outer inner t number (i ∷ is) k = k.0

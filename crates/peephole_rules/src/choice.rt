@@ -1,7 +1,7 @@
 //! What a rule puts in the place of a node, by what is read of the node and of its operands.
 ghost use Rattle.std.specs.Prelude.{◌≡◌, ◌==◌, true, option_map};
 ghost use Rattle.peephole_rules.specs.Rewriting.{answer_if, all_ones, typed_constant};
-ghost use Rattle.peephole_rules.specs.Choice.{are_undisturbed, number_of, number_of_second, swap, turn, turn_select, group_left, group_right, with_number, with_all_ones, complements, twice, without, without_all_ones, test, comparison, with_opposite, with_power, with_place, with_mask, with_divisor, with_rest, constant_type, unfolded, through_global, forgotten, double, alone, drawn, negated, both_tests, wrapped, unnegated, part, distributed, shifts, inner_operator, difference, narrowed, collected, set_apart, have_same_local, type_of_same, cancelled, first_of_same, same_with, selected_same};
+ghost use Rattle.peephole_rules.specs.Choice as choices;
 
 use crate::classes::{
     binary_type, bits_left_out, in_one_group, is_binary, is_commutative, is_drop, is_negation,
@@ -22,14 +22,14 @@ fn answer_if(met: bool, replacement: Replacement) -> Option<Replacement>
 
 // Whether each leaves one value, neither may write, and at most one may trap.
 fn are_undisturbed(x: &Operand, y: &Operand) -> bool
-    ensures { result ≡ are_undisturbed x.now y.now }
+    ensures { result ≡ choices.are_undisturbed x.now y.now }
 {
     (x.one_value && y.one_value) && ((!x.writes && !y.writes) && !(x.may_trap && y.may_trap))
 }
 
 /// The number of a constant of the type.
 pub(crate) fn number_of(t: IntegerType, x: &Operand) -> Option<u64>
-    ensures { result ≡ number_of t x.now }
+    ensures { result ≡ choices.number_of t x.now }
 {
     match t {
         IntegerType::I32 => x.i32_number,
@@ -48,7 +48,7 @@ pub(crate) fn number_of_second(
     t: Option<IntegerType>,
     operands: &Operands,
 ) -> Option<(IntegerType, u64)>
-    ensures { result ≡ number_of_second t operands.now }
+    ensures { result ≡ choices.number_of_second t operands.now }
 {
     let Operands::Two(_, number) = operands else {
         return None;
@@ -59,7 +59,7 @@ pub(crate) fn number_of_second(
 
 /// The operands in the other order, where they may change places and don't disturb one another.
 pub(crate) fn swap(operator: Option<Operator>, operands: &Operands) -> Option<Replacement>
-    ensures { result ≡ swap operator operands.now }
+    ensures { result ≡ choices.swap operator operands.now }
 {
     let Operands::Two(x, y) = operands else {
         return None;
@@ -71,7 +71,7 @@ pub(crate) fn swap(operator: Option<Operator>, operands: &Operands) -> Option<Re
 
 /// The comparison that holds of the operands in the other order, where they don't disturb one another.
 pub(crate) fn turn(operator: Option<Operator>, operands: &Operands) -> Option<Replacement>
-    ensures { result ≡ turn operator operands.now }
+    ensures { result ≡ choices.turn operator operands.now }
 {
     let Operands::Two(x, y) = operands else {
         return None;
@@ -82,7 +82,7 @@ pub(crate) fn turn(operator: Option<Operator>, operands: &Operands) -> Option<Re
 
 /// The select of the operands in the other order by the opposite condition, where they don't disturb one another.
 pub(crate) fn turn_select(operator: Option<Operator>, operands: &Operands) -> Option<Replacement>
-    ensures { result ≡ turn_select operator operands.now }
+    ensures { result ≡ choices.turn_select operator operands.now }
 {
     let Operands::Three(x, y, _) = operands else {
         return None;
@@ -94,7 +94,7 @@ pub(crate) fn turn_select(operator: Option<Operator>, operands: &Operands) -> Op
 
 /// The second operand's first operand grouped with the first operand, where it leaves one value.
 pub(crate) fn group_left(operator: Option<Operator>, operands: &Operands) -> Option<Replacement>
-    ensures { result ≡ group_left operator operands.now }
+    ensures { result ≡ choices.group_left operator operands.now }
 {
     let Operands::Two(_, inner) = operands else {
         return None;
@@ -106,7 +106,7 @@ pub(crate) fn group_left(operator: Option<Operator>, operands: &Operands) -> Opt
 
 /// The first operand's second operand grouped with the second operand, where it leaves one value.
 pub(crate) fn group_right(operator: Option<Operator>, operands: &Operands) -> Option<Replacement>
-    ensures { result ≡ group_right operator operands.now }
+    ensures { result ≡ choices.group_right operator operands.now }
 {
     let Operands::Two(inner, _) = operands else {
         return None;
@@ -118,7 +118,7 @@ pub(crate) fn group_right(operator: Option<Operator>, operands: &Operands) -> Op
 
 /// A number behind the node, with the operator of its type.
 pub(crate) fn with_number(f: Binary, number: u64, value: Option<IntegerType>) -> Option<Replacement>
-    ensures { result ≡ with_number f number value }
+    ensures { result ≡ choices.with_number f number value }
 {
     let t = value?;
     Some(Replacement::Constant(Operation::Binary(t, f), t, number))
@@ -126,7 +126,7 @@ pub(crate) fn with_number(f: Binary, number: u64, value: Option<IntegerType>) ->
 
 /// -1 behind the node, with the operator of its type.
 pub(crate) fn with_all_ones(f: Binary, value: Option<IntegerType>) -> Option<Replacement>
-    ensures { result ≡ with_all_ones f value }
+    ensures { result ≡ choices.with_all_ones f value }
 {
     let t = value?;
     Some(Replacement::Constant(Operation::Binary(t, f), t, all_ones(t)))
@@ -134,7 +134,7 @@ pub(crate) fn with_all_ones(f: Binary, value: Option<IntegerType>) -> Option<Rep
 
 /// -1 behind the node, twice.
 pub(crate) fn complements(f: Binary, value: Option<IntegerType>) -> Option<Replacement>
-    ensures { result ≡ complements f value }
+    ensures { result ≡ choices.complements f value }
 {
     let t = value?;
     Some(Replacement::Complements(Operation::Binary(t, f), t, all_ones(t)))
@@ -147,7 +147,7 @@ pub(crate) fn twice(
     asks: bool,
     value: Option<IntegerType>,
 ) -> Option<Replacement>
-    ensures { result ≡ twice f writes asks value }
+    ensures { result ≡ choices.twice f writes asks value }
 {
     let t = value?;
     answer_if(
@@ -158,7 +158,7 @@ pub(crate) fn twice(
 
 /// The first operand alone, where the second is that number.
 pub(crate) fn without(number: u64, behind: Option<(IntegerType, u64)>) -> Option<Replacement>
-    ensures { result ≡ without number behind }
+    ensures { result ≡ choices.without number behind }
 {
     let (_, n) = behind?;
     answer_if(n == number, Replacement::First)
@@ -166,7 +166,7 @@ pub(crate) fn without(number: u64, behind: Option<(IntegerType, u64)>) -> Option
 
 /// The first operand alone, where the second is -1.
 pub(crate) fn without_all_ones(behind: Option<(IntegerType, u64)>) -> Option<Replacement>
-    ensures { result ≡ without_all_ones behind }
+    ensures { result ≡ choices.without_all_ones behind }
 {
     let (t, n) = behind?;
     answer_if(n == all_ones(t), Replacement::First)
@@ -174,7 +174,7 @@ pub(crate) fn without_all_ones(behind: Option<(IntegerType, u64)>) -> Option<Rep
 
 /// The test of the first operand, where the second is 0.
 pub(crate) fn test(behind: Option<(IntegerType, u64)>) -> Option<Replacement>
-    ensures { result ≡ test behind }
+    ensures { result ≡ choices.test behind }
 {
     let (t, n) = behind?;
     answer_if(n == 0, Replacement::FirstBy(Operation::Eqz(t)))
@@ -182,7 +182,7 @@ pub(crate) fn test(behind: Option<(IntegerType, u64)>) -> Option<Replacement>
 
 /// The comparison of a test's operand with 0.
 pub(crate) fn comparison(operator: Option<Operator>, operands: &Operands) -> Option<Replacement>
-    ensures { result ≡ comparison operator operands.now }
+    ensures { result ≡ choices.comparison operator operands.now }
 {
     let Operands::One(_) = operands else {
         return None;
@@ -193,7 +193,7 @@ pub(crate) fn comparison(operator: Option<Operator>, operands: &Operands) -> Opt
 
 /// The first operand and the number behind it negated, with the operator of its type.
 pub(crate) fn with_opposite(f: Binary, behind: Option<(IntegerType, u64)>) -> Option<Replacement>
-    ensures { result ≡ with_opposite f behind }
+    ensures { result ≡ choices.with_opposite f behind }
 {
     let (t, n) = behind?;
     Some(Replacement::FirstWith(Operation::Binary(t, f), t, opposite(t, n)))
@@ -201,7 +201,7 @@ pub(crate) fn with_opposite(f: Binary, behind: Option<(IntegerType, u64)>) -> Op
 
 /// The first operand and a power of two, with the operator of its type, where the second operand is a number below the width.
 pub(crate) fn with_power(f: Binary, behind: Option<(IntegerType, u64)>) -> Option<Replacement>
-    ensures { result ≡ with_power f behind }
+    ensures { result ≡ choices.with_power f behind }
 {
     let (t, n) = behind?;
     if n >= width(t) {
@@ -212,7 +212,7 @@ pub(crate) fn with_power(f: Binary, behind: Option<(IntegerType, u64)>) -> Optio
 
 /// The first operand and the place of a number's lowest bit, with the operator of its type, where the number has no other bit.
 pub(crate) fn with_place(f: Binary, behind: Option<(IntegerType, u64)>) -> Option<Replacement>
-    ensures { result ≡ with_place f behind }
+    ensures { result ≡ choices.with_place f behind }
 {
     let (t, n) = behind?;
     let place = lowest_bit(t, n);
@@ -224,7 +224,7 @@ pub(crate) fn with_place(f: Binary, behind: Option<(IntegerType, u64)>) -> Optio
 
 /// The first operand and one less than a number, where the number has one bit alone.
 pub(crate) fn with_mask(behind: Option<(IntegerType, u64)>) -> Option<Replacement>
-    ensures { result ≡ with_mask behind }
+    ensures { result ≡ choices.with_mask behind }
 {
     let (t, n) = behind?;
     if 1 << lowest_bit(t, n) != n {
@@ -235,7 +235,7 @@ pub(crate) fn with_mask(behind: Option<(IntegerType, u64)>) -> Option<Replacemen
 
 /// The remainder of the first operand by one more than a number, where that has one bit alone.
 pub(crate) fn with_divisor(behind: Option<(IntegerType, u64)>) -> Option<Replacement>
-    ensures { result ≡ with_divisor behind }
+    ensures { result ≡ choices.with_divisor behind }
 {
     let (t, n) = behind?;
     if n >= all_ones(t) {
@@ -250,7 +250,7 @@ pub(crate) fn with_divisor(behind: Option<(IntegerType, u64)>) -> Option<Replace
 
 /// The first operand and what is left of a turn to the whole, with the operator of its type.
 pub(crate) fn with_rest(f: Binary, behind: Option<(IntegerType, u64)>) -> Option<Replacement>
-    ensures { result ≡ with_rest f behind }
+    ensures { result ≡ choices.with_rest f behind }
 {
     let (t, n) = behind?;
     let bits = width(t);
@@ -258,7 +258,7 @@ pub(crate) fn with_rest(f: Binary, behind: Option<(IntegerType, u64)>) -> Option
 }
 
 fn constant_type(i32_number: Option<u64>, i64_number: Option<u64>) -> Option<IntegerType>
-    ensures { result ≡ constant_type i32_number i64_number }
+    ensures { result ≡ choices.constant_type i32_number i64_number }
 {
     match (i32_number, i64_number) {
         (Some(_), _) => Some(IntegerType::I32),
@@ -269,21 +269,21 @@ fn constant_type(i32_number: Option<u64>, i64_number: Option<u64>) -> Option<Int
 
 /// The sum of a drawn word and the rest, of a constant.
 pub(crate) fn unfolded(i32_number: Option<u64>, i64_number: Option<u64>) -> Option<Replacement>
-    ensures { result ≡ unfolded i32_number i64_number }
+    ensures { result ≡ choices.unfolded i32_number i64_number }
 {
     Some(Replacement::Unfold(constant_type(i32_number, i64_number)?))
 }
 
 /// The value by way of a requested global.
 pub(crate) fn through_global(value: Option<NumberType>) -> Option<Replacement>
-    ensures { result ≡ through_global value }
+    ensures { result ≡ choices.through_global value }
 {
     Some(Replacement::UseGlobal(value?))
 }
 
 /// Nothing in the place of a drop, where its operand may neither write nor trap.
 pub(crate) fn forgotten(operator: Option<Operator>, operands: &Operands) -> Option<Replacement>
-    ensures { result ≡ forgotten operator operands.now }
+    ensures { result ≡ choices.forgotten operator operands.now }
 {
     let Operands::One(x) = operands else {
         return None;
@@ -298,7 +298,7 @@ pub(crate) fn double(
     operands: &Operands,
     behind: Option<(IntegerType, u64)>,
 ) -> Option<Replacement>
-    ensures { result ≡ double number operands.now behind }
+    ensures { result ≡ choices.double number operands.now behind }
 {
     let Operands::Two(x, _) = operands else {
         return None;
@@ -312,7 +312,7 @@ pub(crate) fn double(
 
 // Whether both operands read the same local.
 fn have_same_local(x: &Operand, y: &Operand) -> bool
-    ensures { result ≡ have_same_local x.now y.now }
+    ensures { result ≡ choices.have_same_local x.now y.now }
 {
     match (x.local, y.local) {
         (Some(one), Some(other)) => one == other,
@@ -322,7 +322,7 @@ fn have_same_local(x: &Operand, y: &Operand) -> bool
 
 /// The type, where there are two operands that read the same local.
 pub(crate) fn type_of_same(t: Option<IntegerType>, operands: &Operands) -> Option<IntegerType>
-    ensures { result ≡ type_of_same t operands.now }
+    ensures { result ≡ choices.type_of_same t operands.now }
 {
     let Operands::Two(x, y) = operands else {
         return None;
@@ -334,14 +334,14 @@ pub(crate) fn type_of_same(t: Option<IntegerType>, operands: &Operands) -> Optio
 
 /// 0, in the place of an operator of the type on the same local twice.
 pub(crate) fn cancelled(same: Option<IntegerType>) -> Option<Replacement>
-    ensures { result ≡ cancelled same }
+    ensures { result ≡ choices.cancelled same }
 {
     Some(Replacement::Number(same?, 0))
 }
 
 /// The first operand alone, in the place of an operator of the type on the same local twice.
 pub(crate) fn first_of_same(same: Option<IntegerType>) -> Option<Replacement>
-    ensures { result ≡ first_of_same same }
+    ensures { result ≡ choices.first_of_same same }
 {
     let _t = same?;
     Some(Replacement::First)
@@ -349,7 +349,7 @@ pub(crate) fn first_of_same(same: Option<IntegerType>) -> Option<Replacement>
 
 /// The first operand and a number, with the operator of their type, in the place of another on the same local twice.
 pub(crate) fn same_with(f: Binary, number: u64, same: Option<IntegerType>) -> Option<Replacement>
-    ensures { result ≡ same_with f number same }
+    ensures { result ≡ choices.same_with f number same }
 {
     let t = same?;
     Some(Replacement::FirstWith(Operation::Binary(t, f), t, number))
@@ -357,7 +357,7 @@ pub(crate) fn same_with(f: Binary, number: u64, same: Option<IntegerType>) -> Op
 
 /// The first operand of a select alone, where the first two read the same local, and the condition may neither write nor trap.
 pub(crate) fn selected_same(operator: Option<Operator>, operands: &Operands) -> Option<Replacement>
-    ensures { result ≡ selected_same operator operands.now }
+    ensures { result ≡ choices.selected_same operator operands.now }
 {
     let Operands::Three(x, y, condition) = operands else {
         return None;
@@ -375,7 +375,7 @@ pub(crate) fn alone_zero(
     operands: &Operands,
     behind: Option<(IntegerType, u64)>,
 ) -> Option<Replacement>
-    ensures { result ≡ alone (λ t. 0) operands.now behind }
+    ensures { result ≡ choices.alone (λ t. 0) operands.now behind }
 {
     let Operands::Two(x, _) = operands else {
         return None;
@@ -392,7 +392,7 @@ pub(crate) fn alone_ones(
     operands: &Operands,
     behind: Option<(IntegerType, u64)>,
 ) -> Option<Replacement>
-    ensures { result ≡ alone all_ones operands.now behind }
+    ensures { result ≡ choices.alone all_ones operands.now behind }
 {
     let Operands::Two(x, _) = operands else {
         return None;
@@ -420,7 +420,7 @@ pub(crate) fn typed_constant(
 
 /// A constant that is 0 behind a drawn one, with the operator of its type.
 pub(crate) fn drawn_zero(f: Binary, own: Option<(IntegerType, u64)>) -> Option<Replacement>
-    ensures { result ≡ drawn f (λ t. 0) own }
+    ensures { result ≡ choices.drawn f (λ t. 0) own }
 {
     let (t, n) = own?;
     answer_if(n == 0, Replacement::Drawn(Operation::Binary(t, f), t))
@@ -428,7 +428,7 @@ pub(crate) fn drawn_zero(f: Binary, own: Option<(IntegerType, u64)>) -> Option<R
 
 /// A constant that is -1 behind a drawn one, with the operator of its type.
 pub(crate) fn drawn_ones(f: Binary, own: Option<(IntegerType, u64)>) -> Option<Replacement>
-    ensures { result ≡ drawn f all_ones own }
+    ensures { result ≡ choices.drawn f all_ones own }
 {
     let (t, n) = own?;
     answer_if(
@@ -439,7 +439,7 @@ pub(crate) fn drawn_ones(f: Binary, own: Option<(IntegerType, u64)>) -> Option<R
 
 /// The test of the comparison that holds where this one doesn't.
 pub(crate) fn negated(operator: Option<Operator>, operands: &Operands) -> Option<Replacement>
-    ensures { result ≡ negated operator operands.now }
+    ensures { result ≡ choices.negated operator operands.now }
 {
     let Operands::Two(..) = operands else {
         return None;
@@ -449,7 +449,7 @@ pub(crate) fn negated(operator: Option<Operator>, operands: &Operands) -> Option
 
 /// The test of the test of the first operand, where the second is 0.
 pub(crate) fn both_tests(behind: Option<(IntegerType, u64)>) -> Option<Replacement>
-    ensures { result ≡ both_tests behind }
+    ensures { result ≡ choices.both_tests behind }
 {
     let (t, n) = behind?;
     answer_if(
@@ -460,7 +460,7 @@ pub(crate) fn both_tests(behind: Option<(IntegerType, u64)>) -> Option<Replaceme
 
 /// A value of i32, extended and wrapped.
 pub(crate) fn wrapped(value: Option<IntegerType>) -> Option<Replacement>
-    ensures { result ≡ wrapped value }
+    ensures { result ≡ choices.wrapped value }
 {
     match value {
         Some(IntegerType::I32) => Some(Replacement::ByBoth(
@@ -473,7 +473,7 @@ pub(crate) fn wrapped(value: Option<IntegerType>) -> Option<Replacement>
 
 /// The comparison that holds where that doesn't of which this is the test.
 pub(crate) fn unnegated(operator: Option<Operator>, operands: &Operands) -> Option<Replacement>
-    ensures { result ≡ unnegated operator operands.now }
+    ensures { result ≡ choices.unnegated operator operands.now }
 {
     let Operands::One(x) = operands else {
         return None;
@@ -501,7 +501,7 @@ fn part(
     behind: (IntegerType, u64),
     met: bool,
 ) -> Option<Replacement>
-    ensures { result ≡ part over.parts over.joins over.own x.now behind met }
+    ensures { result ≡ choices.part over.parts over.joins over.own x.now behind met }
 {
     let (t, n) = behind;
     let (one_value, _) = x.values?;
@@ -523,7 +523,7 @@ pub(crate) fn distributed(
     operands: &Operands,
     behind: Option<(IntegerType, u64)>,
 ) -> Option<Replacement>
-    ensures { result ≡ distributed over.parts over.joins over.own (λ t n. true)
+    ensures { result ≡ choices.distributed over.parts over.joins over.own (λ t n. true)
         operands.now behind }
 {
     let Operands::Two(x, _) = operands else {
@@ -538,7 +538,7 @@ pub(crate) fn distributed_ones(
     operands: &Operands,
     behind: Option<(IntegerType, u64)>,
 ) -> Option<Replacement>
-    ensures { result ≡ distributed over.parts over.joins over.own (λ t n. n == all_ones t)
+    ensures { result ≡ choices.distributed over.parts over.joins over.own (λ t n. n == all_ones t)
         operands.now behind }
 {
     let Operands::Two(x, _) = operands else {
@@ -550,7 +550,7 @@ pub(crate) fn distributed_ones(
 
 /// An extension of low bits as a shift there and one back.
 pub(crate) fn shifts(operator: Option<Operator>, operands: &Operands) -> Option<Replacement>
-    ensures { result ≡ shifts operator operands.now }
+    ensures { result ≡ choices.shifts operator operands.now }
 {
     let Operands::One(_) = operands else {
         return None;
@@ -566,7 +566,7 @@ pub(crate) fn shifts(operator: Option<Operator>, operands: &Operands) -> Option<
 
 /// The operator of the only operand, where that has one operand itself.
 pub(crate) fn inner_operator(operands: &Operands) -> Option<Operator>
-    ensures { result ≡ inner_operator operands.now }
+    ensures { result ≡ choices.inner_operator operands.now }
 {
     let Operands::One(x) = operands else {
         return None;
@@ -576,7 +576,7 @@ pub(crate) fn inner_operator(operands: &Operands) -> Option<Operator>
 
 /// The comparison with 0 of what is tested twice.
 pub(crate) fn difference(operator: Option<Operator>, inner: Option<Operator>) -> Option<Replacement>
-    ensures { result ≡ difference operator inner }
+    ensures { result ≡ choices.difference operator inner }
 {
     if !is_negation(operator) {
         return None;
@@ -587,7 +587,7 @@ pub(crate) fn difference(operator: Option<Operator>, inner: Option<Operator>) ->
 
 /// What is extended, where it is wrapped again.
 pub(crate) fn narrowed(operator: Option<Operator>, inner: Option<Operator>) -> Option<Replacement>
-    ensures { result ≡ narrowed operator inner }
+    ensures { result ≡ choices.narrowed operator inner }
 {
     let wraps = is_wrapping(operator);
     let extended = is_widening(inner);
@@ -601,7 +601,7 @@ pub(crate) fn collected(
     operator: Option<Operator>,
     operands: &Operands,
 ) -> Option<Replacement>
-    ensures { result ≡ collected own other operator operands.now }
+    ensures { result ≡ choices.collected own other operator operands.now }
 {
     let Operands::Two(x, y) = operands else {
         return None;
@@ -620,7 +620,7 @@ pub(crate) fn collected(
 
 /// A write of the local that is set and left, and a read of it.
 pub(crate) fn set_apart(operator: Option<Operator>, operands: &Operands) -> Option<Replacement>
-    ensures { result ≡ set_apart operator operands.now }
+    ensures { result ≡ choices.set_apart operator operands.now }
 {
     let Operands::One(_) = operands else {
         return None;

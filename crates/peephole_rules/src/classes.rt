@@ -2,7 +2,7 @@
 ghost use Rattle.std.specs.Prelude.{◌≡◌};
 ghost use Rattle.peephole_lang.specs.Node.{head_of};
 ghost use Rattle.peephole_rules.specs.Operator.{instruction_byte};
-ghost use Rattle.peephole_rules.specs.Classes.{operator_by, operator_on, head_operator, is_drop, is_select, is_get, is_tee, is_setter, is_negation, is_wrapping, is_widening, divides, is_divider, same_binary, same_comparison, binary_type, comparison_type, test_type, is_type, is_binary, is_associative, is_equality, is_commutative, in_one_group, turned_comparison, opposite_comparison, turned_operation, opposite_operation, bits_left_out, gives_complement};
+ghost use Rattle.peephole_rules.specs.Classes as classes;
 
 use crate::shape::Operator;
 use peephole_lang::Lang;
@@ -11,7 +11,7 @@ use wasm_code::Instr;
 
 // The operator of an opcode, as far as rules tell operators apart.
 fn operator_by(byte: u8) -> Option<Operator>
-    ensures { result ≡ operator_by byte }
+    ensures { result ≡ classes.operator_by byte }
 {
     match byte {
         0x1A => Some(Operator::Drop),
@@ -26,49 +26,49 @@ fn operator_by(byte: u8) -> Option<Operator>
 
 /// The operator of an instruction.
 pub(crate) fn operator_of(instr: &Instr) -> Option<Operator>
-    ensures { result ≡ operator_on (instruction_byte (Some instr.now)) }
+    ensures { result ≡ classes.operator_on (instruction_byte (Some instr.now)) }
 {
     operator_by(opcode_byte(instr)?)
 }
 
 /// The operator of a node's instruction.
 pub(crate) fn node_operator(node: &Lang) -> Option<Operator>
-    ensures { result ≡ head_operator (head_of node.now) }
+    ensures { result ≡ classes.head_operator (head_of node.now) }
 {
     operator_of(&node.instr()?)
 }
 
 /// Whether it is `drop`.
 pub(crate) fn is_drop(operator: Option<Operator>) -> bool
-    ensures { result ≡ is_drop operator }
+    ensures { result ≡ classes.is_drop operator }
 {
     matches!(operator, Some(Operator::Drop))
 }
 
 /// Whether it is the `select` whose type isn't written.
 pub(crate) fn is_select(operator: Option<Operator>) -> bool
-    ensures { result ≡ is_select operator }
+    ensures { result ≡ classes.is_select operator }
 {
     matches!(operator, Some(Operator::Select))
 }
 
 /// Whether it is `local.get`.
 pub(crate) fn is_get(operator: Option<Operator>) -> bool
-    ensures { result ≡ is_get operator }
+    ensures { result ≡ classes.is_get operator }
 {
     matches!(operator, Some(Operator::LocalGet))
 }
 
 /// Whether it is `local.tee`.
 pub(crate) fn is_tee(operator: Option<Operator>) -> bool
-    ensures { result ≡ is_tee operator }
+    ensures { result ≡ classes.is_tee operator }
 {
     matches!(operator, Some(Operator::LocalTee))
 }
 
 /// Whether it sets a variable.
 pub(crate) fn is_setter(operator: Option<Operator>) -> bool
-    ensures { result ≡ is_setter operator }
+    ensures { result ≡ classes.is_setter operator }
 {
     matches!(
         operator,
@@ -78,7 +78,7 @@ pub(crate) fn is_setter(operator: Option<Operator>) -> bool
 
 /// Whether it is `i32.eqz`.
 pub(crate) fn is_negation(operator: Option<Operator>) -> bool
-    ensures { result ≡ is_negation operator }
+    ensures { result ≡ classes.is_negation operator }
 {
     matches!(
         operator,
@@ -88,14 +88,14 @@ pub(crate) fn is_negation(operator: Option<Operator>) -> bool
 
 /// Whether it is `i32.wrap_i64`.
 pub(crate) fn is_wrapping(operator: Option<Operator>) -> bool
-    ensures { result ≡ is_wrapping operator }
+    ensures { result ≡ classes.is_wrapping operator }
 {
     matches!(operator, Some(Operator::Numeric(Operation::WrapI64)))
 }
 
 /// Whether it makes an i64 of an i32, signed or unsigned.
 pub(crate) fn is_widening(operator: Option<Operator>) -> bool
-    ensures { result ≡ is_widening operator }
+    ensures { result ≡ classes.is_widening operator }
 {
     matches!(
         operator,
@@ -104,14 +104,14 @@ pub(crate) fn is_widening(operator: Option<Operator>) -> bool
 }
 
 fn divides(f: Binary) -> bool
-    ensures { result ≡ divides f }
+    ensures { result ≡ classes.divides f }
 {
     matches!(f, Binary::DivS | Binary::DivU | Binary::RemS | Binary::RemU)
 }
 
 /// Whether it is a division or a remainder.
 pub(crate) fn is_divider(operator: Option<Operator>) -> bool
-    ensures { result ≡ is_divider operator }
+    ensures { result ≡ classes.is_divider operator }
 {
     match operator {
         Some(Operator::Numeric(Operation::Binary(_, f))) => divides(f),
@@ -120,20 +120,20 @@ pub(crate) fn is_divider(operator: Option<Operator>) -> bool
 }
 
 fn same_binary(f: Binary, g: Binary) -> bool
-    ensures { result ≡ same_binary f g }
+    ensures { result ≡ classes.same_binary f g }
 {
     f == g
 }
 
 fn same_comparison(f: Comparison, g: Comparison) -> bool
-    ensures { result ≡ same_comparison f g }
+    ensures { result ≡ classes.same_comparison f g }
 {
     f == g
 }
 
 /// The type of which it is this operator on two numbers.
 pub(crate) fn binary_type(f: Binary, operator: Option<Operator>) -> Option<IntegerType>
-    ensures { result ≡ binary_type f operator }
+    ensures { result ≡ classes.binary_type f operator }
 {
     match operator {
         Some(Operator::Numeric(Operation::Binary(t, g))) => same_binary(f, g).then_some(t),
@@ -143,7 +143,7 @@ pub(crate) fn binary_type(f: Binary, operator: Option<Operator>) -> Option<Integ
 
 /// The type of whose numbers it is this comparison.
 pub(crate) fn comparison_type(f: Comparison, operator: Option<Operator>) -> Option<IntegerType>
-    ensures { result ≡ comparison_type f operator }
+    ensures { result ≡ classes.comparison_type f operator }
 {
     match operator {
         Some(Operator::Numeric(Operation::Compare(t, g))) => same_comparison(f, g).then_some(t),
@@ -153,7 +153,7 @@ pub(crate) fn comparison_type(f: Comparison, operator: Option<Operator>) -> Opti
 
 /// The type of whose numbers it is the test `eqz`.
 pub(crate) fn test_type(operator: Option<Operator>) -> Option<IntegerType>
-    ensures { result ≡ test_type operator }
+    ensures { result ≡ classes.test_type operator }
 {
     match operator {
         Some(Operator::Numeric(Operation::Eqz(t))) => Some(t),
@@ -163,7 +163,7 @@ pub(crate) fn test_type(operator: Option<Operator>) -> Option<IntegerType>
 
 // Whether that type is there, and this.
 fn is_type(t: IntegerType, other: Option<IntegerType>) -> bool
-    ensures { result ≡ is_type t other }
+    ensures { result ≡ classes.is_type t other }
 {
     match t {
         IntegerType::I32 => matches!(other, Some(IntegerType::I32)),
@@ -173,14 +173,14 @@ fn is_type(t: IntegerType, other: Option<IntegerType>) -> bool
 
 /// Whether it is this operator on two numbers of the type.
 pub(crate) fn is_binary(t: IntegerType, f: Binary, operator: Option<Operator>) -> bool
-    ensures { result ≡ is_binary t f operator }
+    ensures { result ≡ classes.is_binary t f operator }
 {
     is_type(t, binary_type(f, operator))
 }
 
 // Whether it may be grouped either way: add, mul, and, or, xor.
 fn is_associative(f: Binary) -> bool
-    ensures { result ≡ is_associative f }
+    ensures { result ≡ classes.is_associative f }
 {
     matches!(
         f,
@@ -189,14 +189,14 @@ fn is_associative(f: Binary) -> bool
 }
 
 fn is_equality(f: Comparison) -> bool
-    ensures { result ≡ is_equality f }
+    ensures { result ≡ classes.is_equality f }
 {
     matches!(f, Comparison::Eq | Comparison::Ne)
 }
 
 /// Whether its operands may change places: of eq and ne, and of those operators on two numbers that may be grouped either way.
 pub(crate) fn is_commutative(operator: Option<Operator>) -> bool
-    ensures { result ≡ is_commutative operator }
+    ensures { result ≡ classes.is_commutative operator }
 {
     match operator {
         Some(Operator::Numeric(Operation::Compare(_, f))) => is_equality(f),
@@ -207,7 +207,7 @@ pub(crate) fn is_commutative(operator: Option<Operator>) -> bool
 
 /// Whether both are the same operator, of those that may be grouped either way.
 pub(crate) fn in_one_group(operator: Option<Operator>, other: Option<Operator>) -> bool
-    ensures { result ≡ in_one_group operator other }
+    ensures { result ≡ classes.in_one_group operator other }
 {
     match operator {
         Some(Operator::Numeric(Operation::Binary(t, f))) => {
@@ -220,7 +220,7 @@ pub(crate) fn in_one_group(operator: Option<Operator>, other: Option<Operator>) 
 
 // The comparison that holds of the operands in the other order: of lt and le, and of gt and ge.
 fn turned_comparison(f: Comparison) -> Option<Comparison>
-    ensures { result ≡ turned_comparison f }
+    ensures { result ≡ classes.turned_comparison f }
 {
     match f {
         Comparison::Eq => None,
@@ -238,7 +238,7 @@ fn turned_comparison(f: Comparison) -> Option<Comparison>
 
 // The comparison that holds where this one doesn't: of eq and ne, lt and ge, gt and le.
 fn opposite_comparison(f: Comparison) -> Comparison
-    ensures { result ≡ opposite_comparison f }
+    ensures { result ≡ classes.opposite_comparison f }
 {
     match f {
         Comparison::Eq => Comparison::Ne,
@@ -256,7 +256,7 @@ fn opposite_comparison(f: Comparison) -> Comparison
 
 /// Of a comparison that which holds of the operands in the other order.
 pub(crate) fn turned_operation(operator: Option<Operator>) -> Option<Operation>
-    ensures { result ≡ turned_operation operator }
+    ensures { result ≡ classes.turned_operation operator }
 {
     match operator {
         Some(Operator::Numeric(Operation::Compare(t, f))) => {
@@ -268,7 +268,7 @@ pub(crate) fn turned_operation(operator: Option<Operator>) -> Option<Operation>
 
 /// Of a comparison that which holds where it doesn't.
 pub(crate) fn opposite_operation(operator: Option<Operator>) -> Option<Operation>
-    ensures { result ≡ opposite_operation operator }
+    ensures { result ≡ classes.opposite_operation operator }
 {
     match operator {
         Some(Operator::Numeric(Operation::Compare(t, f))) => {
@@ -280,7 +280,7 @@ pub(crate) fn opposite_operation(operator: Option<Operator>) -> Option<Operation
 
 /// Of an operator that extends low bits with sign the type, and how many bits it leaves out.
 pub(crate) fn bits_left_out(operator: Option<Operator>) -> Option<(IntegerType, u64)>
-    ensures { result ≡ bits_left_out operator }
+    ensures { result ≡ classes.bits_left_out operator }
 {
     match operator {
         Some(Operator::Numeric(Operation::Extend8S(IntegerType::I32))) => {
@@ -307,7 +307,7 @@ pub(crate) fn gives_complement(
     i32_number: Option<u64>,
     i64_number: Option<u64>,
 ) -> bool
-    ensures { result ≡ gives_complement operator i32_number i64_number }
+    ensures { result ≡ classes.gives_complement operator i32_number i64_number }
 {
     let narrow = is_binary(IntegerType::I32, Binary::Xor, operator);
     let wide = is_binary(IntegerType::I64, Binary::Xor, operator);

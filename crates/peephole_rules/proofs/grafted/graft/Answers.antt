@@ -62,7 +62,8 @@ loop-i-preserved c = record {
         (record { inside = c.loop-i-test.true; is = w.index-nodes-i.is; below = c.requires.below }) old)
         (c.loop-i.invariant.writable old))
     | else-i-at+in_ok-raised_copy+in_ok-add w ↦ subst (λ (e : List Lang). CanAllBeWritten (expression_nodes e)) (sym w.expr-is)
-        (copied_writable c.loop-i.expr w.add.new.self w.index-nodes-i-else-i-at.result w.in_ok-raised_copy.field-0 w.in_ok-raised_copy.ensures.head w.in_ok-add.ensures.added
+        (copied_writable c.loop-i.expr w.add.new.self w.index-nodes-i-else-i-at.result w.in_ok-raised_copy.field-0
+        w.in_ok-raised_copy.ensures.head w.in_ok-add.ensures.added
         (old_writable c.args.nodes.now c.loop-i.i w.index-nodes-i-else-i-at.result
         (record { inside = c.loop-i-test.true; is = w.index-nodes-i-else-i-at.is; below = c.requires.below }) old)
         (c.loop-i.invariant.writable old))

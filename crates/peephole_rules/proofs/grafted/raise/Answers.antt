@@ -6,7 +6,8 @@ raised-id-requires c = next_small c.args.at c.args.by c.args.ids.now c.loop-id.i
     c.loop-id.invariant
 
 pub loop-id-preserved : goal.loop-id-preserved
-loop-id-preserved c = raised_more c.args.at c.args.by c.args.ids.now c.loop-id.ids c.loop-id.id-index (record { 0 = 0 }) c.raised-id.result c.raised-id.ensures c.loop-id-test.true
+loop-id-preserved c = raised_more c.args.at c.args.by c.args.ids.now c.loop-id.ids c.loop-id.id-index (record { 0 = 0 }) c.raised-id.result
+    c.raised-id.ensures c.loop-id-test.true
     c.loop-id.invariant
 
 pub returns : goal.returns

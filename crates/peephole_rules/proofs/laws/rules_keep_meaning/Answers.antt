@@ -3,7 +3,7 @@ use Rattle.peephole_rules.proofs.NeutralLemmas.{add_zero_keeps, sub_zero_keeps, 
 use Rattle.peephole_rules.proofs.TwiceLemmas.{or_self_keeps, and_self_keeps}
 use Rattle.peephole_rules.proofs.WayLemmas.{by_way_of_global_keeps, as_a_sum_keeps, with_nop_keeps}
 use Rattle.peephole_rules.proofs.GroupLemmas.{associate_left_keeps, associate_right_keeps}
-use Rattle.peephole_rules.proofs.ConstantLemmas.{test_to_comparison_keeps, comparison_to_test_keeps, drop_add_zero_keeps, drop_sub_zero_keeps, drop_mul_one_keeps, drop_or_zero_keeps, drop_xor_zero_keeps, drop_shift_by_zero_keeps, and_ones_keeps, drop_and_ones_keeps, double_complement_keeps, difference_to_sum_keeps, sum_to_difference_keeps, shift_to_product_keeps, product_to_shift_keeps, drop_shr_s_by_zero_keeps, drop_shr_u_by_zero_keeps, drop_rotl_by_zero_keeps, drop_rotr_by_zero_keeps, quotient_to_shift_keeps, shift_to_quotient_keeps, remainder_to_mask_keeps, mask_to_remainder_keeps, rotl_to_rotr_keeps, rotr_to_rotl_keeps}
+use Rattle.peephole_rules.proofs.ConstantLemmas as constants
 use Rattle.peephole_rules.proofs.SelectLemmas.{turn_select_keeps}
 use Rattle.peephole_rules.proofs.TrapLemmas.{ends_without_trap}
 use Rattle.peephole_rules.proofs.ForgetLemmas.{forget_keeps}
@@ -40,39 +40,39 @@ returns c =
       with_nop_keeps = with_nop_keeps rows sound agreement;
       associate_left_keeps = associate_left_keeps rows sound agreement;
       associate_right_keeps = associate_right_keeps rows sound agreement;
-      test_to_comparison_keeps = test_to_comparison_keeps rows sound agreement;
-      comparison_to_test_keeps = comparison_to_test_keeps rows sound agreement;
-      drop_add_zero_keeps = drop_add_zero_keeps rows sound agreement;
-      drop_sub_zero_keeps = drop_sub_zero_keeps rows sound agreement;
-      drop_mul_one_keeps = drop_mul_one_keeps rows sound agreement;
-      drop_or_zero_keeps = drop_or_zero_keeps rows sound agreement;
-      drop_xor_zero_keeps = drop_xor_zero_keeps rows sound agreement;
-      drop_shift_by_zero_keeps = drop_shift_by_zero_keeps rows sound agreement;
-      and_ones_keeps = and_ones_keeps rows sound agreement;
-      drop_and_ones_keeps = drop_and_ones_keeps rows sound agreement;
-      double_complement_keeps = double_complement_keeps rows sound agreement;
-      difference_to_sum_keeps = difference_to_sum_keeps rows sound agreement;
-      sum_to_difference_keeps = sum_to_difference_keeps rows sound agreement;
+      test_to_comparison_keeps = constants.test_to_comparison_keeps rows sound agreement;
+      comparison_to_test_keeps = constants.comparison_to_test_keeps rows sound agreement;
+      drop_add_zero_keeps = constants.drop_add_zero_keeps rows sound agreement;
+      drop_sub_zero_keeps = constants.drop_sub_zero_keeps rows sound agreement;
+      drop_mul_one_keeps = constants.drop_mul_one_keeps rows sound agreement;
+      drop_or_zero_keeps = constants.drop_or_zero_keeps rows sound agreement;
+      drop_xor_zero_keeps = constants.drop_xor_zero_keeps rows sound agreement;
+      drop_shift_by_zero_keeps = constants.drop_shift_by_zero_keeps rows sound agreement;
+      and_ones_keeps = constants.and_ones_keeps rows sound agreement;
+      drop_and_ones_keeps = constants.drop_and_ones_keeps rows sound agreement;
+      double_complement_keeps = constants.double_complement_keeps rows sound agreement;
+      difference_to_sum_keeps = constants.difference_to_sum_keeps rows sound agreement;
+      sum_to_difference_keeps = constants.sum_to_difference_keeps rows sound agreement;
       turn_select_keeps = turn_select_keeps rows sound agreement;
       forget_keeps = forget_keeps rows sound agreement;
       ends_without_trap = ends_without_trap rows sound;
-      shift_to_product_keeps = shift_to_product_keeps rows sound agreement;
-      product_to_shift_keeps = product_to_shift_keeps rows sound agreement;
+      shift_to_product_keeps = constants.shift_to_product_keeps rows sound agreement;
+      product_to_shift_keeps = constants.product_to_shift_keeps rows sound agreement;
       fold_keeps = fold_keeps rows sound agreement;
       shr_s_by_zero_keeps = shr_s_by_zero_keeps rows sound agreement;
       shr_u_by_zero_keeps = shr_u_by_zero_keeps rows sound agreement;
       rotl_by_zero_keeps = rotl_by_zero_keeps rows sound agreement;
       rotr_by_zero_keeps = rotr_by_zero_keeps rows sound agreement;
-      drop_shr_s_by_zero_keeps = drop_shr_s_by_zero_keeps rows sound agreement;
-      drop_shr_u_by_zero_keeps = drop_shr_u_by_zero_keeps rows sound agreement;
-      drop_rotl_by_zero_keeps = drop_rotl_by_zero_keeps rows sound agreement;
-      drop_rotr_by_zero_keeps = drop_rotr_by_zero_keeps rows sound agreement;
-      quotient_to_shift_keeps = quotient_to_shift_keeps rows sound agreement;
-      shift_to_quotient_keeps = shift_to_quotient_keeps rows sound agreement;
-      remainder_to_mask_keeps = remainder_to_mask_keeps rows sound agreement;
-      mask_to_remainder_keeps = mask_to_remainder_keeps rows sound agreement;
-      rotl_to_rotr_keeps = rotl_to_rotr_keeps rows sound agreement;
-      rotr_to_rotl_keeps = rotr_to_rotl_keeps rows sound agreement;
+      drop_shr_s_by_zero_keeps = constants.drop_shr_s_by_zero_keeps rows sound agreement;
+      drop_shr_u_by_zero_keeps = constants.drop_shr_u_by_zero_keeps rows sound agreement;
+      drop_rotl_by_zero_keeps = constants.drop_rotl_by_zero_keeps rows sound agreement;
+      drop_rotr_by_zero_keeps = constants.drop_rotr_by_zero_keeps rows sound agreement;
+      quotient_to_shift_keeps = constants.quotient_to_shift_keeps rows sound agreement;
+      shift_to_quotient_keeps = constants.shift_to_quotient_keeps rows sound agreement;
+      remainder_to_mask_keeps = constants.remainder_to_mask_keeps rows sound agreement;
+      mask_to_remainder_keeps = constants.mask_to_remainder_keeps rows sound agreement;
+      rotl_to_rotr_keeps = constants.rotl_to_rotr_keeps rows sound agreement;
+      rotr_to_rotl_keeps = constants.rotr_to_rotl_keeps rows sound agreement;
       product_to_double_keeps = product_to_double_keeps rows sound agreement;
       shift_to_double_keeps = shift_to_double_keeps rows sound agreement;
       cancel_sub_keeps = cancel_sub_keeps rows sound agreement;
