@@ -1,6 +1,6 @@
 -- What `write` answers, by what its calls answer.
 use Rattle.std.proofs.Common.{◌≡◌, ℕ, ◌<◌, ◌⊎◌, inl, inr, List, [], ◌∷◌, length, map, Bool, true, false, refl, sym, ap, ap₂, ◌∙◌, arith, cond}
-use Rattle.std.specs.Prelude.{◌&&◌, not, is_some, option_map, Option, Some, None, Result, Ok, Err, IfSome, IsSome}
+use Rattle.std.specs.Prelude.{◌&&◌, not, is_some, option_map, Option, Some, None, Result, Ok, Err, IfSome}
 use Rattle.std.specs.Result.{result_map_both}
 use Rattle.std.proofs.lemmas.List.{length-map}
 use Rattle.mutate_base.specs.Words.{word_stream}
@@ -13,7 +13,7 @@ use Rattle.mutate_base.specs.declared.error.Error.TheVariants as error
 use Rattle.peephole_lang.specs.declared.lang.Head.{Head}
 use Rattle.peephole_lang.specs.declared.lang.Lang.{Lang}
 use Rattle.peephole_lang.specs.Node.{node_of}
-use Rattle.peephole_lang.specs.Term.{Term, tree_at}
+use Rattle.peephole_lang.specs.Term.{Term}
 use Rattle.peephole_graphs.specs.declared.shape.Shape.{Shape}
 use Rattle.peephole_graphs.specs.declared.dfg.MiniDFG.{MiniDFG}
 use Rattle.peephole_terms.specs.declared.encoder.request.ResourceRequest.{ResourceRequest}

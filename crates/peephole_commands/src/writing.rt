@@ -102,5 +102,6 @@ pub fn write_nodes(
         point: place.block.range().end,
         block: place.block,
     };
-    write_term(alloc, config, &behind, &unwritten(alloc)?, graph)
+    let expr = unwritten(alloc)?;
+    write_term(alloc, config, &behind, &expr, graph)
 }

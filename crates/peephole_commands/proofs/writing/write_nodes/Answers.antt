@@ -16,4 +16,4 @@ returns-clause-answer c =
     let config = c.args.config.now in
     let none : length c.args.nodes.now ≡ 0 = omega (arith, c.len.ensures, c.if-len-gt0.false) in
     rw (no_nodes c.faults_are_found.ensures.none c.own_trees_are_kept.ensures.kept (setting_in config) config.preserving c.args.place.now _
-    c.args.graph.now c.args.nodes.now (term_in _) c.requires.place c.requires.graph none c.range.ensures.end) c.write_term-2.ensures.answer
+    c.args.graph.now c.args.nodes.now (term_in c.in_ok-expr.expr) c.requires.place c.requires.graph none c.range.ensures.end) c.write_term-2.ensures.answer
