@@ -1,6 +1,5 @@
 //! Terms that are written alone: drawn words, requested globals, refusals.
 
-
 use crate::terms::{TermCase, assert_writable, is_answer, term_case, term_of};
 use peephole_terms::{Error, expr2wasm};
 use peephole_test_support::{begun_sink, config_with};
