@@ -3,6 +3,7 @@ pub mod Answer
 pub mod Steps
 pub mod Working
 pub mod Refusals
+pub mod StartsLemmas
 pub mod Unwritten
 pub mod Writings
 pub mod Shows

@@ -6,7 +6,9 @@ use Rattle.std.proofs.lemmas.List.{length-reverse}
 use Rattle.wasm_code.specs.declared.operator.Operator.{Operator}
 use Rattle.mutate_base.specs.Module.{Module}
 use Rattle.peephole_graphs.specs.declared.shape.Shape.{Shape}
-use Rattle.peephole_graphs.specs.Shape.{Judged, Fits, and_shape, judge, operator_shapes}
+use Rattle.peephole_graphs.specs.declared.shape.Judged.{Judged}
+use Rattle.peephole_graphs.specs.declared.shape.Judged.TheVariants.{Fits}
+use Rattle.peephole_graphs.specs.Shape.{and_shape, judge, operator_shapes}
 use Rattle.peephole_graphs.specs.Forest.{forest, is_operand, operator_tree, trees, without}
 use Rattle.peephole_graphs.specs.Tree as tree
 use Rattle.peephole_graphs.specs.Tree.{Trees, entry, node, no_trees, join}
