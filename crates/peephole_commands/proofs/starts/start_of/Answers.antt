@@ -6,10 +6,11 @@ pub loop-index-preserved : goal.loop-index-preserved
 loop-index-preserved c =
     let within = c.loop-index.invariant.0 in
     let there = c.requires.there in
-    let some = c.loop-index-test.true in
-    (omega (arith, within),
-    one_back c.args.operators.now c.loop-index.index c.index-operators-index.result some (omega (arith, within, there, some))
-    (sym c.if-is_delimiter.ensures) ∙ c.loop-index.invariant.1)
+    let some = c.loop-index-test.true in (
+      omega (arith, within),
+      one_back c.args.operators.now c.loop-index.index c.index-operators-index.result some (omega (arith, within, there, some))
+          (sym c.if-is_delimiter.ensures) ∙ c.loop-index.invariant.1,
+    )
 
 pub returns : goal.returns
 returns c =
