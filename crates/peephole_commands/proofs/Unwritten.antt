@@ -1,5 +1,5 @@
 -- Behind a block stands none of its operators, so that a term for that point is written nowhere.
-use Rattle.std.proofs.Common.{◌≡◌, ℕ, suc, ◌+◌, ◌≤◌, Bool, true, false, List, [], ◌∷◌, length, refl, ap₂, ◌∙◌, arith}
+use Rattle.std.proofs.Common.{◌≡◌, ℕ, suc, ◌+◌, ◌≤◌, Bool, true, false, List, [], ◌∷◌, length, refl, ap₂, arith}
 use Rattle.std.specs.Prelude.{◌||◌, ◌==◌, if◌then◌else◌}
 use Rattle.std.proofs.lemmas.Bool.{ne_eqb}
 use Rattle.std.proofs.lemmas.List.{length-reverse}
@@ -9,7 +9,7 @@ use Rattle.peephole_graphs.specs.declared.shape.Shape.{Shape}
 use Rattle.peephole_graphs.specs.declared.shape.Judged.{Judged}
 use Rattle.peephole_graphs.specs.declared.shape.Judged.TheVariants.{Fits}
 use Rattle.peephole_graphs.specs.Shape.{and_shape, judge, operator_shapes}
-use Rattle.peephole_graphs.specs.Forest.{forest, is_operand, operator_tree, trees, without}
+use Rattle.peephole_graphs.specs.Forest.{is_operand, operator_tree, trees, without}
 use Rattle.peephole_graphs.specs.Tree as tree
 use Rattle.peephole_graphs.specs.Tree.{Trees, entry, node, no_trees, join}
 use Rattle.peephole_terms.specs.Written.{Site, block_operators, block_shapes, has_root, is_written}

@@ -1,6 +1,6 @@
 //! The words behind a command's name, as the session reads them.
 
-ghost use Rattle.std.specs.Prelude.{◌≡◌, ◌≤◌, ◌<◌, ◌^◌, All, length, IfOk, MatchResult, Some, None, Ok};
+ghost use Rattle.std.specs.Prelude.{◌≡◌, ◌≤◌, ◌<◌, ◌^◌, All, IfOk, MatchResult, Some, None, Ok};
 ghost use Rattle.peephole_lang.specs.Term.{numbers_of};
 ghost use Rattle.peephole_script.specs.Text.{texts};
 ghost use Rattle.peephole_commands.specs.Arguments.{only_word, named_children, Reads};

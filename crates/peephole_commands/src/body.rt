@@ -21,7 +21,7 @@ use wasm_code::{OperatorAndByteOffset, ReadKind, read_body};
 pub struct Body {
     bytes: Vec<u8>,
     operators: Vec<OperatorAndByteOffset>,
-    // Of every sixteenth operator where its block starts, if it has one.
+    // Of every sixteenth operator where its block starts, if it has one; none of them until they are to be kept.
     starts: Vec<usize>,
 }
 
@@ -36,7 +36,7 @@ impl Model for Body {
     ghost view = { λ b. record { bytes = b.bytes.items; operators = b.operators.items } };
 
     ghost invariant = { λ b. IsBodyIn b.bytes.items b.operators.items
-        × AreStarts b.operators.items (length b.operators.items) b.starts.items };
+        × AreStarts b.operators.items b.starts.items };
 }
 
 impl Body {
@@ -47,16 +47,11 @@ impl Body {
     {
         body_at_reads();
         match read_body(alloc, bytes.as_slice(), 0, bytes.len()) {
-            Ok(operators) => {
-                let Ok(starts) = starts_of(alloc, operators.as_slice()) else {
-                    return Err(ReadKind::Memory);
-                };
-                Ok(Body {
-                    bytes,
-                    operators,
-                    starts,
-                })
-            }
+            Ok(operators) => Ok(Body {
+                bytes,
+                operators,
+                starts: Vec::new(alloc),
+            }),
             Err(error) => Err(error.kind),
         }
     }
@@ -83,7 +78,21 @@ impl Body {
         self.operators.len()
     }
 
-    /// The range of an operator's block, if there is one.
+    /// Keeps where blocks start, half a byte for each operator, so that `range_at` doesn't walk back through a block. Where
+    /// memory is refused, it goes on without.
+    pub fn keep_starts(&mut self, alloc: Global)
+        ensures { self.new ≡ self.old }
+    {
+        if !self.starts.is_empty() {
+            return;
+        }
+        if let Ok(starts) = starts_of(alloc, self.operators.as_slice()) {
+            self.starts = starts;
+        }
+    }
+
+    /// The range of an operator's block, if there is one. It takes time linear in the block, or none that grows once starts are
+    /// kept.
     pub fn range_at(&self, point: usize) -> Option<Range<usize>>
         requires { point < length self.now.operators }
         ensures { option_map (λ r. block_range r.start r.end) result

@@ -1,6 +1,6 @@
 //! The lines that commands print.
 
-ghost use Rattle.std.specs.Prelude.{◌≡◌, ◌≢◌, option_map, OnOk, IfErr};
+ghost use Rattle.std.specs.Prelude.{◌≢◌, option_map, OnOk, IfErr};
 ghost use Rattle.mutate_base.specs.declared.error.Error.TheVariants.{Memory};
 ghost use Rattle.peephole_commands.specs.declared.graphs.Refusal.TheVariants.{Refused};
 ghost use Rattle.peephole_commands.specs.Commands.{answer_text, block_line, bytes_line, global_line, output_lines, refusal_line, type_line, Prints};

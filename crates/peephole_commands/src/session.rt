@@ -1,13 +1,13 @@
 //! What the program keeps between two lines, and what each command does to it.
 
-ghost use Rattle.std.specs.Prelude.{◌≡◌, ◌<◌, ◌≤◌, ◌^◌, All, List, [], map, length, Some, Ok, Err, IfOk, MatchResult};
+ghost use Rattle.std.specs.Prelude.{◌≡◌, ◌<◌, ◌≤◌, ◌^◌, All, [], map, length, Some, Ok, Err, IfOk};
 ghost use Rattle.peephole_lang.specs.Node.{node_of};
 ghost use Rattle.peephole_lang.specs.Term.{numbers_of};
 ghost use Rattle.peephole_lang.specs.Text.{reads};
 ghost use Rattle.peephole_graphs.specs.Layout.{AreWritable};
 ghost use Rattle.peephole_script.specs.Text.{texts};
 ghost use Rattle.peephole_commands.specs.Arguments.{named_children};
-ghost use Rattle.peephole_commands.specs.State.{SessionState, Reply, PointsInto, KeepsTheBlock, block_in, start};
+ghost use Rattle.peephole_commands.specs.State.{SessionState, PointsInto, KeepsTheBlock, block_in, start};
 ghost use Rattle.peephole_commands.specs.Graphs.{IsPlace, KeepsTheGraph};
 ghost use Rattle.peephole_commands.specs.Commands.{step_line, words_step, command_step, declare_step, local_step, preserve_step, draw_step, body_step, at_step, node_step, node_with, node_read, place_in, place_for, show_step, result_step, write_step, Steps, Finds};
 
@@ -195,13 +195,16 @@ impl Session {
         let Some(number) = number_of(only(arguments)?) else {
             return Err(Fault::BadArgument);
         };
-        let Some(body) = &self.body else {
+        let Some(body) = &mut self.body else {
             return Err(Fault::NoBody);
         };
         if number >= body.len() as u64 {
             return Err(Fault::OutOfRange);
         }
         let index = number as usize;
+        if self.point.is_some() {
+            body.keep_starts(self.alloc);
+        }
         let line = block_line(self.alloc, body.range_at(index))?;
         self.point = Some(index);
         self.nodes = RecExpr::new(self.alloc);

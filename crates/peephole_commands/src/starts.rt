@@ -16,7 +16,7 @@ pub fn starts_of(
     alloc: Global,
     operators: &[OperatorAndByteOffset],
 ) -> Result<Vec<usize>, AllocError>
-    ensures { IfOk result (λ starts. AreStarts operators.now (length operators.now) starts.items) }
+    ensures { IfOk result (λ starts. AreStarts operators.now starts.items) }
 {
     let mut starts = Vec::with_capacity(alloc, operators.len() / STRIDE + 1)?;
     let mut start = 0;
@@ -31,20 +31,24 @@ pub fn starts_of(
     Ok(starts)
 }
 
-// The index behind the last delimiter before the operator at the point. It walks back to an operator whose start is kept.
+// The index behind the last delimiter before the operator at the point. It walks back to that one, or to an operator whose
+// start is kept.
 fn start_of(starts: &[usize], operators: &[OperatorAndByteOffset], point: usize) -> usize
     requires there { point < length operators.now }
-    requires starts { AreStarts operators.now (length operators.now) starts.now }
+    requires starts { AreStarts operators.now starts.now }
     ensures { result ≡ block_start operators.now point }
 {
     let mut index = point;
-    while index % STRIDE > 0 {
+    while index > 0 {
+        if index % STRIDE == 0 && index / STRIDE < starts.len() {
+            return starts[index / STRIDE];
+        }
         if operators[index - 1].0.is_delimiter() {
             return index;
         }
         index -= 1;
     }
-    starts[index / STRIDE]
+    0
 }
 
 /// The range of an operator's block, if there is one, by where blocks start.
@@ -54,7 +58,7 @@ pub fn range_at(
     point: usize,
 ) -> Option<Range<usize>>
     requires there { point < length operators.now }
-    requires starts { AreStarts operators.now (length operators.now) starts.now }
+    requires starts { AreStarts operators.now starts.now }
     ensures { option_map (λ r. block_range r.start r.end) result ≡ block_at operators.now point }
 {
     if operators[point].0.is_delimiter() {

@@ -15,7 +15,7 @@ use rand_core::Rng;
 use wasm_code::{Imm, Instr};
 
 impl<R: Rng> Writer<'_, R> {
-    ghost use Rattle.std.specs.Prelude.{◌≡◌, ◌<◌, [], ◌∷◌, All, IsTrue, length};
+    ghost use Rattle.std.specs.Prelude.{◌<◌, [], ◌∷◌, All, IsTrue, length};
     ghost use Rattle.wasm_code.specs.Instruction.{fits_row};
     ghost use Rattle.wasm_code.specs.Table.{row_at};
     ghost use Rattle.peephole_lang.specs.Node.{children_of};

@@ -3,7 +3,7 @@
 ghost use Rattle.std.specs.Prelude.{◌≡◌};
 ghost use Rattle.peephole_lang.specs.Node.{head_of, children_of};
 ghost use Rattle.peephole_lang.specs.Term.{numbers_of};
-ghost use Rattle.peephole_terms.specs.NodeKind.{node_kind};
+ghost use Rattle.peephole_terms.specs.NodeKind.{is_unfold, node_kind};
 ghost use Rattle.peephole_terms.specs.EncoderSteps.{children_to_write};
 
 use super::holds::Holds;
@@ -13,15 +13,25 @@ use peephole_graphs::{Postfix, Turn};
 use peephole_lang::{Id, Lang};
 use rand_core::Rng;
 
+// Whether a node is an unfold.
+fn is_unfold(node: &Lang) -> bool
+    ensures { result ≡ is_unfold (node_kind (head_of node.now)) }
+{
+    match node {
+        Lang::UnfoldI32(_) | Lang::UnfoldI64(_) => true,
+        _ => false,
+    }
+}
+
 // The children that are written: not those of an unfold.
 fn children_to_write(node: &Lang) -> &[Id]
     ensures { numbers_of result.now
         ≡ children_to_write (node_kind (head_of node.now)) (children_of node.now) }
 {
-    match node {
-        Lang::UnfoldI32(_) | Lang::UnfoldI64(_) => &[],
-        _ => node.children(),
+    if is_unfold(node) {
+        return &[];
     }
+    node.children()
 }
 
 impl<R: Rng> Writer<'_, R> {

@@ -1,5 +1,5 @@
 use Rattle.std.proofs.Common.{◌∙◌, sym, arith}
-use Rattle.peephole_commands.proofs.StartsLemmas.{one_back, kept_start}
+use Rattle.peephole_commands.proofs.StartsLemmas.{one_back}
 use Rattle.peephole_commands.proofs.starts.start_of.Goals as goal
 
 pub loop-index-preserved : goal.loop-index-preserved
@@ -11,10 +11,3 @@ loop-index-preserved c =
       one_back c.args.operators.now c.loop-index.index c.index-operators-index.result some (omega (arith, within, there, some))
           (sym c.if-is_delimiter.ensures) ∙ c.loop-index.invariant.1,
     )
-
-pub returns : goal.returns
-returns c =
-    let within = c.loop-index.invariant.0 in
-    let there = c.requires.there in
-    kept_start c.args.operators.now c.args.starts.now c.loop-index.index c.requires.starts (omega (arith, within, there)) c.loop-index-test.false
-    ∙ c.loop-index.invariant.1

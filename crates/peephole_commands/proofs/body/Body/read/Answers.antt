@@ -2,8 +2,8 @@ use Rattle.std.proofs.Common.{sym, ◌∙◌, arith}
 use Rattle.peephole_commands.proofs.Readings.{found, faulty}
 use Rattle.peephole_commands.proofs.body.Body.read.Goals as goal
 
-pub returns-in-Ok-starts_of : goal.returns-in-Ok-starts_of
-returns-in-Ok-starts_of c =
+pub returns-in-Ok : goal.returns-in-Ok
+returns-in-Ok c =
     found c.args.bytes.items c.as_slice.result.now c.len.result c.in-Ok.operators.items c.as_slice.ensures.value
     (c.len.ensures ∙ sym c.as_slice.ensures.len) c.body_at_reads.ensures.spelled c.in-Ok.ensures.found
 
@@ -21,5 +21,5 @@ invariant_of-result c = (
     inside = omega (arith, c.len.ensures, c.as_slice.ensures.len);
     spells = rw c.as_slice.ensures.value at c.in-Ok.ensures.found;
   },
-  rw c.as_slice-in-Ok.ensures.value at c.in-Ok-starts_of.ensures,
+  record { each = λ k below. absurd (omega (arith, below)) },
 )
