@@ -14,13 +14,15 @@ use Rattle.peephole_modules.specs.declared.attempt.Reason.TheVariants.{NoRule, U
 use Rattle.peephole_modules.specs.declared.function.FunctionError.{FunctionError}
 use Rattle.peephole_modules.specs.declared.times.MadeRewrite.{MadeRewrite}
 use Rattle.peephole_module_commands.specs.Blocks.{TellsBlock, TellsBlocks, TellsFault}
-use Rattle.peephole_module_commands.specs.Failures.{FailsToList, FailsToRead, FailsToReport, IsReasonToListNone}
+use Rattle.peephole_module_commands.specs.Failures.{FailsToDo, FailsToList, FailsToRead, FailsToReport, FailsToRewrite, IsReasonToListNone}
 use Rattle.peephole_module_commands.specs.Lines.{rewrite_line}
 use Rattle.peephole_module_commands.specs.Lists.{InTurn}
 use Rattle.peephole_module_commands.specs.Reports.{TellsIfUnread, TellsUnreadable, made_lines}
 use Rattle.peephole_module_commands.specs.declared.failure.Failure.{Failure}
 use Rattle.peephole_module_commands.specs.declared.failure.Failure.TheVariants.{Nothing, Input, TooLong, Output, Memory}
 use Rattle.peephole_module_commands.specs.declared.form.Form.{Form}
+use Rattle.peephole_module_commands.specs.declared.options.Options.{Options}
+use Rattle.peephole_module_commands.specs.declared.options.Task.TheVariants.{Rewrite}
 use Rattle.peephole_module_commands.proofs.TurnLemmas.{appends_more}
 
 abbrev Types : Type 0
@@ -87,7 +89,7 @@ read_fails only bytes (Nothing Unreadable) h = absurd h
 read_fails only bytes (Nothing (NoFunction f)) h = absurd h
 read_fails only bytes (Nothing (UnknownImport e)) h = absurd h
 read_fails only bytes (Nothing (Refused e)) h = h
-read_fails only bytes Input h = tt
+read_fails only bytes Input h = absurd h
 read_fails only bytes TooLong h = absurd h
 read_fails only bytes Output h = tt
 read_fails only bytes Memory h = tt
@@ -103,9 +105,16 @@ index_fails only bytes info layout e reason is h because = subst (FailsToList on
     listed (UnknownImport x) k = record { info = info; layout = layout; is = is; refuses = k }
     listed (Refused x) k = absurd k
 
+pub rewrite_fails : (options : Options) (bytes : List ℕ) (e : Failure) → FailsToRewrite options bytes e → FailsToDo Rewrite options bytes e
+rewrite_fails options bytes (Nothing reason) h = h
+rewrite_fails options bytes Input h = tt
+rewrite_fails options bytes TooLong h = absurd h
+rewrite_fails options bytes Output h = h
+rewrite_fails options bytes Memory h = h
+
 pub report_fails : (only : Option ℕ) (bytes : List ℕ) (e : Failure) → FailsToReport e → FailsToList only bytes e
 report_fails only bytes (Nothing reason) h = absurd h
-report_fails only bytes Input h = tt
+report_fails only bytes Input h = absurd h
 report_fails only bytes TooLong h = absurd h
 report_fails only bytes Output h = tt
 report_fails only bytes Memory h = tt

@@ -42,13 +42,16 @@ pub record IsReasonFor (options : Options) (bytes : List ℕ) (reason : Reason) 
   pub is : IsReason (scope_of options) bytes reason
   pub gives_up : IsForSize reason → GivesUp (scope_of options) bytes (seeded options.seed)
 
--- The module isn't written rewritten: for a reason why nothing of it is, or as reading the input or reporting fails.
+-- no rewritten module is made: for a reason why nothing of it is rewritten, or no memory is left
+abbrev pub FailsToMake : Options → (bytes : List ℕ) → Failure → Type 0
+FailsToMake options bytes (Nothing reason) = IsReasonFor options bytes reason
+FailsToMake options bytes Memory = Unit {0}
+FailsToMake options bytes e = ⊥
+
+-- The module isn't written rewritten: for such a reason, or as reporting or writing fails.
 abbrev pub FailsToRewrite : Options → (bytes : List ℕ) → Failure → Type 0
 FailsToRewrite options bytes (Nothing reason) = IsReasonFor options bytes reason
-FailsToRewrite options bytes Input = Unit {0}
-FailsToRewrite options bytes TooLong = 1073741824 < length bytes
-FailsToRewrite options bytes Output = Unit {0}
-FailsToRewrite options bytes Memory = Unit {0}
+FailsToRewrite options bytes e = FailsToReport e
 
 -- why nothing is listed: no function is looked at, or the module can't be read
 abbrev pub IsReasonToListNone : (only : Option ℕ) → (bytes : List ℕ) → Reason → Type 0
@@ -58,15 +61,24 @@ IsReasonToListNone only bytes (NoFunction function) = RefusesIndexOf only bytes 
 IsReasonToListNone only bytes (UnknownImport e) = RefusesIndexOf only bytes (UnknownImport e)
 IsReasonToListNone only bytes (Refused e) = FailsToRead bytes (Nothing (Refused e))
 
--- No list is written: for such a reason, or as reading the input or writing fails.
+-- No list is written: for such a reason, or as writing fails.
 abbrev pub FailsToList : (only : Option ℕ) → (bytes : List ℕ) → Failure → Type 0
 FailsToList only bytes (Nothing reason) = IsReasonToListNone only bytes reason
-FailsToList only bytes Input = Unit {0}
-FailsToList only bytes TooLong = 1073741824 < length bytes
-FailsToList only bytes Output = Unit {0}
-FailsToList only bytes Memory = Unit {0}
+FailsToList only bytes e = FailsToReport e
 
--- What a run was asked for isn't done.
+-- what a run was asked for isn't done with the bytes that were read
+abbrev pub FailsAtTask : Task → Options → (bytes : List ℕ) → Failure → Type 0
+FailsAtTask Rewrite options bytes e = FailsToRewrite options bytes e
+FailsAtTask task options bytes e = FailsToList options.function bytes e
+
+-- the input is at fault: its reader, or its length
+abbrev pub IsOfInput : Failure → Type 0
+IsOfInput Input = Unit {0}
+IsOfInput TooLong = Unit {0}
+IsOfInput e = ⊥
+
+-- A run fails: as the input isn't read, or as its task fails.
 abbrev pub FailsToDo : Task → Options → (bytes : List ℕ) → Failure → Type 0
-FailsToDo Rewrite options bytes e = FailsToRewrite options bytes e
-FailsToDo task options bytes e = FailsToList options.function bytes e
+FailsToDo task options bytes Input = Unit {0}
+FailsToDo task options bytes TooLong = 1073741824 < length bytes
+FailsToDo task options bytes e = FailsAtTask task options bytes e

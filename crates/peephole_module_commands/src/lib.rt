@@ -23,6 +23,7 @@ mod words;
 pub use failure::Failure;
 pub use form::Form;
 pub use options::{Flags, Misuse, Options, Task};
+pub use peephole_script::Tally;
 pub use reach::{Part, Reach, reach_of};
 pub use running::run;
 pub use words::{options_from, options_of, rule_names};

@@ -1,6 +1,6 @@
 //! The module rewritten as the options say.
 ghost use Rattle.std.specs.Prelude.{◌≡◌, true, IfOk, IfErr};
-ghost use Rattle.peephole_module_commands.specs.Failures.{FailsToRewrite};
+ghost use Rattle.peephole_module_commands.specs.Failures.{FailsToMake};
 ghost use Rattle.peephole_module_commands.specs.Shown.{IsShown};
 ghost use Rattle.peephole_module_commands.specs.Writes.{IsOutcome, IsWrittenAs};
 ghost use Rattle.peephole_module_commands.specs.declared.failure.Failure.TheVariants.{Memory};
@@ -64,7 +64,7 @@ pub fn rewritten<P: Watch + Drop>(
         o.module.stopped o.module.bytes.items) }
     ensures shown { IfOk result (λ o.
         IsShown options.now.show o.module.made.items o.shown.items) }
-    ensures fails { IfErr result (FailsToRewrite options.now bytes.now) }
+    ensures fails { IfErr result (FailsToMake options.now bytes.now) }
 {
     let mut shower = Shower::new(alloc, options.show, watch);
     match rewrite_watched(

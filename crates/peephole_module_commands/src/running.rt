@@ -1,8 +1,8 @@
 //! A run: a module in, and out goes what the options ask for.
-ghost use Rattle.std.specs.Prelude.{◌≡◌, ◌≢◌, true, false, OnOk, IfErr, IfSome, IsTrue};
+ghost use Rattle.std.specs.Prelude.{◌≡◌, ◌≢◌, true, false, OnOk, IfErr, IfSome, IsErrOf, IsTrue};
 ghost use Rattle.std.specs.Io.KnownBytes.{Appends};
 ghost use Rattle.peephole_module_commands.specs.Blocks.{WritesBlocks};
-ghost use Rattle.peephole_module_commands.specs.Failures.{FailsToDo, FailsToInform, FailsToRewrite};
+ghost use Rattle.peephole_module_commands.specs.Failures.{FailsToDo, FailsToInform, FailsToRewrite, IsOfInput};
 ghost use Rattle.peephole_module_commands.specs.declared.failure.Failure.TheVariants.{Output};
 ghost use Rattle.peephole_module_commands.specs.Form.{form_of};
 ghost use Rattle.peephole_module_commands.specs.Lists.{WritesList};
@@ -20,6 +20,7 @@ use crate::options::{Options, Task};
 use crate::reach::reach_of;
 use crate::stats::{report_functions, report_reach, rewrites_report};
 use peephole_modules::Watch;
+use peephole_script::Tally;
 use std::alloc::Global;
 use std::io::{Read, Write};
 
@@ -146,7 +147,7 @@ fn rewrite<W: Write, E: Write, P: Watch + Drop>(
 pub fn run<R: Read, W: Write, E: Write, P: Watch + Drop>(
     alloc: Global,
     options: &Options,
-    input: &mut R,
+    input: &mut Tally<R>,
     output: &mut W,
     notes: &mut E,
     watch: P,
@@ -154,31 +155,37 @@ pub fn run<R: Read, W: Write, E: Write, P: Watch + Drop>(
     // What is written is the input rewritten as the seed chooses, valid where that was; what stands round each rewritten tree runs as
     // before, and its functions do what they did. Where the options say so, custom sections that name places in the code are dropped.
     ensures written { options.now.task ≡ Task.Rewrite → OnOk result
-        (IfSome (R.remaining input.old) (λ bytes. WritesMutated options.now bytes
+        (IfSome (R.remaining input.old.device) (λ bytes. WritesMutated options.now bytes
         (W.contents output.old) (W.contents output.new))) }
     // A list has a line for each rewrite that there is in the functions that are looked at, and no other.
     ensures listed { options.now.task ≡ Task.List → OnOk result
-        (IfSome (R.remaining input.old) (λ bytes. WritesList (form_of options.now)
+        (IfSome (R.remaining input.old.device) (λ bytes. WritesList (form_of options.now)
         options.now.rules.items options.now.function bytes (W.contents output.old)
         (W.contents output.new))) }
     // The blocks have a line each, and what of them is the first that no graph holds, of the functions that are looked at.
     ensures blocks { options.now.task ≡ Task.Blocks → OnOk result
-        (IfSome (R.remaining input.old) (λ bytes. WritesBlocks (form_of options.now)
+        (IfSome (R.remaining input.old.device) (λ bytes. WritesBlocks (form_of options.now)
         options.now.function bytes (W.contents output.old) (W.contents output.new))) }
     // Where the options ask for it, the notes tell of functions, of the rules' reach and of rewrites.
     ensures reported { options.now.task ≡ Task.Rewrite → IsTrue options.now.stats → OnOk result
-        (IfSome (R.remaining input.old) (λ bytes. ReportsMutated options.now bytes
+        (IfSome (R.remaining input.old.device) (λ bytes. ReportsMutated options.now bytes
         (W.contents output.old) (W.contents output.new) (E.contents notes.old)
         (E.contents notes.new))) }
     // Where the options ask for it, the notes show each rewrite. Else they stay as they are.
     ensures shown { options.now.task ≡ Task.Rewrite → options.now.stats ≡ false → OnOk result
-        (IfSome (R.remaining input.old) (λ bytes. ShowsMutated options.now bytes
+        (IfSome (R.remaining input.old.device) (λ bytes. ShowsMutated options.now bytes
         (W.contents output.old) (W.contents output.new) (E.contents notes.old)
         (E.contents notes.new))) }
     ensures quiet { options.now.stats ≡ false → options.now.show ≡ false
         → notes.new ≡ notes.old }
+    // `Input` only where a read failed; where the run succeeds, none did.
+    ensures input { IsErrOf result Failure.Input → IsTrue input.new.failed }
+    ensures sound { OnOk result (input.new.failed ≡ input.old.failed) }
+    // Nothing is written or noted where the input can't be read, or is too long.
+    ensures untouched { IfErr result (λ e. IsOfInput e
+        → (output.new ≡ output.old) × (notes.new ≡ notes.old)) }
     // Why it fails: with `NoRule`, only where no rule applies in a function that can be read; with `Unreadable`, only where none can.
-    ensures fails { IfErr result (λ e. IfSome (R.remaining input.old) (λ bytes. FailsToDo
+    ensures fails { IfErr result (λ e. IfSome (R.remaining input.old.device) (λ bytes. FailsToDo
         options.now.task options.now bytes e)) }
     // Nothing is written then, unless the output, or the notes, can't be written.
     ensures kept { options.now.task ≡ Task.Rewrite → IfErr result (λ e. e ≢ Output

@@ -1,7 +1,7 @@
 //! What a run reads from and writes to: files, or the process's own input and output.
 
 use crate::progress::Progress;
-use peephole_module_commands::{Failure, Options, Task, run};
+use peephole_module_commands::{Failure, Options, Tally, Task, run};
 use std::alloc::AllocError;
 use std::fs::{File, OpenOptions};
 use std::io::{BufWriter, IsTerminal, Read, Write};
@@ -61,7 +61,7 @@ impl From<AllocError> for Trouble {
 fn run_to<R: Read, W: Write + Drop>(
     rt: &HostRuntime,
     options: &Options,
-    input: &mut R,
+    input: &mut Tally<R>,
     output: W,
 ) -> Result<(), Trouble> {
     let Ok(mut output) = BufWriter::new(rt.alloc(), output) else {
@@ -92,7 +92,7 @@ fn is_special(rt: &HostRuntime, path: &str) -> bool {
 fn run_in_place<R: Read>(
     rt: &HostRuntime,
     options: &Options,
-    input: &mut R,
+    input: &mut Tally<R>,
     path: &str,
 ) -> Result<(), Trouble> {
     match OpenOptions::new().write(true).open(rt, path) {
@@ -105,7 +105,7 @@ fn run_in_place<R: Read>(
 fn run_beside<R: Read>(
     rt: &HostRuntime,
     options: &Options,
-    input: &mut R,
+    input: &mut Tally<R>,
     path: &str,
 ) -> Result<(), Trouble> {
     let beside = format!(in rt.alloc(); "{path}.new")?;
@@ -127,7 +127,7 @@ fn run_beside<R: Read>(
 fn run_to_standard_output<R: Read>(
     rt: &HostRuntime,
     options: &Options,
-    input: &mut R,
+    input: &mut Tally<R>,
 ) -> Result<(), Trouble> {
     let output = rt.stdout();
     if options.task == Task::Rewrite && output.is_terminal() {
@@ -137,7 +137,11 @@ fn run_to_standard_output<R: Read>(
 }
 
 // Runs from that input to the output that the options name.
-fn run_from<R: Read>(rt: &HostRuntime, options: &Options, input: &mut R) -> Result<(), Trouble> {
+fn run_from<R: Read>(
+    rt: &HostRuntime,
+    options: &Options,
+    input: &mut Tally<R>,
+) -> Result<(), Trouble> {
     match &options.output {
         None => run_to_standard_output(rt, options, input),
         Some(path) => {
@@ -153,9 +157,9 @@ fn run_from<R: Read>(rt: &HostRuntime, options: &Options, input: &mut R) -> Resu
 /// Runs from the input to the output that the options name.
 pub fn run_on_files(rt: &HostRuntime, options: &Options) -> Result<(), Trouble> {
     match &options.input {
-        None => run_from(rt, options, &mut rt.stdin()),
+        None => run_from(rt, options, &mut Tally::new(rt.stdin())),
         Some(path) => match File::open(rt, path.as_str()) {
-            Ok(mut file) => run_from(rt, options, &mut file),
+            Ok(file) => run_from(rt, options, &mut Tally::new(file)),
             Err(error) => Err(Trouble::Input(error)),
         },
     }

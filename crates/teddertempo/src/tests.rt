@@ -2,7 +2,7 @@
 
 use crate::refused_modules::{SUM, TURNED};
 use failing_devices::{FailingReader, FailingWriter};
-use peephole_module_commands::{Failure, Options, options_of, rule_names, run};
+use peephole_module_commands::{Failure, Options, Tally, options_of, rule_names, run};
 use peephole_modules::{Reason, Unwatched};
 use peephole_rules::{RULES, Rule};
 use std::alloc::{AllocError, Global};
@@ -389,7 +389,7 @@ fn is_run(rt: &impl Abort, alloc: Global, case: &str) -> Result<(), Fail> {
     let (line, rest) = head.split_once('|').ok_or("no module")?;
     let (name, outcome) = rest.split_once('|').ok_or("no outcome")?;
     let options = options(alloc, line)?;
-    let mut module = module_of(name.trim()).ok_or("no such module")?;
+    let mut module = Tally::new(module_of(name.trim()).ok_or("no such module")?);
     let (mut output, mut notes) = (Vec::new(alloc), Vec::new(alloc));
     let result = run(
         alloc,
@@ -420,7 +420,7 @@ fn fails(rt: HostRuntime) -> Result<(), Fail> {
     let options = options(alloc, "--rule commute")?;
     let mut notes = Vec::new(alloc);
     let mut output = Vec::new(alloc);
-    let mut input = FailingReader::new(&SUM);
+    let mut input = Tally::new(FailingReader::new(&SUM));
     let result = run(
         alloc,
         &options,
@@ -429,8 +429,8 @@ fn fails(rt: HostRuntime) -> Result<(), Fail> {
         &mut notes,
         Unwatched,
     );
-    assert!(rt; result == Err(Failure::Input) && output.is_empty());
-    let mut module: &[u8] = &SUM;
+    assert!(rt; result == Err(Failure::Input) && output.is_empty() && input.failed());
+    let mut module = Tally::new(SUM.as_slice());
     let mut sink = FailingWriter::refusing(20);
     let result = run(
         alloc,
@@ -441,7 +441,7 @@ fn fails(rt: HostRuntime) -> Result<(), Fail> {
         Unwatched,
     );
     assert!(rt; result == Err(Failure::Output));
-    let mut bad: &[u8] = b"\0asn\x01\0\0\0";
+    let mut bad = Tally::new(b"\0asn\x01\0\0\0".as_slice());
     let Err(failure) = run(
         alloc,
         &options,

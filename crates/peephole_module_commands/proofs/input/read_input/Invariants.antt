@@ -1,5 +1,5 @@
 -- The text is what was consumed so far, and within the limit.
-use Rattle.std.proofs.Common.{◌≤◌, ◌-◌, vec_len}
+use Rattle.std.proofs.Common.{◌≡◌, ◌≤◌, ◌-◌, vec_len}
 use Rattle.std.specs.Io.KnownBytes.{Consumes}
 use Rattle.peephole_module_commands.proofs.input.read_input.Given as goal
 
@@ -7,7 +7,8 @@ abbrev pub invariant-reads : goal.invariant-reads
 invariant-reads g l =
     let remaining = g.R.Read.remaining in
     record {
-      bytes : Consumes (remaining l.fn.input) (remaining l.input) l.text.items;
+      bytes : Consumes (remaining l.fn.input.device) (remaining l.input.device) l.text.items;
+      sound : l.input.failed ≡ l.fn.input.failed;
       short : vec_len l.text ≤ 1073741824;
     }
 
