@@ -4,14 +4,16 @@
  * Link libteddertempo.a (pkg-config --cflags --libs teddertempo).
  *
  * A valid module stays valid, and each of its functions, called with any arguments in any memory, tables and globals, does what
- * it did: that is proved, of validity by types, of functions that can be read, and with the exceptions that docs/PROMISES.md of
- * the sources has (a host that lists globals or compares bytes, limits of stack and fuel, threads at a shared memory, bits of
- * NaNs, instantiation). Whether the module is valid to begin with, no call checks. A rewrite may append globals, so that many
- * rewrites may pass an engine's limits.
+ * it did: that is proved, of validity by types, and of functions that can be read. Where an engine shows a difference it is
+ * wrong, with the exceptions that docs/PROMISES.md of the sources has: a host that lists globals, counts them or compares bytes;
+ * limits of stack, time, fuel and memory, of which one of the modules alone may meet one (a trap of exhaustion is no difference);
+ * bits of NaNs, unless the engine fixes them; other threads at a shared memory, and imports that answer anew, as a clock; calls
+ * behind one that trapped; exceptions that are caught; instantiation. Whether the module is valid to begin with, no call checks.
+ * A rewrite may append globals, so that many rewrites may pass an engine's limits.
  *
  * The caller sees to it that
  *   - data points to max_size bytes, fewer than 2^63, that may be read and written, and the other pointers to what their types
- *     say; none is null, even where max_size or room is 0, and no two of them overlap;
+ *     say, valid and aligned; none is null, even where max_size or room is 0, and no two of them overlap;
  *   - nothing else reads or writes these during the call.
  *
  * No state is kept between calls, and any thread may call on buffers of its own. A call takes memory from malloc and realloc,
@@ -44,7 +46,7 @@ enum {
     TEDDERTEMPO_NOT_A_MODULE = 1,    /* the bytes are no module that can be read: report->offset says where */
     TEDDERTEMPO_LINKABLE_OBJECT = 2, /* an object file, whose relocations name places in its code */
     TEDDERTEMPO_UNREADABLE = 3,      /* none of the functions that may be rewritten can be read */
-    TEDDERTEMPO_NO_RULE = 4,         /* no rule applies in them */
+    TEDDERTEMPO_NO_RULE = 4,         /* no rule applies in them, or the module has no function of its own */
     TEDDERTEMPO_NO_FUNCTION = 5,     /* the module has no function of its own with that index */
     TEDDERTEMPO_TOO_LARGE = 6,       /* no rewrite that was tried fits */
     TEDDERTEMPO_NO_MEMORY = 7,       /* malloc failed */

@@ -10,7 +10,7 @@
 set -euo pipefail
 cd "$(dirname "$0")/.."
 
-calls="read_body get_dfg get_expr build_expr add expr2wasm build_function pretty_print apply rewrites_of_body rewrite_tree rewrite_tree_at_random read_module with_body mutate_with_seed run"
+calls="read_body get_dfg get_expr build_expr add expr2wasm build_function pretty_print apply rewrites_of_body reached_operators rewrite_tree rewrite_tree_at_random read_module with_body mutate_with_seed run"
 never=1000000
 
 work=$(mktemp -d)

@@ -3,7 +3,8 @@
 #   - teddertempo-VERSION-x86_64-linux.tar.gz, which runs where it is unpacked: the programs teddertempo and peephole_run,
 #     libteddertempo.a, teddertempo.h, teddertempo.pc, the man page, LICENSE and README.md;
 #   - teddertempo_VERSION_amd64.deb, a Debian package of the same.
-# The version is that of the file VERSION; it fails where the header, the Rust crate, CHANGELOG.md or the program has another one.
+# The version is that of the file VERSION; it fails where the header, the Rust crate, CHANGELOG.md, the program or one of the other
+# places of tools/package/versions.sh has another one.
 # Equal commits and equal builds give equal packages.
 #
 # Usage: package.sh, on x86-64 Linux. TEDDERTEMPO_BIN names the folder of programs that are built already, and TEDDERTEMPO_LIB
@@ -12,6 +13,7 @@ set -euo pipefail
 if [ -n "${TEDDERTEMPO_BIN:-}" ]; then TEDDERTEMPO_BIN=$(realpath "$TEDDERTEMPO_BIN"); fi
 if [ -n "${TEDDERTEMPO_LIB:-}" ]; then TEDDERTEMPO_LIB=$(realpath "$TEDDERTEMPO_LIB"); fi
 cd "$(dirname "$0")/.."
+source tools/package/versions.sh
 
 fail() {
     echo "package.sh: $1" >&2
@@ -39,20 +41,8 @@ version=$(cat VERSION)
 SOURCE_DATE_EPOCH=${SOURCE_DATE_EPOCH:-$(git log -1 --format=%ct 2> /dev/null || stat -c %Y VERSION)}
 export SOURCE_DATE_EPOCH
 
-# Fails where a place has another version.
+# Fails where a place, which is named, has another version.
 agree() { [ "$2" = "$version" ] || fail "VERSION is $version, and $1 has ${2:-none}"; }
-
-agree_all() {
-    local major minor patch
-    IFS=. read -r major minor patch <<< "$version"
-    agree "include/teddertempo.h" "$(sed -n 's/^#define TEDDERTEMPO_VERSION "\(.*\)"$/\1/p' include/teddertempo.h)"
-    grep -q "^#define TEDDERTEMPO_VERSION_NUMBER $(printf '0x%02x%02x%02x' "$major" "$minor" "$patch")u\$" include/teddertempo.h \
-        || fail "VERSION is $version, and TEDDERTEMPO_VERSION_NUMBER of include/teddertempo.h another one"
-    agree "the first comment of include/teddertempo.h" "$(sed -n '2s/^ \* Teddertempo \([0-9.]*\): .*/\1/p' include/teddertempo.h)"
-    agree "examples/rust/Cargo.toml" "$(sed -n 's/^version = "\(.*\)"$/\1/p' examples/rust/Cargo.toml)"
-    agree "examples/rust/Cargo.lock" "$(sed -n '/^name = "teddertempo"$/{n;s/^version = "\(.*\)"$/\1/p}' examples/rust/Cargo.lock)"
-    agree "CHANGELOG.md" "$(sed -n 's/^## \([0-9.]*\).*/\1/p' CHANGELOG.md | head -1)"
-}
 
 # Proves and builds a program in its crate, with a run of it, and leaves it in the folder of programs.
 build() {
@@ -62,7 +52,7 @@ build() {
     cp "crates/$program/out/$program" "$work/built/"
 }
 
-agree_all
+for_each_version agree
 mkdir "$work/built"
 if [ -z "${TEDDERTEMPO_BIN:-}" ]; then
     build teddertempo /dev/null -- --version

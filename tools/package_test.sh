@@ -3,13 +3,16 @@
 #   - the archive, unpacked into an empty folder: both programs run, the C example is linked by pkg-config alone and rewrites a
 #     module, header and library have one version, and the man page has the options that the program has;
 #   - the Debian package: installed, the same program and example; then removed, and nothing of it is left.
-# The last line is `N passed, N failed`.
+# Before, each place of tools/package/versions.sh has the version of the file VERSION. The last line is `N passed, N failed`.
 #
-# Usage: package_test.sh [FOLDER]. Needs a C compiler and pkg-config; for the Debian package also dpkg and root. Where these aren't
-# there, or the package is installed already, a line says so, and that part is left out.
+# Usage: package_test.sh [FOLDER], or package_test.sh --versions for the versions alone, which needs no package. Needs a C compiler
+# and pkg-config; for the Debian package also dpkg and root. Where these aren't there, or the package is installed already, a line
+# says so, and that part is left out.
 set -euo pipefail
-packages=$(realpath "${1:-$(dirname "$0")/../dist}")
+packages=${1:-$(dirname "$0")/../dist}
+if [ "$packages" != --versions ]; then packages=$(realpath "$packages"); fi
 cd "$(dirname "$0")/.."
+source tools/package/versions.sh
 version=$(cat VERSION)
 name=teddertempo-$version-x86_64-linux
 
@@ -17,16 +20,6 @@ fail() {
     echo "package_test.sh: $1" >&2
     exit 1
 }
-
-for file in "$name.tar.gz" "teddertempo_${version}_amd64.deb"; do
-    [ -f "$packages/$file" ] || fail "needs $packages/$file: tools/package.sh writes it"
-done
-PATH=/usr/sbin:/usr/bin:/sbin:/bin
-export PATH
-for needed in tar gzip "${CC:-cc}" pkg-config; do
-    command -v "$needed" > /dev/null || fail "needs $needed on the path $PATH"
-done
-! command -v rt > /dev/null || fail "finds a Rattle kit in $PATH, and is to show that none is needed"
 
 work=$(mktemp -d)
 installed=
@@ -51,6 +44,35 @@ judge() {
         tail -n 30 "$work/log"
     fi
 }
+
+agrees() {
+    echo "it has ${1:-none}, and VERSION $version"
+    [ "$1" = "$version" ]
+}
+
+judge_version() { judge "the version: $1" agrees "$2"; }
+
+# Says how many tests passed and failed.
+count() {
+    echo "$passed passed, $failed failed"
+    [ "$failed" -eq 0 ]
+}
+
+for_each_version judge_version
+if [ "$packages" = --versions ]; then
+    count
+    exit
+fi
+
+for file in "$name.tar.gz" "teddertempo_${version}_amd64.deb"; do
+    [ -f "$packages/$file" ] || fail "needs $packages/$file: tools/package.sh writes it"
+done
+PATH=/usr/sbin:/usr/bin:/sbin:/bin
+export PATH
+for needed in tar gzip "${CC:-cc}" pkg-config; do
+    command -v "$needed" > /dev/null || fail "needs $needed on the path $PATH"
+done
+! command -v rt > /dev/null || fail "finds a Rattle kit in $PATH, and is to show that none is needed"
 
 # All that the tests use, beside the packages, stands in one folder.
 mkdir "$work/here"
@@ -159,5 +181,4 @@ else
     installed=
 fi
 
-echo "$passed passed, $failed failed"
-[ "$failed" -eq 0 ]
+count

@@ -1,5 +1,5 @@
 -- What is told of functions that can be read, and of those that can't; why no list is written.
-use Rattle.std.proofs.Common.{◌≡◌, ℕ, suc, ◌+◌, ◌<◌, List, [], ◌∷◌, ◌++◌, length, take, get_or, Option, refl, sym, ap, ◌∙◌, subst, append_assoc, append-nil, arith}
+use Rattle.std.proofs.Common.{◌≡◌, Bool, false, ℕ, suc, ◌+◌, ◌<◌, List, [], ◌∷◌, ◌++◌, length, take, get_or, Option, refl, sym, ap, ◌∙◌, subst, append_assoc, append-nil, arith}
 use Rattle.std.specs.Prelude.{◌^◌}
 use Rattle.std.proofs.lemmas.List.{take_more}
 use Rattle.std.specs.Io.KnownBytes.{Appends}
@@ -7,22 +7,23 @@ use Rattle.wasm_code.specs.declared.operator.Operator.{Operator}
 use Rattle.mutate_base.specs.Module.{Module}
 use Rattle.mutate_base.specs.declared.types.PrimitiveTypeInfo.{PrimitiveTypeInfo}
 use Rattle.wasm_module.specs.Module.{Layout, IsModule}
-use Rattle.peephole_modules.specs.Attempt.{RefusesIndex}
-use Rattle.peephole_modules.specs.Function.{IsFunction, IsFunctionFault}
+use Rattle.peephole_modules.specs.Attempt.{IsKnownFault, RefusesIndex}
+use Rattle.peephole_modules.specs.Function.{IsFunction}
 use Rattle.peephole_modules.specs.declared.attempt.Reason.{Reason}
-use Rattle.peephole_modules.specs.declared.attempt.Reason.TheVariants.{NoRule, Unreadable, NoFunction, UnknownImport, Refused}
+use Rattle.peephole_modules.specs.declared.attempt.Reason.TheVariants.{NoRule, NoOwnFunction, Unreadable, NoFunction, UnknownImport, Refused}
 use Rattle.peephole_modules.specs.declared.function.FunctionError.{FunctionError}
 use Rattle.peephole_modules.specs.declared.times.MadeRewrite.{MadeRewrite}
 use Rattle.peephole_module_commands.specs.Blocks.{TellsBlock, TellsBlocks, TellsFault}
-use Rattle.peephole_module_commands.specs.Failures.{FailsToDo, FailsToList, FailsToRead, FailsToReport, FailsToRewrite, IsReasonToListNone}
+use Rattle.peephole_module_commands.specs.Failures.{FailsToDo, FailsToList, FailsToRead, FailsToReport, FailsToRewrite, IsNoOther, IsReasonToListNone}
+use Rattle.peephole_module_commands.specs.Front.{is_component, is_text}
 use Rattle.peephole_module_commands.specs.Lines.{rewrite_line}
 use Rattle.peephole_module_commands.specs.Lists.{InTurn}
 use Rattle.peephole_module_commands.specs.Reports.{TellsIfUnread, TellsUnreadable, made_lines}
 use Rattle.peephole_module_commands.specs.declared.failure.Failure.{Failure}
-use Rattle.peephole_module_commands.specs.declared.failure.Failure.TheVariants.{Nothing, Input, TooLong, Output, Memory}
+use Rattle.peephole_module_commands.specs.declared.failure.Failure.TheVariants.{Nothing, Input, TooLong, Component, TextFormat, Output, Memory}
 use Rattle.peephole_module_commands.specs.declared.form.Form.{Form}
 use Rattle.peephole_module_commands.specs.declared.options.Options.{Options}
-use Rattle.peephole_module_commands.specs.declared.options.Task.TheVariants.{Rewrite}
+use Rattle.peephole_module_commands.specs.declared.options.Task.TheVariants.{Rewrite, List as Lists, Blocks}
 use Rattle.peephole_module_commands.proofs.TurnLemmas.{appends_more}
 
 abbrev Types : Type 0
@@ -49,7 +50,7 @@ tells_read form bytes info layout n locals expression operators given index text
 
 -- of one that can't be
 pub tells_unread : (form : Form) (bytes : List ℕ) (info : Module) (layout : Layout) (n : ℕ) (error : FunctionError) (text : List ℕ) →
-    ((l : Types) (x : ℕ) (o : Operators) → IsFunction bytes info layout n l x o → ⊥) → IsFunctionFault bytes info layout n error →
+    ((l : Types) (x : ℕ) (o : Operators) → IsFunction bytes info layout n l x o → ⊥) → IsKnownFault bytes info layout n error →
     TellsFault form layout n error text → TellsBlocks form bytes info layout n text
 tells_unread form bytes info layout n error text never fault tells = record {
   read = λ l x o k _. absurd (never l x o k);
@@ -85,12 +86,15 @@ made_next a b c form ms k d l front own =
 
 pub read_fails : (only : Option ℕ) (bytes : List ℕ) (e : Failure) → FailsToRead bytes e → FailsToList only bytes e
 read_fails only bytes (Nothing NoRule) h = absurd h
-read_fails only bytes (Nothing Unreadable) h = absurd h
+read_fails only bytes (Nothing NoOwnFunction) h = absurd h
+read_fails only bytes (Nothing (Unreadable e)) h = absurd h
 read_fails only bytes (Nothing (NoFunction f)) h = absurd h
 read_fails only bytes (Nothing (UnknownImport e)) h = absurd h
 read_fails only bytes (Nothing (Refused e)) h = h
 read_fails only bytes Input h = absurd h
 read_fails only bytes TooLong h = absurd h
+read_fails only bytes Component h = absurd h
+read_fails only bytes TextFormat h = absurd h
 read_fails only bytes Output h = tt
 read_fails only bytes Memory h = tt
 
@@ -100,21 +104,54 @@ index_fails only bytes info layout e reason is h because = subst (FailsToList on
   where
     listed : (r : Reason) → RefusesIndex layout only r → IsReasonToListNone only bytes r
     listed NoRule k = k
-    listed Unreadable k = k
+    listed NoOwnFunction k = k
+    listed (Unreadable e) k = k
     listed (NoFunction f) k = record { info = info; layout = layout; is = is; refuses = k }
     listed (UnknownImport x) k = record { info = info; layout = layout; is = is; refuses = k }
     listed (Refused x) k = absurd k
 
-pub rewrite_fails : (options : Options) (bytes : List ℕ) (e : Failure) → FailsToRewrite options bytes e → FailsToDo Rewrite options bytes e
-rewrite_fails options bytes (Nothing reason) h = h
-rewrite_fails options bytes Input h = tt
-rewrite_fails options bytes TooLong h = absurd h
-rewrite_fails options bytes Output h = h
-rewrite_fails options bytes Memory h = h
+pub rewrite_fails : (options : Options) (bytes : List ℕ) (e : Failure) → IsNoOther bytes → FailsToRewrite options bytes e → FailsToDo Rewrite options bytes e
+rewrite_fails options bytes (Nothing reason) none h = (none, h)
+rewrite_fails options bytes Input none h = tt
+rewrite_fails options bytes TooLong none h = absurd h
+rewrite_fails options bytes Component none h = absurd h
+rewrite_fails options bytes TextFormat none h = absurd h
+rewrite_fails options bytes Output none h = h
+rewrite_fails options bytes Memory none h = h
+
+-- of a list, or of blocks
+module _ (options : Options) (bytes : List ℕ) (none : IsNoOther bytes) where
+  pub list_fails : (e : Failure) → FailsToList options.function bytes e → FailsToDo Lists options bytes e
+  list_fails (Nothing reason) h = (none, h)
+  list_fails Input h = tt
+  list_fails TooLong h = absurd h
+  list_fails Component h = absurd h
+  list_fails TextFormat h = absurd h
+  list_fails Output h = h
+  list_fails Memory h = h
+
+  pub blocks_fail : (e : Failure) → FailsToList options.function bytes e → FailsToDo Blocks options bytes e
+  blocks_fail (Nothing reason) h = (none, h)
+  blocks_fail Input h = tt
+  blocks_fail TooLong h = absurd h
+  blocks_fail Component h = absurd h
+  blocks_fail TextFormat h = absurd h
+  blocks_fail Output h = h
+  blocks_fail Memory h = h
+
+-- the bytes that were looked at are neither a component nor a text
+pub is_no_other : (given first second text : List ℕ) (component other : Bool) → given ≡ text → first ≡ text → second ≡ text →
+    component ≡ is_component first → component ≡ false → other ≡ is_text second → other ≡ false → IsNoOther given
+is_no_other given first second text component other given_is first_is second_is by_front not_component by_word not_text =
+    let one : given ≡ first = given_is ∙ sym first_is in
+    let two : given ≡ second = given_is ∙ sym second_is in
+    (ap is_component one ∙ (sym by_front ∙ not_component), ap is_text two ∙ (sym by_word ∙ not_text))
 
 pub report_fails : (only : Option ℕ) (bytes : List ℕ) (e : Failure) → FailsToReport e → FailsToList only bytes e
 report_fails only bytes (Nothing reason) h = absurd h
 report_fails only bytes Input h = absurd h
 report_fails only bytes TooLong h = absurd h
+report_fails only bytes Component h = absurd h
+report_fails only bytes TextFormat h = absurd h
 report_fails only bytes Output h = tt
 report_fails only bytes Memory h = tt

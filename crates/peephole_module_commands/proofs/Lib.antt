@@ -9,3 +9,4 @@ pub mod ArgumentsLemmas
 pub mod OptionsLemmas
 pub mod ReachLemmas
 pub mod ShownLemmas
+pub mod OutcomeLemmas

@@ -1,10 +1,9 @@
 -- What is counted, one operator and one function more each time.
-use Rattle.std.proofs.Common.{◌≡◌, inl, inr, ℕ, suc, ◌+◌, ◌-◌, ◌^◌, ◌<◌, min, not, ◌&&◌, ◌||◌, Bool, true, false, List, [], ◌∷◌, ◌++◌, length, take, set, get_or, replicate, Option, Some, None, refl, sym, ap, ap₂, ◌∙◌, subst, arith}
-use Rattle.std.specs.Prelude.{◌≢◌, ◌↔◌, IsTrue, Contains, IfSome, IfNone, is_some, option_map, slice_get}
+use Rattle.std.proofs.Common.{◌≡◌, inl, inr, ℕ, suc, ◌+◌, ◌-◌, ◌^◌, ◌<◌, min, not, ◌&&◌, ◌||◌, Bool, true, false, List, [], ◌∷◌, ◌++◌, length, get_or, Option, Some, None, refl, sym, ap, ap₂, ◌∙◌, subst, arith}
+use Rattle.std.specs.Prelude.{◌↔◌, IsTrue, IfSome, IfNone, is_some, option_map, slice_get}
 use Rattle.std.proofs.lemmas.Bool.{false≢true, not-true, not_from_false, cases_eq, cases_lt, and_parts, and_from, or_cases, or_left, or_right}
-use Rattle.std.proofs.lemmas.List.{take_more, length_push, length-set, get_or-replicate, get_or-set_same, get_or-set_other}
-use Rattle.std.proofs.lemmas.List.Elements.{Contains-append_left, Contains-get_or, Contains-push, Contains-push_cases}
-use Rattle.std.proofs.lemmas.Option.{same_Some, slice_get-get_or, slice_get_cases, slice_get_past, slice_get_within}
+use Rattle.std.proofs.lemmas.List.{length_push}
+use Rattle.std.proofs.lemmas.Option.{same_Some, slice_get-get_or, slice_get_cases}
 use Rattle.wasm_code.specs.declared.operator.Operator.{Operator}
 use Rattle.mutate_base.specs.Module.{Module}
 use Rattle.mutate_base.specs.declared.types.PrimitiveTypeInfo.{PrimitiveTypeInfo}
@@ -13,11 +12,10 @@ use Rattle.peephole_machine.specs.Values.{Context, context_in}
 use Rattle.peephole_graphs.specs.Block.{BlockRange, HasNoDelimiter, IsBlockIn, delimits, is_delimiter_of}
 use Rattle.peephole_rules.specs.declared.rule.Rule.{Rule}
 use Rattle.peephole_rewrites.specs.Choice.{AreThose, numbers_below}
-use Rattle.peephole_rewrites.specs.Rewriting.{AreTheRewrites}
-use Rattle.peephole_rewrites.specs.declared.rewrite.Rewrite.{Rewrite}
+use Rattle.peephole_rewrites.specs.Reached.{AreReached, IsMarked, IsReached}
 use Rattle.peephole_modules.specs.Function.{IsFunction}
 use Rattle.peephole_module_commands.specs.Blocks.{IsBlock}
-use Rattle.peephole_module_commands.specs.Reach.{AreCounted, AreCountedAt, AreInside, AreMarks, AreOfBody, AreOfEntries, AreOfEntry, Counts, EndsBlock, EndsReached, HoldsReached, IsIntegerAt, IsMarked, IsOfOne, IsOneIf, IsReached, Told, nothing, number_of, part_in_64_bits, part_of, part_sum, reach_in_64_bits, sum_of}
+use Rattle.peephole_module_commands.specs.Reach.{AreCounted, AreCountedAt, AreOfBody, AreOfEntries, AreOfEntry, Counts, EndsBlock, EndsReached, HoldsReached, IsIntegerAt, IsOneIf, Told, nothing, number_of, part_in_64_bits, part_of, part_sum, reach_in_64_bits, sum_of}
 use Rattle.peephole_module_commands.specs.declared.reach.Part.{Part}
 use Rattle.peephole_module_commands.specs.declared.reach.Reach.{Reach}
 
@@ -259,73 +257,6 @@ marked_if marks at d marked inside is =
       λ m. is ∙ same_Some (get_or marks at d) true (sym there ∙ m),
     )
 
-set_same : (marks : List Bool) (i : ℕ) → i < length marks → slice_get (set marks i true) i ≡ Some true
-set_same marks i inside =
-    let size = length-set marks i true in
-    slice_get-get_or (set marks i true) i true (omega (arith, size, inside)) ∙ ap (λ b. Some b) (get_or-set_same marks i true true inside)
-
-set_other : (marks : List Bool) (i k : ℕ) → k ≢ i → slice_get (set marks i true) k ≡ slice_get marks k
-set_other marks i k other =
-    let size = length-set marks i true in
-    elim (cases_lt k (length marks)) [
-      | inl inside ↦
-          slice_get-get_or (set marks i true) k true (omega (arith, size, inside)) ∙ (ap (λ b. Some b) (get_or-set_other marks i k true true other)
-          ∙ sym (slice_get-get_or marks k true inside))
-      | inr past ↦ slice_get_past (set marks i true) k (omega (arith, size, past)) ∙ sym (slice_get_past marks k past)
-    ]
-
-abbrev make : (at : ℕ) → Rule → Rewrite
-make at rule = record { operator = at; rule = rule }
-
-pub marks_none : (rewrites : List Rewrite) (size : ℕ) (marks : List Bool) → length marks ≡ size → marks ≡ replicate size false →
-    AreMarks (take 0 rewrites) size marks
-marks_none rewrites size marks count is = record { count = count; each = λ at. (λ m. absurd (unmarked at m), λ o. absurd (unlisted (make at o.0) o.1)) }
-  where
-    unmarked : (at : ℕ) → IsMarked marks at → ⊥
-    unmarked at m =
-        let inside = slice_get_within marks at true m in
-        let plain = ap (λ l. get_or l at false) is ∙ get_or-replicate size at false false (omega (arith, inside, count)) in
-        false≢true (sym plain ∙ same_Some (get_or marks at false) true (sym (slice_get-get_or marks at false inside) ∙ m))
-
-    unlisted : (r : Rewrite) → Contains (take 0 rewrites) r → ⊥
-    unlisted r h = let none : h.0 < 0 = h.1 in absurd (omega arith)
-
--- those of one rewrite more
-marks_push : (some more : List Rewrite) (x : Rewrite) (size : ℕ) (marks : List Bool) → more ≡ some ++ x ∷ [] → x.operator < size → AreMarks some size marks →
-    AreMarks more size (set marks x.operator true)
-marks_push some more x size marks is below h = record { count = length-set marks x.operator true ∙ h.count; each = λ at. (forth at, back at) }
-  where
-    inside : x.operator < length marks
-    inside = let count = h.count in omega (arith, below, count)
-
-    forth : (at : ℕ) → IsMarked (set marks x.operator true) at → IsOfOne more at
-    forth at m = elim (cases_eq at x.operator) [
-      | inl e ↦ (
-        x.rule,
-        subst (λ rs. Contains rs (make at x.rule)) (sym is) (subst (Contains (some ++ x ∷ [])) (ap (λ k. make k x.rule) (sym e)) (Contains-push some x)),
-      )
-      | inr other ↦
-          let o = (h.each at).0 (sym (set_other marks x.operator at other) ∙ m) in
-          (o.0, subst (λ rs. Contains rs (make at o.0)) (sym is) (Contains-append_left some (x ∷ []) (make at o.0) o.1))
-    ]
-
-    kept : (at : ℕ) → IsMarked marks at → IsMarked (set marks x.operator true) at
-    kept at m = elim (cases_eq at x.operator) [
-      | inl e ↦ ap (slice_get (set marks x.operator true)) e ∙ set_same marks x.operator inside
-      | inr other ↦ set_other marks x.operator at other ∙ m
-    ]
-
-    back : (at : ℕ) → IsOfOne more at → IsMarked (set marks x.operator true) at
-    back at (rule, c) = elim (Contains-push_cases some x (make at rule) (subst (λ rs. Contains rs (make at rule)) is c)) [
-      | inl old ↦ kept at ((h.each at).1 (rule, old))
-      | inr e ↦ ap (slice_get (set marks x.operator true)) (sym (ap (λ (r : Rewrite). r.operator) e)) ∙ set_same marks x.operator inside
-    ]
-
-pub marks_next : (rewrites : List Rewrite) (i size : ℕ) (d : Rewrite) (marks : List Bool) → i < length rewrites → (get_or rewrites i d).operator < size →
-    AreMarks (take i rewrites) size marks → AreMarks (take (i + 1) rewrites) size (set marks (get_or rewrites i d).operator true)
-marks_next rewrites i size d marks l below h =
-    marks_push (take i rewrites) (take (i + 1) rewrites) (get_or rewrites i d) size marks (take_more rewrites i d l) below h
-
 -- ---- a body
 
 counted_as : (P Q : ℕ → Type 0) (operators : Operators) (end : ℕ) (reach : Reach) → ((at : ℕ) → P at ↔ Q at) → AreCounted P operators end reach →
@@ -343,24 +274,14 @@ counted_as P Q operators end reach same h = record {
       (λ at. (λ k. (k.0, (same at).0 k.1), λ k. (k.0, (same at).1 k.1))) h.integers_within;
 }
 
-module _ (context : Context) (rules : List Rule) (operators : Operators) (rewrites : List Rewrite)
-    (are : AreTheRewrites context rules operators rewrites) where
-  pub rewrites_inside : AreInside rewrites (length operators)
-  rewrites_inside k d l = ((are (get_or rewrites k d)).0 (Contains-get_or rewrites k d l)).1.1.is.inside
-
-  pub told_body : (marks : List Bool) (reach : Reach) → AreMarks rewrites (length operators) marks →
-      Told (AreCounted (IsMarked marks) operators (length operators)) reach → Told (AreOfBody context rules operators) reach
-  told_body marks reach h t = record {
-    exact = t.exact;
-    are = counted_as (IsMarked marks) (IsReached context rules operators) operators (length operators) t.exact (λ at. (
-      λ m.
-          let o = (h.each at).0 m in
-          let w = (are (make at o.0)).0 o.1 in
-          (o.0, w.0, w.1),
-      λ r. (h.each at).1 (r.0, (are (make at r.0)).1 (r.1, r.2)),
-    )) t.are;
-    as_told = t.as_told;
-  }
+pub told_body : (context : Context) (rules : List Rule) (operators : Operators) (marks : List Bool) (reach : Reach) →
+    AreReached context rules operators marks → Told (AreCounted (IsMarked marks) operators (length operators)) reach →
+    Told (AreOfBody context rules operators) reach
+told_body context rules operators marks reach h t = record {
+  exact = t.exact;
+  are = counted_as (IsMarked marks) (IsReached context rules operators) operators (length operators) t.exact h.each t.are;
+  as_told = t.as_told;
+}
 
 -- ---- function by function
 

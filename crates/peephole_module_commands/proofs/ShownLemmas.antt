@@ -1,6 +1,5 @@
 -- What is shown of rewrites that were seen one after another.
-use Rattle.std.proofs.Common.{◌≡◌, ℕ, List, [], ◌∷◌, ◌++◌, Bool, true, false, Option, Result, Ok, Err, refl, sym, ◌∙◌, ap, subst, append_assoc, append-nil}
-use Rattle.std.specs.Prelude.{OnOk}
+use Rattle.std.proofs.Common.{◌≡◌, ℕ, List, [], ◌∷◌, ◌++◌, Bool, true, false, Option, refl, sym, ◌∙◌, ap, subst, append_assoc, append-nil}
 use Rattle.std.specs.Io.KnownBytes.{Appends}
 use Rattle.peephole_showing.specs.Shown.{first_line}
 use Rattle.peephole_modules.specs.Scope.{Scope}
@@ -51,9 +50,8 @@ is_shown scope from made to true seen none wanted empty =
     subst (Shows made) (sym (all.1 ∙ ap (λ text. text ++ all.0) empty)) all.2
 
 -- What is shown is written, where anything is.
-pub shown_text : {X E : Type 0} (r : Result X E) (show : Bool) (made : List MadeRewrite) (text : List ℕ) (old new : Option (List ℕ)) → IsShown show made text →
-    (show ≡ true → OnOk r (Appends old new text)) → (show ≡ false → new ≡ old) → OnOk r (Appends old new text)
-shown_text r true made text old new is h k = h refl
-shown_text (Ok x) false made text old new is h k =
+pub shown_text : (show : Bool) (made : List MadeRewrite) (text : List ℕ) (old new : Option (List ℕ)) → IsShown show made text →
+    (show ≡ true → Appends old new text) → (show ≡ false → new ≡ old) → Appends old new text
+shown_text true made text old new is h k = h refl
+shown_text false made text old new is h k =
     subst (Appends old new) (sym is) (subst (λ (c : Option (List ℕ)). Appends old c []) (sym (k refl)) (appends_nothing old))
-shown_text (Err e) false made text old new is h k = tt

@@ -31,9 +31,9 @@ input_rule = record (new_rule (codes "input")) { value_names = 1 }
 abbrev pub output_rule : Rule
 output_rule = record (texted (codes "output")) { short = Some 111 }
 
--- the generator's seed, 0 where none is given; a text, since it may be hexadecimal
+-- the generator's seed; a text, since it may be hexadecimal
 abbrev pub seed_rule : Rule
-seed_rule = record (texted (codes "seed")) { defaults = codes "0" ∷ [] }
+seed_rule = texted (codes "seed")
 
 -- an option `--name` that has one of these names at each use
 abbrev pub naming : (name : Text) → (names : Bor (List (Bor Text))) → Rule
@@ -44,7 +44,7 @@ abbrev pub arguments : (names : Bor (List (Bor Text))) → List Rule
 arguments names =
     input_rule ∷ output_rule ∷ seed_rule ∷ valued (codes "count") number ∷ valued (codes "function") number ∷ naming (codes "rule") names
     ∷ naming (codes "not-rule") names ∷ flag (codes "shrink") ∷ valued (codes "max-size") number ∷ flag (codes "list")
-    ∷ flag (codes "blocks") ∷ flag (codes "stats") ∷ flag (codes "json") ∷ flag (codes "show") ∷ flag (codes "strip-debug") ∷ []
+    ∷ flag (codes "blocks") ∷ flag (codes "stats") ∷ flag (codes "reach") ∷ flag (codes "json") ∷ flag (codes "show") ∷ flag (codes "strip-debug") ∷ []
 
 -- The command line, where the rules have these names.
 abbrev pub command_line : (names : Bor (List (Bor Text))) → App

@@ -12,8 +12,8 @@ use Rattle.wasm_sections.specs.declared.fault.ModuleError.{ModuleError}
 use Rattle.wasm_module.specs.Module.{Layout}
 use Rattle.peephole_graphs.specs.Block.{IsBlockIn}
 use Rattle.peephole_graphs.specs.Shape.{IsFit, judge}
-use Rattle.peephole_modules.specs.Attempt.{CanRead}
-use Rattle.peephole_modules.specs.Function.{IsFunction, IsFunctionFault}
+use Rattle.peephole_modules.specs.Attempt.{CanRead, IsKnownFault}
+use Rattle.peephole_modules.specs.Function.{IsFunction}
 use Rattle.peephole_modules.specs.declared.function.FunctionError.{FunctionError}
 use Rattle.peephole_module_commands.specs.Lines.{block_line, entry_line, function_line}
 use Rattle.peephole_module_commands.specs.Lists.{InTurn, WritesOfFunctions}
@@ -89,9 +89,9 @@ pub record TellsFault (form : Form) (layout : Layout) (n : ℕ) (error : Functio
       text ≡ function_line form (layout.imported_functions + n) start error
   pub unknown : (e : ModuleError) → layout.unknown.imports ≡ Some e → text ≡ entry_line form n start error
 
--- the same of its first fault
+-- the same of its first fault, which is never that memory was wanting
 abbrev pub TellsUnread : Form → (bytes : List ℕ) → Module → Layout → (n : ℕ) → (text : List ℕ) → Type 0
-TellsUnread form bytes info layout n text = (error : FunctionError) × IsFunctionFault bytes info layout n error × TellsFault form layout n error text
+TellsUnread form bytes info layout n text = (error : FunctionError) × IsKnownFault bytes info layout n error × TellsFault form layout n error text
 
 -- ---- the blocks of a module
 

@@ -1,15 +1,16 @@
 -- Why a run has no success (this project).
-use Rattle.std.specs.Prelude.{ℕ, ◌<◌, List, length, Option, IfSome}
+use Rattle.std.specs.Prelude.{◌≡◌, ℕ, ◌<◌, Bool, true, false, List, length, Option, IfSome}
 use Rattle.wasm_module.specs.Fault.{IsModuleFault}
 use Rattle.peephole_modules.specs.Attempt.{IsForSize, IsReason, RefusesIndexOf}
 use Rattle.peephole_modules.specs.Chosen.{GivesUp}
 use Rattle.peephole_modules.specs.Seeded.{seeded}
 use Rattle.peephole_modules.specs.declared.attempt.Reason.{Reason}
-use Rattle.peephole_modules.specs.declared.attempt.Reason.TheVariants.{NoRule, Unreadable, NoFunction, UnknownImport, Refused}
+use Rattle.peephole_modules.specs.declared.attempt.Reason.TheVariants.{NoRule, NoOwnFunction, Unreadable, NoFunction, UnknownImport, Refused}
 use Rattle.peephole_modules.specs.declared.mutation.MutationError.TheVariants.{Read}
+use Rattle.peephole_module_commands.specs.Front.{is_component, is_text}
 use Rattle.peephole_module_commands.specs.Scope.{scope_of}
 use Rattle.peephole_module_commands.specs.declared.failure.Failure.{Failure}
-use Rattle.peephole_module_commands.specs.declared.failure.Failure.TheVariants.{Nothing, Input, TooLong, Output, Memory}
+use Rattle.peephole_module_commands.specs.declared.failure.Failure.TheVariants.{Nothing, Input, TooLong, Component, TextFormat, Output, Memory}
 use Rattle.peephole_module_commands.specs.declared.options.Options.{Options}
 use Rattle.peephole_module_commands.specs.declared.options.Task.{Task}
 use Rattle.peephole_module_commands.specs.declared.options.Task.TheVariants.{Rewrite}
@@ -37,9 +38,17 @@ FailsToTake input TooLong = IfSome input (λ bytes. 1073741824 < length bytes)
 FailsToTake input Memory = Unit {0}
 FailsToTake input e = ⊥
 
--- nothing of the module is rewritten for that reason; for a size only where the words that the seed gives choose no rewrite that fits
+-- no rule applies: where rules are to make code smaller alone, the module is written as it is
+abbrev pub leaves : (shrink : Bool) → Reason → Bool
+leaves shrink NoRule = shrink
+leaves shrink NoOwnFunction = shrink
+leaves shrink reason = false
+
+-- nothing of the module is rewritten for that reason, and it isn't written as it is; for a size only where the words that the seed gives choose no rewrite
+-- that fits
 pub record IsReasonFor (options : Options) (bytes : List ℕ) (reason : Reason) : Type 0 where
   pub is : IsReason (scope_of options) bytes reason
+  pub left : leaves options.shrink reason ≡ false
   pub gives_up : IsForSize reason → GivesUp (scope_of options) bytes (seeded options.seed)
 
 -- no rewritten module is made: for a reason why nothing of it is rewritten, or no memory is left
@@ -56,7 +65,8 @@ FailsToRewrite options bytes e = FailsToReport e
 -- why nothing is listed: no function is looked at, or the module can't be read
 abbrev pub IsReasonToListNone : (only : Option ℕ) → (bytes : List ℕ) → Reason → Type 0
 IsReasonToListNone only bytes NoRule = ⊥
-IsReasonToListNone only bytes Unreadable = ⊥
+IsReasonToListNone only bytes NoOwnFunction = ⊥
+IsReasonToListNone only bytes (Unreadable e) = ⊥
 IsReasonToListNone only bytes (NoFunction function) = RefusesIndexOf only bytes (NoFunction function)
 IsReasonToListNone only bytes (UnknownImport e) = RefusesIndexOf only bytes (UnknownImport e)
 IsReasonToListNone only bytes (Refused e) = FailsToRead bytes (Nothing (Refused e))
@@ -71,14 +81,23 @@ abbrev pub FailsAtTask : Task → Options → (bytes : List ℕ) → Failure →
 FailsAtTask Rewrite options bytes e = FailsToRewrite options bytes e
 FailsAtTask task options bytes e = FailsToList options.function bytes e
 
--- the input is at fault: its reader, or its length
+-- the input is at fault: its reader, its length, or that it is a component or a text
 abbrev pub IsOfInput : Failure → Type 0
 IsOfInput Input = Unit {0}
 IsOfInput TooLong = Unit {0}
+IsOfInput Component = Unit {0}
+IsOfInput TextFormat = Unit {0}
 IsOfInput e = ⊥
 
--- A run fails: as the input isn't read, or as its task fails.
+-- the bytes are neither a component nor a text
+abbrev pub IsNoOther : (bytes : List ℕ) → Type 0
+IsNoOther bytes = (is_component bytes ≡ false) × (is_text bytes ≡ false)
+
+-- A run fails: as the input isn't read, since it is a component or a text, or as its task fails; for a reason of the module only where it is neither.
 abbrev pub FailsToDo : Task → Options → (bytes : List ℕ) → Failure → Type 0
 FailsToDo task options bytes Input = Unit {0}
 FailsToDo task options bytes TooLong = 1073741824 < length bytes
+FailsToDo task options bytes Component = is_component bytes ≡ true
+FailsToDo task options bytes TextFormat = is_text bytes ≡ true
+FailsToDo task options bytes (Nothing reason) = IsNoOther bytes × FailsAtTask task options bytes (Nothing reason)
 FailsToDo task options bytes e = FailsAtTask task options bytes e

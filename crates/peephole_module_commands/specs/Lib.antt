@@ -1,7 +1,9 @@
 pub mod Arguments
 pub mod Blocks
+pub mod Ending
 pub mod Failures
 pub mod Form
+pub mod Front
 pub mod Lines
 pub mod Lists
 pub mod Options

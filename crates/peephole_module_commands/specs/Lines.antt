@@ -6,10 +6,12 @@ use Rattle.wasm_code.specs.Fault.{kind_name}
 use Rattle.wasm_sections.specs.Fault.{fault_name}
 use Rattle.peephole_rules.specs.Rule.{rule_name}
 use Rattle.peephole_rewrites.specs.declared.rewrite.Rewrite.{Rewrite}
+use Rattle.peephole_modules.specs.OperatorCode.{code_text, family_name, family_of}
 use Rattle.peephole_modules.specs.declared.function.FunctionError.{FunctionError}
 use Rattle.peephole_modules.specs.declared.function.FunctionError.TheVariants.{Unknown, UnknownType, Locals, Body}
+use Rattle.peephole_modules.specs.declared.operator_code.OperatorCode.{OperatorCode}
 use Rattle.mutate_base.specs.Error.{error_name}
-use Rattle.wasm_sections.specs.declared.writing.WriteError.TheVariants as writes
+use Rattle.wasm_module.specs.declared.refusal.WriteError.TheVariants as writes
 use Rattle.peephole_modules.specs.declared.mutation.MutationError.{MutationError}
 use Rattle.peephole_modules.specs.declared.mutation.MutationError.TheVariants.{Read, Rewrite as Rewriting, Write, TooLong}
 use Rattle.peephole_module_commands.specs.declared.unfit.Unfit.{Unfit}
@@ -75,24 +77,49 @@ abbrev pub fault_text : FunctionError → List ℕ
 fault_text (Unknown e) = fault_name e.kind
 fault_text UnknownType = codes "UnknownType"
 fault_text (Locals e) = fault_name e.kind
-fault_text (Body e) = kind_name e.kind
+fault_text (Body e) = kind_name e.fault.kind
 
 -- the offset in the module; that of the entry's first byte where the type isn't there
 abbrev pub fault_offset : (start : ℕ) → FunctionError → ℕ
 fault_offset start (Unknown e) = e.offset
 fault_offset start UnknownType = start
 fault_offset start (Locals e) = e.offset
-fault_offset start (Body e) = e.offset
+fault_offset start (Body e) = e.fault.offset
 
--- the text behind a word for the number
+-- the code of an operator of the body that isn't known, where that is the fault
+abbrev pub fault_operator : FunctionError → Option OperatorCode
+fault_operator (Unknown e) = None
+fault_operator UnknownType = None
+fault_operator (Locals e) = None
+fault_operator (Body e) = e.operator
+
+-- the text behind a word for the number; of an operator also its code and its family
+abbrev pub words_of : (word : List ℕ) (index : ℕ) (name : List ℕ) (offset : ℕ) → Option OperatorCode → List ℕ
+words_of word index name offset None =
+    word ++ (left_aligned 6 index ++ (codes " " ++ (name ++ (codes " at " ++ (decimal offset ++ codes "\n")))))
+words_of word index name offset (Some code) =
+    word ++ (left_aligned 6 index ++ (codes " " ++ (name ++ (codes " at " ++ (decimal offset ++ (codes ": operator " ++ (code_text code
+    ++ (codes " (" ++ (family_name (family_of code) ++ codes ")\n")))))))))
+
+-- so of the error
 abbrev pub fault_words : (word : List ℕ) (index start : ℕ) → FunctionError → List ℕ
-fault_words word index start e =
-    word ++ (left_aligned 6 index ++ (codes " " ++ (fault_text e ++ (codes " at " ++ (decimal (fault_offset start e) ++ codes "\n")))))
+fault_words word index start e = words_of word index (fault_text e) (fault_offset start e) (fault_operator e)
+
+-- members, before them that of an operator's family, where there is one
+abbrev pub with_family : Option OperatorCode → Members → Members
+with_family None rest = rest
+with_family (Some code) rest = with_text (codes "family") (family_name (family_of code)) rest
+
+-- the member of the operator's code, where there is one
+abbrev pub operator_member : Option OperatorCode → Members
+operator_member None = no_members
+operator_member (Some code) = with_text (codes "operator") (code_text code) no_members
 
 -- the function with the index
 abbrev pub function_object : (index start : ℕ) → FunctionError → Data
 function_object index start e =
-    object (with_text (codes "fault") (fault_text e) (with_number (codes "function") index (with_number (codes "offset") (fault_offset start e) no_members)))
+    object (with_family (fault_operator e) (with_text (codes "fault") (fault_text e) (with_number (codes "function") index
+    (with_number (codes "offset") (fault_offset start e) (operator_member (fault_operator e))))))
 
 -- one such function, in the form that was asked for
 abbrev pub function_line : Form → (index start : ℕ) → FunctionError → List ℕ
@@ -102,7 +129,8 @@ function_line Json index start e = json_line (function_object index start e)
 -- the code entry with the number
 abbrev pub entry_object : (entry start : ℕ) → FunctionError → Data
 entry_object entry start e =
-    object (with_number (codes "entry") entry (with_text (codes "fault") (fault_text e) (with_number (codes "offset") (fault_offset start e) no_members)))
+    object (with_number (codes "entry") entry (with_family (fault_operator e) (with_text (codes "fault") (fault_text e)
+    (with_number (codes "offset") (fault_offset start e) (operator_member (fault_operator e))))))
 
 -- the same where no index is known, since an import isn't
 abbrev pub entry_line : Form → (entry start : ℕ) → FunctionError → List ℕ
@@ -200,23 +228,24 @@ abbrev pub stopped_name : MutationError → List ℕ
 stopped_name (Read e) = fault_name e.kind
 stopped_name (Rewriting e) = error_name e
 stopped_name (Write writes.TooLarge) = codes "TooLarge"
+stopped_name (Write writes.EmptyType) = codes "EmptyType"
 stopped_name (Write writes.Memory) = codes "Memory"
 stopped_name TooLong = codes "TooLong"
 
--- that name behind the word `stopped`
-abbrev pub stopped_text : MutationError → List ℕ
-stopped_text e = codes "stopped " ++ (stopped_name e ++ codes "\n")
+-- a name behind the word `stopped`
+abbrev pub stopped_text : (name : List ℕ) → List ℕ
+stopped_text name = codes "stopped " ++ (name ++ codes "\n")
 
 -- the same as an object
-abbrev pub stopped_object : MutationError → Data
-stopped_object e = object (with_text (codes "stopped") (stopped_name e) no_members)
+abbrev pub stopped_object : (name : List ℕ) → Data
+stopped_object name = object (with_text (codes "stopped") name no_members)
 
--- the refusal, in the form that was asked for
-abbrev pub stopped_line : Form → MutationError → List ℕ
-stopped_line Text e = stopped_text e
-stopped_line Json e = json_line (stopped_object e)
+-- why there are no more rewrites, in the form that was asked for
+abbrev pub stopped_line : Form → (name : List ℕ) → List ℕ
+stopped_line Text name = stopped_text name
+stopped_line Json name = json_line (stopped_object name)
 
--- the line of a refusal, where there is one
-abbrev pub stopped_part : Form → Option MutationError → List ℕ
+-- the line of that, where there is something to tell
+abbrev pub stopped_part : Form → Option (List ℕ) → List ℕ
 stopped_part form None = []
-stopped_part form (Some e) = stopped_line form e
+stopped_part form (Some name) = stopped_line form name

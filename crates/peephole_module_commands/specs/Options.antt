@@ -1,5 +1,5 @@
 -- The options that the matches of a command line are (this project).
-use Rattle.std.specs.Prelude.{◌≡◌, ◌≢◌, ◌<◌, ◌^◌, ◌&&◌, ◌||◌, ℕ, Bool, true, false, List, [], ◌++◌, map, slice_get, codes, Option, Some, None, option_and_then, option_map, string_bytes, unwrap_or, not, IfSome, if◌then◌else◌}
+use Rattle.std.specs.Prelude.{◌≡◌, ◌≢◌, ◌<◌, ◌^◌, ◌&&◌, ◌||◌, ℕ, Bool, true, false, List, [], ◌++◌, map, slice_get, codes, Option, Some, None, is_some, option_and_then, option_map, string_bytes, unwrap_or, not, IfSome, if◌then◌else◌}
 use Rattle.std.specs.List.{filter, list_any}
 use Rattle.std.specs.Option.{option_map_or}
 use Rattle.std.specs.Str.{bytes_eq}
@@ -16,9 +16,10 @@ use Rattle.peephole_rules.specs.declared.growth.Growth.{Growth}
 use Rattle.peephole_rules.specs.declared.growth.Growth.TheVariants as growths
 use Rattle.peephole_rules.specs.declared.rule.Rule.{Rule}
 use Rattle.peephole_rules.specs.declared.rule.TheConstants.{RULES}
+use Rattle.peephole_module_commands.specs.Front.{begins_with}
 use Rattle.peephole_module_commands.specs.declared.options.Flags.{Flags}
 use Rattle.peephole_module_commands.specs.declared.options.Misuse.{Misuse}
-use Rattle.peephole_module_commands.specs.declared.options.Misuse.TheVariants.{Conflict, NothingToTell, NoSeed, NoCount, UnknownRule, Memory}
+use Rattle.peephole_module_commands.specs.declared.options.Misuse.TheVariants.{Conflict, Ignored, NothingToTell, Plus, NoSeed, NoCount, UnknownRule, Memory}
 use Rattle.peephole_module_commands.specs.declared.options.Options.{Options}
 use Rattle.peephole_module_commands.specs.declared.options.Task.{Task}
 use Rattle.peephole_module_commands.specs.declared.options.Task.TheVariants.{Rewrite, List as Lists, Blocks}
@@ -29,12 +30,13 @@ use Rattle.peephole_module_commands.specs.declared.options.Task.TheVariants.{Rew
 abbrev pub is_set : (name : Text) → List Row → Bool
 is_set name rows = option_map_or (λ text. bytes_eq text (codes "true")) (one_of name rows) false
 
--- the six flags; one that isn't given is false
+-- the flags; one that isn't given is false
 abbrev pub flags_of : List Row → Flags
 flags_of rows = record {
   list = is_set (codes "list") rows;
   blocks = is_set (codes "blocks") rows;
   stats = is_set (codes "stats") rows;
+  reach = is_set (codes "reach") rows;
   json = is_set (codes "json") rows;
   show = is_set (codes "show") rows;
   strip_debug = is_set (codes "strip-debug") rows;
@@ -46,11 +48,16 @@ task_of flags = if flags.list then Lists else if flags.blocks then Blocks else R
 
 -- they ask for two tasks, or for something of a module that is written where none is
 abbrev pub exclude : Flags → Bool
-exclude flags = (flags.list && flags.blocks) || ((flags.stats || flags.show || flags.strip_debug) && (flags.list || flags.blocks))
+exclude flags =
+    (flags.list && flags.blocks) || ((flags.stats || flags.reach || flags.show || flags.strip_debug) && (flags.list || flags.blocks))
 
 -- they ask for JSON, and for nothing that is written in it
 abbrev pub tell_nothing : Flags → Bool
-tell_nothing flags = flags.json && not (flags.list || flags.blocks || flags.stats)
+tell_nothing flags = flags.json && not (flags.list || flags.blocks || flags.stats || flags.reach)
+
+-- a report is asked for
+abbrev pub reports : Flags → Bool
+reports flags = flags.stats || flags.reach
 
 -- ---- values
 
@@ -73,6 +80,33 @@ IsNumberOr other text n = (found : Option ℕ) × IsNumberOf text found × (n �
 -- the text of an option, the first where it has several
 abbrev pub first_of : (name : Text) → List Row → Option Text
 first_of name rows = option_and_then (λ values. slice_get values 0) (all_of name rows)
+
+-- a plus stands before the number, also behind `0x`
+abbrev pub has_plus : Option Text → Bool
+has_plus None = false
+has_plus (Some text) = begins_with text (codes "+") || begins_with text (codes "0x+")
+
+-- so it does in a number that is given
+abbrev pub have_plus : List Row → Bool
+have_plus rows =
+    has_plus (first_of (codes "seed") rows) || has_plus (first_of (codes "count") rows)
+    || has_plus (first_of (codes "function") rows) || has_plus (first_of (codes "max-size") rows)
+
+-- the option is given
+abbrev pub is_given : (name : Text) → List Row → Bool
+is_given name rows = is_some (first_of name rows)
+
+-- what chooses a rewrite, or bounds rewrites, is given
+abbrev pub choose : List Row → Bool
+choose rows = is_given (codes "seed") rows || is_given (codes "count") rows || is_given (codes "max-size") rows
+
+-- what chooses rules is given
+abbrev pub choose_rules : List Row → Bool
+choose_rules rows = is_given (codes "rule") rows || is_given (codes "not-rule") rows || is_set (codes "shrink") rows
+
+-- an option is given that the task ignores: one that chooses a rewrite where rewrites or blocks are listed, or rules where blocks are
+abbrev pub ignore : Flags → List Row → Bool
+ignore flags rows = ((flags.list || flags.blocks) && choose rows) || (flags.blocks && choose_rules rows)
 
 -- the text writes that number in decimal digits, or behind `0x` in hexadecimal ones
 pub data WritesSeed (text : Text) (n : ℕ) : Type 0 where
@@ -138,7 +172,9 @@ default_count shrink = if shrink then 18446744073709551615 else 1
 -- The options that the matches are.
 pub record AreOptions (rows : List Row) (options : Options) : Type 0 where
   pub apart : exclude (flags_of rows) ≡ false
+  pub heeded : ignore (flags_of rows) rows ≡ false
   pub tell : tell_nothing (flags_of rows) ≡ false
+  pub plain : have_plus rows ≡ false
   pub task : options.task ≡ task_of (flags_of rows)
   pub input : option_map string_bytes options.input ≡ file_of (first_of (codes "input") rows)
   pub output : option_map string_bytes options.output ≡ file_of (first_of (codes "output") rows)
@@ -147,7 +183,9 @@ pub record AreOptions (rows : List Row) (options : Options) : Type 0 where
   pub function : IsNumberOf (one_of (codes "function") rows) options.function
   pub rules : AreRules (all_of (codes "rule") rows) (all_of (codes "not-rule") rows) (is_set (codes "shrink") rows) options.rules.items
   pub max_size : IsNumberOr 18446744073709551615 (one_of (codes "max-size") rows) options.max_size
-  pub stats : options.stats ≡ (flags_of rows).stats
+  pub shrink : options.shrink ≡ is_set (codes "shrink") rows
+  pub stats : options.stats ≡ reports (flags_of rows)
+  pub reach : options.reach ≡ (flags_of rows).reach
   pub json : options.json ≡ (flags_of rows).json
   pub show : options.show ≡ (flags_of rows).show
   pub strip_debug : options.strip_debug ≡ (flags_of rows).strip_debug
@@ -155,7 +193,9 @@ pub record AreOptions (rows : List Row) (options : Options) : Type 0 where
 -- Why they are none.
 abbrev pub AreMisused : List Row → Misuse → Type 0
 AreMisused rows Conflict = exclude (flags_of rows) ≡ true
+AreMisused rows Ignored = ignore (flags_of rows) rows ≡ true
 AreMisused rows NothingToTell = tell_nothing (flags_of rows) ≡ true
+AreMisused rows Plus = have_plus rows ≡ true
 AreMisused rows NoSeed = IfSome (first_of (codes "seed") rows) (λ text. IsSeedOf text None)
 AreMisused rows NoCount = IsNumberOr (default_count (is_set (codes "shrink") rows)) (one_of (codes "count") rows) 0
 AreMisused rows UnknownRule = IfSome (all_of (codes "rule") rows) NamesNone
@@ -164,7 +204,9 @@ AreMisused rows Memory = Unit {0}
 -- how that is told
 abbrev pub kind_for : Misuse → ErrorKind
 kind_for Conflict = ArgumentConflict
+kind_for Ignored = ArgumentConflict
 kind_for NothingToTell = MissingRequiredArgument
+kind_for Plus = ValueValidation
 kind_for NoSeed = ValueValidation
 kind_for NoCount = ValueValidation
 kind_for UnknownRule = InvalidValue

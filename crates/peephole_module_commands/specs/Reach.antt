@@ -1,5 +1,5 @@
 -- How much of a module rules reach (this project).
-use Rattle.std.specs.Prelude.{◌≡◌, ◌⊎◌, ◌↔◌, ◌==◌, ◌&&◌, if◌then◌else◌, ℕ, zero, suc, ◌+◌, ◌-◌, ◌^◌, ◌<◌, ◌≤◌, min, Bool, true, false, List, length, All, Contains, Option, Some, None, is_some, slice_get}
+use Rattle.std.specs.Prelude.{◌≡◌, ◌⊎◌, ◌==◌, ◌&&◌, if◌then◌else◌, ℕ, zero, suc, ◌+◌, ◌-◌, ◌^◌, ◌<◌, ◌≤◌, min, Bool, true, false, List, length, Option, Some, None, is_some, slice_get}
 use Rattle.wasm_code.specs.declared.operator.Operator.{Operator}
 use Rattle.wasm_code.specs.declared.operator.Operator.TheVariants as op
 use Rattle.mutate_base.specs.Module.{Module}
@@ -10,8 +10,8 @@ use Rattle.peephole_machine.specs.IntegerRow.{bare_operator}
 use Rattle.peephole_machine.specs.Row.{instruction_byte}
 use Rattle.peephole_graphs.specs.Block.{HasNoDelimiter}
 use Rattle.peephole_rules.specs.declared.rule.Rule.{Rule}
-use Rattle.peephole_rewrites.specs.Choice.{AreThose, HasPlaceAt, numbers_below}
-use Rattle.peephole_rewrites.specs.declared.rewrite.Rewrite.{Rewrite}
+use Rattle.peephole_rewrites.specs.Choice.{AreThose, numbers_below}
+use Rattle.peephole_rewrites.specs.Reached.{IsReached}
 use Rattle.peephole_modules.specs.Attempt.{CanRead}
 use Rattle.peephole_modules.specs.Function.{IsFunction}
 use Rattle.peephole_module_commands.specs.Blocks.{IsBlock}
@@ -25,10 +25,6 @@ pub record Counts (P : ℕ → Type 0) (end count : ℕ) : Type 0 where
   pub those : List ℕ
   pub are : AreThose P (numbers_below end) those
   pub many : count ≡ length those
-
--- one of the rules makes something of the tree of the operator there
-abbrev pub IsReached : Context → List Rule → List (Operator × ℕ) → (at : ℕ) → Type 0
-IsReached context rules operators at = (rule : Rule) × Contains rules rule × HasPlaceAt context operators rule at
 
 -- a block ends with the operator there
 abbrev pub EndsBlock : List (Operator × ℕ) → (last : ℕ) → Type 0
@@ -173,20 +169,3 @@ pub record AreCountedAt (Reached : ℕ → Type 0) (operators : List (Operator �
 -- a reached operator stands before `end`, and no delimiter from it on
 abbrev pub HoldsReached : (Reached : ℕ → Type 0) → List (Operator × ℕ) → (end : ℕ) → Type 0
 HoldsReached Reached operators end = (at : ℕ) × (at < end) × HasNoDelimiter operators at end × Reached at
-
--- the operator there is marked
-abbrev pub IsMarked : (marks : List Bool) → (at : ℕ) → Type 0
-IsMarked marks at = slice_get marks at ≡ Some true
-
--- one of the rewrites is of the operator there
-abbrev pub IsOfOne : List Rewrite → (at : ℕ) → Type 0
-IsOfOne rewrites at = (rule : Rule) × Contains rewrites (record { operator = at; rule = rule })
-
--- Of so many operators just those of the rewrites are marked.
-pub record AreMarks (rewrites : List Rewrite) (size : ℕ) (marks : List Bool) : Type 0 where
-  pub count : length marks ≡ size
-  pub each : (at : ℕ) → IsMarked marks at ↔ IsOfOne rewrites at
-
--- each rewrite is of one of the first so many operators
-abbrev pub AreInside : List Rewrite → (size : ℕ) → Type 0
-AreInside rewrites size = All (λ r. r.operator < size) rewrites

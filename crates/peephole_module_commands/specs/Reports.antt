@@ -1,5 +1,5 @@
 -- What `--stats` reports (this project).
-use Rattle.std.specs.Prelude.{◌≡◌, ◌⊎◌, ℕ, zero, suc, ◌+◌, List, [], ◌∷◌, ◌++◌, length, Option}
+use Rattle.std.specs.Prelude.{◌≡◌, ◌⊎◌, ℕ, zero, suc, ◌+◌, nat_lt, if◌then◌else◌, Bool, true, false, List, [], ◌∷◌, ◌++◌, length, codes, Option, Some, None}
 use Rattle.std.specs.Io.KnownBytes.{Appends}
 use Rattle.mutate_base.specs.Module.{Module}
 use Rattle.wasm_module.specs.Module.{Layout, IsModule}
@@ -9,10 +9,11 @@ use Rattle.peephole_modules.specs.declared.mutation.MutationError.{MutationError
 use Rattle.peephole_modules.specs.declared.times.MadeRewrite.{MadeRewrite}
 use Rattle.peephole_module_commands.specs.Blocks.{TellsUnread}
 use Rattle.peephole_module_commands.specs.Form.{form_of}
-use Rattle.peephole_module_commands.specs.Lines.{functions_line, reach_lines, rewrite_line, sizes_line, stopped_part}
+use Rattle.peephole_module_commands.specs.Lines.{functions_line, reach_lines, rewrite_line, sizes_line, stopped_name, stopped_part}
 use Rattle.peephole_module_commands.specs.Reach.{IsReach}
 use Rattle.peephole_module_commands.specs.Shown.{IsShown}
 use Rattle.peephole_module_commands.specs.Writes.{WritesMutated}
+use Rattle.peephole_module_commands.specs.declared.ending.Ending.{Ending}
 use Rattle.peephole_module_commands.specs.declared.form.Form.{Form}
 use Rattle.peephole_module_commands.specs.declared.options.Options.{Options}
 use Rattle.peephole_module_commands.specs.declared.reach.Reach.{Reach}
@@ -38,16 +39,21 @@ pub record ReportsFunctions (form : Form) (bytes : List ℕ) (info : Module) (la
   pub told : TellsUnreadable form bytes info layout (length layout.entries) unreadable lines
   pub written : Appends old new (lines ++ functions_line form (length layout.entries) unreadable)
 
--- The same of the module with these bytes, and by the lines of how much of it the rules reach.
-pub record ReportsModule (form : Form) (rules : List Rule) (bytes : List ℕ) (old new : Option (List ℕ)) : Type 0 where
+-- The text tells how much of the module the rules reach, where that is asked for; else there is none.
+abbrev pub TellsReach : (asked : Bool) → Form → List Rule → (bytes : List ℕ) → Module → Layout → (text : List ℕ) → Type 0
+TellsReach false form rules bytes info layout text = text ≡ []
+TellsReach true form rules bytes info layout text = (reach : Reach) × IsReach rules bytes info layout reach × (text ≡ reach_lines form reach)
+
+-- A device has grown by the lines of the functions of the module with these bytes, and by such a text.
+pub record ReportsModule (options : Options) (bytes : List ℕ) (old new : Option (List ℕ)) : Type 0 where
   pub info : Module
   pub layout : Layout
   pub is : IsModule bytes info layout
   pub between : Option (List ℕ)
-  pub functions : ReportsFunctions form bytes info layout old between
-  pub reach : Reach
-  pub is_reach : IsReach rules bytes info layout reach
-  pub reaches : Appends between new (reach_lines form reach)
+  pub functions : ReportsFunctions (form_of options) bytes info layout old between
+  pub text : List ℕ
+  pub tells : TellsReach options.reach (form_of options) options.rules.items bytes info layout text
+  pub reaches : Appends between new text
 
 -- ---- rewrites
 
@@ -56,18 +62,23 @@ abbrev pub made_lines : Form → List MadeRewrite → List ℕ
 made_lines form [] = []
 made_lines form (m ∷ ms) = rewrite_line form m.function m.rewrite ++ made_lines form ms
 
--- the rewrites that were made, in order, why there are no more where one was refused, and the sizes of the module and of what is written
-abbrev pub rewrites_report : Form → (bytes : List ℕ) → List MadeRewrite → Option MutationError → (written : List ℕ) → List ℕ
-rewrites_report form bytes made stopped written =
-    (made_lines form made ++ stopped_part form stopped) ++ sizes_line form (length bytes) (length written)
+-- why there are no more rewrites than these, where there were to be so many: one was refused, or there are fewer, since no rule applies any more
+abbrev pub stop_name : (count : ℕ) → List MadeRewrite → Option MutationError → Option (List ℕ)
+stop_name count made (Some e) = Some (stopped_name e)
+stop_name count made None = if nat_lt (length made) count then Some (codes "NoRule") else None
+
+-- the rewrites that were made, in order, why there are no more where there were to be, and the sizes of the module and of what is written
+abbrev pub rewrites_report : Form → (count : ℕ) → (bytes : List ℕ) → List MadeRewrite → Option MutationError → (written : List ℕ) → List ℕ
+rewrites_report form count bytes made stopped written =
+    (made_lines form made ++ stopped_part form (stop_name count made stopped)) ++ sizes_line form (length bytes) (length written)
 
 -- The notes have grown by what is told of the module, by what is shown of the rewrites that were made where they are to be, and by what is told of them and
 -- of the module that was written.
-pub record ReportsMutated (options : Options) (bytes : List ℕ) (old new notes_old notes_new : Option (List ℕ)) : Type 0 where
-  pub writes : WritesMutated options bytes old new
+pub record ReportsMutated (options : Options) (bytes : List ℕ) (ending : Ending) (old new notes_old notes_new : Option (List ℕ)) : Type 0 where
+  pub writes : WritesMutated options bytes ending old new
   pub between : Option (List ℕ)
-  pub before : ReportsModule (form_of options) options.rules.items bytes notes_old between
+  pub before : ReportsModule options bytes notes_old between
   pub shown : List ℕ
   pub is_shown : IsShown options.show writes.made shown
   pub rewrites : Appends between notes_new
-      (shown ++ rewrites_report (form_of options) bytes writes.made writes.stopped writes.written_bytes)
+      (shown ++ rewrites_report (form_of options) options.count bytes writes.made writes.stopped writes.written_bytes)

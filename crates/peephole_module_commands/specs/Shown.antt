@@ -4,6 +4,7 @@ use Rattle.std.specs.Io.KnownBytes.{Appends}
 use Rattle.peephole_showing.specs.Shown.{first_line}
 use Rattle.peephole_modules.specs.declared.times.MadeRewrite.{MadeRewrite}
 use Rattle.peephole_module_commands.specs.Writes.{WritesMutated}
+use Rattle.peephole_module_commands.specs.declared.ending.Ending.{Ending}
 use Rattle.peephole_module_commands.specs.declared.options.Options.{Options}
 use Rattle.peephole_module_commands.specs.declared.showing.Shower.{Shower}
 
@@ -18,8 +19,8 @@ IsShown false made text = text ≡ []
 IsShown true made text = Shows made text
 
 -- The notes have grown by what is shown of the rewrites that were made of the module that was written.
-pub record ShowsMutated (options : Options) (bytes : List ℕ) (old new notes_old notes_new : Option (List ℕ)) : Type 0 where
-  pub writes : WritesMutated options bytes old new
+pub record ShowsMutated (options : Options) (bytes : List ℕ) (ending : Ending) (old new notes_old notes_new : Option (List ℕ)) : Type 0 where
+  pub writes : WritesMutated options bytes ending old new
   pub text : List ℕ
   pub is_shown : IsShown options.show writes.made text
   pub written : Appends notes_old notes_new text

@@ -31,13 +31,9 @@ fn seed_argument<'a>(alloc: Global) -> Arg<'a>
     ensures rule { rule_of result ≡ seed_rule }
     ensures local { result.global ≡ false }
 {
-    Arg::new(alloc, "seed")
-        .long("seed")
-        .value_name("N")
-        .default_value("0")
-        .help(
-            "The seed of the generator that draws the places and rules, also as 0x and hexadecimal digits",
-        )
+    Arg::new(alloc, "seed").long("seed").value_name("N").help(
+        "The seed of the generator that draws the places and rules, also as 0x and hexadecimal digits [default: 0]",
+    )
 }
 
 fn count_argument<'a>(alloc: Global) -> Arg<'a>
@@ -117,7 +113,11 @@ fn shrink_argument<'a>(alloc: Global) -> Arg<'a>
     ensures rule { rule_of result ≡ flag (codes "shrink") }
     ensures local { result.global ≡ false }
 {
-    flag_argument(alloc, "shrink", "Only the rules that make the code smaller")
+    flag_argument(
+        alloc,
+        "shrink",
+        "Only the rules that make the code smaller; the module is written as it is where none applies",
+    )
 }
 
 fn list_argument<'a>(alloc: Global) -> Arg<'a>
@@ -149,7 +149,18 @@ fn stats_argument<'a>(alloc: Global) -> Arg<'a>
     flag_argument(
         alloc,
         "stats",
-        "Reports functions, the reach of the rules, rewrites and sizes on standard error",
+        "Reports functions, rewrites and sizes on standard error, and why there are no more rewrites",
+    )
+}
+
+fn reach_argument<'a>(alloc: Global) -> Arg<'a>
+    ensures rule { rule_of result ≡ flag (codes "reach") }
+    ensures local { result.global ≡ false }
+{
+    flag_argument(
+        alloc,
+        "reach",
+        "The same, and how much of the module the rules reach, which takes as long as a list",
     )
 }
 
@@ -191,7 +202,7 @@ const AFTER_HELP: &str = "\
 Exit status:
   0   what was asked for is written
   1   the module is refused, or input, output or memory fails
-  2   no rule applies
+  2   no rule applies, or the module has no function of its own
   3   none of the functions can be read, or there is none with that index
   64  the options can't be read
 
@@ -221,6 +232,7 @@ pub fn command<'a>(alloc: Global, names: &'a [&'a str]) -> Result<Command<'a>, A
         .arg(list_argument(alloc))?
         .arg(blocks_argument(alloc))?
         .arg(stats_argument(alloc))?
+        .arg(reach_argument(alloc))?
         .arg(json_argument(alloc))?
         .arg(show_argument(alloc))?
         .arg(strip_argument(alloc))

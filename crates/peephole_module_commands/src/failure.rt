@@ -17,6 +17,10 @@ pub enum Failure {
     Input,
     /// The input is longer than `LIMIT`.
     TooLong,
+    /// The input is a component, and no core module.
+    Component,
+    /// The input is the text of a module or a component.
+    TextFormat,
     /// The output can't be written.
     Output,
     /// No memory is left.
@@ -28,14 +32,15 @@ fn status_for(reason: &Reason) -> u8
     ensures { result ≡ status_for reason.now }
 {
     match reason {
-        Reason::NoRule => 2,
-        Reason::Unreadable | Reason::NoFunction(_) | Reason::UnknownImport(_) => 3,
+        Reason::NoRule | Reason::NoOwnFunction => 2,
+        Reason::Unreadable(_) | Reason::NoFunction(_) | Reason::UnknownImport(_) => 3,
         Reason::Refused(_) => 1,
     }
 }
 
 impl Failure {
-    /// The exit status: 2 where no rule applies, 3 where none of the functions that are looked at can be read, or there is none, else 1.
+    /// The exit status: 2 where no rule applies, or the module has no function of its own; 3 where none of the functions that are
+    /// looked at can be read, or there is none with the index that is named; else 1.
     pub fn status(&self) -> u8
         ensures { result ≡ status_of self.now }
     {
@@ -52,6 +57,14 @@ impl fmt::Display for Failure {
             Failure::Nothing(reason) => write_reason(f, reason),
             Failure::Input => write!(f, "the input can't be read"),
             Failure::TooLong => write!(f, "the input has more than 1 GiB"),
+            Failure::Component => write!(
+                f,
+                "BadVersion at 0x4: it is a component, and no core module: take out the modules that it holds"
+            ),
+            Failure::TextFormat => write!(
+                f,
+                "BadMagic at 0x0: it is the text of a module: wat2wasm or wasm-tools parse writes its bytes"
+            ),
             Failure::Output => write!(f, "the output can't be written"),
             Failure::Memory => write!(f, "no memory is left"),
         }

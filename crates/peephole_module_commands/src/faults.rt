@@ -1,15 +1,15 @@
 //! Functions that can't be read.
-ghost use Rattle.std.specs.Prelude.{◌≡◌, ◌<◌, ℕ, List, length, slice_get, option_map, Some, IfOk, IfErr, OnOk};
+ghost use Rattle.std.specs.Prelude.{◌≡◌, ◌<◌, ℕ, List, length, slice_get, option_map, None, Some, IfOk, IfErr, OnOk};
 ghost use Rattle.std.specs.Io.KnownBytes.{Appends};
 ghost use Rattle.serde_json.specs.View.{view};
 ghost use Rattle.peephole_module_commands.specs.Blocks.{TellsFault};
 ghost use Rattle.peephole_module_commands.specs.Failures.{FailsToReport};
-ghost use Rattle.peephole_module_commands.specs.Lines.{entry_line, entry_object, fault_offset, fault_text, fault_words, function_line, function_object};
+ghost use Rattle.peephole_module_commands.specs.Lines.{entry_line, entry_object, fault_offset, fault_operator, fault_text, fault_words, function_line, function_object, words_of};
 
 use crate::failure::Failure;
 use crate::form::Form;
 use crate::objects::write_value;
-use peephole_modules::{FunctionError, index_of};
+use peephole_modules::{FunctionError, OperatorCode, index_of};
 use serde_json::{Value, json};
 use std::alloc::{AllocError, Global};
 use std::io::Write;
@@ -23,7 +23,7 @@ fn fault_name(error: &FunctionError) -> &'static str
         FunctionError::Unknown(e) => e.kind.name(),
         FunctionError::UnknownType => "UnknownType",
         FunctionError::Locals(e) => e.kind.name(),
-        FunctionError::Body(e) => e.name(),
+        FunctionError::Body(e) => e.fault.kind.name(),
     }
 }
 
@@ -35,8 +35,27 @@ fn fault_offset(error: &FunctionError, start: usize) -> usize
         FunctionError::Unknown(e) => e.offset,
         FunctionError::UnknownType => start,
         FunctionError::Locals(e) => e.offset,
-        FunctionError::Body(e) => e.offset,
+        FunctionError::Body(e) => e.fault.offset,
     }
+}
+
+// The code of an operator that isn't known, where that is the fault.
+fn fault_operator(error: &FunctionError) -> Option<OperatorCode>
+    ensures { result ≡ fault_operator error.now }
+{
+    match error {
+        FunctionError::Unknown(_) => None,
+        FunctionError::UnknownType => None,
+        FunctionError::Locals(_) => None,
+        FunctionError::Body(e) => e.operator,
+    }
+}
+
+// What is told of a fault: its name, and where it is.
+#[derive(Clone, Copy, Debug)]
+struct Told {
+    name: &'static str,
+    offset: usize,
 }
 
 // Where the n-th code entry starts.
@@ -47,7 +66,44 @@ fn entry_start(layout: &Layout, n: usize) -> usize
     layout.entries[n].start
 }
 
-// Writes the text under a word and a number.
+// Writes the text of a fault under a word and a number.
+fn write_fault_words<W: Write>(
+    output: &mut W,
+    word: &str,
+    number: usize,
+    told: Told,
+) -> Result<(), Failure>
+    ensures line { OnOk result (Appends (W.contents output.old) (W.contents output.new)
+        (words_of word.now number told.name.now told.offset None)) }
+    ensures fails { IfErr result FailsToReport }
+{
+    let (name, offset) = (told.name, told.offset);
+    writeln!(output, "{word}{number:<6} {name} at {offset}")?;
+    Ok(())
+}
+
+// The same of an operator that isn't known.
+fn write_operator_words<W: Write>(
+    output: &mut W,
+    word: &str,
+    number: usize,
+    told: Told,
+    code: OperatorCode,
+) -> Result<(), Failure>
+    ensures line { OnOk result (Appends (W.contents output.old) (W.contents output.new)
+        (words_of word.now number told.name.now told.offset (Some code))) }
+    ensures fails { IfErr result FailsToReport }
+{
+    let (name, offset) = (told.name, told.offset);
+    let family = code.family().name();
+    writeln!(
+        output,
+        "{word}{number:<6} {name} at {offset}: operator {code} ({family})"
+    )?;
+    Ok(())
+}
+
+// Writes the text of the error under a word and a number.
 fn write_words<W: Write>(
     output: &mut W,
     word: &str,
@@ -59,10 +115,14 @@ fn write_words<W: Write>(
         (fault_words word.now number start error.now)) }
     ensures fails { IfErr result FailsToReport }
 {
-    let name = fault_name(error);
-    let offset = fault_offset(error, start);
-    writeln!(output, "{word}{number:<6} {name} at {offset}")?;
-    Ok(())
+    let told = Told {
+        name: fault_name(error),
+        offset: fault_offset(error, start),
+    };
+    match fault_operator(error) {
+        None => write_fault_words(output, word, number, told),
+        Some(code) => write_operator_words(output, word, number, told, code),
+    }
 }
 
 // The object of the function with the index.
@@ -76,7 +136,20 @@ fn function_value(
 {
     let fault = fault_name(error);
     let offset = fault_offset(error, start);
-    json!(in alloc; {"fault": fault, "function": function, "offset": offset})
+    match fault_operator(error) {
+        None => json!(in alloc; {"fault": fault, "function": function, "offset": offset}),
+        Some(code) => {
+            let family = code.family().name();
+            let operator = format!(in alloc; "{code}")?;
+            json!(in alloc; {
+                "family": family,
+                "fault": fault,
+                "function": function,
+                "offset": offset,
+                "operator": operator
+            })
+        }
+    }
 }
 
 // The object of the code entry with the number.
@@ -90,7 +163,20 @@ fn entry_value(
 {
     let fault = fault_name(error);
     let offset = fault_offset(error, start);
-    json!(in alloc; {"entry": entry, "fault": fault, "offset": offset})
+    match fault_operator(error) {
+        None => json!(in alloc; {"entry": entry, "fault": fault, "offset": offset}),
+        Some(code) => {
+            let family = code.family().name();
+            let operator = format!(in alloc; "{code}")?;
+            json!(in alloc; {
+                "entry": entry,
+                "family": family,
+                "fault": fault,
+                "offset": offset,
+                "operator": operator
+            })
+        }
+    }
 }
 
 // Writes the line of the function with the index.
@@ -137,8 +223,8 @@ fn write_entry<W: Write>(
     }
 }
 
-/// Writes the line of the n-th of the module's own functions, which can't be read: the name of its first fault, and where that is in
-/// the module. Where an import isn't known, and so no function's index is, the line names the code entry.
+/// Writes the line of the n-th of the module's own functions, which can't be read: the name of its first fault, where that is in
+/// the module, and of an operator that isn't known its code and its family. Where an import isn't known, and so no function's index is, the line names the code entry.
 pub fn write_fault<W: Write>(
     alloc: Global,
     output: &mut W,

@@ -3,14 +3,17 @@
 
 mod arguments;
 mod blocks;
+mod ending;
 mod failure;
 mod faults;
 mod form;
+mod front;
 mod functions;
 mod input;
 mod listing;
 mod messages;
 mod mutating;
+mod nearest;
 mod objects;
 mod options;
 mod reach;
@@ -20,6 +23,7 @@ mod stats;
 mod unfit;
 mod words;
 
+pub use ending::Ending;
 pub use failure::Failure;
 pub use form::Form;
 pub use options::{Flags, Misuse, Options, Task};

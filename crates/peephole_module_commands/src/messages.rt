@@ -1,6 +1,6 @@
 //! What is told of a module's faults.
 
-use peephole_modules::{MutationError, Reason};
+use peephole_modules::{BodyError, FunctionError, MutationError, Reason};
 use std::fmt;
 use wasm_module::{ModuleError, ModuleFault};
 
@@ -34,12 +34,43 @@ fn write_fault<W: fmt::Write>(f: &mut fmt::Formatter<W>, error: &ModuleError) ->
     write!(f, "{name} at {offset:#x}: {told}")
 }
 
-/// Writes the reason, and of a fault of the module what is wrong.
+// Writes the fault of a body, where it is, and the operator that isn't known, with its family.
+fn write_body_fault<W: fmt::Write>(f: &mut fmt::Formatter<W>, error: &BodyError) -> fmt::Result {
+    let name = error.fault.kind.name();
+    let offset = error.fault.offset;
+    write!(f, "{name} at {offset:#x}")?;
+    match error.operator {
+        None => Ok(()),
+        Some(code) => {
+            let family = code.family().name();
+            write!(f, ": operator {code} ({family})")
+        }
+    }
+}
+
+// Writes why a function can't be read.
+fn write_function_fault<W: fmt::Write>(
+    f: &mut fmt::Formatter<W>,
+    error: &FunctionError,
+) -> fmt::Result {
+    match error {
+        FunctionError::Unknown(e) => write_fault(f, e),
+        FunctionError::UnknownType => write!(f, "UnknownType: the module has no type for it"),
+        FunctionError::Locals(e) => write_fault(f, e),
+        FunctionError::Body(e) => write_body_fault(f, e),
+    }
+}
+
+/// Writes the reason, and of a fault of the module or of a function what is wrong.
 pub fn write_reason<W: fmt::Write>(f: &mut fmt::Formatter<W>, reason: &Reason) -> fmt::Result {
     match reason {
         Reason::UnknownImport(e) => {
             write!(f, "an import isn't known, and so no function's index is: ")?;
             write_fault(f, e)
+        }
+        Reason::Unreadable(e) => {
+            write!(f, "no function can be read, the first one for ")?;
+            write_function_fault(f, e)
         }
         Reason::Refused(MutationError::Read(e)) => write_fault(f, e),
         _ => write!(f, "{reason}"),

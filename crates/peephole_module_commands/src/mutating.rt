@@ -1,6 +1,10 @@
 //! The module rewritten as the options say.
-ghost use Rattle.std.specs.Prelude.{◌≡◌, true, IfOk, IfErr};
-ghost use Rattle.peephole_module_commands.specs.Failures.{FailsToMake};
+ghost use Rattle.std.specs.Prelude.{◌≡◌, [], true, None, IfOk, IfErr};
+ghost use Rattle.peephole_modules.specs.Attempt.{IsForSize, IsReason};
+ghost use Rattle.peephole_modules.specs.Chosen.{GivesUp};
+ghost use Rattle.peephole_modules.specs.Seeded.{seeded};
+ghost use Rattle.peephole_module_commands.specs.Failures.{FailsToMake, leaves};
+ghost use Rattle.peephole_module_commands.specs.Scope.{scope_of};
 ghost use Rattle.peephole_module_commands.specs.Shown.{IsShown};
 ghost use Rattle.peephole_module_commands.specs.Writes.{IsOutcome, IsWrittenAs};
 ghost use Rattle.peephole_module_commands.specs.declared.failure.Failure.TheVariants.{Memory};
@@ -8,7 +12,7 @@ ghost use Rattle.peephole_module_commands.specs.declared.failure.Failure.TheVari
 use crate::failure::Failure;
 use crate::options::Options;
 use crate::showing::Shower;
-use peephole_modules::{RewrittenModule, Watch, rewrite_watched};
+use peephole_modules::{Reason, RewrittenModule, Watch, rewrite_watched};
 use std::alloc::Global;
 use wasm_sections::{read_sections, without_debug};
 
@@ -42,6 +46,33 @@ fn finished(alloc: Global, strip: bool, new: RewrittenModule) -> Result<Rewritte
     })
 }
 
+// The module with no rewrite made.
+fn unchanged(alloc: Global, bytes: &[u8]) -> Result<RewrittenModule, Failure>
+    ensures bytes { IfOk result (λ m. m.bytes.items ≡ bytes.now) }
+    ensures made { IfOk result (λ m. m.made.items ≡ []) }
+    ensures stopped { IfOk result (λ m. m.stopped ≡ None) }
+    ensures memory { IfErr result (λ e. e ≡ Memory) }
+{
+    let mut copy = Vec::new(alloc);
+    copy.extend_from_slice(bytes)?;
+    Ok(RewrittenModule {
+        bytes: copy,
+        made: Vec::new(alloc),
+        stopped: None,
+    })
+}
+
+// Whether the module is written as it is for that reason: no rule applies, where rules are to make code smaller alone.
+fn leaves(shrink: bool, reason: &Reason) -> bool
+    ensures { result ≡ leaves shrink reason.now }
+{
+    match reason {
+        Reason::NoRule => shrink,
+        Reason::NoOwnFunction => shrink,
+        _ => false,
+    }
+}
+
 /// A module that was rewritten, and what is shown of the rewrites.
 #[derive(Drop)]
 pub struct Outcome {
@@ -49,11 +80,36 @@ pub struct Outcome {
     pub shown: Vec<u8>,
 }
 
+// What is written where nothing of the module is rewritten, for that reason.
+#[tactic(auto, using(crate::proofs::OutcomeLemmas::left_outcome, crate::proofs::OutcomeLemmas::none_shown))]
+fn left(alloc: Global, bytes: &[u8], options: &Options, reason: Reason) -> Result<Outcome, Failure>
+    requires reason { IsReason (scope_of options.now) bytes.now reason }
+    requires for_size { IsForSize reason
+        → GivesUp (scope_of options.now) bytes.now (seeded options.now.seed) }
+    ensures outcome { IfOk result (λ o. IsOutcome options.now bytes.now o.module.made.items
+        o.module.stopped o.module.bytes.items) }
+    ensures shown { IfOk result (λ o.
+        IsShown options.now.show o.module.made.items o.shown.items) }
+    ensures fails { IfErr result (FailsToMake options.now bytes.now) }
+{
+    if !leaves(options.shrink, &reason) {
+        return Err(Failure::Nothing(reason));
+    }
+    let module = unchanged(alloc, bytes)?;
+    let module = finished(alloc, options.strip_debug, module)?;
+    Ok(Outcome {
+        module,
+        shown: Vec::new(alloc),
+    })
+}
+
 /// What is written of the module, rewritten as many times as the options say, by their rules, with a generator made from their seed:
-/// it is valid where it was, and does what it did. Where the options say so, its custom sections that name places in the code are
-/// dropped then. What is shown of the rewrites where the options ask for it; `watch` sees each of them, too.
+/// it is valid where it was, and does what it did. Where rules are to make it smaller alone, and none applies, it is the module as it
+/// is. Where the options say so, its custom sections that name places in the code are dropped then. What is shown of the rewrites
+/// where the options ask for it; `watch` sees each of them, too.
 ///
-/// `Nothing` as `rewrite_watched` refuses.
+/// `Nothing` as `rewrite_watched` refuses, but where the module is written as it is.
+#[tactic(auto, using(crate::proofs::OutcomeLemmas::rewritten_outcome, crate::proofs::OutcomeLemmas::reason_in, crate::proofs::OutcomeLemmas::gives_up_in))]
 pub fn rewritten<P: Watch + Drop>(
     alloc: Global,
     bytes: &[u8],
@@ -80,6 +136,6 @@ pub fn rewritten<P: Watch + Drop>(
             let module = finished(alloc, options.strip_debug, new)?;
             Ok(Outcome { module, shown })
         }
-        Err(reason) => Err(Failure::Nothing(reason)),
+        Err(reason) => left(alloc, bytes, options, reason),
     }
 }

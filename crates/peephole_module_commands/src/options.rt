@@ -36,8 +36,12 @@ pub struct Options {
     pub rules: Vec<Rule>,
     /// The most bytes that a rewritten module may have.
     pub max_size: usize,
+    /// Whether only rules that make code smaller rewrite, and a module where none applies is written as it is.
+    pub shrink: bool,
     /// Whether the functions, the rewrites and the sizes are reported.
     pub stats: bool,
+    /// Whether the report tells how much the rules reach.
+    pub reach: bool,
     /// Whether what is listed or reported is written as JSON.
     pub json: bool,
     /// Whether each rewrite that is made is shown.
@@ -76,8 +80,12 @@ impl Options {
 pub enum Misuse {
     /// Flags exclude each other.
     Conflict,
+    /// An option is given that the task ignores.
+    Ignored,
     /// JSON is asked for, and nothing that is written in it.
     NothingToTell,
+    /// A plus stands before a number.
+    Plus,
     /// The seed is no number.
     NoSeed,
     /// The count is 0.
@@ -116,6 +124,7 @@ pub struct Flags {
     pub list: bool,
     pub blocks: bool,
     pub stats: bool,
+    pub reach: bool,
     pub json: bool,
     pub show: bool,
     pub strip_debug: bool,

@@ -1,10 +1,11 @@
 //! How much of a module rules reach.
-ghost use Rattle.std.specs.Prelude.{◌≡◌, ◌↔◌, ◌+◌, ◌<◌, true, false, length, replicate, slice_get, is_some, IfOk, IfErr, IsTrue};
+ghost use Rattle.std.specs.Prelude.{◌≡◌, ◌↔◌, ◌+◌, ◌<◌, length, slice_get, is_some, IfOk, IfErr, IsTrue};
 ghost use Rattle.mutate_base.specs.declared.types.PrimitiveTypeInfo.{PrimitiveTypeInfo};
 ghost use Rattle.peephole_machine.specs.IntegerRow.{bare_operator};
 ghost use Rattle.peephole_machine.specs.Row.{instruction_byte};
 ghost use Rattle.peephole_machine.specs.Values.{context_in};
-ghost use Rattle.peephole_module_commands.specs.Reach.{AreCounted, AreCountedAt, AreInside, AreMarks, AreOfBody, AreOfEntry, EndsBlock, HoldsReached, IsMarked, IsReach, Told};
+ghost use Rattle.peephole_rewrites.specs.Reached.{IsMarked};
+ghost use Rattle.peephole_module_commands.specs.Reach.{AreCounted, AreCountedAt, AreOfBody, AreOfEntry, EndsBlock, HoldsReached, IsReach, Told};
 ghost use Rattle.peephole_module_commands.specs.Reach.{is_integer, is_integer_byte, is_integer_of, is_integer_opcode, nothing, number_of, part_in_64_bits, part_of, part_sum, reach_in_64_bits, sum_of};
 ghost use Rattle.peephole_module_commands.specs.declared.failure.Failure.TheVariants.{Memory};
 ghost use Rattle.wasm_module.specs.Module.{IsModule};
@@ -14,9 +15,9 @@ use crate::failure::Failure;
 use mutate_base::{ModuleInfo, PrimitiveTypeInfo};
 use peephole_machine::{Operation, opcode_byte};
 use peephole_modules::read_function;
-use peephole_rewrites::{Rewrite, rewrites_of_body};
+use peephole_rewrites::reached_operators;
 use peephole_rules::Rule;
-use std::alloc::{AllocError, Global};
+use std::alloc::Global;
 use wasm_code::{Instr, Operator, OperatorAndByteOffset};
 use wasm_module::Layout;
 
@@ -202,34 +203,6 @@ fn reach_of_marked(operators: &[OperatorAndByteOffset], marks: &[bool]) -> Reach
     reach
 }
 
-// So many marks, none of which is set.
-fn no_marks(alloc: Global, count: usize) -> Result<Vec<bool>, AllocError>
-    ensures { IfOk result (λ marks. marks.items ≡ replicate count false) }
-{
-    vec![in alloc; false; count]
-}
-
-// Marks the operators of the rewrites.
-fn mark(marks: &mut [bool], rewrites: &[Rewrite])
-    requires none { marks.old ≡ replicate (length marks.old) false }
-    requires inside { AreInside rewrites.now (length marks.old) }
-    ensures { AreMarks rewrites.now (length marks.old) marks.new }
-{
-    for rewrite in rewrites {
-        marks[rewrite.operator] = true;
-    }
-}
-
-// Marks for so many operators: those of the rewrites are set.
-fn marks_of(alloc: Global, count: usize, rewrites: &[Rewrite]) -> Result<Vec<bool>, AllocError>
-    requires { AreInside rewrites.now count }
-    ensures { IfOk result (λ marks. AreMarks rewrites.now count marks.items) }
-{
-    let mut marks = no_marks(alloc, count)?;
-    mark(&mut marks, rewrites);
-    Ok(marks)
-}
-
 // How much of a body the rules reach.
 fn reach_of_body(
     alloc: Global,
@@ -242,10 +215,9 @@ fn reach_of_body(
         rules.now operators.now)) }
     ensures fails { IfErr result (λ e. e ≡ Memory) }
 {
-    let Ok(rewrites) = rewrites_of_body(alloc, locals, info, rules, operators) else {
+    let Ok(marks) = reached_operators(alloc, locals, info, rules, operators) else {
         return Err(Failure::Memory);
     };
-    let marks = marks_of(alloc, operators.len(), &rewrites)?;
     Ok(reach_of_marked(operators, &marks))
 }
 
@@ -280,7 +252,7 @@ fn reach_of_function(
 /// read, how many there are, and how many have a tree of which one of the rules makes something, or hold an operator that has. A
 /// function that can't be read counts nothing. A number that 64 bits don't hold is the greatest that they hold.
 ///
-/// It takes time linear in the module, but as `rewrites_of_body` says. The only error is `Memory`: an allocation was refused.
+/// It takes time linear in the module, but as `reached_operators` says. The only error is `Memory`: an allocation was refused.
 pub fn reach_of(
     alloc: Global,
     bytes: &[u8],

@@ -1,10 +1,10 @@
 //! What a run reports of a module and its rewrites.
-ghost use Rattle.std.specs.Prelude.{◌≡◌, ◌<◌, ◌≤◌, ℕ, List, length, IfOk, IfErr, OnOk};
+ghost use Rattle.std.specs.Prelude.{◌≡◌, ◌<◌, ◌≤◌, ℕ, List, length, option_map, IfOk, IfErr, OnOk};
 ghost use Rattle.std.specs.Io.KnownBytes.{Appends};
 ghost use Rattle.serde_json.specs.View.{view};
 ghost use Rattle.peephole_module_commands.specs.Failures.{FailsToReport};
 ghost use Rattle.peephole_module_commands.specs.Lines.{functions_line, functions_object, functions_text, part_line, part_object, part_text, reach_lines, sizes_line, sizes_object, sizes_text, stopped_line, stopped_name, stopped_object, stopped_part, stopped_text};
-ghost use Rattle.peephole_module_commands.specs.Reports.{ReportsFunctions, TellsIfUnread, made_lines, rewrites_report};
+ghost use Rattle.peephole_module_commands.specs.Reports.{ReportsFunctions, TellsIfUnread, made_lines, rewrites_report, stop_name};
 ghost use Rattle.peephole_module_commands.specs.declared.failure.Failure.TheVariants.{Memory};
 ghost use Rattle.wasm_module.specs.Module.{IsModule};
 
@@ -204,64 +204,75 @@ fn stopped_name(error: &MutationError) -> &'static str
         MutationError::Read(e) => e.kind.name(),
         MutationError::Rewrite(e) => e.name(),
         MutationError::Write(WriteError::TooLarge) => "TooLarge",
+        MutationError::Write(WriteError::EmptyType) => "EmptyType",
         MutationError::Write(WriteError::Memory) => "Memory",
         MutationError::TooLong => "TooLong",
     }
 }
 
-// Writes the text of a refusal.
-fn write_refusal<W: Write>(notes: &mut W, error: &MutationError) -> Result<(), Failure>
+// Why there are no more rewrites, where there were to be so many.
+fn stop_name(new: &RewrittenModule, count: usize) -> Option<&'static str>
+    ensures { option_map (λ name. name.now) result
+        ≡ stop_name count new.now.made.items new.now.stopped }
+{
+    match &new.stopped {
+        Some(error) => Some(stopped_name(error)),
+        None => {
+            if new.made.len() < count {
+                Some("NoRule")
+            } else {
+                None
+            }
+        }
+    }
+}
+
+// Writes the text of why there are no more.
+fn write_stop_text<W: Write>(notes: &mut W, name: &str) -> Result<(), Failure>
     ensures line { OnOk result (Appends (W.contents notes.old) (W.contents notes.new)
-        (stopped_text error.now)) }
+        (stopped_text name.now)) }
     ensures fails { IfErr result FailsToReport }
 {
-    let name = stopped_name(error);
     writeln!(notes, "stopped {name}")?;
     Ok(())
 }
 
-// The object of a refusal.
-fn refusal_value(alloc: Global, error: &MutationError) -> Result<Value, AllocError>
-    ensures { IfOk result (λ v. view v ≡ stopped_object error.now) }
+// The object of why there are no more.
+fn stop_value(alloc: Global, name: &str) -> Result<Value, AllocError>
+    ensures { IfOk result (λ v. view v ≡ stopped_object name.now) }
 {
-    let stopped = stopped_name(error);
-    json!(in alloc; {"stopped": stopped})
+    json!(in alloc; {"stopped": name})
 }
 
-// Writes the line of a refusal.
-fn write_stop<W: Write>(
-    alloc: Global,
-    notes: &mut W,
-    form: Form,
-    error: &MutationError,
-) -> Result<(), Failure>
+// Writes the line of why there are no more.
+fn write_stop<W: Write>(alloc: Global, notes: &mut W, form: Form, name: &str) -> Result<(), Failure>
     ensures line { OnOk result (Appends (W.contents notes.old) (W.contents notes.new)
-        (stopped_line form error.now)) }
+        (stopped_line form name.now)) }
     ensures fails { IfErr result FailsToReport }
 {
     match form {
-        Form::Text => write_refusal(notes, error),
+        Form::Text => write_stop_text(notes, name),
         Form::Json => {
-            let value = refusal_value(alloc, error)?;
+            let value = stop_value(alloc, name)?;
             write_value(alloc, notes, &value)
         }
     }
 }
 
-// The same, where a further rewrite was refused.
+// The same, where there is something to tell.
 fn write_stopped<W: Write>(
     alloc: Global,
     notes: &mut W,
     form: Form,
-    stopped: &Option<MutationError>,
+    name: Option<&str>,
 ) -> Result<(), Failure>
     ensures text { OnOk result (Appends (W.contents notes.old) (W.contents notes.new)
-        (stopped_part form stopped.now)) }
+        (stopped_part form (option_map (λ n. n.now) name.entry))) }
     ensures fails { IfErr result FailsToReport }
 {
-    match stopped {
+    match name {
         None => Ok(()),
-        Some(error) => write_stop(alloc, notes, form, error),
+        Some(name) => write_stop(alloc, notes, form, name),
     }
 }
 
@@ -309,33 +320,35 @@ fn report_rewrites<W: Write>(
     bytes: &[u8],
     new: &RewrittenModule,
     form: Form,
+    count: usize,
     notes: &mut W,
 ) -> Result<(), Failure>
     ensures reports { OnOk result (Appends (W.contents notes.old) (W.contents notes.new)
-        (rewrites_report form bytes.now new.now.made.items new.now.stopped
+        (rewrites_report form count bytes.now new.now.made.items new.now.stopped
         new.now.bytes.items)) }
     ensures fails { IfErr result FailsToReport }
 {
     write_made(alloc, notes, form, &new.made)?;
-    write_stopped(alloc, notes, form, &new.stopped)?;
+    write_stopped(alloc, notes, form, stop_name(new, count))?;
     write_sizes(alloc, notes, form, bytes.len(), new.bytes.len())
 }
 
-/// What is reported of a module that was rewritten: each rewrite that was made, in order, why there are no more where one was
-/// refused, and the bytes of the module and of what is written. Fails with `Memory` where no memory is left: nothing else keeps a
+/// What is reported of a module that was rewritten: each rewrite that was made, in order, why there are no more where there were to
+/// be so many, and the bytes of the module and of what is written. Fails with `Memory` where no memory is left: nothing else keeps a
 /// `Vec` from being written.
 pub fn rewrites_report(
     alloc: Global,
     bytes: &[u8],
     new: &RewrittenModule,
     form: Form,
+    count: usize,
 ) -> Result<Vec<u8>, Failure>
-    ensures report { IfOk result (λ report. report.items ≡ rewrites_report form bytes.now
+    ensures report { IfOk result (λ report. report.items ≡ rewrites_report form count bytes.now
         new.now.made.items new.now.stopped new.now.bytes.items) }
     ensures memory { IfErr result (λ e. e ≡ Memory) }
 {
     let mut report: Vec<u8> = Vec::new(alloc);
-    match report_rewrites(alloc, bytes, new, form, &mut report) {
+    match report_rewrites(alloc, bytes, new, form, count, &mut report) {
         Ok(()) => Ok(report),
         Err(_) => Err(Failure::Memory),
     }

@@ -6,12 +6,14 @@ ghost use Rattle.clap.specs.Values.{kind_of};
 ghost use Rattle.clap.specs.Walk.{all_of, one_of, rows_of, texts};
 ghost use Rattle.peephole_rules.specs.Rule.{rule_name};
 ghost use Rattle.peephole_module_commands.specs.Arguments.{command_line};
-ghost use Rattle.peephole_module_commands.specs.Options.{AreMisused, AreOptions, AreNamed, AreRefused, AreRules, IsNumberOf, IsNumberOr, IsSeed, IsSeedOf, NamesNone, SayOptions, default_count, exclude, file_of, first_of, flags_of, is_named, is_set, is_shrinking, is_wanted, kind_for, task_of, tell_nothing};
+ghost use Rattle.peephole_module_commands.specs.Options.{AreMisused, AreOptions, AreNamed, AreRefused, AreRules, IsNumberOf, IsNumberOr, IsSeed, IsSeedOf, NamesNone, SayOptions, choose, choose_rules, default_count, exclude, file_of, first_of, flags_of, has_plus, have_plus, ignore, is_given, is_named, is_set, is_shrinking, is_wanted, kind_for, reports, task_of, tell_nothing};
 
 use crate::arguments::command;
+use crate::front::begins_with;
+use crate::nearest::{sentence_on, unknown_name};
 use crate::options::{Flags, Misuse, Options, Task};
 use clap::error::ErrorKind;
-use clap::{ArgMatches, Error};
+use clap::{ArgMatches, Command, Error};
 use peephole_rules::{Growth, RULES, Rule};
 use std::alloc::{AllocError, Global};
 use std::convert::AsStr;
@@ -39,6 +41,7 @@ fn flags_of(matches: &ArgMatches<'_>) -> Flags
         list: is_set(matches, "list"),
         blocks: is_set(matches, "blocks"),
         stats: is_set(matches, "stats"),
+        reach: is_set(matches, "reach"),
         json: is_set(matches, "json"),
         show: is_set(matches, "show"),
         strip_debug: is_set(matches, "strip-debug"),
@@ -62,7 +65,7 @@ fn exclude(flags: Flags) -> bool
     ensures { result ≡ exclude flags }
 {
     let other = flags.list || flags.blocks;
-    let of_module = flags.stats || flags.show || flags.strip_debug;
+    let of_module = flags.stats || flags.reach || flags.show || flags.strip_debug;
     (flags.list && flags.blocks) || (of_module && other)
 }
 
@@ -70,8 +73,15 @@ fn exclude(flags: Flags) -> bool
 fn tell_nothing(flags: Flags) -> bool
     ensures { result ≡ tell_nothing flags }
 {
-    let told = flags.list || flags.blocks || flags.stats;
+    let told = flags.list || flags.blocks || flags.stats || flags.reach;
     flags.json && !told
+}
+
+// Whether a report is asked for.
+fn reports(flags: Flags) -> bool
+    ensures { result ≡ reports flags }
+{
+    flags.stats || flags.reach
 }
 
 // The text that an option has.
@@ -80,6 +90,65 @@ fn text_of<'a>(matches: &ArgMatches<'a>, name: &str) -> Option<&'a str>
         ≡ first_of name.now (rows_of (found_of matches.now)) }
 {
     matches.get_str(name)
+}
+
+// Whether the option is given.
+fn is_given(matches: &ArgMatches<'_>, name: &str) -> bool
+    ensures { result ≡ is_given name.now (rows_of (found_of matches.now)) }
+{
+    text_of(matches, name).is_some()
+}
+
+// Whether what chooses a rewrite, or bounds rewrites, is given.
+fn choose(matches: &ArgMatches<'_>) -> bool
+    ensures { result ≡ choose (rows_of (found_of matches.now)) }
+{
+    let seed = is_given(matches, "seed");
+    let count = is_given(matches, "count");
+    let size = is_given(matches, "max-size");
+    seed || count || size
+}
+
+// Whether what chooses rules is given.
+fn choose_rules(matches: &ArgMatches<'_>) -> bool
+    ensures { result ≡ choose_rules (rows_of (found_of matches.now)) }
+{
+    let rule = is_given(matches, "rule");
+    let other = is_given(matches, "not-rule");
+    let shrink = is_set(matches, "shrink");
+    rule || other || shrink
+}
+
+// Whether an option is given that the task ignores.
+fn ignore(flags: Flags, matches: &ArgMatches<'_>) -> bool
+    ensures { result ≡ ignore flags (rows_of (found_of matches.now)) }
+{
+    let chooses = choose(matches);
+    let chooses_rules = choose_rules(matches);
+    ((flags.list || flags.blocks) && chooses) || (flags.blocks && chooses_rules)
+}
+
+// Whether a plus stands before the number of the option, also behind `0x`.
+fn has_plus(matches: &ArgMatches<'_>, name: &str) -> bool
+    ensures { result ≡ has_plus (first_of name.now (rows_of (found_of matches.now))) }
+{
+    let Some(text) = text_of(matches, name) else {
+        return false;
+    };
+    let first = begins_with(text.as_bytes(), b"+");
+    let behind = begins_with(text.as_bytes(), b"0x+");
+    first || behind
+}
+
+// Whether a plus stands before a number that is given.
+fn have_plus(matches: &ArgMatches<'_>) -> bool
+    ensures { result ≡ have_plus (rows_of (found_of matches.now)) }
+{
+    let seed = has_plus(matches, "seed");
+    let count = has_plus(matches, "count");
+    let function = has_plus(matches, "function");
+    let size = has_plus(matches, "max-size");
+    seed || count || function || size
 }
 
 // The number that a text writes, in decimal digits, or behind `0x` in hexadecimal ones.
@@ -262,8 +331,14 @@ pub fn options_from(alloc: Global, matches: &ArgMatches<'_>) -> Result<Options, 
     if exclude(flags) {
         return Err(Misuse::Conflict);
     }
+    if ignore(flags, matches) {
+        return Err(Misuse::Ignored);
+    }
     if tell_nothing(flags) {
         return Err(Misuse::NothingToTell);
+    }
+    if have_plus(matches) {
+        return Err(Misuse::Plus);
     }
     let count = count_of(matches);
     if count == 0 {
@@ -278,7 +353,9 @@ pub fn options_from(alloc: Global, matches: &ArgMatches<'_>) -> Result<Options, 
         function: size_of(matches, "function"),
         rules: wanted_rules(alloc, matches)?,
         max_size: size_of(matches, "max-size").unwrap_or(usize::MAX),
-        stats: flags.stats,
+        shrink: is_set(matches, "shrink"),
+        stats: reports(flags),
+        reach: flags.reach,
         json: flags.json,
         show: flags.show,
         strip_debug: flags.strip_debug,
@@ -291,7 +368,9 @@ fn kind_for(misuse: Misuse) -> ErrorKind
 {
     match misuse {
         Misuse::Conflict => ErrorKind::ArgumentConflict,
+        Misuse::Ignored => ErrorKind::ArgumentConflict,
         Misuse::NothingToTell => ErrorKind::MissingRequiredArgument,
+        Misuse::Plus => ErrorKind::ValueValidation,
         Misuse::NoSeed => ErrorKind::ValueValidation,
         Misuse::NoCount => ErrorKind::ValueValidation,
         Misuse::UnknownRule => ErrorKind::InvalidValue,
@@ -303,9 +382,13 @@ fn kind_for(misuse: Misuse) -> ErrorKind
 fn text_for(misuse: Misuse) -> &'static str {
     match misuse {
         Misuse::Conflict => {
-            "--list and --blocks exclude each other, and with them --stats, --show and --strip-debug"
+            "--list and --blocks exclude each other, and with them --stats, --reach, --show and --strip-debug"
         }
-        Misuse::NothingToTell => "--json goes with --list, --blocks or --stats",
+        Misuse::Ignored => {
+            "--list and --blocks ignore --seed, --count and --max-size, and --blocks --rule, --not-rule and --shrink: leave them out"
+        }
+        Misuse::NothingToTell => "--json goes with --list, --blocks, --stats or --reach",
+        Misuse::Plus => "a plus stands before a number: leave it out",
         Misuse::NoSeed =>
             "--seed is no number below 2^64 in decimal digits, or behind 0x in hexadecimal ones",
         Misuse::NoCount => "--count is 0",
@@ -314,11 +397,33 @@ fn text_for(misuse: Misuse) -> &'static str {
     }
 }
 
+// An error of clap, told anew where a name is no rule's.
+fn told_anew<S: AsStr>(
+    alloc: Global,
+    command: &mut Command<'_>,
+    names: &[&str],
+    words: &[S],
+    error: Error,
+) -> Result<Error, AllocError>
+    ensures { IfOk result (λ e. kind_of e ≡ kind_of error) }
+{
+    if error.kind() != ErrorKind::InvalidValue {
+        return Ok(error);
+    }
+    match unknown_name(names, words) {
+        None => Ok(error),
+        Some(name) => {
+            let text = sentence_on(alloc, names, name)?;
+            command.error(ErrorKind::InvalidValue, &text)
+        }
+    }
+}
+
 /// The options that the words of the command line say, the program's own name first. `names` are those of the rules.
 ///
-/// An error where they say none, with clap's text: an unknown rule is told with the names of all rules; and for `--help` and
-/// `--version`, with what is to be printed. A count of 0 is an error too, and so are flags that exclude each other, and
-/// `--json` where nothing is written in it.
+/// An error where they say none, with clap's text: an unknown rule is told with the nearest three names; and for `--help` and
+/// `--version`, with what is to be printed. A count of 0 is an error too, and so are flags that exclude each other, options that
+/// the task ignores, a plus before a number, and `--json` where nothing is written in it.
 pub fn options_of<'a, S: AsStr>(
     alloc: Global,
     names: &'a [&'a str],
@@ -332,7 +437,7 @@ pub fn options_of<'a, S: AsStr>(
     let mut command = command(alloc, names)?;
     let matches = match command.try_get_matches_from_mut(words) {
         Ok(matches) => matches,
-        Err(error) => return Err(error),
+        Err(error) => return Err(told_anew(alloc, &mut command, names, words, error)?),
     };
     match options_from(alloc, &matches) {
         Ok(options) => Ok(options),

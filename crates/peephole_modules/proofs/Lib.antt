@@ -7,3 +7,4 @@ pub mod DoesAsBeforeLemmas
 pub mod MutatesLemmas
 pub mod EntryWordsLemmas
 pub mod AttemptLemmas
+pub mod OperatorCodeLemmas

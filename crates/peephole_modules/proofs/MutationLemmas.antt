@@ -1,9 +1,9 @@
 -- One code entry of a module rewritten.
 use Rattle.std.proofs.Common.{◌≡◌, ℕ, ◌-◌, ◌≤◌, inl, List, [], ◌∷◌, ◌++◌, length, drop, map, Option, Some, None, Result, Ok, Err, sym, ap, subst, ◌∙◌, arith, refl}
 use Rattle.std.specs.Prelude.{◌≢◌, IfOk, IfErr, IfNone, IfSome, option_map, slice_get, slice_range}
-use Rattle.std.specs.List.{All}
+use Rattle.std.specs.List.{All, Contains}
 use Rattle.std.proofs.lemmas.List.{length-append, length-take, length-drop}
-use Rattle.std.proofs.lemmas.List.Elements.{All-nil, All-cons}
+use Rattle.std.proofs.lemmas.List.Elements.{All-nil, All-cons, All-contains}
 use Rattle.std.proofs.lemmas.Option.{same_Some}
 use Rattle.wasm_code.specs.Body.{SpellsBody}
 use Rattle.wasm_code.specs.declared.operator.Operator.{Operator}
@@ -17,8 +17,8 @@ use Rattle.wasm_module.specs.Reread.{IsReread}
 use Rattle.wasm_module.specs.Inside.{IsInside}
 use Rattle.wasm_module.specs.Limits.{IsTooLarge}
 use Rattle.wasm_module.specs.Rewritten.{IsRewritten}
-use Rattle.wasm_sections.specs.declared.writing.WriteError.{WriteError}
-use Rattle.wasm_sections.specs.declared.writing.WriteError.TheVariants.{TooLarge, Memory}
+use Rattle.wasm_module.specs.declared.refusal.WriteError.{WriteError}
+use Rattle.wasm_module.specs.declared.refusal.WriteError.TheVariants.{TooLarge, EmptyType, Memory}
 use Rattle.peephole_machine.specs.Values.{context_in}
 use Rattle.peephole_terms.specs.declared.encoder.request.ResourceRequest.{ResourceRequest}
 use Rattle.peephole_terms.specs.Expansion.{Setting, after_term, requests_of, request}
@@ -177,6 +177,11 @@ pub requested_are : {locals : Types} {s : Setting} {input : List ℕ} {operators
     map requested requests ≡ map primitive_of (requests_of w.term)
 requested_are w = ap (map requested) w.asks ∙ asked_types (requests_of w.term)
 
+all_requested : {locals : Types} {s : Setting} {input : List ℕ} {operators : Operators} {r : Rewrite} {old new : List ℕ}
+    {requests : List ResourceRequest} {left : Option Setting} (w : AppendsRewritten locals s input operators r old new requests left) →
+    All (λ (t : PrimitiveTypeInfo). t ≢ Empty) (map requested requests)
+all_requested w = subst (All (λ (t : PrimitiveTypeInfo). t ≢ Empty)) (sym (requested_are w)) (all_types (requests_of w.term))
+
 pub mutates : RewrittenBytesAreAModule → (rules : List Rule) (bytes : List ℕ) (info : Module) (layout : Layout) (n : ℕ) (locals lent : Types) (expression : ℕ)
     (operators given : Operators) (entry : Entry) (rewrite : Rewrite) (old body : List ℕ) (requests : List ResourceRequest)
     (left : Option Setting) (front written : List ℕ) (globals : Types) (new : List ℕ) → IsModule bytes info layout →
@@ -198,8 +203,6 @@ mutates law rules bytes info layout n locals lent expression operators given ent
     (subst (λ (b : List ℕ). IsRewritten bytes layout n (slice_range bytes f.entry.contents expression ++ b) globals new) written_is
     (subst (λ (a : List ℕ). IsRewritten bytes layout n (a ++ written) globals new) start rewritten)) in
     let w = appends.2.1 in
-    let all : All (λ (t : PrimitiveTypeInfo). t ≢ Empty) (map requested requests) =
-    subst (All (λ (t : PrimitiveTypeInfo). t ≢ Empty)) (sym (requested_are w)) (all_types (requests_of w.term)) in
     let spells : SpellsBody 0 body w.written.reads.again =
     subst (λ (b : List ℕ). SpellsBody 0 b w.written.reads.again) (sym w.written.appended) w.written.reads.spells in
     record {
@@ -214,7 +217,7 @@ mutates law rules bytes info layout n locals lent expression operators given ent
       written = is;
       again = read_again f body w.written.reads.again (map requested requests) new spells
           (law bytes info layout n (slice_range bytes f.entry.contents expression ++ body) (map requested requests) new known is
-          f.is.indices.imports f.is.indices.globals all);
+          f.is.indices.imports f.is.indices.globals (all_requested w));
     }
 
 -- ---- the words that write it
@@ -284,17 +287,28 @@ is_written (Some s) now under rules bytes info layout n rewrite contents more P 
   holds = holds;
 }
 
+-- no global that is asked for has the type `Empty`
+asks_for_none : {rules : List Rule} {bytes : List ℕ} {layout : Layout} {s : Setting} {n : ℕ} {rewrite : Rewrite} {contents : List ℕ} {more : Types}
+    {after : Setting} → WritesAt rules bytes layout s n rewrite contents more after → Contains more Empty → ⊥
+asks_for_none {more = more} w has =
+    let all : All (λ (t : PrimitiveTypeInfo). t ≢ Empty) more =
+    subst (All (λ (t : PrimitiveTypeInfo). t ≢ Empty)) (sym w.more_are) (all_requested w.writes.1) in
+    All-contains (λ (t : PrimitiveTypeInfo). t ≢ Empty) more Empty all has refl
+
 -- the same where 32 bits don't hold it
 pub refuses_writing : (scope : Scope) (bytes : List ℕ) (info : Module) (layout : Layout) (n : ℕ) (contents : List ℕ) (more : Types) (e : WriteError) →
     ((P : List ℕ → Types → Type 0) → P contents more → IsWritten scope.rules bytes info layout n P) →
-    (e ≡ TooLarge → IsTooLarge bytes layout n contents more) → RefusesEntry scope bytes info layout n (Write e)
-refuses_writing scope bytes info layout n contents more Memory written large = tt
-refuses_writing scope bytes info layout n contents more TooLarge written large = written (IsTooLarge bytes layout n) (large refl)
+    (e ≡ TooLarge → IsTooLarge bytes layout n contents more) → (e ≡ EmptyType → Contains more Empty) → RefusesEntry scope bytes info layout n (Write e)
+refuses_writing scope bytes info layout n contents more Memory written large empty = tt
+refuses_writing scope bytes info layout n contents more EmptyType written large empty =
+    let w = written (λ (front : List ℕ) (types : Types). Contains types Empty) (empty refl) in asks_for_none w.writes w.holds
+refuses_writing scope bytes info layout n contents more TooLarge written large empty = written (IsTooLarge bytes layout n) (large refl)
 
 -- that attempt is in vain
 pub tried_writing : (scope : Scope) (bytes : List ℕ) (layout : Layout) (n : ℕ) (o now : Option Setting) (rewrite : Rewrite) (contents : List ℕ)
     (more : Types) (e : WriteError) → Leads o now (λ s t. WritesAt scope.rules bytes layout s n rewrite contents more t) →
     (e ≡ TooLarge → IsTooLarge bytes layout n contents more) → IsOfSize (Write e) → Leads o now (λ s t. TriesInVain scope bytes layout s n t)
 tried_writing scope bytes layout n o now rewrite contents more Memory h large vain = absurd vain
+tried_writing scope bytes layout n o now rewrite contents more EmptyType h large vain = absurd vain
 tried_writing scope bytes layout n o now rewrite contents more TooLarge h large vain =
     leads_large scope bytes layout o now n rewrite contents more h (inl (large refl))

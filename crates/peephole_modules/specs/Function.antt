@@ -3,6 +3,7 @@
 use Rattle.std.specs.Prelude.{◌≡◌, ℕ, ◌+◌, List, Option, Some, None, slice_get, slice_range}
 use Rattle.wasm_code.specs.Body.{SpellsBody, IsFault}
 use Rattle.wasm_code.specs.declared.operator.Operator.{Operator}
+use Rattle.wasm_code.specs.declared.fault.ReadError.{ReadError}
 use Rattle.wasm_code.specs.declared.fault.ReadKind.{ReadKind}
 use Rattle.wasm_code.specs.declared.fault.ReadKind.TheVariants as kinds
 use Rattle.mutate_base.specs.Module.{Module, function_type}
@@ -15,8 +16,10 @@ use Rattle.wasm_sections.specs.declared.fault.ModuleError.{ModuleError}
 use Rattle.wasm_sections.specs.declared.fault.ModuleFault.{ModuleFault}
 use Rattle.wasm_sections.specs.declared.fault.ModuleFault.TheVariants as faults
 use Rattle.wasm_module.specs.Module.{Layout}
+use Rattle.peephole_modules.specs.OperatorCode.{code_at}
 use Rattle.peephole_modules.specs.declared.function.FunctionError.{FunctionError}
 use Rattle.peephole_modules.specs.declared.function.FunctionError.TheVariants.{Unknown, UnknownType, Locals, Body}
+use Rattle.peephole_modules.specs.declared.operator_code.OperatorCode.{OperatorCode}
 
 -- the types of the parameters of a function's type
 abbrev pub parameters_in : Option TypeInfo → Option (List PrimitiveTypeInfo)
@@ -55,7 +58,7 @@ abbrev pub IsWantOfMemory : FunctionError → Type 0
 IsWantOfMemory (Unknown e) = ⊥
 IsWantOfMemory UnknownType = ⊥
 IsWantOfMemory (Locals e) = e.kind ≡ faults.Memory
-IsWantOfMemory (Body e) = e.kind ≡ kinds.Memory
+IsWantOfMemory (Body e) = e.fault.kind ≡ kinds.Memory
 
 -- the entry's locals are refused
 pub record FailsLocals (bytes : List ℕ) (info : Module) (layout : Layout) (n : ℕ) (kind : ModuleFault)
@@ -76,6 +79,16 @@ pub record FailsBody (bytes : List ℕ) (info : Module) (layout : Layout) (n : �
   pub locals_are : SpellsLocals params entry.contents (slice_range bytes entry.contents entry.end) locals expression
   pub fault : IsFault expression entry.end (slice_range bytes expression entry.end) kind offset
 
+-- the code of an operator that isn't known, or an immediate of which isn't; of other faults none
+abbrev pub operator_for : ReadKind → Option OperatorCode → Option OperatorCode
+operator_for kinds.UnknownOpcode code = code
+operator_for kinds.BadImmediate code = code
+operator_for kind code = None
+
+-- the same of the operator at fault
+abbrev pub operator_at_fault : (bytes : List ℕ) → ReadError → Option OperatorCode
+operator_at_fault bytes fault = operator_for fault.kind (code_at bytes fault.offset)
+
 -- the module has no type for the function of the n-th code entry
 abbrev pub HasNoType : Module → Layout → ℕ → Type 0
 HasNoType info layout n = parameters_of info (layout.imported_functions + n) ≡ None
@@ -93,9 +106,9 @@ pub record LacksType (info : Module) (layout : Layout) (n : ℕ) : Type 0 where
   pub none : HasNoType info layout n
 
 -- An error of a function is right: what it needs of the module is of an unknown form, the module has no type for it, or its locals or its body have that
--- first fault.
+-- first fault, of a body with the code of an operator that isn't known.
 abbrev pub IsFunctionFault : (bytes : List ℕ) → Module → Layout → (n : ℕ) → FunctionError → Type 0
 IsFunctionFault bytes info layout n (Unknown e) = IsUnknown info layout n e
 IsFunctionFault bytes info layout n UnknownType = LacksType info layout n
 IsFunctionFault bytes info layout n (Locals e) = FailsLocals bytes info layout n e.kind e.offset
-IsFunctionFault bytes info layout n (Body e) = FailsBody bytes info layout n e.kind e.offset
+IsFunctionFault bytes info layout n (Body e) = FailsBody bytes info layout n e.fault.kind e.fault.offset × (e.operator ≡ operator_at_fault bytes e.fault)

@@ -3,6 +3,7 @@ pub mod Held
 pub mod Chosen
 pub mod ChosenTimes
 pub mod Drawing
+pub mod OperatorCode
 pub mod Function
 pub mod ReadAgain
 pub mod Writing

@@ -9,7 +9,7 @@ use Rattle.wasm_module.specs.Module.{Layout, IsModule}
 use Rattle.wasm_module.specs.Fault.{IsModuleFault}
 use Rattle.wasm_module.specs.Limits.{IsTooLarge}
 use Rattle.wasm_module.specs.Rewritten.{IsRewritten}
-use Rattle.wasm_sections.specs.declared.writing.WriteError.TheVariants as writes
+use Rattle.wasm_module.specs.declared.refusal.WriteError.TheVariants as writes
 use Rattle.peephole_machine.specs.Values.{context_in}
 use Rattle.peephole_terms.specs.declared.encoder.request.ResourceRequest.{ResourceRequest}
 use Rattle.peephole_terms.specs.Expansion.{Setting}
@@ -87,11 +87,12 @@ pub record RefusesFunction (rules : List Rule) (bytes : List ℕ) (info : Module
   pub refused : RefusesChosen locals info rules operators e
 
 -- Why there is no module with the n-th code entry rewritten: a rewrite is refused, what it writes doesn't fit 32 bits or has too many bytes, or for want of
--- memory.
+-- memory. Never for the type of a global: a rewrite asks for those of numbers alone.
 abbrev pub RefusesEntry : Scope → (bytes : List ℕ) → Module → Layout → (n : ℕ) → MutationError → Type 0
 RefusesEntry scope bytes info layout n (mutations.Read e) = ⊥
 RefusesEntry scope bytes info layout n (mutations.Rewrite e) = (e ≡ errors.Memory) ⊎ RefusesFunction scope.rules bytes info layout n e
 RefusesEntry scope bytes info layout n (mutations.Write writes.TooLarge) = IsWritten scope.rules bytes info layout n (IsTooLarge bytes layout n)
+RefusesEntry scope bytes info layout n (mutations.Write writes.EmptyType) = ⊥
 RefusesEntry scope bytes info layout n (mutations.Write writes.Memory) = Unit {0}
 RefusesEntry scope bytes info layout n mutations.TooLong = IsWritten scope.rules bytes info layout n (Exceeds scope.most bytes layout n)
 

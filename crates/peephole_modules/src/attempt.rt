@@ -1,7 +1,7 @@
 //! A module rewritten several times over, or why nothing of it is; the functions of a module that may be rewritten.
-ghost use Rattle.std.specs.Prelude.{◌≡◌, ◌↔◌, ◌≤◌, ◌<◌, ◌+◌, ◌^◌, ℕ, length, IfOk, IfErr, OnErr, IsTrue, false};
+ghost use Rattle.std.specs.Prelude.{◌≡◌, ◌⊎◌, ◌↔◌, ◌≤◌, ◌<◌, ◌+◌, ◌^◌, ℕ, length, None, IfOk, IfErr, IfNone, IfSome, OnErr, IsTrue, false};
 ghost use Rattle.mutate_base.specs.declared.error.Error.TheVariants as errors;
-ghost use Rattle.peephole_modules.specs.Attempt.{CanRead, IsForSize, IsReason, RefusesIndex};
+ghost use Rattle.peephole_modules.specs.Attempt.{CanRead, IsForSize, IsKnownFault, IsReason, RefusesIndex};
 ghost use Rattle.peephole_modules.specs.Chosen.{GivesUp};
 ghost use Rattle.peephole_modules.specs.ChosenTimes.{ChoosesTimes};
 ghost use Rattle.peephole_modules.specs.DoesAsBefore.{DoesAsBefore};
@@ -12,7 +12,7 @@ ghost use Rattle.peephole_modules.specs.Watched.{SeesAll};
 ghost use Rattle.peephole_modules.specs.declared.mutation.MutationError.TheVariants.{Rewrite};
 ghost use Rattle.wasm_module.specs.Module.{IsModule};
 
-use crate::function::read_function;
+use crate::function::{FunctionError, read_function};
 use crate::mutation::MutationError;
 use crate::scope::Scope;
 use crate::times::{RewrittenModule, watch_times};
@@ -31,9 +31,12 @@ pub enum Reason {
     /// No rule applies.
     #[error("no rule applies")]
     NoRule,
-    /// None of the functions that may be rewritten can be read.
-    #[error("no function can be read")]
-    Unreadable,
+    /// The module has no function of its own.
+    #[error("the module has no function of its own")]
+    NoOwnFunction,
+    /// None of the functions that may be rewritten can be read; the error is that of the first one.
+    #[error("no function can be read, the first one for {0}")]
+    Unreadable(FunctionError),
     /// The module has no function of its own with this index.
     #[error("the module has no function {0} of its own")]
     NoFunction(usize),
@@ -61,6 +64,7 @@ pub fn chosen_entries(layout: &Layout, only: Option<usize>) -> Result<Range<usiz
         (r.start ≤ r.end) × (r.end ≤ length layout.now.entries)) }
     ensures chosen { IfOk result (λ r. (n : ℕ) → ((r.start ≤ n) × (n < r.end))
         ↔ ((n < length layout.now.entries) × IsChosen only (layout.now.imported_functions + n))) }
+    ensures named { IfOk result (λ r. (only ≡ None) ⊎ (r.start < r.end)) }
     ensures refused { IfErr result (RefusesIndex layout.now only) }
 {
     let count = layout.entries.len();
@@ -110,6 +114,41 @@ fn can_read_any(
     Ok(false)
 }
 
+// Why none of the functions of these code entries can be read: the error of the first one. None where one of them can; for want of
+// memory an error.
+fn first_unread(
+    alloc: Global,
+    bytes: &[u8],
+    info: &ModuleInfo<'_>,
+    layout: &Layout,
+    entries: Range<usize>,
+) -> Result<Option<FunctionError>, MutationError>
+    requires module { IsModule bytes.now info.now layout.now }
+    requires inside { entries.end ≤ length layout.now.entries }
+    requires some { entries.start < entries.end }
+    ensures fault { IfOk result (λ o. IfSome o (λ e.
+        IsKnownFault bytes.now info.now layout.now entries.start e)) }
+    ensures none { IfOk result (λ o. IfSome o (λ e. (n : ℕ) → entries.start ≤ n
+        → n < entries.end → ¬ (CanRead bytes.now info.now layout.now n))) }
+    ensures some { IfOk result (λ o. IfNone o ((n : ℕ) × (entries.start ≤ n)
+        × (n < entries.end) × CanRead bytes.now info.now layout.now n)) }
+    ensures memory { IfErr result (λ e. (e ≡ Rewrite errors.Memory)
+        × (n : ℕ) × (entries.start ≤ n) × (n < entries.end)) }
+{
+    let (from, to) = (entries.start, entries.end);
+    let first = match read_function(alloc, bytes, info, layout, from) {
+        Ok(_) => return Ok(None),
+        Err(e) => e,
+    };
+    if first.is_memory() {
+        return Err(MutationError::Rewrite(Error::Memory));
+    }
+    if can_read_any(alloc, bytes, info, layout, from + 1..to)? {
+        return Ok(None);
+    }
+    Ok(Some(first))
+}
+
 // Why nothing of a module is rewritten in which nothing can be.
 fn without_rewrite(alloc: Global, bytes: &[u8], scope: &Scope<'_>) -> Reason
     ensures reason { CannotMutate scope.now bytes.now → IsReason scope.now bytes.now result }
@@ -124,9 +163,12 @@ fn without_rewrite(alloc: Global, bytes: &[u8], scope: &Scope<'_>) -> Reason
         Ok(entries) => entries,
         Err(reason) => return reason,
     };
-    match can_read_any(alloc, bytes, &module.info, &layout, entries) {
-        Ok(true) => Reason::NoRule,
-        Ok(false) => Reason::Unreadable,
+    if layout.entries.is_empty() {
+        return Reason::NoOwnFunction;
+    }
+    match first_unread(alloc, bytes, &module.info, &layout, entries) {
+        Ok(None) => Reason::NoRule,
+        Ok(Some(error)) => Reason::Unreadable(error),
         Err(e) => Reason::Refused(e),
     }
 }
@@ -134,7 +176,8 @@ fn without_rewrite(alloc: Global, bytes: &[u8], scope: &Scope<'_>) -> Reason
 /// The module rewritten as `mutate_with_seed` rewrites it, or why nothing of it is. Condition: `count` is not 0.
 ///
 /// `NoRule` only where no rule applies in any of the functions that may be rewritten and can be read, of which there is one;
-/// `Unreadable` only where none of them can be read; `NoFunction` and `UnknownImport` as `chosen_entries` refuses; `Refused` as
+/// `NoOwnFunction` only where the module has none; `Unreadable` only where there is one that may be rewritten, and none of them can
+/// be read, with the error of the first one; `NoFunction` and `UnknownImport` as `chosen_entries` refuses; `Refused` as
 /// `mutate_with_seed` refuses. The module is read once more for the reason: where no memory is left for that, it is `Refused` too.
 pub fn rewrite_with_seed(
     alloc: Global,

@@ -3,10 +3,11 @@ ghost use Rattle.std.specs.Prelude.{◌≡◌, ◌↔◌, ◌<◌, ◌+◌, ℕ,
 ghost use Rattle.wasm_code.specs.declared.operator.Operator.{Operator};
 ghost use Rattle.mutate_base.specs.declared.types.PrimitiveTypeInfo.{PrimitiveTypeInfo};
 ghost use Rattle.mutate_base.specs.Module.{Module, function_type};
-ghost use Rattle.peephole_modules.specs.Function.{HasNoType, IsFunction, IsFunctionFault, IsUnknown, IsWantOfMemory, KnowsIndices, parameters_of};
+ghost use Rattle.peephole_modules.specs.Function.{HasNoType, IsFunction, IsFunctionFault, IsUnknown, IsWantOfMemory, KnowsIndices, operator_at_fault, parameters_of};
 ghost use Rattle.wasm_module.specs.Inside.{IsInside};
 ghost use Rattle.wasm_module.specs.Module.{IsModule};
 
+use crate::operator_code::{OperatorCode, code_at};
 use mutate_base::{ModuleInfo, PrimitiveTypeInfo, TypeInfo};
 use std::alloc::Global;
 use thiserror::Error;
@@ -28,7 +29,17 @@ pub enum FunctionError {
     Locals(ModuleError),
     /// Its body is refused: it has an operator that isn't known here, or is no body.
     #[error("{0}")]
-    Body(ReadError),
+    Body(BodyError),
+}
+
+/// Why a body can't be read.
+#[derive(Clone, Copy, Debug, PartialEq, Eq, Error)]
+#[error("{fault}")]
+pub struct BodyError {
+    /// The first fault, and where the operator at fault starts.
+    pub fault: ReadError,
+    /// The code of that operator, where it isn't known here, or an immediate of it isn't.
+    pub operator: Option<OperatorCode>,
 }
 
 impl FunctionError {
@@ -39,7 +50,7 @@ impl FunctionError {
         match self {
             FunctionError::Unknown(_) | FunctionError::UnknownType => false,
             FunctionError::Locals(e) => e.kind == ModuleFault::Memory,
-            FunctionError::Body(e) => e.kind == ReadKind::Memory,
+            FunctionError::Body(e) => e.fault.kind == ReadKind::Memory,
         }
     }
 }
@@ -109,6 +120,17 @@ fn unknown_index(layout: &Layout) -> Option<ModuleError>
     }
 }
 
+// The code of the operator at fault, where it isn't known, or an immediate of it isn't.
+fn operator_at_fault(bytes: &[u8], fault: ReadError) -> Option<OperatorCode>
+    ensures { result ≡ operator_at_fault bytes.now fault }
+{
+    match fault.kind {
+        ReadKind::UnknownOpcode => code_at(bytes, fault.offset),
+        ReadKind::BadImmediate => code_at(bytes, fault.offset),
+        _ => None,
+    }
+}
+
 // Why a function has no type that is known.
 fn without_type(layout: &Layout) -> FunctionError
     requires indices { KnowsIndices layout.now }
@@ -125,7 +147,8 @@ fn without_type(layout: &Layout) -> FunctionError
 ///
 /// Refused with the first fault: `Unknown` where an import or a global is of a form that isn't known here, so that indices aren't
 /// known, or where such a type stands before the function's; `UnknownType` where the module has no type for it; `Locals` as
-/// `read_locals` refuses its locals; `Body` as `read_body` refuses what stands behind them; for want of memory as either refuses.
+/// `read_locals` refuses its locals; `Body` as `read_body` refuses what stands behind them, with the code of an operator that isn't
+/// known; for want of memory as either refuses.
 pub fn read_function(
     alloc: Global,
     bytes: &[u8],
@@ -166,6 +189,9 @@ pub fn read_function(
             expression: locals.expression,
             operators,
         }),
-        Err(e) => Err(FunctionError::Body(e)),
+        Err(fault) => {
+            let operator = operator_at_fault(bytes, fault);
+            Err(FunctionError::Body(BodyError { fault, operator }))
+        }
     }
 }

@@ -8,14 +8,16 @@ mod function;
 mod held;
 pub mod laws;
 mod mutation;
+mod operator_code;
 mod scope;
 mod seeded;
 mod times;
 mod watch;
 
 pub use attempt::{Reason, chosen_entries, index_of, rewrite_watched, rewrite_with_seed};
-pub use function::{FunctionBody, FunctionError, read_function};
+pub use function::{BodyError, FunctionBody, FunctionError, read_function};
 pub use mutation::{Mutated, MutationError, mutate_module};
+pub use operator_code::{Family, OperatorCode};
 pub use scope::Scope;
 pub use seeded::mutate_with_seed;
 pub use times::{MadeRewrite, RewrittenModule, mutate_times, watch_times};

@@ -112,7 +112,7 @@ fn is_too_large(e: WriteError) -> bool
 {
     match e {
         WriteError::TooLarge => true,
-        WriteError::Memory => false,
+        WriteError::EmptyType | WriteError::Memory => false,
     }
 }
 
@@ -502,8 +502,8 @@ pub(crate) fn mutate_with<R: Rng + Drop>(
 /// and in the module where it is too large.
 ///
 /// Refused with `Read` as `read_module` refuses; `Rewrite` as `rewrite_tree` refuses, where an index doesn't fit or for want of
-/// memory; `Write` as `with_body` refuses; `TooLong` where the module would have more bytes than it may: with `Write` of `TooLarge`
-/// or `TooLong` only where all attempts were in vain, and then as the last one of them that was refused.
+/// memory; `Write` as `with_body` refuses, but never with `EmptyType`; `TooLong` where the module would have more bytes than it may:
+/// with `Write` of `TooLarge` or `TooLong` only where all attempts were in vain, and then as the last one of them that was refused.
 pub fn mutate_module<R: Rng + Drop>(
     alloc: Global,
     bytes: &[u8],

@@ -14,3 +14,4 @@ pub mod MadeLemmas
 pub mod BodyLemmas
 pub mod RewrittenLemmas
 pub mod ChoiceLemmas
+pub mod ReachedLemmas

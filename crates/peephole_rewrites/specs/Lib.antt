@@ -3,6 +3,7 @@ pub mod Rewriting
 pub mod Extent
 pub mod Trees
 pub mod Choice
+pub mod Reached
 pub mod HasWords
 pub mod Counting
 pub mod Growing

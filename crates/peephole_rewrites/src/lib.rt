@@ -7,6 +7,7 @@ mod counts;
 mod extent;
 pub mod laws;
 mod random;
+mod reached;
 mod rewrite;
 mod rewrites;
 mod splice;
@@ -16,6 +17,7 @@ mod word;
 
 pub use extent::tree_start;
 pub use random::{Rewritten, rewrite_tree_at_random};
+pub use reached::reached_operators;
 pub use rewrite::Rewrite;
 pub use rewrites::rewrites_of_body;
 pub use splice::rewrite_tree;

@@ -7,6 +7,7 @@ use crate::refused_rewrites;
 fn calls_of_rules(rt: HostRuntime) {
     refused_rewrites::terms(&rt, rt.alloc());
     refused_rewrites::lists(&rt, rt.alloc());
+    refused_rewrites::marks(&rt, rt.alloc());
     refused_rewrites::bodies(&rt, rt.alloc());
     refused_rewrites::choices(&rt, rt.alloc());
 }

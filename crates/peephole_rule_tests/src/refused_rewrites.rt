@@ -2,7 +2,9 @@
 //! lent to it is as it was. `tests/refused_memory.sh` refuses each request in turn.
 
 use crate::terms::term_of;
-use peephole_rewrites::{Rewrite, rewrite_tree, rewrite_tree_at_random, rewrites_of_body};
+use peephole_rewrites::{
+    Rewrite, reached_operators, rewrite_tree, rewrite_tree_at_random, rewrites_of_body,
+};
 use peephole_rules::{RULES, Rule};
 use peephole_terms::{Error, ModuleInfo, PrimitiveTypeInfo};
 use peephole_test_support::{Refused, begun_sink, config_of, operators_of};
@@ -74,6 +76,24 @@ fn lacks_list(rt: &impl Abort, alloc: Global) -> Result<bool, Error> {
 /// `rewrites_of_body`
 pub fn lists(rt: &impl Abort, alloc: Global) -> Refused {
     was_refused(rt, lacks_list(rt, alloc))
+}
+
+/// Whether the marks of reached operators are refused for memory.
+fn lacks_marks(rt: &impl Abort, alloc: Global) -> Result<bool, Error> {
+    let operators = operators_of(alloc, &BYTES)?;
+    let info = ModuleInfo::new(alloc, &BYTES);
+    match reached_operators(alloc, &LOCALS, &info, &[Rule::Commute], &operators) {
+        Ok(marks) => {
+            assert!(rt; marks.as_slice() == [false, false, true, false, false].as_slice());
+            Ok(false)
+        }
+        Err(error) => Ok(is_memory(rt, error)),
+    }
+}
+
+/// `reached_operators`
+pub fn marks(rt: &impl Abort, alloc: Global) -> Refused {
+    was_refused(rt, lacks_marks(rt, alloc))
 }
 
 /// Whether the rewritten body is refused for memory, and the sink holds AA BB; else the body stands behind them.

@@ -3,7 +3,7 @@
 use crate::rules::running::{LOCALS, config_of, rewritten, rewritten_at_random};
 use peephole_examples::Replaced;
 use peephole_rewrite_examples::mutate;
-use peephole_rewrites::{Rewrite, rewrites_of_body};
+use peephole_rewrites::{Rewrite, reached_operators, rewrites_of_body};
 use peephole_rules::{RULES, Rule};
 use peephole_terms::Error;
 use peephole_test_support::{bytes_of, fields_of, operators_of};
@@ -102,6 +102,13 @@ fn every_rewrite(rt: HostRuntime) -> Result<(), Fail> {
             is_list(&rt, alloc, line)?;
         }
     }
+    // The sum and the product have operands that change places.
+    let operators = operators_of(alloc, &PRODUCT)?;
+    let config = config_of(alloc, &PRODUCT, &[], &[])?;
+    let rules = [Rule::Commute];
+    let marks = reached_operators(alloc, &LOCALS, config.info(), &rules, &operators)?;
+    let wanted = [false, false, true, false, true, false, false];
+    assert!(rt; marks.as_slice() == wanted.as_slice(), "{marks:?}");
     Ok(())
 }
 

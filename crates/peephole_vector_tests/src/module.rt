@@ -6,7 +6,7 @@ use peephole_script::type_of;
 use std::alloc::{AllocError, Global};
 use std::process::Abort;
 use std::test::Fail;
-use wasm_module::{Layout, read_module, with_body};
+use wasm_module::{Layout, WriteError, read_module, with_body};
 
 /// Types, an import of each kind, a function of either type, a table, a memory, a global, the code, and a custom section.
 const EACH_KIND: &str = "0061736d 01000000 0109 0260017f017f600000 \
@@ -140,8 +140,13 @@ fn change_of(rt: &impl Abort, alloc: Global, line: &str) -> Result<Change, Fail>
     })
 }
 
-/// The module with that change.
-fn changed(rt: &impl Abort, alloc: Global, bytes: &[u8], change: &Change) -> Result<Vec<u8>, Fail> {
+/// The module with that change, or why it isn't written.
+fn changed(
+    rt: &impl Abort,
+    alloc: Global,
+    bytes: &[u8],
+    change: &Change,
+) -> Result<Result<Vec<u8>, WriteError>, Fail> {
     let module = read_module(alloc, bytes)?;
     let (locals, expression) = (&change.locals, &change.expression);
     assert!(rt; change.n < module.layout.entries.len());
@@ -154,7 +159,7 @@ fn changed(rt: &impl Abort, alloc: Global, bytes: &[u8], change: &Change) -> Res
         locals,
         expression,
         &change.globals,
-    )?)
+    ))
 }
 
 /// Modules, of which function of their own another body is written, its locals and its expression, the new globals, and the
@@ -173,7 +178,7 @@ fn changes(rt: HostRuntime) -> Result<(), Fail> {
     ] {
         let bytes = bytes_of(alloc, digits)?;
         let change = change_of(&rt, alloc, line)?;
-        let new = changed(&rt, alloc, &bytes, &change)?;
+        let new = changed(&rt, alloc, &bytes, &change)??;
         assert!(rt; new == bytes_of(alloc, later)?, "{line}");
     }
     Ok(())
@@ -187,9 +192,20 @@ fn sizes_grow(rt: HostRuntime) -> Result<(), Fail> {
     for _ in 0..200 {
         change.expression.push(0x01)?;
     }
-    let new = changed(&rt, rt.alloc(), &bytes, &change)?;
+    let new = changed(&rt, rt.alloc(), &bytes, &change)??;
     assert!(rt; bytes.len() == 39 && new.len() == 39 + 201);
     assert!(rt; new[29..35] == [0x0a, 0xcc, 0x01, 0x01, 0xc9, 0x01]);
+    Ok(())
+}
+
+/// A global of the type `Empty` is refused, behind one of the type i32.
+#[test]
+fn empty_type(rt: HostRuntime) -> Result<(), Fail> {
+    let bytes = bytes_of(rt.alloc(), NO_GLOBALS)?;
+    let mut change = change_of(&rt, rt.alloc(), "0 | 00 | 010b | i32")?;
+    change.globals.push(PrimitiveTypeInfo::Empty)?;
+    let refused = changed(&rt, rt.alloc(), &bytes, &change)?;
+    assert!(rt; refused.err() == Some(WriteError::EmptyType));
     Ok(())
 }
 

@@ -2,10 +2,12 @@
 //! input, and a rewritten one goes to a file or to standard output. `--list` and `--blocks` write lines about the module instead.
 //!
 //! Exit status: 0 on success, and for `--help` and `--version`; 1 where the module is refused, the input can't be read, the output
-//! can't be written, or no memory is left; 2 where no rule applies; 3 where no function can be read, or `--function` names none of
+//! can't be written, or no memory is left; 2 where no rule applies, or the module has no function of its own; 3 where no function can be read, or `--function` names none of
 //! the module's own, or one whose index isn't known; 64 where the options can't be read, or a module would go to a terminal.
 #![tactic(auto)]
 
+mod beside;
+mod destination;
 mod files;
 mod progress;
 #[cfg(test)]
@@ -13,10 +15,18 @@ mod refused_modules;
 #[cfg(test)]
 mod repeats;
 #[cfg(test)]
+mod runs_on_files;
+mod standard_files;
+#[cfg(test)]
 mod tests;
+mod trouble;
+mod watched_output;
 
-use crate::files::{Trouble, run_on_files};
-use peephole_module_commands::{Options, options_of, rule_names};
+use crate::files::run_on_files;
+use crate::standard_files::hold_standard_files;
+use crate::trouble::Trouble;
+use clap::error::ErrorKind;
+use peephole_module_commands::{Ending, Failure, Options, options_of, rule_names};
 use std::env::Env;
 use std::process::ExitCode;
 use std::{env, io};
@@ -29,8 +39,27 @@ fn words(rt: &(impl Env + AllocGlobal)) -> io::Result<Vec<String>> {
     Ok(env::args(rt)?.collect(rt.alloc())?)
 }
 
+// Says that no memory is left, and answers the status.
+fn refuse_for_memory(rt: &impl Eprint) -> ExitCode {
+    let failure = Failure::Memory;
+    let _ = eprintln!(rt; "teddertempo: {failure}");
+    ExitCode::from(failure.status())
+}
+
+// Says why the words of the command line can't be read, and answers the status.
+fn refuse_words(rt: &impl Eprint, error: &io::Error) -> ExitCode {
+    if error.kind() == io::ErrorKind::OutOfMemory {
+        return refuse_for_memory(rt);
+    }
+    let _ = eprintln!(rt; "teddertempo: an argument isn't UTF-8");
+    ExitCode::from(USAGE)
+}
+
 // Prints the message of the options' reader, and answers the status: that of a success for help and version.
 fn refuse(rt: &(impl Print + Eprint), error: &clap::Error) -> ExitCode {
+    if error.kind() == ErrorKind::OutOfMemory {
+        return refuse_for_memory(rt);
+    }
     let printed = error.print(rt).is_ok();
     if error.use_stderr() {
         ExitCode::from(USAGE)
@@ -41,34 +70,56 @@ fn refuse(rt: &(impl Print + Eprint), error: &clap::Error) -> ExitCode {
     }
 }
 
-// Prints why a run has no success, behind the names of the program and of the file.
-fn tell(rt: &impl Eprint, options: &Options, trouble: &Trouble) {
-    let (path, standard) = if trouble.is_of_output() {
-        (&options.output, "standard output")
-    } else {
-        (&options.input, "standard input")
-    };
-    let name = match path {
+// The name of the file under the path, or else that of the standard one.
+fn name_of<'a>(path: &'a Option<String>, standard: &'a str) -> &'a str {
+    match path {
         Some(path) => path.as_str(),
         None => standard,
+    }
+}
+
+// Prints why a run has no success, behind the names of the program and of the file.
+fn tell(rt: &impl Eprint, options: &Options, trouble: &Trouble) {
+    let name = if trouble.is_of_output() {
+        name_of(&options.output, "standard output")
+    } else {
+        name_of(&options.input, "standard input")
     };
     let _ = eprintln!(rt; "teddertempo: {name}: {trouble}");
 }
 
+// Prints that memory ran out, where it did.
+fn tell_ending(rt: &impl Eprint, options: &Options, ending: Ending) {
+    match ending {
+        Ending::Whole => {}
+        Ending::OutOfMemory => {
+            let name = name_of(&options.input, "standard input");
+            let _ = eprintln!(rt;
+                "teddertempo: {name}: no memory is left for more rewrites: there are fewer than asked for"
+            );
+        }
+    }
+}
+
 fn main(rt: HostRuntime) -> ExitCode {
+    let _held = hold_standard_files(&rt);
     let alloc = rt.alloc();
-    let Ok(words) = words(&rt) else {
-        return ExitCode::FAILURE;
+    let words = match words(&rt) {
+        Ok(words) => words,
+        Err(error) => return refuse_words(&rt, &error),
     };
     let Ok(names) = rule_names(alloc) else {
-        return ExitCode::FAILURE;
+        return refuse_for_memory(&rt);
     };
     let options = match options_of(alloc, &names, &words) {
         Ok(options) => options,
         Err(error) => return refuse(&rt, &error),
     };
     match run_on_files(&rt, &options) {
-        Ok(()) => ExitCode::SUCCESS,
+        Ok(ending) => {
+            tell_ending(&rt, &options, ending);
+            ExitCode::SUCCESS
+        }
         Err(trouble) => {
             tell(&rt, &options, &trouble);
             ExitCode::from(trouble.status())

@@ -54,6 +54,24 @@ const SAME_AND_ZERO: &[u8] = b"\0asm\x01\0\0\0\x01\x06\x01\x60\x01\x7f\x01\x7f\x
 const DEBUG: &[u8] = b"\0asm\x01\0\0\0\x01\x07\x01\x60\x02\x7f\x7f\x01\x7f\x03\x02\x01\0\
     \x0a\x09\x01\x07\0\x20\0\x20\x01\x6a\x0b\0\x0d\x0b.debug_info\x05";
 
+/// A module with nothing in it.
+const EMPTY: &[u8] = b"\0asm\x01\0\0\0";
+
+/// The front of a component.
+const COMPONENT: &[u8] = b"\0asm\x0d\0\x01\0";
+
+/// The text of a module.
+const TEXT: &[u8] = b"(module)";
+
+/// A function that answers the atomic load of an i32 (FE 10).
+const ATOMIC: &[u8] =
+    b"\0asm\x01\0\0\0\x01\x05\x01\x60\0\x01\x7f\x03\x02\x01\0\x05\x04\x01\x03\x01\x01\
+    \x0a\x0a\x01\x08\0\x41\0\xfe\x10\x02\0\x0b";
+
+/// A function that calls itself in its own place.
+const TAIL_CALL: &[u8] =
+    b"\0asm\x01\0\0\0\x01\x04\x01\x60\0\0\x03\x02\x01\0\x0a\x06\x01\x04\0\x12\0\x0b";
+
 /// Words of the command line, and the task, the seed, the count, the function, the names of the flags that hold, and the rules: all,
 /// or the number, the first and the last; or the kind of the error.
 const OPTIONS: &str = "
@@ -75,8 +93,8 @@ const OPTIONS: &str = "
 --rule fold --rule commute --not-rule fold | Rewrite 0 1 None 1 Some(Commute) Some(Commute)
 --rule fold --not-rule fold | Rewrite 0 1 None 0 None None
 --not-rule melt | InvalidValue
---rule commute --rule drop_add_zero --rule add_zero --shrink | Rewrite 0 18446744073709551615 None 1 Some(DropAddZero) Some(DropAddZero)
---shrink --count 5 --rule drop_add_zero | Rewrite 0 5 None 1 Some(DropAddZero) Some(DropAddZero)
+--rule commute --rule drop_add_zero --rule add_zero --shrink | Rewrite 0 18446744073709551615 None shrink 1 Some(DropAddZero) Some(DropAddZero)
+--shrink --count 5 --rule drop_add_zero | Rewrite 0 5 None shrink 1 Some(DropAddZero) Some(DropAddZero)
 --rule melt | InvalidValue
 --rule fold --rule melt --rule commute | InvalidValue
 --rule fold --rule fold | Rewrite 0 1 None 2 Some(Fold) Some(Fold)
@@ -85,6 +103,20 @@ const OPTIONS: &str = "
 --list --stats | ArgumentConflict
 --stats --blocks | ArgumentConflict
 --list --list | ArgumentConflict
+--list --reach | ArgumentConflict
+--reach --json | Rewrite 0 1 None stats reach json all
+--list --seed 0 | ArgumentConflict
+--list --count 1 | ArgumentConflict
+--blocks --max-size 9 | ArgumentConflict
+--blocks --rule fold | ArgumentConflict
+--blocks --not-rule fold | ArgumentConflict
+--blocks --shrink | ArgumentConflict
+--list --shrink --rule drop_add_zero | List 0 18446744073709551615 None shrink 1 Some(DropAddZero) Some(DropAddZero)
+--seed +1 | ValueValidation
+--seed 0x+1 | ValueValidation
+--count +1 | ValueValidation
+--function +1 | ValueValidation
+--max-size +1 | ValueValidation
 --seed 18446744073709551616 | ValueValidation
 --seed 0x1F | Rewrite 31 1 None all
 --seed 0xffffffffffffffff | Rewrite 18446744073709551615 1 None all
@@ -100,7 +132,7 @@ a.wasm b.wasm | UnknownArgument
 /// Runs: the words of the command line, the module, and the outcome; then what is written behind `>`, a module or a line, and
 /// behind `!` the lines that are reported.
 const RUNS: &str = r#"
---rule commute --stats | SUM | Ok(())
+--rule commute --reach | SUM | Ok(Whole)
 > TURNED
 ! functions  1          unreadable 0
 ! operators  4          rewritable 1
@@ -109,7 +141,7 @@ const RUNS: &str = r#"
 ! function 0      operator 2      rule commute
 ! bytes      32         new 32
 
---rule commute --stats --json | SUM | Ok(())
+--rule commute --reach --stats --json | SUM | Ok(Whole)
 > TURNED
 ! {"functions":1,"unreadable":0}
 ! {"all":4,"of":"operators","rewritable":1}
@@ -118,10 +150,10 @@ const RUNS: &str = r#"
 ! {"function":0,"operator":2,"rule":"commute"}
 ! {"bytes":32,"new":32}
 
---rule commute --count 2 | SUM | Ok(())
+--rule commute --count 2 | SUM | Ok(Whole)
 > SUM
 
---rule commute --count 2 --show | SUM | Ok(())
+--rule commute --count 2 --show | SUM | Ok(Whole)
 > SUM
 ! function 0 operator 2 rule commute
 !   block 0..3
@@ -144,12 +176,9 @@ const RUNS: &str = r#"
 !     ├──local.get.0
 !     └──local.get.1
 
---rule commute --show --stats | SUM | Ok(())
+--rule commute --show --stats | SUM | Ok(Whole)
 > TURNED
 ! functions  1          unreadable 0
-! operators  4          rewritable 1
-! blocks     1          rewritable 1
-! integers   1          rewritable 1
 ! function 0 operator 2 rule commute
 !   block 0..3
 !   before
@@ -165,86 +194,80 @@ const RUNS: &str = r#"
 
 --rule fold --show | SUM | Err(Nothing(NoRule))
 
---list --rule commute | SUM | Ok(())
+--list --rule commute | SUM | Ok(Whole)
 > function 0      operator 2      rule commute
 
---blocks | SUM | Ok(())
+--blocks | SUM | Ok(Whole)
 > function 0      block      0..3
 
---list --rule commute | TABLE | Ok(())
+--list --rule commute | TABLE | Ok(Whole)
 > function 0      operator 2      rule commute
 > function 0      operator 8      rule commute
 
---list --rule commute --json | TABLE | Ok(())
+--list --rule commute --json | TABLE | Ok(Whole)
 > {"function":0,"operator":2,"rule":"commute"}
 > {"function":0,"operator":8,"rule":"commute"}
 
---blocks | TABLE | Ok(())
+--blocks | TABLE | Ok(Whole)
 > function 0      block      0..10     no graph: operator 5 call_indirect
 
---blocks --json | TABLE | Ok(())
+--blocks --json | TABLE | Ok(Whole)
 > {"end":10,"function":0,"operator":5,"reason":"call_indirect","start":0}
 
---blocks | RESULTS | Ok(())
+--blocks | RESULTS | Ok(Whole)
 > function 0      block      0..2
 > function 1      block      0..3      no graph: operator 0 call of a function with several results
 > function 1      block      4..5      no graph: operator 4 call of the unknown function 5
 
---blocks --json | RESULTS | Ok(())
+--blocks --json | RESULTS | Ok(Whole)
 > {"end":2,"function":0,"start":0}
 > {"end":3,"function":1,"operator":0,"reason":"call of a function with several results","start":0}
 > {"end":5,"function":1,"operator":4,"reason":"call of the unknown function 5","start":4}
 
---blocks --function 0 | RESULTS | Ok(())
+--blocks --function 0 | RESULTS | Ok(Whole)
 > function 0      block      0..2
 
 --blocks --function 2 | RESULTS | Err(Nothing(NoFunction(2)))
 
---stats --rule fold | RESULTS | Err(Nothing(NoRule))
+--reach --rule fold | RESULTS | Err(Nothing(NoRule))
 ! functions  2          unreadable 0
 ! operators  10         rewritable 0
 ! blocks     3          rewritable 0
 ! integers   2          rewritable 0
 
---blocks | STRUCTURE | Ok(())
+--blocks | STRUCTURE | Ok(Whole)
 > function 0      block      0..3
 > function 1      UnknownType at 37
 
---blocks --json | STRUCTURE | Ok(())
+--blocks --json | STRUCTURE | Ok(Whole)
 > {"end":3,"function":0,"start":0}
 > {"fault":"UnknownType","function":1,"offset":37}
 
---list --rule commute | BEHIND_CALL | Ok(())
+--list --rule commute | BEHIND_CALL | Ok(Whole)
 > function 0      operator 4      rule commute
 
---rule commute | BEHIND_CALL | Ok(())
+--rule commute | BEHIND_CALL | Ok(Whole)
 > BEHIND_CALL_TURNED
 
---rule commute --stats | STRUCTURE | Ok(())
+--rule commute --stats | STRUCTURE | Ok(Whole)
 > STRUCTURE_TURNED
 ! function 1      UnknownType at 37
 ! functions  2          unreadable 1
-! operators  4          rewritable 1
-! blocks     1          rewritable 1
-! integers   1          rewritable 1
 ! function 0      operator 2      rule commute
 ! bytes      40         new 40
 
---stats | REFERENCE | Err(Nothing(Unreadable))
+--stats | REFERENCE | Err(Nothing(Unreadable(Unknown(ModuleError { kind: UnknownForm, offset: 20 }))))
 ! entry    0      UnknownForm at 20
 ! functions  1          unreadable 1
-! operators  0          rewritable 0
-! blocks     0          rewritable 0
-! integers   0          rewritable 0
 
---stats --json | REFERENCE | Err(Nothing(Unreadable))
+--reach --json | REFERENCE | Err(Nothing(Unreadable(Unknown(ModuleError { kind: UnknownForm, offset: 20 }))))
 ! {"entry":0,"fault":"UnknownForm","offset":20}
 ! {"functions":1,"unreadable":1}
 ! {"all":0,"of":"operators","rewritable":0}
 ! {"all":0,"of":"blocks","rewritable":0}
 ! {"all":0,"of":"integers","rewritable":0}
 
---blocks | REFERENCE | Ok(())
+--blocks | REFERENCE | Ok(Whole)
 > entry    0      UnknownForm at 20
 
 --list --function 0 | REFERENCE | Err(Nothing(UnknownImport(ModuleError { kind: UnknownForm, offset: 20 })))
@@ -255,41 +278,72 @@ const RUNS: &str = r#"
 
 --function 0 | REFERENCE | Err(Nothing(UnknownImport(ModuleError { kind: UnknownForm, offset: 20 })))
 
---function 1 --rule commute | STRUCTURE | Err(Nothing(Unreadable))
+--function 1 --rule commute | STRUCTURE | Err(Nothing(Unreadable(UnknownType)))
 
 --list --function 1 | SUM | Err(Nothing(NoFunction(1)))
 
---rule add_zero --count 2 --max-size 31 --stats | SAME | Ok(())
+--rule add_zero --count 2 --max-size 31 --stats | SAME | Ok(Whole)
 > SAME_AND_ZERO
 ! functions  1          unreadable 0
-! operators  2          rewritable 1
-! blocks     1          rewritable 1
-! integers   0          rewritable 0
 ! function 0      operator 0      rule add_zero
 ! stopped TooLong
 ! bytes      28         new 31
 
---rule add_zero --count 2 --max-size 31 --stats --json | SAME | Ok(())
+--rule add_zero --count 2 --max-size 31 --stats --json | SAME | Ok(Whole)
 > SAME_AND_ZERO
 ! {"functions":1,"unreadable":0}
-! {"all":2,"of":"operators","rewritable":1}
-! {"all":1,"of":"blocks","rewritable":1}
-! {"all":0,"of":"integers","rewritable":0}
 ! {"function":0,"operator":0,"rule":"add_zero"}
 ! {"stopped":"TooLong"}
 ! {"bytes":28,"new":31}
 
---shrink | SAME_AND_ZERO | Ok(())
+--shrink | SAME_AND_ZERO | Ok(Whole)
 > SAME
+
+--rule drop_add_zero --count 3 --stats | SAME_AND_ZERO | Ok(Whole)
+> SAME
+! functions  1          unreadable 0
+! function 0      operator 2      rule drop_add_zero
+! stopped NoRule
+! bytes      31         new 28
+
+--shrink --stats --rule drop_add_zero | SAME | Ok(Whole)
+> SAME
+! functions  1          unreadable 0
+! stopped NoRule
+! bytes      28         new 28
+
+--shrink --strip-debug --rule drop_add_zero | DEBUG | Ok(Whole)
+> SUM
+
+--shrink | EMPTY | Ok(Whole)
+> EMPTY
+
+| EMPTY | Err(Nothing(NoOwnFunction))
+
+--function 0 | EMPTY | Err(Nothing(NoFunction(0)))
+
+--list | EMPTY | Ok(Whole)
+
+| COMPONENT | Err(Component)
+
+--list | TEXT | Err(TextFormat)
+
+--blocks | ATOMIC | Ok(Whole)
+> function 0      UnknownOpcode at 32: operator 0xfe 16 (atomics)
+
+--blocks --json | ATOMIC | Ok(Whole)
+> {"family":"atomics","fault":"UnknownOpcode","function":0,"offset":32,"operator":"0xfe 16"}
+
+--blocks | TAIL_CALL | Ok(Whole)
+> function 0      UnknownOpcode at 23: operator 0x12 (tail calls)
+
+| TAIL_CALL | Err(Nothing(Unreadable(Body(BodyError { fault: ReadError { kind: UnknownOpcode, offset: 23 }, operator: Some(Byte(18)) }))))
 
 --rule add_zero --max-size 30 | SAME | Err(Nothing(Refused(TooLong)))
 
---rule commute --strip-debug --stats | DEBUG | Ok(())
+--rule commute --strip-debug --stats | DEBUG | Ok(Whole)
 > TURNED
 ! functions  1          unreadable 0
-! operators  4          rewritable 1
-! blocks     1          rewritable 1
-! integers   1          rewritable 1
 ! function 0      operator 2      rule commute
 ! bytes      47         new 32
 "#;
@@ -309,6 +363,11 @@ fn module_of(name: &str) -> Option<&'static [u8]> {
         "SAME" => Some(SAME),
         "SAME_AND_ZERO" => Some(SAME_AND_ZERO),
         "DEBUG" => Some(DEBUG),
+        "EMPTY" => Some(EMPTY),
+        "COMPONENT" => Some(COMPONENT),
+        "TEXT" => Some(TEXT),
+        "ATOMIC" => Some(ATOMIC),
+        "TAIL_CALL" => Some(TAIL_CALL),
         _ => None,
     }
 }
@@ -339,11 +398,13 @@ fn if_set(flag: bool, name: &'static str) -> &'static str {
 
 /// The names of the flags that hold.
 fn flags_text(alloc: Global, options: &Options) -> Result<String, AllocError> {
+    let shrink = if_set(options.shrink, "shrink ");
     let stats = if_set(options.stats, "stats ");
+    let reach = if_set(options.reach, "reach ");
     let json = if_set(options.json, "json ");
     let show = if_set(options.show, "show ");
     let strip = if_set(options.strip_debug, "strip-debug ");
-    format!(in alloc; "{stats}{json}{show}{strip}")
+    format!(in alloc; "{shrink}{stats}{reach}{json}{show}{strip}")
 }
 
 #[test]
@@ -364,6 +425,11 @@ fn reads_options(rt: HostRuntime) -> Result<(), Fail> {
         };
         assert!(rt; text.as_str() == wanted.trim(), "{case}");
     }
+    let Err(error) = options(alloc, "--rule ad_zero") else {
+        panic!(rt; "a rule of no name");
+    };
+    let text = format!(in alloc; "{error}")?;
+    assert!(rt; text.contains("'ad_zero'; --help names them all, and the nearest are add_zero"));
     Ok(())
 }
 

@@ -4,8 +4,8 @@ use Rattle.mutate_base.specs.declared.error.Error.{Error}
 use Rattle.mutate_base.specs.declared.error.Error.TheVariants as errors
 use Rattle.wasm_sections.specs.declared.fault.ModuleFault.{ModuleFault}
 use Rattle.wasm_sections.specs.declared.fault.ModuleFault.TheVariants as faults
-use Rattle.wasm_sections.specs.declared.writing.WriteError.TheVariants as writes
 use Rattle.wasm_module.specs.Fault.{IsModuleFault}
+use Rattle.wasm_module.specs.declared.refusal.WriteError.TheVariants as writes
 use Rattle.peephole_modules.specs.declared.attempt.Reason.{Reason}
 use Rattle.peephole_modules.specs.declared.attempt.Reason.TheVariants as reasons
 use Rattle.peephole_modules.specs.declared.mutation.MutationError.TheVariants as mutations
@@ -43,12 +43,14 @@ module _ (asked : Asked) (bytes : List ℕ) where
   by_error errors.TooLarge h = (refl, record { error = mutations.Rewrite errors.TooLarge; large = tt; is = h })
 
   pub by_reason : (reason : Reason) → IsRefusedFor asked bytes reason → IsOutcome asked bytes (offset_by reason) (outcome_by reason)
-  by_reason reasons.NoRule h = (refl, h)
-  by_reason reasons.Unreadable h = (refl, h)
+  by_reason reasons.NoRule h = (refl, (reasons.NoRule, tt, h))
+  by_reason reasons.NoOwnFunction h = (refl, (reasons.NoOwnFunction, tt, h))
+  by_reason (reasons.Unreadable e) h = (refl, (e, h))
   by_reason (reasons.NoFunction function) h = (refl, (reasons.NoFunction function, h.is))
   by_reason (reasons.UnknownImport e) h = (refl, (reasons.UnknownImport e, h.is))
   by_reason (reasons.Refused (mutations.Read e)) h = by_fault e.kind e.offset h.is
   by_reason (reasons.Refused (mutations.Rewrite e)) h = by_error e h
   by_reason (reasons.Refused (mutations.Write writes.TooLarge)) h = (refl, record { error = mutations.Write writes.TooLarge; large = tt; is = h })
+  by_reason (reasons.Refused (mutations.Write writes.EmptyType)) h = absurd h.is.refuses
   by_reason (reasons.Refused (mutations.Write writes.Memory)) h = refl
   by_reason (reasons.Refused mutations.TooLong) h = (refl, record { error = mutations.TooLong; large = tt; is = h })

@@ -4,10 +4,11 @@ use Rattle.mutate_base.specs.declared.error.Error.{Error}
 use Rattle.mutate_base.specs.declared.error.Error.TheVariants as errors
 use Rattle.wasm_sections.specs.declared.fault.ModuleFault.{ModuleFault}
 use Rattle.wasm_sections.specs.declared.fault.ModuleFault.TheVariants as faults
-use Rattle.wasm_sections.specs.declared.writing.WriteError.{WriteError}
-use Rattle.wasm_sections.specs.declared.writing.WriteError.TheVariants as writes
 use Rattle.wasm_module.specs.Fault.{IsModuleFault}
+use Rattle.wasm_module.specs.declared.refusal.WriteError.{WriteError}
+use Rattle.wasm_module.specs.declared.refusal.WriteError.TheVariants as writes
 use Rattle.peephole_modules.specs.Attempt.{RefusesIndexOf}
+use Rattle.peephole_modules.specs.declared.function.FunctionError.{FunctionError}
 use Rattle.peephole_modules.specs.declared.attempt.Reason.{Reason}
 use Rattle.peephole_modules.specs.declared.attempt.Reason.TheVariants as reasons
 use Rattle.peephole_modules.specs.declared.mutation.MutationError.{MutationError}
@@ -46,6 +47,7 @@ IsTooLarge (mutations.Read e) = ⊥
 IsTooLarge (mutations.Rewrite errors.Memory) = ⊥
 IsTooLarge (mutations.Rewrite e) = Unit {0}
 IsTooLarge (mutations.Write writes.TooLarge) = Unit {0}
+IsTooLarge (mutations.Write writes.EmptyType) = ⊥
 IsTooLarge (mutations.Write writes.Memory) = ⊥
 IsTooLarge mutations.TooLong = Unit {0}
 
@@ -55,13 +57,19 @@ pub record IsRefusedAsTooLarge (asked : Asked) (bytes : List ℕ) : Type 0 where
   pub large : IsTooLarge error
   pub is : IsRefusedFor asked bytes (reasons.Refused error)
 
+-- no rule applies in a function that can be read, or the module has no function of its own
+abbrev pub IsWithoutRule : Reason → Type 0
+IsWithoutRule reasons.NoRule = Unit {0}
+IsWithoutRule reasons.NoOwnFunction = Unit {0}
+IsWithoutRule reason = ⊥
+
 -- Why nothing of the module is rewritten; the offset is that of its fault, or 0. Nothing is said of a want of memory.
 abbrev pub IsOutcome : Asked → (bytes : List ℕ) → (offset : ℕ) → Outcome → Type 0
 IsOutcome asked bytes offset Rewritten = ⊥
 IsOutcome asked bytes offset NotAModule = IsNoModule bytes offset
 IsOutcome asked bytes offset LinkableObject = IsModuleFault bytes faults.Linkable offset
-IsOutcome asked bytes offset Unreadable = (offset ≡ 0) × IsRefusedFor asked bytes reasons.Unreadable
-IsOutcome asked bytes offset NoRule = (offset ≡ 0) × IsRefusedFor asked bytes reasons.NoRule
+IsOutcome asked bytes offset Unreadable = (offset ≡ 0) × ((e : FunctionError) × IsRefusedFor asked bytes (reasons.Unreadable e))
+IsOutcome asked bytes offset NoRule = (offset ≡ 0) × ((reason : Reason) × IsWithoutRule reason × IsRefusedFor asked bytes reason)
 IsOutcome asked bytes offset NoFunction = (offset ≡ 0) × ((reason : Reason) × RefusesIndexOf asked.scope.function bytes reason)
 IsOutcome asked bytes offset TooLarge = (offset ≡ 0) × IsRefusedAsTooLarge asked bytes
 IsOutcome asked bytes offset NoMemory = offset ≡ 0
@@ -85,9 +93,10 @@ abbrev pub outcome_by_error : Error → Outcome
 outcome_by_error errors.Memory = NoMemory
 outcome_by_error e = TooLarge
 
--- what it comes to that a section isn't written
+-- what it comes to that a module isn't written; for the type of a global none that a rewrite makes is refused
 abbrev pub outcome_by_write : WriteError → Outcome
 outcome_by_write writes.TooLarge = TooLarge
+outcome_by_write writes.EmptyType = TooLarge
 outcome_by_write writes.Memory = NoMemory
 
 -- the same of any refusal: that of reading, of rewriting, of writing, or for the size of the module
@@ -105,7 +114,8 @@ offset_by_refusal e = 0
 -- what a reason comes to
 abbrev pub outcome_by : Reason → Outcome
 outcome_by reasons.NoRule = NoRule
-outcome_by reasons.Unreadable = Unreadable
+outcome_by reasons.NoOwnFunction = NoRule
+outcome_by (reasons.Unreadable e) = Unreadable
 outcome_by (reasons.NoFunction function) = NoFunction
 outcome_by (reasons.UnknownImport e) = NoFunction
 outcome_by (reasons.Refused e) = outcome_by_refusal e

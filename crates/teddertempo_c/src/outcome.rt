@@ -17,7 +17,7 @@ pub enum Outcome {
     LinkableObject,
     /// None of the functions that may be rewritten can be read.
     Unreadable,
-    /// No rule applies in them.
+    /// No rule applies in them, or the module has no function of its own.
     NoRule,
     /// The module has no function of its own with the index that is named, or an import isn't known, and so no index is.
     NoFunction,
@@ -91,7 +91,7 @@ fn outcome_by_write(e: WriteError) -> Outcome
     ensures { result ≡ outcome_by_write e }
 {
     match e {
-        WriteError::TooLarge => Outcome::TooLarge,
+        WriteError::TooLarge | WriteError::EmptyType => Outcome::TooLarge,
         WriteError::Memory => Outcome::NoMemory,
     }
 }
@@ -123,8 +123,8 @@ fn outcome_by(reason: Reason) -> Outcome
     ensures { result ≡ outcome_by reason }
 {
     match reason {
-        Reason::NoRule => Outcome::NoRule,
-        Reason::Unreadable => Outcome::Unreadable,
+        Reason::NoRule | Reason::NoOwnFunction => Outcome::NoRule,
+        Reason::Unreadable(_) => Outcome::Unreadable,
         Reason::NoFunction(_) | Reason::UnknownImport(_) => Outcome::NoFunction,
         Reason::Refused(e) => outcome_by_refusal(e),
     }

@@ -3,6 +3,7 @@ pub mod Inside
 pub mod Fault
 pub mod Rewritten
 pub mod Limits
+pub mod Refusal
 pub mod Contents
 pub mod Lists
 pub mod Room

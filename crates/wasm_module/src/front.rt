@@ -16,7 +16,9 @@ use crate::sizes::{section_size, sum};
 use mutate_base::PrimitiveTypeInfo;
 use std::alloc::{AllocError, Global};
 use wasm_code::u32_of;
-use wasm_sections::{Section, SectionId, WriteError, find_section, place_of, put_head};
+use wasm_sections::{
+    Section, SectionId, WriteError as SectionError, find_section, place_of, put_head,
+};
 
 /// What follows the number that begins the bytes.
 fn past_count(bytes: &[u8]) -> &[u8]
@@ -60,7 +62,7 @@ fn spliced(
     more: &[PrimitiveTypeInfo],
     after: &[u8],
     spare: usize,
-) -> Result<Vec<u8>, WriteError>
+) -> Result<Vec<u8>, SectionError>
     ensures written { IfOk result (λ v. v.items ≡ before.now
         ++ section_code ids.Global (globals_with count items.now more.now) ++ after.now) }
     ensures sized { OnOk result (length (globals_with count items.now more.now) < 2 ^ 32) }
@@ -85,7 +87,7 @@ fn grown(
     to: usize,
     globals: &[PrimitiveTypeInfo],
     spare: usize,
-) -> Result<Vec<u8>, WriteError>
+) -> Result<Vec<u8>, SectionError>
     requires room { HasRoom bytes.now layout.now to }
     requires section { IsFirstWith layout.now.sections ids.Global section }
     ensures written { IfOk result (λ v.
@@ -107,7 +109,7 @@ fn started(
     to: usize,
     globals: &[PrimitiveTypeInfo],
     spare: usize,
-) -> Result<Vec<u8>, WriteError>
+) -> Result<Vec<u8>, SectionError>
     requires room { HasRoom bytes.now layout.now to }
     requires none { LackId layout.now.sections ids.Global }
     ensures written { IfOk result (λ v.
@@ -129,7 +131,7 @@ pub fn front_with(
     to: usize,
     globals: &[PrimitiveTypeInfo],
     spare: usize,
-) -> Result<Vec<u8>, WriteError>
+) -> Result<Vec<u8>, SectionError>
     requires room { HasRoom bytes.now layout.now to }
     ensures written { IfOk result (λ v. IsFront bytes.now layout.now globals.now to v.items) }
     ensures too_large { result ≡ Err TooLarge

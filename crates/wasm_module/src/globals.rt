@@ -1,5 +1,6 @@
 //! Globals that are written: what a global section contains with more of them.
-ghost use Rattle.std.specs.Prelude.{◌≡◌, ◌≤◌, ◌^◌, ◌++◌, length, IfOk, IfErr, OnOk};
+ghost use Rattle.std.specs.Prelude.{◌≡◌, ◌↔◌, ◌≤◌, ◌^◌, ◌++◌, length, Contains, IfOk, IfErr, IsTrue, OnOk};
+ghost use Rattle.mutate_base.specs.declared.types.PrimitiveTypeInfo.TheVariants.{Empty};
 ghost use Rattle.wasm_module.specs.Rewritten.{global_code, globals_code};
 ghost use Rattle.wasm_module.specs.Room.{globals_with};
 ghost use Rattle.wasm_sections.specs.declared.writing.WriteError.TheVariants.{TooLarge};
@@ -8,7 +9,7 @@ use crate::sizes::{number_size, sum};
 use mutate_base::PrimitiveTypeInfo;
 use std::alloc::AllocError;
 use wasm_code::put_unsigned;
-use wasm_sections::WriteError;
+use wasm_sections::WriteError as SectionError;
 
 /// The global of the type: it may be written, and starts as zero, or null. Nothing for `Empty`, which no global has.
 fn global_of(tpe: PrimitiveTypeInfo) -> &'static [u8]
@@ -26,6 +27,13 @@ fn global_of(tpe: PrimitiveTypeInfo) -> &'static [u8]
     }
 }
 
+/// Whether `Empty` is among the types, which no global has.
+pub fn has_empty(types: &[PrimitiveTypeInfo]) -> bool
+    ensures { IsTrue result ↔ Contains types.now Empty }
+{
+    types.contains(&PrimitiveTypeInfo::Empty)
+}
+
 /// Appends globals of the types.
 fn put_new_globals(out: &mut Vec<u8>, types: &[PrimitiveTypeInfo]) -> Result<(), AllocError>
     ensures { OnOk result (out.new.items ≡ out.old.items ++ globals_code types.now) }
@@ -41,7 +49,7 @@ pub fn globals_size(
     count: u32,
     items: &[u8],
     types: &[PrimitiveTypeInfo],
-) -> Result<u32, WriteError>
+) -> Result<u32, SectionError>
     ensures ok { IfOk result (λ n. n ≡ length (globals_with count items.now types.now)) }
     ensures too_large { IfErr result (λ _.
         2 ^ 32 ≤ length (globals_with count items.now types.now)) }

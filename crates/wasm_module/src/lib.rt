@@ -11,6 +11,7 @@ mod layout;
 mod listed;
 mod lists;
 mod module;
+mod refusal;
 mod sizes;
 mod spaces;
 mod unknown;
@@ -18,7 +19,8 @@ mod writing;
 
 pub use layout::{Layout, Module};
 pub use module::read_module;
+pub use refusal::WriteError;
 pub use unknown::Unknown;
 pub use wasm_declarations::{Entry, Locals, read_locals};
-pub use wasm_sections::{ModuleError, ModuleFault, Section, SectionId, WriteError};
+pub use wasm_sections::{ModuleError, ModuleFault, Section, SectionId};
 pub use writing::with_body;

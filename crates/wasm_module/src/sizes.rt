@@ -4,10 +4,10 @@ ghost use Rattle.wasm_code.specs.Code.{shortest};
 ghost use Rattle.wasm_sections.specs.declared.writing.WriteError.TheVariants.{TooLarge};
 
 use wasm_code::laws::{shortest_is_a_spelling, shortest_is_least};
-use wasm_sections::WriteError;
+use wasm_sections::WriteError as SectionError;
 
 /// The sum; `TooLarge` where 32 bits don't hold it.
-pub fn sum(a: usize, b: usize) -> Result<u32, WriteError>
+pub fn sum(a: usize, b: usize) -> Result<u32, SectionError>
     ensures ok { IfOk result (λ n. n ≡ a + b) }
     ensures small { OnOk result (a + b < 2 ^ 32) }
     ensures too_large { IfErr result (λ _. 2 ^ 32 ≤ a + b) }
@@ -15,7 +15,7 @@ pub fn sum(a: usize, b: usize) -> Result<u32, WriteError>
 {
     match a.checked_add(b) {
         Some(n) if n <= u32::MAX as usize => Ok(n as u32),
-        _ => Err(WriteError::TooLarge),
+        _ => Err(SectionError::TooLarge),
     }
 }
 

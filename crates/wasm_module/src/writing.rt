@@ -1,24 +1,27 @@
 //! A module with another body and more globals.
-ghost use Rattle.std.specs.Prelude.{◌≡◌, ◌≤◌, ◌<◌, ◌^◌, ◌++◌, ℕ, List, length, drop, Err, IfOk, IfErr, OnOk};
+ghost use Rattle.std.specs.Prelude.{◌≡◌, ◌↔◌, ◌≤◌, ◌<◌, ◌^◌, ◌++◌, ℕ, List, length, drop, Contains, Err, IfOk, IfErr, OnOk};
 ghost use Rattle.mutate_base.specs.Module.{Module};
-ghost use Rattle.wasm_sections.specs.declared.writing.WriteError.TheVariants.{TooLarge};
+ghost use Rattle.mutate_base.specs.declared.types.PrimitiveTypeInfo.TheVariants.{Empty};
+ghost use Rattle.wasm_module.specs.declared.refusal.WriteError.TheVariants.{EmptyType, TooLarge};
 ghost use Rattle.wasm_module.specs.Module.{IsModule};
 ghost use Rattle.wasm_module.specs.Rewritten.{code_with, IsRewritten};
 ghost use Rattle.wasm_module.specs.Limits.{IsTooLarge};
 ghost use Rattle.wasm_module.specs.Room.{IsEntryOf, IsCodePlace, size_with};
 
 use crate::front::front_with;
+use crate::globals::has_empty;
 use crate::layout::Layout;
+use crate::refusal::WriteError;
 use crate::sizes::{number_size, section_size, sum};
 use mutate_base::PrimitiveTypeInfo;
 use std::alloc::{AllocError, Global};
 use wasm_code::put_unsigned;
 use wasm_declarations::Entry;
 use wasm_sections::laws::sections_fill_the_module;
-use wasm_sections::{Section, SectionId, WriteError, find_section, put_head};
+use wasm_sections::{Section, SectionId, WriteError as SectionError, find_section, put_head};
 
 /// How many bytes the code section contains where the entry's contents have so many.
-fn code_size(code: Section, entry: Entry, size: u32) -> Result<u32, WriteError>
+fn code_size(code: Section, entry: Entry, size: u32) -> Result<u32, SectionError>
     requires first { code.contents ≤ entry.start }
     requires order { entry.start ≤ entry.end }
     requires last { entry.end ≤ code.end }
@@ -69,15 +72,15 @@ fn code_place(layout: &Layout, n: usize) -> (Section, Entry)
 }
 
 /// The module with `locals` and `expression` behind one another as the contents of its n-th code entry (n from 0), and with
-/// globals of the types appended to its own, each of which may be written and starts as zero, or null. (`Empty` is no type of a
-/// global: it should not be among them.)
+/// globals of the types appended to its own, each of which may be written and starts as zero, or null.
 ///
 /// The sizes of the entry, of the code section and of the global section, and the number of the globals, are written in as few
 /// bytes as will do. Where there is no global section, one is written where the standard has it; where no globals are given, none
 /// is. Every other byte stands as it stood: custom sections, and the order of all. The sizes are computed first, so that memory is
 /// taken once, as many bytes as the new module has, and each byte is written once.
 ///
-/// `TooLarge` where 32 bits don't hold one of those sizes or the number; `Memory` where no memory was left.
+/// `EmptyType` where `Empty` is among the types, which is no type of a global; `TooLarge` where 32 bits don't hold one of those sizes
+/// or the number; `Memory` where no memory was left.
 pub fn with_body(
     alloc: Global,
     bytes: &[u8],
@@ -91,9 +94,13 @@ pub fn with_body(
     requires inside { n < length layout.now.entries }
     ensures written { IfOk result (λ new. IsRewritten
         bytes.now layout.now n (locals.now ++ expression.now) globals.now new.items) }
+    ensures empty { (result ≡ Err EmptyType) ↔ Contains globals.now Empty }
     ensures too_large { result ≡ Err TooLarge → IsTooLarge
         bytes.now layout.now n (locals.now ++ expression.now) globals.now }
 {
+    if has_empty(globals) {
+        return Err(WriteError::EmptyType);
+    }
     let (code, entry) = code_place(layout, n);
     let size = sum(locals.len(), expression.len())?;
     let whole = code_size(code, entry, size)?;

@@ -19,6 +19,7 @@ returns c =
     let ten = one_more _ _ _ _ _ nine c.in_ok-arg-10.ensures c.list_argument.ensures.local c.list_argument.ensures.rule in
     let eleven = one_more _ _ _ _ _ ten c.in_ok-arg-11.ensures c.blocks_argument.ensures.local c.blocks_argument.ensures.rule in
     let twelve = one_more _ _ _ _ _ eleven c.in_ok-arg-12.ensures c.stats_argument.ensures.local c.stats_argument.ensures.rule in
-    let thirteen = one_more _ _ _ _ _ twelve c.in_ok-arg-13.ensures c.json_argument.ensures.local c.json_argument.ensures.rule in
-    let fourteen = one_more _ _ _ _ _ thirteen c.in_ok-arg-14.ensures c.show_argument.ensures.local c.show_argument.ensures.rule in
-    IfOk-weaker c.arg-15.result _ _ (λ r h. one_more _ r _ _ _ fourteen h c.strip_argument.ensures.local c.strip_argument.ensures.rule) c.arg-15.ensures
+    let thirteen = one_more _ _ _ _ _ twelve c.in_ok-arg-13.ensures c.reach_argument.ensures.local c.reach_argument.ensures.rule in
+    let fourteen = one_more _ _ _ _ _ thirteen c.in_ok-arg-14.ensures c.json_argument.ensures.local c.json_argument.ensures.rule in
+    let fifteen = one_more _ _ _ _ _ fourteen c.in_ok-arg-15.ensures c.show_argument.ensures.local c.show_argument.ensures.rule in
+    IfOk-weaker c.arg-16.result _ _ (λ r h. one_more _ r _ _ _ fifteen h c.strip_argument.ensures.local c.strip_argument.ensures.rule) c.arg-16.ensures

@@ -21,5 +21,6 @@ returns-else-is_memory-clause-lines g c =
       tells_unread c.args.form c.args.bytes.now c.args.wasm.now.info c.args.wasm.now.layout c.args.n c.in-Err.e h.0 (λ l x o f.
           let memory = c.is_memory.ensures.1 (c.in-Err.ensures.only l x o f) in
           let other = c.if-is_memory.false in
-          absurd cc) c.in-Err.ensures.fault h.2,
+          absurd cc)
+          (record { fault = c.in-Err.ensures.fault; known = λ m. let memory = c.is_memory.ensures.1 m in let other = c.if-is_memory.false in absurd cc }) h.2,
     )) c.write_fault.ensures.line

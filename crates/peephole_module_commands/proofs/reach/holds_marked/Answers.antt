@@ -1,7 +1,8 @@
 -- It is marked, or one before it in its block is.
 use Rattle.std.proofs.Common.{◌+◌, not, ◌&&◌, ◌||◌, Bool, sym, ap, subst, ◌∙◌}
 use Rattle.std.specs.Prelude.{◌↔◌, IsTrue}
-use Rattle.peephole_module_commands.specs.Reach.{HoldsReached, IsMarked}
+use Rattle.peephole_rewrites.specs.Reached.{IsMarked}
+use Rattle.peephole_module_commands.specs.Reach.{HoldsReached}
 use Rattle.peephole_module_commands.proofs.ReachLemmas.{holds_next}
 use Rattle.peephole_module_commands.proofs.reach.holds_marked.Goals as goal
 

@@ -1,5 +1,5 @@
 -- What one operator counts.
-use Rattle.peephole_module_commands.specs.Reach.{IsMarked}
+use Rattle.peephole_rewrites.specs.Reached.{IsMarked}
 use Rattle.peephole_module_commands.proofs.ReachLemmas.{counted_at}
 use Rattle.peephole_module_commands.proofs.reach.reach_at.Goals as goal
 

@@ -1,6 +1,7 @@
 -- One operator more.
 use Rattle.std.proofs.Common.{◌≡◌, ℕ, length, subst, arith}
-use Rattle.peephole_module_commands.specs.Reach.{AreCounted, IsMarked, Told}
+use Rattle.peephole_rewrites.specs.Reached.{IsMarked}
+use Rattle.peephole_module_commands.specs.Reach.{AreCounted, Told}
 use Rattle.peephole_module_commands.proofs.ReachLemmas.{counted_none, holds_none, told_next, told_nothing}
 use Rattle.peephole_module_commands.proofs.reach.reach_of_marked.Goals as goal
 

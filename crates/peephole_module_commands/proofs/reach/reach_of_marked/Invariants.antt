@@ -1,6 +1,7 @@
 -- What the operators so far count.
 use Rattle.std.specs.Prelude.{◌↔◌, IsTrue}
-use Rattle.peephole_module_commands.specs.Reach.{AreCounted, HoldsReached, IsMarked, Told}
+use Rattle.peephole_rewrites.specs.Reached.{IsMarked}
+use Rattle.peephole_module_commands.specs.Reach.{AreCounted, HoldsReached, Told}
 use Rattle.peephole_module_commands.proofs.reach.reach_of_marked.Given as goal
 
 abbrev pub invariant-loop-at : goal.invariant-loop-at

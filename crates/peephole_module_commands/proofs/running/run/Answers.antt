@@ -1,44 +1,77 @@
 -- Why the module that was read isn't written rewritten, and what is listed of it.
 use Rattle.std.proofs.Common.{subst, sym}
 use Rattle.std.specs.Prelude.{IfSome}
+use Rattle.std.proofs.lemmas.Result.{IfOk-weaker, err_from_is_err_and}
 use Rattle.peephole_module_commands.specs.Blocks.{TellsBlocks, WritesBlocks}
-use Rattle.peephole_module_commands.specs.Failures.{FailsToDo}
+use Rattle.peephole_module_commands.specs.Failures.{FailsToDo, IsNoOther}
 use Rattle.peephole_module_commands.specs.Form.{form_of}
 use Rattle.peephole_module_commands.specs.Lists.{ListsFunction, WritesList}
 use Rattle.peephole_module_commands.specs.Reports.{ReportsMutated}
 use Rattle.peephole_module_commands.specs.Shown.{ShowsMutated}
 use Rattle.peephole_module_commands.specs.declared.options.Task.{Task}
-use Rattle.peephole_module_commands.specs.declared.options.Task.TheVariants.{Rewrite}
-use Rattle.peephole_module_commands.proofs.FaultsLemmas.{rewrite_fails}
-use Rattle.peephole_module_commands.proofs.TurnLemmas.{ok_map}
+use Rattle.peephole_module_commands.specs.declared.options.Task.TheVariants.{Rewrite, List as Lists, Blocks}
+use Rattle.peephole_module_commands.proofs.FaultsLemmas.{blocks_fail, is_no_other, list_fails, rewrite_fails}
 use Rattle.peephole_module_commands.proofs.WritesLemmas.{err_map, list_kept, of_all}
 use Rattle.peephole_module_commands.proofs.running.run.Goals as goal
 
 pub returns-in-Rewrite-clause-fails : goal.returns-in-Rewrite-clause-fails
 returns-in-Rewrite-clause-fails g c =
     let options = c.args.options.now in
+    let none : IsNoOther c.deref-in-Rewrite.result.now = is_no_other c.deref-in-Rewrite.result.now c.deref.result.now c.deref-2.result.now
+    c.in_ok-bytes.bytes.items c.is_component.result c.is_text.result c.deref-in-Rewrite.ensures.value c.deref.ensures.value c.deref-2.ensures.value
+    c.is_component.ensures c.if-is_component.false c.is_text.ensures c.if-is_text.false in
     err_map c.rewrite.result (λ e h. subst (λ (task : Task). IfSome (g.R.Read.remaining c.args.input.now.device) (λ bytes. FailsToDo task options bytes e))
     (sym c.in-Rewrite.is) (of_all (λ bytes. FailsToDo Rewrite options bytes e) (g.R.Read.remaining c.args.input.now.device)
-    (g.R.Read.remaining c.read_input.new.input.device) c.in_ok-bytes.bytes.items c.deref.result.now c.in_ok-bytes.ensures.bytes c.in_ok-bytes.ensures.end
-    c.deref.ensures.value (rewrite_fails options c.deref.result.now e h))) c.rewrite.ensures.fails
+    (g.R.Read.remaining c.read_input.new.input.device) c.in_ok-bytes.bytes.items c.deref-in-Rewrite.result.now c.in_ok-bytes.ensures.bytes
+    c.in_ok-bytes.ensures.end c.deref-in-Rewrite.ensures.value (rewrite_fails options c.deref-in-Rewrite.result.now e none h))) c.rewrite.ensures.fails
 
 pub returns-in-Rewrite-clause-reported : goal.returns-in-Rewrite-clause-reported
 returns-in-Rewrite-clause-reported g c task asked =
     let options = c.args.options.now in
     let before = g.W.Write.contents c.args.output.now in
     let behind = g.W.Write.contents c.rewrite.new.output in
-    ok_map c.rewrite.result (of_all (λ bytes. ReportsMutated options bytes before behind (g.E.Write.contents c.args.notes.now)
-    (g.E.Write.contents c.rewrite.new.notes)) (g.R.Read.remaining c.args.input.now.device) (g.R.Read.remaining c.read_input.new.input.device) c.in_ok-bytes.bytes.items
-    c.deref.result.now c.in_ok-bytes.ensures.bytes c.in_ok-bytes.ensures.end c.deref.ensures.value) (c.rewrite.ensures.reported asked)
+    IfOk-weaker c.rewrite.result _ _ (λ ending. of_all (λ bytes. ReportsMutated options bytes ending before behind
+    (g.E.Write.contents c.args.notes.now) (g.E.Write.contents c.rewrite.new.notes)) (g.R.Read.remaining c.args.input.now.device)
+    (g.R.Read.remaining c.read_input.new.input.device) c.in_ok-bytes.bytes.items c.deref-in-Rewrite.result.now c.in_ok-bytes.ensures.bytes
+    c.in_ok-bytes.ensures.end c.deref-in-Rewrite.ensures.value) (c.rewrite.ensures.reported asked)
 
 pub returns-in-Rewrite-clause-shown : goal.returns-in-Rewrite-clause-shown
 returns-in-Rewrite-clause-shown g c task quiet =
     let options = c.args.options.now in
     let before = g.W.Write.contents c.args.output.now in
     let behind = g.W.Write.contents c.rewrite.new.output in
-    ok_map c.rewrite.result (of_all (λ bytes. ShowsMutated options bytes before behind (g.E.Write.contents c.args.notes.now)
-    (g.E.Write.contents c.rewrite.new.notes)) (g.R.Read.remaining c.args.input.now.device) (g.R.Read.remaining c.read_input.new.input.device) c.in_ok-bytes.bytes.items
-    c.deref.result.now c.in_ok-bytes.ensures.bytes c.in_ok-bytes.ensures.end c.deref.ensures.value) (c.rewrite.ensures.shown quiet)
+    IfOk-weaker c.rewrite.result _ _ (λ ending. of_all (λ bytes. ShowsMutated options bytes ending before behind
+    (g.E.Write.contents c.args.notes.now) (g.E.Write.contents c.rewrite.new.notes)) (g.R.Read.remaining c.args.input.now.device)
+    (g.R.Read.remaining c.read_input.new.input.device) c.in_ok-bytes.bytes.items c.deref-in-Rewrite.result.now c.in_ok-bytes.ensures.bytes
+    c.in_ok-bytes.ensures.end c.deref-in-Rewrite.ensures.value) (c.rewrite.ensures.shown quiet)
+
+pub returns-in_err-list_rewrites-in-List-clause-fails : goal.returns-in_err-list_rewrites-in-List-clause-fails
+returns-in_err-list_rewrites-in-List-clause-fails g c =
+    let options = c.args.options.now in
+    let bytes = c.deref-in-List.result.now in
+    let none : IsNoOther bytes = is_no_other bytes c.deref.result.now c.deref-2.result.now c.in_ok-bytes.bytes.items c.is_component.result c.is_text.result
+    c.deref-in-List.ensures.value c.deref.ensures.value c.deref-2.ensures.value c.is_component.ensures c.if-is_component.false c.is_text.ensures
+    c.if-is_text.false in
+    let e = c.in_err-list_rewrites-in-List.field-0.0 in
+    let p = err_from_is_err_and c.from_residual-in_err-list_rewrites-in-List.result c.from_residual-in_err-list_rewrites-in-List.ensures.1 in
+    rw (p.1, p.2) (subst (λ (task : Task). IfSome (g.R.Read.remaining c.args.input.now.device) (λ bytes. FailsToDo task options bytes e)) (sym c.in-List.is)
+    (of_all (λ bytes. FailsToDo Lists options bytes e) (g.R.Read.remaining c.args.input.now.device) (g.R.Read.remaining c.read_input.new.input.device)
+    c.in_ok-bytes.bytes.items bytes c.in_ok-bytes.ensures.bytes c.in_ok-bytes.ensures.end c.deref-in-List.ensures.value
+    (list_fails options bytes none e c.in_err-list_rewrites-in-List.ensures.fails)))
+
+pub returns-in_err-list_blocks-in-Blocks-clause-fails : goal.returns-in_err-list_blocks-in-Blocks-clause-fails
+returns-in_err-list_blocks-in-Blocks-clause-fails g c =
+    let options = c.args.options.now in
+    let bytes = c.deref-in-Blocks.result.now in
+    let none : IsNoOther bytes = is_no_other bytes c.deref.result.now c.deref-2.result.now c.in_ok-bytes.bytes.items c.is_component.result c.is_text.result
+    c.deref-in-Blocks.ensures.value c.deref.ensures.value c.deref-2.ensures.value c.is_component.ensures c.if-is_component.false c.is_text.ensures
+    c.if-is_text.false in
+    let e = c.in_err-list_blocks-in-Blocks.field-0.0 in
+    let p = err_from_is_err_and c.from_residual-in_err-list_blocks-in-Blocks.result c.from_residual-in_err-list_blocks-in-Blocks.ensures.1 in
+    rw (p.1, p.2) (subst (λ (task : Task). IfSome (g.R.Read.remaining c.args.input.now.device) (λ bytes. FailsToDo task options bytes e)) (sym c.in-Blocks.is)
+    (of_all (λ bytes. FailsToDo Blocks options bytes e) (g.R.Read.remaining c.args.input.now.device) (g.R.Read.remaining c.read_input.new.input.device)
+    c.in_ok-bytes.bytes.items bytes c.in_ok-bytes.ensures.bytes c.in_ok-bytes.ensures.end c.deref-in-Blocks.ensures.value
+    (blocks_fail options bytes none e c.in_err-list_blocks-in-Blocks.ensures.fails)))
 
 pub returns-in_ok-flush-in-List-clause-listed : goal.returns-in_ok-flush-in-List-clause-listed
 returns-in_ok-flush-in-List-clause-listed g c task =

@@ -13,7 +13,8 @@ returns-clause-reported g c =
     let between = g.E.Write.contents c.report_module.new.notes in
     let middle = g.E.Write.contents c.write_all.new.self in
     let behind = g.E.Write.contents c.write_all-2.new.self in
-    let report = rewrites_report (form_of c.args.options.now) c.args.bytes.now new.module.made.items new.module.stopped new.module.bytes.items in
+    let count = c.args.options.now.count in
+    let report = rewrites_report (form_of c.args.options.now) count c.args.bytes.now new.module.made.items new.module.stopped new.module.bytes.items in
     record {
       writes = record {
         made = new.module.made.items;
@@ -22,6 +23,7 @@ returns-clause-reported g c =
         outcome = c.in_ok-new.ensures.outcome;
         written = subst (λ (text : List ℕ). Appends (g.W.Write.contents c.args.output.now) (g.W.Write.contents c.write_bytes.new.output) text)
             c.deref.ensures.value c.in_ok-write_bytes.ensures.written;
+        ending_is = c.ending_of.ensures;
       };
       between = between;
       before = c.in_ok-report_module.ensures.reports;
@@ -30,6 +32,6 @@ returns-clause-reported g c =
       rewrites = appends_more between middle behind new.shown.items report
           (subst (λ (text : List ℕ). Appends between middle text) c.deref-2.ensures.value c.in_ok-write_all.ensures.bytes)
           (subst (λ (text : List ℕ). Appends middle behind text) (c.deref-3.ensures.value ∙ (c.in_ok-report.ensures.report
-          ∙ ap (λ (form : Form). rewrites_report form c.args.bytes.now new.module.made.items new.module.stopped new.module.bytes.items) c.form.ensures))
+          ∙ ap (λ (form : Form). rewrites_report form count c.args.bytes.now new.module.made.items new.module.stopped new.module.bytes.items) c.form.ensures))
           c.in_ok-write_all-2.ensures.bytes);
     }

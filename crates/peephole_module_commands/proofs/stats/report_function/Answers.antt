@@ -30,6 +30,16 @@ returns-clause-told g c =
             let other = c.if-is_memory.false in
             absurd cc,
         refl,
-        (c.in-Err.e, c.in-Err.ensures.fault, told.2),
+        (
+          c.in-Err.e,
+          record {
+            fault = c.in-Err.ensures.fault;
+            known = λ m.
+                let memory = c.is_memory.ensures.1 m in
+                let other = c.if-is_memory.false in
+                absurd cc;
+          },
+          told.2,
+        ),
       ),
     )

@@ -1,11 +1,16 @@
 -- What clap makes of the words, and what is made of its matches.
-use Rattle.std.proofs.Common.{◌∙◌, map}
+use Rattle.std.proofs.Common.{◌∙◌, map, subst, sym}
+use Rattle.clap.specs.declared.error.kind.ErrorKind.{ErrorKind}
+use Rattle.peephole_module_commands.specs.Arguments.{command_line}
+use Rattle.peephole_module_commands.specs.Options.{AreRefused}
 use Rattle.peephole_module_commands.proofs.OptionsLemmas.{refused_matches, refused_words, say_options}
 use Rattle.peephole_module_commands.proofs.words.options_of.Goals as goal
 
 pub returns-in-Err-clause-refused : goal.returns-in-Err-clause-refused
 returns-in-Err-clause-refused g c =
-    refused_words c.args.names _ (map g.S.AsStr.text c.args.words.now) c.in-Err.error c.in_ok-command.ensures c.in-Err.ensures.kinds
+    subst (λ (kind : ErrorKind). AreRefused (command_line c.args.names) (map g.S.AsStr.text c.args.words.now) kind)
+    (sym c.in_ok-told_anew-in-Err.ensures)
+    (refused_words c.args.names _ (map g.S.AsStr.text c.args.words.now) c.in-Err.error c.in_ok-command.ensures c.in-Err.ensures.kinds)
 
 pub returns-in-Ok-options_from-clause-options : goal.returns-in-Ok-options_from-clause-options
 returns-in-Ok-options_from-clause-options g c =

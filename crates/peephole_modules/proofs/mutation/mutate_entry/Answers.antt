@@ -221,7 +221,7 @@ returns-clause-refused g c =
     (info_of c.args.config.now) c.args.scope.now.rules
     c.args.bytes.now c.info.result.now c.args.layout.now c.args.n c.in-Ok-Some.made.rewrite contents more P
     (info_of_setting g.R.Rng.stream c.args.config.now) c.info.ensures writes holds)
-    (λ e. c.in-Err-with_body.ensures.too_large (ap (λ x. Err x) e)))
+    (λ e. c.in-Err-with_body.ensures.too_large (ap (λ x. Err x) e)) (λ e. c.in-Err-with_body.ensures.empty.0 (ap (λ x. Err x) e)))
 
 pub returns-clause-tried : goal.returns-clause-tried
 returns-clause-tried g c vain =
