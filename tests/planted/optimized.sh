@@ -1,0 +1,12 @@
+#!/usr/bin/env bash
+# An engine that optimizes a module before it runs it: takes a script for spectest-interp, as teddertempo-diff writes it, optimizes the
+# module beside it by wasm-opt, in which a wrong rewrite may be planted, and runs the script on what comes out by an interpreter without
+# a fault.
+#
+# Usage: optimized.sh SCRIPT. OPTIMIZER and INTERPRETER name the two programs, and LEVEL the optimizer's option (-O3).
+set -euo pipefail
+folder=$(mktemp -d)
+trap 'rm -rf "$folder"' EXIT
+cp "$(dirname "$1")"/*.json "$(dirname "$1")/shim.wasm" "$folder/"
+"$OPTIMIZER" -all "${LEVEL:--O3}" "$(dirname "$1")/module.wasm" -o "$folder/module.wasm"
+env -u PLANTED "$INTERPRETER" "$folder/$(basename "$1")"
