@@ -34,6 +34,7 @@ take() {
         mkdir -p "$sources"
         (cd "$sources" && apt-get source "$package") || fail "apt-get source $package: that needs a line deb-src in apt's sources"
     fi
+    rm -rf "$build/$folder.new"
     cp -r "$sources/$folder" "$build/$folder.new"
     patch -s -p1 -d "$build/$folder.new" < "$planted/$patch"
     cp "$planted/$table" "$build/$folder.new/$place"

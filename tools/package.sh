@@ -1,7 +1,7 @@
 #!/usr/bin/env bash
 # Proves and builds the programs and the library, and writes into dist/
 #   - teddertempo-VERSION-x86_64-linux.tar.gz, which runs where it is unpacked: the programs teddertempo and peephole_run,
-#     libteddertempo.a, teddertempo.h, teddertempo.pc, the man page, LICENSE and README.md;
+#     teddertempo-diff (in Python), libteddertempo.a, teddertempo.h, teddertempo.pc, man pages, completions, LICENSE and README.md;
 #   - teddertempo_VERSION_amd64.deb, a Debian package of the same.
 # The version is that of the file VERSION; it fails where the header, the Rust crate, CHANGELOG.md, the program or one of the other
 # places of tools/package/versions.sh has another one.
@@ -76,17 +76,42 @@ fill() {
     sed -e "s|@VERSION@|$version|g" "$@" "tools/package/$template"
 }
 
-# Lays out the files in a folder, with the library in the one of it that is named; the last word is the prefix for teddertempo.pc.
+# The pages of the manual.
+lay_out_pages() {
+    local pages=$1/share/man/man1 date dose
+    date=$(date -u -d "@$SOURCE_DATE_EPOCH" +%Y-%m-%d)
+    dose=$(sed -n 's/^USUAL_DOSE = "\(.*\)"$/\1/p' driver/teddertempo_diff/command.py)
+    mkdir -p "$pages"
+    fill teddertempo.1.in "DATE=$date" > "$pages/teddertempo.1"
+    fill teddertempo-diff.1.in "DATE=$date" "DOSE=$dose" > "$pages/teddertempo-diff.1"
+}
+
+# The completions of three shells, of which zsh has a folder of its own for a distribution's.
+lay_out_completions() {
+    local share=$1/share zsh=$2 completions=tools/package/completions
+    mkdir -p "$share"/{bash-completion/completions,fish/vendor_completions.d} "$share/zsh/$zsh"
+    cp $completions/teddertempo.bash "$share/bash-completion/completions/teddertempo"
+    ln -s teddertempo "$share/bash-completion/completions/teddertempo-diff"
+    cp $completions/*.fish "$share/fish/vendor_completions.d/"
+    cp $completions/_teddertempo "$share/zsh/$zsh/"
+}
+
+# Lays out the files in a folder, with the library in the one of it that is named; then the prefix for teddertempo.pc, and the folder
+# of zsh's completions.
 lay_out() {
-    local root=$1 library=$2 prefix=$3
-    mkdir -p "$root"/{bin,include,share/man/man1} "$root/$library/pkgconfig"
+    local root=$1 library=$2 prefix=$3 zsh=$4
+    mkdir -p "$root"/{bin,include,share/teddertempo/{examples,teddertempo_diff}} "$root/$library/pkgconfig"
     cp "$TEDDERTEMPO_BIN"/{teddertempo,peephole_run} "$root/bin/"
     strip --strip-unneeded "$root"/bin/*
+    cp driver/teddertempo-diff "$root/bin/"
+    cp driver/teddertempo_diff/*.{py,cjs} "$root/share/teddertempo/teddertempo_diff/"
+    cp tests/modules/{hashes,mixes,numbers,sorting,text}.wasm "$root/share/teddertempo/examples/"
     cp "$TEDDERTEMPO_LIB/libteddertempo.a" "$root/$library/"
     strip --strip-debug --enable-deterministic-archives "$root/$library/libteddertempo.a"
     cp include/teddertempo.h "$root/include/"
     fill teddertempo.pc.in "PREFIX=$prefix" "LIBDIR=$library" > "$root/$library/pkgconfig/teddertempo.pc"
-    fill teddertempo.1.in "DATE=$(date -u -d "@$SOURCE_DATE_EPOCH" +%Y-%m-%d)" > "$root/share/man/man1/teddertempo.1"
+    lay_out_pages "$root"
+    lay_out_completions "$root" "$zsh"
 }
 
 # Gives the files of a folder, of which one has programs, their modes and one time.
@@ -108,7 +133,7 @@ depends() {
 
 mkdir -p dist
 name=teddertempo-$version-x86_64-linux
-lay_out "$work/$name" lib "\${pcfiledir}/../.."
+lay_out "$work/$name" lib "\${pcfiledir}/../.." site-functions
 cp LICENSE README.md "$work/$name/"
 settle "$work/$name" "$work/$name/bin"
 tar -C "$work" --sort=name --owner=0 --group=0 --numeric-owner -cf "$work/$name.tar" "$name"
@@ -116,15 +141,15 @@ gzip -9n "$work/$name.tar"
 mv "$work/$name.tar.gz" dist/
 
 root=$work/debian
-lay_out "$root/usr" lib/x86_64-linux-gnu /usr
-gzip -9n "$root/usr/share/man/man1/teddertempo.1"
+lay_out "$root/usr" lib/x86_64-linux-gnu /usr vendor-completions
+gzip -9n "$root/usr/share/man/man1"/*.1
 documents=$root/usr/share/doc/teddertempo
 mkdir -p "$documents" "$root/DEBIAN"
 cp README.md "$documents/"
 cp LICENSE "$documents/copyright"
 gzip -9nc CHANGELOG.md > "$documents/changelog.gz"
 size=$(du -sk --apparent-size "$root/usr" | cut -f1)
-depends=$(depends "$root"/usr/bin/*)
+depends=$(depends "$root"/usr/bin/{teddertempo,peephole_run})
 fill control.in "SIZE=$size" "DEPENDS=$depends" > "$root/DEBIAN/control"
 (cd "$root" && find usr -type f -print0 | sort -z | xargs -0 md5sum) > "$root/DEBIAN/md5sums"
 settle "$root" "$root/usr/bin"

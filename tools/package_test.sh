@@ -1,12 +1,13 @@
 #!/usr/bin/env bash
 # Tests the packages that tools/package.sh wrote into dist/ (or the folder that is named), with no Rattle kit on the path:
-#   - the archive, unpacked into an empty folder: both programs run, the C example is linked by pkg-config alone and rewrites a
-#     module, header and library have one version, and the man page has the options that the program has;
+#   - the archive, unpacked into an empty folder: the programs run, teddertempo-diff finds an engine that falls over rewrites and none
+#     where there is none, the C example is linked by pkg-config alone and rewrites a module, header and library have one version,
+#     and man pages and completions have the options that the programs have;
 #   - the Debian package: installed, the same program and example; then removed, and nothing of it is left.
 # Before, each place of tools/package/versions.sh has the version of the file VERSION. The last line is `N passed, N failed`.
 #
-# Usage: package_test.sh [FOLDER], or package_test.sh --versions for the versions alone, which needs no package. Needs a C compiler
-# and pkg-config; for the Debian package also dpkg and root. Where these aren't there, or the package is installed already, a line
+# Usage: package_test.sh [FOLDER], or package_test.sh --versions for the versions alone, which needs no package. Needs a C compiler,
+# pkg-config and Python 3; for the Debian package also dpkg and root. Where these aren't there, or the package is installed already, a line
 # says so, and that part is left out.
 set -euo pipefail
 packages=${1:-$(dirname "$0")/../dist}
@@ -69,7 +70,7 @@ for file in "$name.tar.gz" "teddertempo_${version}_amd64.deb"; do
 done
 PATH=/usr/sbin:/usr/bin:/sbin:/bin
 export PATH
-for needed in tar gzip "${CC:-cc}" pkg-config; do
+for needed in tar gzip "${CC:-cc}" pkg-config python3; do
     command -v "$needed" > /dev/null || fail "needs $needed on the path $PATH"
 done
 ! command -v rt > /dev/null || fail "finds a Rattle kit in $PATH, and is to show that none is needed"
@@ -128,22 +129,49 @@ END
     test "$(cat said)" = "$version" && test "$(pkg-config --modversion teddertempo)" = "$version"
 }
 
-# The long options of a text, one a line.
-options_in() { sed 's/\\-/-/g' "$1" | grep -o -e '--[a-z][a-z-]*' | grep -v -x -e --cflags -e --libs -e --invoke | sort -u; }
+# The driver finds nothing in an engine that says nothing, and the rewrite where an engine says how long a module is.
+driver_runs() {
+    local driver=$1 status=0
+    rm -rf found none
+    "$driver" --seeds 3 --dose 5 -o none numbers.wasm -- true || return 1
+    "$driver" --seeds 3 --dose 5 --first -o found numbers.wasm -- wc -c @@ || status=$?
+    test "$status" -eq 1 && grep '^function' found/0001-*/rewrite.txt && cmp found/0001-*/original.wasm numbers.wasm
+}
 
+# An engine that is there is run, and finds no difference.
+driver_runs_on() {
+    rm -rf found
+    "$1" --seeds 5 -o found numbers.wasm -- "$2"
+}
+
+# The long options of a text, one a line.
+options_in() { sed 's/\\-/-/g; s/ -l / --/' "$@" | grep -o -e '--[a-z][a-z-]*' | sort -u; }
+
+# The options of a page of the manual, but for those of another program that are named.
 page_has_options() {
-    local page=$1 teddertempo=$2
-    "$teddertempo" --help > help || return 1
+    local page=$1 program=$2 others=$3
+    "$program" --help > help || return 1
     options_in help > of_program
-    options_in "$page" > of_page
+    sed -n '/^\.SH OPTIONS/,/^\.SH [^O]/p' "$page" > section
+    options_in section | grep -v -x -e "$others" > of_page
     diff of_program of_page
+}
+
+completions_have_options() {
+    local programs=$1
+    shift
+    { "$programs/teddertempo" --help && "$programs/teddertempo-diff" --help; } > help || return 1
+    options_in help > of_programs
+    options_in "$@" > of_completions
+    diff of_programs of_completions
 }
 
 page_is_set() { man --warnings -E UTF-8 -l -Tutf8 -Z "$1" 2>&1 > /dev/null | tee warnings && test ! -s warnings; }
 
 unpacked=$work/$name
-for file in bin/teddertempo bin/peephole_run lib/libteddertempo.a lib/pkgconfig/teddertempo.pc include/teddertempo.h \
-    share/man/man1/teddertempo.1 LICENSE README.md; do
+share=$unpacked/share
+for file in bin/teddertempo bin/peephole_run bin/teddertempo-diff lib/libteddertempo.a lib/pkgconfig/teddertempo.pc \
+    include/teddertempo.h share/man/man1/teddertempo.1 share/man/man1/teddertempo-diff.1 LICENSE README.md; do
     judge "$file in the archive" test -s "$unpacked/$file"
 done
 judge "teddertempo" program_runs "$unpacked/bin/teddertempo"
@@ -152,15 +180,25 @@ export PKG_CONFIG_PATH=$unpacked/lib/pkgconfig
 judge "c/mutate.c by pkg-config" example_links
 judge "the version of header and library" versions_agree
 unset PKG_CONFIG_PATH
-judge "the options of the man page" page_has_options "$unpacked/share/man/man1/teddertempo.1" "$unpacked/bin/teddertempo"
-if command -v man > /dev/null; then judge "the man page" page_is_set "$unpacked/share/man/man1/teddertempo.1"; fi
+judge "teddertempo-diff" driver_runs "$unpacked/bin/teddertempo-diff"
+for engine in node spectest-interp; do
+    if command -v "$engine" > /dev/null; then judge "$engine" driver_runs_on "$unpacked/bin/teddertempo-diff" "$engine"; fi
+done
+judge "the options of the man page" page_has_options "$share/man/man1/teddertempo.1" "$unpacked/bin/teddertempo" --none
+judge "the options of the driver's" page_has_options "$share/man/man1/teddertempo-diff.1" "$unpacked/bin/teddertempo-diff" --reach
+for page in "$share"/man/man1/*.1; do
+    if command -v man > /dev/null; then judge "the man page ${page##*/}" page_is_set "$page"; fi
+done
+judge "completions for bash" completions_have_options "$unpacked/bin" "$share/bash-completion/completions/teddertempo"
+judge "completions for zsh" completions_have_options "$unpacked/bin" "$share/zsh/site-functions/_teddertempo"
+judge "completions for fish" completions_have_options "$unpacked/bin" "$share"/fish/vendor_completions.d/*.fish
 
 # The files, not the folders, that the package installs.
 files_of() { dpkg-deb --fsys-tarfile "$packages/teddertempo_${version}_amd64.deb" | tar -t | sed -n 's|^\.\(/.*[^/]\)$|\1|p'; }
 
 nothing_is_left() {
     local file
-    for file in $(files_of); do test ! -e "$file" || { echo "$file"; return 1; }; done
+    for file in $(files_of); do { test ! -e "$file" && test ! -L "$file"; } || { echo "$file"; return 1; }; done
     ! dpkg-query -W teddertempo && ! pkg-config --exists teddertempo
 }
 
@@ -173,6 +211,7 @@ else
     judge "installing the Debian package" dpkg --install "$packages/teddertempo_${version}_amd64.deb"
     judge "teddertempo, installed" program_runs /usr/bin/teddertempo
     judge "peephole_run, installed" peephole_run_runs /usr/bin/peephole_run
+    judge "teddertempo-diff, installed" driver_runs /usr/bin/teddertempo-diff
     judge "c/mutate.c by pkg-config, installed" example_links
     judge "the version of header and library, installed" versions_agree
     judge "removing the Debian package" dpkg --remove teddertempo

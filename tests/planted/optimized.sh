@@ -5,8 +5,9 @@
 #
 # Usage: optimized.sh SCRIPT. OPTIMIZER and INTERPRETER name the two programs, and LEVEL the optimizer's option (-O3).
 set -euo pipefail
-folder=$(mktemp -d)
-trap 'rm -rf "$folder"' EXIT
-cp "$(dirname "$1")"/*.json "$(dirname "$1")/shim.wasm" "$folder/"
-"$OPTIMIZER" -all "${LEVEL:--O3}" "$(dirname "$1")/module.wasm" -o "$folder/module.wasm"
-env -u PLANTED "$INTERPRETER" "$folder/$(basename "$1")"
+beside=$(dirname "$1")
+folder=$beside/optimized
+mkdir -p "$folder"
+cp "$beside"/*.json "$beside/shim.wasm" "$folder/"
+"$OPTIMIZER" -all "${LEVEL:--O3}" "$beside/module.wasm" -o "$folder/module.wasm"
+env -u PLANTED -u PLANTED_HITS "$INTERPRETER" "$folder/$(basename "$1")"

@@ -16,7 +16,7 @@ import shutil
 import subprocess
 import sys
 import tempfile
-from concurrent.futures import ThreadPoolExecutor
+from concurrent.futures import ProcessPoolExecutor, ThreadPoolExecutor
 from dataclasses import dataclass, field, replace
 from pathlib import Path
 
@@ -24,10 +24,10 @@ TOP = Path(__file__).resolve().parents[2]
 sys.path.insert(0, str(TOP / "driver"))
 sys.dont_write_bytecode = True
 
-from teddertempo_diff.campaign import Campaign, Listener, Settings, Summary, find_modules  # noqa: E402
+from teddertempo_diff.campaign import Campaign, Listener, Settings, Subject, find_modules  # noqa: E402
 from teddertempo_diff.command import dose  # noqa: E402
-from teddertempo_diff.engines import Plan, Spectest  # noqa: E402
-from teddertempo_diff.interface import Unreadable  # noqa: E402
+from teddertempo_diff.engines import Spectest  # noqa: E402
+from teddertempo_diff.interface import Interface  # noqa: E402
 from teddertempo_diff.mutator import Mutator  # noqa: E402
 from teddertempo_diff.outcomes import Answer, difference_of  # noqa: E402
 from teddertempo_diff.running import Runner  # noqa: E402
@@ -63,159 +63,141 @@ def faults_of(table: Path) -> list[Fault]:
     return [Fault(row["name"], row["group"], (row["kind"] or "").lower(), row["sentence"]) for row in rows]
 
 
+def digest_of(file: Path) -> str:
+    return hashlib.sha256(file.read_bytes()).hexdigest()[:20]
+
+
+def put(file: Path, content: bytes) -> None:
+    """Writes a file that other processes may look for: it is there whole, or not at all."""
+    with tempfile.NamedTemporaryFile(dir=file.parent, delete=False) as beside:
+        beside.write(content)
+    os.replace(beside.name, file)
+
+
 class Remembering(Mutator):
     """The program, which makes each mutant once: the same ones are run with each fault."""
 
     def __init__(self, program: str, runner: Runner, folder: Path):
         super().__init__(program, [], runner)
-        self.folder = folder
+        self.folder = folder / f"mutants-{digest_of(Path(program))}"
+        self.folder.mkdir(parents=True, exist_ok=True)
 
     def kept(self, module: Path, *words: object) -> Path:
-        return self.folder / "-".join([hashlib.sha256(module.read_bytes()).hexdigest()[:20], *map(str, words)])
+        return self.folder / "-".join([digest_of(module), *map(str, words)])
 
     def rewrite(self, module: Path, seed: int, count: int, new: Path) -> bool:
         kept = self.kept(module, seed, count)
         if not kept.exists():
-            if not super().rewrite(module, seed, count, new):
-                new.write_bytes(b"")
-            with tempfile.NamedTemporaryFile(dir=self.folder, delete=False) as beside:
-                beside.write(new.read_bytes())
-            os.replace(beside.name, kept)
+            put(kept, new.read_bytes() if super().rewrite(module, seed, count, new) else b"")
         shutil.copyfile(kept, new)
         return new.stat().st_size > 0
 
     def rewritable(self, module: Path) -> int:
         kept = self.kept(module, "rewritable")
         if not kept.exists():
-            kept.write_text(str(super().rewritable(module)))
+            put(kept, str(super().rewritable(module)).encode())
         return int(kept.read_text())
 
 
 class Bench:
-    """The engine, the modules that it runs, and their mutants. One fault is switched on at a time, for all that runs then."""
+    """The engine, with a fault or without one, and what is run on it."""
+
+    def __init__(self, options: argparse.Namespace, fault: str | None, hits: Path | None = None):
+        variables = {"PLANTED": fault, "PLANTED_HITS": hits}
+        words = [f"{name}={value}" for name, value in variables.items() if value]
+        self.options = options
+        self.engine = Spectest(["env", *words, *options.engine] if words else options.engine, CALLS)
+        self.folder = Path(options.folder)
+
+    def campaign(self, amount: str, modules: list[Path], jobs: int, first: bool) -> Campaign:
+        """A run of teddertempo-diff on the modules, at its end."""
+        runner = Runner(self.options.timeout)
+        settings = Settings(range(self.options.seeds), dose(amount), jobs, every=not first, first=first)
+        with tempfile.TemporaryDirectory() as folder:
+            store = Store(Path(folder), {}, False)
+            mutator = Remembering(self.options.teddertempo, runner, self.folder)
+            made = Campaign(settings, self.engine, mutator, runner, store, Listener())
+            made.run(modules)
+            store.close()
+        return made
+
+    def answers(self, subject: Subject, module: Path) -> tuple[Answer, ...]:
+        """What a module answers to the calls of a subject."""
+        with tempfile.TemporaryDirectory() as folder:
+            shutil.copyfile(module, Path(folder) / "module.wasm")
+            return self.engine.observe(Runner(self.options.timeout), Path(folder), "module.wasm", subject.plan).answers
+
+    def differs(self, subject: Subject, made: Path) -> bool:
+        return difference_of(self.answers(subject, subject.path), self.answers(subject, made), False) is not None
+
+    def call(self, subject: Subject) -> None:
+        """Makes the calls of a subject itself, and looks at nothing: all that is executed is the module's own."""
+        with tempfile.TemporaryDirectory() as name:
+            folder = Path(name)
+            shutil.copyfile(subject.path, folder / "module.wasm")
+            bare = replace(subject.plan, interface=Interface())
+            for command in self.engine.lay_out(folder, folder, "module.wasm", bare):
+                Runner(self.options.timeout).run(command)
+
+
+class Experiment:
+    """The modules on which the faults are looked for, and what the optimizer makes of them."""
 
     def __init__(self, options: argparse.Namespace):
         self.options = options
-        self.engine = Spectest(options.engine, CALLS)
-        self.folder = Path(options.folder)
-        self.mutants = self.folder / "mutants"
-        self.mutants.mkdir(parents=True, exist_ok=True)
-        self.modules = find_modules(options.modules)
-        self.plans: dict[Path, Plan] = {}
+        self.subjects: list[Subject] = []
+        self.pairs: dict[str, list[tuple[Subject, Path]]] = {}
+        self.differing: set[Path] = set()
 
-    def switch(self, fault: str | None, hits: Path | None = None) -> None:
-        """Switches a fault on, or all off; where a file is named, the engine notes there that it changed something."""
-        for name, value in (("PLANTED", fault), ("PLANTED_HITS", hits)):
-            os.environ.pop(name, None)
-            if value:
-                os.environ[name] = str(value)
-
-    def campaign(self, amount: str, modules: list[Path], first: bool) -> Summary:
-        """Runs teddertempo-diff on the modules, with what is switched on."""
-        runner = Runner(self.options.timeout)
-        settings = Settings(range(self.options.seeds), dose(amount), self.options.jobs, every=not first, first=first)
-        mutator = Remembering(self.options.teddertempo, runner, self.mutants)
-        with tempfile.TemporaryDirectory() as folder:
-            store = Store(Path(folder), {}, False)
-            try:
-                return Campaign(settings, self.engine, mutator, runner, store, Listener()).run(modules)
-            finally:
-                store.close()
-
-    def answers(self, module: Path, plan: Plan) -> tuple[Answer, ...]:
-        """What a module answers, with what is switched on."""
-        with tempfile.TemporaryDirectory() as folder:
-            shutil.copyfile(module, Path(folder) / "module.wasm")
-            return self.engine.observe(Runner(self.options.timeout), Path(folder), "module.wasm", plan).answers
-
-    def each(self, function, modules: list[Path]) -> list:
-        with ThreadPoolExecutor(self.options.jobs) as pool:
-            return list(pool.map(function, modules))
-
-    # ---- the engine without a fault
-
-    def take_modules(self) -> int:
-        """Keeps the modules that the engine runs without a fault, and whose mutants differ at no dose; answers how many differed."""
-        self.switch(None)
-        differing: set[Path] = set()
+    def take(self) -> None:
+        """Takes the modules that the engine runs without a fault, and whose mutants differ at no dose."""
+        bench = Bench(self.options, None)
+        modules = find_modules(self.options.modules)
         for amount in self.options.doses:
-            summary = self.campaign(amount, self.modules, first=False)
-            differing |= {Path(finding.module) for finding, _ in summary.findings}
-            for finding, _ in summary.findings:
-                print(f"without a fault: {finding.module}: {finding.rule}: {finding.original}; {finding.rewrite}", flush=True)
-            self.modules = [module for module in self.modules if str(module) not in summary.skipped]
-        self.modules = [module for module in self.modules if module not in differing]
-        self.each(self.take_plan, self.modules)
-        return len(differing)
+            campaign = bench.campaign(amount, modules, self.options.jobs, first=False)
+            for finding, _ in campaign.summary.findings:
+                print(f"without a fault: {finding.module}: {finding.rule}: {finding.before}; {finding.behind}", flush=True)
+                self.differing.add(Path(finding.module))
+            self.subjects = [subject for subject in campaign.subjects if subject.path not in self.differing]
+            modules = [subject.path for subject in self.subjects]
+        with ThreadPoolExecutor(self.options.jobs) as pool:
+            for pipeline in PIPELINES:
+                made = pool.map(lambda subject: self.optimized(bench, subject, pipeline), self.subjects)
+                self.pairs[pipeline] = [(subject, file) for subject, file in zip(self.subjects, made) if file]
 
-    def take_plan(self, module: Path) -> None:
-        try:
-            interface = self.engine.interface_of(module.read_bytes())
-        except Unreadable:
-            return
-        plan = Plan(interface, self.engine.calls(interface))
-        if not any(answer.kind.value in ("out of time", "exhausted") for answer in self.answers(module, plan)):
-            self.plans[module] = plan
-
-    def optimized(self, module: Path, pipeline: str) -> Path:
-        """The module as a pipeline of the optimizer makes it; without a fault it answers the same, else it isn't there."""
-        made = self.folder / f"optimized{pipeline}-{hashlib.sha256(str(module).encode()).hexdigest()[:20]}.wasm"
-        if not made.exists():
-            subprocess.run([self.options.optimizer, "-all", pipeline, str(module), "-o", str(made)], check=True, capture_output=True)
-        return made
-
-    def take_optimized(self) -> None:
-        """Makes the modules of the pipelines, and keeps those that answer as before."""
-        self.switch(None)
-        self.pairs = {pipeline: [module for module in self.each(lambda module: self.fit(module, pipeline), list(self.plans)) if module]
-                      for pipeline in PIPELINES}
-
-    def fit(self, module: Path, pipeline: str) -> Path | None:
-        try:
-            made = self.optimized(module, pipeline)
-        except subprocess.CalledProcessError:
+    def optimized(self, bench: Bench, subject: Subject, pipeline: str) -> Path | None:
+        """The module as a pipeline of the optimizer makes it, where it answers as before without a fault."""
+        made = Path(self.options.folder) / f"optimized{pipeline}-{digest_of(subject.path)}.wasm"
+        command = [self.options.optimizer, "-all", pipeline, str(subject.path), "-o", str(made)]
+        if not made.exists() and subprocess.run(command, capture_output=True).returncode != 0:
             return None
-        return None if self.differs(module, made) else module
-
-    def differs(self, module: Path, made: Path) -> bool:
-        plan = self.plans[module]
-        return difference_of(self.answers(module, plan), self.answers(made, plan), False) is not None
-
-    # ---- with a fault
+        return None if bench.differs(subject, made) else made
 
     def try_fault(self, fault: Fault) -> Result:
+        """Runs everything with one fault, on one core, so that what is found first is always the same."""
+        bench = Bench(self.options, fault.name)
         result = Result(executed=self.executed(fault))
-        self.switch(fault.name)
         for amount in self.options.doses:
-            summary = self.campaign(amount, self.modules, first=True)
-            result.costs[amount] = summary.runs, summary.seconds
-            result.revealed.update({amount: finding.rule for finding, _ in summary.findings})
-        result.pipelines = [pipeline for pipeline in PIPELINES if self.reveals(pipeline)]
-        self.switch(None)
+            campaign = bench.campaign(amount, [subject.path for subject in self.subjects], 1, first=True)
+            result.costs[amount] = campaign.summary.runs, campaign.summary.seconds
+            result.revealed.update({amount: finding.rule for finding, _ in campaign.summary.findings})
+        result.pipelines = [pipeline for pipeline, pairs in self.pairs.items() if any(bench.differs(*pair) for pair in pairs)]
         return result
 
     def executed(self, fault: Fault) -> int:
-        """How many modules execute the fault; what is looked at behind the calls isn't theirs."""
+        """How many modules execute the fault."""
         with tempfile.TemporaryDirectory() as folder:
             hits = Path(folder) / "hits"
-            self.switch(fault.name, hits)
-            self.each(lambda module: self.answers(module, bare(self.plans[module])), list(self.plans))
+            bench = Bench(self.options, fault.name, hits)
+            for subject in self.subjects:
+                bench.call(subject)
             return len(hits.read_text().splitlines()) if hits.exists() else 0
-
-    def reveals(self, pipeline: str) -> bool:
-        return any(self.each(lambda module: self.differs(module, self.optimized(module, pipeline)), self.pairs[pipeline]))
-
-
-def bare(plan: Plan) -> Plan:
-    """The plan without the memories and globals."""
-    exports = [export for export in plan.interface.exports if export.kind == "function"]
-    return replace(plan, interface=replace(plan.interface, exports=exports))
 
 
 def line_of(fault: Fault, result: Result, doses: list[str]) -> str:
     """A row of the table."""
-    cells = [result.revealed.get(amount, "-") for amount in doses]
-    return f"| `{fault.name}` | {fault.group} | {fault.kind} | {result.executed} | {' | '.join(cells)} | {' '.join(result.pipelines) or '-'} |"
+    cells = [fault.group, str(result.executed), *(result.revealed.get(amount, "-") for amount in doses), " ".join(result.pipelines) or "-"]
+    return f"| `{fault.name}` | {' | '.join(cells)} |"
 
 
 def totals(results: list[Result], doses: list[str]) -> list[str]:
@@ -224,7 +206,7 @@ def totals(results: list[Result], doses: list[str]) -> list[str]:
         runs = sum(result.costs[amount][0] for result in results)
         seconds = sum(result.costs[amount][1] for result in results)
         found = sum(amount in result.revealed for result in results)
-        lines.append(f"dose {amount}: {found} of {len(results)} revealed, {runs:,} runs in {seconds:,.0f} s")
+        lines.append(f"dose {amount}: {found} of {len(results)} revealed, {runs:,} runs in {seconds:,.0f} s of a core")
     any_dose = sum(bool(result.revealed) for result in results)
     by_pipelines = sum(bool(result.pipelines) for result in results)
     return [*lines, f"any dose: {any_dose}; the optimizer's pipelines: {by_pipelines}"]
@@ -239,7 +221,7 @@ def options_of() -> argparse.Namespace:
     parser.add_argument("--optimizer", required=True, help="the optimizer whose pipelines mutate")
     parser.add_argument("--doses", nargs="+", default=["50", "400"])
     parser.add_argument("--seeds", type=int, default=10)
-    parser.add_argument("--jobs", type=int, default=os.cpu_count() or 1)
+    parser.add_argument("--jobs", type=int, default=len(os.sched_getaffinity(0)))
     parser.add_argument("--timeout", type=float, default=5.0)
     parser.add_argument("--engine", nargs="+", required=True)
     parser.add_argument("--modules", nargs="+", required=True)
@@ -248,22 +230,23 @@ def options_of() -> argparse.Namespace:
 
 def main() -> int:
     options = options_of()
-    bench = Bench(options)
-    differing = bench.take_modules()
-    bench.take_optimized()
+    Path(options.folder).mkdir(parents=True, exist_ok=True)
+    experiment = Experiment(options)
+    experiment.take()
     faults = [fault for fault in faults_of(options.table) if not options.only or fault.name in options.only]
-    print(f"{len(bench.modules)} modules, {options.seeds} mutants of each")
-    print(f"| Fault | Of | On | Executed by | {' | '.join(f'At {amount}' for amount in options.doses)} | Pipelines |")
-    print("|---|---|---|---|" + "---|" * (len(options.doses) + 1))
+    print(f"{len(experiment.subjects)} modules, {options.seeds} mutants of each")
+    print(f"| Fault | Of | Executed by | {' | '.join(f'At {amount}' for amount in options.doses)} | Pipelines |")
+    print("|---|---|---|" + "---|" * (len(options.doses) + 1))
     results = []
-    for fault in faults:
-        results.append(bench.try_fault(fault))
-        print(line_of(fault, results[-1], options.doses), flush=True)
+    with ProcessPoolExecutor(options.jobs) as pool:
+        for fault, result in zip(faults, pool.map(experiment.try_fault, faults)):
+            results.append(result)
+            print(line_of(fault, result, options.doses), flush=True)
     print(*totals(results, options.doses), sep="\n")
     unexecuted = [fault.name for fault, result in zip(faults, results) if result.executed == 0]
     if unexecuted:
         print(f"not executed: {', '.join(unexecuted)}")
-    failed = (differing > 0) + len(unexecuted)
+    failed = (len(experiment.differing) > 0) + len(unexecuted)
     print(f"{1 + len(faults) - failed} passed, {failed} failed")
     return 1 if failed else 0
 

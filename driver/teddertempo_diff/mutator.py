@@ -1,0 +1,108 @@
+"""The program teddertempo: rewrites a module under a seed, counts what it may rewrite, and shows a rewrite."""
+
+from __future__ import annotations
+
+import json
+import re
+import shutil
+from dataclasses import dataclass
+from pathlib import Path
+
+from .running import Finished, Runner
+
+NOTHING_TO_REWRITE, MISUSED = 2, 64
+
+# What rewriting takes, and what is shown of many rewrites, is bounded apart from the engine.
+SECONDS, MOST_SHOWN = 600.0, 256 << 20
+
+
+class MutatorFailure(Exception):
+    """The program refused a module, or isn't there."""
+
+
+class MutatorMisuse(Exception):
+    """The program doesn't take the options that it is given."""
+
+
+@dataclass(frozen=True)
+class Rewrite:
+    """A rewrite as the program shows it, and the rule that made it."""
+
+    rule: str
+    text: str
+
+
+@dataclass(frozen=True)
+class Dose:
+    """How many rewrites a mutant has: a number of them, or so many for each hundred operators that a rule may rewrite."""
+
+    amount: float
+    is_share: bool
+
+    def count(self, rewritable: int) -> int:
+        return max(1, round(rewritable * self.amount / 100) if self.is_share else round(self.amount))
+
+    def __str__(self) -> str:
+        return f"{self.amount:g}%" if self.is_share else f"{self.amount:g}"
+
+
+def find_program(named: str | None) -> str:
+    """The program that is named, else the one beside this one, else the one on the path."""
+    if named:
+        return named
+    beside = Path(__file__).resolve().parents[3] / "bin" / "teddertempo"
+    found = str(beside) if beside.exists() else shutil.which("teddertempo")
+    if not found:
+        raise MutatorFailure("teddertempo is neither beside this program nor on the path; --teddertempo names it")
+    return found
+
+
+class Mutator:
+    """The program, with the options that choose among rewrites."""
+
+    def __init__(self, program: str, options: list[str], runner: Runner):
+        self.program = program
+        self.options = options
+        self.runner = runner
+
+    def run(self, arguments: list[str]) -> Finished:
+        try:
+            finished = self.runner.run([self.program, *arguments], SECONDS, MOST_SHOWN)
+        except OSError as error:
+            raise MutatorFailure(f"{self.program}: {error.strerror}") from error
+        if finished.too_much_output or finished.out_of_time:
+            raise MutatorFailure("teddertempo takes too long, or shows too much")
+        if finished.status not in (0, NOTHING_TO_REWRITE):
+            message = finished.errors.decode("utf-8", "replace").strip() or f"teddertempo ended with status {finished.status}"
+            raise MutatorMisuse(message) if finished.status == MISUSED else MutatorFailure(message.split("\n")[0])
+        return finished
+
+    def version(self) -> str:
+        return self.run(["--version"]).output.decode().strip()
+
+    def rewritable(self, module: Path) -> int:
+        """How many operators of the module a rule may rewrite."""
+        errors = self.run([*self.options, "--reach", "--json", str(module), "-o", "/dev/null"]).errors
+        for line in errors.decode().splitlines():
+            report = json.loads(line) if line.startswith("{") else {}
+            if report.get("of") == "operators":
+                return report["rewritable"]
+        return 0
+
+    def rewrite(self, module: Path, seed: int, count: int, new: Path) -> bool:
+        """Writes the module rewritten; answers whether there was something to rewrite."""
+        arguments = [*self.options, "--seed", str(seed), "--count", str(count), str(module), "-o", str(new)]
+        return self.run(arguments).status == 0
+
+    def shown(self, module: Path, seed: int, count: int) -> Rewrite:
+        """The last of so many rewrites."""
+        arguments = [*self.options, "--seed", str(seed), "--count", str(count), "--show", str(module), "-o", "/dev/null"]
+        text = self.run(arguments).errors.decode("utf-8", "replace")
+        parts = re.split(r"^(?=function \d+ operator \d+ rule \w+$)", text, flags=re.M)
+        last = parts[-1]
+        rule = re.match(r"function \d+ operator \d+ rule (\w+)", last)
+        return Rewrite(rule.group(1) if rule else "unknown", last)
+
+    def command(self, seed: int, count: int, module: str, new: str) -> list[str]:
+        """The command that makes a mutant again."""
+        return ["teddertempo", *self.options, "--seed", str(seed), "--count", str(count), module, "-o", new]

@@ -1,0 +1,55 @@
+# Completions of teddertempo and teddertempo-diff for bash.
+
+# The names of the rules, as the program knows them.
+_teddertempo_rules() { teddertempo --help 2> /dev/null | tr -d '\n' | sed -n 's/.*\[possible values: \([a-z_0-9, ]*\)\].*/\1/p' | tr -d ','; }
+
+_teddertempo_words() { mapfile -t COMPREPLY < <(compgen -W "$1" -- "${COMP_WORDS[COMP_CWORD]}"); }
+
+_teddertempo_modules() { mapfile -t COMPREPLY < <(compgen -d -- "$1"; compgen -f -X '!*.wasm' -- "$1"); }
+
+_teddertempo()
+{
+    local word=${COMP_WORDS[COMP_CWORD]} before=${COMP_WORDS[COMP_CWORD - 1]}
+    case $before in
+        --rule | --not-rule) _teddertempo_words "$(_teddertempo_rules)" ;;
+        --seed | --count | --function | --max-size) COMPREPLY=() ;;
+        -o | --output) mapfile -t COMPREPLY < <(compgen -f -- "$word") ;;
+        *)
+            if [[ $word == -* ]]; then
+                _teddertempo_words "--blocks --count --function --help --json --list --max-size --not-rule --output --quiet --reach
+                    --rule --seed --show --shrink --stats --strip-debug --version"
+            else
+                _teddertempo_modules "$word"
+            fi
+            ;;
+    esac
+}
+
+_teddertempo_diff()
+{
+    local word=${COMP_WORDS[COMP_CWORD]} before=${COMP_WORDS[COMP_CWORD - 1]} place
+    for ((place = 1; place < COMP_CWORD; place++)); do
+        if [[ ${COMP_WORDS[place]} == -- ]]; then
+            if ((place == COMP_CWORD - 1)); then mapfile -t COMPREPLY < <(compgen -c -- "$word"); fi
+            return
+        fi
+    done
+    case $before in
+        --rule | --not-rule) _teddertempo_words "$(_teddertempo_rules)" ;;
+        --as) _teddertempo_words "node plain spectest-interp wasmer wasmtime" ;;
+        --calls | --dose | --jobs | --max-size | --seeds | --time | --timeout) COMPREPLY=() ;;
+        -o | --output) mapfile -t COMPREPLY < <(compgen -d -- "$word") ;;
+        --teddertempo) mapfile -t COMPREPLY < <(compgen -f -- "$word") ;;
+        *)
+            if [[ $word == -* ]]; then
+                _teddertempo_words "--all --as --calls --continue --dose --first --help --jobs --json --max-size --not-rule --output --quiet
+                    --rule --seeds --strict --teddertempo --time --timeout --version --"
+            else
+                _teddertempo_modules "$word"
+            fi
+            ;;
+    esac
+}
+
+complete -o filenames -F _teddertempo teddertempo
+complete -o filenames -F _teddertempo_diff teddertempo-diff
