@@ -14,7 +14,7 @@ use Rattle.peephole_modules.specs.declared.attempt.Reason.TheVariants.{NoRule, N
 use Rattle.peephole_modules.specs.declared.function.FunctionError.{FunctionError}
 use Rattle.peephole_modules.specs.declared.times.MadeRewrite.{MadeRewrite}
 use Rattle.peephole_module_commands.specs.Blocks.{TellsBlock, TellsBlocks, TellsFault}
-use Rattle.peephole_module_commands.specs.Failures.{FailsToDo, FailsToList, FailsToRead, FailsToReport, FailsToRewrite, IsNoOther, IsReasonToListNone}
+use Rattle.peephole_module_commands.specs.Failures.{FailsAtTask, FailsToDo, FailsToList, FailsToRead, FailsToReport, IsNoOther, IsReasonToListNone}
 use Rattle.peephole_module_commands.specs.Front.{is_component, is_text}
 use Rattle.peephole_module_commands.specs.Lines.{rewrite_line}
 use Rattle.peephole_module_commands.specs.Lists.{InTurn}
@@ -23,6 +23,7 @@ use Rattle.peephole_module_commands.specs.declared.failure.Failure.{Failure}
 use Rattle.peephole_module_commands.specs.declared.failure.Failure.TheVariants.{Nothing, Input, TooLong, Component, TextFormat, Output, Memory}
 use Rattle.peephole_module_commands.specs.declared.form.Form.{Form}
 use Rattle.peephole_module_commands.specs.declared.options.Options.{Options}
+use Rattle.peephole_module_commands.specs.declared.options.Task.{Task}
 use Rattle.peephole_module_commands.specs.declared.options.Task.TheVariants.{Rewrite, List as Lists, Blocks}
 use Rattle.peephole_module_commands.proofs.TurnLemmas.{appends_more}
 
@@ -110,34 +111,22 @@ index_fails only bytes info layout e reason is h because = subst (FailsToList on
     listed (UnknownImport x) k = record { info = info; layout = layout; is = is; refuses = k }
     listed (Refused x) k = absurd k
 
-pub rewrite_fails : (options : Options) (bytes : List ℕ) (e : Failure) → IsNoOther bytes → FailsToRewrite options bytes e → FailsToDo Rewrite options bytes e
-rewrite_fails options bytes (Nothing reason) none h = (none, h)
-rewrite_fails options bytes Input none h = tt
-rewrite_fails options bytes TooLong none h = absurd h
-rewrite_fails options bytes Component none h = absurd h
-rewrite_fails options bytes TextFormat none h = absurd h
-rewrite_fails options bytes Output none h = h
-rewrite_fails options bytes Memory none h = h
-
--- of a list, or of blocks
-module _ (options : Options) (bytes : List ℕ) (none : IsNoOther bytes) where
-  pub list_fails : (e : Failure) → FailsToList options.function bytes e → FailsToDo Lists options bytes e
-  list_fails (Nothing reason) h = (none, h)
-  list_fails Input h = tt
-  list_fails TooLong h = absurd h
-  list_fails Component h = absurd h
-  list_fails TextFormat h = absurd h
-  list_fails Output h = h
-  list_fails Memory h = h
-
-  pub blocks_fail : (e : Failure) → FailsToList options.function bytes e → FailsToDo Blocks options bytes e
-  blocks_fail (Nothing reason) h = (none, h)
-  blocks_fail Input h = tt
-  blocks_fail TooLong h = absurd h
-  blocks_fail Component h = absurd h
-  blocks_fail TextFormat h = absurd h
-  blocks_fail Output h = h
-  blocks_fail Memory h = h
+-- a task fails at what was read: its own faults are none of the input's
+pub task_fails : (task : Task) (options : Options) (bytes : List ℕ) (e : Failure) → IsNoOther bytes → FailsAtTask task options bytes e →
+    FailsToDo task options bytes e
+task_fails task options bytes (Nothing reason) none h = (none, h)
+task_fails task options bytes Input none h = tt
+task_fails Rewrite options bytes TooLong none h = absurd h
+task_fails Lists options bytes TooLong none h = absurd h
+task_fails Blocks options bytes TooLong none h = absurd h
+task_fails Rewrite options bytes Component none h = absurd h
+task_fails Lists options bytes Component none h = absurd h
+task_fails Blocks options bytes Component none h = absurd h
+task_fails Rewrite options bytes TextFormat none h = absurd h
+task_fails Lists options bytes TextFormat none h = absurd h
+task_fails Blocks options bytes TextFormat none h = absurd h
+task_fails task options bytes Output none h = h
+task_fails task options bytes Memory none h = h
 
 -- the bytes that were looked at are neither a component nor a text
 pub is_no_other : (given first second text : List ℕ) (component other : Bool) → given ≡ text → first ≡ text → second ≡ text →

@@ -44,7 +44,8 @@ abbrev pub arguments : (names : Bor (List (Bor Text))) → List Rule
 arguments names =
     input_rule ∷ output_rule ∷ seed_rule ∷ valued (codes "count") number ∷ valued (codes "function") number ∷ naming (codes "rule") names
     ∷ naming (codes "not-rule") names ∷ flag (codes "shrink") ∷ valued (codes "max-size") number ∷ flag (codes "list")
-    ∷ flag (codes "blocks") ∷ flag (codes "stats") ∷ flag (codes "reach") ∷ flag (codes "json") ∷ flag (codes "show") ∷ flag (codes "strip-debug") ∷ []
+    ∷ flag (codes "blocks") ∷ flag (codes "stats") ∷ flag (codes "reach") ∷ flag (codes "json") ∷ flag (codes "show") ∷ flag (codes "strip-debug")
+    ∷ flag (codes "quiet") ∷ []
 
 -- The command line, where the rules have these names.
 abbrev pub command_line : (names : Bor (List (Bor Text))) → App

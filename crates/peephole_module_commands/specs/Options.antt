@@ -40,6 +40,7 @@ flags_of rows = record {
   json = is_set (codes "json") rows;
   show = is_set (codes "show") rows;
   strip_debug = is_set (codes "strip-debug") rows;
+  quiet = is_set (codes "quiet") rows;
 }
 
 -- what the program does: where neither list nor blocks are asked for, it rewrites
@@ -189,6 +190,7 @@ pub record AreOptions (rows : List Row) (options : Options) : Type 0 where
   pub json : options.json ≡ (flags_of rows).json
   pub show : options.show ≡ (flags_of rows).show
   pub strip_debug : options.strip_debug ≡ (flags_of rows).strip_debug
+  pub quiet : options.quiet ≡ (flags_of rows).quiet
 
 -- Why they are none.
 abbrev pub AreMisused : List Row → Misuse → Type 0

@@ -197,6 +197,17 @@ fn strip_argument<'a>(alloc: Global) -> Arg<'a>
     )
 }
 
+fn quiet_argument<'a>(alloc: Global) -> Arg<'a>
+    ensures rule { rule_of result ≡ flag (codes "quiet") }
+    ensures local { result.global ≡ false }
+{
+    flag_argument(
+        alloc,
+        "quiet",
+        "Tells nothing on standard error but what is asked for, and why it fails",
+    )
+}
+
 // The exit statuses, and how the program is used.
 const AFTER_HELP: &str = "\
 Exit status:
@@ -235,5 +246,6 @@ pub fn command<'a>(alloc: Global, names: &'a [&'a str]) -> Result<Command<'a>, A
         .arg(reach_argument(alloc))?
         .arg(json_argument(alloc))?
         .arg(show_argument(alloc))?
-        .arg(strip_argument(alloc))
+        .arg(strip_argument(alloc))?
+        .arg(quiet_argument(alloc))
 }

@@ -51,9 +51,9 @@ fn fault_operator(error: &FunctionError) -> Option<OperatorCode>
     }
 }
 
-// What is told of a fault: its name, and where it is.
+// A fault as it is told: its name, and where it is.
 #[derive(Clone, Copy, Debug)]
-struct Told {
+struct NamedFault {
     name: &'static str,
     offset: usize,
 }
@@ -71,7 +71,7 @@ fn write_fault_words<W: Write>(
     output: &mut W,
     word: &str,
     number: usize,
-    told: Told,
+    told: NamedFault,
 ) -> Result<(), Failure>
     ensures line { OnOk result (Appends (W.contents output.old) (W.contents output.new)
         (words_of word.now number told.name.now told.offset None)) }
@@ -87,7 +87,7 @@ fn write_operator_words<W: Write>(
     output: &mut W,
     word: &str,
     number: usize,
-    told: Told,
+    told: NamedFault,
     code: OperatorCode,
 ) -> Result<(), Failure>
     ensures line { OnOk result (Appends (W.contents output.old) (W.contents output.new)
@@ -115,7 +115,7 @@ fn write_words<W: Write>(
         (fault_words word.now number start error.now)) }
     ensures fails { IfErr result FailsToReport }
 {
-    let told = Told {
+    let told = NamedFault {
         name: fault_name(error),
         offset: fault_offset(error, start),
     };

@@ -48,6 +48,8 @@ pub struct Options {
     pub show: bool,
     /// Whether custom sections that name places in the code are dropped once the module is rewritten.
     pub strip_debug: bool,
+    /// Whether nothing is told that isn't asked for, but why the run fails.
+    pub quiet: bool,
     pub ghost some: { 0 < count },
 }
 
@@ -128,4 +130,5 @@ pub struct Flags {
     pub json: bool,
     pub show: bool,
     pub strip_debug: bool,
+    pub quiet: bool,
 }

@@ -194,6 +194,9 @@ pub fn run<R: Read, W: Write, E: Write, P: Watch + Drop>(
     ensures blocks { options.now.task ≡ Task.Blocks → OnOk result
         (IfSome (R.remaining input.old.device) (λ bytes. WritesBlocks (form_of options.now)
         options.now.function bytes (W.contents output.old) (W.contents output.new))) }
+    // A list, and the blocks, are whole.
+    ensures whole { options.now.task ≢ Task.Rewrite → IfOk result (λ ending.
+        ending ≡ Ending.Whole) }
     // Where the options ask for it, the notes tell of functions, of rewrites, and of the rules' reach.
     ensures reported { options.now.task ≡ Task.Rewrite → IsTrue options.now.stats
         → IfOk result (λ ending. IfSome (R.remaining input.old.device) (λ bytes.

@@ -45,6 +45,7 @@ fn flags_of(matches: &ArgMatches<'_>) -> Flags
         json: is_set(matches, "json"),
         show: is_set(matches, "show"),
         strip_debug: is_set(matches, "strip-debug"),
+        quiet: is_set(matches, "quiet"),
     }
 }
 
@@ -359,6 +360,7 @@ pub fn options_from(alloc: Global, matches: &ArgMatches<'_>) -> Result<Options, 
         json: flags.json,
         show: flags.show,
         strip_debug: flags.strip_debug,
+        quiet: flags.quiet,
     })
 }
 

@@ -21,7 +21,7 @@ fn run_watched<R: Read, W: Write + Drop>(
         return Err(Failure::Memory);
     };
     let mut notes = rt.stderr();
-    let progress = Progress::new(rt);
+    let progress = Progress::new(rt, options.quiet);
     run(
         rt.alloc(),
         options,

@@ -2,8 +2,9 @@
 //! input, and a rewritten one goes to a file or to standard output. `--list` and `--blocks` write lines about the module instead.
 //!
 //! Exit status: 0 on success, and for `--help` and `--version`; 1 where the module is refused, the input can't be read, the output
-//! can't be written, or no memory is left; 2 where no rule applies, or the module has no function of its own; 3 where no function can be read, or `--function` names none of
-//! the module's own, or one whose index isn't known; 64 where the options can't be read, or a module would go to a terminal.
+//! can't be written, or no memory is left; 2 where no rule applies, or the module has no function of its own; 3 where no function can
+//! be read, or `--function` names none of the module's own, or one whose index isn't known; 64 where the options can't be read, or a
+//! module would go to a terminal.
 #![tactic(auto)]
 
 mod beside;
@@ -88,7 +89,7 @@ fn tell(rt: &impl Eprint, options: &Options, trouble: &Trouble) {
     let _ = eprintln!(rt; "teddertempo: {name}: {trouble}");
 }
 
-// Prints that memory ran out, where it did.
+// Prints that memory ran out, where it did, and that may be told.
 fn tell_ending(rt: &impl Eprint, options: &Options, ending: Ending) {
     match ending {
         Ending::Whole => {}
@@ -117,7 +118,9 @@ fn main(rt: HostRuntime) -> ExitCode {
     };
     match run_on_files(&rt, &options) {
         Ok(ending) => {
-            tell_ending(&rt, &options, ending);
+            if !options.quiet {
+                tell_ending(&rt, &options, ending);
+            }
             ExitCode::SUCCESS
         }
         Err(trouble) => {

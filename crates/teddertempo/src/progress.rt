@@ -19,9 +19,9 @@ pub struct Progress<'a> {
 }
 
 impl<'a> Progress<'a> {
-    /// A run that begins now.
-    pub fn new(rt: &'a HostRuntime) -> Progress<'a> {
-        let began = if rt.stderr().is_terminal() {
+    /// A run that begins now; one that is quiet tells nothing.
+    pub fn new(rt: &'a HostRuntime, quiet: bool) -> Progress<'a> {
+        let began = if !quiet && rt.stderr().is_terminal() {
             Instant::now(rt).ok()
         } else {
             None

@@ -81,6 +81,8 @@ const OPTIONS: &str = "
 --blocks | Blocks 0 1 None all
 --strip-debug | Rewrite 0 1 None strip-debug all
 --show | Rewrite 0 1 None show all
+--quiet | Rewrite 0 1 None quiet all
+--list --quiet | List 0 1 None quiet all
 --list --json | List 0 1 None json all
 --blocks --json | Blocks 0 1 None json all
 --json --stats | Rewrite 0 1 None stats json all
@@ -404,7 +406,8 @@ fn flags_text(alloc: Global, options: &Options) -> Result<String, AllocError> {
     let json = if_set(options.json, "json ");
     let show = if_set(options.show, "show ");
     let strip = if_set(options.strip_debug, "strip-debug ");
-    format!(in alloc; "{shrink}{stats}{reach}{json}{show}{strip}")
+    let quiet = if_set(options.quiet, "quiet ");
+    format!(in alloc; "{shrink}{stats}{reach}{json}{show}{strip}{quiet}")
 }
 
 #[test]

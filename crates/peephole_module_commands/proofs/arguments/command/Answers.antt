@@ -22,4 +22,5 @@ returns c =
     let thirteen = one_more _ _ _ _ _ twelve c.in_ok-arg-13.ensures c.reach_argument.ensures.local c.reach_argument.ensures.rule in
     let fourteen = one_more _ _ _ _ _ thirteen c.in_ok-arg-14.ensures c.json_argument.ensures.local c.json_argument.ensures.rule in
     let fifteen = one_more _ _ _ _ _ fourteen c.in_ok-arg-15.ensures c.show_argument.ensures.local c.show_argument.ensures.rule in
-    IfOk-weaker c.arg-16.result _ _ (λ r h. one_more _ r _ _ _ fifteen h c.strip_argument.ensures.local c.strip_argument.ensures.rule) c.arg-16.ensures
+    let sixteen = one_more _ _ _ _ _ fifteen c.in_ok-arg-16.ensures c.strip_argument.ensures.local c.strip_argument.ensures.rule in
+    IfOk-weaker c.arg-17.result _ _ (λ r h. one_more _ r _ _ _ sixteen h c.quiet_argument.ensures.local c.quiet_argument.ensures.rule) c.arg-17.ensures

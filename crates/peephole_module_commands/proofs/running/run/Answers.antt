@@ -1,16 +1,14 @@
 -- Why the module that was read isn't written rewritten, and what is listed of it.
 use Rattle.std.proofs.Common.{subst, sym}
-use Rattle.std.specs.Prelude.{IfSome}
 use Rattle.std.proofs.lemmas.Result.{IfOk-weaker, err_from_is_err_and}
 use Rattle.peephole_module_commands.specs.Blocks.{TellsBlocks, WritesBlocks}
-use Rattle.peephole_module_commands.specs.Failures.{FailsToDo, IsNoOther}
+use Rattle.peephole_module_commands.specs.Failures.{FailsAtTask, FailsToDo, IsNoOther}
 use Rattle.peephole_module_commands.specs.Form.{form_of}
 use Rattle.peephole_module_commands.specs.Lists.{ListsFunction, WritesList}
 use Rattle.peephole_module_commands.specs.Reports.{ReportsMutated}
 use Rattle.peephole_module_commands.specs.Shown.{ShowsMutated}
 use Rattle.peephole_module_commands.specs.declared.options.Task.{Task}
-use Rattle.peephole_module_commands.specs.declared.options.Task.TheVariants.{Rewrite, List as Lists, Blocks}
-use Rattle.peephole_module_commands.proofs.FaultsLemmas.{blocks_fail, is_no_other, list_fails, rewrite_fails}
+use Rattle.peephole_module_commands.proofs.FaultsLemmas.{is_no_other, task_fails}
 use Rattle.peephole_module_commands.proofs.WritesLemmas.{err_map, list_kept, of_all}
 use Rattle.peephole_module_commands.proofs.running.run.Goals as goal
 
@@ -20,10 +18,10 @@ returns-in-Rewrite-clause-fails g c =
     let none : IsNoOther c.deref-in-Rewrite.result.now = is_no_other c.deref-in-Rewrite.result.now c.deref.result.now c.deref-2.result.now
     c.in_ok-bytes.bytes.items c.is_component.result c.is_text.result c.deref-in-Rewrite.ensures.value c.deref.ensures.value c.deref-2.ensures.value
     c.is_component.ensures c.if-is_component.false c.is_text.ensures c.if-is_text.false in
-    err_map c.rewrite.result (λ e h. subst (λ (task : Task). IfSome (g.R.Read.remaining c.args.input.now.device) (λ bytes. FailsToDo task options bytes e))
-    (sym c.in-Rewrite.is) (of_all (λ bytes. FailsToDo Rewrite options bytes e) (g.R.Read.remaining c.args.input.now.device)
+    err_map c.rewrite.result (λ e h. of_all (λ bytes. FailsToDo options.task options bytes e) (g.R.Read.remaining c.args.input.now.device)
     (g.R.Read.remaining c.read_input.new.input.device) c.in_ok-bytes.bytes.items c.deref-in-Rewrite.result.now c.in_ok-bytes.ensures.bytes
-    c.in_ok-bytes.ensures.end c.deref-in-Rewrite.ensures.value (rewrite_fails options c.deref-in-Rewrite.result.now e none h))) c.rewrite.ensures.fails
+    c.in_ok-bytes.ensures.end c.deref-in-Rewrite.ensures.value (task_fails options.task options c.deref-in-Rewrite.result.now e none
+    (subst (λ (task : Task). FailsAtTask task options c.deref-in-Rewrite.result.now e) (sym c.in-Rewrite.is) h))) c.rewrite.ensures.fails
 
 pub returns-in-Rewrite-clause-reported : goal.returns-in-Rewrite-clause-reported
 returns-in-Rewrite-clause-reported g c task asked =
@@ -54,10 +52,10 @@ returns-in_err-list_rewrites-in-List-clause-fails g c =
     c.if-is_text.false in
     let e = c.in_err-list_rewrites-in-List.field-0.0 in
     let p = err_from_is_err_and c.from_residual-in_err-list_rewrites-in-List.result c.from_residual-in_err-list_rewrites-in-List.ensures.1 in
-    rw (p.1, p.2) (subst (λ (task : Task). IfSome (g.R.Read.remaining c.args.input.now.device) (λ bytes. FailsToDo task options bytes e)) (sym c.in-List.is)
-    (of_all (λ bytes. FailsToDo Lists options bytes e) (g.R.Read.remaining c.args.input.now.device) (g.R.Read.remaining c.read_input.new.input.device)
-    c.in_ok-bytes.bytes.items bytes c.in_ok-bytes.ensures.bytes c.in_ok-bytes.ensures.end c.deref-in-List.ensures.value
-    (list_fails options bytes none e c.in_err-list_rewrites-in-List.ensures.fails)))
+    rw (p.1, p.2) (of_all (λ bytes. FailsToDo options.task options bytes e) (g.R.Read.remaining c.args.input.now.device)
+    (g.R.Read.remaining c.read_input.new.input.device) c.in_ok-bytes.bytes.items bytes c.in_ok-bytes.ensures.bytes c.in_ok-bytes.ensures.end
+    c.deref-in-List.ensures.value (task_fails options.task options bytes e none
+    (subst (λ (task : Task). FailsAtTask task options bytes e) (sym c.in-List.is) c.in_err-list_rewrites-in-List.ensures.fails)))
 
 pub returns-in_err-list_blocks-in-Blocks-clause-fails : goal.returns-in_err-list_blocks-in-Blocks-clause-fails
 returns-in_err-list_blocks-in-Blocks-clause-fails g c =
@@ -68,10 +66,10 @@ returns-in_err-list_blocks-in-Blocks-clause-fails g c =
     c.if-is_text.false in
     let e = c.in_err-list_blocks-in-Blocks.field-0.0 in
     let p = err_from_is_err_and c.from_residual-in_err-list_blocks-in-Blocks.result c.from_residual-in_err-list_blocks-in-Blocks.ensures.1 in
-    rw (p.1, p.2) (subst (λ (task : Task). IfSome (g.R.Read.remaining c.args.input.now.device) (λ bytes. FailsToDo task options bytes e)) (sym c.in-Blocks.is)
-    (of_all (λ bytes. FailsToDo Blocks options bytes e) (g.R.Read.remaining c.args.input.now.device) (g.R.Read.remaining c.read_input.new.input.device)
-    c.in_ok-bytes.bytes.items bytes c.in_ok-bytes.ensures.bytes c.in_ok-bytes.ensures.end c.deref-in-Blocks.ensures.value
-    (blocks_fail options bytes none e c.in_err-list_blocks-in-Blocks.ensures.fails)))
+    rw (p.1, p.2) (of_all (λ bytes. FailsToDo options.task options bytes e) (g.R.Read.remaining c.args.input.now.device)
+    (g.R.Read.remaining c.read_input.new.input.device) c.in_ok-bytes.bytes.items bytes c.in_ok-bytes.ensures.bytes c.in_ok-bytes.ensures.end
+    c.deref-in-Blocks.ensures.value (task_fails options.task options bytes e none
+    (subst (λ (task : Task). FailsAtTask task options bytes e) (sym c.in-Blocks.is) c.in_err-list_blocks-in-Blocks.ensures.fails)))
 
 pub returns-in_ok-flush-in-List-clause-listed : goal.returns-in_ok-flush-in-List-clause-listed
 returns-in_ok-flush-in-List-clause-listed g c task =
