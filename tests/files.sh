@@ -191,7 +191,7 @@ a_pipe() {
 
 no_space() {
     ends 1 "/dev/full: can't be written: No space left on device" rewrite in.wasm -o /dev/full || return 1
-    ends 1 "/dev/full: can't be written: No space left on device" rewrite --list in.wasm -o /dev/full || return 1
+    ends 1 "/dev/full: can't be written: No space left on device" timeout 20 "$program" --list in.wasm -o /dev/full || return 1
     local status=0
     rewrite in.wasm > /dev/full 2> "$work/message" || status=$?
     said 1 "standard output: can't be written: No space left on device" "$status"
@@ -223,7 +223,7 @@ not_utf8() {
 # A list whose reader goes away, and a module whose reader has gone.
 reader_goes() {
     local statuses
-    rewrite "$1" "$work/large.wasm" 2> "$work/message" | head -1 > line
+    timeout 20 "$program" "$1" "$work/large.wasm" 2> "$work/message" | head -1 > line
     statuses="${PIPESTATUS[*]}"
     said 0 "" "${statuses% *}" && [ "$(wc -l < line)" -eq 1 ]
 }
