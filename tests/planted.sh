@@ -1,8 +1,8 @@
 #!/usr/bin/env bash
 # Plants faults in an interpreter (wabt's, 48 miscompilations) and in an optimizer (binaryen's, 18 wrong rewrites), switches them on one
-# at a time, and runs teddertempo-diff over tests/modules, wabt's own tests and a fixed set of generated modules: prints which faults are
-# revealed, by which rule, at which dose and cost, beside the optimizer's pipelines as mutators. docs/TESTED.md has the faults, and what
-# came of it. The last line is `N passed, N failed`; tests/planted/planted.py says what is judged.
+# at a time, and runs teddertempo-diff over tests/modules, wabt's own tests, a fixed set of generated modules and one by hand: prints
+# which faults are revealed, by which rule, at which dose and cost, beside the optimizer's pipelines as mutators. docs/TESTED.md has the
+# faults, and what came of it. The last line for each is `N passed, N failed`; tests/planted/planted.py says what is judged.
 #
 # Usage: planted.sh [interpreter | optimizer] [OPTIONS FOR planted.py]. TEDDERTEMPO names the program, else it is that of
 # crates/teddertempo/out. PLANTED_SOURCES names a folder with the sources of Debian's packages wabt 1.0.32-1 and binaryen 108-1, as
@@ -60,7 +60,7 @@ make_programs $binaryen wasm-opt
 interpreter=$build/$wabt/out/spectest-interp
 optimizer=$build/$binaryen/out/bin/wasm-opt
 
-# The modules: those of tests/modules, those that wabt's own tests of its interpreter have, and the generated ones.
+# The modules: those of tests/modules, those that wabt's own tests of its interpreter have, the generated ones, and one by hand.
 modules=$build/modules
 rm -rf "$modules"
 mkdir -p "$modules"/{own,wabt,generated}
@@ -69,6 +69,7 @@ for text in "$build/$wabt"/test/interp/*.txt; do
     "$build/$wabt/out/wat2wasm" "$text" -o "$modules/wabt/$(basename "$text" .txt).wasm" > /dev/null 2>&1 || true
 done
 python3 "$planted/generate.py" "$modules/generated"
+cp "$planted/programs.wat" "$modules/generated/"
 for text in "$modules"/generated/*.wat; do "$build/$wabt/out/wat2wasm" "$text" -o "${text%.wat}.wasm"; done
 
 # Tries each fault of a table on an engine.
