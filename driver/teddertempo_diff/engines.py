@@ -238,14 +238,14 @@ class Spectest(Engine):
         failed = re.search(r"error (reading|instantiating) module: \"(.*)\"", output)
         if failed:
             return [self.refusal(failed.group(1), failed.group(2), text_of(finished[-1].errors))]
-        asked = self.asked(plan)
+        asked = iter(self.asked(plan))
         answers: list[Answer] = []
         host: list[str] = []
         for line in output.split("\n")[:-1]:
             if line.startswith("called host "):
                 host.append(line[len("called host "):].replace("-nan", "nan"))
-            elif " =>" in line and asked:
-                place, kind, kinds = asked.pop(0)
+            elif " =>" in line and (question := next(asked, None)):
+                place, kind, kinds = question
                 if host:
                     answers.append(Answer(place, Kind.HOST, "; ".join(host)))
                     host = []
@@ -256,14 +256,9 @@ class Spectest(Engine):
         """What the script asks for, in its order: a place, the class of its answer, and the types of that."""
         results = {export.name: export.type.results for export in plan.interface.functions()}
         asked = [(str(call), Kind.VALUE, results[call.function]) for call in plan.calls]
+        values = {export.name: export.type.value for export in plan.interface.exports if export.kind == "global"}
         looks = [place for place, _ in self.looks(Shim(plan.interface))]
-        return asked + [(f"{kind} {name}", Kind(kind), self.look_type(plan.interface, kind, name)) for kind, name in looks]
-
-    @staticmethod
-    def look_type(interface: Interface, kind: str, name: str) -> tuple[str, ...]:
-        if kind == "memory":
-            return ("i64",)
-        return next((export.type.value,) for export in interface.exports if (export.kind, export.name) == (kind, name))
+        return asked + [(f"{kind} {name}", Kind(kind), (values[name] if kind == "global" else "i64",)) for kind, name in looks]
 
     @staticmethod
     def refusal(what: str, message: str, errors: str) -> Answer:
