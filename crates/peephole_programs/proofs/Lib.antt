@@ -16,5 +16,6 @@ mod RowChecks
 mod RunChecks
 mod TraceLemmas
 mod ValidLemmas
+mod PoppedLemmas
 mod ProgressLemmas
 mod ValidityExamples

@@ -2,8 +2,8 @@
 use Rattle.std.proofs.Common.{◌≡◌, ℕ, zero, suc, ◌+◌, ◌-◌, ◌<◌, ◌≤◌, ◌⊎◌, inl, inr, true, List, [], ◌∷◌, ◌++◌, length, take, drop, Option, Some, None, refl, sym, ap, ap₂, ◌∙◌, subst, arith, append_assoc, append-nil, length-append, Bool, false}
 use Rattle.std.specs.Prelude.{◌≢◌, ◌&&◌, ⊤, slice_get, option_map, option_and_then, is_some, if◌then◌else◌, ◌==◌}
 use Rattle.std.specs.List.{All}
-use Rattle.std.proofs.lemmas.Bool.{and_parts, eqb-true}
-use Rattle.std.proofs.lemmas.List.{take_at, drop_at, take-append-drop}
+use Rattle.std.proofs.lemmas.Bool.{and_parts}
+use Rattle.std.proofs.lemmas.List.{take_at, drop_at}
 use Rattle.std.proofs.lemmas.List.Elements.{All-take, All-drop, All-append, All-nil}
 use Rattle.wasm_code.specs.Instruction.{Instruction}
 use Rattle.wasm_code.specs.declared.immediate.BlockType.{BlockType}
@@ -15,101 +15,17 @@ use Rattle.mutate_base.specs.declared.types.PrimitiveTypeInfo.TheVariants as pri
 use Rattle.peephole_machine.specs.Values.{same_types, Value, IsValue, types, Context, State, HasTypes, Outcome, Ends, Traps, Stuck}
 use Rattle.peephole_machine.specs.IntegerRow.{IntegerRow, row_types, integer_row}
 use Rattle.peephole_machine.specs.Machine.{run}
-use Rattle.peephole_machine.specs.OutcomeLemmas.{types_append, length_types}
+use Rattle.peephole_machine.specs.OutcomeLemmas.{length_types}
 use Rattle.peephole_machine.specs.RowLemmas.{and_then_some, map_some, same_types_is}
 use Rattle.peephole_programs.specs.Function.{structural, piece, Label, Reached, At, Done, Control, go_on, pass, runs}
 use Rattle.peephole_programs.specs.Standard.{Arity, function_arity, arity_of, has_arity, index_type, call_arity, other_part, last_of, unwound, chosen, choose, Target, calls, fails, Beyond, label_at, end_of, enter, jump_to, branch, branch_by, branch_on, call_target, call_at, otherwise, close, skip, by_operator, standard}
-use Rattle.peephole_programs.specs.Validation.{Entry, all_may_be, known, Frame, can_pop, popped, with_pushed, Structural, on_innermost}
-use Rattle.peephole_programs.specs.StandardSteps.{pop, push, cut_off, opened_by, body_frame, open_frame, types_by, label_types, is_empty, can_close, leaves_alike, close_frame, other_of, can_jump, can_jump_all, can_call, by_step, standard_steps}
+use Rattle.peephole_programs.specs.Validation.{Frame, Structural, on_innermost}
+use Rattle.peephole_programs.specs.StandardSteps.{pop, push, cut_off, opened_by, body_frame, open_frame, types_by, label_types, can_close, leaves_alike, close_frame, other_of, can_jump, can_jump_all, can_call, by_step, standard_steps}
 use Rattle.peephole_programs.specs.Sound.{HasValues, EndsIn, HasTargets, IsValid, ValidBodiesRun}
-use Rattle.peephole_programs.proofs.RowChecks.{all_known, row_pushes}
-use Rattle.peephole_programs.proofs.RunChecks.{if_some, known_append, pops, valid_code}
-use Rattle.peephole_programs.proofs.TraceLemmas.{check_instructions, Trace, trace_of, Like, like_itself, like_then, like_is, code_like, instructions_on, instructions_none, Closed, closes_at, dropped, none_left}
-
--- ---- popped values
-
--- a frame with values, of which the last have been popped
-record Popped (ts : List PrimitiveTypeInfo) (f h : Frame) (vs : List Value) : Type 0 where
-  rest : List Value
-  top : List Value
-  is : vs ≡ rest ++ top
-  typed : types top ≡ ts
-  left : HasValues h rest
-  like : Like h f
-
-pop_values : (ts : List PrimitiveTypeInfo) (f h : Frame) (vs : List Value) → HasValues f vs → pop ts f ≡ Some h → Popped ts f h vs
-pop_values ts f h vs v e =
-    let n = length ts in
-    let (a, b) = if_some (can_pop n f && all_may_be (popped n f) ts) (Some (with_pushed n f [])) h e in
-    let both = and_parts (can_pop n f) (all_may_be (popped n f) ts) a in
-    let p = pops f vs n v both.0 in
-    let k = length vs - n in
-    let same : same_types (types (drop k vs)) ts ≡ true =
-    sym (all_known (types (drop k vs)) ts) ∙ (ap (λ (es : List Entry). all_may_be es ts) (sym p.popped_are) ∙ both.1) in
-    let is : h ≡ with_pushed n f [] = cc in
-    let now : h ≡ record f { operands = known (types (take k vs)) } =
-    is ∙ (p.left [] ∙ ap (λ (es : List Entry). record f { operands = es }) (append-nil (known (types (take k vs))))) in
-    record {
-      rest = take k vs;
-      top = drop k vs;
-      is = sym (take-append-drop k vs);
-      typed = same_types_is (types (drop k vs)) ts same;
-      left = record {
-        operands_are = ap (λ (x : Frame). x.operands) now;
-        reached = ap (λ (x : Frame). x.unreachable) now ∙ v.reached;
-      };
-      like = like_is now (record { opened = refl; starts = refl; ends = refl });
-    }
-
-no_values : (vs : List Value) → length (known (types vs)) ≡ 0 → vs ≡ []
-no_values [] e = refl
-no_values (v ∷ vs) e = absurd (omega arith)
-
--- a frame that can close has the values of its end
-close_values : (f : Frame) (vs : List Value) → HasValues f vs → can_close f ≡ true → types vs ≡ f.ends
-close_values f vs v e = go (pop f.ends f) refl e
-  where
-    go : (o : Option Frame) → pop f.ends f ≡ o → is_empty o ≡ true → types vs ≡ f.ends
-    go None a b = absurd cc
-    go (Some h) a b =
-        let p = pop_values f.ends f h vs v a in
-        let none : p.rest ≡ [] = no_values p.rest (ap length (sym p.left.operands_are) ∙ eqb-true (length h.operands) 0 b) in
-        ap types (p.is ∙ ap (λ (x : List Value). x ++ p.top) none) ∙ p.typed
-
-push_values : (ts : List PrimitiveTypeInfo) (f : Frame) (vs ws : List Value) → HasValues f vs → types ws ≡ ts → HasValues (push ts f) (vs ++ ws)
-push_values ts f vs ws v e = record {
-  operands_are = ap₂ (λ (es : List Entry) (us : List PrimitiveTypeInfo). es ++ known us) v.operands_are (sym e) ∙
-      (sym (known_append (types vs) (types ws)) ∙ ap known (sym (types_append vs ws)));
-  reached = v.reached;
-}
-
-opened_values : (o : Operator) (a : Arity) (vs : List Value) → types vs ≡ a.starts → HasValues (opened_by o a) vs
-opened_values o a vs e = record { operands_are = ap known (sym e); reached = refl }
-
--- ---- stacks
-
-last_is : (xs ys : List Value) (n : ℕ) → n ≡ length ys → last_of n (xs ++ ys) ≡ ys
-last_is xs ys n e = drop_at xs ys (length (xs ++ ys) - n) (omega (arith, length-append xs ys))
-
-front_is : (xs ys : List Value) (n : ℕ) → n ≡ length ys → take (length (xs ++ ys) - n) (xs ++ ys) ≡ xs
-front_is xs ys n e = take_at xs ys (length (xs ++ ys) - n) (omega (arith, length-append xs ys))
-
-one_value : (vs : List Value) (t : PrimitiveTypeInfo) → types vs ≡ t ∷ [] → (v : Value) × (vs ≡ v ∷ []) × (v.type ≡ t)
-one_value [] t e = absurd cc
-one_value (v ∷ []) t e = (v, refl, cc)
-one_value (v ∷ w ∷ vs) t e = absurd cc
-
--- the last of values of these types, and those before it
-last_value : (vs : List Value) (ts : List PrimitiveTypeInfo) (t : PrimitiveTypeInfo) → types vs ≡ ts ++ t ∷ [] →
-    (ws : List Value) × (v : Value) × (vs ≡ ws ++ v ∷ []) × (types ws ≡ ts)
-last_value [] [] t e = absurd cc
-last_value [] (u ∷ ts) t e = absurd cc
-last_value (v ∷ []) [] t e = ([], v, refl, refl)
-last_value (v ∷ w ∷ vs) [] t e = absurd cc
-last_value (v ∷ vs) (u ∷ ts) t e =
-    let later : types vs ≡ ts ++ t ∷ [] = cc in
-    let (ws, w, is, typed) = last_value vs ts t later in
-    (v ∷ ws, w, ap (λ (x : List Value). v ∷ x) is, ap₂ (λ (x : PrimitiveTypeInfo) (xs : List PrimitiveTypeInfo). x ∷ xs) (let k : v.type ≡ u = cc in k) typed)
+use Rattle.peephole_programs.proofs.PoppedLemmas.{pop_values, close_values, push_values, opened_values, last_is, front_is, one_value, last_value}
+use Rattle.peephole_programs.proofs.RowChecks.{row_pushes}
+use Rattle.peephole_programs.proofs.RunChecks.{if_some, valid_code}
+use Rattle.peephole_programs.proofs.TraceLemmas.{check_instructions, Trace, trace_of, Like, like_itself, like_then, code_like, instructions_on, instructions_none, Closed, closes_at, dropped, none_left}
 
 module _ (context : Context) (results : List PrimitiveTypeInfo) (structure : List Operator) (pieces : ℕ → List Instruction) (start : List Frame)
     (beyond : Beyond) (trace : Trace context (standard_steps context.info results structure beyond) pieces (length structure) start [])
