@@ -7,7 +7,7 @@
 # Usage: planted.sh [interpreter | optimizer] [OPTIONS FOR planted.py]. TEDDERTEMPO names the program, else it is that of
 # crates/teddertempo/out. PLANTED_SOURCES names a folder with the sources of Debian's packages wabt 1.0.32-1 and binaryen 108-1, as
 # `apt-get source wabt binaryen` leaves them, which needs a line `deb-src` for bookworm in the sources of apt; where it isn't named, they
-# are taken by that command. PLANTED_BUILD names the folder of the builds (tests/planted/build), which are made once: some twelve minutes
+# are taken by that command. PLANTED_BUILD names the folder of the builds (tests/planted/build), which are made once: half an hour
 # of a core. Needs cmake, ninja, a C++ compiler and Python 3; then an hour of four cores.
 set -euo pipefail
 program=${TEDDERTEMPO:-}
