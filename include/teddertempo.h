@@ -7,8 +7,8 @@
  * it did: that is proved, of validity by types, and of functions that can be read. Where an engine shows a difference it is
  * wrong, with the exceptions that docs/PROMISES.md of the sources has: a host that lists globals, counts them or compares bytes;
  * limits of stack, time, fuel and memory, of which one of the modules alone may meet one (a trap of exhaustion is no difference);
- * bits of NaNs, unless the engine fixes them; other threads at a shared memory, and imports that answer anew, as a clock; calls
- * behind one that trapped; exceptions that are caught; instantiation. Whether the module is valid to begin with, no call checks.
+ * bits of NaNs, unless the engine fixes them; other threads at a shared memory, and imports that answer anew, as a clock;
+ * exceptions that are caught. Whether the module is valid to begin with, no call checks.
  * A rewrite may append globals, so that many rewrites may pass an engine's limits.
  *
  * The caller sees to it that

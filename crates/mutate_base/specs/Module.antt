@@ -1,5 +1,5 @@
 -- What is known of a module, as lists: its bytes, and the types of its globals, functions, tables and memories (this project).
-use Rattle.std.specs.Prelude.{ℕ, List, [], Option, Some, None, slice_get}
+use Rattle.std.specs.Prelude.{ℕ, Bool, false, List, [], Option, Some, None, slice_get}
 use Rattle.mutate_base.specs.declared.types.PrimitiveTypeInfo.{PrimitiveTypeInfo}
 use Rattle.mutate_base.specs.declared.types.TypeInfo.{TypeInfo}
 use Rattle.mutate_base.specs.declared.types.TableType.{TableType}
@@ -13,10 +13,12 @@ pub record Module : Type 0 where
   pub functions : List ℕ
   pub tables : List TableType
   pub memories : List MemoryType
+  -- whether what runs it does what the standard says on the exact rows; where not, nothing is said of these
+  pub exact : Bool
 
 -- a module of which nothing is known but its bytes
 abbrev pub module_of : List ℕ → Module
-module_of input = record { input = input; globals = []; types = []; functions = []; tables = []; memories = [] }
+module_of input = record { input = input; globals = []; types = []; functions = []; tables = []; memories = []; exact = false }
 
 -- the declared type at this place, where there is a place
 abbrev pub type_at : Module → Option ℕ → Option TypeInfo

@@ -20,6 +20,8 @@ pub struct ModuleInfo<'a> {
     pub table_types: Vec<TableType>,
     /// The memories.
     pub memory_types: Vec<MemoryType>,
+    /// Whether what runs it does what the standard says on the exact rows, on floats, vectors and memories.
+    pub exact: bool,
 }
 
 impl<'a> Model for ModuleInfo<'a> {
@@ -34,6 +36,7 @@ impl<'a> Model for ModuleInfo<'a> {
       functions = m.function_map.items;
       tables = m.table_types.items;
       memories = m.memory_types.items;
+      exact = m.exact;
     } };
 }
 
@@ -49,6 +52,7 @@ impl<'a> ModuleInfo<'a> {
             function_map: Vec::new(alloc),
             table_types: Vec::new(alloc),
             memory_types: Vec::new(alloc),
+            exact: false,
         }
     }
 
@@ -81,6 +85,7 @@ impl<'a> Clone for ModuleInfo<'a> {
             function_map: self.function_map.clone()?,
             table_types: self.table_types.clone()?,
             memory_types: self.memory_types.clone()?,
+            exact: self.exact,
         })
     }
 }

@@ -1,6 +1,6 @@
 -- When two states, and two runs, are the same apart from the globals behind the module's, where those that a term asks for stand; and outcomes of given
 -- types (this project).
-use Rattle.std.specs.Prelude.{◌≡◌, List, ◌++◌, ⊤}
+use Rattle.std.specs.Prelude.{◌≡◌, List, ◌++◌}
 use Rattle.std.specs.List.{All}
 use Rattle.mutate_base.specs.declared.types.PrimitiveTypeInfo.{PrimitiveTypeInfo}
 use Rattle.peephole_machine.specs.Values.{Value, IsValue, types, Context, State, own_globals, HasTypes, Outcome, Ends, Traps, Stuck}
@@ -20,8 +20,8 @@ SameOutcome (Ends vs s) (Ends us t) = (vs ≡ us) × SameState s t
 SameOutcome (Traps c gs r) (Traps d hs q) = (c ≡ d) × (gs ≡ hs) × (r ≡ q)
 SameOutcome o r = ⊥
 
--- It ends with values of these types, in a state of the context's types, or it traps; it is never stuck.
+-- It ends with values of these types, in a state of the context's types, or it traps with globals of their types; it is never stuck.
 abbrev pub EndsTyped : Context → List PrimitiveTypeInfo → Outcome → Type 0
 EndsTyped context list (Ends vs s) = (types vs ≡ list) × All IsValue vs × HasTypes context s
-EndsTyped context list (Traps c gs r) = ⊤
+EndsTyped context list (Traps c gs r) = (types gs ≡ context.info.globals) × All IsValue gs
 EndsTyped context list Stuck = ⊥

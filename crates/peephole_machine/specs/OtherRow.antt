@@ -318,7 +318,7 @@ opcode_fails (Some (Fc n)) = false
 opcode_fails (Some (Fd n)) = is_in_span ((0, 10) ∷ (84, 87) ∷ (92, 93) ∷ []) n
 opcode_fails None = true
 
--- it may change globals, memories, tables, segments or what lies outside
+-- one that is no integer row may change globals, memories, tables, segments or what lies outside
 unfoldable pub changes : Instruction → Bool
 changes i = opcode_changes (opcode_in (row_at i.row))
 

@@ -1,14 +1,19 @@
 -- Typed values, the state that instructions run in, and how a run ends: with values and a state, in a trap, or stuck
 -- (WebAssembly Core Specification 3.0, Execution, Runtime Structure, and Validation, Conventions, Contexts; a stuck run, the rest and the world are
--- this project's words).
-use Rattle.std.specs.Prelude.{◌≡◌, ℕ, ◌%◌, ◌^◌, ◌<◌, Bool, true, false, ◌==◌, ◌&&◌, List, [], ◌∷◌, ◌++◌, length, map, take, drop, slice_get, set as slice_set, Option, Some, None, option_and_then, if◌then◌else◌, ⊤}
+-- this project's words; what exact rows do: Execution, Numerics and Instructions, Memory Instructions).
+use Rattle.std.specs.Prelude.{◌≡◌, ◌≢◌, ℕ, zero, suc, ◌+◌, ◌*◌, ◌/◌, ◌%◌, ◌^◌, ◌<◌, nat_le, Bool, true, false, ◌==◌, ◌&&◌, List, [], ◌∷◌, ◌++◌, length, map, take, drop, slice_get, set as slice_set, Option, Some, None, option_and_then, if◌then◌else◌, ⊤}
 use Rattle.std.specs.Int.{Width, w32, w64}
 use Rattle.std.specs.List.{All}
 use mir.Val.{bits}
 use Rattle.wasm_code.specs.Instruction.{Instruction}
+use Rattle.wasm_code.specs.declared.immediate.Imm.{Imm}
+use Rattle.wasm_code.specs.declared.immediate.Imm.TheVariants as imm
 use Rattle.mutate_base.specs.Module.{Module}
+use Rattle.mutate_base.specs.declared.types.TypeInfo.{TypeInfo}
+use Rattle.mutate_base.specs.declared.types.TypeInfo.TheVariants.{Func, Other}
 use Rattle.mutate_base.specs.declared.types.PrimitiveTypeInfo.{PrimitiveTypeInfo}
 use Rattle.mutate_base.specs.declared.types.PrimitiveTypeInfo.TheVariants as primitive
+use Rattle.peephole_machine.specs.ExactRow.{Loading, ExactRow, computes, loads, stores, exact_row}
 use Rattle.peephole_machine.specs.OtherRow.{Operand, typed, reference, OtherType, names_in, other_type, changes, may_trap}
 -- the types of whole numbers
 pub use Rattle.peephole_machine.specs.declared.integer.IntegerType.{IntegerType}
@@ -37,7 +42,7 @@ type_number primitive.FuncRef = 5
 type_number primitive.ExternRef = 6
 type_number primitive.Empty = 7
 
--- equal types: there are no subtypes among the eight
+-- equal types; the subtypes that the standard has among references aren't used
 abbrev pub same_type : PrimitiveTypeInfo → PrimitiveTypeInfo → Bool
 same_type t u = type_number t == type_number u
 
@@ -47,10 +52,11 @@ same_types [] [] = true
 same_types (t ∷ ts) (u ∷ us) = same_type t u && same_types ts us
 same_types ts us = false
 
--- the types of what references point to
+-- the types of references; among a module's types `Empty` stands for each that isn't one of the others, and these are references all
 abbrev pub is_reference : PrimitiveTypeInfo → Bool
 is_reference primitive.FuncRef = true
 is_reference primitive.ExternRef = true
+is_reference primitive.Empty = true
 is_reference _ = false
 
 -- the operand may be of the type; an operand whose type isn't there takes none
@@ -73,18 +79,57 @@ results_on ts t = if accept t.operands ts then Some t.results else None
 abbrev pub other_types : Module → Instruction → List PrimitiveTypeInfo → Option (List PrimitiveTypeInfo)
 other_types info i ts = option_and_then (results_on ts) (other_type (names_in info i.imm) i)
 
+-- ---- what a world is asked for
+
+-- The call of a foreign function: one that stands in a table and has no index in the module, by a mark that tells it from others, and the index of its type.
+-- It is no instruction, since the table of these has no row 446; worlds are asked for it as for an instruction.
+abbrev pub foreign_call : (mark type : ℕ) → Instruction
+foreign_call mark type = record { row = 446; imm = imm.Pair mark type }
+
+-- the index of the type, where it is such a call
+abbrev pub foreign_in : (row : ℕ) → Imm → Option ℕ
+foreign_in row (imm.Pair mark type) = if row == 446 then Some type else None
+foreign_in row i = None
+
+-- what a function of that type gives on operands of these types; none where it takes others, or the type is none of a function
+abbrev pub function_results : List PrimitiveTypeInfo → TypeInfo → Option (List PrimitiveTypeInfo)
+function_results ts (Func t) = if same_types ts t.params then Some t.returns else None
+function_results ts Other = None
+
+-- the first, or where it isn't there the second
+abbrev pub or_else : Option (List PrimitiveTypeInfo) → Option (List PrimitiveTypeInfo) → Option (List PrimitiveTypeInfo)
+or_else (Some ts) o = Some ts
+or_else None o = o
+
+-- what a world gives on operands of these types: for instructions that are no integer rows, and for calls of foreign functions
+abbrev pub asked_types : Module → Instruction → List PrimitiveTypeInfo → Option (List PrimitiveTypeInfo)
+asked_types info i ts =
+    or_else (other_types info i ts) (option_and_then (function_results ts) (option_and_then (slice_get info.types) (foreign_in i.row i.imm)))
+
 -- ---- values
 
--- a type with a number, or with any mark where the type is no integer type; `IsValue` says that the number is of the type
+-- a type with a number, its bits, or with any mark where the type is one of references; `IsValue` says that the number is of the type
 pub record Value : Type 0 where
   pub type : PrimitiveTypeInfo
   pub number : ℕ
 
--- a number of an integer type fits its bits; of other types any mark is a value
+-- a number of an integer, float or vector type fits its bits; of other types any mark is a value
 abbrev pub IsOfType : PrimitiveTypeInfo → ℕ → Type 0
 IsOfType primitive.I32 n = n < 2 ^ 32
 IsOfType primitive.I64 n = n < 2 ^ 64
+IsOfType primitive.F32 n = n < 2 ^ 32
+IsOfType primitive.F64 n = n < 2 ^ 64
+IsOfType primitive.V128 n = n < 2 ^ 128
 IsOfType _ n = ⊤
+
+-- what is left of a number in the bits of a type; of a reference all
+abbrev pub of_bits : PrimitiveTypeInfo → ℕ → ℕ
+of_bits primitive.I32 n = n % 2 ^ 32
+of_bits primitive.I64 n = n % 2 ^ 64
+of_bits primitive.F32 n = n % 2 ^ 32
+of_bits primitive.F64 n = n % 2 ^ 64
+of_bits primitive.V128 n = n % 2 ^ 128
+of_bits _ n = n
 
 -- the number is one of the value's type
 abbrev pub IsValue : Value → Type 0
@@ -120,8 +165,8 @@ pub data Answer : Type 0 where
   Gives : (values globals : List Value) → (rest : ℕ) → Answer
   Fails : Cause → (globals : List Value) → (rest : ℕ) → Answer
 
--- The module that code runs in; what those instructions do that are no integer rows, with operands, the module's globals and the rest; and what becomes
--- of requested globals meanwhile, as where a call comes back into the function.
+-- The module that code runs in; what those instructions do that are no integer rows, and foreign functions, with operands, the module's globals and the
+-- rest; and what becomes of requested globals meanwhile, as where a call comes back into the function.
 pub record World : Type 0 where
   pub info : Module
   pub answer : Instruction → (operands globals : List Value) → (rest : ℕ) → Answer
@@ -156,22 +201,87 @@ abbrev pub write : Variable → Value → State → State
 write (local i) v s = record s { locals = slice_set s.locals i v }
 write (global i) v s = record s { globals = slice_set s.globals i v }
 
+-- ---- what exact rows do
+
+-- Memories, as far as the rest holds them: the bytes of each, by its index, which is no other one's; the rest with others in their place; and the mark of the
+-- trap of an access beyond them. What is written is there, and no other memory has changed.
+pub record Memories : Type 0 where
+  pub bytes : (rest memory : ℕ) → List ℕ
+  pub with_bytes : (rest memory : ℕ) → List ℕ → ℕ
+  pub outside : ℕ
+  pub are_bytes : (rest memory : ℕ) → All (λ b. b < 256) (bytes rest memory)
+  pub written : (rest memory : ℕ) (new : List ℕ) → length new ≡ length (bytes rest memory) → All (λ b. b < 256) new →
+      bytes (with_bytes rest memory new) memory ≡ new
+  pub kept : (rest memory other : ℕ) (new : List ℕ) → other ≢ memory → bytes (with_bytes rest memory new) other ≡ bytes rest other
+
+-- the number that bytes are, the lowest first
+abbrev pub little : List ℕ → ℕ
+little [] = 0
+little (b ∷ bs) = little bs * 256 + b
+
+-- so many bytes of a number
+unfoldable pub bytes_of : (count : ℕ) → ℕ → List ℕ
+bytes_of zero n = []
+bytes_of (suc count) n = n % 256 ∷ bytes_of count (n / 256)
+
+-- the bytes with these from a place on
+abbrev pub put_at : (place : ℕ) → (new old : List ℕ) → List ℕ
+put_at place new old = take place old ++ (new ++ drop (place + length new) old)
+
+-- one value of each type, of the same number
+abbrev pub numbered : List PrimitiveTypeInfo → ℕ → List Value
+numbered [] n = []
+numbered (t ∷ ts) n = record { type = t; number = of_bits t n } ∷ numbered ts n
+
+-- the answer where the access is within the memory; else it traps
+abbrev pub within : Bool → Answer → (outside : ℕ) → (globals : List Value) → (rest : ℕ) → Answer
+within inside a outside gs r = if inside then a else Fails (met outside) gs r
+
+-- what is loaded from a place on, and what a number that is stored there leaves
+abbrev pub loaded : Memories → List PrimitiveTypeInfo → (memory place : ℕ) → Loading → (globals : List Value) → (rest : ℕ) → Answer
+loaded m ts memory place l gs r =
+    within (nat_le (place + l.count) (length (m.bytes r memory)))
+    (Gives (numbered ts (l.extended (little (take l.count (drop place (m.bytes r memory)))))) gs r) m.outside gs r
+
+abbrev pub stored : Memories → (memory place count number : ℕ) → (globals : List Value) → (rest : ℕ) → Answer
+stored m memory place count n gs r =
+    within (nat_le (place + count) (length (m.bytes r memory)))
+    (Gives [] gs (m.with_bytes r memory (put_at place (bytes_of count n) (m.bytes r memory)))) m.outside gs r
+
+-- what an exact row does with operands of its types: the number that it computes, cut to the bits of its type, and no change; or an access of a memory
+abbrev pub exactly : Memories → ExactRow → List PrimitiveTypeInfo → (numbers : List ℕ) → (globals : List Value) → (rest : ℕ) → Answer
+exactly m (computes f) ts ns gs r = Gives (numbered ts (f ns)) gs r
+exactly m (loads a l) ts (n ∷ []) gs r = loaded m ts a.memory (n + a.offset) l gs r
+exactly m (stores a count) [] (n ∷ k ∷ []) gs r = stored m a.memory (n + a.offset) count k gs r
+exactly m row ts ns gs r = Fails (met m.outside) gs r
+
+-- The world does on exact rows what the standard says, with memories that its rest holds.
+pub record IsExact (w : World) : Type 0 where
+  pub memories : Memories
+  pub follows : (i : Instruction) (row : ExactRow) (results : List PrimitiveTypeInfo) (operands globals : List Value) (rest : ℕ) →
+      exact_row i ≡ Some row → other_types w.info i (types operands) ≡ Some results → All IsValue operands → types globals ≡ w.info.globals →
+      All IsValue globals →
+      w.answer i operands globals rest ≡ exactly memories row results (map (λ v. v.number) operands) globals rest
+
 -- ---- typed states
 
--- Values of the results' types, and globals of their types, or a trap where the instruction may trap; an instruction that changes nothing leaves the
--- globals and the rest as they are.
+-- Values of the results' types, or a trap where the instruction may trap; both leave globals of their types, since whoever called may go on. An instruction
+-- that changes nothing leaves the globals and the rest as they are.
 abbrev pub IsAnswer : Module → Instruction → (results : List PrimitiveTypeInfo) → (globals : List Value) → (rest : ℕ) → Answer → Type 0
 IsAnswer info i results globals rest (Gives vs gs r) =
     (types vs ≡ results) × All IsValue vs × (types gs ≡ info.globals) × All IsValue gs × (changes i ≡ false → (gs ≡ globals) × (r ≡ rest))
-IsAnswer info i results globals rest (Fails cause gs r) = (may_trap i ≡ true) × (changes i ≡ false → (gs ≡ globals) × (r ≡ rest))
+IsAnswer info i results globals rest (Fails cause gs r) =
+    (may_trap i ≡ true) × (types gs ≡ info.globals) × All IsValue gs × (changes i ≡ false → (gs ≡ globals) × (r ≡ rest))
 
--- What the world does on operands of an instruction's types is such an answer; requested globals keep their types.
+-- What the world does on operands of an instruction's types, or of a foreign function's, is such an answer; requested globals keep their types; and it is
+-- exact where its module says that what runs it is.
 pub record IsSound (w : World) : Type 0 where
   pub answers : (i : Instruction) (results : List PrimitiveTypeInfo) (operands globals : List Value) (rest : ℕ) →
-      other_types w.info i (types operands) ≡ Some results → All IsValue operands → types globals ≡ w.info.globals → All IsValue globals →
+      asked_types w.info i (types operands) ≡ Some results → All IsValue operands → types globals ≡ w.info.globals → All IsValue globals →
       IsAnswer w.info i results globals rest (w.answer i operands globals rest)
   pub kept : (i : Instruction) (operands globals : List Value) (rest : ℕ) (others : List Value) →
       types (w.others i operands globals rest others) ≡ types others
+  pub exact : w.info.exact ≡ true → IsExact w
 
 -- a value of its type for each variable of the context, in a sound world of its module
 pub record HasTypes (context : Context) (s : State) : Type 0 where

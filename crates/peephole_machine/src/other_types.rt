@@ -123,12 +123,14 @@ fn smaller(t: Option<PrimitiveTypeInfo>, u: Option<PrimitiveTypeInfo>) -> Option
     }
 }
 
+// `Empty` stands for each type of a module that isn't one of the others: these are references.
 fn is_reference(t: PrimitiveTypeInfo) -> bool
     ensures { result ≡ is_reference t }
 {
     match t {
         PrimitiveTypeInfo::FuncRef => true,
         PrimitiveTypeInfo::ExternRef => true,
+        PrimitiveTypeInfo::Empty => true,
         _ => false,
     }
 }

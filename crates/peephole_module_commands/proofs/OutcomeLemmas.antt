@@ -20,30 +20,33 @@ use Rattle.peephole_module_commands.specs.declared.options.Options.{Options}
 pub rewritten_outcome : (options : Options) (scope : Scope) (bytes module_bytes written : List ℕ) (made given : List MadeRewrite)
     (stopped told : Option MutationError) → scope ≡ scope_of options → Mutates scope options.count bytes made module_bytes stopped →
     ChoosesTimes scope bytes (seeded options.seed) made module_bytes stopped → DoesAsBefore bytes module_bytes → given ≡ made → told ≡ stopped →
-    IsWrittenAs options.strip_debug module_bytes written → IsOutcome options bytes given told written
-rewritten_outcome options scope bytes module_bytes written made given stopped told is mutates chosen does made_is stopped_is as_written =
+    IsWrittenAs options.strip_debug module_bytes written → ((start : List ℕ) → DoesAsBefore start module_bytes → DoesAsBefore start written) →
+    IsOutcome options bytes given told written
+rewritten_outcome options scope bytes module_bytes written made given stopped told is mutates chosen does made_is stopped_is as_written after =
     subst (λ (s : Option MutationError). IsOutcome options bytes given s written) (sym stopped_is)
     (subst (λ (ms : List MadeRewrite). IsOutcome options bytes ms stopped written) (sym made_is) (record {
       module_bytes = module_bytes;
       is_made = inl (record {
         mutates = subst (λ (s : Scope). Mutates s options.count bytes made module_bytes stopped) is mutates;
         chosen = subst (λ (s : Scope). ChoosesTimes s bytes (seeded options.seed) made module_bytes stopped) is chosen;
-        does = does;
       });
       is_written = as_written;
+      does = after bytes does;
     }))
 
 -- of one that is left as it is
 pub left_outcome : (options : Options) (bytes module_bytes written : List ℕ) (reason : Reason) (made given : List MadeRewrite)
     (stopped told : Option MutationError) → IsReason (scope_of options) bytes reason → leaves options.shrink reason ≡ true → module_bytes ≡ bytes →
     made ≡ [] → stopped ≡ None → given ≡ made → told ≡ stopped → IsWrittenAs options.strip_debug module_bytes written →
+    ((start : List ℕ) → DoesAsBefore start module_bytes → DoesAsBefore start written) → DoesAsBefore bytes module_bytes →
     IsOutcome options bytes given told written
-left_outcome options bytes module_bytes written reason made given stopped told is left same none not_stopped made_is stopped_is as_written =
+left_outcome options bytes module_bytes written reason made given stopped told is left same none not_stopped made_is stopped_is as_written after does =
     subst (λ (s : Option MutationError). IsOutcome options bytes given s written) (sym stopped_is)
     (subst (λ (ms : List MadeRewrite). IsOutcome options bytes ms stopped written) (sym made_is) (record {
       module_bytes = module_bytes;
       is_made = inr (record { reason = reason; is = is; leaves = left; none = none; not_stopped = not_stopped; same = same });
       is_written = as_written;
+      does = after bytes does;
     }))
 
 -- nothing is shown where nothing is made

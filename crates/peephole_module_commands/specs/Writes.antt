@@ -23,11 +23,10 @@ abbrev pub IsWrittenAs : (strip : Bool) → (module_bytes written : List ℕ) �
 IsWrittenAs false module_bytes written = written ≡ module_bytes
 IsWrittenAs true module_bytes written = (sections : List Section) × SpellsModule module_bytes sections × IsWithoutDebug module_bytes sections written
 
--- The new bytes are the module with one rewrite or more made, at most as many as the options say, as their seed chooses them; it does what it did.
+-- The new bytes are the module with one rewrite or more made, at most as many as the options say, as their seed chooses them.
 pub record IsRewrittenBy (options : Options) (bytes : List ℕ) (made : List MadeRewrite) (stopped : Option MutationError) (new : List ℕ) : Type 0 where
   pub mutates : Mutates (scope_of options) options.count bytes made new stopped
   pub chosen : ChoosesTimes (scope_of options) bytes (seeded options.seed) made new stopped
-  pub does : DoesAsBefore bytes new
 
 -- The new bytes are the module as it is: rules are to make code smaller alone, and none applies.
 pub record IsLeft (options : Options) (bytes : List ℕ) (made : List MadeRewrite) (stopped : Option MutationError) (new : List ℕ) : Type 0 where
@@ -38,11 +37,12 @@ pub record IsLeft (options : Options) (bytes : List ℕ) (made : List MadeRewrit
   pub not_stopped : stopped ≡ None
   pub same : new ≡ bytes
 
--- Bytes are written of the module rewritten, or as it is.
+-- Bytes are written of the module rewritten, or as it is; they are valid where it was, and do what it did.
 pub record IsOutcome (options : Options) (bytes : List ℕ) (made : List MadeRewrite) (stopped : Option MutationError) (written : List ℕ) : Type 0 where
   pub module_bytes : List ℕ
   pub is_made : IsRewrittenBy options bytes made stopped module_bytes ⊎ IsLeft options bytes made stopped module_bytes
   pub is_written : IsWrittenAs options.strip_debug module_bytes written
+  pub does : DoesAsBefore bytes written
 
 -- A device has grown by such bytes, and a run that ends so has written them.
 pub record WritesMutated (options : Options) (bytes : List ℕ) (ending : Ending) (old new : Option (List ℕ)) : Type 0 where

@@ -1,7 +1,8 @@
 //! The module rewritten as the options say.
-ghost use Rattle.std.specs.Prelude.{◌≡◌, [], true, None, IfOk, IfErr};
+ghost use Rattle.std.specs.Prelude.{◌≡◌, ℕ, List, [], true, None, IfOk, IfErr};
 ghost use Rattle.peephole_modules.specs.Attempt.{IsForSize, IsReason};
 ghost use Rattle.peephole_modules.specs.Chosen.{GivesUp};
+ghost use Rattle.peephole_modules.specs.DoesAsBefore.{DoesAsBefore};
 ghost use Rattle.peephole_modules.specs.Seeded.{seeded};
 ghost use Rattle.peephole_module_commands.specs.Failures.{FailsToMake, leaves};
 ghost use Rattle.peephole_module_commands.specs.Scope.{scope_of};
@@ -12,16 +13,19 @@ ghost use Rattle.peephole_module_commands.specs.declared.failure.Failure.TheVari
 use crate::failure::Failure;
 use crate::options::Options;
 use crate::showing::Shower;
+use peephole_modules::laws::rewritten_modules_do_as_before;
 use peephole_modules::{Reason, RewrittenModule, Watch, rewrite_watched};
 use std::alloc::Global;
 use wasm_sections::{read_sections, without_debug};
 
 // The module without its custom sections that name places in the code. A module that rewrites made is one, so that it isn't read for
-// want of memory alone.
+// want of memory alone. It does what the module does.
 fn stripped(alloc: Global, bytes: &[u8]) -> Result<Vec<u8>, Failure>
     ensures stripped { IfOk result (λ new. IsWrittenAs true bytes.now new.items) }
+    ensures does { IfOk result (λ new. DoesAsBefore bytes.now new.items) }
     ensures memory { IfErr result (λ e. e ≡ Memory) }
 {
+    rewritten_modules_do_as_before();
     let Ok(sections) = read_sections(alloc, bytes) else {
         return Err(Failure::Memory);
     };
@@ -33,8 +37,11 @@ fn finished(alloc: Global, strip: bool, new: RewrittenModule) -> Result<Rewritte
     ensures made { IfOk result (λ m. m.made.items ≡ new.made.items) }
     ensures stopped { IfOk result (λ m. m.stopped ≡ new.stopped) }
     ensures bytes { IfOk result (λ m. IsWrittenAs strip new.bytes.items m.bytes.items) }
+    ensures does { IfOk result (λ m. (start : List ℕ) → DoesAsBefore start new.bytes.items
+        → DoesAsBefore start m.bytes.items) }
     ensures memory { IfErr result (λ e. e ≡ Memory) }
 {
+    rewritten_modules_do_as_before();
     if !strip {
         return Ok(new);
     }
@@ -49,10 +56,12 @@ fn finished(alloc: Global, strip: bool, new: RewrittenModule) -> Result<Rewritte
 // The module with no rewrite made.
 fn unchanged(alloc: Global, bytes: &[u8]) -> Result<RewrittenModule, Failure>
     ensures bytes { IfOk result (λ m. m.bytes.items ≡ bytes.now) }
+    ensures does { IfOk result (λ m. DoesAsBefore bytes.now m.bytes.items) }
     ensures made { IfOk result (λ m. m.made.items ≡ []) }
     ensures stopped { IfOk result (λ m. m.stopped ≡ None) }
     ensures memory { IfErr result (λ e. e ≡ Memory) }
 {
+    rewritten_modules_do_as_before();
     let mut copy = Vec::new(alloc);
     copy.extend_from_slice(bytes)?;
     Ok(RewrittenModule {

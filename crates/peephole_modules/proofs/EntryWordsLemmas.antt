@@ -1,5 +1,5 @@
 -- Words that name a code entry.
-use Rattle.std.proofs.Common.{◌≡◌, inl, inr, ℕ, zero, suc, ◌+◌, ◌-◌, ◌*◌, ◌%◌, ◌^◌, ◌<◌, ◌≤◌, List, [], ◌∷◌, length, take, drop, Some, ap, ap₂, subst, sym, ◌∙◌, arith}
+use Rattle.std.proofs.Common.{◌≡◌, inl, inr, Bool, true, false, ℕ, zero, suc, ◌+◌, ◌-◌, ◌*◌, ◌%◌, ◌^◌, ◌<◌, ◌≤◌, List, [], ◌∷◌, length, take, drop, Some, ap, ap₂, subst, sym, ◌∙◌, arith}
 use Rattle.std.specs.Prelude.{IsTrue, slice_get, slice_range}
 use Rattle.std.specs.List.{sum_by}
 use Rattle.std.proofs.lemmas.Bool.{cases_eq, cases_lt}
@@ -8,8 +8,8 @@ use Rattle.std.proofs.lemmas.List.Sums.{sum_by-cons, sum_by_more, sum_by-take-le
 use Rattle.std.proofs.lemmas.Nat.{mod-mul-add}
 use Rattle.std.proofs.lemmas.Option.{get_or_from_slice_get, same_Some, slice_get_within}
 use Rattle.rand_core.specs.Stream.{next_u64}
-use Rattle.wasm_code.specs.Body.{SpellsAll, SpellsBody, ends}
-use Rattle.wasm_code.specs.Operator.{Spells}
+use Rattle.wasm_code.specs.Body.{SpellsAll, SpellsCode, ends}
+use Rattle.wasm_code.specs.Operator.{is_known, Spells, SpellsBy}
 use Rattle.wasm_code.specs.declared.operator.Operator.{Operator}
 use Rattle.mutate_base.specs.Module.{Module}
 use Rattle.mutate_base.specs.declared.types.PrimitiveTypeInfo.{PrimitiveTypeInfo}
@@ -37,11 +37,24 @@ some_byte text x s = omega (
   ap length s.first.first,
 )
 
+some_other : (v : Bool) (text : List ℕ) (x : Operator) → SpellsBy v text x → 0 < length text
+some_other true text x s = some_byte text x s
+some_other false text x s =
+    let o = s.spells in
+    omega (
+      arith,
+      ap length o.parts,
+      length-append o.front o.back,
+      ap length o.first.parts,
+      length-append o.first.front o.first.back,
+      ap length o.first.first,
+    )
+
 -- a body takes a byte or more
-body_takes : (start : ℕ) (text : List ℕ) (operators : List (Operator × ℕ)) → SpellsBody start text operators → 0 < length text
+body_takes : (start : ℕ) (text : List ℕ) (operators : List (Operator × ℕ)) → SpellsCode start text operators → 0 < length text
 body_takes start text [] s = absurd (let last : IsTrue (ends []) = s.last in cc)
 body_takes start text (x ∷ operators) s =
-    let one = some_byte s.all.front x.0 s.all.spells in
+    let one = some_other (is_known x.0) s.all.front x.0 s.all.spells in
     let parts = ap length s.all.parts in
     let sum = length-append s.all.front s.all.back in
     omega (arith, one, parts, sum)

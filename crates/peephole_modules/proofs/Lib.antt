@@ -4,6 +4,8 @@ pub mod ReadAgainLemmas
 pub mod MutationLemmas
 pub mod ModuleLemmas
 pub mod DoesAsBeforeLemmas
+pub mod SameModuleLemmas
+mod StructureExamples
 pub mod MutatesLemmas
 pub mod EntryWordsLemmas
 pub mod AttemptLemmas

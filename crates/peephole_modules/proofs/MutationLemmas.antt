@@ -5,7 +5,7 @@ use Rattle.std.specs.List.{All, Contains}
 use Rattle.std.proofs.lemmas.List.{length-append, length-take, length-drop}
 use Rattle.std.proofs.lemmas.List.Elements.{All-nil, All-cons, All-contains}
 use Rattle.std.proofs.lemmas.Option.{same_Some}
-use Rattle.wasm_code.specs.Body.{SpellsBody}
+use Rattle.wasm_code.specs.Body.{SpellsCode}
 use Rattle.wasm_code.specs.declared.operator.Operator.{Operator}
 use Rattle.mutate_base.specs.Module.{Module}
 use Rattle.mutate_base.specs.declared.error.Error.{Error}
@@ -21,6 +21,7 @@ use Rattle.wasm_module.specs.declared.refusal.WriteError.{WriteError}
 use Rattle.wasm_module.specs.declared.refusal.WriteError.TheVariants.{TooLarge, EmptyType, Memory}
 use Rattle.peephole_machine.specs.Values.{context_in}
 use Rattle.peephole_terms.specs.declared.encoder.request.ResourceRequest.{ResourceRequest}
+use Rattle.peephole_terms.specs.OwnBytes.{own_bytes, structural_bytes, OwnBytesStay}
 use Rattle.peephole_terms.specs.Expansion.{Setting, after_term, requests_of, request}
 use Rattle.peephole_terms.specs.NodeKind.{primitive_of}
 use Rattle.peephole_terms.specs.declared.encoder.node_kind.NumberType.{NumberType}
@@ -182,14 +183,14 @@ all_requested : {locals : Types} {s : Setting} {input : List ℕ} {operators : O
     All (λ (t : PrimitiveTypeInfo). t ≢ Empty) (map requested requests)
 all_requested w = subst (All (λ (t : PrimitiveTypeInfo). t ≢ Empty)) (sym (requested_are w)) (all_types (requests_of w.term))
 
-pub mutates : RewrittenBytesAreAModule → (rules : List Rule) (bytes : List ℕ) (info : Module) (layout : Layout) (n : ℕ) (locals lent : Types) (expression : ℕ)
+pub mutates : OwnBytesStay → RewrittenBytesAreAModule → (rules : List Rule) (bytes : List ℕ) (info : Module) (layout : Layout) (n : ℕ) (locals lent : Types) (expression : ℕ)
     (operators given : Operators) (entry : Entry) (rewrite : Rewrite) (old body : List ℕ) (requests : List ResourceRequest)
     (left : Option Setting) (front written : List ℕ) (globals : Types) (new : List ℕ) → IsModule bytes info layout →
     IsFunction bytes info layout n locals expression operators → lent ≡ locals → given ≡ operators → old ≡ [] →
     AppendsChosen lent info rules bytes given rewrite old body requests left → slice_get layout.entries n ≡ Some entry →
     front ≡ slice_range bytes entry.contents expression → written ≡ body → globals ≡ map requested requests →
     IsRewritten bytes layout n (front ++ written) globals new → MutatesEntry rules bytes info layout n rewrite new
-mutates law rules bytes info layout n locals lent expression operators given entry rewrite old body requests left front written globals new
+mutates stay law rules bytes info layout n locals lent expression operators given entry rewrite old body requests left front written globals new
     known f lent_is given_is empty appended at front_is written_is globals_are rewritten =
     let same : entry ≡ f.entry = same_Some _ _ (sym at ∙ f.is.at) in
     let start : front ≡ slice_range bytes f.entry.contents expression =
@@ -203,8 +204,10 @@ mutates law rules bytes info layout n locals lent expression operators given ent
     (subst (λ (b : List ℕ). IsRewritten bytes layout n (slice_range bytes f.entry.contents expression ++ b) globals new) written_is
     (subst (λ (a : List ℕ). IsRewritten bytes layout n (a ++ written) globals new) start rewritten)) in
     let w = appends.2.1 in
-    let spells : SpellsBody 0 body w.written.reads.again =
-    subst (λ (b : List ℕ). SpellsBody 0 b w.written.reads.again) (sym w.written.appended) w.written.reads.spells in
+    let spells : SpellsCode 0 body w.written.reads.again =
+    subst (λ (b : List ℕ). SpellsCode 0 b w.written.reads.again) (sym w.written.appended) w.written.reads.spells in
+    let structure : structural_bytes (own_bytes body w.written.reads.again) ≡ structural_bytes (own_bytes bytes operators) =
+    ap (λ (b : List ℕ). structural_bytes (own_bytes b w.written.reads.again)) w.written.appended ∙ w.structure in
     record {
       locals = locals;
       expression = expression;
@@ -215,7 +218,7 @@ mutates law rules bytes info layout n locals lent expression operators given ent
       left = left;
       rewritten = appends;
       written = is;
-      again = read_again f body w.written.reads.again (map requested requests) new spells
+      again = read_again stay f body w.written.reads.again (map requested requests) new spells structure
           (law bytes info layout n (slice_range bytes f.entry.contents expression ++ body) (map requested requests) new known is
           f.is.indices.imports f.is.indices.globals (all_requested w));
     }

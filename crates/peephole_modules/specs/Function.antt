@@ -1,7 +1,7 @@
 -- A function of a module: the types of its parameters and locals, and its body
 -- (WebAssembly Core Specification 3.0, Binary Format, Modules, Code Section).
 use Rattle.std.specs.Prelude.{◌≡◌, ℕ, ◌+◌, List, Option, Some, None, slice_get, slice_range}
-use Rattle.wasm_code.specs.Body.{SpellsBody, IsFault}
+use Rattle.wasm_code.specs.Body.{SpellsCode, IsCodeFault}
 use Rattle.wasm_code.specs.declared.operator.Operator.{Operator}
 use Rattle.wasm_code.specs.declared.fault.ReadError.{ReadError}
 use Rattle.wasm_code.specs.declared.fault.ReadKind.{ReadKind}
@@ -49,7 +49,7 @@ pub record IsFunction (bytes : List ℕ) (info : Module) (layout : Layout) (n : 
   pub params : List PrimitiveTypeInfo
   pub is : IsEntryOf info layout n entry params
   pub locals_are : SpellsLocals params entry.contents (slice_range bytes entry.contents entry.end) locals expression
-  pub body : SpellsBody expression (slice_range bytes expression entry.end) operators
+  pub body : SpellsCode expression (slice_range bytes expression entry.end) operators
 
 -- ---- why it can't be read
 
@@ -77,7 +77,7 @@ pub record FailsBody (bytes : List ℕ) (info : Module) (layout : Layout) (n : �
   pub locals : List PrimitiveTypeInfo
   pub expression : ℕ
   pub locals_are : SpellsLocals params entry.contents (slice_range bytes entry.contents entry.end) locals expression
-  pub fault : IsFault expression entry.end (slice_range bytes expression entry.end) kind offset
+  pub fault : IsCodeFault expression entry.end (slice_range bytes expression entry.end) kind offset
 
 -- the code of an operator that isn't known, or an immediate of which isn't; of other faults none
 abbrev pub operator_for : ReadKind → Option OperatorCode → Option OperatorCode

@@ -5,6 +5,7 @@ pub mod ChosenTimes
 pub mod Drawing
 pub mod OperatorCode
 pub mod Function
+pub mod Structure
 pub mod ReadAgain
 pub mod Writing
 pub mod EntryWords

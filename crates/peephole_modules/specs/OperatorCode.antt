@@ -1,11 +1,11 @@
 -- The code of an operator: one byte, or a prefix and a number (WebAssembly Core Specification 3.0, Binary Format, Instructions); and the family of one that
--- isn't among the 446 of the table, by the proposal that brought it (this project).
+-- can't be read, by the proposal that brought it (this project).
 use Rattle.std.specs.Prelude.{◌==◌, ◌&&◌, ◌||◌, if◌then◌else◌, nat_le, ℕ, ◌/◌, ◌%◌, Bool, false, List, [], ◌∷◌, ◌++◌, drop, codes, decimal, Option, Some, None, Result, Ok, Err}
 use Rattle.std.specs.Fmt.{digit_glyph}
 use Rattle.wasm_code.specs.Reader.{unsigned_at}
 use Rattle.wasm_code.specs.declared.fault.Cause.{Cause}
 use Rattle.peephole_modules.specs.declared.operator_code.Family.{Family}
-use Rattle.peephole_modules.specs.declared.operator_code.Family.TheVariants.{Exceptions, TailCalls, TypedReferences, GarbageCollection, Atomics, Other}
+use Rattle.peephole_modules.specs.declared.operator_code.Family.TheVariants.{Exceptions, TypedReferences, GarbageCollection, Atomics, Other}
 use Rattle.peephole_modules.specs.declared.operator_code.OperatorCode.{OperatorCode}
 use Rattle.peephole_modules.specs.declared.operator_code.OperatorCode.TheVariants.{Byte, Prefixed}
 
@@ -40,12 +40,11 @@ code_text (Prefixed prefix number) = codes "0x" ++ (two_digits prefix ++ (codes 
 
 -- ---- families
 
--- those of one byte: `try` to `throw_ref`, `delegate`, `catch_all`, `try_table`; `return_call`, `return_call_indirect`, `return_call_ref`; `block`, `loop`,
--- `if`, `call_ref`, `select`, `ref.null`, `ref.as_non_null`, `br_on_null`, `br_on_non_null`; `ref.eq`
+-- those of one byte: `try` to `throw_ref`, `delegate`, `catch_all`, `try_table`; `block`, `loop`, `if`, `call_ref`, `select`, `ref.null`, `ref.as_non_null`,
+-- `br_on_null`, `br_on_non_null`; `ref.eq`
 abbrev pub byte_family : (byte : ℕ) → Family
 byte_family byte =
     if (nat_le 0x06 byte && nat_le byte 0x0a) || byte == 0x18 || byte == 0x19 || byte == 0x1f then Exceptions
-    else if byte == 0x12 || byte == 0x13 || byte == 0x15 then TailCalls
     else if (nat_le 0x02 byte && nat_le byte 0x04) || byte == 0x14 || byte == 0x1c || byte == 0xd0 || (nat_le 0xd4 byte && nat_le byte 0xd6) then
     TypedReferences
     else if byte == 0xd3 then GarbageCollection
@@ -55,7 +54,7 @@ byte_family byte =
 abbrev pub prefix_family : (prefix : ℕ) → Family
 prefix_family prefix = if prefix == 0xfb then GarbageCollection else if prefix == 0xfe then Atomics else Other
 
--- the family of the code, where the operator isn't known
+-- the family of the code, where the operator can't be read
 abbrev pub family_of : OperatorCode → Family
 family_of (Byte byte) = byte_family byte
 family_of (Prefixed prefix number) = prefix_family prefix
@@ -63,7 +62,6 @@ family_of (Prefixed prefix number) = prefix_family prefix
 -- its name
 abbrev pub family_name : Family → List ℕ
 family_name Exceptions = codes "exceptions"
-family_name TailCalls = codes "tail calls"
 family_name TypedReferences = codes "typed references"
 family_name GarbageCollection = codes "garbage collection"
 family_name Atomics = codes "atomics"

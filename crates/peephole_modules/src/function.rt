@@ -11,7 +11,7 @@ use crate::operator_code::{OperatorCode, code_at};
 use mutate_base::{ModuleInfo, PrimitiveTypeInfo, TypeInfo};
 use std::alloc::Global;
 use thiserror::Error;
-use wasm_code::{OperatorAndByteOffset, ReadError, ReadKind, read_body};
+use wasm_code::{OperatorAndByteOffset, ReadError, ReadKind, read_code};
 use wasm_module::laws::entries_are_inside;
 use wasm_module::{Entry, Layout, ModuleError, ModuleFault, read_locals};
 
@@ -147,7 +147,7 @@ fn without_type(layout: &Layout) -> FunctionError
 ///
 /// Refused with the first fault: `Unknown` where an import or a global is of a form that isn't known here, so that indices aren't
 /// known, or where such a type stands before the function's; `UnknownType` where the module has no type for it; `Locals` as
-/// `read_locals` refuses its locals; `Body` as `read_body` refuses what stands behind them, with the code of an operator that isn't
+/// `read_locals` refuses its locals; `Body` as `read_code` refuses what stands behind them, with the code of an operator that isn't
 /// known; for want of memory as either refuses.
 pub fn read_function(
     alloc: Global,
@@ -183,7 +183,7 @@ pub fn read_function(
         Ok(locals) => locals,
         Err(e) => return Err(FunctionError::Locals(e)),
     };
-    match read_body(alloc, bytes, locals.expression, entry.end) {
+    match read_code(alloc, bytes, locals.expression, entry.end) {
         Ok(operators) => Ok(FunctionBody {
             locals: locals.types,
             expression: locals.expression,

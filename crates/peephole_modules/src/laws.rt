@@ -4,8 +4,11 @@ ghost use Rattle.std.specs.List.{sum_by};
 ghost use Rattle.wasm_code.specs.declared.operator.Operator.{Operator};
 ghost use Rattle.mutate_base.specs.Module.{Module};
 ghost use Rattle.mutate_base.specs.declared.types.PrimitiveTypeInfo.{PrimitiveTypeInfo};
+ghost use Rattle.wasm_sections.specs.Debug.{IsWithoutDebug};
+ghost use Rattle.wasm_sections.specs.Section.{SpellsModule};
 ghost use Rattle.wasm_sections.specs.declared.fault.ModuleFault.{ModuleFault};
 ghost use Rattle.wasm_sections.specs.declared.fault.ModuleFault.TheVariants.{Memory};
+ghost use Rattle.wasm_sections.specs.declared.section.Section.{Section};
 ghost use Rattle.wasm_module.specs.Fault.{IsModuleFault};
 ghost use Rattle.wasm_module.specs.Module.{Layout};
 ghost use Rattle.peephole_machine.specs.Values.{context_in};
@@ -24,14 +27,18 @@ ghost use Rattle.peephole_modules.specs.declared.mutation.MutationError.{Mutatio
 ghost use Rattle.peephole_modules.specs.declared.times.MadeRewrite.{MadeRewrite};
 
 use peephole_programs::laws::{
-    embedders_are_sound, one_function_is_rewritten, rewritten_modules_do_more, sessions_do_more,
-    valid_modules_do_more,
+    embedders_are_sound, one_function_is_rewritten, pieces_do_as_before, rewritten_modules_do_more,
+    sessions_do_more, valid_modules_do_more,
 };
-use peephole_programs::validity::validity_goes_by_types;
 use peephole_rewrites::laws::{each_rewrite_has_words, words_choose_one_rewrite};
+use peephole_terms::laws::own_bytes_stay;
 use wasm_code::laws::one_list as one_list_of_operators;
 use wasm_declarations::laws::one_list;
-use wasm_module::laws::{modules_have_no_fault, one_reading};
+use wasm_module::laws::{
+    modules_have_no_fault, modules_without_debug_are_the_same, one_reading,
+    rewritten_modules_are_made_alike,
+};
+use wasm_sections::laws::one_module;
 
 /// A rewritten module is a module, so that reading it is refused for want of memory alone.
 pub fn rewritten_modules_are_read_again()
@@ -43,19 +50,29 @@ pub fn rewritten_modules_are_read_again()
 }
 
 /// A module in which a tree was rewritten (`one`), or several, one after another (`each`), is valid where it was, and does what it
-/// did.
+/// did; so it does without its custom sections that name places in the code (`stripped`), and as it is (`itself`). What does as a
+/// second module, which does as a third, does as that (`follow`).
 pub fn rewritten_modules_do_as_before()
     ensures one { (scope : Scope) (bytes new : List ℕ) (function : ℕ) (rewrite : Rewrite)
         → IsMutated scope bytes function rewrite new → DoesAsBefore bytes new }
     ensures each { (scope : Scope) (count : ℕ) (bytes new : List ℕ) (made : List MadeRewrite)
         (stopped : Option MutationError) → Mutates scope count bytes made new stopped
         → DoesAsBefore bytes new }
+    ensures stripped { (bytes new : List ℕ) (sections : List Section) → SpellsModule bytes sections
+        → IsWithoutDebug bytes sections new → DoesAsBefore bytes new }
+    ensures itself { (bytes : List ℕ) → DoesAsBefore bytes bytes }
+    ensures follow { (bytes between new : List ℕ) → DoesAsBefore bytes between
+        → DoesAsBefore between new → DoesAsBefore bytes new }
 {
     one_reading();
     one_list();
     one_list_of_operators();
-    validity_goes_by_types();
+    one_module();
+    own_bytes_stay();
+    modules_without_debug_are_the_same();
+    rewritten_modules_are_made_alike();
     embedders_are_sound();
+    pieces_do_as_before();
     one_function_is_rewritten();
     rewritten_modules_do_more();
     sessions_do_more();

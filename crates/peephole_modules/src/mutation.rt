@@ -19,6 +19,7 @@ use crate::scope::Scope;
 use mutate_base::{Error, PrimitiveTypeInfo, WasmMutate};
 use peephole_rewrites::{Rewrite, rewrite_tree_at_random};
 use peephole_terms::ResourceRequest;
+use peephole_terms::laws::own_bytes_stay;
 use rand_core::Rng;
 use std::alloc::{AllocError, Global};
 use thiserror::Error as ErrorTexts;
@@ -180,6 +181,7 @@ fn mutate_entry<R: Rng + Drop>(
     ensures unchanged { ChangesGeneratorAlone config.old config.new }
 {
     entries_are_inside();
+    own_bytes_stay();
     rewritten_bytes_are_a_module();
     let function = match read_function(alloc, bytes, config.info(), layout, n) {
         Ok(function) => function,

@@ -1,4 +1,4 @@
-//! The code of an operator, and the family of instructions of one that isn't known here.
+//! The code of an operator, and the family of instructions of one that can't be read.
 ghost use Rattle.std.specs.Prelude.{◌≡◌};
 ghost use Rattle.peephole_modules.specs.OperatorCode.{byte_family, code_at, code_of, family_name, family_of, is_prefix, prefix_family};
 
@@ -6,7 +6,7 @@ use std::fmt;
 use wasm_code::u32_of;
 
 /// The code of an operator, as its first bytes name it. Its text is that of the byte or the prefix in hexadecimal digits, and the
-/// number behind a prefix in decimal ones, as `0x12` and `0xfe 16`.
+/// number behind a prefix in decimal ones, as `0x1f` and `0xfe 79`.
 #[derive(Clone, Copy, Debug, PartialEq, Eq)]
 pub enum OperatorCode {
     /// One byte.
@@ -20,9 +20,7 @@ pub enum OperatorCode {
 pub enum Family {
     /// Exceptions are thrown and caught.
     Exceptions,
-    /// A call takes the place of the caller.
-    TailCalls,
-    /// References have a type of the module's, or aren't null; also blocks, selects and nulls with types that aren't known here.
+    /// References have a type of the module's, or aren't null; also blocks, selects and nulls with a type that is none.
     TypedReferences,
     /// Objects are made and collected.
     GarbageCollection,
@@ -39,7 +37,6 @@ impl Family {
     {
         match self {
             Family::Exceptions => "exceptions",
-            Family::TailCalls => "tail calls",
             Family::TypedReferences => "typed references",
             Family::GarbageCollection => "garbage collection",
             Family::Atomics => "atomics",
@@ -54,7 +51,6 @@ fn byte_family(byte: u8) -> Family
 {
     match byte {
         0x06..=0x0a | 0x18 | 0x19 | 0x1f => Family::Exceptions,
-        0x12 | 0x13 | 0x15 => Family::TailCalls,
         0x02..=0x04 | 0x14 | 0x1c | 0xd0 | 0xd4..=0xd6 => Family::TypedReferences,
         0xd3 => Family::GarbageCollection,
         _ => Family::Other,

@@ -1,21 +1,4 @@
-mod FunctionLemmas
-mod AloneLemmas
-mod WorldLemmas
-mod PieceLemmas
-mod WiderLemmas
-mod HostLemmas
-mod ModuleLemmas
-mod SessionLemmas
-mod StandardLemmas
-mod CallBackLemmas
-mod EmbedderLemmas
-mod ValidModuleLemmas
-mod Examples
-mod EmbedderExamples
-mod RowChecks
-mod RunChecks
-mod TraceLemmas
-mod ValidLemmas
-mod PoppedLemmas
-mod ProgressLemmas
-mod ValidityExamples
+pub mod control
+pub mod validation
+pub mod modules
+pub mod hosts

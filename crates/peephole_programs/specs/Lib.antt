@@ -1,13 +1,4 @@
-pub mod Function
-pub mod Program
-pub mod Standard
-pub mod Wider
-pub mod Modules
-pub mod Validation
-pub mod StandardSteps
-pub mod StaysValid
-pub mod Sound
-pub mod Embedder
-pub mod CallBack
-pub mod EmbedderLaws
-pub mod Laws
+pub mod control
+pub mod validation
+pub mod modules
+pub mod hosts

@@ -1,29 +1,11 @@
 //! What holds of whole modules in which functions were rewritten. A function here does nothing: its contract is the law.
 
-ghost use Rattle.peephole_programs.specs.EmbedderLaws.{EmbeddersAreSound, OneFunctionRewritten};
-ghost use Rattle.peephole_programs.specs.EmbedderLaws.{ValidModulesAreSound, ValidModulesDoMore, ValidModulesStayValid, ValidSessionsDoMore};
-ghost use Rattle.peephole_programs.specs.Laws.{CallsAreRuns, CallsFollow, ModulesDoAsBefore, ReplacedCodeIsInOnePiece, StandardControlIsSound, WiderHostsExist, WorldsAnswerAlike, WorldsAreSound};
-ghost use Rattle.peephole_programs.specs.Modules.{RewritesFollowOneAnother, RewrittenModulesDoMore, RunningIsSound, SessionsDoMore};
+ghost use Rattle.peephole_programs.specs.hosts.EmbedderLaws.{EmbeddersAreSound, FunctionsDoThemselves, HarnessesDoMore, OneFunctionRewritten, PiecesDo};
+ghost use Rattle.peephole_programs.specs.hosts.EmbedderLaws.{ValidHarnessesDoMore, ValidModulesAreSound, ValidModulesDoMore, ValidModulesStayValid, ValidSessionsDoMore};
+ghost use Rattle.peephole_programs.specs.control.Laws.{ReplacedCodeIsInOnePiece, StandardControlIsSound};
+ghost use Rattle.peephole_programs.specs.modules.Running.{RewritesFollowOneAnother, RewrittenModulesDoMore, RunningIsSound, SessionsDoMore};
 
 use peephole_machine::laws::sound_worlds_exist;
-
-/// A module in which functions were rewritten does what it did, through all calls of its own functions, at every depth.
-pub fn modules_do_as_before()
-    ensures { ModulesDoAsBefore }
-{}
-
-/// The worlds of both modules answer alike (`alike`), and are sound (`sound`); a call in the new one is a run of its body,
-/// whatever stands behind the module's globals (`runs`).
-pub fn worlds_of_calls()
-    ensures alike { WorldsAnswerAlike }
-    ensures sound { WorldsAreSound }
-    ensures runs { CallsAreRuns }
-{}
-
-/// From state to state the new module's run is the old one's, with requested globals behind.
-pub fn calls_follow()
-    ensures { CallsFollow }
-{}
 
 /// A module with rewritten functions, by itself, with the requested globals among its own, does what the module did (`rewritten`);
 /// and rewrites may follow one another (`follow`).
@@ -43,19 +25,17 @@ pub fn replaced_code_is_in_one_piece()
     ensures { ReplacedCodeIsInOnePiece }
 {}
 
-/// A sound host that keeps the globals behind the module's is one in the module with these among its own.
-pub fn wider_hosts_exist()
-    ensures { WiderHostsExist }
-{}
-
-/// Calls one after another (`calls`); the worlds are sound, as that asks (`sound`).
+/// Calls one after another (`calls`), and each by what those before it answered (`harnesses`); the worlds are sound, as that asks
+/// (`sound`).
 pub fn sessions_do_more()
     ensures calls { SessionsDoMore }
+    ensures harnesses { HarnessesDoMore }
     ensures sound { RunningIsSound }
 {}
 
 /// Sound worlds make sound embedders (`exist`), one for each module (`each`), which stay sound behind further globals (`stay`),
-/// and where imports call exports back (`back`).
+/// where imports call exports back (`back`), and where they run any typed code of the host's (`code`), as one that catches every
+/// trap of an export (`catches`).
 pub fn embedders_are_sound()
     ensures { EmbeddersAreSound }
 {
@@ -63,15 +43,24 @@ pub fn embedders_are_sound()
 }
 
 /// A valid module, in an embedder that is sound for it, and one whose functions do as its own: the new one answers as the old one
-/// (`more`), also in calls one after another (`sessions`), and is valid (`valid`). Its worlds are sound (`sound`).
+/// (`more`), also in calls one after another (`sessions`), each by what those before it answered (`harnesses`), and is valid
+/// (`valid`). Its worlds are sound (`sound`).
 pub fn valid_modules_do_more()
     ensures more { ValidModulesDoMore }
     ensures sessions { ValidSessionsDoMore }
+    ensures harnesses { ValidHarnessesDoMore }
     ensures valid { ValidModulesStayValid }
     ensures sound { ValidModulesAreSound }
 {}
 
-/// A module in which a single function was rewritten has functions that do as its own.
+/// A function that runs piece by piece as another, and stays valid, does as that.
+pub fn pieces_do_as_before()
+    ensures { PiecesDo }
+{}
+
+/// A module in which a single function was rewritten has functions that do as its own (`one`), and so has one in which none was
+/// (`none`).
 pub fn one_function_is_rewritten()
-    ensures { OneFunctionRewritten }
+    ensures one { OneFunctionRewritten }
+    ensures none { FunctionsDoThemselves }
 {}

@@ -1,8 +1,8 @@
 //! What holds of valid bodies. A function here does nothing: its contract is the law.
 
-ghost use Rattle.peephole_programs.specs.Sound.{TargetsStay, ValidBodiesRun, ValidBodiesStayValid, ValidCodeRuns};
-ghost use Rattle.peephole_programs.specs.StaysValid.{KnownOperandsCheckByTypes, MoreGlobalsCheckAlike, PushesOnFrames};
-ghost use Rattle.peephole_programs.specs.StaysValid.{ReplacedCodeStaysValid, RowTypesStay, TypedCodePushes, ValidityFollows};
+ghost use Rattle.peephole_programs.specs.validation.Sound.{DeedsStay, LapsArePasses, TargetsStay, ValidBodiesRun, ValidBodiesStayValid, ValidCodeRuns};
+ghost use Rattle.peephole_programs.specs.validation.StaysValid.{KnownOperandsCheckByTypes, MoreGlobalsCheckAlike, PushesOnFrames};
+ghost use Rattle.peephole_programs.specs.validation.StaysValid.{ReplacedCodeStaysValid, RowTypesStay, TypedCodePushes, ValidityFollows};
 
 /// On known operands a row is valid where it has types, and gives these (`known`); what is valid stays so with further globals
 /// (`more`); and one rewrite may follow another (`follow`).
@@ -35,9 +35,16 @@ pub fn valid_bodies_run()
     ensures { ValidBodiesRun }
 {}
 
+/// A run of laps is one of pieces, and what ends within so many pieces ends within as many laps.
+pub fn laps_are_passes()
+    ensures { LapsArePasses }
+{}
+
 /// A body that stays valid is accepted by the standard's algorithm in the module with further globals (`valid`), where its calls
-/// through tables come to functions of their types as before (`targets`).
+/// through tables come to functions of their types as before (`targets`), and its other operators to what is of their types
+/// (`deeds`).
 pub fn valid_bodies_stay_valid()
     ensures valid { ValidBodiesStayValid }
     ensures targets { TargetsStay }
+    ensures deeds { DeedsStay }
 {}

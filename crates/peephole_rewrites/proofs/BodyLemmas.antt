@@ -10,9 +10,9 @@ use Rattle.mutate_base.specs.declared.types.PrimitiveTypeInfo.{PrimitiveTypeInfo
 use Rattle.peephole_lang.specs.declared.lang.Head.{Head}
 use Rattle.peephole_lang.specs.Term.{Term}
 use Rattle.peephole_machine.specs.Values.{Context}
-use Rattle.peephole_programs.specs.Laws.{ReplacedCodeIsInOnePiece}
-use Rattle.peephole_programs.specs.StaysValid.{ReplacedCodeStaysValid, ChecksAs, StaysValid}
-use Rattle.peephole_programs.specs.Wider.{wider}
+use Rattle.peephole_programs.specs.control.Laws.{ReplacedCodeIsInOnePiece}
+use Rattle.peephole_programs.specs.validation.StaysValid.{ReplacedCodeStaysValid, ChecksAs, StaysValid}
+use Rattle.peephole_programs.specs.control.Wider.{wider}
 use Rattle.peephole_terms.specs.Expansion.{requests_of}
 use Rattle.peephole_terms.specs.NodeKind.{primitive_of}
 use Rattle.peephole_terms.specs.SameRun.{and_instruction, instructions_in}
@@ -24,7 +24,7 @@ use Rattle.peephole_rewrites.specs.Trees.{IsTheInstruction, AreInstructions}
 -- ---- instructions among operators
 
 -- it is one
-abbrev AnInstruction : Operator × ℕ → Type 0
+abbrev pub AnInstruction : Operator × ℕ → Type 0
 AnInstruction o = (i : Instruction) × IsTheInstruction o.0 i
 
 instructions_alone : (os : List (Operator × ℕ)) → AreInstructions os → without_offsets os ≡ map (λ (i : Instruction). Instr i) (instructions_in os)
@@ -44,7 +44,7 @@ first_instruction (o ∷ os) h l =
 
 -- ---- three parts of a list
 
-three_parts : {A : Type 0} (xs : List A) (a b : ℕ) → a ≤ b → take a xs ++ (slice_range xs a b ++ drop b xs) ≡ xs
+pub three_parts : {A : Type 0} (xs : List A) (a b : ℕ) → a ≤ b → take a xs ++ (slice_range xs a b ++ drop b xs) ≡ xs
 three_parts xs a b l =
     let there : a + (b - a) ≡ b = omega arith in
     ap (λ ys. take a xs ++ (slice_range xs a b ++ ys)) (ap (λ k. drop k xs) (sym there) ∙ sym (drop-drop (b - a) a xs))

@@ -12,6 +12,7 @@ pub mod CountingLemmas
 pub mod MakesLemmas
 pub mod MadeLemmas
 pub mod BodyLemmas
+pub mod StructureLemmas
 pub mod RewrittenLemmas
 pub mod ChoiceLemmas
 pub mod ReachedLemmas

@@ -19,7 +19,7 @@ use Rattle.peephole_machine.specs.Values.{Context, context_in}
 use Rattle.peephole_rules.specs.declared.rule.Rule.{Rule}
 use Rattle.peephole_terms.specs.declared.encoder.request.ResourceRequest.{ResourceRequest}
 use Rattle.peephole_terms.specs.Expansion.{Setting, Refuses, expansion_in, requests_of, request, after_term, term_in}
-use Rattle.peephole_terms.specs.Spliced.{operator_of_head, tree_operators, operators_of_trees, some_operator, AppendsSpliced}
+use Rattle.peephole_terms.specs.Spliced.{operator_of_head, tree_operators, operators_of_trees, some_operator, spliced, AppendsSpliced}
 use Rattle.peephole_terms.specs.StackCode.{words_for}
 use Rattle.peephole_terms.specs.Written.{IsBodyIn}
 use Rattle.peephole_rewrites.specs.declared.rewrite.Rewrite.{Rewrite}
@@ -28,6 +28,7 @@ use Rattle.peephole_rewrites.specs.Made.{IsMadeTree, HasLargeTree}
 use Rattle.peephole_rewrites.specs.PlainTypes.{plain_types, PlainTypesAreTypes}
 use Rattle.peephole_rewrites.specs.Choice.{HasPlaceAt, numbers_below, after_word, after_choice, Chooses, AppendsByWords, RefusesByWords}
 use Rattle.peephole_rewrites.specs.Rewriting.{IsTree, IsMade, AppendsRewritten, RefusesRewrite}
+use Rattle.peephole_rewrites.proofs.StructureLemmas.{structure_stays}
 use Rattle.peephole_rewrites.proofs.BodyLemmas.{ReplacedCode, does_as_body}
 use Rattle.peephole_rewrites.proofs.MakesLemmas.{tree_instructions}
 use Rattle.peephole_rewrites.proofs.ThoseLemmas.{one_of}
@@ -116,6 +117,8 @@ appended_at plain replaced locals s input operators r made m old grown requests 
           (let l = within in omega arith)
           (tree_instructions context tree list own typed m.makes.is.stands)
           (tree_some context tree own m.makes.is.typed m.makes.is.stands) runs.alone w.reads.are;
+      structure = structure_stays input (spliced input operators m.makes.is.start (r.operator + 1) w.code) operators w.reads.again m.makes.is.start
+          (r.operator + 1) w.code (let l = within in omega arith) (tree_instructions context tree list own typed m.makes.is.stands) w.reads.bytes_are;
     }
 
 module _ {R : Type 0} (stream : R → Stream) (locals : List PrimitiveTypeInfo) (m : Module) (operators : List (Operator × ℕ)) (r : Rewrite) where

@@ -7,14 +7,15 @@ use Rattle.mutate_base.specs.declared.error.Error.TheVariants.{Memory, TooLarge}
 use Rattle.peephole_lang.specs.declared.lang.Head.{Head}
 use Rattle.peephole_lang.specs.Term.{Term, node, no_terms, ◌▸◌}
 use Rattle.peephole_machine.specs.Values.{Context, context_in}
-use Rattle.peephole_programs.specs.Function.{RunsPieceByPiece}
-use Rattle.peephole_programs.specs.StaysValid.{StaysValid}
-use Rattle.peephole_programs.specs.Wider.{wider}
+use Rattle.peephole_programs.specs.control.Function.{RunsPieceByPiece}
+use Rattle.peephole_programs.specs.validation.StaysValid.{StaysValid}
+use Rattle.peephole_programs.specs.control.Wider.{wider}
 use Rattle.peephole_terms.specs.declared.encoder.request.ResourceRequest.{ResourceRequest}
 use Rattle.peephole_terms.specs.Expansion.{Setting, Refuses, expansion_in, requests_of, request, after_term}
 use Rattle.peephole_terms.specs.NodeKind.{primitive_of}
 use Rattle.peephole_terms.specs.SameRun.{instructions_in}
-use Rattle.peephole_terms.specs.Spliced.{tree_operators, StandsAt, KeepsEveryRun, KeepsItsRun, AppendsSpliced}
+use Rattle.peephole_terms.specs.OwnBytes.{own_bytes, structural_bytes}
+use Rattle.peephole_terms.specs.Spliced.{tree_operators, spliced, StandsAt, KeepsEveryRun, KeepsItsRun, AppendsSpliced}
 use Rattle.peephole_terms.specs.Typing.{types_of}
 use Rattle.peephole_terms.specs.Written.{without_offsets}
 use Rattle.peephole_rules.specs.declared.rule.Rule.{Rule}
@@ -61,7 +62,8 @@ pub record DoesAsBody (context : Context) (asked : List PrimitiveTypeInfo) (old 
   pub valid : (input : List ℕ) (more : List PrimitiveTypeInfo) → StaysValid context (wider input (asked ++ more) context) old new
 
 -- The sink has grown by the body with the operator's tree rewritten in its place, which leaves the same types; the globals that it asks for; and what is
--- left to be drawn. Whatever stands before the tree and behind it runs as before, and so does every range of the body round it, and the whole body.
+-- left to be drawn. Whatever stands before the tree and behind it runs as before, and so does every range of the body round it, and the whole body. Its
+-- structural operators have the bytes that they had.
 pub record AppendsRewritten (locals : List PrimitiveTypeInfo) (s : Setting) (input : List ℕ) (operators : List (Operator × ℕ)) (r : Rewrite)
     (old new : List ℕ) (requests : List ResourceRequest) (left : Option Setting) : Type 0 where
   pub term : Term Head
@@ -75,6 +77,8 @@ pub record AppendsRewritten (locals : List PrimitiveTypeInfo) (s : Setting) (inp
   pub its_run : KeepsItsRun (context_in s.info locals) operators makes.is.start (r.operator + 1) term written.code
   pub whole : DoesAsBody (context_in s.info locals) (map primitive_of (requests_of term)) (without_offsets operators)
       (without_offsets written.reads.again)
+  pub structure : structural_bytes (own_bytes (spliced input operators makes.is.start (r.operator + 1) written.code) written.reads.again) ≡
+      structural_bytes (own_bytes input operators)
 
 -- Why there is no answer: memory, the tree is too large for a rule, or the new term's expansion is refused.
 abbrev pub RefusesRewrite : (locals : List PrimitiveTypeInfo) → Setting → List (Operator × ℕ) → Rewrite → Error → Type 0

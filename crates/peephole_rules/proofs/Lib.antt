@@ -40,3 +40,4 @@ pub mod ChoiceLemmas
 pub mod CandidateLemmas
 pub mod ApplyLemmas
 pub mod WrittenLemmas
+mod TurningLemmas

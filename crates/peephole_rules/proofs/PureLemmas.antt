@@ -45,7 +45,7 @@ module _ {context : Context} {s : State} (h : HasTypes context s) where
   answered_pure i rs (Gives us gs r) others e a w =
       let k = a.4 w in
       ap₂ (λ (x : List Value) (y : ℕ). record s { globals = x; rest = y }) (ap₂ (λ (x y : List Value). x ++ y) k.0 e ∙ append-nil s.globals) k.1
-  answered_pure i rs (Fails c gs r) others e a w = let k = a.1 w in (k.0 ∙ sym (own_is h), k.1)
+  answered_pure i rs (Fails c gs r) others e a w = let k = a.3 w in (k.0 ∙ sym (own_is h), k.1)
 
   effect_pure : (row : IntegerRow) (vs : List Value) (rs : List PrimitiveTypeInfo) → All IsValue vs → row_types context row (types vs) ≡ Some rs →
       writes_row row ≡ false → IsPure s (effect row vs s)

@@ -14,3 +14,4 @@ pub mod Replacement
 pub mod Choice
 pub mod Candidates
 pub mod Laws
+pub mod Turning

@@ -3,6 +3,7 @@
 ghost use Rattle.peephole_rules.specs.Laws.{RulesKeepMeaning};
 ghost use Rattle.peephole_rules.specs.ReadAlike.{AreReadAlike};
 ghost use Rattle.peephole_rules.specs.Rule.{RulesAreNumbered};
+ghost use Rattle.peephole_rules.specs.Turning.{UndisturbedMayTurn};
 
 use peephole_terms::laws::{
     agreement_is_a_congruence, nodes_mean_by_their_rows, typed_terms_leave_their_types,
@@ -26,3 +27,11 @@ pub fn terms_are_read_alike()
 pub fn rules_are_numbered()
     ensures { RulesAreNumbered }
 {}
+
+/// Operands of one type that don't disturb one another may change places, whatever then does the same with them turned.
+pub fn undisturbed_operands_may_turn()
+    ensures { UndisturbedMayTurn }
+{
+    nodes_mean_by_their_rows();
+    typed_terms_leave_their_types();
+}

@@ -3,7 +3,9 @@ pub mod KindLemmas
 pub mod WalkLemmas
 pub mod ExpansionLemmas
 pub mod SpellingLemmas
+pub mod OwnBytesLemmas
 pub mod ReadAgainLemmas
+pub mod KnownLemmas
 pub mod RootTerms
 pub mod EncoderLemmas
 pub mod SettingLemmas

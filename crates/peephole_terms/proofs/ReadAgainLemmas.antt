@@ -8,17 +8,19 @@ use Rattle.std.specs.List.{All}
 use Rattle.std.proofs.lemmas.List.{drop-map, length-map, length-drop, map-append, take-map, take-append-drop, take_all, take-take, length-append}
 use Rattle.wasm_code.specs.Instruction.{Instruction, IsInstruction}
 use Rattle.wasm_code.specs.Code.{codes}
-use Rattle.wasm_code.specs.Body.{AreSpelled, bytes_of, with_offsets, is_end, ends, SpellsAll, SpellsBody}
+use Rattle.wasm_code.specs.Body.{AreSpelled, bytes_of, with_offsets, is_end, ends, SpellsAll, SpellsCode}
 use Rattle.wasm_code.specs.Operator.{is_delimiter}
 use Rattle.wasm_code.specs.declared.operator.Operator.{Operator}
 use Rattle.wasm_code.specs.declared.operator.Operator.TheVariants.{Instr, End}
 use Rattle.peephole_graphs.specs.Block.{BlockRange, IsBlockIn}
+use Rattle.peephole_terms.specs.OwnBytes.{own_bytes}
 use Rattle.peephole_terms.specs.Written.{Site, site_at, without_offsets, offset_of, before_block, after_block, written_body, IsBodyIn}
 use Rattle.peephole_terms.specs.ReadAgain.{ReadsAgain}
-use Rattle.peephole_terms.specs.Spliced.{piece}
+use Rattle.peephole_terms.specs.Spliced.{coded, piece}
 use Rattle.peephole_terms.specs.EncoderSteps.{IsInside}
-use Rattle.peephole_terms.proofs.SpellingLemmas.{Spelling, CodesSpell, spelled, spellings_of, spelled_append, spelled_take, spelled_drop, bytes_of-append}
-use Rattle.peephole_terms.proofs.SpellingLemmas.{joined_parts, named_placed, length-with_offsets, offset_placed, coded, coded_spelled, joined_coded, spelled_coded}
+use Rattle.peephole_terms.proofs.OwnBytesLemmas.{own_are}
+use Rattle.peephole_terms.proofs.SpellingLemmas.{Spelling, CodesSpell, spelled, spellings_of, all_joined, spelled_append, spelled_take, spelled_drop, bytes_of-append}
+use Rattle.peephole_terms.proofs.SpellingLemmas.{joined_parts, named_placed, length-with_offsets, offset_placed, coded_spelled, joined_coded, spelled_coded}
 use Rattle.peephole_terms.proofs.SpellingLemmas.{ends_with, ends_named, ends_behind, last_size, StandsIn, stands_in, front_in, back_in}
 
 -- ---- a body by its spellings
@@ -101,14 +103,8 @@ again_of spell ps block code each last l all =
       last = last_with ps block code l ∙ last;
     }
 
--- joined spellings are read as their operators
-all_joined : (start : ℕ) (ps : List Spelling) → AreSpelled ps → SpellsAll (with_offsets start ps) start (bytes_of ps)
-all_joined start [] s = refl
-all_joined start (p ∷ ps) s =
-    record { front = p.1; back = bytes_of ps; parts = refl; offset = refl; spells = s.0; rest = all_joined (start + length p.1) ps s.1 }
-
 pub spells_again : (text : List ℕ) (to : ℕ) (ps : List Spelling) (operators : List (Operator × ℕ)) → IsBodyOf text 0 to ps operators →
-    text ≡ bytes_of ps → SpellsBody 0 text operators
+    text ≡ bytes_of ps → SpellsCode 0 text operators
 spells_again text to ps operators h e = record {
   all = subst (λ (xs : List (Operator × ℕ)). SpellsAll xs 0 text) h.read (subst (SpellsAll (with_offsets 0 ps) 0) (sym e) (all_joined 0 ps h.each));
   last = ends_named operators ∙ (ap ends_with (alone_are h) ∙ h.last);
@@ -228,9 +224,14 @@ reads_again spell site code b k all =
     let names = alone_are h.is in
     record {
       again = with_offsets 0 qs;
-      spells = subst (λ (t : List ℕ). SpellsBody 0 t (with_offsets 0 qs)) (sym text) (spells_again (bytes_of qs) (length (bytes_of qs)) qs (with_offsets 0 qs) again refl);
+      spells = subst (λ (t : List ℕ). SpellsCode 0 t (with_offsets 0 qs)) (sym text) (spells_again (bytes_of qs) (length (bytes_of qs)) qs (with_offsets 0 qs) again refl);
       are = named_placed 0 qs ∙ (spelled_with h.ps block code
           ∙ ap₂ (λ (x y : List Operator). x ++ (map (λ (i : Instruction). Instr i) code ++ y))
           (ap (take block.start) (sym names) ∙ take-map (λ (o : Operator × ℕ). o.0) block.start site.operators)
           (ap (drop block.end) (sym names) ∙ drop-map (λ (o : Operator × ℕ). o.0) block.end site.operators));
+      bytes_are =
+          let old = ap (own_bytes site.input) (sym h.is.read) ∙ own_are site.input h.from h.to h.ps h.is.each h.is.last h.is.stands in
+          ap (λ (t : List ℕ). own_bytes t (with_offsets 0 qs)) text
+          ∙ (own_are (bytes_of qs) 0 (length (bytes_of qs)) qs again.each again.last again.stands
+          ∙ ap (λ (ps : List Spelling). with_code ps block code) (sym old));
     }

@@ -9,7 +9,7 @@ use Rattle.std.proofs.lemmas.Option.{slice_get-map}
 use Rattle.std.proofs.lemmas.List.Elements.{All-nil, All-cons, All-push, All-append, All-head, All-tail}
 use Rattle.wasm_code.specs.Instruction.{Instruction, IsInstruction}
 use Rattle.wasm_code.specs.Operator.{is_delimiter}
-use Rattle.wasm_code.specs.Body.{bytes_of, with_offsets, SpellsBody}
+use Rattle.wasm_code.specs.Body.{bytes_of, with_offsets, SpellsCode}
 use Rattle.wasm_code.specs.declared.operator.Operator.{Operator}
 use Rattle.wasm_code.specs.declared.operator.Operator.TheVariants.{Instr}
 use Rattle.mutate_base.specs.Module.{Module}
@@ -29,7 +29,8 @@ use Rattle.peephole_graphs.proofs.forest.ForestLemmas.{forest_is}
 use Rattle.peephole_graphs.proofs.forest.SameTrees.{same_trees}
 use Rattle.peephole_graphs.proofs.forest.TreeOrder.{written_in_order, shapes-renumber}
 use Rattle.peephole_graphs.proofs.graph.OrderLemmas.{count_all}
-use Rattle.peephole_terms.proofs.SpellingLemmas.{CodesSpell, Spelling, named_placed, length-with_offsets, spelling_of, coded}
+use Rattle.peephole_terms.specs.Spliced.{spelling_of, coded}
+use Rattle.peephole_terms.proofs.SpellingLemmas.{CodesSpell, Spelling, named_placed, length-with_offsets}
 use Rattle.peephole_terms.proofs.ReadAgainLemmas.{alone_are, count_is, with_code, spelled_with, written_is, again_of, spells_again, block_before_last, spelled_in}
 
 -- ---- the shapes of a forest are its block's
@@ -324,7 +325,7 @@ reread spell info site b k fit all =
     ∙ (ap instr_of (shapes-renumber 0 (forest shaped)) ∙ sym (instructions_are (forest shaped)))) in
     record {
       again = again;
-      spells = subst (λ (t : List ℕ). SpellsBody 0 t again) (sym text) (spells_again (bytes_of qs) (length (bytes_of qs)) qs again body refl);
+      spells = subst (λ (t : List ℕ). SpellsCode 0 t again) (sym text) (spells_again (bytes_of qs) (length (bytes_of qs)) qs again body refl);
       there = range_is_again is_again (length-with_offsets 0 qs ∙ (same_length ∙ sym n)) k;
       found = block_again is_again;
       fit = judged.1;

@@ -10,11 +10,12 @@ use Rattle.wasm_code.specs.declared.table.Opcode.{Opcode}
 use Rattle.wasm_code.specs.declared.table.Opcode.TheVariants.{Byte, Fc, Fd}
 use Rattle.wasm_code.specs.Grammar.{Choose, Of, NoBytes}
 use Rattle.wasm_code.specs.Number.{SpellsUnsigned}
-use Rattle.wasm_code.specs.Operator.{Spells}
+use Rattle.wasm_code.specs.Operator.{Spells, SpellsAny}
 use Rattle.wasm_code.specs.Code.{code, codes}
 use Rattle.wasm_code.specs.Body.{SpellsAll, AreSpelled, bytes_of, with_offsets, is_end, ends}
 use Rattle.wasm_code.specs.declared.operator.Operator.{Operator}
 use Rattle.wasm_code.specs.declared.operator.Operator.TheVariants as op
+use Rattle.peephole_terms.specs.Spliced.{coded}
 use Rattle.peephole_terms.specs.Written.{without_offsets}
 
 -- an operator with its spelling
@@ -43,6 +44,12 @@ spellings_of (x ∷ xs) start text s =
       whole = ap (λ (t : List ℕ). s.front ++ t) more.whole ∙ sym s.parts;
       read = ap₂ (λ (y : Operator × ℕ) (ys : List (Operator × ℕ)). y ∷ ys) here more.read;
     }
+
+-- joined spellings are read as their operators
+pub all_joined : (start : ℕ) (ps : List Spelling) → AreSpelled ps → SpellsAll (with_offsets start ps) start (bytes_of ps)
+all_joined start [] s = refl
+all_joined start (p ∷ ps) s =
+    record { front = p.1; back = bytes_of ps; parts = refl; offset = refl; spells = s.0; rest = all_joined (start + length p.1) ps s.1 }
 
 -- ---- parts of such a list
 
@@ -85,12 +92,6 @@ offset_placed start (p ∷ ps) (suc i) l =
     omega (arith, more, length-append p.1 (bytes_of (take i ps)))
 
 -- ---- instructions
-
-abbrev pub spelling_of : Instruction → Spelling
-spelling_of i = (op.Instr i, code i)
-
-abbrev pub coded : List Instruction → List Spelling
-coded is = map spelling_of is
 
 -- the code of every instruction spells it, as the law `code_spells` says
 abbrev pub CodesSpell : Type 0
@@ -135,7 +136,7 @@ no_more false true b c back o s e = let m = s.made in absurd cc
 no_more false false b c back o s e = s.0
 
 -- `end` is spelled by one byte
-pub end_spelling : (o : Operator) (text : List ℕ) → IsTrue (is_end o) → Spells text o → length text ≡ 1
+pub end_spelling : (o : Operator) (text : List ℕ) → IsTrue (is_end o) → SpellsAny text o → length text ≡ 1
 end_spelling op.End text e s =
     let behind = s.second in
     let more : s.first.back ≡ [] = no_more (s.first.value == 0xfc) (s.first.value == 0xfd) s.first.value 0x0b s.first.back s.value s.first.second behind.0 in

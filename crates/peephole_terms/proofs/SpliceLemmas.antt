@@ -18,9 +18,9 @@ use Rattle.peephole_lang.specs.Node.{instr_of_head}
 use Rattle.peephole_lang.specs.Term.{Term, Terms, absent, node, no_terms, ◌▸◌}
 use Rattle.peephole_machine.specs.Values.{Context, context_in}
 use Rattle.peephole_terms.specs.declared.encoder.request.ResourceRequest.{ResourceRequest}
-use Rattle.peephole_programs.specs.Validation.{check_code}
-use Rattle.peephole_programs.specs.StaysValid.{with_types, ChecksAs}
-use Rattle.peephole_programs.specs.Wider.{wider}
+use Rattle.peephole_programs.specs.validation.Algorithm.{check_code}
+use Rattle.peephole_programs.specs.validation.StaysValid.{with_types, ChecksAs}
+use Rattle.peephole_programs.specs.control.Wider.{wider}
 use Rattle.peephole_terms.specs.NodeKind.{NumberType, node_kind, primitive_of}
 use Rattle.peephole_terms.specs.EncoderSteps.{Writing, Does, around, with_bytes, writing_of, steps_of}
 use Rattle.peephole_terms.specs.Expansion.{Setting, draw_words, draws_of, requests_of, request, expansion_in, after_term, Refuses}

@@ -13,8 +13,8 @@ use Rattle.peephole_machine.specs.Integer.{binary, add}
 use Rattle.peephole_machine.specs.IntegerRow as rows
 use Rattle.peephole_machine.specs.IntegerRow.{IntegerRow, if_typed, row_types, integer_row}
 use Rattle.peephole_machine.specs.RowLemmas.{and_then_some, if_typed_is, same_type_self}
-use Rattle.peephole_programs.specs.Validation.{Frame, check_code}
-use Rattle.peephole_programs.specs.StaysValid.{with_types, Pushes, TypedCodePushes, PushesOnFrames, RowTypesStay}
+use Rattle.peephole_programs.specs.validation.Algorithm.{Frame, check_code}
+use Rattle.peephole_programs.specs.validation.StaysValid.{with_types, Pushes, TypedCodePushes, PushesOnFrames, RowTypesStay}
 use Rattle.peephole_terms.specs.NodeKind.{IntegerType, NodeKind, node_kind, number_of, primitive_of, Own, Random, Unfold, UseGlobal, Container}
 use Rattle.peephole_terms.specs.Expansion.{constant, rest_of, add_of, sum, set_global, get_global, constant_in, sum_of, first_word}
 use Rattle.peephole_terms.specs.Expansion.{own_code, with_own_code, own_requests, with_own_requests, requests_of, requests, draws_of, draws, expansion_of}

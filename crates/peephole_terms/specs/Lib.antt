@@ -6,8 +6,10 @@ pub mod StackCode
 pub mod Written
 pub mod Agrees
 pub mod SameRun
+pub mod OwnBytes
 pub mod Spliced
 pub mod ReadAgain
+pub mod Known
 pub mod SameAnswers
 pub mod Laws
 pub mod EncoderSteps

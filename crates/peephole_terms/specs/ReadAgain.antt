@@ -1,7 +1,7 @@
 -- What a written body is when its bytes are read again. This project's rule.
 use Rattle.std.specs.Prelude.{ℕ, ◌≡◌, ◌++◌, ◌⊎◌, List, Some, Ok, false}
 use Rattle.wasm_code.specs.Instruction.{Instruction}
-use Rattle.wasm_code.specs.Body.{SpellsBody}
+use Rattle.wasm_code.specs.Body.{SpellsCode}
 use Rattle.wasm_code.specs.declared.operator.Operator.{Operator}
 use Rattle.mutate_base.specs.Module.{Module}
 use Rattle.peephole_lang.specs.declared.lang.Head.{Head}
@@ -18,7 +18,7 @@ use Rattle.peephole_terms.specs.Spliced.{ReadsSpliced}
 
 -- The bytes are those of a body: the operators before the block, these instructions, and the operators behind the block.
 abbrev pub ReadsAgain : Site → (code : List Instruction) → (text : List ℕ) → Type 0
-ReadsAgain site code text = ReadsSpliced site.operators site.block.start site.block.end code text
+ReadsAgain site code text = ReadsSpliced site.input site.operators site.block.start site.block.end code text
 
 -- The sink has grown by a body that is read again as the site's with the term in its block.
 pub record AppendsReadable (s : Setting) (site : Site) (t : Term Head) (old new : List ℕ) : Type 0 where
@@ -40,7 +40,7 @@ site_again site text again = site_at text again site.block site.at
 -- The bytes are those of a body in which the block is read again the same.
 pub record IsReread (info : Module) (site : Site) (text : List ℕ) : Type 0 where
   pub again : List (Operator × ℕ)
-  pub spells : SpellsBody 0 text again
+  pub spells : SpellsCode 0 text again
   -- the block has the same range, and is an operator's block again where it was one; its operators fit
   pub there : IsBlockIn again site.block
   pub found : (n : ℕ) → IsBlockOf site.operators n site.block.start site.block.end → IsBlockOf again n site.block.start site.block.end

@@ -2,8 +2,8 @@
 -- behind runs as before. This project's rule.
 use Rattle.std.specs.Prelude.{◌≡◌, ◌≢◌, ◌≤◌, ℕ, List, [], ◌∷◌, ◌++◌, map, take, drop, Option, Some, Ok, option_map, slice_range}
 use Rattle.std.specs.List.{All}
-use Rattle.wasm_code.specs.Body.{SpellsBody}
-use Rattle.wasm_code.specs.Code.{codes}
+use Rattle.wasm_code.specs.Body.{SpellsCode}
+use Rattle.wasm_code.specs.Code.{code, codes}
 use Rattle.wasm_code.specs.Instruction.{Instruction}
 use Rattle.wasm_code.specs.declared.operator.Operator.{Operator}
 use Rattle.wasm_code.specs.declared.operator.Operator.TheVariants.{Instr}
@@ -15,12 +15,13 @@ use Rattle.peephole_graphs.specs.Block.{BlockRange}
 use Rattle.peephole_machine.specs.Values.{Value, IsValue, types, Context, context_in, State, HasTypes, Stuck}
 use Rattle.peephole_machine.specs.Machine.{run}
 use Rattle.peephole_machine.specs.Agreement.{with_globals, SameOutcome}
-use Rattle.peephole_programs.specs.Function.{RunsAs}
-use Rattle.peephole_programs.specs.StaysValid.{ChecksAs}
-use Rattle.peephole_programs.specs.Wider.{wider}
+use Rattle.peephole_programs.specs.control.Function.{RunsAs}
+use Rattle.peephole_programs.specs.validation.StaysValid.{ChecksAs}
+use Rattle.peephole_programs.specs.control.Wider.{wider}
 use Rattle.peephole_terms.specs.NodeKind.{primitive_of}
 use Rattle.peephole_terms.specs.Expansion.{Setting, requests_of, expansion_in}
 use Rattle.peephole_terms.specs.StackCode.{words_for}
+use Rattle.peephole_terms.specs.OwnBytes.{own_bytes}
 use Rattle.peephole_terms.specs.Written.{before_block, after_block, without_offsets}
 use Rattle.peephole_terms.specs.SameRun.{EvaluatesAs, instructions_in}
 
@@ -59,13 +60,22 @@ abbrev pub spliced : List ℕ → List (Operator × ℕ) → (start end : ℕ) �
 spliced input operators start end code =
     before_block input operators (piece start end) ++ (codes code ++ after_block input operators (piece start end))
 
--- The bytes are those of a body: the operators before, these instructions, and the operators behind.
-pub record ReadsSpliced (operators : List (Operator × ℕ)) (start end : ℕ) (code : List Instruction) (text : List ℕ) : Type 0 where
+-- the instruction as an operator, with its code
+abbrev pub spelling_of : Instruction → Operator × List ℕ
+spelling_of i = (Instr i, code i)
+
+-- instructions as operators, each with its code
+abbrev pub coded : List Instruction → List (Operator × List ℕ)
+coded is = map spelling_of is
+
+-- The bytes are those of a body: the operators before, these instructions, and the operators behind, each with the bytes that it had.
+pub record ReadsSpliced (input : List ℕ) (operators : List (Operator × ℕ)) (start end : ℕ) (code : List Instruction) (text : List ℕ) : Type 0 where
   pub again : List (Operator × ℕ)
-  pub spells : SpellsBody 0 text again
+  pub spells : SpellsCode 0 text again
   pub are :
       without_offsets again ≡ without_offsets (take start operators)
       ++ (map (λ (i : Instruction). Instr i) code ++ without_offsets (drop end operators))
+  pub bytes_are : own_bytes text again ≡ take start (own_bytes input operators) ++ (coded code ++ drop end (own_bytes input operators))
 
 -- ---- its runs
 
@@ -110,6 +120,6 @@ pub record AppendsSpliced (s : Setting) (input : List ℕ) (operators : List (Op
   pub code : List Instruction
   pub expands : expansion_in s t ≡ Ok code
   pub appended : new ≡ old ++ spliced input operators start end code
-  pub reads : ReadsSpliced operators start end code (spliced input operators start end code)
+  pub reads : ReadsSpliced input operators start end code (spliced input operators start end code)
   pub runs : (locals : List PrimitiveTypeInfo) (tree : Term Head) → StandsAt operators start end tree →
       EvaluatesAs (context_in s.info locals) (words_for s t) tree t → RunsSpliced s operators start end t code locals

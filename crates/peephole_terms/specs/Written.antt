@@ -3,7 +3,7 @@
 use Rattle.std.specs.Prelude.{◌≡◌, ◌≢◌, ℕ, ◌+◌, ◌-◌, ◌≤◌, ◌==◌, ◌||◌, ◌↔◌, Bool, true, false, List, [], ◌++◌, length, map, Option, Some, Result, Ok, Err, IfOk, if◌then◌else◌, slice_index, slice_range}
 use Rattle.wasm_code.specs.Instruction.{Instruction}
 use Rattle.wasm_code.specs.Code.{codes}
-use Rattle.wasm_code.specs.Body.{SpellsBody}
+use Rattle.wasm_code.specs.Body.{SpellsCode}
 use Rattle.wasm_code.specs.declared.operator.Operator.{Operator}
 use Rattle.mutate_base.specs.Module.{Module}
 use Rattle.mutate_base.specs.declared.error.Error.{Error}
@@ -121,4 +121,4 @@ pub record IsBodyIn (input : List ℕ) (operators : List (Operator × ℕ)) : Ty
   pub to : ℕ
   pub ordered : from ≤ to
   pub inside : to ≤ length input
-  pub spells : SpellsBody from (slice_range input from to) operators
+  pub spells : SpellsCode from (slice_range input from to) operators

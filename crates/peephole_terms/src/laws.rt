@@ -1,7 +1,9 @@
 //! What holds of written bodies, of runs, and of the forest of every block. A function here does nothing: its contract is the laws.
 
 ghost use Rattle.peephole_terms.specs.Agrees.{IsCongruence, LeavesItsTypes};
+ghost use Rattle.peephole_terms.specs.Known.{KnownStayKnown};
 ghost use Rattle.peephole_terms.specs.Laws.{HaveTheirOpcodes, MeanByTheirRows, UnfoldsAddUp, RefusesByName, TreesAreWrittenAsTheyAre, OwnTreesAreKept, OperatorsHaveEntries};
+ghost use Rattle.peephole_terms.specs.OwnBytes.{OwnBytesStay};
 ghost use Rattle.peephole_terms.specs.SameAnswers.{TermAnswersAreTheSame, BodyAnswersAreTheSame};
 ghost use Rattle.peephole_terms.specs.SameRun.{IntegerBlocksAskNoWorld, IntegerBlocksRunAsBefore};
 ghost use Rattle.peephole_terms.specs.StackCode.{IsStackCode};
@@ -13,6 +15,7 @@ pub use peephole_graphs::laws::{
 pub use peephole_machine::laws::{
     following_code_keeps_runs_the_same, integer_rows_ask_no_world, requested_globals_free_nothing,
 };
+use wasm_code::laws::one_list;
 
 /// The instructions that are written for nodes without a row are those of the opcodes that belong to their names.
 pub fn written_instructions()
@@ -77,4 +80,16 @@ pub fn typed_terms_leave_their_types()
 /// draws no other word; and a node may stand for another where its children may stand for the other's, one by one.
 pub fn agreement_is_a_congruence()
     ensures { IsCongruence }
+{}
+
+/// A body that stands in two places has the same operators there, with the same bytes.
+pub fn own_bytes_stay()
+    ensures { OwnBytesStay }
+{
+    one_list();
+}
+
+/// A written body has known operators alone, and so is read again by `read_body`, where the old one had.
+pub fn known_operators_stay_known()
+    ensures { KnownStayKnown }
 {}

@@ -32,6 +32,6 @@ pub use peephole_nodes;
 pub use wasm_code;
 pub use wasm_code::{
     AbstractHeapType, BlockType, Function, HeapType, Imm, Instr, MemArg as MemoryArgument, Opcode,
-    Operator, OperatorAndByteOffset, ReadError, ReadKind, ResultKind, RowInfo, SinkError, ValType,
-    read_body, row_info, row_of,
+    Operator, OperatorAndByteOffset, Other, ReadError, ReadKind, ResultKind, RowInfo, SinkError,
+    ValType, read_body, read_code, row_info, row_of,
 };

@@ -63,10 +63,14 @@ const COMPONENT: &[u8] = b"\0asm\x0d\0\x01\0";
 /// The text of a module.
 const TEXT: &[u8] = b"(module)";
 
-/// A function that answers the atomic load of an i32 (FE 10).
-const ATOMIC: &[u8] =
+/// A function with an atomic operator on an i32 that no proposal has (FE 4F).
+const NO_ATOMIC: &[u8] =
     b"\0asm\x01\0\0\0\x01\x05\x01\x60\0\x01\x7f\x03\x02\x01\0\x05\x04\x01\x03\x01\x01\
-    \x0a\x0a\x01\x08\0\x41\0\xfe\x10\x02\0\x0b";
+    \x0a\x0a\x01\x08\0\x41\0\xfe\x4f\x02\0\x0b";
+
+/// A function that catches every exception of nothing (`try_table`, 1F).
+const CATCHING: &[u8] =
+    b"\0asm\x01\0\0\0\x01\x04\x01\x60\0\0\x03\x02\x01\0\x0a\x08\x01\x06\0\x1f\x40\0\x0b\x0b";
 
 /// A function that calls itself in its own place.
 const TAIL_CALL: &[u8] =
@@ -330,16 +334,18 @@ const RUNS: &str = r#"
 
 --list | TEXT | Err(TextFormat)
 
---blocks | ATOMIC | Ok(Whole)
-> function 0      UnknownOpcode at 32: operator 0xfe 16 (atomics)
+--blocks | NO_ATOMIC | Ok(Whole)
+> function 0      UnknownOpcode at 32: operator 0xfe 79 (atomics)
 
---blocks --json | ATOMIC | Ok(Whole)
-> {"family":"atomics","fault":"UnknownOpcode","function":0,"offset":32,"operator":"0xfe 16"}
+--blocks --json | NO_ATOMIC | Ok(Whole)
+> {"family":"atomics","fault":"UnknownOpcode","function":0,"offset":32,"operator":"0xfe 79"}
 
---blocks | TAIL_CALL | Ok(Whole)
-> function 0      UnknownOpcode at 23: operator 0x12 (tail calls)
+--blocks | CATCHING | Ok(Whole)
+> function 0      UnknownOpcode at 23: operator 0x1f (exceptions)
 
-| TAIL_CALL | Err(Nothing(Unreadable(Body(BodyError { fault: ReadError { kind: UnknownOpcode, offset: 23 }, operator: Some(Byte(18)) }))))
+| CATCHING | Err(Nothing(Unreadable(Body(BodyError { fault: ReadError { kind: UnknownOpcode, offset: 23 }, operator: Some(Byte(31)) }))))
+
+--list | TAIL_CALL | Ok(Whole)
 
 --rule add_zero --max-size 30 | SAME | Err(Nothing(Refused(TooLong)))
 
@@ -368,7 +374,8 @@ fn module_of(name: &str) -> Option<&'static [u8]> {
         "EMPTY" => Some(EMPTY),
         "COMPONENT" => Some(COMPONENT),
         "TEXT" => Some(TEXT),
-        "ATOMIC" => Some(ATOMIC),
+        "NO_ATOMIC" => Some(NO_ATOMIC),
+        "CATCHING" => Some(CATCHING),
         "TAIL_CALL" => Some(TAIL_CALL),
         _ => None,
     }

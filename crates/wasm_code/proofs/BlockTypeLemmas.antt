@@ -7,7 +7,7 @@ use Rattle.wasm_code.specs.declared.fault.Cause.TheVariants.{Truncated, UnknownO
 use Rattle.wasm_code.specs.declared.immediate.ValType.{ValType}
 use Rattle.wasm_code.specs.declared.immediate.ValType.TheVariants.{I32, I64, F32, F64, V128, FuncRef, ExternRef}
 use Rattle.wasm_code.specs.declared.immediate.BlockType.{BlockType}
-use Rattle.wasm_code.specs.declared.immediate.BlockType.TheVariants.{Empty, Value, FuncType}
+use Rattle.wasm_code.specs.declared.immediate.BlockType.TheVariants.{Empty, Value, FuncType, Reference}
 use Rattle.wasm_code.specs.Number.{IsGroup, value, signed_value, SpellsSigned, FailsSigned}
 use Rattle.wasm_code.specs.Immediate.{val_type_code, SpellsBlockType, IsNoBlockType, FailsBlockType}
 use Rattle.wasm_code.specs.Reader.{group_at, within_at, signed_at, val_type_of, block_type_of, func_type_at, block_type_at}
@@ -44,7 +44,7 @@ not_type b (inr h) = rw (
 below_zero : (v p n : ℕ) → v < p → pos v -ℤ pos p ≡ pos n → ⊥
 below_zero v p n lt e = omega (arith, ints)
 
-first_byte : (b : ℕ) (bytes : List ℕ) (n : ℕ) → SpellsSigned 33 (b ∷ bytes) (pos n) → (b < 64) ⊎ (128 ≤ b)
+pub first_byte : (b : ℕ) (bytes : List ℕ) (n : ℕ) → SpellsSigned 33 (b ∷ bytes) (pos n) → (b < 64) ⊎ (128 ≤ b)
 first_byte b [] n s =
     elim (cases_lt b 64) [
       | inl lt ↦ inl lt
@@ -93,6 +93,7 @@ block_again [] rest (FuncType n) s = absurd s.group
 block_again (b ∷ text) rest (FuncType n) s =
     let none = not_type b (first_byte b text n s) in
     rw (none.1, none.0, (signed_exact 33).again (b ∷ text) rest (pos n) s) refl
+block_again text rest Reference s = absurd s
 
 -- ---- what is read is spelled
 

@@ -39,7 +39,7 @@ offset_exact : (align memory : ℕ) → Exact (SpellsOffset align memory) (Fails
 unfolding offset_at
 offset_exact align memory = exact_of (λ offset. record { offset = offset; align = align; memory = memory }) (unsigned_exact 64)
 
-memarg_exact : Exact SpellsMemArg FailsMemArg memarg_at
+pub memarg_exact : Exact SpellsMemArg FailsMemArg memarg_at
 unfolding memarg_at
 memarg_exact = exact_then (unsigned_exact 32) (λ n.
     exact_choose (ltb n 64) (offset_exact n 0)

@@ -6,6 +6,8 @@ pub mod ImmediateLemmas
 pub mod BlockTypeLemmas
 pub mod FormLemmas
 pub mod OperatorLemmas
+pub mod OtherLemmas
+pub mod AnyLemmas
 pub mod BodyLemmas
 pub mod CodeNumbers
 pub mod CodeLemmas

@@ -221,6 +221,7 @@ from_behind o text (op.CallIndirect a b) s = formed o form.CallIndirect text _ (
     (record { value = (a, b); spells = s.1; made = refl })
 from_behind o text (op.TypedSelect n first) s = formed o form.TypedSelect text _ (at_byte o 28 form.TypedSelect s.0 refl)
     (record { value = (n, first); spells = s.2; made = some_counted n first s.1 })
+from_behind o text (op.Other _) s = absurd s
 
 -- ---- the faults are the same
 

@@ -12,7 +12,7 @@ use Rattle.wasm_code.specs.declared.immediate.HeapType.{HeapType}
 use Rattle.wasm_code.specs.declared.immediate.HeapType.TheVariants.{Abstract}
 use Rattle.wasm_code.specs.declared.immediate.AbstractHeapType.TheVariants.{Func, Extern}
 use Rattle.wasm_code.specs.declared.immediate.BlockType.{BlockType}
-use Rattle.wasm_code.specs.declared.immediate.BlockType.TheVariants.{Empty, Value, FuncType}
+use Rattle.wasm_code.specs.declared.immediate.BlockType.TheVariants.{Empty, Value, FuncType, Reference}
 use Rattle.wasm_code.specs.declared.immediate.MemArg.{MemArg}
 use Rattle.wasm_code.specs.declared.immediate.Imm.{Imm}
 use Rattle.wasm_code.specs.declared.immediate.Imm.TheVariants as imm
@@ -52,11 +52,13 @@ SpellsHeapType = IsCode heap_type_code
 abbrev pub FailsHeapType : List ℕ → Cause → Type 0
 FailsHeapType = FailsCode heap_type_code
 
--- The bytes spell the block type: the byte 40, a value type, or a signed number of 33 bits that isn't below zero.
+-- The bytes spell the block type: the byte 40, a value type, or a signed number of 33 bits that isn't below zero. (No other type of reference: that is
+-- spelled by `SpellsAnyBlockType` of `Other`.)
 abbrev pub SpellsBlockType : List ℕ → BlockType → Type 0
 SpellsBlockType text Empty = text ≡ 0x40 ∷ []
 SpellsBlockType text (Value t) = SpellsValType text t
 SpellsBlockType text (FuncType n) = SpellsSigned 33 text (pos n)
+SpellsBlockType text Reference = ⊥
 
 -- a number below zero begins the bytes, which spells no block type
 pub record IsNoBlockType (bytes : List ℕ) : Type 0 where

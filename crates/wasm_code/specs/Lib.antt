@@ -9,6 +9,7 @@ pub mod Instruction
 pub mod Grammar
 pub mod Number
 pub mod Immediate
+pub mod Other
 pub mod Operator
 pub mod Body
 pub mod Code

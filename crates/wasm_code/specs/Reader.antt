@@ -23,9 +23,15 @@ use Rattle.wasm_code.specs.declared.immediate.Imm.{Imm}
 use Rattle.wasm_code.specs.declared.immediate.Imm.TheVariants as imm
 use Rattle.wasm_code.specs.declared.operator.Operator.{Operator}
 use Rattle.wasm_code.specs.declared.operator.Operator.TheVariants as op
+use Rattle.wasm_code.specs.declared.other.Other.{Other}
+use Rattle.wasm_code.specs.declared.other.Other.TheVariants as other
+use Rattle.wasm_code.specs.declared.other.Shape.{Shape}
+use Rattle.wasm_code.specs.declared.other.Shape.TheVariants as shape
 use Rattle.wasm_code.specs.declared.parse.Form.{Form}
 use Rattle.wasm_code.specs.declared.parse.Form.TheVariants as form
 use Rattle.wasm_code.specs.Number.{value, signed_value, most_bytes}
+use Rattle.wasm_code.specs.Other.{is_abstract, is_type, is_reference, shape_of}
+use Rattle.wasm_code.specs.Operator.{other_operator, cause_of}
 use Rattle.wasm_code.specs.Body.{is_end, kind_of}
 use Rattle.wasm_code.specs.Table.{row_at}
 use Rattle.wasm_code.specs.Finding.{row_with}
@@ -235,6 +241,101 @@ formed_at (Some f) bytes = behind_at f bytes
 unfoldable pub operator_at : List ℕ → Result (Operator × List ℕ) Cause
 operator_at bytes = opcode_at bytes >>= λ o. formed_at (form_of o.0) o.1
 
+-- ---- other operators
+
+-- a number that isn't below zero; one below names no type
+abbrev pub not_below_at : ℤ → List ℕ → Result (Unit {0} × List ℕ) Cause
+not_below_at (pos n) rest = Ok (tt, rest)
+not_below_at (negsuc n) rest = Err BadImmediate
+
+-- the index of a type
+unfoldable pub type_index_at : List ℕ → Result (Unit {0} × List ℕ) Cause
+type_index_at bytes = signed_at 33 bytes >>= λ z. not_below_at z.0 z.1
+
+-- a heap type: an abstract one in one byte, or else an index
+unfoldable pub any_heap_type_at : List ℕ → Result (Unit {0} × List ℕ) Cause
+any_heap_type_at bytes = byte_at bytes >>= λ b. if is_abstract b.0 then Ok (tt, b.1) else type_index_at bytes
+
+-- a value type: in one byte, or with its heap type
+unfoldable pub any_val_type_at : List ℕ → Result (Unit {0} × List ℕ) Cause
+any_val_type_at bytes = byte_at bytes >>= λ b.
+    if is_type b.0 then Ok (tt, b.1) else if is_reference b.0 then any_heap_type_at b.1 else Err BadImmediate
+
+-- a block type: the byte 40, a value type, or else an index
+unfoldable pub any_block_type_at : List ℕ → Result (Unit {0} × List ℕ) Cause
+any_block_type_at bytes = byte_at bytes >>= λ b.
+    if b.0 == 0x40 then Ok (tt, b.1) else if is_type b.0 then Ok (tt, b.1)
+    else if is_reference b.0 then any_heap_type_at b.1 else type_index_at bytes
+
+-- a count, and as many value types
+unfoldable pub any_types_at : List ℕ → Result (Unit {0} × List ℕ) Cause
+any_types_at bytes = unsigned_at 32 bytes >>= λ n. times_at n.0 any_val_type_at n.1
+
+-- a catch clause, by its first byte
+unfoldable pub catch_at : List ℕ → Result (Unit {0} × List ℕ) Cause
+catch_at bytes = byte_at bytes >>= λ b.
+    if nat_lt b.0 2 then (pair_at b.1 >>= λ p. Ok (tt, p.1))
+    else if nat_lt b.0 4 then (unsigned_at 32 b.1 >>= λ n. Ok (tt, n.1))
+    else Err BadImmediate
+
+-- a block type, a count, and as many catch clauses
+unfoldable pub catches_at : List ℕ → Result (Unit {0} × List ℕ) Cause
+catches_at bytes = any_block_type_at bytes >>= λ t. unsigned_at 32 t.1 >>= λ n. times_at n.0 catch_at n.1
+
+-- two flags, a label, and two heap types
+unfoldable pub cast_at : List ℕ → Result (Unit {0} × List ℕ) Cause
+cast_at bytes = byte_at bytes >>= λ b.
+    if nat_lt b.0 4 then (unsigned_at 32 b.1 >>= λ n. any_heap_type_at n.1 >>= λ t. any_heap_type_at t.1)
+    else Err BadImmediate
+
+-- the byte 0
+unfoldable pub zero_at : List ℕ → Result (Unit {0} × List ℕ) Cause
+zero_at bytes = byte_at bytes >>= λ b. if b.0 == 0 then Ok (tt, b.1) else Err BadImmediate
+
+-- what has that shape
+unfoldable pub shape_at : Shape → List ℕ → Result (Unit {0} × List ℕ) Cause
+shape_at shape.Nothing bytes = Ok (tt, bytes)
+shape_at shape.Index bytes = unsigned_at 32 bytes >>= λ n. Ok (tt, n.1)
+shape_at shape.Pair bytes = pair_at bytes >>= λ p. Ok (tt, p.1)
+shape_at shape.Mem bytes = memarg_at bytes >>= λ m. Ok (tt, m.1)
+shape_at shape.Zero bytes = zero_at bytes
+shape_at shape.Heap bytes = any_heap_type_at bytes
+shape_at shape.Types bytes = any_types_at bytes
+shape_at shape.Block bytes = any_block_type_at bytes
+shape_at shape.Catches bytes = catches_at bytes
+shape_at shape.Cast bytes = cast_at bytes
+
+-- an opcode, whether or not it has a shape
+unfoldable pub other_opcode_at : List ℕ → Result (Other × List ℕ) Cause
+other_opcode_at bytes = byte_at bytes >>= λ b.
+    if b.0 == 0xfb then (unsigned_at 32 b.1 >>= λ n. Ok (other.Fb n.0, n.1))
+    else if b.0 == 0xfe then (unsigned_at 32 b.1 >>= λ n. Ok (other.Fe n.0, n.1))
+    else Ok (other.Byte b.0, b.1)
+
+-- what stands behind an opcode of that shape; an opcode without a shape is unknown
+abbrev pub shaped_at : Option Shape → Other → List ℕ → Result (Other × List ℕ) Cause
+shaped_at None o bytes = Err UnknownOpcode
+shaped_at (Some s) o bytes = shape_at s bytes >>= λ rest. Ok (o, rest.1)
+
+-- one operator by its opcode and its shape, and what follows it
+unfoldable pub other_at : List ℕ → Result (Other × List ℕ) Cause
+other_at bytes = other_opcode_at bytes >>= λ o. shaped_at (shape_of o.0) o.0 o.1
+
+-- a known operator where there is one, or else another one
+abbrev pub either_at : Result (Operator × List ℕ) Cause → Result (Other × List ℕ) Cause → Result (Operator × List ℕ) Cause
+either_at (Ok x) r = Ok x
+either_at (Err known) (Ok o) = Ok (other_operator o.0, o.1)
+either_at (Err known) (Err cause) = Err (cause_of known cause)
+
+-- one whole operator, known or not, and what follows it
+unfoldable pub any_at : List ℕ → Result (Operator × List ℕ) Cause
+any_at bytes = either_at (operator_at bytes) (other_at bytes)
+
+-- one whole operator that is read, and what follows it
+abbrev pub next_at : (any : Bool) → List ℕ → Result (Operator × List ℕ) Cause
+next_at true bytes = any_at bytes
+next_at false bytes = operator_at bytes
+
 -- ---- bodies
 
 -- the operators with their offsets, or the kind of the first fault and its offset
@@ -257,11 +358,19 @@ after next offset (Ok x) = next x.0 x.1
 after next offset (Err cause) = Err (kind_of cause, offset)
 
 -- At most `most` operators, of bytes that end at the offset `to`; `ended`: the last one before them was `end`.
-unfoldable pub operators_at : (most to : ℕ) (ended : Bool) → List ℕ → Read
-operators_at most to ended [] = at_end ended to
-operators_at zero to ended (b ∷ bytes) = at_end ended to
-operators_at (suc most) to ended (b ∷ bytes) = after (λ x rest. and_first (x, to - length (b ∷ bytes)) (operators_at most to (is_end x) rest)) (to - length (b ∷ bytes)) (operator_at (b ∷ bytes))
+unfoldable pub operators_at : (any : Bool) (most to : ℕ) (ended : Bool) → List ℕ → Read
+operators_at any most to ended [] = at_end ended to
+operators_at any zero to ended (b ∷ bytes) = at_end ended to
+operators_at any (suc most) to ended (b ∷ bytes) = after (λ x rest. and_first (x, to - length (b ∷ bytes)) (operators_at any most to (is_end x) rest)) (to - length (b ∷ bytes)) (next_at any (b ∷ bytes))
 
--- What reading a body answers, whose first byte has the offset `start`. (Each operator has a byte or more.)
+-- what reading known operators, or any, answers; the first byte has the offset `start` (each operator has a byte or more)
+abbrev pub read_at : (any : Bool) (start : ℕ) → List ℕ → Read
+read_at any start text = operators_at any (length text) (start + length text) false text
+
+-- What reading a body answers, whose first byte has the offset `start`.
 unfoldable pub body_at : (start : ℕ) → List ℕ → Read
-body_at start text = operators_at (length text) (start + length text) false text
+body_at start text = read_at false start text
+
+-- The same where any operators are read.
+unfoldable pub code_at : (start : ℕ) → List ℕ → Read
+code_at start text = read_at true start text

@@ -1,12 +1,12 @@
 //! Bodies: operators one after another.
-ghost use Rattle.std.specs.Prelude.{◌≡◌, ◌≤◌, ℕ, List, length, IfOk, IfErr, MatchResult, slice_range};
-ghost use Rattle.wasm_code.specs.Body.{SpellsBody, IsFault, kind_of, is_end};
+ghost use Rattle.std.specs.Prelude.{◌≡◌, ◌≤◌, true, ℕ, List, length, IfOk, IfErr, MatchResult, slice_range};
+ghost use Rattle.wasm_code.specs.Body.{SpellsBody, SpellsCode, IsFault, IsCodeFault, IsFaultOf, are_read, SpellsAll, ends, kind_of, is_end};
 ghost use Rattle.wasm_code.specs.declared.operator.Operator.{Operator};
 ghost use Rattle.wasm_code.specs.declared.fault.ReadKind.TheVariants.{Memory};
 
 use crate::fault::{Cause, ReadError, ReadKind};
 use crate::operator::Operator;
-use crate::parse::operator_from;
+use crate::parse::next_operator;
 use std::alloc::Global;
 
 /// An operator, and the offset of its first byte.
@@ -31,9 +31,10 @@ fn is_end_of(operator: &Operator) -> bool
     matches!(operator, Operator::End)
 }
 
-/// The operators of a body, one after another.
+/// The operators of a body, one after another: any, or known ones alone.
 fn operators_of(
     alloc: Global,
+    any: bool,
     bytes: &[u8],
     from: usize,
     to: usize,
@@ -41,17 +42,19 @@ fn operators_of(
     requires order { from ≤ to }
     requires bounds { to ≤ length bytes.now }
     // What is read is spelled so.
-    ensures found { IfOk result (λ v. SpellsBody from (slice_range bytes.now from to) v.items) }
+    ensures found { IfOk result (λ v. SpellsCode from (slice_range bytes.now from to) v.items) }
+    // Each operator is one that is to be read.
+    ensures read { IfOk result (λ v. are_read any v.items ≡ true) }
     // What doesn't come from memory is the first fault.
     ensures fault { IfErr result
-        (λ e. IsFault from to (slice_range bytes.now from to) e.kind e.offset) }
+        (λ e. IsFaultOf any from to (slice_range bytes.now from to) e.kind e.offset) }
 {
     let mut found = Vec::new(alloc);
     let mut rest = &bytes[from..to];
     let mut ended = false;
     while !rest.is_empty() {
         let offset = to - rest.len();
-        match operator_from(rest) {
+        match next_operator(any, rest) {
             Ok((operator, after)) => {
                 ended = is_end_of(&operator);
                 if found.push((operator, offset)).is_err() {
@@ -107,5 +110,33 @@ pub fn read_body(
     ensures fault { IfErr result
         (λ e. IsFault from to (slice_range bytes.now from to) e.kind e.offset) }
 {
-    operators_of(alloc, bytes, from, to)
+    operators_of(alloc, false, bytes, from, to)
+}
+
+/// Reads the operators of the body `bytes[from..to]` as `read_body` does, and besides those of tail calls, thrown exceptions,
+/// typed references, garbage collection and atomics (WebAssembly Core Specification 3.0, Binary Format, Instructions; the
+/// threads proposal): each of these is `Operator::Other`. A block, a loop or a conditional whose type `read_body` doesn't know
+/// is one of `BlockType::Reference`.
+///
+/// An error is one of `read_body`'s. Behind the opcodes that `read_body` doesn't know, `BadImmediate` comes where a whole
+/// immediate names no type, no kind of cast, no alignment, or a fence of another kind. Operators that catch exceptions
+/// (`try_table`, and the legacy `try`, `catch`, `catch_all`, `delegate` and `rethrow`) are refused with `UnknownOpcode`.
+pub fn read_code(
+    alloc: Global,
+    bytes: &[u8],
+    from: usize,
+    to: usize,
+) -> Result<Vec<OperatorAndByteOffset>, ReadError>
+    requires order { from ≤ to }
+    requires bounds { to ≤ length bytes.now }
+    // What is read is spelled so.
+    ensures found { IfOk result (λ v. SpellsCode from (slice_range bytes.now from to) v.items) }
+    // What is spelled so is read, unless memory runs out.
+    ensures only { (xs : List (Operator × ℕ)) → SpellsCode from (slice_range bytes.now from to) xs
+        → MatchResult result (λ v. v.items ≡ xs) (λ e. e.kind ≡ Memory) }
+    // What doesn't come from memory is the first fault.
+    ensures fault { IfErr result
+        (λ e. IsCodeFault from to (slice_range bytes.now from to) e.kind e.offset) }
+{
+    operators_of(alloc, true, bytes, from, to)
 }

@@ -65,6 +65,8 @@ pub enum BlockType {
     Value(ValType),
     /// The function type with this index.
     FuncType(u32),
+    /// It gives one reference, whose type isn't spelled as one of `ValType`.
+    Reference,
 }
 
 /// What a reference refers to.

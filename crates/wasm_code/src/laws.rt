@@ -1,13 +1,13 @@
 //! Laws on spellings and on value types: functions that do nothing, and whose contracts hold for all values.
-ghost use Rattle.std.specs.Prelude.{◌≡◌, ◌≢◌, ◌<◌, ◌≤◌, ◌+◌, ◌-◌, ◌^◌, ◌≤ℤ◌, ◌<ℤ◌, ◌++◌, ℕ, ℤ, pos, neg_ℤ, List, [], ◌∷◌, length, Ok, Err};
+ghost use Rattle.std.specs.Prelude.{◌≡◌, ◌≢◌, ◌<◌, ◌≤◌, ◌+◌, ◌-◌, ◌^◌, ◌≤ℤ◌, ◌<ℤ◌, ◌++◌, ℕ, ℤ, pos, neg_ℤ, List, [], ◌∷◌, length, Ok, Err, true};
 ghost use Rattle.wasm_code.specs.Instruction.{Instruction, IsInstruction};
-ghost use Rattle.wasm_code.specs.Operator.{Spells, Fails};
+ghost use Rattle.wasm_code.specs.Operator.{Spells, Fails, SpellsAny, FailsAny, is_known};
 ghost use Rattle.wasm_code.specs.Number.{SpellsUnsigned, SpellsSigned, FailsUnsigned, FailsSigned};
 ghost use Rattle.wasm_code.specs.Immediate.{SpellsValType, FailsValType};
 ghost use Rattle.wasm_code.specs.laws.GrammarLemmas.{Exact};
 ghost use Rattle.wasm_code.specs.Code.{shortest, shortest_signed, code};
-ghost use Rattle.wasm_code.specs.Body.{SpellsBody, IsFault, SpellsAll, AreSpelled, bytes_of, with_offsets, move_by, IsCut};
-ghost use Rattle.wasm_code.specs.Reader.{body_at, operator_at, unsigned_at, signed_at, val_type_at};
+ghost use Rattle.wasm_code.specs.Body.{SpellsBody, SpellsCode, IsFault, IsCodeFault, SpellsAll, AreSpelled, bytes_of, with_offsets, move_by, IsCut};
+ghost use Rattle.wasm_code.specs.Reader.{body_at, code_at, operator_at, any_at, unsigned_at, signed_at, val_type_at};
 ghost use Rattle.std.specs.Bool.{Decides};
 ghost use Rattle.wasm_code.specs.Order.{IsOrderedBy, val_type_place};
 ghost use Rattle.wasm_code.specs.contracts.immediate.ValTypePartialEq.TheImpl as val_type_eq;
@@ -21,8 +21,17 @@ ghost use Rattle.wasm_code.specs.declared.operator.Operator.TheVariants as op;
 
 /// No spelling begins another spelling, and a spelling spells one operator.
 pub fn one_spelling()
-    ensures { (a b x y : List ℕ) (m n : Operator) → Spells a m → Spells b n → a ++ x ≡ b ++ y
+    ensures known { (a b x y : List ℕ) (m n : Operator) → Spells a m → Spells b n → a ++ x ≡ b ++ y
         → (m ≡ n) × (x ≡ y) }
+    ensures any { (a b x y : List ℕ) (m n : Operator) → SpellsAny a m → SpellsAny b n
+        → a ++ x ≡ b ++ y → (m ≡ n) × (x ≡ y) }
+{}
+
+/// Any operator that is known is spelled as the known operators are.
+pub fn known_operators()
+    ensures any { (text : List ℕ) (x : Operator) → Spells text x → SpellsAny text x }
+    ensures known { (text : List ℕ) (x : Operator) → SpellsAny text x → is_known x ≡ true
+        → Spells text x }
 {}
 
 /// The code of an instruction spells it.
@@ -51,6 +60,21 @@ pub fn body_at_reads()
         → IsFault start (start + length text) text kind offset × (kind ≢ Memory) }
 {}
 
+/// Reading code as a function answers its operators, or the kind and the offset of its first fault, as `body_at_reads` says of
+/// known operators alone.
+pub fn code_at_reads()
+    ensures spelled { (start : ℕ) (text : List ℕ) (xs : List (Operator × ℕ))
+        → SpellsCode start text xs → code_at start text ≡ Ok xs }
+    ensures faulty { (start : ℕ) (text : List ℕ) (kind : ReadKind) (offset : ℕ)
+        → IsCodeFault start (start + length text) text kind offset → kind ≢ Memory
+        → code_at start text ≡ Err (kind, offset) }
+    ensures answers { (start : ℕ) (text : List ℕ) (xs : List (Operator × ℕ))
+        → code_at start text ≡ Ok xs → SpellsCode start text xs }
+    ensures faults { (start : ℕ) (text : List ℕ) (kind : ReadKind) (offset : ℕ)
+        → code_at start text ≡ Err (kind, offset)
+        → IsCodeFault start (start + length text) text kind offset × (kind ≢ Memory) }
+{}
+
 /// Reading a number, a value type or an operator as a function takes exactly what spells one, whatever follows it, and fails
 /// exactly where none begins the bytes.
 pub fn parts_are_read()
@@ -59,6 +83,7 @@ pub fn parts_are_read()
     ensures signed { (bits : ℕ) → Exact (SpellsSigned bits) (FailsSigned bits) (signed_at bits) }
     ensures val_types { Exact SpellsValType FailsValType val_type_at }
     ensures operators { Exact Spells Fails operator_at }
+    ensures any { Exact SpellsAny FailsAny any_at }
 {}
 
 /// A joined list of spelled operators is read as that list, with its offsets.

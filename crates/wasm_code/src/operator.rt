@@ -5,6 +5,7 @@ ghost use Rattle.wasm_code.specs.Instruction.{Instruction, IsInstruction, InRang
 ghost use Rattle.wasm_code.specs.Operator.{is_delimiter};
 
 use crate::immediate::{BlockType, Imm, ValType};
+use crate::other::Other;
 use crate::packed::{Packed, pack};
 use crate::table::{Kind, find_row};
 use std::fmt;
@@ -157,6 +158,9 @@ pub enum Operator {
         /// The first of them.
         first: Option<ValType>,
     },
+    /// Another operator of the standard, of which the opcode alone is kept: one that is neither an instruction of the
+    /// table nor one of the above, or a `ref.null` or `select` with a type that these don't have.
+    Other(Other),
 }
 
 impl Operator {

@@ -1,12 +1,15 @@
 //! Operators from the front of bytes.
 ghost use Rattle.std.specs.Prelude.{◌≡◌, Some, IfSome};
 ghost use Rattle.wasm_code.specs.Finding.{row_with};
-ghost use Rattle.wasm_code.specs.Reader.{Gives, opcode_at, row_form, byte_form, form_of, behind_at, operator_at, IsForm, times_at, unsigned_at, val_type_at, labels_at, first_at, types_at, select_of};
+ghost use Rattle.wasm_code.specs.Operator.{other_operator, cause_of};
+ghost use Rattle.wasm_code.specs.declared.other.Other.TheVariants as others;
+ghost use Rattle.wasm_code.specs.Reader.{Gives, any_at, next_at, opcode_at, row_form, byte_form, form_of, behind_at, operator_at, IsForm, times_at, unsigned_at, val_type_at, labels_at, first_at, types_at, select_of};
 
 use crate::fault::Cause;
-use crate::immediate::{Imm, ValType};
+use crate::immediate::{BlockType, Imm, ValType};
 use crate::number::u32_of;
 use crate::operator::{Instr, Operator};
+use crate::other::{Other, other_from};
 use crate::reading::{block_type_from, byte_of, instr_of, pair_of, val_type_from};
 use crate::table::{Opcode, Row, row_by_opcode};
 
@@ -229,5 +232,62 @@ pub fn operator_from(bytes: &[u8]) -> Result<(Operator, &[u8]), Cause>
     match form_of(opcode) {
         Some(form) => behind(form, rest),
         None => Err(Cause::UnknownOpcode),
+    }
+}
+
+fn told(known: Cause, other: Cause) -> Cause
+    ensures { result ≡ cause_of known other }
+{
+    match other {
+        Cause::UnknownOpcode => known,
+        Cause::Truncated => Cause::Truncated,
+        Cause::BadInteger => Cause::BadInteger,
+        Cause::BadImmediate => Cause::BadImmediate,
+    }
+}
+
+fn byte_operator_of(b: u8) -> Operator
+    ensures { result ≡ other_operator (others.Byte b) }
+{
+    match b {
+        0x02 => Operator::Block(BlockType::Reference),
+        0x03 => Operator::Loop(BlockType::Reference),
+        0x04 => Operator::If(BlockType::Reference),
+        _ => Operator::Other(Other::Byte(b)),
+    }
+}
+
+fn operator_of(opcode: Other) -> Operator
+    ensures { result ≡ other_operator opcode }
+{
+    match opcode {
+        Other::Byte(b) => byte_operator_of(b),
+        Other::Fb(_) => Operator::Other(opcode),
+        Other::Fe(_) => Operator::Other(opcode),
+    }
+}
+
+/// The first operator, known or not, and what follows it.
+#[tactic(auto, unfolding(crate::specs::Reader::any_at))]
+fn any_operator_from(bytes: &[u8]) -> Result<(Operator, &[u8]), Cause>
+    ensures { Gives (λ x. (x.0, x.1.now)) result (any_at bytes.now) }
+{
+    match operator_from(bytes) {
+        Ok((operator, rest)) => Ok((operator, rest)),
+        Err(known) => match other_from(bytes) {
+            Ok((opcode, rest)) => Ok((operator_of(opcode), rest)),
+            Err(cause) => Err(told(known, cause)),
+        },
+    }
+}
+
+/// The first operator, and what follows it: of any operators, or of known ones alone.
+pub(crate) fn next_operator(any: bool, bytes: &[u8]) -> Result<(Operator, &[u8]), Cause>
+    ensures { Gives (λ x. (x.0, x.1.now)) result (next_at any bytes.now) }
+{
+    if any {
+        any_operator_from(bytes)
+    } else {
+        operator_from(bytes)
     }
 }

@@ -133,7 +133,7 @@ fn offset_of(align: u8, memory: u32, bytes: &[u8]) -> Result<(MemArg, &[u8]), Ca
 
 #[tactic(auto, unfolding(crate::specs::Reader::memarg_at))]
 #[inline(always)]
-fn memarg_of(bytes: &[u8]) -> Result<(MemArg, &[u8]), Cause>
+pub fn memarg_of(bytes: &[u8]) -> Result<(MemArg, &[u8]), Cause>
     ensures gives { Gives (λ x. (x.0, x.1.now)) result (memarg_at bytes.now) }
     ensures align { IfOk result (λ x. x.0.align < 64) }
 {

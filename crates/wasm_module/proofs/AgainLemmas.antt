@@ -22,7 +22,7 @@ use Rattle.wasm_module.specs.Again.{AreSectionsAgain}
 use Rattle.wasm_module.proofs.FindLemmas.{head_is, tail_is, ordered_behind}
 use Rattle.wasm_module.proofs.PieceLemmas.{written, AreWhole, spell, swapped, inserted, IsCut, cut, IsSplit, split, IsCutTwice, rejoined}
 
-abbrev Parts : Type 0
+abbrev pub Parts : Type 0
 Parts = List (SectionId × List ℕ)
 
 -- ---- the code section stands behind the global one
@@ -239,14 +239,24 @@ module _ (bytes : List ℕ) (layout : Layout) (n : ℕ) (contents : List ℕ) (t
       new_pieces bytes new k.g.section.start k.g.section.end r.code.start r.code.end a.first d.first d.second (code_of a.x) d.x k.g.contents c growth_place
       swap_is growth_code (short (length c) r.code_sized) e
 
-  grows_at : Short → AreSectionsAgain bytes layout n contents (t ∷ ts) new
-  grows_at short =
+  pub growth_parts : Short → SpellsParts new ((parts_of bytes k.g.is.before ++ (ids.Global, k.g.contents) ∷ parts_of bytes k.b.mid) ++
+      (ids.Code, code_with bytes k.r.code k.r.entry contents) ∷ parts_of bytes k.r.code_is.behind)
+  growth_parts short =
       let r = k.r in
       let g = k.g in
       let c = code_with bytes r.code r.entry contents in
       let gend : g.section.end ≡ end_at (8 + length (joined k.a.first)) k.a.x = ap (λ (z : Section). z.end) k.a.is in
       let cend : r.code.end ≡ end_at (end_at (8 + length (joined k.a.first)) k.a.x + length (joined k.d.first)) k.d.x =
       ap (λ (z : Section). z.end) k.d.is in
+      again bytes new g.section.start g.section.end r.code.start r.code.end k.a.first k.d.first k.d.second (code_of k.a.x) k.d.x g.contents c
+      g.is.before k.b.mid r.code_is.behind growth_place (growth_new short) k.a.before_are
+      (k.d.before_are ∙ ap (λ (m : ℕ). all_placed m k.d.first) (sym gend))
+      (k.d.behind_are ∙ ap (λ (m : ℕ). all_placed m k.d.second) (sym cend))
+
+  grows_at : Short → AreSectionsAgain bytes layout n contents (t ∷ ts) new
+  grows_at short =
+      let r = k.r in
+      let g = k.g in
       record {
         before = r.code_is.before;
         code = r.code;
@@ -266,10 +276,7 @@ module _ (bytes : List ℕ) (layout : Layout) (n : ℕ) (contents : List ℕ) (t
           grown = g.grown;
           parts_are = refl;
         });
-        spells = again bytes new g.section.start g.section.end r.code.start r.code.end k.a.first k.d.first k.d.second (code_of k.a.x) k.d.x g.contents c
-            g.is.before k.b.mid r.code_is.behind growth_place (growth_new short) k.a.before_are
-            (k.d.before_are ∙ ap (λ (m : ℕ). all_placed m k.d.first) (sym gend))
-            (k.d.behind_are ∙ ap (λ (m : ℕ). all_placed m k.d.second) (sym cend));
+        spells = growth_parts short;
       }
 
 abbrev pub growth : (bytes : List ℕ) (info : Module) (layout : Layout) (n : ℕ) (contents : List ℕ) (t : PrimitiveTypeInfo) (ts : List PrimitiveTypeInfo)
@@ -349,12 +356,20 @@ module _ (bytes : List ℕ) (layout : Layout) (n : ℕ) (contents : List ℕ) (t
       new_pieces bytes new k.g.place k.g.place r.code.start r.code.end a.first d.first d.second [] d.x gc c addition_place insert addition_code
       (short (length c) r.code_sized) e
 
+  pub addition_parts : Short → SpellsParts new ((parts_of bytes k.g.is.before ++ (ids.Global, new_globals (t ∷ ts)) ∷ parts_of bytes k.b.mid) ++
+      (ids.Code, code_with bytes k.r.code k.r.entry contents) ∷ parts_of bytes k.r.code_is.behind)
+  addition_parts short =
+      let r = k.r in
+      let c = code_with bytes r.code r.entry contents in
+      let cend : r.code.end ≡ end_at (8 + length (joined k.a.first) + length (joined k.d.first)) k.d.x = ap (λ (z : Section). z.end) k.d.is in
+      again bytes new k.g.place k.g.place r.code.start r.code.end k.a.first k.d.first k.d.second [] k.d.x (new_globals (t ∷ ts)) c k.g.is.before
+      k.b.mid r.code_is.behind addition_place (addition_new short) k.a.before_are
+      (k.d.before_are ∙ ap (λ (m : ℕ). all_placed m k.d.first) (sym place_is))
+      (k.d.behind_are ∙ ap (λ (m : ℕ). all_placed m k.d.second) (sym cend))
+
   adds_at : Short → AreSectionsAgain bytes layout n contents (t ∷ ts) new
   adds_at short =
       let r = k.r in
-      let c = code_with bytes r.code r.entry contents in
-      let gc = new_globals (t ∷ ts) in
-      let cend : r.code.end ≡ end_at (8 + length (joined k.a.first) + length (joined k.d.first)) k.d.x = ap (λ (z : Section). z.end) k.d.is in
       record {
         before = r.code_is.before;
         code = r.code;
@@ -363,12 +378,9 @@ module _ (bytes : List ℕ) (layout : Layout) (n : ℕ) (contents : List ℕ) (t
         is = r.code_is.has;
         entry = r.entry;
         entry_is = r.entry_is;
-        front = parts_of bytes k.g.is.before ++ (ids.Global, gc) ∷ parts_of bytes k.b.mid;
+        front = parts_of bytes k.g.is.before ++ (ids.Global, new_globals (t ∷ ts)) ∷ parts_of bytes k.b.mid;
         front_is = inr (record { before = k.g.is.before; behind = k.b.mid; sections_are = k.b.whole_is; parts_are = refl });
-        spells = again bytes new k.g.place k.g.place r.code.start r.code.end k.a.first k.d.first k.d.second [] k.d.x gc c k.g.is.before k.b.mid
-            r.code_is.behind addition_place (addition_new short) k.a.before_are
-            (k.d.before_are ∙ ap (λ (m : ℕ). all_placed m k.d.first) (sym place_is))
-            (k.d.behind_are ∙ ap (λ (m : ℕ). all_placed m k.d.second) (sym cend));
+        spells = addition_parts short;
       }
 
 abbrev pub addition : (bytes : List ℕ) (info : Module) (layout : Layout) (n : ℕ) (contents : List ℕ) (t : PrimitiveTypeInfo) (ts : List PrimitiveTypeInfo)

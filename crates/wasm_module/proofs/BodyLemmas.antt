@@ -156,6 +156,13 @@ has_contents bytes pre post start before behind b bs k parts at e f = record {
   text_is = sym (contents_are bytes pre post start before behind b (e ∙ ap (λ (l : List Body). pre ++ (glued l ++ post)) parts) f);
 }
 
+-- the bodies behind the number of them
+glued_in : (bytes pre post text count : List ℕ) (bs : List Body) → bytes ≡ pre ++ (text ++ post) → text ≡ count ++ glued bs →
+    bytes ≡ (pre ++ count) ++ (glued bs ++ post)
+glued_in bytes pre post text count bs e t =
+    e ∙ ap (λ (l : List ℕ). pre ++ (l ++ post)) t ∙ ap (λ (l : List ℕ). pre ++ l) (append_assoc count (glued bs) post)
+    ∙ sym (append_assoc pre count (glued bs ++ post))
+
 -- ---- one body written anew
 
 tails : (b c : Body) (bs cs : List Body) → b ∷ bs ≡ c ∷ cs → (b ≡ c) × (bs ≡ cs)
@@ -270,12 +277,8 @@ entries_again bytes pre post text new pre' post' start start' n entries entry co
     let text_parts : text ≡ l.front ++ glued (c.before ++ c.body ∷ c.behind) = l.parts ∙ ap (λ (t : List ℕ). l.front ++ t) v.text_is
     ∙ ap (λ (bs : List Body). l.front ++ glued bs) c.parts in
     let with_is = text_is bytes pre post l.front text start c.before c.behind c.body entry contents e f text_parts c.is in
-    let old_bytes : bytes ≡ (pre ++ l.front) ++ (glued v.bodies ++ post) = e
-    ∙ ap (λ (t : List ℕ). pre ++ (t ++ post)) (l.parts ∙ ap (λ (t : List ℕ). l.front ++ t) v.text_is)
-    ∙ ap (λ (t : List ℕ). pre ++ t) (append_assoc l.front (glued v.bodies) post) ∙ sym (append_assoc pre l.front (glued v.bodies ++ post)) in
-    let new_bytes : new ≡ (pre' ++ l.front) ++ (glued bodies ++ post') = e'
-    ∙ ap (λ (t : List ℕ). pre' ++ (t ++ post')) with_is
-    ∙ ap (λ (t : List ℕ). pre' ++ t) (append_assoc l.front (glued bodies) post') ∙ sym (append_assoc pre' l.front (glued bodies ++ post')) in
+    let old_bytes = glued_in bytes pre post text l.front v.bodies e (l.parts ∙ ap (λ (t : List ℕ). l.front ++ t) v.text_is) in
+    let new_bytes = glued_in new pre' post' (text_with bytes start entry (start + length text) contents) l.front bodies e' with_is in
     let old_len : length (pre ++ l.front) ≡ from = omega (arith, length-append pre l.front, f) in
     let new_len : length (pre' ++ l.front) ≡ start' + length l.front = omega (arith, length-append pre' l.front, f') in
     let same_count : length bodies ≡ length v.bodies = omega (
@@ -310,4 +313,40 @@ entries_again bytes pre post text new pre' post' start start' n entries entry co
           ∙ contents_are bytes (pre ++ l.front) post from d.before d.behind d.body
           (old_bytes ∙ ap (λ (bs : List Body). (pre ++ l.front) ++ (glued bs ++ post)) d.parts) old_len in
           subst (HasContents new (placed (start' + length l.front) bodies) k) (sym was) here;
+    }
+
+-- ---- the code section elsewhere
+
+-- the entries of the text where its first byte has that offset, each of which contains what it contained
+pub record AreEntriesMoved (bytes : List ℕ) (entries : List Entry) (new text : List ℕ) (start : ℕ) : Type 0 where
+  pub moved : List Entry
+  pub spells : SpellsEntries start text moved
+  pub count : length moved ≡ length entries
+  pub each : (k : ℕ) (old : Entry) → slice_get entries k ≡ Some old → HasContents new moved k (slice_range bytes old.contents old.end)
+
+pub entries_moved : (bytes pre post text new pre' post' : List ℕ) (start start' : ℕ) (entries : List Entry) → bytes ≡ pre ++ (text ++ post) →
+    length pre ≡ start → SpellsEntries start text entries → new ≡ pre' ++ (text ++ post') → length pre' ≡ start'
+    → AreEntriesMoved bytes entries new text start'
+entries_moved bytes pre post text new pre' post' start start' entries e f s e' f' =
+    let l = s.list in
+    let v = bodies_in l.value l.back s.sizes l.second in
+    let from : ℕ = start + length l.front in
+    let to : ℕ = start' + length l.front in
+    let placed_is : entries ≡ placed from v.bodies = s.placed ∙ ap (entries_from from) v.sizes_are in
+    let text_is : text ≡ l.front ++ glued v.bodies = l.parts ∙ ap (λ (t : List ℕ). l.front ++ t) v.text_is in
+    let old_bytes = glued_in bytes pre post text l.front v.bodies e text_is in
+    let new_bytes = glued_in new pre' post' text l.front v.bodies e' text_is in
+    let old_len : length (pre ++ l.front) ≡ from = omega (arith, length-append pre l.front, f) in
+    let new_len : length (pre' ++ l.front) ≡ to = omega (arith, length-append pre' l.front, f') in
+    record {
+      moved = placed to v.bodies;
+      spells = record { sizes = s.sizes; list = l; placed = ap (entries_from to) (sym v.sizes_are) };
+      count = entries_length v.bodies to ∙ sym (entries_length v.bodies from) ∙ ap length (sym placed_is);
+      each = λ k old there.
+          let d = cut v.bodies from k old (ap (λ (es : List Entry). slice_get es k) (sym placed_is) ∙ there) in
+          let here = has_contents new (pre' ++ l.front) post' to d.before d.behind d.body v.bodies k d.parts d.at new_bytes new_len in
+          let was : slice_range bytes old.contents old.end ≡ d.body.contents = ap (λ (x : Entry). slice_range bytes x.contents x.end) d.is
+          ∙ contents_are bytes (pre ++ l.front) post from d.before d.behind d.body
+          (old_bytes ∙ ap (λ (bs : List Body). (pre ++ l.front) ++ (glued bs ++ post)) d.parts) old_len in
+          subst (HasContents new (placed to v.bodies) k) (sym was) here;
     }

@@ -20,5 +20,10 @@ pub rest_is : (bytes count items behind : List ℕ) (m n : ℕ) → unsigned_at 
     behind ≡ items
 rest_is bytes count items behind m n r e s = one_rest (unsigned_at 32 bytes) m n behind items r (reads bytes count items n e s)
 
+-- a text begins with one number at most
+pub one_count : (bytes count items size rest : List ℕ) (m n : ℕ) → bytes ≡ count ++ items → SpellsUnsigned 32 count m → bytes ≡ size ++ rest →
+    SpellsUnsigned 32 size n → ◌≡◌ {A = ℕ × List ℕ} (m, items) (n, rest)
+one_count bytes count items size rest m n e s f t = ok_is (m, items) (n, rest) (sym (reads bytes count items m e s) ∙ reads bytes size rest n f t)
+
 pub counts : (bytes : List ℕ) (n : ℕ) (cause : Cause) → HasCount bytes n → unsigned_at 32 bytes ≡ Err cause → ⊥
 counts bytes n cause h e = no_error (unsigned_at 32 bytes) n h.items cause (reads bytes h.count h.items n h.parts h.counts) e

@@ -55,20 +55,19 @@ module _ {X : Type 0} (none : X) (Spells : ℕ → List ℕ → X → Type 0) (b
   held ps start ss same e (inl h) = found ps start h.1.before h.1.behind h.0 same (sym e ∙ h.1.parts) h.1.has h.1.none h.2
   held ps start ss same e (inr h) = lacking ps start (subst (λ (l : List Section). LackId l id) e h.0) h.1
 
-  next_holds : (p : Piece) (ps : List Piece) (start : ℕ) → (p.id ≡ id → ⊥) → Holds none Spells bytes (all_placed (end_at start p) ps) id x →
-      Holds none Spells bytes (placed start p ∷ all_placed (end_at start p) ps) id x
-  next_holds p ps start differ (inl h) = inl (
+  pub next_holds : (s : Section) (ss : List Section) → (s.id ≡ id → ⊥) → Holds none Spells bytes ss id x → Holds none Spells bytes (s ∷ ss) id x
+  next_holds s ss differ (inl h) = inl (
     h.0,
     record {
-      before = placed start p ∷ h.1.before;
+      before = s ∷ h.1.before;
       behind = h.1.behind;
-      parts = ap (λ (l : List Section). placed start p ∷ l) h.1.parts;
+      parts = ap (λ (l : List Section). s ∷ l) h.1.parts;
       has = h.1.has;
       none = (differ, h.1.none);
     },
     h.2,
   )
-  next_holds p ps start differ (inr h) = inr ((differ, h.0), h.1)
+  next_holds s ss differ (inr h) = inr ((differ, h.0), h.1)
 
   pub holds : (ps : List Piece) (start : ℕ) → parts_of bytes (all_placed start ps) ≡ parts ps → HeldBy none Spells start ps id x →
       Holds none Spells bytes (all_placed start ps) id x
@@ -81,7 +80,7 @@ module _ {X : Type 0} (none : X) (Spells : ℕ → List ℕ → X → Type 0) (b
         subst (λ (l : List ℕ). Spells (contents_at start p) l x) (sym text) h.1,
       )
   holds (p ∷ ps) start same (inr h) =
-      next_holds p ps start h.0 (holds ps (end_at start p) (split_parts _ (part p) _ (parts ps) same).1 h.1)
+      next_holds (placed start p) (all_placed (end_at start p) ps) h.0 (holds ps (end_at start p) (split_parts _ (part p) _ (parts ps) same).1 h.1)
 
   -- ---- pieces in place of others
 

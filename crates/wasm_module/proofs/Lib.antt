@@ -15,3 +15,6 @@ pub mod RereadLemmas
 pub mod OneLemmas
 pub mod ListedLemmas
 pub mod SizeLemmas
+pub mod StaysLemmas
+pub mod SameModuleLemmas
+pub mod InstanceLemmas

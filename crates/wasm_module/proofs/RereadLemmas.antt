@@ -152,6 +152,7 @@ reread bytes info layout n contents more new short m r imports globals some =
         all_memories = m.all_memories;
         all_globals = wider_space info.globals (globals_of m.imports.items) m.globals.items more m.imports.unknown (sym m.unknown_imports ∙ imports)
             m.all_globals;
+        not_exact = m.not_exact;
         imported = m.imported;
         own = ap (λ (j : ℕ). j + length more) m.own;
         entry_each = e.count ∙ m.entry_each;

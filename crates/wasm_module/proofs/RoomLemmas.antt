@@ -29,7 +29,7 @@ use Rattle.wasm_module.proofs.InsideLemmas.{code_entry}
 
 -- ---- the global section
 
-known_counted : {A : Type 0} (Spells : List ℕ → A → Type 0) (Fails : List ℕ → Cause → Type 0) (start : ℕ) (text : List ℕ) (n m : ℕ) (xs : List A)
+pub known_counted : {A : Type 0} (Spells : List ℕ → A → Type 0) (Fails : List ℕ → Cause → Type 0) (start : ℕ) (text : List ℕ) (n m : ℕ) (xs : List A)
     (o : Option ModuleError) → IsKnown Spells Fails start text n xs o → m ≡ n → HasCount text m
 known_counted Spells Fails start text n m xs None k e =
     let l = k.list in

@@ -9,3 +9,5 @@ pub mod Lists
 pub mod Room
 pub mod Again
 pub mod Reread
+pub mod SameModule
+pub mod Instance

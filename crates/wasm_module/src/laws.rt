@@ -12,10 +12,17 @@ ghost use Rattle.wasm_module.specs.Rewritten.{IsRewritten};
 ghost use Rattle.mutate_base.specs.declared.types.PrimitiveTypeInfo.TheVariants as primitives;
 ghost use Rattle.wasm_module.specs.Reread.{IsReread};
 ghost use Rattle.wasm_module.specs.Again.{AreSectionsAgain};
+ghost use Rattle.wasm_sections.specs.declared.section.Section.{Section};
+ghost use Rattle.wasm_sections.specs.Section.{SpellsModule};
+ghost use Rattle.wasm_sections.specs.Debug.{IsWithoutDebug};
+ghost use Rattle.wasm_module.specs.SameModule.{IsSameModule};
+ghost use Rattle.wasm_module.specs.Instance.{Making, IsMadeOf, with_more_globals};
 
 use wasm_code::laws::shortest_is_a_spelling;
 use wasm_declarations::laws::{lists_have_no_fault, one_list};
-use wasm_sections::laws::{modules_have_no_section_fault, one_module, sections_fill_the_module};
+use wasm_sections::laws::{
+    modules_have_no_section_fault, one_module, other_sections_stay, sections_fill_the_module,
+};
 
 /// Each entry of a module's code lies inside its bytes.
 pub fn entries_are_inside()
@@ -68,4 +75,35 @@ pub fn modules_have_no_fault()
     modules_have_no_section_fault();
     one_list();
     lists_have_no_fault();
+}
+
+/// A module without its custom sections that name places in the code is the same module.
+pub fn modules_without_debug_are_the_same()
+    ensures { (bytes : List ℕ) (info : Module) (layout : Layout) (new : List ℕ)
+        → IsModule bytes info layout → IsWithoutDebug bytes layout.sections new
+        → IsSameModule bytes info layout new }
+{
+    sections_fill_the_module();
+    other_sections_stay();
+}
+
+/// A rewritten module is made of what the module is made of, with the globals more behind its own, which begin as zeros or nulls:
+/// same imports, exports, start function, tables, memories and segments. Without its custom sections that name places in the code it is
+/// made of the same, and each module is made of something.
+pub fn rewritten_modules_are_made_alike()
+    ensures rewritten { (bytes : List ℕ) (info : Module) (layout : Layout) (n : ℕ)
+        (contents : List ℕ) (more : List PrimitiveTypeInfo) (new : List ℕ) (sections : List Section)
+        (making : Making) → IsModule bytes info layout
+        → IsRewritten bytes layout n contents more new → SpellsModule new sections
+        → IsMadeOf bytes layout.sections making
+        → IsMadeOf new sections (with_more_globals more making) }
+    ensures stripped { (bytes new : List ℕ) (sections left : List Section) (making : Making)
+        → IsWithoutDebug bytes sections new → SpellsModule new left
+        → IsMadeOf bytes sections making → IsMadeOf new left making }
+    ensures made { (bytes : List ℕ) (info : Module) (layout : Layout)
+        → IsModule bytes info layout → (making : Making) × IsMadeOf bytes layout.sections making }
+{
+    shortest_is_a_spelling();
+    one_module();
+    other_sections_stay();
 }

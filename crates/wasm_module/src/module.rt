@@ -76,6 +76,7 @@ fn module_of<'a>(
             function_map,
             table_types,
             memory_types,
+            exact: false,
         },
         layout: Layout {
             sections,

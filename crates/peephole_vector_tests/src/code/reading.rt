@@ -4,7 +4,7 @@ use crate::table::{bytes_of, fields_of};
 use std::alloc::Global;
 use std::process::Abort;
 use std::test::Fail;
-use wasm_code::{Function, Operator, read_body};
+use wasm_code::{Function, Operator, read_body, read_code};
 
 /// Bytes, where their body begins, and its operators, each with its offset, which counts from the start of the bytes.
 const BODIES: &str = "
@@ -110,8 +110,17 @@ const CUTS: &str = "
 20 80 00 1a 02 40 0b 41 81 80 00 1a 0b | 0 | (Instr(Instr { row: 4, imm: Index(0) }), 0), (Instr(Instr { row: 2, imm: Nothing }), 3), (Block(Empty), 4), (End, 6), (Instr(Instr { row: 36, imm: I32(1) }), 7), (Instr(Instr { row: 2, imm: Nothing }), 11), (End, 12)
 ";
 
+/// Which operators are read.
+#[derive(Clone, Copy)]
+pub enum Reader {
+    /// Known ones alone, by `read_body`.
+    Known,
+    /// Any of the standard, by `read_code`.
+    Any,
+}
+
 /// The bytes from there on are a body of these operators, or have this fault.
-fn is_read(rt: &impl Abort, alloc: Global, line: &str) -> Result<(), Fail> {
+fn is_read(rt: &impl Abort, alloc: Global, reader: Reader, line: &str) -> Result<(), Fail> {
     let fields = fields_of(alloc, line)?;
     let [digits, from, wanted] = fields.as_slice() else {
         panic!(rt; "{line}");
@@ -119,7 +128,11 @@ fn is_read(rt: &impl Abort, alloc: Global, line: &str) -> Result<(), Fail> {
     let bytes = bytes_of(alloc, digits)?;
     let from = from.parse::<usize>()?;
     assert!(rt; from <= bytes.len(), "{line}");
-    let text = match read_body(alloc, &bytes, from, bytes.len()) {
+    let found = match reader {
+        Reader::Known => read_body(alloc, &bytes, from, bytes.len()),
+        Reader::Any => read_code(alloc, &bytes, from, bytes.len()),
+    };
+    let text = match found {
         Ok(operators) => format!(in alloc; "{operators:?}")?,
         Err(error) => format!(in alloc; "[{error} at {}]", error.offset)?,
     };
@@ -128,12 +141,18 @@ fn is_read(rt: &impl Abort, alloc: Global, line: &str) -> Result<(), Fail> {
     Ok(())
 }
 
+/// So it is for each line of a table.
+pub fn are_read(rt: &impl Abort, alloc: Global, reader: Reader, table: &str) -> Result<(), Fail> {
+    for line in table.trim().lines() {
+        is_read(rt, alloc, reader, line)?;
+    }
+    Ok(())
+}
+
 #[test]
 fn bytes(rt: HostRuntime) -> Result<(), Fail> {
     for table in [BODIES, FAULTS, CUTS] {
-        for line in table.trim().lines() {
-            is_read(&rt, rt.alloc(), line)?;
-        }
+        are_read(&rt, rt.alloc(), Reader::Known, table)?;
     }
     Ok(())
 }

@@ -3,9 +3,39 @@ use Rattle.mutate_base.specs.Config.{info_of}
 use Rattle.peephole_terms.specs.Expansion.{setting_of}
 use Rattle.peephole_modules.specs.Chosen.{ChoosesBy, GivesUpOn, Leads}
 use Rattle.peephole_modules.specs.Scope.{Scope}
-use Rattle.peephole_modules.proofs.MutationLemmas.{none_map, some_map}
-use Rattle.peephole_modules.proofs.ModuleLemmas.{cannot_any, cannot_one, err_of_size}
+use Rattle.peephole_modules.proofs.MutationLemmas.{err_map, none_map, some_both, some_map}
+use Rattle.peephole_modules.proofs.ModuleLemmas.{cannot_any, cannot_one, err_of_size, mutated_any, mutated_one, refuses_any, refuses_one}
 use Rattle.peephole_modules.proofs.mutation.mutate_chosen.Goals as goal
+
+pub returns-in-None-clause-mutated : goal.returns-in-None-clause-mutated
+returns-in-None-clause-mutated g c =
+    let is : c.args.scope.now.function ≡ None = sym (ap (λ (s : Scope). s.function) c.scope.view_is) ∙ c.in-None.is in
+    some_map c.mutate_any.result
+    (λ m h. mutated_any c.args.scope.now c.args.bytes.now c.args.layout.now (info_of c.args.config.now) is c.requires.module m.function m.rewrite
+    m.bytes.items h.0 h.1)
+    (some_both _ _ c.mutate_any.result c.mutate_any.ensures.mutated c.mutate_any.ensures.fits)
+
+pub returns-in-None-clause-refused : goal.returns-in-None-clause-refused
+returns-in-None-clause-refused g c =
+    let is : c.args.scope.now.function ≡ None = sym (ap (λ (s : Scope). s.function) c.scope.view_is) ∙ c.in-None.is in
+    err_map c.mutate_any.result
+    (λ e h. refuses_any c.args.scope.now c.args.bytes.now c.args.layout.now (info_of c.args.config.now) is c.requires.module e h)
+    c.mutate_any.ensures.refused
+
+pub returns-in-Some-clause-mutated : goal.returns-in-Some-clause-mutated
+returns-in-Some-clause-mutated g c =
+    let is : c.args.scope.now.function ≡ Some c.in-Some.function = sym (ap (λ (s : Scope). s.function) c.scope.view_is) ∙ c.in-Some.is in
+    some_map c.mutate_function.result
+    (λ m h. mutated_one c.args.scope.now c.args.bytes.now c.args.layout.now (info_of c.args.config.now) c.in-Some.function is c.requires.module m.function
+    m.rewrite m.bytes.items h.0 h.1)
+    (some_both _ _ c.mutate_function.result c.mutate_function.ensures.mutated c.mutate_function.ensures.fits)
+
+pub returns-in-Some-clause-refused : goal.returns-in-Some-clause-refused
+returns-in-Some-clause-refused g c =
+    let is : c.args.scope.now.function ≡ Some c.in-Some.function = sym (ap (λ (s : Scope). s.function) c.scope.view_is) ∙ c.in-Some.is in
+    err_map c.mutate_function.result
+    (λ e h. refuses_one c.args.scope.now c.args.bytes.now c.args.layout.now (info_of c.args.config.now) c.in-Some.function is c.requires.module e h)
+    c.mutate_function.ensures.refused
 
 pub returns-in-None-clause-chosen : goal.returns-in-None-clause-chosen
 returns-in-None-clause-chosen g c =

@@ -117,7 +117,7 @@ returns-in-Ok-with_body-clause-mutated g c =
       c.function_index.ensures,
       subst (λ (rs : List Rule).
           MutatesEntry rs c.args.bytes.now c.info.result.now c.args.layout.now c.args.n c.in-Ok-Some.made.rewrite c.in-Ok-with_body.new.items) same
-          (mutates c.rewritten_bytes_are_a_module.ensures c.scope.inside.rules.now c.args.bytes.now c.info.result.now c.args.layout.now c.args.n
+          (mutates c.own_bytes_stay.ensures c.rewritten_bytes_are_a_module.ensures c.scope.inside.rules.now c.args.bytes.now c.info.result.now c.args.layout.now c.args.n
           c.in-Ok.function.locals.items c.deref.result.now
           c.in-Ok.function.expression c.in-Ok.function.operators.items c.deref-2.result.now c.entry_at.result
           c.in-Ok-Some.made.rewrite c.new-body.result c.rewrite_tree_at_random.new.newfunc c.in-Ok-Some.made.requests.items

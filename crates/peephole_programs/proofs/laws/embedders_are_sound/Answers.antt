@@ -1,4 +1,4 @@
-use Rattle.peephole_programs.proofs.EmbedderLemmas.{embedders}
+use Rattle.peephole_programs.proofs.hosts.EmbedderLemmas.{embedders}
 use Rattle.peephole_programs.proofs.laws.embedders_are_sound.Goals as goal
 
 pub returns : goal.returns

@@ -1,5 +1,8 @@
-use Rattle.peephole_programs.proofs.ValidModuleLemmas.{does_one}
+use Rattle.peephole_programs.proofs.hosts.ValidModuleLemmas.{does_one, do_themselves}
 use Rattle.peephole_programs.proofs.laws.one_function_is_rewritten.Goals as goal
 
-pub returns : goal.returns
-returns c = does_one
+pub returns-clause-one : goal.returns-clause-one
+returns-clause-one c = does_one
+
+pub returns-clause-none : goal.returns-clause-none
+returns-clause-none c = do_themselves

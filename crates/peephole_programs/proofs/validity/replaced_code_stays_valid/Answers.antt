@@ -1,4 +1,4 @@
-use Rattle.peephole_programs.proofs.ValidLemmas.{replaced_valid}
+use Rattle.peephole_programs.proofs.validation.ValidLemmas.{replaced_valid}
 use Rattle.peephole_programs.proofs.validity.replaced_code_stays_valid.Goals as goal
 
 pub returns : goal.returns

@@ -1,4 +1,4 @@
-use Rattle.peephole_programs.proofs.RowChecks.{row_types_stay, typed_pushes, pushes_on}
+use Rattle.peephole_programs.proofs.validation.RowChecks.{row_types_stay, typed_pushes, pushes_on}
 use Rattle.peephole_programs.proofs.validity.typed_rows_check.Goals as goal
 
 pub returns-clause-push : goal.returns-clause-push

@@ -1,4 +1,4 @@
-use Rattle.peephole_programs.proofs.ValidLemmas.{stays_valid, targets_stay}
+use Rattle.peephole_programs.proofs.validation.ValidLemmas.{stays_valid, targets_stay, deeds_stay}
 use Rattle.peephole_programs.proofs.validity.valid_bodies_stay_valid.Goals as goal
 
 pub returns-clause-valid : goal.returns-clause-valid
@@ -6,3 +6,6 @@ returns-clause-valid c = stays_valid
 
 pub returns-clause-targets : goal.returns-clause-targets
 returns-clause-targets c = targets_stay
+
+pub returns-clause-deeds : goal.returns-clause-deeds
+returns-clause-deeds c = deeds_stay

@@ -1,5 +1,5 @@
-use Rattle.peephole_programs.proofs.RowChecks.{known_checks}
-use Rattle.peephole_programs.proofs.ValidLemmas.{more_globals, follows}
+use Rattle.peephole_programs.proofs.validation.RowChecks.{known_checks}
+use Rattle.peephole_programs.proofs.validation.ValidLemmas.{more_globals, follows}
 use Rattle.peephole_programs.proofs.validity.validity_goes_by_types.Goals as goal
 
 pub returns-clause-known : goal.returns-clause-known

@@ -8,7 +8,7 @@ use Rattle.peephole_rewrite_examples.proofs.mutating.mutate.Goals as goal
 
 pub rewrite_tree_at_random-requires-clause-body : goal.rewrite_tree_at_random-requires-clause-body
 rewrite_tree_at_random-requires-clause-body g c =
-    record { from = 0; to = length c.args.bytes.now; ordered = omega arith; inside = omega arith; spells = rw c.deref.ensures.value c.in_ok-operators.ensures.found }
+    record { from = 0; to = length c.args.bytes.now; ordered = omega arith; inside = omega arith; spells = rw c.deref.ensures.value (record { all = c.in_ok-operators.ensures.found.all; last = c.in_ok-operators.ensures.found.last }) }
 
 pub returns-in_err-made-clause-refused : goal.returns-in_err-made-clause-refused
 returns-in_err-made-clause-refused g c =

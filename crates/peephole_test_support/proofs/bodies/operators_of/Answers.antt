@@ -3,4 +3,10 @@ use Rattle.std.proofs.Common.{length, arith}
 use Rattle.peephole_test_support.proofs.bodies.operators_of.Goals as goal
 
 pub returns-in-Ok : goal.returns-in-Ok
-returns-in-Ok c = record { from = 0; to = length c.args.bytes.now; ordered = omega arith; inside = omega arith; spells = c.in-Ok.ensures.found }
+returns-in-Ok c = record {
+  from = 0;
+  to = length c.args.bytes.now;
+  ordered = omega arith;
+  inside = omega arith;
+  spells = record { all = c.in-Ok.ensures.found.all; last = c.in-Ok.ensures.found.last };
+}

@@ -1,6 +1,7 @@
 use Rattle.wasm_code.specs.laws.NumberExact.{unsigned_exact, signed_exact}
 use Rattle.wasm_code.specs.laws.ValTypeLemmas.{val_type_exact}
 use Rattle.wasm_code.proofs.OperatorLemmas.{operator_exact}
+use Rattle.wasm_code.proofs.AnyLemmas.{any_exact}
 use Rattle.wasm_code.proofs.laws.parts_are_read.Goals as goal
 
 pub returns-clause-unsigned : goal.returns-clause-unsigned
@@ -14,3 +15,6 @@ returns-clause-val_types c = val_type_exact
 
 pub returns-clause-operators : goal.returns-clause-operators
 returns-clause-operators c = operator_exact
+
+pub returns-clause-any : goal.returns-clause-any
+returns-clause-any c = any_exact

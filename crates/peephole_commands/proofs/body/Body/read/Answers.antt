@@ -19,7 +19,7 @@ invariant_of-result c = (
     to = c.len.result;
     ordered = omega arith;
     inside = omega (arith, c.len.ensures, c.as_slice.ensures.len);
-    spells = rw c.as_slice.ensures.value at c.in-Ok.ensures.found;
+    spells = let f = rw c.as_slice.ensures.value at c.in-Ok.ensures.found in record { all = f.all; last = f.last };
   },
   record { each = λ k below. absurd (omega (arith, below)) },
 )

@@ -1,0 +1,160 @@
+-- A host that catches the traps of an export and goes on, by the definitions alone: before and after a rewrite that requests a global.
+use Rattle.std.proofs.Common.{Bool, true, false, sym, subst}
+use Rattle.std.specs.Prelude.{◌≡◌, refl, ℕ, zero, suc, pos, ◌==◌, if◌then◌else◌, List, [], ◌∷◌, ◌++◌, Option, Some, None}
+use Rattle.std.proofs.lemmas.Bool.{eqb-true}
+use Rattle.wasm_code.specs.declared.immediate.Imm.{Imm}
+use Rattle.wasm_code.specs.declared.immediate.Imm.TheVariants as imm
+use Rattle.wasm_code.specs.declared.operator.Operator.{Operator}
+use Rattle.wasm_code.specs.declared.operator.Operator.TheVariants as op
+use Rattle.wasm_code.specs.Instruction.{Instruction}
+use Rattle.wasm_code.specs.Table.{row_at, table}
+use Rattle.mutate_base.specs.Module.{Module, module_of}
+use Rattle.mutate_base.specs.declared.types.PrimitiveTypeInfo.{PrimitiveTypeInfo}
+use Rattle.mutate_base.specs.declared.types.PrimitiveTypeInfo.TheVariants as primitive
+use Rattle.mutate_base.specs.declared.types.TypeInfo.TheVariants.{Func}
+use Rattle.peephole_machine.specs.declared.integer.IntegerType.TheVariants as integer
+use Rattle.peephole_machine.specs.OtherRow.{other_type, changes}
+use Rattle.peephole_machine.specs.Values.{asked_types, Value, whole, unreachable, unfinished, met, Gives, Fails, World}
+use Rattle.peephole_machine.specs.IntegerRow.{integer_row}
+use Rattle.peephole_programs.specs.modules.Program.{callee}
+use Rattle.peephole_programs.specs.control.Standard.{Beyond, fails, breaks}
+use Rattle.peephole_programs.specs.control.Wider.{wider_module}
+use Rattle.peephole_programs.specs.modules.Running.{Running, world_of, Called, session}
+use Rattle.peephole_programs.specs.hosts.Embedder.{Embedder, IsSoundEmbedder, leaving, Functions, running, IsValidFunction, with_function}
+use Rattle.peephole_programs.specs.hosts.HostCode.{Import, Imports, IsImport, AreImports, hosting, catching, IsCatching}
+use Rattle.peephole_programs.proofs.hosts.HostCodeLemmas.{hosting_sound, catching_fine}
+
+-- an imported function, and two of its own: the last gives an i32, and the others neither take nor give anything; and a global
+abbrev info : Module
+info = record (module_of []) {
+  types = Func (record { params = []; returns = [] }) ∷ Func (record { params = []; returns = primitive.I32 ∷ [] }) ∷ [];
+  functions = 0 ∷ 0 ∷ 1 ∷ [];
+  globals = primitive.I32 ∷ [];
+}
+
+abbrev i32 : ℕ → Value
+i32 n = whole integer.I32 n
+
+abbrev call : ℕ → Instruction
+call f = record { row = 1; imm = imm.Index f }
+
+-- the import calls the function with index 1, catches its trap, and goes on
+abbrev import_at : ℕ → Imm → Option Import
+import_at row (imm.Index zero) = if row == 1 then Some (catching (call 1)) else None
+import_at row i = None
+
+abbrev imports : Imports
+imports i = import_at i.row i.imm
+
+-- what it isn't asked to do traps
+abbrev refuses : World
+refuses = record { info = info; answer = λ i vs gs r. Fails (met 0) gs r; others = λ i vs gs r more. more }
+
+abbrev e : Embedder
+e = hosting info imports (leaving refuses)
+
+abbrev beyond : Beyond
+beyond = record {
+  labels = λ k. [];
+  default = λ k. 0;
+  target = λ k c r. fails 0;
+  takes = λ k. [];
+  deed = λ k vs r. breaks 0 r;
+  leaves = λ k. None;
+  label = λ k. None;
+}
+
+-- i32.const 5; here; global.set 0; unreachable; end
+abbrev failing : (here : List Operator) → List Operator
+failing here =
+    op.Instr (record { row = 36; imm = imm.I32 (pos 5) }) ∷ (here ++ op.Instr (record { row = 8; imm = imm.Index 0 }) ∷ op.Unreachable ∷ op.End ∷ [])
+
+-- call 0; global.get 0; end
+abbrev old : Functions
+old (suc zero) = Some (record { params = []; locals = []; operators = failing [] })
+old (suc (suc zero)) = Some (record {
+  params = [];
+  locals = [];
+  operators = op.Instr (call 0) ∷ op.Instr (record { row = 7; imm = imm.Index 0 }) ∷ op.End ∷ [];
+})
+old f = None
+
+-- 5 goes through the requested global
+abbrev rewritten : List Operator
+rewritten = failing (op.Instr (record { row = 8; imm = imm.Index 1 }) ∷ op.Instr (record { row = 7; imm = imm.Index 1 }) ∷ [])
+
+abbrev new : Functions
+new = with_function old 1 rewritten
+
+abbrev after : Module
+after = wider_module (0 ∷ []) (primitive.I32 ∷ []) info
+
+abbrev first : Running
+first = running info e old (λ f. beyond)
+
+abbrev second : Running
+second = running after e new (λ f. beyond)
+
+-- behind the caught trap both go on with what was set before it; the requested global was 7, and is 5 then
+first_goes_on : (world_of first 9 3).answer (call 2) [] (i32 0 ∷ []) 6 ≡ Gives (i32 5 ∷ []) (i32 5 ∷ []) 6
+unfolding integer_row row_at table other_type callee
+first_goes_on = refl
+
+second_goes_on : (world_of second 9 3).answer (call 2) [] (i32 0 ∷ i32 7 ∷ []) 6 ≡ Gives (i32 5 ∷ []) (i32 5 ∷ i32 5 ∷ []) 6
+unfolding integer_row row_at table other_type callee
+second_goes_on = refl
+
+-- a call that hasn't ended isn't caught
+first_unfinished : (world_of first 9 2).answer (call 2) [] (i32 0 ∷ []) 6 ≡ Fails unfinished (i32 0 ∷ []) 6
+unfolding integer_row row_at table other_type callee
+first_unfinished = refl
+
+-- calls one after another, the first of which traps
+abbrev calls : List Called
+calls = record { instruction = call 1; operands = [] } ∷ record { instruction = call 2; operands = [] } ∷ []
+
+first_calls : session (world_of first 9 3) calls (i32 0 ∷ []) 6 ≡ Fails unreachable (i32 5 ∷ []) 6 ∷ Gives (i32 5 ∷ []) (i32 5 ∷ []) 6 ∷ []
+unfolding integer_row row_at table other_type callee
+first_calls = refl
+
+second_calls : session (world_of second 9 3) calls (i32 0 ∷ i32 7 ∷ []) 6 ≡
+    Fails unreachable (i32 5 ∷ i32 5 ∷ []) 6 ∷ Gives (i32 5 ∷ []) (i32 5 ∷ i32 5 ∷ []) 6 ∷ []
+unfolding integer_row row_at table other_type callee
+second_calls = refl
+
+-- both functions that fail are valid
+valid_before : IsValidFunction info 1 beyond (record { params = []; locals = []; operators = failing [] })
+unfolding integer_row row_at table other_type
+valid_before = record { params_are = refl; valid = refl; targets = λ k type place rest c i s t. absurd cc; deeds = λ k o vs rest s t a. tt }
+
+valid_after : IsValidFunction after 1 beyond (record { params = []; locals = []; operators = rewritten })
+unfolding integer_row row_at table other_type
+valid_after = record { params_are = refl; valid = refl; targets = λ k type place rest c i s t. absurd cc; deeds = λ k o vs rest s t a. tt }
+
+-- ---- the host is sound over every embedder that is
+
+catches : IsCatching info (call 0) (call 1)
+unfolding changes other_type row_at table
+catches = record { changes_all = refl; not_exact = λ h. absurd cc; gives_nothing = nothing; results = []; takes_nothing = refl }
+  where
+    nothing : (ts rs : List PrimitiveTypeInfo) → asked_types info (call 0) ts ≡ Some rs → rs ≡ []
+    nothing [] rs x = cc
+    nothing (t ∷ ts) rs x = absurd cc
+
+import_fine : (row : ℕ) (i : Imm) (code : Import) → import_at row i ≡ Some code → IsImport info (record { row = row; imm = i }) code
+import_fine row (imm.Index zero) code x = go (row == 1) refl x
+  where
+    go : (b : Bool) → (row == 1) ≡ b → (if b then Some (catching (call 1)) else None) ≡ Some code → IsImport info (record { row = row; imm = imm.Index 0 }) code
+    go true k x =
+        let is : catching (call 1) ≡ code = cc in
+        subst (λ (c : Import). IsImport info (record { row = row; imm = imm.Index 0 }) c) is
+        (subst (λ n. IsImport info (record { row = n; imm = imm.Index 0 }) (catching (call 1))) (sym (eqb-true row 1 k))
+        (catching_fine info (call 0) (call 1) catches))
+    go false k x = absurd cc
+import_fine row i code x = absurd cc
+
+imports_fine : AreImports info imports
+imports_fine i code x = import_fine i.row i.imm code x
+
+host_is_sound : (others : Embedder) → IsSoundEmbedder info others → IsSoundEmbedder info (hosting info imports others)
+host_is_sound others h = hosting_sound info imports others h imports_fine

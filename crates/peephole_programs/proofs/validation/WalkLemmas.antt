@@ -1,0 +1,188 @@
+-- What stands before each piece of a valid body: labels, frames and the values on the stack.
+use Rattle.std.proofs.Common.{◌≡◌, ℕ, suc, ◌<◌, ◌≤◌, ◌⊎◌, inl, inr, true, List, [], ◌∷◌, ◌++◌, length, Option, Some, None, refl, sym, ap, ◌∙◌, subst, arith, append_assoc}
+use Rattle.std.specs.Prelude.{◌&&◌, ⊤, slice_get}
+use Rattle.std.specs.List.{All}
+use Rattle.std.proofs.lemmas.Bool.{and_parts}
+use Rattle.std.proofs.lemmas.List.{take_at, drop_at}
+use Rattle.std.proofs.lemmas.List.Elements.{All-take, All-drop}
+use Rattle.wasm_code.specs.Instruction.{Instruction}
+use Rattle.wasm_code.specs.declared.immediate.BlockType.{BlockType}
+use Rattle.wasm_code.specs.declared.operator.Operator.{Operator}
+use Rattle.wasm_code.specs.declared.operator.Operator.TheVariants as op
+use Rattle.mutate_base.specs.Module.{Module}
+use Rattle.mutate_base.specs.declared.types.PrimitiveTypeInfo.{PrimitiveTypeInfo}
+use Rattle.peephole_machine.specs.Values.{Value, IsValue, types, Context, State, HasTypes, Ends, Traps, Stuck}
+use Rattle.peephole_machine.specs.OutcomeLemmas.{length_types}
+use Rattle.peephole_machine.specs.RowLemmas.{map_some}
+use Rattle.peephole_programs.specs.control.Function.{Label, Reached, At, Done}
+use Rattle.peephole_programs.specs.control.Standard.{Arity, arity_of, Beyond, end_of, leave, by_operator}
+use Rattle.peephole_programs.specs.validation.Algorithm.{Frame, on_innermost}
+use Rattle.peephole_programs.specs.validation.StandardSteps.{pop, push, opened_by, open_frame, types_by, can_close, leaves_alike, close_frame, by_step, standard_steps}
+use Rattle.peephole_programs.specs.validation.Sound.{HasValues, HasTargets, HasDeeds}
+use Rattle.peephole_programs.proofs.validation.PoppedLemmas.{push_values, last_is}
+use Rattle.peephole_programs.proofs.validation.RunChecks.{if_some}
+use Rattle.peephole_programs.proofs.validation.TraceLemmas.{Trace}
+use Rattle.peephole_programs.proofs.validation.FrameLemmas.{Like}
+
+-- the outer frames with a block's results
+abbrev pub pushed : List PrimitiveTypeInfo → List Frame → List Frame
+pushed ts [] = []
+pushed ts (g ∷ gs) = push ts g ∷ gs
+
+-- the operator takes its label's values at its end
+abbrev pub Forwards : Option Operator → Type 0
+Forwards o = (f : Frame) → types_by o f ≡ f.ends
+
+pub all_front : (xs ys : List Value) → All IsValue (xs ++ ys) → All IsValue xs
+all_front xs ys a = subst (All IsValue) (take_at xs ys (length xs) refl) (All-take IsValue (length xs) (xs ++ ys) a)
+
+pub all_behind : (xs ys : List Value) → All IsValue (xs ++ ys) → All IsValue ys
+all_behind xs ys a = subst (All IsValue) (drop_at xs ys (length xs) refl) (All-drop IsValue (length xs) (xs ++ ys) a)
+
+pub close_two : (f g : Frame) (gs next : List Frame) → close_frame (f ∷ (g ∷ gs)) ≡ Some next →
+    (next ≡ push f.ends g ∷ gs) × (can_close f ≡ true) × (leaves_alike f.opened (record { starts = f.starts; ends = f.ends }) ≡ true)
+close_two f g gs next e =
+    let alike = leaves_alike f.opened (record { starts = f.starts; ends = f.ends }) in
+    let (a, b) = if_some (can_close f && alike) (Some (push f.ends g ∷ gs)) next e in
+    let both = and_parts (can_close f) alike a in
+    let is : next ≡ push f.ends g ∷ gs = cc in (is, both.0, both.1)
+
+pub open_parts : (o : Operator) (ar : Arity) (g : Frame) (outer next : List Frame) → open_frame o ar (g ∷ outer) ≡ Some next →
+    (h : Frame) × (pop ar.starts g ≡ Some h) × (next ≡ opened_by o ar ∷ (h ∷ outer))
+open_parts o ar g outer next e =
+    let (fs, a, b) = map_some (λ (fs : List Frame). opened_by o ar ∷ fs) (on_innermost (pop ar.starts) (g ∷ outer)) next e in
+    let (h, c, d) = map_some (λ (h : Frame). h ∷ outer) (pop ar.starts g) fs a in
+    (h, c, sym b ∙ ap (λ (fs : List Frame). opened_by o ar ∷ fs) (sym d))
+
+-- a body, the frames before its pieces, and that what its operators don't carry is of their types
+pub record Walk : Type 0 where
+  pub context : Context
+  pub results : List PrimitiveTypeInfo
+  pub structure : List Operator
+  pub pieces : ℕ → List Instruction
+  pub start : List Frame
+  pub beyond : Beyond
+  pub trace : Trace context (standard_steps context.info results structure beyond) pieces (length structure) start []
+  pub targets : HasTargets context.info structure beyond
+  pub deeds : HasDeeds context.info results structure beyond
+
+module _ (walk : Walk) where
+  open walk use {context, results, structure, beyond, trace}
+
+  abbrev m : Module
+  m = context.info
+
+  abbrev ending : ℕ → ℕ
+  ending opener = end_of m results structure opener
+
+  -- ---- labels
+
+  abbrev pub IsLoop : BlockType → Frame → Label → (outer : List Frame) → Type 0
+  IsLoop t f label outer =
+      (slice_get structure label.opener ≡ Some (op.Loop t)) × (f.opened ≡ Some (op.Loop t))
+      × (trace.frames (suc label.opener) ≡ opened_by (op.Loop t) (arity_of m t) ∷ outer)
+
+  abbrev pub IsForward : BlockType → Frame → Label → Type 0
+  IsForward t f label =
+      ((slice_get structure label.opener ≡ Some (op.Block t)) ⊎ (slice_get structure label.opener ≡ Some (op.If t))) × Forwards f.opened
+
+  -- what opened a frame, and the frames where its label leads
+  pub record IsOpen (f : Frame) (label : Label) (outer : List Frame) : Type 0 where
+    pub type : BlockType
+    pub starts : f.starts ≡ (arity_of m type).starts
+    pub ends : f.ends ≡ (arity_of m type).ends
+    pub inside : ending label.opener < length structure
+    pub after : trace.frames (suc (ending label.opener)) ≡ pushed (arity_of m type).ends outer
+    pub kind : IsLoop type f label outer ⊎ IsForward type f label
+
+  pub open_like : {f g : Frame} {label : Label} {outer : List Frame} → Like g f → IsOpen f label outer → IsOpen g label outer
+  open_like {f} {g} {label} {outer} like h = record {
+    type = h.type;
+    starts = like.starts ∙ h.starts;
+    ends = like.ends ∙ h.ends;
+    inside = h.inside;
+    after = h.after;
+    kind = elim h.kind [
+      | inl loop ↦ inl (loop.0, like.opened ∙ loop.1, loop.2)
+      | inr forward ↦ inr (forward.0, subst Forwards (sym like.opened) forward.1)
+    ];
+  }
+
+  -- ---- frames and stacks
+
+  -- The stack has the values of the frames, the labels' heights are those below theirs, and each label leads where its frame ends or begins.
+  abbrev pub Fits : Frame → (outer : List Frame) → List Label → List Value → Type 0
+  Fits f [] [] stack = (f.opened ≡ None) × (f.ends ≡ results) × HasValues f stack
+  Fits f [] (label ∷ labels) stack = ⊥
+  Fits f (g ∷ gs) [] stack = ⊥
+  Fits f (g ∷ gs) (label ∷ labels) stack =
+      (below : List Value) × (vs : List Value) × (stack ≡ below ++ vs) × HasValues f vs × (label.height ≡ length below)
+      × IsOpen f label (g ∷ gs) × Fits g gs labels below
+
+  -- the innermost frame's values, and others in their place
+  pub record Top (f : Frame) (outer : List Frame) (labels : List Label) (stack : List Value) : Type 0 where
+    pub below : List Value
+    pub vs : List Value
+    pub is : stack ≡ below ++ vs
+    pub values : HasValues f vs
+    pub again : (g : Frame) (ws : List Value) → Like g f → HasValues g ws → Fits g outer labels (below ++ ws)
+
+  pub top_of : (f : Frame) (outer : List Frame) (labels : List Label) (stack : List Value) → Fits f outer labels stack → Top f outer labels stack
+  top_of f [] [] stack h = record {
+    below = [];
+    vs = stack;
+    is = refl;
+    values = h.2;
+    again = λ g ws like v. (like.opened ∙ h.0, like.ends ∙ h.1, v);
+  }
+  top_of f [] (label ∷ labels) stack h = absurd h
+  top_of f (g ∷ gs) [] stack h = absurd h
+  top_of f (g ∷ gs) (label ∷ labels) stack h =
+      let (below, vs, is, v, height, opened, outer) = h in
+      record {
+        below = below;
+        vs = vs;
+        is = is;
+        values = v;
+        again = λ d ws like w. (below, ws, refl, w, height, open_like like opened, outer);
+      }
+
+  abbrev pub Stands : Reached → Type 0
+  Stands (At k labels stack s) =
+      (k ≤ length structure) × (f : Frame) × (outer : List Frame) × (trace.frames k ≡ f ∷ outer) × Fits f outer labels stack
+      × All IsValue stack × HasTypes context s
+  Stands (Done (Ends vs s)) = (types vs ≡ results) × All IsValue vs
+  Stands (Done (Traps cause gs r)) = ⊤
+  Stands (Done Stuck) = ⊥
+
+  abbrev pub Next : ℕ → Operator → Type 0
+  Next k o = (g : Frame) (outer : List Frame) (labels : List Label) (stack : List Value) (s : State) → Fits g outer labels stack →
+      by_step m results beyond (Some o) k (g ∷ outer) ≡ Some (trace.frames (suc k)) → All IsValue stack → HasTypes context s →
+      Stands (by_operator m results structure beyond (Some o) k labels stack s)
+
+  -- ---- the end of the function, and of a block
+
+  -- out of the function, with its results on top
+  pub leave_stands : (below ws : List Value) (s : State) → types ws ≡ results → All IsValue ws → Stands (leave m results structure (below ++ ws) s)
+  leave_stands below ws s w a =
+      let n : length results ≡ length ws = sym (ap length w) ∙ length_types ws in
+      subst (λ (vs : List Value). (types vs ≡ results) × All IsValue vs) (sym (last_is below ws (length results) n)) (w, a)
+
+  -- behind the end of a block with its results on top
+  pub ends_stand : (t : BlockType) (f : Frame) (outer : List Frame) (label : Label) (labels : List Label) (below ws : List Value) (s : State) →
+      (opened : IsOpen f label outer) → t ≡ opened.type → types ws ≡ (arity_of m t).ends → (g : Frame) (gs : List Frame) → outer ≡ g ∷ gs →
+      Fits g gs labels below → All IsValue (below ++ ws) → HasTypes context s → Stands (At (suc (ending label.opener)) labels (below ++ ws) s)
+  ends_stand t f outer label labels below ws s h e w g gs is fits a typed =
+      let top = top_of g gs labels below fits in
+      let ts = (arity_of m h.type).ends in
+      let same : below ++ ws ≡ top.below ++ (top.vs ++ ws) = ap (λ (x : List Value). x ++ ws) top.is ∙ append_assoc top.below top.vs ws in
+      let l = h.inside in (
+        omega arith,
+        push ts g,
+        gs,
+        h.after ∙ ap (pushed ts) is,
+        subst (Fits (push ts g) gs labels) (sym same) (top.again (push ts g) (top.vs ++ ws) (record { opened = refl; starts = refl; ends = refl })
+            (push_values ts g top.vs ws top.values (w ∙ ap (λ (x : BlockType). (arity_of m x).ends) e))),
+        a,
+        typed,
+      )

@@ -1,0 +1,3 @@
+-- Modules as their functions, and when one does what another does.
+pub mod Program
+pub mod Running
