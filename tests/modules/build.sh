@@ -1,9 +1,12 @@
 #!/usr/bin/env bash
-# Compiles each module here from its source, and makes the answers of its calls anew: gcc compiles the same source for this
-# machine, and a driver makes the calls of NAME.calls one after another. A call that divides by zero, whose quotient is too large
-# or that reaches a trap of its own has the answer `trap`. A module that is written by hand, NAME.wat, has a twin in C for its
-# answers. Fails where wabt's interpreter gives other answers. The files under version control are those of clang and lld 14.0.6,
-# gcc 12.2.0 and wabt 1.0.32 (Debian 12) on x86-64.
+# Compiles each module here from its source, or those that are named, and makes the answers of its calls anew: gcc compiles the same
+# source for this machine, and a driver makes the calls of NAME.calls one after another. A call that divides by zero, whose quotient is
+# too large or that reaches a trap of its own has the answer `trap`. A module that is written by hand, NAME.wat, or in bytes, NAME.bytes,
+# has a twin in C for its answers; one in the folder newer that no engine here runs has no calls. Fails where wabt's interpreter, or node
+# for those in newer, gives other answers. The files under version control are those of clang and lld 14.0.6, gcc 12.2.0, wabt 1.0.32
+# (Debian 12) and node 20 on x86-64, without binaryen: where there is a wasm-opt, clang hands it what it compiled.
+#
+# Usage: build.sh [NAME..]
 set -euo pipefail
 cd "$(dirname "$0")"
 source ./calls.sh
@@ -25,9 +28,16 @@ shapes_plain: -O0 -Wl,--strip-all
 outside:
 shared:
 patterns:
+newer/tails:
+newer/throwing:
+newer/atomics:
+newer/references:
+newer/collected:
+newer/handlers:
 "
 
 work=$(mktemp -d)
+mkdir "$work/newer"
 trap 'rm -rf "$work"' EXIT
 
 # A program that makes the calls of a module and prints each with its answer.
@@ -73,25 +83,47 @@ END
     echo "}"
 }
 
+# Prints the answers of the engine to the calls of a module, which is module.wasm in the working folder.
+engine_answers() {
+    case $1 in
+        newer/*)
+            answers_by_node "$1" "$work/module.wasm"
+            cat "$work/module.wasm.answers"
+            ;;
+        *)
+            commands_of "$1.calls" > "$work/calls.json"
+            answers_of "$work"
+            ;;
+    esac
+}
+
 while IFS=: read -r name flags; do
-    if [ -z "$name" ]; then continue; fi
+    if [ -z "$name" ] || { [ -n "$*" ] && [[ " $* " != *" $name "* ]]; }; then continue; fi
     source=$(source_of "$name")
     if [ -e "$name.wat" ]; then
-        wat2wasm --enable-threads --debug-names "$name.wat" -o "$work/$name.wasm"
+        # shellcheck disable=SC2086
+        wat2wasm $newer_features --debug-names "$name.wat" -o "$work/$name.wasm"
+    elif [ -e "$name.bytes" ]; then
+        ./newer.py assemble "$name.bytes" "$work/$name.wasm"
     else
         # shellcheck disable=SC2086
         clang $common $flags -o "$work/$name.wasm" "$source.c"
     fi
     chmod 644 "$work/$name.wasm"
+    if [ ! -e "$source.calls" ]; then
+        mv "$work/$name.wasm" "$name.wasm"
+        echo "$name: $(stat -c %s "$name.wasm") bytes, no calls"
+        continue
+    fi
     driver "$source" > "$work/$source.driver.c"
     gcc -std=gnu11 -O0 -w -o "$work/$source" "$work/$source.driver.c" -lm
     { grep '^#' "$source.calls"; "$work/$source"; } > "$work/$source.calls"
     cp "$work/$name.wasm" "$work/module.wasm"
-    commands_of "$source.calls" > "$work/calls.json"
-    if ! diff <(grep -v '^#' "$work/$source.calls") <(answers_of "$work"); then
-        echo "$name: the interpreter answers otherwise" >&2
+    cp "$work/$name.wasm" "$name.wasm"
+    if ! diff <(grep -v '^#' "$work/$source.calls") <(engine_answers "$source"); then
+        echo "$name: the engine answers otherwise" >&2
         exit 1
     fi
-    mv "$work/$name.wasm" "$work/$source.calls" .
+    mv "$work/$source.calls" "$source.calls"
     echo "$name: $(stat -c %s "$name.wasm") bytes, $(grep -vc '^[#!]' "$source.calls") calls"
 done <<< "$modules"

@@ -1,4 +1,4 @@
-# Functions that make the calls of a list on a module, for build.sh here and for tests/modules.sh; it is read by `source`.
+# Functions that make the calls of a list on a module, for build.sh here and for tests/modules.sh; it is read by `source` in bash.
 #
 # A list has a line for each call with its answer, as `greatest_divisor i32:12 i32:18 => i32:6`, in the order in which they are made
 # on one instance; numbers are without a sign, and the answer is `trap` where the call traps. A line `! print_i32 i32:5` before it
@@ -44,4 +44,28 @@ answers_of() {
         :found
         s/, / /g; s/  =>/ =>/; s/=> error:.*/=> trap/; p
     '
+}
+
+modules_here=$(cd "$(dirname "${BASH_SOURCE[0]}")" && pwd)
+
+# What wabt has to be told of the modules in the folder newer.
+newer_features="--enable-threads --enable-tail-call --enable-exceptions"
+
+# Whether node takes a module.
+node_takes() {
+    node -e 'new WebAssembly.Module(require("fs").readFileSync(process.argv[1]))' "$1" 2> /dev/null
+}
+
+# Makes the calls of the module NAME on each of these modules, by node, and writes them with their answers to MODULE.answers, in the form
+# of a list without comments. Where NAME is made of bytes, and node doesn't take it, the modules are run in older codes (newer.py).
+answers_by_node() {
+    local name=$1 module
+    shift
+    if [ ! -e "$modules_here/$name.bytes" ] || node_takes "$modules_here/$name.wasm"; then
+        node "$modules_here/calls.mjs" "$modules_here/$name.calls" "$@"
+        return
+    fi
+    "$modules_here/newer.py" older "$@"
+    node --experimental-wasm-gc --experimental-wasm-typed-funcref "$modules_here/calls.mjs" "$modules_here/$name.calls" "${@/%/.older}"
+    for module in "$@"; do mv "$module.older.answers" "$module.answers"; done
 }

@@ -1,5 +1,4 @@
-;; A memory that is shared, and atomic operators (the threads proposal): functions with such operators are left alone, and the
-;; others are rewritten. shared.c is the same in C, and makes the answers.
+;; A memory that is shared, and atomic operators (the threads proposal). shared.c is the same in C, and makes the answers.
 (module
   (memory 1 2 shared)
 
