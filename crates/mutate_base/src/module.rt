@@ -22,6 +22,9 @@ pub struct ModuleInfo<'a> {
     pub memory_types: Vec<MemoryType>,
     /// Whether what runs it does what the standard says on the exact rows, on floats, vectors and memories.
     pub exact: bool,
+    /// Whether its references all have one type, `Empty`, whatever they refer to, as in modules that are read from bytes: so that
+    /// a value of a subtype stands wherever one of the type may.
+    pub one_reference: bool,
 }
 
 impl<'a> Model for ModuleInfo<'a> {
@@ -37,6 +40,7 @@ impl<'a> Model for ModuleInfo<'a> {
       tables = m.table_types.items;
       memories = m.memory_types.items;
       exact = m.exact;
+      one_reference = m.one_reference;
     } };
 }
 
@@ -53,6 +57,7 @@ impl<'a> ModuleInfo<'a> {
             table_types: Vec::new(alloc),
             memory_types: Vec::new(alloc),
             exact: false,
+            one_reference: false,
         }
     }
 
@@ -86,6 +91,7 @@ impl<'a> Clone for ModuleInfo<'a> {
             table_types: self.table_types.clone()?,
             memory_types: self.memory_types.clone()?,
             exact: self.exact,
+            one_reference: self.one_reference,
         })
     }
 }

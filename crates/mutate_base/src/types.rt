@@ -5,8 +5,8 @@ ghost use Rattle.mutate_base.specs.declared.types.PrimitiveTypeInfo.{PrimitiveTy
 use std::alloc::AllocError;
 use std::marker::Model;
 
-/// A value type, or `Empty` for no value. In what is read of a module `Empty` stands for each type that isn't among these: a value of
-/// such a type is passed on, and nothing but another of these accepts it.
+/// A value type, or `Empty` for no value. In what is read of a module `Empty` is the type of every reference, whatever it refers to:
+/// such a value is passed on, and nothing but what takes a reference accepts it.
 #[derive(Clone, Copy, Debug, PartialEq, Eq)]
 pub enum PrimitiveTypeInfo {
     I32,

@@ -13,6 +13,8 @@ use Rattle.wasm_code.specs.declared.table.ResultKind.TheVariants as by
 use Rattle.wasm_code.specs.declared.table.Row.{Row}
 use Rattle.mutate_base.specs.declared.types.PrimitiveTypeInfo.{PrimitiveTypeInfo}
 use Rattle.mutate_base.specs.declared.types.PrimitiveTypeInfo.TheVariants as primitive
+use Rattle.mutate_base.specs.Module.{merged}
+use Rattle.peephole_machine.specs.declared.integer.IntegerType.TheVariants as integer
 use Rattle.peephole_machine.specs.OtherRow.{value_type, Named, names_in, OtherType, operands_in, column_by, results_by, type_by_row, other_type}
 use Rattle.peephole_machine.specs.Values.{IntegerType, type_of, same_type, same_types, accept, results_on, Context, Variable, local, global}
 use Rattle.peephole_machine.specs.Integer.{IntegerOperator}
@@ -106,6 +108,14 @@ index_is (Fd k) n = tt
 one_type : {list : List PrimitiveTypeInfo} (t u : PrimitiveTypeInfo) → same_type t u ≡ true → t ∷ [] ≡ list → Some (u ∷ []) ≡ Some list
 one_type t u e h = ap (λ v. Some (v ∷ [])) (sym (same_type_is t u e)) ∙ ap Some h
 
+-- an integer type is no reference
+merged_integer : (b : Bool) (t : IntegerType) → merged b (type_of t) ≡ type_of t
+merged_integer b integer.I32 = refl
+merged_integer b integer.I64 = refl
+
+stays_integer : (b : Bool) (t : IntegerType) (u : PrimitiveTypeInfo) → same_type (type_of t) u ≡ true → u ≡ merged b u
+stays_integer b t u e = let is = same_type_is (type_of t) u e in subst (λ v. v ≡ merged b v) is (sym (merged_integer b t))
+
 module _ (context : Context) where
   get_leaves : (x : Variable) (ts list : List PrimitiveTypeInfo) → row_types context (get x) ts ≡ Some list →
       option_map (λ t. t ∷ []) (variable_type context x) ≡ Some list
@@ -147,13 +157,16 @@ module _ (context : Context) where
   nop_leaves (t ∷ ts) list e = absurd cc
 
   constant_leaves : (t : IntegerType) (n : ℕ) (u : PrimitiveTypeInfo) (ts list : List PrimitiveTypeInfo) → same_type (type_of t) u ≡ true →
-      row_types context (constant t n) ts ≡ Some list → Some (u ∷ []) ≡ Some list
-  constant_leaves t n u [] list h e = one_type (type_of t) u h (cc)
+      row_types context (constant t n) ts ≡ Some list → Some (merged context.info.one_reference u ∷ []) ≡ Some list
+  constant_leaves t n u [] list h e =
+      ap (λ v. Some (v ∷ [])) (sym (stays_integer context.info.one_reference t u h)) ∙ one_type (type_of t) u h (cc)
   constant_leaves t n u (v ∷ ts) list h e = absurd cc
 
   operation_leaves : (f : IntegerOperator) (u : PrimitiveTypeInfo) (ts list : List PrimitiveTypeInfo) → same_type (type_of f.result) u ≡ true →
-      row_types context (operation f) ts ≡ Some list → Some (u ∷ []) ≡ Some list
-  operation_leaves f u ts list h e = one_type (type_of f.result) u h (some_if (same_types ts f.operands) (type_of f.result ∷ []) list e).1
+      row_types context (operation f) ts ≡ Some list → Some (merged context.info.one_reference u ∷ []) ≡ Some list
+  operation_leaves f u ts list h e =
+      ap (λ v. Some (v ∷ [])) (sym (stays_integer context.info.one_reference f.result u h)) ∙
+      one_type (type_of f.result) u h (some_if (same_types ts f.operands) (type_of f.result ∷ []) list e).1
 
   integer_leaves : (row : IntegerRow) (kind : ResultKind) (i : Imm) (o : Opcode) (ts list : List PrimitiveTypeInfo) →
       opcode_row (Some o) i ≡ Some row → fits_column row kind i ≡ true → row_types context row ts ≡ Some list →

@@ -15,7 +15,7 @@ use Rattle.wasm_code.specs.declared.table.Opcode.TheVariants.{Byte, Fc, Fd}
 use Rattle.wasm_code.specs.declared.table.ResultKind.{ResultKind}
 use Rattle.wasm_code.specs.declared.table.ResultKind.TheVariants as by
 use Rattle.wasm_code.specs.declared.table.Row.{Row}
-use Rattle.mutate_base.specs.Module.{Module}
+use Rattle.mutate_base.specs.Module.{Module, merged}
 use Rattle.mutate_base.specs.declared.types.ElementType.{ElementType}
 use Rattle.mutate_base.specs.declared.types.ElementType.TheVariants as elements
 use Rattle.mutate_base.specs.declared.types.PrimitiveTypeInfo.{PrimitiveTypeInfo}
@@ -77,7 +77,7 @@ named_type (imm.Val t) = Some (value_type t)
 named_type _ = None
 
 -- What an immediate names, where it is there: the address types of a memory and a table and the table's element type, those of a second memory or
--- table, a function's type, and a type.
+-- table, a function's type, and a type; and whether all references have one.
 pub record Named : Type 0 where
   pub address : Option PrimitiveTypeInfo
   pub index : Option PrimitiveTypeInfo
@@ -86,6 +86,7 @@ pub record Named : Type 0 where
   pub other_index : Option PrimitiveTypeInfo
   pub function : Option TypeInfo
   pub type : Option PrimitiveTypeInfo
+  pub one_reference : Bool
 
 -- the type of addresses in the memory with the index; none where there is no such memory
 abbrev pub address_in : List MemoryType → ℕ → Option PrimitiveTypeInfo
@@ -104,7 +105,8 @@ names_in m i = record {
   other_address = address_in m.memories (second_index i);
   other_index = index_in m.tables (second_index i);
   function = option_and_then (slice_get m.types) (slice_get m.functions (first_index i));
-  type = named_type i;
+  type = option_map (merged m.one_reference) (named_type i);
+  one_reference = m.one_reference;
 }
 
 -- ---- operands
@@ -274,7 +276,7 @@ returned (Some Other) = None
 -- the result types; not there where the module lacks what is named, nor where a variable or an operand decides
 abbrev pub results_by : Named → ResultKind → Option (List PrimitiveTypeInfo)
 results_by n by.Nothing = Some []
-results_by n (by.Fixed t) = Some (value_type t ∷ [])
+results_by n (by.Fixed t) = Some (merged n.one_reference (value_type t) ∷ [])
 results_by n by.Call = returned n.function
 results_by n by.Memory = option_map (λ t. t ∷ []) n.address
 results_by n by.Table = option_map (λ t. t ∷ []) n.index

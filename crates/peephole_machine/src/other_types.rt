@@ -1,6 +1,7 @@
 //! What the instructions take and give that are no integer rows.
 ghost use Rattle.std.specs.Prelude.{◌≡◌, Some, option_map, option_and_then, option_copied};
 ghost use Rattle.wasm_code.specs.Table.{row_at};
+ghost use Rattle.mutate_base.specs.Module.{merged};
 ghost use Rattle.peephole_machine.specs.declared.operand.OperandColumn.{OperandColumn};
 ghost use Rattle.peephole_machine.specs.declared.operand.OperandColumn.TheVariants as column;
 ghost use Rattle.peephole_machine.specs.OtherRow.{address_in, address_type, column_in, element_type, first_index, index_in, named_type, names_in, operand_by, operands_in, parameters, reference_type, results_by, returned, second_index, smaller, typed, value_type};
@@ -103,12 +104,23 @@ fn second_index(imm: Imm) -> u32
     }
 }
 
-fn named_type(imm: Imm) -> Option<PrimitiveTypeInfo>
-    ensures { result ≡ named_type imm }
+// The type as the module has it: `Empty` for each reference where it has one type of them.
+fn merged(one_reference: bool, t: PrimitiveTypeInfo) -> PrimitiveTypeInfo
+    ensures { result ≡ merged one_reference t }
+{
+    match t {
+        PrimitiveTypeInfo::FuncRef if one_reference => PrimitiveTypeInfo::Empty,
+        PrimitiveTypeInfo::ExternRef if one_reference => PrimitiveTypeInfo::Empty,
+        _ => t,
+    }
+}
+
+fn named_type(info: &ModuleInfo<'_>, imm: Imm) -> Option<PrimitiveTypeInfo>
+    ensures { result ≡ option_map (merged info.now.one_reference) (named_type imm) }
 {
     match imm {
-        Imm::Heap(heap) => Some(reference_type(heap)),
-        Imm::Val(t) => Some(value_type(t)),
+        Imm::Heap(heap) => Some(merged(info.one_reference, reference_type(heap))),
+        Imm::Val(t) => Some(merged(info.one_reference, value_type(t))),
         _ => None,
     }
 }
@@ -167,7 +179,7 @@ fn accepts(info: &ModuleInfo<'_>, imm: Imm, kind: OperandKind, t: PrimitiveTypeI
             is_that(smaller(first, second), t)
         }
         OperandKind::Element => is_that(element_in(&info.table_types, first_index(imm)), t),
-        OperandKind::Named => is_that(named_type(imm), t),
+        OperandKind::Named => is_that(named_type(info, imm), t),
     }
 }
 
@@ -293,12 +305,12 @@ pub(crate) fn results(
 {
     match column {
         ResultKind::Nothing => Some(None),
-        ResultKind::Fixed(t) => Some(Some(value_type(t))),
+        ResultKind::Fixed(t) => Some(Some(merged(info.one_reference, value_type(t)))),
         ResultKind::Call => returned(info.get_functype_idx(first_index(imm))),
         ResultKind::Memory => one_type(address_in(&info.memory_types, first_index(imm))),
         ResultKind::Table => one_type(index_in(&info.table_types, first_index(imm))),
         ResultKind::Element => one_type(element_in(&info.table_types, first_index(imm))),
-        ResultKind::Immediate => one_type(named_type(imm)),
+        ResultKind::Immediate => one_type(named_type(info, imm)),
         _ => None,
     }
 }

@@ -1,5 +1,5 @@
 -- One code entry of a module rewritten.
-use Rattle.std.proofs.Common.{◌≡◌, ℕ, ◌-◌, ◌≤◌, inl, List, [], ◌∷◌, ◌++◌, length, drop, map, Option, Some, None, Result, Ok, Err, sym, ap, subst, ◌∙◌, arith, refl}
+use Rattle.std.proofs.Common.{◌≡◌, ℕ, ◌-◌, ◌≤◌, true, inl, List, [], ◌∷◌, ◌++◌, length, drop, map, Option, Some, None, Result, Ok, Err, sym, ap, subst, ◌∙◌, arith, refl}
 use Rattle.std.specs.Prelude.{◌≢◌, IfOk, IfErr, IfNone, IfSome, option_map, slice_get, slice_range}
 use Rattle.std.specs.List.{All, Contains}
 use Rattle.std.proofs.lemmas.List.{length-append, length-take, length-drop}
@@ -7,7 +7,7 @@ use Rattle.std.proofs.lemmas.List.Elements.{All-nil, All-cons, All-contains}
 use Rattle.std.proofs.lemmas.Option.{same_Some}
 use Rattle.wasm_code.specs.Body.{SpellsCode}
 use Rattle.wasm_code.specs.declared.operator.Operator.{Operator}
-use Rattle.mutate_base.specs.Module.{Module}
+use Rattle.mutate_base.specs.Module.{Module, merged}
 use Rattle.mutate_base.specs.declared.error.Error.{Error}
 use Rattle.mutate_base.specs.declared.types.PrimitiveTypeInfo.{PrimitiveTypeInfo}
 use Rattle.mutate_base.specs.declared.types.PrimitiveTypeInfo.TheVariants.{Empty}
@@ -173,6 +173,14 @@ all_types : (ks : List NumberType) → All (λ (t : PrimitiveTypeInfo). t ≢ Em
 all_types [] = All-nil (λ (t : PrimitiveTypeInfo). t ≢ Empty)
 all_types (k ∷ ks) = All-cons (λ (t : PrimitiveTypeInfo). t ≢ Empty) (primitive_of k) (map primitive_of ks) (some_type k) (all_types ks)
 
+-- no number is a reference
+stay_plain : (ks : List NumberType) → map (merged true) (map primitive_of ks) ≡ map primitive_of ks
+stay_plain [] = refl
+stay_plain (number.I32 ∷ ks) = ap (λ (ts : Types). primitive_of number.I32 ∷ ts) (stay_plain ks)
+stay_plain (number.I64 ∷ ks) = ap (λ (ts : Types). primitive_of number.I64 ∷ ts) (stay_plain ks)
+stay_plain (number.F32 ∷ ks) = ap (λ (ts : Types). primitive_of number.F32 ∷ ts) (stay_plain ks)
+stay_plain (number.F64 ∷ ks) = ap (λ (ts : Types). primitive_of number.F64 ∷ ts) (stay_plain ks)
+
 pub requested_are : {locals : Types} {s : Setting} {input : List ℕ} {operators : Operators} {r : Rewrite} {old new : List ℕ}
     {requests : List ResourceRequest} {left : Option Setting} (w : AppendsRewritten locals s input operators r old new requests left) →
     map requested requests ≡ map primitive_of (requests_of w.term)
@@ -183,8 +191,13 @@ all_requested : {locals : Types} {s : Setting} {input : List ℕ} {operators : O
     All (λ (t : PrimitiveTypeInfo). t ≢ Empty) (map requested requests)
 all_requested w = subst (All (λ (t : PrimitiveTypeInfo). t ≢ Empty)) (sym (requested_are w)) (all_types (requests_of w.term))
 
-pub mutates : OwnBytesStay → RewrittenBytesAreAModule → (rules : List Rule) (bytes : List ℕ) (info : Module) (layout : Layout) (n : ℕ) (locals lent : Types) (expression : ℕ)
-    (operators given : Operators) (entry : Entry) (rewrite : Rewrite) (old body : List ℕ) (requests : List ResourceRequest)
+plain_requested : {locals : Types} {s : Setting} {input : List ℕ} {operators : Operators} {r : Rewrite} {old new : List ℕ}
+    {requests : List ResourceRequest} {left : Option Setting} (w : AppendsRewritten locals s input operators r old new requests left) →
+    map (merged true) (map requested requests) ≡ map requested requests
+plain_requested w = subst (λ (ts : Types). map (merged true) ts ≡ ts) (sym (requested_are w)) (stay_plain (requests_of w.term))
+
+pub mutates : OwnBytesStay → RewrittenBytesAreAModule → (rules : List Rule) (bytes : List ℕ) (info : Module) (layout : Layout) (n : ℕ) (locals lent : Types)
+    (expression : ℕ) (operators given : Operators) (entry : Entry) (rewrite : Rewrite) (old body : List ℕ) (requests : List ResourceRequest)
     (left : Option Setting) (front written : List ℕ) (globals : Types) (new : List ℕ) → IsModule bytes info layout →
     IsFunction bytes info layout n locals expression operators → lent ≡ locals → given ≡ operators → old ≡ [] →
     AppendsChosen lent info rules bytes given rewrite old body requests left → slice_get layout.entries n ≡ Some entry →
@@ -218,7 +231,7 @@ mutates stay law rules bytes info layout n locals lent expression operators give
       left = left;
       rewritten = appends;
       written = is;
-      again = read_again stay f body w.written.reads.again (map requested requests) new spells structure
+      again = read_again stay f body w.written.reads.again (map requested requests) new spells structure (plain_requested w)
           (law bytes info layout n (slice_range bytes f.entry.contents expression ++ body) (map requested requests) new known is
           f.is.indices.imports f.is.indices.globals (all_requested w));
     }

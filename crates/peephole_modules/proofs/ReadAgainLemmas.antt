@@ -1,15 +1,15 @@
 -- A function is read again where its entry contains the same, and the rewritten one where its body was.
-use Rattle.std.proofs.Common.{◌≡◌, ℕ, zero, suc, ◌≤◌, Bool, ◌+◌, ◌-◌, List, [], ◌∷◌, ◌++◌, length, take, drop, Some, refl, sym, ap, ap₂, subst, ◌∙◌, arith}
-use Rattle.std.specs.Prelude.{◌≢◌, IsTrue, slice_get, slice_range}
+use Rattle.std.proofs.Common.{◌≡◌, ℕ, zero, suc, ◌≤◌, Bool, true, ◌+◌, ◌-◌, List, [], ◌∷◌, ◌++◌, length, take, drop, Some, refl, sym, ap, ap₂, subst, ◌∙◌, arith}
+use Rattle.std.specs.Prelude.{◌≢◌, IsTrue, map, slice_get, slice_range}
 use Rattle.std.proofs.lemmas.List.{drop-drop, take_all, take-append-drop, take-take, take_at, drop_at, length-append, length-take}
 use Rattle.std.proofs.lemmas.Option.{same_Some}
 use Rattle.wasm_code.specs.Body.{SpellsAll, SpellsCode, ends, is_end}
 use Rattle.wasm_code.specs.declared.operator.Operator.{Operator}
-use Rattle.mutate_base.specs.Module.{Module}
+use Rattle.mutate_base.specs.Module.{Module, merged}
 use Rattle.mutate_base.specs.declared.types.PrimitiveTypeInfo.{PrimitiveTypeInfo}
 use Rattle.wasm_declarations.specs.declared.entries.Entry.{Entry}
 use Rattle.wasm_declarations.specs.Locals.{SpellsLocals}
-use Rattle.wasm_module.specs.Module.{Layout}
+use Rattle.wasm_module.specs.Module.{IsModule, Layout}
 use Rattle.wasm_module.specs.declared.unknown.Unknown.{Unknown}
 use Rattle.wasm_module.specs.Reread.{HasContents, IsReread}
 use Rattle.peephole_programs.specs.control.Wider.{wider_module}
@@ -241,12 +241,14 @@ module _ {bytes : List ℕ} {info : Module} {layout : Layout} {n : ℕ} {content
       function_moved new other r.again bytes info layout k locals operators (indices_again r.again layout (sym r.unknown) h.is.is.indices)
       (sym (same_parameters k)) h (contents_back k differ h.is.entry h.is.is.at)
 
-  others_have : OwnBytesStay → (k : ℕ) (texts : List (Operator × List ℕ)) → k ≢ n → HasStructure bytes info layout k texts → HasStructure new other r.again k texts
+  others_have : OwnBytesStay → (k : ℕ) (texts : List (Operator × List ℕ)) → k ≢ n → HasStructure bytes info layout k texts →
+      HasStructure new other r.again k texts
   others_have stay k texts differ h =
       structure_moved stay bytes info layout new other r.again k texts (indices_again layout r.again r.unknown h.is.is.indices) (same_parameters k) h
       (r.others k h.is.entry differ h.is.is.at)
 
-  others_had : OwnBytesStay → (k : ℕ) (texts : List (Operator × List ℕ)) → k ≢ n → HasStructure new other r.again k texts → HasStructure bytes info layout k texts
+  others_had : OwnBytesStay → (k : ℕ) (texts : List (Operator × List ℕ)) → k ≢ n → HasStructure new other r.again k texts →
+      HasStructure bytes info layout k texts
   others_had stay k texts differ h =
       structure_moved stay new other r.again bytes info layout k texts (indices_again r.again layout (sym r.unknown) h.is.is.indices)
       (sym (same_parameters k)) h (contents_back k differ h.is.entry h.is.is.at)
@@ -255,20 +257,21 @@ module _ {bytes : List ℕ} {info : Module} {layout : Layout} {n : ℕ} {content
 pub read_again : OwnBytesStay → {bytes : List ℕ} {info : Module} {layout : Layout} {n : ℕ} {locals : List PrimitiveTypeInfo} {expression : ℕ}
     {operators : List (Operator × ℕ)} (f : IsFunction bytes info layout n locals expression operators) (body : List ℕ) (written : List (Operator × ℕ))
     (more : List PrimitiveTypeInfo) (new : List ℕ) → SpellsCode 0 body written →
-    structural_bytes (own_bytes body written) ≡ structural_bytes (own_bytes bytes operators) →
+    structural_bytes (own_bytes body written) ≡ structural_bytes (own_bytes bytes operators) → map (merged true) more ≡ more →
     IsReread bytes info layout n (slice_range bytes f.entry.contents expression ++ body) more new →
     IsReadAgain bytes info layout n locals (without_offsets written) more new
-read_again stay {bytes} {info} {layout} {n} {locals} {expression} {operators} f body written more new spells structure r =
+read_again stay {bytes} {info} {layout} {n} {locals} {expression} {operators} f body written more new spells structure plain r =
     let other = wider_module new more info in
     let s = f.locals_are in
-    let front : slice_range bytes f.entry.contents expression ≡ s.front = front_text bytes s.front s.back f.entry.contents f.entry.end expression s.parts s.at in
+    let front : slice_range bytes f.entry.contents expression ≡ s.front =
+    front_text bytes s.front s.back f.entry.contents f.entry.end expression s.parts s.at in
     let there = placed new other r.again n r.entry.entry f.params locals f.entry.contents 0 (slice_range bytes f.entry.contents f.entry.end) body written
     expression s (indices_again layout r.again r.unknown f.is.indices) r.entry.at (same_parameters r n ∙ f.is.parameters)
     (sym r.entry.text_is ∙ ap (λ (x : List ℕ). x ++ body) front) spells in
     let whole : slice_range body 0 (length body) ≡ body = take_all (length body - 0) body (omega arith) in
     record {
       again = r.again;
-      is = r.is;
+      is = subst (λ (gs : List PrimitiveTypeInfo). IsModule new (record info { input = new; globals = info.globals ++ gs }) r.again) plain r.is;
       imported = r.imported;
       count = r.count;
       function = there.function;

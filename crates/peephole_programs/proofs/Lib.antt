@@ -1,3 +1,4 @@
+pub mod ExamplePieces
 pub mod control
 pub mod validation
 pub mod modules

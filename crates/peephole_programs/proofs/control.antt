@@ -7,4 +7,6 @@ pub mod AloneLemmas
 pub mod PieceLemmas
 pub mod WiderLemmas
 pub mod FineLemmas
+pub mod ThrownLemmas
+pub mod CalledLemmas
 pub mod StandardLemmas

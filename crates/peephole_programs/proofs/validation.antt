@@ -10,8 +10,10 @@ pub mod WalkLemmas
 pub mod ConditionLemmas
 pub mod BranchLemmas
 pub mod BlockLemmas
+pub mod ThrowLemmas
 pub mod CallLemmas
 pub mod OtherLemmas
 pub mod ProgressLemmas
 pub mod ValidityExamples
 pub mod OtherExamples
+pub mod HandlerExamples

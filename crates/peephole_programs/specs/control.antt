@@ -2,5 +2,6 @@
 pub mod Numbers
 pub mod Function
 pub mod Wider
+pub mod Blocks
 pub mod Standard
 pub mod Laws

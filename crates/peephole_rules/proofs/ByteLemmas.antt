@@ -13,6 +13,7 @@ use Rattle.wasm_code.specs.declared.table.Opcode.TheVariants.{Byte}
 use Rattle.wasm_code.specs.declared.table.ResultKind.{ResultKind}
 use Rattle.wasm_code.specs.declared.table.ResultKind.TheVariants as by
 use Rattle.wasm_code.specs.declared.table.Row.{Row}
+use Rattle.mutate_base.specs.Module.{merged}
 use Rattle.mutate_base.specs.declared.types.PrimitiveTypeInfo.{PrimitiveTypeInfo}
 use Rattle.peephole_machine.specs.declared.integer.IntegerType.TheVariants as integer
 use Rattle.peephole_machine.specs.OtherRow.{value_type, first_index, Named, names_in, OtherType, type_by_row, other_type, changes}
@@ -140,7 +141,7 @@ told_at n i (r ∷ rows) (suc k) row h e = told_at n i rows k row (both h).1 e
 one_result : (context : Context) (i : Imm) (us list : List PrimitiveTypeInfo) (k : ResultKind) → is_one k ≡ true →
     results_in context i us k ≡ Some list → (t : PrimitiveTypeInfo) × (list ≡ t ∷ [])
 one_result context i us list by.Nothing h e = absurd (true≢false (sym h))
-one_result context i us list (by.Fixed t) h e = (value_type t, cc)
+one_result context i us list (by.Fixed t) h e = (merged context.info.one_reference (value_type t), cc)
 one_result context i us list by.Local h e = let (t, a, b) = map_some (λ t. t ∷ []) (slice_get context.locals (first_index i)) list e in (t, sym b)
 one_result context i us list by.Global h e = let (t, a, b) = map_some (λ t. t ∷ []) (slice_get context.info.globals (first_index i)) list e in (t, sym b)
 one_result context i us list by.Call h e = absurd (true≢false (sym h))

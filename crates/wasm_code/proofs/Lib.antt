@@ -7,6 +7,7 @@ pub mod BlockTypeLemmas
 pub mod FormLemmas
 pub mod OperatorLemmas
 pub mod OtherLemmas
+pub mod OverlapLemmas
 pub mod AnyLemmas
 pub mod BodyLemmas
 pub mod CodeNumbers

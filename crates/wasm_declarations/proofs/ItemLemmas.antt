@@ -1,6 +1,7 @@
 -- The items are read exactly.
 use Rattle.std.proofs.Common.{◌≡◌, ℕ, eqb, Bool, true, false, List, [], ◌∷◌, Option, Some, None, Ok, Err, refl}
 use Rattle.mutate_base.specs.declared.types.TypeInfo.TheVariants.{Func, Other}
+use Rattle.mutate_base.specs.declared.types.ElementType.TheVariants as elements
 use Rattle.wasm_code.specs.declared.fault.Cause.{Cause}
 use Rattle.wasm_code.specs.declared.fault.Cause.TheVariants.{Truncated, BadImmediate}
 use Rattle.wasm_code.specs.laws.GrammarLemmas.{Reader, Exact, exact_ends, exact_of, exact_then, exact_choose, exact_code, exact_never, exact_times, exact_at, byte_exact, bytes_exact}
@@ -106,7 +107,7 @@ memory_type_exact = exact_of (λ wide. record { memory64 = wide }) limits_exact
 
 pub table_type_exact : Exact SpellsTableType FailsTableType table_type_at
 unfolding table_type_at
-table_type_exact = exact_then reference_type_exact (λ element. exact_of (λ wide. record { element_type = element; table64 = wide }) limits_exact)
+table_type_exact = exact_then reference_type_exact (λ _. exact_of (λ wide. record { element_type = elements.Other; table64 = wide }) limits_exact)
 
 -- ---- globals and imports
 

@@ -5,7 +5,7 @@ use Rattle.std.proofs.lemmas.Bool.{eqb-true, eq-eqb}
 use Rattle.std.proofs.lemmas.Int.{ints}
 use Rattle.std.proofs.lemmas.List.{length-append, get_or_append_left}
 use Rattle.std.proofs.Math.Nat.{pow-suc}
-use Rattle.mutate_base.specs.declared.types.ElementType.TheVariants.{Other}
+use Rattle.mutate_base.specs.declared.types.PrimitiveTypeInfo.TheVariants.{Empty}
 use Rattle.wasm_code.specs.declared.fault.Cause.{Cause}
 use Rattle.wasm_code.specs.declared.fault.Cause.TheVariants.{Truncated, UnknownOpcode, BadImmediate}
 use Rattle.wasm_code.specs.Grammar.{IsCode, FailsCode}
@@ -15,7 +15,7 @@ use Rattle.wasm_code.specs.laws.GrammarLemmas.{Exact, bind_ok, bind_err, err_is,
 use Rattle.wasm_code.specs.laws.NumberExact.{unsigned_exact}
 use Rattle.wasm_code.specs.laws.ValTypeLemmas.{listed}
 use Rattle.wasm_declarations.specs.First.{IsMark, FailsMark, OneOf}
-use Rattle.wasm_declarations.specs.ValueTypes.{SpellsTypeIndex, FailsTypeIndex, is_abstract, abstract_element, SpellsHeapType, FailsHeapType, SpellsAbstract, FailsAbstract, SpellsReferenceType, FailsReferenceType, is_plain, plain_type, reference, SpellsPrimitive, FailsPrimitive, mutable_code}
+use Rattle.wasm_declarations.specs.ValueTypes.{SpellsTypeIndex, FailsTypeIndex, is_abstract, SpellsHeapType, FailsHeapType, SpellsAbstract, FailsAbstract, SpellsReferenceType, FailsReferenceType, is_plain, plain_type, SpellsPrimitive, FailsPrimitive, mutable_code}
 use Rattle.wasm_declarations.specs.ValueReader.{first_at, mark_of, mark_at, not_below_zero, index_at, heap_type_at, reference_type_at, primitive_at, mutable_of, mutable_at}
 use Rattle.wasm_declarations.proofs.FirstLemmas.{exact_first}
 
@@ -162,25 +162,24 @@ no_index = rw no_number refl
 
 pub heap_type_exact : Exact SpellsHeapType FailsHeapType heap_type_at
 unfolding heap_type_at
-heap_type_exact = exact_first is_abstract (λ b. exact_ends (abstract_element b)) (exact_of (λ _. Other) index_exact) Truncated (rw no_index refl)
+heap_type_exact = exact_first is_abstract (λ _. exact_ends tt) (exact_of (λ _. tt) index_exact) Truncated (rw no_index refl)
 
 -- no byte begins no heap type, and no reference type
 no_heap_type : heap_type_at [] ≡ Err Truncated
 unfolding heap_type_at
 no_heap_type = refl
 
-abstract_exact : Exact SpellsAbstract FailsAbstract (first_at is_abstract (λ b rest. Ok (abstract_element b, rest)) (λ bytes. Err BadImmediate))
-abstract_exact = exact_first is_abstract (λ b. exact_ends (abstract_element b)) exact_never BadImmediate refl
+abstract_exact : Exact SpellsAbstract FailsAbstract (first_at is_abstract (λ _ rest. Ok (tt, rest)) (λ bytes. Err BadImmediate))
+abstract_exact = exact_first is_abstract (λ _. exact_ends tt) exact_never BadImmediate refl
 
 pub reference_type_exact : Exact SpellsReferenceType FailsReferenceType reference_type_at
 unfolding reference_type_at
 reference_type_exact =
     exact_at same (exact_first (λ b. eqb b 0x63) (λ _. heap_type_exact)
-    (exact_first (λ b. eqb b 0x64) (λ _. exact_of (λ _. Other) heap_type_exact) abstract_exact Truncated refl) Truncated refl)
+    (exact_first (λ b. eqb b 0x64) (λ _. heap_type_exact) abstract_exact Truncated refl) Truncated refl)
   where
     same : (bytes : List ℕ) → first_at (λ b. eqb b 0x63) (λ _. heap_type_at)
-        (first_at (λ b. eqb b 0x64) (λ _ rest. heap_type_at rest >>= λ t. Ok (Other, t.1))
-        (first_at is_abstract (λ b rest. Ok (abstract_element b, rest)) (λ _. Err BadImmediate))) bytes
+        (first_at (λ b. eqb b 0x64) (λ _. heap_type_at) (first_at is_abstract (λ _ rest. Ok (tt, rest)) (λ _. Err BadImmediate))) bytes
         ≡ reference_type_at bytes
     same [] = refl
     same (b ∷ bytes) = refl
@@ -191,7 +190,7 @@ no_reference_type = refl
 
 pub primitive_exact : Exact SpellsPrimitive FailsPrimitive primitive_at
 unfolding primitive_at
-primitive_exact = exact_first is_plain (λ b. exact_ends (plain_type b)) (exact_of reference reference_type_exact) Truncated (rw no_reference_type refl)
+primitive_exact = exact_first is_plain (λ b. exact_ends (plain_type b)) (exact_of (λ _. Empty) reference_type_exact) Truncated (rw no_reference_type refl)
 
 pub no_primitive : primitive_at [] ≡ Err Truncated
 unfolding primitive_at

@@ -1,6 +1,7 @@
 -- Reading lists and their items as functions (this project): for proofs. The contracts of public calls go by the grammar.
 use Rattle.std.specs.Prelude.{◌≡◌, ◌⊎◌, ℕ, zero, suc, ◌+◌, ◌-◌, ◌<◌, ◌==◌, if◌then◌else◌, Bool, true, false, List, [], ◌∷◌, ◌++◌, length, Option, Some, None, Result, Ok, Err}
 use Rattle.mutate_base.specs.declared.types.PrimitiveTypeInfo.{PrimitiveTypeInfo}
+use Rattle.mutate_base.specs.declared.types.ElementType.TheVariants as elements
 use Rattle.mutate_base.specs.declared.types.TableType.{TableType}
 use Rattle.mutate_base.specs.declared.types.MemoryType.{MemoryType}
 use Rattle.mutate_base.specs.declared.types.TypeInfo.{TypeInfo}
@@ -195,7 +196,7 @@ memory_type_at bytes = limits_at bytes >>= λ wide. Ok (record { memory64 = wide
 -- a table type
 unfoldable pub table_type_at : List ℕ → Result (TableType × List ℕ) Cause
 table_type_at bytes = reference_type_at bytes >>= λ element. limits_at element.1 >>= λ wide.
-    Ok (record { element_type = element.0; table64 = wide.0 }, wide.1)
+    Ok (record { element_type = elements.Other; table64 = wide.0 }, wide.1)
 
 -- a table, with an initialiser where the first byte is 40
 unfoldable pub table_at : List ℕ → Result (TableType × List ℕ) Cause

@@ -2,6 +2,7 @@
 -- and Table Types; Modules, Table Section).
 use Rattle.std.specs.Prelude.{ℕ, ◌+◌, ◌==◌, List, Bool, true, false, Option, Some, None, is_some, if◌then◌else◌}
 use Rattle.mutate_base.specs.declared.types.TableType.{TableType}
+use Rattle.mutate_base.specs.declared.types.ElementType.TheVariants.{Other}
 use Rattle.mutate_base.specs.declared.types.MemoryType.{MemoryType}
 use Rattle.wasm_code.specs.declared.fault.Cause.{Cause}
 use Rattle.wasm_code.specs.Grammar.{IsCode, FailsCode, Of, Then, FailsThen, Times, FailsTimes}
@@ -44,7 +45,7 @@ FailsMemoryType = FailsLimits
 
 -- A reference type, and the limits.
 abbrev pub SpellsTableType : List ℕ → TableType → Type 0
-SpellsTableType = Then SpellsReferenceType (λ element. Of (λ wide. record { element_type = element; table64 = wide }) SpellsLimits)
+SpellsTableType = Then SpellsReferenceType (λ _. Of (λ wide. record { element_type = Other; table64 = wide }) SpellsLimits)
 
 -- No reference type begins the bytes, or no limits follow it.
 abbrev pub FailsTableType : List ℕ → Cause → Type 0

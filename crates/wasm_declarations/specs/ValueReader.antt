@@ -2,13 +2,12 @@
 -- of public calls go by the grammar.
 use Rattle.std.specs.Prelude.{ℕ, zero, suc, ◌-◌, ◌==◌, nat_le, if◌then◌else◌, Bool, true, false, List, length, slice_index, Option, Some, None, Result, Ok, Err}
 use Rattle.mutate_base.specs.declared.types.PrimitiveTypeInfo.{PrimitiveTypeInfo}
-use Rattle.mutate_base.specs.declared.types.ElementType.{ElementType}
-use Rattle.mutate_base.specs.declared.types.ElementType.TheVariants.{Other}
+use Rattle.mutate_base.specs.declared.types.PrimitiveTypeInfo.TheVariants.{Empty}
 use Rattle.wasm_code.specs.declared.fault.Cause.{Cause}
 use Rattle.wasm_code.specs.declared.fault.Cause.TheVariants.{Truncated, UnknownOpcode, BadImmediate}
 use Rattle.wasm_code.specs.Body.{is_end}
 use Rattle.wasm_code.specs.Reader.{◌>>=◌, byte_at, named_at, times_at, unsigned_at, operator_at}
-use Rattle.wasm_declarations.specs.ValueTypes.{is_abstract, abstract_element, is_plain, plain_type, reference}
+use Rattle.wasm_declarations.specs.ValueTypes.{is_abstract, is_plain, plain_type}
 use Rattle.wasm_declarations.specs.Constants.{indices_behind, is_making}
 
 -- ---- what the first byte tells apart
@@ -37,22 +36,22 @@ unfoldable pub index_at : List ℕ → Result (ℕ × List ℕ) Cause
 index_at bytes = unsigned_at 32 bytes >>= λ n. not_below_zero bytes n
 
 -- a heap type: an abstract one, or an index
-unfoldable pub heap_type_at : List ℕ → Result (ElementType × List ℕ) Cause
+unfoldable pub heap_type_at : List ℕ → Result (Unit {0} × List ℕ) Cause
 heap_type_at bytes = byte_at bytes >>= λ b.
-    if is_abstract b.0 then Ok (abstract_element b.0, b.1) else (index_at bytes >>= λ n. Ok (Other, n.1))
+    if is_abstract b.0 then Ok (tt, b.1) else (index_at bytes >>= λ n. Ok (tt, n.1))
 
--- a reference type, by what it refers to
-unfoldable pub reference_type_at : List ℕ → Result (ElementType × List ℕ) Cause
+-- a reference type
+unfoldable pub reference_type_at : List ℕ → Result (Unit {0} × List ℕ) Cause
 reference_type_at bytes = byte_at bytes >>= λ b.
     if b.0 == 0x63 then heap_type_at b.1
-    else if b.0 == 0x64 then (heap_type_at b.1 >>= λ t. Ok (Other, t.1))
-    else if is_abstract b.0 then Ok (abstract_element b.0, b.1)
+    else if b.0 == 0x64 then heap_type_at b.1
+    else if is_abstract b.0 then Ok (tt, b.1)
     else Err BadImmediate
 
 -- a value type
 unfoldable pub primitive_at : List ℕ → Result (PrimitiveTypeInfo × List ℕ) Cause
 primitive_at bytes = byte_at bytes >>= λ b.
-    if is_plain b.0 then Ok (plain_type b.0, b.1) else (reference_type_at bytes >>= λ t. Ok (reference t.0, t.1))
+    if is_plain b.0 then Ok (plain_type b.0, b.1) else (reference_type_at bytes >>= λ t. Ok (Empty, t.1))
 
 -- whether the byte says that something may be written
 abbrev pub mutable_of : ℕ → Option Bool

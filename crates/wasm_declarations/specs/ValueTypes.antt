@@ -3,8 +3,6 @@
 use Rattle.std.specs.Prelude.{◌≡◌, ◌⊎◌, ℕ, pos, ◌==◌, nat_le, ◌&&◌, if◌then◌else◌, Bool, true, false, List, ◌++◌}
 use Rattle.mutate_base.specs.declared.types.PrimitiveTypeInfo.{PrimitiveTypeInfo}
 use Rattle.mutate_base.specs.declared.types.PrimitiveTypeInfo.TheVariants as primitives
-use Rattle.mutate_base.specs.declared.types.ElementType.{ElementType}
-use Rattle.mutate_base.specs.declared.types.ElementType.TheVariants.{Func, Extern, Other}
 use Rattle.wasm_code.specs.declared.fault.Cause.{Cause}
 use Rattle.wasm_code.specs.declared.fault.Cause.TheVariants.{BadImmediate}
 use Rattle.wasm_code.specs.Grammar.{NoBytes, NeverFails, Never, NamesNothing, Of}
@@ -34,13 +32,10 @@ FailsTypeIndex bytes cause = FailsUnsigned 32 bytes cause ⊎ (IsBelowZero bytes
 abbrev pub is_abstract : ℕ → Bool
 is_abstract b = nat_le 0x69 b && nat_le b 0x74
 
--- what references to the abstract heap type with this byte refer to: functions, values from outside, or others
-abbrev pub abstract_element : ℕ → ElementType
-abstract_element b = if b == 0x70 then Func else if b == 0x6f then Extern else Other
-
--- The byte of an abstract heap type, or the index of a type; kept is what references to it refer to.
-abbrev pub SpellsHeapType : List ℕ → ElementType → Type 0
-SpellsHeapType = ByFirst is_abstract (λ b. NoBytes (abstract_element b)) (Of (λ _. Other) SpellsTypeIndex)
+-- The byte of an abstract heap type, or the index of a type. What references to it refer to isn't kept: a value of one reference type may stand where
+-- another is asked for (Validation, Matching, Reference Types), and nothing here tells them apart.
+abbrev pub SpellsHeapType : List ℕ → Unit {0} → Type 0
+SpellsHeapType = ByFirst is_abstract (λ _. NoBytes tt) (Of (λ _. tt) SpellsTypeIndex)
 
 -- No heap type begins the bytes.
 abbrev pub FailsHeapType : List ℕ → Cause → Type 0
@@ -49,17 +44,16 @@ FailsHeapType = FailsByFirst is_abstract (λ _. NeverFails) FailsTypeIndex
 -- ---- reference types
 
 -- The byte of an abstract heap type, for references to it that may be null.
-abbrev pub SpellsAbstract : List ℕ → ElementType → Type 0
-SpellsAbstract = ByFirst is_abstract (λ b. NoBytes (abstract_element b)) Never
+abbrev pub SpellsAbstract : List ℕ → Unit {0} → Type 0
+SpellsAbstract = ByFirst is_abstract (λ _. NoBytes tt) Never
 
 -- There is no byte, or it is that of no abstract heap type.
 abbrev pub FailsAbstract : List ℕ → Cause → Type 0
 FailsAbstract = FailsByFirst is_abstract (λ _. NeverFails) NamesNothing
 
--- The byte 63 and a heap type, for references that may be null; 64 and a heap type, for those that may not, which are others;
--- or the byte of an abstract heap type.
-abbrev pub SpellsReferenceType : List ℕ → ElementType → Type 0
-SpellsReferenceType = ByFirst (λ b. b == 0x63) (λ _. SpellsHeapType) (ByFirst (λ b. b == 0x64) (λ _. Of (λ _. Other) SpellsHeapType) SpellsAbstract)
+-- The byte 63 and a heap type, for references that may be null; 64 and a heap type, for those that may not; or the byte of an abstract heap type.
+abbrev pub SpellsReferenceType : List ℕ → Unit {0} → Type 0
+SpellsReferenceType = ByFirst (λ b. b == 0x63) (λ _. SpellsHeapType) (ByFirst (λ b. b == 0x64) (λ _. SpellsHeapType) SpellsAbstract)
 
 -- No reference type begins the bytes.
 abbrev pub FailsReferenceType : List ℕ → Cause → Type 0
@@ -77,15 +71,9 @@ plain_type b =
     if b == 0x7f then primitives.I32 else if b == 0x7e then primitives.I64 else if b == 0x7d then primitives.F32
     else if b == 0x7c then primitives.F64 else primitives.V128
 
--- the type of references, as what is known of a module names it: `Empty` for other references
-abbrev pub reference : ElementType → PrimitiveTypeInfo
-reference Func = primitives.FuncRef
-reference Extern = primitives.ExternRef
-reference Other = primitives.Empty
-
--- The byte of a type of numbers or of vectors, or a reference type.
+-- The byte of a type of numbers or of vectors, or a reference type: of these each is `Empty`.
 abbrev pub SpellsPrimitive : List ℕ → PrimitiveTypeInfo → Type 0
-SpellsPrimitive = ByFirst is_plain (λ b. NoBytes (plain_type b)) (Of reference SpellsReferenceType)
+SpellsPrimitive = ByFirst is_plain (λ b. NoBytes (plain_type b)) (Of (λ _. primitives.Empty) SpellsReferenceType)
 
 -- No value type begins the bytes.
 abbrev pub FailsPrimitive : List ℕ → Cause → Type 0

@@ -5,7 +5,7 @@ ghost use Rattle.wasm_code.specs.Reader.{Gives, times_at, unsigned_at};
 ghost use Rattle.wasm_declarations.specs.Constants.{indices_behind, is_making};
 ghost use Rattle.wasm_declarations.specs.ValueReader.{making_at, constant_at, initialiser_at};
 
-use crate::value_types::heap_type_from;
+use crate::value_types::past_heap_type;
 use wasm_code::laws::parts_are_read;
 use wasm_code::{Cause, Operator, byte_of, operator_from, u32_of};
 
@@ -75,7 +75,7 @@ fn constant_from(bytes: &[u8]) -> Result<(bool, &[u8]), Cause>
 {
     let (b, rest) = byte_of(bytes)?;
     if b == NULL {
-        let (_heap, rest) = heap_type_from(rest)?;
+        let rest = past_heap_type(rest)?;
         Ok((false, rest))
     } else if b == MAKING {
         let rest = past_making(rest)?;

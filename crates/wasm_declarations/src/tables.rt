@@ -7,8 +7,8 @@ ghost use Rattle.wasm_declarations.specs.Tables.{SpellsTable, FailsTable, Spells
 use crate::constants::past_initialiser;
 use crate::item::Item;
 use crate::refusal::Refusal;
-use crate::value_types::{past_mark, reference_type_from};
-use mutate_base::{MemoryType, TableType};
+use crate::value_types::{past_mark, past_reference_type};
+use mutate_base::{ElementType, MemoryType, TableType};
 use std::alloc::Global;
 use wasm_code::laws::parts_are_read;
 use wasm_code::{Cause, byte_of, u64_of};
@@ -58,11 +58,11 @@ fn limits_from(bytes: &[u8]) -> Result<(bool, &[u8]), Cause>
 pub fn table_type_from(bytes: &[u8]) -> Result<(TableType, &[u8]), Cause>
     ensures { Gives (λ x. (x.0, x.1.now)) result (table_type_at bytes.now) }
 {
-    let (element_type, rest) = reference_type_from(bytes)?;
+    let rest = past_reference_type(bytes)?;
     let (table64, rest) = limits_from(rest)?;
     Ok((
         TableType {
-            element_type,
+            element_type: ElementType::Other,
             table64,
         },
         rest,
@@ -99,8 +99,8 @@ pub fn memory_type_from(bytes: &[u8]) -> Result<(MemoryType, &[u8]), Cause>
 
 /// The tables that a table section lists (WebAssembly Core Specification 3.0, Binary Format, Modules, Table Section).
 ///
-/// Each is a table type, with or without an initialiser. Neither the limits nor the initialiser are kept, and of references but
-/// `funcref` and `externref` no more than that they are others (`ElementType::Other`). Reference types are those of `TypeGroups`, and
+/// Each is a table type, with or without an initialiser. Neither the limits nor the initialiser are kept, nor what its references
+/// refer to (they are all `ElementType::Other`). Reference types are those of `TypeGroups`, and
 /// operators of initialisers those of `Globals`. Tables of others or of other limits are of an unknown form.
 pub struct Tables;
 

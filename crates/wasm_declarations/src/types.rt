@@ -176,8 +176,8 @@ fn type_group_from(alloc: Global, bytes: &[u8]) -> Result<(TypeGroup, &[u8]), Re
 ///
 /// Each is a recursive group or one type alone: a function's, of which parameters and results are kept, or a structure's or an array's,
 /// of which nothing is (`TypeInfo::Other`), with or without the types that it is a subtype of. Value types are numbers, vectors, and
-/// references of every heap type, abstract or by index; those but `funcref` and `externref` are kept as `Empty`. Whether there are such
-/// types isn't asked. Everything else is of an unknown form, such as shared heap types, continuations, and what describes other types.
+/// references of every heap type, abstract or by index; each reference is kept as `Empty`, and whether there is a type with the index
+/// isn't asked. Everything else is of an unknown form, such as shared heap types, continuations, and what describes other types.
 pub struct TypeGroups;
 
 impl Item for TypeGroups {

@@ -2,11 +2,11 @@
 ghost use Rattle.std.specs.Prelude.{◌≡◌};
 ghost use Rattle.wasm_code.specs.Reader.{Gives};
 ghost use Rattle.wasm_declarations.specs.ValueReader.{mark_at, index_at, heap_type_at, reference_type_at, primitive_at, mutable_of, mutable_at};
-ghost use Rattle.wasm_declarations.specs.ValueTypes.{is_abstract, abstract_element, is_plain, plain_type, reference, SpellsPrimitive, FailsPrimitive};
+ghost use Rattle.wasm_declarations.specs.ValueTypes.{is_abstract, is_plain, plain_type, SpellsPrimitive, FailsPrimitive};
 
 use crate::item::Item;
 use crate::refusal::Refusal;
-use mutate_base::{ElementType, PrimitiveTypeInfo};
+use mutate_base::PrimitiveTypeInfo;
 use std::alloc::Global;
 use wasm_code::{Cause, byte_of, u32_of};
 
@@ -44,43 +44,31 @@ fn is_abstract(b: u8) -> bool
     0x69 <= b && b <= 0x74
 }
 
-/// What references to the abstract heap type with this byte refer to.
-fn abstract_element(b: u8) -> ElementType
-    ensures { result ≡ abstract_element b }
-{
-    match b {
-        0x70 => ElementType::Func,
-        0x6f => ElementType::Extern,
-        _ => ElementType::Other,
-    }
-}
-
-/// What references to a heap type refer to, and what follows it.
+/// What follows a heap type.
 #[tactic(auto, unfolding(crate::specs::ValueReader::heap_type_at))]
-pub fn heap_type_from(bytes: &[u8]) -> Result<(ElementType, &[u8]), Cause>
-    ensures { Gives (λ x. (x.0, x.1.now)) result (heap_type_at bytes.now) }
+pub fn past_heap_type(bytes: &[u8]) -> Result<&[u8], Cause>
+    ensures { Gives (λ x. (tt, x.now)) result (heap_type_at bytes.now) }
 {
     let (b, rest) = byte_of(bytes)?;
     if is_abstract(b) {
-        return Ok((abstract_element(b), rest));
+        return Ok(rest);
     }
     let (_index, rest) = index_from(bytes)?;
-    Ok((ElementType::Other, rest))
+    Ok(rest)
 }
 
-/// What references of a type refer to, and what follows it.
+/// What follows a reference type.
 #[tactic(auto, unfolding(crate::specs::ValueReader::reference_type_at))]
-pub fn reference_type_from(bytes: &[u8]) -> Result<(ElementType, &[u8]), Cause>
-    ensures { Gives (λ x. (x.0, x.1.now)) result (reference_type_at bytes.now) }
+pub fn past_reference_type(bytes: &[u8]) -> Result<&[u8], Cause>
+    ensures { Gives (λ x. (tt, x.now)) result (reference_type_at bytes.now) }
 {
     let (b, rest) = byte_of(bytes)?;
     if b == 0x63 {
-        heap_type_from(rest)
+        past_heap_type(rest)
     } else if b == 0x64 {
-        let (_heap, rest) = heap_type_from(rest)?;
-        Ok((ElementType::Other, rest))
+        past_heap_type(rest)
     } else if is_abstract(b) {
-        Ok((abstract_element(b), rest))
+        Ok(rest)
     } else {
         Err(Cause::BadImmediate)
     }
@@ -105,18 +93,7 @@ fn plain_type(b: u8) -> PrimitiveTypeInfo
     }
 }
 
-/// The type of references to these.
-fn reference_to(element: ElementType) -> PrimitiveTypeInfo
-    ensures { result ≡ reference element }
-{
-    match element {
-        ElementType::Func => PrimitiveTypeInfo::FuncRef,
-        ElementType::Extern => PrimitiveTypeInfo::ExternRef,
-        ElementType::Other => PrimitiveTypeInfo::Empty,
-    }
-}
-
-/// A value type, and what follows it; `Empty` for references but `funcref` and `externref`.
+/// A value type, and what follows it; `Empty` for references of any type.
 #[tactic(auto, unfolding(crate::specs::ValueReader::primitive_at))]
 pub fn primitive_from(bytes: &[u8]) -> Result<(PrimitiveTypeInfo, &[u8]), Cause>
     ensures { Gives (λ x. (x.0, x.1.now)) result (primitive_at bytes.now) }
@@ -125,8 +102,8 @@ pub fn primitive_from(bytes: &[u8]) -> Result<(PrimitiveTypeInfo, &[u8]), Cause>
     if is_plain(b) {
         return Ok((plain_type(b), rest));
     }
-    let (element, rest) = reference_type_from(bytes)?;
-    Ok((reference_to(element), rest))
+    let rest = past_reference_type(bytes)?;
+    Ok((PrimitiveTypeInfo::Empty, rest))
 }
 
 /// Value types.

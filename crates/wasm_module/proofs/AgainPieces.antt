@@ -1,9 +1,9 @@
 -- The pieces of a module and of the new bytes: they share those before the global section, and of the others only the global section and the code differ.
-use Rattle.std.proofs.Common.{◌≡◌, inl, inr, ℕ, ◌+◌, ◌<◌, List, [], ◌∷◌, ◌++◌, length, drop, Option, None, refl, sym, ap, subst, ◌∙◌, append_assoc, arith}
-use Rattle.std.specs.Prelude.{slice_range}
+use Rattle.std.proofs.Common.{◌≡◌, inl, inr, ℕ, ◌+◌, ◌<◌, true, List, [], ◌∷◌, ◌++◌, length, drop, Option, None, refl, sym, ap, subst, ◌∙◌, append_assoc, arith}
+use Rattle.std.specs.Prelude.{slice_range, map}
 use Rattle.std.specs.List.{AllByRecursion}
 use Rattle.std.proofs.lemmas.List.{length-append, append-nil}
-use Rattle.mutate_base.specs.Module.{Module}
+use Rattle.mutate_base.specs.Module.{Module, merged}
 use Rattle.mutate_base.specs.declared.types.PrimitiveTypeInfo.{PrimitiveTypeInfo}
 use Rattle.mutate_base.specs.declared.types.PrimitiveTypeInfo.TheVariants as primitives
 use Rattle.wasm_sections.specs.declared.id.SectionId.{SectionId}
@@ -206,7 +206,8 @@ adds bytes layout n contents t ts new short some g =
     let none : LackPiece (a.first ++ (d.first ++ d.x ∷ d.second)) ids.Global = lacks_pieces (a.first ++ (d.first ++ d.x ∷ d.second)) 8 ids.Global
     (subst (λ (l : List Section). LackId l ids.Global) sections_are g.g.none) in
     let zero : length more ≡ 0 + length more = omega arith in
-    let whole : IsWhole SpellsGlobal (new_globals more) (0 + length more) more = subst (λ (m : ℕ). IsWhole SpellsGlobal (new_globals more) m more) zero
+    let whole : IsWhole SpellsGlobal (new_globals more) (0 + length more) (map (merged true) more) =
+    subst (λ (m : ℕ). IsWhole SpellsGlobal (new_globals more) m (map (merged true) more)) zero
     (new_whole more (short (length more) g.g.few) some) in
     let there : HasGlobals (a.first ++ fresh ∷ (d.first ++ y ∷ d.second)) (grown nothing more) =
     held_there nothing (SpellsKnown SpellsGlobal FailsGlobal) bytes ids.Global (grown nothing more) a.first (d.first ++ y ∷ d.second) fresh 8 refl lack whole in

@@ -1,5 +1,5 @@
 -- What instances of a module are made of, and of the module written anew or without some custom sections.
-use Rattle.std.proofs.Common.{◌≡◌, ◌⊎◌, inl, inr, ℕ, ◌+◌, List, [], ◌∷◌, ◌++◌, length, Option, Some, None, get_or, refl, sym, ap, subst, ◌∙◌, append_assoc, arith}
+use Rattle.std.proofs.Common.{◌≡◌, ◌⊎◌, inl, inr, ℕ, ◌+◌, List, [], ◌∷◌, ◌++◌, length, Option, Some, None, refl, sym, ap, subst, ◌∙◌, append_assoc, arith}
 use Rattle.std.specs.Prelude.{true, slice_range}
 use Rattle.std.proofs.lemmas.Bool.{cases_eq}
 use Rattle.std.proofs.lemmas.List.{append-nil, map-append}
@@ -14,6 +14,7 @@ use Rattle.wasm_sections.specs.Id.{id_code}
 use Rattle.wasm_sections.specs.Section.{SpellsModule, parts_of}
 use Rattle.wasm_sections.specs.Find.{LackId}
 use Rattle.wasm_sections.specs.Laws.{SpellsParts}
+use Rattle.wasm_sections.specs.lemmas.IdLemmas.{one_id}
 use Rattle.wasm_declarations.specs.Globals.{SpellsGlobal, FailsGlobal}
 use Rattle.wasm_module.specs.Module.{Layout, Holds, IsModule}
 use Rattle.wasm_module.specs.Rewritten.{globals_code, new_globals, GrowsContents, GrowsGlobals, AddsGlobals, code_with, IsRewritten}
@@ -245,32 +246,10 @@ stripped_is_made bytes new sections left making stay made = record {
 
 -- ---- each module is made of something
 
-abbrev id_at : ℕ → SectionId
-id_at n = get_or
-    (ids.Custom ∷ ids.Type ∷ ids.Import ∷ ids.Function ∷ ids.Table ∷ ids.Memory ∷ ids.Global ∷ ids.Export ∷
-    ids.Start ∷ ids.Element ∷ ids.Code ∷ ids.Data ∷ ids.DataCount ∷ ids.Tag ∷ [])
-    n ids.Custom
-
-id_is : (id : SectionId) → id_at (id_code id) ≡ id
-id_is ids.Custom = refl
-id_is ids.Type = refl
-id_is ids.Import = refl
-id_is ids.Function = refl
-id_is ids.Table = refl
-id_is ids.Memory = refl
-id_is ids.Global = refl
-id_is ids.Export = refl
-id_is ids.Start = refl
-id_is ids.Element = refl
-id_is ids.Code = refl
-id_is ids.Data = refl
-id_is ids.DataCount = refl
-id_is ids.Tag = refl
-
 same_id : (i j : SectionId) → (i ≡ j) ⊎ (i ≡ j → ⊥)
 same_id i j =
     elim (cases_eq (id_code i) (id_code j)) [
-      | inl e ↦ inl (sym (id_is i) ∙ ap id_at e ∙ id_is j)
+      | inl e ↦ inl (one_id i j e)
       | inr differ ↦ inr (λ same. differ (ap id_code same))
     ]
 

@@ -1,5 +1,5 @@
 -- A module from what its sections list.
-use Rattle.std.proofs.Common.{◌≡◌, ℕ, false, List, length, Option, refl, sym, ap, subst, ◌∙◌}
+use Rattle.std.proofs.Common.{◌≡◌, ℕ, false, List, length, Option, refl, sym, ap, subst, ◌∙◌, true}
 use Rattle.mutate_base.specs.Module.{Module}
 use Rattle.mutate_base.specs.declared.types.PrimitiveTypeInfo.{PrimitiveTypeInfo}
 use Rattle.mutate_base.specs.declared.types.TypeInfo.{TypeInfo}
@@ -18,7 +18,7 @@ use Rattle.wasm_module.specs.Lists.{Listed, AreListed, unknown_in}
 
 abbrev pub info_of : (bytes : List ℕ) → List TypeInfo → List ℕ → List TableType → List MemoryType → List PrimitiveTypeInfo → Module
 info_of bytes types functions tables memories globals =
-    record { input = bytes; globals = globals; types = types; functions = functions; tables = tables; memories = memories; exact = false }
+    record { input = bytes; globals = globals; types = types; functions = functions; tables = tables; memories = memories; exact = false; one_reference = true }
 
 abbrev pub unknown_of : Option ModuleError → Option ModuleError → Option ModuleError → Option ModuleError → Option ModuleError → Unknown
 unknown_of types imports tables memories globals =
@@ -59,6 +59,7 @@ module_is bytes sections l types functions tables memories globals imported own 
   all_memories = m;
   all_globals = g;
   not_exact = refl;
+  one_reference = refl;
   imported = i;
   own = o;
   entry_each = ap length e ∙ count;

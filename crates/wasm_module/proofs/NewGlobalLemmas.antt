@@ -1,9 +1,10 @@
 -- The code of a global spells it, and lists of globals grow.
 use Rattle.std.proofs.Common.{◌≡◌, ℕ, zero, suc, pos, ◌+◌, true, false, List, [], ◌∷◌, ◌++◌, length, Some, None, refl, sym, ap, subst, ◌∙◌, append_assoc, arith}
+use Rattle.std.specs.Prelude.{map}
 use Rattle.std.specs.List.{AllByRecursion}
 use Rattle.std.specs.Int.{w32, w64, w128, from_le_bytes, cast_signed}
 use Rattle.std.proofs.lemmas.Int.{ints}
-use Rattle.std.proofs.lemmas.List.{length-append}
+use Rattle.std.proofs.lemmas.List.{length-append, length-map}
 use Rattle.wasm_code.specs.Number.{SpellsUnsigned, SpellsSigned}
 use Rattle.wasm_code.specs.Code.{shortest}
 use Rattle.wasm_code.specs.Immediate.{SpellsImm}
@@ -19,7 +20,7 @@ use Rattle.wasm_code.specs.declared.table.Row.{Row}
 use Rattle.wasm_code.specs.laws.NumberExact.{unsigned_exact}
 use Rattle.mutate_base.specs.declared.types.PrimitiveTypeInfo.{PrimitiveTypeInfo}
 use Rattle.mutate_base.specs.declared.types.PrimitiveTypeInfo.TheVariants as primitives
-use Rattle.mutate_base.specs.declared.types.ElementType.TheVariants as elements
+use Rattle.mutate_base.specs.Module.{merged}
 use Rattle.wasm_declarations.specs.ValueTypes.{SpellsPrimitive}
 use Rattle.wasm_declarations.specs.Constants.{SpellsConstant}
 use Rattle.wasm_declarations.specs.Globals.{SpellsGlobal}
@@ -101,7 +102,7 @@ zero_spells = record { group = omega arith; short = omega arith; is = refl; low 
 long_zero_spells : SpellsSigned 64 (0 ∷ []) (pos 0)
 long_zero_spells = record { group = omega arith; short = omega arith; is = refl; low = omega (arith, ints); high = omega (arith, ints) }
 
-new_global : (t : PrimitiveTypeInfo) → (t ≡ primitives.Empty → ⊥) → SpellsGlobal (global_code t) t
+new_global : (t : PrimitiveTypeInfo) → (t ≡ primitives.Empty → ⊥) → SpellsGlobal (global_code t) (merged true t)
 unfolding row_at table
 new_global primitives.I32 some =
     let s = row_spells (0x41 ∷ []) (0x00 ∷ []) (Byte 0x41) 36 _ (imm.I32 (pos 0))
@@ -136,24 +137,25 @@ new_global primitives.V128 some =
     (record { value = zeros 16; spells = (refl, refl); made = refl }) in
     global_spells 0x7b primitives.V128 (0xfd ∷ 0x0c ∷ zeros 16) (refl, refl) (record { value = op.Instr _; spells = s; made = refl })
 new_global primitives.FuncRef some =
-    global_spells 0x70 primitives.FuncRef (0xd0 ∷ 0x70 ∷ []) (record { value = elements.Func; spells = (refl, refl); made = refl })
-    (record { value = elements.Func; spells = (refl, refl); made = refl })
+    global_spells 0x70 primitives.Empty (0xd0 ∷ 0x70 ∷ []) (record { value = tt; spells = (refl, refl); made = refl })
+    (record { value = tt; spells = (refl, refl); made = refl })
 new_global primitives.ExternRef some =
-    global_spells 0x6f primitives.ExternRef (0xd0 ∷ 0x6f ∷ []) (record { value = elements.Extern; spells = (refl, refl); made = refl })
-    (record { value = elements.Extern; spells = (refl, refl); made = refl })
+    global_spells 0x6f primitives.Empty (0xd0 ∷ 0x6f ∷ []) (record { value = tt; spells = (refl, refl); made = refl })
+    (record { value = tt; spells = (refl, refl); made = refl })
 new_global primitives.Empty some = absurd (some refl)
 
 -- ---- lists of globals
 
-each_new : (ts : List PrimitiveTypeInfo) → AllByRecursion (λ t. t ≡ primitives.Empty → ⊥) ts → Each (length ts) SpellsGlobal (globals_code ts) ts
+each_new : (ts : List PrimitiveTypeInfo) → AllByRecursion (λ t. t ≡ primitives.Empty → ⊥) ts →
+    Each (length ts) SpellsGlobal (globals_code ts) (map (merged true) ts)
 each_new [] some = (refl, refl)
 each_new (t ∷ ts) some = record {
-  value = t;
+  value = merged true t;
   front = global_code t;
   back = globals_code ts;
   parts = refl;
   first = new_global t some.0;
-  second = record { value = ts; spells = each_new ts some.1; made = refl };
+  second = record { value = map (merged true) ts; spells = each_new ts some.1; made = refl };
 }
 
 each_append : {A : Type 0} (Spells : List ℕ → A → Type 0) (n m k : ℕ) (a b : List ℕ) (xs ys : List A) → k ≡ n + m → Each n Spells a xs → Each m Spells b ys →
@@ -183,11 +185,11 @@ each_length Spells (suc n) text xs p =
 
 -- the known globals, and more behind them
 abbrev pub grown : Known PrimitiveTypeInfo → List PrimitiveTypeInfo → Known PrimitiveTypeInfo
-grown k more = record { count = k.count + length more; items = k.items ++ more; unknown = None }
+grown k more = record { count = k.count + length more; items = k.items ++ map (merged true) more; unknown = None }
 
 pub grown_whole : (own : ℕ) (old new : List ℕ) (more : List PrimitiveTypeInfo) (k : Known PrimitiveTypeInfo) → GrowsContents own old more new →
     SpellsUnsigned 32 (shortest (own + length more)) (own + length more) → AllByRecursion (λ t. t ≡ primitives.Empty → ⊥) more → own ≡ k.count
-    → IsWhole SpellsGlobal old k.count k.items → IsWhole SpellsGlobal new (k.count + length more) (k.items ++ more)
+    → IsWhole SpellsGlobal old k.count k.items → IsWhole SpellsGlobal new (k.count + length more) (k.items ++ map (merged true) more)
 grown_whole own old new more k g counts some same w =
     let s = w.list in
     let number : s.value ≡ length k.items = each_length SpellsGlobal s.value s.back k.items s.second in
@@ -201,14 +203,14 @@ grown_whole own old new more k g counts some same w =
         back = g.items ++ globals_code more;
         parts = g.new_is ∙ append_assoc (shortest (own + length more)) g.items (globals_code more);
         first = counts;
-        second = each_append SpellsGlobal s.value (length more) (own + length more) g.items (globals_code more) k.items more
+        second = each_append SpellsGlobal s.value (length more) (own + length more) g.items (globals_code more) k.items (map (merged true) more)
             (omega (arith, same, number, w.counted)) items (each_new more some);
       };
-      counted = omega (arith, w.counted, length-append k.items more);
+      counted = omega (arith, w.counted, length-append k.items (map (merged true) more), length-map more (merged true));
     }
 
 pub new_whole : (more : List PrimitiveTypeInfo) → SpellsUnsigned 32 (shortest (length more)) (length more) →
-    AllByRecursion (λ t. t ≡ primitives.Empty → ⊥) more → IsWhole SpellsGlobal (new_globals more) (length more) more
+    AllByRecursion (λ t. t ≡ primitives.Empty → ⊥) more → IsWhole SpellsGlobal (new_globals more) (length more) (map (merged true) more)
 new_whole more counts some = record {
   list = record {
     value = length more;
@@ -218,5 +220,5 @@ new_whole more counts some = record {
     first = counts;
     second = each_new more some;
   };
-  counted = refl;
+  counted = sym (length-map more (merged true));
 }

@@ -1,5 +1,5 @@
 -- Bytes are one module at most.
-use Rattle.std.proofs.Common.{◌≡◌, inl, inr, ℕ, Bool, false, List, [], length, Option, sym, ap, subst, ◌∙◌}
+use Rattle.std.proofs.Common.{◌≡◌, inl, inr, ℕ, Bool, false, List, [], length, Option, sym, ap, ap₂, subst, ◌∙◌, true}
 use Rattle.wasm_code.specs.Number.{SpellsUnsigned}
 use Rattle.mutate_base.specs.Module.{Module}
 use Rattle.mutate_base.specs.declared.types.PrimitiveTypeInfo.{PrimitiveTypeInfo}
@@ -47,16 +47,16 @@ one_listing none Spells one bytes ss zs id x y e p q =
     ]
 
 one_info : (i j : Module) → i.input ≡ j.input → i.globals ≡ j.globals → i.types ≡ j.types → i.functions ≡ j.functions → i.tables ≡ j.tables →
-    i.memories ≡ j.memories → i.exact ≡ false → j.exact ≡ false → i ≡ j
-one_info i j a b c d e f g h =
-    ap (λ (x : Bool). record i { exact = x }) g
+    i.memories ≡ j.memories → i.exact ≡ false → j.exact ≡ false → i.one_reference ≡ true → j.one_reference ≡ true → i ≡ j
+one_info i j a b c d e f g h p q =
+    ap₂ (λ (x y : Bool). record i { exact = x; one_reference = y }) g p
     ∙ ap (λ (x : List ℕ). info_of x i.types i.functions i.tables i.memories i.globals) a
     ∙ ap (λ (x : List PrimitiveTypeInfo). info_of j.input i.types i.functions i.tables i.memories x) b
     ∙ ap (λ (x : List TypeInfo). info_of j.input x i.functions i.tables i.memories j.globals) c
     ∙ ap (λ (x : List ℕ). info_of j.input j.types x i.tables i.memories j.globals) d
     ∙ ap (λ (x : List TableType). info_of j.input j.types j.functions x i.memories j.globals) e
     ∙ ap (λ (x : List MemoryType). info_of j.input j.types j.functions j.tables x j.globals) f
-    ∙ ap (λ (x : Bool). record j { exact = x }) (sym h)
+    ∙ ap₂ (λ (x y : Bool). record j { exact = x; one_reference = y }) (sym h) (sym q)
 
 one_unknown : (u v : Unknown) → u.types ≡ v.types → u.imports ≡ v.imports → u.tables ≡ v.tables → u.memories ≡ v.memories → u.globals ≡ v.globals →
     u ≡ v
@@ -114,7 +114,7 @@ one_module bytes i j k l one same m n =
           (items_of m.tables n.tables tables))
           (joined memories_of m.imports n.imports m.memories.items n.memories.items i.memories j.memories m.all_memories n.all_memories imports
           (items_of m.memories n.memories memories))
-          m.not_exact n.not_exact,
+          m.not_exact n.not_exact m.one_reference n.one_reference,
       one_layout k l same (m.imported ∙ ap (λ (x : Known Import). length (functions_of x.items)) imports ∙ sym n.imported)
           (m.own ∙ ap (λ (x : Known PrimitiveTypeInfo). x.count) globals ∙ sym n.own) entries
           (one_unknown k.unknown l.unknown (without m.types n.types k.unknown.types l.unknown.types m.unknown_types n.unknown_types types)

@@ -1,7 +1,8 @@
 -- The new bytes are a module again, with the globals behind the old ones and one code entry of other contents.
-use Rattle.std.proofs.Common.{◌≡◌, ℕ, ◌+◌, ◌<◌, List, [], ◌∷◌, ◌++◌, length, Option, None, refl, sym, ap, subst, ◌∙◌, append_assoc, arith}
+use Rattle.std.proofs.Common.{◌≡◌, ℕ, ◌+◌, ◌<◌, true, List, [], ◌∷◌, ◌++◌, length, Option, None, refl, sym, ap, subst, ◌∙◌, append_assoc, arith}
+use Rattle.std.specs.Prelude.{map}
 use Rattle.wasm_code.specs.Number.{SpellsUnsigned}
-use Rattle.mutate_base.specs.Module.{Module}
+use Rattle.mutate_base.specs.Module.{Module, merged}
 use Rattle.mutate_base.specs.declared.types.PrimitiveTypeInfo.{PrimitiveTypeInfo}
 use Rattle.wasm_sections.specs.declared.id.SectionId.{SectionId}
 use Rattle.wasm_sections.specs.declared.id.SectionId.TheVariants as ids
@@ -150,9 +151,10 @@ reread bytes info layout n contents more new short m r imports globals some =
         all_functions = m.all_functions;
         all_tables = m.all_tables;
         all_memories = m.all_memories;
-        all_globals = wider_space info.globals (globals_of m.imports.items) m.globals.items more m.imports.unknown (sym m.unknown_imports ∙ imports)
-            m.all_globals;
+        all_globals = wider_space info.globals (globals_of m.imports.items) m.globals.items (map (merged true) more) m.imports.unknown
+            (sym m.unknown_imports ∙ imports) m.all_globals;
         not_exact = m.not_exact;
+        one_reference = m.one_reference;
         imported = m.imported;
         own = ap (λ (j : ℕ). j + length more) m.own;
         entry_each = e.count ∙ m.entry_each;

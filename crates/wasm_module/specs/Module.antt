@@ -1,6 +1,6 @@
 -- What a module says of itself, as far as its functions' bodies need it
 -- (WebAssembly Core Specification 3.0, Binary Format, Modules; Structure, Modules, Indices).
-use Rattle.std.specs.Prelude.{◌≡◌, ◌⊎◌, ℕ, false, List, [], ◌∷◌, ◌++◌, length, Option, Some, None, slice_range}
+use Rattle.std.specs.Prelude.{◌≡◌, ◌⊎◌, ℕ, false, List, [], ◌∷◌, ◌++◌, length, Option, Some, None, slice_range, true}
 use Rattle.wasm_code.specs.declared.fault.Cause.{Cause}
 use Rattle.wasm_code.specs.Number.{SpellsUnsigned}
 use Rattle.mutate_base.specs.Module.{Module}
@@ -118,6 +118,7 @@ pub record IsModule (bytes : List ℕ) (info : Module) (layout : Layout) : Type 
   pub all_memories : info.memories ≡ space (memories_of imports.items) imports.unknown memories.items
   pub all_globals : info.globals ≡ space (globals_of imports.items) imports.unknown globals.items
   pub not_exact : info.exact ≡ false
+  pub one_reference : info.one_reference ≡ true
   pub imported : layout.imported_functions ≡ length (functions_of imports.items)
   pub own : layout.own_globals ≡ globals.count
   pub entry_each : length layout.entries ≡ length functions

@@ -77,6 +77,7 @@ fn module_of<'a>(
             table_types,
             memory_types,
             exact: false,
+            one_reference: true,
         },
         layout: Layout {
             sections,
@@ -96,8 +97,8 @@ fn module_of<'a>(
 /// entries as functions of the module's own. The contents of the other sections and the bodies aren't read, and whether the module is
 /// valid isn't asked.
 ///
-/// Types are numbered across their groups; structures and arrays are `TypeInfo::Other`, and of references but `funcref` and `externref`
-/// no more is kept than that they are others: `Empty` as the type of a value, `ElementType::Other` as what a table holds.
+/// Types are numbered across their groups; structures and arrays are `TypeInfo::Other`. What references refer to isn't kept: each is
+/// `Empty` as the type of a value, and `ElementType::Other` as what a table holds, and the module's `one_reference` says so.
 ///
 /// A group of types, an import, a table, a memory or a global of a form that isn't known here is no error: what its section lists from
 /// there on isn't known, and the layout's `unknown` says so.

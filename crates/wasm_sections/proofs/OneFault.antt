@@ -18,7 +18,8 @@ use Rattle.wasm_sections.specs.Section.{IsLinkable, AreFinal, magic, preamble}
 use Rattle.wasm_sections.specs.Sections.{last_rank, LacksId, FailsSection, StopsAt, IsSectionFault}
 use Rattle.wasm_sections.specs.Reader.{kind_of}
 use Rattle.wasm_sections.specs.lemmas.PieceLemmas.{Piece, code_of, joined, AreCounted, AreSorted, parts, last_of, last_is, of_module}
-use Rattle.wasm_sections.proofs.OneModule.{one_id, cons_is, next_is, here_fails}
+use Rattle.wasm_sections.specs.lemmas.IdLemmas.{one_id}
+use Rattle.wasm_sections.proofs.OneModule.{cons_is, next_is, here_fails}
 
 -- ---- one fault of a section
 

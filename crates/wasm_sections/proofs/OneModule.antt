@@ -1,5 +1,5 @@
 -- Bytes spell one module at most, and those that spell one have no fault.
-use Rattle.std.proofs.Common.{◌≡◌, ℕ, ◌<◌, List, [], ◌∷◌, ◌++◌, length, take, drop, get_or, Result, Ok, Err, refl, sym, ap, subst, ◌∙◌, append_assoc, inl, inr, arith}
+use Rattle.std.proofs.Common.{◌≡◌, ℕ, ◌<◌, List, [], ◌∷◌, ◌++◌, length, take, drop, Result, Ok, Err, refl, sym, ap, subst, ◌∙◌, append_assoc, inl, inr, arith}
 use Rattle.std.specs.Prelude.{max, IfOk, IfErr, MatchResult}
 use Rattle.std.specs.Global.{Vec}
 use Rattle.std.proofs.lemmas.List.{length-append, take_at}
@@ -16,34 +16,10 @@ use Rattle.wasm_sections.specs.Section.{SpellsModule, IsLinkable, AreFinal}
 use Rattle.wasm_sections.specs.Sections.{last_rank, FailsSection, StopsAt, IsSectionFault}
 use Rattle.wasm_sections.specs.Reader.{IsCounted}
 use Rattle.wasm_sections.proofs.CountedLemmas.{one_counted, no_short, no_fail}
+use Rattle.wasm_sections.specs.lemmas.IdLemmas.{one_id}
 use Rattle.wasm_sections.specs.lemmas.PieceLemmas.{Piece, code_of, joined, AreCounted, AreSorted, all_placed, parts, last_of, last_is, of_module}
 
--- ---- one id, one piece, one list of pieces
-
-abbrev id_at : ℕ → SectionId
-id_at n = get_or
-    (ids.Custom ∷ ids.Type ∷ ids.Import ∷ ids.Function ∷ ids.Table ∷ ids.Memory ∷ ids.Global ∷ ids.Export ∷
-    ids.Start ∷ ids.Element ∷ ids.Code ∷ ids.Data ∷ ids.DataCount ∷ ids.Tag ∷ [])
-    n ids.Custom
-
-id_is : (id : SectionId) → id_at (id_code id) ≡ id
-id_is ids.Custom = refl
-id_is ids.Type = refl
-id_is ids.Import = refl
-id_is ids.Function = refl
-id_is ids.Table = refl
-id_is ids.Memory = refl
-id_is ids.Global = refl
-id_is ids.Export = refl
-id_is ids.Start = refl
-id_is ids.Element = refl
-id_is ids.Code = refl
-id_is ids.Data = refl
-id_is ids.DataCount = refl
-id_is ids.Tag = refl
-
-pub one_id : (a b : SectionId) → id_code a ≡ id_code b → a ≡ b
-one_id a b e = sym (id_is a) ∙ ap id_at e ∙ id_is b
+-- ---- one piece, one list of pieces
 
 pub cons_is : (a b : ℕ) (s t : List ℕ) → a ∷ s ≡ b ∷ t → (a ≡ b) × (s ≡ t)
 cons_is a b s t e = (cc, cc)

@@ -24,7 +24,7 @@ sound_by o w k s = record {
 
 module _ (o : Others) (kept : AreKept o) (context : Context) where
   module _ (s : State) (h : HasTypes context s) where
-    typed_by : HasTypes context (state_by o s)
+    pub typed_by : HasTypes context (state_by o s)
     typed_by = record {
       locals_are = h.locals_are;
       globals_are = h.globals_are;

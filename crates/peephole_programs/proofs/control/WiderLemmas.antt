@@ -109,7 +109,7 @@ module _ (input : List ℕ) (more : List PrimitiveTypeInfo) (w v : World) (widen
       ap₂ (λ (g : List Value) (x : ℕ). state_of v ls g x) (ap (λ (x : List Value). ks ++ x) e ∙ (append-nil ks ∙ k.1)) k.2,
       refl,
     )
-    answered_wider (Fails cause hs q) (Fails why ks p) after others e k = k
+    answered_wider (Fails cause hs q) (Fails why ks p) after others e k = (k.0, (after, k.1), k.2)
     answered_wider (Gives us hs q) (Fails why ks p) after others e k = absurd k
     answered_wider (Fails cause hs q) (Gives vs ks p) after others e k = absurd k
 

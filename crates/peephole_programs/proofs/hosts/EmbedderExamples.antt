@@ -10,33 +10,22 @@ use Rattle.wasm_code.specs.Table.{row_at, table}
 use Rattle.mutate_base.specs.Module.{Module, module_of}
 use Rattle.mutate_base.specs.declared.types.PrimitiveTypeInfo.TheVariants as primitive
 use Rattle.mutate_base.specs.declared.types.TypeInfo.TheVariants.{Func}
-use Rattle.peephole_machine.specs.declared.integer.IntegerType.TheVariants as integer
 use Rattle.peephole_machine.specs.OtherRow.{other_type}
-use Rattle.peephole_machine.specs.Values.{Value, whole, unfinished, met, Gives, Fails, World, context_in}
+use Rattle.peephole_machine.specs.Values.{unfinished, Gives, Fails, context_in}
 use Rattle.peephole_machine.specs.IntegerRow.{integer_row}
 use Rattle.peephole_programs.specs.control.Function.{structural}
 use Rattle.peephole_programs.specs.validation.Algorithm.{check}
 use Rattle.peephole_programs.specs.validation.StandardSteps.{body_frame, standard_steps}
 use Rattle.peephole_programs.specs.modules.Program.{Body, callee}
-use Rattle.peephole_programs.specs.control.Standard.{Beyond, fails, breaks}
 use Rattle.peephole_programs.specs.control.Wider.{wider_module}
 use Rattle.peephole_programs.specs.modules.Running.{Running, world_of, Called, session}
 use Rattle.peephole_programs.specs.hosts.CallBack.{Backs, calling_back}
 use Rattle.peephole_programs.specs.hosts.Embedder.{Embedder, leaving, Functions, running, IsValidFunction, with_function}
+use Rattle.peephole_programs.proofs.ExamplePieces.{i32, call, refuses, nothing, no_deeds}
 
 -- an imported function and one of its own, each of an i32 to one
 abbrev info : Module
 info = record (module_of []) { types = Func (record { params = primitive.I32 ∷ []; returns = primitive.I32 ∷ [] }) ∷ []; functions = 0 ∷ 0 ∷ [] }
-
-abbrev i32 : ℕ → Value
-i32 n = whole integer.I32 n
-
-abbrev call : ℕ → Instruction
-call f = record { row = 1; imm = imm.Index f }
-
--- what it isn't asked to do traps
-abbrev refuses : World
-refuses = record { info = info; answer = λ i vs gs r. Fails (met 0) gs r; others = λ i vs gs r more. more }
 
 -- the call of the imported function becomes that of the other
 abbrev back_of : Option ℕ → Option Instruction
@@ -47,18 +36,7 @@ abbrev backs : Backs
 backs i = back_of (callee i)
 
 abbrev e : Embedder
-e = calling_back backs (leaving refuses)
-
-abbrev beyond : Beyond
-beyond = record {
-  labels = λ k. [];
-  default = λ k. 0;
-  target = λ k c r. fails 0;
-  takes = λ k. [];
-  deed = λ k vs r. breaks 0 r;
-  leaves = λ k. None;
-  label = λ k. None;
-}
+e = calling_back backs (leaving (refuses info))
 
 -- local.get 0; if (result i32); local.get 0; i32.const -1; here; i32.add; call 0; else; i32.const 7; end; end
 abbrev counting : (here : List Operator) → List Operator
@@ -85,10 +63,10 @@ abbrev after : Module
 after = wider_module (0 ∷ []) (primitive.I32 ∷ []) info
 
 abbrev first : Running
-first = running info e old (λ f. beyond)
+first = running info e old (λ f. nothing)
 
 abbrev second : Running
-second = running after e new (λ f. beyond)
+second = running after e new (λ f. nothing)
 
 -- from 2, through the import each time, both give 7; the requested global was 3, and is -1 then
 first_ends : (world_of first 9 5).answer (call 1) (i32 2 ∷ []) [] 5 ≡ Gives (i32 7 ∷ []) [] 5
@@ -118,16 +96,16 @@ unfolding integer_row row_at table other_type callee
 second_calls = refl
 
 -- both functions are valid, each in its module
-valid_before : IsValidFunction info 1 beyond counts
+valid_before : IsValidFunction info 1 nothing counts
 unfolding integer_row row_at table other_type
-valid_before = record { params_are = refl; valid = refl; targets = λ k type place rest c i s t. absurd cc; deeds = λ k o vs rest s t a. tt }
+valid_before = record { params_are = refl; valid = refl; targets = λ k type place rest c i s t. absurd cc; deeds = no_deeds _ _ _ }
 
-valid_after : IsValidFunction after 1 beyond (record counts { operators = rewritten })
+valid_after : IsValidFunction after 1 nothing (record counts { operators = rewritten })
 unfolding integer_row row_at table other_type
-valid_after = record { params_are = refl; valid = refl; targets = λ k type place rest c i s t. absurd cc; deeds = λ k o vs rest s t a. tt }
+valid_after = record { params_are = refl; valid = refl; targets = λ k type place rest c i s t. absurd cc; deeds = no_deeds _ _ _ }
 
 -- but the new one isn't in the old module
-invalid_there : check (context_in info (primitive.I32 ∷ [])) (standard_steps info (primitive.I32 ∷ []) (structural rewritten) beyond) 0 rewritten
+invalid_there : check (context_in info (primitive.I32 ∷ [])) (standard_steps info (primitive.I32 ∷ []) (structural rewritten) nothing) 0 rewritten
     (body_frame (primitive.I32 ∷ []) ∷ []) ≡ None
 unfolding integer_row row_at table other_type
 invalid_there = refl

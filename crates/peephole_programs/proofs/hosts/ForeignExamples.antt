@@ -1,23 +1,26 @@
 -- A call through a table that comes to a foreign function, of a type that no function of the module has, by the definitions alone.
-use Rattle.std.specs.Prelude.{◌≡◌, refl, ℕ, zero, suc, pos, ◌==◌, false, if◌then◌else◌, List, [], ◌∷◌, ◌++◌, Some, None}
+use Rattle.std.proofs.Common.{◌≡◌, refl, ℕ, zero, suc, pos, List, [], ◌∷◌, ◌++◌, Some, None, subst}
+use Rattle.std.specs.Prelude.{◌==◌, if◌then◌else◌, false}
 use Rattle.wasm_code.specs.declared.immediate.Imm.{Imm}
 use Rattle.wasm_code.specs.declared.immediate.Imm.TheVariants as imm
 use Rattle.wasm_code.specs.declared.operator.Operator.{Operator}
 use Rattle.wasm_code.specs.declared.operator.Operator.TheVariants as op
-use Rattle.wasm_code.specs.Instruction.{Instruction}
 use Rattle.wasm_code.specs.Table.{row_at, table}
 use Rattle.mutate_base.specs.Module.{Module, module_of}
 use Rattle.mutate_base.specs.declared.types.ElementType.TheVariants as element
 use Rattle.mutate_base.specs.declared.types.PrimitiveTypeInfo.TheVariants as primitive
 use Rattle.mutate_base.specs.declared.types.TypeInfo.TheVariants.{Func}
 use Rattle.peephole_machine.specs.OtherRow.{other_type}
-use Rattle.peephole_machine.specs.Values.{Value, met, Answer, Gives, Fails, World}
+use Rattle.peephole_machine.specs.Values.{foreign_call, Value, met, Answer, Gives, Fails, World}
 use Rattle.peephole_machine.specs.IntegerRow.{integer_row}
 use Rattle.peephole_programs.specs.modules.Program.{callee}
-use Rattle.peephole_programs.specs.control.Standard.{Beyond, foreign, breaks}
+use Rattle.peephole_programs.specs.control.Standard.{Beyond, by_asked, calls}
+use Rattle.peephole_programs.specs.control.Function.{structural}
+use Rattle.peephole_programs.specs.validation.Sound.{HasTargets, IsCallOf}
 use Rattle.peephole_programs.specs.control.Wider.{wider_module}
 use Rattle.peephole_programs.specs.modules.Running.{Running, world_of}
 use Rattle.peephole_programs.specs.hosts.Embedder.{Embedder, leaving, Functions, running, IsValidFunction, with_function}
+use Rattle.peephole_programs.proofs.ExamplePieces.{call, nothing}
 
 -- one function, which gives an f32, and a table of functions; of an i64 to an f32 there is none
 abbrev info : Module
@@ -43,15 +46,7 @@ e = leaving answers
 
 -- the table has it at the place 0
 abbrev beyond : Beyond
-beyond = record {
-  labels = λ k. [];
-  default = λ k. 0;
-  target = λ k c r. foreign 3;
-  takes = λ k. [];
-  deed = λ k vs r. breaks 0 r;
-  leaves = λ k. None;
-  label = λ k. None;
-}
+beyond = record nothing { target = λ k c r. calls (foreign_call 3 0) }
 
 -- i64.const 9; here; i32.const 0; call_indirect 0 0; end
 abbrev by_table : (here : List Operator) → List Operator
@@ -78,19 +73,33 @@ first = running info e old (λ f. beyond)
 abbrev second : Running
 second = running after e new (λ f. beyond)
 
-abbrev call : Instruction
-call = record { row = 1; imm = imm.Index 0 }
-
-first_ends : (world_of first 9 1).answer call [] [] 6 ≡ Gives (f32 9 ∷ []) [] 7
+first_ends : (world_of first 9 1).answer (call 0) [] [] 6 ≡ Gives (f32 9 ∷ []) [] 7
 unfolding integer_row row_at table other_type callee
 first_ends = refl
 
-second_ends : (world_of second 9 1).answer call [] (record { type = primitive.I64; number = 4 } ∷ []) 6 ≡
+second_ends : (world_of second 9 1).answer (call 0) [] (record { type = primitive.I64; number = 4 } ∷ []) 6 ≡
     Gives (f32 9 ∷ []) (record { type = primitive.I64; number = 9 } ∷ []) 7
 unfolding integer_row row_at table other_type callee
 second_ends = refl
 
 -- the function is valid, whatever foreign function the table has
-valid : (mark : ℕ) → IsValidFunction info 0 (record beyond { target = λ k c r. foreign mark }) (record { params = []; locals = []; operators = by_table [] })
+abbrev by_mark : (mark : ℕ) → Beyond
+by_mark mark = record nothing { target = λ k c r. calls (foreign_call mark 0) }
+
+its_target : (mark : ℕ) → HasTargets info (structural (by_table [])) (by_asked (structural (by_table [])) (by_mark mark))
+unfolding other_type row_at table
+its_target mark zero type place rest c i s t =
+    let same : 0 ≡ type = cc in
+    let is : foreign_call mark 0 ≡ i = cc in
+    subst (λ (x : ℕ). IsCallOf info x i) same (subst (IsCallOf info 0) is refl)
+its_target mark (suc zero) type place rest c i s t = absurd cc
+its_target mark (suc (suc k)) type place rest c i s t = absurd cc
+
+valid : (mark : ℕ) → IsValidFunction info 0 (by_mark mark) (record { params = []; locals = []; operators = by_table [] })
 unfolding integer_row row_at table other_type
-valid mark = record { params_are = refl; valid = refl; targets = λ k type place rest c i s t. absurd cc; deeds = λ k o vs rest s t a. tt }
+valid mark = record {
+  params_are = refl;
+  valid = refl;
+  targets = its_target mark;
+  deeds = record { deeds = λ k o vs rest s part t a. tt; caught = λ k place rest o c at e. absurd cc };
+}

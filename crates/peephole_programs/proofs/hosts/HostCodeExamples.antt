@@ -6,23 +6,21 @@ use Rattle.wasm_code.specs.declared.immediate.Imm.{Imm}
 use Rattle.wasm_code.specs.declared.immediate.Imm.TheVariants as imm
 use Rattle.wasm_code.specs.declared.operator.Operator.{Operator}
 use Rattle.wasm_code.specs.declared.operator.Operator.TheVariants as op
-use Rattle.wasm_code.specs.Instruction.{Instruction}
 use Rattle.wasm_code.specs.Table.{row_at, table}
 use Rattle.mutate_base.specs.Module.{Module, module_of}
 use Rattle.mutate_base.specs.declared.types.PrimitiveTypeInfo.{PrimitiveTypeInfo}
 use Rattle.mutate_base.specs.declared.types.PrimitiveTypeInfo.TheVariants as primitive
 use Rattle.mutate_base.specs.declared.types.TypeInfo.TheVariants.{Func}
-use Rattle.peephole_machine.specs.declared.integer.IntegerType.TheVariants as integer
 use Rattle.peephole_machine.specs.OtherRow.{other_type, changes}
-use Rattle.peephole_machine.specs.Values.{asked_types, Value, whole, unreachable, unfinished, met, Gives, Fails, World}
+use Rattle.peephole_machine.specs.Values.{asked_types, unreachable, unfinished, Gives, Fails}
 use Rattle.peephole_machine.specs.IntegerRow.{integer_row}
 use Rattle.peephole_programs.specs.modules.Program.{callee}
-use Rattle.peephole_programs.specs.control.Standard.{Beyond, fails, breaks}
 use Rattle.peephole_programs.specs.control.Wider.{wider_module}
 use Rattle.peephole_programs.specs.modules.Running.{Running, world_of, Called, session}
 use Rattle.peephole_programs.specs.hosts.Embedder.{Embedder, IsSoundEmbedder, leaving, Functions, running, IsValidFunction, with_function}
 use Rattle.peephole_programs.specs.hosts.HostCode.{Import, Imports, IsImport, AreImports, hosting, catching, IsCatching}
 use Rattle.peephole_programs.proofs.hosts.HostCodeLemmas.{hosting_sound, catching_fine}
+use Rattle.peephole_programs.proofs.ExamplePieces.{i32, call, refuses, nothing, no_deeds}
 
 -- an imported function, and two of its own: the last gives an i32, and the others neither take nor give anything; and a global
 abbrev info : Module
@@ -32,12 +30,6 @@ info = record (module_of []) {
   globals = primitive.I32 ∷ [];
 }
 
-abbrev i32 : ℕ → Value
-i32 n = whole integer.I32 n
-
-abbrev call : ℕ → Instruction
-call f = record { row = 1; imm = imm.Index f }
-
 -- the import calls the function with index 1, catches its trap, and goes on
 abbrev import_at : ℕ → Imm → Option Import
 import_at row (imm.Index zero) = if row == 1 then Some (catching (call 1)) else None
@@ -46,23 +38,8 @@ import_at row i = None
 abbrev imports : Imports
 imports i = import_at i.row i.imm
 
--- what it isn't asked to do traps
-abbrev refuses : World
-refuses = record { info = info; answer = λ i vs gs r. Fails (met 0) gs r; others = λ i vs gs r more. more }
-
 abbrev e : Embedder
-e = hosting info imports (leaving refuses)
-
-abbrev beyond : Beyond
-beyond = record {
-  labels = λ k. [];
-  default = λ k. 0;
-  target = λ k c r. fails 0;
-  takes = λ k. [];
-  deed = λ k vs r. breaks 0 r;
-  leaves = λ k. None;
-  label = λ k. None;
-}
+e = hosting info imports (leaving (refuses info))
 
 -- i32.const 5; here; global.set 0; unreachable; end
 abbrev failing : (here : List Operator) → List Operator
@@ -90,10 +67,10 @@ abbrev after : Module
 after = wider_module (0 ∷ []) (primitive.I32 ∷ []) info
 
 abbrev first : Running
-first = running info e old (λ f. beyond)
+first = running info e old (λ f. nothing)
 
 abbrev second : Running
-second = running after e new (λ f. beyond)
+second = running after e new (λ f. nothing)
 
 -- behind the caught trap both go on with what was set before it; the requested global was 7, and is 5 then
 first_goes_on : (world_of first 9 3).answer (call 2) [] (i32 0 ∷ []) 6 ≡ Gives (i32 5 ∷ []) (i32 5 ∷ []) 6
@@ -123,23 +100,23 @@ unfolding integer_row row_at table other_type callee
 second_calls = refl
 
 -- both functions that fail are valid
-valid_before : IsValidFunction info 1 beyond (record { params = []; locals = []; operators = failing [] })
+valid_before : IsValidFunction info 1 nothing (record { params = []; locals = []; operators = failing [] })
 unfolding integer_row row_at table other_type
-valid_before = record { params_are = refl; valid = refl; targets = λ k type place rest c i s t. absurd cc; deeds = λ k o vs rest s t a. tt }
+valid_before = record { params_are = refl; valid = refl; targets = λ k type place rest c i s t. absurd cc; deeds = no_deeds _ _ _ }
 
-valid_after : IsValidFunction after 1 beyond (record { params = []; locals = []; operators = rewritten })
+valid_after : IsValidFunction after 1 nothing (record { params = []; locals = []; operators = rewritten })
 unfolding integer_row row_at table other_type
-valid_after = record { params_are = refl; valid = refl; targets = λ k type place rest c i s t. absurd cc; deeds = λ k o vs rest s t a. tt }
+valid_after = record { params_are = refl; valid = refl; targets = λ k type place rest c i s t. absurd cc; deeds = no_deeds _ _ _ }
 
 -- ---- the host is sound over every embedder that is
 
 catches : IsCatching info (call 0) (call 1)
 unfolding changes other_type row_at table
-catches = record { changes_all = refl; not_exact = λ h. absurd cc; gives_nothing = nothing; results = []; takes_nothing = refl }
+catches = record { changes_all = refl; not_exact = λ h. absurd cc; gives_nothing = none; results = []; takes_nothing = refl }
   where
-    nothing : (ts rs : List PrimitiveTypeInfo) → asked_types info (call 0) ts ≡ Some rs → rs ≡ []
-    nothing [] rs x = cc
-    nothing (t ∷ ts) rs x = absurd cc
+    none : (ts rs : List PrimitiveTypeInfo) → asked_types info (call 0) ts ≡ Some rs → rs ≡ []
+    none [] rs x = cc
+    none (t ∷ ts) rs x = absurd cc
 
 import_fine : (row : ℕ) (i : Imm) (code : Import) → import_at row i ≡ Some code → IsImport info (record { row = row; imm = i }) code
 import_fine row (imm.Index zero) code x = go (row == 1) refl x

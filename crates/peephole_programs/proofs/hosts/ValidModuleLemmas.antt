@@ -5,13 +5,13 @@ use Rattle.std.proofs.lemmas.Bool.{eqb-true}
 use Rattle.wasm_code.specs.declared.operator.Operator.{Operator}
 use Rattle.mutate_base.specs.Module.{Module}
 use Rattle.mutate_base.specs.declared.types.PrimitiveTypeInfo.{PrimitiveTypeInfo}
-use Rattle.peephole_machine.specs.Values.{context_in, Ends, Traps, Stuck}
+use Rattle.peephole_machine.specs.Values.{context_in, IsSound, Ends, Traps, Stuck}
 use Rattle.peephole_programs.specs.control.Function.{structural, Reached, At, Done, Control, runs, IsSoundControl}
 use Rattle.peephole_programs.specs.modules.Program.{Body, context_for, IsSoundBody, AreSound, BothRewritten, AreRewritten}
 use Rattle.peephole_programs.specs.control.Standard.{Beyond, by_asked, standard}
 use Rattle.peephole_programs.specs.validation.Sound.{EndsWith, IsValid, HasTargets, HasDeeds}
 use Rattle.peephole_programs.specs.control.Wider.{wider_module, wider}
-use Rattle.peephole_programs.specs.modules.Running.{Running, DoesMore, IsWiderSetting}
+use Rattle.peephole_programs.specs.modules.Running.{Running, world_of, DoesMore, IsWiderSetting}
 use Rattle.peephole_programs.specs.hosts.Embedder.{Embedder, IsSoundEmbedder, Functions, Beyonds, arity_at, running, IsValidFunction, AreValid, DoesAs, BothDo, DoAsFunctions, with_operators}
 use Rattle.peephole_programs.specs.hosts.EmbedderLaws.{PiecesDo, OneFunctionRewritten, FunctionsDoThemselves, ValidModulesStayValid, ValidModulesDoMore, ValidModulesAreSound, ValidSessionsDoMore, ValidHarnessesDoMore}
 use Rattle.peephole_programs.proofs.hosts.EmbedderLemmas.{with_none, with_some, stay}
@@ -163,22 +163,23 @@ pub valid_sound : ValidModulesAreSound
 valid_sound m e beyonds functions sound valid =
     running_sound (running m e functions beyonds) (sound.sound m (with_none m)) (all_sound m e functions beyonds valid)
 
+-- the worlds of both modules are sound
+both_sound : (m : Module) (input : List ℕ) (more : List PrimitiveTypeInfo) (e : Embedder) (beyonds : Beyonds) (old new : Functions) →
+    IsSoundEmbedder m e → AreValid m old beyonds → DoAsFunctions m input more old new → (fuel depth : ℕ) →
+    IsSound (world_of (running m e old beyonds) fuel depth) × IsSound (world_of (running (wider_module input more m) e new beyonds) fuel depth)
+both_sound m input more e beyonds old new sound valid same fuel depth = (
+  valid_sound m e beyonds old sound valid fuel depth,
+  valid_sound (wider_module input more m) e beyonds new (stay m e input more sound) (stay_valid m input more beyonds old new valid same) fuel depth,
+)
+
 pub valid_sessions : ValidSessionsDoMore
 valid_sessions m input more e beyonds old new sound valid same fuel depth =
-    let after = wider_module input more m in
-    let first = running m e old beyonds in
-    let second = running after e new beyonds in
-    let there = stay m e input more sound in
-    sessions input more first second refl (more_done m input more beyonds old new valid same e sound) fuel depth
-    (valid_sound m e beyonds old sound valid fuel depth)
-    (valid_sound after e beyonds new there (stay_valid m input more beyonds old new valid same) fuel depth)
+    let (first, second) = both_sound m input more e beyonds old new sound valid same fuel depth in
+    sessions input more (running m e old beyonds) (running (wider_module input more m) e new beyonds) refl
+    (more_done m input more beyonds old new valid same e sound) fuel depth first second
 
 pub valid_harnesses : ValidHarnessesDoMore
 valid_harnesses m input more e beyonds old new sound valid same fuel depth =
-    let after = wider_module input more m in
-    let first = running m e old beyonds in
-    let second = running after e new beyonds in
-    let there = stay m e input more sound in
-    harnesses input more first second refl (more_done m input more beyonds old new valid same e sound) fuel depth
-    (valid_sound m e beyonds old sound valid fuel depth)
-    (valid_sound after e beyonds new there (stay_valid m input more beyonds old new valid same) fuel depth)
+    let (first, second) = both_sound m input more e beyonds old new sound valid same fuel depth in
+    harnesses input more (running m e old beyonds) (running (wider_module input more m) e new beyonds) refl
+    (more_done m input more beyonds old new valid same e sound) fuel depth first second

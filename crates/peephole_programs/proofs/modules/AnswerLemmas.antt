@@ -108,7 +108,14 @@ module _ (input : List ℕ) (more : List PrimitiveTypeInfo) (w v : World) (first
       let typed : types (drop own_count ks) ≡ types behind =
       sym (drop-map (λ (z : Value). z.type) own_count ks) ∙ (ap (drop own_count) wide ∙ (drop_at w.info.globals more own_count refl ∙ sym t)) in
       (k.0, k.1.1 ∙ ap (λ (z : List Value). hs ++ z) (sym found ∙ sym (found_is behind (drop own_count ks) typed)), k.2)
-  joined_answer i results others gs all behind r (Fails cause hs q) (Fails why ks p) t k x y = k
+  joined_answer i results others gs all behind r (Fails cause hs q) (Fails why ks p) t k x y =
+      let sized : length hs ≡ own_count = sym (length_types hs) ∙ ap length x.1 in
+      let after = k.1.0 in
+      let found : drop own_count ks ≡ after = ap (drop own_count) k.1.1 ∙ drop_at hs after own_count sized in
+      let wide : types ks ≡ w.info.globals ++ more = y.1 ∙ ap (λ (z : Module). z.globals) h.info_is in
+      let typed : types (drop own_count ks) ≡ types behind =
+      sym (drop-map (λ (z : Value). z.type) own_count ks) ∙ (ap (drop own_count) wide ∙ (drop_at w.info.globals more own_count refl ∙ sym t)) in
+      (k.0, k.1.1 ∙ ap (λ (z : List Value). hs ++ z) (sym found ∙ sym (found_is behind (drop own_count ks) typed)), k.2)
   joined_answer i results others gs all behind r (Gives us hs q) (Fails why ks p) t k x y = absurd k
   joined_answer i results others gs all behind r (Fails cause hs q) (Gives vs ks p) t k x y = absurd k
 

@@ -4,7 +4,6 @@ use Rattle.wasm_code.specs.declared.immediate.BlockType.TheVariants as block
 use Rattle.wasm_code.specs.declared.immediate.ValType.TheVariants as val
 use Rattle.wasm_code.specs.declared.immediate.Imm.TheVariants as imm
 use Rattle.wasm_code.specs.declared.operator.Operator.TheVariants as op
-use Rattle.wasm_code.specs.Instruction.{Instruction}
 use Rattle.wasm_code.specs.Table.{row_at, table}
 use Rattle.mutate_base.specs.Module.{Module, module_of}
 use Rattle.mutate_base.specs.declared.types.PrimitiveTypeInfo.TheVariants as primitive
@@ -13,8 +12,9 @@ use Rattle.peephole_machine.specs.declared.integer.IntegerType.TheVariants as in
 use Rattle.peephole_machine.specs.OtherRow.{other_type}
 use Rattle.peephole_machine.specs.Values.{Value, whole, unfinished, stuck, met, Gives, Fails, Answer}
 use Rattle.peephole_machine.specs.IntegerRow.{integer_row}
-use Rattle.peephole_programs.specs.control.Standard.{fails, breaks, Beyond, standard}
+use Rattle.peephole_programs.specs.control.Standard.{standard}
 use Rattle.peephole_programs.specs.modules.Program.{Body, Program, Controls, callee, Answering, world_with, world, Host, plain}
+use Rattle.peephole_programs.proofs.ExamplePieces.{i32, call, nothing}
 
 -- one function, of one i32 to one
 abbrev info : Module
@@ -28,25 +28,8 @@ after = record info { globals = primitive.I32 ∷ [] }
 abbrev host : Module → Host
 host m = plain (world_with m (λ i vs gs r. Fails (met 0) gs r))
 
-abbrev beyond : Beyond
-beyond = record {
-  labels = λ k. [];
-  default = λ k. 0;
-  target = λ k c r. fails 0;
-  takes = λ k. [];
-  deed = λ k vs r. breaks 0 r;
-  leaves = λ k. None;
-  label = λ k. None;
-}
-
 abbrev controls : Controls
-controls f structure = standard info (primitive.I32 ∷ []) structure beyond
-
-abbrev i32 : ℕ → Value
-i32 n = whole integer.I32 n
-
-abbrev call_it : Instruction
-call_it = record { row = 1; imm = imm.Index 0 }
+controls f structure = standard info (primitive.I32 ∷ []) structure nothing
 
 -- local.get 0; if (result i32); local.get 0; i32.const -1; i32.add; call 0; else; i32.const 7; end; end
 abbrev counts : Body
@@ -54,7 +37,7 @@ counts = record {
   params = primitive.I32 ∷ [];
   locals = [];
   operators = op.Instr (record { row = 4; imm = imm.Index 0 }) ∷ op.If (block.Value val.I32) ∷ op.Instr (record { row = 4; imm = imm.Index 0 })
-      ∷ op.Instr (record { row = 36; imm = imm.I32 (neg_ℤ (pos 1)) }) ∷ op.Instr (record { row = 77; imm = imm.Nothing }) ∷ op.Instr call_it ∷ op.Else
+      ∷ op.Instr (record { row = 36; imm = imm.I32 (neg_ℤ (pos 1)) }) ∷ op.Instr (record { row = 77; imm = imm.Nothing }) ∷ op.Instr (call 0) ∷ op.Else
       ∷ op.Instr (record { row = 36; imm = imm.I32 (pos 7) }) ∷ op.End ∷ op.End ∷ [];
 }
 
@@ -65,7 +48,7 @@ counts_again = record {
   locals = [];
   operators = op.Instr (record { row = 4; imm = imm.Index 0 }) ∷ op.If (block.Value val.I32) ∷ op.Instr (record { row = 4; imm = imm.Index 0 })
       ∷ op.Instr (record { row = 36; imm = imm.I32 (neg_ℤ (pos 1)) }) ∷ op.Instr (record { row = 8; imm = imm.Index 0 })
-      ∷ op.Instr (record { row = 7; imm = imm.Index 0 }) ∷ op.Instr (record { row = 77; imm = imm.Nothing }) ∷ op.Instr call_it ∷ op.Else
+      ∷ op.Instr (record { row = 7; imm = imm.Index 0 }) ∷ op.Instr (record { row = 77; imm = imm.Nothing }) ∷ op.Instr (call 0) ∷ op.Else
       ∷ op.Instr (record { row = 36; imm = imm.I32 (pos 7) }) ∷ op.End ∷ op.End ∷ [];
 }
 
@@ -80,45 +63,42 @@ abbrev new : Program
 new = only counts_again
 
 -- from 2, three calls deep, both give 7; the requested global was 3, and is -1 after the calls
-old_ends : (world (host info) controls 9 old 3).answer call_it (i32 2 ∷ []) [] 5 ≡ Gives (i32 7 ∷ []) [] 5
+old_ends : (world (host info) controls 9 old 3).answer (call 0) (i32 2 ∷ []) [] 5 ≡ Gives (i32 7 ∷ []) [] 5
 unfolding integer_row row_at table other_type callee
 old_ends = refl
 
-new_ends : (world (host after) controls 9 new 3).answer call_it (i32 2 ∷ []) (i32 3 ∷ []) 5 ≡ Gives (i32 7 ∷ []) (i32 4294967295 ∷ []) 5
+new_ends : (world (host after) controls 9 new 3).answer (call 0) (i32 2 ∷ []) (i32 3 ∷ []) 5 ≡ Gives (i32 7 ∷ []) (i32 4294967295 ∷ []) 5
 unfolding integer_row row_at table other_type callee
 new_ends = refl
 
 -- two calls deep neither has ended
-old_goes_on : (world (host info) controls 9 old 2).answer call_it (i32 2 ∷ []) [] 5 ≡ Fails unfinished [] 5
+old_goes_on : (world (host info) controls 9 old 2).answer (call 0) (i32 2 ∷ []) [] 5 ≡ Fails unfinished [] 5
 unfolding integer_row row_at table other_type callee
 old_goes_on = refl
 
-new_goes_on : (world (host after) controls 9 new 2).answer call_it (i32 2 ∷ []) (i32 3 ∷ []) 5 ≡ Fails unfinished (i32 4294967295 ∷ []) 5
+new_goes_on : (world (host after) controls 9 new 2).answer (call 0) (i32 2 ∷ []) (i32 3 ∷ []) 5 ≡ Fails unfinished (i32 4294967295 ∷ []) 5
 unfolding integer_row row_at table other_type callee
 new_goes_on = refl
 
 -- with no fuel neither; one lap is enough, since nothing jumps back
-old_short : (world (host info) controls 0 old 3).answer call_it (i32 2 ∷ []) [] 5 ≡ Fails unfinished [] 5
+old_short : (world (host info) controls 0 old 3).answer (call 0) (i32 2 ∷ []) [] 5 ≡ Fails unfinished [] 5
 unfolding integer_row row_at table other_type callee
 old_short = refl
 
-old_in_one : (world (host info) controls 1 old 3).answer call_it (i32 2 ∷ []) [] 5 ≡ Gives (i32 7 ∷ []) [] 5
+old_in_one : (world (host info) controls 1 old 3).answer (call 0) (i32 2 ∷ []) [] 5 ≡ Gives (i32 7 ∷ []) [] 5
 unfolding integer_row row_at table other_type callee
 old_in_one = refl
 
 -- an operand of another type: a fixed answer
-other_operand : (world (host info) controls 9 old 3).answer call_it (whole integer.I64 2 ∷ []) [] 5 ≡ Fails stuck [] 5
+other_operand : (world (host info) controls 9 old 3).answer (call 0) (whole integer.I64 2 ∷ []) [] 5 ≡ Fails stuck [] 5
 unfolding integer_row row_at table other_type callee
 other_operand = refl
 
 -- ---- an import that calls an export back
 
-abbrev call_import : Instruction
-call_import = record { row = 1; imm = imm.Index 1 }
-
 -- to the import it answers what the function with index 0 does
 abbrev back_to : Answering → Option ℕ → (vs gs : List Value) → (r : ℕ) → Answer
-back_to calls (Some (suc f)) vs gs r = calls call_it vs gs r
+back_to calls (Some (suc f)) vs gs r = calls (call 0) vs gs r
 back_to calls o vs gs r = Fails (met 0) gs r
 
 abbrev calls_back : Host
@@ -135,15 +115,15 @@ through =
       params = primitive.I32 ∷ [];
       locals = [];
       operators = op.Instr (record { row = 4; imm = imm.Index 0 }) ∷ op.If (block.Value val.I32) ∷ op.Instr (record { row = 4; imm = imm.Index 0 })
-          ∷ op.Instr (record { row = 36; imm = imm.I32 (neg_ℤ (pos 1)) }) ∷ op.Instr (record { row = 77; imm = imm.Nothing }) ∷ op.Instr call_import ∷ op.Else
+          ∷ op.Instr (record { row = 36; imm = imm.I32 (neg_ℤ (pos 1)) }) ∷ op.Instr (record { row = 77; imm = imm.Nothing }) ∷ op.Instr (call 1) ∷ op.Else
           ∷ op.Instr (record { row = 36; imm = imm.I32 (pos 7) }) ∷ op.End ∷ op.End ∷ [];
     })
 
 -- from 2, through the import each time
-through_ends : (world calls_back controls 9 through 5).answer call_it (i32 2 ∷ []) [] 5 ≡ Gives (i32 7 ∷ []) [] 5
+through_ends : (world calls_back controls 9 through 5).answer (call 0) (i32 2 ∷ []) [] 5 ≡ Gives (i32 7 ∷ []) [] 5
 unfolding integer_row row_at table other_type callee
 through_ends = refl
 
-through_goes_on : (world calls_back controls 9 through 4).answer call_it (i32 2 ∷ []) [] 5 ≡ Fails unfinished [] 5
+through_goes_on : (world calls_back controls 9 through 4).answer (call 0) (i32 2 ∷ []) [] 5 ≡ Fails unfinished [] 5
 unfolding integer_row row_at table other_type callee
 through_goes_on = refl

@@ -12,14 +12,15 @@ use Rattle.peephole_machine.specs.Values.{same_types, Value, IsValue, State, Has
 use Rattle.peephole_machine.specs.OutcomeLemmas.{length_types}
 use Rattle.peephole_machine.specs.RowLemmas.{and_then_some, map_some, same_types_is}
 use Rattle.peephole_programs.specs.control.Function.{Label, At}
-use Rattle.peephole_programs.specs.control.Standard.{Arity, arity_of, has_arity, other_part, end_of, enter, otherwise, close, skip}
+use Rattle.peephole_programs.specs.control.Blocks.{Arity, arity_of, has_arity, other_part}
+use Rattle.peephole_programs.specs.control.Standard.{Caught, parts_of, end_of, enter, jump_to, caught_at, otherwise, close, skip}
 use Rattle.peephole_programs.specs.validation.Algorithm.{Frame, popped, on_innermost}
 use Rattle.peephole_programs.specs.validation.StandardSteps.{pop, push, opened_by, open_frame, can_close, leaves_alike, close_frame, other_of}
 use Rattle.peephole_programs.proofs.validation.PoppedLemmas.{pop_values, close_values, push_values, opened_values}
 use Rattle.peephole_programs.proofs.validation.RunChecks.{if_some}
 use Rattle.peephole_programs.proofs.validation.FrameLemmas.{like_itself, like_then}
 use Rattle.peephole_programs.proofs.validation.ClosingLemmas.{Closed, closes_at}
-use Rattle.peephole_programs.proofs.validation.WalkLemmas.{Walk, all_front, close_two, open_parts, IsOpen, Fits, top_of, Stands, Next, leave_stands, ends_stand}
+use Rattle.peephole_programs.proofs.validation.WalkLemmas.{Walk, all_front, close_two, open_parts, IsOpen, Catches, Fits, top_of, Stands, Next, leave_stands, ends_stand}
 use Rattle.peephole_programs.proofs.validation.ConditionLemmas.{condition, choose_stands}
 
 pub else_parts : (o : Option Operator) (g : Frame) (outer next : List Frame) → other_of o g outer ≡ Some next →
@@ -38,12 +39,13 @@ module _ (walk : Walk) where
 
   -- ---- into a block
 
-  abbrev at_label : ℕ → List Value → Arity → Label
+  abbrev pub at_label : ℕ → List Value → Arity → Label
   at_label k stack ar = record { opener = k; height = length stack - length ar.starts }
 
   -- the block that begins with number k
   pub closed_of : (o : Operator) (ar : Arity) (k : ℕ) (outer : List Frame) → k < length structure → trace.frames (suc k) ≡ opened_by o ar ∷ outer →
       Closed context results structure pieces start beyond trace (opened_by o ar) outer (ending k) (other_part zero (suc k) (drop (suc k) structure))
+      (parts_of m results structure k)
   closed_of o ar k outer l e =
       closes_at context results structure pieces start beyond trace (drop (suc k) structure) (suc k) (omega arith) refl zero (opened_by o ar) outer
       (opened_by o ar, e, like_itself (opened_by o ar))
@@ -54,13 +56,11 @@ module _ (walk : Walk) where
       let c = closed_of o ar k (h ∷ outer) l e in
       (close_two c.final h outer (trace.frames (suc (ending k))) c.closed_is).0 ∙ ap (λ (ts : List PrimitiveTypeInfo). push ts h ∷ outer) c.ends
 
-  pub enter_stands : (o : Operator) (t : BlockType) (k j : ℕ) (g h : Frame) (outer : List Frame) (labels : List Label) (stack : List Value) (s : State) →
-      j ≤ length structure → trace.frames j ≡ opened_by o (arity_of m t) ∷ (h ∷ outer) →
-      IsOpen walk (opened_by o (arity_of m t)) (at_label k stack (arity_of m t)) (h ∷ outer) → Fits walk g outer labels stack →
-      pop (arity_of m t).starts g ≡ Some h → All IsValue stack → HasTypes context s →
-      Stands walk (At j (at_label k stack (arity_of m t) ∷ labels) stack s)
-  enter_stands o t k j g h outer labels stack s l e opened fits popped a typed =
-      let ar = arity_of m t in
+  pub enter_stands : (o : Operator) (ar : Arity) (k j : ℕ) (g h : Frame) (outer : List Frame) (labels : List Label) (stack : List Value) (s : State) →
+      j ≤ length structure → trace.frames j ≡ opened_by o ar ∷ (h ∷ outer) → IsOpen walk (opened_by o ar) (at_label k stack ar) (h ∷ outer) →
+      Fits walk g outer labels stack → pop ar.starts g ≡ Some h → All IsValue stack → HasTypes context s →
+      Stands walk (At j (at_label k stack ar ∷ labels) stack s)
+  enter_stands o ar k j g h outer labels stack s l e opened fits popped a typed =
       let top = top_of walk g outer labels stack fits in
       let p = pop_values ar.starts g h top.vs top.values popped in
       let whole : stack ≡ (top.below ++ p.rest) ++ p.top =
@@ -77,17 +77,25 @@ module _ (walk : Walk) where
         typed,
       )
 
+  -- what is no handler catches nothing
+  pub never_catches : (f : Frame) (label : Label) (outer : List Frame) (o : Operator) → slice_get structure label.opener ≡ Some o →
+      ((mark rest : ℕ) → caught_at m results structure beyond (Some o) label.opener mark rest ≡ None) → Catches walk f label outer
+  never_catches f label outer o at none mark rest c e =
+      let same : ◌≡◌ {A = Option Caught} None (Some c) =
+      sym (none mark rest) ∙ (ap (λ x. caught_at m results structure beyond x label.opener mark rest) (sym at) ∙ e) in
+      absurd cc
+
   -- ---- out of a block
 
-  pub skip_stands : (g : Frame) (outer : List Frame) (labels : List Label) (stack : List Value) (s : State) (t : BlockType) → Fits walk g outer labels stack →
-      g.opened ≡ Some (op.If t) → can_close g ≡ true → All IsValue stack → HasTypes context s → Stands walk (skip m results structure labels stack s)
-  skip_stands g [] [] stack s t fits o c a typed = let none : ◌≡◌ {A = Option Operator} None (Some (op.If t)) = sym fits.0 ∙ o in absurd cc
-  skip_stands g [] (label ∷ labels) stack s t fits o c a typed = absurd fits
-  skip_stands g (h ∷ hs) [] stack s t fits o c a typed = absurd fits
-  skip_stands g (h ∷ hs) (label ∷ labels) stack s t fits o c a typed =
+  pub skip_stands : (g : Frame) (outer : List Frame) (labels : List Label) (stack : List Value) (s : State) (x : Operator) → Fits walk g outer labels stack →
+      g.opened ≡ Some x → can_close g ≡ true → All IsValue stack → HasTypes context s → Stands walk (skip m results structure labels stack s)
+  skip_stands g [] [] stack s x fits o c a typed = let none : ◌≡◌ {A = Option Operator} None (Some x) = sym fits.0 ∙ o in absurd cc
+  skip_stands g [] (label ∷ labels) stack s x fits o c a typed = absurd fits
+  skip_stands g (h ∷ hs) [] stack s x fits o c a typed = absurd fits
+  skip_stands g (h ∷ hs) (label ∷ labels) stack s x fits o c a typed =
       let (below, vs, is, v, height, opened, outer) = fits in
       subst (λ x. Stands walk (At (suc (ending label.opener)) labels x s)) (sym is)
-      (ends_stand walk opened.type g (h ∷ hs) label labels below vs s opened refl (close_values g vs v c ∙ opened.ends) h hs refl outer
+      (ends_stand walk g (h ∷ hs) label labels below vs s opened (close_values g vs v c ∙ opened.ends) h hs refl outer
       (subst (All IsValue) is a) typed)
 
   pub close_stands : (k : ℕ) (g : Frame) (outer : List Frame) (labels : List Label) (stack : List Value) (s : State) → k < length structure →
@@ -124,8 +132,8 @@ module _ (walk : Walk) where
       let inside = c.inside in
       let alike = (close_two c.final h outer (trace.frames (suc (ending k))) c.closed_is).2 in
       let same : same_types c.final.starts c.final.ends ≡ true =
-      ap (λ (o : Option Operator). leaves_alike o (record { starts = c.final.starts; ends = c.final.ends })) (sym (c.same none)) ∙ alike in
-      let both : ar.starts ≡ ar.ends = sym c.starts ∙ (same_types_is c.final.starts c.final.ends same ∙ c.ends) in
+      ap (λ (o : Option Operator). leaves_alike o (record { starts = c.final.starts; ends = c.final.ends })) (sym (c.same none).opened) ∙ alike in
+      let both : ar.starts ≡ ar.ends = sym (c.same none).starts ∙ (same_types_is c.final.starts c.final.ends same ∙ c.ends) in
       let top = top_of walk g outer labels stack fits in
       let p = pop_values ar.starts g h top.vs top.values popped in
       let whole : stack ≡ top.below ++ (p.rest ++ p.top) = top.is ∙ ap (λ (x : List Value). top.below ++ x) p.is in (
@@ -156,29 +164,31 @@ module _ (walk : Walk) where
       let inside = closed.inside in
       choose_stands walk d outer labels stack cond (λ below. enter m results structure k t labels below s)
       (λ below. otherwise m results structure part k t labels below s)
-      (enter_stands (op.If t) t k (suc k) d h outer labels cond.base s (omega arith) x (record {
-        type = t;
+      (enter_stands (op.If t) ar k (suc k) d h outer labels cond.base s (omega arith) x (record {
+        arity = ar;
         starts = refl;
         ends = refl;
         inside = inside;
         after = closed_after (op.If t) ar k h outer l x;
-        kind = inr (inr at, λ f. refl);
+        kind = inr (λ ls z q. ap (λ o. jump_to m results structure beyond o (at_label k cond.base ar) ls z q) at, λ f. refl);
+        catches = never_catches (opened_by (op.If t) ar) (at_label k cond.base ar) (h ∷ outer) (op.If t) at (λ mark rest. refl);
       }) cond.fits w base_all typed)
       (go part refl d h cond.base closed x w cond.fits base_all)
     where
       go : (o : Option ℕ) → other_part zero (suc k) (drop (suc k) structure) ≡ o → (d h : Frame) (base : List Value) →
           Closed context results structure pieces start beyond trace (opened_by (op.If t) (arity_of m t)) (h ∷ outer) (ending k)
-          (other_part zero (suc k) (drop (suc k) structure)) →
+          (other_part zero (suc k) (drop (suc k) structure)) (parts_of m results structure k) →
           trace.frames (suc k) ≡ opened_by (op.If t) (arity_of m t) ∷ (h ∷ outer) → pop (arity_of m t).starts d ≡ Some h →
           Fits walk d outer labels base → All IsValue base → Stands walk (otherwise m results structure o k t labels base s)
       go (Some j) part d h base closed x w fits all =
-          let (inside, there) = closed.other j part in
-          enter_stands op.Else t k (suc j) d h outer labels base s (omega arith) there (record {
-            type = t;
+          let (inside, there) = closed.other j t part refl in
+          enter_stands op.Else (arity_of m t) k (suc j) d h outer labels base s (omega arith) there (record {
+            arity = arity_of m t;
             starts = refl;
             ends = refl;
             inside = closed.inside;
             after = closed_after (op.If t) (arity_of m t) k h outer l x;
-            kind = inr (inr at, λ f. refl);
+            kind = inr (λ ls z q. ap (λ o. jump_to m results structure beyond o (at_label k base (arity_of m t)) ls z q) at, λ f. refl);
+            catches = never_catches (opened_by op.Else (arity_of m t)) (at_label k base (arity_of m t)) (h ∷ outer) (op.If t) at (λ mark rest. refl);
           }) fits w all typed
       go None part d h base closed x w fits all = without_else t k d h outer labels base s l x part fits w all typed

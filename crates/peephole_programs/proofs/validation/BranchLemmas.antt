@@ -12,14 +12,15 @@ use Rattle.mutate_base.specs.declared.types.PrimitiveTypeInfo.TheVariants as pri
 use Rattle.peephole_machine.specs.Values.{Value, IsValue, types, State, HasTypes}
 use Rattle.peephole_machine.specs.OutcomeLemmas.{length_types}
 use Rattle.peephole_machine.specs.RowLemmas.{and_then_some, map_some}
-use Rattle.peephole_programs.specs.control.Function.{Label, At}
-use Rattle.peephole_programs.specs.control.Standard.{arity_of, last_of, unwound, label_at, end_of, jump_to, branch, branch_by, branch_on}
+use Rattle.peephole_programs.specs.control.Function.{Label, Reached, At}
+use Rattle.peephole_programs.specs.control.Blocks.{Arity, arity_of}
+use Rattle.peephole_programs.specs.control.Standard.{last_of, unwound, label_at, end_of, jump_to, branch, branch_by, branch_on}
 use Rattle.peephole_programs.specs.validation.Algorithm.{Frame, popped, on_innermost}
 use Rattle.peephole_programs.specs.validation.StandardSteps.{pop, push, cut_off, opened_by, types_by, label_types, can_jump, can_jump_all}
 use Rattle.peephole_programs.proofs.validation.PoppedLemmas.{pop_values, push_values, opened_values, last_is, front_is}
 use Rattle.peephole_programs.proofs.validation.RunChecks.{if_some}
 use Rattle.peephole_programs.proofs.validation.FrameLemmas.{Like, like_then}
-use Rattle.peephole_programs.proofs.validation.WalkLemmas.{Walk, all_front, all_behind, IsOpen, Fits, top_of, Stands, Next, ends_stand}
+use Rattle.peephole_programs.proofs.validation.WalkLemmas.{Walk, all_front, all_behind, IsOpen, leads_by, Fits, top_of, Stands, Next, ends_stand}
 use Rattle.peephole_programs.proofs.validation.ConditionLemmas.{condition, choose_stands}
 
 get_inside : {X : Type 0} (xs : List X) (i : ℕ) (x : X) → slice_get xs i ≡ Some x → i < length xs
@@ -59,56 +60,53 @@ module _ (walk : Walk) where
   jump_stands : (f g : Frame) (gs : List Frame) (label : Label) (labels : List Label) (below middle ws stack : List Value) (s : State) →
       IsOpen walk f label (g ∷ gs) → Fits walk g gs labels below → label.height ≡ length below → stack ≡ below ++ middle → last_of (length ws) stack ≡ ws →
       types ws ≡ label_types f → All IsValue stack → All IsValue ws → HasTypes context s →
-      Stands walk (jump_to m results structure (slice_get structure label.opener) label labels stack s)
+      Stands walk (jump_to m results structure beyond (slice_get structure label.opener) label labels stack s)
   jump_stands f g gs label labels below middle ws stack s h fits height e last w a b typed = elim h.kind [
     | inl loop ↦
-        let t = h.type in
-        let ar = arity_of m t in
-        let wt : types ws ≡ ar.starts = w ∙ (ap (λ o. types_by o f) loop.1 ∙ h.starts) in
-        let n : length ar.starts ≡ length ws = sym (ap length wt) ∙ length_types ws in
-        let whole : unwound label.height (length ar.starts) stack ≡ below ++ ws =
-        unwound_is below middle ws stack label.height (length ar.starts) e (ap (λ k. last_of k stack) n ∙ last) height in
+        let (t, at, same, opened_is, there) = loop in
+        let ar = h.arity in
+        let wt : types ws ≡ ar.starts = w ∙ (ap (λ o. types_by o f) opened_is ∙ h.starts) in
+        let n : length (arity_of m t).starts ≡ length ws =
+        ap (λ (x : Arity). length x.starts) (sym same) ∙ (sym (ap length wt) ∙ length_types ws) in
+        let whole : unwound label.height (length (arity_of m t).starts) stack ≡ below ++ ws =
+        unwound_is below middle ws stack label.height (length (arity_of m t).starts) e (ap (λ k. last_of k stack) n ∙ last) height in
         let new = opened_by (op.Loop t) ar in
         let opened : IsOpen walk new label (g ∷ gs) = record {
-          type = t;
+          arity = ar;
           starts = refl;
           ends = refl;
           inside = h.inside;
           after = h.after;
-          kind = inl (loop.0, refl, loop.2);
+          kind = inl (t, at, same, refl, there);
+          catches = λ mark rest c x. leads_by walk f new (g ∷ gs) h.ends c (h.catches mark rest c x);
         } in
-        let l = get_inside structure label.opener (op.Loop t) loop.0 in
-        subst (λ o. Stands walk (jump_to m results structure o label labels stack s)) (sym loop.0)
+        let l = get_inside structure label.opener (op.Loop t) at in
+        subst (λ o. Stands walk (jump_to m results structure beyond o label labels stack s)) (sym at)
         (subst (λ x. Stands walk (At (suc label.opener) (label ∷ labels) x s)) (sym whole) (
           omega arith,
           new,
           g ∷ gs,
-          loop.2,
+          there,
           (below, ws, refl, opened_values (op.Loop t) ar ws wt, height, opened, fits),
           All-append IsValue below ws (all_front below middle (subst (All IsValue) e a)) b,
           typed,
         ))
     | inr forward ↦
-        let t = h.type in
-        let ar = arity_of m t in
+        let ar = h.arity in
         let wt : types ws ≡ ar.ends = w ∙ (forward.1 f ∙ h.ends) in
         let n : length ar.ends ≡ length ws = sym (ap length wt) ∙ length_types ws in
         let whole : unwound label.height (length ar.ends) stack ≡ below ++ ws =
         unwound_is below middle ws stack label.height (length ar.ends) e (ap (λ k. last_of k stack) n ∙ last) height in
-        let it : Stands walk (At (suc (ending label.opener)) labels (unwound label.height (length ar.ends) stack) s) =
-        subst (λ x. Stands walk (At (suc (ending label.opener)) labels x s)) (sym whole)
-        (ends_stand walk t f (g ∷ gs) label labels below ws s h refl wt g gs refl fits
-        (All-append IsValue below ws (all_front below middle (subst (All IsValue) e a)) b) typed) in
-        elim forward.0 [
-          | inl x ↦ subst (λ o. Stands walk (jump_to m results structure o label labels stack s)) (sym x) it
-          | inr x ↦ subst (λ o. Stands walk (jump_to m results structure o label labels stack s)) (sym x) it
-        ]
+        subst (λ (r : Reached). Stands walk r) (sym (forward.0 labels stack s))
+        (subst (λ x. Stands walk (At (suc (ending label.opener)) labels x s)) (sym whole)
+        (ends_stand walk f (g ∷ gs) label labels below ws s h wt g gs refl fits
+        (All-append IsValue below ws (all_front below middle (subst (All IsValue) e a)) b) typed))
   ]
 
-  branch_stands : (l : ℕ) (f to : Frame) (outer : List Frame) (labels : List Label) (base middle ws stack : List Value) (s : State) →
+  pub branch_stands : (l : ℕ) (f to : Frame) (outer : List Frame) (labels : List Label) (base middle ws stack : List Value) (s : State) →
       Fits walk f outer labels base → stack ≡ base ++ middle → last_of (length ws) stack ≡ ws → slice_get (f ∷ outer) l ≡ Some to →
       types ws ≡ label_types to → All IsValue stack → All IsValue ws → HasTypes context s →
-      Stands walk (branch m results structure l labels stack s)
+      Stands walk (branch m results structure beyond l labels stack s)
   branch_stands zero f to [] [] base middle ws stack s fits e last at w a b typed =
       let same : f ≡ to = cc in
       let own : types ws ≡ results = w ∙ (ap label_types (sym same) ∙ (ap (λ o. types_by o f) fits.0 ∙ fits.1)) in
@@ -130,7 +128,7 @@ module _ (walk : Walk) where
   -- to a label with the values that it takes on top
   pub taken_stands : (l : ℕ) (g h to : Frame) (outer : List Frame) (labels : List Label) (stack : List Value) (s : State) → Fits walk g outer labels stack →
       slice_get (g ∷ outer) l ≡ Some to → pop (label_types to) g ≡ Some h → All IsValue stack → HasTypes context s →
-      Stands walk (branch m results structure l labels stack s)
+      Stands walk (branch m results structure beyond l labels stack s)
   taken_stands l g h to outer labels stack s fits at popped a typed =
       let top = top_of walk g outer labels stack fits in
       let p = pop_values (label_types to) g h top.vs top.values popped in
@@ -161,7 +159,7 @@ module _ (walk : Walk) where
       let top = top_of walk f outer labels cond.base cond.fits in
       let p = pop_values ts f q top.vs top.values w in
       let whole : cond.base ≡ top.below ++ (p.rest ++ p.top) = top.is ∙ ap (λ (z : List Value). top.below ++ z) p.is in
-      choose_stands walk f outer labels stack cond (λ below. branch m results structure n labels below s) (λ below. At (suc k) labels below s)
+      choose_stands walk f outer labels stack cond (λ below. branch m results structure beyond n labels below s) (λ below. At (suc k) labels below s)
       (taken_stands n f q to' outer labels cond.base s cond.fits at' (ap (λ z. pop z f) same ∙ w) base_all typed) (
         omega arith,
         push ts q,
@@ -195,7 +193,7 @@ module _ (walk : Walk) where
       label_holds frames to f P each ls default i d (and_parts (can_jump frames to f l) (can_jump_all frames to f ls) e).1
 
   branch_by_stands : (k : ℕ) (c : Value) (labels : List Label) (stack : List Value) (s : State) → c.type ≡ primitive.I32 →
-      Stands walk (branch m results structure (label_at (beyond.labels k) (beyond.default k) c.number) labels stack s) →
+      Stands walk (branch m results structure beyond (label_at (beyond.labels k) (beyond.default k) c.number) labels stack s) →
       Stands walk (branch_by m results structure beyond k c.type c.number labels stack s)
   branch_by_stands k c labels stack s e h = subst (λ t. Stands walk (branch_by m results structure beyond k t c.number labels stack s)) (sym e) h
 
@@ -226,5 +224,5 @@ module _ (walk : Walk) where
       (subst (λ (z : List Value). Stands walk (branch_by m results structure beyond k cond.value.type cond.value.number labels z s))
       (sym (front_is cond.base (cond.value ∷ []) 1 refl))
       (branch_by_stands k cond.value labels cond.base s cond.typed
-      (label_holds frames to f (λ l. Stands walk (branch m results structure l labels cond.base s)) each (beyond.labels k) (beyond.default k)
+      (label_holds frames to f (λ l. Stands walk (branch m results structure beyond l labels cond.base s)) each (beyond.labels k) (beyond.default k)
       cond.value.number (each (beyond.default k) to q at x) can))))

@@ -1,19 +1,22 @@
 -- What stays of a frame, and what a structural operator does to the frames.
-use Rattle.std.proofs.Common.{◌≡◌, ℕ, List, [], ◌∷◌, length, Option, Some, None, refl, sym, ap, ◌∙◌, subst, Bool, true, false}
+use Rattle.std.proofs.Common.{◌≡◌, ℕ, ◌⊎◌, inl, inr, List, [], ◌∷◌, length, Option, Some, None, refl, sym, ap, ◌∙◌, subst, true}
 use Rattle.std.specs.Prelude.{◌&&◌, slice_get, option_map, option_and_then, if◌then◌else◌}
+use Rattle.std.proofs.lemmas.Bool.{and_parts}
 use Rattle.wasm_code.specs.Instruction.{Instruction}
+use Rattle.wasm_code.specs.declared.immediate.BlockType.{BlockType}
+use Rattle.wasm_code.specs.declared.other.Other.{Other}
 use Rattle.wasm_code.specs.declared.operator.Operator.{Operator}
 use Rattle.wasm_code.specs.declared.operator.Operator.TheVariants as op
-use Rattle.wasm_code.specs.Other.{is_catching}
 use Rattle.mutate_base.specs.Module.{Module}
 use Rattle.mutate_base.specs.declared.types.PrimitiveTypeInfo.{PrimitiveTypeInfo}
 use Rattle.mutate_base.specs.declared.types.PrimitiveTypeInfo.TheVariants as primitive
-use Rattle.peephole_machine.specs.Values.{Context}
+use Rattle.peephole_machine.specs.Values.{same_types, Context}
 use Rattle.peephole_machine.specs.IntegerRow.{IntegerRow, operand_count, integer_row}
-use Rattle.peephole_machine.specs.RowLemmas.{and_then_some, map_some}
-use Rattle.peephole_programs.specs.control.Standard.{Arity, arity_of, has_arity, call_arity, Beyond, Nesting, opens, parts, closes, stays, nesting}
+use Rattle.peephole_machine.specs.RowLemmas.{and_then_some, map_some, same_types_is}
+use Rattle.peephole_programs.specs.control.Blocks.{Arity, arity_of, has_arity, call_arity, Role, handles, tries, catches, delegates, does, role_of, other_nesting, Nesting, opens, parts, closes, stays, nesting}
+use Rattle.peephole_programs.specs.control.Standard.{Beyond, handler_arity}
 use Rattle.peephole_programs.specs.validation.Algorithm.{all_may_be, row_entries, Frame, can_pop, popped, with_pushed, check_row, check_code, on_innermost}
-use Rattle.peephole_programs.specs.validation.StandardSteps.{pop, push, cut_off, opened_by, open_frame, label_types, can_close, close_frame, other_of, other_frame, can_jump_all, can_branch, left, other_step, can_call, by_step}
+use Rattle.peephole_programs.specs.validation.StandardSteps.{pop, push, cut_off, opened_by, open_frame, label_types, can_close, close_frame, other_of, other_frame, can_jump_all, can_branch, left, are_labels, is_tried, is_try, catch_frame, delegate_frame, other_step, can_call, by_step}
 use Rattle.peephole_programs.proofs.validation.RunChecks.{if_some}
 use Rattle.peephole_programs.proofs.validation.TraceLemmas.{check_instructions}
 
@@ -105,18 +108,29 @@ pub record Opens (fs next : List Frame) : Type 0 where
   pub next_is : next ≡ new ∷ (changed ∷ tail)
   pub like : Like changed head
 
--- the other part in the place of the first
-pub record Parts (fs next : List Frame) : Type 0 where
+-- what begins another part of a block: `else`, in a conditional, with what that takes; or a catch of a `try`
+abbrev pub IsElse : (head new : Frame) → Type 0
+IsElse head new = (t : BlockType) × (head.opened ≡ Some (op.If t)) × (new ≡ opened_by op.Else (record { starts = head.starts; ends = head.ends }))
+
+abbrev pub IsCatch : Beyond → Operator → (k : ℕ) → (head new : Frame) → Type 0
+IsCatch beyond o k head new =
+    (x : Other) × (o ≡ op.Other x) × (role_of x ≡ catches) × (is_tried head.opened ≡ true) × (new ≡ opened_by (op.Other x) (handler_arity beyond k))
+
+-- the other part in the place of the one before
+pub record Parts (beyond : Beyond) (o : Operator) (k : ℕ) (fs next : List Frame) : Type 0 where
   pub head : Frame
   pub tail : List Frame
+  pub new : Frame
   pub is : fs ≡ head ∷ tail
-  pub next_is : next ≡ opened_by op.Else (record { starts = head.starts; ends = head.ends }) ∷ tail
+  pub next_is : next ≡ new ∷ tail
+  pub ends : new.ends ≡ head.ends
+  pub kind : IsElse head new ⊎ IsCatch beyond o k head new
 
-abbrev pub Effect : Nesting → (fs next : List Frame) → Type 0
-Effect opens fs next = Opens fs next
-Effect parts fs next = Parts fs next
-Effect closes fs next = close_frame fs ≡ Some next
-Effect stays fs next = Flat fs next
+abbrev pub Effect : Beyond → Operator → (k : ℕ) → Nesting → (fs next : List Frame) → Type 0
+Effect beyond o k opens fs next = Opens fs next
+Effect beyond o k parts fs next = Parts beyond o k fs next
+Effect beyond o k closes fs next = close_frame fs ≡ Some next
+Effect beyond o k stays fs next = Flat fs next
 
 open_effect : (o : Operator) (a : Arity) (fs next : List Frame) → open_frame o a fs ≡ Some next → Opens fs next
 open_effect o a fs next e =
@@ -147,19 +161,44 @@ then_opens fs mid next a b =
       like = like_then b.like (subst (λ x. Like x a.head) heads a.like);
     }
 
-other_effect : (fs next : List Frame) → other_frame fs ≡ Some next → Parts fs next
-other_effect [] next e = absurd cc
-other_effect (f ∷ fs) next e = go f.opened e
+other_effect : (beyond : Beyond) (o : Operator) (k : ℕ) (fs next : List Frame) → other_frame fs ≡ Some next → Parts beyond o k fs next
+other_effect beyond o k [] next e = absurd cc
+other_effect beyond o k (f ∷ fs) next e = go f.opened refl e
   where
-    go : (o : Option Operator) → other_of o f fs ≡ Some next → Parts (f ∷ fs) next
-    go (Some (op.If t)) e =
-        let new = opened_by op.Else (record { starts = f.starts; ends = f.ends }) ∷ fs in
-        let (a, b) = if_some (can_close f) (Some new) next e in
-        let is : next ≡ new = cc in record { head = f; tail = fs; is = refl; next_is = is }
-    go o e = absurd cc
+    go : (x : Option Operator) → f.opened ≡ x → other_of x f fs ≡ Some next → Parts beyond o k (f ∷ fs) next
+    go (Some (op.If t)) at e =
+        let new = opened_by op.Else (record { starts = f.starts; ends = f.ends }) in
+        let (a, b) = if_some (can_close f) (Some (new ∷ fs)) next e in
+        let is : next ≡ new ∷ fs = cc in
+        record { head = f; tail = fs; new = new; is = refl; next_is = is; ends = refl; kind = inl (t, at, refl) }
+    go x at e = absurd cc
+
+catch_effect : (beyond : Beyond) (x : Other) (k : ℕ) (fs next : List Frame) → role_of x ≡ catches →
+    catch_frame (op.Other x) (handler_arity beyond k) fs ≡ Some next → Parts beyond (op.Other x) k fs next
+catch_effect beyond x k [] next role e = absurd cc
+catch_effect beyond x k (f ∷ fs) next role e =
+    let ar = handler_arity beyond k in
+    let new = opened_by (op.Other x) ar in
+    let (a, b) = if_some (is_tried f.opened && (can_close f && same_types ar.ends f.ends)) (Some (new ∷ fs)) next e in
+    let both = and_parts (is_tried f.opened) (can_close f && same_types ar.ends f.ends) a in
+    let is : next ≡ new ∷ fs = cc in
+    record {
+      head = f;
+      tail = fs;
+      new = new;
+      is = refl;
+      next_is = is;
+      ends = same_types_is ar.ends f.ends (and_parts (can_close f) (same_types ar.ends f.ends) both.1).1;
+      kind = inr (x, refl, role, both.0, refl);
+    }
+
+delegate_effect : (fs next : List Frame) → delegate_frame fs ≡ Some next → close_frame fs ≡ Some next
+delegate_effect [] next e = absurd cc
+delegate_effect (f ∷ fs) next e = (if_some (is_try f.opened) (close_frame (f ∷ fs)) next e).1
 
 module _ (m : Module) (results : List PrimitiveTypeInfo) where
-  pub effect : (beyond : Beyond) (o : Operator) (k : ℕ) (fs next : List Frame) → by_step m results beyond (Some o) k fs ≡ Some next → Effect (nesting o) fs next
+  pub effect : (beyond : Beyond) (o : Operator) (k : ℕ) (fs next : List Frame) → by_step m results beyond (Some o) k fs ≡ Some next →
+      Effect beyond o k (nesting o) fs next
   effect beyond (op.Block t) k fs next e = open_effect (op.Block t) (arity_of m t) fs next (if_some (has_arity m t) _ next e).1
   effect beyond (op.Loop t) k fs next e = open_effect (op.Loop t) (arity_of m t) fs next (if_some (has_arity m t) _ next e).1
   effect beyond (op.If t) k fs next e =
@@ -167,7 +206,7 @@ module _ (m : Module) (results : List PrimitiveTypeInfo) where
       let (mid, a, b) = and_then_some (open_frame (op.If t) (arity_of m t)) (on_innermost (pop one) fs) next
       (if_some (has_arity m t) _ next e).1 in
       then_opens fs mid next (flat (pop one) (pop_like one) fs mid a) (open_effect (op.If t) (arity_of m t) mid next b)
-  effect beyond op.Else k fs next e = other_effect fs next e
+  effect beyond op.Else k fs next e = other_effect beyond op.Else k fs next e
   effect beyond op.End k fs next e = e
   effect beyond (op.Br l) k fs next e =
       let (f, a, b) = and_then_some (λ f. on_innermost (λ g. option_map cut_off (pop (label_types f) g)) fs) (slice_get fs l) next e in
@@ -197,15 +236,20 @@ module _ (m : Module) (results : List PrimitiveTypeInfo) where
       let ar = call_arity m type table in
       let (a, b) = if_some (can_call m type table) (on_innermost (λ g. option_map (push ar.ends) (pop ar.starts g)) fs) next e in
       flat (λ g. option_map (push ar.ends) (pop ar.starts g)) (λ g h. push_like ar.ends (pop ar.starts g) g h (pop_like ar.starts g)) fs next b
-  effect beyond (op.Other o) k fs next e = other_effect_of (is_catching o) e
+  effect beyond (op.Other o) k fs next e = other_effect_of (role_of o) refl e
     where
       left_like : (o : Option (List PrimitiveTypeInfo)) (d : Frame) → Like (left o d) d
       left_like (Some ts) d = record { opened = refl; starts = refl; ends = refl }
       left_like None d = record { opened = refl; starts = refl; ends = refl }
 
-      other_effect_of : (b : Bool) → other_step b beyond k fs ≡ Some next → Flat fs next
-      other_effect_of true e = absurd cc
-      other_effect_of false e =
+      other_effect_of : (r : Role) → role_of o ≡ r → other_step o r beyond k fs ≡ Some next → Effect beyond (op.Other o) k (other_nesting r) fs next
+      other_effect_of handles r e =
+          let ar = handler_arity beyond k in
+          open_effect (op.Other o) ar fs next (if_some (are_labels fs (beyond.clauses k)) (open_frame (op.Other o) ar fs) next e).1
+      other_effect_of tries r e = open_effect (op.Other o) (handler_arity beyond k) fs next e
+      other_effect_of catches r e = catch_effect beyond o k fs next r e
+      other_effect_of delegates r e = delegate_effect fs next e
+      other_effect_of does r e =
           let step = λ (g : Frame). option_and_then (λ (d : Frame). if can_branch fs d (beyond.label k) then Some (left (beyond.leaves k) d) else None)
           (pop (beyond.takes k) g) in
           flat step (λ g h x.

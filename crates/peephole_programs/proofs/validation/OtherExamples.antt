@@ -1,5 +1,5 @@
 -- Functions with other operators: a branch on null, a tail call, and the call of a foreign function by a reference, run and checked by the definitions alone.
-use Rattle.std.proofs.Common.{◌≡◌, refl, ℕ, zero, suc, pos, List, [], ◌∷◌, take, Option, Some, None, ap}
+use Rattle.std.proofs.Common.{◌≡◌, refl, ℕ, zero, suc, pos, List, [], ◌∷◌, take, Option, Some, ap}
 use Rattle.std.specs.List.{All}
 use Rattle.std.proofs.lemmas.List.Elements.{All-nil, All-take}
 use Rattle.wasm_code.specs.declared.immediate.BlockType.TheVariants as block
@@ -13,14 +13,14 @@ use Rattle.mutate_base.specs.declared.types.PrimitiveTypeInfo.{PrimitiveTypeInfo
 use Rattle.mutate_base.specs.declared.types.PrimitiveTypeInfo.TheVariants as primitive
 use Rattle.mutate_base.specs.declared.types.TypeInfo.TheVariants.{Func}
 use Rattle.peephole_machine.specs.OtherRow.{other_type}
-use Rattle.peephole_machine.specs.declared.integer.IntegerType.TheVariants as integer
-use Rattle.peephole_machine.specs.Values.{foreign_call, asked_types, whole, Gives, Value, IsValue, context_in, World, State, Ends}
+use Rattle.peephole_machine.specs.Values.{foreign_call, asked_types, types, Gives, Value, IsValue, context_in, World, State, Ends}
 use Rattle.peephole_machine.specs.IntegerRow.{integer_row}
 use Rattle.peephole_programs.specs.control.Function.{structural, At, Done, runs}
-use Rattle.peephole_programs.specs.control.Standard.{fails, Deed, gives, jumps, breaks, enters, returns, Beyond, standard}
+use Rattle.peephole_programs.specs.control.Standard.{Deed, gives, jumps, breaks, enters, returns, Beyond, standard}
 use Rattle.peephole_programs.specs.validation.Algorithm.{check}
 use Rattle.peephole_programs.specs.validation.StandardSteps.{body_frame, standard_steps}
 use Rattle.peephole_programs.specs.validation.Sound.{IsDeed, HasDeeds}
+use Rattle.peephole_programs.proofs.ExamplePieces.{i32, call, nothing}
 
 -- ---- br_on_null
 
@@ -47,10 +47,7 @@ on_null (v ∷ []) r = by_null v.number v r
 on_null vs r = breaks 0 r
 
 abbrev nulls : Beyond
-nulls = record {
-  labels = λ k. [];
-  default = λ k. 0;
-  target = λ k c r. fails 0;
+nulls = record nothing {
   takes = λ k. primitive.Empty ∷ [];
   deed = λ k. on_null;
   leaves = λ k. Some (primitive.Empty ∷ []);
@@ -64,12 +61,12 @@ abbrev holding : World → ℕ → State
 holding w n = record { locals = reference n ∷ []; globals = []; rest = 0; world = w }
 
 null_is_not : (m : Module) (w : World) → runs (standard m (primitive.I32 ∷ []) (structural is_there) nulls) is_there 4 (At 0 [] [] (holding w 0)) ≡
-    Done (Ends (whole integer.I32 0 ∷ []) (holding w 0))
+    Done (Ends (i32 0 ∷ []) (holding w 0))
 unfolding integer_row row_at table
 null_is_not m w = refl
 
 other_is : (m : Module) (w : World) → runs (standard m (primitive.I32 ∷ []) (structural is_there) nulls) is_there 3 (At 0 [] [] (holding w 5)) ≡
-    Done (Ends (whole integer.I32 1 ∷ []) (holding w 5))
+    Done (Ends (i32 1 ∷ []) (holding w 5))
 unfolding integer_row row_at table
 other_is m w = refl
 
@@ -87,10 +84,17 @@ one_deed m results k v rest (suc n) a t = (
   a,
 )
 
+its_deeds : (m : Module) (results : List PrimitiveTypeInfo) (k : ℕ) (vs : List Value) (rest : ℕ) → types vs ≡ primitive.Empty ∷ [] → All IsValue vs →
+    IsDeed m results nulls k (on_null vs rest)
+its_deeds m results k [] rest t a = tt
+its_deeds m results k (v ∷ []) rest t a = one_deed m results k v rest v.number a (let s : v.type ≡ primitive.Empty = cc in s)
+its_deeds m results k (v ∷ u ∷ vs) rest t a = absurd cc
+
 deeds_are : (m : Module) (results : List PrimitiveTypeInfo) (structure : List Operator) → HasDeeds m results structure nulls
-deeds_are m results structure k o [] rest at t a = tt
-deeds_are m results structure k o (v ∷ []) rest at t a = one_deed m results k v rest v.number a (let s : v.type ≡ primitive.Empty = cc in s)
-deeds_are m results structure k o (v ∷ u ∷ vs) rest at t a = absurd cc
+deeds_are m results structure = record {
+  deeds = λ k o vs rest at part t a. its_deeds m results k vs rest t a;
+  caught = λ k mark rest o c at e. absurd cc;
+}
 
 -- ---- a tail call
 
@@ -103,15 +107,7 @@ abbrev calls_last : List Operator
 calls_last = op.Instr (record { row = 4; imm = imm.Index 0 }) ∷ op.Other (others.Byte 0x12) ∷ op.End ∷ []
 
 abbrev tail : Beyond
-tail = record {
-  labels = λ k. [];
-  default = λ k. 0;
-  target = λ k c r. fails 0;
-  takes = λ k. primitive.I32 ∷ [];
-  deed = λ k vs r. returns (record { row = 1; imm = imm.Index 0 }) vs;
-  leaves = λ k. None;
-  label = λ k. None;
-}
+tail = record nothing { takes = λ k. primitive.I32 ∷ []; deed = λ k vs r. returns (call 0) vs }
 
 tail_valid :
     check (context_in info (primitive.I32 ∷ [])) (standard_steps info (primitive.I32 ∷ []) (structural calls_last) tail) 0 calls_last
@@ -121,8 +117,10 @@ tail_valid = refl
 
 tail_deeds : (structure : List Operator) → HasDeeds info (primitive.I32 ∷ []) structure tail
 unfolding integer_row other_type row_at table
-tail_deeds structure k o vs rest at t a =
-    (ap (λ (ts : List PrimitiveTypeInfo). asked_types info (record { row = 1; imm = imm.Index 0 }) ts) t, a)
+tail_deeds structure = record {
+  deeds = λ k o vs rest at part t a. (ap (λ (ts : List PrimitiveTypeInfo). asked_types info (call 0) ts) t, a);
+  caught = λ k mark rest o c at e. absurd cc;
+}
 
 -- ---- a reference to a foreign function
 
@@ -140,14 +138,10 @@ by_reference (v ∷ f ∷ []) r = enters (foreign_call f.number 0) (v ∷ [])
 by_reference vs r = breaks 0 r
 
 abbrev marks : Beyond
-marks = record {
-  labels = λ k. [];
-  default = λ k. 0;
-  target = λ k c r. fails 0;
+marks = record nothing {
   takes = λ k. primitive.I32 ∷ primitive.Empty ∷ [];
   deed = λ k. by_reference;
   leaves = λ k. Some (primitive.I32 ∷ []);
-  label = λ k. None;
 }
 
 -- it gives what it takes, and the rest is one more
@@ -155,10 +149,10 @@ abbrev counting : World
 counting = record { info = info; answer = λ i vs gs r. Gives vs gs (suc r); others = λ i vs gs r more. more }
 
 abbrev two_locals : (rest : ℕ) → State
-two_locals r = record { locals = whole integer.I32 9 ∷ reference 3 ∷ []; globals = []; rest = r; world = counting }
+two_locals r = record { locals = i32 9 ∷ reference 3 ∷ []; globals = []; rest = r; world = counting }
 
 foreign_ends : runs (standard info (primitive.I32 ∷ []) (structural calls_foreign) marks) calls_foreign 1 (At 0 [] [] (two_locals 6)) ≡
-    Done (Ends (whole integer.I32 9 ∷ []) (two_locals 7))
+    Done (Ends (i32 9 ∷ []) (two_locals 7))
 unfolding integer_row other_type row_at table
 foreign_ends = refl
 
@@ -168,14 +162,21 @@ foreign_valid :
 unfolding integer_row row_at table
 foreign_valid = refl
 
-foreign_deeds : (results : List PrimitiveTypeInfo) (structure : List Operator) → HasDeeds info results structure marks
+its_call : (results : List PrimitiveTypeInfo) (k : ℕ) (vs : List Value) (rest : ℕ) → types vs ≡ primitive.I32 ∷ primitive.Empty ∷ [] → All IsValue vs →
+    IsDeed info results marks k (by_reference vs rest)
 unfolding integer_row other_type row_at table
-foreign_deeds results structure k o [] rest at t a = tt
-foreign_deeds results structure k o (v ∷ []) rest at t a = tt
-foreign_deeds results structure k o (v ∷ f ∷ []) rest at t a = (
+its_call results k [] rest t a = tt
+its_call results k (v ∷ []) rest t a = tt
+its_call results k (v ∷ f ∷ []) rest t a = (
   primitive.I32 ∷ [],
   refl,
   ap (λ (ts : List PrimitiveTypeInfo). asked_types info (foreign_call f.number 0) (take 1 ts)) t,
   All-take IsValue 1 (v ∷ f ∷ []) a,
 )
-foreign_deeds results structure k o (v ∷ f ∷ u ∷ vs) rest at t a = tt
+its_call results k (v ∷ f ∷ u ∷ vs) rest t a = tt
+
+foreign_deeds : (results : List PrimitiveTypeInfo) (structure : List Operator) → HasDeeds info results structure marks
+foreign_deeds results structure = record {
+  deeds = λ k o vs rest at part t a. its_call results k vs rest t a;
+  caught = λ k mark rest o c at e. absurd cc;
+}

@@ -8,7 +8,8 @@ use Rattle.mutate_base.specs.declared.types.PrimitiveTypeInfo.{PrimitiveTypeInfo
 use Rattle.peephole_machine.specs.Values.{same_types, Value, types}
 use Rattle.peephole_machine.specs.OutcomeLemmas.{types_append}
 use Rattle.peephole_machine.specs.RowLemmas.{same_types_is}
-use Rattle.peephole_programs.specs.control.Standard.{Arity, last_of}
+use Rattle.peephole_programs.specs.control.Blocks.{Arity}
+use Rattle.peephole_programs.specs.control.Standard.{last_of}
 use Rattle.peephole_programs.specs.validation.Algorithm.{Entry, all_may_be, known, Frame, can_pop, popped, with_pushed}
 use Rattle.peephole_programs.specs.validation.StandardSteps.{pop, push, opened_by, is_empty, can_close}
 use Rattle.peephole_programs.specs.validation.Sound.{HasValues}

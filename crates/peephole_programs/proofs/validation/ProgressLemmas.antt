@@ -6,16 +6,16 @@ use Rattle.std.proofs.lemmas.List.Elements.{All-nil}
 use Rattle.wasm_code.specs.Instruction.{Instruction}
 use Rattle.wasm_code.specs.declared.operator.Operator.{Operator}
 use Rattle.wasm_code.specs.declared.operator.Operator.TheVariants as op
-use Rattle.wasm_code.specs.Other.{is_catching}
 use Rattle.mutate_base.specs.Module.{Module}
 use Rattle.mutate_base.specs.declared.types.PrimitiveTypeInfo.{PrimitiveTypeInfo}
 use Rattle.peephole_machine.specs.Values.{Value, IsValue, Context, State, HasTypes, Outcome, Ends, Traps, Stuck}
 use Rattle.peephole_machine.specs.Machine.{run}
 use Rattle.peephole_machine.specs.RowLemmas.{and_then_some, map_some}
 use Rattle.peephole_programs.specs.control.Function.{structural, piece, Label, Reached, At, Done, Control, go_on, pass, runs}
-use Rattle.peephole_programs.specs.control.Standard.{arity_of, has_arity, Beyond, leave, by_operator, standard}
+use Rattle.peephole_programs.specs.control.Blocks.{arity_of, has_arity, role_of}
+use Rattle.peephole_programs.specs.control.Standard.{Beyond, leave, jump_to, by_operator, standard}
 use Rattle.peephole_programs.specs.validation.Algorithm.{Frame, Structural, on_innermost}
-use Rattle.peephole_programs.specs.validation.StandardSteps.{pop, cut_off, body_frame, label_types, by_step, standard_steps}
+use Rattle.peephole_programs.specs.validation.StandardSteps.{pop, cut_off, opened_by, body_frame, label_types, by_step, standard_steps}
 use Rattle.peephole_programs.specs.validation.Sound.{HasValues, EndsIn, EndsWith, HasTargets, HasDeeds, IsValid, ValidBodiesRun, LapsArePasses}
 use Rattle.peephole_programs.proofs.control.LapLemmas.{runs_keep}
 use Rattle.peephole_programs.proofs.control.PassLemmas.{Within, run_passes, ends_alike}
@@ -26,7 +26,7 @@ use Rattle.peephole_programs.proofs.validation.FrameLemmas.{code_like, instructi
 use Rattle.peephole_programs.proofs.validation.ClosingLemmas.{dropped, none_left}
 use Rattle.peephole_programs.proofs.validation.WalkLemmas.{Walk, all_behind, open_parts, Fits, top_of, Stands, Next, leave_stands}
 use Rattle.peephole_programs.proofs.validation.BranchLemmas.{taken_stands, br_if_stands, br_table_stands}
-use Rattle.peephole_programs.proofs.validation.BlockLemmas.{else_parts, closed_of, closed_after, enter_stands, skip_stands, close_stands, if_stands}
+use Rattle.peephole_programs.proofs.validation.BlockLemmas.{else_parts, closed_of, closed_after, at_label, never_catches, enter_stands, skip_stands, close_stands, if_stands}
 use Rattle.peephole_programs.proofs.validation.CallLemmas.{call_stands}
 use Rattle.peephole_programs.proofs.validation.OtherLemmas.{other_stands}
 
@@ -40,28 +40,30 @@ module _ (walk : Walk) where
   operator_stands (op.Block t) k l at g outer labels stack s fits e a typed =
       let ar = arity_of m t in
       let (h, b, c) = open_parts (op.Block t) ar g outer (trace.frames (suc k)) (if_some (has_arity m t) _ (trace.frames (suc k)) e).1 in
-      enter_stands walk (op.Block t) t k (suc k) g h outer labels stack s (omega arith) c (record {
-        type = t;
+      enter_stands walk (op.Block t) ar k (suc k) g h outer labels stack s (omega arith) c (record {
+        arity = ar;
         starts = refl;
         ends = refl;
         inside = (closed_of walk (op.Block t) ar k (h ∷ outer) l c).inside;
         after = closed_after walk (op.Block t) ar k h outer l c;
-        kind = inr (inl at, λ f. refl);
+        kind = inr (λ ls z q. ap (λ o. jump_to m results structure beyond o (at_label walk k stack ar) ls z q) at, λ f. refl);
+        catches = never_catches walk (opened_by (op.Block t) ar) (at_label walk k stack ar) (h ∷ outer) (op.Block t) at (λ mark rest. refl);
       }) fits b a typed
   operator_stands (op.Loop t) k l at g outer labels stack s fits e a typed =
       let ar = arity_of m t in
       let (h, b, c) = open_parts (op.Loop t) ar g outer (trace.frames (suc k)) (if_some (has_arity m t) _ (trace.frames (suc k)) e).1 in
-      enter_stands walk (op.Loop t) t k (suc k) g h outer labels stack s (omega arith) c (record {
-        type = t;
+      enter_stands walk (op.Loop t) ar k (suc k) g h outer labels stack s (omega arith) c (record {
+        arity = ar;
         starts = refl;
         ends = refl;
         inside = (closed_of walk (op.Loop t) ar k (h ∷ outer) l c).inside;
         after = closed_after walk (op.Loop t) ar k h outer l c;
-        kind = inl (at, refl, c);
+        kind = inl (t, at, refl, refl, c);
+        catches = never_catches walk (opened_by (op.Loop t) ar) (at_label walk k stack ar) (h ∷ outer) (op.Loop t) at (λ mark rest. refl);
       }) fits b a typed
   operator_stands (op.If t) k l at g outer labels stack s fits e a typed = if_stands walk t k l at g outer labels stack s fits e a typed
   operator_stands op.Else k l at g outer labels stack s fits e a typed =
-      let (t, b, c) = else_parts g.opened g outer (trace.frames (suc k)) e in skip_stands walk g outer labels stack s t fits b c a typed
+      let (t, b, c) = else_parts g.opened g outer (trace.frames (suc k)) e in skip_stands walk g outer labels stack s (op.If t) fits b c a typed
   operator_stands op.End k l at g outer labels stack s fits e a typed = close_stands walk k g outer labels stack s l fits e a typed
   operator_stands (op.Br n) k l at g outer labels stack s fits e a typed =
       let next = trace.frames (suc k) in
@@ -84,7 +86,7 @@ module _ (walk : Walk) where
       (leave_stands walk (top.below ++ p.rest) p.top s p.typed (all_behind (top.below ++ p.rest) p.top (subst (All IsValue) whole a)))
   operator_stands op.Unreachable k l at g outer labels stack s fits e a typed = tt
   operator_stands (op.Other x) k l at g outer labels stack s fits e a typed =
-      other_stands walk x (is_catching x) k l at g outer labels stack s fits e a typed
+      other_stands walk x (role_of x) refl k l at g outer labels stack s fits e a typed
   operator_stands o k l at g outer labels stack s fits e a typed = absurd cc
 
   -- ---- runs

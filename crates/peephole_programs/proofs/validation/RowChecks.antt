@@ -15,7 +15,7 @@ use Rattle.peephole_machine.specs.Values.{type_of, same_type, same_types, accept
 use Rattle.peephole_machine.specs.IntegerRow.{IntegerRow, constant, operation, get, set, tee, discard, select, nop, other, operand_count, if_typed, row_types, variable_type, is_numeric, integer_row}
 use Rattle.peephole_machine.specs.RowLemmas.{and_then_some, map_some, same_type_is, row_types_count}
 use Rattle.peephole_machine.specs.StateLemmas.{get_front}
-use Rattle.peephole_programs.specs.control.Standard.{function_arity, is_arity}
+use Rattle.peephole_programs.specs.control.Blocks.{function_arity, is_arity}
 use Rattle.peephole_programs.specs.control.Wider.{wider}
 use Rattle.peephole_programs.specs.validation.Algorithm.{Entry, may_be, all_may_be, take_all, known, other_entries, row_entries, Frame, can_pop, popped, with_pushed, check_row, check_code}
 use Rattle.peephole_programs.specs.validation.StaysValid.{with_types, Pushes, KnownOperandsCheckByTypes, TypedCodePushes, PushesOnFrames, RowTypesStay}

@@ -14,7 +14,8 @@ use Rattle.peephole_machine.specs.Values.{Context}
 use Rattle.peephole_machine.specs.IntegerRow.{integer_row}
 use Rattle.peephole_machine.specs.RowLemmas.{and_then_some, map_some}
 use Rattle.peephole_programs.specs.control.Function.{structural}
-use Rattle.peephole_programs.specs.control.Standard.{Arity, arity_of, has_arity, Deed, gives, jumps, breaks, enters, returns, Beyond}
+use Rattle.peephole_programs.specs.control.Blocks.{Arity, arity_of, has_arity}
+use Rattle.peephole_programs.specs.control.Standard.{Deed, gives, jumps, breaks, enters, returns, Beyond}
 use Rattle.peephole_programs.specs.control.Wider.{wider_module, wider}
 use Rattle.peephole_programs.specs.validation.Algorithm.{Frame, check_row, check_code, Structural, on_innermost, check}
 use Rattle.peephole_programs.specs.validation.StandardSteps.{pop, body_frame, open_frame, only_where, by_step, standard_steps}
@@ -147,8 +148,7 @@ stays_valid context input requests results beyond old new valid h =
     (body_frame results ∷ []) [] (h.checks steps 0 (body_frame results ∷ []) [] valid)
 
 pub targets_stay : TargetsStay
-targets_stay m input more structure beyond h k type table rest place i at e =
-    let it = h k type table rest place i at e in record { is_other = it.is_other; types_are = it.types_are }
+targets_stay m input more structure beyond h k type table rest place i at e = h k type table rest place i at e
 
 -- what another operator comes to is of its types there too
 deed_stays : (m : Module) (input : List ℕ) (more results : List PrimitiveTypeInfo) (beyond : Beyond) (k : ℕ) (d : Deed) → IsDeed m results beyond k d →
@@ -160,5 +160,8 @@ deed_stays m input more results beyond k (enters i vs) h = (h.0, h.1, h.2, h.3)
 deed_stays m input more results beyond k (returns i vs) h = (h.0, h.1)
 
 pub deeds_stay : DeedsStay
-deeds_stay m input more results structure beyond h k o operands rest at t a =
-    deed_stays m input more results beyond k (beyond.deed k operands rest) (h k o operands rest at t a)
+deeds_stay m input more results structure beyond h = record {
+  deeds = λ k o operands rest at part t a.
+      deed_stays m input more results beyond k (beyond.deed k operands rest) (h.deeds k o operands rest at part t a);
+  caught = h.caught;
+}

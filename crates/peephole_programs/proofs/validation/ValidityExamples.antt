@@ -84,4 +84,4 @@ calls_by_table beyond = refl
 -- what it may come to: call 0
 is_target : IsCallOf info 0 (record { row = 1; imm = imm.Index 0 })
 unfolding integer_row other_type row_at table
-is_target = record { is_other = refl; types_are = refl }
+is_target = refl

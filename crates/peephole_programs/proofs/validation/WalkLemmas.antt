@@ -15,14 +15,16 @@ use Rattle.peephole_machine.specs.Values.{Value, IsValue, types, Context, State,
 use Rattle.peephole_machine.specs.OutcomeLemmas.{length_types}
 use Rattle.peephole_machine.specs.RowLemmas.{map_some}
 use Rattle.peephole_programs.specs.control.Function.{Label, Reached, At, Done}
-use Rattle.peephole_programs.specs.control.Standard.{Arity, arity_of, Beyond, end_of, leave, by_operator}
+use Rattle.peephole_programs.specs.control.Blocks.{Arity, arity_of}
+use Rattle.peephole_programs.specs.control.Standard.{Caught, branches, begins, delegated, Beyond, end_of, leave, jump_out, jump_to, caught_at, by_operator}
 use Rattle.peephole_programs.specs.validation.Algorithm.{Frame, on_innermost}
-use Rattle.peephole_programs.specs.validation.StandardSteps.{pop, push, opened_by, open_frame, types_by, can_close, leaves_alike, close_frame, by_step, standard_steps}
+use Rattle.peephole_programs.specs.validation.StandardSteps.{pop, push, opened_by, open_frame, types_by, label_types, can_close, leaves_alike, close_frame, by_step, standard_steps}
 use Rattle.peephole_programs.specs.validation.Sound.{HasValues, HasTargets, HasDeeds}
 use Rattle.peephole_programs.proofs.validation.PoppedLemmas.{push_values, last_is}
 use Rattle.peephole_programs.proofs.validation.RunChecks.{if_some}
 use Rattle.peephole_programs.proofs.validation.TraceLemmas.{Trace}
 use Rattle.peephole_programs.proofs.validation.FrameLemmas.{Like}
+use Rattle.peephole_programs.proofs.validation.ClosingLemmas.{CaughtPart}
 
 -- the outer frames with a block's results
 abbrev pub pushed : List PrimitiveTypeInfo → List Frame → List Frame
@@ -67,7 +69,7 @@ pub record Walk : Type 0 where
   pub deeds : HasDeeds context.info results structure beyond
 
 module _ (walk : Walk) where
-  open walk use {context, results, structure, beyond, trace}
+  open walk use {context, results, structure, pieces, start, beyond, trace}
 
   abbrev m : Module
   m = context.info
@@ -77,35 +79,57 @@ module _ (walk : Walk) where
 
   -- ---- labels
 
-  abbrev pub IsLoop : BlockType → Frame → Label → (outer : List Frame) → Type 0
-  IsLoop t f label outer =
-      (slice_get structure label.opener ≡ Some (op.Loop t)) × (f.opened ≡ Some (op.Loop t))
-      × (trace.frames (suc label.opener) ≡ opened_by (op.Loop t) (arity_of m t) ∷ outer)
+  abbrev pub IsLoop : Arity → Frame → Label → (outer : List Frame) → Type 0
+  IsLoop ar f label outer =
+      (t : BlockType) × (slice_get structure label.opener ≡ Some (op.Loop t)) × (ar ≡ arity_of m t) × (f.opened ≡ Some (op.Loop t))
+      × (trace.frames (suc label.opener) ≡ opened_by (op.Loop t) ar ∷ outer)
 
-  abbrev pub IsForward : BlockType → Frame → Label → Type 0
-  IsForward t f label =
-      ((slice_get structure label.opener ≡ Some (op.Block t)) ⊎ (slice_get structure label.opener ≡ Some (op.If t))) × Forwards f.opened
+  -- a branch to it leads behind its end
+  abbrev pub IsForward : Arity → Frame → Label → Type 0
+  IsForward ar f label =
+      ((labels : List Label) (stack : List Value) (s : State) → jump_to m results structure beyond (slice_get structure label.opener) label labels stack s ≡
+      jump_out m results structure (length ar.ends) label labels stack s) × Forwards f.opened
 
-  -- what opened a frame, and the frames where its label leads
+  -- a label outside the block takes the values; or the part begins with them
+  abbrev pub Leads : (f : Frame) → (outer : List Frame) → Caught → Type 0
+  Leads f outer (branches l vs r) = (to : Frame) × (slice_get outer l ≡ Some to) × (types vs ≡ label_types to) × All IsValue vs
+  Leads f outer (begins j vs r) =
+      CaughtPart context results structure pieces start beyond trace f outer j × (types vs ≡ beyond.takes j) × All IsValue vs
+  Leads f outer (delegated l) = ⊤
+
+  -- where an exception leads that the block of a label catches
+  abbrev pub Catches : Frame → Label → (outer : List Frame) → Type 0
+  Catches f label outer =
+      (mark rest : ℕ) (c : Caught) → caught_at m results structure beyond (slice_get structure label.opener) label.opener mark rest ≡ Some c → Leads f outer c
+
+  -- what opened a frame, the frames where its label leads, and what it makes of exceptions
   pub record IsOpen (f : Frame) (label : Label) (outer : List Frame) : Type 0 where
-    pub type : BlockType
-    pub starts : f.starts ≡ (arity_of m type).starts
-    pub ends : f.ends ≡ (arity_of m type).ends
+    pub arity : Arity
+    pub starts : f.starts ≡ arity.starts
+    pub ends : f.ends ≡ arity.ends
     pub inside : ending label.opener < length structure
-    pub after : trace.frames (suc (ending label.opener)) ≡ pushed (arity_of m type).ends outer
-    pub kind : IsLoop type f label outer ⊎ IsForward type f label
+    pub after : trace.frames (suc (ending label.opener)) ≡ pushed arity.ends outer
+    pub kind : IsLoop arity f label outer ⊎ IsForward arity f label
+    pub catches : Catches f label outer
+
+  pub leads_by : (f g : Frame) (outer : List Frame) → f.ends ≡ g.ends → (c : Caught) → Leads f outer c → Leads g outer c
+  leads_by f g outer e (branches l vs r) h = h
+  leads_by f g outer e (begins j vs r) h =
+      let it = h.0 in (record { inside = it.inside; operator = it.operator; at = it.at; role = it.role; next = it.next; ends = it.ends ∙ e }, h.1, h.2)
+  leads_by f g outer e (delegated l) h = tt
 
   pub open_like : {f g : Frame} {label : Label} {outer : List Frame} → Like g f → IsOpen f label outer → IsOpen g label outer
   open_like {f} {g} {label} {outer} like h = record {
-    type = h.type;
+    arity = h.arity;
     starts = like.starts ∙ h.starts;
     ends = like.ends ∙ h.ends;
     inside = h.inside;
     after = h.after;
     kind = elim h.kind [
-      | inl loop ↦ inl (loop.0, like.opened ∙ loop.1, loop.2)
+      | inl loop ↦ inl (loop.0, loop.1, loop.2, like.opened ∙ loop.3, loop.4)
       | inr forward ↦ inr (forward.0, subst Forwards (sym like.opened) forward.1)
     ];
+    catches = λ mark rest c e. leads_by f g outer (sym like.ends) c (h.catches mark rest c e);
   }
 
   -- ---- frames and stacks
@@ -169,12 +193,12 @@ module _ (walk : Walk) where
       subst (λ (vs : List Value). (types vs ≡ results) × All IsValue vs) (sym (last_is below ws (length results) n)) (w, a)
 
   -- behind the end of a block with its results on top
-  pub ends_stand : (t : BlockType) (f : Frame) (outer : List Frame) (label : Label) (labels : List Label) (below ws : List Value) (s : State) →
-      (opened : IsOpen f label outer) → t ≡ opened.type → types ws ≡ (arity_of m t).ends → (g : Frame) (gs : List Frame) → outer ≡ g ∷ gs →
+  pub ends_stand : (f : Frame) (outer : List Frame) (label : Label) (labels : List Label) (below ws : List Value) (s : State) →
+      (opened : IsOpen f label outer) → types ws ≡ opened.arity.ends → (g : Frame) (gs : List Frame) → outer ≡ g ∷ gs →
       Fits g gs labels below → All IsValue (below ++ ws) → HasTypes context s → Stands (At (suc (ending label.opener)) labels (below ++ ws) s)
-  ends_stand t f outer label labels below ws s h e w g gs is fits a typed =
+  ends_stand f outer label labels below ws s h w g gs is fits a typed =
       let top = top_of g gs labels below fits in
-      let ts = (arity_of m h.type).ends in
+      let ts = h.arity.ends in
       let same : below ++ ws ≡ top.below ++ (top.vs ++ ws) = ap (λ (x : List Value). x ++ ws) top.is ∙ append_assoc top.below top.vs ws in
       let l = h.inside in (
         omega arith,
@@ -182,7 +206,7 @@ module _ (walk : Walk) where
         gs,
         h.after ∙ ap (pushed ts) is,
         subst (Fits (push ts g) gs labels) (sym same) (top.again (push ts g) (top.vs ++ ws) (record { opened = refl; starts = refl; ends = refl })
-            (push_values ts g top.vs ws top.values (w ∙ ap (λ (x : BlockType). (arity_of m x).ends) e))),
+            (push_values ts g top.vs ws top.values w)),
         a,
         typed,
       )

@@ -1,107 +1,17 @@
 -- The standard's control: blocks, loops, conditionals, branches, returns and ends
 -- (WebAssembly Core Specification 3.0, Execution, Instructions, Control Instructions).
-use Rattle.std.specs.Prelude.{ℕ, zero, suc, ◌-◌, Bool, true, false, if◌then◌else◌, List, [], ◌∷◌, ◌++◌, length, take, drop, slice_get, Option, Some, None}
-use Rattle.wasm_code.specs.Other.{is_catching}
+use Rattle.std.specs.Prelude.{ℕ, zero, suc, ◌-◌, is_some, Bool, true, false, if◌then◌else◌, List, [], ◌∷◌, ◌++◌, length, take, drop, slice_get, Option, Some, None}
 use Rattle.wasm_code.specs.declared.immediate.BlockType.{BlockType}
-use Rattle.wasm_code.specs.declared.immediate.BlockType.TheVariants as block
 use Rattle.wasm_code.specs.declared.operator.Operator.{Operator}
 use Rattle.wasm_code.specs.declared.operator.Operator.TheVariants as op
 use Rattle.mutate_base.specs.Module.{Module}
 use Rattle.mutate_base.specs.declared.types.PrimitiveTypeInfo.{PrimitiveTypeInfo}
 use Rattle.mutate_base.specs.declared.types.PrimitiveTypeInfo.TheVariants as primitive
-use Rattle.mutate_base.specs.declared.types.TypeInfo.{TypeInfo}
-use Rattle.mutate_base.specs.declared.types.TypeInfo.TheVariants.{Func, Other}
-use Rattle.mutate_base.specs.declared.types.TableType.{TableType}
-use Rattle.peephole_machine.specs.OtherRow.{value_type, address_type}
-use Rattle.peephole_machine.specs.Values.{foreign_call, Value, State, own_globals, unreachable, met, Ends, Traps, Stuck, above}
+use Rattle.peephole_machine.specs.Values.{asked_types, types, Value, Answer, Gives, Fails, State, own_globals, further_globals, unreachable, met, Ends, Traps, Stuck}
 use Rattle.wasm_code.specs.Instruction.{Instruction}
-use Rattle.peephole_machine.specs.Machine.{ask, run}
-use Rattle.peephole_programs.specs.control.Function.{Label, Reached, At, Done, Control, go_on}
+use Rattle.peephole_programs.specs.control.Function.{Label, Reached, At, Done, Control}
 use Rattle.peephole_programs.specs.control.Numbers.{are_values}
-
--- ---- block types
-
--- a block type or a function type: what is taken at the start, and what is left at the end
-pub record Arity : Type 0 where
-  pub starts : List PrimitiveTypeInfo
-  pub ends : List PrimitiveTypeInfo
-
--- what a function type takes and leaves: nothing where the module has none such
-abbrev pub function_arity : Option TypeInfo → Arity
-function_arity (Some (Func t)) = record { starts = t.params; ends = t.returns }
-function_arity (Some Other) = record { starts = []; ends = [] }
-function_arity None = record { starts = []; ends = [] }
-
--- the type of a block: none, one result, or a function type of the module; of other references than to functions and outside there is one type, `Empty`
-abbrev pub arity_of : Module → BlockType → Arity
-arity_of m block.Empty = record { starts = []; ends = [] }
-arity_of m (block.Value t) = record { starts = []; ends = value_type t ∷ [] }
-arity_of m (block.FuncType i) = function_arity (slice_get m.types i)
-arity_of m block.Reference = record { starts = []; ends = primitive.Empty ∷ [] }
-
--- a function's type is there
-abbrev pub is_arity : Option TypeInfo → Bool
-is_arity (Some (Func t)) = true
-is_arity (Some Other) = false
-is_arity None = false
-
--- the block type is valid: a function type that it names is there
-abbrev pub has_arity : Module → BlockType → Bool
-has_arity m (block.FuncType i) = is_arity (slice_get m.types i)
-has_arity m t = true
-
--- the type of a table's indices; i32 where there is no such table
-abbrev pub index_type : Option TableType → PrimitiveTypeInfo
-index_type (Some t) = address_type t.table64
-index_type None = primitive.I32
-
--- a call through a table takes the function's parameters and an index into the table
-abbrev pub call_arity : Module → (type table : ℕ) → Arity
-call_arity m type table =
-    let f = function_arity (slice_get m.types type) in
-    record { starts = f.starts ++ index_type (slice_get m.tables table) ∷ []; ends = f.ends }
-
--- ---- where blocks end
-
--- what an operator is to blocks: it opens one, begins its other part, closes it, or stands in it
-pub data Nesting : Type 0 where
-  opens parts closes stays : Nesting
-
--- the operators that open, part and close blocks; all others stand in them (those that catch exceptions are never valid here)
-abbrev pub nesting : Operator → Nesting
-nesting (op.Block t) = opens
-nesting (op.Loop t) = opens
-nesting (op.If t) = opens
-nesting op.Else = parts
-nesting op.End = closes
-nesting o = stays
-
--- one step of `closing`, by what the operator with number k is to blocks
-abbrev pub closing_at : Nesting → (depth k : ℕ) → (later : ℕ → ℕ) → ℕ
-closing_at closes zero k later = k
-closing_at closes (suc depth) k later = later depth
-closing_at opens depth k later = later (suc depth)
-closing_at parts depth k later = later depth
-closing_at stays depth k later = later depth
-
--- of the operators from number k on, the number of the end that closes `depth` blocks and the one around them
-abbrev pub closing : (depth k : ℕ) → List Operator → ℕ
-closing depth k [] = k
-closing depth k (o ∷ os) = closing_at (nesting o) depth k (λ d. closing d (suc k) os)
-
--- one step of `other_part`, which stops at the end of the conditional itself
-abbrev pub other_part_at : Nesting → (depth k : ℕ) → (later : ℕ → Option ℕ) → Option ℕ
-other_part_at parts zero k later = Some k
-other_part_at parts (suc depth) k later = later (suc depth)
-other_part_at closes zero k later = None
-other_part_at closes (suc depth) k later = later depth
-other_part_at opens depth k later = later (suc depth)
-other_part_at stays depth k later = later depth
-
--- the number of the `else` before that end, where there is one
-abbrev pub other_part : (depth k : ℕ) → List Operator → Option ℕ
-other_part depth k [] = None
-other_part depth k (o ∷ os) = other_part_at (nesting o) depth k (λ d. other_part d (suc k) os)
+use Rattle.peephole_programs.specs.control.Blocks.{Arity, Role, arity_of, catches, closing, delegates, does, function_arity, handles, other_part, parts_from, role_of, tries}
 
 -- ---- stacks
 
@@ -126,11 +36,17 @@ choose vs taken other = Done Stuck
 
 -- ---- the control
 
--- what a call through a table comes to: the call of a function of the module, or of a foreign one, by a mark of it, or a trap, with a mark of its cause
+-- what a call through a table comes to: the call of a function of the module, or of a foreign one, or a trap, with a mark of its cause
 pub data Target : Type 0 where
   calls : Instruction → Target
-  foreign : (mark : ℕ) → Target
   fails : (mark : ℕ) → Target
+
+-- what a block makes of an exception inside: it branches to a label outside with these values; begins the part of its own with that number, with them on
+-- the stack; the rest is then that; or it leaves the exception to the blocks from that label on
+pub data Caught : Type 0 where
+  branches : (label : ℕ) → (values : List Value) → (rest : ℕ) → Caught
+  begins : (part : ℕ) → (values : List Value) → (rest : ℕ) → Caught
+  delegated : (label : ℕ) → Caught
 
 -- what another operator comes to: it goes on with these values in the place of its operands, or branches to a label with them; traps, or throws, with a
 -- mark of the cause; is the call of a function with these operands; or is such a call and returns. The rest, where memories, tables and objects are, is
@@ -144,7 +60,9 @@ pub data Deed : Type 0 where
 
 -- What an operator here doesn't carry, by its number: the labels of a branch by a table, its default one, and what a call through a table comes to, by its
 -- last operand and the rest, where the tables are. Of another operator the types of its operands, what it comes to, by these and the rest; the types of
--- what it leaves, none where it never goes on; and the label that it may branch to, with the types of what it then leaves, where there is one.
+-- what it leaves, none where it never goes on; and the label that it may branch to, with the types of what it then leaves, where there is one. Of a block that
+-- catches exceptions, and of a part that begins with one, what it takes and leaves; what the block makes of an exception with a mark, where it catches it; and
+-- the labels that a `try_table` may then branch to, with the types of the values.
 pub record Beyond : Type 0 where
   pub labels : (k : ℕ) → List ℕ
   pub default : (k : ℕ) → ℕ
@@ -153,6 +71,8 @@ pub record Beyond : Type 0 where
   pub deed : (k : ℕ) → (operands : List Value) → (rest : ℕ) → Deed
   pub leaves : (k : ℕ) → Option (List PrimitiveTypeInfo)
   pub label : (k : ℕ) → Option (ℕ × List PrimitiveTypeInfo)
+  pub catcher : (k mark rest : ℕ) → Option Caught
+  pub clauses : (k : ℕ) → List (ℕ × List PrimitiveTypeInfo)
 
 -- the operators that ask it: a branch by a table, a call through one, and every other operator
 abbrev pub asks_beyond : Operator → Bool
@@ -183,7 +103,18 @@ by_asked structure b =
       deed = λ k. b.deed (asked_before structure k);
       leaves = λ k. b.leaves (asked_before structure k);
       label = λ k. b.label (asked_before structure k);
+      catcher = λ k. b.catcher (asked_before structure k);
+      clauses = λ k. b.clauses (asked_before structure k);
     }
+
+-- those types, where there are any
+abbrev pub left_types : Option (List PrimitiveTypeInfo) → List PrimitiveTypeInfo
+left_types (Some ts) = ts
+left_types None = []
+
+-- what a block that catches exceptions, or a part of one, takes and leaves
+abbrev pub handler_arity : Beyond → (k : ℕ) → Arity
+handler_arity beyond k = record { starts = beyond.takes k; ends = left_types (beyond.leaves k) }
 
 -- the label with that place, or the default one
 abbrev pub label_at : List ℕ → (default : ℕ) → ℕ → ℕ
@@ -196,6 +127,10 @@ module _ (m : Module) (results : List PrimitiveTypeInfo) (structure : List Opera
   abbrev pub end_of : ℕ → ℕ
   end_of opener = closing zero (suc opener) (drop (suc opener) structure)
 
+  -- the numbers of the operators that begin a further part of that block
+  abbrev pub parts_of : ℕ → List ℕ
+  parts_of opener = parts_from zero (suc opener) (drop (suc opener) structure)
+
   -- out of the function, with its results
   abbrev pub leave : List Value → State → Reached
   leave stack s = Done (Ends (last_of (length results) stack) s)
@@ -204,22 +139,33 @@ module _ (m : Module) (results : List PrimitiveTypeInfo) (structure : List Opera
   abbrev pub enter : (k : ℕ) → BlockType → List Label → List Value → State → Reached
   enter k t labels stack s = At (suc k) (record { opener = k; height = length stack - length (arity_of m t).starts } ∷ labels) stack s
 
+  -- behind the end of a block, which leaves so many values
+  abbrev pub jump_out : (count : ℕ) → Label → (outer : List Label) → List Value → State → Reached
+  jump_out count label outer stack s = At (suc (end_of label.opener)) outer (unwound label.height count stack) s
+
+  -- a block that catches exceptions is left, in any of its parts; no other operator here has a label
+  abbrev pub jump_other : Beyond → Role → Label → (outer : List Label) → List Value → State → Reached
+  jump_other beyond handles label outer stack s = jump_out (length (handler_arity beyond label.opener).ends) label outer stack s
+  jump_other beyond tries label outer stack s = jump_out (length (handler_arity beyond label.opener).ends) label outer stack s
+  jump_other beyond catches label outer stack s = jump_out (length (handler_arity beyond label.opener).ends) label outer stack s
+  jump_other beyond delegates label outer stack s = Done Stuck
+  jump_other beyond does label outer stack s = Done Stuck
+
   -- to a label: a loop begins again, a block ends
-  abbrev pub jump_to : Option Operator → Label → (outer : List Label) → List Value → State → Reached
-  jump_to (Some (op.Loop t)) label outer stack s =
+  abbrev pub jump_to : Beyond → Option Operator → Label → (outer : List Label) → List Value → State → Reached
+  jump_to beyond (Some (op.Loop t)) label outer stack s =
       At (suc label.opener) (label ∷ outer) (unwound label.height (length (arity_of m t).starts) stack) s
-  jump_to (Some (op.Block t)) label outer stack s =
-      At (suc (end_of label.opener)) outer (unwound label.height (length (arity_of m t).ends) stack) s
-  jump_to (Some (op.If t)) label outer stack s =
-      At (suc (end_of label.opener)) outer (unwound label.height (length (arity_of m t).ends) stack) s
-  jump_to o label outer stack s = Done Stuck
+  jump_to beyond (Some (op.Block t)) label outer stack s = jump_out (length (arity_of m t).ends) label outer stack s
+  jump_to beyond (Some (op.If t)) label outer stack s = jump_out (length (arity_of m t).ends) label outer stack s
+  jump_to beyond (Some (op.Other o)) label outer stack s = jump_other beyond (role_of o) label outer stack s
+  jump_to beyond o label outer stack s = Done Stuck
 
   -- the outermost label is the function's own
-  abbrev pub branch : ℕ → List Label → List Value → State → Reached
-  branch zero [] stack s = leave stack s
-  branch (suc l) [] stack s = Done Stuck
-  branch zero (label ∷ outer) stack s = jump_to (slice_get structure label.opener) label outer stack s
-  branch (suc l) (label ∷ outer) stack s = branch l outer stack s
+  abbrev pub branch : Beyond → ℕ → List Label → List Value → State → Reached
+  branch beyond zero [] stack s = leave stack s
+  branch beyond (suc l) [] stack s = Done Stuck
+  branch beyond zero (label ∷ outer) stack s = jump_to beyond (slice_get structure label.opener) label outer stack s
+  branch beyond (suc l) (label ∷ outer) stack s = branch beyond l outer stack s
 
   -- the other part of a conditional, or what stands behind it
   abbrev pub otherwise : Option ℕ → (k : ℕ) → BlockType → List Label → List Value → State → Reached
@@ -239,7 +185,7 @@ module _ (m : Module) (results : List PrimitiveTypeInfo) (structure : List Opera
 
   -- an index that was popped chooses a label
   abbrev pub branch_by : (beyond : Beyond) → (k : ℕ) → PrimitiveTypeInfo → ℕ → List Label → List Value → State → Reached
-  branch_by beyond k primitive.I32 i labels stack s = branch (label_at (beyond.labels k) (beyond.default k) i) labels stack s
+  branch_by beyond k primitive.I32 i labels stack s = branch beyond (label_at (beyond.labels k) (beyond.default k) i) labels stack s
   branch_by beyond k t i labels stack s = Done Stuck
 
   -- the one value that was popped is that index; of no value the run is stuck
@@ -247,38 +193,94 @@ module _ (m : Module) (results : List PrimitiveTypeInfo) (structure : List Opera
   branch_on beyond k (c ∷ []) labels stack s = branch_by beyond k c.type c.number labels stack s
   branch_on beyond k vs labels stack s = Done Stuck
 
-  -- the call of a function that was found in a table is what the instruction is that calls it, in the state's world; that of a foreign function, of the
-  -- operator's type, is what the world does
-  abbrev pub call_target : Target → (type k : ℕ) → List Label → List Value → State → Reached
-  call_target (fails mark) type k labels stack s = Done (Traps (met mark) (own_globals s) s.rest)
-  call_target (foreign mark) type k labels stack s =
-      let count = length (function_arity (slice_get m.types type)).starts in
-      go_on (At (suc k) labels) (above (take (length stack - count) stack) (ask m (foreign_call mark type) (last_of count stack) s))
-  call_target (calls i) type k labels stack s = go_on (At (suc k) labels) (run (i ∷ []) stack s)
-
-  -- the one value that was popped is the index into the table; of no value the run is stuck
-  abbrev pub call_at : (beyond : Beyond) → (type k : ℕ) → (popped : List Value) → List Label → List Value → State → Reached
-  call_at beyond type k (c ∷ []) labels stack s = call_target (beyond.target k c s.rest) type k labels stack s
-  call_at beyond type k vs labels stack s = Done Stuck
-
   -- where these are values; with others the run is stuck
   abbrev pub only_values : List Value → Reached → Reached
   only_values vs next = if are_values vs then next else Done Stuck
 
-  -- what a deed does behind the values below its operands; a call, of a function of the module or of a foreign one, is what the world does
-  abbrev pub done : Deed → (k : ℕ) → List Label → (below : List Value) → State → Reached
-  done (gives vs r) k labels below s = only_values vs (At (suc k) labels (below ++ vs) (record s { rest = r }))
-  done (jumps l vs r) k labels below s = only_values vs (branch l labels (below ++ vs) (record s { rest = r }))
-  done (breaks mark r) k labels below s = Done (Traps (met mark) (own_globals s) r)
-  done (enters i vs) k labels below s = only_values vs (go_on (At (suc k) labels) (above below (ask m i vs s)))
-  done (returns i vs) k labels below s = only_values vs (go_on leave (above below (ask m i vs s)))
+  -- ---- exceptions
 
-  -- another operator does its deed; one that catches exceptions is not valid
-  abbrev pub other_at : (catching : Bool) → Beyond → (k : ℕ) → List Label → List Value → State → Reached
-  other_at true beyond k labels stack s = Done Stuck
-  other_at false beyond k labels stack s =
+  -- what the block of a label makes of an exception, where it catches it; a part that begins with one catches none
+  abbrev pub caught_by : Beyond → Role → (opener mark rest : ℕ) → Option Caught
+  caught_by beyond handles opener mark rest = beyond.catcher opener mark rest
+  caught_by beyond tries opener mark rest = beyond.catcher opener mark rest
+  caught_by beyond catches opener mark rest = None
+  caught_by beyond delegates opener mark rest = None
+  caught_by beyond does opener mark rest = None
+
+  abbrev pub caught_at : Beyond → Option Operator → (opener mark rest : ℕ) → Option Caught
+  caught_at beyond (Some (op.Other o)) opener mark rest = caught_by beyond (role_of o) opener mark rest
+  caught_at beyond o opener mark rest = None
+
+  -- to the label, or into the part, from below the block; or on, to the blocks around
+  abbrev pub or_caught : Beyond → Option Caught → (height : ℕ) → (outer : List Label) → List Value → State → (later : ℕ → Reached) → Reached
+  or_caught beyond (Some (branches l vs r)) height outer stack s later =
+      only_values vs (branch beyond l outer (take height stack ++ vs) (record s { rest = r }))
+  or_caught beyond (Some (begins j vs r)) height outer stack s later =
+      only_values vs (At (suc j) (record { opener = j; height = height } ∷ outer) (take height stack ++ vs) (record s { rest = r }))
+  or_caught beyond (Some (delegated l)) height outer stack s later = later l
+  or_caught beyond None height outer stack s later = later 0
+
+  -- An exception goes to the innermost block that catches it, behind so many labels; where there is none, it leaves the function, as a trap does.
+  abbrev pub thrown : Beyond → (mark skipped : ℕ) → List Label → List Value → State → Reached
+  thrown beyond mark skipped [] stack s = Done (Traps (met mark) (own_globals s) s.rest)
+  thrown beyond mark (suc n) (label ∷ outer) stack s = thrown beyond mark n outer stack s
+  thrown beyond mark zero (label ∷ outer) stack s =
+      or_caught beyond (caught_at beyond (slice_get structure label.opener) label.opener mark s.rest) label.height outer stack s
+      (λ n. thrown beyond mark n outer stack s)
+
+  -- ---- calls
+
+  -- what a call answers: its values go on above those below its operands, what it met may be an exception; these globals stand behind the module's then
+  abbrev pub answered_by : Beyond → (next : List Value → State → Reached) → Answer → (behind : List Value) → List Label → (below : List Value) → State →
+      Reached
+  answered_by beyond next (Gives us gs r) behind labels below s = next (below ++ us) (record s { globals = gs ++ behind; rest = r })
+  answered_by beyond next (Fails (met mark) gs r) behind labels below s = thrown beyond mark 0 labels below (record s { globals = gs ++ behind; rest = r })
+  answered_by beyond next (Fails cause gs r) behind labels below s = Done (Traps cause gs r)
+
+  -- A call, of a function of the module or of a foreign one, is what the world does on operands of the types that it is asked with; stuck on others.
+  abbrev pub called : Beyond → (next : List Value → State → Reached) → Instruction → (operands : List Value) → List Label → (below : List Value) → State →
+      Reached
+  called beyond next i vs labels below s =
+      if is_some (asked_types m i (types vs)) then
+      answered_by beyond next (s.world.answer i vs (own_globals s) s.rest) (s.world.others i vs (own_globals s) s.rest (further_globals s)) labels below s
+      else Done Stuck
+
+  -- a call through a table takes the operands of its type
+  abbrev pub call_target : Beyond → Target → (type k : ℕ) → List Label → List Value → State → Reached
+  call_target beyond (fails mark) type k labels stack s = Done (Traps (met mark) (own_globals s) s.rest)
+  call_target beyond (calls i) type k labels stack s =
+      let count = length (function_arity (slice_get m.types type)).starts in
+      called beyond (At (suc k) labels) i (last_of count stack) labels (take (length stack - count) stack) s
+
+  -- the one value that was popped is the index into the table; of no value the run is stuck
+  abbrev pub call_at : (beyond : Beyond) → (type k : ℕ) → (popped : List Value) → List Label → List Value → State → Reached
+  call_at beyond type k (c ∷ []) labels stack s = call_target beyond (beyond.target k c s.rest) type k labels stack s
+  call_at beyond type k vs labels stack s = Done Stuck
+
+  -- ---- other operators
+
+  -- what a deed does behind the values below its operands
+  abbrev pub done : Beyond → Deed → (k : ℕ) → List Label → (below : List Value) → State → Reached
+  done beyond (gives vs r) k labels below s = only_values vs (At (suc k) labels (below ++ vs) (record s { rest = r }))
+  done beyond (jumps l vs r) k labels below s = only_values vs (branch beyond l labels (below ++ vs) (record s { rest = r }))
+  done beyond (breaks mark r) k labels below s = thrown beyond mark 0 labels below (record s { rest = r })
+  done beyond (enters i vs) k labels below s = only_values vs (called beyond (At (suc k) labels) i vs labels below s)
+  done beyond (returns i vs) k labels below s = only_values vs (called beyond leave i vs [] below s)
+
+  -- into the block, with its label
+  abbrev pub enter_handler : Beyond → (k : ℕ) → List Label → List Value → State → Reached
+  enter_handler beyond k labels stack s =
+      At (suc k) (record { opener = k; height = length stack - length (handler_arity beyond k).starts } ∷ labels) stack s
+
+  -- a block that catches exceptions is entered; before a part of it ends the one before; `delegate` is an end; another operator does its deed
+  abbrev pub other_at : Role → Beyond → (k : ℕ) → List Label → List Value → State → Reached
+  other_at handles beyond k labels stack s = enter_handler beyond k labels stack s
+  other_at tries beyond k labels stack s = enter_handler beyond k labels stack s
+  other_at catches beyond k labels stack s = skip labels stack s
+  other_at delegates beyond k labels stack s = close (suc k) labels stack s
+  other_at does beyond k labels stack s =
       let n = length (beyond.takes k) in
-      done (beyond.deed k (last_of n stack) s.rest) k labels (take (length stack - n) stack) s
+      done beyond (beyond.deed k (last_of n stack) s.rest) k labels (take (length stack - n) stack) s
 
   -- what the operator with number k does; a select of several types is not valid
   abbrev pub by_operator : Beyond → Option Operator → Control
@@ -289,17 +291,17 @@ module _ (m : Module) (results : List PrimitiveTypeInfo) (structure : List Opera
       choose (last_of 1 stack) (enter k t labels below s) (otherwise (other_part zero (suc k) (drop (suc k) structure)) k t labels below s)
   by_operator beyond (Some op.Else) k labels stack s = skip labels stack s
   by_operator beyond (Some op.End) k labels stack s = close (suc k) labels stack s
-  by_operator beyond (Some (op.Br l)) k labels stack s = branch l labels stack s
+  by_operator beyond (Some (op.Br l)) k labels stack s = branch beyond l labels stack s
   by_operator beyond (Some (op.BrIf l)) k labels stack s =
       let below = take (length stack - 1) stack in
-      choose (last_of 1 stack) (branch l labels below s) (At (suc k) labels below s)
+      choose (last_of 1 stack) (branch beyond l labels below s) (At (suc k) labels below s)
   by_operator beyond (Some (op.BrTable n)) k labels stack s =
       branch_on beyond k (last_of 1 stack) labels (take (length stack - 1) stack) s
   by_operator beyond (Some op.Return) k labels stack s = leave stack s
   by_operator beyond (Some op.Unreachable) k labels stack s = Done (Traps unreachable (own_globals s) s.rest)
   by_operator beyond (Some (op.CallIndirect type table)) k labels stack s =
       call_at beyond type k (last_of 1 stack) labels (take (length stack - 1) stack) s
-  by_operator beyond (Some (op.Other o)) k labels stack s = other_at (is_catching o) beyond k labels stack s
+  by_operator beyond (Some (op.Other o)) k labels stack s = other_at (role_of o) beyond k labels stack s
   by_operator beyond o k labels stack s = Done Stuck
 
   -- the control of a body: the operator with the number acts; there is none behind the last one

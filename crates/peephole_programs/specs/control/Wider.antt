@@ -42,10 +42,10 @@ pub record IsMoreWorld (input : List ℕ) (more : List PrimitiveTypeInfo) (w v :
 
 -- ---- worlds in which what stands behind is the same too
 
--- The second answer is the first with these globals behind; after a trap, which has the same cause, with any.
+-- The second answer is the first with these globals behind, also after a trap, which has the same cause.
 abbrev pub IsWiderAnswer : (after : List Value) → Answer → Answer → Type 0
 IsWiderAnswer after (Gives vs gs r) (Gives us hs q) = (us ≡ vs) × (hs ≡ gs ++ after) × (q ≡ r)
-IsWiderAnswer after (Fails cause gs r) (Fails why hs q) = (why ≡ cause) × Begins gs hs × (q ≡ r)
+IsWiderAnswer after (Fails cause gs r) (Fails why hs q) = (why ≡ cause) × (hs ≡ gs ++ after) × (q ≡ r)
 IsWiderAnswer after a b = ⊥
 
 -- The second is the first world where the globals behind the module's are the module's: on typed operands and globals it answers as the first, with

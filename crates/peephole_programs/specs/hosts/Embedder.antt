@@ -6,7 +6,8 @@ use Rattle.mutate_base.specs.declared.types.PrimitiveTypeInfo.{PrimitiveTypeInfo
 use Rattle.peephole_machine.specs.Values.{Value, Answer, Gives, Fails, World}
 use Rattle.peephole_programs.specs.control.Function.{structural, EndsAlike}
 use Rattle.peephole_programs.specs.modules.Program.{Body, Answering, Host, IsSoundHost, context_for}
-use Rattle.peephole_programs.specs.control.Standard.{Arity, function_arity, Beyond, by_asked, standard}
+use Rattle.peephole_programs.specs.control.Blocks.{Arity, function_arity}
+use Rattle.peephole_programs.specs.control.Standard.{Beyond, by_asked, standard}
 use Rattle.peephole_programs.specs.validation.Sound.{IsValid, HasTargets, HasDeeds}
 use Rattle.peephole_programs.specs.control.Wider.{wider_module, wider}
 use Rattle.peephole_programs.specs.modules.Running.{Running, IsWiderHost}

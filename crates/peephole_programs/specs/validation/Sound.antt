@@ -1,5 +1,5 @@
 -- Valid code and valid bodies are never stuck (this project, after the WebAssembly Core Specification 3.0, Appendix, Type Soundness).
-use Rattle.std.specs.Prelude.{◌≡◌, ℕ, false, List, [], ◌∷◌, ◌++◌, slice_get, Some, ⊤}
+use Rattle.std.specs.Prelude.{◌≡◌, Contains, ℕ, suc, false, List, [], ◌∷◌, ◌++◌, drop, slice_get, Some, ⊤}
 use Rattle.std.specs.List.{All}
 use Rattle.wasm_code.specs.Instruction.{Instruction}
 use Rattle.wasm_code.specs.declared.operator.Operator.{Operator}
@@ -7,11 +7,11 @@ use Rattle.wasm_code.specs.declared.other.Other.{Other}
 use Rattle.wasm_code.specs.declared.operator.Operator.TheVariants as op
 use Rattle.mutate_base.specs.Module.{Module}
 use Rattle.mutate_base.specs.declared.types.PrimitiveTypeInfo.{PrimitiveTypeInfo}
-use Rattle.peephole_machine.specs.Values.{other_types, asked_types, Value, IsValue, types, Context, State, HasTypes, Outcome, Ends, Traps, Stuck}
-use Rattle.peephole_machine.specs.IntegerRow.{other, integer_row}
+use Rattle.peephole_machine.specs.Values.{asked_types, Value, IsValue, types, Context, State, HasTypes, Outcome, Ends, Traps, Stuck}
 use Rattle.peephole_machine.specs.Machine.{run}
 use Rattle.peephole_programs.specs.control.Function.{structural, Reached, At, Done, Control, runs, passes}
-use Rattle.peephole_programs.specs.control.Standard.{function_arity, Deed, gives, jumps, breaks, enters, returns, Beyond, calls, standard}
+use Rattle.peephole_programs.specs.control.Blocks.{function_arity, Role, handles, tries, does, role_of, parts_from}
+use Rattle.peephole_programs.specs.control.Standard.{Caught, branches, begins, delegated, Deed, gives, jumps, breaks, enters, returns, Beyond, calls, standard}
 use Rattle.peephole_programs.specs.validation.Algorithm.{known, Frame, check_code, check}
 use Rattle.peephole_programs.specs.validation.StandardSteps.{body_frame, standard_steps}
 use Rattle.peephole_programs.specs.validation.StaysValid.{StaysValid}
@@ -40,12 +40,11 @@ abbrev pub IsValid : Context → (results : List PrimitiveTypeInfo) → Beyond �
 IsValid context results beyond body =
     check context (standard_steps context.info results (structural body) beyond) 0 body (body_frame results ∷ []) ≡ Some []
 
--- The instruction is no integer row, and takes and gives what that function type says, as the call of such a function does.
-pub record IsCallOf (m : Module) (type : ℕ) (i : Instruction) : Type 0 where
-  pub is_other : integer_row i ≡ other i
-  pub types_are : other_types m i (function_arity (slice_get m.types type)).starts ≡ Some (function_arity (slice_get m.types type)).ends
+-- the call takes and gives what that function type says
+abbrev pub IsCallOf : Module → (type : ℕ) → Instruction → Type 0
+IsCallOf m type i = asked_types m i (function_arity (slice_get m.types type)).starts ≡ Some (function_arity (slice_get m.types type)).ends
 
--- Where a call through a table comes to a call of a function of the module, this is of its type; a foreign function has that type by its call.
+-- What a call through a table comes to is the call of a function of its type, or a trap.
 abbrev pub HasTargets : Module → (structure : List Operator) → Beyond → Type 0
 HasTargets m structure beyond =
     (k type table rest : ℕ) (place : Value) (i : Instruction) → slice_get structure k ≡ Some (op.CallIndirect type table) →
@@ -61,11 +60,22 @@ IsDeed m results beyond k (enters i vs) =
     (ts : List PrimitiveTypeInfo) × (beyond.leaves k ≡ Some ts) × (asked_types m i (types vs) ≡ Some ts) × All IsValue vs
 IsDeed m results beyond k (returns i vs) = (asked_types m i (types vs) ≡ Some results) × All IsValue vs
 
--- On operands of its types every other operator of a function with these results comes to what is of its types.
-abbrev pub HasDeeds : Module → (results : List PrimitiveTypeInfo) → (structure : List Operator) → Beyond → Type 0
-HasDeeds m results structure beyond =
-    (k : ℕ) (o : Other) (operands : List Value) (rest : ℕ) → slice_get structure k ≡ Some (op.Other o) → types operands ≡ beyond.takes k →
-    All IsValue operands → IsDeed m results beyond k (beyond.deed k operands rest)
+-- What a block makes of an exception is of its types: a `try_table` branches to one of its labels; a `try` begins one of its parts, or delegates.
+abbrev pub IsCaught : List Operator → Beyond → (k : ℕ) → Role → Caught → Type 0
+IsCaught structure beyond k handles (branches l vs r) = Contains (beyond.clauses k) (l, types vs) × All IsValue vs
+IsCaught structure beyond k handles c = ⊥
+IsCaught structure beyond k tries (begins j vs r) = Contains (parts_from 0 (suc k) (drop (suc k) structure)) j × (types vs ≡ beyond.takes j) × All IsValue vs
+IsCaught structure beyond k tries (delegated l) = ⊤
+IsCaught structure beyond k tries (branches l vs r) = ⊥
+IsCaught structure beyond k role c = ⊤
+
+-- On operands of its types every other operator of a function with these results comes to what is of its types, and so do exceptions in blocks that catch
+-- them.
+pub record HasDeeds (m : Module) (results : List PrimitiveTypeInfo) (structure : List Operator) (beyond : Beyond) : Type 0 where
+  pub deeds : (k : ℕ) (o : Other) (operands : List Value) (rest : ℕ) → slice_get structure k ≡ Some (op.Other o) → role_of o ≡ does →
+      types operands ≡ beyond.takes k → All IsValue operands → IsDeed m results beyond k (beyond.deed k operands rest)
+  pub caught : (k mark rest : ℕ) (o : Other) (c : Caught) → slice_get structure k ≡ Some (op.Other o) → beyond.catcher k mark rest ≡ Some c →
+      IsCaught structure beyond k (role_of o) c
 
 -- Where it is done, the function has ended with values of these types, or has trapped; it is never stuck.
 abbrev pub EndsWith : (results : List PrimitiveTypeInfo) → Reached → Type 0

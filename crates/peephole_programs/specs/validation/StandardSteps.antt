@@ -3,7 +3,7 @@
 use Rattle.std.specs.Prelude.{ℕ, ◌==◌, ◌&&◌, if◌then◌else◌, Bool, true, false, List, [], ◌∷◌, ◌++◌, length, slice_get, Option, Some, None, is_some, option_map, option_and_then}
 use Rattle.wasm_code.specs.declared.operator.Operator.{Operator}
 use Rattle.wasm_code.specs.declared.operator.Operator.TheVariants as op
-use Rattle.wasm_code.specs.Other.{is_catching}
+use Rattle.wasm_code.specs.declared.other.Other.{Other}
 use Rattle.mutate_base.specs.Module.{Module}
 use Rattle.mutate_base.specs.declared.types.PrimitiveTypeInfo.{PrimitiveTypeInfo}
 use Rattle.mutate_base.specs.declared.types.PrimitiveTypeInfo.TheVariants as primitive
@@ -11,7 +11,8 @@ use Rattle.mutate_base.specs.declared.types.ElementType.{ElementType}
 use Rattle.mutate_base.specs.declared.types.ElementType.TheVariants as element
 use Rattle.mutate_base.specs.declared.types.TableType.{TableType}
 use Rattle.peephole_machine.specs.Values.{same_types}
-use Rattle.peephole_programs.specs.control.Standard.{Arity, arity_of, is_arity, has_arity, call_arity, Beyond}
+use Rattle.peephole_programs.specs.control.Blocks.{Arity, arity_of, is_arity, has_arity, call_arity, Role, handles, tries, catches, delegates, does, role_of}
+use Rattle.peephole_programs.specs.control.Standard.{Beyond, handler_arity}
 use Rattle.peephole_programs.specs.validation.Algorithm.{all_may_be, known, Frame, can_pop, popped, with_pushed, Structural, on_innermost}
 
 -- the frame without operands of these types
@@ -117,16 +118,57 @@ abbrev pub left : Option (List PrimitiveTypeInfo) → Frame → Frame
 left (Some ts) f = push ts f
 left None f = cut_off f
 
--- another operator takes its operands and leaves others; one that catches exceptions is never valid
-abbrev pub other_step : (catching : Bool) → Beyond → (k : ℕ) → List Frame → Option (List Frame)
-other_step true beyond k frames = None
-other_step false beyond k frames =
-    on_innermost (λ (g : Frame). option_and_then (λ (d : Frame). if can_branch frames d (beyond.label k) then Some (left (beyond.leaves k) d) else None)
-    (pop (beyond.takes k) g)) frames
-
 -- the frames, where what else validation asks for holds
 abbrev pub only_where : Bool → Option (List Frame) → Option (List Frame)
 only_where b o = if b then o else None
+
+-- the label is there, and takes values of these types
+abbrev pub is_label : List Frame → ℕ × List PrimitiveTypeInfo → Bool
+is_label frames c = is_some (option_and_then (λ (to : Frame). if same_types c.1 (label_types to) then Some to else None) (slice_get frames c.0))
+
+-- each of these is
+abbrev pub are_labels : List Frame → List (ℕ × List PrimitiveTypeInfo) → Bool
+are_labels frames [] = true
+are_labels frames (c ∷ cs) = is_label frames c && are_labels frames cs
+
+-- a `try`, and one of its further parts too
+abbrev pub is_tried_by : Role → Bool
+is_tried_by tries = true
+is_tried_by catches = true
+is_tried_by r = false
+
+abbrev pub is_tried : Option Operator → Bool
+is_tried (Some (op.Other o)) = is_tried_by (role_of o)
+is_tried o = false
+
+-- a `try` alone
+abbrev pub is_try_by : Role → Bool
+is_try_by tries = true
+is_try_by r = false
+
+abbrev pub is_try : Option Operator → Bool
+is_try (Some (op.Other o)) = is_try_by (role_of o)
+is_try o = false
+
+-- a part of a `try` ends, and one begins that takes an exception's values and leaves the same
+abbrev pub catch_frame : Operator → Arity → List Frame → Option (List Frame)
+catch_frame o a [] = None
+catch_frame o a (f ∷ fs) = only_where (is_tried f.opened && (can_close f && same_types a.ends f.ends)) (Some (opened_by o a ∷ fs))
+
+-- a `try` ends without any
+abbrev pub delegate_frame : List Frame → Option (List Frame)
+delegate_frame [] = None
+delegate_frame (f ∷ fs) = only_where (is_try f.opened) (close_frame (f ∷ fs))
+
+-- A block that catches exceptions opens a frame; a `try_table` branches to labels outside it. Another operator takes its operands and leaves others.
+abbrev pub other_step : Other → Role → Beyond → (k : ℕ) → List Frame → Option (List Frame)
+other_step o handles beyond k frames = only_where (are_labels frames (beyond.clauses k)) (open_frame (op.Other o) (handler_arity beyond k) frames)
+other_step o tries beyond k frames = open_frame (op.Other o) (handler_arity beyond k) frames
+other_step o catches beyond k frames = catch_frame (op.Other o) (handler_arity beyond k) frames
+other_step o delegates beyond k frames = delegate_frame frames
+other_step o does beyond k frames =
+    on_innermost (λ (g : Frame). option_and_then (λ (d : Frame). if can_branch frames d (beyond.label k) then Some (left (beyond.leaves k) d) else None)
+    (pop (beyond.takes k) g)) frames
 
 module _ (m : Module) (results : List PrimitiveTypeInfo) where
   -- the operator with number k on the frames, the innermost first; a select of several types is never valid
@@ -150,7 +192,7 @@ module _ (m : Module) (results : List PrimitiveTypeInfo) where
   by_step beyond (Some (op.CallIndirect type table)) k frames =
       let a = call_arity m type table in
       only_where (can_call m type table) (on_innermost (λ g. option_map (push a.ends) (pop a.starts g)) frames)
-  by_step beyond (Some (op.Other o)) k frames = other_step (is_catching o) beyond k frames
+  by_step beyond (Some (op.Other o)) k frames = other_step o (role_of o) beyond k frames
   by_step beyond o k frames = None
 
   -- the steps of a body by its structural operators; none where there is no k-th one

@@ -1,0 +1,9 @@
+-- Each exact row on sample operands and bytes.
+pub mod Expected
+pub mod FloatSamples
+pub mod VectorSamples
+pub mod ComparisonSamples
+pub mod NarrowSamples
+pub mod WideSamples
+pub mod LaneSamples
+pub mod MemorySamples
