@@ -1,0 +1,17 @@
+pub mod NeedsLemmas
+pub mod NeedsSamples
+pub mod GrowthSamples
+pub mod identities
+pub mod CodeLemmas
+pub mod EffectLemmas
+pub mod TypesLemmas
+pub mod RunLemmas
+pub mod IndexLemmas
+pub mod OrderLemmas
+pub mod OperatorLemmas
+pub mod ValueLemmas
+pub mod MeaningLemmas
+pub mod LineLemmas
+pub mod PartLemmas
+pub mod SideLemmas
+pub mod MovingLemmas

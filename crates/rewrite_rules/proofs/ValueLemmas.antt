@@ -1,0 +1,117 @@
+-- The value of a pattern, by the values of its holes one after another.
+use Rattle.std.proofs.Common.{◌≡◌, ℕ, true, List, [], ◌∷◌, ◌++◌, length, map, take, drop, refl, ap, ap₂, ◌∙◌}
+use Rattle.std.proofs.lemmas.Bool.{and_parts}
+use Rattle.mutate_base.specs.declared.types.PrimitiveTypeInfo.{PrimitiveTypeInfo}
+use Rattle.mutate_base.specs.declared.types.PrimitiveTypeInfo.TheVariants as primitive
+use Rattle.peephole_machine.specs.Values.{type_of, Value, types, State, Outcome, Ends}
+use Rattle.peephole_machine.specs.RowLemmas.{same_type_is}
+use Rattle.rewrite_rules.specs.Pattern.{Kind, fixed, any, kind_at, result_of, Pattern, Patterns, hole, constant, drawn, apply, none, ◌▹◌, holes, holes_in, draws_by, kind_of, kind_in, kinds_in, same_kind, same_kinds}
+use Rattle.rewrite_rules.specs.Numbers.{first_word, value_on, number_of, low, or_zero, number_in, numbers_in, value_of}
+use Rattle.rewrite_rules.proofs.OperatorLemmas.{types_at, finished}
+
+-- ---- kinds
+
+same_kind_is : (k l : Kind) → same_kind k l ≡ true → k ≡ l
+same_kind_is (fixed t) (fixed u) e = ap fixed (same_type_is t u e)
+same_kind_is (fixed t) any e = absurd cc
+same_kind_is any (fixed u) e = absurd cc
+same_kind_is any any e = refl
+
+pub same_kinds_are : (ks ls : List Kind) → same_kinds ks ls ≡ true → ks ≡ ls
+same_kinds_are [] [] e = refl
+same_kinds_are [] (l ∷ ls) e = absurd cc
+same_kinds_are (k ∷ ks) [] e = absurd cc
+same_kinds_are (k ∷ ks) (l ∷ ls) e =
+    let p = and_parts (same_kind k l) (same_kinds ks ls) e in
+    ap₂ (λ x y. x ∷ y) (same_kind_is k l p.0) (same_kinds_are ks ls p.1)
+
+pub kinds_same : (k l : Kind) → same_kind k l ≡ true → k ≡ l
+kinds_same k l e = same_kind_is k l e
+
+-- ---- lists cut in two
+
+pub cut_map : {A : Type 0} (f : ℕ → A) (ns ms : List ℕ) →
+    (take (length ns) (map f (ns ++ ms)) ≡ map f ns) × (drop (length ns) (map f (ns ++ ms)) ≡ map f ms)
+cut_map f [] ms = (refl, refl)
+cut_map f (n ∷ ns) ms = (ap (λ xs. f n ∷ xs) (cut_map f ns ms).0, (cut_map f ns ms).1)
+
+pub cut_types : (τ : ℕ → PrimitiveTypeInfo) (ns ms : List ℕ) (vs : List Value) → types vs ≡ map τ (ns ++ ms) →
+    (types (take (length ns) vs) ≡ map τ ns) × (types (drop (length ns) vs) ≡ map τ ms)
+cut_types τ [] ms vs e = (refl, e)
+cut_types τ (n ∷ ns) ms [] e = absurd cc
+cut_types τ (n ∷ ns) ms (v ∷ vs) e =
+    let k = cut_types τ ns ms vs (cc) in
+    let h : v.type ≡ τ n = cc in
+    (ap₂ (λ x y. x ∷ y) h k.0, k.1)
+
+-- ---- values
+
+abbrev first : List Value → Value
+first [] = record { type = primitive.I32; number = 0 }
+first (v ∷ vs) = v
+
+module _ (u : PrimitiveTypeInfo) (kinds : List Kind) (c : ℕ → ℕ) where
+  -- the type of a hole
+  abbrev pub hole_type : ℕ → PrimitiveTypeInfo
+  hole_type n = kind_at u (kind_of kinds n)
+
+  abbrev mutual
+    pub val : (words : List ℕ) → Pattern → List Value → Value
+    val words (hole n) vs = first vs
+    val words (constant t e) vs = record { type = type_of t; number = low t (number_of t c e) }
+    val words (drawn t) vs = record { type = type_of t; number = low t (first_word words) }
+    val words (apply o ps) vs = record { type = kind_at u (result_of o); number = or_zero (value_on o (map (λ v. v.number) (vals words ps vs))) }
+
+    pub vals : (words : List ℕ) → Patterns → List Value → List Value
+    vals words none vs = []
+    vals words (p ▹ ps) vs = val words p (take (length (holes p)) vs) ∷ vals (drop (draws_by p) words) ps (drop (length (holes p)) vs)
+
+  -- how a run ends behind these
+  abbrev pub ends : (words : List ℕ) → Pattern → List Value → State → Outcome
+  ends words (apply o ps) vs s = finished (kind_at u (result_of o)) (value_on o (map (λ v. v.number) (vals words ps vs))) s
+  ends words p vs s = Ends (val words p vs ∷ []) s
+
+  -- ---- types
+
+  pub val_typed : (words : List ℕ) (p : Pattern) (vs : List Value) → types vs ≡ map hole_type (holes p) →
+      (val words p vs).type ≡ kind_at u (kind_in kinds p)
+  val_typed words (hole n) [] e = absurd cc
+  val_typed words (hole n) (v ∷ vs) e = cc
+  val_typed words (constant t e) vs h = refl
+  val_typed words (drawn t) vs h = refl
+  val_typed words (apply o ps) vs h = refl
+
+  pub vals_typed : (words : List ℕ) (ps : Patterns) (vs : List Value) → types vs ≡ map hole_type (holes_in ps) →
+      types (vals words ps vs) ≡ types_at u (kinds_in kinds ps)
+  vals_typed words none vs e = refl
+  vals_typed words (p ▹ ps) vs e =
+      let k = cut_types hole_type (holes p) (holes_in ps) vs e in
+      ap₂ (λ x y. x ∷ y) (val_typed words p (take (length (holes p)) vs) k.0)
+      (vals_typed (drop (draws_by p) words) ps (drop (length (holes p)) vs) k.1)
+
+  -- ---- by numbers of the holes
+
+  module _ (h : ℕ → ℕ) where
+    abbrev pub valued : ℕ → Value
+    valued n = record { type = hole_type n; number = h n }
+
+    mutual
+      val_is : (words : List ℕ) (p : Pattern) → (val words p (map valued (holes p))).number ≡ number_in h c words p
+      val_is words (hole n) = refl
+      val_is words (constant t e) = refl
+      val_is words (drawn t) = refl
+      val_is words (apply o ps) = ap (λ ns. or_zero (value_on o ns)) (vals_are words ps)
+
+      vals_are : (words : List ℕ) (ps : Patterns) → map (λ v. v.number) (vals words ps (map valued (holes_in ps))) ≡ numbers_in h c words ps
+      vals_are words none = refl
+      vals_are words (p ▹ ps) =
+          let k = cut_map valued (holes p) (holes_in ps) in
+          ap₂ (λ x y. x ∷ y) (ap (λ vs. (val words p vs).number) k.0 ∙ val_is words p)
+          (ap (λ vs. map (λ v. v.number) (vals (drop (draws_by p) words) ps vs)) k.1 ∙ vals_are (drop (draws_by p) words) ps)
+
+    pub ends_at : (words : List ℕ) (p : Pattern) (s : State) →
+        ends words p (map valued (holes p)) s ≡ finished (kind_at u (kind_in kinds p)) (value_of h c words p) s
+    ends_at words (hole n) s = refl
+    ends_at words (constant t e) s = refl
+    ends_at words (drawn t) s = refl
+    ends_at words (apply o ps) s = ap (λ ns. finished (kind_at u (result_of o)) (value_on o ns) s) (vals_are words ps)

@@ -1,0 +1,12 @@
+-- The lines of the table on numbers.
+pub mod Words
+pub mod GroupLemmas
+pub mod NumberLemmas
+pub mod ExtensionNumbers
+pub mod ComparisonNumbers
+pub mod WidthLemmas
+pub mod GroupIdentities
+pub mod NeutralIdentities
+pub mod ConstantIdentities
+pub mod ComparisonIdentities
+pub mod TableLemmas

@@ -1,0 +1,105 @@
+-- Lines that put operands in another order or in other groups, or that say an operand twice, are right.
+use Rattle.std.proofs.Common.{◌≡◌, ◌+◌, ◌-◌, ◌^◌, sym, ap, ◌∙◌, arith, add_comm}
+use Rattle.std.specs.Prelude.{bit_and, bit_or, bit_xor}
+use Rattle.std.specs.Int.Bits.{and_self, or_self, xor_self, xor_comm}
+use Rattle.std.proofs.lemmas.Nat.{and_comm, or_comm}
+use Rattle.std.proofs.Math.Nat.{mul_comm, mod-eq_of_lt, mod_self, add-mod_right, mod-add-mod}
+use mir.Val.{bits}
+use Rattle.peephole_machine.specs.declared.integer.IntegerType.{IntegerType}
+use Rattle.peephole_machine.specs.declared.operation.Binary.TheVariants.{Add, Sub, Mul, And, Or, Xor}
+use Rattle.peephole_machine.specs.Values.{width_of}
+use Rattle.rewrite_rules.specs.Numbers.{low}
+use Rattle.rewrite_rules.specs.Line.{IsRight}
+use Rattle.rewrite_rules.proofs.identities.Words as line
+use Rattle.rewrite_rules.proofs.identities.GroupLemmas.{add_grouped, mul_grouped, and_grouped, or_grouped, xor_grouped, sum_times, or_and}
+use Rattle.rewrite_rules.proofs.identities.NumberLemmas.{twice_complement, and_complement, or_complement}
+use Rattle.rewrite_rules.proofs.identities.WidthLemmas.{small, zero_low, ones_low, ok, same}
+
+-- ---- another order
+
+pub add_swaps : (t : IntegerType) → IsRight (line.swap Add t)
+add_swaps t h c us vs a e = ap (λ k. ok (low t k)) (add_comm (h 0) (h 1))
+
+pub mul_swaps : (t : IntegerType) → IsRight (line.swap Mul t)
+mul_swaps t h c us vs a e = ap (λ k. ok (low t k)) (mul_comm (h 0) (h 1))
+
+pub and_swaps : (t : IntegerType) → IsRight (line.swap And t)
+and_swaps t h c us vs a e = ap (λ k. ok (low t k)) (and_comm (h 0) (h 1))
+
+pub or_swaps : (t : IntegerType) → IsRight (line.swap Or t)
+or_swaps t h c us vs a e = ap (λ k. ok (low t k)) (or_comm (h 0) (h 1))
+
+pub xor_swaps : (t : IntegerType) → IsRight (line.swap Xor t)
+xor_swaps t h c us vs a e = ap (λ k. ok (low t k)) (xor_comm (h 0) (h 1))
+
+-- ---- other groups
+
+pub add_groups : (t : IntegerType) → IsRight (line.group_left Add t)
+add_groups t h c us vs a e = ap ok (add_grouped (2 ^ bits (width_of t)) (h 0) (h 1) (h 2))
+
+pub mul_groups : (t : IntegerType) → IsRight (line.group_left Mul t)
+mul_groups t h c us vs a e = ap ok (mul_grouped (2 ^ bits (width_of t)) (h 0) (h 1) (h 2))
+
+pub and_groups : (t : IntegerType) → IsRight (line.group_left And t)
+and_groups t h c us vs a e = ap ok (and_grouped (bits (width_of t)) (h 0) (h 1) (h 2))
+
+pub or_groups : (t : IntegerType) → IsRight (line.group_left Or t)
+or_groups t h c us vs a e = ap ok (or_grouped (bits (width_of t)) (h 0) (h 1) (h 2))
+
+pub xor_groups : (t : IntegerType) → IsRight (line.group_left Xor t)
+xor_groups t h c us vs a e = ap ok (xor_grouped (bits (width_of t)) (h 0) (h 1) (h 2))
+
+-- ---- over the parts of an operand
+
+pub product_parts : (t : IntegerType) → IsRight (line.parted Mul Add t)
+product_parts t h c us vs a e = ap ok (sum_times (2 ^ bits (width_of t)) (h 0) (h 1) (low t (c 0)))
+
+pub mask_parts : (t : IntegerType) → IsRight (line.parted And Or t)
+mask_parts t h c us vs a e = ap ok (or_and (bits (width_of t)) (h 0) (h 1) (low t (c 0)))
+
+pub and_complements : (t : IntegerType) → IsRight (line.complement And Or t)
+and_complements t h c us vs a e =
+    ap (λ k. ok (low t (bit_xor (low t (bit_and (h 0) (h 1))) k))) (ones_low t)
+    ∙ (ap ok (and_complement (bits (width_of t)) (h 0) (h 1) (small t (h 0) (a 0)) (small t (h 1) (a 1)))
+    ∙ ap (λ k. ok (low t (bit_or (low t (bit_xor (h 0) k)) (low t (bit_xor (h 1) k))))) (sym (ones_low t)))
+
+pub or_complements : (t : IntegerType) → IsRight (line.complement Or And t)
+or_complements t h c us vs a e =
+    ap (λ k. ok (low t (bit_xor (low t (bit_or (h 0) (h 1))) k))) (ones_low t)
+    ∙ (ap ok (or_complement (bits (width_of t)) (h 0) (h 1) (small t (h 0) (a 0)) (small t (h 1) (a 1)))
+    ∙ ap (λ k. ok (low t (bit_and (low t (bit_xor (h 0) k)) (low t (bit_xor (h 1) k))))) (sym (ones_low t)))
+
+-- ---- twice
+
+pub or_twice : (t : IntegerType) → IsRight (line.double Or t)
+or_twice t h c us vs a e = same t _ (h 0) (small t (h 0) (a 0)) (or_self (h 0))
+
+pub and_twice : (t : IntegerType) → IsRight (line.double And t)
+and_twice t h c us vs a e = same t _ (h 0) (small t (h 0) (a 0)) (and_self (h 0))
+
+pub complement_twice : (t : IntegerType) → IsRight (line.twice_complement t)
+complement_twice t h c us vs a e =
+    sym (ap (λ k. ok (low t (bit_xor (low t (bit_xor (h 0) k)) k))) (ones_low t)
+    ∙ ap ok (twice_complement (bits (width_of t)) (h 0) (small t (h 0) (a 0))))
+
+pub cancels_sub : (t : IntegerType) → IsRight (line.cancelled Sub t)
+cancels_sub t h c us vs a e =
+    let M = 2 ^ bits (width_of t) in
+    let l = small t (h 0) (a 0) in
+    let k : h 0 + (M - h 0) ≡ M = omega arith in
+    ap ok (ap (low t) k ∙ (mod_self M ∙ sym (zero_low t)))
+
+pub cancels_xor : (t : IntegerType) → IsRight (line.cancelled Xor t)
+cancels_xor t h c us vs a e = ap (λ k. ok (low t k)) (xor_self (h 0))
+
+pub or_both_is : (t : IntegerType) → IsRight (line.or_both t)
+or_both_is t h c us vs a e =
+    ap ok (or_grouped (bits (width_of t)) (h 0) (h 0) (h 1)
+    ∙ ap (λ n. low t (bit_or n (h 1))) (ap (low t) (or_self (h 0)) ∙ mod-eq_of_lt (small t (h 0) (a 0))))
+
+pub sum_goes_back : (t : IntegerType) → IsRight (line.sum_back t)
+sum_goes_back t h c us vs a e =
+    let M = 2 ^ bits (width_of t) in
+    let l = small t (h 1) (a 1) in
+    let whole : h 0 + (M - h 1) + h 1 ≡ h 0 + M = omega arith in
+    ap ok (mod-add-mod (h 0 + (M - h 1)) M (h 1) ∙ (ap (low t) whole ∙ (add-mod_right (h 0) M ∙ mod-eq_of_lt (small t (h 0) (a 0)))))

@@ -1,0 +1,242 @@
+-- Every row of the table has lines that are well formed, and right.
+use Rattle.std.proofs.Common.{◌≡◌, ℕ, zero, suc, Some, subst, ◌%◌, ◌^◌, true, Bool, List, [], ◌∷◌, refl, sym, ap}
+use Rattle.std.specs.Prelude.{◌&&◌, not, map, slice_get, ⊤}
+use Rattle.std.specs.Int.{w32, w64, cast_unsigned}
+use Rattle.std.proofs.lemmas.Bool.{and_parts}
+use Rattle.peephole_machine.specs.declared.integer.IntegerType.{IntegerType}
+use Rattle.peephole_machine.specs.declared.integer.IntegerType.TheVariants as integer
+use Rattle.peephole_machine.specs.declared.operation.Binary.{Binary}
+use Rattle.peephole_machine.specs.declared.operation.Binary.TheVariants.{Add, Sub, Mul, And, Or, Xor, Shl, ShrS, ShrU, Rotl, Rotr}
+use Rattle.peephole_machine.specs.declared.operation.Comparison.{Comparison}
+use Rattle.peephole_machine.specs.declared.operation.Comparison.TheVariants.{Eq, Ne, LtS, LtU, GtS, GtU, LeS, LeU, GeS, GeU}
+use Rattle.peephole_machine.specs.Operation.{comparison_of}
+use Rattle.rewrite_rules.specs.declared.pattern.Number.{Number}
+use Rattle.rewrite_rules.specs.declared.pattern.Number.TheVariants.{Literal, Ones}
+use Rattle.rewrite_rules.specs.declared.table.Widths.{Widths}
+use Rattle.rewrite_rules.specs.declared.table.Widths.TheVariants.{Both, Only, Any}
+use Rattle.rewrite_rules.specs.declared.table.Row.{Row}
+use Rattle.rewrite_rules.specs.declared.table.TheConstants.{ROWS}
+use Rattle.rewrite_rules.specs.Line.{Line, is_formed, IsRight}
+use Rattle.rewrite_rules.specs.Table.{line_of, widths_in, lines_of, OfEachLine}
+use Rattle.rewrite_rules.specs.Laws.{LinesKeepCode, TableIsRight}
+use Rattle.rewrite_rules.proofs.identities.Words as line
+use Rattle.rewrite_rules.proofs.identities.ExtensionNumbers as number
+use Rattle.rewrite_rules.proofs.identities.ComparisonNumbers as opposite
+use Rattle.rewrite_rules.proofs.identities.WidthLemmas.{ok}
+use Rattle.rewrite_rules.proofs.identities.GroupIdentities as group
+use Rattle.rewrite_rules.proofs.identities.NeutralIdentities as neutral
+use Rattle.rewrite_rules.proofs.identities.ConstantIdentities as constant
+use Rattle.rewrite_rules.proofs.identities.ComparisonIdentities as compare
+
+-- ---- well formed
+
+-- a test passes on all
+abbrev passes : {A : Type 0} → (A → Bool) → List A → Bool
+passes f [] = true
+passes f (x ∷ xs) = f x && passes f xs
+
+passes_at : {A : Type 0} (f : A → Bool) (xs : List A) → passes f xs ≡ true → (i : ℕ) (x : A) → slice_get xs i ≡ Some x → f x ≡ true
+passes_at f [] e i x k = absurd cc
+passes_at f (y ∷ ys) e zero x k =
+    let is : y ≡ x = cc in
+    subst (λ z. f z ≡ true) is (and_parts (f y) (passes f ys) e).0
+passes_at f (y ∷ ys) e (suc i) x k = passes_at f ys (and_parts (f y) (passes f ys) e).1 i x k
+
+all_formed : passes (λ row. passes is_formed (lines_of row)) ROWS ≡ true
+all_formed = refl
+
+formed_line : OfEachLine (λ l. is_formed l ≡ true)
+formed_line i row e k l f = passes_at is_formed (lines_of row) (passes_at (λ r. passes is_formed (lines_of r)) ROWS all_formed i row e) k l f
+
+-- ---- right
+
+-- it holds of the line of a row, for each of the row's widths
+abbrev AtWidths : (Line → Type 0) → Widths → (IntegerType → Line) → Type 0
+AtWidths P Both l = (t : IntegerType) → P (l t)
+AtWidths P (Only t) l = P (l t)
+AtWidths P Any l = P (l integer.I32)
+
+abbrev AtRows : (Line → Type 0) → List Row → Type 0
+AtRows P [] = ⊤
+AtRows P (r ∷ rs) = AtWidths P r.widths (line_of r) × AtRows P rs
+
+-- a line that is right is right from right to left
+turned : (l : IntegerType → Line) → ((t : IntegerType) → IsRight (l t)) → (t : IntegerType) → IsRight (line.back l t)
+turned l k t h c us vs a e = sym (k t h c vs us a e)
+
+-- a number that changes nothing is put behind an operand
+puts : (f : Binary) (e : Number) → ((t : IntegerType) → neutral.Neutral f e t) → (t : IntegerType) → IsRight (line.back (line.drop_number f e) t)
+puts f e k = turned (line.drop_number f e) (neutral.drops f e k)
+
+-- the test of a comparison as the opposite one
+drops_test : (f g : Comparison) → ((t : IntegerType) → opposite.AreOpposite t (comparison_of f) (comparison_of g)) → (t : IntegerType) →
+    IsRight (line.back (line.negate f g) t)
+drops_test f g o = turned (line.negate f g) (compare.negates f g o)
+
+-- what is shown of one, and of the others
+infixr 50 ◌▸◌
+◌▸◌ : {A B : Type 0} → A → B → A × B
+a ▸ b = (a, b)
+
+-- row by row, in the order of the table
+rows_right : AtRows IsRight ROWS
+rows_right =
+    -- operands in another order, or grouped otherwise
+    group.add_swaps
+    ▸ group.mul_swaps
+    ▸ group.and_swaps
+    ▸ group.or_swaps
+    ▸ group.xor_swaps
+    ▸ compare.turns Eq Eq (λ t n m. compare.eq_comm n m)
+    ▸ compare.turns Ne Ne (λ t n m. ap not (compare.eq_comm n m))
+    ▸ compare.turns LtS GtS (λ t n m. refl)
+    ▸ compare.turns LtU GtU (λ t n m. refl)
+    ▸ compare.turns LeS GeS (λ t n m. refl)
+    ▸ compare.turns LeU GeU (λ t n m. refl)
+    ▸ compare.turns GtS LtS (λ t n m. refl)
+    ▸ compare.turns GtU LtU (λ t n m. refl)
+    ▸ compare.turns GeS LeS (λ t n m. refl)
+    ▸ compare.turns GeU LeU (λ t n m. refl)
+    ▸ group.add_groups
+    ▸ group.mul_groups
+    ▸ group.and_groups
+    ▸ group.or_groups
+    ▸ group.xor_groups
+    ▸ turned (line.group_left Add) group.add_groups
+    ▸ turned (line.group_left Mul) group.mul_groups
+    ▸ turned (line.group_left And) group.and_groups
+    ▸ turned (line.group_left Or) group.or_groups
+    ▸ turned (line.group_left Xor) group.xor_groups
+    -- a number that changes nothing
+    ▸ puts Add (Literal 0) neutral.add_0
+    ▸ puts Sub (Literal 0) neutral.sub_0
+    ▸ puts Mul (Literal 1) neutral.mul_1
+    ▸ puts Or (Literal 0) neutral.or_0
+    ▸ puts Xor (Literal 0) neutral.xor_0
+    ▸ puts And Ones neutral.and_1
+    ▸ puts Shl (Literal 0) neutral.shl_0
+    ▸ puts ShrS (Literal 0) neutral.shr_s_0
+    ▸ puts ShrU (Literal 0) neutral.shr_u_0
+    ▸ puts Rotl (Literal 0) neutral.rotl_0
+    ▸ puts Rotr (Literal 0) neutral.rotr_0
+    ▸ neutral.drops Add (Literal 0) neutral.add_0
+    ▸ neutral.drops Sub (Literal 0) neutral.sub_0
+    ▸ neutral.drops Mul (Literal 1) neutral.mul_1
+    ▸ neutral.drops Or (Literal 0) neutral.or_0
+    ▸ neutral.drops Xor (Literal 0) neutral.xor_0
+    ▸ neutral.drops And Ones neutral.and_1
+    ▸ neutral.drops Shl (Literal 0) neutral.shl_0
+    ▸ neutral.drops ShrS (Literal 0) neutral.shr_s_0
+    ▸ neutral.drops ShrU (Literal 0) neutral.shr_u_0
+    ▸ neutral.drops Rotl (Literal 0) neutral.rotl_0
+    ▸ neutral.drops Rotr (Literal 0) neutral.rotr_0
+    -- an operand twice
+    ▸ turned (line.double Or) group.or_twice
+    ▸ turned (line.double And) group.and_twice
+    ▸ group.or_twice
+    ▸ group.and_twice
+    ▸ group.complement_twice
+    -- another operator, or another constant
+    ▸ constant.shift_product
+    ▸ constant.product_shift
+    ▸ constant.shift_quotient
+    ▸ constant.quotient_shift
+    ▸ constant.mask_remainder
+    ▸ constant.remainder_mask
+    ▸ constant.turn_right
+    ▸ constant.turn_left
+    ▸ constant.product_double
+    ▸ constant.shift_double
+    ▸ turned line.product_double constant.product_double
+    ▸ turned line.shift_double constant.shift_double
+    ▸ group.cancels_sub
+    ▸ group.cancels_xor
+    ▸ constant.difference_sum
+    ▸ constant.sum_difference
+    -- tests and comparisons
+    ▸ compare.test_comparison
+    ▸ compare.comparison_test
+    ▸ compare.difference_tests
+    ▸ compare.tests_difference
+    ▸ compare.negates Eq Ne opposite.eq_opposite
+    ▸ compare.negates Ne Eq opposite.ne_opposite
+    ▸ compare.negates LtS GeS opposite.lt_s_opposite
+    ▸ compare.negates LtU GeU opposite.lt_u_opposite
+    ▸ compare.negates GtS LeS opposite.gt_s_opposite
+    ▸ compare.negates GtU LeU opposite.gt_u_opposite
+    ▸ compare.negates LeS GtS opposite.le_s_opposite
+    ▸ compare.negates LeU GtU opposite.le_u_opposite
+    ▸ compare.negates GeS LtS opposite.ge_s_opposite
+    ▸ compare.negates GeU LtU opposite.ge_u_opposite
+    ▸ drops_test Eq Ne opposite.eq_opposite
+    ▸ drops_test Ne Eq opposite.ne_opposite
+    ▸ drops_test LtS GeS opposite.lt_s_opposite
+    ▸ drops_test LtU GeU opposite.lt_u_opposite
+    ▸ drops_test GtS LeS opposite.gt_s_opposite
+    ▸ drops_test GtU LeU opposite.gt_u_opposite
+    ▸ drops_test LeS GtS opposite.le_s_opposite
+    ▸ drops_test LeU GtU opposite.le_u_opposite
+    ▸ drops_test GeS LtS opposite.ge_s_opposite
+    ▸ drops_test GeU LtU opposite.ge_u_opposite
+    -- selects
+    ▸ compare.select_turns
+    ▸ compare.select_drops
+    -- a number that decides alone
+    ▸ neutral.and_drawn
+    ▸ neutral.mul_drawn
+    ▸ neutral.or_drawn
+    ▸ neutral.and_alone
+    ▸ neutral.mul_alone
+    ▸ neutral.or_alone
+    -- wider and narrower
+    ▸ (λ h c us vs a e. ap ok (sym (number.low_half (h 0) (a 0))))
+    ▸ (λ h c us vs a e. ap ok (number.low_half (h 0) (a 0)))
+    ▸ (λ h c us vs a e. ap ok (number.signed_low_half (h 0) (a 0)))
+    ▸ (λ h c us vs a e. ap (λ z. ok (cast_unsigned w32 z % 2 ^ 32)) (number.low_8_of_32 (h 0)))
+    ▸ (λ h c us vs a e. ap (λ z. ok (cast_unsigned w32 z % 2 ^ 32)) (number.low_16_of_32 (h 0)))
+    ▸ (λ h c us vs a e. ap (λ z. ok (cast_unsigned w64 z % 2 ^ 64)) (number.low_8_of_64 (h 0)))
+    ▸ (λ h c us vs a e. ap (λ z. ok (cast_unsigned w64 z % 2 ^ 64)) (number.low_16_of_64 (h 0)))
+    ▸ (λ h c us vs a e. ap (λ z. ok (cast_unsigned w64 z % 2 ^ 64)) (number.low_32_of_64 (h 0)))
+    -- over both parts of an operand
+    ▸ group.product_parts
+    ▸ group.mask_parts
+    ▸ group.and_complements
+    ▸ group.or_complements
+    ▸ turned (line.complement And Or) group.and_complements
+    ▸ turned (line.complement Or And) group.or_complements
+    -- shorter
+    ▸ constant.sum_joins
+    ▸ compare.difference_tests_equal
+    ▸ group.or_both_is
+    ▸ constant.product_negates
+    ▸ compare.one_below
+    ▸ group.sum_goes_back
+    ▸ tt
+
+-- ---- by indices
+
+at_width : (P : Line → Type 0) (w : Widths) (l : IntegerType → Line) → AtWidths P w l → (k : ℕ) (m : Line) → slice_get (map l (widths_in w)) k ≡ Some m → P m
+at_width P Both l h zero m e = let is : l integer.I32 ≡ m = cc in subst P is (h integer.I32)
+at_width P Both l h (suc zero) m e = let is : l integer.I64 ≡ m = cc in subst P is (h integer.I64)
+at_width P Both l h (suc (suc k)) m e = absurd cc
+at_width P (Only t) l h zero m e = let is : l t ≡ m = cc in subst P is h
+at_width P (Only t) l h (suc k) m e = absurd cc
+at_width P Any l h zero m e = let is : l integer.I32 ≡ m = cc in subst P is h
+at_width P Any l h (suc k) m e = absurd cc
+
+at_row : (P : Line → Type 0) (rs : List Row) → AtRows P rs → (i : ℕ) (row : Row) → slice_get rs i ≡ Some row → AtWidths P row.widths (line_of row)
+at_row P [] h i row e = absurd cc
+at_row P (r ∷ rs) h zero row e =
+    let is : r ≡ row = cc in
+    subst (λ r. AtWidths P r.widths (line_of r)) is h.0
+at_row P (r ∷ rs) h (suc i) row e = at_row P rs h.1 i row e
+
+right_line : OfEachLine IsRight
+right_line i row e = at_width IsRight row.widths (line_of row) (at_row IsRight ROWS rows_right i row e)
+
+pub table_is_right : LinesKeepCode → TableIsRight
+table_is_right keep = record {
+  formed = formed_line;
+  right = right_line;
+  keeps = λ i row e k l f. keep l (formed_line i row e k l f) (right_line i row e k l f);
+}

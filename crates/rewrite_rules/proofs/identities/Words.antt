@@ -1,0 +1,214 @@
+-- The lines that rules share, by an operator and a width, and the words that they are written in.
+use Rattle.std.specs.Prelude.{ℕ, List, [], ◌∷◌}
+use Rattle.mutate_base.specs.declared.types.PrimitiveTypeInfo.TheVariants as primitive
+use Rattle.peephole_machine.specs.declared.integer.IntegerType.{IntegerType}
+use Rattle.peephole_machine.specs.declared.integer.IntegerType.TheVariants as integer
+use Rattle.peephole_machine.specs.declared.operation.Binary.{Binary}
+use Rattle.peephole_machine.specs.declared.operation.Binary.TheVariants.{Add, Sub, Mul, DivU, RemU, And, Or, Xor, Shl, ShrU, Rotl, Rotr}
+use Rattle.peephole_machine.specs.declared.operation.Comparison.{Comparison}
+use Rattle.peephole_machine.specs.declared.operation.Comparison.TheVariants.{Eq, Ne, LtU}
+use Rattle.peephole_machine.specs.declared.operation.Operation.TheVariants as operation
+use Rattle.peephole_machine.specs.Values.{type_of}
+use Rattle.rewrite_rules.specs.declared.pattern.Operator.TheVariants.{Whole, Select}
+use Rattle.rewrite_rules.specs.declared.pattern.Number.{Number}
+use Rattle.rewrite_rules.specs.declared.pattern.Number.TheVariants.{Literal, Ones, Slot, Turned, Next, Previous, Negated, Power, Place, Sum}
+use Rattle.rewrite_rules.specs.Pattern.{Kind, fixed, any, Pattern, hole, constant, drawn, apply, none, ◌▹◌}
+use Rattle.rewrite_rules.specs.Line.{Line, Condition, is_below_width, is_power, is_mask}
+
+-- ---- words
+
+-- operands
+abbrev pub x : Pattern
+x = hole 0
+
+abbrev pub y : Pattern
+y = hole 1
+
+abbrev pub z : Pattern
+z = hole 2
+
+-- an operator of a type on two operands, a comparison, and the test whether a number is 0
+abbrev pub two : IntegerType → Binary → Pattern → Pattern → Pattern
+two t f p q = apply (Whole (operation.Binary t f)) (p ▹ q ▹ none)
+
+abbrev pub compared : IntegerType → Comparison → Pattern → Pattern → Pattern
+compared t f p q = apply (Whole (operation.Compare t f)) (p ▹ q ▹ none)
+
+abbrev pub is_zero : IntegerType → Pattern → Pattern
+is_zero t p = apply (Whole (operation.Eqz t)) (p ▹ none)
+
+-- the first where the last one isn't 0, else the second
+abbrev pub chosen : Pattern → Pattern → Pattern → Pattern
+chosen p q r = apply Select (p ▹ q ▹ r ▹ none)
+
+-- constants of a type: a number, and all ones
+abbrev pub lit : IntegerType → ℕ → Pattern
+lit t n = constant t (Literal n)
+
+abbrev pub all : IntegerType → Pattern
+all t = constant t Ones
+
+-- the number of the constant that was matched
+abbrev pub c : Number
+c = Slot 0
+
+-- three holes of the type
+abbrev pub of_type : IntegerType → List Kind
+of_type t = fixed (type_of t) ∷ fixed (type_of t) ∷ fixed (type_of t) ∷ []
+
+-- a line whose holes are of one type; and one that asks something of its constant
+abbrev pub line : IntegerType → Pattern → Pattern → Line
+line t p q = record { left = p; right = q; kinds = of_type t; conditions = [] }
+
+abbrev pub line_if : IntegerType → Condition → Pattern → Pattern → Line
+line_if t k p q = record { left = p; right = q; kinds = of_type t; conditions = k ∷ [] }
+
+-- the line read from right to left
+abbrev pub back : (IntegerType → Line) → IntegerType → Line
+back l t = record { left = (l t).right; right = (l t).left; kinds = (l t).kinds; conditions = (l t).conditions }
+
+-- ---- operands in another order, or grouped otherwise
+
+-- the operands change places
+abbrev pub swap : Binary → IntegerType → Line
+swap f t = line t (two t f x y) (two t f y x)
+
+-- the operands of a comparison change places, and the comparison is turned around
+abbrev pub turn : (f g : Comparison) → IntegerType → Line
+turn f g t = line t (compared t f x y) (compared t g y x)
+
+-- of three operands the first two together, in the place of the last two
+abbrev pub group_left : Binary → IntegerType → Line
+group_left f t = line t (two t f x (two t f y z)) (two t f (two t f x y) z)
+
+-- over both parts of an operand
+abbrev pub parted : (f g : Binary) → IntegerType → Line
+parted f g t = line t (two t f (two t g x y) (constant t c)) (two t g (two t f x (constant t c)) (two t f y (constant t c)))
+
+-- the complement of both as both complements
+abbrev pub complement : (f g : Binary) → IntegerType → Line
+complement f g t = line t (two t Xor (two t f x y) (all t)) (two t g (two t Xor x (all t)) (two t Xor y (all t)))
+
+-- ---- a number that changes nothing, or that decides alone
+
+-- the number is dropped behind the operand
+abbrev pub drop_number : Binary → Number → IntegerType → Line
+drop_number f n t = line t (two t f x (constant t n)) x
+
+-- the number stays alone, or comes behind a drawn one
+abbrev pub alone : Binary → Number → IntegerType → Line
+alone f n t = line t (two t f x (constant t n)) (constant t n)
+
+abbrev pub behind_drawn : Binary → Number → IntegerType → Line
+behind_drawn f n t = line t (constant t n) (two t f (drawn t) (constant t n))
+
+-- ---- an operand twice
+
+-- two become one, and two leave 0
+abbrev pub double : Binary → IntegerType → Line
+double f t = line t (two t f x x) x
+
+abbrev pub cancelled : Binary → IntegerType → Line
+cancelled f t = line t (two t f x x) (lit t 0)
+
+-- the complement of the complement
+abbrev pub twice_complement : IntegerType → Line
+twice_complement t = line t x (two t Xor (two t Xor x (all t)) (all t))
+
+-- times two, or one place to the left, is a sum
+abbrev pub product_double : IntegerType → Line
+product_double t = line t (two t Mul x (lit t 2)) (two t Add x x)
+
+abbrev pub shift_double : IntegerType → Line
+shift_double t = line t (two t Shl x (lit t 1)) (two t Add x x)
+
+-- a union with what holds the operand already
+abbrev pub or_both : IntegerType → Line
+or_both t = line t (two t Or x (two t Or x y)) (two t Or x y)
+
+-- ---- another operator with another constant
+
+-- a shift to the left as a product with a power of two, and back
+abbrev pub shift_product : IntegerType → Line
+shift_product t = line_if t (is_below_width t 0) (two t Shl x (constant t c)) (two t Mul x (constant t (Power 0)))
+
+abbrev pub product_shift : IntegerType → Line
+product_shift t = line_if t (is_power t 0) (two t Mul x (constant t c)) (two t Shl x (constant t (Place 0)))
+
+-- a shift to the right as a quotient, and back
+abbrev pub shift_quotient : IntegerType → Line
+shift_quotient t = line_if t (is_below_width t 0) (two t ShrU x (constant t c)) (two t DivU x (constant t (Power 0)))
+
+abbrev pub quotient_shift : IntegerType → Line
+quotient_shift t = line_if t (is_power t 0) (two t DivU x (constant t c)) (two t ShrU x (constant t (Place 0)))
+
+-- the low bits as a remainder, and back
+abbrev pub mask_remainder : IntegerType → Line
+mask_remainder t = line_if t (is_mask t 0) (two t And x (constant t c)) (two t RemU x (constant t (Next 0)))
+
+abbrev pub remainder_mask : IntegerType → Line
+remainder_mask t = line_if t (is_power t 0) (two t RemU x (constant t c)) (two t And x (constant t (Previous 0)))
+
+-- a turn to one side as a turn to the other
+abbrev pub turn_right : IntegerType → Line
+turn_right t = line t (two t Rotl x (constant t c)) (two t Rotr x (constant t (Turned 0)))
+
+abbrev pub turn_left : IntegerType → Line
+turn_left t = line t (two t Rotr x (constant t c)) (two t Rotl x (constant t (Turned 0)))
+
+-- a difference as a sum with the negated number, and back
+abbrev pub difference_sum : IntegerType → Line
+difference_sum t = line t (two t Sub x (constant t c)) (two t Add x (constant t (Negated 0)))
+
+abbrev pub sum_difference : IntegerType → Line
+sum_difference t = line t (two t Add x (constant t c)) (two t Sub x (constant t (Negated 0)))
+
+-- two constants that are added, as their sum
+abbrev pub join_sum : IntegerType → Line
+join_sum t = line t (two t Add (two t Add x (constant t c)) (constant t (Slot 1))) (two t Add x (constant t (Sum 0 1)))
+
+-- times -1
+abbrev pub negated_product : IntegerType → Line
+negated_product t = line t (two t Mul x (all t)) (two t Sub (lit t 0) x)
+
+-- what was taken away comes back
+abbrev pub sum_back : IntegerType → Line
+sum_back t = line t (two t Add (two t Sub x y) y) x
+
+-- ---- tests
+
+-- a comparison as the test of the one that holds where it doesn't
+abbrev pub negate : (f g : Comparison) → IntegerType → Line
+negate f g t = line t (compared t f x y) (is_zero integer.I32 (compared t g x y))
+
+-- a test as a comparison with 0, and back
+abbrev pub test_comparison : IntegerType → Line
+test_comparison t = line t (is_zero t x) (compared t Eq x (lit t 0))
+
+abbrev pub comparison_test : IntegerType → Line
+comparison_test t = line t (compared t Eq x (lit t 0)) (is_zero t x)
+
+-- a comparison with 0 as two tests, and back
+abbrev pub difference_tests : IntegerType → Line
+difference_tests t = line t (compared t Ne x (lit t 0)) (is_zero integer.I32 (is_zero t x))
+
+abbrev pub tests_difference : IntegerType → Line
+tests_difference t = line t (is_zero integer.I32 (is_zero t x)) (compared t Ne x (lit t 0))
+
+-- a difference that is 0
+abbrev pub tested_difference : IntegerType → Line
+tested_difference t = line t (is_zero t (two t Sub x y)) (compared t Eq x y)
+
+-- below 1
+abbrev pub is_below_one : IntegerType → Line
+is_below_one t = line t (compared t LtU x (lit t 1)) (is_zero t x)
+
+-- ---- selects
+
+-- the other way, by the condition's test
+abbrev pub select_turned : Line
+select_turned = record { left = chosen x y z; right = chosen y x (is_zero integer.I32 z); kinds = any ∷ any ∷ fixed primitive.I32 ∷ []; conditions = [] }
+
+-- of two that are the same
+abbrev pub select_same : Line
+select_same = record { left = chosen x x z; right = x; kinds = any ∷ any ∷ fixed primitive.I32 ∷ []; conditions = [] }

@@ -1,0 +1,5 @@
+use Rattle.rewrite_rules.proofs.LineLemmas.{lines_keep_code}
+use Rattle.rewrite_rules.proofs.laws.lines_keep_code.Goals as goal
+
+pub returns : goal.returns
+returns c = lines_keep_code c.typed_rows_check.ensures.push c.typed_rows_check.ensures.on c.typed_rows_check.ensures.stay

@@ -1,0 +1,11 @@
+pub mod Code
+pub mod Order
+pub mod Pattern
+pub mod Numbers
+pub mod Line
+pub mod Table
+pub mod Needs
+pub mod Growth
+pub mod Instance
+pub mod Parts
+pub mod Laws

@@ -1,0 +1,133 @@
+-- The table of rules, which stands in the code: the lines of each row (this project).
+use Rattle.std.specs.Prelude.{◌≡◌, ℕ, List, [], ◌∷◌, map, Option, Some, None, slice_get}
+use Rattle.mutate_base.specs.declared.types.PrimitiveTypeInfo.TheVariants as primitive
+use Rattle.peephole_machine.specs.declared.integer.IntegerType.{IntegerType}
+use Rattle.peephole_machine.specs.declared.integer.IntegerType.TheVariants as integer
+use Rattle.peephole_machine.specs.declared.operation.Operation.TheVariants as operation
+use Rattle.peephole_machine.specs.Values.{type_of}
+use Rattle.rewrite_rules.specs.declared.pattern.Operator.{Operator}
+use Rattle.rewrite_rules.specs.declared.pattern.Operator.TheVariants as operator
+use Rattle.rewrite_rules.specs.declared.pattern.Part.{Part}
+use Rattle.rewrite_rules.specs.declared.pattern.Part.TheVariants as part
+use Rattle.rewrite_rules.specs.declared.table.Step.{Step}
+use Rattle.rewrite_rules.specs.declared.table.Step.TheVariants.{Operand, Constant, Drawn, Binary, Compare, Eqz, Select, Whole, End}
+use Rattle.rewrite_rules.specs.declared.table.Widths.{Widths}
+use Rattle.rewrite_rules.specs.declared.table.Widths.TheVariants.{Both, Only, Any}
+use Rattle.rewrite_rules.specs.declared.table.Condition as asked
+use Rattle.rewrite_rules.specs.declared.table.Condition.TheVariants.{BelowWidth, Power, Mask}
+use Rattle.rewrite_rules.specs.declared.table.Row.{Row}
+use Rattle.rewrite_rules.specs.declared.table.TheConstants.{ROWS}
+use Rattle.rewrite_rules.specs.Pattern.{Kind, fixed, any, operands_of, Pattern, Patterns, hole, constant, drawn, apply, none, ◌▹◌}
+use Rattle.rewrite_rules.specs.Parts.{parts_of}
+use Rattle.rewrite_rules.specs.Line.{Line, Condition, is_below_width, is_power, is_mask}
+
+-- ---- sides
+
+-- It stands where steps are no pattern, and is never well formed.
+abbrev pub no_pattern : Pattern
+no_pattern = apply operator.Select none
+
+-- an operator behind the patterns of its operands, of which the last one stands first; the list `kinds` has one for each that is still to be taken
+abbrev pub applied : Operator → (kinds : List Kind) → Patterns → List Pattern → List Pattern
+applied o [] qs ps = apply o qs ∷ ps
+applied o (k ∷ ks) qs [] = no_pattern ∷ []
+applied o (k ∷ ks) qs (p ∷ ps) = applied o ks (p ▹ qs) ps
+
+abbrev pub behind : Operator → List Pattern → List Pattern
+behind o ps = applied o (operands_of o) none ps
+
+-- the patterns behind a step, for a width, by those before it
+abbrev pub after_step : IntegerType → Step → List Pattern → List Pattern
+after_step t (Operand n) ps = hole n ∷ ps
+after_step t (Constant n) ps = constant t n ∷ ps
+after_step t Drawn ps = drawn t ∷ ps
+after_step t (Binary f) ps = behind (operator.Whole (operation.Binary t f)) ps
+after_step t (Compare f) ps = behind (operator.Whole (operation.Compare t f)) ps
+after_step t Eqz ps = behind (operator.Whole (operation.Eqz t)) ps
+after_step t Select ps = behind operator.Select ps
+after_step t (Whole f) ps = behind (operator.Whole f) ps
+after_step t End ps = ps
+
+-- behind the steps before the end
+abbrev pub after_steps : IntegerType → List Step → List Pattern → List Pattern
+after_steps t [] ps = ps
+after_steps t (End ∷ steps) ps = ps
+after_steps t (s ∷ steps) ps = after_steps t steps (after_step t s ps)
+
+-- the only one
+abbrev pub single : List Pattern → Pattern
+single (p ∷ []) = p
+single ps = no_pattern
+
+-- the pattern that a side is, for a width
+abbrev pub pattern_of : IntegerType → List Step → Pattern
+pattern_of t steps = single (after_steps t steps [])
+
+-- ---- parts
+
+-- the part that a step is, for a width, where it does not end its side
+abbrev pub part_for : IntegerType → Step → Option Part
+part_for t (Operand n) = Some (part.Hole n)
+part_for t (Constant n) = Some (part.Constant t n)
+part_for t Drawn = Some (part.Drawn t)
+part_for t (Binary f) = Some (part.Apply (operator.Whole (operation.Binary t f)))
+part_for t (Compare f) = Some (part.Apply (operator.Whole (operation.Compare t f)))
+part_for t Eqz = Some (part.Apply (operator.Whole (operation.Eqz t)))
+part_for t Select = Some (part.Apply operator.Select)
+part_for t (Whole f) = Some (part.Apply (operator.Whole f))
+part_for t End = None
+
+-- those up to the one before the first that is none
+abbrev pub up_to_none : List (Option Part) → List Part
+up_to_none [] = []
+up_to_none (None ∷ os) = []
+up_to_none (Some p ∷ os) = p ∷ up_to_none os
+
+-- the parts of a side, for a width
+abbrev pub parts_for : IntegerType → List Step → List Part
+parts_for t steps = up_to_none (map (part_for t) steps)
+
+-- ---- rows
+
+-- the types of the operands
+abbrev pub kinds_for : Widths → IntegerType → List Kind
+kinds_for Any t = any ∷ any ∷ fixed primitive.I32 ∷ []
+kinds_for w t = fixed (type_of t) ∷ fixed (type_of t) ∷ fixed (type_of t) ∷ []
+
+-- what is asked of a constant of the width
+abbrev pub condition_for : IntegerType → asked.Condition → Condition
+condition_for t (BelowWidth i) = is_below_width t i
+condition_for t (Power i) = is_power t i
+condition_for t (Mask i) = is_mask t i
+
+abbrev pub conditions_for : IntegerType → Option asked.Condition → List Condition
+conditions_for t None = []
+conditions_for t (Some k) = condition_for t k ∷ []
+
+-- the line that a row is, for a width
+abbrev pub line_of : Row → IntegerType → Line
+line_of r t = record {
+  left = pattern_of t r.left;
+  right = pattern_of t r.right;
+  kinds = kinds_for r.widths t;
+  conditions = conditions_for t r.condition;
+}
+
+-- the widths; a row that is for none is read for one
+abbrev pub widths_in : Widths → List IntegerType
+widths_in Both = integer.I32 ∷ integer.I64 ∷ []
+widths_in (Only t) = t ∷ []
+widths_in Any = integer.I32 ∷ []
+
+abbrev pub lines_of : Row → List Line
+lines_of r = map (line_of r) (widths_in r.widths)
+
+-- It holds of each line of each row of the table.
+abbrev pub OfEachLine : (Line → Type 0) → Type 0
+OfEachLine P = (i : ℕ) (row : Row) → slice_get ROWS i ≡ Some row → (k : ℕ) (l : Line) → slice_get (lines_of row) k ≡ Some l → P l
+
+-- The patterns of each line of the table have the parts that its row's sides have for its width.
+abbrev pub SidesAreParts : Type 0
+SidesAreParts =
+    (i : ℕ) (row : Row) → slice_get ROWS i ≡ Some row → (k : ℕ) (t : IntegerType) → slice_get (widths_in row.widths) k ≡ Some t →
+    (parts_of (line_of row t).left ≡ parts_for t row.left) × (parts_of (line_of row t).right ≡ parts_for t row.right)

@@ -1,0 +1,40 @@
+//! What holds of the rules. A function here does nothing: its contract is the laws.
+
+ghost use Rattle.rewrite_rules.specs.Laws.{LinesKeepCode, TableIsRight};
+ghost use Rattle.rewrite_rules.specs.Needs.{NeedsAreEnough};
+ghost use Rattle.rewrite_rules.specs.Parts.{PartsAreTheCode};
+ghost use Rattle.rewrite_rules.specs.Table.{SidesAreParts};
+
+use peephole_programs::validity::typed_rows_check;
+
+/// What a line asks of the operands in its holes is computed once from its two sides.
+pub fn needs_are_enough()
+    ensures { NeedsAreEnough }
+{}
+
+/// Where a line that is well formed and right applies, what it writes may stand in the place of what it is an instance of: it does the
+/// same there, from every stack and every state, and is valid where that is.
+pub fn lines_keep_code()
+    ensures { LinesKeepCode }
+{
+    typed_rows_check();
+}
+
+/// Every line of the table is well formed and right, and so keeps what code does.
+pub fn table_is_right()
+    ensures { TableIsRight }
+{
+    lines_keep_code();
+}
+
+/// The code of a pattern is that of its parts, one behind another.
+pub fn parts_are_the_code()
+    ensures { PartsAreTheCode }
+{}
+
+/// The patterns of the table's lines have the parts of its rows' sides, in their order.
+pub fn sides_are_parts()
+    ensures { SidesAreParts }
+{
+    table_is_right();
+}

@@ -1,0 +1,65 @@
+//! What rules are written in: operators, and numbers of constants.
+
+use peephole_machine::{IntegerType, Operation};
+
+/// An operator that patterns name.
+#[derive(Clone, Copy, Debug, PartialEq, Eq)]
+pub enum Operator {
+    /// One on whole numbers.
+    Whole(Operation),
+    /// The select whose type isn't written.
+    Select,
+}
+
+/// A number that goes by a pattern's constants and by the width, N bits; its low bits count.
+#[derive(Clone, Copy, Debug, PartialEq, Eq)]
+pub enum Number {
+    /// Itself.
+    Literal(u64),
+    /// 2^N - 1.
+    Ones,
+    /// The constant with that index, c.
+    Slot(u8),
+    /// N - c, with c below N.
+    Turned(u8),
+    /// c + 1.
+    Next(u8),
+    /// c - 1.
+    Previous(u8),
+    /// 2^N - c.
+    Negated(u8),
+    /// 2^c.
+    Power(u8),
+    /// The place of the lowest bit of c that is set.
+    Place(u8),
+    /// The sum of two constants.
+    Sum(u8, u8),
+}
+
+/// A part of a pattern, of which a pattern is a list in postfix: operands before their operator.
+#[derive(Clone, Copy, Debug, PartialEq, Eq)]
+pub enum Part {
+    /// Any operand that leaves one value; the same number stands for the same code.
+    Hole(u8),
+    /// A constant.
+    Constant(IntegerType, Number),
+    /// A drawn constant.
+    Drawn(IntegerType),
+    /// An operator behind its operands.
+    Apply(Operator),
+}
+
+impl Operator {
+    ghost use Rattle.std.specs.Prelude.{◌≡◌};
+    ghost use Rattle.rewrite_rules.specs.Instance.{row_number};
+
+    /// The number of the operator's row in the instruction table.
+    pub fn row(self) -> u16
+        ensures { result ≡ row_number self }
+    {
+        match self {
+            Operator::Whole(operation) => operation.opcode() as u16 - 29,
+            Operator::Select => 3,
+        }
+    }
+}
