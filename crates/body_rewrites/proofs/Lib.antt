@@ -1,0 +1,9 @@
+pub mod StandsLemmas
+pub mod OpenLemmas
+pub mod PassLemmas
+pub mod AloneLemmas
+pub mod CutLemmas
+pub mod MatchingLemmas
+pub mod AlikeLemmas
+pub mod AllAlikeLemmas
+pub mod FoundLemmas

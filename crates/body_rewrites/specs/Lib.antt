@@ -1,0 +1,4 @@
+pub mod Trees
+pub mod Open
+pub mod Cutting
+pub mod Matching

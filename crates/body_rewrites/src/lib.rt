@@ -1,0 +1,12 @@
+//! Bodies rewritten by rules.
+#![tactic(auto)]
+
+mod cutting;
+mod matching;
+#[cfg(test)]
+mod tests;
+mod trees;
+
+pub use cutting::cuts;
+pub use matching::{Match, find};
+pub use trees::{Tree, trees_of};
