@@ -27,7 +27,8 @@ hole_code : (context : Context) (operators : Operators) (p : Part) (n start end 
 hole_code context operators (Hole m) n start end e (at, t, ends, tree) =
     let ordered = tree.ordered in
     let inside = tree.inside in
-    (omega (arith, ends), omega (arith, ends), (tree.code, subst (λ k. Stands operators start k tree.code) (let s : at + 1 ≡ end = omega (arith, ends) in s) tree.stands))
+    let last : at + 1 ≡ end = omega (arith, ends) in
+    (omega (arith, ends), omega (arith, ends), (tree.code, subst (λ k. Stands operators start k tree.code) last tree.stands))
 hole_code context operators (Constant t x) n start end e h = absurd cc
 hole_code context operators (Drawn t) n start end e h = absurd cc
 hole_code context operators (Apply o) n start end e h = absurd cc
@@ -70,7 +71,9 @@ nothing_yet operators parts starts end numbers c = record { rest = c; same = λ 
 pub drop_one : {X : Type 0} (xs : List X) (i : ℕ) (d : X) → i < length xs → drop i xs ≡ slice_index_or xs i d ∷ drop (i + 1) xs
 drop_one [] i d l = absurd (omega arith)
 drop_one (x ∷ xs) zero d l = refl
-drop_one (x ∷ xs) (suc i) d l = drop_one xs i d (omega arith) ∙ ap (λ n. slice_index_or xs i d ∷ drop n (x ∷ xs)) (let s : suc (i + 1) ≡ suc i + 1 = omega arith in s)
+drop_one (x ∷ xs) (suc i) d l =
+    drop_one xs i d (omega arith)
+    ∙ ap (λ n. slice_index_or xs i d ∷ drop n (x ∷ xs)) (let s : suc (i + 1) ≡ suc i + 1 = omega arith in s)
 
 -- a part's code, by its operand alone
 alike_is : (operators : Operators) (parts : List Part) (starts : List ℕ) (end : ℕ) (numbers : List ℕ) (p : Part) (k at : ℕ) →

@@ -7,3 +7,6 @@ pub mod MatchingLemmas
 pub mod AlikeLemmas
 pub mod AllAlikeLemmas
 pub mod FoundLemmas
+pub mod CodeLemmas
+pub mod LeftLemmas
+pub mod LeavesLemmas

@@ -376,7 +376,8 @@ module _ (context : Context) (operators : Operators) (at : ℕ) (o : Open) (h : 
           let w = within_types in
           let m = marked new effects in
           let long_starts : length new.starts.items ≡ below + 1 =
-          ap length starts ∙ (length-append (take below o.starts.items) (tree.start ∷ []) ∙ ap (λ n. n + 1) (length-take-le below o.starts.items (omega arith))) in
+          ap length starts ∙ (length-append (take below o.starts.items) (tree.start ∷ [])
+          ∙ ap (λ n. n + 1) (length-take-le below o.starts.items (omega arith))) in
           let long_types : length new.types.items ≡ below + 1 =
           ap length types ∙ (length-append (take below o.types.items) (tree.gives ∷ []) ∙ ap (λ n. n + 1) (length-take-le below o.types.items w)) in
           record {

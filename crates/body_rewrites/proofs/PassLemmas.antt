@@ -35,6 +35,7 @@ one_more context operators at list o h t = record {
   ];
 }
 
-pub all_trees : (context : Context) (operators : Operators) (at : ℕ) (list : List (Option Tree)) → AreTreesBefore context operators at list → at ≡ length operators →
+pub all_trees : (context : Context) (operators : Operators) (at : ℕ) (list : List (Option Tree)) → AreTreesBefore context operators at list →
+    at ≡ length operators →
     AreTrees context operators list
 all_trees context operators at list h e = record { count = h.count ∙ e; each = h.each }

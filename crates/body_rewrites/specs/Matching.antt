@@ -1,5 +1,5 @@
 -- What stands in the holes of a pattern that stands in a body, and the numbers of its constants (this project).
-use Rattle.std.specs.Prelude.{◌≡◌, ℕ, ◌==◌, ◌||◌, ◌≤◌, Bool, true, false, IsTrue, if◌then◌else◌, ⊤, Option, Some, List, [], ◌∷◌, length, map, slice_get, slice_range}
+use Rattle.std.specs.Prelude.{◌≡◌, ℕ, ◌==◌, ◌||◌, ◌≤◌, Bool, true, false, IsTrue, if◌then◌else◌, ⊤, Option, Some, List, [], ◌∷◌, length, map, reverse, slice_get, slice_range}
 use Rattle.std.specs.List.{All}
 use Rattle.std.specs.Int.{w32, w64, cast_unsigned}
 use Rattle.wasm_code.specs.Instruction.{Instruction}
@@ -14,7 +14,12 @@ use Rattle.rewrite_rules.specs.declared.pattern.Number.TheVariants.{Literal, One
 use Rattle.rewrite_rules.specs.declared.pattern.Part.{Part}
 use Rattle.rewrite_rules.specs.declared.pattern.Part.TheVariants.{Hole, Constant}
 use Rattle.rewrite_rules.specs.Numbers.{constant_at}
-use Rattle.rewrite_rules.specs.Parts.{part_code}
+use Rattle.rewrite_rules.specs.declared.table.Row.{Row}
+use Rattle.rewrite_rules.specs.declared.table.TheConstants.{ROWS}
+use Rattle.rewrite_rules.specs.Line.{Line}
+use Rattle.rewrite_rules.specs.Table.{parts_for, widths_in, line_of}
+use Rattle.rewrite_rules.specs.Instance.{code_of}
+use Rattle.rewrite_rules.specs.Parts.{part_code, parts_code}
 use Rattle.body_rewrites.specs.declared.trees.Tree.{Tree}
 use Rattle.body_rewrites.specs.Trees.{Stands, AreTrees}
 use Rattle.body_rewrites.specs.Open.{HasInstruction}
@@ -135,6 +140,18 @@ HasMatch context operators parts starts end numbers = (x : ℕ → List Instruct
 abbrev pub HasSomeMatch : Context → List (Operator × ℕ) → List Part → (end : ℕ) → Type 0
 HasSomeMatch context operators parts end = (starts numbers : List ℕ) × HasMatch context operators parts starts end numbers
 
+-- where the first part begins; where there is none, the end
+abbrev pub begin_of : (starts : List ℕ) → (end : ℕ) → ℕ
+begin_of [] end = end
+begin_of (k ∷ ks) end = begin_of ks k
+
+-- What matches is the code of the pattern's parts.
+abbrev pub MatchesAreTheCode : Type 0
+MatchesAreTheCode =
+    (context : Context) (operators : List (Operator × ℕ)) (parts : List Part) (starts : List ℕ) (end : ℕ) (x : ℕ → List Instruction) (numbers : List ℕ) →
+    IsMatch context operators parts starts end x numbers →
+    Stands operators (begin_of starts end) end (parts_code x (constant_at numbers) [] (reverse parts))
+
 -- ---- patterns of left sides
 
 -- a number that is told of the constant alone: a literal, all ones, or one of two slots
@@ -152,3 +169,18 @@ IsOwn t p = ⊤
 -- The numbers of the constants are such, and all are of one type.
 abbrev pub AreOwn : List Part → Type 0
 AreOwn parts = (t : IntegerType) × All (IsOwn t) parts
+
+-- ---- left sides of the table
+
+-- it holds of each row, width and left side, whose parts stand there with the last one first
+abbrev pub OfEachLeft : (Line → List Part → Type 0) → Type 0
+OfEachLeft P =
+    (i : ℕ) (row : Row) → slice_get ROWS i ≡ Some row → (k : ℕ) (t : IntegerType) → slice_get (widths_in row.widths) k ≡ Some t → (parts : List Part) →
+    reverse parts ≡ parts_for t row.left → P (line_of row t) parts
+
+-- The constants of left sides have numbers of their own, and what matches a left side is its code.
+pub record LeftsAreInstances : Type 0 where
+  pub own : OfEachLeft (λ l parts. AreOwn parts)
+  pub code : OfEachLeft (λ l parts. (context : Context) (operators : List (Operator × ℕ)) (starts : List ℕ) (end : ℕ) (x : ℕ → List Instruction)
+      (numbers : List ℕ) → IsMatch context operators parts starts end x numbers →
+      Stands operators (begin_of starts end) end (code_of x (constant_at numbers) [] l.left))

@@ -7,7 +7,7 @@ use Rattle.wasm_code.specs.declared.operator.Operator.TheVariants.{Instr}
 use Rattle.mutate_base.specs.declared.types.PrimitiveTypeInfo.{PrimitiveTypeInfo}
 use Rattle.peephole_machine.specs.Values.{Context}
 use Rattle.peephole_machine.specs.Row.{instruction_types, instruction_count}
-use Rattle.rewrite_rules.specs.Code.{writes, traps, asks}
+use Rattle.rewrite_rules.specs.Code.{Leaves, writes, traps, asks}
 use Rattle.body_rewrites.specs.declared.trees.Tree.{Tree}
 
 -- ---- types
@@ -59,3 +59,9 @@ IsTreeAt context operators at None = (start : ℕ) (t : PrimitiveTypeInfo) → �
 pub record AreTrees (context : Context) (operators : List (Operator × ℕ)) (list : List (Option Tree)) : Type 0 where
   pub count : length list ≡ length operators
   pub each : (at : ℕ) (o : Option Tree) → slice_get list at ≡ Some o → IsTreeAt context operators at o
+
+-- A tree's code needs nothing from before it, and leaves its value.
+abbrev pub TreesLeave : Type 0
+TreesLeave =
+    (context : Context) (operators : List (Operator × ℕ)) (start at : ℕ) (t : PrimitiveTypeInfo) (tree : IsTree context operators start at t) →
+    Leaves context tree.code t

@@ -2,6 +2,7 @@
 #![tactic(auto)]
 
 mod cutting;
+pub mod laws;
 mod matching;
 #[cfg(test)]
 mod tests;

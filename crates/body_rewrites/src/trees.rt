@@ -117,8 +117,10 @@ impl Open {
         start: usize,
         gives: PrimitiveTypeInfo,
     ) -> Result<(), AllocError>
-        ensures starts { OnOk result (self.new.starts.items ≡ take below self.old.starts.items ++ start ∷ []) }
-        ensures types { OnOk result (self.new.types.items ≡ take below self.old.types.items ++ gives ∷ []) }
+        ensures starts { OnOk result
+            (self.new.starts.items ≡ take below self.old.starts.items ++ start ∷ []) }
+        ensures types { OnOk result
+            (self.new.types.items ≡ take below self.old.types.items ++ gives ∷ []) }
         ensures rest { OnOk result (HasEffectsOf self.old self.new) }
     {
         self.starts.truncate(below);

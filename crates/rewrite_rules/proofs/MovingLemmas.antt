@@ -112,5 +112,6 @@ one_back may left right count d same l m e =
     let b = take_last right count d m in
     ap₂ (λ xs ys. before_end may (back xs) (back ys)) a b
     ∙ (last_is may (take (length left - count - 1) left) (take (length right - count - 1) right) _ _ same e
-    ∙ ap₂ (λ xs ys. if same then before_end may (back (take (length left - count - 1) left)) (back (take (length right - count - 1) right)) else are_free may xs ys)
+    ∙ ap₂
+    (λ xs ys. if same then before_end may (back (take (length left - count - 1) left)) (back (take (length right - count - 1) right)) else are_free may xs ys)
     (sym a) (sym b))

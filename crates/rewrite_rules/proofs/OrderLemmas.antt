@@ -273,7 +273,8 @@ module _ (context : Context) (x : ℕ → State → Outcome) (may : Doing) (τ :
       go false q j = j
 
   -- one operand more behind both
-  same_behind : (n : ℕ) (ns ms : List ℕ) (F G : List Value → State → Outcome) → Each (IsGood context x may τ) (n ∷ []) → is_in ns n ≡ false → is_in ms n ≡ false →
+  same_behind : (n : ℕ) (ns ms : List ℕ) (F G : List Value → State → Outcome) → Each (IsGood context x may τ) (n ∷ []) →
+      is_in ns n ≡ false → is_in ms n ≡ false →
       EndSame (ns ++ n ∷ []) (ms ++ n ∷ []) F G →
       EndSame ns ms (λ us m. then_run (run_all x (n ∷ []) m) (λ ws k. F (us ++ ws) k)) (λ us m. then_run (run_all x (n ∷ []) m) (λ ws k. G (us ++ ws) k))
   same_behind n ns ms F G good a b same h f s hs =

@@ -32,7 +32,8 @@ module _ (x : ℕ → List Instruction) (c : ℕ → ℕ) where
   code_append [] qs words = refl
   code_append (p ∷ ps) qs words =
       ap (λ l. part_code x c words p ++ l)
-      (code_append ps qs (drop (draws p) words) ∙ ap (λ w. parts_code x c (drop (draws p) words) ps ++ parts_code x c w qs) (drop-drop (draws_of ps) (draws p) words))
+      (code_append ps qs (drop (draws p) words)
+      ∙ ap (λ w. parts_code x c (drop (draws p) words) ps ++ parts_code x c w qs) (drop-drop (draws_of ps) (draws p) words))
       ∙ sym (append_assoc (part_code x c words p) (parts_code x c (drop (draws p) words) ps) (parts_code x c (drop (draws p + draws_of ps) words) qs))
 
   mutual

@@ -84,7 +84,9 @@ module _ (kinds : List Kind) where
   one_more t s steps p ps is more e others =
       let (fit_behind, rest) = others (after_step t s ps) e in
       let a = adds t s p ps is fit_behind in
-      let parts = rest ∙ (ap (λ l. l ++ parts_for t steps) a.parts ∙ (append_assoc (parts_on ps) (p ∷ []) (parts_for t steps) ∙ ap (λ l. parts_on ps ++ l) (sym more))) in
+      let parts = rest
+      ∙ (ap (λ l. l ++ parts_for t steps) a.parts
+      ∙ (append_assoc (parts_on ps) (p ∷ []) (parts_for t steps) ∙ ap (λ l. parts_on ps ++ l) (sym more))) in
       (a.fit_before, parts)
 
   -- Behind all steps.

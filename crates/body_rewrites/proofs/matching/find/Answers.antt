@@ -28,5 +28,6 @@ returns-then-not-are_alike-clause-none c = λ context trees own some.
     (ap (λ ks. slot_at c.args.operators.now c.args.parts.now ks 0) (sym c.deref.ensures.value) ∙ sym first)
     (ap (λ ks. slot_at c.args.operators.now c.args.parts.now ks 1) (sym c.deref-2.ensures.value) ∙ sym second) own some in
     let found = c.are_alike.ensures.only
-    (subst (λ ks. AreAllAlike c.args.operators.now c.args.parts.now ks c.args.end (c.slot_at.result ∷ c.slot_at-2.result ∷ [])) (sym c.deref-3.ensures.value) alike) in
+    (subst (λ ks. AreAllAlike c.args.operators.now c.args.parts.now ks c.args.end (c.slot_at.result ∷ c.slot_at-2.result ∷ []))
+    (sym c.deref-3.ensures.value) alike) in
     absurd (false≢true (sym c.if-not-are_alike.true ∙ found))

@@ -25,4 +25,5 @@ loop-at-preserved c =
 
 pub returns : goal.returns
 returns c =
-    all_trees (context_in c.args.info.now c.args.locals.now) c.args.operators.now c.loop-at.at c.loop-at.trees.items c.loop-at.invariant.1 (omega (arith, c.loop-at-test.false))
+    all_trees (context_in c.args.info.now c.args.locals.now) c.args.operators.now c.loop-at.at c.loop-at.trees.items c.loop-at.invariant.1
+    (omega (arith, c.loop-at-test.false))

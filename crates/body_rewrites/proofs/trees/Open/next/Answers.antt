@@ -45,7 +45,8 @@ returns-clause-open c =
     let starts = ap (λ v. v.items) c.note.ensures.starts in
     let types = ap (λ v. v.items) c.note.ensures.types in
     lemmas.open_next context c.args.operators.now c.args.at c.args.self.now c.requires.open c.in-Some.instr has c.note.new.self c.note.ensures
-    c.in-Some-tree.below c.in-Some-tree.tree told c.put.new.self (c.in_ok-put.ensures.starts ∙ ap (λ l. take c.in-Some-tree.below l ++ c.in-Some-tree.tree.start ∷ []) starts)
+    c.in-Some-tree.below c.in-Some-tree.tree told c.put.new.self
+    (c.in_ok-put.ensures.starts ∙ ap (λ l. take c.in-Some-tree.below l ++ c.in-Some-tree.tree.start ∷ []) starts)
     (c.in_ok-put.ensures.types ∙ ap (λ l. take c.in-Some-tree.below l ++ c.in-Some-tree.tree.gives ∷ []) types) c.in_ok-put.ensures.rest
 
 pub returns-clause-found : goal.returns-clause-found
