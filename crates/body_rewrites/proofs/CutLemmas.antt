@@ -158,15 +158,16 @@ start_some trees at tree e context operators a = go (slice_get trees at) refl e
     go (Some None) k e = absurd cc
     go None k e = absurd cc
 
+-- the list ends before that index
+pub no_item : {X : Type 0} (xs : List X) (n : ℕ) → slice_get xs n ≡ None → length xs ≤ n
+no_item [] n e = omega arith
+no_item (x ∷ xs) zero e = absurd cc
+no_item (x ∷ xs) (suc n) e = let l = no_item xs n e in omega arith
+
 pub start_none : (trees : List (Option Tree)) (at : ℕ) → option_flatten (slice_get trees at) ≡ None → (context : Context) (operators : Operators) →
     AreTrees context operators trees → IsStartAt context operators at None
 start_none trees at none context operators a start t is = go (slice_get trees at) refl none
   where
-    no_item : {X : Type 0} (xs : List X) (n : ℕ) → slice_get xs n ≡ None → length xs ≤ n
-    no_item [] n e = omega arith
-    no_item (x ∷ xs) zero e = absurd cc
-    no_item (x ∷ xs) (suc n) e = let l = no_item xs n e in omega arith
-
     go : (o : Option (Option Tree)) → slice_get trees at ≡ o → option_flatten o ≡ None → ⊥
     go (Some (Some tree)) e k = absurd cc
     go (Some None) e k = a.each at None e start t is

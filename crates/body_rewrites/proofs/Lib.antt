@@ -10,3 +10,4 @@ pub mod FoundLemmas
 pub mod CodeLemmas
 pub mod LeftLemmas
 pub mod LeavesLemmas
+pub mod OperandLemmas

@@ -2,3 +2,4 @@ pub mod Trees
 pub mod Open
 pub mod Cutting
 pub mod Matching
+pub mod Operands

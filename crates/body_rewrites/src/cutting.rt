@@ -39,7 +39,7 @@ fn is_operator(instr: &Instr, operator: Operator) -> bool
 }
 
 // The tree of the operator at the index, if it has one.
-fn tree_at(trees: &[Option<Tree>], at: usize) -> Option<Tree>
+pub(crate) fn tree_at(trees: &[Option<Tree>], at: usize) -> Option<Tree>
     ensures { result ≡ option_flatten (slice_get trees.now at) }
 {
     trees.get(at).copied().flatten()

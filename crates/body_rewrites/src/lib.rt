@@ -9,5 +9,5 @@ mod tests;
 mod trees;
 
 pub use cutting::cuts;
-pub use matching::{Match, find};
+pub use matching::{Match, find, operand};
 pub use trees::{Tree, trees_of};

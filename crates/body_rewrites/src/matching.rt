@@ -1,10 +1,13 @@
 //! What stands in the holes of a pattern that stands in a body, and the numbers of its constants.
-ghost use Rattle.std.specs.Prelude.{◌≡◌, ◌↔◌, ◌≤◌, length, IsTrue, IfOk, IfSome, IfNone};
+ghost use Rattle.std.specs.Prelude.{◌≡◌, ◌↔◌, ◌≤◌, ℕ, List, length, IsTrue, IfOk, IfSome, IfNone};
 ghost use Rattle.peephole_machine.specs.Values.{Context};
 ghost use Rattle.body_rewrites.specs.Trees.{AreTrees};
+ghost use Rattle.wasm_code.specs.declared.operator.Operator.{Operator as BodyOperator};
+ghost use Rattle.body_rewrites.specs.Cutting.{AreCut};
+ghost use Rattle.body_rewrites.specs.Operands.{IsOperandOf};
 ghost use Rattle.body_rewrites.specs.Matching.{is_hole, is_slot, operand_at, operand_of, number_at, slot_at, HaveSame, HaveSameCode, HasSomePart, HasSomeCode, HasSomeCut, IsAlike, AreAllAlike, AreOwn, HasSomeTrees, HasMatch, HasSomeMatch};
 
-use crate::cutting::cuts;
+use crate::cutting::{cuts, tree_at};
 use crate::trees::{Tree, instr_at};
 use rewrite_rules::{Number, Part};
 use std::alloc::{AllocError, Global};
@@ -206,4 +209,25 @@ pub fn find(
         return Ok(None);
     }
     Ok(Some(Match { starts, numbers }))
+}
+
+/// The tree in the hole with the index: its type, and what its code may do; none where the pattern has no such hole.
+pub fn operand(
+    trees: &[Option<Tree>],
+    parts: &[Part],
+    starts: &[usize],
+    end: usize,
+    index: u8,
+) -> Option<Tree>
+    requires { length starts.now ≡ length parts.now }
+    ensures { (context : Context) (operators : List (BodyOperator × ℕ))
+        → AreTrees context operators trees.now
+        → AreCut context operators parts.now starts.now end
+        → IsOperandOf context operators parts.now starts.now end index result }
+{
+    let (_, behind) = operand_at(parts, starts, end, index);
+    if behind == 0 {
+        return None;
+    }
+    tree_at(trees, behind - 1)
 }

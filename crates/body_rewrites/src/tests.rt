@@ -1,6 +1,6 @@
 //! The trees of a small body, and where patterns stand in it.
 
-use crate::{Tree, cuts, find, trees_of};
+use crate::{Tree, cuts, find, operand, trees_of};
 use mutate_base::{ModuleInfo, PrimitiveTypeInfo};
 use peephole_machine::{Binary, IntegerType, Operation};
 use rewrite_rules::{Number, Operator, Part};
@@ -118,5 +118,10 @@ fn finds_the_number_of_a_constant(rt: HostRuntime) -> Result<(), Fail> {
     let parts = [ADD, CONSTANT, Part::Hole(0)];
     let place = find(alloc, &operators, &found, &parts, 3)?.expect(&rt, "it stands there");
     assert!(rt; place.numbers[0] == 5);
+    if place.starts.len() == parts.len() {
+        let stands = operand(&found, &parts, &place.starts, 3, 0);
+        assert!(rt; stands.map(|tree| tree.start) == Some(0));
+        assert!(rt; operand(&found, &parts, &place.starts, 3, 1).is_none());
+    }
     Ok(())
 }

@@ -1,0 +1,111 @@
+-- What stands in a hole.
+use Rattle.std.proofs.Common.{◌≡◌, ℕ, suc, ◌+◌, ◌-◌, ◌<◌, Bool, true, false, List, [], ◌∷◌, Option, Some, None, refl, sym, ap, subst, ◌∙◌, arith}
+use Rattle.std.specs.Prelude.{◌||◌, if◌then◌else◌, slice_get}
+use Rattle.std.specs.Option.{option_flatten}
+use Rattle.mutate_base.specs.declared.types.PrimitiveTypeInfo.{PrimitiveTypeInfo}
+use Rattle.peephole_machine.specs.Values.{Context}
+use Rattle.rewrite_rules.specs.declared.pattern.Part.{Part}
+use Rattle.rewrite_rules.specs.declared.pattern.Part.TheVariants.{Hole, Constant, Drawn, Apply}
+use Rattle.rewrite_rules.specs.Code.{Leaves, writes, traps, asks}
+use Rattle.body_rewrites.specs.declared.trees.Tree.{Tree}
+use Rattle.body_rewrites.specs.Trees.{Stands, IsTree, HasTree, AreTrees}
+use Rattle.body_rewrites.specs.Cutting.{HasPart, AreCut}
+use Rattle.body_rewrites.specs.Matching.{is_hole, operand_at, instructions, operators_in}
+use Rattle.body_rewrites.specs.Operands.{has_hole, IsOperand, IsOperandOf}
+use Rattle.body_rewrites.proofs.StandsLemmas.{Operators}
+use Rattle.body_rewrites.proofs.CutLemmas.{one_start, no_item}
+use Rattle.body_rewrites.proofs.AlikeLemmas.{code_there}
+use Rattle.body_rewrites.proofs.LeavesLemmas.{trees_leave}
+
+-- a tree stands there
+record HasTreeThere (context : Context) (operators : Operators) (place : ℕ × ℕ) : Type 0 where
+  at : ℕ
+  gives : PrimitiveTypeInfo
+  ends : place.1 ≡ suc at
+  is : IsTree context operators place.0 at gives
+
+module _ (context : Context) (operators : Operators) where
+  hole_tree : (p : Part) (n start end : ℕ) → is_hole p n ≡ true → HasPart context operators p start end → HasTreeThere context operators (start, end)
+  hole_tree (Hole m) n start end e (at, t, ends, tree) = record { at = at; gives = t; ends = ends; is = tree }
+  hole_tree (Constant t x) n start end e h = absurd cc
+  hole_tree (Drawn t) n start end e h = absurd cc
+  hole_tree (Apply o) n start end e h = absurd cc
+
+  -- where the pattern has the hole a tree stands in it
+  Told : Bool → ℕ × ℕ → Type 0
+  Told true place = HasTreeThere context operators place
+  Told false place = place ≡ (0, 0)
+
+  told : (n : ℕ) (ps : List Part) (ks : List ℕ) (end : ℕ) → AreCut context operators ps ks end → Told (has_hole ps n) (operand_at ps ks end n)
+  unfolding Told
+  told n [] [] end c = refl
+  told n [] (k ∷ ks) end c = absurd c
+  told n (p ∷ ps) [] end c = absurd c
+  told n (p ∷ ps) (k ∷ ks) end (h, c) = go (is_hole p n) refl (told n ps ks k c)
+    where
+      go : (b : Bool) → is_hole p n ≡ b → Told (has_hole ps n) (operand_at ps ks k n) →
+          Told (b || has_hole ps n) (if b then (k, end) else operand_at ps ks k n)
+      go true e rest = hole_tree p n k end e h
+      go false e rest = rest
+
+  -- of two trees of an operator the code is one
+  one_tree : (start at : ℕ) (t : PrimitiveTypeInfo) (tree : Tree) → IsTree context operators start at t → HasTree context operators at tree →
+      IsOperand context (instructions (operators_in operators start (suc at))) tree
+  one_tree start at t tree is has =
+      let same : tree.start ≡ start = one_start context operators tree.start start at tree.gives t has.is is in
+      let last : at + 1 ≡ suc at = omega arith in
+      let there = subst (λ e. Stands operators start e has.is.code) last (subst (λ s. Stands operators s (at + 1) has.is.code) same has.is.stands) in
+      let code : has.is.code ≡ instructions (operators_in operators start (suc at)) = sym (code_there operators start (suc at) has.is.code there) in
+      record {
+        leaves = subst (λ l. Leaves context l tree.gives) code (trees_leave context operators tree.start at tree.gives has.is);
+        writes_is = has.writes_is ∙ ap writes code;
+        traps_is = has.traps_is ∙ ap traps code;
+        asks_is = has.asks_is ∙ ap asks code;
+      }
+
+  -- what the list has for an operator with a tree
+  kept : (trees : List (Option Tree)) (start at : ℕ) (t : PrimitiveTypeInfo) → AreTrees context operators trees → IsTree context operators start at t →
+      (tree : Tree) × (option_flatten (slice_get trees at) ≡ Some tree) × HasTree context operators at tree
+  kept trees start at t a is = go (slice_get trees at) refl
+    where
+      go : (o : Option (Option Tree)) → slice_get trees at ≡ o →
+          (tree : Tree) × (option_flatten (slice_get trees at) ≡ Some tree) × HasTree context operators at tree
+      go (Some (Some tree)) e = (tree, ap option_flatten e, a.each at (Some tree) e)
+      go (Some None) e = absurd (a.each at None e start t is)
+      go None e =
+          let past = no_item trees at e in
+          let count = a.count in
+          let inside = is.inside in
+          absurd (omega arith)
+
+  found : (trees : List (Option Tree)) (place : ℕ × ℕ) (o : Option Tree) → AreTrees context operators trees → HasTreeThere context operators place →
+      o ≡ option_flatten (slice_get trees (place.1 - 1)) →
+      (tree : Tree) × (o ≡ Some tree) × IsOperand context (instructions (operators_in operators place.0 place.1)) tree
+  found trees place o a h e =
+      let last : place.1 - 1 ≡ h.at = omega (arith, h.ends) in
+      let (tree, at, has) = kept trees place.0 h.at h.gives a h.is in (
+        tree,
+        e ∙ (ap (λ k. option_flatten (slice_get trees k)) last ∙ at),
+        subst (λ k. IsOperand context (instructions (operators_in operators place.0 k)) tree) (sym h.ends) (one_tree place.0 h.at h.gives tree h.is has),
+      )
+
+  pub none_there : (n : ℕ) (ps : List Part) (ks : List ℕ) (end : ℕ) → (operand_at ps ks end n).1 ≡ 0 → AreCut context operators ps ks end →
+      has_hole ps n ≡ false
+  unfolding Told
+  none_there n ps ks end e c = go (has_hole ps n) refl (told n ps ks end c)
+    where
+      go : (b : Bool) → has_hole ps n ≡ b → Told b (operand_at ps ks end n) → has_hole ps n ≡ false
+      go true k h = absurd (omega (arith, e, h.ends))
+      go false k h = k
+
+  pub some_there : (trees : List (Option Tree)) (n : ℕ) (ps : List Part) (ks : List ℕ) (end : ℕ) (o : Option Tree) → 0 < (operand_at ps ks end n).1 →
+      o ≡ option_flatten (slice_get trees ((operand_at ps ks end n).1 - 1)) → AreTrees context operators trees → AreCut context operators ps ks end →
+      IsOperandOf context operators ps ks end n o
+  unfolding Told
+  some_there trees n ps ks end o some e a c = go (has_hole ps n) refl (told n ps ks end c)
+    where
+      go : (b : Bool) → has_hole ps n ≡ b → Told b (operand_at ps ks end n) → IsOperandOf context operators ps ks end n o
+      go true k h =
+          let (tree, is, operand) = found trees (operand_at ps ks end n) o a h e in
+          subst (λ q. IsOperandOf context operators ps ks end n q) (sym is) (k, operand)
+      go false k h = absurd (omega (arith, some, ap (λ (q : ℕ × ℕ). q.1) h))
