@@ -15,3 +15,6 @@ pub mod LineLemmas
 pub mod PartLemmas
 pub mod SideLemmas
 pub mod MovingLemmas
+pub mod ToldLemmas
+pub mod HoleLemmas
+pub mod ApplyingLemmas

@@ -9,3 +9,6 @@ pub mod Growth
 pub mod Instance
 pub mod Parts
 pub mod Laws
+pub mod Operands
+pub mod Holes
+pub mod Applying

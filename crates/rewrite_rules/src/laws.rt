@@ -4,6 +4,8 @@ ghost use Rattle.rewrite_rules.specs.Laws.{LinesKeepCode, TableIsRight};
 ghost use Rattle.rewrite_rules.specs.Needs.{NeedsAreEnough};
 ghost use Rattle.rewrite_rules.specs.Parts.{PartsAreTheCode};
 ghost use Rattle.rewrite_rules.specs.Table.{SidesAreParts};
+ghost use Rattle.rewrite_rules.specs.Operands.{TypesAreTold};
+ghost use Rattle.rewrite_rules.specs.Holes.{HolesAreTold};
 
 use peephole_programs::validity::typed_rows_check;
 
@@ -37,4 +39,16 @@ pub fn sides_are_parts()
     ensures { SidesAreParts }
 {
     table_is_right();
+}
+
+/// `Row::types_fit` tells exactly whether operands leave the types of their holes.
+pub fn types_are_told()
+    ensures { TypesAreTold }
+{}
+
+/// `holes_of` tells the holes of the patterns of the table's lines.
+pub fn holes_are_told()
+    ensures { HolesAreTold }
+{
+    sides_are_parts();
 }

@@ -1,0 +1,38 @@
+-- Whether a row's line applies, by what is known of what stands in its holes and of its constants (this project).
+use Rattle.std.specs.Prelude.{◌≡◌, ℕ, Bool, true, Option, Some, List, slice_get}
+use Rattle.wasm_code.specs.Instruction.{Instruction}
+use Rattle.mutate_base.specs.declared.types.PrimitiveTypeInfo.{PrimitiveTypeInfo}
+use Rattle.peephole_machine.specs.declared.integer.IntegerType.{IntegerType}
+use Rattle.peephole_machine.specs.Values.{Context}
+use Rattle.rewrite_rules.specs.declared.order.Effects.{Effects}
+use Rattle.rewrite_rules.specs.declared.table.Row.{Row}
+use Rattle.rewrite_rules.specs.declared.table.TheConstants.{ROWS}
+use Rattle.rewrite_rules.specs.Code.{writes, traps, asks}
+use Rattle.rewrite_rules.specs.Pattern.{holes}
+use Rattle.rewrite_rules.specs.Numbers.{constant_at}
+use Rattle.rewrite_rules.specs.Order.{is_in, effect_at}
+use Rattle.rewrite_rules.specs.Instance.{Applies}
+use Rattle.rewrite_rules.specs.Table.{widths_in, line_of}
+use Rattle.rewrite_rules.specs.Operands.{AreTypes}
+
+-- it is a row of the table, and one of its widths
+abbrev pub IsOfTable : Row → IntegerType → Type 0
+IsOfTable row t = (i k : ℕ) × (slice_get ROWS i ≡ Some row) × (slice_get (widths_in row.widths) k ≡ Some t)
+
+-- what code may do
+abbrev pub effects_of : List Instruction → Effects
+effects_of code = record { writes = writes code; traps = traps code; asks = asks code }
+
+-- The lists have of what stands in each hole of the row's left side the type that it leaves, and what it may do.
+pub record AreFound (context : Context) (x : ℕ → List Instruction) (row : Row) (t : IntegerType) (types : List (Option PrimitiveTypeInfo))
+    (effects : List Effects) : Type 0 where
+  pub types_are : AreTypes context x (is_in (holes (line_of row t).left)) types
+  pub effects_are : (n : ℕ) → effect_at effects n ≡ effects_of (x n)
+
+-- What is answered is whether the row's line applies to what these are told of, and constants of these numbers.
+pub record IsTold (row : Row) (t : IntegerType) (types : List (Option PrimitiveTypeInfo)) (effects : List Effects) (numbers : List ℕ)
+    (answer : Bool) : Type 0 where
+  pub same : answer ≡ true → (context : Context) (x : ℕ → List Instruction) → AreFound context x row t types effects →
+      Applies context (line_of row t) x (constant_at numbers)
+  pub only : (context : Context) (x : ℕ → List Instruction) → AreFound context x row t types effects →
+      Applies context (line_of row t) x (constant_at numbers) → answer ≡ true
