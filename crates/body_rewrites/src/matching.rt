@@ -181,8 +181,8 @@ pub struct Match {
 /// Where the parts of a pattern stand before `end`, the last one first, with the same operand where a hole stands twice, and constants
 /// with the numbers that they have; none where they don't.
 ///
-/// `trees` are the trees of the body's operators. It takes time linear in the number of parts, and in what stands in a hole that
-/// stands twice. The only error is that memory was refused.
+/// `trees` are the trees of the body's operators. It takes time quadratic in the number of parts, of which a side has seven at
+/// most, and linear in what stands in a hole that stands twice. The only error is that memory was refused.
 pub fn find(
     alloc: Global,
     operators: &[OperatorAndByteOffset],

@@ -15,7 +15,7 @@ use Rattle.rewrite_rules.specs.Instance.{doing}
 use Rattle.rewrite_rules.specs.Table.{kinds_for, conditions_for, line_of}
 use Rattle.rewrite_rules.specs.Operands.{types_fit, HaveTypes, TypesAreTold}
 use Rattle.rewrite_rules.specs.Holes.{holes_for, HolesAreTold}
-use Rattle.rewrite_rules.specs.Applying.{IsOfTable, effects_of, IsTold}
+use Rattle.rewrite_rules.specs.Applying.{IsFormed, effects_of, IsTold}
 
 all : {a b c : Bool} → a ≡ true → b ≡ true → c ≡ true → (a && (b && c)) ≡ true
 all e f g = cc
@@ -29,12 +29,11 @@ same_doing x effects h = λ i. record {
 }
 
 module _ (types_are : TypesAreTold) (holes_are : HolesAreTold) (row : Row) (t : IntegerType) (types : List (Option PrimitiveTypeInfo)) (effects : List Effects)
-    (numbers : List ℕ) (table : IsOfTable row t) (ls rs : List ℕ) (left : ls ≡ holes_for row.left) (right : rs ≡ holes_for row.right) where
+    (numbers : List ℕ) (formed : IsFormed row t) (ls rs : List ℕ) (left : ls ≡ holes_for row.left) (right : rs ≡ holes_for row.right) where
   moves_are : (x : ℕ → List Instruction) → ((n : ℕ) → effect_at effects n ≡ effects_of (x n)) →
       may_move (doing_of effects) ls rs ≡ may_move (doing x) (holes (line_of row t).left) (holes (line_of row t).right)
   moves_are x h =
-      let (i, k, at, width) = table in
-      let sides = holes_are i row at k t width in
+      let sides = holes_are row t formed in
       ap (λ d. may_move d ls rs) (same_doing x effects h) ∙ ap₂ (λ a b. may_move (doing x) a b) (left ∙ sym sides.0) (right ∙ sym sides.1)
 
   pub told : (answer : Bool) →

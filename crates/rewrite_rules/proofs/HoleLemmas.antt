@@ -1,5 +1,6 @@
 -- The holes of a side's pattern are those of its steps.
 use Rattle.std.proofs.Common.{◌≡◌, ℕ, List, [], ◌∷◌, ◌++◌, refl, sym, ap, ap₂, ◌∙◌, append_assoc}
+use Rattle.std.proofs.lemmas.Bool.{and_parts}
 use Rattle.std.proofs.lemmas.List.{append-nil}
 use Rattle.peephole_machine.specs.declared.integer.IntegerType.{IntegerType}
 use Rattle.rewrite_rules.specs.declared.pattern.Part.{Part}
@@ -8,8 +9,9 @@ use Rattle.rewrite_rules.specs.declared.table.Step.{Step}
 use Rattle.rewrite_rules.specs.declared.table.Step.TheVariants as step
 use Rattle.rewrite_rules.specs.Pattern.{Pattern, Patterns, hole, constant, drawn, apply, none, ◌▹◌, holes, holes_in}
 use Rattle.rewrite_rules.specs.Parts.{parts_of, parts_in}
-use Rattle.rewrite_rules.specs.Table.{parts_for, line_of, SidesAreParts}
+use Rattle.rewrite_rules.specs.Table.{parts_for, line_of}
 use Rattle.rewrite_rules.specs.Holes.{holes_for, HolesAreTold}
+use Rattle.rewrite_rules.proofs.SideLemmas.{side_parts}
 
 abbrev of_part : Part → List ℕ
 of_part (Hole n) = n ∷ []
@@ -48,10 +50,10 @@ of_steps t (step.Eqz ∷ steps) = of_steps t steps
 of_steps t (step.Select ∷ steps) = of_steps t steps
 of_steps t (step.Whole f ∷ steps) = of_steps t steps
 
-pub holes_are_told : SidesAreParts → HolesAreTold
-holes_are_told sides i row at k t width =
-    let s = sides i row at k t width in
-    let l = line_of row t in (
-      by_parts l.left ∙ (ap of_parts s.0 ∙ of_steps t row.left),
-      by_parts l.right ∙ (ap of_parts s.1 ∙ of_steps t row.right),
+pub holes_are_told : HolesAreTold
+holes_are_told row t formed =
+    let l = line_of row t in
+    let sides = (and_parts _ _ (and_parts _ _ formed).0) in (
+      by_parts l.left ∙ (ap of_parts (side_parts l.kinds t row.left sides.0) ∙ of_steps t row.left),
+      by_parts l.right ∙ (ap of_parts (side_parts l.kinds t row.right sides.1) ∙ of_steps t row.right),
     )

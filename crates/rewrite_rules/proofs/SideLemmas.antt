@@ -104,7 +104,7 @@ module _ (kinds : List Kind) where
   all_add t (Whole f ∷ steps) ps e = one_more t (Whole f) steps _ ps refl refl e (all_add t steps)
 
 -- of a pattern that is well formed, all its side's
-side_parts : (kinds : List Kind) (t : IntegerType) (steps : List Step) → fits kinds (pattern_of t steps) ≡ true →
+pub side_parts : (kinds : List Kind) (t : IntegerType) (steps : List Step) → fits kinds (pattern_of t steps) ≡ true →
     parts_of (pattern_of t steps) ≡ parts_for t steps
 side_parts kinds t steps e = of_single (after_steps t steps []) e (λ f. (all_add kinds t steps [] f).1)
   where

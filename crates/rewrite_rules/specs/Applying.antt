@@ -1,23 +1,23 @@
 -- Whether a row's line applies, by what is known of what stands in its holes and of its constants (this project).
-use Rattle.std.specs.Prelude.{◌≡◌, ℕ, Bool, true, Option, Some, List, slice_get}
+use Rattle.std.specs.Prelude.{◌≡◌, ℕ, Bool, true, Option, List}
 use Rattle.wasm_code.specs.Instruction.{Instruction}
 use Rattle.mutate_base.specs.declared.types.PrimitiveTypeInfo.{PrimitiveTypeInfo}
 use Rattle.peephole_machine.specs.declared.integer.IntegerType.{IntegerType}
 use Rattle.peephole_machine.specs.Values.{Context}
 use Rattle.rewrite_rules.specs.declared.order.Effects.{Effects}
 use Rattle.rewrite_rules.specs.declared.table.Row.{Row}
-use Rattle.rewrite_rules.specs.declared.table.TheConstants.{ROWS}
 use Rattle.rewrite_rules.specs.Code.{writes, traps, asks}
 use Rattle.rewrite_rules.specs.Pattern.{holes}
 use Rattle.rewrite_rules.specs.Numbers.{constant_at}
 use Rattle.rewrite_rules.specs.Order.{is_in, effect_at}
 use Rattle.rewrite_rules.specs.Instance.{Applies}
-use Rattle.rewrite_rules.specs.Table.{widths_in, line_of}
+use Rattle.rewrite_rules.specs.Line.{is_formed}
+use Rattle.rewrite_rules.specs.Table.{line_of}
 use Rattle.rewrite_rules.specs.Operands.{AreTypes}
 
--- it is a row of the table, and one of its widths
-abbrev pub IsOfTable : Row → IntegerType → Type 0
-IsOfTable row t = (i k : ℕ) × (slice_get ROWS i ≡ Some row) × (slice_get (widths_in row.widths) k ≡ Some t)
+-- The row's line for the width is well formed, as each line of the table is for each of its row's widths.
+abbrev pub IsFormed : Row → IntegerType → Type 0
+IsFormed row t = is_formed (line_of row t) ≡ true
 
 -- what code may do
 abbrev pub effects_of : List Instruction → Effects

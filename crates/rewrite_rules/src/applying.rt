@@ -3,7 +3,7 @@ ghost use Rattle.std.specs.Prelude.{◌≡◌, ◌&&◌, IfOk};
 ghost use Rattle.rewrite_rules.specs.Numbers.{constant_at};
 ghost use Rattle.rewrite_rules.specs.Line.{all_hold};
 ghost use Rattle.rewrite_rules.specs.Table.{conditions_for};
-ghost use Rattle.rewrite_rules.specs.Applying.{IsOfTable, IsTold};
+ghost use Rattle.rewrite_rules.specs.Applying.{IsFormed, IsTold};
 
 use crate::holes::holes_of;
 use crate::laws::{holes_are_told, types_are_told};
@@ -52,7 +52,7 @@ impl Row {
         width: IntegerType,
         found: &Found<'_>,
     ) -> Result<bool, AllocError>
-        requires { IsOfTable self.now width }
+        requires { IsFormed self.now width }
         ensures { IfOk result (λ b. IsTold self.now width
             found.now.types.now found.now.effects.now found.now.numbers.now b) }
     {

@@ -46,9 +46,7 @@ pub fn types_are_told()
     ensures { TypesAreTold }
 {}
 
-/// `holes_of` tells the holes of the patterns of the table's lines.
+/// `holes_of` tells the holes of a row's patterns, where these are well formed.
 pub fn holes_are_told()
     ensures { HolesAreTold }
-{
-    sides_are_parts();
-}
+{}
