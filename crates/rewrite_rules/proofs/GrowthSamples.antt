@@ -1,13 +1,10 @@
 -- What each rule does to the size, beside what is computed from the sides of its lines.
-use Rattle.std.proofs.Common.{◌≡◌, Bool, true, false, List, [], ◌∷◌, refl}
-use Rattle.std.specs.Prelude.{◌&&◌}
-use Rattle.rewrite_rules.specs.declared.rule.Rule.{Rule}
-use Rattle.rewrite_rules.specs.declared.rule.Rule.TheVariants as rule
-use Rattle.rewrite_rules.specs.declared.table.Row.{Row}
-use Rattle.rewrite_rules.specs.declared.table.TheConstants.{ROWS}
+use Rattle.std.proofs.Common.{◌≡◌, ℕ, Bool, true, false, List, [], ◌∷◌, Some, None, refl}
+use Rattle.std.specs.Prelude.{◌&&◌, if◌then◌else◌, codes}
 use Rattle.rewrite_rules.specs.Line.{Line}
-use Rattle.rewrite_rules.specs.Table.{lines_of}
+use Rattle.rewrite_rules.specs.Table.{Entry, entries, parts, lines_of}
 use Rattle.rewrite_rules.specs.Growth.{Growth, shrinks, keeps, grows, growth_of}
+use Rattle.rewrite_rules.proofs.NameLemmas.{is_among}
 
 same : Growth → Growth → Bool
 same shrinks shrinks = true
@@ -19,61 +16,33 @@ all_have : Growth → List Line → Bool
 all_have g [] = true
 all_have g (l ∷ ls) = same (growth_of l) g && all_have g ls
 
-growth : Rule → Growth
-growth rule.Commute = keeps
-growth rule.TurnComparison = keeps
-growth rule.AssociateLeft = keeps
-growth rule.AssociateRight = keeps
-growth rule.DropAddZero = shrinks
-growth rule.DropSubZero = shrinks
-growth rule.DropMulOne = shrinks
-growth rule.DropOrZero = shrinks
-growth rule.DropXorZero = shrinks
-growth rule.DropAndOnes = shrinks
-growth rule.DropShiftByZero = shrinks
-growth rule.DropShrSByZero = shrinks
-growth rule.DropShrUByZero = shrinks
-growth rule.DropRotlByZero = shrinks
-growth rule.DropRotrByZero = shrinks
-growth rule.DropOrSelf = shrinks
-growth rule.DropAndSelf = shrinks
-growth rule.ShiftToProduct = keeps
-growth rule.ProductToShift = keeps
-growth rule.ShiftToQuotient = keeps
-growth rule.QuotientToShift = keeps
-growth rule.MaskToRemainder = keeps
-growth rule.RemainderToMask = keeps
-growth rule.RotlToRotr = keeps
-growth rule.RotrToRotl = keeps
-growth rule.CancelSub = shrinks
-growth rule.CancelXor = shrinks
-growth rule.DifferenceToSum = keeps
-growth rule.SumToDifference = keeps
-growth rule.ComparisonToTest = shrinks
-growth rule.DifferenceToTests = keeps
-growth rule.TestsToDifference = keeps
-growth rule.DropNegation = shrinks
-growth rule.DropSelect = shrinks
-growth rule.DropAndZero = shrinks
-growth rule.DropMulZero = shrinks
-growth rule.DropOrOnes = shrinks
-growth rule.DropWrapExtended = shrinks
-growth rule.OrOfComplements = shrinks
-growth rule.AndOfComplements = shrinks
-growth rule.JoinSums = shrinks
-growth rule.TestDifference = shrinks
-growth rule.OrAgain = shrinks
-growth rule.NegateByDifference = keeps
-growth rule.BelowOne = shrinks
-growth rule.DifferenceBack = shrinks
--- and all others
-growth r = grows
+shrinking : List (List ℕ)
+shrinking =
+    codes "comparison_to_test" ∷ codes "drop_add_zero" ∷ codes "drop_sub_zero" ∷ codes "drop_mul_one" ∷ codes "drop_or_zero" ∷
+    codes "drop_xor_zero" ∷ codes "drop_and_ones" ∷ codes "drop_shift_by_zero" ∷ codes "drop_shr_s_by_zero" ∷ codes "drop_shr_u_by_zero" ∷
+    codes "drop_rotl_by_zero" ∷ codes "drop_rotr_by_zero" ∷ codes "cancel_sub" ∷ codes "cancel_xor" ∷ codes "drop_or_self" ∷
+    codes "drop_and_self" ∷ codes "drop_select" ∷ codes "drop_and_zero" ∷ codes "drop_mul_zero" ∷ codes "drop_or_ones" ∷
+    codes "drop_negation" ∷ codes "drop_wrap_extended" ∷ codes "or_of_complements" ∷ codes "and_of_complements" ∷ codes "join_sums" ∷
+    codes "test_difference" ∷ codes "or_again" ∷ codes "below_one" ∷ codes "difference_back" ∷ codes "drop_double_complement" ∷
+    codes "turn_select_back" ∷ codes "gather_product" ∷ codes "gather_mask" ∷ codes "shifts_to_extension" ∷ []
 
--- the rows are as said above
-as_said : List Row → Bool
-as_said [] = true
-as_said (r ∷ rs) = all_have (growth r.rule) (lines_of r) && as_said rs
+keeping : List (List ℕ)
+keeping =
+    codes "commute" ∷ codes "turn_comparison" ∷ codes "associate_left" ∷ codes "associate_right" ∷ codes "shift_to_product" ∷
+    codes "product_to_shift" ∷ codes "difference_to_sum" ∷ codes "sum_to_difference" ∷ codes "quotient_to_shift" ∷
+    codes "shift_to_quotient" ∷ codes "remainder_to_mask" ∷ codes "mask_to_remainder" ∷ codes "rotl_to_rotr" ∷ codes "rotr_to_rotl" ∷
+    codes "difference_to_tests" ∷ codes "tests_to_difference" ∷ codes "negate_by_difference" ∷ []
 
-as_computed : as_said ROWS ≡ true
-unfolding growth all_have same as_said
+-- and all others grow
+growth : List ℕ → Growth
+growth name = if is_among shrinking name then shrinks else (if is_among keeping name then keeps else grows)
+
+-- the lines are as said above, where the rule above them is of that growth
+as_said : Growth → List Entry → Bool
+as_said g [] = true
+as_said g ((None, row) ∷ es) = all_have g (lines_of row) && as_said g es
+as_said g ((Some name, row) ∷ es) = all_have (growth name.now) (lines_of row) && as_said (growth name.now) es
+
+as_computed : as_said grows entries ≡ true
+unfolding growth all_have same as_said shrinking keeping parts
 as_computed = refl

@@ -1,5 +1,8 @@
 pub mod NeedsLemmas
 pub mod NeedsSamples
+pub mod NameLemmas
+pub mod FindingLemmas
+pub mod RuleLemmas
 pub mod GrowthSamples
 pub mod identities
 pub mod CodeLemmas
@@ -17,4 +20,6 @@ pub mod SideLemmas
 pub mod MovingLemmas
 pub mod ToldLemmas
 pub mod HoleLemmas
+pub mod GrowingLemmas
 pub mod ApplyingLemmas
+pub mod beside

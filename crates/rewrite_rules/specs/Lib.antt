@@ -4,6 +4,9 @@ pub mod Pattern
 pub mod Numbers
 pub mod Line
 pub mod Table
+pub mod Lines
+pub mod Names
+pub mod Rule
 pub mod Needs
 pub mod Growth
 pub mod Instance
@@ -12,3 +15,6 @@ pub mod Laws
 pub mod Operands
 pub mod Holes
 pub mod Applying
+pub mod Growing
+pub mod Texts
+pub mod Beside

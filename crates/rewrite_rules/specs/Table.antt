@@ -1,5 +1,5 @@
 -- The table of rules, which stands in the code: the lines of each row (this project).
-use Rattle.std.specs.Prelude.{◌≡◌, ℕ, List, [], ◌∷◌, map, Option, Some, None, slice_get}
+use Rattle.std.specs.Prelude.{◌≡◌, ℕ, List, [], ◌∷◌, ◌++◌, map, Option, Some, None, slice_get, get_or}
 use Rattle.mutate_base.specs.declared.types.PrimitiveTypeInfo.TheVariants as primitive
 use Rattle.peephole_machine.specs.declared.integer.IntegerType.{IntegerType}
 use Rattle.peephole_machine.specs.declared.integer.IntegerType.TheVariants as integer
@@ -12,11 +12,12 @@ use Rattle.rewrite_rules.specs.declared.pattern.Part.TheVariants as part
 use Rattle.rewrite_rules.specs.declared.table.Step.{Step}
 use Rattle.rewrite_rules.specs.declared.table.Step.TheVariants.{Operand, Constant, Drawn, Binary, Compare, Eqz, Select, Whole, End}
 use Rattle.rewrite_rules.specs.declared.table.Widths.{Widths}
-use Rattle.rewrite_rules.specs.declared.table.Widths.TheVariants.{Both, Only, Any}
+use Rattle.rewrite_rules.specs.declared.table.Widths.TheVariants.{Both, Only, Any, Own}
 use Rattle.rewrite_rules.specs.declared.table.Condition as asked
 use Rattle.rewrite_rules.specs.declared.table.Condition.TheVariants.{BelowWidth, Power, Mask}
 use Rattle.rewrite_rules.specs.declared.table.Row.{Row}
-use Rattle.rewrite_rules.specs.declared.table.TheConstants.{ROWS}
+use Rattle.rewrite_rules.specs.declared.table.TheConstants.{ORDERS, GROUPS, LONGER, FORMS, NEUTRAL, POWERS, TWICE}
+use Rattle.rewrite_rules.specs.declared.table.TheConstants.{ALONE, TESTS, OPPOSITES, PARTS, SHORTER, BACK}
 use Rattle.rewrite_rules.specs.Pattern.{Kind, fixed, any, operands_of, Pattern, Patterns, hole, constant, drawn, apply, none, ◌▹◌}
 use Rattle.rewrite_rules.specs.Parts.{parts_of}
 use Rattle.rewrite_rules.specs.Line.{Line, Condition, is_below_width, is_power, is_mask}
@@ -113,14 +114,48 @@ line_of r t = record {
   conditions = conditions_for t r.condition;
 }
 
--- the widths; a row that is for none is read for one
+-- the widths; a row of any operands is read for one, and a rule that is no row for none
 abbrev pub widths_in : Widths → List IntegerType
 widths_in Both = integer.I32 ∷ integer.I64 ∷ []
 widths_in (Only t) = t ∷ []
 widths_in Any = integer.I32 ∷ []
+widths_in (Own o) = []
 
 abbrev pub lines_of : Row → List Line
 lines_of r = map (line_of r) (widths_in r.widths)
+
+-- ---- the table
+
+-- a text that the code refers to
+abbrev pub Text : Type 0
+Text = record { now : List ℕ }
+
+-- a line of it: the name of the rule that begins with it, where one does, and its row
+abbrev pub Entry : Type 0
+Entry = Option Text × Row
+
+-- those of each constant
+unfoldable pub parts : List (List Entry)
+parts = ORDERS ∷ GROUPS ∷ LONGER ∷ FORMS ∷ NEUTRAL ∷ POWERS ∷ TWICE ∷ ALONE ∷ TESTS ∷ OPPOSITES ∷ PARTS ∷ SHORTER ∷ BACK ∷ []
+
+abbrev pub part_at : ℕ → List Entry
+part_at n = get_or parts n []
+
+-- lists one behind another
+abbrev pub joined : List (List Entry) → List Entry
+joined [] = []
+joined (es ∷ rest) = es ++ joined rest
+
+-- all of them
+abbrev pub entries : List Entry
+entries = joined parts
+
+-- their rows
+abbrev pub rows_of : List Entry → List Row
+rows_of es = map (λ (e : Entry). e.1) es
+
+abbrev pub ROWS : List Row
+ROWS = rows_of entries
 
 -- It holds of each line of each row of the table.
 abbrev pub OfEachLine : (Line → Type 0) → Type 0

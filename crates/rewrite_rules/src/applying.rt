@@ -1,5 +1,5 @@
 //! Whether a row applies to what stands in its holes.
-ghost use Rattle.std.specs.Prelude.{◌≡◌, ◌&&◌, IfOk};
+ghost use Rattle.std.specs.Prelude.{◌≡◌, ◌&&◌};
 ghost use Rattle.rewrite_rules.specs.Numbers.{constant_at};
 ghost use Rattle.rewrite_rules.specs.Line.{all_hold};
 ghost use Rattle.rewrite_rules.specs.Table.{conditions_for};
@@ -11,7 +11,6 @@ use crate::order::{Effects, may_move};
 use crate::table::Row;
 use mutate_base::PrimitiveTypeInfo;
 use peephole_machine::IntegerType;
-use std::alloc::{AllocError, Global};
 
 /// What is known of what stands in a row's left side.
 #[derive(Clone, Copy)]
@@ -44,25 +43,19 @@ impl Row {
     }
 
     /// Whether the line that the row is for the width applies to what is found: the constants are as it asks, what stands in its holes
-    /// leaves their types, and may move from its place on the left side to those on the right. The only error is that memory was
-    /// refused.
-    pub fn applies(
-        &self,
-        alloc: Global,
-        width: IntegerType,
-        found: &Found<'_>,
-    ) -> Result<bool, AllocError>
+    /// leaves their types, and may move from its place on the left side to those on the right.
+    pub fn applies(&self, width: IntegerType, found: &Found<'_>) -> bool
         requires { IsFormed self.now width }
-        ensures { IfOk result (λ b. IsTold self.now width
-            found.now.types.now found.now.effects.now found.now.numbers.now b) }
+        ensures { IsTold self.now width
+            found.now.types.now found.now.effects.now found.now.numbers.now result }
     {
         types_are_told();
         holes_are_told();
-        let left = holes_of(alloc, &self.left)?;
-        let right = holes_of(alloc, &self.right)?;
+        let left = holes_of(&self.left);
+        let right = holes_of(&self.right);
         let asked = self.is_asked(width, found.numbers);
         let fit = self.types_fit(width, found.types);
         let moves = may_move(found.effects, &left, &right);
-        Ok(all_three(asked, fit, moves))
+        all_three(asked, fit, moves)
     }
 }

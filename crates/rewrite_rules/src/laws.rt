@@ -1,11 +1,14 @@
 //! What holds of the rules. A function here does nothing: its contract is the laws.
 
 ghost use Rattle.rewrite_rules.specs.Laws.{LinesKeepCode, TableIsRight};
+ghost use Rattle.rewrite_rules.specs.Names.{NamesDiffer};
 ghost use Rattle.rewrite_rules.specs.Needs.{NeedsAreEnough};
 ghost use Rattle.rewrite_rules.specs.Parts.{PartsAreTheCode};
+ghost use Rattle.rewrite_rules.specs.Rule.{RulesAreNamed};
 ghost use Rattle.rewrite_rules.specs.Table.{SidesAreParts};
 ghost use Rattle.rewrite_rules.specs.Operands.{TypesAreTold};
 ghost use Rattle.rewrite_rules.specs.Holes.{HolesAreTold};
+ghost use Rattle.rewrite_rules.specs.Beside.{BesidesKeepCode};
 
 use peephole_programs::validity::typed_rows_check;
 
@@ -50,3 +53,23 @@ pub fn types_are_told()
 pub fn holes_are_told()
     ensures { HolesAreTold }
 {}
+
+/// What each of the rules beside the table writes may stand in the place of what stood there.
+pub fn besides_keep_code()
+    ensures { BesidesKeepCode }
+{
+    typed_rows_check();
+    lines_keep_code();
+}
+
+/// No two rules have the same name.
+pub fn names_differ()
+    ensures { NamesDiffer }
+{}
+
+/// Each rule has the name that stands at its number in the table, and no other rule has it.
+pub fn rules_are_named()
+    ensures { RulesAreNamed }
+{
+    names_differ();
+}

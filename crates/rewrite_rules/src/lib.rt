@@ -3,19 +3,32 @@
 
 mod applying;
 mod effects;
+mod growth;
 mod holes;
 pub mod laws;
+mod lines;
+mod names;
 mod numbers;
 mod operands;
+mod operator_names;
 mod order;
 mod pattern;
 mod rule;
 mod table;
+#[cfg(test)]
+mod tests;
+#[cfg(test)]
+mod text_tests;
+mod texts;
 
 pub use applying::Found;
 pub use effects::{traps, writes};
+pub use growth::Growth;
 pub use holes::holes_of;
+pub use lines::{row_at, row_count, rows};
+pub use names::{rule_count, rules_of_rows};
 pub use order::{Effects, may_move};
 pub use pattern::{Number, Operator, Part};
-pub use rule::Rule;
-pub use table::{Condition, ROWS, Row, Side, Step, Widths};
+pub use rule::{Rule, UnknownRule};
+pub use table::{Condition, Own, Row, Side, Step, Widths};
+pub use texts::Term;

@@ -20,17 +20,17 @@ pub enum Number {
     Ones,
     /// The constant with that index, c.
     Slot(u8),
-    /// N - c, with c below N.
+    /// N less c, of which only what is left behind whole times N counts.
     Turned(u8),
     /// c + 1.
     Next(u8),
-    /// c - 1.
+    /// c - 1, and 0 of 0.
     Previous(u8),
     /// 2^N - c.
     Negated(u8),
     /// 2^c.
     Power(u8),
-    /// The place of the lowest bit of c that is set.
+    /// The place of the lowest bit of c that is set, and 0 of 0.
     Place(u8),
     /// The sum of two constants.
     Sum(u8, u8),

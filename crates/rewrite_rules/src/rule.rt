@@ -1,158 +1,87 @@
-//! The rules by their names. Below `x`, `y` and `z` are operands, `c` and `d` numbers of constants, and `N` is the width in bits.
+//! The rules, by their numbers and names.
+ghost use Rattle.std.specs.Prelude.{◌<◌, length};
+ghost use Rattle.rewrite_rules.specs.Names.{names};
 
-/// A rule: it rewrites what stands to the left of the arrow as what stands to the right of it.
+use crate::names::{name_of, number_of, rule_count};
+use std::str::FromStr;
+use thiserror::Error as ThisError;
+
+/// A rule, by its number: its place among the names in the table.
 #[derive(Clone, Copy, Debug, PartialEq, Eq)]
-pub enum Rule {
-    /// `x + y` → `y + x`, and so with products, and, or, xor, eq and ne.
-    Commute,
-    /// `x < y` → `y > x`, and so with `<=`, `>` and `>=`, signed or unsigned.
-    TurnComparison,
-    /// `x + (y + z)` → `(x + y) + z`, and so with products, and, or and xor.
-    AssociateLeft,
-    /// `(x + y) + z` → `x + (y + z)`, and so with products, and, or and xor.
-    AssociateRight,
-    /// `x` → `x + 0`.
-    AddZero,
-    /// `x` → `x - 0`.
-    SubZero,
-    /// `x` → `x * 1`.
-    MulOne,
-    /// `x` → `x | 0`.
-    OrZero,
-    /// `x` → `x ^ 0`.
-    XorZero,
-    /// `x` → `x & -1`.
-    AndOnes,
-    /// `x` → `x << 0`.
-    ShiftByZero,
-    /// `x` → `x >> 0`, signed.
-    ShrSByZero,
-    /// `x` → `x >> 0`, unsigned.
-    ShrUByZero,
-    /// `x` → `rotl x 0`.
-    RotlByZero,
-    /// `x` → `rotr x 0`.
-    RotrByZero,
-    /// `x + 0` → `x`.
-    DropAddZero,
-    /// `x - 0` → `x`.
-    DropSubZero,
-    /// `x * 1` → `x`.
-    DropMulOne,
-    /// `x | 0` → `x`.
-    DropOrZero,
-    /// `x ^ 0` → `x`.
-    DropXorZero,
-    /// `x & -1` → `x`.
-    DropAndOnes,
-    /// `x << 0` → `x`.
-    DropShiftByZero,
-    /// `x >> 0` → `x`, signed.
-    DropShrSByZero,
-    /// `x >> 0` → `x`, unsigned.
-    DropShrUByZero,
-    /// `rotl x 0` → `x`.
-    DropRotlByZero,
-    /// `rotr x 0` → `x`.
-    DropRotrByZero,
-    /// `x` → `x | x`.
-    OrSelf,
-    /// `x` → `x & x`.
-    AndSelf,
-    /// `x | x` → `x`.
-    DropOrSelf,
-    /// `x & x` → `x`.
-    DropAndSelf,
-    /// `x` → `(x ^ -1) ^ -1`.
-    DoubleComplement,
-    /// `x << c` → `x * 2^c`, where `c` is below `N`.
-    ShiftToProduct,
-    /// `x * 2^c` → `x << c`.
-    ProductToShift,
-    /// `x >> c` → `x / 2^c`, unsigned, where `c` is below `N`.
-    ShiftToQuotient,
-    /// `x / 2^c` → `x >> c`, unsigned.
-    QuotientToShift,
-    /// `x & (2^c - 1)` → `x % 2^c`, unsigned, where `c` is below `N`.
-    MaskToRemainder,
-    /// `x % 2^c` → `x & (2^c - 1)`, unsigned.
-    RemainderToMask,
-    /// `rotl x c` → `rotr x (N - c)`.
-    RotlToRotr,
-    /// `rotr x c` → `rotl x (N - c)`.
-    RotrToRotl,
-    /// `x * 2` → `x + x`.
-    ProductToDouble,
-    /// `x << 1` → `x + x`.
-    ShiftToDouble,
-    /// `x + x` → `x * 2`.
-    DoubleToProduct,
-    /// `x + x` → `x << 1`.
-    DoubleToShift,
-    /// `x - x` → `0`.
-    CancelSub,
-    /// `x ^ x` → `0`.
-    CancelXor,
-    /// `x - c` → `x + -c`.
-    DifferenceToSum,
-    /// `x + c` → `x - -c`.
-    SumToDifference,
-    /// `eqz x` → `x == 0`.
-    TestToComparison,
-    /// `x == 0` → `eqz x`.
-    ComparisonToTest,
-    /// `x != 0` → `eqz (eqz x)`.
-    DifferenceToTests,
-    /// `eqz (eqz x)` → `x != 0`.
-    TestsToDifference,
-    /// `x < y` → `eqz (x >= y)`, and so with every comparison.
-    NegateComparison,
-    /// `eqz (x >= y)` → `x < y`, and so with every comparison.
-    DropNegation,
-    /// `select x y z` → `select y x (eqz z)`.
-    TurnSelect,
-    /// `select x x z` → `x`.
-    DropSelect,
-    /// `0` → `r & 0`, with a drawn number `r`.
-    AndZero,
-    /// `0` → `r * 0`, with a drawn number `r`.
-    MulZero,
-    /// `-1` → `r | -1`, with a drawn number `r`.
-    OrOnes,
-    /// `x & 0` → `0`.
-    DropAndZero,
-    /// `x * 0` → `0`.
-    DropMulZero,
-    /// `x | -1` → `-1`.
-    DropOrOnes,
-    /// `x` → `wrap (extend x)`, unsigned, where `x` has 32 bits.
-    WrapExtended,
-    /// `wrap (extend x)` → `x`, signed or unsigned.
-    DropWrapExtended,
-    /// `extend8_s x` → `(x << N - 8) >> N - 8`, signed, and so with 16 and 32 bits.
-    ExtensionToShifts,
-    /// `(x + y) * c` → `x * c + y * c`.
-    DistributeProduct,
-    /// `(x | y) & c` → `x & c | y & c`.
-    DistributeMask,
-    /// `(x & y) ^ -1` → `(x ^ -1) | (y ^ -1)`.
-    ComplementOfAnd,
-    /// `(x | y) ^ -1` → `(x ^ -1) & (y ^ -1)`.
-    ComplementOfOr,
-    /// `(x ^ -1) | (y ^ -1)` → `(x & y) ^ -1`.
-    OrOfComplements,
-    /// `(x ^ -1) & (y ^ -1)` → `(x | y) ^ -1`.
-    AndOfComplements,
-    /// `(x + c) + d` → `x + (c + d)`.
-    JoinSums,
-    /// `eqz (x - y)` → `x == y`.
-    TestDifference,
-    /// `x | (x | y)` → `x | y`.
-    OrAgain,
-    /// `x * -1` → `0 - x`.
-    NegateByDifference,
-    /// `x < 1` → `eqz x`, unsigned.
-    BelowOne,
-    /// `(x - y) + y` → `x`.
-    DifferenceBack,
+pub struct Rule {
+    number: u16,
+    ghost is_there: { number < length names },
+}
+
+/// No rule has the name.
+#[derive(Clone, Copy, Debug, PartialEq, Eq, ThisError)]
+#[error("UnknownRule")]
+pub struct UnknownRule;
+
+impl Rule {
+    ghost use Rattle.std.specs.Prelude.{◌≡◌, ◌≢◌, ◌≤◌, IfSome, IfNone};
+    ghost use Rattle.rewrite_rules.specs.Rule.{rule_number, rule_name};
+    ghost use Rattle.rewrite_rules.specs.declared.rule.Rule.{Rule};
+
+    /// The rule with that number, or none where there are fewer.
+    pub fn from_number(number: usize) -> Option<Rule>
+        ensures some { IfSome result (λ rule. rule_number rule ≡ number) }
+        ensures none { IfNone result (length names ≤ number) }
+    {
+        if number >= rule_count() {
+            return None;
+        }
+        Some(Rule {
+            number: number as u16,
+        })
+    }
+
+    /// The rule's place among the names in the table.
+    pub fn number(self) -> usize
+        ensures { result ≡ rule_number self }
+    {
+        self.number as usize
+    }
+
+    /// The rule's name.
+    pub fn name(self) -> &'static str
+        ensures { result.now ≡ rule_name self }
+    {
+        name_of(self.number as usize).unwrap_or("")
+    }
+
+    /// The rule of that name, or none where no rule has it.
+    pub fn from_name(name: &str) -> Option<Rule>
+        ensures some { IfSome result (λ rule. rule_name rule ≡ name.now) }
+        ensures none { IfNone result ((rule : Rule) → rule_name rule ≢ name.now) }
+    {
+        let number = number_of(name)?;
+        Some(Rule {
+            number: number as u16,
+        })
+    }
+}
+
+impl FromStr for Rule {
+    ghost use Rattle.rewrite_rules.specs.Rule.{ReadsAs};
+
+    type Err = UnknownRule;
+
+    ghost from_str_gives = { λ text outcome. ReadsAs text outcome };
+
+    fn from_str(s: &str) -> Result<Rule, UnknownRule> {
+        Rule::from_name(s).ok_or(UnknownRule)
+    }
+}
+
+impl std::fmt::Display for Rule {
+    ghost use Rattle.std.specs.Prelude.{Some};
+    ghost use Rattle.rewrite_rules.specs.Rule.{rule_name};
+
+    ghost output = { λ rule. Some (rule_name rule) };
+
+    fn fmt<W: std::fmt::Write>(&self, f: &mut std::fmt::Formatter<W>) -> std::fmt::Result {
+        let name = self.name();
+        write!(f, "{name}")
+    }
 }

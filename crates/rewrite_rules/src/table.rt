@@ -1,10 +1,12 @@
 //! The rules as data: a row says how code is rewritten, its sides in postfix, operands before their operator.
+//!
+//! A rule has the lines from the one that has its name up to the next name. A new one is lines here and, in `proofs/identities/`, a lemma
+//! on numbers for each.
 
 ghost use Rattle.std.specs.Prelude.{◌≡◌};
 ghost use Rattle.rewrite_rules.specs.Table.{part_for};
 
 use crate::pattern::{Number, Operator, Part};
-use crate::rule::Rule;
 use peephole_machine::{Binary, Comparison, IntegerType, Operation};
 
 /// A step of a side.
@@ -62,6 +64,29 @@ pub enum Widths {
     Only(IntegerType),
     /// For none: it has no step of the width, and operands of any type, but for the third one, which is an `i32`.
     Any,
+    /// For none: it is no row, but a rule that stands beside the table.
+    Own(Own),
+}
+
+/// A rule that stands beside the table: it is no row, since what it asks of numbers, or what it writes, is none of a row's.
+#[derive(Clone, Copy, Debug, PartialEq, Eq)]
+pub enum Own {
+    /// A constant as the sum of a drawn number and of what is left.
+    Unfold,
+    /// A value through a further global.
+    ThroughGlobal,
+    /// A `nop` before an operand.
+    WithNop,
+    /// An operator on constants as the constant of its value.
+    Fold,
+    /// An operand that is dropped, left out with its `drop`.
+    Forget,
+    /// `local.tee` as `local.set` and `local.get`.
+    TeeToSet,
+    /// A `nop` left out.
+    DropNop,
+    /// `local.set` and `local.get` of one local as `local.tee`.
+    SetToTee,
 }
 
 /// What is asked of the number of a constant, by its index.
@@ -78,8 +103,6 @@ pub enum Condition {
 /// A row of the table.
 #[derive(Clone, Copy, Debug, PartialEq, Eq)]
 pub struct Row {
-    /// The rule that it is of.
-    pub rule: Rule,
     /// Its widths.
     pub widths: Widths,
     /// What is asked of its constants.
@@ -89,6 +112,9 @@ pub struct Row {
     /// What it is rewritten as.
     pub right: Side,
 }
+
+/// A line of the table: the name of the rule that begins with it, or none where it is a further line of the rule above, and its row.
+pub type TableLine = (Option<&'static str>, Row);
 
 // A step as rows write it: `c` and `d` are the numbers of the constants on the left side, `N` is the width in bits, and `log c` the place
 // of the lowest bit of `c`. An operator has its instruction's name; where its types are its own, the whole one, in parentheses.
@@ -167,149 +193,231 @@ macro_rules! condition {
     (c is mask) => { Some(Condition::Mask(0)) };
 }
 
-// A row: its rule, the widths if they are not both, the sides, and what is asked of the constant, if anything.
+// The name of the rule that begins with a line, if one does.
+macro_rules! name {
+    () => { None };
+    ($name:literal) => { Some($name) };
+}
+
+// A line: the name of the rule that begins with it, if one does, the widths if they are not both, the sides, and what is asked of the
+// constant, if anything.
 macro_rules! row {
-    ($rule:ident $(for $widths:ident)?: [$($l:tt)+] => [$($r:tt)+] $(if $($k:tt)+)?) => {
-        Row {
-            rule: Rule::$rule,
-            widths: widths!($($widths)?),
-            condition: condition!($($($k)+)?),
-            left: side!($($l)+ end end end end end end),
-            right: side!($($r)+ end end end end end end),
-        }
+    ([$($l:tt)+] => [$($r:tt)+] $(if $($k:tt)+)?) => {
+        row!(: [$($l)+] => [$($r)+] $(if $($k)+)?)
+    };
+    ($($name:literal)? $(for $widths:ident)?: [$($l:tt)+] => [$($r:tt)+] $(if $($k:tt)+)?) => {
+        (
+            name!($($name)?),
+            Row {
+                widths: widths!($($widths)?),
+                condition: condition!($($($k)+)?),
+                left: side!($($l)+ end end end end end end),
+                right: side!($($r)+ end end end end end end),
+            },
+        )
     };
 }
 
-/// The table.
-pub const ROWS: [Row; 120] = [
-    // Operands in another order, or grouped otherwise.
-    row!(Commute: [x y add] => [y x add]),
-    row!(Commute: [x y mul] => [y x mul]),
-    row!(Commute: [x y and] => [y x and]),
-    row!(Commute: [x y or] => [y x or]),
-    row!(Commute: [x y xor] => [y x xor]),
-    row!(Commute: [x y eq] => [y x eq]),
-    row!(Commute: [x y ne] => [y x ne]),
-    row!(TurnComparison: [x y lt_s] => [y x gt_s]),
-    row!(TurnComparison: [x y lt_u] => [y x gt_u]),
-    row!(TurnComparison: [x y le_s] => [y x ge_s]),
-    row!(TurnComparison: [x y le_u] => [y x ge_u]),
-    row!(TurnComparison: [x y gt_s] => [y x lt_s]),
-    row!(TurnComparison: [x y gt_u] => [y x lt_u]),
-    row!(TurnComparison: [x y ge_s] => [y x le_s]),
-    row!(TurnComparison: [x y ge_u] => [y x le_u]),
-    row!(AssociateLeft: [x y z add add] => [x y add z add]),
-    row!(AssociateLeft: [x y z mul mul] => [x y mul z mul]),
-    row!(AssociateLeft: [x y z and and] => [x y and z and]),
-    row!(AssociateLeft: [x y z or or] => [x y or z or]),
-    row!(AssociateLeft: [x y z xor xor] => [x y xor z xor]),
-    row!(AssociateRight: [x y add z add] => [x y z add add]),
-    row!(AssociateRight: [x y mul z mul] => [x y z mul mul]),
-    row!(AssociateRight: [x y and z and] => [x y z and and]),
-    row!(AssociateRight: [x y or z or] => [x y z or or]),
-    row!(AssociateRight: [x y xor z xor] => [x y z xor xor]),
-    // A number that changes nothing.
-    row!(AddZero: [x] => [x 0 add]),
-    row!(SubZero: [x] => [x 0 sub]),
-    row!(MulOne: [x] => [x 1 mul]),
-    row!(OrZero: [x] => [x 0 or]),
-    row!(XorZero: [x] => [x 0 xor]),
-    row!(AndOnes: [x] => [x ones and]),
-    row!(ShiftByZero: [x] => [x 0 shl]),
-    row!(ShrSByZero: [x] => [x 0 shr_s]),
-    row!(ShrUByZero: [x] => [x 0 shr_u]),
-    row!(RotlByZero: [x] => [x 0 rotl]),
-    row!(RotrByZero: [x] => [x 0 rotr]),
-    row!(DropAddZero: [x 0 add] => [x]),
-    row!(DropSubZero: [x 0 sub] => [x]),
-    row!(DropMulOne: [x 1 mul] => [x]),
-    row!(DropOrZero: [x 0 or] => [x]),
-    row!(DropXorZero: [x 0 xor] => [x]),
-    row!(DropAndOnes: [x ones and] => [x]),
-    row!(DropShiftByZero: [x 0 shl] => [x]),
-    row!(DropShrSByZero: [x 0 shr_s] => [x]),
-    row!(DropShrUByZero: [x 0 shr_u] => [x]),
-    row!(DropRotlByZero: [x 0 rotl] => [x]),
-    row!(DropRotrByZero: [x 0 rotr] => [x]),
-    // An operand twice.
-    row!(OrSelf: [x] => [x x or]),
-    row!(AndSelf: [x] => [x x and]),
-    row!(DropOrSelf: [x x or] => [x]),
-    row!(DropAndSelf: [x x and] => [x]),
-    row!(DoubleComplement: [x] => [x ones xor ones xor]),
-    // Another operator, or another constant.
-    row!(ShiftToProduct: [x c shl] => [x (2^c) mul] if c < N),
-    row!(ProductToShift: [x c mul] => [x (log c) shl] if c is power),
-    row!(ShiftToQuotient: [x c shr_u] => [x (2^c) div_u] if c < N),
-    row!(QuotientToShift: [x c div_u] => [x (log c) shr_u] if c is power),
-    row!(MaskToRemainder: [x c and] => [x (c+1) rem_u] if c is mask),
-    row!(RemainderToMask: [x c rem_u] => [x (c-1) and] if c is power),
-    row!(RotlToRotr: [x c rotl] => [x (N-c) rotr]),
-    row!(RotrToRotl: [x c rotr] => [x (N-c) rotl]),
-    row!(ProductToDouble: [x 2 mul] => [x x add]),
-    row!(ShiftToDouble: [x 1 shl] => [x x add]),
-    row!(DoubleToProduct: [x x add] => [x 2 mul]),
-    row!(DoubleToShift: [x x add] => [x 1 shl]),
-    row!(CancelSub: [x x sub] => [0]),
-    row!(CancelXor: [x x xor] => [0]),
-    row!(DifferenceToSum: [x c sub] => [x (-c) add]),
-    row!(SumToDifference: [x c add] => [x (-c) sub]),
-    // Tests and comparisons.
-    row!(TestToComparison: [x eqz] => [x 0 eq]),
-    row!(ComparisonToTest: [x 0 eq] => [x eqz]),
-    row!(DifferenceToTests: [x 0 ne] => [x eqz (i32.eqz)]),
-    row!(TestsToDifference: [x eqz (i32.eqz)] => [x 0 ne]),
-    row!(NegateComparison: [x y eq] => [x y ne (i32.eqz)]),
-    row!(NegateComparison: [x y ne] => [x y eq (i32.eqz)]),
-    row!(NegateComparison: [x y lt_s] => [x y ge_s (i32.eqz)]),
-    row!(NegateComparison: [x y lt_u] => [x y ge_u (i32.eqz)]),
-    row!(NegateComparison: [x y gt_s] => [x y le_s (i32.eqz)]),
-    row!(NegateComparison: [x y gt_u] => [x y le_u (i32.eqz)]),
-    row!(NegateComparison: [x y le_s] => [x y gt_s (i32.eqz)]),
-    row!(NegateComparison: [x y le_u] => [x y gt_u (i32.eqz)]),
-    row!(NegateComparison: [x y ge_s] => [x y lt_s (i32.eqz)]),
-    row!(NegateComparison: [x y ge_u] => [x y lt_u (i32.eqz)]),
-    row!(DropNegation: [x y ne (i32.eqz)] => [x y eq]),
-    row!(DropNegation: [x y eq (i32.eqz)] => [x y ne]),
-    row!(DropNegation: [x y ge_s (i32.eqz)] => [x y lt_s]),
-    row!(DropNegation: [x y ge_u (i32.eqz)] => [x y lt_u]),
-    row!(DropNegation: [x y le_s (i32.eqz)] => [x y gt_s]),
-    row!(DropNegation: [x y le_u (i32.eqz)] => [x y gt_u]),
-    row!(DropNegation: [x y gt_s (i32.eqz)] => [x y le_s]),
-    row!(DropNegation: [x y gt_u (i32.eqz)] => [x y le_u]),
-    row!(DropNegation: [x y lt_s (i32.eqz)] => [x y ge_s]),
-    row!(DropNegation: [x y lt_u (i32.eqz)] => [x y ge_u]),
-    // Selects.
-    row!(TurnSelect for any: [x y z select] => [y x z (i32.eqz) select]),
-    row!(DropSelect for any: [x x z select] => [x]),
-    // A number that decides alone.
-    row!(AndZero: [0] => [drawn 0 and]),
-    row!(MulZero: [0] => [drawn 0 mul]),
-    row!(OrOnes: [ones] => [drawn ones or]),
-    row!(DropAndZero: [x 0 and] => [0]),
-    row!(DropMulZero: [x 0 mul] => [0]),
-    row!(DropOrOnes: [x ones or] => [ones]),
-    // Wider and narrower.
-    row!(WrapExtended for I32: [x] => [x (i64.extend_i32_u) (i32.wrap_i64)]),
-    row!(DropWrapExtended for I32: [x (i64.extend_i32_u) (i32.wrap_i64)] => [x]),
-    row!(DropWrapExtended for I32: [x (i64.extend_i32_s) (i32.wrap_i64)] => [x]),
-    row!(ExtensionToShifts for I32: [x (i32.extend8_s)] => [x 24 shl 24 shr_s]),
-    row!(ExtensionToShifts for I32: [x (i32.extend16_s)] => [x 16 shl 16 shr_s]),
-    row!(ExtensionToShifts for I64: [x (i64.extend8_s)] => [x 56 shl 56 shr_s]),
-    row!(ExtensionToShifts for I64: [x (i64.extend16_s)] => [x 48 shl 48 shr_s]),
-    row!(ExtensionToShifts for I64: [x (i64.extend32_s)] => [x 32 shl 32 shr_s]),
-    // Over both parts of an operand.
-    row!(DistributeProduct: [x y add c mul] => [x c mul y c mul add]),
-    row!(DistributeMask: [x y or c and] => [x c and y c and or]),
-    row!(ComplementOfAnd: [x y and ones xor] => [x ones xor y ones xor or]),
-    row!(ComplementOfOr: [x y or ones xor] => [x ones xor y ones xor and]),
-    row!(OrOfComplements: [x ones xor y ones xor or] => [x y and ones xor]),
-    row!(AndOfComplements: [x ones xor y ones xor and] => [x y or ones xor]),
-    // Shorter.
-    row!(JoinSums: [x c add d add] => [x (c+d) add]),
-    row!(TestDifference: [x y sub eqz] => [x y eq]),
-    row!(OrAgain: [x x y or or] => [x y or]),
-    row!(NegateByDifference: [x ones mul] => [0 x sub]),
-    row!(BelowOne: [x 1 lt_u] => [x eqz]),
-    row!(DifferenceBack: [x y sub y add] => [x]),
+// A rule that is no row: its name, and which one it is.
+macro_rules! own {
+    ($name:literal: $own:ident) => {
+        (
+            Some($name),
+            Row {
+                widths: Widths::Own(Own::$own),
+                condition: None,
+                left: [Step::End; 7],
+                right: [Step::End; 7],
+            },
+        )
+    };
+}
+
+/// Operands in another order.
+pub const ORDERS: [TableLine; 15] = [
+    row!("commute": [x y add] => [y x add]),
+    row!([x y mul] => [y x mul]),
+    row!([x y and] => [y x and]),
+    row!([x y or] => [y x or]),
+    row!([x y xor] => [y x xor]),
+    row!([x y eq] => [y x eq]),
+    row!([x y ne] => [y x ne]),
+    row!("turn_comparison": [x y lt_s] => [y x gt_s]),
+    row!([x y lt_u] => [y x gt_u]),
+    row!([x y le_s] => [y x ge_s]),
+    row!([x y le_u] => [y x ge_u]),
+    row!([x y gt_s] => [y x lt_s]),
+    row!([x y gt_u] => [y x lt_u]),
+    row!([x y ge_s] => [y x le_s]),
+    row!([x y ge_u] => [y x le_u]),
+];
+
+/// Operands grouped otherwise.
+pub const GROUPS: [TableLine; 10] = [
+    row!("associate_left": [x y z add add] => [x y add z add]),
+    row!([x y z mul mul] => [x y mul z mul]),
+    row!([x y z and and] => [x y and z and]),
+    row!([x y z or or] => [x y or z or]),
+    row!([x y z xor xor] => [x y xor z xor]),
+    row!("associate_right": [x y add z add] => [x y z add add]),
+    row!([x y mul z mul] => [x y z mul mul]),
+    row!([x y and z and] => [x y z and and]),
+    row!([x y or z or] => [x y z or or]),
+    row!([x y xor z xor] => [x y z xor xor]),
+];
+
+/// An operation more that changes nothing.
+pub const LONGER: [TableLine; 10] = [
+    row!("add_zero": [x] => [x 0 add]),
+    row!("sub_zero": [x] => [x 0 sub]),
+    row!("mul_one": [x] => [x 1 mul]),
+    row!("or_zero": [x] => [x 0 or]),
+    row!("xor_zero": [x] => [x 0 xor]),
+    row!("and_ones": [x] => [x ones and]),
+    row!("shift_by_zero": [x] => [x 0 shl]),
+    row!("or_self": [x] => [x x or]),
+    row!("and_self": [x] => [x x and]),
+    row!("double_complement": [x] => [x ones xor ones xor]),
+];
+
+/// Another form, with another constant or operator.
+pub const FORMS: [TableLine; 11] = [
+    row!("shift_to_product": [x c shl] => [x (2^c) mul] if c < N),
+    row!("product_to_shift": [x c mul] => [x (log c) shl] if c is power),
+    row!("difference_to_sum": [x c sub] => [x (-c) add]),
+    row!("sum_to_difference": [x c add] => [x (-c) sub]),
+    row!("test_to_comparison": [x eqz] => [x 0 eq]),
+    row!("comparison_to_test": [x 0 eq] => [x eqz]),
+    row!("turn_select" for any: [x y z select] => [y x z (i32.eqz) select]),
+    own!("unfold": Unfold),
+    own!("through_global": ThroughGlobal),
+    own!("with_nop": WithNop),
+    own!("fold": Fold),
+];
+
+/// A number that changes nothing, dropped or put.
+pub const NEUTRAL: [TableLine; 16] = [
+    row!("drop_add_zero": [x 0 add] => [x]),
+    row!("drop_sub_zero": [x 0 sub] => [x]),
+    row!("drop_mul_one": [x 1 mul] => [x]),
+    row!("drop_or_zero": [x 0 or] => [x]),
+    row!("drop_xor_zero": [x 0 xor] => [x]),
+    row!("drop_and_ones": [x ones and] => [x]),
+    row!("drop_shift_by_zero": [x 0 shl] => [x]),
+    own!("forget": Forget),
+    row!("shr_s_by_zero": [x] => [x 0 shr_s]),
+    row!("shr_u_by_zero": [x] => [x 0 shr_u]),
+    row!("rotl_by_zero": [x] => [x 0 rotl]),
+    row!("rotr_by_zero": [x] => [x 0 rotr]),
+    row!("drop_shr_s_by_zero": [x 0 shr_s] => [x]),
+    row!("drop_shr_u_by_zero": [x 0 shr_u] => [x]),
+    row!("drop_rotl_by_zero": [x 0 rotl] => [x]),
+    row!("drop_rotr_by_zero": [x 0 rotr] => [x]),
+];
+
+/// Another operator with another constant.
+pub const POWERS: [TableLine; 8] = [
+    row!("quotient_to_shift": [x c div_u] => [x (log c) shr_u] if c is power),
+    row!("shift_to_quotient": [x c shr_u] => [x (2^c) div_u] if c < N),
+    row!("remainder_to_mask": [x c rem_u] => [x (c-1) and] if c is power),
+    row!("mask_to_remainder": [x c and] => [x (c+1) rem_u] if c is mask),
+    row!("rotl_to_rotr": [x c rotl] => [x (N-c) rotr]),
+    row!("rotr_to_rotl": [x c rotr] => [x (N-c) rotl]),
+    row!("product_to_double": [x 2 mul] => [x x add]),
+    row!("shift_to_double": [x 1 shl] => [x x add]),
+];
+
+/// An operand that stands twice.
+pub const TWICE: [TableLine; 7] = [
+    row!("cancel_sub": [x x sub] => [0]),
+    row!("cancel_xor": [x x xor] => [0]),
+    row!("drop_or_self": [x x or] => [x]),
+    row!("drop_and_self": [x x and] => [x]),
+    row!("double_to_product": [x x add] => [x 2 mul]),
+    row!("double_to_shift": [x x add] => [x 1 shl]),
+    row!("drop_select" for any: [x x z select] => [x]),
+];
+
+/// A number that decides alone.
+pub const ALONE: [TableLine; 6] = [
+    row!("and_zero": [0] => [drawn 0 and]),
+    row!("mul_zero": [0] => [drawn 0 mul]),
+    row!("or_ones": [ones] => [drawn ones or]),
+    row!("drop_and_zero": [x 0 and] => [0]),
+    row!("drop_mul_zero": [x 0 mul] => [0]),
+    row!("drop_or_ones": [x ones or] => [ones]),
+];
+
+/// A comparison as the test of its opposite, and something wider.
+pub const TESTS: [TableLine; 12] = [
+    row!("negate_comparison": [x y eq] => [x y ne (i32.eqz)]),
+    row!([x y ne] => [x y eq (i32.eqz)]),
+    row!([x y lt_s] => [x y ge_s (i32.eqz)]),
+    row!([x y lt_u] => [x y ge_u (i32.eqz)]),
+    row!([x y gt_s] => [x y le_s (i32.eqz)]),
+    row!([x y gt_u] => [x y le_u (i32.eqz)]),
+    row!([x y le_s] => [x y gt_s (i32.eqz)]),
+    row!([x y le_u] => [x y gt_u (i32.eqz)]),
+    row!([x y ge_s] => [x y lt_s (i32.eqz)]),
+    row!([x y ge_u] => [x y lt_u (i32.eqz)]),
+    row!("difference_to_tests": [x 0 ne] => [x eqz (i32.eqz)]),
+    row!("wrap_extended" for I32: [x] => [x (i64.extend_i32_u) (i32.wrap_i64)]),
+];
+
+/// The test of a comparison as its opposite.
+pub const OPPOSITES: [TableLine; 10] = [
+    row!("drop_negation": [x y ne (i32.eqz)] => [x y eq]),
+    row!([x y eq (i32.eqz)] => [x y ne]),
+    row!([x y ge_s (i32.eqz)] => [x y lt_s]),
+    row!([x y ge_u (i32.eqz)] => [x y lt_u]),
+    row!([x y le_s (i32.eqz)] => [x y gt_s]),
+    row!([x y le_u (i32.eqz)] => [x y gt_u]),
+    row!([x y gt_s (i32.eqz)] => [x y le_s]),
+    row!([x y gt_u (i32.eqz)] => [x y le_u]),
+    row!([x y lt_s (i32.eqz)] => [x y ge_s]),
+    row!([x y lt_u (i32.eqz)] => [x y ge_u]),
+];
+
+/// Over both parts of an operand, and something narrower.
+pub const PARTS: [TableLine; 15] = [
+    row!("distribute_product": [x y add c mul] => [x c mul y c mul add]),
+    row!("distribute_mask": [x y or c and] => [x c and y c and or]),
+    row!("complement_of_and": [x y and ones xor] => [x ones xor y ones xor or]),
+    row!("complement_of_or": [x y or ones xor] => [x ones xor y ones xor and]),
+    row!("extension_to_shifts" for I32: [x (i32.extend8_s)] => [x 24 shl 24 shr_s]),
+    row!(for I32: [x (i32.extend16_s)] => [x 16 shl 16 shr_s]),
+    row!(for I64: [x (i64.extend8_s)] => [x 56 shl 56 shr_s]),
+    row!(for I64: [x (i64.extend16_s)] => [x 48 shl 48 shr_s]),
+    row!(for I64: [x (i64.extend32_s)] => [x 32 shl 32 shr_s]),
+    row!("tests_to_difference": [x eqz (i32.eqz)] => [x 0 ne]),
+    row!("drop_wrap_extended" for I32: [x (i64.extend_i32_u) (i32.wrap_i64)] => [x]),
+    row!(for I32: [x (i64.extend_i32_s) (i32.wrap_i64)] => [x]),
+    row!("or_of_complements": [x ones xor y ones xor or] => [x y and ones xor]),
+    row!("and_of_complements": [x ones xor y ones xor and] => [x y or ones xor]),
+    own!("tee_to_set": TeeToSet),
+];
+
+/// Shorter at once.
+pub const SHORTER: [TableLine; 6] = [
+    row!("join_sums": [x c add d add] => [x (c+d) add]),
+    row!("test_difference": [x y sub eqz] => [x y eq]),
+    row!("or_again": [x x y or or] => [x y or]),
+    row!("negate_by_difference": [x ones mul] => [0 x sub]),
+    row!("below_one": [x 1 lt_u] => [x eqz]),
+    row!("difference_back": [x y sub y add] => [x]),
+];
+
+/// What other rules made, turned back.
+pub const BACK: [TableLine; 11] = [
+    own!("drop_nop": DropNop),
+    row!("drop_double_complement": [x ones xor ones xor] => [x]),
+    row!("turn_select_back" for any: [y x z (i32.eqz) select] => [x y z select]),
+    row!("gather_product": [x c mul y c mul add] => [x y add c mul]),
+    row!("gather_mask": [x c and y c and or] => [x y or c and]),
+    row!("shifts_to_extension" for I32: [x 24 shl 24 shr_s] => [x (i32.extend8_s)]),
+    row!(for I32: [x 16 shl 16 shr_s] => [x (i32.extend16_s)]),
+    row!(for I64: [x 56 shl 56 shr_s] => [x (i64.extend8_s)]),
+    row!(for I64: [x 48 shl 48 shr_s] => [x (i64.extend16_s)]),
+    row!(for I64: [x 32 shl 32 shr_s] => [x (i64.extend32_s)]),
+    own!("set_to_tee": SetToTee),
 ];

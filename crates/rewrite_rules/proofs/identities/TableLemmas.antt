@@ -13,11 +13,10 @@ use Rattle.peephole_machine.specs.Operation.{comparison_of}
 use Rattle.rewrite_rules.specs.declared.pattern.Number.{Number}
 use Rattle.rewrite_rules.specs.declared.pattern.Number.TheVariants.{Literal, Ones}
 use Rattle.rewrite_rules.specs.declared.table.Widths.{Widths}
-use Rattle.rewrite_rules.specs.declared.table.Widths.TheVariants.{Both, Only, Any}
+use Rattle.rewrite_rules.specs.declared.table.Widths.TheVariants.{Both, Only, Any, Own}
 use Rattle.rewrite_rules.specs.declared.table.Row.{Row}
-use Rattle.rewrite_rules.specs.declared.table.TheConstants.{ROWS}
 use Rattle.rewrite_rules.specs.Line.{Line, is_formed, IsRight}
-use Rattle.rewrite_rules.specs.Table.{line_of, widths_in, lines_of, OfEachLine}
+use Rattle.rewrite_rules.specs.Table.{parts, ROWS, line_of, widths_in, lines_of, OfEachLine}
 use Rattle.rewrite_rules.specs.Laws.{LinesKeepCode, TableIsRight}
 use Rattle.rewrite_rules.proofs.identities.Words as line
 use Rattle.rewrite_rules.proofs.identities.ExtensionNumbers as number
@@ -43,6 +42,7 @@ passes_at f (y ∷ ys) e zero x k =
 passes_at f (y ∷ ys) e (suc i) x k = passes_at f ys (and_parts (f y) (passes f ys) e).1 i x k
 
 all_formed : passes (λ row. passes is_formed (lines_of row)) ROWS ≡ true
+unfolding parts
 all_formed = refl
 
 formed_line : OfEachLine (λ l. is_formed l ≡ true)
@@ -55,6 +55,7 @@ abbrev AtWidths : (Line → Type 0) → Widths → (IntegerType → Line) → Ty
 AtWidths P Both l = (t : IntegerType) → P (l t)
 AtWidths P (Only t) l = P (l t)
 AtWidths P Any l = P (l integer.I32)
+AtWidths P (Own o) l = ⊤
 
 abbrev AtRows : (Line → Type 0) → List Row → Type 0
 AtRows P [] = ⊤
@@ -80,8 +81,9 @@ a ▸ b = (a, b)
 
 -- row by row, in the order of the table
 rows_right : AtRows IsRight ROWS
+unfolding parts
 rows_right =
-    -- operands in another order, or grouped otherwise
+    -- operands in another order
     group.add_swaps
     ▸ group.mul_swaps
     ▸ group.and_swaps
@@ -97,6 +99,7 @@ rows_right =
     ▸ compare.turns GtU LtU (λ t n m. refl)
     ▸ compare.turns GeS LeS (λ t n m. refl)
     ▸ compare.turns GeU LeU (λ t n m. refl)
+    -- operands grouped otherwise
     ▸ group.add_groups
     ▸ group.mul_groups
     ▸ group.and_groups
@@ -107,7 +110,7 @@ rows_right =
     ▸ turned (line.group_left And) group.and_groups
     ▸ turned (line.group_left Or) group.or_groups
     ▸ turned (line.group_left Xor) group.xor_groups
-    -- a number that changes nothing
+    -- an operation more that changes nothing
     ▸ puts Add (Literal 0) neutral.add_0
     ▸ puts Sub (Literal 0) neutral.sub_0
     ▸ puts Mul (Literal 1) neutral.mul_1
@@ -115,10 +118,22 @@ rows_right =
     ▸ puts Xor (Literal 0) neutral.xor_0
     ▸ puts And Ones neutral.and_1
     ▸ puts Shl (Literal 0) neutral.shl_0
-    ▸ puts ShrS (Literal 0) neutral.shr_s_0
-    ▸ puts ShrU (Literal 0) neutral.shr_u_0
-    ▸ puts Rotl (Literal 0) neutral.rotl_0
-    ▸ puts Rotr (Literal 0) neutral.rotr_0
+    ▸ turned (line.double Or) group.or_twice
+    ▸ turned (line.double And) group.and_twice
+    ▸ group.complement_twice
+    -- another form, with another constant or operator
+    ▸ constant.shift_product
+    ▸ constant.product_shift
+    ▸ constant.difference_sum
+    ▸ constant.sum_difference
+    ▸ compare.test_comparison
+    ▸ compare.comparison_test
+    ▸ compare.select_turns
+    ▸ tt
+    ▸ tt
+    ▸ tt
+    ▸ tt
+    -- a number that changes nothing, dropped or put
     ▸ neutral.drops Add (Literal 0) neutral.add_0
     ▸ neutral.drops Sub (Literal 0) neutral.sub_0
     ▸ neutral.drops Mul (Literal 1) neutral.mul_1
@@ -126,38 +141,40 @@ rows_right =
     ▸ neutral.drops Xor (Literal 0) neutral.xor_0
     ▸ neutral.drops And Ones neutral.and_1
     ▸ neutral.drops Shl (Literal 0) neutral.shl_0
+    ▸ tt
+    ▸ puts ShrS (Literal 0) neutral.shr_s_0
+    ▸ puts ShrU (Literal 0) neutral.shr_u_0
+    ▸ puts Rotl (Literal 0) neutral.rotl_0
+    ▸ puts Rotr (Literal 0) neutral.rotr_0
     ▸ neutral.drops ShrS (Literal 0) neutral.shr_s_0
     ▸ neutral.drops ShrU (Literal 0) neutral.shr_u_0
     ▸ neutral.drops Rotl (Literal 0) neutral.rotl_0
     ▸ neutral.drops Rotr (Literal 0) neutral.rotr_0
-    -- an operand twice
-    ▸ turned (line.double Or) group.or_twice
-    ▸ turned (line.double And) group.and_twice
-    ▸ group.or_twice
-    ▸ group.and_twice
-    ▸ group.complement_twice
-    -- another operator, or another constant
-    ▸ constant.shift_product
-    ▸ constant.product_shift
-    ▸ constant.shift_quotient
+    -- another operator with another constant
     ▸ constant.quotient_shift
-    ▸ constant.mask_remainder
+    ▸ constant.shift_quotient
     ▸ constant.remainder_mask
+    ▸ constant.mask_remainder
     ▸ constant.turn_right
     ▸ constant.turn_left
     ▸ constant.product_double
     ▸ constant.shift_double
-    ▸ turned line.product_double constant.product_double
-    ▸ turned line.shift_double constant.shift_double
+    -- an operand that stands twice
     ▸ group.cancels_sub
     ▸ group.cancels_xor
-    ▸ constant.difference_sum
-    ▸ constant.sum_difference
-    -- tests and comparisons
-    ▸ compare.test_comparison
-    ▸ compare.comparison_test
-    ▸ compare.difference_tests
-    ▸ compare.tests_difference
+    ▸ group.or_twice
+    ▸ group.and_twice
+    ▸ turned line.product_double constant.product_double
+    ▸ turned line.shift_double constant.shift_double
+    ▸ compare.select_drops
+    -- a number that decides alone
+    ▸ neutral.and_drawn
+    ▸ neutral.mul_drawn
+    ▸ neutral.or_drawn
+    ▸ neutral.and_alone
+    ▸ neutral.mul_alone
+    ▸ neutral.or_alone
+    -- a comparison as the test of its opposite, and something wider
     ▸ compare.negates Eq Ne opposite.eq_opposite
     ▸ compare.negates Ne Eq opposite.ne_opposite
     ▸ compare.negates LtS GeS opposite.lt_s_opposite
@@ -168,6 +185,9 @@ rows_right =
     ▸ compare.negates LeU GtU opposite.le_u_opposite
     ▸ compare.negates GeS LtS opposite.ge_s_opposite
     ▸ compare.negates GeU LtU opposite.ge_u_opposite
+    ▸ compare.difference_tests
+    ▸ (λ h c us vs a e. ap ok (sym (number.low_half (h 0) (a 0))))
+    -- the test of a comparison as its opposite
     ▸ drops_test Eq Ne opposite.eq_opposite
     ▸ drops_test Ne Eq opposite.ne_opposite
     ▸ drops_test LtS GeS opposite.lt_s_opposite
@@ -178,39 +198,41 @@ rows_right =
     ▸ drops_test LeU GtU opposite.le_u_opposite
     ▸ drops_test GeS LtS opposite.ge_s_opposite
     ▸ drops_test GeU LtU opposite.ge_u_opposite
-    -- selects
-    ▸ compare.select_turns
-    ▸ compare.select_drops
-    -- a number that decides alone
-    ▸ neutral.and_drawn
-    ▸ neutral.mul_drawn
-    ▸ neutral.or_drawn
-    ▸ neutral.and_alone
-    ▸ neutral.mul_alone
-    ▸ neutral.or_alone
-    -- wider and narrower
-    ▸ (λ h c us vs a e. ap ok (sym (number.low_half (h 0) (a 0))))
-    ▸ (λ h c us vs a e. ap ok (number.low_half (h 0) (a 0)))
-    ▸ (λ h c us vs a e. ap ok (number.signed_low_half (h 0) (a 0)))
+    -- over both parts of an operand, and something narrower
+    ▸ group.product_parts
+    ▸ group.mask_parts
+    ▸ group.and_complements
+    ▸ group.or_complements
     ▸ (λ h c us vs a e. ap (λ z. ok (cast_unsigned w32 z % 2 ^ 32)) (number.low_8_of_32 (h 0)))
     ▸ (λ h c us vs a e. ap (λ z. ok (cast_unsigned w32 z % 2 ^ 32)) (number.low_16_of_32 (h 0)))
     ▸ (λ h c us vs a e. ap (λ z. ok (cast_unsigned w64 z % 2 ^ 64)) (number.low_8_of_64 (h 0)))
     ▸ (λ h c us vs a e. ap (λ z. ok (cast_unsigned w64 z % 2 ^ 64)) (number.low_16_of_64 (h 0)))
     ▸ (λ h c us vs a e. ap (λ z. ok (cast_unsigned w64 z % 2 ^ 64)) (number.low_32_of_64 (h 0)))
-    -- over both parts of an operand
-    ▸ group.product_parts
-    ▸ group.mask_parts
-    ▸ group.and_complements
-    ▸ group.or_complements
+    ▸ compare.tests_difference
+    ▸ (λ h c us vs a e. ap ok (number.low_half (h 0) (a 0)))
+    ▸ (λ h c us vs a e. ap ok (number.signed_low_half (h 0) (a 0)))
     ▸ turned (line.complement And Or) group.and_complements
     ▸ turned (line.complement Or And) group.or_complements
-    -- shorter
+    ▸ tt
+    -- shorter at once
     ▸ constant.sum_joins
     ▸ compare.difference_tests_equal
     ▸ group.or_both_is
     ▸ constant.product_negates
     ▸ compare.one_below
     ▸ group.sum_goes_back
+    -- what other rules made, turned back
+    ▸ tt
+    ▸ turned line.twice_complement group.complement_twice
+    ▸ turned (λ t. line.select_turned) (λ t. compare.select_turns) integer.I32
+    ▸ turned (line.parted Mul Add) group.product_parts
+    ▸ turned (line.parted And Or) group.mask_parts
+    ▸ (λ h c us vs a e. sym (ap (λ z. ok (cast_unsigned w32 z % 2 ^ 32)) (number.low_8_of_32 (h 0))))
+    ▸ (λ h c us vs a e. sym (ap (λ z. ok (cast_unsigned w32 z % 2 ^ 32)) (number.low_16_of_32 (h 0))))
+    ▸ (λ h c us vs a e. sym (ap (λ z. ok (cast_unsigned w64 z % 2 ^ 64)) (number.low_8_of_64 (h 0))))
+    ▸ (λ h c us vs a e. sym (ap (λ z. ok (cast_unsigned w64 z % 2 ^ 64)) (number.low_16_of_64 (h 0))))
+    ▸ (λ h c us vs a e. sym (ap (λ z. ok (cast_unsigned w64 z % 2 ^ 64)) (number.low_32_of_64 (h 0))))
+    ▸ tt
     ▸ tt
 
 -- ---- by indices
@@ -223,6 +245,7 @@ at_width P (Only t) l h zero m e = let is : l t ≡ m = cc in subst P is h
 at_width P (Only t) l h (suc k) m e = absurd cc
 at_width P Any l h zero m e = let is : l integer.I32 ≡ m = cc in subst P is h
 at_width P Any l h (suc k) m e = absurd cc
+at_width P (Own o) l h k m e = absurd cc
 
 at_row : (P : Line → Type 0) (rs : List Row) → AtRows P rs → (i : ℕ) (row : Row) → slice_get rs i ≡ Some row → AtWidths P row.widths (line_of row)
 at_row P [] h i row e = absurd cc

@@ -1,0 +1,60 @@
+use Rattle.std.proofs.Common.{sym, ap, ◌∙◌, arith}
+use Rattle.std.specs.Prelude.{slice_get}
+use Rattle.rewrite_rules.specs.Table.{parts, part_at}
+use Rattle.rewrite_rules.proofs.FindingLemmas.{elsewhere}
+use Rattle.rewrite_rules.proofs.lines.line_of.Goals as goal
+
+pub returns-in-0 : goal.returns-in-0
+unfolding parts
+returns-in-0 c = c.in_orders.ensures ∙ ap (λ part. slice_get (part_at part) c.args.number) (sym c.in-0.is)
+
+pub returns-in-1 : goal.returns-in-1
+unfolding parts
+returns-in-1 c = c.in_groups.ensures ∙ ap (λ part. slice_get (part_at part) c.args.number) (sym c.in-1.is)
+
+pub returns-in-2 : goal.returns-in-2
+unfolding parts
+returns-in-2 c = c.in_longer.ensures ∙ ap (λ part. slice_get (part_at part) c.args.number) (sym c.in-2.is)
+
+pub returns-in-3 : goal.returns-in-3
+unfolding parts
+returns-in-3 c = c.in_forms.ensures ∙ ap (λ part. slice_get (part_at part) c.args.number) (sym c.in-3.is)
+
+pub returns-in-4 : goal.returns-in-4
+unfolding parts
+returns-in-4 c = c.in_neutral.ensures ∙ ap (λ part. slice_get (part_at part) c.args.number) (sym c.in-4.is)
+
+pub returns-in-5 : goal.returns-in-5
+unfolding parts
+returns-in-5 c = c.in_powers.ensures ∙ ap (λ part. slice_get (part_at part) c.args.number) (sym c.in-5.is)
+
+pub returns-in-6 : goal.returns-in-6
+unfolding parts
+returns-in-6 c = c.in_twice.ensures ∙ ap (λ part. slice_get (part_at part) c.args.number) (sym c.in-6.is)
+
+pub returns-in-7 : goal.returns-in-7
+unfolding parts
+returns-in-7 c = c.in_alone.ensures ∙ ap (λ part. slice_get (part_at part) c.args.number) (sym c.in-7.is)
+
+pub returns-in-8 : goal.returns-in-8
+unfolding parts
+returns-in-8 c = c.in_tests.ensures ∙ ap (λ part. slice_get (part_at part) c.args.number) (sym c.in-8.is)
+
+pub returns-in-9 : goal.returns-in-9
+unfolding parts
+returns-in-9 c = c.in_opposites.ensures ∙ ap (λ part. slice_get (part_at part) c.args.number) (sym c.in-9.is)
+
+pub returns-in-10 : goal.returns-in-10
+unfolding parts
+returns-in-10 c = c.in_parts.ensures ∙ ap (λ part. slice_get (part_at part) c.args.number) (sym c.in-10.is)
+
+pub returns-in-11 : goal.returns-in-11
+unfolding parts
+returns-in-11 c = c.in_shorter.ensures ∙ ap (λ part. slice_get (part_at part) c.args.number) (sym c.in-11.is)
+
+pub returns-in-12 : goal.returns-in-12
+unfolding parts
+returns-in-12 c = c.in_back.ensures ∙ ap (λ part. slice_get (part_at part) c.args.number) (sym c.in-12.is)
+
+pub returns-in_default : goal.returns-in_default
+returns-in_default c = elsewhere c.args.part c.args.number (omega arith)

@@ -1,0 +1,42 @@
+-- What a row does to the number of instructions, as the code has it (this project).
+use Rattle.std.specs.Prelude.{◌≡◌, ℕ, ◌+◌, List, [], ◌∷◌, Some, slice_get}
+use Rattle.peephole_machine.specs.declared.integer.IntegerType.{IntegerType}
+use Rattle.rewrite_rules.specs.declared.growth.Growth as code
+use Rattle.rewrite_rules.specs.declared.growth.Growth.TheVariants.{Shrinks, Keeps, Grows}
+use Rattle.rewrite_rules.specs.declared.table.Own as beside
+use Rattle.rewrite_rules.specs.declared.table.Own.TheVariants.{Unfold, ThroughGlobal, WithNop, Fold, Forget, TeeToSet, DropNop, SetToTee}
+use Rattle.rewrite_rules.specs.declared.table.Row.{Row}
+use Rattle.rewrite_rules.specs.declared.table.Step.{Step}
+use Rattle.rewrite_rules.specs.declared.table.Step.TheVariants.{Operand, End}
+use Rattle.rewrite_rules.specs.declared.table.Widths.TheVariants.{Own}
+use Rattle.rewrite_rules.specs.Growth.{Growth, shrinks, keeps, grows, growth_of}
+use Rattle.rewrite_rules.specs.Applying.{IsFormed}
+use Rattle.rewrite_rules.specs.Table.{widths_in, line_of}
+
+abbrev pub shown : code.Growth → Growth
+shown Shrinks = shrinks
+shown Keeps = keeps
+shown Grows = grows
+
+-- how many steps of a side are instructions, besides its holes, up to the step before the end
+abbrev pub own_steps : List Step → ℕ
+own_steps [] = 0
+own_steps (End ∷ steps) = 0
+own_steps (Operand n ∷ steps) = own_steps steps
+own_steps (s ∷ steps) = own_steps steps + 1
+
+-- what the rules beside the table do
+abbrev pub own_growth : beside.Own → code.Growth
+own_growth Unfold = Grows
+own_growth ThroughGlobal = Grows
+own_growth WithNop = Grows
+own_growth Fold = Shrinks
+own_growth Forget = Shrinks
+own_growth TeeToSet = Grows
+own_growth DropNop = Shrinks
+own_growth SetToTee = Shrinks
+
+-- It is what each of the row's lines that is well formed does; of a rule beside the table, what that does.
+pub record GrowsAs (row : Row) (growth : code.Growth) : Type 0 where
+  pub of_lines : (k : ℕ) (t : IntegerType) → slice_get (widths_in row.widths) k ≡ Some t → IsFormed row t → shown growth ≡ growth_of (line_of row t)
+  pub of_own : (own : beside.Own) → row.widths ≡ Own own → growth ≡ own_growth own

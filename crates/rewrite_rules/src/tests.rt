@@ -1,0 +1,141 @@
+//! Each public call on rows of the table: names and numbers of rules, values of numbers, conditions, moves, and whether rows apply.
+
+use crate::{
+    Condition, Effects, Number, Rule, may_move, row_at, row_count, rows, rule_count, rules_of_rows,
+};
+use peephole_machine::IntegerType;
+use std::test::Fail;
+
+/// Names of rules, and their numbers, as callers in C have them.
+const NAMES: [(&str, usize); 10] = [
+    ("commute", 0),
+    ("turn_comparison", 1),
+    ("associate_left", 2),
+    ("add_zero", 4),
+    ("unfold", 21),
+    ("fold", 24),
+    ("forget", 32),
+    ("tee_to_set", 75),
+    ("join_sums", 76),
+    ("set_to_tee", 88),
+];
+
+#[test]
+fn tells_rules_by_their_names(rt: HostRuntime) -> Result<(), Fail> {
+    for (name, number) in NAMES {
+        let rule = Rule::from_name(name).expect(&rt, "it is a rule's name");
+        assert!(rt; rule.number() == number);
+        assert!(rt; rule.name() == name);
+        assert!(rt; Rule::from_number(number) == Some(rule));
+    }
+    assert!(rt; rule_count() == 89);
+    assert!(rt; Rule::from_number(89).is_none());
+    assert!(rt; "no_rule".parse::<Rule>().is_err());
+    Ok(())
+}
+
+#[test]
+fn tells_of_which_rule_a_row_is(rt: HostRuntime) -> Result<(), Fail> {
+    let rules = rules_of_rows(rt.alloc())?;
+    assert!(rt; rules.len() == row_count());
+    assert!(rt; rules.get(6).copied() == Some(0));
+    assert!(rt; rules.get(7).copied() == Some(1));
+    assert!(rt; row_at(row_count()).is_none());
+    let all = rows(rt.alloc())?;
+    assert!(rt; all.len() == row_count());
+    assert!(rt; all.get(7).copied() == row_at(7));
+    Ok(())
+}
+
+/// Numbers of lines, the constants that they are of, and their values for 32 and 64 bits.
+const VALUES: [(Number, [u64; 2], u64, u64); 10] = [
+    (Number::Literal(7), [0, 0], 7, 7),
+    (Number::Ones, [0, 0], 0xffff_ffff, 0xffff_ffff_ffff_ffff),
+    (Number::Slot(1), [3, 5], 5, 5),
+    (Number::Turned(0), [3, 0], 29, 61),
+    (Number::Next(0), [0xffff_ffff, 0], 0, 0x1_0000_0000),
+    (Number::Previous(0), [8, 0], 7, 7),
+    (
+        Number::Negated(0),
+        [1, 0],
+        0xffff_ffff,
+        0xffff_ffff_ffff_ffff,
+    ),
+    (Number::Power(0), [5, 0], 32, 32),
+    (Number::Place(0), [64, 0], 6, 6),
+    (Number::Sum(0, 1), [0xffff_ffff, 1], 0, 0x1_0000_0000),
+];
+
+#[test]
+fn tells_the_values_of_numbers(rt: HostRuntime) -> Result<(), Fail> {
+    for (number, constants, narrow, wide) in VALUES {
+        assert!(rt; number.value(IntegerType::I32, &constants) == narrow);
+        assert!(rt; number.value(IntegerType::I64, &constants) == wide);
+    }
+    Ok(())
+}
+
+/// What is asked of a constant, the constant, and whether it holds for 32 and for 64 bits.
+const CONDITIONS: [(Condition, u64, bool, bool); 7] = [
+    (Condition::BelowWidth(0), 31, true, true),
+    (Condition::BelowWidth(0), 32, false, true),
+    (Condition::Power(0), 0x8000_0000, true, true),
+    (Condition::Power(0), 0, false, false),
+    (Condition::Power(0), 12, false, false),
+    (Condition::Mask(0), 0xff, true, true),
+    (Condition::Mask(0), 0xffff_ffff, false, true),
+];
+
+#[test]
+fn tells_whether_conditions_hold(rt: HostRuntime) -> Result<(), Fail> {
+    for (condition, constant, narrow, wide) in CONDITIONS {
+        assert!(rt; condition.holds(IntegerType::I32, &[constant]) == narrow);
+        assert!(rt; condition.holds(IntegerType::I64, &[constant]) == wide);
+    }
+    Ok(())
+}
+
+const PLAIN: Effects = Effects {
+    writes: false,
+    traps: false,
+    asks: false,
+};
+
+const WRITES: Effects = Effects {
+    writes: true,
+    traps: false,
+    asks: false,
+};
+
+const TRAPS: Effects = Effects {
+    writes: false,
+    traps: true,
+    asks: false,
+};
+
+const ASKS: Effects = Effects {
+    writes: false,
+    traps: false,
+    asks: true,
+};
+
+/// What two operands may do, and whether they may change places, whether the second one may be left out, and whether the first one
+/// may stand twice.
+const MOVES: [([Effects; 2], bool, bool, bool); 6] = [
+    ([PLAIN, PLAIN], true, true, true),
+    ([WRITES, PLAIN], false, true, false),
+    ([PLAIN, WRITES], false, false, true),
+    ([TRAPS, PLAIN], true, true, true),
+    ([TRAPS, TRAPS], false, false, true),
+    ([ASKS, ASKS], true, true, false),
+];
+
+#[test]
+fn tells_whether_operands_may_move(rt: HostRuntime) -> Result<(), Fail> {
+    for (effects, change, leave_out, repeat) in MOVES {
+        assert!(rt; may_move(&effects, &[0, 1], &[1, 0]) == change);
+        assert!(rt; may_move(&effects, &[0, 1], &[0]) == leave_out);
+        assert!(rt; may_move(&effects, &[0], &[0, 0]) == repeat);
+    }
+    Ok(())
+}

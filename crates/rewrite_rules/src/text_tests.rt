@@ -1,0 +1,82 @@
+//! The texts of rows, and what they do to the number of instructions.
+
+use crate::{Growth, row_at};
+use std::test::Fail;
+
+/// Numbers of rows, and their texts.
+const TEXTS: [(usize, &str); 33] = [
+    (0, "add x y → add y x"),
+    (7, "lt_s x y → gt_s y x"),
+    (15, "add x (add y z) → add (add x y) z"),
+    (20, "add (add x y) z → add x (add y z)"),
+    (25, "x → add x 0"),
+    (30, "x → and x -1"),
+    (34, "x → xor (xor x -1) -1"),
+    (35, "shl x c → mul x (2^c), where c < N"),
+    (36, "mul x c → shl x (log c), where c is a power of two"),
+    (37, "sub x c → add x (-c)"),
+    (39, "eqz x → eq x 0"),
+    (41, "any: select x y z → select y x (i32.eqz z)"),
+    (42, "c → add r (c - r)"),
+    (43, "x → x, by way of a further global"),
+    (44, "x → nop x"),
+    (45, "op c d → the value"),
+    (53, "drop x → nothing"),
+    (64, "rem_u x c → and x (c - 1), where c is a power of two"),
+    (65, "and x c → rem_u x (c + 1), where c is a mask"),
+    (66, "rotl x c → rotr x (N - c)"),
+    (70, "sub x x → 0"),
+    (76, "any: select x x z → x"),
+    (77, "0 → and r 0"),
+    (79, "-1 → or r -1"),
+    (83, "eq x y → i32.eqz (ne x y)"),
+    (94, "i32: x → i32.wrap_i64 (i64.extend_i32_u x)"),
+    (105, "mul (add x y) c → add (mul x c) (mul y c)"),
+    (107, "xor (and x y) -1 → or (xor x -1) (xor y -1)"),
+    (111, "i64: i64.extend8_s x → shr_s (shl x 56) 56"),
+    (119, "local.tee x → local.set x, local.get"),
+    (120, "add (add x c) d → add x (c + d)"),
+    (126, "nop → nothing"),
+    (136, "local.set x, local.get → local.tee x"),
+];
+
+#[test]
+fn prints_rows(rt: HostRuntime) -> Result<(), Fail> {
+    for (number, expected) in TEXTS {
+        let row = row_at(number).expect(&rt, "it is a row's number");
+        let text = format!(in rt.alloc(); "{row}")?;
+        assert!(rt; text.as_str() == expected, "row {number}");
+    }
+    Ok(())
+}
+
+/// Numbers of rows, and what they do to the number of instructions.
+const GROWTHS: [(usize, Growth); 18] = [
+    (0, Growth::Keeps),
+    (25, Growth::Grows),
+    (32, Growth::Grows),
+    (34, Growth::Grows),
+    (35, Growth::Keeps),
+    (42, Growth::Grows),
+    (43, Growth::Grows),
+    (44, Growth::Grows),
+    (45, Growth::Shrinks),
+    (53, Growth::Shrinks),
+    (70, Growth::Shrinks),
+    (74, Growth::Grows),
+    (83, Growth::Grows),
+    (107, Growth::Grows),
+    (119, Growth::Grows),
+    (120, Growth::Shrinks),
+    (126, Growth::Shrinks),
+    (136, Growth::Shrinks),
+];
+
+#[test]
+fn tells_growths(rt: HostRuntime) -> Result<(), Fail> {
+    for (number, expected) in GROWTHS {
+        let row = row_at(number).expect(&rt, "it is a row's number");
+        assert!(rt; row.growth() == expected, "row {number}");
+    }
+    Ok(())
+}
