@@ -24,7 +24,7 @@ use Rattle.body_rewrites.proofs.StandsLemmas.{Operators, stands_nothing, stands_
 
 -- ---- operands
 
-instructions_back : (code : List Instruction) → instructions (map (λ (i : Instruction). Instr i) code) ≡ code
+pub instructions_back : (code : List Instruction) → instructions (map (λ (i : Instruction). Instr i) code) ≡ code
 instructions_back [] = refl
 instructions_back (i ∷ code) = ap (λ is. i ∷ is) (instructions_back code)
 

@@ -1,7 +1,8 @@
 -- When the code of all parts stands where the parts may.
-use Rattle.std.proofs.Common.{◌≡◌, ℕ, zero, suc, ◌+◌, ◌<◌, ◌≤◌, Bool, true, false, List, [], ◌∷◌, length, drop, refl, sym, ap, ap₂, subst, ◌∙◌, arith}
-use Rattle.std.specs.Prelude.{if◌then◌else◌, slice_index_or}
+use Rattle.std.proofs.Common.{◌≡◌, ℕ, zero, suc, ◌+◌, ◌<◌, ◌≤◌, Bool, true, false, List, [], ◌∷◌, Some, length, drop, refl, sym, ap, ap₂, subst, ◌∙◌, arith}
+use Rattle.std.specs.Prelude.{if◌then◌else◌, slice_get, slice_index_or}
 use Rattle.std.proofs.lemmas.List.{drop_all}
+use Rattle.std.proofs.lemmas.Option.{slice_get_within}
 use Rattle.wasm_code.specs.Instruction.{Instruction}
 use Rattle.peephole_machine.specs.Values.{Context}
 use Rattle.rewrite_rules.specs.declared.pattern.Part.{Part}
@@ -10,7 +11,7 @@ use Rattle.rewrite_rules.specs.Numbers.{constant_at}
 use Rattle.rewrite_rules.specs.Parts.{part_code}
 use Rattle.body_rewrites.specs.Trees.{Stands}
 use Rattle.body_rewrites.specs.Cutting.{HasPart, AreCut}
-use Rattle.body_rewrites.specs.Matching.{is_hole, operand_at, operand_of, operand_code, HasSomeCode, HasSomePart, HasSomeCut, IsAlike, AreAlike, AreAllAlike}
+use Rattle.body_rewrites.specs.Matching.{is_hole, is_slot, number_at, slot_at, operand_at, operand_of, operand_code, HasSomeCode, HasSomePart, HasSomeCut, IsAlike, AreAlike, AreAllAlike}
 use Rattle.body_rewrites.proofs.StandsLemmas.{Operators, stands_nothing}
 
 pub cut_length : (context : Context) (operators : Operators) (ps : List Part) (ks : List ℕ) (end : ℕ) → AreCut context operators ps ks end →
@@ -121,3 +122,27 @@ all_alike operators parts starts end numbers i at e l so =
   where
     x : ℕ → List Instruction
     x = operand_code operators parts starts end
+
+-- ---- items by their numbers
+
+pub item_is : {X : Type 0} (xs : List X) (i : ℕ) (d x : X) → slice_get xs i ≡ Some x → slice_index_or xs i d ≡ x
+item_is [] i d x e = absurd cc
+item_is (y ∷ xs) zero d x e = (let same : y ≡ x = cc in same)
+item_is (y ∷ xs) (suc i) d x e = item_is xs i d x e
+
+pub drop_item : {X : Type 0} (xs : List X) (i : ℕ) (x : X) → slice_get xs i ≡ Some x → drop i xs ≡ x ∷ drop (i + 1) xs
+drop_item xs i x e = drop_one xs i x (slice_get_within xs i x e) ∙ ap (λ y. y ∷ drop (i + 1) xs) (item_is xs i x x e)
+
+pub operand_here : (ps : List Part) (ks : List ℕ) (i at n : ℕ) (p : Part) → slice_get ps i ≡ Some p → length ks ≡ length ps → is_hole p n ≡ true →
+    operand_at (drop i ps) (drop i ks) at n ≡ (slice_index_or ks i 0, at)
+operand_here ps ks i at n p e l h =
+    let inside = slice_get_within ps i p e in
+    ap₂ (λ qs js. operand_at qs js at n) (drop_item ps i p e) (drop_one ks i 0 (omega (arith, l, inside)))
+    ∙ ap (λ b. if b then (slice_index_or ks i 0, at) else operand_at (drop (i + 1) ps) (drop (i + 1) ks) (slice_index_or ks i 0) n) h
+
+pub slot_here : (operators : Operators) (ps : List Part) (ks : List ℕ) (i n : ℕ) (p : Part) → slice_get ps i ≡ Some p → length ks ≡ length ps →
+    is_slot p n ≡ true → slot_at operators (drop i ps) (drop i ks) n ≡ number_at operators (slice_index_or ks i 0)
+slot_here operators ps ks i n p e l h =
+    let inside = slice_get_within ps i p e in
+    ap₂ (λ qs js. slot_at operators qs js n) (drop_item ps i p e) (drop_one ks i 0 (omega (arith, l, inside)))
+    ∙ ap (λ b. if b then number_at operators (slice_index_or ks i 0) else slot_at operators (drop (i + 1) ps) (drop (i + 1) ks) n) h

@@ -1,7 +1,8 @@
 -- What matches a pattern is its code.
-use Rattle.std.proofs.Common.{◌≡◌, ℕ, ◌≤◌, List, [], ◌∷◌, ◌++◌, map, drop, refl, sym, ap, ap₂, subst, ◌∙◌, append_assoc, arith}
-use Rattle.std.specs.Prelude.{reverse, slice_range}
+use Rattle.std.proofs.Common.{◌≡◌, ℕ, suc, ◌-◌, ◌≤◌, List, [], ◌∷◌, ◌++◌, Some, None, length, map, drop, inl, inr, refl, sym, ap, ap₂, subst, ◌∙◌, append_assoc, arith}
+use Rattle.std.specs.Prelude.{reverse, slice_get, slice_range}
 use Rattle.std.proofs.lemmas.List.{append-nil, map-append, reverse-append}
+use Rattle.std.proofs.lemmas.Option.{none-some, slice_get_cases}
 use Rattle.wasm_code.specs.Instruction.{Instruction}
 use Rattle.wasm_code.specs.declared.operator.Operator.{Operator}
 use Rattle.wasm_code.specs.declared.operator.Operator.TheVariants.{Instr}
@@ -18,13 +19,13 @@ use Rattle.body_rewrites.proofs.AloneLemmas.{range_split}
 
 -- ---- places
 
-part_ordered : (context : Context) (operators : Operators) (p : Part) (start end : ℕ) → HasPart context operators p start end → start ≤ end
+pub part_ordered : (context : Context) (operators : Operators) (p : Part) (start end : ℕ) → HasPart context operators p start end → start ≤ end
 part_ordered context operators (Hole n) start end (at, t, e, tree) = let o = tree.ordered in omega (arith, e)
 part_ordered context operators (Constant t x) start end (n, i, e, a, c) = omega (arith, e)
 part_ordered context operators (Drawn t) start end h = absurd h
 part_ordered context operators (Apply o) start end (e, a) = omega (arith, e)
 
-begins_before : (context : Context) (operators : Operators) (ps : List Part) (ks : List ℕ) (end : ℕ) → AreCut context operators ps ks end →
+pub begins_before : (context : Context) (operators : Operators) (ps : List Part) (ks : List ℕ) (end : ℕ) → AreCut context operators ps ks end →
     begin_of ks end ≤ end
 begins_before context operators [] [] end c = omega arith
 begins_before context operators [] (k ∷ ks) end c = absurd c
@@ -53,7 +54,7 @@ module _ (x : ℕ → List Instruction) (c : ℕ → ℕ) where
   none_drawn (Drawn t) = refl
   none_drawn (Apply o) = refl
 
-  one_last : (ps : List Part) (p : Part) → parts_code x c [] (ps ++ p ∷ []) ≡ parts_code x c [] ps ++ part_code x c [] p
+  pub one_last : (ps : List Part) (p : Part) → parts_code x c [] (ps ++ p ∷ []) ≡ parts_code x c [] ps ++ part_code x c [] p
   one_last [] p = append-nil (part_code x c [] p)
   one_last (q ∷ ps) p =
       ap (λ w. part_code x c [] q ++ parts_code x c w (ps ++ p ∷ [])) (none_drawn q)
@@ -75,3 +76,17 @@ all_stand context operators x c (p ∷ ps) (k ∷ ks) end (part, cut) (h, others
 pub matches_are_the_code : MatchesAreTheCode
 matches_are_the_code context operators parts starts end x numbers is =
     all_stand context operators x (constant_at numbers) parts starts end is.cut is.alike
+
+-- ---- where the first part begins
+
+pub last_begins : (ks : List ℕ) (end k : ℕ) → slice_get ks (length ks - 1) ≡ Some k → k ≡ begin_of ks end
+last_begins [] end k e = absurd cc
+last_begins (j ∷ []) end k e = sym (let is : j ≡ k = cc in is)
+last_begins (j ∷ i ∷ ks) end k e = last_begins (i ∷ ks) j k (ap (slice_get (j ∷ i ∷ ks)) (let n : suc (length (i ∷ ks) - 1) ≡ length (j ∷ i ∷ ks) - 1 = omega arith in n) ∙ e)
+
+pub none_begins : (ks : List ℕ) (end : ℕ) → slice_get ks (length ks - 1) ≡ None → end ≡ begin_of ks end
+none_begins [] end e = refl
+none_begins (j ∷ []) end e = absurd cc
+none_begins (j ∷ i ∷ ks) end e =
+    let past = slice_get_cases (j ∷ i ∷ ks) (length (j ∷ i ∷ ks) - 1) in
+    absurd (elim past.1 [ inl (x, l, is, at) ↦ absurd (none-some x (sym e ∙ is)) | inr (l, n) ↦ omega arith ])

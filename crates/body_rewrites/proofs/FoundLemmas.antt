@@ -31,8 +31,16 @@ one_cut context operators (p ∷ ps) (k ∷ ks) (m ∷ ms) end (h, a) (g, b) =
     let same = one_place context operators p k m end h g in
     ap₂ (λ n ns. n ∷ ns) same (one_cut context operators ps ks ms m (subst (AreCut context operators ps ks) same a) b)
 
+pub or_first : (a b : Bool) → a ≡ true → (a || b) ≡ true
+or_first true b e = refl
+or_first false b e = absurd (false≢true e)
+
+pub or_second : (a b : Bool) → b ≡ true → (a || b) ≡ true
+or_second true b e = refl
+or_second false b e = e
+
 -- one of the parts is so
-abbrev some_is : (Part → Bool) → List Part → Bool
+abbrev pub some_is : (Part → Bool) → List Part → Bool
 some_is f [] = false
 some_is f (p ∷ ps) = f p || some_is f ps
 
@@ -48,7 +56,7 @@ module _ (context : Context) (operators : Operators) (t : IntegerType) (x : ℕ 
   hole_is (Apply o) n start end e h = absurd (false≢true e)
 
   -- the code in a hole
-  code_found : (n : ℕ) (ps : List Part) (ks : List ℕ) (end : ℕ) → AreAlike operators x (constant_at numbers) ps ks end →
+  pub code_found : (n : ℕ) (ps : List Part) (ks : List ℕ) (end : ℕ) → AreAlike operators x (constant_at numbers) ps ks end →
       some_is (λ p. is_hole p n) ps ≡ true → operand_code operators ps ks end n ≡ x n
   code_found n [] ks end h some = absurd (false≢true some)
   code_found n (p ∷ ps) [] end h some = absurd h
@@ -85,7 +93,7 @@ module _ (context : Context) (operators : Operators) (t : IntegerType) (x : ℕ 
   slot_is (Apply o) n start end e own c h = absurd (false≢true e)
 
   -- the number of a slot
-  number_found : (n : ℕ) (ps : List Part) (ks : List ℕ) (end : ℕ) → AreCut context operators ps ks end →
+  pub number_found : (n : ℕ) (ps : List Part) (ks : List ℕ) (end : ℕ) → AreCut context operators ps ks end →
       AreAlike operators x (constant_at numbers) ps ks end → All (IsOwn t) ps → some_is (λ p. is_slot p n) ps ≡ true →
       low t (slot_at operators ps ks n) ≡ low t (constant_at numbers n)
   number_found n [] ks end c h own some = absurd (false≢true some)
@@ -119,14 +127,6 @@ module _ (context : Context) (operators : Operators) (t : IntegerType) (x : ℕ 
   moved_part y found (Drawn u) start end own code number h = h
   moved_part y found (Apply o) start end own code number h = h
 
-  or_first : (a b : Bool) → a ≡ true → (a || b) ≡ true
-  or_first true b e = refl
-  or_first false b e = absurd (false≢true e)
-
-  or_second : (a b : Bool) → b ≡ true → (a || b) ≡ true
-  or_second true b e = refl
-  or_second false b e = e
-
   -- the same with other code and other numbers, which are the same where parts have them
   moved : (y : ℕ → List Instruction) (found : List ℕ) (ps : List Part) (ks : List ℕ) (end : ℕ) → All (IsOwn t) ps →
       ((n : ℕ) → some_is (λ p. is_hole p n) ps ≡ true → y n ≡ x n) →
@@ -144,7 +144,7 @@ module _ (context : Context) (operators : Operators) (t : IntegerType) (x : ℕ 
         (λ n o e. number n o (or_second (is_slot p n) (some_is (λ p. is_slot p n) ps) e)) others,
   )
 
-either : (a b : Bool) → (a || b) ≡ true → (a ≡ true) ⊎ (b ≡ true)
+pub either : (a b : Bool) → (a || b) ≡ true → (a ≡ true) ⊎ (b ≡ true)
 either true b e = inl refl
 either false b e = inr e
 
@@ -161,7 +161,7 @@ slots_are a b f e g (suc (suc n)) o =
 pub none_found : (context : Context) (operators : Operators) (parts : List Part) (starts : List ℕ) (end a b : ℕ) → AreCut context operators parts starts end →
     slot_at operators parts starts 0 ≡ a → slot_at operators parts starts 1 ≡ b → AreOwn parts → HasSomeMatch context operators parts end →
     AreAllAlike operators parts starts end (a ∷ b ∷ [])
-none_found context operators parts starts end a b cut first second (t, own) (others, numbers, (x, is)) =
+none_found context operators parts starts end a b cut first second (t, own) (others, numbers, x, is) =
     let same = one_cut context operators parts others starts end is.cut cut in
     let alike = subst (λ l. AreAlike operators x (constant_at numbers) parts l end) same is.alike in
     moved context operators t x numbers (operand_code operators parts starts end) (a ∷ b ∷ []) parts starts end own

@@ -10,10 +10,9 @@ use Rattle.rewrite_rules.specs.declared.pattern.Part.{Part}
 use Rattle.rewrite_rules.specs.declared.table.Step.{Step}
 use Rattle.rewrite_rules.specs.declared.table.Step.TheVariants.{Operand, Constant, Drawn, Binary, Compare, Eqz, Select, Whole, End}
 use Rattle.rewrite_rules.specs.declared.table.Row.{Row}
-use Rattle.rewrite_rules.specs.declared.table.TheConstants.{ROWS}
 use Rattle.rewrite_rules.specs.Numbers.{constant_at}
 use Rattle.rewrite_rules.specs.Parts.{parts_code, PartsAreTheCode}
-use Rattle.rewrite_rules.specs.Table.{parts_for, line_of, SidesAreParts}
+use Rattle.rewrite_rules.specs.Table.{parts, ROWS, parts_for, line_of, SidesAreParts}
 use Rattle.body_rewrites.specs.Trees.{Stands}
 use Rattle.body_rewrites.specs.Matching.{is_own, IsOwn, begin_of, MatchesAreTheCode, LeftsAreInstances}
 
@@ -32,6 +31,7 @@ own_rows [] = true
 own_rows (r ∷ rs) = own_steps r.left && own_rows rs
 
 all_own : own_rows ROWS ≡ true
+unfolding parts
 all_own = refl
 
 own_row : (rs : List Row) → own_rows rs ≡ true → (i : ℕ) (row : Row) → slice_get rs i ≡ Some row → own_steps row.left ≡ true
@@ -70,10 +70,13 @@ module _ (t : IntegerType) where
 
 -- ---- code
 
+pub own_left : (i : ℕ) (row : Row) → slice_get ROWS i ≡ Some row → (t : IntegerType) (parts : List Part) → reverse parts ≡ parts_for t row.left →
+    All (IsOwn t) parts
+own_left i row at t parts is = all_reversed t parts (subst (All (IsOwn t)) (sym is) (own_parts t row.left (own_row ROWS all_own i row at)))
+
 pub lefts_are_instances : MatchesAreTheCode → PartsAreTheCode → SidesAreParts → LeftsAreInstances
 lefts_are_instances matches parts_code_is sides = record {
-  own = λ i row at k t width parts is.
-      (t, all_reversed t parts (subst (All (IsOwn t)) (sym is) (own_parts t row.left (own_row ROWS all_own i row at))));
+  own = λ i row at k t width parts is. (t, own_left i row at t parts is);
   code = λ i row at k t width parts is context operators starts end x numbers match.
       let c = constant_at numbers in
       let left = (line_of row t).left in

@@ -59,7 +59,7 @@ one_more_same operators a b i (code, h, k) (x, p, q) =
     )
 
 -- the operator at an index of a range
-entry_in : (operators : Operators) (a b i : ℕ) → i < b - a → slice_get (operators_in operators a b) i ≡
+pub entry_in : (operators : Operators) (a b i : ℕ) → i < b - a → slice_get (operators_in operators a b) i ≡
     slice_get (map (λ (o : Operator × ℕ). o.0) operators) (a + i)
 entry_in operators a b i l =
     slice_get-map (λ (o : Operator × ℕ). o.0) (slice_range operators a b) i
@@ -69,7 +69,7 @@ entry_in operators a b i l =
 abbrev instr_of : Instruction → Operator
 instr_of i = Instr i
 
-one_there : (code : List Instruction) (i : ℕ) → i < length code → (x : Instruction) × (slice_get (map instr_of code) i ≡ Some (Instr x))
+pub one_there : (code : List Instruction) (i : ℕ) → i < length code → (x : Instruction) × (slice_get (map instr_of code) i ≡ Some (Instr x))
 one_there [] i l = absurd (omega arith)
 one_there (x ∷ code) zero l = (x, refl)
 one_there (x ∷ code) (suc i) l = one_there code i (omega arith)

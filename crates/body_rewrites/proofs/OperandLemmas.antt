@@ -1,21 +1,30 @@
 -- What stands in a hole.
-use Rattle.std.proofs.Common.{◌≡◌, ℕ, suc, ◌+◌, ◌-◌, ◌<◌, Bool, true, false, List, [], ◌∷◌, Option, Some, None, refl, sym, ap, subst, ◌∙◌, arith}
+use Rattle.std.proofs.Common.{◌≡◌, ℕ, suc, ◌+◌, ◌-◌, ◌<◌, ◌≤◌, Bool, true, false, List, [], ◌∷◌, Option, Some, None, refl, sym, ap, subst, ◌∙◌, arith}
 use Rattle.std.specs.Prelude.{◌||◌, if◌then◌else◌, slice_get}
 use Rattle.std.specs.Option.{option_flatten}
+use Rattle.wasm_code.specs.Instruction.{Instruction}
 use Rattle.mutate_base.specs.declared.types.PrimitiveTypeInfo.{PrimitiveTypeInfo}
 use Rattle.peephole_machine.specs.Values.{Context}
 use Rattle.rewrite_rules.specs.declared.pattern.Part.{Part}
 use Rattle.rewrite_rules.specs.declared.pattern.Part.TheVariants.{Hole, Constant, Drawn, Apply}
 use Rattle.rewrite_rules.specs.Code.{Leaves, writes, traps, asks}
 use Rattle.body_rewrites.specs.declared.trees.Tree.{Tree}
-use Rattle.body_rewrites.specs.Trees.{Stands, IsTree, HasTree, AreTrees}
+use Rattle.body_rewrites.specs.Trees.{tree_after, Stands, IsTree, HasTree, AreTrees}
 use Rattle.body_rewrites.specs.Cutting.{HasPart, AreCut}
-use Rattle.body_rewrites.specs.Matching.{is_hole, operand_at, instructions, operators_in}
+use Rattle.body_rewrites.specs.Matching.{is_hole, operand_at, operand_code, instructions, operators_in}
 use Rattle.body_rewrites.specs.Operands.{has_hole, IsOperand, IsOperandOf}
+use Rattle.body_rewrites.specs.Places.{IsTreeCode}
 use Rattle.body_rewrites.proofs.StandsLemmas.{Operators}
 use Rattle.body_rewrites.proofs.CutLemmas.{one_start, no_item}
+use Rattle.body_rewrites.proofs.CodeLemmas.{part_ordered}
 use Rattle.body_rewrites.proofs.AlikeLemmas.{code_there}
 use Rattle.body_rewrites.proofs.LeavesLemmas.{trees_leave}
+
+-- that code stands there, before `end`
+pub record StandsIn (operators : Operators) (end : ℕ) (place : ℕ × ℕ) (code : List Instruction) : Type 0 where
+  pub ordered : place.0 ≤ place.1
+  pub inside : place.1 ≤ end
+  pub stands : Stands operators place.0 place.1 code
 
 -- a tree stands there
 record HasTreeThere (context : Context) (operators : Operators) (place : ℕ × ℕ) : Type 0 where
@@ -109,3 +118,49 @@ module _ (context : Context) (operators : Operators) where
           let (tree, is, operand) = found trees (operand_at ps ks end n) o a h e in
           subst (λ q. IsOperandOf context operators ps ks end n q) (sym is) (k, operand)
       go false k h = absurd (omega (arith, some, ap (λ (q : ℕ × ℕ). q.1) h))
+
+  -- where there is no such hole, nothing stands in it
+  pub nothing_there : (n : ℕ) (ps : List Part) (ks : List ℕ) (end : ℕ) → AreCut context operators ps ks end → has_hole ps n ≡ false →
+      operand_code operators ps ks end n ≡ []
+  unfolding Told
+  nothing_there n ps ks end c e =
+      let place : operand_at ps ks end n ≡ (0, 0) = subst (λ b. Told b (operand_at ps ks end n)) e (told n ps ks end c) in
+      ap (λ (q : ℕ × ℕ). instructions (operators_in operators q.0 q.1)) place
+
+  -- what stands in a hole is a tree
+  pub tree_there : (n : ℕ) (ps : List Part) (ks : List ℕ) (end : ℕ) → has_hole ps n ≡ true → AreCut context operators ps ks end →
+      IsTreeCode context (operand_code operators ps ks end n)
+  unfolding Told
+  tree_there n ps ks end e c =
+      let h : HasTreeThere context operators (operand_at ps ks end n) = subst (λ b. Told b (operand_at ps ks end n)) e (told n ps ks end c) in
+      let last : h.at + 1 ≡ (operand_at ps ks end n).1 = omega (arith, h.ends) in
+      let place = operand_at ps ks end n in
+      let code = code_there operators place.0 place.1 h.is.code (subst (λ k. Stands operators place.0 k h.is.code) last h.is.stands) in
+      (h.gives, subst (λ l. tree_after context l [] ≡ Some (h.gives ∷ [])) (sym code) h.is.typed)
+
+  before_end : (n : ℕ) (ps : List Part) (ks : List ℕ) (end : ℕ) → AreCut context operators ps ks end → (operand_at ps ks end n).1 ≤ end
+  before_end n [] [] end c = omega arith
+  before_end n [] (k ∷ ks) end c = absurd c
+  before_end n (p ∷ ps) [] end c = absurd c
+  before_end n (p ∷ ps) (k ∷ ks) end (h, c) =
+      let before = part_ordered context operators p k end h in
+      go (is_hole p n) (let l = before_end n ps ks k c in omega arith)
+    where
+      go : (b : Bool) → (operand_at ps ks k n).1 ≤ end → (if b then (k, end) else operand_at ps ks k n).1 ≤ end
+      go true l = omega arith
+      go false l = l
+
+  -- and its code stands there
+  pub operand_stands : (n : ℕ) (ps : List Part) (ks : List ℕ) (end : ℕ) → has_hole ps n ≡ true → AreCut context operators ps ks end →
+      StandsIn operators end (operand_at ps ks end n) (operand_code operators ps ks end n)
+  unfolding Told
+  operand_stands n ps ks end e c =
+      let h : HasTreeThere context operators (operand_at ps ks end n) = subst (λ b. Told b (operand_at ps ks end n)) e (told n ps ks end c) in
+      let last : h.at + 1 ≡ (operand_at ps ks end n).1 = omega (arith, h.ends) in
+      let place = operand_at ps ks end n in
+      let there = subst (λ k. Stands operators place.0 k h.is.code) last h.is.stands in
+      record {
+        ordered = omega (arith, h.ends, h.is.ordered);
+        inside = before_end n ps ks end c;
+        stands = subst (Stands operators place.0 place.1) (sym (code_there operators place.0 place.1 h.is.code there)) there;
+      }

@@ -1,5 +1,5 @@
 -- Where the parts of a pattern stand in a body (this project).
-use Rattle.std.specs.Prelude.{◌≡◌, ℕ, suc, ◌<◌, ◌^◌, ⊤, Option, Some, None, List, [], ◌∷◌}
+use Rattle.std.specs.Prelude.{◌≡◌, ℕ, suc, ◌<◌, ◌^◌, ⊤, Bool, true, false, Option, Some, None, List, [], ◌∷◌}
 use mir.Val.{bits}
 use Rattle.wasm_code.specs.Instruction.{Instruction}
 use Rattle.wasm_code.specs.declared.operator.Operator.{Operator}
@@ -20,6 +20,11 @@ IsConstant t i n = (n < 2 ^ bits (width_of t)) × (i ≡ constant_code t n)
 abbrev pub IsStartAt : Context → List (Operator × ℕ) → (at : ℕ) → Option ℕ → Type 0
 IsStartAt context operators at (Some start) = (t : PrimitiveTypeInfo) × IsTree context operators start at t
 IsStartAt context operators at None = (start : ℕ) (t : PrimitiveTypeInfo) → ¬ (IsTree context operators start at t)
+
+-- the operator has a tree unless it is told that it has none
+abbrev pub IsTreeTold : Context → List (Operator × ℕ) → (at : ℕ) → Bool → Type 0
+IsTreeTold context operators at true = Unit {0}
+IsTreeTold context operators at false = (start : ℕ) (t : PrimitiveTypeInfo) → ¬ (IsTree context operators start at t)
 
 -- The code from `start` up to the one before `end` may be the part's: a tree in a hole, a constant of the type with some number, or the operator; nothing is
 -- a drawn constant's.

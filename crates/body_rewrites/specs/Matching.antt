@@ -15,9 +15,8 @@ use Rattle.rewrite_rules.specs.declared.pattern.Part.{Part}
 use Rattle.rewrite_rules.specs.declared.pattern.Part.TheVariants.{Hole, Constant}
 use Rattle.rewrite_rules.specs.Numbers.{constant_at}
 use Rattle.rewrite_rules.specs.declared.table.Row.{Row}
-use Rattle.rewrite_rules.specs.declared.table.TheConstants.{ROWS}
 use Rattle.rewrite_rules.specs.Line.{Line}
-use Rattle.rewrite_rules.specs.Table.{parts_for, widths_in, line_of}
+use Rattle.rewrite_rules.specs.Table.{ROWS, parts_for, widths_in, line_of}
 use Rattle.rewrite_rules.specs.Instance.{code_of}
 use Rattle.rewrite_rules.specs.Parts.{part_code, parts_code}
 use Rattle.body_rewrites.specs.declared.trees.Tree.{Tree}
@@ -91,6 +90,10 @@ abbrev pub slot_at : List (Operator × ℕ) → List Part → (starts : List ℕ
 slot_at operators (p ∷ ps) (k ∷ ks) n = if is_slot p n then number_at operators k else slot_at operators ps ks n
 slot_at operators ps ks n = 0
 
+-- those of both slots
+abbrev pub slots_told : List (Operator × ℕ) → List Part → (starts : List ℕ) → List ℕ
+slots_told operators parts starts = slot_at operators parts starts 0 ∷ slot_at operators parts starts 1 ∷ []
+
 -- ---- matches
 
 -- some code stands in the range
@@ -132,13 +135,15 @@ pub record IsMatch (context : Context) (operators : List (Operator × ℕ)) (par
   pub cut : AreCut context operators parts starts end
   pub alike : AreAlike operators x (constant_at numbers) parts starts end
 
--- so they do, with some code in the holes
+-- so they do, with the code that stands in each hole, and the numbers of both slots
 abbrev pub HasMatch : Context → List (Operator × ℕ) → List Part → (starts : List ℕ) → (end : ℕ) → (numbers : List ℕ) → Type 0
-HasMatch context operators parts starts end numbers = (x : ℕ → List Instruction) × IsMatch context operators parts starts end x numbers
+HasMatch context operators parts starts end numbers =
+    IsMatch context operators parts starts end (operand_code operators parts starts end) numbers × (numbers ≡ slots_told operators parts starts)
 
--- and with some numbers, from some operator on
+-- they do with some code and some numbers, from some operator on
 abbrev pub HasSomeMatch : Context → List (Operator × ℕ) → List Part → (end : ℕ) → Type 0
-HasSomeMatch context operators parts end = (starts numbers : List ℕ) × HasMatch context operators parts starts end numbers
+HasSomeMatch context operators parts end =
+    (starts numbers : List ℕ) × (x : ℕ → List Instruction) × IsMatch context operators parts starts end x numbers
 
 -- where the first part begins; where there is none, the end
 abbrev pub begin_of : (starts : List ℕ) → (end : ℕ) → ℕ

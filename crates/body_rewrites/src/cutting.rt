@@ -1,17 +1,18 @@
 //! Where the parts of a pattern stand in a body.
 ghost use Rattle.std.specs.Option.{option_flatten};
-ghost use Rattle.std.specs.Prelude.{◌≡◌, ◌↔◌, ℕ, List, slice_get, IsTrue, IfOk, IfSome, IfNone};
+ghost use Rattle.std.specs.Prelude.{◌≡◌, ◌↔◌, ℕ, List, slice_get, IsTrue, IfSome, IfNone};
 ghost use Rattle.wasm_code.specs.Instruction.{Instruction};
 ghost use Rattle.wasm_code.specs.declared.operator.Operator.{Operator as BodyOperator};
 ghost use Rattle.peephole_machine.specs.Values.{Context};
 ghost use Rattle.rewrite_rules.specs.Instance.{operator_code};
 ghost use Rattle.body_rewrites.specs.Trees.{AreTrees};
-ghost use Rattle.body_rewrites.specs.Cutting.{IsConstant, IsStartAt, HasPart, AreCut};
+ghost use Rattle.body_rewrites.specs.Cutting.{IsConstant, IsStartAt, IsTreeTold, HasPart, AreCut};
 
+use crate::parts::Parts;
 use crate::trees::{Tree, instr_at};
+use arrayvec::ArrayVec;
 use peephole_machine::IntegerType;
 use rewrite_rules::{Operator, Part};
-use std::alloc::{AllocError, Global};
 use wasm_code::{Imm, Instr, OperatorAndByteOffset};
 
 // The number of a constant of the type.
@@ -56,6 +57,17 @@ fn tree_start(trees: &[Option<Tree>], at: usize) -> Option<usize>
     }
 }
 
+/// Whether the operator at the index has a tree.
+pub(crate) fn has_tree(trees: &[Option<Tree>], at: usize) -> bool
+    ensures { (context : Context) (operators : List (BodyOperator × ℕ))
+        → AreTrees context operators trees.now → IsTreeTold context operators at result }
+{
+    match tree_start(trees, at) {
+        Some(_) => true,
+        None => false,
+    }
+}
+
 // Where the part's code begins that ends before `end`, where some does.
 fn part_start(
     operators: &[OperatorAndByteOffset],
@@ -88,31 +100,29 @@ fn part_start(
 }
 
 /// Where each part of a pattern begins, the last one first, in the code of a body that ends before `end`; none where it isn't there.
-/// `parts` are the pattern's in postfix, the last one first.
 ///
-/// It takes time linear in the number of parts, whatever stands in the holes. The only error is that memory was refused.
-pub fn cuts(
-    alloc: Global,
+/// It takes time linear in the number of parts, whatever stands in the holes.
+pub(crate) fn cuts(
     operators: &[OperatorAndByteOffset],
     trees: &[Option<Tree>],
-    parts: &[Part],
+    parts: &Parts<'_>,
     end: usize,
-) -> Result<Option<Vec<usize>>, AllocError>
-    ensures some { IfOk result (λ o. IfSome o (λ v. (context : Context)
+) -> Option<ArrayVec<usize, 7>>
+    ensures some { IfSome result (λ v. (context : Context)
         → AreTrees context operators.now trees.now
-        → AreCut context operators.now parts.now v.items end)) }
-    ensures none { IfOk result (λ o. IfNone o ((context : Context)
+        → AreCut context operators.now parts.now v.items end) }
+    ensures none { IfNone result ((context : Context)
         → AreTrees context operators.now trees.now → (starts : List ℕ)
-        → ¬ (AreCut context operators.now parts.now starts end))) }
+        → ¬ (AreCut context operators.now parts.now starts end)) }
 {
-    let mut starts = Vec::new(alloc);
+    let mut starts = ArrayVec::new();
     let mut at = end;
     for i in 0..parts.len() {
-        let Some(start) = part_start(operators, trees, parts[i], at) else {
-            return Ok(None);
+        let Some(start) = part_start(operators, trees, parts.at(i), at) else {
+            return None;
         };
-        starts.push(start)?;
+        starts.push(start);
         at = start;
     }
-    Ok(Some(starts))
+    Some(starts)
 }

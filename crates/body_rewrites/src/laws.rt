@@ -1,9 +1,29 @@
 //! What holds of trees and matches. A function here does nothing: its contract is the law.
 
+ghost use Rattle.std.specs.Prelude.{◌≡◌, ◌<◌, ◌^◌, ℕ, List, Contains, length};
+ghost use Rattle.rand_core.specs.Stream.{Stream};
+ghost use Rattle.wasm_code.specs.declared.operator.Operator.{Operator};
+ghost use Rattle.peephole_machine.specs.Values.{Context};
+ghost use Rattle.rewrite_rules.specs.declared.rule.Rule.{Rule};
+ghost use Rattle.body_rewrites.specs.declared.growth.Growth.{Growth};
+ghost use Rattle.body_rewrites.specs.declared.rewrite.Rewrite.{Rewrite};
+ghost use Rattle.body_rewrites.specs.Rewrites.{IsMade, asked_below};
+ghost use Rattle.body_rewrites.specs.Choice.{IsOf, IsOpen, HasOpen, Chooses, growths};
+ghost use Rattle.body_rewrites.specs.HasWords.{HasWords};
+ghost use Rattle.body_rewrites.specs.Changed.{ChangedBodiesDoAsBefore};
+ghost use Rattle.body_rewrites.specs.MadeLaws.{ChangesMayStand};
+ghost use Rattle.body_rewrites.specs.Listing.{AreThose, IsBy, OneChange};
+ghost use Rattle.body_rewrites.specs.LineChanges.{LineChangesMayStand};
 ghost use Rattle.body_rewrites.specs.Trees.{TreesLeave};
 ghost use Rattle.body_rewrites.specs.Matching.{MatchesAreTheCode, LeftsAreInstances};
 
-use rewrite_rules::laws::{parts_are_the_code, sides_are_parts};
+use crate::own_laws::own_changes_may_stand;
+use body_splices::laws::{spliced_operators_are, splices_keep_structure};
+use peephole_programs::laws::replaced_code_is_in_one_piece;
+use peephole_programs::validity::replaced_code_stays_valid;
+use rewrite_rules::laws::{
+    besides_keep_code, holes_are_told, parts_are_the_code, sides_are_parts, table_is_right,
+};
 
 /// A tree's code needs nothing from before it, and leaves its value, as an operand in a hole does.
 pub fn trees_leave()
@@ -24,3 +44,72 @@ pub fn lefts_are_instances()
     parts_are_the_code();
     sides_are_parts();
 }
+
+/// What a line of the table writes in its place may stand there.
+pub fn line_changes_may_stand()
+    ensures { LineChangesMayStand }
+{
+    table_is_right();
+    holes_are_told();
+    sides_are_parts();
+    parts_are_the_code();
+    besides_keep_code();
+}
+
+/// A body in which a change is written that may stand there does what it did, and is valid where it was.
+pub fn changed_bodies_do_as_before()
+    ensures { ChangedBodiesDoAsBefore }
+{
+    replaced_code_is_in_one_piece();
+    replaced_code_stays_valid();
+    spliced_operators_are();
+    splices_keep_structure();
+}
+
+/// What a row of the table makes for a width may stand in the place of what stood there, and it makes one thing at most.
+pub fn changes_may_stand()
+    ensures { ChangesMayStand }
+{
+    line_changes_may_stand();
+    own_changes_may_stand();
+}
+
+/// A line makes one thing at an operator at most.
+pub fn one_change()
+    ensures { OneChange }
+{
+    changes_may_stand();
+}
+
+/// Every rewrite of a body by one of the rules is chosen by three words: there is none that no words choose (`never_without`), and
+/// where it is known which growths, rules and rewrites there are, these are the words (`listed`). There are fewer than 2^64 rules and
+/// 2^32 operators.
+pub fn each_rewrite_has_words()
+    ensures never_without { (context : Context) (rules : List Rule)
+        (operators : List (Operator × ℕ)) (r : Rewrite) → length rules < 2 ^ 64
+        → length operators < 2 ^ 32 → IsBy context operators rules r
+        → ¬ (¬ (HasWords context rules operators r)) }
+    ensures listed { (context : Context) (rules : List Rule)
+        (operators : List (Operator × ℕ)) (r : Rewrite) → length rules < 2 ^ 64
+        → length operators < 2 ^ 32 → (growth : Growth) (rule : Rule) → Contains rules rule
+        → IsOf context operators growth rule r
+        → (kinds : List Growth) → AreThose (HasOpen context operators rules) growths kinds
+        → (ways : List Rule) → AreThose (IsOpen context operators growth) rules ways
+        → (places : List Rewrite)
+        → AreThose (IsOf context operators growth rule) (asked_below (length operators)) places
+        → HasWords context rules operators r }
+{}
+
+/// A generator's words choose one rewrite of a body at most.
+pub fn words_choose_one_rewrite()
+    ensures { (context : Context) (stream : Stream) (rules : List Rule)
+        (operators : List (Operator × ℕ)) (r q : Rewrite)
+        → Chooses context stream rules operators r → Chooses context stream rules operators q
+        → r ≡ q }
+{}
+
+/// Every rewrite that makes something is among those that may be asked of the body.
+pub fn rewrites_are_asked()
+    ensures { (context : Context) (operators : List (Operator × ℕ)) (r : Rewrite)
+        → IsMade context operators r → Contains (asked_below (length operators)) r }
+{}

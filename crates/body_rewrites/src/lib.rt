@@ -1,13 +1,49 @@
 //! Bodies rewritten by rules.
 #![tactic(auto)]
 
+mod asked;
+mod changes;
+mod choice;
+mod counts;
 mod cutting;
+mod differing;
+mod found;
+mod growing;
+mod growth;
+mod instructions;
 pub mod laws;
+mod line_making;
+mod listing;
+mod making;
 mod matching;
+mod own;
+pub mod own_laws;
+#[cfg(test)]
+mod own_tests;
+mod parts;
+mod places;
+mod random;
+mod rewrite;
+mod rewriting;
+mod root;
+mod roots;
+mod table;
 #[cfg(test)]
 mod tests;
 mod trees;
+mod writing;
 
-pub use cutting::cuts;
-pub use matching::{Match, find, operand};
+pub use changes::NewCode;
+pub use choice::choose;
+pub use growth::Growth;
+pub use listing::rewrites_of_body;
+pub use making::made;
+pub use own::growing::own_growth;
+pub use own::rewriting::own_code;
+pub use own::{Made, Site};
+pub use places::{Body, Line, Place, place_of};
+pub use random::{Rewritten, rewrite_at_random};
+pub use rewrite::Rewrite;
+pub use rewriting::rewrite_body;
+pub use table::Table;
 pub use trees::{Tree, trees_of};

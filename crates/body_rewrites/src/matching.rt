@@ -1,5 +1,5 @@
 //! What stands in the holes of a pattern that stands in a body, and the numbers of its constants.
-ghost use Rattle.std.specs.Prelude.{◌≡◌, ◌↔◌, ◌≤◌, ℕ, List, length, IsTrue, IfOk, IfSome, IfNone};
+ghost use Rattle.std.specs.Prelude.{◌≡◌, ◌↔◌, ◌≤◌, ℕ, List, length, IsTrue, IfSome, IfNone};
 ghost use Rattle.peephole_machine.specs.Values.{Context};
 ghost use Rattle.body_rewrites.specs.Trees.{AreTrees};
 ghost use Rattle.wasm_code.specs.declared.operator.Operator.{Operator as BodyOperator};
@@ -8,9 +8,10 @@ ghost use Rattle.body_rewrites.specs.Operands.{IsOperandOf};
 ghost use Rattle.body_rewrites.specs.Matching.{is_hole, is_slot, operand_at, operand_of, number_at, slot_at, HaveSame, HaveSameCode, HasSomePart, HasSomeCode, HasSomeCut, IsAlike, AreAllAlike, AreOwn, HasSomeTrees, HasMatch, HasSomeMatch};
 
 use crate::cutting::{cuts, tree_at};
+use crate::parts::Parts;
 use crate::trees::{Tree, instr_at};
+use arrayvec::ArrayVec;
 use rewrite_rules::{Number, Part};
-use std::alloc::{AllocError, Global};
 use wasm_code::{Imm, Instr, OperatorAndByteOffset};
 
 // Whether the part is the hole with the index.
@@ -34,13 +35,18 @@ fn is_slot(part: Part, index: u8) -> bool
 }
 
 // Where the code in the hole with the index begins, and before which operator it ends.
-fn operand_at(parts: &[Part], starts: &[usize], end: usize, index: u8) -> (usize, usize)
+pub(crate) fn operand_at(
+    parts: &Parts<'_>,
+    starts: &[usize],
+    end: usize,
+    index: u8,
+) -> (usize, usize)
     requires { length starts.now ≡ length parts.now }
     ensures { result ≡ operand_at parts.now starts.now end index }
 {
     let mut at = end;
     for i in 0..parts.len() {
-        if is_hole(parts[i], index) {
+        if is_hole(parts.at(i), index) {
             return (starts[i], at);
         }
         at = starts[i];
@@ -63,12 +69,17 @@ fn number_at(operators: &[OperatorAndByteOffset], at: usize) -> u64
 }
 
 // The number of the constant with that slot, and 0 where there is none.
-fn slot_at(operators: &[OperatorAndByteOffset], parts: &[Part], starts: &[usize], index: u8) -> u64
+fn slot_at(
+    operators: &[OperatorAndByteOffset],
+    parts: &Parts<'_>,
+    starts: &[usize],
+    index: u8,
+) -> u64
     requires { length starts.now ≡ length parts.now }
     ensures { result ≡ slot_at operators.now parts.now starts.now index }
 {
     for i in 0..parts.len() {
-        if is_slot(parts[i], index) {
+        if is_slot(parts.at(i), index) {
             return number_at(operators, starts[i]);
         }
     }
@@ -76,7 +87,7 @@ fn slot_at(operators: &[OperatorAndByteOffset], parts: &[Part], starts: &[usize]
 }
 
 // Whether both are the same instruction.
-fn are_equal(one: &Instr, other: &Instr) -> bool
+pub(crate) fn are_equal(one: &Instr, other: &Instr) -> bool
     ensures { IsTrue result ↔ (one.now ≡ other.now) }
 {
     let same_row = one.row() == other.row();
@@ -99,7 +110,11 @@ fn have_same(operators: &[OperatorAndByteOffset], at: usize, other: usize) -> bo
 }
 
 // Whether the same instructions stand in both ranges, each of which is a start and the index behind its last operator.
-fn are_same(operators: &[OperatorAndByteOffset], one: (usize, usize), other: (usize, usize)) -> bool
+pub(crate) fn are_same(
+    operators: &[OperatorAndByteOffset],
+    one: (usize, usize),
+    other: (usize, usize),
+) -> bool
     requires one { (one.0 ≤ one.1) × (one.1 ≤ length operators.now) }
     requires other { (other.0 ≤ other.1) × (other.1 ≤ length operators.now) }
     ensures same { IsTrue result → HaveSameCode operators.now one other }
@@ -118,7 +133,7 @@ fn are_same(operators: &[OperatorAndByteOffset], one: (usize, usize), other: (us
 }
 
 // The operand in the part's hole, and (0, 0) where it is none.
-fn operand_of(parts: &[Part], starts: &[usize], end: usize, part: Part) -> (usize, usize)
+fn operand_of(parts: &Parts<'_>, starts: &[usize], end: usize, part: Part) -> (usize, usize)
     requires { length starts.now ≡ length parts.now }
     ensures { result ≡ operand_of parts.now starts.now end part }
 {
@@ -126,6 +141,23 @@ fn operand_of(parts: &[Part], starts: &[usize], end: usize, part: Part) -> (usiz
         Part::Hole(index) => operand_at(parts, starts, end, index),
         _ => (0, 0),
     }
+}
+
+// Whether the same instructions stand in both ranges, in the second of which some stand.
+fn have_same_code(
+    operators: &[OperatorAndByteOffset],
+    place: (usize, usize),
+    operand: (usize, usize),
+) -> bool
+    requires place { (place.0 ≤ place.1) × (place.1 ≤ length operators.now) }
+    requires operand { HasSomeCode operators.now operand }
+    ensures same { IsTrue result → HaveSameCode operators.now place operand }
+    ensures only { HaveSameCode operators.now place operand → IsTrue result }
+{
+    if place.0 == operand.0 && place.1 == operand.1 {
+        return true;
+    }
+    are_same(operators, place, operand)
 }
 
 // Whether the part's code stands there, with that operand in a hole, and constants with these numbers.
@@ -142,7 +174,7 @@ fn is_alike(
     ensures only { IsAlike operators.now part place operand numbers.now → IsTrue result }
 {
     match part {
-        Part::Hole(_) => are_same(operators, place, operand),
+        Part::Hole(_) => have_same_code(operators, place, operand),
         Part::Constant(t, number) => number_at(operators, place.0) == number.value(t, numbers),
         _ => true,
     }
@@ -151,7 +183,7 @@ fn is_alike(
 // Whether each part's code stands where the part does.
 fn are_alike(
     operators: &[OperatorAndByteOffset],
-    parts: &[Part],
+    parts: &Parts<'_>,
     starts: &[usize],
     end: usize,
     numbers: &[u64],
@@ -162,8 +194,9 @@ fn are_alike(
 {
     let mut at = end;
     for i in 0..parts.len() {
-        let operand = operand_of(parts, starts, end, parts[i]);
-        if !is_alike(operators, parts[i], (starts[i], at), operand, numbers) {
+        let part = parts.at(i);
+        let operand = operand_of(parts, starts, end, part);
+        if !is_alike(operators, part, (starts[i], at), operand, numbers) {
             return false;
         }
         at = starts[i];
@@ -173,8 +206,8 @@ fn are_alike(
 
 /// A pattern's left side in a body: where each of its parts begins, the last one first, and the numbers of the constants with slots.
 #[derive(Drop)]
-pub struct Match {
-    pub starts: Vec<usize>,
+pub(crate) struct Match {
+    pub starts: ArrayVec<usize, 7>,
     pub numbers: [u64; 2],
 }
 
@@ -182,39 +215,38 @@ pub struct Match {
 /// with the numbers that they have; none where they don't.
 ///
 /// `trees` are the trees of the body's operators. It takes time quadratic in the number of parts, of which a side has seven at
-/// most, and linear in what stands in a hole that stands twice. The only error is that memory was refused.
-pub fn find(
-    alloc: Global,
+/// most, and linear in what stands in a hole that stands twice.
+pub(crate) fn find(
     operators: &[OperatorAndByteOffset],
     trees: &[Option<Tree>],
-    parts: &[Part],
+    parts: &Parts<'_>,
     end: usize,
-) -> Result<Option<Match>, AllocError>
+) -> Option<Match>
     requires { HasSomeTrees operators.now trees.now }
-    ensures some { IfOk result (λ o. IfSome o (λ m. (context : Context)
+    ensures some { IfSome result (λ m. (context : Context)
         → AreTrees context operators.now trees.now
-        → HasMatch context operators.now parts.now m.starts.items end m.numbers)) }
-    ensures none { IfOk result (λ o. IfNone o ((context : Context)
+        → HasMatch context operators.now parts.now m.starts.items end m.numbers) }
+    ensures none { IfNone result ((context : Context)
         → AreTrees context operators.now trees.now → AreOwn parts.now
-        → ¬ (HasSomeMatch context operators.now parts.now end))) }
+        → ¬ (HasSomeMatch context operators.now parts.now end)) }
 {
-    let Some(starts) = cuts(alloc, operators, trees, parts, end)? else {
-        return Ok(None);
+    let Some(starts) = cuts(operators, trees, parts, end) else {
+        return None;
     };
     let numbers = [
         slot_at(operators, parts, &starts, 0),
         slot_at(operators, parts, &starts, 1),
     ];
     if !are_alike(operators, parts, &starts, end, &numbers) {
-        return Ok(None);
+        return None;
     }
-    Ok(Some(Match { starts, numbers }))
+    Some(Match { starts, numbers })
 }
 
 /// The tree in the hole with the index: its type, and what its code may do; none where the pattern has no such hole.
-pub fn operand(
+pub(crate) fn operand(
     trees: &[Option<Tree>],
-    parts: &[Part],
+    parts: &Parts<'_>,
     starts: &[usize],
     end: usize,
     index: u8,

@@ -1,12 +1,10 @@
-//! The trees of a small body, and where patterns stand in it.
+//! The trees of a small body, and what rewrites by rows of the table make of small bodies.
 
-use crate::{Tree, cuts, find, operand, trees_of};
+use crate::{Body, Rewrite, Tree, rewrite_body, trees_of};
 use mutate_base::{ModuleInfo, PrimitiveTypeInfo};
-use peephole_machine::{Binary, IntegerType, Operation};
-use rewrite_rules::{Number, Operator, Part};
-use std::alloc::Global;
+use peephole_machine::IntegerType;
 use std::test::Fail;
-use wasm_code::read_body;
+use wasm_code::{Function, read_body};
 
 /// With a local of i32: `local.get 0`, `i32.const 5`, `i32.add`, `i32.const 7`, `local.tee 0`, `i32.div_u`, `drop`, `end`.
 const BODY: &[u8] = b"\x20\0\x41\x05\x6a\x41\x07\x22\0\x6e\x1a\x0b";
@@ -23,36 +21,12 @@ const TREES: [Option<(usize, bool, bool)>; 8] = [
     None,
 ];
 
-const ADD: Part = Part::Apply(Operator::Whole(Operation::Binary(IntegerType::I32, Binary::Add)));
-
-const DIVIDE: Part = Part::Apply(Operator::Whole(Operation::Binary(
-    IntegerType::I32,
-    Binary::DivU,
-)));
-
-const CONSTANT: Part = Part::Constant(IntegerType::I32, Number::Slot(0));
-
-/// The parts of a pattern, the last one first; before which operator its code ends; and where each part begins.
-type Case = ([Part; 3], usize, Option<[usize; 3]>);
-
-const CASES: [Case; 5] = [
-    ([ADD, CONSTANT, Part::Hole(0)], 3, Some([2, 1, 0])),
-    ([ADD, Part::Hole(1), Part::Hole(0)], 3, Some([2, 1, 0])),
-    ([DIVIDE, Part::Hole(1), Part::Hole(0)], 6, Some([5, 3, 0])),
-    ([DIVIDE, CONSTANT, Part::Hole(0)], 6, None),
-    ([ADD, Part::Hole(1), Part::Hole(0)], 6, None),
-];
-
-/// The trees of the body.
-fn trees(alloc: Global) -> Result<Vec<Option<Tree>>, Fail> {
-    let operators = read_body(alloc, BODY, 0, BODY.len())?;
-    let info = ModuleInfo::new(alloc, &[]);
-    Ok(trees_of(alloc, &[PrimitiveTypeInfo::I32], &info, &operators)?)
-}
-
 #[test]
 fn finds_the_tree_of_each_operator(rt: HostRuntime) -> Result<(), Fail> {
-    let found = trees(rt.alloc())?;
+    let alloc = rt.alloc();
+    let operators = read_body(alloc, BODY, 0, BODY.len())?;
+    let info = ModuleInfo::new(alloc, &[]);
+    let found = trees_of(alloc, &[PrimitiveTypeInfo::I32], &info, &operators)?;
     assert!(rt; found.len() == TREES.len());
     for (tree, wanted) in found.iter().zip(TREES.iter()) {
         let wanted = wanted.map(|(start, writes, traps)| Tree {
@@ -67,61 +41,63 @@ fn finds_the_tree_of_each_operator(rt: HostRuntime) -> Result<(), Fail> {
     Ok(())
 }
 
-#[test]
-fn cuts_code_into_the_parts_of_patterns(rt: HostRuntime) -> Result<(), Fail> {
-    let alloc = rt.alloc();
-    let operators = read_body(alloc, BODY, 0, BODY.len())?;
-    let found = trees(alloc)?;
-    for (parts, end, wanted) in CASES {
-        let starts = cuts(alloc, &operators, &found, &parts, end)?;
-        match (starts, wanted) {
-            (Some(starts), Some(wanted)) => assert!(rt; starts.as_slice() == wanted.as_slice()),
-            (None, None) => {}
-            _ => assert!(rt; false),
-        }
-    }
-    Ok(())
-}
+/// A body with two locals of i32; an operator, a row of the table, and the body with that rewrite for i32 by the word 2, or none.
+type Case = (&'static [u8], usize, usize, Option<&'static [u8]>);
 
-/// With locals of i32: `local.get 0`, `local.get 0`, `i32.add`, `local.get 1`, `i32.add`, `end`.
-const TWICE: &[u8] = b"\x20\0\x20\0\x6a\x20\x01\x6a\x0b";
+/// `local.get 0`, `i32.const 5`, `i32.add`, `drop`, `end`.
+const SUM: &[u8] = b"\x20\0\x41\x05\x6a\x1a\x0b";
 
-/// The parts of a pattern, the last one first, and before which operator its code ends; and whether it stands there.
-type Match = ([Part; 3], usize, bool);
+/// The same with the local's index in two bytes.
+const LONG_SUM: &[u8] = b"\x20\x80\0\x41\x05\x6a\x1a\x0b";
 
-const MATCHES: [Match; 3] = [
-    ([ADD, Part::Hole(0), Part::Hole(0)], 3, true),
-    ([ADD, Part::Hole(0), Part::Hole(0)], 5, false),
-    ([ADD, Part::Hole(1), Part::Hole(0)], 5, true),
+/// `local.get 0`, `local.get 0`, `i32.add`, `local.get 1`, `i32.add`, `drop`, `end`.
+const TWICE: &[u8] = b"\x20\0\x20\0\x6a\x20\x01\x6a\x1a\x0b";
+
+const CASES: [Case; 12] = [
+    // commute: add, mul
+    (SUM, 2, 0, Some(b"\x41\x05\x20\0\x6a\x1a\x0b")),
+    (LONG_SUM, 2, 0, Some(b"\x41\x05\x20\x80\0\x6a\x1a\x0b")),
+    (SUM, 2, 1, None),
+    (TWICE, 2, 0, None),
+    // associate_right: add
+    (TWICE, 4, 20, Some(b"\x20\0\x20\0\x20\x01\x6a\x6a\x1a\x0b")),
+    // add_zero
+    (SUM, 0, 25, Some(b"\x20\0\x41\0\x6a\x41\x05\x6a\x1a\x0b")),
+    // sum_to_difference
+    (SUM, 2, 38, Some(b"\x20\0\x41\x7b\x6b\x1a\x0b")),
+    // unfold
+    (SUM, 1, 42, Some(b"\x20\0\x41\x02\x41\x03\x6a\x6a\x1a\x0b")),
+    // with_nop
+    (SUM, 0, 44, Some(b"\x01\x20\0\x41\x05\x6a\x1a\x0b")),
+    // no such operator, no such row, no tree
+    (SUM, 5, 0, None),
+    (SUM, 2, 1_000, None),
+    (SUM, 3, 25, None),
 ];
 
 #[test]
-fn finds_the_same_operand_twice(rt: HostRuntime) -> Result<(), Fail> {
+fn writes_what_rows_make(rt: HostRuntime) -> Result<(), Fail> {
     let alloc = rt.alloc();
-    let operators = read_body(alloc, TWICE, 0, TWICE.len())?;
     let info = ModuleInfo::new(alloc, &[]);
     let locals = [PrimitiveTypeInfo::I32, PrimitiveTypeInfo::I32];
-    let found = trees_of(alloc, &locals, &info, &operators)?;
-    for (parts, end, wanted) in MATCHES {
-        let place = find(alloc, &operators, &found, &parts, end)?;
-        assert!(rt; place.is_some() == wanted);
-    }
-    Ok(())
-}
-
-#[test]
-fn finds_the_number_of_a_constant(rt: HostRuntime) -> Result<(), Fail> {
-    let alloc = rt.alloc();
-    let operators = read_body(alloc, BODY, 0, BODY.len())?;
-    let info = ModuleInfo::new(alloc, &[]);
-    let found = trees_of(alloc, &[PrimitiveTypeInfo::I32], &info, &operators)?;
-    let parts = [ADD, CONSTANT, Part::Hole(0)];
-    let place = find(alloc, &operators, &found, &parts, 3)?.expect(&rt, "it stands there");
-    assert!(rt; place.numbers[0] == 5);
-    if place.starts.len() == parts.len() {
-        let stands = operand(&found, &parts, &place.starts, 3, 0);
-        assert!(rt; stands.map(|tree| tree.start) == Some(0));
-        assert!(rt; operand(&found, &parts, &place.starts, 3, 1).is_none());
+    for (bytes, operator, row, wanted) in CASES {
+        let operators = read_body(alloc, bytes, 0, bytes.len())?;
+        let trees = trees_of(alloc, &locals, &info, &operators)?;
+        let body = Body {
+            info: &info,
+            locals: &locals,
+            operators: &operators,
+            trees: &trees,
+        };
+        let rewrite = Rewrite {
+            operator,
+            row,
+            width: IntegerType::I32,
+        };
+        let mut sink = Function::new(alloc);
+        let asks = rewrite_body(alloc, &body, bytes, rewrite, 2, &mut sink)?;
+        assert!(rt; asks.is_some() == wanted.is_some());
+        assert!(rt; sink.bytes() == wanted.unwrap_or(b""));
     }
     Ok(())
 }

@@ -8,11 +8,11 @@ use Rattle.body_rewrites.proofs.matching.is_alike.Goals as goal
 pub returns-in-Hole-clause-same : goal.returns-in-Hole-clause-same
 returns-in-Hole-clause-same c = λ h.
     subst (λ p. IsAlike c.args.operators.now p c.args.place c.args.operand c.args.numbers.now) (sym c.in-Hole.is)
-    (hole_alike c.args.operators.now c.args.place c.args.operand c.in-Hole.field-0 c.args.numbers.now (c.are_same.ensures.same h))
+    (hole_alike c.args.operators.now c.args.place c.args.operand c.in-Hole.field-0 c.args.numbers.now (c.have_same_code.ensures.same h))
 
 pub returns-in-Hole-clause-only : goal.returns-in-Hole-clause-only
 returns-in-Hole-clause-only c = λ h.
-    c.are_same.ensures.only (alike_hole c.args.operators.now c.args.place c.args.operand c.in-Hole.field-0 c.args.numbers.now c.requires.operand
+    c.have_same_code.ensures.only (alike_hole c.args.operators.now c.args.place c.args.operand c.in-Hole.field-0 c.args.numbers.now c.requires.operand
     (subst (λ p. IsAlike c.args.operators.now p c.args.place c.args.operand c.args.numbers.now) c.in-Hole.is h))
 
 pub returns-in-Constant-clause-same : goal.returns-in-Constant-clause-same

@@ -1,0 +1,79 @@
+-- What a line makes is one thing; and what it writes is operators of the body and new ones.
+use Rattle.std.proofs.Common.{◌≡◌, ℕ, zero, suc, ◌+◌, List, [], ◌∷◌, drop, sym, ap, subst, ◌∙◌, arith}
+use Rattle.std.specs.Prelude.{get_or}
+use Rattle.std.specs.List.{All}
+use Rattle.std.proofs.lemmas.List.Elements.{All-nil, All-cons}
+use Rattle.body_splices.specs.declared.piece.Piece.TheVariants.{Kept}
+use Rattle.body_splices.specs.Laws.{AreInstructions}
+use Rattle.peephole_machine.specs.Values.{Context}
+use Rattle.rewrite_rules.specs.declared.pattern.Part.{Part}
+use Rattle.rewrite_rules.specs.declared.pattern.Part.TheVariants.{Hole, Constant, Drawn, Apply}
+use Rattle.rewrite_rules.specs.Numbers.{constant_at}
+use Rattle.rewrite_rules.specs.Parts.{draws}
+use Rattle.rewrite_rules.specs.Table.{parts_for}
+use Rattle.body_rewrites.specs.declared.places.Line.{Line}
+use Rattle.body_rewrites.specs.declared.places.Place.{Place}
+use Rattle.body_rewrites.specs.Cutting.{AreCut}
+use Rattle.body_rewrites.specs.Changes.{Change}
+use Rattle.body_rewrites.specs.Writing.{piece_for, side_pieces, by_line}
+use Rattle.body_rewrites.specs.Places.{IsPlaceOf, left_parts, operands_told, place_told}
+use Rattle.body_rewrites.specs.Rewrites.{Differ, IsLineChange}
+use Rattle.body_rewrites.specs.Differing.{IsKept}
+use Rattle.body_rewrites.proofs.StandsLemmas.{Operators}
+use Rattle.body_rewrites.proofs.AllAlikeLemmas.{operand_has_code}
+use Rattle.body_rewrites.proofs.PlaceLemmas.{one_place_of}
+
+-- ---- one thing
+
+by_one_place : (context : Context) (operators : Operators) (line : Line) (at : ℕ) (place : Place) (change : Change) →
+    IsPlaceOf context operators line (at + 1) place → IsLineChange context operators line at change → change ≡ by_line line place
+by_one_place context operators line at place change found is =
+    is.change_is ∙ ap (by_line line) (one_place_of context operators line (at + 1) is.place place is.is found)
+
+pub one_line_change : (context : Context) (operators : Operators) (line : Line) (at : ℕ) (change other : Change) →
+    IsLineChange context operators line at change → IsLineChange context operators line at other → change ≡ other
+one_line_change context operators line at change other is also =
+    by_one_place context operators line at also.place change also.is is ∙ sym also.change_is
+
+-- where it makes something, that differs from what stands in its place
+pub differs_there : (context : Context) (operators : Operators) (line : Line) (at : ℕ) (place : Place) (change : Change) →
+    IsPlaceOf context operators line (at + 1) place → IsLineChange context operators line at change →
+    Differ operators place.start (at + 1) ((by_line line place).pieces 0)
+differs_there context operators line at place change found is =
+    subst (λ (c : Change). Differ operators c.start (at + 1) (c.pieces 0)) (by_one_place context operators line at place change found is) is.differs
+
+-- ---- what it writes
+
+pub instructions_there : (context : Context) (operators : Operators) (line : Line) (end : ℕ) (place : Place) →
+    IsPlaceOf context operators line end place → AreInstructions operators place.start end
+instructions_there context operators line end place found = record { instructions = _; stand = found.is.stands }
+
+module _ (operators : Operators) (operands : List (ℕ × ℕ)) (c : ℕ → ℕ)
+    (kept : (n : ℕ) → IsKept operators (Kept (get_or operands n (0, 0)).0 (get_or operands n (0, 0)).1)) where
+  piece_kept : (words : List ℕ) (p : Part) → IsKept operators (piece_for operands c words p)
+  piece_kept words (Hole n) = kept n
+  piece_kept words (Constant t e) = tt
+  piece_kept words (Drawn t) = tt
+  piece_kept words (Apply o) = tt
+
+  all_kept : (words : List ℕ) (ps : List Part) → All (IsKept operators) (side_pieces operands c words ps)
+  all_kept words [] = All-nil (IsKept operators)
+  all_kept words (p ∷ ps) = All-cons (IsKept operators) _ _ (piece_kept words p) (all_kept (drop (draws p) words) ps)
+
+module _ (context : Context) (operators : Operators) (parts : List Part) (starts : List ℕ) (end : ℕ) (cut : AreCut context operators parts starts end) where
+  operand_kept : (n : ℕ) →
+      IsKept operators (Kept (get_or (operands_told parts starts end) n (0, 0)).0 (get_or (operands_told parts starts end) n (0, 0)).1)
+  operand_kept zero = let (l, k, code) = operand_has_code context operators parts starts end (Hole 0) cut in (l, k)
+  operand_kept (suc zero) = let (l, k, code) = operand_has_code context operators parts starts end (Hole 1) cut in (l, k)
+  operand_kept (suc (suc zero)) = let (l, k, code) = operand_has_code context operators parts starts end (Hole 2) cut in (l, k)
+  operand_kept (suc (suc (suc n))) = (omega arith, omega arith)
+
+pub line_pieces_kept : (context : Context) (operators : Operators) (line : Line) (end : ℕ) (place : Place) (word : ℕ) →
+    IsPlaceOf context operators line end place → All (IsKept operators) ((by_line line place).pieces word)
+line_pieces_kept context operators line end place word found =
+    subst (λ (p : Place). All (IsKept operators) ((by_line line p).pieces word)) (sym found.place_is)
+    (all_kept operators told.operands (constant_at told.numbers) (operand_kept context operators (left_parts line) found.starts end found.cut) (word ∷ [])
+    (parts_for line.width line.row.right))
+  where
+    told : Place
+    told = place_told operators (left_parts line) found.starts end

@@ -1,0 +1,171 @@
+-- The rewrites of a body, as they are listed.
+use Rattle.std.proofs.Common.{◌≡◌, ℕ, suc, ◌+◌, ◌<◌, ◌≤◌, ◌⊎◌, inl, inr, Bool, true, false, cond, List, [], ◌∷◌, ◌++◌, length, map, take, get_or, Option, Some, None, refl, sym, ap, ap₂, subst, ◌∙◌, arith, append-nil, append_assoc}
+use Rattle.std.specs.Prelude.{Contains, Result, Ok, Err, OnOk, slice_get, ◌==◌, if◌then◌else◌}
+use Rattle.std.specs.List.{filter}
+use Rattle.std.proofs.lemmas.Bool.{eqb-true, eq-eqb, false≢true}
+use Rattle.std.proofs.lemmas.List.{take_more, length-take-le, map-append}
+use Rattle.std.proofs.lemmas.List.Elements.{filter_more}
+use Rattle.std.proofs.lemmas.Option.{get_or_from_slice_get, slice_get_within, same_Some}
+use Rattle.wasm_code.specs.declared.operator.Operator.{Operator}
+use Rattle.peephole_machine.specs.declared.integer.IntegerType.{IntegerType}
+use Rattle.peephole_machine.specs.Values.{Context}
+use Rattle.rewrite_rules.specs.declared.rule.Rule.{Rule}
+use Rattle.rewrite_rules.specs.declared.table.Row.{Row}
+use Rattle.rewrite_rules.specs.Rule.{rule_number}
+use Rattle.rewrite_rules.specs.Table.{ROWS}
+use Rattle.body_rewrites.specs.declared.found.Found.{Found}
+use Rattle.body_rewrites.specs.declared.growth.Growth.{Growth}
+use Rattle.body_rewrites.specs.declared.places.Line.{Line}
+use Rattle.body_rewrites.specs.declared.rewrite.Rewrite.{Rewrite}
+use Rattle.body_rewrites.specs.Changes.{Change}
+use Rattle.body_rewrites.specs.Rewrites.{Makes, IsAsked, IsMade, asked_widths, by_rows, asked_below, growth_of}
+use Rattle.body_rewrites.specs.Listing.{AreThose, IsBy, HasGrowth, OneChange, found_as, AreFound, AddsFound, passing, widths_told, AreRules, has_number, has_some, is_by}
+use Rattle.body_rewrites.proofs.ThoseLemmas.{head_contained, tail_contained, contained_cases, those_append}
+
+-- what is known of an answer
+pub on_ok : {X E : Type 0} {P Q : Type 0} (r : Result X E) → (P → Q) → OnOk r P → OnOk r Q
+on_ok (Ok x) f h = f h
+on_ok (Err e) f h = h
+
+-- ---- lines
+
+-- a row has one line for a width
+line_one : (number : ℕ) (line other : Line) → slice_get ROWS number ≡ Some line.row → slice_get ROWS number ≡ Some other.row → line.width ≡ other.width →
+    line ≡ other
+line_one number line other a b e =
+    ap₂ (λ (row : Row) (width : IntegerType). let made : Line = record { row = row; width = width } in made) (same_Some line.row other.row (sym a ∙ b)) e
+
+-- the rewrite of an operator by a line of the row with the number
+abbrev pub rewrite_by : (at number : ℕ) → Line → Rewrite
+rewrite_by at number line = record { operator = at; row = number; width = line.width }
+
+module _ (context : Context) (operators : List (Operator × ℕ)) where
+  pub line_nothing : (at number : ℕ) (line : Line) → IsAsked number line → ((change : Change) → Makes context operators line at change → ⊥) →
+      IsMade context operators (rewrite_by at number line) → ⊥
+  line_nothing at number line asked none (change, made) =
+      none change (subst (λ (l : Line). Makes context operators l at change) (line_one number made.line line made.asked.row_is asked.row_is made.width_is)
+      made.makes)
+
+  -- a rewrite does one thing to the number of operators
+  pub growth_one : OneChange → (r : Rewrite) (kind other : Growth) → HasGrowth context operators kind r → HasGrowth context operators other r →
+      kind ≡ other
+  growth_one one r kind other a b =
+      let same = line_one r.row a.made.line b.made.line a.made.asked.row_is b.made.asked.row_is (a.made.width_is ∙ sym b.made.width_is) in
+      let changes = one context operators b.made.line r.operator a.change b.change
+      (subst (λ (l : Line). Makes context operators l r.operator a.change) same a.made.makes) b.made.makes in
+      sym a.growth_is ∙ ap (λ (c : Change). growth_of operators r.operator c) changes ∙ b.growth_is
+
+  -- ---- what is found
+
+  found_append : (xs ys : List Rewrite) (us vs : List Found) → AreFound context operators xs us → AreFound context operators ys vs →
+      AreFound context operators (xs ++ ys) (us ++ vs)
+  found_append [] ys us vs e more = subst (λ zs. AreFound context operators ys (zs ++ vs)) (sym e) more
+  found_append (x ∷ xs) ys us vs (inl (kind, has, rest, e, are)) more =
+      inl (kind, has, rest ++ vs, ap (λ zs. zs ++ vs) e, found_append xs ys rest vs are more)
+  found_append (x ∷ xs) ys us vs (inr (never, are)) more = inr (never, found_append xs ys us vs are more)
+
+  pub adds_more : (xs ys : List Rewrite) (old mid new : List Found) → AddsFound context operators xs old mid → AddsFound context operators ys mid new →
+      AddsFound context operators (xs ++ ys) old new
+  adds_more xs ys old mid new a b = record {
+    more = a.more ++ b.more;
+    are = found_append xs ys a.more b.more a.are b.are;
+    new_is = b.new_is ∙ ap (λ zs. zs ++ b.more) a.new_is ∙ append_assoc old a.more b.more;
+  }
+
+  pub adds_nothing : (r : Rewrite) (old : List Found) → (IsMade context operators r → ⊥) → AddsFound context operators (r ∷ []) old old
+  adds_nothing r old never = record { more = []; are = inr (never, refl); new_is = sym (append-nil old) }
+
+  pub found_few : (items : List Rewrite) (found : List Found) → AreFound context operators items found → length found ≤ length items
+  found_few [] found e = let none = ap length e in omega arith
+  found_few (x ∷ xs) found (inl (kind, has, rest, e, are)) = let size = ap length e in let l = found_few xs rest are in omega arith
+  found_few (x ∷ xs) found (inr (never, are)) = let l = found_few xs found are in omega arith
+
+  -- those that pass a test are those with the property that it decides
+  module _ (P : Rewrite → Type 0) (test : Found → Bool) (made : (r : Rewrite) → P r → IsMade context operators r)
+      (to : (r : Rewrite) (kind : Growth) → HasGrowth context operators kind r → test (found_as r kind) ≡ true → P r)
+      (from : (r : Rewrite) (kind : Growth) → HasGrowth context operators kind r → P r → test (found_as r kind) ≡ true) where
+    tested : (r : Rewrite) (kind : Growth) → HasGrowth context operators kind r → (rs : List Rewrite) (rest : List Found) →
+        AreThose P rs (passing test rest) → (b : Bool) → test (found_as r kind) ≡ b →
+        AreThose P (r ∷ rs) (map (λ (f : Found). f.rewrite) (cond b (found_as r kind ∷ filter test rest) (filter test rest)))
+    tested r kind has rs rest are true e = inl (to r kind has e, passing test rest, refl, are)
+    tested r kind has rs rest are false e = inr (λ p. false≢true (sym e ∙ from r kind has p), are)
+
+    pub found_passing : (items : List Rewrite) (found : List Found) → AreFound context operators items found → AreThose P items (passing test found)
+    found_passing [] found e = ap (λ zs. passing test zs) e
+    found_passing (r ∷ rs) found (inl (kind, has, rest, e, are)) =
+        subst (λ zs. AreThose P (r ∷ rs) (passing test zs)) (sym e)
+        (tested r kind has rs rest (found_passing rs rest are) (test (found_as r kind)) refl)
+    found_passing (r ∷ rs) found (inr (never, are)) = inr (λ p. never (made r p), found_passing rs found are)
+
+-- the ones that pass, one more
+pub passing_more : (test : Found → Bool) (found : List Found) (i : ℕ) (d : Found) → i < length found → (b : Bool) → test (get_or found i d) ≡ b →
+    passing test (take (i + 1) found) ≡ passing test (take i found) ++ cond b ((get_or found i d).rewrite ∷ []) []
+passing_more test found i d l b e =
+    ap (map (λ (f : Found). f.rewrite)) (filter_more test found i d l)
+    ∙ map-append (λ (f : Found). f.rewrite) (filter test (take i found)) (cond (test (get_or found i d)) (get_or found i d ∷ []) [])
+    ∙ ap (λ c. passing test (take i found) ++ map (λ (f : Found). f.rewrite) (cond c (get_or found i d ∷ []) [])) e
+    ∙ ap (λ zs. passing test (take i found) ++ zs) (shown b)
+  where
+    shown : (c : Bool) → map (λ (f : Found). f.rewrite) (cond c (get_or found i d ∷ []) []) ≡ cond c ((get_or found i d).rewrite ∷ []) []
+    shown true = refl
+    shown false = refl
+
+-- ---- what is asked
+
+pub asked_more : (at : ℕ) → asked_below (at + 1) ≡ asked_below at ++ by_rows at 0 ROWS
+asked_more at = let e : at + 1 ≡ suc at = omega arith in ap asked_below e
+
+-- ---- of which rules they are
+
+number_cases : (n m : ℕ) (b : Bool) → (n == m) ≡ b → (rest : Bool) → (if n == m then true else rest) ≡ true → (n ≡ m) ⊎ (rest ≡ true)
+number_cases n m true e rest h = inl (eqb-true n m e)
+number_cases n m false e rest h = inr (ap (λ c. if c then true else rest) (sym e) ∙ h)
+
+is_number : (n m : ℕ) (rest : Bool) → n ≡ m → (if n == m then true else rest) ≡ true
+is_number n m rest e = ap (λ c. if c then true else rest) (eq-eqb n m e)
+
+is_other : (n m : ℕ) (b rest : Bool) → (n == m) ≡ b → rest ≡ true → (if n == m then true else rest) ≡ true
+is_other n m true rest e h = ap (λ c. if c then true else rest) e
+is_other n m false rest e h = ap (λ c. if c then true else rest) e ∙ h
+
+pub has_number_of : (rules : List Rule) (n : ℕ) → has_number rules n ≡ true → (rule : Rule) × Contains rules rule × (rule_number rule ≡ n)
+has_number_of [] n h = absurd (false≢true h)
+has_number_of (rule ∷ rules) n h = elim (number_cases (rule_number rule) n (rule_number rule == n) refl (has_number rules n) h) [
+  | inl same ↦ (rule, head_contained rule rules, same)
+  | inr more ↦ let (other, among, is) = has_number_of rules n more in (other, tail_contained rule rules other among, is)
+]
+
+pub number_had : (rules : List Rule) (n : ℕ) (rule : Rule) → Contains rules rule → rule_number rule ≡ n → has_number rules n ≡ true
+number_had [] n rule h e = absurd (let l : h.0 < 0 = h.1 in omega arith)
+number_had (x ∷ rules) n rule h e = elim (contained_cases x rules rule h) [
+  | inl same ↦ is_number (rule_number x) n (has_number rules n) (ap rule_number same ∙ e)
+  | inr c ↦ is_other (rule_number x) n (rule_number x == n) (has_number rules n) refl (number_had rules n rule c e)
+]
+
+pub none_had : (rules : List Rule) (n : ℕ) (b : Bool) → has_number rules n ≡ b → ((rule : Rule) → Contains rules rule → rule_number rule ≡ n → ⊥) → false ≡ b
+none_had rules n true h none = let (rule, among, is) = has_number_of rules n h in absurd (none rule among is)
+none_had rules n false h none = refl
+
+module _ (context : Context) (operators : List (Operator × ℕ)) (rows : List ℕ) (are : AreRules rows) (rules : List Rule) where
+  some_of_rule : (o : Option ℕ) → has_some rules o ≡ true → (rule : Rule) × Contains rules rule × (o ≡ Some (rule_number rule))
+  some_of_rule None h = absurd (false≢true h)
+  some_of_rule (Some n) h = let (rule, among, is) = has_number_of rules n h in (rule, among, ap (λ k. Some k) (sym is))
+
+  is_by_to : (r : Rewrite) (kind : Growth) → HasGrowth context operators kind r → is_by rows rules (found_as r kind) ≡ true → IsBy context operators rules r
+  is_by_to r kind has e =
+      let (rule, among, is) = some_of_rule (slice_get rows r.row) e in
+      ((has.change, has.made), (rule, among, sym (are r.row) ∙ is))
+
+  is_by_from : (r : Rewrite) (kind : Growth) → HasGrowth context operators kind r → IsBy context operators rules r → is_by rows rules (found_as r kind) ≡ true
+  is_by_from r kind has p =
+      let (rule, among, is) = p.1 in
+      ap (has_some rules) (are r.row ∙ is) ∙ number_had rules (rule_number rule) rule among refl
+
+  -- those by the rules, of one operator more
+  pub by_more : (at : ℕ) (list : List Rewrite) (found : List Found) → AreThose (IsBy context operators rules) (asked_below at) list →
+      AreFound context operators (by_rows at 0 ROWS) found →
+      AreThose (IsBy context operators rules) (asked_below (at + 1)) (list ++ passing (is_by rows rules) found)
+  by_more at list found are_before are_here =
+      subst (λ items. AreThose (IsBy context operators rules) items (list ++ passing (is_by rows rules) found)) (sym (asked_more at))
+      (those_append (IsBy context operators rules) (asked_below at) (by_rows at 0 ROWS) list (passing (is_by rows rules) found) are_before
+      (found_passing context operators (IsBy context operators rules) (is_by rows rules) (λ r p. p.0) is_by_to is_by_from (by_rows at 0 ROWS) found are_here))

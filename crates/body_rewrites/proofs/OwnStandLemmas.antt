@@ -1,0 +1,164 @@
+-- What a rule beside the table makes may stand in the place of what it rewrites.
+use Rattle.std.proofs.Common.{◌≡◌, ℕ, ◌+◌, ◌-◌, ◌≤◌, ◌<◌, List, [], ◌∷◌, ◌++◌, length, map, take, drop, refl, sym, ap, subst, ◌∙◌, arith}
+use Rattle.std.specs.Prelude.{slice_range}
+use Rattle.std.specs.List.{All}
+use Rattle.std.proofs.lemmas.List.{drop-map, take-map, append-nil}
+use Rattle.std.proofs.lemmas.List.Elements.{All-nil, All-cons}
+use Rattle.body_splices.specs.declared.piece.Piece.TheVariants.{Kept, New}
+use Rattle.wasm_code.specs.Instruction.{Instruction}
+use Rattle.wasm_code.specs.declared.operator.Operator.{Operator}
+use Rattle.wasm_code.specs.declared.operator.Operator.TheVariants.{Instr}
+use Rattle.body_splices.specs.OwnBytes.{without_offsets}
+use Rattle.body_splices.specs.Splice.{IsPieceIn}
+use Rattle.body_splices.specs.Laws.{pieces_operators, KeepsInstructions}
+use Rattle.peephole_machine.specs.Values.{Context}
+use Rattle.rewrite_rules.specs.declared.pattern.Operator.TheVariants.{Whole}
+use Rattle.rewrite_rules.specs.Instance.{constant_code, operator_code}
+use Rattle.rewrite_rules.specs.Beside.{StandsWith, BesidesKeepCode, nop_code, drop_code, get_local, set_local, tee_local, get_global, set_global, constants, sum_code}
+use Rattle.rewrite_rules.specs.declared.table.Own.{Own}
+use Rattle.rewrite_rules.specs.declared.table.Own.TheVariants.{Unfold, ThroughGlobal, WithNop, Fold, Forget, TeeToSet, DropNop, SetToTee}
+use Rattle.body_rewrites.specs.declared.own.Made.{Made}
+use Rattle.body_rewrites.specs.declared.own.Made.TheVariants as made
+use Rattle.body_rewrites.specs.Trees.{Stands}
+use Rattle.body_rewrites.specs.Open.{HasInstruction}
+use Rattle.body_rewrites.specs.Matching.{instructions}
+use Rattle.body_rewrites.specs.Changes.{Change, pieces_code, MayStand}
+use Rattle.body_rewrites.specs.Own.{Rewrites, new, made_pieces, made_asks, change_of, IsOwnChange}
+use Rattle.body_rewrites.proofs.StandsLemmas.{Operators, stands_nothing, stands_snoc}
+use Rattle.body_rewrites.proofs.LeavesLemmas.{trees_leave}
+
+-- ---- what is written
+
+abbrev instr_of : Instruction → Operator
+instr_of i = Instr i
+
+read_back : (code : List Instruction) (os : List Operator) → instructions (map instr_of code ++ os) ≡ code ++ instructions os
+read_back [] os = refl
+read_back (i ∷ code) os = ap (λ is. i ∷ is) (read_back code os)
+
+new_read : (os : List Operator) (code : List Instruction) → instructions (pieces_operators os (new code)) ≡ code
+new_read os [] = refl
+new_read os (i ∷ code) = ap (λ is. i ∷ is) (new_read os code)
+
+new_within : (operators : Operators) (code : List Instruction) → All (IsPieceIn operators) (new code)
+new_within operators [] = All-nil (IsPieceIn operators)
+new_within operators (i ∷ code) = All-cons (IsPieceIn operators) (New i) (new code) tt (new_within operators code)
+
+new_keep : (operators : Operators) (code : List Instruction) → All (KeepsInstructions operators) (new code)
+new_keep operators [] = All-nil (KeepsInstructions operators)
+new_keep operators (i ∷ code) = All-cons (KeepsInstructions operators) (New i) (new code) tt (new_keep operators code)
+
+-- the operators that are kept
+kept_are : (operators : Operators) (start end : ℕ) (code : List Instruction) → Stands operators start end code →
+    slice_range (without_offsets operators) start end ≡ map instr_of code
+kept_are operators start end code h =
+    ap (take (end - start)) (drop-map (λ (o : Operator × ℕ). o.0) start operators)
+    ∙ (take-map (λ (o : Operator × ℕ). o.0) (end - start) (drop start operators) ∙ h)
+
+-- the code that is made of this code
+abbrev made_code : (old : List Instruction) → Made → (word : ℕ) → List Instruction
+made_code old made.Nothing word = []
+made_code old (made.Constant t n) word = constant_code t n ∷ []
+made_code old (made.Sum t n) word = sum_code t n word
+made_code old made.Nop word = nop_code ∷ old
+made_code old (made.Global t g) word = old ++ set_global g ∷ get_global g ∷ []
+made_code old (made.SetAndGet n) word = set_local n ∷ get_local n ∷ []
+made_code old (made.Tee n) word = tee_local n ∷ []
+
+module _ (operators : Operators) (start at : ℕ) (old : List Instruction) (ordered : start ≤ at) (stands : Stands operators start (at + 1) old) where
+  kept_back : (os : List Operator) → instructions (slice_range (without_offsets operators) start (at + 1) ++ os) ≡ old ++ instructions os
+  kept_back os = ap (λ l. instructions (l ++ os)) (kept_are operators start (at + 1) old stands) ∙ read_back old os
+
+  written_is : (m : Made) (word : ℕ) → pieces_code operators (made_pieces start at m word) ≡ made_code old m word
+  written_is made.Nothing word = refl
+  written_is (made.Constant t n) word = refl
+  written_is (made.Sum t n) word = refl
+  written_is made.Nop word = ap (λ is. nop_code ∷ is) (kept_back [] ∙ append-nil old)
+  written_is (made.Global t g) word =
+      kept_back (pieces_operators (without_offsets operators) (new (set_global g ∷ get_global g ∷ [])))
+  written_is (made.SetAndGet n) word = refl
+  written_is (made.Tee n) word = refl
+
+  within_is : (m : Made) (word : ℕ) → at + 1 < length operators → All (IsPieceIn operators) (made_pieces start at m word)
+  within_is made.Nothing word l = All-nil (IsPieceIn operators)
+  within_is (made.Constant t n) word l = new_within operators (constant_code t n ∷ [])
+  within_is (made.Sum t n) word l = new_within operators (sum_code t n word)
+  within_is made.Nop word l =
+      All-cons (IsPieceIn operators) (New nop_code) (Kept start (at + 1) ∷ []) tt
+      (All-cons (IsPieceIn operators) (Kept start (at + 1)) [] (record { ordered = omega arith; inside = l }) (All-nil (IsPieceIn operators)))
+  within_is (made.Global t g) word l =
+      All-cons (IsPieceIn operators) (Kept start (at + 1)) (new (set_global g ∷ get_global g ∷ [])) (record { ordered = omega arith; inside = l })
+      (new_within operators (set_global g ∷ get_global g ∷ []))
+  within_is (made.SetAndGet n) word l = new_within operators (set_local n ∷ get_local n ∷ [])
+  within_is (made.Tee n) word l = new_within operators (tee_local n ∷ [])
+
+  keep_is : (m : Made) (word : ℕ) → All (KeepsInstructions operators) (made_pieces start at m word)
+  keep_is made.Nothing word = All-nil (KeepsInstructions operators)
+  keep_is (made.Constant t n) word = new_keep operators (constant_code t n ∷ [])
+  keep_is (made.Sum t n) word = new_keep operators (sum_code t n word)
+  keep_is made.Nop word =
+      All-cons (KeepsInstructions operators) (New nop_code) (Kept start (at + 1) ∷ []) tt
+      (All-cons (KeepsInstructions operators) (Kept start (at + 1)) [] (record { instructions = old; stand = stands }) (All-nil (KeepsInstructions operators)))
+  keep_is (made.Global t g) word =
+      All-cons (KeepsInstructions operators) (Kept start (at + 1)) (new (set_global g ∷ get_global g ∷ [])) (record { instructions = old; stand = stands })
+      (new_keep operators (set_global g ∷ get_global g ∷ []))
+  keep_is (made.SetAndGet n) word = new_keep operators (set_local n ∷ get_local n ∷ [])
+  keep_is (made.Tee n) word = new_keep operators (tee_local n ∷ [])
+
+  made_stands : (context : Context) (m : Made) → ((word : ℕ) → StandsWith context (made_asks m) old (made_code old m word)) →
+      MayStand context operators at (change_of at (record { start = start; made = m }))
+  made_stands context m same = record {
+    ordered = ordered;
+    old = old;
+    stands = stands;
+    within = within_is m;
+    keep = keep_is m;
+    same = λ word. subst (StandsWith context (made_asks m) old) (sym (written_is m word)) (same word);
+  }
+
+-- ---- what is rewritten
+
+pub one_here : (operators : Operators) (at : ℕ) (i : Instruction) → HasInstruction operators at i → Stands operators at (at + 1) (i ∷ [])
+one_here operators at i h = stands_snoc operators at at [] i (omega arith) h (stands_nothing operators at)
+
+module _ (laws : BesidesKeepCode) (context : Context) (operators : Operators) (at : ℕ) where
+  abbrev Stand : ℕ → Made → Type 0
+  Stand start m = MayStand context operators at (change_of at (record { start = start; made = m }))
+
+  -- what is made of the one instruction at the operator
+  of_one : (start : ℕ) (i : Instruction) (m : Made) → start ≡ at → HasInstruction operators at i →
+      ((word : ℕ) → StandsWith context (made_asks m) (i ∷ []) (made_code (i ∷ []) m word)) → Stand start m
+  of_one start i m e h same =
+      subst (λ s. Stand s m) (sym e) (made_stands operators at at (i ∷ []) (omega arith) (one_here operators at i h) context m same)
+
+  stand_at : (own : Own) (start : ℕ) (m : Made) → Rewrites context operators own start at m → Stand start m
+  stand_at Unfold start (made.Sum t n) (e, c) = of_one start (constant_code t n) (made.Sum t n) e c.has (laws.as_a_sum context t n)
+  stand_at ThroughGlobal start (made.Global t g) (tree, number, e, small) =
+      made_stands operators start at tree.code tree.ordered tree.stands context (made.Global t g) (λ word.
+      subst (λ k. StandsWith context (t ∷ []) tree.code (tree.code ++ set_global k ∷ get_global k ∷ [])) (sym e)
+      (laws.through_global context t tree.code (trees_leave context operators start at t tree)))
+  stand_at WithNop start made.Nop (t, tree) =
+      made_stands operators start at tree.code tree.ordered tree.stands context made.Nop (λ word. laws.with_nop context tree.code)
+  stand_at Fold start (made.Constant t n) f =
+      let ends = f.ends in
+      made_stands operators start at (constants f.operands ++ operator_code (Whole f.operation) ∷ []) (omega arith) f.stands context (made.Constant t n)
+      (λ word. subst (λ u. StandsWith context [] (constants f.operands ++ operator_code (Whole f.operation) ∷ []) (constant_code u n ∷ [])) f.type_is
+      (laws.fold context f.operation f.operands n f.typed f.value_is))
+  stand_at Forget start made.Nothing f =
+      let ends = f.ends in
+      let ordered = f.tree.ordered in
+      made_stands operators start at (f.tree.code ++ drop_code ∷ []) (omega arith)
+      (stands_snoc operators start at f.tree.code drop_code (omega arith) f.dropped (subst (λ e. Stands operators start e f.tree.code) ends f.tree.stands))
+      context made.Nothing
+      (λ word. laws.forget context f.type f.tree.code (trees_leave context operators start f.last f.type f.tree) f.reads f.returns)
+  stand_at TeeToSet start (made.SetAndGet n) (e, h) = of_one start (tee_local n) (made.SetAndGet n) e h (λ word. laws.tee_to_set context n)
+  stand_at DropNop start made.Nothing (e, h) = of_one start nop_code made.Nothing e h (λ word. laws.drop_nop context)
+  stand_at SetToTee start (made.Tee n) (e, h, g) =
+      made_stands operators start at (set_local n ∷ get_local n ∷ []) (omega arith)
+      (stands_snoc operators start at (set_local n ∷ []) (get_local n) (omega arith) g
+      (subst (λ k. Stands operators start k (set_local n ∷ [])) e (one_here operators start (set_local n) h)))
+      context (made.Tee n) (λ word. laws.set_to_tee context n)
+  stand_at own start m r = absurd r
+
+  pub stand : (own : Own) (change : Change) → IsOwnChange context operators own at change → MayStand context operators at change
+  stand own change is = subst (MayStand context operators at) (sym is.is) (stand_at own is.site.start is.site.made is.rewrites)

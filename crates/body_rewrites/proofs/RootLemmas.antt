@@ -1,0 +1,123 @@
+-- What stands at an operator where a line applies.
+use Rattle.std.proofs.Common.{◌≡◌, ℕ, suc, ◌+◌, ◌≤◌, Bool, true, false, List, [], ◌∷◌, refl, subst, arith}
+use Rattle.std.specs.Prelude.{◌&&◌, nat_le, nat_lt, if◌then◌else◌}
+use Rattle.std.proofs.lemmas.Bool.{le-leb, leb-true}
+use Rattle.wasm_code.specs.Instruction.{Instruction}
+use Rattle.mutate_base.specs.declared.types.PrimitiveTypeInfo.{PrimitiveTypeInfo}
+use Rattle.peephole_machine.specs.declared.integer.IntegerType.TheVariants as integer
+use Rattle.peephole_machine.specs.Values.{Context}
+use Rattle.rewrite_rules.specs.declared.pattern.Part.{Part}
+use Rattle.rewrite_rules.specs.declared.pattern.Part.TheVariants.{Hole, Constant, Drawn, Apply}
+use Rattle.rewrite_rules.specs.declared.pattern.Operator.TheVariants.{Whole}
+use Rattle.rewrite_rules.specs.declared.table.Own as own_rules
+use Rattle.rewrite_rules.specs.declared.table.Own.TheVariants.{Unfold, ThroughGlobal, WithNop, Fold, Forget, TeeToSet, DropNop, SetToTee}
+use Rattle.rewrite_rules.specs.declared.table.Widths.{Widths}
+use Rattle.rewrite_rules.specs.declared.table.Widths.TheVariants.{Both, Only, Any, Own}
+use Rattle.rewrite_rules.specs.Instance.{row_number, constant_code, operator_code}
+use Rattle.rewrite_rules.specs.Beside.{nop_code, drop_code, get_local, tee_local}
+use Rattle.body_rewrites.specs.declared.own.Made.{Made}
+use Rattle.body_rewrites.specs.declared.own.Made.TheVariants as made
+use Rattle.body_rewrites.specs.declared.places.Line.{Line}
+use Rattle.body_rewrites.specs.declared.root.Root.{Root}
+use Rattle.body_rewrites.specs.declared.root.Root.TheVariants.{Classes, Tree, Any as Anything}
+use Rattle.body_rewrites.specs.Changes.{Change}
+use Rattle.body_rewrites.specs.Cutting.{IsTreeTold, HasPart, AreCut}
+use Rattle.body_rewrites.specs.Open.{HasInstruction}
+use Rattle.body_rewrites.specs.Own.{Rewrites}
+use Rattle.body_rewrites.specs.Places.{left_parts}
+use Rattle.body_rewrites.specs.Rewrites.{MakesBy, Makes, IsLineChange}
+use Rattle.body_rewrites.specs.Roots.{class_of, IsClassAt, part_root, first_root, own_root, root_by, root_of, HasRoot, fits}
+use Rattle.body_rewrites.specs.Trees.{IsTree}
+use Rattle.body_rewrites.proofs.StandsLemmas.{Operators}
+use Rattle.body_rewrites.proofs.OperationCodeLemmas.{operation_class}
+use Rattle.body_rewrites.proofs.OwnAloneLemmas.{folded_at}
+
+class_small : (row : ℕ) → class_of row ≤ 168
+class_small row = go (nat_lt row 168) refl
+  where
+    go : (b : Bool) → nat_lt row 168 ≡ b → (if b then row else 168) ≤ 168
+    go true e = let l = leb-true (suc row) 168 e in omega arith
+    go false e = omega arith
+
+module _ (context : Context) (operators : Operators) (at : ℕ) where
+  -- ---- a line
+
+  tree_ends : (start : ℕ) (last : ℕ) (t : PrimitiveTypeInfo) → at + 1 ≡ suc last → IsTree context operators start last t → HasRoot context operators at Tree
+  tree_ends start last t ends tree =
+      let same : last ≡ at = omega arith in
+      (start, t, subst (λ n. IsTree context operators start n t) same tree)
+
+  stands_here : (k : ℕ) (i : Instruction) → at + 1 ≡ suc k → HasInstruction operators k i → HasInstruction operators at i
+  stands_here k i ends has =
+      let same : k ≡ at = omega arith in
+      subst (λ n. HasInstruction operators n i) same has
+
+  part_at : (p : Part) (k : ℕ) → HasPart context operators p k (at + 1) → HasRoot context operators at (part_root p)
+  part_at (Hole n) k (last, t, ends, tree) = tree_ends k last t ends tree
+  part_at (Constant integer.I32 e) k (n, i, ends, has, (small, is)) = (
+    constant_code integer.I32 n,
+    subst (HasInstruction operators at) is (stands_here k i ends has),
+    omega arith,
+    omega arith,
+  )
+  part_at (Constant integer.I64 e) k (n, i, ends, has, (small, is)) = (
+    constant_code integer.I64 n,
+    subst (HasInstruction operators at) is (stands_here k i ends has),
+    omega arith,
+    omega arith,
+  )
+  part_at (Drawn t) k h = absurd h
+  part_at (Apply o) k (ends, has) = (operator_code o, stands_here k (operator_code o) ends has, omega arith, omega arith)
+
+  first_at : (ps : List Part) (ks : List ℕ) → AreCut context operators ps ks (at + 1) → HasRoot context operators at (first_root ps)
+  first_at [] ks c = tt
+  first_at (p ∷ ps) [] c = absurd c
+  first_at (p ∷ ps) (k ∷ ks) (h, c) = part_at p k h
+
+  line_at : (line : Line) (change : Change) → IsLineChange context operators line at change → HasRoot context operators at (first_root (left_parts line))
+  line_at line change h = first_at (left_parts line) h.is.starts h.is.cut
+
+  -- ---- a rule beside the table
+
+  own_at : (own : own_rules.Own) (start : ℕ) (m : Made) → Rewrites context operators own start at m → HasRoot context operators at (own_root own)
+  own_at Unfold start (made.Sum integer.I32 n) (e, h) = (constant_code integer.I32 n, h.has, omega arith, omega arith)
+  own_at Unfold start (made.Sum integer.I64 n) (e, h) = (constant_code integer.I64 n, h.has, omega arith, omega arith)
+  own_at ThroughGlobal start (made.Global t g) (tree, number, first, few) = (start, t, tree)
+  own_at WithNop start made.Nop (t, tree) = (start, t, tree)
+  own_at Fold start (made.Constant t n) f =
+      (operator_code (Whole f.operation), folded_at operators start at t n f, operation_class f.operation, class_small (row_number (Whole f.operation)))
+  own_at Forget start made.Nothing h = (drop_code, h.dropped, omega arith, omega arith)
+  own_at TeeToSet start (made.SetAndGet n) (e, h) = (tee_local n, h, omega arith, omega arith)
+  own_at DropNop start made.Nothing (e, h) = (nop_code, h, omega arith, omega arith)
+  own_at SetToTee start (made.Tee n) (e, h, g) = (get_local n, g, omega arith, omega arith)
+  own_at own start m h = absurd h
+
+  -- ---- what makes something has its root there
+
+  makes_by : (line : Line) (change : Change) (widths : Widths) → MakesBy context operators line at change widths →
+      HasRoot context operators at (root_by line widths)
+  makes_by line change (Own own) h = own_at own h.site.start h.site.made h.rewrites
+  makes_by line change Both h = line_at line change h
+  makes_by line change (Only t) h = line_at line change h
+  makes_by line change Any h = line_at line change h
+
+  both_true : (a b : Bool) → a ≡ true → b ≡ true → (a && b) ≡ true
+  both_true true b e h = h
+  both_true false b e h = absurd cc
+
+  -- and that fits
+  module _ (class : ℕ) (is_class : IsClassAt operators at class) (is_tree : Bool)
+      (told : IsTreeTold context operators at is_tree) where
+    root_fits : (root : Root) → HasRoot context operators at root → fits class is_tree root ≡ true
+    root_fits (Classes first last) (i, has, from, to) =
+        let same = is_class i has in
+        both_true (nat_le first class) (nat_le class last) (le-leb first class (omega arith)) (le-leb class last (omega arith))
+    root_fits Tree (start, t, tree) = go is_tree told
+      where
+        go : (b : Bool) → IsTreeTold context operators at b → b ≡ true
+        go true none = refl
+        go false none = absurd (none start t tree)
+    root_fits Anything h = refl
+
+    pub makes_fits : (line : Line) (change : Change) → Makes context operators line at change → fits class is_tree (root_of line) ≡ true
+    makes_fits line change h = root_fits (root_of line) (makes_by line change line.row.widths h)

@@ -1,0 +1,8 @@
+-- It stands in the table.
+use Rattle.std.proofs.Common.{sym, ◌∙◌}
+use Rattle.std.proofs.lemmas.Bool.{false≢true}
+use Rattle.body_rewrites.proofs.OperatorLemmas.{i32_fits}
+use Rattle.body_rewrites.proofs.writing.i32_constant.Goals as goal
+
+pub unreachable-requires : goal.unreachable-requires
+unreachable-requires c = absurd (false≢true (sym c.in-None.ensures.none ∙ i32_fits _))

@@ -1,0 +1,34 @@
+-- How pieces are compared with operators that stand in a body (for private functions).
+use Rattle.std.specs.Prelude.{◌≡◌, ◌≤◌, ⊤, ℕ, Option, Some, None, List, ◌++◌, length}
+use Rattle.wasm_code.specs.Instruction.{Instruction}
+use Rattle.wasm_code.specs.declared.operator.Operator.{Operator}
+use Rattle.body_splices.specs.declared.piece.Piece.{Piece}
+use Rattle.body_splices.specs.declared.piece.Piece.TheVariants.{Kept, New}
+use Rattle.body_splices.specs.OwnBytes.{without_offsets}
+use Rattle.body_splices.specs.Laws.{piece_operators, pieces_operators}
+use Rattle.body_rewrites.specs.Matching.{operators_in}
+
+-- what the piece keeps stands in the body
+abbrev pub IsKept : List (Operator × ℕ) → Piece → Type 0
+IsKept operators (Kept start end) = (start ≤ end) × (end ≤ length operators)
+IsKept operators (New i) = ⊤
+
+-- These operators stand from `at` up to the one before the place that is told, which isn't past `end`; where none is told, what stands from `at` up to the one
+-- before `end` doesn't begin with them.
+abbrev pub IsBehind : List (Operator × ℕ) → List Operator → (at end : ℕ) → Option ℕ → Type 0
+IsBehind operators these at end (Some next) = (at ≤ next) × (next ≤ end) × (these ≡ operators_in operators at next)
+IsBehind operators these at end None = (rest : List Operator) → ¬ (these ++ rest ≡ operators_in operators at end)
+
+-- the same of a piece's operators, of those of a range, and of one instruction
+abbrev pub IsBehindPiece : List (Operator × ℕ) → Piece → (at end : ℕ) → Option ℕ → Type 0
+IsBehindPiece operators piece at end o = IsBehind operators (piece_operators (without_offsets operators) piece) at end o
+
+abbrev pub IsBehindKept : List (Operator × ℕ) → (kept : ℕ × ℕ) → (at end : ℕ) → Option ℕ → Type 0
+IsBehindKept operators kept at end o = IsBehindPiece operators (Kept kept.0 kept.1) at end o
+
+abbrev pub IsBehindNew : List (Operator × ℕ) → Instruction → (at end : ℕ) → Option ℕ → Type 0
+IsBehindNew operators i at end o = IsBehindPiece operators (New i) at end o
+
+-- the pieces are the operators from `start` up to the one before `end`
+abbrev pub ArePieces : List (Operator × ℕ) → (start end : ℕ) → List Piece → Type 0
+ArePieces operators start end pieces = pieces_operators (without_offsets operators) pieces ≡ operators_in operators start end

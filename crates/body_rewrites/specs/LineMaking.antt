@@ -1,0 +1,25 @@
+-- What a line of the table makes, as code has it (this project).
+use Rattle.std.specs.Prelude.{ℕ, List}
+use Rattle.wasm_code.specs.declared.operator.Operator.{Operator}
+use Rattle.peephole_machine.specs.Values.{Context}
+use Rattle.body_rewrites.specs.declared.changes.NewCode.{NewCode}
+use Rattle.body_rewrites.specs.declared.places.Body.{Body}
+use Rattle.body_rewrites.specs.declared.places.Line.{Line}
+use Rattle.body_rewrites.specs.declared.places.Place.{Place}
+use Rattle.body_rewrites.specs.Places.{context_of, IsPlaceOf}
+use Rattle.body_rewrites.specs.Changes.{Change, IsWritten}
+use Rattle.body_rewrites.specs.Rewrites.{IsLineChange}
+
+-- The code is what the line makes at the operator, by the word.
+pub record IsLineCodeOf (body : Body) (line : Line) (at word : ℕ) (code : NewCode) : Type 0 where
+  pub change : Change
+  pub makes : IsLineChange (context_of body) body.operators.now line at change
+  pub written : IsWritten change word code
+
+-- the line makes nothing there
+abbrev pub LineMakesNothing : Body → Line → (at : ℕ) → Type 0
+LineMakesNothing body line at = (change : Change) → ¬ (IsLineChange (context_of body) body.operators.now line at change)
+
+-- it is a place of the line before `end`, by some module and locals (for a private function)
+abbrev pub IsSomePlaceOf : List (Operator × ℕ) → Line → (end : ℕ) → Place → Type 0
+IsSomePlaceOf operators line end place = (context : Context) × IsPlaceOf context operators line end place

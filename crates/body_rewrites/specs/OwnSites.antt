@@ -1,0 +1,73 @@
+-- How rules beside the table are found and written in a body: for private functions (this project).
+use Rattle.std.specs.Prelude.{◌≡◌, ℕ, List, length, map, Option, Some, None, option_to_list}
+use Rattle.wasm_code.specs.declared.immediate.Imm.TheVariants as imm
+use Rattle.wasm_code.specs.declared.operator.Operator.{Operator}
+use Rattle.mutate_base.specs.declared.types.PrimitiveTypeInfo.{PrimitiveTypeInfo}
+use Rattle.body_splices.specs.declared.piece.Piece.{Piece}
+use Rattle.peephole_machine.specs.declared.integer.IntegerType.{IntegerType}
+use Rattle.peephole_machine.specs.declared.operation.Operation.{Operation}
+use Rattle.peephole_machine.specs.Values.{Context, types}
+use Rattle.peephole_machine.specs.Computed.{computed}
+use Rattle.peephole_machine.specs.Operation.{operator_of}
+use Rattle.rewrite_rules.specs.declared.pattern.Operator.TheVariants.{Whole}
+use Rattle.rewrite_rules.specs.Instance.{operator_code}
+use Rattle.rewrite_rules.specs.Beside.{left_by}
+use Rattle.body_rewrites.specs.declared.changes.NewCode.{NewCode}
+use Rattle.body_rewrites.specs.declared.growth.Growth.{Growth}
+use Rattle.body_rewrites.specs.declared.growth.Growth.TheVariants.{Shrinks, Grows}
+use Rattle.rewrite_rules.specs.declared.table.Own.{Own}
+use Rattle.rewrite_rules.specs.declared.table.Own.TheVariants.{Fold}
+use Rattle.body_rewrites.specs.declared.own.Made.{Made}
+use Rattle.body_rewrites.specs.declared.own.Made.TheVariants as made
+use Rattle.body_rewrites.specs.declared.own.Site.{Site}
+use Rattle.body_rewrites.specs.Open.{HasInstruction}
+use Rattle.body_rewrites.specs.Own.{IsFolded, Rewrites}
+
+-- ---- instructions
+
+-- the row's instruction stands there, without an immediate, or with an index
+abbrev pub HasBare : List (Operator × ℕ) → (at row : ℕ) → Type 0
+HasBare operators at row = HasInstruction operators at (record { row = row; imm = imm.Nothing })
+
+abbrev pub HasIndexed : List (Operator × ℕ) → (at row n : ℕ) → Type 0
+HasIndexed operators at row n = HasInstruction operators at (record { row = row; imm = imm.Index n })
+
+-- the operator on whole numbers stands there
+abbrev pub HasOperation : List (Operator × ℕ) → ℕ → Operation → Type 0
+HasOperation operators at f = HasInstruction operators at (operator_code (Whole f))
+
+-- ---- what is found
+
+-- the operator takes operands of the constants' types, and has that value on them
+pub record IsValueOn (f : Operation) (constants : List (IntegerType × ℕ)) (n : ℕ) : Type 0 where
+  pub typed : types (left_by constants) ≡ (operator_of f).operands
+  pub value_is : computed (operator_of f) (map (λ v. v.number) (left_by constants)) ≡ Some n
+
+-- what is made of that many constants and the operator behind them, or that nothing is
+abbrev pub IsFoldOf : List (Operator × ℕ) → (count at : ℕ) → Option Site → Type 0
+IsFoldOf operators count at (Some site) = (context : Context) → Rewrites context operators Fold site.start at site.made
+IsFoldOf operators count at None =
+    (start : ℕ) (t : IntegerType) (n : ℕ) (f : IsFolded operators start at t n) → ¬ (length f.operands ≡ count)
+
+-- what the rule makes at the operator, or that it makes nothing
+abbrev pub IsSiteOf : Context → List (Operator × ℕ) → Own → (at : ℕ) → Option Site → Type 0
+IsSiteOf context operators own at (Some site) = Rewrites context operators own site.start at site.made
+IsSiteOf context operators own at None = (start : ℕ) (m : Made) → ¬ (Rewrites context operators own start at m)
+
+-- ---- what is written
+
+-- the code is these pieces in the place of code from `start` on
+pub record IsCode (start : ℕ) (pieces : List Piece) (asks : List PrimitiveTypeInfo) (code : NewCode) : Type 0 where
+  pub start_is : code.start ≡ start
+  pub pieces_are : code.pieces.items ≡ pieces
+  pub asks_are : option_to_list code.asks ≡ asks
+
+-- what is made grows so, beside what it is made of
+abbrev pub growth_of : Made → Growth
+growth_of made.Nothing = Shrinks
+growth_of (made.Constant t n) = Shrinks
+growth_of (made.Sum t n) = Grows
+growth_of made.Nop = Grows
+growth_of (made.Global t g) = Grows
+growth_of (made.SetAndGet n) = Grows
+growth_of (made.Tee n) = Shrinks

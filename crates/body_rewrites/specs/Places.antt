@@ -1,0 +1,121 @@
+-- Where the left side of a line of the table stands in a body, and the line applies (this project).
+use Rattle.std.specs.Prelude.{◌≡◌, ℕ, ◌≤◌, ◌<◌, Bool, true, false, Option, Some, None, List, [], ◌∷◌, length, get_or, option_map, reverse, slice_get}
+use Rattle.std.specs.Option.{option_flatten}
+use Rattle.wasm_code.specs.Instruction.{Instruction}
+use Rattle.wasm_code.specs.declared.operator.Operator.{Operator}
+use Rattle.mutate_base.specs.declared.types.PrimitiveTypeInfo.{PrimitiveTypeInfo}
+use Rattle.peephole_machine.specs.Values.{Context, context_in}
+use Rattle.rewrite_rules.specs.declared.order.Effects.{Effects}
+use Rattle.rewrite_rules.specs.declared.pattern.Part.{Part}
+use Rattle.rewrite_rules.specs.Pattern.{holes}
+use Rattle.rewrite_rules.specs.Order.{is_in, effect_at}
+use Rattle.rewrite_rules.specs.Numbers.{constant_at}
+use Rattle.rewrite_rules.specs.Line as lines
+use Rattle.rewrite_rules.specs.Instance.{code_of, Applies}
+use Rattle.rewrite_rules.specs.Table.{ROWS, parts_for, line_of, widths_in}
+use Rattle.rewrite_rules.specs.Applying.{effects_of}
+use Rattle.rewrite_rules.specs.Code.{Leaves}
+use Rattle.body_rewrites.specs.declared.places.Body.{Body}
+use Rattle.body_rewrites.specs.declared.places.Line.{Line}
+use Rattle.body_rewrites.specs.declared.places.Place.{Place}
+use Rattle.body_rewrites.specs.declared.trees.Tree.{Tree}
+use Rattle.body_rewrites.specs.Trees.{tree_after, Stands, AreTrees}
+use Rattle.body_rewrites.specs.Cutting.{AreCut}
+use Rattle.body_rewrites.specs.Matching.{instructions, operators_in, operand_at, operand_code, slots_told, begin_of}
+use Rattle.body_rewrites.specs.Operands.{has_hole}
+
+-- ---- bodies
+
+-- what its code is checked and runs under
+abbrev pub context_of : Body → Context
+context_of body = context_in body.info.now body.locals.now
+
+-- the list of trees is that of its operators
+abbrev pub HasItsTrees : Body → Type 0
+HasItsTrees body = AreTrees (context_of body) body.operators.now body.trees.now
+
+-- ---- lines
+
+-- It is a row of the table, and one of its widths.
+pub record IsLine (line : Line) : Type 0 where
+  pub number : ℕ
+  pub row_is : slice_get ROWS number ≡ Some line.row
+  pub place : ℕ
+  pub width_is : slice_get (widths_in line.row.widths) place ≡ Some line.width
+
+-- what the line is
+abbrev pub meant : Line → lines.Line
+meant line = line_of line.row line.width
+
+-- ---- places
+
+-- a tree's code: each instruction leaves one value, and it needs nothing from before it
+abbrev pub IsTreeCode : Context → List Instruction → Type 0
+IsTreeCode context code = (t : PrimitiveTypeInfo) × (tree_after context code [] ≡ Some (t ∷ []))
+
+-- In the body the code from `start` to before `end` is the line's left side, with constants of these numbers and the operands `x`, the code of a tree in each
+-- of its holes and nothing elsewhere; and there the line applies.
+pub record IsPlace (context : Context) (operators : List (Operator × ℕ)) (l : lines.Line) (start end : ℕ) (x : ℕ → List Instruction) (numbers : List ℕ) :
+    Type 0 where
+  pub ordered : start ≤ end
+  pub inside : end ≤ length operators
+  pub stands : Stands operators start end (code_of x (constant_at numbers) [] l.left)
+  pub trees : (n : ℕ) → is_in (holes l.left) n ≡ true → IsTreeCode context (x n)
+  pub elsewhere : (n : ℕ) → is_in (holes l.left) n ≡ false → x n ≡ []
+  pub applies : Applies context l x (constant_at numbers)
+
+-- so is some code before `end`
+abbrev pub HasSomePlace : Context → List (Operator × ℕ) → lines.Line → (end : ℕ) → Type 0
+HasSomePlace context operators l end =
+    (start : ℕ) × (x : ℕ → List Instruction) × (numbers : List ℕ) × IsPlace context operators l start end x numbers
+
+-- the operands, by the operators that stand in each hole: from the first one to the one before the second
+abbrev pub operands_in : List (Operator × ℕ) → List (ℕ × ℕ) → ℕ → List Instruction
+operands_in operators places n =
+    instructions (operators_in operators (get_or places n (0, 0)).0 (get_or places n (0, 0)).1)
+
+-- the parts of its left side, the last one first
+abbrev pub left_parts : Line → List Part
+left_parts line = reverse (parts_for line.width line.row.left)
+
+-- the three holes' places
+abbrev pub operands_told : List Part → (starts : List ℕ) → (end : ℕ) → List (ℕ × ℕ)
+operands_told parts starts end = operand_at parts starts end 0 ∷ operand_at parts starts end 1 ∷ operand_at parts starts end 2 ∷ []
+
+-- what is told of parts that begin at these places
+abbrev pub place_told : List (Operator × ℕ) → List Part → (starts : List ℕ) → (end : ℕ) → Place
+place_told operators parts starts end = record {
+  start = begin_of starts end;
+  operands = operands_told parts starts end;
+  numbers = slots_told operators parts starts;
+}
+
+-- A place of the line before `end` is found: its parts begin at some places, by which its start, its operands and its numbers are.
+pub record IsPlaceOf (context : Context) (operators : List (Operator × ℕ)) (line : Line) (end : ℕ) (place : Place) : Type 0 where
+  pub is : IsPlace context operators (meant line) place.start end (operands_in operators place.operands) place.numbers
+  pub starts : List ℕ
+  pub cut : AreCut context operators (left_parts line) starts end
+  pub place_is : place ≡ place_told operators (left_parts line) starts end
+
+-- ---- what is known of operands (for private functions)
+
+-- what an operand's tree tells
+abbrev pub type_told : Option Tree → Option PrimitiveTypeInfo
+type_told o = option_map (λ (tree : Tree). tree.gives) o
+
+abbrev pub effects_told : Option Tree → Effects
+effects_told (Some tree) = record { writes = tree.writes; traps = tree.traps; asks = tree.asks }
+effects_told None = record { writes = false; traps = false; asks = false }
+
+-- of the hole with an index, or that there is none
+abbrev pub IsKnown : Context → (code : List Instruction) → (is_there : Bool) → Option PrimitiveTypeInfo → Effects → Type 0
+IsKnown context code is_there (Some t) effects = (is_there ≡ true) × Leaves context code t × (effects ≡ effects_of code)
+IsKnown context code is_there None effects = (is_there ≡ false) × (effects ≡ effects_told None)
+
+-- of each of the three holes that a line may have
+pub record AreKnown (context : Context) (operators : List (Operator × ℕ)) (parts : List Part) (starts : List ℕ) (end : ℕ)
+    (types : List (Option PrimitiveTypeInfo)) (effects : List Effects) : Type 0 where
+  pub types_count : length types ≡ 3
+  pub effects_count : length effects ≡ 3
+  pub each : (n : ℕ) → n < 3 →
+      IsKnown context (operand_code operators parts starts end n) (has_hole parts n) (option_flatten (slice_get types n)) (effect_at effects n)

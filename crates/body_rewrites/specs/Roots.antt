@@ -1,0 +1,86 @@
+-- What has to stand at an operator where a line of the table applies (this project).
+use Rattle.std.specs.Prelude.{◌≡◌, ◌&&◌, ℕ, ◌≤◌, nat_le, nat_lt, if◌then◌else◌, Bool, true, List, [], ◌∷◌}
+use Rattle.wasm_code.specs.Instruction.{Instruction}
+use Rattle.wasm_code.specs.declared.operator.Operator.{Operator}
+use Rattle.mutate_base.specs.declared.types.PrimitiveTypeInfo.{PrimitiveTypeInfo}
+use Rattle.peephole_machine.specs.declared.integer.IntegerType.{IntegerType}
+use Rattle.peephole_machine.specs.declared.integer.IntegerType.TheVariants as integer
+use Rattle.peephole_machine.specs.Values.{Context}
+use Rattle.rewrite_rules.specs.declared.pattern.Part.{Part}
+use Rattle.rewrite_rules.specs.declared.pattern.Part.TheVariants.{Hole, Constant, Drawn, Apply}
+use Rattle.rewrite_rules.specs.declared.table.Widths.{Widths}
+use Rattle.rewrite_rules.specs.declared.table.Widths.TheVariants.{Own}
+use Rattle.rewrite_rules.specs.declared.table.Own as own_rules
+use Rattle.rewrite_rules.specs.declared.table.Own.TheVariants as own
+use Rattle.rewrite_rules.specs.Instance.{row_number}
+use Rattle.body_rewrites.specs.declared.places.Line.{Line}
+use Rattle.body_rewrites.specs.declared.root.Root.{Root}
+use Rattle.body_rewrites.specs.declared.root.Root.TheVariants as root
+use Rattle.body_rewrites.specs.Trees.{IsTree}
+use Rattle.body_rewrites.specs.Open.{HasInstruction}
+use Rattle.body_rewrites.specs.Places.{left_parts}
+
+-- ---- classes of instructions
+
+-- that of the instructions of a row: its number, and one for all rows that no line of the table names
+abbrev pub class_of : (row : ℕ) → ℕ
+class_of row = if nat_lt row 168 then row else 168
+
+-- it is that of the instruction that stands at the operator, if one does
+abbrev pub IsClassAt : List (Operator × ℕ) → (at class : ℕ) → Type 0
+IsClassAt operators at class = (i : Instruction) → HasInstruction operators at i → class ≡ class_of i.row
+
+-- ---- roots
+
+abbrev pub one_row : (row : ℕ) → Root
+one_row row = root.Classes (class_of row) (class_of row)
+
+-- that of a part that stands last
+abbrev pub constant_root : IntegerType → Root
+constant_root integer.I32 = root.Classes 36 36
+constant_root integer.I64 = root.Classes 37 37
+
+abbrev pub part_root : Part → Root
+part_root (Hole n) = root.Tree
+part_root (Constant t e) = constant_root t
+part_root (Drawn t) = root.Any
+part_root (Apply o) = one_row (row_number o)
+
+-- of parts, the last one first
+abbrev pub first_root : List Part → Root
+first_root [] = root.Any
+first_root (p ∷ ps) = part_root p
+
+-- that of a rule beside the table
+abbrev pub own_root : own_rules.Own → Root
+own_root own.Unfold = root.Classes 36 37
+own_root own.ThroughGlobal = root.Tree
+own_root own.WithNop = root.Tree
+own_root own.Fold = root.Classes 40 168
+own_root own.Forget = root.Classes 2 2
+own_root own.TeeToSet = root.Classes 6 6
+own_root own.DropNop = root.Classes 0 0
+own_root own.SetToTee = root.Classes 4 4
+
+abbrev pub root_by : Line → Widths → Root
+root_by line (Own o) = own_root o
+root_by line widths = first_root (left_parts line)
+
+-- that of a line
+abbrev pub root_of : Line → Root
+root_of line = root_by line line.row.widths
+
+-- ---- what it says
+
+-- that stands at the operator
+abbrev pub HasRoot : Context → List (Operator × ℕ) → (at : ℕ) → Root → Type 0
+HasRoot context operators at (root.Classes first last) =
+    (i : Instruction) × HasInstruction operators at i × (first ≤ class_of i.row) × (class_of i.row ≤ last)
+HasRoot context operators at root.Tree = (start : ℕ) × (t : PrimitiveTypeInfo) × IsTree context operators start at t
+HasRoot context operators at root.Any = Unit {0}
+
+-- whether it may stand there, by the instruction's class and whether a tree ends with it
+abbrev pub fits : (class : ℕ) → (is_tree : Bool) → Root → Bool
+fits class is_tree (root.Classes first last) = nat_le first class && nat_le class last
+fits class is_tree root.Tree = is_tree
+fits class is_tree root.Any = true

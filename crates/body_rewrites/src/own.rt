@@ -1,0 +1,43 @@
+//! The rules that are no rows of the table, and what they make.
+
+pub(crate) mod drop_nop;
+pub(crate) mod fold;
+pub(crate) mod forget;
+pub(crate) mod growing;
+pub(crate) mod rewriting;
+pub(crate) mod set_to_tee;
+pub(crate) mod sites;
+pub(crate) mod tee_to_set;
+pub(crate) mod through_global;
+pub(crate) mod unfold;
+pub(crate) mod with_nop;
+pub(crate) mod writing;
+
+use mutate_base::PrimitiveTypeInfo;
+use peephole_machine::IntegerType;
+
+/// What is made of code, whatever word is drawn.
+#[derive(Clone, Copy, Debug, PartialEq, Eq)]
+pub enum Made {
+    /// Nothing.
+    Nothing,
+    /// The constant of a number.
+    Constant(IntegerType, u64),
+    /// The sum of the drawn word and of what is left of a number.
+    Sum(IntegerType, u64),
+    /// A nop, and the same code.
+    Nop,
+    /// The same code, and its value, of that type, through the global with that index.
+    Global(PrimitiveTypeInfo, u32),
+    /// A set and a get of a local.
+    SetAndGet(u32),
+    /// A tee of a local.
+    Tee(u32),
+}
+
+/// From which operator on something is made, and what.
+#[derive(Clone, Copy, Debug, PartialEq, Eq)]
+pub struct Site {
+    pub start: usize,
+    pub made: Made,
+}

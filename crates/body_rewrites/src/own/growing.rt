@@ -1,0 +1,45 @@
+//! What rules beside the table do to the number of operators.
+ghost use Rattle.std.specs.Prelude.{◌≡◌, IfSome, IfNone};
+ghost use Rattle.peephole_machine.specs.Values.{Context};
+ghost use Rattle.body_rewrites.specs.Trees.{AreTrees};
+ghost use Rattle.body_rewrites.specs.Changes.{Change};
+ghost use Rattle.body_rewrites.specs.Growth.{HasGrowth};
+ghost use Rattle.body_rewrites.specs.Own.{IsOwnChange};
+ghost use Rattle.body_rewrites.specs.OwnSites.{growth_of};
+
+use crate::growth::Growth;
+use crate::own::Made;
+use crate::own::sites::site_of;
+use crate::places::Body;
+use rewrite_rules::Own;
+
+// Whether that is more than what it is made of.
+fn growth_of(made: Made) -> Growth
+    ensures { result ≡ growth_of made }
+{
+    match made {
+        Made::Nothing => Growth::Shrinks,
+        Made::Constant(_, _) => Growth::Shrinks,
+        Made::Sum(_, _) => Growth::Grows,
+        Made::Nop => Growth::Grows,
+        Made::Global(_, _) => Growth::Grows,
+        Made::SetAndGet(_) => Growth::Grows,
+        Made::Tee(_) => Growth::Shrinks,
+    }
+}
+
+/// Whether the rule makes something at the operator, and what that does to the number of operators.
+pub fn own_growth(body: &Body<'_>, own: Own, at: usize) -> Option<Growth>
+    ensures some { IfSome result (λ growth. (context : Context) → context.info ≡ body.now.info.now
+        → AreTrees context body.now.operators.now body.now.trees.now
+        → (change : Change) × IsOwnChange context body.now.operators.now own at change
+        × HasGrowth body.now.operators.now at change growth) }
+    ensures none { IfNone result ((context : Context) → context.info ≡ body.now.info.now
+        → AreTrees context body.now.operators.now body.now.trees.now
+        → (change : Change) → ¬ (IsOwnChange context body.now.operators.now own at change)) }
+{
+    let Some(site) = site_of(body, own, at) else {
+        return None;
+    };
+    Some(growth_of(site.made))
+}

@@ -1,0 +1,29 @@
+//! Where a rule beside the table applies.
+ghost use Rattle.std.specs.Prelude.{◌≡◌};
+ghost use Rattle.peephole_machine.specs.Values.{Context};
+ghost use Rattle.body_rewrites.specs.Trees.{AreTrees};
+ghost use Rattle.body_rewrites.specs.OwnSites.{IsSiteOf};
+
+use crate::own::{
+    Site, drop_nop, fold, forget, set_to_tee, tee_to_set, through_global, unfold, with_nop,
+};
+use crate::places::Body;
+use rewrite_rules::Own;
+
+// Where the rule applies at the operator, and what it makes there.
+pub(crate) fn site_of(body: &Body<'_>, own: Own, at: usize) -> Option<Site>
+    ensures { (context : Context) → context.info ≡ body.now.info.now
+        → AreTrees context body.now.operators.now body.now.trees.now
+        → IsSiteOf context body.now.operators.now own at result }
+{
+    match own {
+        Own::Unfold => unfold::find(body.operators, at),
+        Own::ThroughGlobal => through_global::find(body.info, body.trees, at),
+        Own::WithNop => with_nop::find(body.trees, at),
+        Own::Fold => fold::find(body.operators, at),
+        Own::Forget => forget::find(body.operators, body.trees, at),
+        Own::TeeToSet => tee_to_set::find(body.operators, at),
+        Own::DropNop => drop_nop::find(body.operators, at),
+        Own::SetToTee => set_to_tee::find(body.operators, at),
+    }
+}

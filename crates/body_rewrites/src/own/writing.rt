@@ -1,0 +1,151 @@
+//! What a rule beside the table makes, written.
+ghost use Rattle.std.specs.Prelude.{◌≡◌, ◌+◌, ◌-◌, ◌<◌, ◌^◌, ℕ, List, [], ◌∷◌, ◌≤◌, length, option_to_list};
+ghost use mir.Val.{bits};
+ghost use Rattle.body_splices.specs.declared.piece.Piece.{Piece as PieceOf};
+ghost use Rattle.peephole_machine.specs.Values.{width_of};
+ghost use Rattle.peephole_machine.specs.declared.operation.Operation.TheVariants as operation;
+ghost use Rattle.peephole_machine.specs.declared.operation.Binary.TheVariants as binary;
+ghost use Rattle.rewrite_rules.specs.declared.pattern.Operator.TheVariants.{Whole};
+ghost use Rattle.rewrite_rules.specs.Numbers.{low};
+ghost use Rattle.rewrite_rules.specs.Instance.{operator_code};
+ghost use Rattle.rewrite_rules.specs.Beside.{nop_code, get_local, set_local, tee_local, get_global, set_global, sum_code};
+ghost use Rattle.body_rewrites.specs.Changes.{IsWritten};
+ghost use Rattle.body_rewrites.specs.Own.{new, made_asks, made_pieces, change_of};
+ghost use Rattle.body_rewrites.specs.OwnSites.{IsCode};
+
+use crate::changes::NewCode;
+use crate::instructions::{constant, instr};
+use crate::own::{Made, Site};
+use arrayvec::ArrayVec;
+use body_splices::Piece;
+use mutate_base::PrimitiveTypeInfo;
+use peephole_machine::IntegerType;
+use wasm_code::{Imm, Instr};
+
+#[tactic(auto, using(crate::proofs::OwnRowLemmas::nop_row))]
+fn nop() -> Instr
+    ensures { result ≡ nop_code }
+{
+    instr(0, Imm::Nothing)
+}
+
+#[tactic(auto, using(crate::proofs::OwnRowLemmas::get_local_row))]
+fn get_local(local: u32) -> Instr
+    ensures { result ≡ get_local local }
+{
+    instr(4, Imm::Index(local))
+}
+
+#[tactic(auto, using(crate::proofs::OwnRowLemmas::set_local_row))]
+fn set_local(local: u32) -> Instr
+    ensures { result ≡ set_local local }
+{
+    instr(5, Imm::Index(local))
+}
+
+#[tactic(auto, using(crate::proofs::OwnRowLemmas::tee_local_row))]
+fn tee_local(local: u32) -> Instr
+    ensures { result ≡ tee_local local }
+{
+    instr(6, Imm::Index(local))
+}
+
+#[tactic(auto, using(crate::proofs::OwnRowLemmas::get_global_row))]
+fn get_global(global: u32) -> Instr
+    ensures { result ≡ get_global global }
+{
+    instr(7, Imm::Index(global))
+}
+
+#[tactic(auto, using(crate::proofs::OwnRowLemmas::set_global_row))]
+fn set_global(global: u32) -> Instr
+    ensures { result ≡ set_global global }
+{
+    instr(8, Imm::Index(global))
+}
+
+#[tactic(auto, using(crate::proofs::OwnRowLemmas::i32_add_row, crate::proofs::OwnRowLemmas::i64_add_row))]
+fn add(t: IntegerType) -> Instr
+    ensures { result ≡ operator_code (Whole (operation.Binary t binary.Add)) }
+{
+    match t {
+        IntegerType::I32 => instr(77, Imm::Nothing),
+        IntegerType::I64 => instr(95, Imm::Nothing),
+    }
+}
+
+// What is to be added to the word for the number.
+fn rest(t: IntegerType, number: u64, word: u64) -> u64
+    ensures { low t result ≡ low t (number + (2 ^ bits (width_of t) - low t word)) }
+{
+    match t {
+        IntegerType::I32 => number.wrapping_add(0x1_0000_0000 - word % 0x1_0000_0000),
+        IntegerType::I64 => number.wrapping_sub(word),
+    }
+}
+
+// A constant of the word, one of the rest, and their sum.
+fn sum(t: IntegerType, number: u64, word: u64) -> [Piece; 3]
+    ensures { result ≡ new (sum_code t number word) }
+{
+    [
+        Piece::New(constant(t, word)),
+        Piece::New(constant(t, rest(t, number, word))),
+        Piece::New(add(t)),
+    ]
+}
+
+// The pieces as a list.
+fn list_of(pieces: &[Piece]) -> ArrayVec<Piece, 7>
+    requires { length pieces.now ≤ 7 }
+    ensures { result.items ≡ pieces.now }
+{
+    let mut list = ArrayVec::new();
+    for i in 0..pieces.len() {
+        list.push(pieces[i]);
+    }
+    list
+}
+
+// The pieces in the place of code from `start` on.
+fn code(start: usize, pieces: &[Piece], asks: Option<PrimitiveTypeInfo>) -> NewCode
+    requires { length pieces.now ≤ 7 }
+    ensures { IsCode start pieces.now (option_to_list asks) result }
+{
+    NewCode {
+        start,
+        pieces: list_of(pieces),
+        asks,
+    }
+}
+
+// What is made at the site, by the word.
+pub(crate) fn written(site: Site, at: usize, word: u64) -> NewCode
+    requires { at < 2 ^ 64 - 1 }
+    ensures { IsCode site.start (made_pieces site.start at site.made word)
+        (made_asks site.made) result }
+{
+    let start = site.start;
+    let kept = Piece::Kept { start, end: at + 1 };
+    match site.made {
+        Made::Nothing => code(start, &[], None),
+        Made::Constant(t, number) => code(start, &[Piece::New(constant(t, number))], None),
+        Made::Sum(t, number) => code(start, &sum(t, number, word), None),
+        Made::Nop => code(start, &[Piece::New(nop()), kept], None),
+        Made::Global(t, global) => code(
+            start,
+            &[
+                kept,
+                Piece::New(set_global(global)),
+                Piece::New(get_global(global)),
+            ],
+            Some(t),
+        ),
+        Made::SetAndGet(local) => code(
+            start,
+            &[Piece::New(set_local(local)), Piece::New(get_local(local))],
+            None,
+        ),
+        Made::Tee(local) => code(start, &[Piece::New(tee_local(local))], None),
+    }
+}

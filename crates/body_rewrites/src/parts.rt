@@ -1,0 +1,69 @@
+//! The parts of a line's side, read from its end.
+ghost use Rattle.std.specs.Prelude.{◌≡◌, ◌≤◌, ◌<◌, length, reverse, slice_get, Some};
+ghost use Rattle.rewrite_rules.specs.Table.{parts_for};
+
+use peephole_machine::IntegerType;
+use rewrite_rules::{Part, Side, Step};
+use std::marker::Model;
+
+/// The parts that a side of a line has for a width, the last one first.
+#[derive(Drop)]
+pub(crate) struct Parts<'a> {
+    side: &'a Side,
+    width: IntegerType,
+    count: usize,
+}
+
+impl<'a> Model for Parts<'a> {
+    ghost use Rattle.std.specs.Prelude.{◌≡◌, List, length, reverse};
+    ghost use Rattle.rewrite_rules.specs.declared.pattern.Part.{Part};
+    ghost use Rattle.rewrite_rules.specs.Table.{parts_for};
+
+    ghost Value = { List Part };
+
+    ghost view = { λ p. reverse (parts_for p.width p.side.now) };
+
+    ghost invariant = { λ p. (p.count ≡ length (parts_for p.width p.side.now))
+        × (length p.side.now ≡ 7) };
+}
+
+// How many steps stand before the end.
+fn count_of(side: &[Step], width: IntegerType) -> usize
+    ensures { result ≡ length (parts_for width side.now) }
+{
+    for i in 0..side.len() {
+        if side[i].part(width).is_none() {
+            return i;
+        }
+    }
+    side.len()
+}
+
+impl<'a> Parts<'a> {
+    /// The parts of the side for the width.
+    pub(crate) fn new(side: &'a Side, width: IntegerType) -> Parts<'a>
+        ensures { result ≡ reverse (parts_for width side.now) }
+    {
+        let count = count_of(side, width);
+        Parts { side, width, count }
+    }
+
+    /// How many there are.
+    pub(crate) fn len(&self) -> usize
+        ensures count { result ≡ length self.now }
+        ensures few { result ≤ 7 }
+    {
+        self.count
+    }
+
+    /// The part with that number, from the last one on.
+    pub(crate) fn at(&self, number: usize) -> Part
+        requires { number < length self.now }
+        ensures { slice_get self.now number ≡ Some result }
+    {
+        match self.side[self.count - 1 - number].part(self.width) {
+            Some(part) => part,
+            None => unreachable!(),
+        }
+    }
+}

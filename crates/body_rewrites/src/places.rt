@@ -1,0 +1,157 @@
+//! Where a line of the table applies in a body.
+ghost use Rattle.std.specs.Prelude.{◌≡◌, ◌≤◌, ℕ, List, length, IfSome, IfNone};
+ghost use Rattle.wasm_code.specs.declared.operator.Operator.{Operator as BodyOperator};
+ghost use Rattle.peephole_machine.specs.Values.{Context};
+ghost use Rattle.body_rewrites.specs.Trees.{AreTrees};
+ghost use Rattle.body_rewrites.specs.Cutting.{AreCut};
+ghost use Rattle.body_rewrites.specs.Matching.{begin_of};
+ghost use Rattle.body_rewrites.specs.Places.{context_of, HasItsTrees, IsLine, IsPlaceOf, HasSomePlace, meant, operands_told, type_told, effects_told, AreKnown};
+
+use crate::laws::lefts_are_instances;
+use crate::matching::{find, operand, operand_at};
+use crate::parts::Parts;
+use crate::trees::Tree;
+use mutate_base::{ModuleInfo, PrimitiveTypeInfo};
+use peephole_machine::IntegerType;
+use rewrite_rules::laws::{holes_are_told, parts_are_the_code, sides_are_parts, table_is_right};
+use rewrite_rules::{Effects, Found, Row};
+use wasm_code::OperatorAndByteOffset;
+
+/// A line of the table: a row, for one of its widths.
+#[derive(Clone, Copy, Debug, PartialEq, Eq)]
+pub struct Line {
+    pub row: Row,
+    pub width: IntegerType,
+}
+
+/// Where a line's left side stands in a body.
+#[derive(Clone, Copy, Debug, PartialEq, Eq)]
+pub struct Place {
+    /// The first operator of it.
+    pub start: usize,
+    /// For each hole the first operator of the operand in it, and the one behind the last; 0 and 0 where the line has no such hole.
+    pub operands: [(usize, usize); 3],
+    /// The numbers of the constants, and 0 where the line has no such constant.
+    pub numbers: [u64; 2],
+}
+
+/// A body: the module, the types of the function's parameters and locals, the operators, and their trees (see `trees_of`).
+#[derive(Clone, Copy)]
+pub struct Body<'a> {
+    pub info: &'a ModuleInfo<'a>,
+    pub locals: &'a [PrimitiveTypeInfo],
+    pub operators: &'a [OperatorAndByteOffset],
+    pub trees: &'a [Option<Tree>],
+}
+
+// What is known of the operands in the holes.
+#[derive(Clone, Copy)]
+struct Known {
+    types: [Option<PrimitiveTypeInfo>; 3],
+    effects: [Effects; 3],
+}
+
+// What the code of an operand may do; nothing where there is no operand.
+fn effects_of(tree: Option<Tree>) -> Effects
+    ensures { result ≡ effects_told tree }
+{
+    match tree {
+        Some(tree) => Effects {
+            writes: tree.writes,
+            traps: tree.traps,
+            asks: tree.asks,
+        },
+        None => Effects {
+            writes: false,
+            traps: false,
+            asks: false,
+        },
+    }
+}
+
+// The type of an operand's value.
+fn type_of(tree: Option<Tree>) -> Option<PrimitiveTypeInfo>
+    ensures { result ≡ type_told tree }
+{
+    match tree {
+        Some(tree) => Some(tree.gives),
+        None => None,
+    }
+}
+
+// What is known of the operands in the holes.
+fn known_of(trees: &[Option<Tree>], parts: &Parts<'_>, starts: &[usize], end: usize) -> Known
+    requires { length starts.now ≡ length parts.now }
+    ensures { (context : Context) (operators : List (BodyOperator × ℕ))
+        → AreTrees context operators trees.now
+        → AreCut context operators parts.now starts.now end
+        → AreKnown context operators parts.now starts.now end result.types result.effects }
+{
+    let one = operand(trees, parts, starts, end, 0);
+    let two = operand(trees, parts, starts, end, 1);
+    let three = operand(trees, parts, starts, end, 2);
+    Known {
+        types: [type_of(one), type_of(two), type_of(three)],
+        effects: [effects_of(one), effects_of(two), effects_of(three)],
+    }
+}
+
+// Which operators stand in each hole.
+fn operands_of(parts: &Parts<'_>, starts: &[usize], end: usize) -> [(usize, usize); 3]
+    requires { length starts.now ≡ length parts.now }
+    ensures { result ≡ operands_told parts.now starts.now end }
+{
+    [
+        operand_at(parts, starts, end, 0),
+        operand_at(parts, starts, end, 1),
+        operand_at(parts, starts, end, 2),
+    ]
+}
+
+// Where the first part begins; where there is none, the end.
+fn start_of(starts: &[usize], end: usize) -> usize
+    ensures { result ≡ begin_of starts.now end }
+{
+    match starts.last() {
+        Some(start) => *start,
+        None => end,
+    }
+}
+
+/// Where the line stands in the body before `end`, and applies; none where it doesn't. The operands in its holes are trees.
+///
+/// It takes time linear in what stands in a hole that stands twice, and else none that depends on the body.
+pub fn place_of(body: &Body<'_>, line: &Line, end: usize) -> Option<Place>
+    requires trees { HasItsTrees body.now }
+    requires line { IsLine line.now }
+    requires inside { end ≤ length body.now.operators.now }
+    ensures some { IfSome result (λ place.
+        IsPlaceOf (context_of body.now) body.now.operators.now line.now end place) }
+    ensures none { IfNone result
+        (¬ (HasSomePlace (context_of body.now) body.now.operators.now (meant line.now) end)) }
+{
+    table_is_right();
+    holes_are_told();
+    sides_are_parts();
+    parts_are_the_code();
+    lefts_are_instances();
+    let parts = Parts::new(&line.row.left, line.width);
+    let Some(found) = find(body.operators, body.trees, &parts, end) else {
+        return None;
+    };
+    let starts = found.starts.as_slice();
+    let known = known_of(body.trees, &parts, starts, end);
+    let told = Found {
+        types: &known.types,
+        effects: &known.effects,
+        numbers: &found.numbers,
+    };
+    if !line.row.applies(line.width, &told) {
+        return None;
+    }
+    Some(Place {
+        start: start_of(starts, end),
+        operands: operands_of(&parts, starts, end),
+        numbers: found.numbers,
+    })
+}

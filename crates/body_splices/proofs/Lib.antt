@@ -1,0 +1,5 @@
+pub mod SpellingLemmas
+pub mod BodyLemmas
+pub mod PieceLemmas
+pub mod AgainLemmas
+pub mod LawLemmas

@@ -1,0 +1,4 @@
+pub mod OwnBytes
+pub mod Splice
+pub mod Putting
+pub mod Laws

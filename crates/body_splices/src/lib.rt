@@ -1,0 +1,12 @@
+//! Bodies in which some operators are replaced by others.
+#![tactic(auto)]
+
+mod bytes;
+pub mod laws;
+mod piece;
+mod splicing;
+#[cfg(test)]
+mod tests;
+
+pub use piece::Piece;
+pub use splicing::splice;
