@@ -1,0 +1,403 @@
+-- A module with a rewritten function does what it did, and so does one that was rewritten several times.
+use Rattle.std.proofs.Common.{◌≡◌, ℕ, ◌+◌, inl, inr, Bool, if◌then◌else◌, List, [], ◌∷◌, ◌++◌, length, Option, Some, None, refl, sym, ap, ap₂}
+use Rattle.std.proofs.Common.{subst, ◌∙◌, arith, append_assoc, append-nil}
+use Rattle.std.specs.Prelude.{◌≢◌, option_map, slice_get, slice_range}
+use Rattle.std.proofs.lemmas.Bool.Decides.{eqb_tells}
+use Rattle.std.proofs.lemmas.List.{length-append}
+use Rattle.std.proofs.lemmas.Option.{same_Some}
+use Rattle.wasm_code.specs.Body.{SpellsAll}
+use Rattle.wasm_code.specs.declared.operator.Operator.{Operator}
+use Rattle.mutate_base.specs.Module.{Module}
+use Rattle.mutate_base.specs.declared.types.PrimitiveTypeInfo.{PrimitiveTypeInfo}
+use Rattle.wasm_declarations.specs.Locals.{SpellsLocals}
+use Rattle.wasm_declarations.specs.declared.entries.Entry.{Entry}
+use Rattle.wasm_sections.specs.Section.{SpellsModule}
+use Rattle.wasm_sections.specs.declared.section.Section.{Section}
+use Rattle.wasm_module.specs.Instance.{Making, IsMadeOf, with_more_globals}
+use Rattle.wasm_module.specs.Module.{Layout, IsModule}
+use Rattle.wasm_module.specs.Reread.{HasContents}
+use Rattle.wasm_module.specs.Rewritten.{global_code, globals_code, IsRewritten}
+use Rattle.peephole_machine.specs.Values.{context_in, IsSound}
+use Rattle.peephole_programs.specs.hosts.Embedder.{Embedder, IsSoundEmbedder, Functions, Beyonds, running, AreValid, with_operators, with_function, DoesAs, BothDo, DoAsFunctions}
+use Rattle.peephole_programs.specs.hosts.EmbedderLaws.{EmbeddersAreSound, HarnessesDoMore, PiecesDo, OneFunctionRewritten, FunctionsDoThemselves, ValidModulesStayValid, ValidModulesDoMore, ValidSessionsDoMore, ValidHarnessesDoMore, ValidModulesAreSound}
+use Rattle.peephole_programs.specs.control.Function.{structural, RunsPieceByPiece}
+use Rattle.peephole_programs.specs.modules.Running.{DoesMore, world_of, RewritesFollowOneAnother, SessionsDoMore}
+use Rattle.peephole_programs.specs.modules.Program.{Body, context_for}
+use Rattle.peephole_programs.specs.validation.Sound.{IsValid}
+use Rattle.peephole_programs.specs.control.Standard.{by_asked}
+use Rattle.peephole_programs.specs.validation.StaysValid.{StaysValid}
+use Rattle.peephole_programs.specs.control.Wider.{wider_module, wider}
+use Rattle.body_rewrites.specs.Changed.{DoesAsBody}
+use Rattle.rewrite_rules.specs.declared.rule.Rule.{Rule}
+use Rattle.body_rewrites.specs.declared.rewrite.Rewrite.{Rewrite}
+use Rattle.body_splices.specs.OwnBytes.{own_bytes, structural_bytes, without_offsets}
+use Rattle.module_rewrites.specs.Structure.{HasStructure, HasLabels, AreLabelled, asking_bytes}
+use Rattle.module_rewrites.specs.Function.{IsFunction, parameters_of}
+use Rattle.module_rewrites.specs.ReadAgain.{HasFunction}
+use Rattle.module_rewrites.specs.Mutated.{MutatesEntry, IsMutated}
+use Rattle.module_rewrites.specs.Scope.{Scope}
+use Rattle.module_rewrites.specs.Mutates.{RewritesEach, Mutates}
+use Rattle.module_rewrites.specs.DoesAsBefore.{IsBodyOf, AreFunctions, BothStay, CannotRead, FunctionsDoAsBefore, IsModuleAfter, DoesAsBefore}
+use Rattle.module_rewrites.specs.declared.mutation.MutationError.{MutationError}
+use Rattle.module_rewrites.specs.declared.times.MadeRewrite.{MadeRewrite}
+use Rattle.module_rewrites.proofs.ReadAgainLemmas.{entry_moved}
+
+-- ---- what is known
+
+-- that a text has one reading
+pub record OneReading : Type 0 where
+  pub locals : (params : List PrimitiveTypeInfo) (start : ℕ) (text : List ℕ) (types others : List PrimitiveTypeInfo) (expression place : ℕ) →
+      SpellsLocals params start text types expression → SpellsLocals params start text others place → (types ≡ others) × (expression ≡ place)
+  pub operators : (xs ys : List (Operator × ℕ)) (start : ℕ) (text : List ℕ) → SpellsAll xs start text → SpellsAll ys start text → xs ≡ ys
+
+-- that bytes are one module
+abbrev pub OneModule : Type 0
+OneModule =
+    (bytes : List ℕ) (info other : Module) (layout place : Layout) → IsModule bytes info layout → IsModule bytes other place →
+    (info ≡ other) × (layout ≡ place)
+
+-- that a rewritten module is made of what the module is made of, with globals more
+abbrev pub MadeAlike : Type 0
+MadeAlike =
+    (bytes : List ℕ) (info : Module) (layout : Layout) (n : ℕ) (contents : List ℕ) (more : List PrimitiveTypeInfo) (new : List ℕ)
+    (sections : List Section) (making : Making) → IsModule bytes info layout → IsRewritten bytes layout n contents more new →
+    SpellsModule new sections → IsMadeOf bytes layout.sections making → IsMadeOf new sections (with_more_globals more making)
+
+-- what holds of modules
+pub record OfModules : Type 0 where
+  pub one : OneModule
+  pub made : MadeAlike
+
+-- what holds of programs
+pub record OfPrograms : Type 0 where
+  pub one : OneFunctionRewritten
+  pub themselves : FunctionsDoThemselves
+  pub pieces : PiecesDo
+  pub valid : ValidModulesStayValid
+  pub more : ValidModulesDoMore
+  pub sessions : ValidSessionsDoMore
+  pub harnesses : ValidHarnessesDoMore
+  pub sound : ValidModulesAreSound
+  pub embedders : EmbeddersAreSound
+  pub again : RewritesFollowOneAnother
+  pub calls : SessionsDoMore
+  pub tells : HarnessesDoMore
+
+-- ---- functions that do as others
+
+-- so they stay
+both_stay : (info : Module) (input : List ℕ) (more : List PrimitiveTypeInfo) (o n : Option Body) → BothDo info input more o n → BothStay info input more o n
+both_stay info input more (Some b) (Some c) d = record { params_are = d.params_are; locals_are = d.locals_are; valid = d.valid }
+both_stay info input more None None d = tt
+both_stay info input more (Some b) None d = d
+both_stay info input more None (Some c) d = d
+
+pub do_as_before : OfPrograms → (info : Module) (input : List ℕ) (more : List PrimitiveTypeInfo) (old new : Functions) →
+    DoAsFunctions info input more old new → FunctionsDoAsBefore info input more old new
+do_as_before law info input more old new d = record {
+  same = λ f. both_stay info input more (old f) (new f) (d f);
+  valid = λ beyonds v. law.valid info input more beyonds old new v d;
+  does = λ e beyonds sound v. law.more info input more e beyonds old new sound v d;
+  sessions = λ e beyonds sound v. law.sessions info input more e beyonds old new sound v d;
+  harnesses = λ e beyonds sound v. law.harnesses info input more e beyonds old new sound v d;
+}
+
+-- ---- one rewrite after another
+
+wider_twice : (info : Module) (b c : List ℕ) (first second : List PrimitiveTypeInfo) →
+    wider_module c second (wider_module b first info) ≡ wider_module c (first ++ second) info
+wider_twice info b c first second =
+    ap (λ (gs : List PrimitiveTypeInfo). record info { input = c; globals = gs }) (append_assoc info.globals first second)
+
+module _ (law : OfPrograms) (info : Module) (b c : List ℕ) (first second : List PrimitiveTypeInfo) where
+  abbrev between : Module
+  between = wider_module b first info
+
+  abbrev last : Module
+  last = wider_module c second between
+
+  stay_twice : (o m n : Option Body) → BothStay info b first o m → BothStay between c second m n → BothStay info c (first ++ second) o n
+  stay_twice (Some o) (Some m) (Some n) s t =
+      let locals : o.params ++ o.locals ≡ m.params ++ m.locals = ap₂ (λ (x y : List PrimitiveTypeInfo). x ++ y) s.params_are s.locals_are in
+      record {
+        params_are = s.params_are ∙ t.params_are;
+        locals_are = s.locals_are ∙ t.locals_are;
+        valid = λ results beyond x.
+            let there : IsValid (context_in between (m.params ++ m.locals)) results (by_asked (structural m.operators) beyond) m.operators =
+            subst (λ (ts : List PrimitiveTypeInfo). IsValid (context_in between ts) results (by_asked (structural m.operators) beyond) m.operators) locals
+            (s.valid results beyond x) in
+            subst (λ (k : Module × List PrimitiveTypeInfo). IsValid (context_in k.0 k.1) results (by_asked (structural n.operators) beyond) n.operators)
+            (ap₂ (λ (k : Module) (ts : List PrimitiveTypeInfo). (k, ts)) (wider_twice info b c first second) (sym locals))
+            (t.valid results beyond there);
+      }
+  stay_twice None None None s t = tt
+  stay_twice (Some o) None n s t = absurd s
+  stay_twice None (Some m) n s t = absurd s
+  stay_twice None None (Some n) s t = absurd t
+  stay_twice (Some o) (Some m) None s t = absurd t
+
+  module _ (old middle new : Functions) (h : FunctionsDoAsBefore info b first old middle) (k : FunctionsDoAsBefore between c second middle new) where
+    valid_twice : (beyonds : Beyonds) → AreValid info old beyonds → AreValid last new beyonds
+    valid_twice beyonds v = k.valid beyonds (h.valid beyonds v)
+
+    do_twice : (e : Embedder) (beyonds : Beyonds) → IsSoundEmbedder info e → AreValid info old beyonds →
+        DoesMore (first ++ second) (running info e old beyonds) (running last e new beyonds)
+    do_twice e beyonds sound v =
+        law.again b first second (running info e old beyonds) (running between e middle beyonds) (running last e new beyonds) refl
+        (h.does e beyonds sound v) (k.does e beyonds (law.embedders.stay info e b first sound) (h.valid beyonds v))
+
+    sound_at_last : (e : Embedder) → IsSoundEmbedder info e → IsSoundEmbedder last e
+    sound_at_last e sound = law.embedders.stay between e c second (law.embedders.stay info e b first sound)
+
+    follow_one_another : FunctionsDoAsBefore info c (first ++ second) old new
+    follow_one_another =
+        let twice = wider_twice info b c first second in
+        let more : (e : Embedder) (beyonds : Beyonds) → IsSoundEmbedder info e → AreValid info old beyonds →
+        DoesMore (first ++ second) (running info e old beyonds) (running (wider_module c (first ++ second) info) e new beyonds) =
+        λ e beyonds sound v. subst (λ (x : Module). DoesMore (first ++ second) (running info e old beyonds) (running x e new beyonds)) twice
+        (do_twice e beyonds sound v) in
+        record {
+          same = λ f. stay_twice (old f) (middle f) (new f) (h.same f) (k.same f);
+          valid = λ beyonds v. subst (λ (x : Module). AreValid x new beyonds) twice (valid_twice beyonds v);
+          does = more;
+          sessions = λ e beyonds sound v fuel depth.
+              law.calls c (first ++ second) (running info e old beyonds) (running (wider_module c (first ++ second) info) e new beyonds) refl
+              (more e beyonds sound v) fuel depth (law.sound info e beyonds old sound v fuel depth)
+              (subst (λ (x : Module). IsSound (world_of (running x e new beyonds) fuel depth)) twice
+              (law.sound last e beyonds new (sound_at_last e sound) (valid_twice beyonds v) fuel depth));
+          harnesses = λ e beyonds sound v fuel depth.
+              law.tells c (first ++ second) (running info e old beyonds) (running (wider_module c (first ++ second) info) e new beyonds) refl
+              (more e beyonds sound v) fuel depth (law.sound info e beyonds old sound v fuel depth)
+              (subst (λ (x : Module). IsSound (world_of (running x e new beyonds) fuel depth)) twice
+              (law.sound last e beyonds new (sound_at_last e sound) (valid_twice beyonds v) fuel depth));
+        }
+
+-- globals more, and then others
+globals_append : (ts us : List PrimitiveTypeInfo) → globals_code (ts ++ us) ≡ globals_code ts ++ globals_code us
+globals_append [] us = refl
+globals_append (t ∷ ts) us =
+    ap (λ (x : List ℕ). global_code t ++ x) (globals_append ts us) ∙ sym (append_assoc (global_code t) (globals_code ts) (globals_code us))
+
+made_twice : (first second : List PrimitiveTypeInfo) (making : Making) →
+    with_more_globals second (with_more_globals first making) ≡ with_more_globals (first ++ second) making
+made_twice first second making =
+    let count : (making.count + length first) + length second ≡ making.count + length (first ++ second) = omega (arith, length-append first second) in
+    let codes : (making.globals ++ globals_code first) ++ globals_code second ≡ making.globals ++ globals_code (first ++ second) =
+    append_assoc making.globals (globals_code first) (globals_code second)
+    ∙ ap (λ (x : List ℕ). making.globals ++ x) (sym (globals_append first second)) in
+    ap₂ (λ (n : ℕ) (x : List ℕ). record making { count = n; globals = x }) count codes
+
+-- what can't be read contains what it did, behind both
+unread_twice : (a b c : List ℕ) (info : Module) (layout : Layout) (old : Functions) (x : IsModuleAfter a info layout old b)
+    (y : IsModuleAfter b (wider_module b x.more info) x.again x.functions c) (n : ℕ) (entry : Entry) → slice_get layout.entries n ≡ Some entry →
+    CannotRead a info layout n → HasContents c y.again.entries n (slice_range a entry.contents entry.end)
+unread_twice a b c info layout old x y n entry at cannot =
+    let between = x.unread n entry at cannot in
+    let back : HasContents a layout.entries n (slice_range b between.entry.contents between.entry.end) =
+    record { entry = entry; at = at; text_is = sym between.text_is } in
+    let never : CannotRead b (wider_module b x.more info) x.again n =
+    λ locals expression operators f.
+    let here = subst (λ (e : Entry). HasContents a layout.entries n (slice_range b e.contents e.end)) (same_Some _ _ (sym between.at ∙ f.is.at)) back in
+    let there = entry_moved b (wider_module b x.more info) x.again a info layout n locals expression operators (x.indices f.is.indices)
+    (ap (λ (i : ℕ). parameters_of info (i + n)) (sym x.imported)) f here in
+    cannot locals there.function.expression there.function.located there.function.is in
+    let last = y.unread n between.entry between.at never in
+    record { entry = last.entry; at = last.at; text_is = between.text_is ∙ last.text_is }
+
+pub does_after : OfPrograms → (a b c : List ℕ) → DoesAsBefore a b → DoesAsBefore b c → DoesAsBefore a c
+does_after law a b c h k = record { functions = λ info layout old is are. go info layout old (h.functions info layout old is are) }
+  where
+    go : (info : Module) (layout : Layout) (old : Functions) → IsModuleAfter a info layout old b → IsModuleAfter a info layout old c
+    go info layout old x =
+        let y = k.functions (wider_module b x.more info) x.again x.functions x.is x.are in
+        let twice = wider_twice info b c x.more y.more in
+        record {
+          more = x.more ++ y.more;
+          again = y.again;
+          is = subst (λ (m : Module). IsModule c m y.again) twice y.is;
+          functions = y.functions;
+          are = subst (λ (m : Module). AreFunctions c m y.again y.functions) twice y.are;
+          after = follow_one_another law info b c x.more y.more old x.functions y.functions x.after y.after;
+          imported = y.imported ∙ x.imported;
+          indices = λ h. x.indices (y.indices h);
+          structure = λ n theirs h. x.structure n theirs
+              (y.structure n theirs (subst (λ (m : Module). HasStructure c m y.again n theirs) (sym twice) h));
+          labels = λ beyonds l. subst (λ (m : Module). AreLabelled c m y.again beyonds) twice (y.labels beyonds (x.labels beyonds l));
+          unread = λ n entry at cannot. unread_twice a b c info layout old x y n entry at cannot;
+          made = λ making is. subst (IsMadeOf c y.again.sections) (made_twice x.more y.more making)
+              (y.made (with_more_globals x.more making) (x.made making is));
+        }
+
+-- ---- one function has one reading
+
+pub one_body : OneReading → (bytes : List ℕ) (info : Module) (layout : Layout) (n : ℕ) (locals types : List PrimitiveTypeInfo) (expression other : ℕ)
+    (operators located : List (Operator × ℕ)) → IsFunction bytes info layout n locals expression operators →
+    IsFunction bytes info layout n types other located → (locals ≡ types) × (operators ≡ located)
+one_body one bytes info layout n locals types expression other operators located f g =
+    let entry : g.entry ≡ f.entry = same_Some _ _ (sym g.is.at ∙ f.is.at) in
+    let params : g.params ≡ f.params = same_Some _ _ (sym g.is.parameters ∙ f.is.parameters) in
+    let there : SpellsLocals f.params f.entry.contents (slice_range bytes f.entry.contents f.entry.end) types other =
+    subst (λ (p : Entry × List PrimitiveTypeInfo). SpellsLocals p.1 p.0.contents (slice_range bytes p.0.contents p.0.end) types other)
+    (ap₂ (λ (e : Entry) (ps : List PrimitiveTypeInfo). (e, ps)) entry params) g.locals_are in
+    let (same, place) = one.locals f.params f.entry.contents (slice_range bytes f.entry.contents f.entry.end) locals types expression other
+    f.locals_are there in
+    let all : SpellsAll located expression (slice_range bytes expression f.entry.end) =
+    subst (λ (p : ℕ × Entry). SpellsAll located p.0 (slice_range bytes p.0 p.1.end)) (ap₂ (λ (k : ℕ) (e : Entry). (k, e)) (sym place) entry) g.body.all in
+    (same, one.operators operators located expression (slice_range bytes expression f.entry.end) f.body.all all)
+
+one_function : OneReading → (bytes : List ℕ) (info : Module) (layout : Layout) (n : ℕ) (locals types : List PrimitiveTypeInfo) (expression : ℕ)
+    (operators : List (Operator × ℕ)) (body : List Operator) → IsFunction bytes info layout n locals expression operators →
+    HasFunction bytes info layout n types body → (locals ≡ types) × (without_offsets operators ≡ body)
+one_function one bytes info layout n locals types expression operators body f h =
+    let (same, located) = one_body one bytes info layout n locals types expression h.expression operators h.located f h.is in
+    (same, ap without_offsets located ∙ h.are)
+
+-- so have its structural operators
+one_structure : OneReading → (bytes : List ℕ) (info : Module) (layout : Layout) (n : ℕ) (xs ys : List (Operator × List ℕ)) →
+    HasStructure bytes info layout n xs → HasStructure bytes info layout n ys → xs ≡ ys
+one_structure one bytes info layout n xs ys f g =
+    let (same, located) = one_body one bytes info layout n f.locals g.locals f.expression g.expression f.located g.located f.is g.is in
+    sym f.are ∙ (ap (λ (os : List (Operator × ℕ)). structural_bytes (own_bytes bytes os)) located ∙ g.are)
+
+-- ---- a rewritten function among the others
+
+module _ (one : OneReading) (law : OfPrograms) (alike : MadeAlike) {rules : List Rule} {bytes : List ℕ} {info : Module} {layout : Layout} {n : ℕ}
+    {rewrite : Rewrite} {new : List ℕ} (known : IsModule bytes info layout) (m : MutatesEntry rules bytes info layout n rewrite new) where
+  abbrev more : List PrimitiveTypeInfo
+  more = m.more
+
+  abbrev written : List Operator
+  written = without_offsets m.rewritten.appends.written.spliced.again
+
+  abbrev index : ℕ
+  index = layout.imported_functions + n
+
+  -- what the rewritten body does
+  body_does : DoesAsBody (context_in info m.locals) more (without_offsets m.operators) written
+  body_does =
+      let w = m.rewritten.appends in
+      subst (λ (ts : List PrimitiveTypeInfo). DoesAsBody (context_in info m.locals) ts (without_offsets m.operators) written) (sym w.asks_are) w.written.whole
+
+  rewritten_does : (b : Body) → IsBodyOf bytes info layout index b → DoesAs info new more b (with_operators written b)
+  rewritten_does b h =
+      let same : h.n ≡ n = let e = h.index in omega (arith, e) in
+      let there = subst (λ (k : ℕ). HasFunction bytes info layout k (b.params ++ b.locals) b.operators) same h.function in
+      let (locals, operators) = one_function one bytes info layout n m.locals (b.params ++ b.locals) m.expression m.operators b.operators m.function there in
+      let does : DoesAsBody (context_for info b) more b.operators written =
+      subst (λ (p : List PrimitiveTypeInfo × List Operator). DoesAsBody (context_in info p.0) more p.1 written)
+      (ap₂ (λ (ts : List PrimitiveTypeInfo) (os : List Operator). (ts, os)) locals operators) body_does in
+      law.pieces info new more b (with_operators written b) refl refl
+      (subst (λ (ts : List PrimitiveTypeInfo). RunsPieceByPiece (context_for info b) ts b.operators written) (append-nil more) (does.pieces []))
+      (subst (λ (ts : List PrimitiveTypeInfo). StaysValid (context_for info b) (wider new ts (context_for info b)) b.operators written)
+      (append-nil more) (does.valid new []))
+
+  -- structural operators had their bytes before
+  had_before : (k : ℕ) (texts : List (Operator × List ℕ)) → HasStructure new (wider_module new more info) m.again.again k texts →
+      HasStructure bytes info layout k texts
+  had_before k texts h = elim (eqb_tells k n) [
+    | inl (is, same) ↦
+        let here = subst (λ (i : ℕ). HasStructure new (wider_module new more info) m.again.again i texts) same h in
+        let alike : m.again.structure ≡ texts =
+        one_structure one new (wider_module new more info) m.again.again n m.again.structure texts m.again.has here in
+        subst (λ (i : ℕ). HasStructure bytes info layout i texts) (sym same) (subst (HasStructure bytes info layout n) alike m.again.had)
+    | inr (is, differ) ↦ (m.again.others_have k texts differ).1 h
+  ]
+
+  labels_stay : (beyonds : Beyonds) → AreLabelled bytes info layout beyonds → AreLabelled new (wider_module new more info) m.again.again beyonds
+  labels_stay beyonds labelled k texts h =
+      subst (λ (i : ℕ). HasLabels (asking_bytes texts) (beyonds (i + k))) (sym m.again.imported) (labelled k texts (had_before k texts h))
+
+  unread_stay : (k : ℕ) (entry : Entry) → slice_get layout.entries k ≡ Some entry → CannotRead bytes info layout k →
+      HasContents new m.again.again.entries k (slice_range bytes entry.contents entry.end)
+  unread_stay k entry at cannot = elim (eqb_tells k n) [
+    | inl (is, same) ↦ absurd (subst (CannotRead bytes info layout) same cannot m.locals m.expression m.operators m.function)
+    | inr (is, differ) ↦ m.again.contents k entry differ at
+  ]
+
+  module _ (old : Functions) (are : AreFunctions bytes info layout old) where
+    both_do : DoAsFunctions info new more old (with_function old index written)
+    both_do = law.one info new more old index written (λ b k. rewritten_does b (are index b k))
+
+    all_functions : AreFunctions new (wider_module new more info) m.again.again (with_function old index written)
+    all_functions f b k = elim (eqb_tells f index) [
+      | inl (is, same) ↦
+          let there : option_map (with_operators written) (old f) ≡ Some b =
+          subst (λ (x : Bool). (if x then option_map (with_operators written) (old f) else old f) ≡ Some b) is k in
+          go (old f) refl there same
+      | inr (is, differ) ↦
+          let there : old f ≡ Some b =
+          subst (λ (x : Bool). (if x then option_map (with_operators written) (old f) else old f) ≡ Some b) is k in
+          other (are f b there) differ
+    ]
+      where
+        go : (o : Option Body) → old f ≡ o → option_map (with_operators written) o ≡ Some b → f ≡ index →
+            IsBodyOf new (wider_module new more info) m.again.again f b
+        go None k e same = absurd cc
+        go (Some c) k e same =
+            let own = are f c k in
+            let number : own.n ≡ n = let i = own.index in omega (arith, i, same) in
+            let (locals, operators) = one_function one bytes info layout n m.locals (c.params ++ c.locals) m.expression m.operators c.operators m.function
+            (subst (λ (x : ℕ). HasFunction bytes info layout x (c.params ++ c.locals) c.operators) number own.function) in
+            subst (IsBodyOf new (wider_module new more info) m.again.again f) (same_Some (with_operators written c) b e) (record {
+              n = n;
+              index = same ∙ ap (λ (x : ℕ). x + n) (sym m.again.imported);
+              params = own.params;
+              function = subst (λ (ts : List PrimitiveTypeInfo). HasFunction new (wider_module new more info) m.again.again n ts written) locals
+                  m.again.function;
+            })
+
+        other : IsBodyOf bytes info layout f b → f ≢ index → IsBodyOf new (wider_module new more info) m.again.again f b
+        other own differ = record {
+          n = own.n;
+          index = own.index ∙ ap (λ (x : ℕ). x + own.n) (sym m.again.imported);
+          params = own.params;
+          function = (m.again.others own.n (b.params ++ b.locals) b.operators
+              (λ e. differ (own.index ∙ ap (λ (x : ℕ). layout.imported_functions + x) e))).0 own.function;
+        }
+
+    module_after : IsModuleAfter bytes info layout old new
+    module_after =
+        let functions = with_function old index written in
+        record {
+          more = more;
+          again = m.again.again;
+          is = m.again.is;
+          functions = functions;
+          are = all_functions;
+          after = do_as_before law info new more old functions both_do;
+          imported = m.again.imported;
+          indices = m.again.indices.0;
+          structure = had_before;
+          labels = labels_stay;
+          unread = unread_stay;
+          made = λ making is. alike bytes info layout n (slice_range bytes m.function.entry.contents m.expression ++ m.body) more new
+              m.again.again.sections making known m.written m.again.is.spells is;
+        }
+
+-- ---- whole modules
+
+pub mutated_does : OneReading → OfPrograms → OfModules → (scope : Scope) (bytes : List ℕ) (function : ℕ) (rewrite : Rewrite)
+    (new : List ℕ) → IsMutated scope bytes function rewrite new → DoesAsBefore bytes new
+mutated_does one law unique scope bytes function rewrite new m = record { functions = λ info layout old is are. go info layout old is are }
+  where
+    go : (info : Module) (layout : Layout) (old : Functions) → IsModule bytes info layout → AreFunctions bytes info layout old →
+        IsModuleAfter bytes info layout old new
+    go info layout old is are =
+        let (infos, layouts) = unique.one bytes info m.info layout m.layout is m.is in
+        let entry : MutatesEntry scope.rules bytes info layout m.mutates.0 rewrite new =
+        subst (λ (p : Module × Layout). MutatesEntry scope.rules bytes p.0 p.1 m.mutates.0 rewrite new)
+        (ap₂ (λ (i : Module) (l : Layout). (i, l)) (sym infos) (sym layouts)) m.mutates.2 in
+        module_after one law unique.made is entry old are
+
+pub each_does : OneReading → OfPrograms → OfModules → (scope : Scope) (bytes : List ℕ) (m : MadeRewrite) (made : List MadeRewrite)
+    (new : List ℕ) → RewritesEach scope bytes (m ∷ made) new → DoesAsBefore bytes new
+each_does one law unique scope bytes m [] new h =
+    subst (DoesAsBefore bytes) (sym h.2) (mutated_does one law unique scope bytes m.function m.rewrite h.0 h.1)
+each_does one law unique scope bytes m (k ∷ made) new h =
+    does_after law bytes h.0 new (mutated_does one law unique scope bytes m.function m.rewrite h.0 h.1)
+    (each_does one law unique scope h.0 k made new h.2)
+
+pub mutates_does : OneReading → OfPrograms → OfModules → (scope : Scope) (count : ℕ) (bytes : List ℕ) (made : List MadeRewrite)
+    (new : List ℕ) (stopped : Option MutationError) → Mutates scope count bytes made new stopped → DoesAsBefore bytes new
+mutates_does one law unique scope count bytes [] new stopped h = absurd (let some = h.some in omega (arith, some))
+mutates_does one law unique scope count bytes (m ∷ made) new stopped h = each_does one law unique scope bytes m made new h.each

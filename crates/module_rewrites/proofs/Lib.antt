@@ -1,0 +1,12 @@
+pub mod FunctionLemmas
+pub mod DrawnLemmas
+pub mod ReadAgainLemmas
+pub mod MutationLemmas
+pub mod ModuleLemmas
+pub mod DoesAsBeforeLemmas
+pub mod SameModuleLemmas
+mod StructureExamples
+pub mod MutatesLemmas
+pub mod EntryWordsLemmas
+pub mod AttemptLemmas
+pub mod OperatorCodeLemmas

@@ -1,0 +1,13 @@
+-- Each rewrite so far is of the module that the last one left, by the words behind those of the last one, and was seen so.
+use Rattle.std.proofs.Common.{◌≡◌, None}
+use Rattle.module_rewrites.specs.Watched.{SeesEach}
+use Rattle.module_rewrites.proofs.MutatesLemmas.{SoFar}
+use Rattle.module_rewrites.proofs.times.mutate_repeatedly.Given as goal
+
+abbrev pub invariant-rewrites : goal.invariant-rewrites
+invariant-rewrites g l =
+    SoFar l.scope l.counter l.bytes (g.R.Rng.stream l.fn.generator) l.«module».made.items l.«module».bytes.items
+    (g.R.Rng.stream l.generator)
+    × (l.«module».stopped ≡ None)
+    × SeesEach g.W.Watch.saw l.scope (record { bytes = l.bytes; stream = g.R.Rng.stream l.fn.generator; watcher = l.fn.watch })
+    l.«module».made.items (record { bytes = l.«module».bytes.items; stream = g.R.Rng.stream l.generator; watcher = l.watch })

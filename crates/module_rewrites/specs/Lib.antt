@@ -1,0 +1,16 @@
+pub mod Scope
+pub mod Chosen
+pub mod ChosenTimes
+pub mod Drawing
+pub mod OperatorCode
+pub mod Function
+pub mod Structure
+pub mod ReadAgain
+pub mod Writing
+pub mod EntryWords
+pub mod Mutated
+pub mod Mutates
+pub mod Watched
+pub mod Seeded
+pub mod DoesAsBefore
+pub mod Attempt

@@ -1,0 +1,125 @@
+-- A module with an operator of one of its functions rewritten by a rule, in its place (this project).
+use Rattle.std.specs.Prelude.{◌≡◌, ℕ, ◌+◌, ◌<◌, ◌≤◌, List, [], ◌++◌, length, Option, Some, None, Result, Ok, Err, slice_range}
+use Rattle.rand_core.specs.Stream.{Stream}
+use Rattle.wasm_code.specs.declared.operator.Operator.{Operator}
+use Rattle.mutate_base.specs.Module.{Module}
+use Rattle.mutate_base.specs.declared.types.PrimitiveTypeInfo.{PrimitiveTypeInfo}
+use Rattle.wasm_declarations.specs.declared.entries.Entry.{Entry}
+use Rattle.wasm_module.specs.Module.{Layout, IsModule}
+use Rattle.wasm_module.specs.Fault.{IsModuleFault}
+use Rattle.wasm_module.specs.Limits.{IsTooLarge}
+use Rattle.wasm_module.specs.Rewritten.{IsRewritten}
+use Rattle.wasm_module.specs.declared.refusal.WriteError.TheVariants as writes
+use Rattle.peephole_machine.specs.Values.{context_in}
+use Rattle.body_splices.specs.OwnBytes.{without_offsets}
+use Rattle.rewrite_rules.specs.declared.rule.Rule.{Rule}
+use Rattle.body_rewrites.specs.declared.rewrite.Rewrite.{Rewrite}
+use Rattle.body_rewrites.specs.Random.{AppendsByWords, HasNoRewrite}
+use Rattle.module_rewrites.specs.Function.{IsFunction}
+use Rattle.module_rewrites.specs.ReadAgain.{IsReadAgain}
+use Rattle.module_rewrites.specs.Scope.{Scope}
+use Rattle.module_rewrites.specs.Writing.{Exceeds, IsWritten}
+use Rattle.module_rewrites.specs.declared.mutation.MutationError.{MutationError}
+use Rattle.module_rewrites.specs.declared.mutation.MutationError.TheVariants as mutations
+
+-- the function with that index may be rewritten: it is the one that was named, or none was
+abbrev pub IsChosen : Option ℕ → ℕ → Type 0
+IsChosen None index = Unit {0}
+IsChosen (Some function) index = index ≡ function
+
+-- The new bytes are the module with an operator of its n-th code entry rewritten in its place by one of the rules, as some words choose: its locals stand as
+-- they stood, what stands round the new code runs as before, and the globals that it asks for are appended. They are read again so.
+pub record MutatesEntry (rules : List Rule) (bytes : List ℕ) (info : Module) (layout : Layout) (n : ℕ) (rewrite : Rewrite) (new : List ℕ) : Type 0 where
+  pub locals : List PrimitiveTypeInfo
+  pub expression : ℕ
+  pub operators : List (Operator × ℕ)
+  pub function : IsFunction bytes info layout n locals expression operators
+  pub body : List ℕ
+  pub more : List PrimitiveTypeInfo
+  pub stream : Stream
+  pub after : Stream
+  pub rewritten : AppendsByWords (context_in info locals) stream rules bytes operators rewrite [] body more after
+  pub written : IsRewritten bytes layout n (slice_range bytes function.entry.contents expression ++ body) more new
+  pub again : IsReadAgain bytes info layout n locals (without_offsets rewritten.appends.written.spliced.again) more new
+
+-- The same of one of its code entries, that of the function with this index among all functions.
+abbrev pub MutatesOne : List Rule → (bytes : List ℕ) → Module → Layout → (function : ℕ) → Rewrite → (new : List ℕ) → Type 0
+MutatesOne rules bytes info layout function rewrite new =
+    (n : ℕ) × (function ≡ layout.imported_functions + n) × MutatesEntry rules bytes info layout n rewrite new
+
+-- The same of the bytes of a module, at a function that may be rewritten, and with no more bytes than a new module may have.
+pub record IsMutated (scope : Scope) (bytes : List ℕ) (function : ℕ) (rewrite : Rewrite) (new : List ℕ) : Type 0 where
+  pub info : Module
+  pub layout : Layout
+  pub is : IsModule bytes info layout
+  pub chosen : IsChosen scope.function function
+  pub fits : length new ≤ scope.most
+  pub mutates : MutatesOne scope.rules bytes info layout function rewrite new
+
+-- No rewrite can be made in the n-th code entry: it spells no function that can be read, or one of whose operators no rule rewrites any.
+abbrev pub HasNoMutation : List Rule → (bytes : List ℕ) → Module → Layout → (n : ℕ) → Type 0
+HasNoMutation rules bytes info layout n =
+    (locals : List PrimitiveTypeInfo) (expression : ℕ) (operators : List (Operator × ℕ)) → IsFunction bytes info layout n locals expression operators →
+    HasNoRewrite (context_in info locals) rules operators
+
+-- No rewrite can be made in any function that may be rewritten.
+pub record CannotMutate (scope : Scope) (bytes : List ℕ) : Type 0 where
+  pub info : Module
+  pub layout : Layout
+  pub is : IsModule bytes info layout
+  pub none : (n : ℕ) → n < length layout.entries → IsChosen scope.function (layout.imported_functions + n) →
+      HasNoMutation scope.rules bytes info layout n
+
+-- for a private function: the offset lies in the bytes, at or behind the start of the entry's contents
+pub record IsBehindLocals (bytes : List ℕ) (entry : Entry) (expression : ℕ) : Type 0 where
+  pub behind : entry.contents ≤ expression
+  pub ends : expression ≤ length bytes
+
+-- Why there is no module with the n-th code entry rewritten: what a rewrite writes doesn't fit 32 bits or has too many bytes, or for want of memory. Never for
+-- the type of a global: a rewrite asks for those of numbers alone.
+abbrev pub RefusesEntry : Scope → (bytes : List ℕ) → Module → Layout → (n : ℕ) → MutationError → Type 0
+RefusesEntry scope bytes info layout n (mutations.Read e) = ⊥
+RefusesEntry scope bytes info layout n mutations.Memory = Unit {0}
+RefusesEntry scope bytes info layout n (mutations.Write writes.TooLarge) = IsWritten scope.rules bytes info layout n (IsTooLarge bytes layout n)
+RefusesEntry scope bytes info layout n (mutations.Write writes.EmptyType) = ⊥
+RefusesEntry scope bytes info layout n (mutations.Write writes.Memory) = Unit {0}
+RefusesEntry scope bytes info layout n mutations.TooLong = IsWritten scope.rules bytes info layout n (Exceeds scope.most bytes layout n)
+
+-- The same of the bytes of a module, at a function that may be rewritten.
+pub record RefusesChosenEntry (scope : Scope) (bytes : List ℕ) (e : MutationError) : Type 0 where
+  pub info : Module
+  pub layout : Layout
+  pub is : IsModule bytes info layout
+  pub n : ℕ
+  pub inside : n < length layout.entries
+  pub chosen : IsChosen scope.function (layout.imported_functions + n)
+  pub refuses : RefusesEntry scope bytes info layout n e
+
+-- Why there is no new module: the bytes are none that can be read, or a code entry that may be rewritten is refused.
+abbrev pub RefusesMutation : Scope → (bytes : List ℕ) → MutationError → Type 0
+RefusesMutation scope bytes (mutations.Read e) = IsModuleFault bytes e.kind e.offset
+RefusesMutation scope bytes e = RefusesChosenEntry scope bytes e
+
+-- ---- for private functions
+
+-- the rewrite's module is too large: another rewrite may fit
+abbrev pub IsOfSize : MutationError → Type 0
+IsOfSize (mutations.Write writes.TooLarge) = Unit {0}
+IsOfSize mutations.TooLong = Unit {0}
+IsOfSize e = ⊥
+
+-- so it is
+abbrev pub IsRefusedForSize : {A : Type 0} → Result A MutationError → Type 0
+IsRefusedForSize (Ok made) = ⊥
+IsRefusedForSize (Err e) = IsOfSize e
+
+-- an attempt was in vain: no rewrite can be made, or the one that words chose doesn't fit
+abbrev pub IsInVain : {A : Type 0} → Result (Option A) MutationError → Type 0
+IsInVain (Ok None) = Unit {0}
+IsInVain (Ok (Some made)) = ⊥
+IsInVain (Err e) = IsOfSize e
+
+-- what several attempts in vain come to: the last refusal, if one was refused
+abbrev pub last_of : {A : Type 0} → (before after : Result (Option A) MutationError) → Result (Option A) MutationError
+last_of before (Ok None) = before
+last_of before after = after

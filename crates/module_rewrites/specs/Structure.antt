@@ -1,0 +1,60 @@
+-- The bytes of a function's structural operators, and the labels of branches by a table among them
+-- (WebAssembly Core Specification 3.0, Binary Format, Instructions, Control Instructions; what is structural: this project).
+use Rattle.std.specs.Prelude.{◌≡◌, ℕ, ◌+◌, List, [], ◌∷◌, ◌++◌, length, Some, slice_get}
+use Rattle.wasm_code.specs.Number.{SpellsUnsigned}
+use Rattle.wasm_code.specs.declared.operator.Operator.{Operator}
+use Rattle.body_splices.specs.OwnBytes.{own_bytes, structural_bytes, and_where}
+use Rattle.mutate_base.specs.Module.{Module}
+use Rattle.mutate_base.specs.declared.types.PrimitiveTypeInfo.{PrimitiveTypeInfo}
+use Rattle.wasm_module.specs.Module.{Layout}
+use Rattle.peephole_programs.specs.hosts.Embedder.{Beyonds}
+use Rattle.peephole_programs.specs.control.Standard.{Beyond, asks_beyond}
+use Rattle.module_rewrites.specs.Function.{IsFunction}
+
+-- The n-th code entry is a function with these structural operators, each with its bytes, in their order.
+pub record HasStructure (bytes : List ℕ) (info : Module) (layout : Layout) (n : ℕ) (structure : List (Operator × List ℕ)) : Type 0 where
+  pub locals : List PrimitiveTypeInfo
+  pub expression : ℕ
+  pub located : List (Operator × ℕ)
+  pub is : IsFunction bytes info layout n locals expression located
+  pub are : structural_bytes (own_bytes bytes located) ≡ structure
+
+-- the bytes of those operators that ask `Beyond` what they do, in their order
+abbrev pub asking_bytes : List (Operator × List ℕ) → List (List ℕ)
+asking_bytes [] = []
+asking_bytes (p ∷ ps) = and_where (asks_beyond p.0) p.1 (asking_bytes ps)
+
+-- ---- labels
+
+-- the first number stands in front, and the others behind it
+pub record IsNumber (Rest : List ℕ → Type 0) (text : List ℕ) (n : ℕ) : Type 0 where
+  pub front : List ℕ
+  pub back : List ℕ
+  pub parts : text ≡ front ++ back
+  pub spells : SpellsUnsigned 32 front n
+  pub rest : Rest back
+
+-- the bytes are these numbers, one after another
+abbrev pub SpellsNumbers : List ℕ → List ℕ → Type 0
+SpellsNumbers [] text = text ≡ []
+SpellsNumbers (n ∷ ns) text = IsNumber (SpellsNumbers ns) text n
+
+-- The bytes are a branch by a table: its opcode, how many labels there are, these, and the default one.
+pub record SpellsTable (text labels : List ℕ) (default : ℕ) : Type 0 where
+  pub count : List ℕ
+  pub numbers : List ℕ
+  pub parts : text ≡ 0x0e ∷ count ++ numbers
+  pub counts : SpellsUnsigned 32 count (length labels)
+  pub spells : SpellsNumbers (labels ++ default ∷ []) numbers
+
+-- of operators that ask `Beyond`, with these bytes, each that is a branch by a table has the labels of its bytes
+abbrev pub HasLabels : (texts : List (List ℕ)) → Beyond → Type 0
+HasLabels texts beyond =
+    (k : ℕ) (text labels : List ℕ) (default : ℕ) → slice_get texts k ≡ Some text → SpellsTable text labels default →
+    (beyond.labels k ≡ labels) × (beyond.default k ≡ default)
+
+-- The labels of every branch by a table are those that stand in the module's bytes.
+abbrev pub AreLabelled : (bytes : List ℕ) → Module → Layout → Beyonds → Type 0
+AreLabelled bytes info layout beyonds =
+    (n : ℕ) (structure : List (Operator × List ℕ)) → HasStructure bytes info layout n structure →
+    HasLabels (asking_bytes structure) (beyonds (layout.imported_functions + n))

@@ -1,0 +1,61 @@
+-- A code entry as words of the generator rewrite it, and whether there is a module with it that is small enough (this project).
+use Rattle.std.specs.Prelude.{◌≡◌, ◌⊎◌, ℕ, ◌<◌, ◌≤◌, List, [], ◌++◌, length, slice_range}
+use Rattle.rand_core.specs.Stream.{Stream}
+use Rattle.wasm_code.specs.declared.operator.Operator.{Operator}
+use Rattle.mutate_base.specs.Module.{Module}
+use Rattle.mutate_base.specs.declared.types.PrimitiveTypeInfo.{PrimitiveTypeInfo}
+use Rattle.wasm_module.specs.Module.{Layout}
+use Rattle.wasm_module.specs.Limits.{IsTooLarge}
+use Rattle.wasm_module.specs.Rewritten.{IsRewritten}
+use Rattle.peephole_machine.specs.Values.{context_in}
+use Rattle.rewrite_rules.specs.declared.rule.Rule.{Rule}
+use Rattle.body_rewrites.specs.declared.rewrite.Rewrite.{Rewrite}
+use Rattle.body_rewrites.specs.Random.{AppendsByWords}
+use Rattle.module_rewrites.specs.Function.{IsFunction}
+use Rattle.module_rewrites.specs.Scope.{Scope}
+
+-- By these words the n-th code entry contains its locals as they stood, and its body with the rewrite that they choose, of those by one of the rules; it asks
+-- for more globals of these types. `after` is what the generator gives behind the words.
+pub record WritesAt (rules : List Rule) (bytes : List ℕ) (info : Module) (layout : Layout) (s : Stream) (n : ℕ) (rewrite : Rewrite) (contents : List ℕ)
+    (more : List PrimitiveTypeInfo) (after : Stream) : Type 0 where
+  pub locals : List PrimitiveTypeInfo
+  pub expression : ℕ
+  pub operators : List (Operator × ℕ)
+  pub function : IsFunction bytes info layout n locals expression operators
+  pub body : List ℕ
+  pub writes : AppendsByWords (context_in info locals) s rules bytes operators rewrite [] body more after
+  pub contents_are : contents ≡ slice_range bytes function.entry.contents expression ++ body
+
+-- The new bytes are the module with that, and no more than they may be.
+pub record MakesAt (scope : Scope) (bytes : List ℕ) (info : Module) (layout : Layout) (s : Stream) (n : ℕ) (rewrite : Rewrite) (new : List ℕ)
+    (after : Stream) : Type 0 where
+  pub contents : List ℕ
+  pub more : List PrimitiveTypeInfo
+  pub writes : WritesAt scope.rules bytes info layout s n rewrite contents more after
+  pub made : IsRewritten bytes layout n contents more new
+  pub fits : length new ≤ scope.most
+
+-- the module with that has more bytes than these
+pub record Exceeds (most : ℕ) (bytes : List ℕ) (layout : Layout) (n : ℕ) (contents : List ℕ) (more : List PrimitiveTypeInfo) : Type 0 where
+  pub new : List ℕ
+  pub is : IsRewritten bytes layout n contents more new
+  pub long : most < length new
+
+-- 32 bits don't hold a size or a number of the module with that, or it has more bytes than it may.
+pub record DoesNotFit (scope : Scope) (bytes : List ℕ) (info : Module) (layout : Layout) (s : Stream) (n : ℕ) (after : Stream) : Type 0 where
+  pub rewrite : Rewrite
+  pub contents : List ℕ
+  pub more : List PrimitiveTypeInfo
+  pub writes : WritesAt scope.rules bytes info layout s n rewrite contents more after
+  pub large : IsTooLarge bytes layout n contents more ⊎ Exceeds scope.most bytes layout n contents more
+
+-- Some words write the n-th code entry of the module such that this holds of what it contains and the globals that it asks for.
+pub record IsWritten (rules : List Rule) (bytes : List ℕ) (info : Module) (layout : Layout) (n : ℕ)
+    (P : (contents : List ℕ) → (more : List PrimitiveTypeInfo) → Type 0) : Type 0 where
+  pub s : Stream
+  pub rewrite : Rewrite
+  pub contents : List ℕ
+  pub more : List PrimitiveTypeInfo
+  pub after : Stream
+  pub writes : WritesAt rules bytes info layout s n rewrite contents more after
+  pub holds : P contents more

@@ -1,0 +1,68 @@
+//! A code entry, drawn by its size.
+ghost use Rattle.std.specs.Prelude.{◌≡◌, ◌<◌, ◌≤◌, ◌%◌, ◌^◌, length, IfNone, IfSome};
+ghost use Rattle.std.specs.List.{sum_by};
+ghost use Rattle.rand_core.specs.Stream.{next_u64};
+ghost use Rattle.body_rewrites.specs.Choice.{after_word};
+ghost use Rattle.module_rewrites.specs.Drawing.{ContainsByte, NamesEntry, contents_length};
+
+use rand_core::Rng;
+use wasm_module::{Entry, Layout};
+
+// How many bytes the entry contains.
+fn size_of_entry(entry: &Entry) -> usize
+    ensures { result ≡ contents_length entry.now }
+{
+    entry.end.saturating_sub(entry.contents)
+}
+
+// How many bytes the entries contain.
+fn size_of_entries(entries: &[Entry]) -> usize
+    ensures { sum_by contents_length entries.now < 2 ^ 64
+        → result ≡ sum_by contents_length entries.now }
+{
+    let mut size: usize = 0;
+    for entry in entries {
+        size = size.saturating_add(size_of_entry(entry));
+    }
+    size
+}
+
+// The index of the entry that contains the byte with this number, of all bytes that entries contain; none where there are fewer.
+fn entry_of_byte(entries: &[Entry], byte: usize) -> Option<usize>
+    ensures contains { IfSome result (λ n. ContainsByte entries.now n byte) }
+    ensures none { IfNone result (sum_by contents_length entries.now ≤ byte) }
+{
+    let mut left = byte;
+    for n in 0..entries.len() {
+        let size = size_of_entry(&entries[n]);
+        if left < size {
+            return Some(n);
+        }
+        left -= size;
+    }
+    None
+}
+
+// A number below `count`: the generator's next word, modulo `count`.
+fn draw_below<R: Rng>(generator: &mut R, count: usize) -> usize
+    requires some { 0 < count }
+    ensures drawn { result ≡ (next_u64 (R.stream generator.old)).0 % count }
+    ensures after { R.stream generator.new ≡ after_word (R.stream generator.old) }
+{
+    let word = generator.next_u64();
+    (word % count as u64) as usize
+}
+
+/// The index of a code entry that is drawn by its size: the generator's next word, modulo the number of bytes that all entries
+/// contain, names one of these bytes, and so the entry that contains it. The first one where no entry contains any. Condition:
+/// there is an entry.
+pub(crate) fn draw_entry<R: Rng>(generator: &mut R, layout: &Layout) -> usize
+    requires some { 0 < length layout.now.entries }
+    ensures named { NamesEntry (R.stream generator.old) layout.now.entries result }
+    ensures inside { result < length layout.now.entries }
+    ensures after { R.stream generator.new ≡ after_word (R.stream generator.old) }
+{
+    let count = size_of_entries(&layout.entries);
+    let byte = draw_below(generator, count.max(1));
+    entry_of_byte(&layout.entries, byte).unwrap_or(0)
+}

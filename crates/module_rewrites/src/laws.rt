@@ -1,0 +1,108 @@
+//! What holds of rewritten modules. A function here does nothing: its contract is the law.
+ghost use Rattle.std.specs.Prelude.{◌≡◌, ◌<◌, ◌^◌, ℕ, List, Option, length};
+ghost use Rattle.std.specs.List.{sum_by};
+ghost use Rattle.rand_core.specs.Stream.{Stream};
+ghost use Rattle.wasm_code.specs.declared.operator.Operator.{Operator};
+ghost use Rattle.mutate_base.specs.Module.{Module};
+ghost use Rattle.mutate_base.specs.declared.types.PrimitiveTypeInfo.{PrimitiveTypeInfo};
+ghost use Rattle.wasm_sections.specs.Debug.{IsWithoutDebug};
+ghost use Rattle.wasm_sections.specs.Section.{SpellsModule};
+ghost use Rattle.wasm_sections.specs.declared.fault.ModuleFault.{ModuleFault};
+ghost use Rattle.wasm_sections.specs.declared.fault.ModuleFault.TheVariants.{Memory};
+ghost use Rattle.wasm_sections.specs.declared.section.Section.{Section};
+ghost use Rattle.wasm_module.specs.Fault.{IsModuleFault};
+ghost use Rattle.wasm_module.specs.Module.{Layout};
+ghost use Rattle.peephole_machine.specs.Values.{context_in};
+ghost use Rattle.rewrite_rules.specs.declared.rule.Rule.{Rule};
+ghost use Rattle.body_rewrites.specs.Listing.{IsBy};
+ghost use Rattle.body_rewrites.specs.declared.rewrite.Rewrite.{Rewrite};
+ghost use Rattle.module_rewrites.specs.DoesAsBefore.{DoesAsBefore};
+ghost use Rattle.module_rewrites.specs.Drawing.{contents_length};
+ghost use Rattle.module_rewrites.specs.EntryWords.{DrawsRewrite, HasEntryWords};
+ghost use Rattle.module_rewrites.specs.Function.{IsFunction};
+ghost use Rattle.module_rewrites.specs.Mutated.{IsMutated};
+ghost use Rattle.module_rewrites.specs.Mutates.{Mutates};
+ghost use Rattle.module_rewrites.specs.Scope.{Scope};
+ghost use Rattle.module_rewrites.specs.declared.mutation.MutationError.{MutationError};
+ghost use Rattle.module_rewrites.specs.declared.times.MadeRewrite.{MadeRewrite};
+
+use body_rewrites::laws::{each_rewrite_has_words, words_choose_one_rewrite};
+use body_splices::laws::own_bytes_stay;
+use peephole_programs::laws::{
+    embedders_are_sound, one_function_is_rewritten, pieces_do_as_before, rewritten_modules_do_more,
+    sessions_do_more, valid_modules_do_more,
+};
+use wasm_code::laws::one_list as one_list_of_operators;
+use wasm_declarations::laws::one_list;
+use wasm_module::laws::{
+    modules_have_no_fault, modules_without_debug_are_the_same, one_reading,
+    rewritten_modules_are_made_alike,
+};
+use wasm_sections::laws::one_module;
+
+/// A rewritten module is a module, so that reading it is refused for want of memory alone.
+pub fn rewritten_modules_are_read_again()
+    ensures { (scope : Scope) (bytes new : List ℕ) (function : ℕ) (rewrite : Rewrite)
+        → IsMutated scope bytes function rewrite new
+        → (fault : ModuleFault) (offset : ℕ) → IsModuleFault new fault offset → fault ≡ Memory }
+{
+    modules_have_no_fault();
+}
+
+/// A module in which an operator was rewritten (`one`), or several, one after another (`each`), is valid where it was, and does what it
+/// did; so it does without its custom sections that name places in the code (`stripped`), and as it is (`itself`). What does as a
+/// second module, which does as a third, does as that (`follow`).
+pub fn rewritten_modules_do_as_before()
+    ensures one { (scope : Scope) (bytes new : List ℕ) (function : ℕ) (rewrite : Rewrite)
+        → IsMutated scope bytes function rewrite new → DoesAsBefore bytes new }
+    ensures each { (scope : Scope) (count : ℕ) (bytes new : List ℕ) (made : List MadeRewrite)
+        (stopped : Option MutationError) → Mutates scope count bytes made new stopped
+        → DoesAsBefore bytes new }
+    ensures stripped { (bytes new : List ℕ) (sections : List Section) → SpellsModule bytes sections
+        → IsWithoutDebug bytes sections new → DoesAsBefore bytes new }
+    ensures itself { (bytes : List ℕ) → DoesAsBefore bytes bytes }
+    ensures follow { (bytes between new : List ℕ) → DoesAsBefore bytes between
+        → DoesAsBefore between new → DoesAsBefore bytes new }
+{
+    one_reading();
+    one_list();
+    one_list_of_operators();
+    one_module();
+    own_bytes_stay();
+    modules_without_debug_are_the_same();
+    rewritten_modules_are_made_alike();
+    embedders_are_sound();
+    pieces_do_as_before();
+    one_function_is_rewritten();
+    rewritten_modules_do_more();
+    sessions_do_more();
+    valid_modules_do_more();
+}
+
+/// Every rewrite that there is of a code entry's function by one of the rules is drawn by four words, the first of which names the
+/// entry: there is none that no words draw. There are fewer than 2^64 rules and bytes of entries, and than 2^32 operators.
+pub fn each_rewrite_is_drawn()
+    ensures { (rules : List Rule) (bytes : List ℕ) (info : Module) (layout : Layout) (n : ℕ)
+        (locals : List PrimitiveTypeInfo) (expression : ℕ) (operators : List (Operator × ℕ))
+        (r : Rewrite) → IsFunction bytes info layout n locals expression operators
+        → length rules < 2 ^ 64 → length operators < 2 ^ 32
+        → sum_by contents_length layout.entries < 2 ^ 64
+        → IsBy (context_in info locals) operators rules r
+        → ¬ (¬ (HasEntryWords rules bytes info layout n r)) }
+{
+    each_rewrite_has_words();
+}
+
+/// A word names one code entry at most, and the words behind it choose one rewrite of its function at most, where the entries
+/// contain any byte, and fewer than 2^64.
+pub fn words_draw_one_rewrite()
+    ensures { (rules : List Rule) (bytes : List ℕ) (info : Module) (layout : Layout) (s : Stream)
+        (n m : ℕ) (r q : Rewrite) → 0 < sum_by contents_length layout.entries
+        → sum_by contents_length layout.entries < 2 ^ 64
+        → DrawsRewrite rules bytes info layout s n r
+        → DrawsRewrite rules bytes info layout s m q → (n ≡ m) × (r ≡ q) }
+{
+    one_list();
+    one_list_of_operators();
+    words_choose_one_rewrite();
+}

@@ -1,0 +1,66 @@
+//! A small module, rewritten by one rule where it makes one thing, under several seeds.
+
+use crate::{Scope, mutate_with_seed, rewrite_with_seed};
+use body_rewrites::Table;
+use rewrite_rules::Rule;
+use std::test::Fail;
+
+/// A module of one function, of type [] → []: `i32.const 5`, `i32.const 7`, `i32.add`, `drop`.
+const MODULE: &[u8] =
+    b"\0asm\x01\0\0\0\x01\x04\x01\x60\0\0\x03\x02\x01\0\x0a\x0a\x01\x08\0\x41\x05\x41\x07\x6a\x1a\x0b";
+
+/// A rule, and the code section of the module with the rewrite that it makes.
+const CASES: [(&str, &[u8]); 5] = [
+    ("commute", b"\x0a\x0a\x01\x08\0\x41\x07\x41\x05\x6a\x1a\x0b"),
+    ("fold", b"\x0a\x07\x01\x05\0\x41\x0c\x1a\x0b"),
+    (
+        "sum_to_difference",
+        b"\x0a\x0a\x01\x08\0\x41\x05\x41\x79\x6b\x1a\x0b",
+    ),
+    ("forget", b"\x0a\x04\x01\x02\0\x0b"),
+    ("drop_or_self", b""),
+];
+
+#[test]
+fn makes_what_a_rule_says(rt: HostRuntime) -> Result<(), Fail> {
+    let alloc = rt.alloc();
+    let table = Table::new(alloc)?;
+    for (name, code) in CASES {
+        let rules = [Rule::from_name(name).expect(&rt, "it is a rule's name")];
+        let scope = Scope {
+            table: &table,
+            rules: &rules,
+            function: None,
+            max_size: 1_000,
+        };
+        for seed in 0..3 {
+            let made = mutate_with_seed(alloc, MODULE, seed, &scope, 1)?;
+            match made {
+                Some(module) => assert!(rt; module.bytes.ends_with(code) && code.len() > 0),
+                None => assert!(rt; code.len() == 0),
+            }
+        }
+    }
+    Ok(())
+}
+
+#[test]
+fn says_why_nothing_is_rewritten(rt: HostRuntime) -> Result<(), Fail> {
+    let alloc = rt.alloc();
+    let table = Table::new(alloc)?;
+    let rules = [Rule::from_name("drop_or_self").expect(&rt, "it is a rule's name")];
+    let scope = Scope {
+        table: &table,
+        rules: &rules,
+        function: None,
+        max_size: 1_000,
+    };
+    match rewrite_with_seed(alloc, MODULE, 1, &scope, 1) {
+        Ok(_) => assert!(rt; false),
+        Err(reason) => {
+            let text = format!(in alloc; "{reason}")?;
+            assert!(rt; text.as_str() == "no rule applies");
+        }
+    }
+    Ok(())
+}
