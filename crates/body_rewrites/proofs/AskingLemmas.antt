@@ -5,7 +5,7 @@ use Rattle.std.specs.Global.{Vec}
 use Rattle.std.specs.List.{filter}
 use Rattle.std.proofs.lemmas.Bool.{false≢true}
 use Rattle.std.proofs.lemmas.List.{take_more, length-take-le, length-map, map-append}
-use Rattle.std.proofs.lemmas.Option.{same_Some}
+use Rattle.std.proofs.lemmas.Option.{get_or_from_slice_get, same_Some, slice_get_within}
 use Rattle.peephole_machine.specs.declared.integer.IntegerType.{IntegerType}
 use Rattle.peephole_machine.specs.Values.{Context}
 use Rattle.rewrite_rules.specs.declared.table.Row.{Row}
@@ -46,10 +46,19 @@ asked_more rows number d l =
     ∙ ap (λ n. asked_from 0 (take number rows) ++ asked_from n (get_or rows number d ∷ [])) size
     ∙ ap (λ zs. asked_from 0 (take number rows) ++ zs) (append-nil (asked_for number (get_or rows number d))))
 
-pub asked_next : (rows : List Row) (number : ℕ) (d : Row) (items more : List Asked) → number < length rows →
-    items ≡ asked_from 0 (take number rows) → more ≡ items ++ asked_for number (get_or rows number d) → more ≡ asked_from 0 (take (number + 1) rows)
-asked_next rows number d items more l is next =
-    next ∙ (ap (λ zs. zs ++ asked_for number (get_or rows number d)) is ∙ asked_more rows number d l)
+pub asked_next : (number : ℕ) (row : Row) (items more : List Asked) → slice_get ROWS number ≡ Some row → items ≡ asked_from 0 (take number ROWS) →
+    more ≡ items ++ asked_for number row → more ≡ asked_from 0 (take (number + 1) ROWS)
+asked_next number row items more there is next =
+    next ∙ ap₂ (λ zs r. zs ++ asked_for number r) is (sym (get_or_from_slice_get ROWS number row row there))
+    ∙ asked_more ROWS number row (slice_get_within ROWS number row there)
+
+there_in : (rows : List Row) (number : ℕ) → number < length rows → slice_get rows number ≡ None → ⊥
+there_in [] number l none = absurd (omega arith)
+there_in (row ∷ rows) zero l none = absurd cc
+there_in (row ∷ rows) (suc number) l none = there_in rows number (omega arith) none
+
+pub row_there : (number : ℕ) → number < length ROWS → slice_get ROWS number ≡ None → ⊥
+row_there = there_in ROWS
 
 module _ {A : Type 0} (test : A → Bool) where
   numbers_append : (number : ℕ) (xs ys : List A) → numbers_from test number (xs ++ ys) ≡ numbers_from test number xs ++ numbers_from test (number + length xs) ys

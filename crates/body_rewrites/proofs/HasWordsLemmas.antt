@@ -119,15 +119,21 @@ makes_inside context operators line at change widths.Both h = let inside = h.is.
 makes_inside context operators line at change (widths.Only t) h = let inside = h.is.is.inside in omega arith
 makes_inside context operators line at change widths.Any h = let inside = h.is.is.inside in omega arith
 
--- a rewrite that makes something may be asked of the body
+-- a rewrite that makes something is one of those that may be asked of its operator
+pub made_is_here : (context : Context) (operators : List (Operator × ℕ)) (r : Rewrite) → IsMade context operators r → Contains (by_rows r.operator 0 ROWS) r
+made_is_here context operators r (change, by) =
+    subst (λ (k : Rewrite). Contains (by_rows r.operator 0 ROWS) k)
+    (ap₂ (λ (n : ℕ) (width : IntegerType). rewrite_for r.operator n width) (let e : 0 + r.row ≡ r.row = omega arith in e) by.width_is)
+    (by_rows_contain r.operator 0 ROWS r.row by.line.row by.asked.place by.line.width by.asked.row_is by.asked.width_is)
+
+pub made_is_inside : (context : Context) (operators : List (Operator × ℕ)) (r : Rewrite) → IsMade context operators r → r.operator < length operators
+made_is_inside context operators r (change, by) = makes_inside context operators by.line r.operator change by.line.row.widths by.makes
+
+-- and of the body
 pub made_is_asked : (context : Context) (operators : List (Operator × ℕ)) (r : Rewrite) → IsMade context operators r →
     Contains (asked_below (length operators)) r
-made_is_asked context operators r (change, by) =
-    asked_contains (length operators) r.operator r
-    (makes_inside context operators by.line r.operator change by.line.row.widths by.makes)
-    (subst (λ (k : Rewrite). Contains (by_rows r.operator 0 ROWS) k)
-    (ap₂ (λ (n : ℕ) (width : IntegerType). rewrite_for r.operator n width) (let e : 0 + r.row ≡ r.row = omega arith in e) by.width_is)
-    (by_rows_contain r.operator 0 ROWS r.row by.line.row by.asked.place by.line.width by.asked.row_is by.asked.width_is))
+made_is_asked context operators r made =
+    asked_contains (length operators) r.operator r (made_is_inside context operators r made) (made_is_here context operators r made)
 
 -- ---- an item among those
 

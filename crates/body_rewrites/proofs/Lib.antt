@@ -33,6 +33,7 @@ pub mod PartsLemmas
 pub mod OwnGrowthLemmas
 pub mod ThoseLemmas
 pub mod ListingLemmas
+pub mod ReachedLemmas
 pub mod CountingLemmas
 pub mod ChoiceLemmas
 pub mod HasWordsLemmas

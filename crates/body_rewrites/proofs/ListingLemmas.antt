@@ -3,9 +3,9 @@ use Rattle.std.proofs.Common.{◌≡◌, ℕ, suc, ◌+◌, ◌<◌, ◌≤◌, 
 use Rattle.std.specs.Prelude.{Contains, Result, Ok, Err, OnOk, slice_get, ◌==◌, if◌then◌else◌}
 use Rattle.std.specs.List.{filter}
 use Rattle.std.proofs.lemmas.Bool.{eqb-true, eq-eqb, false≢true}
-use Rattle.std.proofs.lemmas.List.{take_more, length-take-le, map-append}
+use Rattle.std.proofs.lemmas.List.{map-append}
 use Rattle.std.proofs.lemmas.List.Elements.{filter_more}
-use Rattle.std.proofs.lemmas.Option.{get_or_from_slice_get, slice_get_within, same_Some}
+use Rattle.std.proofs.lemmas.Option.{same_Some}
 use Rattle.wasm_code.specs.declared.operator.Operator.{Operator}
 use Rattle.peephole_machine.specs.declared.integer.IntegerType.{IntegerType}
 use Rattle.peephole_machine.specs.Values.{Context}
@@ -18,8 +18,8 @@ use Rattle.body_rewrites.specs.declared.growth.Growth.{Growth}
 use Rattle.body_rewrites.specs.declared.places.Line.{Line}
 use Rattle.body_rewrites.specs.declared.rewrite.Rewrite.{Rewrite}
 use Rattle.body_rewrites.specs.Changes.{Change}
-use Rattle.body_rewrites.specs.Rewrites.{Makes, IsAsked, IsMade, asked_widths, by_rows, asked_below, growth_of}
-use Rattle.body_rewrites.specs.Listing.{AreThose, IsBy, HasGrowth, OneChange, found_as, AreFound, AddsFound, passing, widths_told, AreRules, has_number, has_some, is_by}
+use Rattle.body_rewrites.specs.Rewrites.{Makes, IsAsked, IsMade, by_rows, asked_below, growth_of}
+use Rattle.body_rewrites.specs.Listing.{AreThose, IsBy, HasGrowth, OneChange, found_as, AreFound, AddsFound, passing, AreRules, has_number, has_some, is_by}
 use Rattle.body_rewrites.proofs.ThoseLemmas.{head_contained, tail_contained, contained_cases, those_append}
 
 -- what is known of an answer
@@ -151,12 +151,12 @@ module _ (context : Context) (operators : List (Operator × ℕ)) (rows : List �
   some_of_rule None h = absurd (false≢true h)
   some_of_rule (Some n) h = let (rule, among, is) = has_number_of rules n h in (rule, among, ap (λ k. Some k) (sym is))
 
-  is_by_to : (r : Rewrite) (kind : Growth) → HasGrowth context operators kind r → is_by rows rules (found_as r kind) ≡ true → IsBy context operators rules r
+  pub is_by_to : (r : Rewrite) (kind : Growth) → HasGrowth context operators kind r → is_by rows rules (found_as r kind) ≡ true → IsBy context operators rules r
   is_by_to r kind has e =
       let (rule, among, is) = some_of_rule (slice_get rows r.row) e in
       ((has.change, has.made), (rule, among, sym (are r.row) ∙ is))
 
-  is_by_from : (r : Rewrite) (kind : Growth) → HasGrowth context operators kind r → IsBy context operators rules r → is_by rows rules (found_as r kind) ≡ true
+  pub is_by_from : (r : Rewrite) (kind : Growth) → HasGrowth context operators kind r → IsBy context operators rules r → is_by rows rules (found_as r kind) ≡ true
   is_by_from r kind has p =
       let (rule, among, is) = p.1 in
       ap (has_some rules) (are r.row ∙ is) ∙ number_had rules (rule_number rule) rule among refl

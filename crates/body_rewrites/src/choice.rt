@@ -109,7 +109,6 @@ pub fn choose<R: Rng>(
     alloc: Global,
     generator: &mut R,
     body: &Body<'_>,
-    table: &Table,
     rules: &[Rule],
 ) -> Result<Option<Rewrite>, AllocError>
     requires trees { HasItsTrees body.now }
@@ -123,7 +122,8 @@ pub fn choose<R: Rng>(
     ensures kept { IfOk result (λ o. IfNone o (generator.new ≡ generator.old)) }
     ensures refused { OnErr result (IsBegun (R.stream generator.old) (R.stream generator.new)) }
 {
-    let counted = counts_of_body(alloc, body, table)?;
+    let table = Table::new(alloc)?;
+    let counted = counts_of_body(alloc, body, &table)?;
     let counts = counted.as_slice();
     let kinds = open_growths(alloc, rules, counts)?;
     if kinds.is_empty() {
@@ -134,7 +134,7 @@ pub fn choose<R: Rng>(
     let rule = draw(generator, ways.as_slice());
     let count = count_of(counts, growth, rule);
     let number = draw_below(generator, count);
-    match rewrite_with_number(alloc, body, table, growth, rule, number)? {
+    match rewrite_with_number(alloc, body, &table, growth, rule, number)? {
         Some(rewrite) => Ok(Some(rewrite)),
         None => unreachable!(),
     }

@@ -136,7 +136,7 @@ fn has_number(rules: &[Rule], number: usize) -> bool
 }
 
 // Whether what is found is by one of the rules; `rows` are the rules of the rows.
-fn is_by(rows: &[u16], rules: &[Rule], found: Found) -> bool
+pub(crate) fn is_by(rows: &[u16], rules: &[Rule], found: Found) -> bool
     ensures { result ≡ is_by rows.now rules.now found }
 {
     match rows.get(found.rewrite.row).copied() {
@@ -170,7 +170,6 @@ fn add_by(
 pub fn rewrites_of_body(
     alloc: Global,
     body: &Body<'_>,
-    table: &Table,
     rules: &[Rule],
 ) -> Result<Vec<Rewrite>, AllocError>
     requires trees { HasItsTrees body.now }
@@ -178,10 +177,11 @@ pub fn rewrites_of_body(
         (IsBy (context_of body.now) body.now.operators.now rules.now)
         (asked_below (length body.now.operators.now)) list.items) }
 {
+    let table = Table::new(alloc)?;
     let rows = table.rules();
     let mut list = Vec::new(alloc);
     for at in 0..body.operators.len() {
-        let found = rewrites_at(alloc, body, table, at)?;
+        let found = rewrites_at(alloc, body, &table, at)?;
         add_by(rows, rules, found.as_slice(), &mut list)?;
     }
     Ok(list)

@@ -8,7 +8,6 @@ use crate::choice::choose;
 use crate::places::Body;
 use crate::rewrite::Rewrite;
 use crate::rewriting::rewrite_body;
-use crate::table::Table;
 use mutate_base::PrimitiveTypeInfo;
 use rand_core::Rng;
 use rewrite_rules::Rule;
@@ -31,7 +30,6 @@ pub fn rewrite_at_random<R: Rng>(
     generator: &mut R,
     body: &Body<'_>,
     input_wasm: &[u8],
-    table: &Table,
     rules: &[Rule],
     newfunc: &mut Function,
 ) -> Result<Option<Rewritten>, SinkError>
@@ -48,7 +46,7 @@ pub fn rewrite_at_random<R: Rng>(
         ((newfunc.new ≡ newfunc.old) × (R.stream generator.new ≡ R.stream generator.old))) }
     ensures restored { OnErr result (newfunc.new ≡ newfunc.old) }
 {
-    let Some(rewrite) = choose(alloc, generator, body, table, rules)? else {
+    let Some(rewrite) = choose(alloc, generator, body, rules)? else {
         return Ok(None);
     };
     let word = generator.next_u64();

@@ -4,20 +4,20 @@ ghost use Rattle.rewrite_rules.specs.Table.{ROWS};
 ghost use Rattle.body_rewrites.specs.Rewrites.{asked_widths};
 ghost use Rattle.body_rewrites.specs.Listing.{AreRules, widths_told};
 ghost use Rattle.body_rewrites.specs.Roots.{fits};
-ghost use Rattle.body_rewrites.specs.Asking.{asked_for, asked_from, all_asked, root_in, roots, numbers_from, candidates, AreLists};
+ghost use Rattle.body_rewrites.specs.Asking.{asked_for, all_asked, root_in, roots, numbers_from, candidates, AreLists};
 
 use crate::asked::Asked;
 use crate::places::Line;
 use crate::root::Root;
 use crate::roots::{fits, root_of};
 use peephole_machine::IntegerType;
-use rewrite_rules::{Row, Widths, rows, rules_of_rows};
+use rewrite_rules::{Row, Widths, row_at, row_count, rules_of_rows};
 use std::alloc::{AllocError, Global};
 use std::marker::Model;
 
-/// The table of rules, laid out for asking many operators for its lines: it is made once, and holds no more than memory does for it.
+/// The table of rules, laid out for asking many operators for its lines.
 #[derive(Drop)]
-pub struct Table {
+pub(crate) struct Table {
     // Its lines, by the row and the width.
     asked: Vec<Asked>,
     // For each row the number of its rule.
@@ -74,13 +74,15 @@ fn add_asked(number: usize, row: Row, list: &mut Vec<Asked>) -> Result<(), Alloc
     }
 }
 
-// The lines of these rows.
-fn asked_in(alloc: Global, rows: &[Row]) -> Result<Vec<Asked>, AllocError>
-    ensures { IfOk result (λ list. list.items ≡ asked_from 0 rows.now) }
+// The lines of all rows.
+fn all_asked(alloc: Global) -> Result<Vec<Asked>, AllocError>
+    ensures { IfOk result (λ list. list.items ≡ all_asked) }
 {
     let mut list = Vec::new(alloc);
-    for number in 0..rows.len() {
-        add_asked(number, rows[number], &mut list)?;
+    for number in 0..row_count() {
+        if let Some(row) = row_at(number) {
+            add_asked(number, row, &mut list)?;
+        }
     }
     Ok(list)
 }
@@ -139,9 +141,8 @@ fn list_at(lists: &[Vec<u16>], number: usize) -> &[u16]
 
 impl Table {
     /// The table. The only error is that memory was refused.
-    pub fn new(alloc: Global) -> Result<Table, AllocError> {
-        let rows = rows(alloc)?;
-        let asked = asked_in(alloc, rows.as_slice())?;
+    pub(crate) fn new(alloc: Global) -> Result<Table, AllocError> {
+        let asked = all_asked(alloc)?;
         let roots = roots_of(alloc, asked.as_slice())?;
         let trees = lists_of(alloc, roots.as_slice(), true)?;
         let others = lists_of(alloc, roots.as_slice(), false)?;

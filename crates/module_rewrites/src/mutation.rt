@@ -15,7 +15,7 @@ use crate::drawing::draw_entry;
 use crate::function::{FunctionBody, entry_at, function_index, read_function};
 use crate::laws::rewritten_modules_do_as_before;
 use crate::scope::Scope;
-use body_rewrites::{Body, Rewrite, Rewritten, Table, rewrite_at_random, trees_of};
+use body_rewrites::{Body, Rewrite, Rewritten, rewrite_at_random, trees_of};
 use body_splices::laws::own_bytes_stay;
 use mutate_base::ModuleInfo;
 use rand_core::Rng;
@@ -138,7 +138,6 @@ fn rewrite_function<R: Rng>(
     alloc: Global,
     info: &ModuleInfo<'_>,
     generator: &mut R,
-    table: &Table,
     rules: &[Rule],
     bytes: &[u8],
     function: &FunctionBody,
@@ -164,7 +163,7 @@ fn rewrite_function<R: Rng>(
         operators,
         trees: &trees,
     };
-    match rewrite_at_random(alloc, generator, &body, bytes, table, rules, sink) {
+    match rewrite_at_random(alloc, generator, &body, bytes, rules, sink) {
         Ok(made) => Ok(made),
         Err(_) => Err(MutationError::Memory),
     }
@@ -210,16 +209,7 @@ fn mutate_entry<R: Rng>(
     };
     let mut body = Function::new(alloc);
     let rules = scope.rules;
-    let made = match rewrite_function(
-        alloc,
-        info,
-        generator,
-        scope.table,
-        rules,
-        bytes,
-        &function,
-        &mut body,
-    ) {
+    let made = match rewrite_function(alloc, info, generator, rules, bytes, &function, &mut body) {
         Ok(Some(made)) => made,
         Ok(None) => return Ok(None),
         Err(e) => return Err(e),

@@ -1,14 +1,11 @@
 //! What of a module may be rewritten.
 
-use body_rewrites::Table;
 use rewrite_rules::Rule;
 use std::marker::Model;
 
 /// What of a module may be rewritten, and how large a new one may be.
 #[derive(Drop)]
 pub struct Scope<'a> {
-    /// The table of rules, laid out.
-    pub table: &'a Table,
     /// The rules.
     pub rules: &'a [Rule],
     /// The only function that may be rewritten, by its index among all functions of the module, imported ones first; none: any may

@@ -1,7 +1,6 @@
 //! A small module, rewritten by one rule where it makes one thing, under several seeds.
 
 use crate::{Scope, mutate_with_seed, rewrite_with_seed};
-use body_rewrites::Table;
 use rewrite_rules::Rule;
 use std::test::Fail;
 
@@ -24,11 +23,9 @@ const CASES: [(&str, &[u8]); 5] = [
 #[test]
 fn makes_what_a_rule_says(rt: HostRuntime) -> Result<(), Fail> {
     let alloc = rt.alloc();
-    let table = Table::new(alloc)?;
     for (name, code) in CASES {
         let rules = [Rule::from_name(name).expect(&rt, "it is a rule's name")];
         let scope = Scope {
-            table: &table,
             rules: &rules,
             function: None,
             max_size: 1_000,
@@ -47,10 +44,8 @@ fn makes_what_a_rule_says(rt: HostRuntime) -> Result<(), Fail> {
 #[test]
 fn says_why_nothing_is_rewritten(rt: HostRuntime) -> Result<(), Fail> {
     let alloc = rt.alloc();
-    let table = Table::new(alloc)?;
     let rules = [Rule::from_name("drop_or_self").expect(&rt, "it is a rule's name")];
     let scope = Scope {
-        table: &table,
         rules: &rules,
         function: None,
         max_size: 1_000,

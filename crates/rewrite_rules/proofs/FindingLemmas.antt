@@ -1,8 +1,8 @@
 -- Where a line of the table stands among the lines of its constants.
-use Rattle.std.proofs.Common.{◌≡◌, ℕ, zero, suc, ◌+◌, ◌-◌, ◌<◌, ◌≤◌, List, [], ◌∷◌, ◌++◌, None, length, get_or, drop, take, refl, sym, ap, ◌∙◌, arith, append-nil, append_assoc}
+use Rattle.std.proofs.Common.{◌≡◌, ℕ, zero, suc, ◌+◌, ◌-◌, ◌<◌, ◌≤◌, List, [], ◌∷◌, ◌++◌, None, length, get_or, drop, refl, ap, ◌∙◌, arith}
 use Rattle.std.specs.Prelude.{slice_get, map}
 use Rattle.std.proofs.Math.ListN.{get_or-map}
-use Rattle.std.proofs.lemmas.List.{drop_all, take_all}
+use Rattle.std.proofs.lemmas.List.{drop_all}
 use Rattle.rewrite_rules.specs.declared.lines.TheConstants.{COUNTS}
 use Rattle.rewrite_rules.specs.Table.{Entry, parts, part_at, joined}
 
@@ -64,32 +64,3 @@ behind_part part n l =
 pub behind_all : (part n : ℕ) → 13 ≤ part → slice_get (joined (drop part parts)) n ≡ None
 unfolding parts
 behind_all part n l = ap (λ lists. slice_get (joined lists) n) (drop_all part parts l)
-
--- ---- all of them
-
-none_there : (lists : List (List Entry)) (part : ℕ) → length lists ≤ part → get_or lists part [] ≡ []
-none_there [] part l = refl
-none_there (es ∷ lists) zero l = absurd (omega arith)
-none_there (es ∷ lists) (suc part) l = none_there lists part (omega arith)
-
--- nothing is added by one that isn't there
-pub part_past : (part : ℕ) → 13 ≤ part → (es : List Entry) → es ≡ es ++ part_at part
-unfolding parts
-part_past part l es = sym (ap (λ ds. es ++ ds) (none_there parts part l) ∙ append-nil es)
-
-next_joined : (lists : List (List Entry)) (part : ℕ) → joined (take (suc part) lists) ≡ joined (take part lists) ++ get_or lists part []
-next_joined [] zero = refl
-next_joined [] (suc part) = refl
-next_joined (es ∷ lists) zero = append-nil es
-next_joined (es ∷ lists) (suc part) =
-    ap (λ ds. es ++ ds) (next_joined lists part) ∙ sym (append_assoc es (joined (take part lists)) (get_or lists part []))
-
--- those of one constant more
-pub joined_more : (part : ℕ) → joined (take part parts) ++ part_at part ≡ joined (take (part + 1) parts)
-joined_more part =
-    let e : suc part ≡ part + 1 = omega arith in
-    sym (next_joined parts part) ∙ ap (λ n. joined (take n parts)) e
-
-pub joined_all : (part : ℕ) → 13 ≤ part → joined (take part parts) ≡ joined parts
-unfolding parts
-joined_all part l = ap joined (take_all part parts l)

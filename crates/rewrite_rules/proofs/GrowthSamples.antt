@@ -2,7 +2,7 @@
 use Rattle.std.proofs.Common.{◌≡◌, ℕ, Bool, true, false, List, [], ◌∷◌, Some, None, refl}
 use Rattle.std.specs.Prelude.{◌&&◌, if◌then◌else◌, codes}
 use Rattle.rewrite_rules.specs.Line.{Line}
-use Rattle.rewrite_rules.specs.Table.{Entry, entries, parts, lines_of}
+use Rattle.rewrite_rules.specs.Table.{Entry, entries, row_in, parts, lines_of}
 use Rattle.rewrite_rules.specs.Growth.{Growth, shrinks, keeps, grows, growth_of}
 use Rattle.rewrite_rules.proofs.NameLemmas.{is_among}
 
@@ -40,8 +40,9 @@ growth name = if is_among shrinking name then shrinks else (if is_among keeping 
 -- the lines are as said above, where the rule above them is of that growth
 as_said : Growth → List Entry → Bool
 as_said g [] = true
-as_said g ((None, row) ∷ es) = all_have g (lines_of row) && as_said g es
-as_said g ((Some name, row) ∷ es) = all_have (growth name.now) (lines_of row) && as_said (growth name.now) es
+as_said g ((None, w, k, l, r) ∷ es) = all_have g (lines_of (row_in (None, w, k, l, r))) && as_said g es
+as_said g ((Some name, w, k, l, r) ∷ es) =
+    all_have (growth name.now) (lines_of (row_in (Some name, w, k, l, r))) && as_said (growth name.now) es
 
 as_computed : as_said grows entries ≡ true
 unfolding growth all_have same as_said shrinking keeping parts

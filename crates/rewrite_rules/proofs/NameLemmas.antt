@@ -1,15 +1,18 @@
 -- The names of the rules, line by line; and that no two of them are the same.
-use Rattle.std.proofs.Common.{◌≡◌, ℕ, zero, suc, ◌+◌, ◌-◌, ◌<◌, ◌≤◌, Bool, true, false, List, [], ◌∷◌, ◌++◌, Option, Some, None, length, drop, take}
+use Rattle.std.proofs.Common.{◌≡◌, ℕ, zero, suc, ◌+◌, ◌-◌, ◌<◌, ◌≤◌, ◌⊎◌, Bool, true, false, List, [], ◌∷◌, ◌++◌, Option, Some, None, length, drop, take}
 use Rattle.std.proofs.Common.{refl, sym, ap, subst, ◌∙◌, arith, lit<, inl, inr}
-use Rattle.std.specs.Prelude.{◌&&◌, ◌||◌, not, slice_get, option_map}
+use Rattle.std.specs.Prelude.{◌&&◌, ◌||◌, not, map, slice_get, option_map}
 use borrow.Author.Count.{below_more}
 use Rattle.std.specs.Option.{option_flatten}
 use Rattle.std.specs.Str.{bytes_eq}
 use Rattle.std.specs.Cmp.Lexicographic.{other_text}
 use Rattle.std.proofs.lemmas.Bool.{and_parts}
-use Rattle.std.proofs.lemmas.List.{drop_all, length-append, length-map}
+use Rattle.std.specs.Borrow.{Bor}
+use Rattle.std.proofs.lemmas.List.{drop_all, take_all, length-append, length-map, map-append}
 use Rattle.std.proofs.lemmas.Option.{same_Some, slice_get_cases, slice_get_past, slice_get-get_or}
-use Rattle.rewrite_rules.specs.Table.{Entry, entries, parts, ROWS}
+use Rattle.rewrite_rules.specs.declared.rule.Rule.{Rule}
+use Rattle.rewrite_rules.specs.Rule.{rule_number}
+use Rattle.rewrite_rules.specs.Table.{entries, row_in, parts, ROWS}
 use Rattle.rewrite_rules.specs.Names.{name_in, begins, given, names, rule_of, NamesDiffer}
 
 -- ---- line by line
@@ -100,7 +103,7 @@ module _ (os : List (Option (List ℕ))) where
 -- ---- by the rows
 
 pub as_long : length begins ≡ length ROWS
-as_long = length-map entries name_in ∙ sym (length-map entries (λ (e : Entry). e.1))
+as_long = length-map entries name_in ∙ sym (length-map entries row_in)
 
 pub few_rows : length ROWS < 65535
 unfolding parts
@@ -136,6 +139,55 @@ pub no_more : (os : List (Option (List ℕ))) (i count : ℕ) → count ≡ leng
     count ≡ length (given (take (i + 1) os))
 no_more os i count h e = h ∙ (sym (none_up_to os i e) ∙ by_suc (λ n. length (given (take n os))) i)
 
+-- ---- the names of the lines so far
+
+some_given : (os : List (Option (List ℕ))) (i : ℕ) (t : List ℕ) → option_flatten (slice_get os i) ≡ Some t →
+    given (take (suc i) os) ≡ given (take i os) ++ t ∷ []
+some_given [] i t e = absurd cc
+some_given (Some s ∷ os) zero t e = ap (λ x. x ∷ []) (same_Some s t e)
+some_given (None ∷ os) zero t e = absurd cc
+some_given (Some s ∷ os) (suc i) t e = ap (λ zs. s ∷ zs) (some_given os i t e)
+some_given (None ∷ os) (suc i) t e = some_given os i t e
+
+none_given : (os : List (Option (List ℕ))) (i : ℕ) → option_flatten (slice_get os i) ≡ None → given (take (suc i) os) ≡ given (take i os)
+none_given [] zero e = refl
+none_given [] (suc i) e = refl
+none_given (Some s ∷ os) zero e = absurd cc
+none_given (None ∷ os) zero e = refl
+none_given (Some s ∷ os) (suc i) e = ap (λ zs. s ∷ zs) (none_given os i e)
+none_given (None ∷ os) (suc i) e = none_given os i e
+
+pub names_more : (items more : List (Bor (List ℕ))) (i : ℕ) (t : Bor (List ℕ)) → more ≡ items ++ t ∷ [] →
+    option_flatten (slice_get begins i) ≡ Some t.now → map (λ (t : Bor (List ℕ)). t.now) items ≡ given (take i begins) →
+    map (λ (t : Bor (List ℕ)). t.now) more ≡ given (take (i + 1) begins)
+names_more items more i t next here so =
+    ap (map (λ (t : Bor (List ℕ)). t.now)) next
+    ∙ (map-append (λ (t : Bor (List ℕ)). t.now) items (t ∷ [])
+    ∙ (ap (λ zs. zs ++ t.now ∷ []) so ∙ (sym (some_given begins i t.now here) ∙ by_suc (λ n. given (take n begins)) i)))
+
+pub names_same : (items : List (Bor (List ℕ))) (i : ℕ) → option_flatten (slice_get begins i) ≡ None →
+    map (λ (t : Bor (List ℕ)). t.now) items ≡ given (take i begins) → map (λ (t : Bor (List ℕ)). t.now) items ≡ given (take (i + 1) begins)
+names_same items i here so = so ∙ (sym (none_given begins i here) ∙ by_suc (λ n. given (take n begins)) i)
+
+pub all_names : (items : List (Bor (List ℕ))) (i : ℕ) → length ROWS ≤ i → map (λ (t : Bor (List ℕ)). t.now) items ≡ given (take i begins) →
+    map (λ (t : Bor (List ℕ)). t.now) items ≡ names
+all_names items i l so = let long = as_long in so ∙ ap given (take_all i begins (omega arith))
+
+fewer_given : (os : List (Option (List ℕ))) (i : ℕ) → length (given (take i os)) ≤ length (given os)
+fewer_given [] zero = omega arith
+fewer_given [] (suc i) = omega arith
+fewer_given (o ∷ os) zero = omega arith
+fewer_given (Some s ∷ os) (suc i) = let l = fewer_given os i in omega arith
+fewer_given (None ∷ os) (suc i) = fewer_given os i
+
+some_names : 0 < length names
+unfolding parts
+some_names = lit< tt
+
+-- the number of a row's rule is that of a name
+pub rule_below : (i count x : ℕ) → count ≡ length (given (take i begins)) → x ≡ count - 1 → x < length names
+rule_below i count x h is = let few = fewer_given begins i in let some = some_names in omega arith
+
 get_before : (xs : List ℕ) (x k : ℕ) → k < length xs → slice_get (xs ++ x ∷ []) k ≡ slice_get xs k
 get_before [] x k l = absurd (omega arith)
 get_before (y ∷ xs) x zero l = refl
@@ -170,6 +222,28 @@ rules_are rules i long l before n = elim (slice_get_cases rules n).1 as (λ z. s
   | inr h ↦ h.1 ∙ sym (ap (option_map (λ (name : Option (List ℕ)). length (given (take (n + 1) begins)) - 1))
       (slice_get_past begins n (let m = h.0 in let e = as_long in omega arith)))
 ]
+
+-- ---- all rules
+
+get_cases : (xs : List Rule) (x : Rule) (n : ℕ) (y : Rule) → slice_get (xs ++ x ∷ []) n ≡ Some y → (slice_get xs n ≡ Some y) ⊎ ((n ≡ length xs) × (x ≡ y))
+get_cases [] x zero y e = inr (refl, same_Some x y e)
+get_cases [] x (suc n) y e = absurd cc
+get_cases (z ∷ xs) x zero y e = inl e
+get_cases (z ∷ xs) x (suc n) y e = elim (get_cases xs x n y e) [
+  | inl h ↦ inl h
+  | inr h ↦ inr (ap (λ k. suc k) h.0, h.1)
+]
+
+pub numbered_more : (rules items : List Rule) (number : ℕ) (rule : Rule) → items ≡ rules ++ rule ∷ [] → length rules ≡ number → rule_number rule ≡ number →
+    ((n : ℕ) (r : Rule) → slice_get rules n ≡ Some r → rule_number r ≡ n) →
+    (length items ≡ number + 1) × ((n : ℕ) (r : Rule) → slice_get items n ≡ Some r → rule_number r ≡ n)
+numbered_more rules items number rule more long is before = (
+  ap length more ∙ (length-append rules (rule ∷ []) ∙ ap (λ n. n + 1) long),
+  λ n r e. elim (get_cases rules rule n r (ap (λ zs. slice_get zs n) (sym more) ∙ e)) [
+    | inl h ↦ before n r h
+    | inr h ↦ ap rule_number (sym h.1) ∙ (is ∙ (sym long ∙ sym h.0))
+  ],
+)
 
 -- ---- no two are the same
 

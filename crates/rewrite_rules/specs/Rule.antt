@@ -23,3 +23,8 @@ pub record RulesAreNamed : Type 0 where
   pub below : (rule : Rule) → rule_number rule < length names
   pub named : (rule : Rule) → slice_get names (rule_number rule) ≡ Some (rule_name rule)
   pub apart : (rule other : Rule) → rule_name rule ≡ rule_name other → rule ≡ other
+
+-- There is one for each name, by its number.
+pub record AreAllRules (rules : List Rule) : Type 0 where
+  pub count : length rules ≡ length names
+  pub each : (n : ℕ) (rule : Rule) → slice_get rules n ≡ Some rule → rule_number rule ≡ n

@@ -130,9 +130,13 @@ lines_of r = map (line_of r) (widths_in r.widths)
 abbrev pub Text : Type 0
 Text = record { now : List ℕ }
 
--- a line of it: the name of the rule that begins with it, where one does, and its row
+-- a line of it: the name of the rule that begins with it, where one does, its widths, what is asked of its constants, and its sides
 abbrev pub Entry : Type 0
-Entry = Option Text × Row
+Entry = Option Text × Widths × Option asked.Condition × List Step × List Step
+
+-- its row
+abbrev pub row_in : Entry → Row
+row_in e = record { widths = e.1; condition = e.2; left = e.3; right = e.4 }
 
 -- those of each constant
 unfoldable pub parts : List (List Entry)
@@ -152,7 +156,7 @@ entries = joined parts
 
 -- their rows
 abbrev pub rows_of : List Entry → List Row
-rows_of es = map (λ (e : Entry). e.1) es
+rows_of es = map row_in es
 
 abbrev pub ROWS : List Row
 ROWS = rows_of entries

@@ -2,7 +2,7 @@
 ghost use Rattle.std.specs.Prelude.{◌<◌, length};
 ghost use Rattle.rewrite_rules.specs.Names.{names};
 
-use crate::names::{name_of, number_of, rule_count};
+use crate::names::{name_of, number_of, number_of_row, rule_count};
 use std::str::FromStr;
 use thiserror::Error as ThisError;
 
@@ -19,9 +19,18 @@ pub struct Rule {
 pub struct UnknownRule;
 
 impl Rule {
-    ghost use Rattle.std.specs.Prelude.{◌≡◌, ◌≢◌, ◌≤◌, IfSome, IfNone};
+    ghost use Rattle.std.specs.Prelude.{◌≡◌, ◌≢◌, ◌<◌, ◌≤◌, Some, None, length, IfSome, IfNone};
+    ghost use Rattle.rewrite_rules.specs.Names.{rule_of};
     ghost use Rattle.rewrite_rules.specs.Rule.{rule_number, rule_name};
     ghost use Rattle.rewrite_rules.specs.declared.rule.Rule.{Rule};
+
+    // The rule with that number. Condition: there is one.
+    pub(crate) fn numbered(number: u16) -> Rule
+        requires { number < length names }
+        ensures { rule_number result ≡ number }
+    {
+        Rule { number }
+    }
 
     /// The rule with that number, or none where there are fewer.
     pub fn from_number(number: usize) -> Option<Rule>
@@ -31,6 +40,17 @@ impl Rule {
         if number >= rule_count() {
             return None;
         }
+        Some(Rule {
+            number: number as u16,
+        })
+    }
+
+    /// The rule that the row of the table with that number is of; none where there are fewer rows.
+    pub fn of_row(row: usize) -> Option<Rule>
+        ensures some { IfSome result (λ rule. rule_of row ≡ Some (rule_number rule)) }
+        ensures none { IfNone result (rule_of row ≡ None) }
+    {
+        let number = number_of_row(row)?;
         Some(Rule {
             number: number as u16,
         })

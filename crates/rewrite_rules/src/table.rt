@@ -113,8 +113,9 @@ pub struct Row {
     pub right: Side,
 }
 
-/// A line of the table: the name of the rule that begins with it, or none where it is a further line of the rule above, and its row.
-pub type TableLine = (Option<&'static str>, Row);
+/// A line of the table: the name of the rule that begins with it, or none where it is a further line of the rule above, and what its row
+/// is: its widths, what is asked of its constants, and its sides.
+pub type TableLine = (Option<&'static str>, Widths, Option<Condition>, Side, Side);
 
 // A step as rows write it: `c` and `d` are the numbers of the constants on the left side, `N` is the width in bits, and `log c` the place
 // of the lowest bit of `c`. An operator has its instruction's name; where its types are its own, the whole one, in parentheses.
@@ -208,12 +209,10 @@ macro_rules! row {
     ($($name:literal)? $(for $widths:ident)?: [$($l:tt)+] => [$($r:tt)+] $(if $($k:tt)+)?) => {
         (
             name!($($name)?),
-            Row {
-                widths: widths!($($widths)?),
-                condition: condition!($($($k)+)?),
-                left: side!($($l)+ end end end end end end),
-                right: side!($($r)+ end end end end end end),
-            },
+            widths!($($widths)?),
+            condition!($($($k)+)?),
+            side!($($l)+ end end end end end end),
+            side!($($r)+ end end end end end end),
         )
     };
 }
@@ -223,12 +222,10 @@ macro_rules! own {
     ($name:literal: $own:ident) => {
         (
             Some($name),
-            Row {
-                widths: Widths::Own(Own::$own),
-                condition: None,
-                left: [Step::End; 7],
-                right: [Step::End; 7],
-            },
+            Widths::Own(Own::$own),
+            None,
+            [Step::End; 7],
+            [Step::End; 7],
         )
     };
 }

@@ -1,7 +1,8 @@
 //! Each public call on rows of the table: names and numbers of rules, values of numbers, conditions, moves, and whether rows apply.
 
 use crate::{
-    Condition, Effects, Number, Rule, may_move, row_at, row_count, rows, rule_count, rules_of_rows,
+    Condition, Effects, Number, Rule, all_rules, may_move, row_at, row_count, rule_count,
+    rule_names, rules_of_rows,
 };
 use peephole_machine::IntegerType;
 use std::test::Fail;
@@ -29,6 +30,8 @@ fn tells_rules_by_their_names(rt: HostRuntime) -> Result<(), Fail> {
         assert!(rt; Rule::from_number(number) == Some(rule));
     }
     assert!(rt; rule_count() == 89);
+    assert!(rt; all_rules(rt.alloc())?.get(88).copied() == Rule::from_number(88));
+    assert!(rt; rule_names(rt.alloc())?.get(76).copied() == Some("join_sums"));
     assert!(rt; Rule::from_number(89).is_none());
     assert!(rt; "no_rule".parse::<Rule>().is_err());
     Ok(())
@@ -41,9 +44,8 @@ fn tells_of_which_rule_a_row_is(rt: HostRuntime) -> Result<(), Fail> {
     assert!(rt; rules.get(6).copied() == Some(0));
     assert!(rt; rules.get(7).copied() == Some(1));
     assert!(rt; row_at(row_count()).is_none());
-    let all = rows(rt.alloc())?;
-    assert!(rt; all.len() == row_count());
-    assert!(rt; all.get(7).copied() == row_at(7));
+    assert!(rt; Rule::of_row(7) == Rule::from_number(1));
+    assert!(rt; Rule::of_row(row_count()).is_none());
     Ok(())
 }
 

@@ -14,11 +14,11 @@ loop-index-preserved c =
     let count = c.loop-index.count in
     let h = c.loop-index.invariant in
     let within : i < length ROWS = omega arith in
-    let counted : c.match-name_in.count ≡ length (given (take (i + 1) begins)) = elim c.match-name_in.branch [
+    let counted : c.match-name_at.count ≡ length (given (take (i + 1) begins)) = elim c.match-name_at.branch [
       | in-Some w ↦ w.count-is ∙ one_more begins i count _ h.counted (sym w.in-Some.ensures)
       | in_default w ↦ w.count-is ∙ no_more begins i count h.counted (sym w.in_default.ensures)
     ] in
-    let few : c.match-name_in.count ≤ i + 1 = elim c.match-name_in.branch [
+    let few : c.match-name_at.count ≤ i + 1 = elim c.match-name_at.branch [
       | in-Some w ↦ omega arith
       | in_default w ↦ omega arith
     ] in
@@ -29,7 +29,7 @@ loop-index-preserved c =
       counted = counted;
       few = few;
       long = one_longer rules c.push.new.self.items i rule more h.long;
-      are = rules_more rules c.push.new.self.items i rule more h.long (rule_here i c.match-name_in.count rule within counted c.saturating_sub.ensures) h.are;
+      are = rules_more rules c.push.new.self.items i rule more h.long (rule_here i c.match-name_at.count rule within counted c.saturating_sub.ensures) h.are;
     }
 
 pub returns : goal.returns
