@@ -14,10 +14,11 @@ use Rattle.body_rewrites.specs.declared.asked.Asked.{Asked}
 use Rattle.body_rewrites.specs.declared.found.Found.{Found}
 use Rattle.body_rewrites.specs.declared.root.Root.{Root}
 use Rattle.body_rewrites.specs.declared.rewrite.Rewrite.{Rewrite}
+use Rattle.body_rewrites.specs.Alone.{form_of}
 use Rattle.body_rewrites.specs.Rewrites.{IsAsked, IsMade, asked_widths, by_rows}
 use Rattle.body_rewrites.specs.Listing.{AreFound, AddsFound}
 use Rattle.body_rewrites.specs.Roots.{IsClassAt, fits}
-use Rattle.body_rewrites.specs.Asking.{asked_for, asked_from, all_asked, root_in, roots, rewrite_of, rewrites_of, numbers_from, candidates, listed, picked, AreLists}
+use Rattle.body_rewrites.specs.Asking.{asked_for, asked_from, all_asked, root_in, roots, rewrite_of, rewrites_of, numbers_from, candidates, listed, picked, AreLists, IsAskedSo}
 use Rattle.body_rewrites.specs.Cutting.{IsTreeTold}
 use Rattle.body_rewrites.proofs.StandsLemmas.{Operators}
 use Rattle.body_rewrites.proofs.ListingLemmas.{line_nothing, adds_more}
@@ -123,7 +124,7 @@ few_roots = subst (λ n. n < 65536) (sym (length-map all_asked root_in)) few_ask
 -- ---- what is asked of an operator
 
 rewrites_for_are : (at number : ℕ) (row : Row) (widths : List IntegerType) →
-    rewrites_of at (map (λ (width : IntegerType). let a : Asked = record { number = number; line = record { row = row; width = width } } in a) widths)
+    rewrites_of at (map (λ (width : IntegerType). let a : Asked = record { number = number; form = form_of row; line = record { row = row; width = width } } in a) widths)
     ≡ map (λ (width : IntegerType). let r : Rewrite = record { operator = at; row = number; width = width } in r) widths
 rewrites_for_are at number row [] = refl
 rewrites_for_are at number row (w ∷ ws) =
@@ -148,11 +149,11 @@ among_widths f (w ∷ ws) zero a e = (w, refl, same_Some (f w) a e)
 among_widths f (w ∷ ws) (suc n) a e = among_widths f ws n a e
 
 is_asked_from : (number : ℕ) (rows : List Row) → ((k : ℕ) (row : Row) → slice_get rows k ≡ Some row → slice_get ROWS (number + k) ≡ Some row) →
-    (n : ℕ) (a : Asked) → slice_get (asked_from number rows) n ≡ Some a → IsAsked a.number a.line
+    (n : ℕ) (a : Asked) → slice_get (asked_from number rows) n ≡ Some a → IsAskedSo a
 is_asked_from number [] are n a e = absurd cc
 is_asked_from number (row ∷ rows) are n a e = elim (append_cases (asked_for number row) (asked_from (suc number) rows) n a e) [
   | inl h ↦
-      let (w, there, same) = among_widths (λ (width : IntegerType). let a : Asked = record { number = number; line = record { row = row; width = width } } in a)
+      let (w, there, same) = among_widths (λ (width : IntegerType). let a : Asked = record { number = number; form = form_of row; line = record { row = row; width = width } } in a)
       (asked_widths row.widths) n a h in
       let at : number + 0 ≡ number = omega arith in
       let asked : IsAsked number (record { row = row; width = w }) = record {
@@ -160,13 +161,13 @@ is_asked_from number (row ∷ rows) are n a e = elim (append_cases (asked_for nu
         place = n;
         width_is = there;
       } in
-      subst (λ (a : Asked). IsAsked a.number a.line) same asked
+      subst (λ (a : Asked). IsAskedSo a) same (record { line = asked; form_is = refl })
   | inr h ↦
       is_asked_from (suc number) rows
       (λ k row e. let next : suc number + k ≡ number + suc k = omega arith in ap (slice_get ROWS) next ∙ are (suc k) row e) h.0 a h.1
 ]
 
-pub is_asked : (n : ℕ) (a : Asked) → slice_get all_asked n ≡ Some a → IsAsked a.number a.line
+pub is_asked : (n : ℕ) (a : Asked) → slice_get all_asked n ≡ Some a → IsAskedSo a
 is_asked = is_asked_from 0 ROWS (λ k row e. let same : 0 + k ≡ k = omega arith in ap (slice_get ROWS) same ∙ e)
 
 -- ---- those whose root fits
@@ -231,7 +232,7 @@ module _ (context : Context) (operators : Operators) (at : ℕ) where
   found_all class is_class is_tree told found h =
       subst (λ items. AreFound context operators items found) (rewrites_are at 0 ROWS)
       (found_back (λ (a : Asked). fits class is_tree (root_in a)) all_asked found
-      (λ n a e off. line_nothing context operators at a.number a.line (is_asked n a e)
+      (λ n a e off. line_nothing context operators at a.number a.line (is_asked n a e).line
       (λ change made. false≢true (sym off ∙ makes_fits context operators at class is_class is_tree told a.line change made)))
       (subst (λ items. AreFound context operators (rewrites_of at items) found) (picked_from (fits class is_tree) [] all_asked) h))
 

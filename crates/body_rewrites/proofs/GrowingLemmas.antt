@@ -12,15 +12,15 @@ use Rattle.body_rewrites.proofs.StandsLemmas.{Operators}
 
 -- ---- numbers
 
-shrinks : (old new : ℕ) → new < old → Shrinks ≡ growth_by old new
+pub shrinks : (old new : ℕ) → new < old → Shrinks ≡ growth_by old new
 shrinks old new l = sym (ap (λ b. if b then Shrinks else (if new == old then Keeps else Grows)) (lt-ltb new old l))
 
-keeps : (old new : ℕ) → new ≡ old → Keeps ≡ growth_by old new
+pub keeps : (old new : ℕ) → new ≡ old → Keeps ≡ growth_by old new
 keeps old new e =
     sym (ap (λ b. if b then Shrinks else (if new == old then Keeps else Grows)) (le-ltb new old (omega (arith, e)))
     ∙ ap (λ b. if b then Keeps else Grows) (eq-eqb new old e))
 
-grows : (old new : ℕ) → old < new → Grows ≡ growth_by old new
+pub grows : (old new : ℕ) → old < new → Grows ≡ growth_by old new
 grows old new l =
     sym (ap (λ b. if b then Shrinks else (if new == old then Keeps else Grows)) (le-ltb new old (omega (arith, l)))
     ∙ ap (λ b. if b then Keeps else Grows) (ne_eqb new old (λ e. absurd (omega (arith, l, e)))))

@@ -14,6 +14,8 @@ pub mod OperandLemmas
 pub mod SplitLemmas
 pub mod LeftRowLemmas
 pub mod PlaceLemmas
+pub mod FormLemmas
+pub mod AloneLineLemmas
 pub mod OperatorLemmas
 pub mod WritingLemmas
 pub mod ChangedLemmas

@@ -7,14 +7,15 @@ use Rattle.rewrite_rules.specs.Table.{ROWS}
 use Rattle.body_rewrites.specs.declared.asked.Asked.{Asked}
 use Rattle.body_rewrites.specs.declared.root.Root.{Root}
 use Rattle.body_rewrites.specs.declared.rewrite.Rewrite.{Rewrite}
-use Rattle.body_rewrites.specs.Rewrites.{asked_widths}
+use Rattle.body_rewrites.specs.Alone.{form_of}
+use Rattle.body_rewrites.specs.Rewrites.{asked_widths, IsAsked}
 use Rattle.body_rewrites.specs.Roots.{root_of, fits}
 
 -- ---- lines
 
 -- those of the row with the number
 abbrev pub asked_for : (number : ℕ) → Row → List Asked
-asked_for number row = map (λ (width : IntegerType). record { number = number; line = record { row = row; width = width } }) (asked_widths row.widths)
+asked_for number row = map (λ (width : IntegerType). record { number = number; form = form_of row; line = record { row = row; width = width } }) (asked_widths row.widths)
 
 abbrev pub asked_from : (number : ℕ) → List Row → List Asked
 asked_from number [] = []
@@ -37,6 +38,11 @@ rewrite_of at asked = record { operator = at; row = asked.number; width = asked.
 
 abbrev pub rewrites_of : (at : ℕ) → List Asked → List Rewrite
 rewrites_of at list = map (rewrite_of at) list
+
+-- It is a row of the table for one of its widths, with what it is.
+pub record IsAskedSo (asked : Asked) : Type 0 where
+  pub line : IsAsked asked.number asked.line
+  pub form_is : asked.form ≡ form_of asked.line.row
 
 -- ---- which of them may apply
 

@@ -23,3 +23,4 @@ pub mod OwnSites
 pub mod Counting
 pub mod Roots
 pub mod Asking
+pub mod Alone

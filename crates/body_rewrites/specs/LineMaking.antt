@@ -1,5 +1,5 @@
 -- What a line of the table makes, as code has it (this project).
-use Rattle.std.specs.Prelude.{ℕ, List}
+use Rattle.std.specs.Prelude.{◌≡◌, ℕ, List}
 use Rattle.wasm_code.specs.declared.operator.Operator.{Operator}
 use Rattle.peephole_machine.specs.Values.{Context}
 use Rattle.body_rewrites.specs.declared.changes.NewCode.{NewCode}
@@ -8,7 +8,8 @@ use Rattle.body_rewrites.specs.declared.places.Line.{Line}
 use Rattle.body_rewrites.specs.declared.places.Place.{Place}
 use Rattle.body_rewrites.specs.Places.{context_of, IsPlaceOf}
 use Rattle.body_rewrites.specs.Changes.{Change, IsWritten}
-use Rattle.body_rewrites.specs.Rewrites.{IsLineChange}
+use Rattle.body_rewrites.specs.declared.growth.Growth.{Growth}
+use Rattle.body_rewrites.specs.Rewrites.{growth_of, IsLineChange}
 
 -- The code is what the line makes at the operator, by the word.
 pub record IsLineCodeOf (body : Body) (line : Line) (at word : ℕ) (code : NewCode) : Type 0 where
@@ -19,6 +20,12 @@ pub record IsLineCodeOf (body : Body) (line : Line) (at word : ℕ) (code : NewC
 -- the line makes nothing there
 abbrev pub LineMakesNothing : Body → Line → (at : ℕ) → Type 0
 LineMakesNothing body line at = (change : Change) → ¬ (IsLineChange (context_of body) body.operators.now line at change)
+
+-- The line makes something there, which does that to the number of operators.
+pub record LineChangeGrows (context : Context) (operators : List (Operator × ℕ)) (line : Line) (at : ℕ) (growth : Growth) : Type 0 where
+  pub change : Change
+  pub makes : IsLineChange context operators line at change
+  pub growth_is : growth_of operators at change ≡ growth
 
 -- it is a place of the line before `end`, by some module and locals (for a private function)
 abbrev pub IsSomePlaceOf : List (Operator × ℕ) → Line → (end : ℕ) → Place → Type 0

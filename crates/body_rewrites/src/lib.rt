@@ -1,6 +1,7 @@
 //! Bodies rewritten by rules.
 #![tactic(auto)]
 
+mod alone;
 mod asked;
 mod changes;
 mod choice;
@@ -12,6 +13,7 @@ mod growing;
 mod growth;
 mod instructions;
 pub mod laws;
+mod line_growth;
 mod line_making;
 mod listing;
 mod making;

@@ -2,58 +2,41 @@
 ghost use Rattle.std.specs.Prelude.{◌≡◌, ◌<◌, ◌+◌, ◌-◌, ◌++◌, [], ◌∷◌, length, slice_get, Some, IfOk, IfSome, IfNone, OnOk};
 ghost use Rattle.rewrite_rules.specs.Table.{ROWS};
 ghost use Rattle.body_rewrites.specs.Places.{context_of, HasItsTrees};
-ghost use Rattle.body_rewrites.specs.Rewrites.{IsAsked, MakesNothing, by_rows, asked_below};
-ghost use Rattle.body_rewrites.specs.Asking.{all_asked, rewrites_of, listed, picked};
-ghost use Rattle.body_rewrites.specs.Listing.{AreThose, IsBy, LineGrows, AreFound, AddsFound, passing, has_number, is_by};
+ghost use Rattle.body_rewrites.specs.Rewrites.{by_rows, asked_below};
+ghost use Rattle.body_rewrites.specs.Asking.{all_asked, rewrite_of, rewrites_of, listed, picked, IsAskedSo};
+ghost use Rattle.body_rewrites.specs.Listing.{AreThose, IsBy, AreFound, AddsFound, passing, has_number, is_by};
 
 use crate::asked::Asked;
 use crate::cutting::has_tree;
 use crate::found::Found;
-use crate::growing::growth_in;
-use crate::growth::Growth;
-use crate::making::made;
-use crate::places::{Body, Line};
+use crate::line_growth::line_growth;
+use crate::places::Body;
 use crate::rewrite::Rewrite;
 use crate::roots::class_at;
 use crate::table::Table;
 use rewrite_rules::Rule;
 use std::alloc::{AllocError, Global};
 
-// What the line does to the number of operators at the operator; none where it makes nothing there.
-fn line_growth(body: &Body<'_>, line: &Line, at: usize, number: usize) -> Option<Growth>
-    requires trees { HasItsTrees body.now }
-    requires asked { IsAsked number line.now }
-    requires inside { at < length body.now.operators.now }
-    ensures some { IfSome result (λ growth.
-        LineGrows (context_of body.now) body.now.operators.now line.now at growth) }
-    ensures none { IfNone result (MakesNothing body.now line.now at) }
-{
-    let code = made(body, line, at, 0)?;
-    Some(growth_in(body.operators, &code, at))
-}
-
-// Adds what the line makes at the operator; `number` is that of its row.
+// Adds what the line makes at the operator.
 fn add_line(
     body: &Body<'_>,
-    line: &Line,
+    asked: &Asked,
     at: usize,
-    number: usize,
     list: &mut Vec<Found>,
 ) -> Result<(), AllocError>
     requires trees { HasItsTrees body.now }
-    requires asked { IsAsked number line.now }
+    requires asked { IsAskedSo asked.now }
     requires inside { at < length body.now.operators.now }
     ensures { OnOk result (AddsFound (context_of body.now) body.now.operators.now
-        (record { operator = at; row = number; width = line.now.width } ∷ [])
-        list.old.items list.new.items) }
+        (rewrite_of at asked.now ∷ []) list.old.items list.new.items) }
 {
-    match line_growth(body, line, at, number) {
+    match line_growth(body, asked, at) {
         Some(growth) => {
             list.push(Found {
                 rewrite: Rewrite {
                     operator: at,
-                    row: number,
-                    width: line.width,
+                    row: asked.number,
+                    width: asked.line.width,
                 },
                 growth,
             })?;
@@ -78,7 +61,7 @@ fn ask(
         (rewrites_of at (listed (slice_get lines.now number))) list.old.items list.new.items) }
 {
     match lines.get(number) {
-        Some(asked) => add_line(body, &asked.line, at, asked.number, list),
+        Some(asked) => add_line(body, asked, at, list),
         None => Ok(()),
     }
 }

@@ -6,6 +6,7 @@ ghost use Rattle.body_rewrites.specs.Listing.{AreRules, widths_told};
 ghost use Rattle.body_rewrites.specs.Roots.{fits};
 ghost use Rattle.body_rewrites.specs.Asking.{asked_for, all_asked, root_in, roots, numbers_from, candidates, AreLists};
 
+use crate::alone::form_of;
 use crate::asked::Asked;
 use crate::places::Line;
 use crate::root::Root;
@@ -58,14 +59,17 @@ fn add_asked(number: usize, row: Row, list: &mut Vec<Asked>) -> Result<(), Alloc
     ensures { OnOk result (list.new.items ≡ list.old.items ++ asked_for number row) }
 {
     let (width, more) = widths_of(row.widths);
+    let form = form_of(&row);
     list.push(Asked {
         number,
+        form,
         line: Line { row, width },
     })?;
     match more {
         Some(width) => {
             list.push(Asked {
                 number,
+                form,
                 line: Line { row, width },
             })?;
             Ok(())
