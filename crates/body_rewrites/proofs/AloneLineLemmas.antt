@@ -1,16 +1,14 @@
 -- Lines whose left side is an operand alone: where they apply, and what they do to the number of operators.
-use Rattle.std.proofs.Common.{◌≡◌, ℕ, zero, suc, ◌+◌, ◌-◌, ◌<◌, ◌≤◌, ◌⊎◌, inl, inr, Bool, true, false, List, [], ◌∷◌, ◌++◌, length, drop, Option, Some, None, refl, sym, ap, ap₂, subst, ◌∙◌, arith, length-append}
+use Rattle.std.proofs.Common.{◌≡◌, ℕ, zero, suc, ◌+◌, ◌-◌, ◌<◌, ◌≤◌, Bool, true, false, List, [], ◌∷◌, length, drop, Option, Some, None, refl, sym, ap, ap₂, subst, ◌∙◌, arith, length-append}
 use Rattle.std.specs.Prelude.{◌==◌, ◌&&◌, ◌||◌, not, nat_lt, if◌then◌else◌, reverse, get_or, slice_get, slice_range}
-use Rattle.std.specs.Option.{option_flatten}
 use Rattle.std.specs.Cmp.Derive.{both_true}
 use Rattle.std.proofs.lemmas.Bool.{and_parts, eqb-true, ne_eqb, false≢true}
 use Rattle.std.proofs.lemmas.Option.{same_Some}
 use Rattle.wasm_code.specs.Instruction.{Instruction}
 use Rattle.wasm_code.specs.declared.operator.Operator.{Operator}
 use Rattle.mutate_base.specs.declared.types.PrimitiveTypeInfo.{PrimitiveTypeInfo}
-use Rattle.mutate_base.specs.declared.types.PrimitiveTypeInfo.TheVariants as primitive
 use Rattle.body_splices.specs.OwnBytes.{without_offsets}
-use Rattle.body_splices.specs.Laws.{piece_operators, pieces_operators}
+use Rattle.body_splices.specs.Laws.{pieces_operators}
 use Rattle.peephole_machine.specs.declared.integer.IntegerType.{IntegerType}
 use Rattle.peephole_machine.specs.declared.integer.IntegerType.TheVariants as integer
 use Rattle.peephole_machine.specs.Values.{Context, type_of, same_type}
@@ -31,7 +29,7 @@ use Rattle.rewrite_rules.specs.Numbers.{constant_at}
 use Rattle.rewrite_rules.specs.Operands.{types_fit, AreTypes, TypesAreTold}
 use Rattle.rewrite_rules.specs.Order.{is_in, may_move}
 use Rattle.rewrite_rules.specs.Parts.{draws, PartsAreTheCode}
-use Rattle.rewrite_rules.specs.Pattern.{Kind, holes}
+use Rattle.rewrite_rules.specs.Pattern.{holes}
 use Rattle.rewrite_rules.specs.Table as table
 use Rattle.rewrite_rules.specs.Table.{ROWS, parts_for, kinds_for, conditions_for, SidesAreParts}
 use Rattle.body_rewrites.specs.declared.growth.Growth.{Growth}
@@ -43,12 +41,12 @@ use Rattle.body_rewrites.specs.Alone.{are_alone, doubles, takes, alone_growth}
 use Rattle.body_rewrites.specs.Changes.{Change}
 use Rattle.body_rewrites.specs.Cutting.{AreCut}
 use Rattle.body_rewrites.specs.Listing.{LineGrows}
-use Rattle.body_rewrites.specs.Matching.{instructions, operators_in, operand_code, IsMatch, LeftsAreInstances}
+use Rattle.body_rewrites.specs.Matching.{operand_code, IsMatch, LeftsAreInstances}
 use Rattle.body_rewrites.specs.Operands.{has_hole}
 use Rattle.body_rewrites.specs.Places.{IsLine, meant, left_parts, operands_in, place_told, IsPlaceOf}
 use Rattle.body_rewrites.specs.Rewrites.{Makes, IsLineChange}
 use Rattle.body_rewrites.specs.Trees.{Stands, IsTree, HasTree, IsTreeAt, TreesLeave}
-use Rattle.body_rewrites.specs.Writing.{piece_for, side_pieces, by_line}
+use Rattle.body_rewrites.specs.Writing.{side_pieces, by_line}
 use Rattle.body_rewrites.proofs.StandsLemmas.{Operators}
 use Rattle.body_rewrites.proofs.AlikeLemmas.{code_there}
 use Rattle.body_rewrites.proofs.GrowingLemmas.{grows}

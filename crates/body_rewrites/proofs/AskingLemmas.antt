@@ -1,28 +1,23 @@
 -- The lines of the table, as operators are asked for them.
-use Rattle.std.proofs.Common.{◌≡◌, ℕ, zero, suc, ◌+◌, ◌<◌, ◌⊎◌, inl, inr, Bool, true, false, cond, List, [], ◌∷◌, ◌++◌, length, map, take, get_or, Option, Some, None, refl, sym, ap, ap₂, subst, ◌∙◌, arith, lit<, append-nil, append_assoc, length-append}
-use Rattle.std.specs.Prelude.{slice_get, if◌then◌else◌, Result, Ok, Err, IfOk}
+use Rattle.std.proofs.Common.{◌≡◌, ℕ, zero, suc, ◌+◌, ◌<◌, ◌≤◌, ◌⊎◌, inl, inr, Bool, true, false, cond, List, [], ◌∷◌, ◌++◌, length, map, take, get_or, Option, Some, None, refl, sym, ap, ap₂, subst, ◌∙◌, arith, lit<, append-nil, append_assoc, length-append}
+use Rattle.std.specs.Prelude.{slice_get, if◌then◌else◌, Result, Ok, Err, IfOk, IfSome}
 use Rattle.std.specs.Global.{Vec}
 use Rattle.std.specs.List.{filter}
-use Rattle.std.proofs.lemmas.Bool.{false≢true}
 use Rattle.std.proofs.lemmas.List.{take_more, length-take-le, length-map, map-append}
-use Rattle.std.proofs.lemmas.Option.{get_or_from_slice_get, same_Some, slice_get_within}
+use Rattle.std.proofs.lemmas.Option.{get_or_from_slice_get, same_Some, slice_get_within, slice_get-get_or}
 use Rattle.peephole_machine.specs.declared.integer.IntegerType.{IntegerType}
 use Rattle.peephole_machine.specs.Values.{Context}
 use Rattle.rewrite_rules.specs.declared.table.Row.{Row}
 use Rattle.rewrite_rules.specs.Table.{parts, ROWS}
 use Rattle.body_rewrites.specs.declared.asked.Asked.{Asked}
 use Rattle.body_rewrites.specs.declared.found.Found.{Found}
-use Rattle.body_rewrites.specs.declared.root.Root.{Root}
 use Rattle.body_rewrites.specs.declared.rewrite.Rewrite.{Rewrite}
-use Rattle.body_rewrites.specs.Alone.{form_of}
-use Rattle.body_rewrites.specs.Rewrites.{IsAsked, IsMade, asked_widths, by_rows}
-use Rattle.body_rewrites.specs.Listing.{AreFound, AddsFound}
-use Rattle.body_rewrites.specs.Roots.{IsClassAt, fits}
-use Rattle.body_rewrites.specs.Asking.{asked_for, asked_from, all_asked, root_in, roots, rewrite_of, rewrites_of, numbers_from, candidates, listed, picked, AreLists, IsAskedSo}
-use Rattle.body_rewrites.specs.Cutting.{IsTreeTold}
+use Rattle.body_rewrites.specs.Rewrites.{IsAsked, asked_widths, by_rows}
+use Rattle.body_rewrites.specs.Listing.{AreThose, AreFound, AddsFound}
+use Rattle.body_rewrites.specs.Asking.{asked_as, asked_for, asked_from, all_asked, rewrite_of, rewrites_of, is_candidate, numbers_from, candidates, listed, picked, IsUsed, AreLists, AreAsked, IsAskedSo}
 use Rattle.body_rewrites.proofs.StandsLemmas.{Operators}
-use Rattle.body_rewrites.proofs.ListingLemmas.{line_nothing, adds_more}
-use Rattle.body_rewrites.proofs.RootLemmas.{makes_fits}
+use Rattle.body_rewrites.proofs.ListingLemmas.{adds_more}
+use Rattle.body_rewrites.proofs.ThoseLemmas.{those_with, those_without}
 
 -- what is known of an answer
 pub if_ok : {X E : Type 0} {P Q : X → Type 0} (r : Result X E) → ((x : X) → P x → Q x) → IfOk r P → IfOk r Q
@@ -99,18 +94,19 @@ last_cases (z ∷ xs) x (suc n) y e = elim (last_cases xs x n y e) [
   | inr h ↦ inr (ap (λ k. suc k) h.0, h.1)
 ]
 
-pub no_lists : (all : List Root) (is_tree : Bool) → AreLists all is_tree 0 []
-no_lists all is_tree = record { long = refl; each = λ class v e. absurd cc }
+pub no_lists : (used : List Bool) → AreLists used 0 []
+no_lists used = record { long = refl; each = λ class v e. absurd cc }
 
-pub one_list_more : (all : List Root) (is_tree : Bool) (count : ℕ) (lists more : List (Vec ℕ)) (v : Vec ℕ) → AreLists all is_tree count lists →
-    more ≡ lists ++ v ∷ [] → v.items ≡ numbers_from (fits count is_tree) 0 all → AreLists all is_tree (count + 1) more
-one_list_more all is_tree count lists more v are is list_is =
+pub one_list_more : (used : List Bool) (count : ℕ) (lists more : List (Vec ℕ)) (v : Vec ℕ) → AreLists used count lists →
+    more ≡ lists ++ v ∷ [] → (IsUsed used count → v.items ≡ candidates count) → AreLists used (count + 1) more
+one_list_more used count lists more v are is list_is =
     let long = are.long in
-    subst (AreLists all is_tree (count + 1)) (sym is) (record {
+    subst (AreLists used (count + 1)) (sym is) (record {
       long = length-append lists (v ∷ []) ∙ ap (λ n. n + 1) long;
-      each = λ class w e. elim (last_cases lists v class w e) [
-        | inl h ↦ are.each class w h
-        | inr h ↦ ap (λ (u : Vec ℕ). u.items) (sym h.1) ∙ list_is ∙ ap (λ n. numbers_from (fits n is_tree) 0 all) (sym (h.0 ∙ long))
+      each = λ class w e marked. elim (last_cases lists v class w e) [
+        | inl h ↦ are.each class w h marked
+        | inr h ↦ (let same : class ≡ count = h.0 ∙ long in
+            ap (λ (u : Vec ℕ). u.items) (sym h.1) ∙ list_is (subst (IsUsed used) same marked) ∙ ap candidates (sym same))
       ];
     })
 
@@ -118,19 +114,16 @@ pub few_asked : length all_asked < 65536
 unfolding parts
 few_asked = lit< tt
 
-pub few_roots : length roots < 65536
-few_roots = subst (λ n. n < 65536) (sym (length-map all_asked root_in)) few_asked
-
 -- ---- what is asked of an operator
 
 rewrites_for_are : (at number : ℕ) (row : Row) (widths : List IntegerType) →
-    rewrites_of at (map (λ (width : IntegerType). let a : Asked = record { number = number; form = form_of row; line = record { row = row; width = width } } in a) widths)
+    rewrites_of at (map (asked_as number row) widths)
     ≡ map (λ (width : IntegerType). let r : Rewrite = record { operator = at; row = number; width = width } in r) widths
 rewrites_for_are at number row [] = refl
 rewrites_for_are at number row (w ∷ ws) =
     ap (λ rs. (let r : Rewrite = record { operator = at; row = number; width = w } in r) ∷ rs) (rewrites_for_are at number row ws)
 
-rewrites_are : (at number : ℕ) (rows : List Row) → rewrites_of at (asked_from number rows) ≡ by_rows at number rows
+pub rewrites_are : (at number : ℕ) (rows : List Row) → rewrites_of at (asked_from number rows) ≡ by_rows at number rows
 rewrites_are at number [] = refl
 rewrites_are at number (row ∷ rows) =
     map-append (rewrite_of at) (asked_for number row) (asked_from (suc number) rows)
@@ -153,21 +146,20 @@ is_asked_from : (number : ℕ) (rows : List Row) → ((k : ℕ) (row : Row) → 
 is_asked_from number [] are n a e = absurd cc
 is_asked_from number (row ∷ rows) are n a e = elim (append_cases (asked_for number row) (asked_from (suc number) rows) n a e) [
   | inl h ↦
-      let (w, there, same) = among_widths (λ (width : IntegerType). let a : Asked = record { number = number; form = form_of row; line = record { row = row; width = width } } in a)
-      (asked_widths row.widths) n a h in
+      let (w, there, same) = among_widths (asked_as number row) (asked_widths row.widths) n a h in
       let at : number + 0 ≡ number = omega arith in
       let asked : IsAsked number (record { row = row; width = w }) = record {
         row_is = ap (slice_get ROWS) (sym at) ∙ are 0 row refl;
         place = n;
         width_is = there;
       } in
-      subst (λ (a : Asked). IsAskedSo a) same (record { line = asked; form_is = refl })
+      subst (λ (a : Asked). IsAskedSo a) same (record { line = asked; form_is = refl; root_is = refl })
   | inr h ↦
       is_asked_from (suc number) rows
       (λ k row e. let next : suc number + k ≡ number + suc k = omega arith in ap (slice_get ROWS) next ∙ are (suc k) row e) h.0 a h.1
 ]
 
-pub is_asked : (n : ℕ) (a : Asked) → slice_get all_asked n ≡ Some a → IsAskedSo a
+pub is_asked : AreAsked all_asked
 is_asked = is_asked_from 0 ROWS (λ k row e. let same : 0 + k ≡ k = omega arith in ap (slice_get ROWS) same ∙ e)
 
 -- ---- those whose root fits
@@ -176,22 +168,21 @@ get_here : {A : Type 0} (xs : List A) (x : A) (ys : List A) → slice_get (xs ++
 get_here [] x ys = refl
 get_here (z ∷ xs) x ys = get_here xs x ys
 
-picked_from : (test : Root → Bool) (before xs : List Asked) →
-    picked (before ++ xs) (numbers_from test (length before) (map root_in xs)) ≡ filter (λ (a : Asked). test (root_in a)) xs
+pub picked_from : (test : Asked → Bool) (before xs : List Asked) → picked (before ++ xs) (numbers_from test (length before) xs) ≡ filter test xs
 picked_from test before [] = refl
 picked_from test before (x ∷ xs) =
     let size : length (before ++ x ∷ []) ≡ suc (length before) =
     length-append before (x ∷ []) ∙ (let e : length before + 1 ≡ suc (length before) = omega arith in e) in
-    go (test (root_in x))
-    (ap₂ (λ list n. picked list (numbers_from test n (map root_in xs))) (sym (append_assoc before (x ∷ []) xs)) (sym size)
+    go (test x)
+    (ap₂ (λ list n. picked list (numbers_from test n xs)) (sym (append_assoc before (x ∷ []) xs)) (sym size)
     ∙ picked_from test (before ++ x ∷ []) xs)
   where
-    go : (b : Bool) → picked (before ++ x ∷ xs) (numbers_from test (suc (length before)) (map root_in xs)) ≡ filter (λ (a : Asked). test (root_in a)) xs →
+    go : (b : Bool) → picked (before ++ x ∷ xs) (numbers_from test (suc (length before)) xs) ≡ filter test xs →
         picked (before ++ x ∷ xs)
-        (if b then length before ∷ numbers_from test (suc (length before)) (map root_in xs) else numbers_from test (suc (length before)) (map root_in xs))
-        ≡ cond b (x ∷ filter (λ (a : Asked). test (root_in a)) xs) (filter (λ (a : Asked). test (root_in a)) xs)
+        (if b then length before ∷ numbers_from test (suc (length before)) xs else numbers_from test (suc (length before)) xs)
+        ≡ cond b (x ∷ filter test xs) (filter test xs)
     go true rest =
-        ap (λ o. listed o ++ picked (before ++ x ∷ xs) (numbers_from test (suc (length before)) (map root_in xs))) (get_here before x xs)
+        ap (λ o. listed o ++ picked (before ++ x ∷ xs) (numbers_from test (suc (length before)) xs)) (get_here before x xs)
         ∙ ap (λ zs. x ∷ zs) rest
     go false rest = rest
 
@@ -201,7 +192,7 @@ picked_append list [] ms = refl
 picked_append list (n ∷ ns) ms =
     ap (λ zs. listed (slice_get list n) ++ zs) (picked_append list ns ms) ∙ sym (append_assoc (listed (slice_get list n)) (picked list ns) (picked list ms))
 
-picked_more : (at : ℕ) (list : List Asked) (numbers : List ℕ) (i d : ℕ) → i < length numbers →
+pub picked_more : (at : ℕ) (list : List Asked) (numbers : List ℕ) (i d : ℕ) → i < length numbers →
     rewrites_of at (picked list (take i numbers)) ++ rewrites_of at (listed (slice_get list (get_or numbers i d)))
     ≡ rewrites_of at (picked list (take (i + 1) numbers))
 picked_more at list numbers i d l =
@@ -210,44 +201,86 @@ picked_more at list numbers i d l =
     ∙ ap (λ zs. picked list (take i numbers) ++ zs) (append-nil (listed (slice_get list (get_or numbers i d)))))
     ∙ map-append (rewrite_of at) (picked list (take i numbers)) (listed (slice_get list (get_or numbers i d))))
 
-module _ (context : Context) (operators : Operators) (at : ℕ) where
-  -- those that do not pass make nothing
-  found_back : (test : Asked → Bool) (list : List Asked) (found : List Found) →
-      ((n : ℕ) (a : Asked) → slice_get list n ≡ Some a → test a ≡ false → IsMade context operators (rewrite_of at a) → ⊥) →
-      AreFound context operators (rewrites_of at (filter test list)) found → AreFound context operators (rewrites_of at list) found
-  found_back test [] found never h = h
-  found_back test (x ∷ xs) found never h = go (test x) refl h (λ rest. found_back test xs rest (λ n. never (suc n)))
-    where
-      go : (b : Bool) → test x ≡ b → AreFound context operators (rewrites_of at (cond b (x ∷ filter test xs) (filter test xs))) found →
-          ((rest : List Found) → AreFound context operators (rewrites_of at (filter test xs)) rest → AreFound context operators (rewrites_of at xs) rest) →
-          AreFound context operators (rewrites_of at (x ∷ xs)) found
-      go true e (inl (growth, has, rest, is, are)) back = inl (growth, has, rest, is, back rest are)
-      go true e (inr (none, are)) back = inr (none, back found are)
-      go false e are back = inr (never 0 x refl e, back found are)
+picked_few : (list : List Asked) (numbers : List ℕ) → length (picked list numbers) ≤ length numbers
+picked_few list [] = omega arith
+picked_few list (n ∷ ns) =
+    let few = picked_few list ns in
+    let one = listed_few (slice_get list n) in
+    let all = length-append (listed (slice_get list n)) (picked list ns) in
+    omega (arith, few, one, all)
+  where
+    listed_few : (o : Option Asked) → length (listed o) ≤ 1
+    listed_few None = omega arith
+    listed_few (Some a) = omega arith
 
-  -- those that are found among the candidates are all
-  pub found_all : (class : ℕ) → IsClassAt operators at class → (is_tree : Bool) → IsTreeTold context operators at is_tree → (found : List Found) →
-      AreFound context operators (rewrites_of at (picked all_asked (candidates class is_tree))) found →
-      AreFound context operators (by_rows at 0 ROWS) found
-  found_all class is_class is_tree told found h =
-      subst (λ items. AreFound context operators items found) (rewrites_are at 0 ROWS)
-      (found_back (λ (a : Asked). fits class is_tree (root_in a)) all_asked found
-      (λ n a e off. line_nothing context operators at a.number a.line (is_asked n a e).line
-      (λ change made. false≢true (sym off ∙ makes_fits context operators at class is_class is_tree told a.line change made)))
-      (subst (λ items. AreFound context operators (rewrites_of at items) found) (picked_from (fits class is_tree) [] all_asked) h))
+-- no more are picked, and made of an operator, than numbers are there
+pub rewrites_few : (at : ℕ) (list : List Asked) (numbers : List ℕ) → length (rewrites_of at (picked list numbers)) ≤ length numbers
+rewrites_few at list numbers =
+    let few = picked_few list numbers in
+    let size = length-map (picked list numbers) (rewrite_of at) in
+    omega (arith, few, size)
 
-  -- those of one number more
-  pub found_more : (list : List Asked) (numbers : List ℕ) (i d : ℕ) → i < length numbers → (old new : List Found) →
-      AddsFound context operators (rewrites_of at (picked list (take i numbers))) [] old →
-      AddsFound context operators (rewrites_of at (listed (slice_get list (get_or numbers i d)))) old new →
-      AddsFound context operators (rewrites_of at (picked list (take (i + 1) numbers))) [] new
-  found_more list numbers i d l old new before more =
-      subst (λ items. AddsFound context operators items [] new) (picked_more at list numbers i d l)
-      (adds_more context operators (rewrites_of at (picked list (take i numbers))) (rewrites_of at (listed (slice_get list (get_or numbers i d)))) [] old new
-      before more)
+numbers_few : {A : Type 0} (test : A → Bool) (number : ℕ) (xs : List A) → length (numbers_from test number xs) ≤ length xs
+numbers_few test number [] = omega arith
+numbers_few test number (x ∷ xs) = go (test x) _ (numbers_few test (suc number) xs)
+  where
+    go : (b : Bool) (ns : List ℕ) → length ns ≤ length xs → length (if b then number ∷ ns else ns) ≤ length (x ∷ xs)
+    go true ns l = omega arith
+    go false ns l = omega arith
 
-  -- no line has the number
-  pub found_none : (o : Option Asked) (old : List Found) → o ≡ None → AddsFound context operators (rewrites_of at (listed o)) old old
-  found_none o old e =
-      subst (λ o. AddsFound context operators (rewrites_of at (listed o)) old old) (sym e)
-      (record { more = []; are = refl; new_is = sym (append-nil old) })
+pub candidates_few : (class : ℕ) → length (candidates class) < 65536
+candidates_few class = let few = numbers_few (is_candidate class) 0 all_asked in let all = few_asked in omega (arith, few, all)
+
+-- ---- the list of a class that is used
+
+pub class_is_used : (used : List Bool) (class : ℕ) → IsUsed used class → class < length used
+class_is_used used class marked = slice_get_within used class true marked
+
+pub list_is : (used : List Bool) (lists : List (Vec ℕ)) → AreLists used 169 lists → (class : ℕ) → class < 169 → IsUsed used class → (numbers : List ℕ) →
+    IfSome (slice_get lists class) (λ list. numbers ≡ list.items) → numbers ≡ candidates class
+list_is used lists are class l marked numbers h = go (slice_get lists class) refl h
+  where
+    there : {A : Type 0} (xs : List A) (n : ℕ) → n < length xs → slice_get xs n ≡ None → ⊥
+    there [] n l none = absurd (omega arith)
+    there (x ∷ xs) zero l none = absurd cc
+    there (x ∷ xs) (suc n) l none = there xs n (omega arith) none
+
+    go : (o : Option (Vec ℕ)) → slice_get lists class ≡ o → IfSome o (λ list. numbers ≡ list.items) → numbers ≡ candidates class
+    go (Some v) e same = same ∙ are.each class v e marked
+    go None e same = absurd (there lists class (let long = are.long in omega arith) e)
+
+-- ---- line by line
+
+pub asked_at : (list : List Asked) → AreAsked list → (i : ℕ) (d : Asked) → i < length list → IsAskedSo (get_or list i d)
+asked_at list are i d l = are i (get_or list i d) (slice_get-get_or list i d l)
+
+pub rewrites_next : (at : ℕ) (list : List Asked) (i : ℕ) (d : Asked) → i < length list →
+    rewrites_of at (take i list) ++ rewrite_of at (get_or list i d) ∷ [] ≡ rewrites_of at (take (i + 1) list)
+rewrites_next at list i d l =
+    sym (ap (rewrites_of at) (take_more list i d l) ∙ map-append (rewrite_of at) (take i list) (get_or list i d ∷ []))
+
+pub all_added : (context : Context) (operators : Operators) (items : List Rewrite) (found : List Found) → AddsFound context operators items [] found →
+    AreFound context operators items found
+all_added context operators items found h = subst (AreFound context operators items) (sym h.new_is) h.are
+
+pub added_next : (context : Context) (operators : Operators) (at here : ℕ) → here ≡ at → (list : List Asked) (i : ℕ) (d : Asked) → i < length list →
+    (old new : List Found) → AddsFound context operators (rewrites_of at (take i list)) [] old →
+    AddsFound context operators (rewrite_of here (get_or list i d) ∷ []) old new → AddsFound context operators (rewrites_of at (take (i + 1) list)) [] new
+added_next context operators at here same list i d l old new before one =
+    subst (λ items. AddsFound context operators items [] new) (rewrites_next at list i d l)
+    (adds_more context operators (rewrites_of at (take i list)) (rewrite_of at (get_or list i d) ∷ []) [] old new before
+    (subst (λ n. AddsFound context operators (rewrite_of n (get_or list i d) ∷ []) old new) same one))
+
+module _ (P : Rewrite → Type 0) (at : ℕ) (list : List Asked) (i : ℕ) (d : Asked) (l : i < length list) (old : List Rewrite)
+    (before : AreThose P (rewrites_of at (take i list)) old) where
+  pub those_next : (new : List Rewrite) → P (rewrite_of at (get_or list i d)) → new ≡ old ++ rewrite_of at (get_or list i d) ∷ [] →
+      AreThose P (rewrites_of at (take (i + 1) list)) new
+  those_next new p next =
+      subst (AreThose P (rewrites_of at (take (i + 1) list))) (sym next)
+      (subst (λ items. AreThose P items (old ++ rewrite_of at (get_or list i d) ∷ [])) (rewrites_next at list i d l)
+      (those_with P (rewrites_of at (take i list)) (rewrite_of at (get_or list i d)) old before p))
+
+  pub those_skip : (P (rewrite_of at (get_or list i d)) → ⊥) → AreThose P (rewrites_of at (take (i + 1) list)) old
+  those_skip never =
+      subst (λ items. AreThose P items old) (rewrites_next at list i d l)
+      (those_without P (rewrites_of at (take i list)) (rewrite_of at (get_or list i d)) old before never)

@@ -1,9 +1,9 @@
 -- How many rewrites there are by each rule that do each thing to the number of operators, as they are counted.
-use Rattle.std.proofs.Common.{◌≡◌, ℕ, zero, suc, ◌+◌, ◌*◌, ◌^◌, ◌<◌, ◌≤◌, ◌⊎◌, inl, inr, Bool, true, false, cond, List, [], ◌∷◌, ◌++◌, length, map, take, drop, get_or, Option, Some, None, refl, sym, ap, ap₂, subst, ◌∙◌, arith, append-nil, append_assoc, length-append}
-use Rattle.std.specs.Prelude.{Result, Ok, Err, IfOk, slice_get, option_map}
+use Rattle.std.proofs.Common.{◌≡◌, ℕ, zero, suc, ◌+◌, ◌*◌, ◌^◌, ◌<◌, ◌≤◌, ◌⊎◌, inl, inr, Bool, true, false, cond, List, [], ◌∷◌, ◌++◌, length, map, take, get_or, Option, Some, None, refl, sym, ap, ap₂, subst, ◌∙◌, arith, append-nil, append_assoc, length-append}
+use Rattle.std.specs.Prelude.{◌==◌, Result, Ok, Err, IfOk, IfSome, IfNone, slice_get, option_map, option_to_list}
 use Rattle.std.specs.List.{filter}
 use Rattle.std.proofs.lemmas.Bool.{eqb-true, eq-eqb, false≢true}
-use Rattle.std.proofs.lemmas.List.{length-map, length-take-le, map-append, take-append-drop}
+use Rattle.std.proofs.lemmas.List.{length-map, length-take-le}
 use Rattle.std.proofs.lemmas.List.Elements.{filter_more, filter-append}
 use Rattle.std.proofs.lemmas.Option.{slice_get-get_or, slice_get_within, same_Some}
 use Rattle.wasm_code.specs.declared.operator.Operator.{Operator}
@@ -13,19 +13,23 @@ use Rattle.rewrite_rules.specs.declared.rule.Rule.{Rule}
 use Rattle.rewrite_rules.specs.declared.table.Row.{Row}
 use Rattle.rewrite_rules.specs.declared.table.Widths.{Widths}
 use Rattle.rewrite_rules.specs.declared.table.Widths.TheVariants.{Both, Only, Any, Own}
+use Rattle.rewrite_rules.specs.Names.{rule_of}
 use Rattle.rewrite_rules.specs.Rule.{rule_number}
 use Rattle.rewrite_rules.specs.Table.{ROWS}
-use Rattle.rewrite_rules.proofs.NameLemmas.{few_rows}
 use Rattle.body_rewrites.specs.declared.found.Found.{Found}
 use Rattle.body_rewrites.specs.declared.growth.Growth.{Growth}
 use Rattle.body_rewrites.specs.declared.growth.Growth.TheVariants.{Shrinks, Keeps, Grows}
 use Rattle.body_rewrites.specs.declared.rewrite.Rewrite.{Rewrite}
-use Rattle.body_rewrites.specs.Rewrites.{asked_widths, by_rows, asked_below}
-use Rattle.body_rewrites.specs.Listing.{AreThose, HasGrowth, OneChange, found_as, AreFound, passing, AreRules}
+use Rattle.body_rewrites.specs.declared.asked.Asked.{Asked}
+use Rattle.body_rewrites.specs.declared.trees.Tree.{Tree}
+use Rattle.body_rewrites.specs.Asking.{all_asked, rewrites_of, AreAsked, IsAskedSo}
+use Rattle.body_rewrites.specs.Rewrites.{IsMade, asked_widths, by_rows, asked_below}
+use Rattle.body_rewrites.specs.Listing.{AreThose, HasGrowth, OneChange, found_as, AreFound, passing}
 use Rattle.body_rewrites.specs.Choice.{IsOf}
-use Rattle.body_rewrites.specs.Counting.{slot_of, is_slot, is_in_slot, AddsCounts, count_in, HaveRoom, AreCounts, FindsIn}
-use Rattle.body_rewrites.proofs.ThoseLemmas.{those_append, those_first, those_same}
-use Rattle.body_rewrites.proofs.ListingLemmas.{growth_one, found_few, found_passing, passing_more, asked_more}
+use Rattle.body_rewrites.specs.Counting.{slot_of, is_slot, is_in_slot, AddsCounts, count_in, CountsFound, HaveRoom, alone_slot, alone_slots, slots_in, is_number, is_of, asked_of, AreCounts, FindsIn}
+use Rattle.body_rewrites.proofs.ThoseLemmas.{those_append, those_parts, those_first, those_same}
+use Rattle.body_rewrites.proofs.AskingLemmas.{few_asked, rewrites_are}
+use Rattle.body_rewrites.proofs.ListingLemmas.{growth_one, found_append, found_few, found_passing, asked_more}
 
 -- ---- lists
 
@@ -33,6 +37,14 @@ use Rattle.body_rewrites.proofs.ListingLemmas.{growth_one, found_few, found_pass
 pub ok_map : {X E : Type 0} {P Q : X → Type 0} (r : Result X E) → ((x : X) → P x → Q x) → IfOk r P → IfOk r Q
 ok_map (Ok x) f h = f x h
 ok_map (Err e) f h = h
+
+pub if_some : {A : Type 0} {P Q : A → Type 0} (o : Option A) → ((x : A) → P x → Q x) → IfSome o P → IfSome o Q
+if_some (Some x) f h = f x h
+if_some None f h = h
+
+pub if_none : {A : Type 0} {P Q : Type 0} (o : Option A) → (P → Q) → IfNone o P → IfNone o Q
+if_none (Some x) f h = h
+if_none None f h = f h
 
 -- ---- places of counts
 
@@ -61,73 +73,135 @@ is_the_slot o kind other number e f =
     ∙ eq-eqb (slot_of number other) (slot_of number other) refl
 
 -- those that are counted at a rule's place are the rule's
-module _ (one : OneChange) (context : Context) (operators : List (Operator × ℕ)) (rows : List ℕ) (rules : AreRules rows) (kind : Growth) (rule : Rule) where
+module _ (one : OneChange) (context : Context) (operators : List (Operator × ℕ)) (kind : Growth) (rule : Rule) where
   of_to : (r : Rewrite) (other : Growth) → HasGrowth context operators other r →
-      is_in_slot rows (slot_of (rule_number rule) kind) (found_as r other) ≡ true → IsOf context operators kind rule r
+      is_in_slot (slot_of (rule_number rule) kind) (found_as r other) ≡ true → IsOf context operators kind rule r
   of_to r other has h =
-      let (row_is, same) = slot_is (slice_get rows r.row) other kind (rule_number rule) h in
-      (subst (λ (k : Growth). HasGrowth context operators k r) same has, sym (rules r.row) ∙ row_is)
+      let (row_is, same) = slot_is (rule_of r.row) other kind (rule_number rule) h in
+      (subst (λ (k : Growth). HasGrowth context operators k r) same has, row_is)
 
   of_from : (r : Rewrite) (other : Growth) → HasGrowth context operators other r → IsOf context operators kind rule r →
-      is_in_slot rows (slot_of (rule_number rule) kind) (found_as r other) ≡ true
+      is_in_slot (slot_of (rule_number rule) kind) (found_as r other) ≡ true
   of_from r other has p =
-      is_the_slot (slice_get rows r.row) other kind (rule_number rule) (rules r.row ∙ p.1) (growth_one context operators one r other kind has p.0)
+      is_the_slot (rule_of r.row) other kind (rule_number rule) p.1 (growth_one context operators one r other kind has p.0)
 
   pub of_passing : (items : List Rewrite) (found : List Found) → AreFound context operators items found →
-      AreThose (IsOf context operators kind rule) items (passing (is_in_slot rows (slot_of (rule_number rule) kind)) found)
+      AreThose (IsOf context operators kind rule) items (passing (is_in_slot (slot_of (rule_number rule) kind)) found)
   of_passing items found are =
-      found_passing context operators (IsOf context operators kind rule) (is_in_slot rows (slot_of (rule_number rule) kind))
+      found_passing context operators (IsOf context operators kind rule) (is_in_slot (slot_of (rule_number rule) kind))
       (λ r p. (p.0.change, p.0.made)) of_to of_from items found are
-
-  -- so they are in a list that was lent, at a place that is told
-  pub of_found : (slot : ℕ) → slot ≡ slot_of (rule_number rule) kind → (items : List Rewrite) (found lent : List Found) → lent ≡ found →
-      AreFound context operators items found → AreThose (IsOf context operators kind rule) items (passing (is_in_slot rows slot) lent)
-  of_found slot e items found lent same are =
-      subst (AreThose (IsOf context operators kind rule) items)
-      (sym (ap₂ (λ (n : ℕ) (zs : List Found). passing (is_in_slot rows n) zs) e same)) (of_passing items found are)
 
 -- ---- one after another
 
-pub count_in_more : (rows : List ℕ) (found : List Found) (i : ℕ) (d : Found) → i < length found → (slot : ℕ) →
-    count_in rows (take (i + 1) found) slot ≡ count_in rows (take i found) slot + count_in rows (get_or found i d ∷ []) slot
-count_in_more rows found i d l slot =
-    let test = is_in_slot rows slot in
-    ap length (filter_more test found i d l) ∙ length-append (filter test (take i found)) (cond (test (get_or found i d)) (get_or found i d ∷ []) [])
-
-count_few : (rows : List ℕ) (found : List Found) (slot : ℕ) → count_in rows found slot ≤ length found
-count_few rows [] slot = omega arith
-count_few rows (x ∷ xs) slot = let l = count_few rows xs slot in one_few (is_in_slot rows slot x) (filter (is_in_slot rows slot) xs) l
+count_few : (found : List Found) (slot : ℕ) → count_in found slot ≤ length found
+count_few [] slot = omega arith
+count_few (x ∷ xs) slot = let l = count_few xs slot in one_few (is_in_slot slot x) (filter (is_in_slot slot) xs) l
   where
     one_few : (b : Bool) (kept : List Found) → length kept ≤ length xs → length (cond b (x ∷ kept) kept) ≤ length (x ∷ xs)
     one_few true kept l = omega arith
     one_few false kept l = omega arith
 
-pub adds_no_counts : (rows counts : List ℕ) (found : List Found) → AddsCounts (count_in rows (take 0 found)) counts counts
-adds_no_counts rows counts found = record { count = refl; each = λ slot n h. h ∙ ap (λ k. Some k) (let e : n ≡ n + 0 = omega arith in e) }
+count_append : (xs ys : List Found) (slot : ℕ) → count_in (xs ++ ys) slot ≡ count_in xs slot + count_in ys slot
+count_append xs ys slot = ap length (filter-append (is_in_slot slot) xs ys) ∙ length-append (filter (is_in_slot slot) xs) (filter (is_in_slot slot) ys)
 
-pub adds_counts_more : (rows : List ℕ) (found : List Found) (i : ℕ) (d : Found) → i < length found → (old mid new : List ℕ) →
-    AddsCounts (count_in rows (take i found)) old mid → AddsCounts (count_in rows (get_or found i d ∷ [])) mid new →
-    AddsCounts (count_in rows (take (i + 1) found)) old new
-adds_counts_more rows found i d l old mid new a b = record {
+-- where no more is counted than there is room for, the rest is left
+pub room_left : (more : ℕ → ℕ) (most room : ℕ) (old new : List ℕ) → ((slot : ℕ) → more slot ≤ most) → AddsCounts more old new →
+    HaveRoom (most + room) old → HaveRoom room new
+room_left more most room old new few adds some slot n h =
+    let size = adds.count in
+    let inside = slice_get_within new slot n h in
+    let was = slice_get-get_or old slot 0 (omega arith) in
+    let space = some slot (get_or old slot 0) was in
+    let is : n ≡ get_or old slot 0 + more slot = same_Some n (get_or old slot 0 + more slot) (sym h ∙ adds.each slot (get_or old slot 0) was) in
+    let here = few slot in
+    omega arith
+
+pub less_room : (room more : ℕ) (counts : List ℕ) → room ≤ more → HaveRoom more counts → HaveRoom room counts
+less_room room more counts l some slot n h = let space = some slot n h in omega arith
+
+module _ (context : Context) (operators : List (Operator × ℕ)) where
+  pub counts_nothing : (counts : List ℕ) → CountsFound context operators [] counts counts
+  counts_nothing counts = record {
+    found = [];
+    are = refl;
+    adds = record { count = refl; each = λ slot n h. h ∙ ap (λ k. Some k) (let e : n ≡ n + 0 = omega arith in e) };
+  }
+
+  pub counts_never : (r : Rewrite) (counts : List ℕ) → (IsMade context operators r → ⊥) → CountsFound context operators (r ∷ []) counts counts
+  counts_never r counts never = record {
+    found = [];
+    are = inr (never, refl);
+    adds = record { count = refl; each = λ slot n h. h ∙ ap (λ k. Some k) (let e : n ≡ n + 0 = omega arith in e) };
+  }
+
+  pub counts_append : (xs ys : List Rewrite) (old mid new : List ℕ) → CountsFound context operators xs old mid → CountsFound context operators ys mid new →
+      CountsFound context operators (xs ++ ys) old new
+  counts_append xs ys old mid new a b = record {
+    found = a.found ++ b.found;
+    are = found_append context operators xs ys a.found b.found a.are b.are;
+    adds = record {
+      count = b.adds.count ∙ a.adds.count;
+      each = λ slot n h. b.adds.each slot (n + count_in a.found slot) (a.adds.each slot n h)
+          ∙ ap (λ k. Some k) (let all = count_append a.found b.found slot in omega (arith, all));
+    };
+  }
+
+  pub room_behind : (items : List Rewrite) (most room : ℕ) (old new : List ℕ) → length items ≤ most → CountsFound context operators items old new →
+      HaveRoom (most + room) old → HaveRoom room new
+  room_behind items most room old new l counted some =
+      room_left (count_in counted.found) most room old new
+      (λ slot. let few = count_few counted.found slot in let fewer = found_few context operators items counted.found counted.are in omega (arith, few, fewer, l))
+      counted.adds some
+
+-- ---- places
+
+slots_few : (slots : List ℕ) (slot : ℕ) → slots_in slots slot ≤ length slots
+slots_few [] slot = omega arith
+slots_few (x ∷ xs) slot = let l = slots_few xs slot in one_few (x == slot) (filter (λ other. other == slot) xs) l
+  where
+    one_few : (b : Bool) (kept : List ℕ) → length kept ≤ length xs → length (cond b (x ∷ kept) kept) ≤ length (x ∷ xs)
+    one_few true kept l = omega arith
+    one_few false kept l = omega arith
+
+slots_more : (slots : List ℕ) (i d slot : ℕ) → i < length slots →
+    slots_in (take (i + 1) slots) slot ≡ slots_in (take i slots) slot + slots_in (get_or slots i d ∷ []) slot
+slots_more slots i d slot l =
+    let test = λ (other : ℕ). other == slot in
+    ap length (filter_more test slots i d l) ∙ length-append (filter test (take i slots)) (cond (test (get_or slots i d)) (get_or slots i d ∷ []) [])
+
+pub no_slots_yet : (slots counts : List ℕ) → AddsCounts (slots_in (take 0 slots)) counts counts
+no_slots_yet slots counts = record { count = refl; each = λ slot n h. h ∙ ap (λ k. Some k) (let e : n ≡ n + 0 = omega arith in e) }
+
+pub one_slot_more : (slots : List ℕ) (i d : ℕ) → i < length slots → (old mid new : List ℕ) → AddsCounts (slots_in (take i slots)) old mid →
+    AddsCounts (slots_in (get_or slots i d ∷ [])) mid new → AddsCounts (slots_in (take (i + 1) slots)) old new
+one_slot_more slots i d l old mid new a b = record {
   count = b.count ∙ a.count;
-  each = λ slot n h.
-      b.each slot (n + count_in rows (take i found) slot) (a.each slot n h)
-      ∙ ap (λ k. Some k) (let e = count_in_more rows found i d l slot in omega arith);
+  each = λ slot n h. b.each slot (n + slots_in (take i slots) slot) (a.each slot n h)
+      ∙ ap (λ k. Some k) (let all = slots_more slots i d slot l in omega (arith, all));
 }
 
 -- there is room for one more, where there is for all
-pub room_for_one : (rows : List ℕ) (found : List Found) (i : ℕ) → i < length found → (old new : List ℕ) → HaveRoom (length found) old →
-    AddsCounts (count_in rows (take i found)) old new → HaveRoom 1 new
-room_for_one rows found i l old new room a slot n h =
-    let size = a.count in
-    let inside = slice_get_within new slot n h in
-    let was = slice_get-get_or old slot 0 (omega arith) in
-    let few = count_few rows (take i found) slot in
-    let some = room slot (get_or old slot 0) was in
-    let is : n ≡ get_or old slot 0 + count_in rows (take i found) slot =
-    same_Some n (get_or old slot 0 + count_in rows (take i found) slot) (sym h ∙ a.each slot (get_or old slot 0) was) in
-    let long = length-take-le i found (omega arith) in
-    omega arith
+pub room_for_slot : (slots : List ℕ) (i : ℕ) → i < length slots → (old new : List ℕ) → HaveRoom (length slots) old →
+    AddsCounts (slots_in (take i slots)) old new → HaveRoom 1 new
+room_for_slot slots i l old new room adds =
+    let long = length-take-le i slots (omega arith) in
+    room_left (slots_in (take i slots)) i 1 old new (λ slot. let few = slots_few (take i slots) slot in omega (arith, few, long)) adds
+    (less_room (i + 1) (length slots) old (omega arith) room)
+
+alone_few : (tree : Tree) (list : List Asked) → length (alone_slots tree list) ≤ length list
+alone_few tree [] = omega arith
+alone_few tree (a ∷ list) =
+    let rest = alone_few tree list in
+    let all = length-append (option_to_list (alone_slot tree a)) (alone_slots tree list) in
+    let one = one_few (alone_slot tree a) in
+    omega (arith, rest, all, one)
+  where
+    one_few : (o : Option ℕ) → length (option_to_list o) ≤ 1
+    one_few None = omega arith
+    one_few (Some n) = omega arith
+
+pub few_alone : (tree : Tree) → length (alone_slots tree all_asked) ≤ 65536
+few_alone tree = let few = alone_few tree all_asked in let all = few_asked in omega (arith, few, all)
 
 -- ---- how many there may be
 
@@ -147,59 +221,58 @@ by_rows_few at number (row ∷ rows) =
     widths_few Any = omega arith
     widths_few (Own o) = omega arith
 
-pub asked_few : (end : ℕ) → length (asked_below end) ≤ 131070 * end
-asked_few zero = omega arith
-asked_few (suc at) =
-    let before = asked_few at in
+pub asked_few : length ROWS < 65535 → (end : ℕ) → length (asked_below end) ≤ 131070 * end
+asked_few rows zero = omega arith
+asked_few rows (suc at) =
+    let before = asked_few rows at in
     let size = length-append (asked_below at) (by_rows at 0 ROWS) in
     let here = by_rows_few at 0 ROWS in
-    let rows = few_rows in
     omega arith
 
 -- ---- operator by operator
 
 module _ (context : Context) (operators : List (Operator × ℕ)) where
   -- there is room for those of one operator more
-  pub counts_have_room : (at : ℕ) (counts : List ℕ) (found : List Found) → at < 2 ^ 64 → AreCounts context operators at counts →
-      AreFound context operators (by_rows at 0 ROWS) found → HaveRoom (length found) counts
-  counts_have_room at counts found l are here slot n h =
+  pub counts_have_room : length ROWS < 65535 → (at : ℕ) (counts : List ℕ) → at < 2 ^ 64 → AreCounts context operators at counts → HaveRoom 131072 counts
+  counts_have_room rows at counts l are slot n h =
       let most = are.most slot n h in
-      let before = asked_few at in
-      let few = found_few context operators (by_rows at 0 ROWS) found here in
-      let rows = by_rows_few at 0 ROWS in
-      let table = few_rows in
+      let before = asked_few rows at in
       omega arith
 
-  pub counts_more : OneChange → (rows : List ℕ) → AreRules rows → (at : ℕ) (found : List Found) (old new : List ℕ) → AreCounts context operators at old →
-      AreFound context operators (by_rows at 0 ROWS) found → AddsCounts (count_in rows found) old new → AreCounts context operators (at + 1) new
-  counts_more one rows rules at found old new are here adds = record {
-    count = adds.count ∙ are.count;
-    each = λ kind rule.
-        let before = are.each kind rule in
-        let slot = slot_of (rule_number rule) kind in
-        let more = passing (is_in_slot rows slot) found in
-        let P = IsOf context operators kind rule in
-        record {
-          those = before.those ++ more;
-          are = subst (λ items. AreThose P items (before.those ++ more)) (sym (asked_more at))
-              (those_append P (asked_below at) (by_rows at 0 ROWS) before.those more before.are
-              (of_passing one context operators rows rules kind rule (by_rows at 0 ROWS) found here));
-          count = adds.each slot (length before.those) before.count
-              ∙ ap (λ k. Some k) (ap (λ k. length before.those + k) (sym (length-map (filter (is_in_slot rows slot) found) (λ (f : Found). f.rewrite)))
-              ∙ sym (length-append before.those more));
-        };
-    most = λ slot n h.
-        let size = adds.count in
-        let inside = slice_get_within new slot n h in
-        let was = slice_get-get_or old slot 0 (omega arith) in
-        let most = are.most slot (get_or old slot 0) was in
-        let is : n ≡ get_or old slot 0 + count_in rows found slot =
-        same_Some n (get_or old slot 0 + count_in rows found slot) (sym h ∙ adds.each slot (get_or old slot 0) was) in
-        let few = count_few rows found slot in
-        let fewer = found_few context operators (by_rows at 0 ROWS) found here in
-        let long = ap length (asked_more at) ∙ length-append (asked_below at) (by_rows at 0 ROWS) in
-        omega arith;
-  }
+  pub counts_more : OneChange → (at : ℕ) (old new : List ℕ) → AreCounts context operators at old →
+      CountsFound context operators (by_rows at 0 ROWS) old new → AreCounts context operators (at + 1) new
+  counts_more one at old new are counted =
+      let found = counted.found in
+      let here = counted.are in
+      let adds = counted.adds in
+      record {
+        count = adds.count ∙ are.count;
+        each = λ kind rule.
+            let before = are.each kind rule in
+            let slot = slot_of (rule_number rule) kind in
+            let more = passing (is_in_slot slot) found in
+            let P = IsOf context operators kind rule in
+            record {
+              those = before.those ++ more;
+              are = subst (λ items. AreThose P items (before.those ++ more)) (sym (asked_more at))
+                  (those_append P (asked_below at) (by_rows at 0 ROWS) before.those more before.are
+                  (of_passing one context operators kind rule (by_rows at 0 ROWS) found here));
+              count = adds.each slot (length before.those) before.count
+                  ∙ ap (λ k. Some k) (ap (λ k. length before.those + k) (sym (length-map (filter (is_in_slot slot) found) (λ (f : Found). f.rewrite)))
+                  ∙ sym (length-append before.those more));
+            };
+        most = λ slot n h.
+            let size = adds.count in
+            let inside = slice_get_within new slot n h in
+            let was = slice_get-get_or old slot 0 (omega arith) in
+            let most = are.most slot (get_or old slot 0) was in
+            let is : n ≡ get_or old slot 0 + count_in found slot =
+            same_Some n (get_or old slot 0 + count_in found slot) (sym h ∙ adds.each slot (get_or old slot 0) was) in
+            let few = count_few found slot in
+            let fewer = found_few context operators (by_rows at 0 ROWS) found here in
+            let long = ap length (asked_more at) ∙ length-append (asked_below at) (by_rows at 0 ROWS) in
+            omega arith;
+      }
 
 -- ---- the item with a number
 
@@ -213,65 +286,103 @@ slice_get_behind {A} [] ys n at e = let none : length {A = A} [] ≡ 0 = refl in
 slice_get_behind (x ∷ xs) ys n zero e = absurd (omega arith)
 slice_get_behind (x ∷ xs) ys n (suc at) e = slice_get_behind xs ys n at (omega arith)
 
--- the next one that passes is that with the number, where as many passed before it
-pub passes_at : (test : Found → Bool) (found : List Found) (i : ℕ) (d : Found) → i < length found → test (get_or found i d) ≡ true → (left number : ℕ) →
-    length (passing test (take i found)) + left ≡ number → left ≡ 0 → slice_get (passing test found) number ≡ Some (get_or found i d).rewrite
-passes_at test found i d l passes left number count none =
-    let before = passing test (take i found) in
-    let here = passing_more test found i d l true passes in
-    let parts : passing test found ≡ passing test (take (i + 1) found) ++ passing test (drop (i + 1) found) =
-    ap (passing test) (sym (take-append-drop (i + 1) found))
-    ∙ ap (map (λ (f : Found). f.rewrite)) (filter-append test (take (i + 1) found) (drop (i + 1) found))
-    ∙ map-append (λ (f : Found). f.rewrite) (filter test (take (i + 1) found)) (filter test (drop (i + 1) found)) in
-    ap (λ zs. slice_get zs number) (parts ∙ ap (λ zs. zs ++ passing test (drop (i + 1) found)) here)
-    ∙ slice_get_front (before ++ (get_or found i d).rewrite ∷ []) (passing test (drop (i + 1) found)) number (get_or found i d).rewrite
-    (slice_get_behind before ((get_or found i d).rewrite ∷ []) 0 number (omega arith))
+-- ---- by the lines of a rule
 
-asked_before : (n m : ℕ) → m ≤ n → (ys : List Rewrite) × (asked_below n ≡ asked_below m ++ ys)
-asked_before zero zero l = ([], refl)
-asked_before zero (suc m) l = absurd (omega arith)
-asked_before (suc n) m l = elim (all_or_fewer m n l) [
+rule_cases : (n : ℕ) (o : Option ℕ) → is_number n o ≡ true → o ≡ Some n
+rule_cases n None e = absurd (false≢true e)
+rule_cases n (Some m) e = ap (λ k. Some k) (eqb-true m n e)
+
+is_its_number : (n : ℕ) (o : Option ℕ) → o ≡ Some n → is_number n o ≡ true
+is_its_number n o e = ap (is_number n) e ∙ eq-eqb n n refl
+
+module _ (context : Context) (operators : List (Operator × ℕ)) (kind : Growth) (rule : Rule) where
+  -- of one operator
+  those_of_rule : (at : ℕ) (list : List Asked) (those : List Rewrite) → AreThose (IsOf context operators kind rule) (rewrites_of at list) those →
+      AreThose (HasGrowth context operators kind) (rewrites_of at (filter (is_of rule) list)) those
+  those_of_rule at [] those e = e
+  those_of_rule at (a ∷ list) those h = go (is_of rule a) refl h (those_of_rule at list)
+    where
+      go : (b : Bool) → is_of rule a ≡ b → AreThose (IsOf context operators kind rule) (rewrites_of at (a ∷ list)) those →
+          ((rest : List Rewrite) → AreThose (IsOf context operators kind rule) (rewrites_of at list) rest →
+          AreThose (HasGrowth context operators kind) (rewrites_of at (filter (is_of rule) list)) rest) →
+          AreThose (HasGrowth context operators kind) (rewrites_of at (cond b (a ∷ filter (is_of rule) list) (filter (is_of rule) list))) those
+      go true e (inl (p, rest, is, are)) next = inl (p.0, rest, is, next rest are)
+      go true e (inr (never, are)) next = inr (λ has. never (has, rule_cases (rule_number rule) (rule_of a.number) e), next those are)
+      go false e (inl (p, rest, is, are)) next = absurd (false≢true (sym e ∙ is_its_number (rule_number rule) (rule_of a.number) p.1))
+      go false e (inr (never, are)) next = next those are
+
+  -- of all of them
+  pub those_of_lines : (end : ℕ) (those : List Rewrite) → AreThose (IsOf context operators kind rule) (asked_below end) those →
+      AreThose (HasGrowth context operators kind) (asked_of (filter (is_of rule) all_asked) end) those
+  those_of_lines zero those e = e
+  those_of_lines (suc at) those h =
+      let (us, vs, same, front, back) = those_parts (IsOf context operators kind rule) (asked_below at) (by_rows at 0 ROWS) those h in
+      subst (AreThose (HasGrowth context operators kind) (asked_of (filter (is_of rule) all_asked) (suc at))) (sym same)
+      (those_append (HasGrowth context operators kind) (asked_of (filter (is_of rule) all_asked) at) (rewrites_of at (filter (is_of rule) all_asked)) us vs
+      (those_of_lines at us front)
+      (those_of_rule at all_asked vs (subst (λ items. AreThose (IsOf context operators kind rule) items vs) (sym (rewrites_are at 0 ROWS)) back)))
+
+-- ---- operator by operator
+
+asked_before : (list : List Asked) (n m : ℕ) → m ≤ n → (ys : List Rewrite) × (asked_of list n ≡ asked_of list m ++ ys)
+asked_before list zero zero l = ([], refl)
+asked_before list zero (suc m) l = absurd (omega arith)
+asked_before list (suc n) m l = elim (all_or_fewer m n l) [
   | inl fewer ↦
-      let (ys, same) = asked_before n m fewer in
-      (ys ++ by_rows n 0 ROWS, ap (λ zs. zs ++ by_rows n 0 ROWS) same ∙ append_assoc (asked_below m) ys (by_rows n 0 ROWS))
-  | inr same ↦ ([], ap asked_below (sym same) ∙ sym (append-nil (asked_below m)))
+      let (ys, same) = asked_before list n m fewer in
+      (ys ++ rewrites_of n list, ap (λ zs. zs ++ rewrites_of n list) same ∙ append_assoc (asked_of list m) ys (rewrites_of n list))
+  | inr same ↦ ([], ap (asked_of list) (sym same) ∙ sym (append-nil (asked_of list m)))
 ]
   where
     all_or_fewer : (m n : ℕ) → m ≤ suc n → (m ≤ n) ⊎ (m ≡ suc n)
     all_or_fewer m n l = grind arith
 
--- Those of the operators before `at` that have the property, and how many are left to be passed over.
-abbrev pub Passed : (Rewrite → Type 0) → (at left number : ℕ) → Type 0
-Passed P at left number = (passed : List Rewrite) × AreThose P (asked_below at) passed × (length passed + left ≡ number)
+asked_next : (list : List Asked) (at : ℕ) → asked_of list (at + 1) ≡ asked_of list at ++ rewrites_of at list
+asked_next list at = let e : at + 1 ≡ suc at = omega arith in ap (asked_of list) e
 
-module _ (P : Rewrite → Type 0) (at left number : ℕ) (before : Passed P at left number) where
+-- Those of the operators before `at` that have the property, and how many are left to be passed over.
+abbrev pub Passed : (list : List Asked) → (Rewrite → Type 0) → (at left number : ℕ) → Type 0
+Passed list P at left number = (passed : List Rewrite) × AreThose P (asked_of list at) passed × (length passed + left ≡ number)
+
+module _ (list : List Asked) (P : Rewrite → Type 0) (at left number : ℕ) (before : Passed list P at left number) where
   -- with those of the next operator
-  passed_more : (more : List Rewrite) → AreThose P (by_rows at 0 ROWS) more → AreThose P (asked_below (at + 1)) (before.0 ++ more)
+  passed_more : (more : List Rewrite) → AreThose P (rewrites_of at list) more → AreThose P (asked_of list (at + 1)) (before.0 ++ more)
   passed_more more here =
-      subst (λ items. AreThose P items (before.0 ++ more)) (sym (asked_more at))
-      (those_append P (asked_below at) (by_rows at 0 ROWS) before.0 more before.1 here)
+      subst (λ items. AreThose P items (before.0 ++ more)) (sym (asked_next list at))
+      (those_append P (asked_of list at) (rewrites_of at list) before.0 more before.1 here)
 
   -- it is one of the next operator
-  pub passed_to : (n : ℕ) → at < n → (more : List Rewrite) → AreThose P (by_rows at 0 ROWS) more → (r : Rewrite) → FindsIn left more (Ok r) →
-      (those : List Rewrite) → AreThose P (asked_below n) those → slice_get those number ≡ Some r
+  pub passed_to : (n : ℕ) → at < n → (more : List Rewrite) → AreThose P (rewrites_of at list) more → (r : Rewrite) → FindsIn left more (Ok r) →
+      (those : List Rewrite) → AreThose P (asked_of list n) those → slice_get those number ≡ Some r
   passed_to n l more here r found those all =
-      let (ys, same) = asked_before n (at + 1) (omega arith) in
-      let (ws, parts) = those_first P (asked_below (at + 1)) ys (before.0 ++ more) those (passed_more more here)
+      let (ys, same) = asked_before list n (at + 1) (omega arith) in
+      let (ws, parts) = those_first P (asked_of list (at + 1)) ys (before.0 ++ more) those (passed_more more here)
       (subst (λ zs. AreThose P zs those) same all) in
       ap (λ zs. slice_get zs number) parts
       ∙ slice_get_front (before.0 ++ more) ws number r (slice_get_behind before.0 more left number before.2 ∙ found)
 
   -- it is none of these
-  pub passed_over : (more : List Rewrite) → AreThose P (by_rows at 0 ROWS) more → (behind : ℕ) → FindsIn left more (Err behind) →
-      Passed P (at + 1) behind number
+  pub passed_over : (more : List Rewrite) → AreThose P (rewrites_of at list) more → (behind : ℕ) → FindsIn left more (Err behind) →
+      Passed list P (at + 1) behind number
   passed_over more here behind found = (
     before.0 ++ more,
     passed_more more here,
     (let size = length-append before.0 more in let count = before.2 in let rest : length more + behind ≡ left = found in omega arith),
   )
 
-  pub passed_all : (n : ℕ) → at ≡ n → (those : List Rewrite) → AreThose P (asked_below n) those → length those ≤ number
+  pub passed_all : (n : ℕ) → at ≡ n → (those : List Rewrite) → AreThose P (asked_of list n) those → length those ≤ number
   passed_all n end those all =
-      let same = ap length (those_same P (asked_below at) before.0 those before.1 (subst (λ k. AreThose P (asked_below k) those) (sym end) all)) in
+      let same = ap length (those_same P (asked_of list at) before.0 those before.1 (subst (λ k. AreThose P (asked_of list k) those) (sym end) all)) in
       let count = before.2 in
       omega arith
+
+-- each of the lines of a rule is one of the table
+pub filter_asked : (test : Asked → Bool) (list : List Asked) → AreAsked list → AreAsked (filter test list)
+filter_asked test [] are n a e = absurd cc
+filter_asked test (x ∷ xs) are n a e = go (test x) n e (λ m. filter_asked test xs (λ k. are (suc k)) m a)
+  where
+    go : (b : Bool) (n : ℕ) → slice_get (cond b (x ∷ filter test xs) (filter test xs)) n ≡ Some a →
+        ((m : ℕ) → slice_get (filter test xs) m ≡ Some a → IsAskedSo a) → IsAskedSo a
+    go true zero e next = are 0 a e
+    go true (suc n) e next = next n e
+    go false n e next = next n e

@@ -191,7 +191,7 @@ chooses_one context stream rules operators r q a b =
 
 -- ---- a rewrite of a body
 
-module _ (context : Context) (rules : List Rule) (operators : List (Operator × ℕ)) (r : Rewrite) (few : length rules < 2 ^ 64)
+module _ (table : length ROWS < 65535) (context : Context) (rules : List Rule) (operators : List (Operator × ℕ)) (r : Rewrite) (few : length rules < 2 ^ 64)
     (short : length operators < 2 ^ 32) where
   words_among : (kind : Growth) (rule : Rule) → Contains rules rule → Contains (asked_below (length operators)) r → IsOf context operators kind rule r →
       (kinds : List Growth) → AreThose (HasOpen context operators rules) growths kinds →
@@ -207,7 +207,7 @@ module _ (context : Context) (rules : List Rule) (operators : List (Operator × 
       let i_few = those_bounded (HasOpen context operators rules) growths kinds kinds_are in
       let j_few = those_bounded (IsOpen context operators kind) rules ways open_are in
       let k_few = those_bounded (IsOf context operators kind rule) (asked_below (length operators)) places places_are in
-      let size = asked_few (length operators) in
+      let size = asked_few table (length operators) in
       record {
         one = i;
         two = j;

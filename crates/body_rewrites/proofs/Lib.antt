@@ -41,3 +41,4 @@ pub mod ChoiceLemmas
 pub mod HasWordsLemmas
 pub mod RootLemmas
 pub mod AskingLemmas
+pub mod CounterLemmas

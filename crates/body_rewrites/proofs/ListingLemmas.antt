@@ -19,7 +19,7 @@ use Rattle.body_rewrites.specs.declared.places.Line.{Line}
 use Rattle.body_rewrites.specs.declared.rewrite.Rewrite.{Rewrite}
 use Rattle.body_rewrites.specs.Changes.{Change}
 use Rattle.body_rewrites.specs.Rewrites.{Makes, IsAsked, IsMade, by_rows, asked_below, growth_of}
-use Rattle.body_rewrites.specs.Listing.{AreThose, IsBy, HasGrowth, OneChange, found_as, AreFound, AddsFound, passing, AreRules, has_number, has_some, is_by}
+use Rattle.body_rewrites.specs.Listing.{AreThose, IsBy, HasGrowth, LineGrows, OneChange, found_as, AreFound, AddsFound, passing, AreRules, has_number, has_some, is_by}
 use Rattle.body_rewrites.proofs.ThoseLemmas.{head_contained, tail_contained, contained_cases, those_append}
 
 -- what is known of an answer
@@ -46,6 +46,14 @@ module _ (context : Context) (operators : List (Operator × ℕ)) where
       none change (subst (λ (l : Line). Makes context operators l at change) (line_one number made.line line made.asked.row_is asked.row_is made.width_is)
       made.makes)
 
+  pub line_has_growth : (at number : ℕ) (line : Line) → IsAsked number line → (kind : Growth) → LineGrows context operators line at kind →
+      HasGrowth context operators kind (rewrite_by at number line)
+  line_has_growth at number line asked kind h = record {
+    change = h.change;
+    made = record { line = line; asked = asked; width_is = refl; makes = h.makes };
+    growth_is = h.growth_is;
+  }
+
   -- a rewrite does one thing to the number of operators
   pub growth_one : OneChange → (r : Rewrite) (kind other : Growth) → HasGrowth context operators kind r → HasGrowth context operators other r →
       kind ≡ other
@@ -57,7 +65,7 @@ module _ (context : Context) (operators : List (Operator × ℕ)) where
 
   -- ---- what is found
 
-  found_append : (xs ys : List Rewrite) (us vs : List Found) → AreFound context operators xs us → AreFound context operators ys vs →
+  pub found_append : (xs ys : List Rewrite) (us vs : List Found) → AreFound context operators xs us → AreFound context operators ys vs →
       AreFound context operators (xs ++ ys) (us ++ vs)
   found_append [] ys us vs e more = subst (λ zs. AreFound context operators ys (zs ++ vs)) (sym e) more
   found_append (x ∷ xs) ys us vs (inl (kind, has, rest, e, are)) more =

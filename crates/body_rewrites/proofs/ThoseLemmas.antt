@@ -37,6 +37,16 @@ module _ {A : Type 0} where
   those_append P (x ∷ xs) ys us vs (inl (p, rest, e, are)) more = inl (p, rest ++ vs, ap (λ zs. zs ++ vs) e, those_append P xs ys rest vs are more)
   those_append P (x ∷ xs) ys us vs (inr (never, are)) more = inr (never, those_append P xs ys us vs are more)
 
+  pub those_parts : (P : A → Type 0) (xs ys ws : List A) → AreThose P (xs ++ ys) ws →
+      (us vs : List A) × (ws ≡ us ++ vs) × AreThose P xs us × AreThose P ys vs
+  those_parts P [] ys ws h = ([], ws, refl, refl, h)
+  those_parts P (x ∷ xs) ys ws (inl (p, rest, e, are)) =
+      let (us, vs, same, front, back) = those_parts P xs ys rest are in
+      (x ∷ us, vs, e ∙ ap (λ zs. x ∷ zs) same, inl (p, us, refl, front), back)
+  those_parts P (x ∷ xs) ys ws (inr (never, are)) =
+      let (us, vs, same, front, back) = those_parts P xs ys ws are in
+      (us, vs, same, inr (never, front), back)
+
   -- ---- what they are
 
   pub those_as : (P Q : A → Type 0) → ((x : A) → P x → Q x) → ((x : A) → Q x → P x) → (xs ys : List A) → AreThose P xs ys → AreThose Q xs ys

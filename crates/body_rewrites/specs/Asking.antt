@@ -1,21 +1,35 @@
 -- The lines of the table, as operators are asked for them: for private functions (this project).
-use Rattle.std.specs.Prelude.{◌≡◌, ℕ, suc, ◌++◌, Bool, if◌then◌else◌, List, [], ◌∷◌, map, length, Option, Some, None, slice_get}
+use Rattle.std.specs.Prelude.{◌≡◌, ℕ, suc, ◌<◌, ◌++◌, Bool, true, false, if◌then◌else◌, List, [], ◌∷◌, map, length, Option, Some, None, slice_get}
 use Rattle.std.specs.Global.{Vec}
+use Rattle.wasm_code.specs.declared.operator.Operator.{Operator}
 use Rattle.peephole_machine.specs.declared.integer.IntegerType.{IntegerType}
+use Rattle.peephole_machine.specs.Values.{Context}
 use Rattle.rewrite_rules.specs.declared.table.Row.{Row}
 use Rattle.rewrite_rules.specs.Table.{ROWS}
 use Rattle.body_rewrites.specs.declared.asked.Asked.{Asked}
-use Rattle.body_rewrites.specs.declared.root.Root.{Root}
+use Rattle.body_rewrites.specs.declared.asked.Form.{Form}
+use Rattle.body_rewrites.specs.declared.asked.Form.TheVariants.{Alone}
+use Rattle.body_rewrites.specs.declared.here.Here.{Here}
 use Rattle.body_rewrites.specs.declared.rewrite.Rewrite.{Rewrite}
 use Rattle.body_rewrites.specs.Alone.{form_of}
+use Rattle.body_rewrites.specs.Cutting.{IsTreeTold}
 use Rattle.body_rewrites.specs.Rewrites.{asked_widths, IsAsked}
-use Rattle.body_rewrites.specs.Roots.{root_of, fits}
+use Rattle.body_rewrites.specs.Roots.{root_of, fits, IsClassAt, class_told}
 
 -- ---- lines
 
--- those of the row with the number
+-- that of the row with the number for the width
+abbrev pub asked_as : (number : ℕ) → Row → IntegerType → Asked
+asked_as number row width = record {
+  number = number;
+  form = form_of row;
+  root = root_of (record { row = row; width = width });
+  line = record { row = row; width = width };
+}
+
+-- those of the row
 abbrev pub asked_for : (number : ℕ) → Row → List Asked
-asked_for number row = map (λ (width : IntegerType). record { number = number; form = form_of row; line = record { row = row; width = width } }) (asked_widths row.widths)
+asked_for number row = map (asked_as number row) (asked_widths row.widths)
 
 abbrev pub asked_from : (number : ℕ) → List Row → List Asked
 asked_from number [] = []
@@ -25,12 +39,15 @@ asked_from number (row ∷ rows) = asked_for number row ++ asked_from (suc numbe
 abbrev pub all_asked : List Asked
 all_asked = asked_from 0 ROWS
 
--- their roots
-abbrev pub root_in : Asked → Root
-root_in asked = root_of asked.line
+-- It is a row of the table for one of its widths, with what it is, and its root.
+pub record IsAskedSo (asked : Asked) : Type 0 where
+  pub line : IsAsked asked.number asked.line
+  pub form_is : asked.form ≡ form_of asked.line.row
+  pub root_is : asked.root ≡ root_of asked.line
 
-abbrev pub roots : List Root
-roots = map root_in all_asked
+-- each of them is
+abbrev pub AreAsked : List Asked → Type 0
+AreAsked list = (n : ℕ) (asked : Asked) → slice_get list n ≡ Some asked → IsAskedSo asked
 
 -- the rewrite of the operator that one is asked for
 abbrev pub rewrite_of : (at : ℕ) → Asked → Rewrite
@@ -39,21 +56,32 @@ rewrite_of at asked = record { operator = at; row = asked.number; width = asked.
 abbrev pub rewrites_of : (at : ℕ) → List Asked → List Rewrite
 rewrites_of at list = map (rewrite_of at) list
 
--- It is a row of the table for one of its widths, with what it is.
-pub record IsAskedSo (asked : Asked) : Type 0 where
-  pub line : IsAsked asked.number asked.line
-  pub form_is : asked.form ≡ form_of asked.line.row
+-- ---- where they are asked
 
--- ---- which of them may apply
+-- It is an operator of the body, with its class, and whether a tree ends with it.
+pub record IsHere (context : Context) (operators : List (Operator × ℕ)) (here : Here) : Type 0 where
+  pub inside : here.at < length operators
+  pub class_is : IsClassAt operators here.at here.class
+  pub told : here.class ≡ class_told operators here.at
+  pub tree_is : IsTreeTold context operators here.at here.is_tree
+
+-- ---- which of them are asked where an instruction of a class stands
+
+-- the line may apply there, and its left side is no operand alone
+abbrev pub by_form : Form → Bool → Bool
+by_form (Alone doubles) b = false
+by_form form b = b
+
+abbrev pub is_candidate : (class : ℕ) → Asked → Bool
+is_candidate class asked = by_form asked.form (fits class true asked.root)
 
 -- the numbers of the items that pass the test
 abbrev pub numbers_from : {A : Type 0} → (A → Bool) → (number : ℕ) → List A → List ℕ
 numbers_from test number [] = []
 numbers_from test number (x ∷ xs) = if test x then number ∷ numbers_from test (suc number) xs else numbers_from test (suc number) xs
 
--- those of the lines whose root fits
-abbrev pub candidates : (class : ℕ) → (is_tree : Bool) → List ℕ
-candidates class is_tree = numbers_from (fits class is_tree) 0 roots
+abbrev pub candidates : (class : ℕ) → List ℕ
+candidates class = numbers_from (is_candidate class) 0 all_asked
 
 -- the item that is there
 abbrev pub listed : Option Asked → List Asked
@@ -65,7 +93,11 @@ abbrev pub picked : List Asked → (numbers : List ℕ) → List Asked
 picked list [] = []
 picked list (n ∷ ns) = listed (slice_get list n) ++ picked list ns
 
--- for each class the numbers of those that may apply there
-pub record AreLists (all : List Root) (is_tree : Bool) (count : ℕ) (lists : List (Vec ℕ)) : Type 0 where
+-- the class is marked
+abbrev pub IsUsed : (used : List Bool) → (class : ℕ) → Type 0
+IsUsed used class = slice_get used class ≡ Some true
+
+-- There is a list for each class, with the numbers of its candidates where the class is marked.
+pub record AreLists (used : List Bool) (count : ℕ) (lists : List (Vec ℕ)) : Type 0 where
   pub long : length lists ≡ count
-  pub each : (class : ℕ) (v : Vec ℕ) → slice_get lists class ≡ Some v → v.items ≡ numbers_from (fits class is_tree) 0 all
+  pub each : (class : ℕ) (v : Vec ℕ) → slice_get lists class ≡ Some v → IsUsed used class → v.items ≡ candidates class

@@ -20,7 +20,7 @@ pub mod HasWords
 pub mod Random
 pub mod Growth
 pub mod OwnSites
+pub mod Alone
+pub mod Asking
 pub mod Counting
 pub mod Roots
-pub mod Asking
-pub mod Alone

@@ -1,7 +1,8 @@
 -- What has to stand at an operator where a line of the table applies (this project).
-use Rattle.std.specs.Prelude.{◌≡◌, ◌&&◌, ℕ, ◌≤◌, nat_le, nat_lt, if◌then◌else◌, Bool, true, List, [], ◌∷◌}
+use Rattle.std.specs.Prelude.{◌≡◌, ◌&&◌, ℕ, ◌≤◌, nat_le, nat_lt, if◌then◌else◌, Bool, true, Option, Some, List, [], ◌∷◌, map, slice_get}
 use Rattle.wasm_code.specs.Instruction.{Instruction}
 use Rattle.wasm_code.specs.declared.operator.Operator.{Operator}
+use Rattle.wasm_code.specs.declared.operator.Operator.TheVariants.{Instr}
 use Rattle.mutate_base.specs.declared.types.PrimitiveTypeInfo.{PrimitiveTypeInfo}
 use Rattle.peephole_machine.specs.declared.integer.IntegerType.{IntegerType}
 use Rattle.peephole_machine.specs.declared.integer.IntegerType.TheVariants as integer
@@ -29,6 +30,14 @@ class_of row = if nat_lt row 168 then row else 168
 -- it is that of the instruction that stands at the operator, if one does
 abbrev pub IsClassAt : List (Operator × ℕ) → (at class : ℕ) → Type 0
 IsClassAt operators at class = (i : Instruction) → HasInstruction operators at i → class ≡ class_of i.row
+
+-- that of the operator there
+abbrev pub class_in : Option Operator → ℕ
+class_in (Some (Instr i)) = class_of i.row
+class_in o = 168
+
+abbrev pub class_told : List (Operator × ℕ) → (at : ℕ) → ℕ
+class_told operators at = class_in (slice_get (map (λ (o : Operator × ℕ). o.0) operators) at)
 
 -- ---- roots
 

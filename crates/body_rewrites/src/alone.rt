@@ -50,8 +50,8 @@ fn type_of(width: IntegerType) -> PrimitiveTypeInfo
     }
 }
 
-// Whether the tree's value has the width's type, and it neither writes nor asks the world where it is doubled.
-fn takes(width: IntegerType, doubles: bool, tree: Tree) -> bool
+/// Whether the tree's value has the width's type, and it neither writes nor asks the world where it is doubled.
+pub(crate) fn takes(width: IntegerType, doubles: bool, tree: Tree) -> bool
     ensures { result ≡ takes width doubles tree }
 {
     tree.gives == type_of(width) && !(doubles && (tree.writes || tree.asks))
@@ -59,11 +59,7 @@ fn takes(width: IntegerType, doubles: bool, tree: Tree) -> bool
 
 /// What a line for the width, whose left side is an operand alone, does to the number of operators where such a tree stands; none where
 /// it makes nothing, or none stands there.
-pub(crate) fn alone_growth(
-    width: IntegerType,
-    doubles: bool,
-    tree: Option<Tree>,
-) -> Option<Growth>
+pub(crate) fn alone_growth(width: IntegerType, doubles: bool, tree: Option<Tree>) -> Option<Growth>
     ensures { result ≡ alone_growth width doubles tree }
 {
     let tree = tree?;

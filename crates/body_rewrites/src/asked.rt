@@ -1,7 +1,17 @@
 //! Lines of the table, as operators are asked for them.
+ghost use Rattle.std.specs.Prelude.{◌≡◌, ◌++◌, OnOk, IfOk};
+ghost use Rattle.body_rewrites.specs.Rewrites.{asked_widths};
+ghost use Rattle.body_rewrites.specs.Asking.{asked_as, asked_for, all_asked};
+ghost use Rattle.body_rewrites.specs.Listing.{widths_told};
 
+use crate::alone::form_of;
 use crate::places::Line;
-use rewrite_rules::Own;
+use crate::rewrite::Rewrite;
+use crate::root::Root;
+use crate::roots::root_of;
+use peephole_machine::IntegerType;
+use rewrite_rules::{Own, Row, Widths, row_at, row_count};
+use std::alloc::{AllocError, Global};
 
 /// What a line is, by which it is asked.
 #[derive(Clone, Copy, PartialEq, Eq)]
@@ -14,10 +24,80 @@ pub(crate) enum Form {
     Other,
 }
 
-/// A line, with the number of its row.
+/// A line, with the number of its row, and what has to stand where it applies.
 #[derive(Clone, Copy)]
 pub(crate) struct Asked {
     pub(crate) number: usize,
     pub(crate) form: Form,
+    pub(crate) root: Root,
     pub(crate) line: Line,
+}
+
+impl Asked {
+    ghost use Rattle.std.specs.Prelude.{◌≡◌};
+    ghost use Rattle.body_rewrites.specs.Asking.{rewrite_of};
+
+    /// The rewrite of the operator that it is asked for.
+    pub(crate) fn rewrite_at(&self, at: usize) -> Rewrite
+        ensures { result ≡ rewrite_of at self.now }
+    {
+        Rewrite {
+            operator: at,
+            row: self.number,
+            width: self.line.width,
+        }
+    }
+}
+
+// The widths that a row is asked for: one, and another one where there is one.
+fn widths_of(widths: Widths) -> (IntegerType, Option<IntegerType>)
+    ensures { asked_widths widths ≡ widths_told result.0 result.1 }
+{
+    match widths {
+        Widths::Both => (IntegerType::I32, Some(IntegerType::I64)),
+        Widths::Only(width) => (width, None),
+        Widths::Any => (IntegerType::I32, None),
+        Widths::Own(_) => (IntegerType::I32, None),
+    }
+}
+
+// The line of the row with the number for the width.
+fn asked_as(number: usize, row: Row, width: IntegerType) -> Asked
+    ensures { result ≡ asked_as number row width }
+{
+    let line = Line { row, width };
+    Asked {
+        number,
+        form: form_of(&row),
+        root: root_of(&line),
+        line,
+    }
+}
+
+// Adds the lines of the row with the number.
+fn add_asked(number: usize, row: Row, list: &mut Vec<Asked>) -> Result<(), AllocError>
+    ensures { OnOk result (list.new.items ≡ list.old.items ++ asked_for number row) }
+{
+    let (width, more) = widths_of(row.widths);
+    list.push(asked_as(number, row, width))?;
+    match more {
+        Some(width) => {
+            list.push(asked_as(number, row, width))?;
+            Ok(())
+        }
+        None => Ok(()),
+    }
+}
+
+/// All lines of the table, by the row and the width. The only error is that memory was refused.
+pub(crate) fn all_asked(alloc: Global) -> Result<Vec<Asked>, AllocError>
+    ensures { IfOk result (λ list. list.items ≡ all_asked) }
+{
+    let mut list = Vec::new(alloc);
+    for number in 0..row_count() {
+        if let Some(row) = row_at(number) {
+            add_asked(number, row, &mut list)?;
+        }
+    }
+    Ok(list)
 }

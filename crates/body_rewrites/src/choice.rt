@@ -8,11 +8,11 @@ ghost use Rattle.body_rewrites.specs.Listing.{AreThose, IsBy};
 ghost use Rattle.body_rewrites.specs.Choice.{after_word, growths, Chooses, after_choice, IsBegun};
 ghost use Rattle.body_rewrites.specs.Counting.{IsOpenBy, HasOpenBy};
 
+use crate::counter::Counter;
 use crate::counts::{count_of, counts_of_body, rewrite_with_number};
 use crate::growth::Growth;
 use crate::places::Body;
 use crate::rewrite::Rewrite;
-use crate::table::Table;
 use rand_core::Rng;
 use rewrite_rules::Rule;
 use std::alloc::{AllocError, Global};
@@ -103,7 +103,7 @@ fn draw_below<R: Rng>(generator: &mut R, count: u128) -> u128
 /// operators, the rows and the widths. So, as far as words are even and no rule stands twice, each rule has the same chance as any other
 /// that does the same, and each of its rewrites the same as any other. None only where there is no rewrite, and then nothing is drawn.
 ///
-/// It lists the rewrites of the body twice (`rewrites_of_body`), and keeps none. The only error is that memory was refused; then up to
+/// It asks the operators of the body for all rewrites, and once more for those of one rule, and keeps none. The only error is that memory was refused; then up to
 /// three words may have been drawn.
 pub fn choose<R: Rng>(
     alloc: Global,
@@ -122,8 +122,8 @@ pub fn choose<R: Rng>(
     ensures kept { IfOk result (λ o. IfNone o (generator.new ≡ generator.old)) }
     ensures refused { OnErr result (IsBegun (R.stream generator.old) (R.stream generator.new)) }
 {
-    let table = Table::new(alloc)?;
-    let counted = counts_of_body(alloc, body, &table)?;
+    let counter = Counter::new(alloc, body.operators)?;
+    let counted = counts_of_body(alloc, body, &counter)?;
     let counts = counted.as_slice();
     let kinds = open_growths(alloc, rules, counts)?;
     if kinds.is_empty() {
@@ -134,7 +134,7 @@ pub fn choose<R: Rng>(
     let rule = draw(generator, ways.as_slice());
     let count = count_of(counts, growth, rule);
     let number = draw_below(generator, count);
-    match rewrite_with_number(alloc, body, &table, growth, rule, number)? {
+    match rewrite_with_number(alloc, body, &counter, growth, rule, number)? {
         Some(rewrite) => Ok(Some(rewrite)),
         None => unreachable!(),
     }

@@ -22,7 +22,8 @@ use body_splices::laws::{spliced_operators_are, splices_keep_structure};
 use peephole_programs::laws::replaced_code_is_in_one_piece;
 use peephole_programs::validity::replaced_code_stays_valid;
 use rewrite_rules::laws::{
-    besides_keep_code, holes_are_told, parts_are_the_code, sides_are_parts, table_is_right,
+    besides_keep_code, holes_are_told, parts_are_the_code, rows_are_few, sides_are_parts,
+    table_is_right,
 };
 
 /// A tree's code needs nothing from before it, and leaves its value, as an operand in a hole does.
@@ -98,7 +99,9 @@ pub fn each_rewrite_has_words()
         → (places : List Rewrite)
         → AreThose (IsOf context operators growth rule) (asked_below (length operators)) places
         → HasWords context rules operators r }
-{}
+{
+    rows_are_few();
+}
 
 /// A generator's words choose one rewrite of a body at most.
 pub fn words_choose_one_rewrite()

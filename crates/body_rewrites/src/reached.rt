@@ -3,11 +3,11 @@ ghost use Rattle.std.specs.Prelude.{◌≡◌, IfOk};
 ghost use Rattle.body_rewrites.specs.Places.{context_of, HasItsTrees};
 ghost use Rattle.body_rewrites.specs.Reached.{AreReached, has_by};
 
+use crate::asked::all_asked;
 use crate::found::Found;
 use crate::listing::{is_by, rewrites_at};
 use crate::places::Body;
-use crate::table::Table;
-use rewrite_rules::Rule;
+use rewrite_rules::{Rule, rules_of_rows};
 use std::alloc::{AllocError, Global};
 
 // Whether one that is found is by one of the rules; `rows` are the rules of the rows.
@@ -34,12 +34,12 @@ pub fn reached_operators(
     ensures { IfOk result (λ marks.
         AreReached (context_of body.now) body.now.operators.now rules.now marks.items) }
 {
-    let table = Table::new(alloc)?;
-    let rows = table.rules();
+    let lines = all_asked(alloc)?;
+    let rows = rules_of_rows(alloc)?;
     let mut marks = Vec::new(alloc);
     for at in 0..body.operators.len() {
-        let found = rewrites_at(alloc, body, &table, at)?;
-        marks.push(has_by(rows, rules, found.as_slice()))?;
+        let found = rewrites_at(alloc, body, lines.as_slice(), at)?;
+        marks.push(has_by(rows.as_slice(), rules, found.as_slice()))?;
     }
     Ok(marks)
 }

@@ -1,7 +1,7 @@
 //! What has to stand at an operator where a line of the table applies, and what stands there.
 ghost use Rattle.std.specs.Prelude.{◌≡◌, ◌≤◌};
 ghost use Rattle.rewrite_rules.specs.Instance.{row_number};
-ghost use Rattle.body_rewrites.specs.Roots.{class_of, IsClassAt, one_row, constant_root, part_root, first_root, own_root, root_of, fits};
+ghost use Rattle.body_rewrites.specs.Roots.{class_of, class_told, IsClassAt, one_row, constant_root, part_root, first_root, own_root, root_of, fits};
 ghost use Rattle.body_rewrites.specs.Places.{left_parts};
 
 use crate::parts::Parts;
@@ -23,6 +23,7 @@ fn class_of(row: u16) -> usize
 /// The class of the instruction that stands at the operator; any where none does.
 pub(crate) fn class_at(operators: &[OperatorAndByteOffset], at: usize) -> usize
     ensures is { IsClassAt operators.now at result }
+    ensures told { result ≡ class_told operators.now at }
     ensures small { result ≤ 168 }
 {
     match instr_at(operators, at) {

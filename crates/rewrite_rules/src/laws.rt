@@ -1,7 +1,7 @@
 //! What holds of the rules. A function here does nothing: its contract is the laws.
 
 ghost use Rattle.rewrite_rules.specs.Laws.{LinesKeepCode, TableIsRight};
-ghost use Rattle.rewrite_rules.specs.Names.{NamesDiffer};
+ghost use Rattle.rewrite_rules.specs.Names.{NamesDiffer, AreFew};
 ghost use Rattle.rewrite_rules.specs.Needs.{NeedsAreEnough};
 ghost use Rattle.rewrite_rules.specs.Parts.{PartsAreTheCode};
 ghost use Rattle.rewrite_rules.specs.Rule.{RulesAreNamed};
@@ -61,6 +61,11 @@ pub fn besides_keep_code()
     typed_rows_check();
     lines_keep_code();
 }
+
+/// There are fewer rows, and so rules, than numbers of 16 bits.
+pub fn rows_are_few()
+    ensures { AreFew }
+{}
 
 /// No two rules have the same name.
 pub fn names_differ()

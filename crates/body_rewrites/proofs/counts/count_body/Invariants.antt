@@ -1,4 +1,4 @@
--- As many as there are of the operators so far.
+-- Those of the operators so far.
 use Rattle.body_rewrites.specs.Places.{context_of}
 use Rattle.body_rewrites.specs.Counting.{AreCounts}
 use Rattle.body_rewrites.proofs.counts.count_body.Given as goal

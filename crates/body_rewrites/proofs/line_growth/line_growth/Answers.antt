@@ -1,7 +1,7 @@
 -- By what the line is.
-use Rattle.std.proofs.Common.{◌≡◌, Some, refl, sym, ap, subst, ◌∙◌}
+use Rattle.std.proofs.Common.{refl, sym, ap, subst, ◌∙◌}
 use Rattle.rewrite_rules.specs.declared.table.Widths.{Widths}
-use Rattle.body_rewrites.specs.Alone.{form_by, doubles, alone_growth}
+use Rattle.body_rewrites.specs.Alone.{alone_growth}
 use Rattle.body_rewrites.specs.Places.{context_of}
 use Rattle.body_rewrites.specs.Rewrites.{MakesBy}
 use Rattle.body_rewrites.proofs.MadeLemmas.{if_found}

@@ -1,20 +1,27 @@
--- The others make nothing.
-use Rattle.std.proofs.Common.{Vec, subst, ap₂}
-use Rattle.std.specs.Global.{Global}
-use Rattle.body_rewrites.specs.declared.found.Found.{Found}
-use Rattle.body_rewrites.specs.Places.{context_of}
+-- Line by line.
+use Rattle.std.proofs.Common.{take, sym, subst, ap, ◌∙◌}
+use Rattle.std.proofs.lemmas.List.{take_all}
+use Rattle.rewrite_rules.specs.Table.{ROWS}
+use Rattle.body_rewrites.specs.Asking.{rewrites_of, AreAsked}
 use Rattle.body_rewrites.specs.Listing.{AreFound}
-use Rattle.body_rewrites.specs.Asking.{rewrites_of, picked}
-use Rattle.body_rewrites.proofs.AskingLemmas.{found_all, if_ok}
+use Rattle.body_rewrites.specs.Places.{context_of}
+use Rattle.body_rewrites.proofs.AskingLemmas.{is_asked, asked_at, added_next, rewrites_are, all_added}
 use Rattle.body_rewrites.proofs.listing.rewrites_at.Goals as goal
+
+pub ask-requires-clause-asked : goal.ask-requires-clause-asked
+ask-requires-clause-asked c =
+    asked_at c.args.lines.now (subst AreAsked (sym c.requires.lines) is_asked) c.loop-asked.asked-index _ c.loop-asked-test.true
+
+pub loop-asked-preserved : goal.loop-asked-preserved
+loop-asked-preserved c =
+    added_next (context_of c.args.body.now) c.args.body.now.operators.now c.args.at c.here_at-here.result.at c.here_at-here.ensures.at c.args.lines.now
+    c.loop-asked.asked-index _ c.loop-asked-test.true c.loop-asked.list.items c.ask.new.list.items c.loop-asked.invariant c.in_ok-ask.ensures
 
 pub returns : goal.returns
 returns c =
     let context = context_of c.args.body.now in
     let operators = c.args.body.now.operators.now in
-    if_ok c.ask_each.result
-    (λ (list : Vec Found Global) are. found_all context operators c.args.at c.class_at-class.result c.class_at-class.ensures.is c.has_tree-is_tree.result
-    (c.has_tree-is_tree.ensures context operators c.requires.trees) list.items
-    (subst (λ items. AreFound context operators (rewrites_of c.args.at items) list.items)
-    (ap₂ (λ lines numbers. picked lines numbers) c.asked.ensures c.candidates-numbers.ensures) are))
-    c.ask_each.ensures
+    subst (λ items. AreFound context operators items c.loop-asked.list.items)
+    (ap (rewrites_of c.args.at) (take_all c.loop-asked.asked-index c.args.lines.now c.loop-asked-test.false ∙ c.requires.lines)
+    ∙ rewrites_are c.args.at 0 ROWS)
+    (all_added context operators (rewrites_of c.args.at (take c.loop-asked.asked-index c.args.lines.now)) c.loop-asked.list.items c.loop-asked.invariant)

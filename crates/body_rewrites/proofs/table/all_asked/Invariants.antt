@@ -1,8 +1,0 @@
--- Those of the rows so far.
-use Rattle.std.proofs.Common.{◌≡◌, take}
-use Rattle.rewrite_rules.specs.Table.{ROWS}
-use Rattle.body_rewrites.specs.Asking.{asked_from}
-use Rattle.body_rewrites.proofs.table.all_asked.Given as goal
-
-abbrev pub invariant-loop-number : goal.invariant-loop-number
-invariant-loop-number l = l.list.items ≡ asked_from 0 (take l.number ROWS)

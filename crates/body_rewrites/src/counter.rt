@@ -1,0 +1,299 @@
+//! The lines of the table, laid out for counting what they make of the operators of a body.
+ghost use Rattle.std.specs.Prelude.{◌≡◌, ◌++◌, ◌<◌, ◌||◌, [], ℕ, true, length, option_to_list, slice_get, IfOk, IfSome, IfNone, OnOk};
+ghost use Rattle.mutate_base.specs.declared.types.PrimitiveTypeInfo.TheVariants as PrimitiveTypeInfo;
+ghost use Rattle.rewrite_rules.specs.Names.{rule_of};
+ghost use Rattle.body_rewrites.specs.Listing.{AreRules};
+ghost use Rattle.body_rewrites.specs.Asking.{all_asked, is_candidate, numbers_from, candidates, IsUsed, AreLists};
+ghost use Rattle.body_rewrites.specs.Counting.{sample, alone_slot, alone_slots, AreUsed};
+
+use crate::alone::takes;
+use crate::asked::{Asked, Form, all_asked};
+use crate::counts::slot_of;
+use crate::growth::Growth;
+use crate::roots::{class_at, fits};
+use crate::trees::Tree;
+use mutate_base::PrimitiveTypeInfo;
+use rewrite_rules::rules_of_rows;
+use std::alloc::{AllocError, Global};
+use std::marker::Model;
+use wasm_code::OperatorAndByteOffset;
+
+/// The lines of the table, laid out for counting what they make of the operators of a body.
+#[derive(Drop)]
+pub(crate) struct Counter {
+    lines: Vec<Asked>,
+    // For each row the number of its rule.
+    rules: Vec<u16>,
+    // The classes of the body's instructions.
+    used: Vec<bool>,
+    // For each of these the numbers of the lines that may apply where such an instruction stands, but those of an operand alone.
+    lists: Vec<Vec<u16>>,
+    // The places of the counts of what the lines of an operand alone make of a tree, by its type, and by whether it writes or asks.
+    calm_i32: Vec<usize>,
+    busy_i32: Vec<usize>,
+    calm_i64: Vec<usize>,
+    busy_i64: Vec<usize>,
+}
+
+impl Model for Counter {
+    ghost use Rattle.std.specs.Prelude.{◌≡◌, List, Bool, true, false, length};
+    ghost use Rattle.mutate_base.specs.declared.types.PrimitiveTypeInfo.TheVariants.{I32, I64};
+    ghost use Rattle.body_rewrites.specs.Listing.{AreRules};
+    ghost use Rattle.body_rewrites.specs.Asking.{all_asked, AreLists};
+    ghost use Rattle.body_rewrites.specs.Counting.{sample, alone_slots};
+
+    ghost Value = { List Bool };
+
+    ghost view = { λ c. c.used.items };
+
+    ghost invariant = { λ c. (c.lines.items ≡ all_asked) × AreRules c.rules.items
+        × (length c.used.items ≡ 169) × AreLists c.used.items 169 c.lists.items
+        × (c.calm_i32.items ≡ alone_slots (sample I32 false) all_asked)
+        × (c.busy_i32.items ≡ alone_slots (sample I32 true) all_asked)
+        × (c.calm_i64.items ≡ alone_slots (sample I64 false) all_asked)
+        × (c.busy_i64.items ≡ alone_slots (sample I64 true) all_asked) };
+}
+
+// The classes of the instructions of a body, marked.
+fn used_classes(alloc: Global, operators: &[OperatorAndByteOffset]) -> Result<Vec<bool>, AllocError>
+    ensures { IfOk result (λ used. AreUsed operators.now used.items) }
+{
+    let mut used = vec![in alloc; false; 169]?;
+    mark_classes(operators, &mut used);
+    Ok(used)
+}
+
+// Marks the classes of the instructions.
+fn mark_classes(operators: &[OperatorAndByteOffset], used: &mut [bool])
+    requires { length used.old ≡ 169 }
+    ensures { AreUsed operators.now used.new }
+{
+    for at in 0..operators.len() {
+        used[class_at(operators, at)] = true;
+    }
+}
+
+// Whether the line may apply where an instruction of that class stands, and its left side is no operand alone.
+fn is_candidate(asked: &Asked, class: usize) -> bool
+    ensures { result ≡ is_candidate class asked.now }
+{
+    match asked.form {
+        Form::Alone(_) => false,
+        Form::Own(_) => fits(asked.root, class, true),
+        Form::Other => fits(asked.root, class, true),
+    }
+}
+
+// The numbers of those that do.
+fn candidates_of(alloc: Global, lines: &[Asked], class: usize) -> Result<Vec<u16>, AllocError>
+    requires { length lines.now < 65536 }
+    ensures { IfOk result (λ list. list.items ≡ numbers_from (is_candidate class) 0 lines.now) }
+{
+    let mut list = Vec::new(alloc);
+    for number in 0..lines.len() {
+        if is_candidate(&lines[number], class) {
+            list.push(number as u16)?;
+        }
+    }
+    Ok(list)
+}
+
+// The same where the class is used, and else none.
+fn list_of(
+    alloc: Global,
+    lines: &[Asked],
+    class: usize,
+    is_used: bool,
+) -> Result<Vec<u16>, AllocError>
+    requires { length lines.now < 65536 }
+    ensures { IfOk result (λ list. is_used ≡ true
+        → list.items ≡ numbers_from (is_candidate class) 0 lines.now) }
+{
+    if !is_used {
+        return Ok(Vec::new(alloc));
+    }
+    candidates_of(alloc, lines, class)
+}
+
+// The same for each class.
+fn lists_of(alloc: Global, lines: &[Asked], used: &[bool]) -> Result<Vec<Vec<u16>>, AllocError>
+    requires lines { lines.now ≡ all_asked }
+    requires used { length used.now ≡ 169 }
+    ensures { IfOk result (λ lists. AreLists used.now 169 lists.items) }
+{
+    let mut lists = Vec::new(alloc);
+    for class in 0..used.len() {
+        let list = list_of(alloc, lines, class, used[class])?;
+        lists.push(list)?;
+    }
+    Ok(lists)
+}
+
+// A tree of the type that writes, or does nothing but leave its value.
+fn sample(gives: PrimitiveTypeInfo, writes: bool) -> Tree
+    ensures { result ≡ sample gives writes }
+{
+    Tree {
+        start: 0,
+        gives,
+        writes,
+        traps: false,
+        asks: false,
+    }
+}
+
+// The place of the count for what a line of an operand alone makes of such a tree.
+fn alone_slot(rules: &[u16], asked: &Asked, tree: Tree) -> Option<usize>
+    requires { AreRules rules.now }
+    ensures { result ≡ alone_slot tree asked.now }
+{
+    let Form::Alone(doubles) = asked.form else {
+        return None;
+    };
+    if !takes(asked.line.width, doubles, tree) {
+        return None;
+    }
+    match rules.get(asked.number).copied() {
+        Some(number) => Some(slot_of(number, Growth::Grows)),
+        None => None,
+    }
+}
+
+// Adds it, where there is one.
+fn add_slot(
+    rules: &[u16],
+    asked: &Asked,
+    tree: Tree,
+    list: &mut Vec<usize>,
+) -> Result<(), AllocError>
+    requires { AreRules rules.now }
+    ensures { OnOk result (list.new.items
+        ≡ list.old.items ++ option_to_list (alone_slot tree asked.now)) }
+{
+    match alone_slot(rules, asked, tree) {
+        Some(slot) => {
+            list.push(slot)?;
+            Ok(())
+        }
+        None => Ok(()),
+    }
+}
+
+// The places of the counts for what lines of an operand alone make of such a tree.
+fn alone_slots(
+    alloc: Global,
+    rules: &[u16],
+    lines: &[Asked],
+    tree: Tree,
+) -> Result<Vec<usize>, AllocError>
+    requires { AreRules rules.now }
+    ensures { IfOk result (λ list. list.items ≡ alone_slots tree lines.now) }
+{
+    let mut list = Vec::new(alloc);
+    for i in 0..lines.len() {
+        add_slot(rules, &lines[i], tree, &mut list)?;
+    }
+    Ok(list)
+}
+
+// The list with the number. Condition: there is one.
+fn list_at(lists: &[Vec<u16>], number: usize) -> &[u16]
+    requires { number < length lists.now }
+    ensures { IfSome (slice_get lists.now number) (λ list. result.now ≡ list.items) }
+{
+    lists[number].as_slice()
+}
+
+// Whether the tree writes, or asks the world.
+fn is_busy(tree: Tree) -> bool
+    ensures { result ≡ (tree.writes || tree.asks) }
+{
+    tree.writes || tree.asks
+}
+
+impl Counter {
+    /// The lines, laid out for a body. The only error is that memory was refused.
+    pub(crate) fn new(
+        alloc: Global,
+        operators: &[OperatorAndByteOffset],
+    ) -> Result<Counter, AllocError>
+        ensures { IfOk result (λ counter. AreUsed operators.now counter) }
+    {
+        let lines = all_asked(alloc)?;
+        let rules = rules_of_rows(alloc)?;
+        let used = used_classes(alloc, operators)?;
+        let lists = lists_of(alloc, lines.as_slice(), used.as_slice())?;
+        let all = lines.as_slice();
+        let rows = rules.as_slice();
+        let calm_i32 = alone_slots(alloc, rows, all, sample(PrimitiveTypeInfo::I32, false))?;
+        let busy_i32 = alone_slots(alloc, rows, all, sample(PrimitiveTypeInfo::I32, true))?;
+        let calm_i64 = alone_slots(alloc, rows, all, sample(PrimitiveTypeInfo::I64, false))?;
+        let busy_i64 = alone_slots(alloc, rows, all, sample(PrimitiveTypeInfo::I64, true))?;
+        Ok(Counter {
+            lines,
+            rules,
+            used,
+            lists,
+            calm_i32,
+            busy_i32,
+            calm_i64,
+            busy_i64,
+        })
+    }
+
+    /// The lines, by the row and the width.
+    pub(crate) fn lines(&self) -> &[Asked]
+        ensures { result.now ≡ all_asked }
+    {
+        self.lines.as_slice()
+    }
+
+    /// For each row the number of its rule.
+    pub(crate) fn rules(&self) -> &[u16]
+        ensures { AreRules result.now }
+    {
+        self.rules.as_slice()
+    }
+
+    /// The numbers of the lines that may apply where an instruction of the class stands, but those of an operand alone.
+    pub(crate) fn candidates(&self, class: usize) -> &[u16]
+        requires { IsUsed self.now class }
+        ensures { result.now ≡ candidates class }
+    {
+        list_at(self.lists.as_slice(), class)
+    }
+
+    // The places of the counts for what lines of an operand alone make of trees of i32, which write or ask the world, or don't.
+    fn i32_slots(&self, busy: bool) -> &[usize]
+        ensures { result.now ≡ alone_slots (sample PrimitiveTypeInfo.I32 busy) all_asked }
+    {
+        if busy {
+            self.busy_i32.as_slice()
+        } else {
+            self.calm_i32.as_slice()
+        }
+    }
+
+    // The same of i64.
+    fn i64_slots(&self, busy: bool) -> &[usize]
+        ensures { result.now ≡ alone_slots (sample PrimitiveTypeInfo.I64 busy) all_asked }
+    {
+        if busy {
+            self.busy_i64.as_slice()
+        } else {
+            self.calm_i64.as_slice()
+        }
+    }
+
+    /// The places of the counts for what the lines of an operand alone make of the tree; none where they make nothing.
+    pub(crate) fn slots(&self, tree: Tree) -> Option<&[usize]>
+        ensures some { IfSome result (λ slots. slots.now ≡ alone_slots tree all_asked) }
+        ensures none { IfNone result (alone_slots tree all_asked ≡ []) }
+    {
+        match tree.gives {
+            PrimitiveTypeInfo::I32 => Some(self.i32_slots(is_busy(tree))),
+            PrimitiveTypeInfo::I64 => Some(self.i64_slots(is_busy(tree))),
+            _ => None,
+        }
+    }
+}
