@@ -1,5 +1,5 @@
 /*
- * Teddertempo 0.2.0: rewrites instructions of a WebAssembly module so that it does what it did.
+ * Teddertempo 0.3.0: rewrites instructions of a WebAssembly module so that it does what it did.
  *
  * Link libteddertempo.a (pkg-config --cflags --libs teddertempo).
  *
@@ -13,7 +13,8 @@
  *
  * The caller sees to it that
  *   - data points to max_size bytes, fewer than 2^63, that may be read and written, and the other pointers to what their types
- *     say, valid and aligned; none is null, even where max_size or room is 0, and no two of them overlap;
+ *     say, as this header has them, valid and aligned; none is null, even where max_size, room or length is 0, and no two of them
+ *     overlap;
  *   - nothing else reads or writes these during the call.
  *
  * No state is kept between calls, and any thread may call on buffers of its own. A call takes memory from malloc and realloc,
@@ -30,8 +31,8 @@
 extern "C" {
 #endif
 
-#define TEDDERTEMPO_VERSION "0.2.0"
-#define TEDDERTEMPO_VERSION_NUMBER 0x000200u
+#define TEDDERTEMPO_VERSION "0.3.0"
+#define TEDDERTEMPO_VERSION_NUMBER 0x000300u
 
 /*
  * The simple call, with the arguments of libFuzzer's LLVMFuzzerCustomMutator: rewrites the module in data[0..size] once, in
@@ -50,40 +51,56 @@ enum {
     TEDDERTEMPO_NO_FUNCTION = 5,     /* the module has no function of its own with that index */
     TEDDERTEMPO_TOO_LARGE = 6,       /* no rewrite that was tried fits */
     TEDDERTEMPO_NO_MEMORY = 7,       /* malloc failed */
-    TEDDERTEMPO_BAD_OPTIONS = 8      /* size is above max_size, or options name no rule that there is */
+    TEDDERTEMPO_BAD_OPTIONS = 8      /* a struct_size is too small, size is above max_size, or options name no rule that there is */
 };
 
 #define TEDDERTEMPO_ANY_FUNCTION UINT64_MAX
 #define TEDDERTEMPO_ANY_GROWTH UINT64_MAX
 
+/*
+ * Both structures begin with their size, which the caller sets to sizeof, the report's too. Later versions have further fields
+ * behind these. So a larger size than that of the structure here is taken, and what lies behind these fields is neither read
+ * nor written. A smaller one is refused with TEDDERTEMPO_BAD_OPTIONS before anything is done, and the report says so even where
+ * that is its own size: what the pointers point to is at least as large as the structures here.
+ */
 struct teddertempo_options {
-    uint64_t seed;       /* equal modules and options give equal bytes */
-    uint64_t rules[2];   /* bit i % 64 of rules[i / 64] is rule i; all zero: every rule */
-    uint64_t function;   /* the only function that is rewritten, imported ones counted first; or TEDDERTEMPO_ANY_FUNCTION */
-    uint64_t count;      /* so many rewrites, one after another; 0 counts as 1 */
-    uint64_t max_growth; /* the new module has at most so many bytes more than the old one; or TEDDERTEMPO_ANY_GROWTH */
+    uint64_t struct_size; /* sizeof(struct teddertempo_options) */
+    uint64_t seed;        /* equal modules and options give equal bytes */
+    uint64_t rules[16];   /* bit i % 64 of rules[i / 64] is rule i; all zero: every rule */
+    uint64_t function;    /* the only function that is rewritten, imported ones counted first; or TEDDERTEMPO_ANY_FUNCTION */
+    uint64_t count;       /* so many rewrites, one after another; 0 counts as 1 */
+    uint64_t max_growth;  /* the new module has at most so many bytes more than the old one; or TEDDERTEMPO_ANY_GROWTH */
 };
 
 struct teddertempo_report {
-    uint32_t outcome;  /* one of the values above */
-    uint32_t rule;     /* the rule of the last rewrite that was made */
-    uint64_t function; /* the function of it, imported ones counted first */
-    uint64_t made;     /* how many rewrites were made */
-    uint64_t offset;   /* where the module is at fault, where it isn't a module */
+    uint64_t struct_size; /* sizeof(struct teddertempo_report); it stays as it is */
+    uint32_t outcome;     /* one of the values above */
+    uint32_t rule;        /* the rule of the last rewrite that was made */
+    uint64_t function;    /* the function of it, imported ones counted first */
+    uint64_t made;        /* how many rewrites were made */
+    uint64_t offset;      /* where the module is at fault, where it isn't a module */
 };
 
 /* As teddertempo_mutate, by options, and with a report. */
 size_t teddertempo_mutate_with(uint8_t *data, size_t size, size_t max_size, const struct teddertempo_options *options,
                                struct teddertempo_report *report);
 
-/* The version as a number, 0x000200 for 0.2.0. */
+/* The version as a number, 0x000300 for 0.3.0. */
 uint32_t teddertempo_version(void);
+
+/* How many rules there are: their numbers are those below. */
+uint64_t teddertempo_rule_count(void);
 
 /*
  * Writes the name of a rule, which has no NUL behind it, to at most room bytes, and returns the length of the name; 0 where
- * there is no such rule, and the rules are those below the first of these.
+ * there is no such rule.
  */
 size_t teddertempo_rule_name(uint32_t rule, char *name, size_t room);
+
+#define TEDDERTEMPO_NO_SUCH_RULE UINT64_MAX
+
+/* The number of the rule with a name, which has length bytes; TEDDERTEMPO_NO_SUCH_RULE where no rule has it. */
+uint64_t teddertempo_rule_number(const char *name, size_t length);
 
 #ifdef __cplusplus
 }

@@ -75,17 +75,13 @@ static int read_number(const char *text, uint64_t *number)
 /* Adds the rule with a name to those that may be used; 0 where there is none. */
 static int add_rule(const char *text, struct teddertempo_options *options)
 {
-    char name[LONGEST_NAME];
-    size_t size;
-    uint32_t rule;
+    uint64_t rule = teddertempo_rule_number(text, strlen(text));
 
-    for (rule = 0; (size = teddertempo_rule_name(rule, name, sizeof name)) != 0; rule++) {
-        if (size <= sizeof name && size == strlen(text) && memcmp(name, text, size) == 0) {
-            options->rules[rule / 64] |= (uint64_t)1 << (rule % 64);
-            return 1;
-        }
+    if (rule == TEDDERTEMPO_NO_SUCH_RULE) {
+        return 0;
     }
-    return 0;
+    options->rules[rule / 64] |= (uint64_t)1 << (rule % 64);
+    return 1;
 }
 
 /* Reads an option and its value; 0 where there is no such option, or the value is none for it. */
@@ -125,8 +121,8 @@ static void tell(const struct teddertempo_report *report, size_t size, size_t ne
 
 int main(int count, char **arguments)
 {
-    struct teddertempo_options options = {0, {0, 0}, TEDDERTEMPO_ANY_FUNCTION, 1, TEDDERTEMPO_ANY_GROWTH};
-    struct teddertempo_report report;
+    struct teddertempo_options options = {sizeof options, 0, {0}, TEDDERTEMPO_ANY_FUNCTION, 1, TEDDERTEMPO_ANY_GROWTH};
+    struct teddertempo_report report = {sizeof report, 0, 0, 0, 0, 0};
     uint8_t *data;
     size_t size = 0, new_size;
     int at = 1, status = 0;

@@ -1,19 +1,20 @@
 -- A module rewritten as is asked for, and what options ask for.
-use Rattle.std.proofs.Common.{◌≡◌, ℕ, ◌+◌, List, Option, Result, Ok, Err, ap, ◌∙◌, arith}
+use Rattle.std.proofs.Common.{◌≡◌, ℕ, ◌+◌, List, Option, None, Result, Ok, Err, ap, ◌∙◌, arith}
 use Rattle.std.specs.Prelude.{IfOk, IfErr}
 use Rattle.std.proofs.Math.Nat.{min-le_left}
-use Rattle.peephole_rules.specs.declared.rule.Rule.{Rule}
-use Rattle.peephole_modules.specs.Attempt.{IsForSize, IsReason}
-use Rattle.peephole_modules.specs.Chosen.{GivesUp}
-use Rattle.peephole_modules.specs.ChosenTimes.{ChoosesTimes}
-use Rattle.peephole_modules.specs.DoesAsBefore.{DoesAsBefore}
-use Rattle.peephole_modules.specs.Mutates.{Mutates}
-use Rattle.peephole_modules.specs.Seeded.{seeded}
-use Rattle.peephole_modules.specs.declared.attempt.Reason.{Reason}
-use Rattle.peephole_modules.specs.declared.times.RewrittenModule.{RewrittenModule}
+use Rattle.rewrite_rules.specs.declared.rule.Rule.{Rule}
+use Rattle.module_rewrites.specs.Attempt.{IsForSize, IsReason}
+use Rattle.module_rewrites.specs.Chosen.{GivesUp}
+use Rattle.module_rewrites.specs.ChosenTimes.{ChoosesTimes}
+use Rattle.module_rewrites.specs.DoesAsBefore.{DoesAsBefore}
+use Rattle.module_rewrites.specs.Mutates.{Mutates}
+use Rattle.module_rewrites.specs.Seeded.{seeded}
+use Rattle.module_rewrites.specs.declared.attempt.Reason.{Reason}
+use Rattle.module_rewrites.specs.declared.times.RewrittenModule.{RewrittenModule}
 use Rattle.teddertempo_c.specs.Options.{rules_of, function_of, count_of, most_of}
 use Rattle.teddertempo_c.specs.Reports.{asked_of}
-use Rattle.teddertempo_c.specs.Writes.{Asked, Fits, IsRefusedFor, IsRewrittenBy}
+use Rattle.teddertempo_c.specs.Rules.{every_rule}
+use Rattle.teddertempo_c.specs.Writes.{Asked, Fits, IsRefusedFor, IsRewrittenBy, once}
 use Rattle.teddertempo_c.specs.declared.options.Options.{Options}
 use Rattle.teddertempo_c.proofs.FitsLemmas.{fits_mutated}
 
@@ -44,6 +45,14 @@ pub refused_so : (asked : Asked) (bytes : List ℕ) (r : Result RewrittenModule 
 refused_so asked bytes (Ok m) a b = tt
 refused_so asked bytes (Err e) a b = record { is = a; gives_up = b }
 
+-- ---- once
+
+abbrev pub once_with : (seed : ℕ) → List Rule → (room : ℕ) → Asked
+once_with seed rules room = record { seed = seed; scope = record { rules = rules; function = None; most = room }; count = 1 }
+
+pub once_same : (seed : ℕ) (rules : List Rule) (room : ℕ) → rules ≡ every_rule → once_with seed rules room ≡ once seed room
+once_same seed rules room e = ap (λ r. once_with seed r room) e
+
 -- ---- by options
 
 abbrev pub asked_with : Options → List Rule → Option ℕ → (most count : ℕ) → Asked
@@ -64,5 +73,5 @@ asked_same options size room rules function most count a b c d =
 pub fits_room : (options : Options) (size room : ℕ) (r : Result RewrittenModule Reason) →
     IfOk r (λ m. Fits (most_of options size room) m.made.items m.bytes.items) → IfOk r (λ m. Fits room m.made.items m.bytes.items)
 fits_room options size room (Ok m) f =
-    let below = min-le_left room (size + options.max_growth) in record { one = f.one; some = f.some; fits = omega (arith, f.fits, below) }
+    let below = min-le_left room (size + options.max_growth) in record { one = f.one; named = f.named; some = f.some; fits = omega (arith, f.fits, below) }
 fits_room options size room (Err e) f = tt

@@ -1,4 +1,5 @@
 pub mod BufferLemmas
+pub mod RuleLemmas
 pub mod OptionsLemmas
 pub mod OutcomeLemmas
 pub mod FitsLemmas

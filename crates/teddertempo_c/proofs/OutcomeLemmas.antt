@@ -1,15 +1,13 @@
 -- What a reason comes to is right.
 use Rattle.std.proofs.Common.{ℕ, List, refl}
-use Rattle.mutate_base.specs.declared.error.Error.{Error}
-use Rattle.mutate_base.specs.declared.error.Error.TheVariants as errors
 use Rattle.wasm_sections.specs.declared.fault.ModuleFault.{ModuleFault}
 use Rattle.wasm_sections.specs.declared.fault.ModuleFault.TheVariants as faults
 use Rattle.wasm_module.specs.Fault.{IsModuleFault}
 use Rattle.wasm_module.specs.declared.refusal.WriteError.TheVariants as writes
-use Rattle.peephole_modules.specs.declared.attempt.Reason.{Reason}
-use Rattle.peephole_modules.specs.declared.attempt.Reason.TheVariants as reasons
-use Rattle.peephole_modules.specs.declared.mutation.MutationError.TheVariants as mutations
-use Rattle.teddertempo_c.specs.Outcome.{IsOutcome, offset_by, offset_by_fault, outcome_by, outcome_by_error, outcome_by_fault}
+use Rattle.module_rewrites.specs.declared.attempt.Reason.{Reason}
+use Rattle.module_rewrites.specs.declared.attempt.Reason.TheVariants as reasons
+use Rattle.module_rewrites.specs.declared.mutation.MutationError.TheVariants as mutations
+use Rattle.teddertempo_c.specs.Outcome.{IsOutcome, offset_by, offset_by_fault, outcome_by, outcome_by_fault}
 use Rattle.teddertempo_c.specs.Writes.{Asked, IsRefusedFor}
 
 module _ (asked : Asked) (bytes : List ℕ) where
@@ -29,19 +27,6 @@ module _ (asked : Asked) (bytes : List ℕ) where
   by_fault faults.TooManyLocals offset h = record { kind = faults.TooManyLocals; is = h; other = tt }
   by_fault faults.Memory offset h = refl
 
-  by_error : (e : Error) → IsRefusedFor asked bytes (reasons.Refused (mutations.Rewrite e)) → IsOutcome asked bytes 0 (outcome_by_error e)
-  by_error errors.Memory h = refl
-  by_error errors.NoMutationsApplicable h = (refl, record { error = mutations.Rewrite errors.NoMutationsApplicable; large = tt; is = h })
-  by_error (errors.UnknownFunction n) h = (refl, record { error = mutations.Rewrite (errors.UnknownFunction n); large = tt; is = h })
-  by_error (errors.UnknownLocal n) h = (refl, record { error = mutations.Rewrite (errors.UnknownLocal n); large = tt; is = h })
-  by_error (errors.UnknownGlobal n) h = (refl, record { error = mutations.Rewrite (errors.UnknownGlobal n); large = tt; is = h })
-  by_error (errors.UnknownTable n) h = (refl, record { error = mutations.Rewrite (errors.UnknownTable n); large = tt; is = h })
-  by_error (errors.UnknownMemory n) h = (refl, record { error = mutations.Rewrite (errors.UnknownMemory n); large = tt; is = h })
-  by_error errors.UnknownOperand h = (refl, record { error = mutations.Rewrite errors.UnknownOperand; large = tt; is = h })
-  by_error errors.CannotUnfold h = (refl, record { error = mutations.Rewrite errors.CannotUnfold; large = tt; is = h })
-  by_error errors.GlobalIndex h = (refl, record { error = mutations.Rewrite errors.GlobalIndex; large = tt; is = h })
-  by_error errors.TooLarge h = (refl, record { error = mutations.Rewrite errors.TooLarge; large = tt; is = h })
-
   pub by_reason : (reason : Reason) → IsRefusedFor asked bytes reason → IsOutcome asked bytes (offset_by reason) (outcome_by reason)
   by_reason reasons.NoRule h = (refl, (reasons.NoRule, tt, h))
   by_reason reasons.NoOwnFunction h = (refl, (reasons.NoOwnFunction, tt, h))
@@ -49,7 +34,7 @@ module _ (asked : Asked) (bytes : List ℕ) where
   by_reason (reasons.NoFunction function) h = (refl, (reasons.NoFunction function, h.is))
   by_reason (reasons.UnknownImport e) h = (refl, (reasons.UnknownImport e, h.is))
   by_reason (reasons.Refused (mutations.Read e)) h = by_fault e.kind e.offset h.is
-  by_reason (reasons.Refused (mutations.Rewrite e)) h = by_error e h
+  by_reason (reasons.Refused mutations.Memory) h = refl
   by_reason (reasons.Refused (mutations.Write writes.TooLarge)) h = (refl, record { error = mutations.Write writes.TooLarge; large = tt; is = h })
   by_reason (reasons.Refused (mutations.Write writes.EmptyType)) h = absurd h.is.refuses
   by_reason (reasons.Refused (mutations.Write writes.Memory)) h = refl

@@ -1,4 +1,5 @@
 pub mod Buffer
+pub mod Rules
 pub mod Options
 pub mod Outcome
 pub mod Writes

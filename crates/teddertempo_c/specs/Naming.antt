@@ -1,7 +1,6 @@
 -- What is written of a rule's name (this project).
 use Rattle.std.specs.Prelude.{◌≡◌, ℕ, List, ◌++◌, length, take, drop, slice_get, MatchOption}
-use Rattle.peephole_rules.specs.Rule.{rule_name}
-use Rattle.peephole_rules.specs.declared.rule.TheConstants.{RULES}
+use Rattle.rewrite_rules.specs.Names.{names}
 
 -- The room holds as much of the name as fits, and behind it what it held.
 pub record HoldsName (name old : List ℕ) (result : ℕ) (new : List ℕ) : Type 0 where
@@ -15,5 +14,4 @@ pub record HoldsNone (old : List ℕ) (result : ℕ) (new : List ℕ) : Type 0 w
 
 -- The name of the rule with the number is written; nothing, where there is none.
 abbrev pub WritesName : (rule : ℕ) → (old : List ℕ) → (result : ℕ) → (new : List ℕ) → Type 0
-WritesName rule old result new =
-    MatchOption (slice_get RULES rule) (HoldsNone old result new) (λ r. HoldsName (rule_name r) old result new)
+WritesName rule old result new = MatchOption (slice_get names rule) (HoldsNone old result new) (λ name. HoldsName name old result new)

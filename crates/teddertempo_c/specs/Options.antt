@@ -1,30 +1,45 @@
 -- What options ask for (this project).
-use Rattle.std.specs.Prelude.{ℕ, ◌+◌, ◌/◌, ◌%◌, ◌^◌, min, Bool, eqb, ltb, ◌&&◌, ◌||◌, List, Option, Some, None, if◌then◌else◌}
-use Rattle.std.specs.List.{filter}
-use Rattle.peephole_rules.specs.Rule.{rule_number}
-use Rattle.peephole_rules.specs.declared.rule.Rule.{Rule}
-use Rattle.peephole_rules.specs.declared.rule.TheConstants.{RULES}
+use Rattle.std.specs.Prelude.{◌≡◌, ◌⊎◌, ℕ, ◌<◌, ◌+◌, ◌/◌, ◌%◌, ◌^◌, min, Bool, eqb, ◌||◌, List, [], Option, Some, None, if◌then◌else◌, slice_get}
+use Rattle.std.specs.List.{filter, list_all}
+use Rattle.std.specs.Option.{unwrap_or}
+use Rattle.rewrite_rules.specs.Rule.{rule_number}
+use Rattle.rewrite_rules.specs.declared.rule.Rule.{Rule}
+use Rattle.teddertempo_c.specs.Rules.{every_rule}
 use Rattle.teddertempo_c.specs.declared.options.Options.{Options}
+use Rattle.teddertempo_c.specs.declared.options.TheConstants.{OPTIONS_SIZE}
+use Rattle.teddertempo_c.specs.declared.report.TheConstants.{REPORT_SIZE}
 
 -- no bit is set
-abbrev pub names_none : Options → Bool
-names_none options = eqb options.low_rules 0 && eqb options.high_rules 0
+abbrev pub names_none : (words : List ℕ) → Bool
+names_none words = list_all (λ (word : ℕ). eqb word 0) words
 
--- the rule with the number i has bit i % 64, in the first word where i is below 64, else in the second one
-abbrev pub word_of : Options → (number : ℕ) → ℕ
-word_of options number = if ltb number 64 then options.low_rules else options.high_rules
+-- the rule with the number i has bit i % 64, in the word i / 64; where there is no such word it has none
+abbrev pub word_of : (words : List ℕ) → (number : ℕ) → ℕ
+word_of words number = unwrap_or (slice_get words (number / 64)) 0
 
 -- the word has the bit of the rule with that number, of its 64 bits
 abbrev pub has_bit : (word number : ℕ) → Bool
 has_bit word number = eqb ((word / 2 ^ (number % 64)) % 2) 1
 
--- the rule may rewrite: its bit is set, or none is
+-- the rule with the number may rewrite: its bit is set, or none is
+abbrev pub allows_number : Options → (number : ℕ) → Bool
+allows_number options number = names_none options.rules || has_bit (word_of options.rules number) number
+
+-- the rule may
 abbrev pub allows : Options → Rule → Bool
-allows options rule = names_none options || has_bit (word_of options (rule_number rule)) (rule_number rule)
+allows options rule = allows_number options (rule_number rule)
 
 -- The rules that may, in the order of all rules.
 abbrev pub rules_of : Options → List Rule
-rules_of options = filter (allows options) RULES
+rules_of options = filter (allows options) every_rule
+
+-- the caller's options, or its report, which has `report_size` bytes, are smaller than this version's
+abbrev pub AreSmall : Options → (report_size : ℕ) → Type 0
+AreSmall options report_size = (options.struct_size < OPTIONS_SIZE) ⊎ (report_size < REPORT_SIZE)
+
+-- so they are, or the size is above that of the buffer, or the options name no rule that there is
+abbrev pub AreBad : Options → (report_size size room : ℕ) → Type 0
+AreBad options report_size size room = AreSmall options report_size ⊎ ((room < size) ⊎ (rules_of options ≡ []))
 
 -- the only function that may be rewritten, if one is named
 abbrev pub function_of : Options → Option ℕ

@@ -1,18 +1,16 @@
 -- What calls come to, and when (this project).
 use Rattle.std.specs.Prelude.{◌≡◌, ℕ, List}
-use Rattle.mutate_base.specs.declared.error.Error.{Error}
-use Rattle.mutate_base.specs.declared.error.Error.TheVariants as errors
 use Rattle.wasm_sections.specs.declared.fault.ModuleFault.{ModuleFault}
 use Rattle.wasm_sections.specs.declared.fault.ModuleFault.TheVariants as faults
 use Rattle.wasm_module.specs.Fault.{IsModuleFault}
 use Rattle.wasm_module.specs.declared.refusal.WriteError.{WriteError}
 use Rattle.wasm_module.specs.declared.refusal.WriteError.TheVariants as writes
-use Rattle.peephole_modules.specs.Attempt.{RefusesIndexOf}
-use Rattle.peephole_modules.specs.declared.function.FunctionError.{FunctionError}
-use Rattle.peephole_modules.specs.declared.attempt.Reason.{Reason}
-use Rattle.peephole_modules.specs.declared.attempt.Reason.TheVariants as reasons
-use Rattle.peephole_modules.specs.declared.mutation.MutationError.{MutationError}
-use Rattle.peephole_modules.specs.declared.mutation.MutationError.TheVariants as mutations
+use Rattle.module_rewrites.specs.Attempt.{RefusesIndexOf}
+use Rattle.module_rewrites.specs.declared.function.FunctionError.{FunctionError}
+use Rattle.module_rewrites.specs.declared.attempt.Reason.{Reason}
+use Rattle.module_rewrites.specs.declared.attempt.Reason.TheVariants as reasons
+use Rattle.module_rewrites.specs.declared.mutation.MutationError.{MutationError}
+use Rattle.module_rewrites.specs.declared.mutation.MutationError.TheVariants as mutations
 use Rattle.teddertempo_c.specs.Writes.{Asked, IsRefusedFor}
 use Rattle.teddertempo_c.specs.declared.outcome.Outcome.{Outcome}
 use Rattle.teddertempo_c.specs.declared.outcome.Outcome.TheVariants.{Rewritten, NotAModule, LinkableObject, Unreadable, NoRule, NoFunction, TooLarge, NoMemory, BadOptions}
@@ -41,11 +39,10 @@ pub record IsNoModule (bytes : List ℕ) (offset : ℕ) : Type 0 where
   pub is : IsModuleFault bytes kind offset
   pub other : IsOther kind
 
--- a rewrite is refused since it is too large: its module for the bytes that it may have or for sizes of 32 bits, or its tree or code for the rules
+-- a rewrite is refused since it is too large: its module for the bytes that it may have or for sizes of 32 bits
 abbrev pub IsTooLarge : MutationError → Type 0
 IsTooLarge (mutations.Read e) = ⊥
-IsTooLarge (mutations.Rewrite errors.Memory) = ⊥
-IsTooLarge (mutations.Rewrite e) = Unit {0}
+IsTooLarge mutations.Memory = ⊥
 IsTooLarge (mutations.Write writes.TooLarge) = Unit {0}
 IsTooLarge (mutations.Write writes.EmptyType) = ⊥
 IsTooLarge (mutations.Write writes.Memory) = ⊥
@@ -88,21 +85,16 @@ abbrev pub offset_by_fault : ModuleFault → (offset : ℕ) → ℕ
 offset_by_fault faults.Memory offset = 0
 offset_by_fault fault offset = offset
 
--- what the refusal of a rewrite comes to
-abbrev pub outcome_by_error : Error → Outcome
-outcome_by_error errors.Memory = NoMemory
-outcome_by_error e = TooLarge
-
 -- what it comes to that a module isn't written; for the type of a global none that a rewrite makes is refused
 abbrev pub outcome_by_write : WriteError → Outcome
 outcome_by_write writes.TooLarge = TooLarge
 outcome_by_write writes.EmptyType = TooLarge
 outcome_by_write writes.Memory = NoMemory
 
--- the same of any refusal: that of reading, of rewriting, of writing, or for the size of the module
+-- the same of any refusal: that of reading, for want of memory, of writing, or for the size of the module
 abbrev pub outcome_by_refusal : MutationError → Outcome
 outcome_by_refusal (mutations.Read e) = outcome_by_fault e.kind
-outcome_by_refusal (mutations.Rewrite e) = outcome_by_error e
+outcome_by_refusal mutations.Memory = NoMemory
 outcome_by_refusal (mutations.Write e) = outcome_by_write e
 outcome_by_refusal mutations.TooLong = TooLarge
 

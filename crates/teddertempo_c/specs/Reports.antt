@@ -1,8 +1,8 @@
 -- What a call with options leaves in the buffer, and what it reports (this project).
-use Rattle.std.specs.Prelude.{◌≡◌, ◌≢◌, ◌⊎◌, ◌↔◌, ℕ, ◌<◌, ◌≤◌, List, [], ◌∷◌, ◌++◌, length, take}
-use Rattle.peephole_rules.specs.Rule.{rule_number}
-use Rattle.peephole_modules.specs.declared.times.MadeRewrite.{MadeRewrite}
-use Rattle.teddertempo_c.specs.Options.{rules_of, function_of, count_of, most_of}
+use Rattle.std.specs.Prelude.{◌≡◌, ◌≢◌, ◌↔◌, ℕ, ◌≤◌, List, [], ◌∷◌, ◌++◌, Some, length, take}
+use Rattle.rewrite_rules.specs.Names.{rule_of}
+use Rattle.module_rewrites.specs.declared.times.MadeRewrite.{MadeRewrite}
+use Rattle.teddertempo_c.specs.Options.{AreBad, rules_of, function_of, count_of, most_of}
 use Rattle.teddertempo_c.specs.Outcome.{outcome_number, IsOutcome}
 use Rattle.teddertempo_c.specs.Writes.{Asked, Fits, IsRewrittenBy, WritesFront}
 use Rattle.teddertempo_c.specs.declared.options.Options.{Options}
@@ -18,10 +18,6 @@ asked_of options size room = record {
   count = count_of options;
 }
 
--- the size is above that of the buffer, or the options name no rule that there is
-abbrev pub AreBad : Options → (size room : ℕ) → Type 0
-AreBad options size room = (room < size) ⊎ (rules_of options ≡ [])
-
 -- how many rewrites were made, and the function and the rule of the last one
 pub record TellsMade (made : List MadeRewrite) (report : Report) : Type 0 where
   pub count : report.made ≡ length made
@@ -29,7 +25,7 @@ pub record TellsMade (made : List MadeRewrite) (report : Report) : Type 0 where
   pub last : MadeRewrite
   pub made_are : made ≡ before ++ last ∷ []
   pub function : report.function ≡ last.function
-  pub rule : report.rule ≡ rule_number last.rewrite.rule
+  pub rule : rule_of last.rewrite.row ≡ Some report.rule
   pub offset : report.offset ≡ 0
 
 -- no rewrite was made
@@ -46,32 +42,33 @@ pub record IsRewrittenSo (options : Options) (size : ℕ) (old : List ℕ) (resu
   pub tells : TellsMade made report
 
 -- why nothing is rewritten: the options are bad, or that outcome is right
-abbrev pub IsWhy : Options → (size : ℕ) → (old : List ℕ) → (offset : ℕ) → Outcome → Type 0
-IsWhy options size old offset BadOptions = (offset ≡ 0) × AreBad options size (length old)
-IsWhy options size old offset outcome = IsOutcome (asked_of options size (length old)) (take size old) offset outcome
+abbrev pub IsWhy : Options → (report_size size : ℕ) → (old : List ℕ) → (offset : ℕ) → Outcome → Type 0
+IsWhy options report_size size old offset BadOptions = (offset ≡ 0) × AreBad options report_size size (length old)
+IsWhy options report_size size old offset outcome = IsOutcome (asked_of options size (length old)) (take size old) offset outcome
 
 -- The result is 0, and the buffer as it was, exactly where the outcome is another than that the module is rewritten; and the report says what was done, or why
--- nothing was. Bad options are always told.
-pub record MutatesWith (options : Options) (size : ℕ) (old : List ℕ) (result : ℕ) (new : List ℕ) (report : Report) : Type 0 where
+-- nothing was. Bad options are always told. The report was `before`, and keeps its size.
+pub record MutatesWith (options : Options) (size : ℕ) (old : List ℕ) (result : ℕ) (new : List ℕ) (before report : Report) : Type 0 where
   pub writes : WritesFront old result new
   pub outcome : Outcome
   pub number : report.outcome ≡ outcome_number outcome
   pub some : (result ≢ 0) ↔ (outcome ≡ Rewritten)
   pub rewritten : outcome ≡ Rewritten → IsRewrittenSo options size old result new report
   pub none : outcome ≢ Rewritten → TellsNone report
-  pub why : outcome ≢ Rewritten → IsWhy options size old report.offset outcome
-  pub bad : AreBad options size (length old) → outcome ≡ BadOptions
+  pub why : outcome ≢ Rewritten → IsWhy options before.struct_size size old report.offset outcome
+  pub bad : AreBad options before.struct_size size (length old) → outcome ≡ BadOptions
+  pub size_stays : report.struct_size ≡ before.struct_size
 
 -- ---- for private functions
 
 -- the options are good, and the first `size` bytes are a module, which rewrites make these bytes of
-pub record IsAttempt (options : Options) (size : ℕ) (buffer : List ℕ) (made : List MadeRewrite) (new : List ℕ) : Type 0 where
+pub record IsAttempt (options : Options) (report_size size : ℕ) (buffer : List ℕ) (made : List MadeRewrite) (new : List ℕ) : Type 0 where
   pub inside : size ≤ length buffer
-  pub good : AreBad options size (length buffer) → ⊥
+  pub good : AreBad options report_size size (length buffer) → ⊥
   pub is : IsRewrittenBy (asked_of options size (length buffer)) (take size buffer) made new
   pub fits : Fits (length buffer) made new
 
 -- nothing is rewritten, and the outcome is right
-pub record IsRefusal (options : Options) (size : ℕ) (buffer : List ℕ) (outcome : Outcome) (offset : ℕ) : Type 0 where
-  pub why : IsWhy options size buffer offset outcome
-  pub bad : AreBad options size (length buffer) → outcome ≡ BadOptions
+pub record IsRefusal (options : Options) (report_size size : ℕ) (buffer : List ℕ) (outcome : Outcome) (offset : ℕ) : Type 0 where
+  pub why : IsWhy options report_size size buffer offset outcome
+  pub bad : AreBad options report_size size (length buffer) → outcome ≡ BadOptions

@@ -1,16 +1,17 @@
 -- What a call leaves in the buffer that it was given (this project).
-use Rattle.std.specs.Prelude.{◌≡◌, ◌≢◌, ◌⊎◌, ℕ, ◌<◌, ◌≤◌, List, ◌++◌, length, take, drop, Option, None}
-use Rattle.peephole_rules.specs.declared.rule.TheConstants.{RULES}
-use Rattle.peephole_modules.specs.Attempt.{IsForSize, IsReason}
-use Rattle.peephole_modules.specs.Chosen.{GivesUp}
-use Rattle.peephole_modules.specs.ChosenTimes.{ChoosesTimes}
-use Rattle.peephole_modules.specs.DoesAsBefore.{DoesAsBefore}
-use Rattle.peephole_modules.specs.Mutates.{Mutates}
-use Rattle.peephole_modules.specs.Scope.{Scope}
-use Rattle.peephole_modules.specs.Seeded.{seeded}
-use Rattle.peephole_modules.specs.declared.attempt.Reason.{Reason}
-use Rattle.peephole_modules.specs.declared.mutation.MutationError.{MutationError}
-use Rattle.peephole_modules.specs.declared.times.MadeRewrite.{MadeRewrite}
+use Rattle.std.specs.Prelude.{◌≡◌, ◌≢◌, ◌⊎◌, ℕ, ◌<◌, ◌≤◌, List, ◌++◌, length, take, drop, Option, Some, None, All}
+use Rattle.rewrite_rules.specs.Names.{rule_of}
+use Rattle.module_rewrites.specs.Attempt.{IsForSize, IsReason}
+use Rattle.module_rewrites.specs.Chosen.{GivesUp}
+use Rattle.module_rewrites.specs.ChosenTimes.{ChoosesTimes}
+use Rattle.module_rewrites.specs.DoesAsBefore.{DoesAsBefore}
+use Rattle.module_rewrites.specs.Mutates.{Mutates}
+use Rattle.module_rewrites.specs.Scope.{Scope}
+use Rattle.module_rewrites.specs.Seeded.{seeded}
+use Rattle.module_rewrites.specs.declared.attempt.Reason.{Reason}
+use Rattle.module_rewrites.specs.declared.mutation.MutationError.{MutationError}
+use Rattle.module_rewrites.specs.declared.times.MadeRewrite.{MadeRewrite}
+use Rattle.teddertempo_c.specs.Rules.{every_rule}
 
 -- What is asked for: the generator's seed, what of the module may be rewritten, and how many rewrites at most.
 pub record Asked : Type 0 where
@@ -41,7 +42,7 @@ pub record WritesFront (old : List ℕ) (result : ℕ) (new : List ℕ) : Type 0
 
 -- one rewrite, by any rule in any function, in so many bytes
 abbrev pub once : (seed room : ℕ) → Asked
-once seed room = record { seed = seed; scope = record { rules = RULES; function = None; most = room }; count = 1 }
+once seed room = record { seed = seed; scope = record { rules = every_rule; function = None; most = room }; count = 1 }
 
 -- The first `size` bytes were a module, and the first ones now, the result says how many, are that module rewritten once.
 pub record IsRewrittenOnce (seed size : ℕ) (old : List ℕ) (result : ℕ) (new : List ℕ) : Type 0 where
@@ -61,9 +62,17 @@ pub record MutatesOnce (seed size : ℕ) (old : List ℕ) (result : ℕ) (new : 
 
 -- ---- for private functions
 
--- a module that rewrites made: there is one, and its bytes are some, and at most so many
+-- the row of the table is one of a rule
+abbrev pub IsOfRule : (row : ℕ) → Type 0
+IsOfRule row = (number : ℕ) × (rule_of row ≡ Some number)
+
+abbrev pub HasRule : MadeRewrite → Type 0
+HasRule m = IsOfRule m.rewrite.row
+
+-- a module that rewrites made: there is one, each is by a rule, and its bytes are some, and at most so many
 pub record Fits (most : ℕ) (made : List MadeRewrite) (new : List ℕ) : Type 0 where
   pub one : 0 < length made
+  pub named : All HasRule made
   pub some : 0 < length new
   pub fits : length new ≤ most
 

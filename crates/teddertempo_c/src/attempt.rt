@@ -2,16 +2,17 @@
 ghost use Rattle.std.specs.Prelude.{◌≡◌, ◌<◌, length, IfOk, IfErr};
 ghost use Rattle.teddertempo_c.specs.Options.{rules_of};
 ghost use Rattle.teddertempo_c.specs.Reports.{IsAttempt, IsRefusal, asked_of};
-ghost use Rattle.teddertempo_c.specs.Writes.{Fits, IsRefusedFor, IsRewrittenBy};
+ghost use Rattle.teddertempo_c.specs.Rules.{every_rule};
+ghost use Rattle.teddertempo_c.specs.Writes.{Fits, IsRefusedFor, IsRewrittenBy, once};
 
-use crate::options::{Options, count_of, function_of, most_of, rules_of};
+use crate::options::{Options, are_bad, count_of, function_of, most_of, rules_of};
 use crate::outcome::{Outcome, Refusal, refusal_by};
-use peephole_modules::{Reason, RewrittenModule, Scope, rewrite_with_seed};
-use peephole_rules::Rule;
+use module_rewrites::{Reason, RewrittenModule, Scope, rewrite_with_seed};
+use rewrite_rules::Rule;
 use std::alloc::Global;
 
-/// The module rewritten as `rewrite_with_seed` rewrites it: it has bytes, and no more than it may. Condition: `count` is not 0.
-pub fn rewritten(
+// The module rewritten as `rewrite_with_seed` rewrites it: it has bytes, and no more than it may. Condition: `count` is not 0.
+fn rewritten(
     alloc: Global,
     bytes: &[u8],
     seed: u64,
@@ -27,6 +28,28 @@ pub fn rewritten(
         (record { seed = seed; scope = scope.now; count = count }) bytes.now) }
 {
     rewrite_with_seed(alloc, bytes, seed, scope, count)
+}
+
+/// The module rewritten once by these rules, in any function, to at most `room` bytes.
+pub fn rewritten_once(
+    alloc: Global,
+    bytes: &[u8],
+    seed: u64,
+    rules: &[Rule],
+    room: usize,
+) -> Result<RewrittenModule, Reason>
+    requires rules { rules.now ≡ every_rule }
+    ensures rewritten { IfOk result (λ m. IsRewrittenBy
+        (once seed room) bytes.now m.made.items m.bytes.items) }
+    ensures fits { IfOk result (λ m. Fits room m.made.items m.bytes.items) }
+    ensures refused { IfErr result (IsRefusedFor (once seed room) bytes.now) }
+{
+    let scope = Scope {
+        rules,
+        function: None,
+        max_size: room,
+    };
+    rewritten(alloc, bytes, seed, &scope, 1)
 }
 
 // An outcome that no place in the module belongs to.
@@ -61,29 +84,28 @@ fn rewritten_by(
     rewritten(alloc, bytes, options.seed, &scope, count_of(options))
 }
 
-/// The module that the first `size` bytes of the buffer are, rewritten as the options say, or why nothing of it is.
+/// The module that the first `size` bytes of the buffer are, rewritten as the options say, or why nothing of it is. The caller's report
+/// has `report_size` bytes.
 #[tactic(auto, using(crate::proofs::RefusalLemmas::attempt_so, crate::proofs::RefusalLemmas::refusal_so, crate::proofs::RefusalLemmas::refusal_memory, crate::proofs::RefusalLemmas::refusal_bad))]
 pub fn attempt(
     alloc: Global,
     buffer: &[u8],
     size: usize,
     options: &Options,
+    report_size: u64,
 ) -> Result<RewrittenModule, Refusal>
     ensures made { IfOk result (λ m.
-        IsAttempt options.now size buffer.now m.made.items m.bytes.items) }
+        IsAttempt options.now report_size size buffer.now m.made.items m.bytes.items) }
     ensures refused { IfErr result (λ e.
-        IsRefusal options.now size buffer.now e.outcome e.offset) }
+        IsRefusal options.now report_size size buffer.now e.outcome e.offset) }
 {
-    if size > buffer.len() {
+    if are_bad(options, report_size, size, buffer.len()) {
         return Err(without_place(Outcome::BadOptions));
     }
     let rules = match rules_of(alloc, options) {
         Ok(rules) => rules,
         Err(_) => return Err(without_place(Outcome::NoMemory)),
     };
-    if rules.is_empty() {
-        return Err(without_place(Outcome::BadOptions));
-    }
     match rewritten_by(alloc, &buffer[..size], options, &rules, buffer.len()) {
         Ok(module) => Ok(module),
         Err(reason) => Err(refusal_by(reason)),

@@ -2,8 +2,11 @@
 //! are those of the header `teddertempo.h`.
 #![tactic(auto)]
 
-ghost use Rattle.std.specs.Prelude.{◌≡◌, ℕ, ◌^◌, ◌<◌, List, slice_get};
+ghost use Rattle.std.specs.Prelude.{◌≡◌, ◌≢◌, ℕ, ◌^◌, ◌<◌, List, IfNone, IfSome, Some, length, slice_get};
 ghost use Rattle.std.specs.Borrow.{sem};
+ghost use Rattle.rewrite_rules.specs.Names.{names};
+ghost use Rattle.rewrite_rules.specs.Rule.{rule_name};
+ghost use Rattle.rewrite_rules.specs.declared.rule.Rule.{Rule};
 ghost use Rattle.teddertempo_c.specs.Buffer.{bytes_at};
 ghost use Rattle.teddertempo_c.specs.Naming.{HoldsName, WritesName};
 ghost use Rattle.teddertempo_c.specs.Reports.{MutatesWith};
@@ -14,11 +17,12 @@ mod mutating;
 mod options;
 mod outcome;
 mod report;
+mod rules;
 
 use mutating::{mutate_in, mutate_with_in};
 pub use options::Options;
-use peephole_rules::{RULES, Rule};
 pub use report::Report;
+use rewrite_rules::{Rule, rule_count};
 use std::alloc::Global;
 
 /// Rewrites the module that the first `size` of the `max_size` bytes at `data` are, once and by any rule in any function, under a
@@ -52,9 +56,10 @@ pub unsafe extern "C" fn teddertempo_mutate(
 }
 
 /// The same by options, and the report says what was done, or why nothing was: each reason but a want of memory only where it is so,
-/// and bad options always. It is written whole. Nothing is said of when memory is wanting, which may be so at any time.
+/// and bad options always. It is written whole, but for its size. Nothing is said of when memory is wanting, which may be so at any time.
 ///
-/// C passes `data`, `size`, `max_size`, and pointers to the options and the report, which aren't null and don't overlap the bytes.
+/// C passes `data`, `size`, `max_size`, and pointers to the options and the report, which aren't null and don't overlap the bytes. Both
+/// have their sizes in them: what is smaller than this version's is refused, and of what is larger nothing is read or written behind it.
 #[unsafe(no_mangle)]
 pub unsafe extern "C" fn teddertempo_mutate_with(
     alloc: Global,
@@ -67,7 +72,7 @@ pub unsafe extern "C" fn teddertempo_mutate_with(
     ghost old: { List ℕ }
     requires* { sem 𝓛 (bytes_at «data» max_size old) ∗ ⌜ max_size < 2 ^ 63 ⌝ }
     ensures* { ∃ₛ (λ new. sem 𝓛 (bytes_at «data» max_size new) ∗
-        ⌜ MutatesWith options.now size old result new report.new ⌝) }
+        ⌜ MutatesWith options.now size old result new report.old report.new ⌝) }
 {
     mutate_with_in(
         alloc,
@@ -78,19 +83,20 @@ pub unsafe extern "C" fn teddertempo_mutate_with(
     )
 }
 
-/// The version as a number: 0x000200 for 0.2.0.
+/// The version as a number: 0x000300 for 0.3.0.
 #[unsafe(no_mangle)]
 pub extern "C" fn teddertempo_version() -> u32
-    ensures { result ≡ 512 }
+    ensures { result ≡ 768 }
 {
-    0x00_02_00
+    0x00_03_00
 }
 
-// The one of the rules with the number.
-fn rule_in(rules: &[Rule], number: u32) -> Option<Rule>
-    ensures { result ≡ slice_get rules.now number }
+/// How many rules there are. Their numbers are those below.
+#[unsafe(no_mangle)]
+pub extern "C" fn teddertempo_rule_count() -> u64
+    ensures { result ≡ length names }
 {
-    rules.get(number as usize).copied()
+    rule_count() as u64
 }
 
 // Writes as much of the text to the front of the room as there is room for, and answers the text's length.
@@ -111,8 +117,33 @@ fn hold(text: &[u8], room: &mut [u8]) -> usize
 pub extern "C" fn teddertempo_rule_name(rule: u32, name: &mut [u8]) -> usize
     ensures { WritesName rule name.old result name.new }
 {
-    match rule_in(&RULES, rule) {
+    match Rule::from_number(rule as usize) {
         Some(rule) => hold(rule.name().as_bytes(), name),
         None => 0,
+    }
+}
+
+// The rule with the name, which is any bytes.
+fn rule_by_name(name: &[u8]) -> Option<Rule>
+    ensures some { IfSome result (λ rule. rule_name rule ≡ name.now) }
+    ensures none { IfNone result ((rule : Rule) → rule_name rule ≢ name.now) }
+{
+    match std::str::from_utf8(name) {
+        Ok(name) => Rule::from_name(name),
+        Err(_) => None,
+    }
+}
+
+/// The number of the rule with the name, and `u64::MAX` where no rule has it.
+///
+/// C passes a pointer to the name, which isn't null, and how many bytes it has.
+#[unsafe(no_mangle)]
+pub extern "C" fn teddertempo_rule_number(name: &[u8]) -> u64
+    ensures known { result ≢ u64.MAX → slice_get names result ≡ Some name.now }
+    ensures unknown { result ≡ u64.MAX → (rule : Rule) → rule_name rule ≢ name.now }
+{
+    match rule_by_name(name) {
+        Some(rule) => rule.number() as u64,
+        None => u64::MAX,
     }
 }

@@ -1,22 +1,24 @@
 //! What a caller asks for.
-ghost use Rattle.std.specs.Prelude.{◌≡◌, ◌≢◌, ◌<◌, [], IfOk, OnErr};
+ghost use Rattle.std.specs.Prelude.{◌≡◌, ◌≢◌, ◌↔◌, ◌<◌, [], IfOk, IsTrue};
 ghost use Rattle.std.specs.List.{filter};
-ghost use Rattle.teddertempo_c.specs.Options.{allows, count_of, function_of, has_bit, most_of, names_none, rules_of, word_of};
+ghost use Rattle.teddertempo_c.specs.Options.{AreBad, allows, allows_number, count_of, function_of, has_bit, most_of, names_none, rules_of, word_of};
 
-use peephole_rules::{RULES, Rule};
+use crate::report::REPORT_SIZE;
+use crate::rules::every_rule;
+use rewrite_rules::{Rule, rule_count};
 use std::alloc::{AllocError, Global};
+use std::mem::size_of;
 
-/// What a call is to do. C passes a pointer to one: it is `struct teddertempo_options` of the header, whose `rules` are two words,
-/// one after the other.
+/// What a call is to do. C passes a pointer to one: it is `struct teddertempo_options` of the header.
 #[repr(C)]
 #[derive(Clone, Copy)]
 pub struct Options {
+    /// How many bytes the caller's structure has. A later version has more fields, behind these.
+    pub struct_size: u64,
     /// What the generator is made from: equal modules, options and sizes of the buffer give equal bytes.
     pub seed: u64,
-    /// Bit i says whether the rule with the number i may rewrite. Where both words are 0, every rule may. In C `rules[0]`.
-    pub low_rules: u64,
-    /// The same of the rule with the number 64 + i. In C `rules[1]`.
-    pub high_rules: u64,
+    /// Bit i of the word w says whether the rule with the number 64 w + i may rewrite. Where all words are 0, every rule may.
+    pub rules: [u64; 16],
     /// The only function that is rewritten, by its index among all functions of the module, imported ones first; `u64::MAX`: any.
     pub function: u64,
     /// How many rewrites are made, one after another; 0 counts as 1.
@@ -25,21 +27,25 @@ pub struct Options {
     pub max_growth: u64,
 }
 
+/// How many bytes they have.
+pub const OPTIONS_SIZE: u64 = 168;
+
+const _: () = prove!(size_of::<Options>() == 168);
+
 // Whether no bit is set.
-fn names_none(options: &Options) -> bool
-    ensures { result ≡ names_none options.now }
+fn names_none(words: &[u64]) -> bool
+    ensures { result ≡ names_none words.now }
 {
-    options.low_rules == 0 && options.high_rules == 0
+    words.iter().all(|word| *word == 0)
 }
 
-// The word with the bit of the rule with the number.
-fn word_of(options: &Options, number: usize) -> u64
-    ensures { result ≡ word_of options.now number }
+// The word with the bit of the rule with the number; 0 where there is none.
+fn word_of(words: &[u64], number: usize) -> u64
+    ensures { result ≡ word_of words.now number }
 {
-    if number < 64 {
-        options.low_rules
-    } else {
-        options.high_rules
+    match words.get(number / 64) {
+        Some(word) => *word,
+        None => 0,
     }
 }
 
@@ -50,36 +56,56 @@ fn has_bit(word: u64, number: usize) -> bool
     (word >> (number % 64)) % 2 == 1
 }
 
-// Whether the rule may rewrite.
-fn allows(options: &Options, rule: Rule) -> bool
-    ensures { result ≡ allows options.now rule }
+// Whether the rule with the number may rewrite.
+fn allows_number(options: &Options, number: usize) -> bool
+    ensures { result ≡ allows_number options.now number }
 {
-    let number = rule.number();
-    let word = word_of(options, number);
-    let named = has_bit(word, number);
-    names_none(options) || named
+    let named = has_bit(word_of(&options.rules, number), number);
+    names_none(&options.rules) || named
 }
 
 // Those of the rules that may.
 fn allowed(alloc: Global, options: &Options, rules: &[Rule]) -> Result<Vec<Rule>, AllocError>
-    ensures those { IfOk result (λ r. r.items ≡ filter (allows options.now) rules.now) }
-    ensures some { OnErr result (filter (allows options.now) rules.now ≢ []) }
+    ensures { IfOk result (λ r. r.items ≡ filter (allows options.now) rules.now) }
 {
     let mut those = Vec::new(alloc);
     for rule in rules {
-        if allows(options, *rule) {
+        if allows_number(options, rule.number()) {
             those.push(*rule)?;
         }
     }
     Ok(those)
 }
 
-/// The rules that may rewrite.
+/// The rules that may rewrite. The only error is that memory was refused.
 pub fn rules_of(alloc: Global, options: &Options) -> Result<Vec<Rule>, AllocError>
-    ensures those { IfOk result (λ r. r.items ≡ rules_of options.now) }
-    ensures some { OnErr result (rules_of options.now ≢ []) }
+    ensures { IfOk result (λ r. r.items ≡ rules_of options.now) }
 {
-    allowed(alloc, options, &RULES)
+    let rules = every_rule(alloc)?;
+    allowed(alloc, options, &rules)
+}
+
+// Whether a rule may rewrite.
+fn allow_some(options: &Options) -> bool
+    ensures { IsTrue result ↔ (rules_of options.now ≢ []) }
+{
+    for number in 0..rule_count() {
+        if allows_number(options, number) {
+            return true;
+        }
+    }
+    false
+}
+
+/// Whether nothing can be done: the caller's options, or its report, which has `report_size` bytes, are smaller than this version's, the
+/// size is above that of the buffer, or the options name no rule that there is.
+pub fn are_bad(options: &Options, report_size: u64, size: usize, room: usize) -> bool
+    ensures { IsTrue result ↔ AreBad options.now report_size size room }
+{
+    if options.struct_size < OPTIONS_SIZE || report_size < REPORT_SIZE || size > room {
+        return true;
+    }
+    !allow_some(options)
 }
 
 /// The only function that may be rewritten.

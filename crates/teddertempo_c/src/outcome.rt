@@ -1,9 +1,8 @@
 //! What a call comes to.
 ghost use Rattle.std.specs.Prelude.{◌≡◌};
-ghost use Rattle.teddertempo_c.specs.Outcome.{offset_by, offset_by_fault, offset_by_refusal, outcome_by, outcome_by_error, outcome_by_fault, outcome_by_refusal, outcome_by_write, outcome_number};
+ghost use Rattle.teddertempo_c.specs.Outcome.{offset_by, offset_by_fault, offset_by_refusal, outcome_by, outcome_by_fault, outcome_by_refusal, outcome_by_write, outcome_number};
 
-use mutate_base::Error;
-use peephole_modules::{MutationError, Reason};
+use module_rewrites::{MutationError, Reason};
 use wasm_module::{ModuleError, ModuleFault, WriteError};
 
 /// What a call has done, or why it has done nothing. The header has a constant for each.
@@ -25,7 +24,8 @@ pub enum Outcome {
     TooLarge,
     /// No memory was left.
     NoMemory,
-    /// The size is above that of the buffer, or the options name no rule that there is.
+    /// The options or the report are smaller than this version's, the size is above that of the buffer, or the options name no rule
+    /// that there is.
     BadOptions,
 }
 
@@ -76,16 +76,6 @@ fn offset_by_fault(e: ModuleError) -> usize
     }
 }
 
-// What an error of a rewrite comes to.
-fn outcome_by_error(e: Error) -> Outcome
-    ensures { result ≡ outcome_by_error e }
-{
-    match e {
-        Error::Memory => Outcome::NoMemory,
-        _ => Outcome::TooLarge,
-    }
-}
-
 // What an error of writing comes to.
 fn outcome_by_write(e: WriteError) -> Outcome
     ensures { result ≡ outcome_by_write e }
@@ -102,7 +92,7 @@ fn outcome_by_refusal(e: MutationError) -> Outcome
 {
     match e {
         MutationError::Read(e) => outcome_by_fault(e.kind),
-        MutationError::Rewrite(e) => outcome_by_error(e),
+        MutationError::Memory => Outcome::NoMemory,
         MutationError::Write(e) => outcome_by_write(e),
         MutationError::TooLong => Outcome::TooLarge,
     }

@@ -32,7 +32,7 @@ pub fn mutate_slice(data: &mut [u8], size: usize, options: &Options) -> (usize, 
     let Some(options) = options.raw() else {
         return (size, Report::of_nothing(Outcome::BadOptions));
     };
-    let mut report = raw::Report::default();
+    let mut report = raw::Report::new();
     // SAFETY: the declaration is the header's. The pointers are those of a slice, whose length is handed over and which isn't null
     // even where that is 0, and of two values that lie apart from it; nothing else reads or writes them during the call. That
     // `size` is at most the length, the library checks.
@@ -78,7 +78,7 @@ pub fn mutate(module: &mut Vec<u8>, max: usize, seed: u64) -> bool {
     mutate_with(module, max, &Options::new().seed(seed)).is_rewritten()
 }
 
-/// The library's version as a number, 0x000200 for 0.2.0.
+/// The library's version as a number, 0x000300 for 0.3.0.
 #[must_use]
 pub fn version() -> u32 {
     // SAFETY: the declaration is the header's.

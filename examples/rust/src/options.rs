@@ -1,7 +1,7 @@
 //! What a call is asked to do.
 
 use crate::Rule;
-use crate::raw;
+use crate::raw::{self, Rules};
 
 /// Which rewrites are made: by default one, by any rule in any function, of any size, under the seed 0.
 ///
@@ -13,7 +13,7 @@ use crate::raw;
 pub struct Options {
     seed: u64,
     // A bit for each rule; none where no rule was named.
-    rules: Option<[u64; 2]>,
+    rules: Option<Rules>,
     function: Option<u64>,
     count: u64,
     max_growth: Option<u64>,
@@ -32,14 +32,14 @@ impl Default for Options {
 }
 
 /// The bit of a rule, and its word; none where there is no such word.
-fn bit(rules: &mut [u64; 2], rule: Rule) -> Option<(&mut u64, u64)> {
+fn bit(rules: &mut Rules, rule: Rule) -> Option<(&mut u64, u64)> {
     let word = rules.get_mut(usize::try_from(rule.0 / 64).ok()?)?;
     Some((word, 1 << (rule.0 % 64)))
 }
 
 /// The bits of all rules.
-fn all_rules() -> [u64; 2] {
-    let mut rules = [0; 2];
+fn all_rules() -> Rules {
+    let mut rules = Rules::default();
     for rule in Rule::all() {
         if let Some((word, bit)) = bit(&mut rules, rule) {
             *word |= bit;
@@ -103,10 +103,11 @@ impl Options {
 
     /// As the library reads them; none where no rule is left, which the library takes for all of them.
     pub(crate) fn raw(&self) -> Option<raw::Options> {
-        if self.rules == Some([0, 0]) {
+        if self.rules == Some(Rules::default()) {
             return None;
         }
         Some(raw::Options {
+            struct_size: size_of::<raw::Options>() as u64,
             seed: self.seed,
             rules: self.rules.unwrap_or_default(),
             function: self.function.unwrap_or(raw::ANY),

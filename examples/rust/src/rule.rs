@@ -15,7 +15,11 @@ pub struct NoSuchRule;
 impl Rule {
     /// All rules there are.
     pub fn all() -> impl Iterator<Item = Rule> {
-        (0..).map(Rule).take_while(|rule| rule.length() != 0)
+        // SAFETY: the declaration is the header's.
+        let count = unsafe { raw::teddertempo_rule_count() };
+        (0..)
+            .map(Rule)
+            .take_while(move |rule| u64::from(rule.0) < count)
     }
 
     fn length(self) -> usize {
@@ -39,9 +43,13 @@ impl FromStr for Rule {
     type Err = NoSuchRule;
 
     fn from_str(name: &str) -> Result<Rule, NoSuchRule> {
-        Rule::all()
-            .find(|rule| rule.name() == name)
-            .ok_or(NoSuchRule)
+        // SAFETY: the declaration is the header's. The pointer is that of a text, whose length is handed over and which isn't null
+        // even where that is 0; it is read alone.
+        let number = unsafe { raw::teddertempo_rule_number(name.as_ptr().cast(), name.len()) };
+        if number == raw::NO_SUCH_RULE {
+            return Err(NoSuchRule);
+        }
+        u32::try_from(number).map(Rule).map_err(|_| NoSuchRule)
     }
 }
 

@@ -9,5 +9,5 @@ pub returns-in-Ok : goal.returns-in-Ok
 returns-in-Ok c =
     let put : IsPut c.in-Ok.module.bytes.items c.args.buffer.now c.put.result c.put.new.buffer = search rules in
     let tells : TellsMade c.in-Ok.module.made.items c.report_of.result = search rules in
-    with_made c.args.options.now c.args.size c.args.buffer.now c.in-Ok.module.made.items c.in-Ok.module.bytes.items c.put.result c.put.new.buffer
-    c.report_of.result c.in-Ok.ensures.made put c.report_of.ensures.outcome tells
+    with_made c.args.options.now c.args.size c.args.buffer.now c.args.report.now c.in-Ok.module.made.items c.in-Ok.module.bytes.items c.put.result
+    c.put.new.buffer c.report_of.result c.in-Ok.ensures.made put c.report_of.ensures.outcome tells c.report_of.ensures.size
