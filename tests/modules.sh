@@ -197,8 +197,8 @@ for name in $modules $newer; do
 done
 
 # Each rule alone, once on each module.
-rules=$(sed -n 's/^ *Rule::[A-Za-z]* => "\([a-z_]*\)",$/\1/p' crates/peephole_rules/src/rule.rt)
-if [ -z "$rules" ]; then fail "crates/peephole_rules/src/rule.rt" "no names of rules found"; fi
+rules=$("$program" --help | tr -d '\n' | sed -n 's/.*\[possible values: \([a-z_0-9, ]*\)\].*/\1/p' | tr -d ',')
+if [ -z "$rules" ]; then fail "$program --help" "no names of rules found"; fi
 for name in $modules $newer; do
     begin "$name"
     for rule in $rules; do

@@ -1,8 +1,9 @@
 #!/usr/bin/env bash
-# Refuses to each call that takes memory each of its requests in turn, and prints a line for each call: how many requests were
-# refused, one a run, and how many of them to the call itself. Fails where an answer is none of those allowed: a test in
-# peephole_worked_tests (src/refused.rt), peephole_rule_tests (src/refused_rewrites.rt), teddertempo
-# (src/refused_modules.rt) or peephole_run (src/refused_memory.rt) says which, and stops at any other.
+# Refuses to each call that takes memory its requests in turn: each one, or of more than a hundred the first and the last fifty, and
+# each tenth between these. Prints a line for each call: how many requests were refused, one a run, of how many, and how many of
+# them to the call itself. Fails where an answer is none of those allowed: a test in
+# peephole_worked_tests (src/refused.rt), rule_tests (src/refused_bodies.rt), teddertempo (src/refused_modules.rt)
+# or peephole_run (src/refused_memory.rt) says which, and stops at any other.
 #
 # The program in tests/refused_memory makes a call of those tests over all its samples. It is built twice: without a refusal,
 # which counts the requests of each call, and with request number `at` refused, before which it asks for memory and gives it
@@ -10,7 +11,7 @@
 set -euo pipefail
 cd "$(dirname "$0")/.."
 
-calls="read_body get_dfg get_expr build_expr add expr2wasm build_function pretty_print apply rewrites_of_body reached_operators rewrite_tree rewrite_tree_at_random read_module with_body mutate_with_seed run"
+calls="read_body get_dfg get_expr build_expr add expr2wasm build_function pretty_print trees_of rewrites_of_body reached_operators choose rewrite_body read_module with_body mutate_with_seed run"
 never=1000000
 
 work=$(mktemp -d)
@@ -27,10 +28,10 @@ program=$work/crates/refused_memory
 mkdir -p "$program/src" "$work/counted" "$work/cases"
 cp tests/refused_memory/main.rt.in "$program/src/main.rt"
 cp crates/peephole_worked_tests/src/{graphs,refused,samples,table,terms,writing}.rt "$program/src"
-cp crates/peephole_rule_tests/src/refused_rewrites.rt "$program/src"
+cp crates/rule_tests/src/refused_bodies.rt "$program/src"
 cp crates/teddertempo/src/refused_modules.rt crates/peephole_run/src/refused_memory.rt "$program/src"
-libraries=$(grep '^peephole_rule_tests:' crates.txt | cut -d: -f2)
-{ cat crates.txt; echo "refused_memory:$libraries wasm_module peephole_modules peephole_commands"; } > "$work/crates.txt"
+libraries=$(grep -E '^(peephole_worked_tests|rule_tests|teddertempo|peephole_run):' crates.txt | cut -d: -f2 | tr ' ' '\n' | sort -u | tr '\n' ' ')
+{ cat crates.txt; echo "refused_memory: $libraries"; } > "$work/crates.txt"
 
 # A line for each case, from what `rt try` prints of it: the case, how it ended, the requests for memory, what it printed.
 tried() {
@@ -41,6 +42,17 @@ tried() {
         /^case=/ { print substr($1, 6), $2 "," $3, requests, said ? said : "-"; next }
         { said = said ? said "," $0 : $0 }
     ' "$work/log"
+}
+
+# Which requests are refused, of so many.
+refused_of() {
+    if [ "$1" -le 100 ]; then
+        seq 1 "$1"
+    else
+        seq 1 50
+        seq 60 10 $(($1 - 50))
+        seq $(($1 - 49)) "$1"
+    fi
 }
 
 for call in $calls; do echo "$call 0" > "$work/counted/$call"; done
@@ -56,7 +68,7 @@ while read -r call end requests said; do
 done < "$work/requests"
 
 while read -r call _ requests _; do
-    for n in $(seq 1 $((requests + 1))); do
+    for n in $(refused_of "$requests") $((requests + 1)); do
         echo "$call $((at - n))" > "$work/cases/$call-$n"
     done
 done < "$work/requests"
@@ -66,9 +78,10 @@ tried --steps 1000 --fail-alloc "$at" --cases "$work/cases" > "$work/answers"
 status=0
 for call in $calls; do
     highest=0
+    refused=0
     in_call=0
     requests=$(awk -v call="$call" '$1 == call { print $3 }' "$work/requests")
-    for n in $(seq 1 $((requests + 1))); do
+    for n in $(refused_of "$requests") $((requests + 1)); do
         read -r end said < <(awk -v name="$call-$n" '$1 == name { print $2, $4 }' "$work/answers") || end=none
         case "$end $said" in
             "run=ended,status=0 nothing") met=no ;;
@@ -78,12 +91,13 @@ for call in $calls; do
         esac
         if [ "$met" = yes ] && [ "$n" -le "$requests" ]; then
             highest=$n
+            refused=$((refused + 1))
         elif [ "$met" != no ] || [ "$n" -le "$requests" ]; then
             echo "$call: request $n refused: $end, ${said:-nothing printed}"
             status=1
         fi
     done
-    echo "$call: $highest requests refused, $in_call of them to the call"
+    echo "$call: $refused of $requests requests refused, $in_call of them to the call"
     if [ "$highest" -ne "$requests" ] || [ "$in_call" -eq 0 ]; then status=1; fi
 done
 if [ "$status" -ne 0 ]; then cat "$work/log"; fi

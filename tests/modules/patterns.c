@@ -55,3 +55,23 @@ uint32_t opposed(uint32_t x, uint32_t y)
 {
     return ~(x & y) - ~(x | y);
 }
+
+uint64_t joined(uint32_t x, uint64_t y)
+{
+    return y - 4 + (x | 6);
+}
+
+uint32_t tested(uint32_t x, uint32_t y)
+{
+    return (uint32_t)(x == y) - (uint32_t)(x == 0) * 2;
+}
+
+uint64_t negated(uint32_t x, uint64_t y)
+{
+    return (uint64_t)(int64_t)(int8_t)x - y;
+}
+
+uint32_t gathered(uint32_t x, uint32_t y)
+{
+    return ((x + y) * 10) ^ ((x | y) & 0xf0f);
+}

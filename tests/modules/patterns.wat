@@ -1,5 +1,6 @@
 ;; Patterns of rules that a compiler of C doesn't leave: what changes nothing, constants that decide alone, powers of two, tests of
-;; comparisons, complements, and two operands that are the same. patterns.c is the same in C, and makes the answers.
+;; comparisons, complements, two operands that are the same, and sums and products that are joined. patterns.c is the same in C, and
+;; makes the answers.
 (module
   (func (export "moved") (param $x i32) (param $y i64) (result i64)
     (i64.add
@@ -58,4 +59,24 @@
   (func (export "opposed") (param $x i32) (param $y i32) (result i32)
     (i32.sub
       (i32.or (i32.xor (local.get $x) (i32.const -1)) (i32.xor (local.get $y) (i32.const -1)))
-      (i32.and (i32.xor (local.get $x) (i32.const -1)) (i32.xor (local.get $y) (i32.const -1))))))
+      (i32.and (i32.xor (local.get $x) (i32.const -1)) (i32.xor (local.get $y) (i32.const -1)))))
+
+  (func (export "joined") (param $x i32) (param $y i64) (result i64)
+    (i64.add
+      (i64.add (i64.add (local.get $y) (i64.const 5)) (i64.const -9))
+      (i64.extend_i32_u (i32.or (local.get $x) (i32.or (local.get $x) (i32.const 6))))))
+
+  (func (export "tested") (param $x i32) (param $y i32) (result i32)
+    (i32.sub
+      (i32.eqz (i32.sub (local.get $x) (local.get $y)))
+      (i32.shl (i32.lt_u (local.get $x) (i32.const 1)) (i32.const 1))))
+
+  (func (export "negated") (param $x i32) (param $y i64) (result i64)
+    (i64.add
+      (i64.mul (local.get $y) (i64.const -1))
+      (i64.extend_i32_s (i32.shr_s (i32.shl (local.get $x) (i32.const 24)) (i32.const 24)))))
+
+  (func (export "gathered") (param $x i32) (param $y i32) (result i32)
+    (i32.xor
+      (i32.add (i32.mul (local.get $x) (i32.const 10)) (i32.mul (local.get $y) (i32.const 10)))
+      (i32.or (i32.and (local.get $x) (i32.const 3855)) (i32.and (local.get $y) (i32.const 3855))))))

@@ -14,5 +14,5 @@ mod show;
 mod starts;
 mod writing;
 
-pub use peephole_script::{Fault, LIMIT, RunError, Tally};
+pub use peephole_script::{Fault, LIMIT, RunError};
 pub use runner::run;

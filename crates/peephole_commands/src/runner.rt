@@ -6,8 +6,9 @@ ghost use Rattle.peephole_script.specs.Faults.{ConsumesMore};
 ghost use Rattle.peephole_commands.specs.Answer.{Answers, fault_line};
 
 use crate::session::Session;
+use device_tally::Tally;
 use itoa::Buffer;
-use peephole_script::{Fault, LIMIT, RunError, Tally, cut_line, read_input};
+use peephole_script::{Fault, LIMIT, RunError, cut_line, read_input};
 use std::alloc::Global;
 use std::io::{Read, Write};
 

@@ -8,7 +8,8 @@ mod runs;
 #[cfg(test)]
 mod tests;
 
-use peephole_commands::{Tally, run};
+use device_tally::Tally;
+use peephole_commands::run;
 use std::io;
 use std::io::{BufWriter, Write};
 use std::process::ExitCode;

@@ -1,6 +1,7 @@
 //! Memory that runs out in the middle of a run: `tests/refused_memory.sh` refuses each request for memory in turn.
 
-use peephole_commands::{RunError, Tally, run};
+use device_tally::Tally;
+use peephole_commands::{RunError, run};
 use std::alloc::Global;
 use std::io;
 use std::io::Write;

@@ -6,7 +6,8 @@ use self::results::{
     REFUSED_RESULTS, RESULTS_OF_CALLS_AND_LISTS, RESULTS_OF_REFERENCES, RESULTS_OF_SELECTS,
     RESULTS_OF_VARIABLES,
 };
-use peephole_commands::{Tally, run};
+use device_tally::Tally;
+use peephole_commands::run;
 use std::alloc::Global;
 use std::io;
 use std::process::Abort;

@@ -1,8 +1,9 @@
 //! Devices that fail, long inputs, and deep bodies.
 
 use crate::runs::answers;
+use device_tally::Tally;
 use failing_devices::{FailingReader, FailingWriter};
-use peephole_commands::{RunError, Tally, run};
+use peephole_commands::{RunError, run};
 use std::test::Fail;
 
 #[test]

@@ -1,4 +1,3 @@
-pub mod Tally
 pub mod Faults
 pub mod Text
 pub mod Arguments

@@ -5,7 +5,7 @@ ghost use Rattle.std.specs.Io.KnownBytes.{Consumes, IsAtEnd};
 ghost use Rattle.peephole_script.specs.Faults.{ConsumesMore};
 
 use crate::fault::RunError;
-use crate::tally::Tally;
+use device_tally::Tally;
 use std::alloc::Global;
 use std::io::Read;
 

@@ -1,5 +1,4 @@
-//! What a script says: its lines, words and numbers, what they declare of a module, why a line is faulty, and the devices that
-//! the script comes from and the answers go to.
+//! What a script says: its lines, words and numbers, what they declare of a module, and why a line is faulty.
 #![tactic(auto)]
 
 mod arguments;
@@ -8,7 +7,6 @@ mod declarations;
 mod fault;
 mod hexadecimal;
 mod input;
-mod tally;
 mod text;
 
 pub use arguments::{is_yes, type_of};
@@ -17,5 +15,4 @@ pub use declarations::{Declaration, declare};
 pub use fault::{Fault, RunError};
 pub use hexadecimal::{read_digits, write_digits};
 pub use input::{LIMIT, read_input};
-pub use tally::Tally;
 pub use text::{cut_line, is_text, number_of, words_of};

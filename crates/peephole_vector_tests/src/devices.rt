@@ -3,7 +3,7 @@
 ghost use Rattle.std.specs.Prelude.{◌≤◌, IfOk};
 
 use crate::table::fields_of;
-use peephole_script::Tally;
+use device_tally::Tally;
 use std::io;
 use std::io::{Read, Write};
 use std::process::Abort;

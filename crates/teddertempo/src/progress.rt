@@ -1,6 +1,6 @@
 //! What is told of a run that takes long.
 
-use peephole_modules::{MadeRewrite, Watch};
+use module_rewrites::{MadeRewrite, Watch};
 use std::alloc::Global;
 use std::io::IsTerminal;
 use std::time::Instant;

@@ -1,9 +1,9 @@
 //! The calls on modules, where a request for memory may be refused: then they say so. `tests/refused_memory.sh` refuses each
 //! request in turn.
 
-use mutate_base::{Error, PrimitiveTypeInfo};
-use peephole_modules::{MutationError, Reason, RewrittenModule, Scope, rewrite_with_seed};
-use peephole_rules::Rule;
+use module_rewrites::{MutationError, Reason, RewrittenModule, Scope, rewrite_with_seed};
+use mutate_base::PrimitiveTypeInfo;
+use rewrite_rules::Rule;
 use std::alloc::Global;
 use std::process::Abort;
 use wasm_module::{ModuleFault, WriteError, read_module, with_body};
@@ -75,6 +75,14 @@ pub fn writings(rt: &impl Abort, alloc: Global) -> Option<bool> {
     }
 }
 
+/// The rule of the name.
+pub fn rule_of(rt: &impl Abort, name: &str) -> Rule {
+    match Rule::from_name(name) {
+        Some(rule) => rule,
+        None => panic!(rt; "no rule of that name"),
+    }
+}
+
 /// The sum rewritten once by the rule.
 fn rewrite(alloc: Global, rule: Rule) -> Result<RewrittenModule, Reason> {
     let rules = [rule];
@@ -97,8 +105,7 @@ fn is_refused(rt: &impl Abort, reason: Reason, wanted: Option<Reason>) -> bool {
         }
         Reason::Refused(error) => {
             assert!(rt;
-                error == MutationError::Rewrite(Error::Memory)
-                    || error == MutationError::Write(WriteError::Memory)
+                error == MutationError::Memory || error == MutationError::Write(WriteError::Memory)
             );
         }
         _ => panic!(rt; "another reason"),
@@ -108,13 +115,13 @@ fn is_refused(rt: &impl Abort, reason: Reason, wanted: Option<Reason>) -> bool {
 
 /// Whether memory was refused to `rewrite_with_seed`, where a rule applies, and where none does.
 pub fn rewrites(rt: &impl Abort, alloc: Global) -> bool {
-    match rewrite(alloc, Rule::Commute) {
+    match rewrite(alloc, rule_of(rt, "commute")) {
         Ok(new) => {
             assert!(rt; new.bytes.as_slice() == TURNED.as_slice() && new.made.len() == 1);
         }
         Err(reason) => return is_refused(rt, reason, None),
     }
-    match rewrite(alloc, Rule::Fold) {
+    match rewrite(alloc, rule_of(rt, "fold")) {
         Ok(_) => panic!(rt; "a sum of constants"),
         Err(reason) => is_refused(rt, reason, Some(Reason::NoRule)),
     }

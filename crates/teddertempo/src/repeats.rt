@@ -1,11 +1,11 @@
 //! Rewrites of small modules, one after another, and the functions that are drawn.
 
-use crate::refused_modules::{SUM, TURNED};
+use crate::refused_modules::{SUM, TURNED, rule_of};
+use module_rewrites::{MutationError, Scope, mutate_times, mutate_with_seed};
 use mutate_base::Words;
-use peephole_modules::{MutationError, Scope, mutate_times, mutate_with_seed};
-use peephole_rules::{RULES, Rule};
 use rand::rngs::StdRng;
 use rand_core::SeedableRng;
+use rewrite_rules::{Rule, all_rules};
 use std::test::Fail;
 
 /// Functions whose entries contain 7, 10 and 4 bytes. The first two add their parameters, the last one answers its first one.
@@ -40,7 +40,7 @@ const DRAWS: &str = "
 #[test]
 fn turns_operands(rt: HostRuntime) -> Result<(), Fail> {
     let alloc = rt.alloc();
-    let rules = [Rule::Commute];
+    let rules = [rule_of(&rt, "commute")];
     let scope = any(&rules, 32);
     let once = mutate_with_seed(alloc, &SUM, 0, &scope, 1)?.ok_or("a rewrite")?;
     assert_eq!(rt; once.bytes.as_slice(), TURNED.as_slice());
@@ -53,7 +53,7 @@ fn turns_operands(rt: HostRuntime) -> Result<(), Fail> {
     assert_eq!(rt; thrice.bytes.as_slice(), TURNED.as_slice());
     assert_eq!(rt; thrice.made.len(), 3);
     assert!(rt; thrice.stopped.is_none());
-    let folding = [Rule::Fold];
+    let folding = [rule_of(&rt, "fold")];
     let none = mutate_with_seed(alloc, &SUM, 0, &any(&folding, 32), 3)?;
     assert!(rt; none.is_none());
     Ok(())
@@ -63,7 +63,8 @@ fn turns_operands(rt: HostRuntime) -> Result<(), Fail> {
 #[test]
 fn rewrites_twice(rt: HostRuntime) -> Result<(), Fail> {
     let alloc = rt.alloc();
-    let all = any(&RULES, usize::MAX);
+    let rules = all_rules(alloc)?;
+    let all = any(&rules, usize::MAX);
     for seed in 0..4u64 {
         let mut generator = StdRng::seed_from_u64(seed);
         let once = mutate_times(alloc, &SUM, &mut generator, &all, 1)?;
@@ -81,7 +82,7 @@ fn rewrites_twice(rt: HostRuntime) -> Result<(), Fail> {
 #[test]
 fn draws_functions_by_their_sizes(rt: HostRuntime) -> Result<(), Fail> {
     let alloc = rt.alloc();
-    let rules = [Rule::Commute];
+    let rules = [rule_of(&rt, "commute")];
     let scope = any(&rules, 1000);
     for case in DRAWS.trim().lines() {
         let (words, function) = case.split_once('|').ok_or("no function")?;
@@ -104,7 +105,7 @@ fn draws_functions_by_their_sizes(rt: HostRuntime) -> Result<(), Fail> {
 #[test]
 fn draws_another_that_fits(rt: HostRuntime) -> Result<(), Fail> {
     let alloc = rt.alloc();
-    let rules = [Rule::Commute, Rule::AddZero];
+    let rules = [rule_of(&rt, "commute"), rule_of(&rt, "add_zero")];
     for only in [None, Some(0usize)] {
         for max_size in [35usize, 34, 32] {
             let mut list = Vec::new(alloc);
@@ -132,7 +133,7 @@ fn draws_another_that_fits(rt: HostRuntime) -> Result<(), Fail> {
 #[test]
 fn keeps_what_was_made(rt: HostRuntime) -> Result<(), Fail> {
     let alloc = rt.alloc();
-    let rules = [Rule::AddZero];
+    let rules = [rule_of(&rt, "add_zero")];
     for made in 0..4usize {
         let scope = any(&rules, 32 + 3 * made);
         match mutate_with_seed(alloc, &SUM, 0, &scope, 3) {

@@ -2,7 +2,8 @@
 
 use crate::files::run_on_files;
 use crate::refused_modules::{SUM, TURNED};
-use peephole_module_commands::{options_of, rule_names};
+use module_commands::options_of;
+use rewrite_rules::rule_names;
 use std::test::Fail;
 use std::{env, fs};
 

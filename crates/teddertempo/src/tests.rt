@@ -1,10 +1,11 @@
 //! Options, and runs on small modules and with devices that fail.
 
 use crate::refused_modules::{SUM, TURNED};
+use device_tally::Tally;
 use failing_devices::{FailingReader, FailingWriter};
-use peephole_module_commands::{Failure, Options, Tally, options_of, rule_names, run};
-use peephole_modules::{Reason, Unwatched};
-use peephole_rules::{RULES, Rule};
+use module_commands::{Failure, Options, options_of, run};
+use module_rewrites::{Reason, Unwatched};
+use rewrite_rules::{Rule, all_rules, rule_names};
 use std::alloc::{AllocError, Global};
 use std::io::Write;
 use std::process::Abort;
@@ -80,7 +81,7 @@ const TAIL_CALL: &[u8] =
 /// or the number, the first and the last; or the kind of the error.
 const OPTIONS: &str = "
 | Rewrite 0 1 None all
---seed=7 --count 3 --function 2 --rule fold --rule commute --stats | Rewrite 7 3 Some(2) stats 2 Some(Fold) Some(Commute)
+--seed=7 --count 3 --function 2 --rule fold --rule commute --stats | Rewrite 7 3 Some(2) stats 2 fold commute
 --list | List 0 1 None all
 --blocks | Blocks 0 1 None all
 --strip-debug | Rewrite 0 1 None strip-debug all
@@ -96,14 +97,14 @@ const OPTIONS: &str = "
 --list --strip-debug | ArgumentConflict
 --list --show | ArgumentConflict
 --show --blocks | ArgumentConflict
---rule fold --rule commute --not-rule fold | Rewrite 0 1 None 1 Some(Commute) Some(Commute)
---rule fold --not-rule fold | Rewrite 0 1 None 0 None None
+--rule fold --rule commute --not-rule fold | Rewrite 0 1 None 1 commute commute
+--rule fold --not-rule fold | Rewrite 0 1 None 0 none none
 --not-rule melt | InvalidValue
---rule commute --rule drop_add_zero --rule add_zero --shrink | Rewrite 0 18446744073709551615 None shrink 1 Some(DropAddZero) Some(DropAddZero)
---shrink --count 5 --rule drop_add_zero | Rewrite 0 5 None shrink 1 Some(DropAddZero) Some(DropAddZero)
+--rule commute --rule drop_add_zero --rule add_zero --shrink | Rewrite 0 18446744073709551615 None shrink 1 drop_add_zero drop_add_zero
+--shrink --count 5 --rule drop_add_zero | Rewrite 0 5 None shrink 1 drop_add_zero drop_add_zero
 --rule melt | InvalidValue
 --rule fold --rule melt --rule commute | InvalidValue
---rule fold --rule fold | Rewrite 0 1 None 2 Some(Fold) Some(Fold)
+--rule fold --rule fold | Rewrite 0 1 None 2 fold fold
 --count 0 | ValueValidation
 --list --blocks | ArgumentConflict
 --list --stats | ArgumentConflict
@@ -117,7 +118,7 @@ const OPTIONS: &str = "
 --blocks --rule fold | ArgumentConflict
 --blocks --not-rule fold | ArgumentConflict
 --blocks --shrink | ArgumentConflict
---list --shrink --rule drop_add_zero | List 0 18446744073709551615 None shrink 1 Some(DropAddZero) Some(DropAddZero)
+--list --shrink --rule drop_add_zero | List 0 18446744073709551615 None shrink 1 drop_add_zero drop_add_zero
 --seed +1 | ValueValidation
 --seed 0x+1 | ValueValidation
 --count +1 | ValueValidation
@@ -165,22 +166,22 @@ const RUNS: &str = r#"
 !   block 0..3
 !   before
 !     i32.add
-!     ├──local.get.0
-!     └──local.get.1
+!     ├──local.get 0
+!     └──local.get 1
 !   after
 !     i32.add
-!     ├──local.get.1
-!     └──local.get.0
+!     ├──local.get 1
+!     └──local.get 0
 ! function 0 operator 2 rule commute
 !   block 0..3
 !   before
 !     i32.add
-!     ├──local.get.1
-!     └──local.get.0
+!     ├──local.get 1
+!     └──local.get 0
 !   after
 !     i32.add
-!     ├──local.get.0
-!     └──local.get.1
+!     ├──local.get 0
+!     └──local.get 1
 
 --rule commute --show --stats | SUM | Ok(Whole)
 > TURNED
@@ -189,12 +190,12 @@ const RUNS: &str = r#"
 !   block 0..3
 !   before
 !     i32.add
-!     ├──local.get.0
-!     └──local.get.1
+!     ├──local.get 0
+!     └──local.get 1
 !   after
 !     i32.add
-!     ├──local.get.1
-!     └──local.get.0
+!     ├──local.get 1
+!     └──local.get 0
 ! function 0      operator 2      rule commute
 ! bytes      32         new 32
 
@@ -215,20 +216,20 @@ const RUNS: &str = r#"
 > {"function":0,"operator":8,"rule":"commute"}
 
 --blocks | TABLE | Ok(Whole)
-> function 0      block      0..10     no graph: operator 5 call_indirect
+> function 0      block      0..10
 
 --blocks --json | TABLE | Ok(Whole)
-> {"end":10,"function":0,"operator":5,"reason":"call_indirect","start":0}
+> {"end":10,"function":0,"start":0}
 
 --blocks | RESULTS | Ok(Whole)
 > function 0      block      0..2
-> function 1      block      0..3      no graph: operator 0 call of a function with several results
-> function 1      block      4..5      no graph: operator 4 call of the unknown function 5
+> function 1      block      0..3
+> function 1      block      4..5
 
 --blocks --json | RESULTS | Ok(Whole)
 > {"end":2,"function":0,"start":0}
-> {"end":3,"function":1,"operator":0,"reason":"call of a function with several results","start":0}
-> {"end":5,"function":1,"operator":4,"reason":"call of the unknown function 5","start":4}
+> {"end":3,"function":1,"start":0}
+> {"end":5,"function":1,"start":4}
 
 --blocks --function 0 | RESULTS | Ok(Whole)
 > function 0      block      0..2
@@ -391,13 +392,21 @@ fn options(alloc: Global, line: &str) -> Result<Options, clap::Error> {
     options_of(alloc, &rule_names(alloc)?, &words)
 }
 
+/// The name of the rule, where there is one.
+fn name_of(rule: Option<&Rule>) -> &'static str {
+    match rule {
+        Some(rule) => rule.name(),
+        None => "none",
+    }
+}
+
 /// The rules of options.
 fn rules_text(alloc: Global, rules: &[Rule]) -> Result<String, AllocError> {
-    if rules == RULES.as_slice() {
+    if rules == all_rules(alloc)?.as_slice() {
         return format!(in alloc; "all");
     }
-    let (first, last) = (rules.first(), rules.last());
-    format!(in alloc; "{} {first:?} {last:?}", rules.len())
+    let (first, last) = (name_of(rules.first()), name_of(rules.last()));
+    format!(in alloc; "{} {first} {last}", rules.len())
 }
 
 /// The name, where the flag holds.

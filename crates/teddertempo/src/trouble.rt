@@ -1,6 +1,6 @@
 //! Why a run has no success, and its exit status.
 
-use peephole_module_commands::Failure;
+use module_commands::Failure;
 use std::alloc::AllocError;
 use std::io;
 use thiserror::Error;

@@ -1,0 +1,263 @@
+-- What the getters of clap's matches read.
+use Rattle.std.proofs.Common.{◌≡◌, ◌≢◌, ◌⊎◌, ◌<◌, ◌≤◌, ℕ, Bool, true, false, List, [], ◌∷◌, ◌++◌, ◌+◌, map, take, length, get_or, Option, Some, None, Result, Ok, Err, refl, sym, ap, ap₂, ◌∙◌, subst, inl, inr, arith}
+use Rattle.std.specs.Prelude.{◌^◌, ◌↔◌, IfSome, IsTrue, codes, option_and_then, option_map, slice_get, unwrap_or}
+use Rattle.std.specs.Borrow.{Bor}
+use Rattle.std.specs.Option.{option_map_or}
+use Rattle.std.specs.Str.{bytes_eq}
+use Rattle.std.specs.Str.Parse.{ParsesBool, ParsesUnsigned, false_text, true_text}
+use Rattle.std.proofs.lemmas.Bool.{both_ways, cases_eq, false≢true}
+use Rattle.std.proofs.lemmas.List.{get_or-map, length-map, map-append, map_more, take_more}
+use Rattle.std.proofs.lemmas.List.Folds.{list_any_at}
+use Rattle.std.proofs.lemmas.Option.{same_Some, slice_get-get_or, slice_get-map, slice_get_cases}
+use Rattle.std.proofs.lemmas.Slice.Eq.{bytes_eq-Decides}
+use Rattle.clap.specs.Faults.{fault_of, is_simple_and_free}
+use Rattle.clap.specs.Kinds.{HasKind, IsAmong}
+use Rattle.clap.specs.Matches.{ReadsOne, first_value, found_of, matched_of, raw_values}
+use Rattle.clap.specs.Simple.{App, HasMatchesOf, is_simple, matches_of}
+use Rattle.clap.specs.Values.{kind_of}
+use Rattle.clap.specs.Walk.{Row, Text, all_of, rows_of, texts}
+use Rattle.clap.proofs.WalkLemmas.{raw_values-rows}
+use Rattle.clap.specs.declared.parser.matches.Found.{Found}
+use Rattle.clap.specs.declared.parser.matches.MatchedArg.{MatchedArg}
+use Rattle.clap.specs.declared.error.Error.{Error}
+use Rattle.clap.specs.declared.error.kind.ErrorKind.{ErrorKind}
+use Rattle.clap.specs.declared.parser.matches.ArgMatches.{ArgMatches}
+use Rattle.peephole_machine.specs.declared.integer.IntegerType.{IntegerType}
+use Rattle.peephole_machine.specs.declared.integer.IntegerType.TheVariants as integer
+use Rattle.rewrite_rules.specs.Applying.{IsFormed}
+use Rattle.rewrite_rules.specs.Growing.{GrowsAs, shown}
+use Rattle.rewrite_rules.specs.Growth.{shrinks}
+use Rattle.rewrite_rules.specs.Laws.{TableIsRight}
+use Rattle.rewrite_rules.specs.Names.{rule_of}
+use Rattle.rewrite_rules.specs.Rule.{rule_name, rule_number}
+use Rattle.rewrite_rules.specs.Table.{ROWS, line_of, widths_in}
+use Rattle.rewrite_rules.specs.declared.growth.Growth.{Growth}
+use Rattle.rewrite_rules.specs.declared.growth.Growth.TheVariants.{Shrinks, Keeps, Grows}
+use Rattle.rewrite_rules.specs.declared.rule.Rule.{Rule}
+use Rattle.rewrite_rules.specs.declared.table.Own as beside
+use Rattle.rewrite_rules.specs.declared.table.Row.{Row as TableRow}
+use Rattle.rewrite_rules.specs.declared.table.Widths.{Widths}
+use Rattle.rewrite_rules.specs.declared.table.Widths.TheVariants.{Both, Only, Any, Own}
+use Rattle.body_rewrites.specs.Listing.{AreThose, IsOfRule}
+use Rattle.body_rewrites.proofs.ThoseLemmas.{those_with, those_without}
+use Rattle.module_commands.specs.Arguments.{command_line}
+use Rattle.module_commands.specs.Options.{AreMisused, AreNamed, AreOptions, AreRefused, AreRules, IsNumberOf, IsShrinking, IsWanted, MakesSmaller, NamesNone, RowMakesSmaller, SayOptions, WritesSeed, first_of, is_named, is_shrinking, kind_for, names_or_none}
+use Rattle.module_commands.specs.Options.WritesSeed.{in_hexadecimal}
+use Rattle.module_commands.specs.Options.AreRefused.{by_matches, by_memory, by_words}
+use Rattle.module_commands.specs.declared.options.Misuse.{Misuse}
+use Rattle.module_commands.specs.declared.options.Misuse.TheVariants.{Memory, UnknownRule}
+use Rattle.module_commands.specs.declared.options.Options.{Options}
+
+equal_texts : (a b : Text) → a ≡ b → bytes_eq a b ≡ true
+equal_texts a b e = (bytes_eq-Decides a b).1 e
+
+other_texts : (r : Bool) (P : Type 0) → (r ≡ true → P) → (P → ⊥) → r ≡ false
+other_texts true P h never = absurd (never (h refl))
+other_texts false P h never = refl
+
+-- a flag
+pub set_by : (E : Type 0) (text : Option Text) (r : Option Bool) → (text ≡ None → r ≡ None) →
+    ((t : Text) → text ≡ Some t → ReadsOne {T = Bool} {E = E} ParsesBool t r) → unwrap_or r false ≡ option_map_or (λ t. bytes_eq t (codes "true")) text false
+set_by E None r none some = ap (λ (o : Option Bool). unwrap_or o false) (none refl)
+set_by E (Some t) (Some true) none some = sym (equal_texts t true_text (some t refl))
+set_by E (Some t) (Some false) none some =
+    let is : t ≡ false_text = some t refl in
+    sym (ap (λ (x : Text). bytes_eq x (codes "true")) is)
+set_by E (Some t) None none some = sym (other_texts (bytes_eq t true_text) (t ≡ true_text) (bytes_eq-Decides t true_text).0 (some t refl).1.0)
+
+-- a number
+pub number_by : {E : Type 0} (gives : List ℕ → Result ℕ E → Type 0) → ((bs : List ℕ) (r : Result ℕ E) → gives bs r → ParsesUnsigned 64 10 bs r) →
+    (text : Option Text) (r : Option ℕ) → (text ≡ None → r ≡ None) → ((t : Text) → text ≡ Some t → ReadsOne gives t r) → IsNumberOf text r
+number_by gives parses None r none some = none refl
+number_by gives parses (Some t) (Some n) none some =
+    let is = parses t (Ok n) (some t refl) in
+    record { digits = is.0.0; value = is.1; fits = subst (λ (k : ℕ). k < 2 ^ 64) (sym is.1) is.0.1 }
+number_by gives parses (Some t) None none some =
+    let is = some t refl in
+    λ n w. parses t (Err is.0) is.1 (w.digits, subst (λ (k : ℕ). k < 2 ^ 64) w.value w.fits)
+
+-- the first text
+pub first_text : (found : Found) (name : Text) → first_value found name ≡ first_of name (rows_of found)
+first_text found name =
+    of (matched_of found name) ∙ ap (λ (o : Option (List Text)). option_and_then (λ values. slice_get values 0) o) (raw_values-rows found name)
+  where
+    of : (m : Option MatchedArg) → option_and_then (λ a. option_map (λ (s : Bor Text). s.now) (slice_get a.vals.items 0)) m
+        ≡ option_and_then (λ values. slice_get values 0) (option_map raw_values m)
+    of None = refl
+    of (Some a) = sym (slice_get-map (λ (s : Bor Text). s.now) a.vals.items 0)
+
+-- a seed behind `0x`
+pub seed_in_hexadecimal : (text digits : Text) (n : ℕ) → text ≡ codes "0x" ++ digits → ParsesUnsigned {E = Text} 64 16 digits (Ok n) → WritesSeed text n
+seed_in_hexadecimal text digits n front is =
+    in_hexadecimal digits front (record { digits = is.0.0; value = is.1; fits = subst (λ (k : ℕ). k < 2 ^ 64) (sym is.1) is.0.1 })
+
+-- a name that is no rule's
+pub names_none : (names : List (Bor Text)) (i : ℕ) (d : Bor Text) → i < length names → ((rule : Rule) → rule_name rule ≢ (get_or names i d).now) →
+    NamesNone (texts names)
+names_none names i d l none = record {
+  place = i;
+  name = (get_or names i d).now;
+  at = slice_get-map (λ (s : Bor Text). s.now) names i ∙ ap (option_map (λ (s : Bor Text). s.now)) (slice_get-get_or names i d l);
+  none = none;
+}
+
+-- one rule more
+pub named_more : (names : List (Bor Text)) (i : ℕ) (d : Bor Text) (rs next : List Rule) (rule : Rule) → i < length names →
+    map rule_name rs ≡ texts (take i names) → rule_name rule ≡ (get_or names i d).now → next ≡ rs ++ rule ∷ [] → map rule_name next ≡ texts (take (i + 1) names)
+named_more names i d rs next rule l h named is =
+    ap (map rule_name) is ∙ (map-append rule_name rs (rule ∷ [])
+    ∙ (ap₂ (λ (front : List Text) (name : Text). front ++ name ∷ []) h named ∙ sym (map_more (λ (s : Bor Text). s.now) names i d l)))
+
+-- a name that is the rule's
+pub named_here : (names : List (Bor Text)) (i : ℕ) (d : Bor Text) (rule : Rule) (own : Text) (same : Bool) → i < length names → own ≡ rule_name rule →
+    same ≡ bytes_eq (get_or names i d).now own → same ≡ true → is_named (texts names) rule ≡ true
+named_here names i d rule own same l own_is same_is is =
+    list_any_at (λ (name : Text). bytes_eq name (rule_name rule)) (texts names) i d.now
+    (subst (λ (n : ℕ). i < n) (sym (length-map names (λ (s : Bor Text). s.now))) l)
+    (ap (λ (t : Text). bytes_eq t (rule_name rule)) (get_or-map (λ (s : Bor Text). s.now) names i d d.now l)
+    ∙ (ap (bytes_eq (get_or names i d).now) (sym own_is) ∙ (sym same_is ∙ is)))
+
+-- ---- what clap makes of the words
+
+line_is_simple : (names : Bor (List (Bor Text))) → is_simple (command_line names) ≡ true
+line_is_simple names = refl
+
+line_is_free : (names : Bor (List (Bor Text))) → is_simple_and_free (command_line names) ≡ true
+line_is_free names = refl
+
+-- it takes them
+taken : (names : Bor (List (Bor Text))) (app : App) (words : List Text) → app ≡ command_line names → (is_simple_and_free app ≡ true → fault_of app words ≡ []) →
+    fault_of (command_line names) words ≡ []
+taken names app words is kinds = ap (λ (a : App). fault_of a words) (sym is) ∙ kinds (ap is_simple_and_free is ∙ line_is_free names)
+
+-- and these are its matches
+rows_are : (names : Bor (List (Bor Text))) (app : App) (words : List Text) (m : ArgMatches) → app ≡ command_line names → HasMatchesOf app words m →
+    rows_of (found_of m) ≡ matches_of (command_line names) words
+rows_are names app words m is has = (has (ap is_simple is ∙ line_is_simple names)).0 ∙ ap (λ (a : App). matches_of a words) is
+
+pub say_options : (names : Bor (List (Bor Text))) (app : App) (words : List Text) (m : ArgMatches) (options : Options) → app ≡ command_line names →
+    (is_simple_and_free app ≡ true → fault_of app words ≡ []) → HasMatchesOf app words m → AreOptions (rows_of (found_of m)) options →
+    SayOptions (command_line names) words options
+say_options names app words m options is kinds has are = record {
+  taken = taken names app words is kinds;
+  are = subst (λ (rows : List Row). AreOptions rows options) (rows_are names app words m is has) are;
+}
+
+pub refused_matches : (names : Bor (List (Bor Text))) (app : App) (words : List Text) (m : ArgMatches) (misuse : Misuse) (kind : ErrorKind) →
+    app ≡ command_line names → (is_simple_and_free app ≡ true → fault_of app words ≡ []) → HasMatchesOf app words m →
+    AreMisused (rows_of (found_of m)) misuse → kind ≡ kind_for misuse → AreRefused (command_line names) words kind
+refused_matches names app words m misuse kind is kinds has misused told =
+    by_matches (taken names app words is kinds) misuse (subst (λ (rows : List Row). AreMisused rows misuse) (rows_are names app words m is has) misused) told
+
+pub refused_words : (names : Bor (List (Bor Text))) (app : App) (words : List Text) (e : Error) → app ≡ command_line names →
+    (is_simple_and_free app ≡ true → HasKind (fault_of app words) e) → AreRefused (command_line names) words (kind_of e)
+refused_words names app words e is kinds = elim (kinds (ap is_simple_and_free is ∙ line_is_free names)) [
+  | inl memory ↦ by_memory memory
+  | inr among ↦ by_words (subst (λ (a : App). IsAmong (kind_of e) (fault_of a words)) is among)
+]
+
+-- ---- the rules that are named
+
+pub names_given : (found : Found) (option : Text) (given : Option (Bor (List (Bor Text)))) → option_map (λ s. map (λ v. v.now) s.now) given ≡
+    option_map raw_values (matched_of found option) → (o : Option (Bor (List (Bor Text)))) → given ≡ o →
+    all_of option (rows_of found) ≡ option_map (λ s. texts s.now) o
+names_given found option given get o is =
+    sym (raw_values-rows found option) ∙ (sym get ∙ ap (option_map (λ (s : Bor (List (Bor Text))). texts s.now)) is)
+
+-- those of the rules that are wanted
+pub rules_wanted : (named others : Option (List Text)) (shrink set : Bool) (given lent wanted : List Rule) (names : List Text) → AreNamed named given →
+    lent ≡ given → names ≡ names_or_none others → set ≡ shrink → AreThose (IsWanted names set) lent wanted → AreRules named others shrink wanted
+rules_wanted named others shrink set given lent wanted names are lent_is names_are set_is is = record {
+  given = given;
+  are_named = are;
+  are = subst (λ (rs : List Rule). AreThose (IsWanted (names_or_none others) shrink) rs wanted) lent_is
+      (subst (λ (ns : List Text). AreThose (IsWanted ns shrink) lent wanted) names_are
+      (subst (λ (b : Bool). AreThose (IsWanted names b) lent wanted) set_is is));
+}
+
+pub misused_name : (rows : List Row) (names : List Text) (e : Misuse) → all_of (codes "rule") rows ≡ Some names →
+    (e ≡ Memory) ⊎ ((e ≡ UnknownRule) × NamesNone names) → AreMisused rows e
+misused_name rows names e is (inl memory) = subst (AreMisused rows) (sym memory) tt
+misused_name rows names e is (inr unknown) =
+    subst (AreMisused rows) (sym unknown.0) (subst (λ (o : Option (List Text)). IfSome o NamesNone) (sym is) unknown.1)
+
+-- ---- rules that make code smaller
+
+shrinking_is : (g : Growth) → is_shrinking g ≡ true → g ≡ Shrinks
+shrinking_is Shrinks h = refl
+shrinking_is Keeps h = absurd (false≢true h)
+shrinking_is Grows h = absurd (false≢true h)
+
+shown_shrinking : (g : Growth) → shown g ≡ shrinks → is_shrinking g ≡ true
+shown_shrinking Shrinks h = refl
+shown_shrinking Keeps h = absurd cc
+shown_shrinking Grows h = absurd cc
+
+-- a row is a rule beside the table, or has a width
+some_width : (w : Widths) → ((own : beside.Own) × (w ≡ Own own)) ⊎ ((t : IntegerType) × (slice_get (widths_in w) 0 ≡ Some t))
+some_width Both = inr (integer.I32, refl)
+some_width (Only t) = inr (t, refl)
+some_width Any = inr (integer.I32, refl)
+some_width (Own own) = inl (own, refl)
+
+-- what a row of the table does is told by its growth
+pub row_smaller : (number : ℕ) (row : TableRow) (growth : Growth) → TableIsRight → slice_get ROWS number ≡ Some row → GrowsAs row growth →
+    IsTrue (is_shrinking growth) ↔ RowMakesSmaller number
+row_smaller number row growth right at grows = (forth, back)
+  where
+    formed : (k : ℕ) (t : IntegerType) → slice_get (widths_in row.widths) k ≡ Some t → IsFormed row t
+    formed k t is = right.formed number row at k (line_of row t) (slice_get-map (line_of row) (widths_in row.widths) k ∙ ap (option_map (line_of row)) is)
+
+    does : is_shrinking growth ≡ true → MakesSmaller row
+    does h = record {
+      of_lines = λ k t is. sym (grows.of_lines k t is (formed k t is)) ∙ ap shown (shrinking_is growth h);
+      of_own = λ own is. sym (grows.of_own own is) ∙ shrinking_is growth h;
+    }
+
+    forth : IsTrue (is_shrinking growth) → RowMakesSmaller number
+    forth h other is = subst MakesSmaller (same_Some row other (sym at ∙ is)) (does h)
+
+    back : RowMakesSmaller number → IsTrue (is_shrinking growth)
+    back h = elim (some_width row.widths) [
+      | inl o ↦ ap is_shrinking (grows.of_own o.0 o.1 ∙ (h row at).of_own o.0 o.1)
+      | inr w ↦ shown_shrinking growth (grows.of_lines 0 w.0 w.1 (formed 0 w.0 w.1) ∙ (h row at).of_lines 0 w.0 w.1)
+    ]
+
+-- the rows of the rule below the number make code smaller
+abbrev pub SmallerBelow : Rule → (end : ℕ) → Type 0
+SmallerBelow rule end = (k : ℕ) → k < end → IsOfRule rule k → RowMakesSmaller k
+
+pub smaller_more : (rule : Rule) (n : ℕ) → SmallerBelow rule n → (IsOfRule rule n → RowMakesSmaller n) → SmallerBelow rule (n + 1)
+smaller_more rule n h own k l = elim (cases_eq k n) [
+  | inl e ↦ subst (λ (m : ℕ). IsOfRule rule m → RowMakesSmaller m) (sym e) own
+  | inr other ↦ h k (omega (arith, l, other))
+]
+
+-- all of them
+pub all_smaller : (rows : List ℕ) (rule : Rule) → ((n : ℕ) → slice_get rows n ≡ rule_of n) → (end : ℕ) → length rows ≤ end → SmallerBelow rule end →
+    IsTrue true ↔ IsShrinking rule
+all_smaller rows rule told end whole h = (
+  λ t n is. elim (slice_get_cases rows n).1 [
+    | inl x ↦ h n (omega (arith, x.1, whole)) is
+    | inr past ↦ absurd (let none : Some (rule_number rule) ≡ None = sym is ∙ (sym (told n) ∙ past.1) in cc)
+  ],
+  λ all. refl,
+)
+
+-- ---- rules that are wanted
+
+-- one rule more, that is wanted
+pub wanted_with : (P : Rule → Type 0) (rs : List Rule) (i : ℕ) (d x : Rule) (ws next : List Rule) (wanted : Bool) → i < length rs → x ≡ get_or rs i d →
+    AreThose P (take i rs) ws → (IsTrue wanted ↔ P x) → wanted ≡ true → next ≡ ws ++ x ∷ [] → AreThose P (take (i + 1) rs) next
+wanted_with P rs i d x ws next wanted l x_is h same is next_is =
+    subst (AreThose P (take (i + 1) rs)) (sym next_is)
+    (subst (λ (l : List Rule). AreThose P l (ws ++ x ∷ [])) (sym (take_more rs i d l ∙ ap (λ (r : Rule). take i rs ++ r ∷ []) (sym x_is)))
+    (those_with P (take i rs) x ws h (same.0 is)))
+
+-- or isn't
+pub wanted_without : (P : Rule → Type 0) (rs : List Rule) (i : ℕ) (d x : Rule) (ws next : List Rule) (wanted : Bool) → i < length rs → x ≡ get_or rs i d →
+    AreThose P (take i rs) ws → (IsTrue wanted ↔ P x) → wanted ≡ false → next ≡ ws → AreThose P (take (i + 1) rs) next
+wanted_without P rs i d x ws next wanted l x_is h same is next_is =
+    subst (AreThose P (take (i + 1) rs)) (sym next_is)
+    (subst (λ (l : List Rule). AreThose P l ws) (sym (take_more rs i d l ∙ ap (λ (r : Rule). take i rs ++ r ∷ []) (sym x_is)))
+    (those_without P (take i rs) x ws h (λ p. both_ways wanted is (same.1 p))))

@@ -1,0 +1,103 @@
+-- Why a run has no success (this project).
+use Rattle.std.specs.Prelude.{◌≡◌, ℕ, ◌<◌, Bool, true, false, List, length, Option, IfSome}
+use Rattle.wasm_module.specs.Fault.{IsModuleFault}
+use Rattle.module_rewrites.specs.Attempt.{IsForSize, IsReason, RefusesIndexOf}
+use Rattle.module_rewrites.specs.Chosen.{GivesUp}
+use Rattle.module_rewrites.specs.Seeded.{seeded}
+use Rattle.module_rewrites.specs.declared.attempt.Reason.{Reason}
+use Rattle.module_rewrites.specs.declared.attempt.Reason.TheVariants.{NoRule, NoOwnFunction, Unreadable, NoFunction, UnknownImport, Refused}
+use Rattle.module_rewrites.specs.declared.mutation.MutationError.TheVariants.{Read}
+use Rattle.module_commands.specs.Front.{is_component, is_text}
+use Rattle.module_commands.specs.Scope.{scope_of}
+use Rattle.module_commands.specs.declared.failure.Failure.{Failure}
+use Rattle.module_commands.specs.declared.failure.Failure.TheVariants.{Nothing, Input, TooLong, Component, TextFormat, Output, Memory}
+use Rattle.module_commands.specs.declared.options.Options.{Options}
+use Rattle.module_commands.specs.declared.options.Task.{Task}
+use Rattle.module_commands.specs.declared.options.Task.TheVariants.{Rewrite}
+
+-- the module can't be read: it is refused
+abbrev pub FailsToRead : (bytes : List ℕ) → Failure → Type 0
+FailsToRead bytes (Nothing (Refused (Read e))) = IsModuleFault bytes e.kind e.offset
+FailsToRead bytes e = ⊥
+
+-- nothing more is reported: what is reported can't be written, or no memory is left
+abbrev pub FailsToReport : Failure → Type 0
+FailsToReport Output = Unit {0}
+FailsToReport Memory = Unit {0}
+FailsToReport e = ⊥
+
+-- the module isn't reported on: as it is refused, or as reporting fails
+abbrev pub FailsToInform : (bytes : List ℕ) → Failure → Type 0
+FailsToInform bytes (Nothing reason) = FailsToRead bytes (Nothing reason)
+FailsToInform bytes e = FailsToReport e
+
+-- the input isn't read, whose bytes may be known: the reader fails, they are more than 1 GiB, or no memory is left
+abbrev pub FailsToTake : (input : Option (List ℕ)) → Failure → Type 0
+FailsToTake input Input = Unit {0}
+FailsToTake input TooLong = IfSome input (λ bytes. 1073741824 < length bytes)
+FailsToTake input Memory = Unit {0}
+FailsToTake input e = ⊥
+
+-- no rule applies: where rules are to make code smaller alone, the module is written as it is
+abbrev pub leaves : (shrink : Bool) → Reason → Bool
+leaves shrink NoRule = shrink
+leaves shrink NoOwnFunction = shrink
+leaves shrink reason = false
+
+-- nothing of the module is rewritten for that reason, and it isn't written as it is; for a size only where the words that the seed gives choose no rewrite
+-- that fits
+pub record IsReasonFor (options : Options) (bytes : List ℕ) (reason : Reason) : Type 0 where
+  pub is : IsReason (scope_of options) bytes reason
+  pub left : leaves options.shrink reason ≡ false
+  pub gives_up : IsForSize reason → GivesUp (scope_of options) bytes (seeded options.seed)
+
+-- no rewritten module is made: for a reason why nothing of it is rewritten, or no memory is left
+abbrev pub FailsToMake : Options → (bytes : List ℕ) → Failure → Type 0
+FailsToMake options bytes (Nothing reason) = IsReasonFor options bytes reason
+FailsToMake options bytes Memory = Unit {0}
+FailsToMake options bytes e = ⊥
+
+-- The module isn't written rewritten: for such a reason, or as reporting or writing fails.
+abbrev pub FailsToRewrite : Options → (bytes : List ℕ) → Failure → Type 0
+FailsToRewrite options bytes (Nothing reason) = IsReasonFor options bytes reason
+FailsToRewrite options bytes e = FailsToReport e
+
+-- why nothing is listed: no function is looked at, or the module can't be read
+abbrev pub IsReasonToListNone : (only : Option ℕ) → (bytes : List ℕ) → Reason → Type 0
+IsReasonToListNone only bytes NoRule = ⊥
+IsReasonToListNone only bytes NoOwnFunction = ⊥
+IsReasonToListNone only bytes (Unreadable e) = ⊥
+IsReasonToListNone only bytes (NoFunction function) = RefusesIndexOf only bytes (NoFunction function)
+IsReasonToListNone only bytes (UnknownImport e) = RefusesIndexOf only bytes (UnknownImport e)
+IsReasonToListNone only bytes (Refused e) = FailsToRead bytes (Nothing (Refused e))
+
+-- No list is written: for such a reason, or as writing fails.
+abbrev pub FailsToList : (only : Option ℕ) → (bytes : List ℕ) → Failure → Type 0
+FailsToList only bytes (Nothing reason) = IsReasonToListNone only bytes reason
+FailsToList only bytes e = FailsToReport e
+
+-- what a run was asked for isn't done with the bytes that were read
+abbrev pub FailsAtTask : Task → Options → (bytes : List ℕ) → Failure → Type 0
+FailsAtTask Rewrite options bytes e = FailsToRewrite options bytes e
+FailsAtTask task options bytes e = FailsToList options.function bytes e
+
+-- the input is at fault: its reader, its length, or that it is a component or a text
+abbrev pub IsOfInput : Failure → Type 0
+IsOfInput Input = Unit {0}
+IsOfInput TooLong = Unit {0}
+IsOfInput Component = Unit {0}
+IsOfInput TextFormat = Unit {0}
+IsOfInput e = ⊥
+
+-- the bytes are neither a component nor a text
+abbrev pub IsNoOther : (bytes : List ℕ) → Type 0
+IsNoOther bytes = (is_component bytes ≡ false) × (is_text bytes ≡ false)
+
+-- A run fails: as the input isn't read, since it is a component or a text, or as its task fails; for a reason of the module only where it is neither.
+abbrev pub FailsToDo : Task → Options → (bytes : List ℕ) → Failure → Type 0
+FailsToDo task options bytes Input = Unit {0}
+FailsToDo task options bytes TooLong = 1073741824 < length bytes
+FailsToDo task options bytes Component = is_component bytes ≡ true
+FailsToDo task options bytes TextFormat = is_text bytes ≡ true
+FailsToDo task options bytes (Nothing reason) = IsNoOther bytes × FailsAtTask task options bytes (Nothing reason)
+FailsToDo task options bytes e = FailsAtTask task options bytes e

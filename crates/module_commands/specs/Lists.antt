@@ -1,0 +1,58 @@
+-- Lines of a module's functions, one behind another; the list that `--list` writes (this project).
+use Rattle.std.specs.Prelude.{◌≡◌, ◌↔◌, ℕ, zero, suc, ◌+◌, ◌^◌, ◌<◌, ◌≤◌, List, [], ◌++◌, length, Option}
+use Rattle.std.specs.Io.KnownBytes.{Appends}
+use Rattle.wasm_code.specs.declared.operator.Operator.{Operator}
+use Rattle.mutate_base.specs.Module.{Module}
+use Rattle.mutate_base.specs.declared.types.PrimitiveTypeInfo.{PrimitiveTypeInfo}
+use Rattle.wasm_module.specs.Module.{Layout, IsModule}
+use Rattle.peephole_machine.specs.Values.{Context, context_in}
+use Rattle.rewrite_rules.specs.declared.rule.Rule.{Rule}
+use Rattle.body_rewrites.specs.declared.rewrite.Rewrite.{Rewrite}
+use Rattle.body_rewrites.specs.Listing.{AreThose, IsBy}
+use Rattle.body_rewrites.specs.Rewrites.{asked_below}
+use Rattle.module_rewrites.specs.Attempt.{CanRead}
+use Rattle.module_rewrites.specs.Function.{IsFunction}
+use Rattle.module_rewrites.specs.Mutated.{IsChosen}
+use Rattle.module_commands.specs.Lines.{rewrite_lines}
+use Rattle.module_commands.specs.declared.form.Form.{Form}
+
+-- The text is that of each of so many things from the one with the number `from` on, one behind another.
+abbrev pub InTurn : (Tells : ℕ → List ℕ → Type 0) → (from count : ℕ) → (text : List ℕ) → Type 0
+InTurn Tells from zero text = text ≡ []
+InTurn Tells from (suc count) text =
+    (front : List ℕ) × (own : List ℕ) × (text ≡ front ++ own) × InTurn Tells from count front × Tells (from + count) own
+
+-- The text is that of each function that is looked at of the module with these bytes, by the numbers of their code entries.
+pub record OfFunctions (Tells : Module → Layout → ℕ → List ℕ → Type 0) (only : Option ℕ) (bytes text : List ℕ) : Type 0 where
+  pub info : Module
+  pub layout : Layout
+  pub is : IsModule bytes info layout
+  pub from : ℕ
+  pub count : ℕ
+  pub chosen : (n : ℕ) → ((from ≤ n) × (n < from + count)) ↔ ((n < length layout.entries) × IsChosen only (layout.imported_functions + n))
+  pub told : InTurn (Tells info layout) from count text
+
+-- A device has grown by that text.
+pub record WritesOfFunctions (Tells : Module → Layout → ℕ → List ℕ → Type 0) (only : Option ℕ) (bytes : List ℕ) (old new : Option (List ℕ)) : Type 0 where
+  pub text : List ℕ
+  pub of : OfFunctions Tells only bytes text
+  pub written : Appends old new text
+
+-- ---- the rewrites that there are
+
+-- those of a body by one of the rules, in the order of the operators, the rows and the widths
+abbrev pub AreTheRewrites : Context → List Rule → List (Operator × ℕ) → List Rewrite → Type 0
+AreTheRewrites context rules operators list = AreThose (IsBy context operators rules) (asked_below (length operators)) list
+
+-- The text has a line for each rewrite that there is by one of the rules of the function of the n-th code entry, and no other; none where that can't be
+-- read. (An index has 64 bits.)
+pub record ListsFunction (form : Form) (rules : List Rule) (bytes : List ℕ) (info : Module) (layout : Layout) (n : ℕ) (text : List ℕ) : Type 0 where
+  pub list : List Rewrite
+  pub are : (locals : List PrimitiveTypeInfo) (expression : ℕ) (operators : List (Operator × ℕ)) →
+      IsFunction bytes info layout n locals expression operators → AreTheRewrites (context_in info locals) rules operators list
+  pub none : ¬ (CanRead bytes info layout n) → list ≡ []
+  pub lines : layout.imported_functions + n < 2 ^ 64 → text ≡ rewrite_lines form (layout.imported_functions + n) list
+
+-- A device has grown by the lines of the functions that are looked at.
+abbrev pub WritesList : Form → List Rule → (only : Option ℕ) → (bytes : List ℕ) → (old new : Option (List ℕ)) → Type 0
+WritesList form rules only bytes old new = WritesOfFunctions (ListsFunction form rules bytes) only bytes old new

@@ -1,0 +1,246 @@
+-- The options that the matches of a command line are (this project).
+use Rattle.std.specs.Prelude.{◌≡◌, ◌≢◌, ◌<◌, ◌^◌, ◌&&◌, ◌||◌, ℕ, Bool, true, false, List, [], ◌++◌, map, slice_get, codes, Option, Some, None, is_some, option_and_then, option_map, string_bytes, unwrap_or, not, IfSome, if◌then◌else◌}
+use Rattle.std.specs.List.{list_any}
+use Rattle.std.specs.Option.{option_map_or}
+use Rattle.std.specs.Str.{bytes_eq}
+use Rattle.std.specs.Str.Parse.{IsNumeral, digits_value, without_leading_plus}
+use Rattle.clap.specs.Walk.{Row, Text, all_of, one_of}
+use Rattle.clap.specs.Simple.{App, matches_of}
+use Rattle.clap.specs.Kinds.{IsAmong}
+use Rattle.clap.specs.Faults.{fault_of}
+use Rattle.clap.specs.declared.error.kind.ErrorKind.{ErrorKind}
+use Rattle.clap.specs.declared.error.kind.ErrorKind.TheVariants.{ArgumentConflict, InvalidValue, MissingRequiredArgument, OutOfMemory, ValueValidation}
+use Rattle.rewrite_rules.specs.Growing.{own_growth}
+use Rattle.rewrite_rules.specs.Growth.{growth_of, shrinks}
+use Rattle.rewrite_rules.specs.Rule.{AreAllRules, rule_name}
+use Rattle.rewrite_rules.specs.Table.{ROWS, line_of, widths_in}
+use Rattle.rewrite_rules.specs.declared.growth.Growth.{Growth}
+use Rattle.rewrite_rules.specs.declared.growth.Growth.TheVariants as growths
+use Rattle.rewrite_rules.specs.declared.rule.Rule.{Rule}
+use Rattle.rewrite_rules.specs.declared.table.Own as beside
+use Rattle.rewrite_rules.specs.declared.table.Row.{Row as TableRow}
+use Rattle.rewrite_rules.specs.declared.table.Widths.TheVariants.{Own}
+use Rattle.body_rewrites.specs.Listing.{AreThose, IsOfRule}
+use Rattle.peephole_machine.specs.declared.integer.IntegerType.{IntegerType}
+use Rattle.module_commands.specs.Front.{begins_with}
+use Rattle.module_commands.specs.declared.options.Flags.{Flags}
+use Rattle.module_commands.specs.declared.options.Misuse.{Misuse}
+use Rattle.module_commands.specs.declared.options.Misuse.TheVariants.{Conflict, Ignored, NothingToTell, Plus, NoSeed, NoCount, UnknownRule, Memory}
+use Rattle.module_commands.specs.declared.options.Options.{Options}
+use Rattle.module_commands.specs.declared.options.Task.{Task}
+use Rattle.module_commands.specs.declared.options.Task.TheVariants.{Rewrite, List as Lists, Blocks}
+
+-- ---- flags
+
+-- the flag is given
+abbrev pub is_set : (name : Text) → List Row → Bool
+is_set name rows = option_map_or (λ text. bytes_eq text (codes "true")) (one_of name rows) false
+
+-- the flags; one that isn't given is false
+abbrev pub flags_of : List Row → Flags
+flags_of rows = record {
+  list = is_set (codes "list") rows;
+  blocks = is_set (codes "blocks") rows;
+  stats = is_set (codes "stats") rows;
+  reach = is_set (codes "reach") rows;
+  json = is_set (codes "json") rows;
+  show = is_set (codes "show") rows;
+  strip_debug = is_set (codes "strip-debug") rows;
+  quiet = is_set (codes "quiet") rows;
+}
+
+-- what the program does: where neither list nor blocks are asked for, it rewrites
+abbrev pub task_of : Flags → Task
+task_of flags = if flags.list then Lists else if flags.blocks then Blocks else Rewrite
+
+-- they ask for two tasks, or for something of a module that is written where none is
+abbrev pub exclude : Flags → Bool
+exclude flags =
+    (flags.list && flags.blocks) || ((flags.stats || flags.reach || flags.show || flags.strip_debug) && (flags.list || flags.blocks))
+
+-- they ask for JSON, and for nothing that is written in it
+abbrev pub tell_nothing : Flags → Bool
+tell_nothing flags = flags.json && not (flags.list || flags.blocks || flags.stats || flags.reach)
+
+-- a report is asked for
+abbrev pub reports : Flags → Bool
+reports flags = flags.stats || flags.reach
+
+-- ---- values
+
+-- the text writes that number, below 2^64, in digits to that base behind a plus at most
+pub record Writes (base : ℕ) (text : Text) (n : ℕ) : Type 0 where
+  pub digits : IsNumeral base (without_leading_plus text)
+  pub value : n ≡ digits_value base (without_leading_plus text)
+  pub fits : n < 2 ^ 64
+
+-- the number that an option has, by its text: none where it has no text, or one that writes none
+abbrev pub IsNumberOf : Option Text → Option ℕ → Type 0
+IsNumberOf None found = found ≡ None
+IsNumberOf (Some text) (Some n) = Writes 10 text n
+IsNumberOf (Some text) None = (n : ℕ) → ¬ (Writes 10 text n)
+
+-- the same, and where it has none the other one
+abbrev pub IsNumberOr : (other : ℕ) → Option Text → ℕ → Type 0
+IsNumberOr other text n = (found : Option ℕ) × IsNumberOf text found × (n ≡ unwrap_or found other)
+
+-- the text of an option, the first where it has several
+abbrev pub first_of : (name : Text) → List Row → Option Text
+first_of name rows = option_and_then (λ values. slice_get values 0) (all_of name rows)
+
+-- a plus stands before the number, also behind `0x`
+abbrev pub has_plus : Option Text → Bool
+has_plus None = false
+has_plus (Some text) = begins_with text (codes "+") || begins_with text (codes "0x+")
+
+-- so it does in a number that is given
+abbrev pub have_plus : List Row → Bool
+have_plus rows =
+    has_plus (first_of (codes "seed") rows) || has_plus (first_of (codes "count") rows)
+    || has_plus (first_of (codes "function") rows) || has_plus (first_of (codes "max-size") rows)
+
+-- the option is given
+abbrev pub is_given : (name : Text) → List Row → Bool
+is_given name rows = is_some (first_of name rows)
+
+-- what chooses a rewrite, or bounds rewrites, is given
+abbrev pub choose : List Row → Bool
+choose rows = is_given (codes "seed") rows || is_given (codes "count") rows || is_given (codes "max-size") rows
+
+-- what chooses rules is given
+abbrev pub choose_rules : List Row → Bool
+choose_rules rows = is_given (codes "rule") rows || is_given (codes "not-rule") rows || is_set (codes "shrink") rows
+
+-- an option is given that the task ignores: one that chooses a rewrite where rewrites or blocks are listed, or rules where blocks are
+abbrev pub ignore : Flags → List Row → Bool
+ignore flags rows = ((flags.list || flags.blocks) && choose rows) || (flags.blocks && choose_rules rows)
+
+-- the text writes that number in decimal digits, or behind `0x` in hexadecimal ones
+pub data WritesSeed (text : Text) (n : ℕ) : Type 0 where
+  in_decimal : Writes 10 text n → WritesSeed text n
+  in_hexadecimal : (digits : Text) → text ≡ codes "0x" ++ digits → Writes 16 digits n → WritesSeed text n
+
+-- the number that it writes, if it writes one
+abbrev pub IsSeedOf : Text → Option ℕ → Type 0
+IsSeedOf text (Some n) = WritesSeed text n
+IsSeedOf text None = (n : ℕ) → ¬ (WritesSeed text n)
+
+-- the number that is given, 0 where none is
+abbrev pub IsSeed : Option Text → ℕ → Type 0
+IsSeed None seed = seed ≡ 0
+IsSeed (Some text) seed = WritesSeed text seed
+
+-- the file that a text names: none where it is `-`
+abbrev pub file_of : Option Text → Option Text
+file_of text = option_and_then (λ name. if bytes_eq name (codes "-") then None else Some name) text
+
+-- all rules where no name is given, else those that are named, one for each name
+abbrev pub AreNamed : Option (List Text) → List Rule → Type 0
+AreNamed None rules = AreAllRules rules
+AreNamed (Some names) rules = map rule_name rules ≡ names
+
+-- one of the names is the rule's
+abbrev pub is_named : (names : List Text) → Rule → Bool
+is_named names rule = list_any (λ name. bytes_eq name (rule_name rule)) names
+
+-- what does so leaves fewer instructions; what keeps their number doesn't
+abbrev pub is_shrinking : Growth → Bool
+is_shrinking growths.Shrinks = true
+is_shrinking growths.Keeps = false
+is_shrinking growths.Grows = false
+
+-- Each rewrite by the row leaves fewer instructions: so do its lines, or the rule beside the table that it names.
+pub record MakesSmaller (row : TableRow) : Type 0 where
+  pub of_lines : (k : ℕ) (t : IntegerType) → slice_get (widths_in row.widths) k ≡ Some t → growth_of (line_of row t) ≡ shrinks
+  pub of_own : (own : beside.Own) → row.widths ≡ Own own → own_growth own ≡ growths.Shrinks
+
+-- the row of the table with the number, where there is one, does
+abbrev pub RowMakesSmaller : (number : ℕ) → Type 0
+RowMakesSmaller number = (row : TableRow) → slice_get ROWS number ≡ Some row → MakesSmaller row
+
+-- the rule makes code smaller: each of its rows does
+abbrev pub IsShrinking : Rule → Type 0
+IsShrinking rule = (number : ℕ) → IsOfRule rule number → RowMakesSmaller number
+
+-- None of the names is the rule's, and where code is to become smaller alone, the rule makes it so.
+pub record IsWanted (others : List Text) (shrink : Bool) (rule : Rule) : Type 0 where
+  pub other : is_named others rule ≡ false
+  pub smaller : shrink ≡ true → IsShrinking rule
+
+-- the names, none where none are given
+abbrev pub names_or_none : Option (List Text) → List Text
+names_or_none names = unwrap_or names []
+
+-- Those of the named rules, or of all, that are wanted, in their order.
+pub record AreRules (named others : Option (List Text)) (shrink : Bool) (rules : List Rule) : Type 0 where
+  pub given : List Rule
+  pub are_named : AreNamed named given
+  pub are : AreThose (IsWanted (names_or_none others) shrink) given rules
+
+-- one of the names is no rule's
+pub record NamesNone (names : List Text) : Type 0 where
+  pub place : ℕ
+  pub name : Text
+  pub at : slice_get names place ≡ Some name
+  pub none : (rule : Rule) → rule_name rule ≢ name
+
+-- how many rewrites are made where no number is given: one, or where code is to become smaller, as many as there are
+abbrev pub default_count : (shrink : Bool) → ℕ
+default_count shrink = if shrink then 18446744073709551615 else 1
+
+-- ---- options
+
+-- The options that the matches are.
+pub record AreOptions (rows : List Row) (options : Options) : Type 0 where
+  pub apart : exclude (flags_of rows) ≡ false
+  pub heeded : ignore (flags_of rows) rows ≡ false
+  pub tell : tell_nothing (flags_of rows) ≡ false
+  pub plain : have_plus rows ≡ false
+  pub task : options.task ≡ task_of (flags_of rows)
+  pub input : option_map string_bytes options.input ≡ file_of (first_of (codes "input") rows)
+  pub output : option_map string_bytes options.output ≡ file_of (first_of (codes "output") rows)
+  pub seed : IsSeed (first_of (codes "seed") rows) options.seed
+  pub count : IsNumberOr (default_count (is_set (codes "shrink") rows)) (one_of (codes "count") rows) options.count
+  pub function : IsNumberOf (one_of (codes "function") rows) options.function
+  pub rules : AreRules (all_of (codes "rule") rows) (all_of (codes "not-rule") rows) (is_set (codes "shrink") rows) options.rules.items
+  pub max_size : IsNumberOr 18446744073709551615 (one_of (codes "max-size") rows) options.max_size
+  pub shrink : options.shrink ≡ is_set (codes "shrink") rows
+  pub stats : options.stats ≡ reports (flags_of rows)
+  pub reach : options.reach ≡ (flags_of rows).reach
+  pub json : options.json ≡ (flags_of rows).json
+  pub show : options.show ≡ (flags_of rows).show
+  pub strip_debug : options.strip_debug ≡ (flags_of rows).strip_debug
+  pub quiet : options.quiet ≡ (flags_of rows).quiet
+
+-- Why they are none.
+abbrev pub AreMisused : List Row → Misuse → Type 0
+AreMisused rows Conflict = exclude (flags_of rows) ≡ true
+AreMisused rows Ignored = ignore (flags_of rows) rows ≡ true
+AreMisused rows NothingToTell = tell_nothing (flags_of rows) ≡ true
+AreMisused rows Plus = have_plus rows ≡ true
+AreMisused rows NoSeed = IfSome (first_of (codes "seed") rows) (λ text. IsSeedOf text None)
+AreMisused rows NoCount = IsNumberOr (default_count (is_set (codes "shrink") rows)) (one_of (codes "count") rows) 0
+AreMisused rows UnknownRule = IfSome (all_of (codes "rule") rows) NamesNone
+AreMisused rows Memory = Unit {0}
+
+-- how that is told
+abbrev pub kind_for : Misuse → ErrorKind
+kind_for Conflict = ArgumentConflict
+kind_for Ignored = ArgumentConflict
+kind_for NothingToTell = MissingRequiredArgument
+kind_for Plus = ValueValidation
+kind_for NoSeed = ValueValidation
+kind_for NoCount = ValueValidation
+kind_for UnknownRule = InvalidValue
+kind_for Memory = OutOfMemory
+
+-- clap takes the words, and the options are those of their matches
+pub record SayOptions (app : App) (words : List Text) (options : Options) : Type 0 where
+  pub taken : fault_of app words ≡ []
+  pub are : AreOptions (matches_of app words) options
+
+-- Why words of the command line say no options: no memory is left, clap refuses them, or their matches are none.
+pub data AreRefused (app : App) (words : List Text) (kind : ErrorKind) : Type 0 where
+  by_memory : kind ≡ OutOfMemory → AreRefused app words kind
+  by_words : IsAmong kind (fault_of app words) → AreRefused app words kind
+  by_matches : fault_of app words ≡ [] → (misuse : Misuse) → AreMisused (matches_of app words) misuse → kind ≡ kind_for misuse → AreRefused app words kind

@@ -1,0 +1,7 @@
+-- What of a module options let be rewritten (this project).
+use Rattle.module_rewrites.specs.Scope.{Scope}
+use Rattle.module_commands.specs.declared.options.Options.{Options}
+
+-- by their rules, in their function alone where one is named, and the most bytes that a new module may have
+abbrev pub scope_of : Options → Scope
+scope_of options = record { rules = options.rules.items; function = options.function; most = options.max_size }

@@ -1,0 +1,251 @@
+//! The command line: its arguments, as clap reads them and tells of them in its help.
+ghost use Rattle.std.specs.Prelude.{◌≡◌, codes, false, IfOk};
+ghost use Rattle.clap.specs.Simple.{app_of};
+ghost use Rattle.clap.specs.Walk.{rule_of};
+ghost use Rattle.module_commands.specs.Arguments.{command_line, flag, input_rule, naming, number, output_rule, seed_rule, valued};
+
+use clap::{Arg, ArgAction, Command, value_parser};
+use std::alloc::{AllocError, Global};
+
+fn input_argument<'a>(alloc: Global) -> Arg<'a>
+    ensures rule { rule_of result ≡ input_rule }
+    ensures local { result.global ≡ false }
+{
+    Arg::new(alloc, "input")
+        .value_name("INPUT")
+        .help("The module; standard input where none is named, or -")
+}
+
+fn output_argument<'a>(alloc: Global) -> Arg<'a>
+    ensures rule { rule_of result ≡ output_rule }
+    ensures local { result.global ≡ false }
+{
+    Arg::new(alloc, "output")
+        .short('o')
+        .long("output")
+        .value_name("OUTPUT")
+        .help("What is written goes there; to standard output where none is named, or -")
+}
+
+fn seed_argument<'a>(alloc: Global) -> Arg<'a>
+    ensures rule { rule_of result ≡ seed_rule }
+    ensures local { result.global ≡ false }
+{
+    Arg::new(alloc, "seed").long("seed").value_name("N").help(
+        "The seed of the generator that draws the places and rules, also as 0x and hexadecimal digits [default: 0]",
+    )
+}
+
+fn count_argument<'a>(alloc: Global) -> Arg<'a>
+    ensures rule { rule_of result ≡ valued (codes "count") number }
+    ensures local { result.global ≡ false }
+{
+    Arg::new(alloc, "count")
+        .long("count")
+        .value_name("K")
+        .value_parser(value_parser!(usize))
+        .help(
+            "How many rewrites are made, one after another; fewer where no rule applies any more [default: 1; with --shrink as many as there are]",
+        )
+}
+
+fn function_argument<'a>(alloc: Global) -> Arg<'a>
+    ensures rule { rule_of result ≡ valued (codes "function") number }
+    ensures local { result.global ≡ false }
+{
+    Arg::new(alloc, "function")
+        .long("function")
+        .value_name("N")
+        .value_parser(value_parser!(usize))
+        .help("Only the function with this index, imported ones counted first")
+}
+
+fn rule_argument<'a>(alloc: Global, names: &'a [&'a str]) -> Arg<'a>
+    ensures rule { rule_of result ≡ naming (codes "rule") names.entry }
+    ensures local { result.global ≡ false }
+{
+    Arg::new(alloc, "rule")
+        .long("rule")
+        .value_name("NAME")
+        .action(ArgAction::Append)
+        .value_parser(names)
+        .help(
+            "Only the rules that are named so, each by an option of its own; all rules where none is named",
+        )
+}
+
+fn other_argument<'a>(alloc: Global, names: &'a [&'a str]) -> Arg<'a>
+    ensures rule { rule_of result ≡ naming (codes "not-rule") names.entry }
+    ensures local { result.global ≡ false }
+{
+    Arg::new(alloc, "not-rule")
+        .long("not-rule")
+        .value_name("NAME")
+        .action(ArgAction::Append)
+        .value_parser(names)
+        .hide_possible_values(true)
+        .help("Not the rules that are named so, each by an option of its own")
+}
+
+fn size_argument<'a>(alloc: Global) -> Arg<'a>
+    ensures rule { rule_of result ≡ valued (codes "max-size") number }
+    ensures local { result.global ≡ false }
+{
+    Arg::new(alloc, "max-size")
+        .long("max-size")
+        .value_name("BYTES")
+        .value_parser(value_parser!(usize))
+        .help("The most bytes that the rewritten module may have")
+}
+
+// A flag with the name.
+fn flag_argument<'a>(alloc: Global, name: &'a str, help: &'a str) -> Arg<'a>
+    ensures rule { rule_of result ≡ flag name.entry.now }
+    ensures local { result.global ≡ false }
+{
+    Arg::new(alloc, name)
+        .long(name)
+        .action(ArgAction::SetTrue)
+        .help(help)
+}
+
+fn shrink_argument<'a>(alloc: Global) -> Arg<'a>
+    ensures rule { rule_of result ≡ flag (codes "shrink") }
+    ensures local { result.global ≡ false }
+{
+    flag_argument(
+        alloc,
+        "shrink",
+        "Only the rules that make the code smaller; the module is written as it is where none applies",
+    )
+}
+
+fn list_argument<'a>(alloc: Global) -> Arg<'a>
+    ensures rule { rule_of result ≡ flag (codes "list") }
+    ensures local { result.global ≡ false }
+{
+    flag_argument(
+        alloc,
+        "list",
+        "Writes no module, but a line for each rewrite that there is",
+    )
+}
+
+fn blocks_argument<'a>(alloc: Global) -> Arg<'a>
+    ensures rule { rule_of result ≡ flag (codes "blocks") }
+    ensures local { result.global ≡ false }
+{
+    flag_argument(
+        alloc,
+        "blocks",
+        "Writes no module, but a line for each block of each function",
+    )
+}
+
+fn stats_argument<'a>(alloc: Global) -> Arg<'a>
+    ensures rule { rule_of result ≡ flag (codes "stats") }
+    ensures local { result.global ≡ false }
+{
+    flag_argument(
+        alloc,
+        "stats",
+        "Reports functions, rewrites and sizes on standard error, and why there are no more rewrites",
+    )
+}
+
+fn reach_argument<'a>(alloc: Global) -> Arg<'a>
+    ensures rule { rule_of result ≡ flag (codes "reach") }
+    ensures local { result.global ≡ false }
+{
+    flag_argument(
+        alloc,
+        "reach",
+        "The same, and how much of the module the rules reach, which takes as long as a list",
+    )
+}
+
+fn json_argument<'a>(alloc: Global) -> Arg<'a>
+    ensures rule { rule_of result ≡ flag (codes "json") }
+    ensures local { result.global ≡ false }
+{
+    flag_argument(
+        alloc,
+        "json",
+        "Writes what is listed or reported as JSON, one object a line",
+    )
+}
+
+fn show_argument<'a>(alloc: Global) -> Arg<'a>
+    ensures rule { rule_of result ≡ flag (codes "show") }
+    ensures local { result.global ≡ false }
+{
+    flag_argument(
+        alloc,
+        "show",
+        "Shows each rewrite that is made on standard error: the function, the block, and the tree before and after",
+    )
+}
+
+fn strip_argument<'a>(alloc: Global) -> Arg<'a>
+    ensures rule { rule_of result ≡ flag (codes "strip-debug") }
+    ensures local { result.global ≡ false }
+{
+    flag_argument(
+        alloc,
+        "strip-debug",
+        "Drops the custom sections that name places in the code, which are others once it is rewritten",
+    )
+}
+
+fn quiet_argument<'a>(alloc: Global) -> Arg<'a>
+    ensures rule { rule_of result ≡ flag (codes "quiet") }
+    ensures local { result.global ≡ false }
+{
+    flag_argument(
+        alloc,
+        "quiet",
+        "Tells nothing on standard error but what is asked for, and why it fails",
+    )
+}
+
+// The exit statuses, and how the program is used.
+const AFTER_HELP: &str = "\
+Exit status:
+  0   what was asked for is written
+  1   the module is refused, or input, output or memory fails
+  2   no rule applies, or the module has no function of its own
+  3   none of the functions can be read, or there is none with that index
+  64  the options can't be read
+
+Examples:
+  teddertempo module.wasm -o rewritten.wasm --seed 7 --count 20
+  teddertempo --list --rule fold < module.wasm";
+
+/// The command line, with the names of the rules.
+pub fn command<'a>(alloc: Global, names: &'a [&'a str]) -> Result<Command<'a>, AllocError>
+    ensures { IfOk result (λ c. app_of c ≡ command_line names.entry) }
+{
+    Command::new(alloc, "teddertempo")
+        .version("0.2.0")
+        .about(
+            "Rewrites instructions of a WebAssembly module without changing what the module computes",
+        )
+        .after_help(AFTER_HELP)
+        .arg(input_argument(alloc))?
+        .arg(output_argument(alloc))?
+        .arg(seed_argument(alloc))?
+        .arg(count_argument(alloc))?
+        .arg(function_argument(alloc))?
+        .arg(rule_argument(alloc, names))?
+        .arg(other_argument(alloc, names))?
+        .arg(shrink_argument(alloc))?
+        .arg(size_argument(alloc))?
+        .arg(list_argument(alloc))?
+        .arg(blocks_argument(alloc))?
+        .arg(stats_argument(alloc))?
+        .arg(reach_argument(alloc))?
+        .arg(json_argument(alloc))?
+        .arg(show_argument(alloc))?
+        .arg(strip_argument(alloc))?
+        .arg(quiet_argument(alloc))
+}

@@ -1,0 +1,32 @@
+//! The program for modules but for its process: its options, and what a run reads, writes and answers, over any reader and writer.
+#![tactic(auto)]
+
+mod arguments;
+mod blocks;
+mod ending;
+mod failure;
+mod faults;
+mod form;
+mod front;
+mod functions;
+mod input;
+mod listing;
+mod messages;
+mod mutating;
+mod names;
+mod nearest;
+mod objects;
+mod options;
+mod reach;
+mod running;
+mod showing;
+mod stats;
+mod words;
+
+pub use ending::Ending;
+pub use failure::Failure;
+pub use form::Form;
+pub use options::{Flags, Misuse, Options, Task};
+pub use reach::{Part, Reach, reach_of};
+pub use running::run;
+pub use words::{options_from, options_of};

@@ -1,0 +1,150 @@
+//! The module rewritten as the options say.
+ghost use Rattle.std.specs.Prelude.{◌≡◌, ℕ, List, [], true, None, IfOk, IfErr};
+ghost use Rattle.module_rewrites.specs.Attempt.{IsForSize, IsReason};
+ghost use Rattle.module_rewrites.specs.Chosen.{GivesUp};
+ghost use Rattle.module_rewrites.specs.DoesAsBefore.{DoesAsBefore};
+ghost use Rattle.module_rewrites.specs.Seeded.{seeded};
+ghost use Rattle.module_commands.specs.Failures.{FailsToMake, leaves};
+ghost use Rattle.module_commands.specs.Scope.{scope_of};
+ghost use Rattle.module_commands.specs.Shown.{IsShown};
+ghost use Rattle.module_commands.specs.Writes.{IsOutcome, IsWrittenAs};
+ghost use Rattle.module_commands.specs.declared.failure.Failure.TheVariants.{Memory};
+
+use crate::failure::Failure;
+use crate::options::Options;
+use crate::showing::Shower;
+use module_rewrites::laws::rewritten_modules_do_as_before;
+use module_rewrites::{Reason, RewrittenModule, Watch, rewrite_watched};
+use std::alloc::Global;
+use wasm_sections::{read_sections, without_debug};
+
+// The module without its custom sections that name places in the code. A module that rewrites made is one, so that it isn't read for
+// want of memory alone. It does what the module does.
+fn stripped(alloc: Global, bytes: &[u8]) -> Result<Vec<u8>, Failure>
+    ensures stripped { IfOk result (λ new. IsWrittenAs true bytes.now new.items) }
+    ensures does { IfOk result (λ new. DoesAsBefore bytes.now new.items) }
+    ensures memory { IfErr result (λ e. e ≡ Memory) }
+{
+    rewritten_modules_do_as_before();
+    let Ok(sections) = read_sections(alloc, bytes) else {
+        return Err(Failure::Memory);
+    };
+    Ok(without_debug(alloc, bytes, &sections)?)
+}
+
+// The same where these sections are to be dropped, else the module as it is.
+fn finished(alloc: Global, strip: bool, new: RewrittenModule) -> Result<RewrittenModule, Failure>
+    ensures made { IfOk result (λ m. m.made.items ≡ new.made.items) }
+    ensures stopped { IfOk result (λ m. m.stopped ≡ new.stopped) }
+    ensures bytes { IfOk result (λ m. IsWrittenAs strip new.bytes.items m.bytes.items) }
+    ensures does { IfOk result (λ m. (start : List ℕ) → DoesAsBefore start new.bytes.items
+        → DoesAsBefore start m.bytes.items) }
+    ensures memory { IfErr result (λ e. e ≡ Memory) }
+{
+    rewritten_modules_do_as_before();
+    if !strip {
+        return Ok(new);
+    }
+    let bytes = stripped(alloc, &new.bytes)?;
+    Ok(RewrittenModule {
+        bytes,
+        made: new.made,
+        stopped: new.stopped,
+    })
+}
+
+// The module with no rewrite made.
+fn unchanged(alloc: Global, bytes: &[u8]) -> Result<RewrittenModule, Failure>
+    ensures bytes { IfOk result (λ m. m.bytes.items ≡ bytes.now) }
+    ensures does { IfOk result (λ m. DoesAsBefore bytes.now m.bytes.items) }
+    ensures made { IfOk result (λ m. m.made.items ≡ []) }
+    ensures stopped { IfOk result (λ m. m.stopped ≡ None) }
+    ensures memory { IfErr result (λ e. e ≡ Memory) }
+{
+    rewritten_modules_do_as_before();
+    let mut copy = Vec::new(alloc);
+    copy.extend_from_slice(bytes)?;
+    Ok(RewrittenModule {
+        bytes: copy,
+        made: Vec::new(alloc),
+        stopped: None,
+    })
+}
+
+// Whether the module is written as it is for that reason: no rule applies, where rules are to make code smaller alone.
+fn leaves(shrink: bool, reason: &Reason) -> bool
+    ensures { result ≡ leaves shrink reason.now }
+{
+    match reason {
+        Reason::NoRule => shrink,
+        Reason::NoOwnFunction => shrink,
+        _ => false,
+    }
+}
+
+/// A module that was rewritten, and what is shown of the rewrites.
+#[derive(Drop)]
+pub struct Outcome {
+    pub module: RewrittenModule,
+    pub shown: Vec<u8>,
+}
+
+// What is written where nothing of the module is rewritten, for that reason.
+#[tactic(auto, using(crate::proofs::OutcomeLemmas::left_outcome, crate::proofs::OutcomeLemmas::none_shown))]
+fn left(alloc: Global, bytes: &[u8], options: &Options, reason: Reason) -> Result<Outcome, Failure>
+    requires reason { IsReason (scope_of options.now) bytes.now reason }
+    requires for_size { IsForSize reason
+        → GivesUp (scope_of options.now) bytes.now (seeded options.now.seed) }
+    ensures outcome { IfOk result (λ o. IsOutcome options.now bytes.now o.module.made.items
+        o.module.stopped o.module.bytes.items) }
+    ensures shown { IfOk result (λ o.
+        IsShown options.now.show o.module.made.items o.shown.items) }
+    ensures fails { IfErr result (FailsToMake options.now bytes.now) }
+{
+    if !leaves(options.shrink, &reason) {
+        return Err(Failure::Nothing(reason));
+    }
+    let module = unchanged(alloc, bytes)?;
+    let module = finished(alloc, options.strip_debug, module)?;
+    Ok(Outcome {
+        module,
+        shown: Vec::new(alloc),
+    })
+}
+
+/// What is written of the module, rewritten as many times as the options say, by their rules, with a generator made from their seed:
+/// it is valid where it was, and does what it did. Where rules are to make it smaller alone, and none applies, it is the module as it
+/// is. Where the options say so, its custom sections that name places in the code are dropped then. What is shown of the rewrites
+/// where the options ask for it; `watch` sees each of them, too.
+///
+/// `Nothing` as `rewrite_watched` refuses, but where the module is written as it is.
+#[tactic(auto, using(crate::proofs::OutcomeLemmas::rewritten_outcome, crate::proofs::OutcomeLemmas::reason_in, crate::proofs::OutcomeLemmas::gives_up_in))]
+pub fn rewritten<P: Watch + Drop>(
+    alloc: Global,
+    bytes: &[u8],
+    options: &Options,
+    watch: P,
+) -> Result<Outcome, Failure>
+    ensures outcome { IfOk result (λ o. IsOutcome options.now bytes.now o.module.made.items
+        o.module.stopped o.module.bytes.items) }
+    ensures shown { IfOk result (λ o.
+        IsShown options.now.show o.module.made.items o.shown.items) }
+    ensures fails { IfErr result (FailsToMake options.now bytes.now) }
+{
+    let mut shower = Shower::new(alloc, options.show, watch);
+    match rewrite_watched(
+        alloc,
+        bytes,
+        options.seed,
+        &options.scope(),
+        options.count,
+        &mut shower,
+    ) {
+        Ok(new) => {
+            let shown = shower.shown()?;
+            let module = finished(alloc, options.strip_debug, new)?;
+            Ok(Outcome { module, shown })
+        }
+        Err(reason) => left(alloc, bytes, options, reason),
+    }
+}

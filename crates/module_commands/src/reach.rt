@@ -1,0 +1,278 @@
+//! How much of a module rules reach.
+ghost use Rattle.std.specs.Prelude.{◌≡◌, ◌↔◌, ◌+◌, ◌<◌, length, slice_get, is_some, IfOk, IfErr, IsTrue};
+ghost use Rattle.mutate_base.specs.declared.types.PrimitiveTypeInfo.{PrimitiveTypeInfo};
+ghost use Rattle.peephole_machine.specs.IntegerRow.{bare_operator};
+ghost use Rattle.peephole_machine.specs.Row.{instruction_byte};
+ghost use Rattle.peephole_machine.specs.Values.{context_in};
+ghost use Rattle.body_rewrites.specs.Reached.{IsMarked};
+ghost use Rattle.module_commands.specs.Reach.{AreCounted, AreCountedAt, AreOfBody, AreOfEntry, EndsBlock, HoldsReached, IsReach, Told};
+ghost use Rattle.module_commands.specs.Reach.{is_integer, is_integer_byte, is_integer_of, is_integer_opcode, nothing, number_of, part_in_64_bits, part_of, part_sum, reach_in_64_bits, sum_of};
+ghost use Rattle.module_commands.specs.declared.failure.Failure.TheVariants.{Memory};
+ghost use Rattle.wasm_module.specs.Module.{IsModule};
+
+use crate::blocks::{block_ending, delimits};
+use crate::failure::Failure;
+use body_rewrites::{Body, reached_operators, trees_of};
+use module_rewrites::read_function;
+use mutate_base::{ModuleInfo, PrimitiveTypeInfo};
+use peephole_machine::{Operation, opcode_byte};
+use rewrite_rules::Rule;
+use std::alloc::Global;
+use wasm_code::{Instr, Operator, OperatorAndByteOffset};
+use wasm_module::Layout;
+
+/// How many there are of something, and how many of those rules reach.
+#[derive(Clone, Copy, Debug, PartialEq, Eq)]
+pub struct Part {
+    pub all: usize,
+    pub within: usize,
+}
+
+/// How much of a module rules reach, of what its functions have that can be read.
+#[derive(Clone, Copy, Debug, PartialEq, Eq)]
+pub struct Reach {
+    /// Operators, and those that a rule rewrites.
+    pub operators: Part,
+    /// Blocks, and those that have such an operator.
+    pub blocks: Part,
+    /// Instructions whose operands and results are i32 or i64 alone: constants, operators, comparisons and conversions; and those
+    /// that are such operators.
+    pub integers: Part,
+}
+
+// What a truth value counts.
+fn number_of(counts: bool) -> usize
+    ensures { result ≡ number_of counts }
+{
+    if counts { 1 } else { 0 }
+}
+
+// One where it is there, and one within where it is reached too.
+fn part_of(there: bool, reached: bool) -> Part
+    ensures { result ≡ part_of there reached }
+{
+    if there {
+        Part {
+            all: 1,
+            within: number_of(reached),
+        }
+    } else {
+        Part { all: 0, within: 0 }
+    }
+}
+
+impl Part {
+    // Both together.
+    fn plus(self, other: Part) -> Part
+        ensures { result ≡ part_in_64_bits (part_sum self other) }
+    {
+        Part {
+            all: self.all.saturating_add(other.all),
+            within: self.within.saturating_add(other.within),
+        }
+    }
+}
+
+impl Reach {
+    // Both together.
+    fn plus(self, other: Reach) -> Reach
+        ensures { result ≡ reach_in_64_bits (sum_of self other) }
+    {
+        Reach {
+            operators: self.operators.plus(other.operators),
+            blocks: self.blocks.plus(other.blocks),
+            integers: self.integers.plus(other.integers),
+        }
+    }
+}
+
+// Nothing is counted.
+fn nothing() -> Reach
+    ensures { result ≡ nothing }
+{
+    Reach {
+        operators: Part { all: 0, within: 0 },
+        blocks: Part { all: 0, within: 0 },
+        integers: Part { all: 0, within: 0 },
+    }
+}
+
+// Whether the opcode is that of an operator on whole numbers.
+fn operates(byte: u8) -> bool
+    ensures { result ≡ is_some (bare_operator byte) }
+{
+    Operation::from_byte(byte).is_some()
+}
+
+// Whether the opcode is that of an integer instruction.
+fn is_integer_byte(byte: u8) -> bool
+    ensures { result ≡ is_integer_byte byte }
+{
+    match byte {
+        0x41 => true,
+        0x42 => true,
+        _ => operates(byte),
+    }
+}
+
+// Whether the instruction is an integer instruction.
+fn is_integer_instruction(instr: &Instr) -> bool
+    ensures { result ≡ is_integer_opcode (instruction_byte instr.now) }
+{
+    match opcode_byte(instr) {
+        Some(byte) => is_integer_byte(byte),
+        None => false,
+    }
+}
+
+// Whether the operator is an integer instruction.
+fn is_integer(operator: &Operator) -> bool
+    ensures { result ≡ is_integer operator.now }
+{
+    match operator {
+        Operator::Instr(instr) => is_integer_instruction(instr),
+        _ => false,
+    }
+}
+
+// Whether an integer instruction stands there.
+fn is_integer_at(operators: &[OperatorAndByteOffset], at: usize) -> bool
+    requires { at < length operators.now }
+    ensures { result ≡ is_integer_of (slice_get operators.now at) }
+{
+    is_integer(&operators[at].0)
+}
+
+// Whether a block ends with the operator there.
+fn ends_block(operators: &[OperatorAndByteOffset], at: usize) -> bool
+    requires { at < length operators.now }
+    ensures { IsTrue result ↔ EndsBlock operators.now at }
+{
+    block_ending(operators, at).is_some()
+}
+
+// Whether the operator there is marked.
+fn is_marked(marks: &[bool], at: usize) -> bool
+    requires { at < length marks.now }
+    ensures { IsTrue result ↔ IsMarked marks.now at }
+{
+    marks[at]
+}
+
+// Whether a marked operator stands there, or before it with no delimiter from it on, and no delimiter stands there. `held`: whether
+// one stands before it so.
+fn holds_marked(operators: &[OperatorAndByteOffset], marks: &[bool], at: usize, held: bool) -> bool
+    requires inside { at < length operators.now }
+    requires count { length marks.now ≡ length operators.now }
+    requires held { IsTrue held ↔ HoldsReached (IsMarked marks.now) operators.now at }
+    ensures { IsTrue result ↔ HoldsReached (IsMarked marks.now) operators.now (at + 1) }
+{
+    let stopped = delimits(operators, at);
+    let marked = is_marked(marks, at);
+    !stopped && (held || marked)
+}
+
+// What the operator there counts. `held`: whether it is marked, or one before it with no delimiter from that on, and it is none.
+fn reach_at(operators: &[OperatorAndByteOffset], marks: &[bool], at: usize, held: bool) -> Reach
+    requires inside { at < length operators.now }
+    requires count { length marks.now ≡ length operators.now }
+    requires held { IsTrue held ↔ HoldsReached (IsMarked marks.now) operators.now (at + 1) }
+    ensures { AreCountedAt (IsMarked marks.now) operators.now at result }
+{
+    let marked = is_marked(marks, at);
+    let ends = ends_block(operators, at);
+    let integer = is_integer_at(operators, at);
+    Reach {
+        operators: part_of(true, marked),
+        blocks: part_of(ends, held),
+        integers: part_of(integer, marked),
+    }
+}
+
+// What the operators count of which some are marked.
+fn reach_of_marked(operators: &[OperatorAndByteOffset], marks: &[bool]) -> Reach
+    requires { length marks.now ≡ length operators.now }
+    ensures { Told (AreCounted (IsMarked marks.now) operators.now (length operators.now)) result }
+{
+    let mut reach = nothing();
+    let mut held = false;
+    for at in 0..operators.len() {
+        held = holds_marked(operators, marks, at, held);
+        reach = reach.plus(reach_at(operators, marks, at, held));
+    }
+    reach
+}
+
+// How much of a body the rules reach.
+fn reach_of_body(
+    alloc: Global,
+    locals: &[PrimitiveTypeInfo],
+    info: &ModuleInfo<'_>,
+    rules: &[Rule],
+    operators: &[OperatorAndByteOffset],
+) -> Result<Reach, Failure>
+    ensures reach { IfOk result (Told (AreOfBody (context_in info.now locals.now)
+        rules.now operators.now)) }
+    ensures fails { IfErr result (λ e. e ≡ Memory) }
+{
+    let trees = trees_of(alloc, locals, info, operators)?;
+    let body = Body {
+        info,
+        locals,
+        operators,
+        trees: &trees,
+    };
+    let marks = reached_operators(alloc, &body, rules)?;
+    Ok(reach_of_marked(operators, &marks))
+}
+
+// How much of the n-th of the module's own functions the rules reach; nothing where that can't be read.
+fn reach_of_function(
+    alloc: Global,
+    bytes: &[u8],
+    info: &ModuleInfo<'_>,
+    layout: &Layout,
+    n: usize,
+    rules: &[Rule],
+) -> Result<Reach, Failure>
+    requires module { IsModule bytes.now info.now layout.now }
+    requires inside { n < length layout.now.entries }
+    ensures reach { IfOk result (Told
+        (AreOfEntry rules.now bytes.now info.now layout.now n)) }
+    ensures fails { IfErr result (λ e. e ≡ Memory) }
+{
+    let function = match read_function(alloc, bytes, info, layout, n) {
+        Ok(function) => function,
+        Err(e) => {
+            if e.is_memory() {
+                return Err(Failure::Memory);
+            }
+            return Ok(nothing());
+        }
+    };
+    reach_of_body(alloc, &function.locals, info, rules, &function.operators)
+}
+
+/// How much of a module the rules reach: of the operators, the blocks and the integer instructions of all its functions that can be
+/// read, how many there are, and how many one of the rules rewrites, or hold an operator that one rewrites. A function that can't be
+/// read counts nothing. A number that 64 bits don't hold is the greatest that they hold.
+///
+/// It takes time linear in the module, but as `reached_operators` says. The only error is `Memory`: an allocation was refused.
+pub fn reach_of(
+    alloc: Global,
+    bytes: &[u8],
+    info: &ModuleInfo<'_>,
+    layout: &Layout,
+    rules: &[Rule],
+) -> Result<Reach, Failure>
+    requires { IsModule bytes.now info.now layout.now }
+    ensures reach { IfOk result (IsReach rules.now bytes.now info.now layout.now) }
+    ensures fails { IfErr result (λ e. e ≡ Memory) }
+{
+    let mut reach = nothing();
+    for n in 0..layout.entries.len() {
+        let own = reach_of_function(alloc, bytes, info, layout, n, rules)?;
+        reach = reach.plus(own);
+    }
+    Ok(reach)
+}

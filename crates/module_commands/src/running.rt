@@ -1,0 +1,246 @@
+//! A run: a module in, and out goes what the options ask for.
+ghost use Rattle.std.specs.Prelude.{◌≡◌, ◌≢◌, ℕ, List, true, false, OnOk, IfErr, IfOk, IfSome, IsErrOf, IsTrue};
+ghost use Rattle.std.specs.Io.KnownBytes.{Appends};
+ghost use Rattle.module_commands.specs.Blocks.{WritesBlocks};
+ghost use Rattle.module_commands.specs.Failures.{FailsToDo, FailsToInform, FailsToReport, FailsToRewrite, IsOfInput};
+ghost use Rattle.module_commands.specs.declared.failure.Failure.TheVariants.{Output};
+ghost use Rattle.module_commands.specs.Form.{form_of};
+ghost use Rattle.module_commands.specs.Lists.{WritesList};
+ghost use Rattle.module_commands.specs.Reports.{ReportsModule, ReportsMutated, TellsReach};
+ghost use Rattle.module_commands.specs.Shown.{ShowsMutated};
+ghost use Rattle.module_commands.specs.Writes.{WritesMutated};
+ghost use Rattle.wasm_module.specs.Module.{IsModule};
+
+use crate::blocks::list_blocks;
+use crate::ending::{Ending, ending_of};
+use crate::failure::Failure;
+use crate::front::{is_component, is_text};
+use crate::functions::module_of;
+use crate::input::read_input;
+use crate::listing::list_rewrites;
+use crate::mutating::rewritten;
+use crate::options::{Options, Task};
+use crate::reach::reach_of;
+use crate::stats::{report_functions, report_reach, rewrites_report};
+use device_tally::Tally;
+use module_rewrites::Watch;
+use std::alloc::Global;
+use std::io::{Read, Write};
+use wasm_module::Module;
+
+// Reports how much of the module the rules reach, where that is asked for.
+fn report_reach_asked<E: Write>(
+    alloc: Global,
+    bytes: &[u8],
+    wasm: &Module<'_>,
+    options: &Options,
+    notes: &mut E,
+) -> Result<(), Failure>
+    requires { IsModule bytes.now wasm.now.info wasm.now.layout }
+    ensures reports { OnOk result ((text : List ℕ)
+        × Appends (E.contents notes.old) (E.contents notes.new) text
+        × TellsReach options.now.reach (form_of options.now) options.now.rules.items bytes.now
+        wasm.now.info wasm.now.layout text) }
+    ensures fails { IfErr result FailsToReport }
+{
+    if !options.reach {
+        return Ok(());
+    }
+    let reach = reach_of(alloc, bytes, &wasm.info, &wasm.layout, &options.rules)?;
+    report_reach(alloc, notes, options.form(), reach)
+}
+
+// Reports on the functions of the module, and on how much of it the rules reach where that is asked for.
+fn report_module<E: Write>(
+    alloc: Global,
+    bytes: &[u8],
+    options: &Options,
+    notes: &mut E,
+) -> Result<(), Failure>
+    ensures reports { OnOk result (ReportsModule options.now bytes.now
+        (E.contents notes.old) (E.contents notes.new)) }
+    ensures fails { IfErr result (FailsToInform bytes.now) }
+{
+    let module = module_of(alloc, bytes)?;
+    report_functions(alloc, bytes, &module, options.form(), notes)?;
+    report_reach_asked(alloc, bytes, &module, options, notes)
+}
+
+// Writes all of the bytes.
+fn write_bytes<W: Write>(output: &mut W, bytes: &[u8]) -> Result<(), Failure>
+    ensures written { OnOk result (Appends (W.contents output.old) (W.contents output.new)
+        bytes.now) }
+    ensures fails { IfErr result (λ e. e ≡ Output) }
+{
+    output.write_all(bytes)?;
+    output.flush()?;
+    Ok(())
+}
+
+// Writes what is shown of rewrites, where they are to be shown.
+fn show<E: Write>(notes: &mut E, wanted: bool, shown: &[u8]) -> Result<(), Failure>
+    ensures shown { wanted ≡ true → OnOk result (Appends (E.contents notes.old)
+        (E.contents notes.new) shown.now) }
+    ensures quiet { wanted ≡ false → notes.new ≡ notes.old }
+    ensures fails { IfErr result (λ e. e ≡ Output) }
+{
+    if wanted {
+        notes.write_all(shown)?;
+    }
+    Ok(())
+}
+
+// Writes the module rewritten, and what is shown of the rewrites.
+fn write_rewritten<W: Write, E: Write, P: Watch + Drop>(
+    alloc: Global,
+    options: &Options,
+    bytes: &[u8],
+    output: &mut W,
+    notes: &mut E,
+    watch: P,
+) -> Result<Ending, Failure>
+    ensures shown { IfOk result (λ ending. ShowsMutated options.now bytes.now ending
+        (W.contents output.old) (W.contents output.new) (E.contents notes.old)
+        (E.contents notes.new)) }
+    ensures quiet { options.now.show ≡ false → notes.new ≡ notes.old }
+    ensures fails { IfErr result (FailsToRewrite options.now bytes.now) }
+    ensures kept { IfErr result (λ e. e ≢ Output
+        → W.contents output.new ≡ W.contents output.old) }
+{
+    let new = rewritten(alloc, bytes, options, watch)?;
+    write_bytes(output, &new.module.bytes)?;
+    show(notes, options.show, &new.shown)?;
+    Ok(ending_of(&new.module.stopped))
+}
+
+// The same, and reports: first on the module, so also where no rule applies, and on the rewrites behind that. What is said of the
+// rewrites is made before the module is written, so that nothing is written where memory is refused to it.
+fn write_reported<W: Write, E: Write, P: Watch + Drop>(
+    alloc: Global,
+    options: &Options,
+    bytes: &[u8],
+    output: &mut W,
+    notes: &mut E,
+    watch: P,
+) -> Result<Ending, Failure>
+    ensures reported { IfOk result (λ ending. ReportsMutated options.now bytes.now ending
+        (W.contents output.old) (W.contents output.new) (E.contents notes.old)
+        (E.contents notes.new)) }
+    ensures fails { IfErr result (FailsToRewrite options.now bytes.now) }
+    ensures kept { IfErr result (λ e. e ≢ Output
+        → W.contents output.new ≡ W.contents output.old) }
+{
+    report_module(alloc, bytes, options, notes)?;
+    let new = rewritten(alloc, bytes, options, watch)?;
+    let report = rewrites_report(alloc, bytes, &new.module, options.form(), options.count)?;
+    write_bytes(output, &new.module.bytes)?;
+    notes.write_all(&new.shown)?;
+    notes.write_all(&report)?;
+    Ok(ending_of(&new.module.stopped))
+}
+
+// Writes the module rewritten, with what is shown and reported where the options ask for it.
+fn rewrite<W: Write, E: Write, P: Watch + Drop>(
+    alloc: Global,
+    options: &Options,
+    bytes: &[u8],
+    output: &mut W,
+    notes: &mut E,
+    watch: P,
+) -> Result<Ending, Failure>
+    ensures written { IfOk result (λ ending. WritesMutated options.now bytes.now ending
+        (W.contents output.old) (W.contents output.new)) }
+    ensures reported { IsTrue options.now.stats → IfOk result (λ ending. ReportsMutated options.now
+        bytes.now ending (W.contents output.old) (W.contents output.new) (E.contents notes.old)
+        (E.contents notes.new)) }
+    ensures shown { options.now.stats ≡ false → IfOk result (λ ending. ShowsMutated options.now
+        bytes.now ending (W.contents output.old) (W.contents output.new) (E.contents notes.old)
+        (E.contents notes.new)) }
+    ensures quiet { options.now.stats ≡ false → options.now.show ≡ false
+        → notes.new ≡ notes.old }
+    ensures fails { IfErr result (FailsToRewrite options.now bytes.now) }
+    ensures kept { IfErr result (λ e. e ≢ Output
+        → W.contents output.new ≡ W.contents output.old) }
+{
+    if options.stats {
+        return write_reported(alloc, options, bytes, output, notes, watch);
+    }
+    write_rewritten(alloc, options, bytes, output, notes, watch)
+}
+
+/// Reads all of the input, and does what the options ask for: what it writes goes to the output, and what it reports and shows to the
+/// notes. What it lists and reports has the form that they ask for. Each rewrite is shown to `watch`, too. Fails as the task fails,
+/// and as the input can't be read or the output written.
+pub fn run<R: Read, W: Write, E: Write, P: Watch + Drop>(
+    alloc: Global,
+    options: &Options,
+    input: &mut Tally<R>,
+    output: &mut W,
+    notes: &mut E,
+    watch: P,
+) -> Result<Ending, Failure>
+    // What is written is the input rewritten as the seed chooses, valid where that was; what stands round each rewrite runs as
+    // before, and its functions do what they did. Where the options say so, custom sections that name places in the code are dropped.
+    // Where rules are to make it smaller alone, and none applies, it is the input as it is. The answer tells whether memory ran out.
+    ensures written { options.now.task ≡ Task.Rewrite → IfOk result (λ ending.
+        IfSome (R.remaining input.old.device) (λ bytes. WritesMutated options.now bytes ending
+        (W.contents output.old) (W.contents output.new))) }
+    // A list has a line for each rewrite that there is in the functions that are looked at, and no other.
+    ensures listed { options.now.task ≡ Task.List → OnOk result
+        (IfSome (R.remaining input.old.device) (λ bytes. WritesList (form_of options.now)
+        options.now.rules.items options.now.function bytes (W.contents output.old)
+        (W.contents output.new))) }
+    // The blocks have a line each, of the functions that are looked at.
+    ensures blocks { options.now.task ≡ Task.Blocks → OnOk result
+        (IfSome (R.remaining input.old.device) (λ bytes. WritesBlocks (form_of options.now)
+        options.now.function bytes (W.contents output.old) (W.contents output.new))) }
+    // A list, and the blocks, are whole.
+    ensures whole { options.now.task ≢ Task.Rewrite → IfOk result (λ ending.
+        ending ≡ Ending.Whole) }
+    // Where the options ask for it, the notes tell of functions, of rewrites, and of the rules' reach.
+    ensures reported { options.now.task ≡ Task.Rewrite → IsTrue options.now.stats
+        → IfOk result (λ ending. IfSome (R.remaining input.old.device) (λ bytes.
+        ReportsMutated options.now bytes ending (W.contents output.old) (W.contents output.new)
+        (E.contents notes.old) (E.contents notes.new))) }
+    // Where the options ask for it, the notes show each rewrite. Else they stay as they are.
+    ensures shown { options.now.task ≡ Task.Rewrite → options.now.stats ≡ false
+        → IfOk result (λ ending. IfSome (R.remaining input.old.device) (λ bytes.
+        ShowsMutated options.now bytes ending (W.contents output.old) (W.contents output.new)
+        (E.contents notes.old) (E.contents notes.new))) }
+    ensures quiet { options.now.stats ≡ false → options.now.show ≡ false
+        → notes.new ≡ notes.old }
+    // `Input` only where a read failed; where the run succeeds, none did.
+    ensures input { IsErrOf result Failure.Input → IsTrue input.new.failed }
+    ensures sound { OnOk result (input.new.failed ≡ input.old.failed) }
+    // Nothing is written or noted where the input can't be read, is too long, or is a component or a text.
+    ensures untouched { IfErr result (λ e. IsOfInput e
+        → (output.new ≡ output.old) × (notes.new ≡ notes.old)) }
+    // Why it fails: with `NoRule`, only where no rule applies in a function that can be read; with `Unreadable`, only where none can;
+    // for a reason of the module, only where the input is neither a component nor a text, each of which is told so.
+    ensures fails { IfErr result (λ e. IfSome (R.remaining input.old.device) (λ bytes. FailsToDo
+        options.now.task options.now bytes e)) }
+    // Nothing is written then, unless the output, or the notes, can't be written.
+    ensures kept { options.now.task ≡ Task.Rewrite → IfErr result (λ e. e ≢ Output
+        → W.contents output.new ≡ W.contents output.old) }
+{
+    let bytes = read_input(alloc, input)?;
+    if is_component(&bytes) {
+        return Err(Failure::Component);
+    }
+    if is_text(&bytes) {
+        return Err(Failure::TextFormat);
+    }
+    match options.task {
+        Task::Rewrite => rewrite(alloc, options, &bytes, output, notes, watch),
+        Task::List => {
+            list_rewrites(alloc, &bytes, options, output)?;
+            output.flush()?;
+            Ok(Ending::Whole)
+        }
+        Task::Blocks => {
+            list_blocks(alloc, &bytes, options, output)?;
+            output.flush()?;
+            Ok(Ending::Whole)
+        }
+    }
+}

@@ -1,0 +1,483 @@
+//! Reads the options from the words of the command line.
+ghost use Rattle.std.specs.Prelude.{◌≡◌, ◌⊎◌, ◌↔◌, ◌<◌, ℕ, codes, length, map, option_map, slice_get, string_bytes, IfOk, IfErr, IsTrue};
+ghost use Rattle.clap.specs.Matches.{found_of};
+ghost use Rattle.clap.specs.Values.{kind_of};
+ghost use Rattle.clap.specs.Walk.{all_of, one_of, rows_of, texts};
+ghost use Rattle.rewrite_rules.specs.Names.{rule_of};
+ghost use Rattle.rewrite_rules.specs.Rule.{rule_name};
+ghost use Rattle.body_rewrites.specs.Listing.{AreThose, IsOfRule};
+ghost use Rattle.module_commands.specs.Arguments.{command_line};
+ghost use Rattle.module_commands.specs.Options.{AreMisused, AreOptions, AreNamed, AreRefused, AreRules, IsNumberOf, IsNumberOr, IsSeed, IsSeedOf, IsShrinking, IsWanted, NamesNone, RowMakesSmaller, SayOptions, choose, choose_rules, default_count, exclude, file_of, first_of, flags_of, has_plus, have_plus, ignore, is_given, is_named, is_set, is_shrinking, kind_for, reports, task_of, tell_nothing};
+
+use crate::arguments::command;
+use crate::front::begins_with;
+use crate::nearest::{sentence_on, unknown_name};
+use crate::options::{Flags, Misuse, Options, Task};
+use clap::error::ErrorKind;
+use clap::{ArgMatches, Command, Error};
+use rewrite_rules::laws::table_is_right;
+use rewrite_rules::{Growth, Rule, all_rules, row_at, rules_of_rows};
+use std::alloc::{AllocError, Global};
+use std::convert::AsStr;
+
+// Whether a flag is given.
+fn is_set(matches: &ArgMatches<'_>, name: &str) -> bool
+    ensures { result ≡ is_set name.now (rows_of (found_of matches.now)) }
+{
+    matches.get_one::<bool>(name).unwrap_or(false)
+}
+
+fn flags_of(matches: &ArgMatches<'_>) -> Flags
+    ensures { result ≡ flags_of (rows_of (found_of matches.now)) }
+{
+    Flags {
+        list: is_set(matches, "list"),
+        blocks: is_set(matches, "blocks"),
+        stats: is_set(matches, "stats"),
+        reach: is_set(matches, "reach"),
+        json: is_set(matches, "json"),
+        show: is_set(matches, "show"),
+        strip_debug: is_set(matches, "strip-debug"),
+        quiet: is_set(matches, "quiet"),
+    }
+}
+
+fn task_of(flags: Flags) -> Task
+    ensures { result ≡ task_of flags }
+{
+    if flags.list {
+        Task::List
+    } else if flags.blocks {
+        Task::Blocks
+    } else {
+        Task::Rewrite
+    }
+}
+
+// Whether the flags ask for two tasks, or for something of a module that is written where none is.
+fn exclude(flags: Flags) -> bool
+    ensures { result ≡ exclude flags }
+{
+    let other = flags.list || flags.blocks;
+    let of_module = flags.stats || flags.reach || flags.show || flags.strip_debug;
+    (flags.list && flags.blocks) || (of_module && other)
+}
+
+// Whether the flags ask for JSON, and for nothing that is written in it.
+fn tell_nothing(flags: Flags) -> bool
+    ensures { result ≡ tell_nothing flags }
+{
+    let told = flags.list || flags.blocks || flags.stats || flags.reach;
+    flags.json && !told
+}
+
+// Whether a report is asked for.
+fn reports(flags: Flags) -> bool
+    ensures { result ≡ reports flags }
+{
+    flags.stats || flags.reach
+}
+
+// The text that an option has.
+fn text_of<'a>(matches: &ArgMatches<'a>, name: &str) -> Option<&'a str>
+    ensures { option_map (λ text. text.now) result
+        ≡ first_of name.now (rows_of (found_of matches.now)) }
+{
+    matches.get_str(name)
+}
+
+// Whether the option is given.
+fn is_given(matches: &ArgMatches<'_>, name: &str) -> bool
+    ensures { result ≡ is_given name.now (rows_of (found_of matches.now)) }
+{
+    text_of(matches, name).is_some()
+}
+
+// Whether what chooses a rewrite, or bounds rewrites, is given.
+fn choose(matches: &ArgMatches<'_>) -> bool
+    ensures { result ≡ choose (rows_of (found_of matches.now)) }
+{
+    let seed = is_given(matches, "seed");
+    let count = is_given(matches, "count");
+    let size = is_given(matches, "max-size");
+    seed || count || size
+}
+
+// Whether what chooses rules is given.
+fn choose_rules(matches: &ArgMatches<'_>) -> bool
+    ensures { result ≡ choose_rules (rows_of (found_of matches.now)) }
+{
+    let rule = is_given(matches, "rule");
+    let other = is_given(matches, "not-rule");
+    let shrink = is_set(matches, "shrink");
+    rule || other || shrink
+}
+
+// Whether an option is given that the task ignores.
+fn ignore(flags: Flags, matches: &ArgMatches<'_>) -> bool
+    ensures { result ≡ ignore flags (rows_of (found_of matches.now)) }
+{
+    let chooses = choose(matches);
+    let chooses_rules = choose_rules(matches);
+    ((flags.list || flags.blocks) && chooses) || (flags.blocks && chooses_rules)
+}
+
+// Whether a plus stands before the number of the option, also behind `0x`.
+fn has_plus(matches: &ArgMatches<'_>, name: &str) -> bool
+    ensures { result ≡ has_plus (first_of name.now (rows_of (found_of matches.now))) }
+{
+    let Some(text) = text_of(matches, name) else {
+        return false;
+    };
+    let first = begins_with(text.as_bytes(), b"+");
+    let behind = begins_with(text.as_bytes(), b"0x+");
+    first || behind
+}
+
+// Whether a plus stands before a number that is given.
+fn have_plus(matches: &ArgMatches<'_>) -> bool
+    ensures { result ≡ have_plus (rows_of (found_of matches.now)) }
+{
+    let seed = has_plus(matches, "seed");
+    let count = has_plus(matches, "count");
+    let function = has_plus(matches, "function");
+    let size = has_plus(matches, "max-size");
+    seed || count || function || size
+}
+
+// The number that a text writes, in decimal digits, or behind `0x` in hexadecimal ones.
+fn seed_from(text: &str) -> Option<u64>
+    ensures { IsSeedOf text.now result }
+{
+    if let Ok(seed) = text.parse::<u64>() {
+        return Some(seed);
+    }
+    let Some(digits) = text.strip_prefix("0x") else {
+        return None;
+    };
+    match u64::from_str_radix(digits, 16) {
+        Ok(seed) => Some(seed),
+        Err(_) => None,
+    }
+}
+
+// The seed.
+fn seed_of(matches: &ArgMatches<'_>) -> Result<u64, Misuse>
+    ensures seed { IfOk result (IsSeed (first_of (codes "seed") (rows_of (found_of matches.now)))) }
+    ensures misuse { IfErr result (AreMisused (rows_of (found_of matches.now))) }
+{
+    let Some(text) = text_of(matches, "seed") else {
+        return Ok(0);
+    };
+    match seed_from(text) {
+        Some(seed) => Ok(seed),
+        None => Err(Misuse::NoSeed),
+    }
+}
+
+// The file that an option names.
+fn file_of(
+    alloc: Global,
+    matches: &ArgMatches<'_>,
+    name: &str,
+) -> Result<Option<String>, AllocError>
+    ensures { IfOk result (λ file. option_map string_bytes file
+        ≡ file_of (first_of name.now (rows_of (found_of matches.now)))) }
+{
+    let Some(text) = text_of(matches, name) else {
+        return Ok(None);
+    };
+    if text == "-" {
+        return Ok(None);
+    }
+    Ok(Some(String::from_str(alloc, text)?))
+}
+
+// The number that an option has.
+fn size_of(matches: &ArgMatches<'_>, name: &str) -> Option<usize>
+    ensures { IsNumberOf (one_of name.now (rows_of (found_of matches.now))) result }
+{
+    matches.get_one::<usize>(name)
+}
+
+// The rules that are named, one for each name; `UnknownRule` where a name is no rule's.
+fn named_rules(alloc: Global, names: &[&str]) -> Result<Vec<Rule>, Misuse>
+    ensures named { IfOk result (λ rules. map rule_name rules.items ≡ texts names.now) }
+    ensures unknown { IfErr result (λ e. e ≡ Misuse.Memory ⊎ (e ≡ Misuse.UnknownRule
+        × NamesNone (texts names.now))) }
+{
+    let mut rules = Vec::new(alloc);
+    for name in names {
+        let Some(rule) = Rule::from_name(name) else {
+            return Err(Misuse::UnknownRule);
+        };
+        rules.push(rule)?;
+    }
+    Ok(rules)
+}
+
+// The rules that are named, or all where none is.
+fn rules_of(alloc: Global, matches: &ArgMatches<'_>) -> Result<Vec<Rule>, Misuse>
+    ensures rules { IfOk result (λ rules. AreNamed
+        (all_of (codes "rule") (rows_of (found_of matches.now))) rules.items) }
+    ensures unknown { IfErr result (AreMisused (rows_of (found_of matches.now))) }
+{
+    match matches.get_strs("rule") {
+        Some(names) => named_rules(alloc, names),
+        None => Ok(all_rules(alloc)?),
+    }
+}
+
+// Whether one of the names is the rule's.
+fn is_named(names: &[&str], rule: Rule) -> bool
+    ensures { result ≡ is_named (texts names.now) rule }
+{
+    // A rule's name is looked up in the table: not where there is none to compare it with.
+    if names.is_empty() {
+        return false;
+    }
+    let own = rule.name();
+    for name in names {
+        if *name == own {
+            return true;
+        }
+    }
+    false
+}
+
+// Whether what does so leaves fewer instructions.
+fn is_shrinking(growth: Growth) -> bool
+    ensures { result ≡ is_shrinking growth }
+{
+    match growth {
+        Growth::Shrinks => true,
+        Growth::Keeps => false,
+        Growth::Grows => false,
+    }
+}
+
+// Whether each rewrite by the row with the number leaves fewer instructions; also where there is no such row.
+fn row_makes_smaller(number: usize) -> bool
+    ensures { IsTrue result ↔ RowMakesSmaller number }
+{
+    table_is_right();
+    match row_at(number) {
+        Some(row) => is_shrinking(row.growth()),
+        None => true,
+    }
+}
+
+// Whether the row with the number is none of the rule's, or each rewrite by it does; `rows` are the rules of the rows.
+fn row_fits(rows: &[u16], rule: Rule, number: usize) -> bool
+    requires rows { (n : ℕ) → slice_get rows.now n ≡ rule_of n }
+    requires inside { number < length rows.now }
+    ensures { IsTrue result ↔ (IsOfRule rule number → RowMakesSmaller number) }
+{
+    if rows[number] as usize != rule.number() {
+        return true;
+    }
+    row_makes_smaller(number)
+}
+
+// Whether each rewrite by a row of the rule does.
+fn makes_smaller(rows: &[u16], rule: Rule) -> bool
+    requires { (n : ℕ) → slice_get rows.now n ≡ rule_of n }
+    ensures { IsTrue result ↔ IsShrinking rule }
+{
+    for number in 0..rows.len() {
+        if !row_fits(rows, rule, number) {
+            return false;
+        }
+    }
+    true
+}
+
+// Whether the rule is none of the others, and makes code smaller, where that is asked for.
+fn is_wanted(rows: &[u16], others: &[&str], shrink: bool, rule: Rule) -> bool
+    requires { (n : ℕ) → slice_get rows.now n ≡ rule_of n }
+    ensures { IsTrue result ↔ IsWanted (texts others.now) shrink rule }
+{
+    if is_named(others, rule) {
+        return false;
+    }
+    if !shrink {
+        return true;
+    }
+    makes_smaller(rows, rule)
+}
+
+// Those of the rules that are.
+fn wanted_of(
+    alloc: Global,
+    rules: &[Rule],
+    others: &[&str],
+    shrink: bool,
+) -> Result<Vec<Rule>, AllocError>
+    ensures { IfOk result (λ wanted.
+        AreThose (IsWanted (texts others.now) shrink) rules.now wanted.items) }
+{
+    let rows = rules_of_rows(alloc)?;
+    let mut wanted = Vec::new(alloc);
+    for rule in rules {
+        if is_wanted(&rows, others, shrink, *rule) {
+            wanted.push(*rule)?;
+        }
+    }
+    Ok(wanted)
+}
+
+// The rules that the options name, or all, without those that they exclude.
+fn wanted_rules(alloc: Global, matches: &ArgMatches<'_>) -> Result<Vec<Rule>, Misuse>
+    ensures rules { IfOk result (λ rules. AreRules
+        (all_of (codes "rule") (rows_of (found_of matches.now)))
+        (all_of (codes "not-rule") (rows_of (found_of matches.now)))
+        (is_set (codes "shrink") (rows_of (found_of matches.now))) rules.items) }
+    ensures unknown { IfErr result (AreMisused (rows_of (found_of matches.now))) }
+{
+    let given = rules_of(alloc, matches)?;
+    let shrink = is_set(matches, "shrink");
+    match matches.get_strs("not-rule") {
+        Some(others) => Ok(wanted_of(alloc, &given, others, shrink)?),
+        None => Ok(wanted_of(alloc, &given, &[], shrink)?),
+    }
+}
+
+// How many rewrites are made where no number is given.
+fn default_count(shrink: bool) -> usize
+    ensures { result ≡ default_count shrink }
+{
+    if shrink { usize::MAX } else { 1 }
+}
+
+// How many rewrites are made.
+fn count_of(matches: &ArgMatches<'_>) -> usize
+    ensures { IsNumberOr (default_count (is_set (codes "shrink") (rows_of (found_of matches.now))))
+        (one_of (codes "count") (rows_of (found_of matches.now))) result }
+{
+    let other = default_count(is_set(matches, "shrink"));
+    size_of(matches, "count").unwrap_or(other)
+}
+
+/// The options that the matches of a command line are.
+pub fn options_from(alloc: Global, matches: &ArgMatches<'_>) -> Result<Options, Misuse>
+    ensures options { IfOk result (AreOptions (rows_of (found_of matches.now))) }
+    ensures misuse { IfErr result (AreMisused (rows_of (found_of matches.now))) }
+{
+    let flags = flags_of(matches);
+    if exclude(flags) {
+        return Err(Misuse::Conflict);
+    }
+    if ignore(flags, matches) {
+        return Err(Misuse::Ignored);
+    }
+    if tell_nothing(flags) {
+        return Err(Misuse::NothingToTell);
+    }
+    if have_plus(matches) {
+        return Err(Misuse::Plus);
+    }
+    let count = count_of(matches);
+    if count == 0 {
+        return Err(Misuse::NoCount);
+    }
+    Ok(Options {
+        task: task_of(flags),
+        input: file_of(alloc, matches, "input")?,
+        output: file_of(alloc, matches, "output")?,
+        seed: seed_of(matches)?,
+        count,
+        function: size_of(matches, "function"),
+        rules: wanted_rules(alloc, matches)?,
+        max_size: size_of(matches, "max-size").unwrap_or(usize::MAX),
+        shrink: is_set(matches, "shrink"),
+        stats: reports(flags),
+        reach: flags.reach,
+        json: flags.json,
+        show: flags.show,
+        strip_debug: flags.strip_debug,
+        quiet: flags.quiet,
+    })
+}
+
+// The kind of error that clap has for it.
+fn kind_for(misuse: Misuse) -> ErrorKind
+    ensures { result ≡ kind_for misuse }
+{
+    match misuse {
+        Misuse::Conflict => ErrorKind::ArgumentConflict,
+        Misuse::Ignored => ErrorKind::ArgumentConflict,
+        Misuse::NothingToTell => ErrorKind::MissingRequiredArgument,
+        Misuse::Plus => ErrorKind::ValueValidation,
+        Misuse::NoSeed => ErrorKind::ValueValidation,
+        Misuse::NoCount => ErrorKind::ValueValidation,
+        Misuse::UnknownRule => ErrorKind::InvalidValue,
+        Misuse::Memory => ErrorKind::OutOfMemory,
+    }
+}
+
+// What the user is told.
+fn text_for(misuse: Misuse) -> &'static str {
+    match misuse {
+        Misuse::Conflict => {
+            "--list and --blocks exclude each other, and with them --stats, --reach, --show and --strip-debug"
+        }
+        Misuse::Ignored => {
+            "--list and --blocks ignore --seed, --count and --max-size, and --blocks --rule, --not-rule and --shrink: leave them out"
+        }
+        Misuse::NothingToTell => "--json goes with --list, --blocks, --stats or --reach",
+        Misuse::Plus => "a plus stands before a number: leave it out",
+        Misuse::NoSeed =>
+            "--seed is no number below 2^64 in decimal digits, or behind 0x in hexadecimal ones",
+        Misuse::NoCount => "--count is 0",
+        Misuse::UnknownRule => "--rule names no rule",
+        Misuse::Memory => "no memory is left",
+    }
+}
+
+// An error of clap, told anew where a name is no rule's.
+fn told_anew<S: AsStr>(
+    alloc: Global,
+    command: &mut Command<'_>,
+    names: &[&str],
+    words: &[S],
+    error: Error,
+) -> Result<Error, AllocError>
+    ensures { IfOk result (λ e. kind_of e ≡ kind_of error) }
+{
+    if error.kind() != ErrorKind::InvalidValue {
+        return Ok(error);
+    }
+    match unknown_name(names, words) {
+        None => Ok(error),
+        Some(name) => {
+            let text = sentence_on(alloc, names, name)?;
+            command.error(ErrorKind::InvalidValue, &text)
+        }
+    }
+}
+
+/// The options that the words of the command line say, the program's own name first. `names` are those of the rules.
+///
+/// An error where they say none, with clap's text: an unknown rule is told with the nearest three names; and for `--help` and
+/// `--version`, with what is to be printed. A count of 0 is an error too, and so are flags that exclude each other, options that
+/// the task ignores, a plus before a number, and `--json` where nothing is written in it.
+pub fn options_of<'a, S: AsStr>(
+    alloc: Global,
+    names: &'a [&'a str],
+    words: &'a [S],
+) -> Result<Options, Error>
+    ensures options { IfOk result
+        (SayOptions (command_line names.entry) (map S.text words.entry.now)) }
+    ensures refused { IfErr result (λ e.
+        AreRefused (command_line names.entry) (map S.text words.entry.now) (kind_of e)) }
+{
+    let mut command = command(alloc, names)?;
+    let matches = match command.try_get_matches_from_mut(words) {
+        Ok(matches) => matches,
+        Err(error) => return Err(told_anew(alloc, &mut command, names, words, error)?),
+    };
+    match options_from(alloc, &matches) {
+        Ok(options) => Ok(options),
+        Err(misuse) => Err(command.error(kind_for(misuse), text_for(misuse))?),
+    }
+}

@@ -1,0 +1,19 @@
+//! Rewrites of modules for people: which operators of which function were rewritten by which rule, as they were and as they are, drawn
+//! as trees.
+#![tactic(auto)]
+
+mod drawing;
+mod error;
+mod floats;
+mod names;
+mod range;
+mod reading;
+mod shown;
+#[cfg(test)]
+mod tests;
+#[cfg(test)]
+mod text_tests;
+mod texts;
+
+pub use error::ShowError;
+pub use shown::write_shown;

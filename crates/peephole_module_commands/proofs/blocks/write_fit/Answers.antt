@@ -1,7 +1,0 @@
--- The columns are lined up.
-use Rattle.std.proofs.Common.{rules}
-use Rattle.peephole_module_commands.proofs.ColumnsLemmas.{left_is, right_is}
-use Rattle.peephole_module_commands.proofs.blocks.write_fit.Goals as goal
-
-pub returns-clause-line : goal.returns-clause-line
-returns-clause-line g c = simp (left_is, right_is) (search rules)

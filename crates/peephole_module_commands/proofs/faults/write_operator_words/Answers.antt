@@ -1,7 +1,0 @@
--- The columns are lined up.
-use Rattle.std.proofs.Common.{rules}
-use Rattle.peephole_module_commands.proofs.ColumnsLemmas.{left_is}
-use Rattle.peephole_module_commands.proofs.faults.write_operator_words.Goals as goal
-
-pub returns-clause-line : goal.returns-clause-line
-returns-clause-line g c = simp left_is (search rules)

@@ -1,9 +1,0 @@
--- By the opcodes of operators.
-use Rattle.std.proofs.Common.{◌∙◌}
-use Rattle.peephole_machine.specs.IntegerRow.{bare_operator}
-use Rattle.peephole_machine.specs.Operation.{operator_of}
-use Rattle.peephole_module_commands.proofs.ReachLemmas.{some_alike}
-use Rattle.peephole_module_commands.proofs.reach.operates.Goals as goal
-
-pub returns : goal.returns
-returns c = c.is_some.ensures ∙ some_alike operator_of c.from_byte.result (bare_operator c.args.byte) c.from_byte.ensures.operator

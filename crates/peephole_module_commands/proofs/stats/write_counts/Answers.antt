@@ -1,6 +1,0 @@
--- The columns are lined up.
-use Rattle.peephole_module_commands.proofs.ColumnsLemmas.{left_is}
-use Rattle.peephole_module_commands.proofs.stats.write_counts.Goals as goal
-
-pub returns-clause-line : goal.returns-clause-line
-returns-clause-line g c = simp left_is (rw c.laid_out.ensures at c.in_ok-writeln.ensures.bytes)

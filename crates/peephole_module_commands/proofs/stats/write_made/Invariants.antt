@@ -1,7 +1,0 @@
-use Rattle.std.proofs.Common.{take}
-use Rattle.std.specs.Io.KnownBytes.{Appends}
-use Rattle.peephole_module_commands.specs.Reports.{made_lines}
-use Rattle.peephole_module_commands.proofs.stats.write_made.Given as goal
-
-abbrev pub invariant-loop-one : goal.invariant-loop-one
-invariant-loop-one g l = Appends (g.W.Write.contents l.initial.notes) (g.W.Write.contents l.notes) (made_lines l.form (take l.one-index l.made))

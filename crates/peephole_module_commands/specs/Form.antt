@@ -1,9 +1,0 @@
--- In which form a run writes lines (this project).
-use Rattle.std.specs.Prelude.{if◌then◌else◌}
-use Rattle.peephole_module_commands.specs.declared.form.Form.{Form}
-use Rattle.peephole_module_commands.specs.declared.form.Form.TheVariants.{Text, Json}
-use Rattle.peephole_module_commands.specs.declared.options.Options.{Options}
-
--- as JSON where that is asked for, else as text
-abbrev pub form_of : Options → Form
-form_of options = if options.json then Json else Text

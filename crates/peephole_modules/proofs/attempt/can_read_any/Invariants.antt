@@ -1,6 +1,0 @@
-use Rattle.std.proofs.Common.{◌≤◌, ◌<◌, ℕ}
-use Rattle.peephole_modules.specs.Attempt.{CanRead}
-use Rattle.peephole_modules.proofs.attempt.can_read_any.Given as goal
-
-abbrev pub invariant-loop-n : goal.invariant-loop-n
-invariant-loop-n l = (n : ℕ) → l.from ≤ n → n < l.n → ¬ (CanRead l.bytes l.info l.layout n)

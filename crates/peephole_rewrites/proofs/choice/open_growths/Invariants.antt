@@ -1,9 +1,0 @@
--- Those of the growths so far.
-use Rattle.std.proofs.Common.{take}
-use Rattle.peephole_rules.specs.Growth.{growths}
-use Rattle.peephole_rewrites.specs.Choice.{AreThose}
-use Rattle.peephole_rewrites.specs.Counting.{HasOpenBy}
-use Rattle.peephole_rewrites.proofs.choice.open_growths.Given as goal
-
-abbrev pub invariant-loop-growth : goal.invariant-loop-growth
-invariant-loop-growth l = AreThose (HasOpenBy l.counts l.rules) (take l.growth-index growths) l.list.items

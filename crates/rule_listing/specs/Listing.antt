@@ -1,0 +1,107 @@
+-- The rules of the table, as they are listed (this project).
+use Rattle.std.specs.Prelude.{◌≡◌, ◌≢◌, ℕ, zero, suc, ◌+◌, List, [], ◌∷◌, ◌++◌, length, map, codes, decimal, Option, Some, None, slice_get, ◌==◌, if◌then◌else◌}
+use Rattle.serde_json.specs.Data.{Data, member, no_members, number, object, string, array, unsigned}
+use Rattle.serde_json.specs.View.{items_of}
+use Rattle.serde_json.specs.Written.{compact_text}
+use Rattle.rewrite_rules.specs.declared.growth.Growth.{Growth}
+use Rattle.rewrite_rules.specs.declared.growth.Growth.TheVariants.{Shrinks, Keeps, Grows}
+use Rattle.rewrite_rules.specs.declared.table.Row.{Row}
+use Rattle.rewrite_rules.specs.Growing.{GrowsAs}
+use Rattle.rewrite_rules.specs.Names.{names, rule_of}
+use Rattle.rewrite_rules.specs.Table.{ROWS}
+use Rattle.rule_listing.specs.declared.form.Form.{Form}
+use Rattle.rule_listing.specs.declared.form.Form.TheVariants.{Json, Markdown}
+
+-- ---- what is told
+
+-- of a rule: what it does to the number of instructions, and the texts of its rows
+pub record Told : Type 0 where
+  pub growth : Growth
+  pub lines : List (List ℕ)
+
+-- 1 for that rule
+abbrev pub counted : Option ℕ → (rule : ℕ) → ℕ
+counted None rule = 0
+counted (Some m) rule = if m == rule then 1 else 0
+
+-- how many of the first `n` rows are rows of the rule
+abbrev pub rows_among : (rule n : ℕ) → ℕ
+rows_among rule zero = 0
+rows_among rule (suc n) = rows_among rule n + counted (rule_of n) rule
+
+-- There are as many texts as rows, and where something is said of the number of instructions, it holds of each row.
+pub record IsTold (rule : ℕ) (told : Told) : Type 0 where
+  pub count : length told.lines ≡ rows_among rule (length ROWS)
+  pub grows : (n : ℕ) (row : Row) → rule_of n ≡ Some rule → slice_get ROWS n ≡ Some row → told.growth ≢ Grows → GrowsAs row told.growth
+
+-- It is told of each rule, by their numbers.
+pub record AreTold (told : List Told) : Type 0 where
+  pub count : length told ≡ length names
+  pub each : (n : ℕ) (t : Told) → slice_get told n ≡ Some t → IsTold n t
+
+-- the word for it
+abbrev pub growth_word : Growth → List ℕ
+growth_word Shrinks = codes "shrinks"
+growth_word Keeps = codes "keeps"
+growth_word Grows = codes "grows"
+
+-- ---- JSON: an object a line
+
+-- a rule, its members in the order of their names
+abbrev pub rule_object : (n : ℕ) → (name : List ℕ) → Told → Data
+rule_object n name told =
+    object (member (codes "growth") (string (growth_word told.growth))
+    (member (codes "lines") (array (items_of (map string told.lines)))
+    (member (codes "name") (string name)
+    (member (codes "number") (number (unsigned n)) no_members))))
+
+-- its line
+unfoldable pub object_line : (n : ℕ) → (name : List ℕ) → Told → List ℕ
+object_line n name told = compact_text (rule_object n name told) ++ codes "\n"
+
+-- ---- Markdown: a table, with a row for each text, the first of which has the rest in front
+
+-- what stands before the rules
+abbrev pub head : List ℕ
+head = codes "| Number | Rule | Instructions | Lines |\n|---|---|---|---|\n"
+
+-- what stands between the texts
+abbrev pub between : (n : ℕ) → List ℕ
+between n = if n == 0 then [] else codes " |\n| | | | "
+
+-- the text with that number
+abbrev pub cell : (n : ℕ) → (line : List ℕ) → List ℕ
+cell n line = between n ++ (codes "`" ++ (line ++ codes "`"))
+
+-- texts, of which the first one has that number
+abbrev pub cells : (n : ℕ) → List (List ℕ) → List ℕ
+cells n [] = []
+cells n (line ∷ lines) = cell n line ++ cells (n + 1) lines
+
+-- the rows of a rule
+unfoldable pub rule_rows : (n : ℕ) → (name : List ℕ) → Told → List ℕ
+rule_rows n name told =
+    codes "| " ++ (decimal n ++ (codes " | `" ++ (name ++ (codes "` | " ++ (growth_word told.growth
+    ++ (codes " | " ++ (cells 0 told.lines ++ codes " |\n")))))))
+
+-- ---- in either form
+
+-- what stands before the rules
+abbrev pub head_text : Form → List ℕ
+head_text Json = []
+head_text Markdown = head
+
+-- a rule
+abbrev pub rule_text : Form → (n : ℕ) → (name : List ℕ) → Told → List ℕ
+rule_text Json n name told = object_line n name told
+rule_text Markdown n name told = rule_rows n name told
+
+-- rules one behind another, the first of which has that number
+abbrev pub rules_text : Form → (n : ℕ) → List (List ℕ) → List Told → List ℕ
+rules_text form n [] told = []
+rules_text form n (name ∷ rest) [] = []
+rules_text form n (name ∷ rest) (t ∷ told) = rule_text form n name t ++ rules_text form (n + 1) rest told
+
+-- all of them
+abbrev pub listing : Form → List Told → List ℕ
+listing form told = head_text form ++ rules_text form 0 names told

@@ -1,0 +1,17 @@
+//! The rules for people and programs: each with its number, its name, what it does to the number of instructions, and its lines.
+#![tactic(auto)]
+
+mod error;
+mod form;
+mod growth;
+mod json;
+mod lines;
+mod listing;
+mod markdown;
+mod rule;
+#[cfg(test)]
+mod tests;
+
+pub use error::ListError;
+pub use form::Form;
+pub use listing::write_rules;

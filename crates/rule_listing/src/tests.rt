@@ -1,0 +1,65 @@
+//! The list of rules.
+
+use crate::{Form, write_rules};
+use std::str;
+use std::test::Fail;
+
+/// Lines of the list as JSON, by their numbers from 0.
+const OBJECTS: [(usize, &str); 4] = [
+    (
+        3,
+        r#"{"growth":"keeps","lines":["add (add x y) z → add x (add y z)","mul (mul x y) z → mul x (mul y z)","and (and x y) z → and x (and y z)","or (or x y) z → or x (or y z)","xor (xor x y) z → xor x (xor y z)"],"name":"associate_right","number":3}"#,
+    ),
+    (
+        4,
+        r#"{"growth":"grows","lines":["x → add x 0"],"name":"add_zero","number":4}"#,
+    ),
+    (
+        32,
+        r#"{"growth":"shrinks","lines":["drop x → nothing"],"name":"forget","number":32}"#,
+    ),
+    (
+        88,
+        r#"{"growth":"shrinks","lines":["local.set x, local.get → local.tee x"],"name":"set_to_tee","number":88}"#,
+    ),
+];
+
+/// Lines of the list as Markdown, by their numbers from 0: two stand before the rules, and `commute` has 7, `turn_comparison` 8.
+const ROWS: [(usize, &str); 6] = [
+    (0, "| Number | Rule | Instructions | Lines |"),
+    (1, "|---|---|---|---|"),
+    (2, "| 0 | `commute` | keeps | `add x y → add y x` |"),
+    (3, "| | | | `mul x y → mul y x` |"),
+    (
+        9,
+        "| 1 | `turn_comparison` | keeps | `lt_s x y → gt_s y x` |",
+    ),
+    (
+        138,
+        "| 88 | `set_to_tee` | shrinks | `local.set x, local.get → local.tee x` |",
+    ),
+];
+
+#[test]
+fn lists_rules_as_objects(rt: HostRuntime) -> Result<(), Fail> {
+    let mut output = Vec::new(rt.alloc());
+    write_rules(rt.alloc(), &mut output, Form::Json)?;
+    let text = str::from_utf8(&output)?;
+    assert!(rt; text.lines().count() == 89);
+    for (number, line) in OBJECTS {
+        assert!(rt; text.lines().nth(number) == Some(line), "line {number}");
+    }
+    Ok(())
+}
+
+#[test]
+fn lists_rules_as_a_table(rt: HostRuntime) -> Result<(), Fail> {
+    let mut output = Vec::new(rt.alloc());
+    write_rules(rt.alloc(), &mut output, Form::Markdown)?;
+    let text = str::from_utf8(&output)?;
+    assert!(rt; text.lines().count() == 139);
+    for (number, line) in ROWS {
+        assert!(rt; text.lines().nth(number) == Some(line), "line {number}");
+    }
+    Ok(())
+}
