@@ -226,7 +226,7 @@ pub fn command<'a>(alloc: Global, names: &'a [&'a str]) -> Result<Command<'a>, A
     ensures { IfOk result (λ c. app_of c ≡ command_line names.entry) }
 {
     Command::new(alloc, "teddertempo")
-        .version("0.2.0")
+        .version("0.3.0")
         .about(
             "Rewrites instructions of a WebAssembly module without changing what the module computes",
         )
