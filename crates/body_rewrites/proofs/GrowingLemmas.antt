@@ -1,14 +1,25 @@
--- What becomes of a number, by what is left of it behind the first pieces.
-use Rattle.std.proofs.Common.{◌≡◌, ℕ, ◌+◌, ◌-◌, ◌<◌, ◌≤◌, List, ◌∷◌, length, drop, sym, ap, ◌∙◌, arith}
-use Rattle.std.specs.Prelude.{◌==◌, if◌then◌else◌}
+-- What becomes of a number of operators.
+use Rattle.std.proofs.Common.{◌≡◌, ℕ, zero, suc, ◌+◌, ◌-◌, ◌<◌, ◌≤◌, List, [], ◌∷◌, length, drop, refl, sym, ap, ap₂, ◌∙◌, arith, length-append}
+use Rattle.std.specs.Prelude.{◌==◌, if◌then◌else◌, get_or, slice_range}
 use Rattle.std.proofs.lemmas.Bool.{lt-ltb, le-ltb, eq-eqb, ne_eqb}
-use Rattle.std.proofs.lemmas.List.{drop_all, length-append}
-use Rattle.body_splices.specs.declared.piece.Piece.{Piece}
 use Rattle.body_splices.specs.OwnBytes.{without_offsets}
-use Rattle.body_splices.specs.Laws.{piece_operators, pieces_operators}
+use Rattle.body_splices.specs.Laws.{pieces_operators}
+use Rattle.peephole_machine.specs.Values.{Context}
+use Rattle.rewrite_rules.specs.declared.pattern.Part.{Part}
+use Rattle.rewrite_rules.specs.declared.pattern.Part.TheVariants.{Hole, Constant, Drawn, Apply}
+use Rattle.rewrite_rules.specs.Numbers.{constant_at}
+use Rattle.rewrite_rules.specs.Parts.{draws}
+use Rattle.rewrite_rules.specs.Table.{parts_for}
+use Rattle.body_rewrites.specs.declared.growth.Growth.{Growth}
 use Rattle.body_rewrites.specs.declared.growth.Growth.TheVariants.{Shrinks, Keeps, Grows}
-use Rattle.body_rewrites.specs.Rewrites.{growth_by}
+use Rattle.body_rewrites.specs.declared.places.Line.{Line}
+use Rattle.body_rewrites.specs.declared.places.Place.{Place}
+use Rattle.body_rewrites.specs.LineMaking.{LineChangeGrows}
+use Rattle.body_rewrites.specs.Places.{IsPlaceOf}
+use Rattle.body_rewrites.specs.Rewrites.{growth_by, Differ}
+use Rattle.body_rewrites.specs.Writing.{side_pieces, part_count, parts_count, by_line}
 use Rattle.body_rewrites.proofs.StandsLemmas.{Operators}
+use Rattle.body_rewrites.proofs.MatchingLemmas.{length_in}
 
 -- ---- numbers
 
@@ -25,39 +36,46 @@ grows old new l =
     sym (ap (λ b. if b then Shrinks else (if new == old then Keeps else Grows)) (le-ltb new old (omega (arith, l)))
     ∙ ap (λ b. if b then Keeps else Grows) (ne_eqb new old (λ e. absurd (omega (arith, l, e)))))
 
--- ---- pieces
+-- as many are left as are not stood for
+pub rest_is : (old left parts : ℕ) → parts + left ≡ old + 0 → growth_by left 0 ≡ growth_by old parts
+rest_is old zero parts e = sym (keeps zero 0 refl) ∙ keeps old parts (omega (arith, e))
+rest_is old (suc left) parts e = sym (shrinks (suc left) 0 (omega arith)) ∙ shrinks old parts (omega (arith, e))
 
--- of the pieces' operators
-abbrev pub count : Operators → List Piece → ℕ
-count operators pieces = length (pieces_operators (without_offsets operators) pieces)
+-- ---- a line's right side
 
--- So many are left of the old number behind the operators of the first so many pieces.
-pub record IsLeft (operators : Operators) (pieces : List Piece) (old i left : ℕ) : Type 0 where
-  pub rest : count operators pieces + left ≡ old + count operators (drop i pieces)
+-- how many operators the pieces of some parts are
+parts_counted : (operators : Operators) (operands : List (ℕ × ℕ)) (c : ℕ → ℕ) (words : List ℕ) (ps : List Part) →
+    length (pieces_operators (without_offsets operators) (side_pieces operands c words ps)) ≡ parts_count operators operands ps
+parts_counted operators operands c words [] = refl
+parts_counted operators operands c words (Hole n ∷ ps) =
+    length-append (slice_range (without_offsets operators) (get_or operands n (0, 0)).0 (get_or operands n (0, 0)).1)
+    (pieces_operators (without_offsets operators) (side_pieces operands c (drop (draws (Hole n)) words) ps))
+    ∙ ap (λ k. part_count operators operands (Hole n) + k) (parts_counted operators operands c (drop (draws (Hole n)) words) ps)
+parts_counted operators operands c words (Constant t e ∷ ps) = let rest = parts_counted operators operands c words ps in omega (arith, rest)
+parts_counted operators operands c words (Drawn t ∷ ps) = let rest = parts_counted operators operands c (drop 1 words) ps in omega (arith, rest)
+parts_counted operators operands c words (Apply f ∷ ps) = let rest = parts_counted operators operands c words ps in omega (arith, rest)
 
-pub all_left : (operators : Operators) (pieces : List Piece) (old : ℕ) → IsLeft operators pieces old 0 old
-all_left operators pieces old = record { rest = omega arith }
+module _ (context : Context) (operators : Operators) (line : Line) (at : ℕ) (place : Place) (found : IsPlaceOf context operators line (at + 1) place) where
+  written : length (pieces_operators (without_offsets operators) ((by_line line place).pieces 0))
+      ≡ parts_count operators place.operands (parts_for line.width line.row.right)
+  written = parts_counted operators place.operands (constant_at place.numbers) (0 ∷ []) (parts_for line.width line.row.right)
 
-module _ (operators : Operators) (pieces : List Piece) (old i left : ℕ) (is : IsLeft operators pieces old i left) where
-  module _ (p : Piece) (ps : drop i pieces ≡ p ∷ drop (i + 1) pieces) (n : ℕ) (n_is : n ≡ length (piece_operators (without_offsets operators) p)) where
-    parts : count operators (drop i pieces) ≡ n + count operators (drop (i + 1) pieces)
-    parts =
-        ap (count operators) ps
-        ∙ (length-append (piece_operators (without_offsets operators) p) (pieces_operators (without_offsets operators) (drop (i + 1) pieces))
-        ∙ ap (λ k. k + count operators (drop (i + 1) pieces)) (sym n_is))
+  -- something else is written
+  pub place_keeps : (kind : Growth) → Differ operators place.start (at + 1) ((by_line line place).pieces 0) →
+      kind ≡ growth_by (at + 1 - place.start) (parts_count operators place.operands (parts_for line.width line.row.right)) →
+      LineChangeGrows context operators line at kind
+  place_keeps kind differs is = record {
+    change = by_line line place;
+    makes = record { place = place; is = found; change_is = refl; differs = differs };
+    growth_is = ap (growth_by (at + 1 - place.start)) written ∙ sym is;
+  }
 
-    pub one_more_left : n ≤ left → IsLeft operators pieces old (i + 1) (left - n)
-    one_more_left l = let before = is.rest in let all = parts in record { rest = omega (arith, before, all, l) }
-
-    pub too_few_left : left < n → Grows ≡ growth_by old (count operators pieces)
-    too_few_left l = let before = is.rest in let all = parts in grows old _ (omega (arith, before, all, l))
-
-  module _ (l : length pieces ≤ i) where
-    whole : count operators pieces + left ≡ old + 0
-    whole = is.rest ∙ ap (λ ps. old + count operators ps) (drop_all i pieces l)
-
-    pub none_left : left ≡ 0 → Keeps ≡ growth_by old (count operators pieces)
-    none_left e = let all = whole in keeps old _ (omega (arith, all, e))
-
-    pub some_left : 0 < left → Shrinks ≡ growth_by old (count operators pieces)
-    some_left k = let all = whole in shrinks old _ (omega (arith, all, k))
+  -- so it is where the number is another
+  pub place_grows : (kind : Growth) → (kind ≡ Keeps → ⊥) →
+      kind ≡ growth_by (at + 1 - place.start) (parts_count operators place.operands (parts_for line.width line.row.right)) →
+      LineChangeGrows context operators line at kind
+  place_grows kind other is =
+      let inside = found.is.inside in
+      place_keeps kind
+      (λ same. other (is ∙ sym (keeps (at + 1 - place.start) _ (sym written ∙ (ap length same ∙ length_in operators place.start (at + 1) inside)))))
+      is

@@ -1,7 +1,7 @@
 -- What stands at an operator where a line applies.
-use Rattle.std.proofs.Common.{◌≡◌, ℕ, suc, ◌+◌, ◌≤◌, Bool, true, false, List, [], ◌∷◌, refl, subst, arith}
+use Rattle.std.proofs.Common.{◌≡◌, ℕ, suc, ◌+◌, ◌≤◌, Bool, true, false, List, [], ◌∷◌, refl, sym, ap, subst, ◌∙◌, arith}
 use Rattle.std.specs.Prelude.{◌&&◌, nat_le, nat_lt, if◌then◌else◌}
-use Rattle.std.proofs.lemmas.Bool.{le-leb, leb-true}
+use Rattle.std.proofs.lemmas.Bool.{le-leb, leb-true, false≢true}
 use Rattle.wasm_code.specs.Instruction.{Instruction}
 use Rattle.mutate_base.specs.declared.types.PrimitiveTypeInfo.{PrimitiveTypeInfo}
 use Rattle.peephole_machine.specs.declared.integer.IntegerType.TheVariants as integer
@@ -26,6 +26,9 @@ use Rattle.body_rewrites.specs.Open.{HasInstruction}
 use Rattle.body_rewrites.specs.Own.{Rewrites}
 use Rattle.body_rewrites.specs.Places.{left_parts}
 use Rattle.body_rewrites.specs.Rewrites.{MakesBy, Makes, IsLineChange}
+use Rattle.body_rewrites.specs.declared.asked.Asked.{Asked}
+use Rattle.body_rewrites.specs.declared.here.Here.{Here}
+use Rattle.body_rewrites.specs.Asking.{IsAskedSo, IsHere}
 use Rattle.body_rewrites.specs.Roots.{class_of, IsClassAt, part_root, first_root, own_root, root_by, root_of, HasRoot, fits}
 use Rattle.body_rewrites.specs.Trees.{IsTree}
 use Rattle.body_rewrites.proofs.StandsLemmas.{Operators}
@@ -121,3 +124,12 @@ module _ (context : Context) (operators : Operators) (at : ℕ) where
 
     pub makes_fits : (line : Line) (change : Change) → Makes context operators line at change → fits class is_tree (root_of line) ≡ true
     makes_fits line change h = root_fits (root_of line) (makes_by line change line.row.widths h)
+
+-- what doesn't fit makes nothing
+pub unfit : (context : Context) (operators : Operators) (here : Here) → IsHere context operators here → (asked : Asked) → IsAskedSo asked →
+    fits here.class here.is_tree asked.root ≡ false → (change : Change) → Makes context operators asked.line here.at change → ⊥
+unfit context operators here is asked so off change made =
+    false≢true
+    (sym off
+    ∙ (ap (fits here.class here.is_tree) so.root_is
+    ∙ makes_fits context operators here.at here.class is.class_is here.is_tree is.tree_is asked.line change made))

@@ -1,5 +1,7 @@
 -- What a line of the table writes: its right side, with the operands as they stand (this project).
-use Rattle.std.specs.Prelude.{ℕ, List, [], ◌∷◌, drop, get_or}
+use Rattle.std.specs.Prelude.{ℕ, ◌+◌, List, [], ◌∷◌, length, drop, get_or, slice_range}
+use Rattle.wasm_code.specs.declared.operator.Operator.{Operator}
+use Rattle.body_splices.specs.OwnBytes.{without_offsets}
 use Rattle.body_splices.specs.declared.piece.Piece.{Piece}
 use Rattle.body_splices.specs.declared.piece.Piece.TheVariants.{Kept, New}
 use Rattle.rewrite_rules.specs.declared.pattern.Part.{Part}
@@ -23,6 +25,16 @@ piece_for operands c words (Apply o) = New (operator_code o)
 abbrev pub side_pieces : (operands : List (ℕ × ℕ)) → (c : ℕ → ℕ) → (words : List ℕ) → List Part → List Piece
 side_pieces operands c words [] = []
 side_pieces operands c words (p ∷ ps) = piece_for operands c words p ∷ side_pieces operands c (drop (draws p) words) ps
+
+-- how many operators a part is, and parts are
+abbrev pub part_count : List (Operator × ℕ) → (operands : List (ℕ × ℕ)) → Part → ℕ
+part_count operators operands (Hole n) =
+    length (slice_range (without_offsets operators) (get_or operands n (0, 0)).0 (get_or operands n (0, 0)).1)
+part_count operators operands p = 1
+
+abbrev pub parts_count : List (Operator × ℕ) → (operands : List (ℕ × ℕ)) → List Part → ℕ
+parts_count operators operands [] = 0
+parts_count operators operands (p ∷ ps) = part_count operators operands p + parts_count operators operands ps
 
 -- what the line writes in its place
 abbrev pub by_line : Line → Place → Change

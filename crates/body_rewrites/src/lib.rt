@@ -10,7 +10,6 @@ mod counts;
 mod cutting;
 mod differing;
 mod found;
-mod growing;
 mod growth;
 mod here;
 mod instructions;

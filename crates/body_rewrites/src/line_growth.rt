@@ -1,25 +1,86 @@
 //! What a line of the table does to the number of operators at an operator.
-ghost use Rattle.std.specs.Prelude.{◌≡◌, ◌<◌, length, IfSome, IfNone};
+ghost use Rattle.std.specs.Prelude.{◌≡◌, ◌<◌, length, slice_range, IfSome, IfNone};
 ghost use Rattle.body_rewrites.specs.Asking.{IsAskedSo, IsHere};
 ghost use Rattle.body_rewrites.specs.Listing.{LineGrows};
 ghost use Rattle.body_rewrites.specs.Places.{context_of, HasItsTrees, IsLine};
-ghost use Rattle.body_rewrites.specs.Rewrites.{MakesNothing};
+ghost use Rattle.body_splices.specs.OwnBytes.{without_offsets};
+ghost use Rattle.rewrite_rules.specs.Table.{parts_for};
+ghost use Rattle.body_rewrites.specs.Rewrites.{MakesNothing, growth_by};
+ghost use Rattle.body_rewrites.specs.Writing.{part_count, parts_count};
 ghost use Rattle.body_rewrites.specs.LineMaking.{LineMakesNothing, LineChangeGrows};
 
 use crate::alone::alone_growth;
 use crate::asked::{Asked, Form};
 use crate::cutting::tree_at;
-use crate::growing::growth_in;
 use crate::growth::Growth;
 use crate::here::Here;
 use crate::laws::{lefts_are_instances, trees_leave};
-use crate::line_making::line_made;
+use crate::line_making::changes;
 use crate::own::growing::own_growth;
-use crate::places::{Body, Line};
+use crate::places::{Body, Line, Place, place_of};
 use crate::roots::fits;
+use crate::writing::operand_in;
+use peephole_machine::IntegerType;
+use rewrite_rules::{Part, Step};
 use rewrite_rules::laws::{
     holes_are_told, parts_are_the_code, sides_are_parts, table_is_right, types_are_told,
 };
+use wasm_code::OperatorAndByteOffset;
+
+// How many operators of the body stand from `start` to before `end`.
+fn count_in(operators: &[OperatorAndByteOffset], start: usize, end: usize) -> usize
+    ensures { result ≡ length (slice_range (without_offsets operators.now) start end) }
+{
+    end.min(operators.len()).saturating_sub(start)
+}
+
+// How many operators the part of a right side is.
+fn part_count(operators: &[OperatorAndByteOffset], place: &Place, part: Part) -> usize
+    ensures { result ≡ part_count operators.now place.now.operands part }
+{
+    match part {
+        Part::Hole(index) => {
+            let (start, end) = operand_in(place, index);
+            count_in(operators, start, end)
+        }
+        _ => 1,
+    }
+}
+
+// What becomes of a number of which so many are left.
+fn rest_growth(left: usize) -> Growth
+    ensures { result ≡ growth_by left 0 }
+{
+    if left == 0 {
+        return Growth::Keeps;
+    }
+    Growth::Shrinks
+}
+
+// What becomes of the number where the side stands for so many operators.
+fn side_growth(
+    operators: &[OperatorAndByteOffset],
+    side: &[Step],
+    width: IntegerType,
+    place: &Place,
+    old: usize,
+) -> Growth
+    ensures { result ≡ growth_by old
+        (parts_count operators.now place.now.operands (parts_for width side.now)) }
+{
+    let mut left = old;
+    for i in 0..side.len() {
+        let Some(part) = side[i].part(width) else {
+            return rest_growth(left);
+        };
+        let count = part_count(operators, place, part);
+        if count > left {
+            return Growth::Grows;
+        }
+        left -= count;
+    }
+    rest_growth(left)
+}
 
 // What a line that is none of the others does.
 fn other_growth(body: &Body<'_>, line: &Line, at: usize) -> Option<Growth>
@@ -30,8 +91,20 @@ fn other_growth(body: &Body<'_>, line: &Line, at: usize) -> Option<Growth>
         LineChangeGrows (context_of body.now) body.now.operators.now line.now at growth) }
     ensures none { IfNone result (LineMakesNothing body.now line.now at) }
 {
-    let code = line_made(body, line, at, 0)?;
-    Some(growth_in(body.operators, &code, at))
+    let Some(place) = place_of(body, line, at + 1) else {
+        return None;
+    };
+    let old = (at + 1).saturating_sub(place.start);
+    match side_growth(body.operators, &line.row.right, line.width, &place, old) {
+        Growth::Shrinks => Some(Growth::Shrinks),
+        Growth::Keeps => {
+            if !changes(body.operators, line, at + 1, &place) {
+                return None;
+            }
+            Some(Growth::Keeps)
+        }
+        Growth::Grows => Some(Growth::Grows),
+    }
 }
 
 // What the line does to the number of operators at the operator; none where it makes nothing there.

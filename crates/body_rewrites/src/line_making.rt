@@ -11,8 +11,8 @@ use crate::places::{Body, Line, Place, place_of};
 use crate::writing::line_code;
 use wasm_code::OperatorAndByteOffset;
 
-// Whether the line writes other operators in its place, which ends before `end`, than stand there.
-fn changes(operators: &[OperatorAndByteOffset], line: &Line, end: usize, place: &Place) -> bool
+/// Whether the line writes other operators in its place, which ends before `end`, than stand there.
+pub(crate) fn changes(operators: &[OperatorAndByteOffset], line: &Line, end: usize, place: &Place) -> bool
     requires { IsSomePlaceOf operators.now line.now end place.now }
     ensures { IsTrue result
         ↔ Differ operators.now place.now.start end ((by_line line.now place.now).pieces 0) }

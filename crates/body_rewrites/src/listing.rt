@@ -12,10 +12,11 @@ use crate::here::{Here, here_at};
 use crate::line_growth::growth_here;
 use crate::places::Body;
 use crate::rewrite::Rewrite;
+use crate::roots::fits;
 use rewrite_rules::{Rule, rules_of_rows};
 use std::alloc::{AllocError, Global};
 
-// Adds what the line makes at the operator.
+// Adds what the line makes at the operator. Most lines fit none, and that is seen at once.
 fn ask(body: &Body<'_>, asked: &Asked, here: Here, list: &mut Vec<Found>) -> Result<(), AllocError>
     requires trees { HasItsTrees body.now }
     requires asked { IsAskedSo asked.now }
@@ -23,6 +24,9 @@ fn ask(body: &Body<'_>, asked: &Asked, here: Here, list: &mut Vec<Found>) -> Res
     ensures { OnOk result (AddsFound (context_of body.now) body.now.operators.now
         (rewrite_of here.at asked.now ∷ []) list.old.items list.new.items) }
 {
+    if !fits(asked.root, here.class, here.is_tree) {
+        return Ok(());
+    }
     match growth_here(body, asked, here) {
         Some(growth) => {
             list.push(Found {

@@ -57,8 +57,8 @@ pub(crate) fn operator_of(operator: Operator) -> Instr
     }
 }
 
-// Which operators stand in the hole with the index.
-fn operand_in(place: &Place, index: u8) -> (usize, usize)
+/// Which operators stand in the hole with the index.
+pub(crate) fn operand_in(place: &Place, index: u8) -> (usize, usize)
     ensures { result ≡ get_or place.now.operands index (0, 0) }
 {
     place
