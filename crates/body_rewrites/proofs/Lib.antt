@@ -31,6 +31,7 @@ pub mod RandomLemmas
 pub mod OwnFindLemmas
 pub mod OwnFoldLemmas
 pub mod OwnCodeLemmas
+pub mod PartsLemmas
 pub mod OwnGrowthLemmas
 pub mod ThoseLemmas
 pub mod ListingLemmas

@@ -105,7 +105,7 @@ fn part_start(
 pub(crate) fn cuts(
     operators: &[OperatorAndByteOffset],
     trees: &[Option<Tree>],
-    parts: &Parts,
+    parts: &Parts<'_>,
     end: usize,
 ) -> Option<ArrayVec<usize, 7>>
     ensures some { IfSome result (λ v. (context : Context)

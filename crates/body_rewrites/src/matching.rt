@@ -36,7 +36,7 @@ fn is_slot(part: Part, index: u8) -> bool
 
 // Where the code in the hole with the index begins, and before which operator it ends.
 pub(crate) fn operand_at(
-    parts: &Parts,
+    parts: &Parts<'_>,
     starts: &[usize],
     end: usize,
     index: u8,
@@ -71,7 +71,7 @@ fn number_at(operators: &[OperatorAndByteOffset], at: usize) -> u64
 // The number of the constant with that slot, and 0 where there is none.
 fn slot_at(
     operators: &[OperatorAndByteOffset],
-    parts: &Parts,
+    parts: &Parts<'_>,
     starts: &[usize],
     index: u8,
 ) -> u64
@@ -133,7 +133,7 @@ pub(crate) fn are_same(
 }
 
 // The operand in the part's hole, and (0, 0) where it is none.
-fn operand_of(parts: &Parts, starts: &[usize], end: usize, part: Part) -> (usize, usize)
+fn operand_of(parts: &Parts<'_>, starts: &[usize], end: usize, part: Part) -> (usize, usize)
     requires { length starts.now ≡ length parts.now }
     ensures { result ≡ operand_of parts.now starts.now end part }
 {
@@ -183,7 +183,7 @@ fn is_alike(
 // Whether each part's code stands where the part does.
 fn are_alike(
     operators: &[OperatorAndByteOffset],
-    parts: &Parts,
+    parts: &Parts<'_>,
     starts: &[usize],
     end: usize,
     numbers: &[u64],
@@ -219,7 +219,7 @@ pub(crate) struct Match {
 pub(crate) fn find(
     operators: &[OperatorAndByteOffset],
     trees: &[Option<Tree>],
-    parts: &Parts,
+    parts: &Parts<'_>,
     end: usize,
 ) -> Option<Match>
     requires { HasSomeTrees operators.now trees.now }
@@ -246,7 +246,7 @@ pub(crate) fn find(
 /// The tree in the hole with the index: its type, and what its code may do; none where the pattern has no such hole.
 pub(crate) fn operand(
     trees: &[Option<Tree>],
-    parts: &Parts,
+    parts: &Parts<'_>,
     starts: &[usize],
     end: usize,
     index: u8,

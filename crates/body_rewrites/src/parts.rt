@@ -1,5 +1,5 @@
 //! The parts of a line's side, read from its end.
-ghost use Rattle.std.specs.Prelude.{◌≡◌, ◌≤◌, ◌<◌, length, reverse, slice_get, take, Some};
+ghost use Rattle.std.specs.Prelude.{◌≡◌, ◌≤◌, ◌<◌, length, reverse, slice_get, Some};
 ghost use Rattle.rewrite_rules.specs.Table.{parts_for};
 
 use peephole_machine::IntegerType;
@@ -8,47 +8,44 @@ use std::marker::Model;
 
 /// The parts that a side of a line has for a width, the last one first.
 #[derive(Drop)]
-pub(crate) struct Parts {
-    // They stand here in their order, and any others behind them.
-    parts: [Part; 7],
+pub(crate) struct Parts<'a> {
+    side: &'a Side,
+    width: IntegerType,
     count: usize,
 }
 
-impl Model for Parts {
-    ghost use Rattle.std.specs.Prelude.{◌≡◌, ◌≤◌, List, length, reverse, take};
+impl<'a> Model for Parts<'a> {
+    ghost use Rattle.std.specs.Prelude.{◌≡◌, List, length, reverse};
     ghost use Rattle.rewrite_rules.specs.declared.pattern.Part.{Part};
+    ghost use Rattle.rewrite_rules.specs.Table.{parts_for};
 
     ghost Value = { List Part };
 
-    ghost view = { λ p. reverse (take p.count p.parts) };
+    ghost view = { λ p. reverse (parts_for p.width p.side.now) };
 
-    ghost invariant = { λ p. (p.count ≤ 7) × (length p.parts ≡ 7) };
+    ghost invariant = { λ p. (p.count ≡ length (parts_for p.width p.side.now))
+        × (length p.side.now ≡ 7) };
 }
 
-// The parts of the steps in their order, any others behind them, and how many there are.
-fn laid_out(steps: &[Step], width: IntegerType) -> ([Part; 7], usize)
-    requires { length steps.now ≤ 7 }
-    ensures parts { take result.1 result.0 ≡ parts_for width steps.now }
-    ensures few { result.1 ≤ 7 }
-    ensures long { length result.0 ≡ 7 }
+// How many steps stand before the end.
+fn count_of(side: &[Step], width: IntegerType) -> usize
+    ensures { result ≡ length (parts_for width side.now) }
 {
-    let mut parts = [Part::Hole(0); 7];
-    for i in 0..steps.len() {
-        let Some(part) = steps[i].part(width) else {
-            return (parts, i);
-        };
-        parts[i] = part;
+    for i in 0..side.len() {
+        if side[i].part(width).is_none() {
+            return i;
+        }
     }
-    (parts, steps.len())
+    side.len()
 }
 
-impl Parts {
+impl<'a> Parts<'a> {
     /// The parts of the side for the width.
-    pub(crate) fn new(side: &Side, width: IntegerType) -> Parts
+    pub(crate) fn new(side: &'a Side, width: IntegerType) -> Parts<'a>
         ensures { result ≡ reverse (parts_for width side.now) }
     {
-        let (parts, count) = laid_out(side, width);
-        Parts { parts, count }
+        let count = count_of(side, width);
+        Parts { side, width, count }
     }
 
     /// How many there are.
@@ -64,6 +61,9 @@ impl Parts {
         requires { number < length self.now }
         ensures { slice_get self.now number ≡ Some result }
     {
-        self.parts[self.count - 1 - number]
+        match self.side[self.count - 1 - number].part(self.width) {
+            Some(part) => part,
+            None => unreachable!(),
+        }
     }
 }

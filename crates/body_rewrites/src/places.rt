@@ -80,7 +80,7 @@ fn type_of(tree: Option<Tree>) -> Option<PrimitiveTypeInfo>
 }
 
 // What is known of the operands in the holes.
-fn known_of(trees: &[Option<Tree>], parts: &Parts, starts: &[usize], end: usize) -> Known
+fn known_of(trees: &[Option<Tree>], parts: &Parts<'_>, starts: &[usize], end: usize) -> Known
     requires { length starts.now ≡ length parts.now }
     ensures { (context : Context) (operators : List (BodyOperator × ℕ))
         → AreTrees context operators trees.now
@@ -97,7 +97,7 @@ fn known_of(trees: &[Option<Tree>], parts: &Parts, starts: &[usize], end: usize)
 }
 
 // Which operators stand in each hole.
-fn operands_of(parts: &Parts, starts: &[usize], end: usize) -> [(usize, usize); 3]
+fn operands_of(parts: &Parts<'_>, starts: &[usize], end: usize) -> [(usize, usize); 3]
     requires { length starts.now ≡ length parts.now }
     ensures { result ≡ operands_told parts.now starts.now end }
 {

@@ -63,7 +63,7 @@ fn part_root(part: Part) -> Root
 }
 
 // Where these parts stand, the last one of which is the first one.
-fn first_root(parts: &Parts) -> Root
+fn first_root(parts: &Parts<'_>) -> Root
     ensures { result ≡ first_root parts.now }
 {
     if parts.len() == 0 {
