@@ -48,7 +48,7 @@ enum {
     TEDDERTEMPO_LINKABLE_OBJECT = 2, /* an object file, whose relocations name places in its code */
     TEDDERTEMPO_UNREADABLE = 3,      /* none of the functions that may be rewritten can be read */
     TEDDERTEMPO_NO_RULE = 4,         /* no rule applies in them, or the module has no function of its own */
-    TEDDERTEMPO_NO_FUNCTION = 5,     /* the module has no function of its own with that index */
+    TEDDERTEMPO_NO_FUNCTION = 5,     /* the module has no function of its own with that index, or an import isn't known */
     TEDDERTEMPO_TOO_LARGE = 6,       /* no rewrite that was tried fits */
     TEDDERTEMPO_NO_MEMORY = 7,       /* malloc failed */
     TEDDERTEMPO_BAD_OPTIONS = 8      /* a struct_size is too small, size is above max_size, or options name no rule that there is */
@@ -65,20 +65,20 @@ enum {
  */
 struct teddertempo_options {
     uint64_t struct_size; /* sizeof(struct teddertempo_options) */
-    uint64_t seed;        /* equal modules and options give equal bytes */
+    uint64_t seed;        /* equal modules, options and max_size give equal bytes */
     uint64_t rules[16];   /* bit i % 64 of rules[i / 64] is rule i; all zero: every rule */
     uint64_t function;    /* the only function that is rewritten, imported ones counted first; or TEDDERTEMPO_ANY_FUNCTION */
-    uint64_t count;       /* so many rewrites, one after another; 0 counts as 1 */
+    uint64_t count;       /* at most so many rewrites, one after another, each of which takes time; 0 counts as 1 */
     uint64_t max_growth;  /* the new module has at most so many bytes more than the old one; or TEDDERTEMPO_ANY_GROWTH */
 };
 
 struct teddertempo_report {
     uint64_t struct_size; /* sizeof(struct teddertempo_report); it stays as it is */
     uint32_t outcome;     /* one of the values above */
-    uint32_t rule;        /* the rule of the last rewrite that was made */
-    uint64_t function;    /* the function of it, imported ones counted first */
-    uint64_t made;        /* how many rewrites were made */
-    uint64_t offset;      /* where the module is at fault, where it isn't a module */
+    uint32_t rule;        /* the rule of the last rewrite; 0 where none was made, which is a rule too: see made */
+    uint64_t function;    /* the function of it, imported ones counted first; 0 where none was made */
+    uint64_t made;        /* how many rewrites were made: fewer than count where no rule applies any more, or none fits */
+    uint64_t offset;      /* where the module is at fault, where it is no module or an object file; else 0 */
 };
 
 /* As teddertempo_mutate, by options, and with a report. */

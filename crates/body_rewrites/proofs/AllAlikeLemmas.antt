@@ -1,7 +1,6 @@
 -- When the code of all parts stands where the parts may.
-use Rattle.std.proofs.Common.{◌≡◌, ℕ, zero, suc, ◌+◌, ◌<◌, ◌≤◌, Bool, true, false, List, [], ◌∷◌, Some, length, drop, refl, sym, ap, ap₂, subst, ◌∙◌, arith}
+use Rattle.std.proofs.Common.{◌≡◌, ℕ, zero, suc, ◌+◌, ◌<◌, Bool, true, false, List, [], ◌∷◌, Some, length, drop, refl, sym, ap, ap₂, subst, ◌∙◌, arith}
 use Rattle.std.specs.Prelude.{if◌then◌else◌, slice_get, slice_index_or}
-use Rattle.std.proofs.lemmas.List.{drop_all}
 use Rattle.std.proofs.lemmas.Option.{slice_get_within}
 use Rattle.wasm_code.specs.Instruction.{Instruction}
 use Rattle.peephole_machine.specs.Values.{Context}
@@ -112,16 +111,6 @@ module _ (operators : Operators) (parts : List Part) (starts : List ℕ) (end : 
     is_alike_there h =
         subst (λ t. t) (sym (alike_is operators parts starts end numbers p k at))
         (subst (λ t. t) (both (operand_code operators parts starts end)) (so.only h)).0
-
--- none is left
-pub all_alike : (operators : Operators) (parts : List Part) (starts : List ℕ) (end : ℕ) (numbers : List ℕ) (i at : ℕ) → length starts ≡ length parts →
-    length parts ≤ i → AreAlikeSo operators parts starts end numbers i at → AreAllAlike operators parts starts end numbers
-all_alike operators parts starts end numbers i at e l so =
-    so.same (subst (λ ks. AreAlike operators x (constant_at numbers) (drop i parts) ks at) (sym (drop_all i starts (omega (arith, e, l))))
-    (subst (λ ps. AreAlike operators x (constant_at numbers) ps [] at) (sym (drop_all i parts l)) tt))
-  where
-    x : ℕ → List Instruction
-    x = operand_code operators parts starts end
 
 -- ---- items by their numbers
 

@@ -94,9 +94,6 @@ last_cases (z ∷ xs) x (suc n) y e = elim (last_cases xs x n y e) [
   | inr h ↦ inr (ap (λ k. suc k) h.0, h.1)
 ]
 
-pub no_lists : (used : List Bool) → AreLists used 0 []
-no_lists used = record { long = refl; each = λ class v e. absurd cc }
-
 pub one_list_more : (used : List Bool) (count : ℕ) (lists more : List (Vec ℕ)) (v : Vec ℕ) → AreLists used count lists →
     more ≡ lists ++ v ∷ [] → (IsUsed used count → v.items ≡ candidates count) → AreLists used (count + 1) more
 one_list_more used count lists more v are is list_is =

@@ -1,6 +1,6 @@
 -- Where parts stand: they stand in one way at most.
-use Rattle.std.proofs.Common.{◌≡◌, ℕ, zero, suc, ◌+◌, ◌<◌, ◌≤◌, inl, inr, List, [], ◌∷◌, ◌++◌, length, take, drop, Option, Some, None, refl, sym, ap, ap₂, ◌∙◌, subst, append_assoc, arith}
-use Rattle.std.specs.Prelude.{IfSome, IfNone, slice_get, slice_index_or}
+use Rattle.std.proofs.Common.{◌≡◌, ℕ, zero, suc, ◌+◌, ◌≤◌, inl, inr, List, [], ◌∷◌, ◌++◌, length, take, drop, Option, Some, None, refl, sym, ap, ap₂, ◌∙◌, subst, append_assoc, arith}
+use Rattle.std.specs.Prelude.{IfSome, IfNone, slice_get}
 use Rattle.std.specs.Option.{option_flatten}
 use Rattle.std.proofs.lemmas.Bool.{cases_lt}
 use Rattle.std.proofs.lemmas.List.{append-nil, take_all}
@@ -176,8 +176,3 @@ start_none trees at none context operators a start t is = go (slice_get trees at
         let count = a.count in
         let inside = is.inside in
         omega arith
-
-pub part_at : (parts : List Part) (i : ℕ) (d : Part) → i < length parts → slice_get parts i ≡ Some (slice_index_or parts i d)
-part_at [] i d l = absurd (omega arith)
-part_at (p ∷ ps) zero d l = refl
-part_at (p ∷ ps) (suc i) d l = part_at ps i d (omega arith)

@@ -88,12 +88,6 @@ module _ (row : Row) where
   form_alone Any d e = let (a, b) = alone_cases d (are_alone row.left) refl e in (tt, a, b)
   form_alone (Own o) d e = absurd cc
 
-  pub form_other : (w : Widths) → form.Other ≡ form_by row w → IsNotOwn w
-  form_other Both e = tt
-  form_other (Only t) e = tt
-  form_other Any e = tt
-  form_other (Own o) e = absurd cc
-
 -- ---- what a change does to the number of operators
 
 as_told : (kind : Growth) (new old : ℕ) → IsGrowth kind new old → kind ≡ growth_by old new

@@ -30,11 +30,6 @@ by_one_place : (context : Context) (operators : Operators) (line : Line) (at : �
 by_one_place context operators line at place change found is =
     is.change_is ∙ ap (by_line line) (one_place_of context operators line (at + 1) is.place place is.is found)
 
-pub one_line_change : (context : Context) (operators : Operators) (line : Line) (at : ℕ) (change other : Change) →
-    IsLineChange context operators line at change → IsLineChange context operators line at other → change ≡ other
-one_line_change context operators line at change other is also =
-    by_one_place context operators line at also.place change also.is is ∙ sym also.change_is
-
 -- where it makes something, that differs from what stands in its place
 pub differs_there : (context : Context) (operators : Operators) (line : Line) (at : ℕ) (place : Place) (change : Change) →
     IsPlaceOf context operators line (at + 1) place → IsLineChange context operators line at change →

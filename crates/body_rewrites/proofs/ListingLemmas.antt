@@ -1,10 +1,8 @@
 -- The rewrites of a body, as they are listed.
-use Rattle.std.proofs.Common.{◌≡◌, ℕ, suc, ◌+◌, ◌<◌, ◌≤◌, ◌⊎◌, inl, inr, Bool, true, false, cond, List, [], ◌∷◌, ◌++◌, length, map, take, get_or, Option, Some, None, refl, sym, ap, ap₂, subst, ◌∙◌, arith, append-nil, append_assoc}
-use Rattle.std.specs.Prelude.{Contains, Result, Ok, Err, OnOk, slice_get, ◌==◌, if◌then◌else◌}
+use Rattle.std.proofs.Common.{◌≡◌, ℕ, suc, ◌+◌, ◌<◌, ◌≤◌, ◌⊎◌, inl, inr, Bool, true, false, cond, List, [], ◌∷◌, ◌++◌, length, map, Option, Some, None, refl, sym, ap, ap₂, subst, ◌∙◌, arith, append-nil, append_assoc}
+use Rattle.std.specs.Prelude.{Contains, slice_get, ◌==◌, if◌then◌else◌}
 use Rattle.std.specs.List.{filter}
 use Rattle.std.proofs.lemmas.Bool.{eqb-true, eq-eqb, false≢true}
-use Rattle.std.proofs.lemmas.List.{map-append}
-use Rattle.std.proofs.lemmas.List.Elements.{filter_more}
 use Rattle.std.proofs.lemmas.Option.{same_Some}
 use Rattle.wasm_code.specs.declared.operator.Operator.{Operator}
 use Rattle.peephole_machine.specs.declared.integer.IntegerType.{IntegerType}
@@ -21,11 +19,6 @@ use Rattle.body_rewrites.specs.Changes.{Change}
 use Rattle.body_rewrites.specs.Rewrites.{Makes, IsAsked, IsMade, by_rows, asked_below, growth_of}
 use Rattle.body_rewrites.specs.Listing.{AreThose, IsBy, HasGrowth, LineGrows, OneChange, found_as, AreFound, AddsFound, passing, AreRules, has_number, has_some, is_by}
 use Rattle.body_rewrites.proofs.ThoseLemmas.{head_contained, tail_contained, contained_cases, those_append}
-
--- what is known of an answer
-pub on_ok : {X E : Type 0} {P Q : Type 0} (r : Result X E) → (P → Q) → OnOk r P → OnOk r Q
-on_ok (Ok x) f h = f h
-on_ok (Err e) f h = h
 
 -- ---- lines
 
@@ -104,19 +97,6 @@ module _ (context : Context) (operators : List (Operator × ℕ)) where
         subst (λ zs. AreThose P (r ∷ rs) (passing test zs)) (sym e)
         (tested r kind has rs rest (found_passing rs rest are) (test (found_as r kind)) refl)
     found_passing (r ∷ rs) found (inr (never, are)) = inr (λ p. never (made r p), found_passing rs found are)
-
--- the ones that pass, one more
-pub passing_more : (test : Found → Bool) (found : List Found) (i : ℕ) (d : Found) → i < length found → (b : Bool) → test (get_or found i d) ≡ b →
-    passing test (take (i + 1) found) ≡ passing test (take i found) ++ cond b ((get_or found i d).rewrite ∷ []) []
-passing_more test found i d l b e =
-    ap (map (λ (f : Found). f.rewrite)) (filter_more test found i d l)
-    ∙ map-append (λ (f : Found). f.rewrite) (filter test (take i found)) (cond (test (get_or found i d)) (get_or found i d ∷ []) [])
-    ∙ ap (λ c. passing test (take i found) ++ map (λ (f : Found). f.rewrite) (cond c (get_or found i d ∷ []) [])) e
-    ∙ ap (λ zs. passing test (take i found) ++ zs) (shown b)
-  where
-    shown : (c : Bool) → map (λ (f : Found). f.rewrite) (cond c (get_or found i d ∷ []) []) ≡ cond c ((get_or found i d).rewrite ∷ []) []
-    shown true = refl
-    shown false = refl
 
 -- ---- what is asked
 

@@ -36,10 +36,6 @@ read_back : (code : List Instruction) (os : List Operator) → instructions (map
 read_back [] os = refl
 read_back (i ∷ code) os = ap (λ is. i ∷ is) (read_back code os)
 
-new_read : (os : List Operator) (code : List Instruction) → instructions (pieces_operators os (new code)) ≡ code
-new_read os [] = refl
-new_read os (i ∷ code) = ap (λ is. i ∷ is) (new_read os code)
-
 new_within : (operators : Operators) (code : List Instruction) → All (IsPieceIn operators) (new code)
 new_within operators [] = All-nil (IsPieceIn operators)
 new_within operators (i ∷ code) = All-cons (IsPieceIn operators) (New i) (new code) tt (new_within operators code)

@@ -59,10 +59,6 @@ range_alone operators s e = ap (take (e - s)) (drop_map operators s) ∙ take_ma
     take_map (o ∷ os) (suc n) = ap (λ l. o.0 ∷ l) (take_map os n)
 
 module _ (operators : Operators) (end : ℕ) (operands : List (ℕ × ℕ)) (x : ℕ → List Instruction) (c : ℕ → ℕ) where
-  -- in each hole of the parts stands its operand
-  HaveOperands : List Part → Type 0
-  HaveOperands ps = (n : ℕ) → has_hole ps n ≡ true → StandsIn operators end (get_or operands n (0, 0)) (x n)
-
   piece_is : (words : List ℕ) (p : Part) → ((n : ℕ) → is_hole p n ≡ true → StandsIn operators end (get_or operands n (0, 0)) (x n)) →
       piece_operators (without_offsets operators) (piece_for operands c words p) ≡ map instr_of (part_code x c words p)
   piece_is words (Hole n) there =

@@ -21,10 +21,10 @@ use crate::places::{Body, Line, Place, place_of};
 use crate::roots::fits;
 use crate::writing::operand_in;
 use peephole_machine::IntegerType;
-use rewrite_rules::{Part, Step};
 use rewrite_rules::laws::{
     holes_are_told, parts_are_the_code, sides_are_parts, table_is_right, types_are_told,
 };
+use rewrite_rules::{Part, Step};
 use wasm_code::OperatorAndByteOffset;
 
 // How many operators of the body stand from `start` to before `end`.

@@ -12,7 +12,12 @@ use crate::writing::line_code;
 use wasm_code::OperatorAndByteOffset;
 
 /// Whether the line writes other operators in its place, which ends before `end`, than stand there.
-pub(crate) fn changes(operators: &[OperatorAndByteOffset], line: &Line, end: usize, place: &Place) -> bool
+pub(crate) fn changes(
+    operators: &[OperatorAndByteOffset],
+    line: &Line,
+    end: usize,
+    place: &Place,
+) -> bool
     requires { IsSomePlaceOf operators.now line.now end place.now }
     ensures { IsTrue result
         ↔ Differ operators.now place.now.start end ((by_line line.now place.now).pieces 0) }

@@ -103,8 +103,8 @@ fn add_by(
 
 /// Every rewrite of a body by one of the rules, in the order of the operators, the rows and the widths.
 ///
-/// It takes time linear in the body, times the lines of the table, but for what stands in a hole that stands twice. The only error is
-/// that memory was refused.
+/// It takes time linear in the body, times the lines of the table, but for operands that are compared: in a hole that stands twice, and
+/// where they change places. The only error is that memory was refused.
 pub fn rewrites_of_body(
     alloc: Global,
     body: &Body<'_>,

@@ -126,8 +126,9 @@ fn mutate_repeatedly<R: Rng, W: Watch>(
 /// generator going on. Fewer times only where no rule applies any more, or where a further rewrite is refused: then the module is
 /// answered as the rewrites before left it, and `stopped` says why. None where no rule applies at all.
 ///
-/// Each rewrite takes time linear in the module. Refused as `mutate_module` refuses the module. Once it has been rewritten it is a
-/// module again, so that `stopped` holds `Read` only for want of memory; for want of memory it may also hold `Memory`.
+/// Each rewrite takes time linear in the module, but for operands that are compared, as `rewrites_of_body` has it. Refused as
+/// `mutate_module` refuses the module. Once it has been rewritten it is a module again, so that `stopped` holds `Read` only for want of
+/// memory; for want of memory it may also hold `Memory`.
 /// Condition: `count` is not 0.
 pub fn mutate_times<R: Rng + Drop>(
     alloc: Global,

@@ -60,10 +60,6 @@ module _ (may : Doing) where
   none_right (n ∷ ns) [] e = refl
   none_right (n ∷ ns) (m ∷ ms) e = absurd cc
 
-  pub ends_left : (ns ms : List ℕ) → ns ≡ [] → before_end may (back ns) (back ms) ≡ are_free may ns ms
-  ends_left [] ms e = ap (λ l. are_free may [] l) (back_back ms)
-  ends_left (n ∷ ns) ms e = absurd cc
-
   ends_with : (ns : List ℕ) → before_end may ns [] ≡ are_free may (back ns) []
   ends_with [] = refl
   ends_with (n ∷ ns) = refl

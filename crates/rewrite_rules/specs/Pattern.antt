@@ -5,7 +5,6 @@ use Rattle.mutate_base.specs.declared.types.PrimitiveTypeInfo.{PrimitiveTypeInfo
 use Rattle.mutate_base.specs.declared.types.PrimitiveTypeInfo.TheVariants as primitive
 use Rattle.peephole_machine.specs.declared.integer.IntegerType.{IntegerType}
 use Rattle.peephole_machine.specs.Values.{type_of, same_type}
-use Rattle.peephole_machine.specs.Opcode.{opcode}
 use Rattle.peephole_machine.specs.Operation.{operator_of}
 use Rattle.rewrite_rules.specs.declared.pattern.Operator.{Operator}
 use Rattle.rewrite_rules.specs.declared.pattern.Operator.TheVariants.{Whole, Select}
@@ -13,11 +12,6 @@ use Rattle.rewrite_rules.specs.declared.pattern.Number.{Number}
 use Rattle.rewrite_rules.specs.Code.{operation_traps}
 
 -- ---- operators
-
--- the byte of its opcode
-abbrev pub opcode_of : Operator → ℕ
-opcode_of (Whole f) = opcode f
-opcode_of Select = 0x1b
 
 -- it has a value on all numbers
 abbrev pub is_total : Operator → Bool
