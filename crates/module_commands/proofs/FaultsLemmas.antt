@@ -1,5 +1,5 @@
 -- What is told of functions that can be read, and of those that can't; why no list is written.
-use Rattle.std.proofs.Common.{◌≡◌, Bool, false, ℕ, suc, ◌+◌, ◌<◌, List, [], ◌∷◌, ◌++◌, length, take, get_or, Option, refl, sym, ap, ◌∙◌, subst, append_assoc, append-nil, arith}
+use Rattle.std.proofs.Common.{◌≡◌, ℕ, suc, ◌+◌, ◌<◌, List, [], ◌∷◌, ◌++◌, length, take, get_or, Option, refl, sym, ap, ◌∙◌, subst, append_assoc, append-nil, arith}
 use Rattle.std.specs.Prelude.{◌^◌}
 use Rattle.std.proofs.lemmas.List.{take_more}
 use Rattle.std.specs.Io.KnownBytes.{Appends}
@@ -15,7 +15,6 @@ use Rattle.module_rewrites.specs.declared.function.FunctionError.{FunctionError}
 use Rattle.module_rewrites.specs.declared.times.MadeRewrite.{MadeRewrite}
 use Rattle.module_commands.specs.Blocks.{TellsBlock, TellsBlocks, TellsFault}
 use Rattle.module_commands.specs.Failures.{FailsAtTask, FailsToDo, FailsToList, FailsToRead, FailsToReport, IsNoOther, IsReasonToListNone}
-use Rattle.module_commands.specs.Front.{is_component, is_text}
 use Rattle.module_commands.specs.Lines.{rewrite_line}
 use Rattle.module_commands.specs.Lists.{InTurn}
 use Rattle.module_commands.specs.Reports.{TellsIfUnread, TellsUnreadable, made_lines}
@@ -24,7 +23,7 @@ use Rattle.module_commands.specs.declared.failure.Failure.TheVariants.{Nothing, 
 use Rattle.module_commands.specs.declared.form.Form.{Form}
 use Rattle.module_commands.specs.declared.options.Options.{Options}
 use Rattle.module_commands.specs.declared.options.Task.{Task}
-use Rattle.module_commands.specs.declared.options.Task.TheVariants.{Rewrite, List as Lists, Blocks}
+use Rattle.module_commands.specs.declared.options.Task.TheVariants.{Rewrite, List as Lists, Blocks, Rules}
 use Rattle.module_commands.proofs.TurnLemmas.{appends_more}
 
 abbrev Types : Type 0
@@ -119,22 +118,17 @@ task_fails task options bytes Input none h = tt
 task_fails Rewrite options bytes TooLong none h = absurd h
 task_fails Lists options bytes TooLong none h = absurd h
 task_fails Blocks options bytes TooLong none h = absurd h
+task_fails (Rules form) options bytes TooLong none h = absurd h
 task_fails Rewrite options bytes Component none h = absurd h
 task_fails Lists options bytes Component none h = absurd h
 task_fails Blocks options bytes Component none h = absurd h
+task_fails (Rules form) options bytes Component none h = absurd h
 task_fails Rewrite options bytes TextFormat none h = absurd h
 task_fails Lists options bytes TextFormat none h = absurd h
 task_fails Blocks options bytes TextFormat none h = absurd h
+task_fails (Rules form) options bytes TextFormat none h = absurd h
 task_fails task options bytes Output none h = h
 task_fails task options bytes Memory none h = h
-
--- the bytes that were looked at are neither a component nor a text
-pub is_no_other : (given first second text : List ℕ) (component other : Bool) → given ≡ text → first ≡ text → second ≡ text →
-    component ≡ is_component first → component ≡ false → other ≡ is_text second → other ≡ false → IsNoOther given
-is_no_other given first second text component other given_is first_is second_is by_front not_component by_word not_text =
-    let one : given ≡ first = given_is ∙ sym first_is in
-    let two : given ≡ second = given_is ∙ sym second_is in
-    (ap is_component one ∙ (sym by_front ∙ not_component), ap is_text two ∙ (sym by_word ∙ not_text))
 
 pub report_fails : (only : Option ℕ) (bytes : List ℕ) (e : Failure) → FailsToReport e → FailsToList only bytes e
 report_fails only bytes (Nothing reason) h = absurd h

@@ -2,9 +2,6 @@
 use Rattle.std.proofs.Common.{◌≡◌, ℕ, List, [], ◌∷◌, ◌∙◌, sym, subst, Option, Some, None, Result, Ok, Err, IfErr, append-nil}
 use Rattle.std.specs.Prelude.{IfSome}
 use Rattle.std.specs.Io.KnownBytes.{Appends, Keeps, Consumes, IsAtEnd}
-use Rattle.mutate_base.specs.Module.{Module}
-use Rattle.wasm_module.specs.Module.{Layout}
-use Rattle.module_commands.specs.Lists.{WritesOfFunctions}
 
 pub appends_keeps : (a b c : Option (List ℕ)) (bytes : List ℕ) → Appends a b bytes → Keeps b c → Appends a c bytes
 appends_keeps None b c bytes h k = tt
@@ -24,8 +21,3 @@ of_all P (Some bytes) (Some (b ∷ bs)) text given c e is h = absurd (let none :
 pub err_map : {X E : Type 0} {P Q : E → Type 0} (r : Result X E) → ((e : E) → P e → Q e) → IfErr r P → IfErr r Q
 err_map (Ok x) f h = h
 err_map (Err e) f h = f e h
-
--- the list was written, and nothing behind it
-pub list_kept : (Tells : Module → Layout → ℕ → List ℕ → Type 0) (only : Option ℕ) (bytes : List ℕ) (a b c : Option (List ℕ)) →
-    WritesOfFunctions Tells only bytes a b → Keeps b c → WritesOfFunctions Tells only bytes a c
-list_kept Tells only bytes a b c h k = record { text = h.text; of = h.of; written = appends_keeps a b c h.text h.written k }

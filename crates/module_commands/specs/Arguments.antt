@@ -35,6 +35,13 @@ output_rule = record (texted (codes "output")) { short = Some 111 }
 abbrev pub seed_rule : Rule
 seed_rule = texted (codes "seed")
 
+-- in which form the rules are listed: a text, `text` where none is given
+abbrev pub rules_rule : Rule
+rules_rule = record (texted (codes "list-rules")) {
+  range = Some (record { start_inclusive = 0; end_inclusive = 1 });
+  missing = codes "text" ∷ [];
+}
+
 -- an option `--name` that has one of these names at each use
 abbrev pub naming : (name : Text) → (names : Bor (List (Bor Text))) → Rule
 naming name names = record (valued name (Names names)) { action = Some Append }
@@ -44,8 +51,8 @@ abbrev pub arguments : (names : Bor (List (Bor Text))) → List Rule
 arguments names =
     input_rule ∷ output_rule ∷ seed_rule ∷ valued (codes "count") number ∷ valued (codes "function") number ∷ naming (codes "rule") names
     ∷ naming (codes "not-rule") names ∷ flag (codes "shrink") ∷ valued (codes "max-size") number ∷ flag (codes "list")
-    ∷ flag (codes "blocks") ∷ flag (codes "stats") ∷ flag (codes "reach") ∷ flag (codes "json") ∷ flag (codes "show") ∷ flag (codes "strip-debug")
-    ∷ flag (codes "quiet") ∷ []
+    ∷ flag (codes "blocks") ∷ rules_rule ∷ flag (codes "stats") ∷ flag (codes "reach") ∷ flag (codes "json") ∷ flag (codes "show")
+    ∷ flag (codes "strip-debug") ∷ flag (codes "quiet") ∷ []
 
 -- The command line, where the rules have these names.
 abbrev pub command_line : (names : Bor (List (Bor Text))) → App

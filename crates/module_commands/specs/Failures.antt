@@ -13,7 +13,7 @@ use Rattle.module_commands.specs.declared.failure.Failure.{Failure}
 use Rattle.module_commands.specs.declared.failure.Failure.TheVariants.{Nothing, Input, TooLong, Component, TextFormat, Output, Memory}
 use Rattle.module_commands.specs.declared.options.Options.{Options}
 use Rattle.module_commands.specs.declared.options.Task.{Task}
-use Rattle.module_commands.specs.declared.options.Task.TheVariants.{Rewrite}
+use Rattle.module_commands.specs.declared.options.Task.TheVariants.{Rewrite, List as Lists, Blocks, Rules}
 
 -- the module can't be read: it is refused
 abbrev pub FailsToRead : (bytes : List ℕ) → Failure → Type 0
@@ -79,7 +79,15 @@ FailsToList only bytes e = FailsToReport e
 -- what a run was asked for isn't done with the bytes that were read
 abbrev pub FailsAtTask : Task → Options → (bytes : List ℕ) → Failure → Type 0
 FailsAtTask Rewrite options bytes e = FailsToRewrite options bytes e
-FailsAtTask task options bytes e = FailsToList options.function bytes e
+FailsAtTask Lists options bytes e = FailsToList options.function bytes e
+FailsAtTask Blocks options bytes e = FailsToList options.function bytes e
+FailsAtTask (Rules form) options bytes e = FailsToReport e
+
+-- no module is taken from the input, whose bytes may be known: it isn't read, or it is a component or a text
+abbrev pub FailsToTakeModule : (input : Option (List ℕ)) → Failure → Type 0
+FailsToTakeModule input Component = IfSome input (λ bytes. is_component bytes ≡ true)
+FailsToTakeModule input TextFormat = IfSome input (λ bytes. is_text bytes ≡ true)
+FailsToTakeModule input e = FailsToTake input e
 
 -- the input is at fault: its reader, its length, or that it is a component or a text
 abbrev pub IsOfInput : Failure → Type 0

@@ -9,6 +9,7 @@ pub mod Lists
 pub mod Options
 pub mod Reach
 pub mod Reports
+pub mod Rules
 pub mod Scope
 pub mod Shown
 pub mod Status

@@ -25,10 +25,12 @@ use Rattle.peephole_machine.specs.declared.integer.IntegerType.{IntegerType}
 use Rattle.module_commands.specs.Front.{begins_with}
 use Rattle.module_commands.specs.declared.options.Flags.{Flags}
 use Rattle.module_commands.specs.declared.options.Misuse.{Misuse}
-use Rattle.module_commands.specs.declared.options.Misuse.TheVariants.{Conflict, Ignored, NothingToTell, Plus, NoSeed, NoCount, UnknownRule, Memory}
+use Rattle.module_commands.specs.declared.options.Misuse.TheVariants.{Conflict, Ignored, NothingToTell, Plus, NoSeed, NoCount, NoForm, UnknownRule, Memory}
 use Rattle.module_commands.specs.declared.options.Options.{Options}
 use Rattle.module_commands.specs.declared.options.Task.{Task}
-use Rattle.module_commands.specs.declared.options.Task.TheVariants.{Rewrite, List as Lists, Blocks}
+use Rattle.module_commands.specs.declared.options.Task.TheVariants.{Rewrite, List as Lists, Blocks, Rules}
+use Rattle.rule_listing.specs.declared.form.Form.{Form}
+use Rattle.rule_listing.specs.declared.form.Form.TheVariants.{Text as AsText, Json, Markdown}
 
 -- ---- flags
 
@@ -36,11 +38,20 @@ use Rattle.module_commands.specs.declared.options.Task.TheVariants.{Rewrite, Lis
 abbrev pub is_set : (name : Text) → List Row → Bool
 is_set name rows = option_map_or (λ text. bytes_eq text (codes "true")) (one_of name rows) false
 
+-- the text of an option, the first where it has several
+abbrev pub first_of : (name : Text) → List Row → Option Text
+first_of name rows = option_and_then (λ values. slice_get values 0) (all_of name rows)
+
+-- the option is given
+abbrev pub is_given : (name : Text) → List Row → Bool
+is_given name rows = is_some (first_of name rows)
+
 -- the flags; one that isn't given is false
 abbrev pub flags_of : List Row → Flags
 flags_of rows = record {
   list = is_set (codes "list") rows;
   blocks = is_set (codes "blocks") rows;
+  rules = is_given (codes "list-rules") rows;
   stats = is_set (codes "stats") rows;
   reach = is_set (codes "reach") rows;
   json = is_set (codes "json") rows;
@@ -49,18 +60,30 @@ flags_of rows = record {
   quiet = is_set (codes "quiet") rows;
 }
 
--- what the program does: where neither list nor blocks are asked for, it rewrites
-abbrev pub task_of : Flags → Task
-task_of flags = if flags.list then Lists else if flags.blocks then Blocks else Rewrite
+-- what the program does with a module: where neither list nor blocks are asked for, it rewrites
+abbrev pub module_task : Flags → Task
+module_task flags = if flags.list then Lists else if flags.blocks then Blocks else Rewrite
+
+-- the form with that name
+abbrev pub form_named : Text → Option Form
+form_named name =
+    if bytes_eq name (codes "text") then Some AsText else if bytes_eq name (codes "json") then Some Json
+    else if bytes_eq name (codes "markdown") then Some Markdown else None
+
+-- what it does: where rules are to be listed that alone, if there is such a form
+abbrev pub task_of : Flags → (form : Option Text) → Option Task
+task_of flags None = Some (module_task flags)
+task_of flags (Some name) = option_map Rules (form_named name)
 
 -- they ask for two tasks, or for something of a module that is written where none is
 abbrev pub exclude : Flags → Bool
 exclude flags =
-    (flags.list && flags.blocks) || ((flags.stats || flags.reach || flags.show || flags.strip_debug) && (flags.list || flags.blocks))
+    (flags.list && flags.blocks) || (flags.rules && (flags.list || flags.blocks))
+    || ((flags.stats || flags.reach || flags.show || flags.strip_debug) && (flags.list || flags.blocks || flags.rules))
 
 -- they ask for JSON, and for nothing that is written in it
 abbrev pub tell_nothing : Flags → Bool
-tell_nothing flags = flags.json && not (flags.list || flags.blocks || flags.stats || flags.reach)
+tell_nothing flags = flags.json && not (flags.rules || flags.list || flags.blocks || flags.stats || flags.reach)
 
 -- a report is asked for
 abbrev pub reports : Flags → Bool
@@ -84,10 +107,6 @@ IsNumberOf (Some text) None = (n : ℕ) → ¬ (Writes 10 text n)
 abbrev pub IsNumberOr : (other : ℕ) → Option Text → ℕ → Type 0
 IsNumberOr other text n = (found : Option ℕ) × IsNumberOf text found × (n ≡ unwrap_or found other)
 
--- the text of an option, the first where it has several
-abbrev pub first_of : (name : Text) → List Row → Option Text
-first_of name rows = option_and_then (λ values. slice_get values 0) (all_of name rows)
-
 -- a plus stands before the number, also behind `0x`
 abbrev pub has_plus : Option Text → Bool
 has_plus None = false
@@ -99,10 +118,6 @@ have_plus rows =
     has_plus (first_of (codes "seed") rows) || has_plus (first_of (codes "count") rows)
     || has_plus (first_of (codes "function") rows) || has_plus (first_of (codes "max-size") rows)
 
--- the option is given
-abbrev pub is_given : (name : Text) → List Row → Bool
-is_given name rows = is_some (first_of name rows)
-
 -- what chooses a rewrite, or bounds rewrites, is given
 abbrev pub choose : List Row → Bool
 choose rows = is_given (codes "seed") rows || is_given (codes "count") rows || is_given (codes "max-size") rows
@@ -111,9 +126,16 @@ choose rows = is_given (codes "seed") rows || is_given (codes "count") rows || i
 abbrev pub choose_rules : List Row → Bool
 choose_rules rows = is_given (codes "rule") rows || is_given (codes "not-rule") rows || is_set (codes "shrink") rows
 
--- an option is given that the task ignores: one that chooses a rewrite where rewrites or blocks are listed, or rules where blocks are
+-- what is of one module, or says how what is told of it is written, is given: the module, a function of it, or that it is told as JSON
+abbrev pub choose_module : Flags → List Row → Bool
+choose_module flags rows = is_given (codes "input") rows || is_given (codes "function") rows || flags.json
+
+-- an option is given that the task ignores: one that chooses a rewrite where rewrites, blocks or rules are listed, or rules where blocks or rules are, or
+-- that is of one module where rules are
 abbrev pub ignore : Flags → List Row → Bool
-ignore flags rows = ((flags.list || flags.blocks) && choose rows) || (flags.blocks && choose_rules rows)
+ignore flags rows =
+    ((flags.list || flags.blocks || flags.rules) && choose rows) || ((flags.blocks || flags.rules) && choose_rules rows)
+    || (flags.rules && choose_module flags rows)
 
 -- the text writes that number in decimal digits, or behind `0x` in hexadecimal ones
 pub data WritesSeed (text : Text) (n : ℕ) : Type 0 where
@@ -196,7 +218,7 @@ pub record AreOptions (rows : List Row) (options : Options) : Type 0 where
   pub heeded : ignore (flags_of rows) rows ≡ false
   pub tell : tell_nothing (flags_of rows) ≡ false
   pub plain : have_plus rows ≡ false
-  pub task : options.task ≡ task_of (flags_of rows)
+  pub task : Some options.task ≡ task_of (flags_of rows) (first_of (codes "list-rules") rows)
   pub input : option_map string_bytes options.input ≡ file_of (first_of (codes "input") rows)
   pub output : option_map string_bytes options.output ≡ file_of (first_of (codes "output") rows)
   pub seed : IsSeed (first_of (codes "seed") rows) options.seed
@@ -220,6 +242,7 @@ AreMisused rows NothingToTell = tell_nothing (flags_of rows) ≡ true
 AreMisused rows Plus = have_plus rows ≡ true
 AreMisused rows NoSeed = IfSome (first_of (codes "seed") rows) (λ text. IsSeedOf text None)
 AreMisused rows NoCount = IsNumberOr (default_count (is_set (codes "shrink") rows)) (one_of (codes "count") rows) 0
+AreMisused rows NoForm = IfSome (first_of (codes "list-rules") rows) (λ name. form_named name ≡ None)
 AreMisused rows UnknownRule = IfSome (all_of (codes "rule") rows) NamesNone
 AreMisused rows Memory = Unit {0}
 
@@ -231,6 +254,7 @@ kind_for NothingToTell = MissingRequiredArgument
 kind_for Plus = ValueValidation
 kind_for NoSeed = ValueValidation
 kind_for NoCount = ValueValidation
+kind_for NoForm = InvalidValue
 kind_for UnknownRule = InvalidValue
 kind_for Memory = OutOfMemory
 

@@ -2,7 +2,7 @@
 ghost use Rattle.std.specs.Prelude.{◌≡◌, codes, false, IfOk};
 ghost use Rattle.clap.specs.Simple.{app_of};
 ghost use Rattle.clap.specs.Walk.{rule_of};
-ghost use Rattle.module_commands.specs.Arguments.{command_line, flag, input_rule, naming, number, output_rule, seed_rule, valued};
+ghost use Rattle.module_commands.specs.Arguments.{command_line, flag, input_rule, naming, number, output_rule, rules_rule, seed_rule, valued};
 
 use clap::{Arg, ArgAction, Command, value_parser};
 use std::alloc::{AllocError, Global};
@@ -142,6 +142,20 @@ fn blocks_argument<'a>(alloc: Global) -> Arg<'a>
     )
 }
 
+fn rules_argument<'a>(alloc: Global) -> Arg<'a>
+    ensures rule { rule_of result ≡ rules_rule }
+    ensures local { result.global ≡ false }
+{
+    Arg::new(alloc, "list-rules")
+        .long("list-rules")
+        .value_name("FORM")
+        .num_args(0..=1)
+        .default_missing_value("text")
+        .help(
+            "Reads no module, and writes all rules with their lines, as text, json or markdown [default: text]",
+        )
+}
+
 fn stats_argument<'a>(alloc: Global) -> Arg<'a>
     ensures rule { rule_of result ≡ flag (codes "stats") }
     ensures local { result.global ≡ false }
@@ -242,6 +256,7 @@ pub fn command<'a>(alloc: Global, names: &'a [&'a str]) -> Result<Command<'a>, A
         .arg(size_argument(alloc))?
         .arg(list_argument(alloc))?
         .arg(blocks_argument(alloc))?
+        .arg(rules_argument(alloc))?
         .arg(stats_argument(alloc))?
         .arg(reach_argument(alloc))?
         .arg(json_argument(alloc))?

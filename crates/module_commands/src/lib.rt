@@ -18,6 +18,7 @@ mod nearest;
 mod objects;
 mod options;
 mod reach;
+mod rules;
 mod running;
 mod showing;
 mod stats;

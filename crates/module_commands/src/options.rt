@@ -4,9 +4,10 @@ ghost use Rattle.std.specs.Prelude.{◌<◌};
 use crate::form::Form;
 use module_rewrites::Scope;
 use rewrite_rules::Rule;
+use rule_listing::Form as RulesForm;
 use std::alloc::{AllocError, AllocFailed};
 
-/// What a run does with the module.
+/// What a run does: with a module, but for the list of the rules.
 #[derive(Clone, Copy, Debug, PartialEq, Eq)]
 pub enum Task {
     /// Writes it rewritten.
@@ -15,6 +16,8 @@ pub enum Task {
     List,
     /// Lists the blocks of its functions.
     Blocks,
+    /// Lists the rules, in the form. No module is read.
+    Rules(RulesForm),
 }
 
 /// What a run is asked for.
@@ -92,6 +95,8 @@ pub enum Misuse {
     NoSeed,
     /// The count is 0.
     NoCount,
+    /// There is no list of the rules in a form of that name.
+    NoForm,
     /// A name is no rule's.
     UnknownRule,
     /// No memory is left.
@@ -125,6 +130,7 @@ impl<T: Drop> From<AllocFailed<T>> for Misuse {
 pub struct Flags {
     pub list: bool,
     pub blocks: bool,
+    pub rules: bool,
     pub stats: bool,
     pub reach: bool,
     pub json: bool,

@@ -1,14 +1,16 @@
-//! A run: a module in, and out goes what the options ask for.
+//! A run: a module in, or none where rules are listed, and out goes what the options ask for.
 ghost use Rattle.std.specs.Prelude.{◌≡◌, ◌≢◌, ℕ, List, true, false, OnOk, IfErr, IfOk, IfSome, IsErrOf, IsTrue};
-ghost use Rattle.std.specs.Io.KnownBytes.{Appends};
+ghost use Rattle.std.specs.Io.KnownBytes.{Appends, Consumes, IsAtEnd};
 ghost use Rattle.module_commands.specs.Blocks.{WritesBlocks};
-ghost use Rattle.module_commands.specs.Failures.{FailsToDo, FailsToInform, FailsToReport, FailsToRewrite, IsOfInput};
+ghost use Rattle.module_commands.specs.Failures.{FailsToDo, FailsToInform, FailsToReport, FailsToRewrite, FailsToTakeModule, IsNoOther, IsOfInput};
 ghost use Rattle.module_commands.specs.declared.failure.Failure.TheVariants.{Output};
 ghost use Rattle.module_commands.specs.Form.{form_of};
 ghost use Rattle.module_commands.specs.Lists.{WritesList};
 ghost use Rattle.module_commands.specs.Reports.{ReportsModule, ReportsMutated, TellsReach};
+ghost use Rattle.module_commands.specs.Rules.{WritesRules};
 ghost use Rattle.module_commands.specs.Shown.{ShowsMutated};
 ghost use Rattle.module_commands.specs.Writes.{WritesMutated};
+ghost use Rattle.rule_listing.specs.declared.form.Form.{Form as RulesForm};
 ghost use Rattle.wasm_module.specs.Module.{IsModule};
 
 use crate::blocks::list_blocks;
@@ -21,6 +23,7 @@ use crate::listing::list_rewrites;
 use crate::mutating::rewritten;
 use crate::options::{Options, Task};
 use crate::reach::reach_of;
+use crate::rules::list_rules;
 use crate::stats::{report_functions, report_reach, rewrites_report};
 use device_tally::Tally;
 use module_rewrites::Watch;
@@ -168,9 +171,30 @@ fn rewrite<W: Write, E: Write, P: Watch + Drop>(
     write_rewritten(alloc, options, bytes, output, notes, watch)
 }
 
-/// Reads all of the input, and does what the options ask for: what it writes goes to the output, and what it reports and shows to the
-/// notes. What it lists and reports has the form that they ask for. Each rewrite is shown to `watch`, too. Fails as the task fails,
-/// and as the input can't be read or the output written.
+// All bytes of the input, which are neither a component nor a text.
+fn take_module<R: Read>(alloc: Global, input: &mut Tally<R>) -> Result<Vec<u8>, Failure>
+    ensures bytes { IfOk result (λ text. Consumes (R.remaining input.old.device)
+        (R.remaining input.new.device) text.items) }
+    ensures end { OnOk result (IsAtEnd (R.remaining input.new.device)) }
+    ensures other { IfOk result (λ text. IsNoOther text.items) }
+    ensures fails { IfErr result (FailsToTakeModule (R.remaining input.old.device)) }
+    // `Input` only where a read failed; with the bytes, none did.
+    ensures input { IsErrOf result Failure.Input → IsTrue input.new.failed }
+    ensures sound { OnOk result (input.new.failed ≡ input.old.failed) }
+{
+    let bytes = read_input(alloc, input)?;
+    if is_component(&bytes) {
+        return Err(Failure::Component);
+    }
+    if is_text(&bytes) {
+        return Err(Failure::TextFormat);
+    }
+    Ok(bytes)
+}
+
+/// Reads all of the input, unless rules are listed, and does what the options ask for: what it writes goes to the output, and what it
+/// reports and shows to the notes. What it lists and reports has the form that they ask for. Each rewrite is shown to `watch`, too.
+/// Fails as the task fails, and as the input can't be read or the output written.
 pub fn run<R: Read, W: Write, E: Write, P: Watch + Drop>(
     alloc: Global,
     options: &Options,
@@ -194,7 +218,13 @@ pub fn run<R: Read, W: Write, E: Write, P: Watch + Drop>(
     ensures blocks { options.now.task ≡ Task.Blocks → OnOk result
         (IfSome (R.remaining input.old.device) (λ bytes. WritesBlocks (form_of options.now)
         options.now.function bytes (W.contents output.old) (W.contents output.new))) }
-    // A list, and the blocks, are whole.
+    // The rules are all of them, each with its lines, in the form that is asked for.
+    ensures rules { (form : RulesForm) → options.now.task ≡ Task.Rules form
+        → OnOk result (WritesRules form (W.contents output.old) (W.contents output.new)) }
+    // No input is read for them.
+    ensures unread { (form : RulesForm) → options.now.task ≡ Task.Rules form
+        → input.new ≡ input.old }
+    // A list, the blocks, and the rules, are whole.
     ensures whole { options.now.task ≢ Task.Rewrite → IfOk result (λ ending.
         ending ≡ Ending.Whole) }
     // Where the options ask for it, the notes tell of functions, of rewrites, and of the rules' reach.
@@ -222,22 +252,26 @@ pub fn run<R: Read, W: Write, E: Write, P: Watch + Drop>(
     // Nothing is written then, unless the output, or the notes, can't be written.
     ensures kept { options.now.task ≡ Task.Rewrite → IfErr result (λ e. e ≢ Output
         → W.contents output.new ≡ W.contents output.old) }
+    // The rules fail alone as the output can't be written, or for want of memory, and then nothing of them is written.
+    ensures rules_fail { (form : RulesForm) → options.now.task ≡ Task.Rules form
+        → IfErr result FailsToReport }
+    ensures rules_kept { (form : RulesForm) → options.now.task ≡ Task.Rules form
+        → IfErr result (λ e. e ≢ Output → W.contents output.new ≡ W.contents output.old) }
 {
-    let bytes = read_input(alloc, input)?;
-    if is_component(&bytes) {
-        return Err(Failure::Component);
-    }
-    if is_text(&bytes) {
-        return Err(Failure::TextFormat);
-    }
     match options.task {
-        Task::Rewrite => rewrite(alloc, options, &bytes, output, notes, watch),
+        Task::Rules(form) => list_rules(alloc, form, output),
+        Task::Rewrite => {
+            let bytes = take_module(alloc, input)?;
+            rewrite(alloc, options, &bytes, output, notes, watch)
+        }
         Task::List => {
+            let bytes = take_module(alloc, input)?;
             list_rewrites(alloc, &bytes, options, output)?;
             output.flush()?;
             Ok(Ending::Whole)
         }
         Task::Blocks => {
+            let bytes = take_module(alloc, input)?;
             list_blocks(alloc, &bytes, options, output)?;
             output.flush()?;
             Ok(Ending::Whole)

@@ -1,5 +1,5 @@
 //! Reads the options from the words of the command line.
-ghost use Rattle.std.specs.Prelude.{◌≡◌, ◌⊎◌, ◌↔◌, ◌<◌, ℕ, codes, length, map, option_map, slice_get, string_bytes, IfOk, IfErr, IsTrue};
+ghost use Rattle.std.specs.Prelude.{◌≡◌, ◌⊎◌, ◌↔◌, ◌<◌, ℕ, codes, length, map, option_map, slice_get, string_bytes, IfOk, IfErr, IsTrue, Some};
 ghost use Rattle.clap.specs.Matches.{found_of};
 ghost use Rattle.clap.specs.Values.{kind_of};
 ghost use Rattle.clap.specs.Walk.{all_of, one_of, rows_of, texts};
@@ -7,7 +7,7 @@ ghost use Rattle.rewrite_rules.specs.Names.{rule_of};
 ghost use Rattle.rewrite_rules.specs.Rule.{rule_name};
 ghost use Rattle.body_rewrites.specs.Listing.{AreThose, IsOfRule};
 ghost use Rattle.module_commands.specs.Arguments.{command_line};
-ghost use Rattle.module_commands.specs.Options.{AreMisused, AreOptions, AreNamed, AreRefused, AreRules, IsNumberOf, IsNumberOr, IsSeed, IsSeedOf, IsShrinking, IsWanted, NamesNone, RowMakesSmaller, SayOptions, choose, choose_rules, default_count, exclude, file_of, first_of, flags_of, has_plus, have_plus, ignore, is_given, is_named, is_set, is_shrinking, kind_for, reports, task_of, tell_nothing};
+ghost use Rattle.module_commands.specs.Options.{AreMisused, AreOptions, AreNamed, AreRefused, AreRules, IsNumberOf, IsNumberOr, IsSeed, IsSeedOf, IsShrinking, IsWanted, NamesNone, RowMakesSmaller, SayOptions, choose, choose_module, choose_rules, default_count, exclude, file_of, first_of, flags_of, form_named, has_plus, have_plus, ignore, is_given, is_named, is_set, is_shrinking, kind_for, module_task, reports, task_of, tell_nothing};
 
 use crate::arguments::command;
 use crate::front::begins_with;
@@ -17,6 +17,7 @@ use clap::error::ErrorKind;
 use clap::{ArgMatches, Command, Error};
 use rewrite_rules::laws::table_is_right;
 use rewrite_rules::{Growth, Rule, all_rules, row_at, rules_of_rows};
+use rule_listing::Form as RulesForm;
 use std::alloc::{AllocError, Global};
 use std::convert::AsStr;
 
@@ -33,6 +34,7 @@ fn flags_of(matches: &ArgMatches<'_>) -> Flags
     Flags {
         list: is_set(matches, "list"),
         blocks: is_set(matches, "blocks"),
+        rules: is_given(matches, "list-rules"),
         stats: is_set(matches, "stats"),
         reach: is_set(matches, "reach"),
         json: is_set(matches, "json"),
@@ -42,8 +44,9 @@ fn flags_of(matches: &ArgMatches<'_>) -> Flags
     }
 }
 
-fn task_of(flags: Flags) -> Task
-    ensures { result ≡ task_of flags }
+// What the program does with a module.
+fn module_task(flags: Flags) -> Task
+    ensures { result ≡ module_task flags }
 {
     if flags.list {
         Task::List
@@ -60,14 +63,14 @@ fn exclude(flags: Flags) -> bool
 {
     let other = flags.list || flags.blocks;
     let of_module = flags.stats || flags.reach || flags.show || flags.strip_debug;
-    (flags.list && flags.blocks) || (of_module && other)
+    (flags.list && flags.blocks) || (flags.rules && other) || (of_module && (other || flags.rules))
 }
 
 // Whether the flags ask for JSON, and for nothing that is written in it.
 fn tell_nothing(flags: Flags) -> bool
     ensures { result ≡ tell_nothing flags }
 {
-    let told = flags.list || flags.blocks || flags.stats || flags.reach;
+    let told = flags.rules || flags.list || flags.blocks || flags.stats || flags.reach;
     flags.json && !told
 }
 
@@ -113,13 +116,55 @@ fn choose_rules(matches: &ArgMatches<'_>) -> bool
     rule || other || shrink
 }
 
+// Whether what is of one module, or says how what is told of it is written, is given.
+fn choose_module(flags: Flags, matches: &ArgMatches<'_>) -> bool
+    ensures { result ≡ choose_module flags (rows_of (found_of matches.now)) }
+{
+    let input = is_given(matches, "input");
+    let function = is_given(matches, "function");
+    input || function || flags.json
+}
+
 // Whether an option is given that the task ignores.
 fn ignore(flags: Flags, matches: &ArgMatches<'_>) -> bool
     ensures { result ≡ ignore flags (rows_of (found_of matches.now)) }
 {
     let chooses = choose(matches);
     let chooses_rules = choose_rules(matches);
-    ((flags.list || flags.blocks) && chooses) || (flags.blocks && chooses_rules)
+    let chooses_module = choose_module(flags, matches);
+    ((flags.list || flags.blocks || flags.rules) && chooses)
+        || ((flags.blocks || flags.rules) && chooses_rules)
+        || (flags.rules && chooses_module)
+}
+
+// The form with that name.
+fn form_named(name: &str) -> Option<RulesForm>
+    ensures { result ≡ form_named name.now }
+{
+    if name == "text" {
+        Some(RulesForm::Text)
+    } else if name == "json" {
+        Some(RulesForm::Json)
+    } else if name == "markdown" {
+        Some(RulesForm::Markdown)
+    } else {
+        None
+    }
+}
+
+// What the program does.
+fn task_of(flags: Flags, matches: &ArgMatches<'_>) -> Result<Task, Misuse>
+    ensures task { IfOk result (λ task. Some task ≡ task_of flags
+        (first_of (codes "list-rules") (rows_of (found_of matches.now)))) }
+    ensures misuse { IfErr result (AreMisused (rows_of (found_of matches.now))) }
+{
+    let Some(name) = text_of(matches, "list-rules") else {
+        return Ok(module_task(flags));
+    };
+    match form_named(name) {
+        Some(form) => Ok(Task::Rules(form)),
+        None => Err(Misuse::NoForm),
+    }
 }
 
 // Whether a plus stands before the number of the option, also behind `0x`.
@@ -381,7 +426,7 @@ pub fn options_from(alloc: Global, matches: &ArgMatches<'_>) -> Result<Options, 
         return Err(Misuse::NoCount);
     }
     Ok(Options {
-        task: task_of(flags),
+        task: task_of(flags, matches)?,
         input: file_of(alloc, matches, "input")?,
         output: file_of(alloc, matches, "output")?,
         seed: seed_of(matches)?,
@@ -410,6 +455,7 @@ fn kind_for(misuse: Misuse) -> ErrorKind
         Misuse::Plus => ErrorKind::ValueValidation,
         Misuse::NoSeed => ErrorKind::ValueValidation,
         Misuse::NoCount => ErrorKind::ValueValidation,
+        Misuse::NoForm => ErrorKind::InvalidValue,
         Misuse::UnknownRule => ErrorKind::InvalidValue,
         Misuse::Memory => ErrorKind::OutOfMemory,
     }
@@ -419,16 +465,18 @@ fn kind_for(misuse: Misuse) -> ErrorKind
 fn text_for(misuse: Misuse) -> &'static str {
     match misuse {
         Misuse::Conflict => {
-            "--list and --blocks exclude each other, and with them --stats, --reach, --show and --strip-debug"
+            "--list, --blocks and --list-rules exclude each other, and with them --stats, --reach, --show and --strip-debug"
         }
         Misuse::Ignored => {
-            "--list and --blocks ignore --seed, --count and --max-size, and --blocks --rule, --not-rule and --shrink: leave them out"
+            "--list, --blocks and --list-rules ignore --seed, --count and --max-size, the last two --rule, --not-rule and --shrink, and --list-rules a module, --function and --json: leave them out"
         }
         Misuse::NothingToTell => "--json goes with --list, --blocks, --stats or --reach",
         Misuse::Plus => "a plus stands before a number: leave it out",
         Misuse::NoSeed =>
             "--seed is no number below 2^64 in decimal digits, or behind 0x in hexadecimal ones",
         Misuse::NoCount => "--count is 0",
+        Misuse::NoForm =>
+            "--list-rules has the forms text, json and markdown, as in --list-rules=json",
         Misuse::UnknownRule => "--rule names no rule",
         Misuse::Memory => "no memory is left",
     }

@@ -1,5 +1,5 @@
 -- Texts, one behind another.
-use Rattle.std.proofs.Common.{◌≡◌, ℕ, zero, suc, ◌+◌, ◌<◌, List, [], ◌∷◌, ◌++◌, length, map, take, get_or, Bool, false, ◌||◌, Some, Result, Ok, Err, refl, ap, sym, subst, ◌∙◌, append_assoc, arith}
+use Rattle.std.proofs.Common.{◌≡◌, ℕ, zero, suc, ◌+◌, ◌<◌, List, [], ◌∷◌, ◌++◌, length, map, take, get_or, Bool, false, ◌||◌, Some, Result, Ok, Err, refl, ap, sym, subst, ◌∙◌, append_assoc, append-nil, arith}
 use Rattle.std.specs.Prelude.{OnOk, slice_get}
 use Rattle.std.proofs.lemmas.Grind.{common_steps}
 use Rattle.std.proofs.lemmas.List.{take_more, map-append, length-map, length-take-le, get_or-map}
@@ -7,7 +7,7 @@ use Rattle.serde_json.specs.Data.{string}
 use Rattle.serde_json.specs.View.{items_of}
 use Rattle.serde_json.specs.Written.{items_have_float, has_float}
 use Rattle.rewrite_rules.specs.Names.{names}
-use Rattle.rule_listing.specs.Listing.{Told, IsTold, rule_object, cell, cells, head_text, rule_text, rules_text}
+use Rattle.rule_listing.specs.Listing.{Told, IsTold, rule_object, cell, cells, text_line, text_lines, head_text, rule_text, rules_text}
 use Rattle.rule_listing.specs.declared.form.Form.{Form}
 
 -- ---- no floats
@@ -37,6 +37,21 @@ texts_next f xs i x before text new l x_is is own =
     let long : i ≡ length so_far = sym (length-map (take i xs) f ∙ length-take-le i xs (omega arith)) in
     own ∙ ap (λ z. text ++ cell i (f z)) x_is ∙ ap (λ z. z ++ cell i next) is ∙ append_assoc before (cells 0 so_far) (cell i next)
     ∙ ap (λ z. before ++ z) (sym (ap (cells 0) split ∙ cells_more 0 i so_far next (omega arith)))
+
+-- the same, a line each
+lines_more : (lines : List (List ℕ)) (line : List ℕ) → text_lines (lines ++ line ∷ []) ≡ text_lines lines ++ text_line line
+lines_more [] line = append-nil (text_line line)
+lines_more (l ∷ lines) line =
+    ap (λ z. text_line l ++ z) (lines_more lines line) ∙ sym (append_assoc (text_line l) (text_lines lines) (text_line line))
+
+pub lines_next : {X : Type 0} (f : X → List ℕ) (xs : List X) (i : ℕ) (x : X) (before text new : List ℕ) → i < length xs → x ≡ get_or xs i x →
+    text ≡ before ++ text_lines (map f (take i xs)) → new ≡ text ++ text_line (f x) → new ≡ before ++ text_lines (map f (take (i + 1) xs))
+lines_next f xs i x before text new l x_is is own =
+    let next = f (get_or xs i x) in
+    let so_far = map f (take i xs) in
+    let split : map f (take (i + 1) xs) ≡ so_far ++ next ∷ [] = ap (map f) (take_more xs i x l) ∙ map-append f (take i xs) (get_or xs i x ∷ []) in
+    own ∙ ap (λ z. text ++ text_line (f z)) x_is ∙ ap (λ z. z ++ text_line next) is ∙ append_assoc before (text_lines so_far) (text_line next)
+    ∙ ap (λ z. before ++ z) (sym (ap text_lines split ∙ lines_more so_far next))
 
 -- ---- the rules
 

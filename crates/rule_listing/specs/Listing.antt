@@ -10,7 +10,7 @@ use Rattle.rewrite_rules.specs.Growing.{GrowsAs}
 use Rattle.rewrite_rules.specs.Names.{names, rule_of}
 use Rattle.rewrite_rules.specs.Table.{ROWS}
 use Rattle.rule_listing.specs.declared.form.Form.{Form}
-use Rattle.rule_listing.specs.declared.form.Form.TheVariants.{Json, Markdown}
+use Rattle.rule_listing.specs.declared.form.Form.TheVariants.{Text, Json, Markdown}
 
 -- ---- what is told
 
@@ -44,6 +44,22 @@ abbrev pub growth_word : Growth → List ℕ
 growth_word Shrinks = codes "shrinks"
 growth_word Keeps = codes "keeps"
 growth_word Grows = codes "grows"
+
+-- ---- text: a line a rule, and under it, indented, its lines
+
+-- one of its lines
+abbrev pub text_line : (line : List ℕ) → List ℕ
+text_line line = codes "  " ++ (line ++ codes "\n")
+
+-- its lines
+abbrev pub text_lines : List (List ℕ) → List ℕ
+text_lines [] = []
+text_lines (line ∷ lines) = text_line line ++ text_lines lines
+
+-- all that is written of a rule
+unfoldable pub rule_block : (n : ℕ) → (name : List ℕ) → Told → List ℕ
+rule_block n name told =
+    decimal n ++ (codes " " ++ (name ++ (codes " " ++ (growth_word told.growth ++ (codes "\n" ++ text_lines told.lines)))))
 
 -- ---- JSON: an object a line
 
@@ -84,15 +100,17 @@ rule_rows n name told =
     codes "| " ++ (decimal n ++ (codes " | `" ++ (name ++ (codes "` | " ++ (growth_word told.growth
     ++ (codes " | " ++ (cells 0 told.lines ++ codes " |\n")))))))
 
--- ---- in either form
+-- ---- in each form
 
 -- what stands before the rules
 abbrev pub head_text : Form → List ℕ
+head_text Text = []
 head_text Json = []
 head_text Markdown = head
 
 -- a rule
 abbrev pub rule_text : Form → (n : ℕ) → (name : List ℕ) → Told → List ℕ
+rule_text Text n name told = rule_block n name told
 rule_text Json n name told = object_line n name told
 rule_text Markdown n name told = rule_rows n name told
 

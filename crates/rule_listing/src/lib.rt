@@ -11,6 +11,7 @@ mod markdown;
 mod rule;
 #[cfg(test)]
 mod tests;
+mod text;
 
 pub use error::ListError;
 pub use form::Form;

@@ -13,6 +13,7 @@ use crate::json::add_object;
 use crate::lines::lines_of;
 use crate::markdown::add_rows;
 use crate::rule::ListedRule;
+use crate::text::add_block;
 use rewrite_rules::{rule_names, rules_of_rows};
 use std::alloc::{AllocError, Global};
 use std::io::Write;
@@ -22,6 +23,7 @@ fn head_text(form: Form) -> &'static str
     ensures { result.now ≡ head_text form }
 {
     match form {
+        Form::Text => "",
         Form::Json => "",
         Form::Markdown => "| Number | Rule | Instructions | Lines |\n|---|---|---|---|\n",
     }
@@ -34,6 +36,7 @@ fn add_rule(text: &mut String, form: Form, rule: &ListedRule<'_>) -> Result<(), 
 {
     let alloc = *text.allocator();
     match form {
+        Form::Text => add_block(text, rule),
         Form::Json => add_object(alloc, text, rule),
         Form::Markdown => add_rows(text, rule),
     }

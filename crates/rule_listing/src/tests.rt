@@ -40,6 +40,29 @@ const ROWS: [(usize, &str); 6] = [
     ),
 ];
 
+/// Lines of the list as text, by their numbers from 0: each of the 89 rules has one, and under it there are 137 rows.
+const LINES: [(usize, &str); 7] = [
+    (0, "0 commute keeps"),
+    (1, "  add x y → add y x"),
+    (7, "  ne x y → ne y x"),
+    (8, "1 turn_comparison keeps"),
+    (9, "  lt_s x y → gt_s y x"),
+    (224, "88 set_to_tee shrinks"),
+    (225, "  local.set x, local.get → local.tee x"),
+];
+
+#[test]
+fn lists_rules_as_text(rt: HostRuntime) -> Result<(), Fail> {
+    let mut output = Vec::new(rt.alloc());
+    write_rules(rt.alloc(), &mut output, Form::Text)?;
+    let text = str::from_utf8(&output)?;
+    assert!(rt; text.lines().count() == 226);
+    for (number, line) in LINES {
+        assert!(rt; text.lines().nth(number) == Some(line), "line {number}");
+    }
+    Ok(())
+}
+
 #[test]
 fn lists_rules_as_objects(rt: HostRuntime) -> Result<(), Fail> {
     let mut output = Vec::new(rt.alloc());

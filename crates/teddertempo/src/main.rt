@@ -1,5 +1,6 @@
 //! Rewrites instructions of a WebAssembly module without changing what it computes: a module comes in from a file or on standard
-//! input, and a rewritten one goes to a file or to standard output. `--list` and `--blocks` write lines about the module instead.
+//! input, and a rewritten one goes to a file or to standard output. `--list` and `--blocks` write lines about the module instead;
+//! `--list-rules` reads none, and writes the rules.
 //!
 //! Exit status: 0 on success, and for `--help` and `--version`; 1 where the module is refused, the input can't be read, the output
 //! can't be written, or no memory is left; 2 where no rule applies, or the module has no function of its own; 3 where no function can

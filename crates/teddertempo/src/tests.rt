@@ -3,7 +3,7 @@
 use crate::refused_modules::{SUM, TURNED};
 use device_tally::Tally;
 use failing_devices::{FailingReader, FailingWriter};
-use module_commands::{Failure, Options, options_of, run};
+use module_commands::{Ending, Failure, Options, options_of, run};
 use module_rewrites::{Reason, Unwatched};
 use rewrite_rules::{Rule, all_rules, rule_names};
 use std::alloc::{AllocError, Global};
@@ -87,6 +87,30 @@ const OPTIONS: &str = "
 --strip-debug | Rewrite 0 1 None strip-debug all
 --show | Rewrite 0 1 None show all
 --quiet | Rewrite 0 1 None quiet all
+--list-rules | Rules(Text) 0 1 None all
+--list-rules=text | Rules(Text) 0 1 None all
+--list-rules=json | Rules(Json) 0 1 None all
+--list-rules markdown | Rules(Markdown) 0 1 None all
+--list-rules -o rules.txt --quiet | Rules(Text) 0 1 None quiet all
+--list-rules=yaml | InvalidValue
+--list-rules a.wasm | InvalidValue
+a.wasm --list-rules | ArgumentConflict
+- --list-rules | ArgumentConflict
+--list-rules --json | ArgumentConflict
+--list-rules --list | ArgumentConflict
+--list-rules --blocks | ArgumentConflict
+--list-rules --stats | ArgumentConflict
+--list-rules --reach | ArgumentConflict
+--list-rules --show | ArgumentConflict
+--list-rules --strip-debug | ArgumentConflict
+--list-rules --shrink | ArgumentConflict
+--list-rules --rule fold | ArgumentConflict
+--list-rules --not-rule fold | ArgumentConflict
+--list-rules --function 0 | ArgumentConflict
+--list-rules --seed 1 | ArgumentConflict
+--list-rules --count 2 | ArgumentConflict
+--list-rules --max-size 9 | ArgumentConflict
+--list-rules --list-rules | ArgumentConflict
 --list --quiet | List 0 1 None quiet all
 --list --json | List 0 1 None json all
 --blocks --json | Blocks 0 1 None json all
@@ -496,6 +520,39 @@ fn runs(rt: HostRuntime) -> Result<(), Fail> {
     for case in RUNS.trim().split("\n\n") {
         is_run(&rt, rt.alloc(), case)?;
     }
+    Ok(())
+}
+
+/// The first lines of the list of rules.
+const RULES: &str = "\
+0 commute keeps
+  add x y → add y x
+  mul x y → mul y x
+  and x y → and y x
+  or x y → or y x
+  xor x y → xor y x
+  eq x y → eq y x
+  ne x y → ne y x
+1 turn_comparison keeps
+  lt_s x y → gt_s y x
+";
+
+#[test]
+fn lists_rules(rt: HostRuntime) -> Result<(), Fail> {
+    let alloc = rt.alloc();
+    let options = options(alloc, "--list-rules")?;
+    let (mut output, mut notes) = (Vec::new(alloc), Vec::new(alloc));
+    let mut input = Tally::new(FailingReader::new(&SUM));
+    let result = run(
+        alloc,
+        &options,
+        &mut input,
+        &mut output,
+        &mut notes,
+        Unwatched,
+    );
+    assert!(rt; result == Ok(Ending::Whole) && notes.is_empty() && !input.failed());
+    assert!(rt; output.starts_with(RULES.as_bytes()));
     Ok(())
 }
 

@@ -12,12 +12,13 @@ _teddertempo()
     local word=${COMP_WORDS[COMP_CWORD]} before=${COMP_WORDS[COMP_CWORD - 1]}
     case $before in
         --rule | --not-rule) _teddertempo_words "$(_teddertempo_rules)" ;;
+        --list-rules) _teddertempo_words "text json markdown" ;;
         --seed | --count | --function | --max-size) COMPREPLY=() ;;
         -o | --output) mapfile -t COMPREPLY < <(compgen -f -- "$word") ;;
         *)
             if [[ $word == -* ]]; then
-                _teddertempo_words "--blocks --count --function --help --json --list --max-size --not-rule --output --quiet --reach
-                    --rule --seed --show --shrink --stats --strip-debug --version"
+                _teddertempo_words "--blocks --count --function --help --json --list --list-rules --max-size --not-rule --output --quiet
+                    --reach --rule --seed --show --shrink --stats --strip-debug --version"
             else
                 _teddertempo_modules "$word"
             fi
