@@ -7,7 +7,7 @@ ghost use Rattle.rewrite_rules.specs.Names.{rule_of};
 ghost use Rattle.rewrite_rules.specs.Rule.{rule_name};
 ghost use Rattle.body_rewrites.specs.Listing.{AreThose, IsOfRule};
 ghost use Rattle.module_commands.specs.Arguments.{command_line};
-ghost use Rattle.module_commands.specs.Options.{AreMisused, AreOptions, AreNamed, AreRefused, AreRules, IsNumberOf, IsNumberOr, IsSeed, IsSeedOf, IsShrinking, IsWanted, NamesNone, RowMakesSmaller, SayOptions, choose, choose_module, choose_rules, default_count, exclude, file_of, first_of, flags_of, form_named, has_plus, have_plus, ignore, is_given, is_named, is_set, is_shrinking, kind_for, module_task, reports, task_of, tell_nothing};
+ghost use Rattle.module_commands.specs.Options as options;
 
 use crate::arguments::command;
 use crate::front::begins_with;
@@ -23,13 +23,13 @@ use std::convert::AsStr;
 
 // Whether a flag is given.
 fn is_set(matches: &ArgMatches<'_>, name: &str) -> bool
-    ensures { result ≡ is_set name.now (rows_of (found_of matches.now)) }
+    ensures { result ≡ options.is_set name.now (rows_of (found_of matches.now)) }
 {
     matches.get_one::<bool>(name).unwrap_or(false)
 }
 
 fn flags_of(matches: &ArgMatches<'_>) -> Flags
-    ensures { result ≡ flags_of (rows_of (found_of matches.now)) }
+    ensures { result ≡ options.flags_of (rows_of (found_of matches.now)) }
 {
     Flags {
         list: is_set(matches, "list"),
@@ -46,7 +46,7 @@ fn flags_of(matches: &ArgMatches<'_>) -> Flags
 
 // What the program does with a module.
 fn module_task(flags: Flags) -> Task
-    ensures { result ≡ module_task flags }
+    ensures { result ≡ options.module_task flags }
 {
     if flags.list {
         Task::List
@@ -59,7 +59,7 @@ fn module_task(flags: Flags) -> Task
 
 // Whether the flags ask for two tasks, or for something of a module that is written where none is.
 fn exclude(flags: Flags) -> bool
-    ensures { result ≡ exclude flags }
+    ensures { result ≡ options.exclude flags }
 {
     let other = flags.list || flags.blocks;
     let of_module = flags.stats || flags.reach || flags.show || flags.strip_debug;
@@ -68,7 +68,7 @@ fn exclude(flags: Flags) -> bool
 
 // Whether the flags ask for JSON, and for nothing that is written in it.
 fn tell_nothing(flags: Flags) -> bool
-    ensures { result ≡ tell_nothing flags }
+    ensures { result ≡ options.tell_nothing flags }
 {
     let told = flags.rules || flags.list || flags.blocks || flags.stats || flags.reach;
     flags.json && !told
@@ -76,7 +76,7 @@ fn tell_nothing(flags: Flags) -> bool
 
 // Whether a report is asked for.
 fn reports(flags: Flags) -> bool
-    ensures { result ≡ reports flags }
+    ensures { result ≡ options.reports flags }
 {
     flags.stats || flags.reach
 }
@@ -84,21 +84,21 @@ fn reports(flags: Flags) -> bool
 // The text that an option has.
 fn text_of<'a>(matches: &ArgMatches<'a>, name: &str) -> Option<&'a str>
     ensures { option_map (λ text. text.now) result
-        ≡ first_of name.now (rows_of (found_of matches.now)) }
+        ≡ options.first_of name.now (rows_of (found_of matches.now)) }
 {
     matches.get_str(name)
 }
 
 // Whether the option is given.
 fn is_given(matches: &ArgMatches<'_>, name: &str) -> bool
-    ensures { result ≡ is_given name.now (rows_of (found_of matches.now)) }
+    ensures { result ≡ options.is_given name.now (rows_of (found_of matches.now)) }
 {
     text_of(matches, name).is_some()
 }
 
 // Whether what chooses a rewrite, or bounds rewrites, is given.
 fn choose(matches: &ArgMatches<'_>) -> bool
-    ensures { result ≡ choose (rows_of (found_of matches.now)) }
+    ensures { result ≡ options.choose (rows_of (found_of matches.now)) }
 {
     let seed = is_given(matches, "seed");
     let count = is_given(matches, "count");
@@ -108,7 +108,7 @@ fn choose(matches: &ArgMatches<'_>) -> bool
 
 // Whether what chooses rules is given.
 fn choose_rules(matches: &ArgMatches<'_>) -> bool
-    ensures { result ≡ choose_rules (rows_of (found_of matches.now)) }
+    ensures { result ≡ options.choose_rules (rows_of (found_of matches.now)) }
 {
     let rule = is_given(matches, "rule");
     let other = is_given(matches, "not-rule");
@@ -118,7 +118,7 @@ fn choose_rules(matches: &ArgMatches<'_>) -> bool
 
 // Whether what is of one module, or says how what is told of it is written, is given.
 fn choose_module(flags: Flags, matches: &ArgMatches<'_>) -> bool
-    ensures { result ≡ choose_module flags (rows_of (found_of matches.now)) }
+    ensures { result ≡ options.choose_module flags (rows_of (found_of matches.now)) }
 {
     let input = is_given(matches, "input");
     let function = is_given(matches, "function");
@@ -127,7 +127,7 @@ fn choose_module(flags: Flags, matches: &ArgMatches<'_>) -> bool
 
 // Whether an option is given that the task ignores.
 fn ignore(flags: Flags, matches: &ArgMatches<'_>) -> bool
-    ensures { result ≡ ignore flags (rows_of (found_of matches.now)) }
+    ensures { result ≡ options.ignore flags (rows_of (found_of matches.now)) }
 {
     let chooses = choose(matches);
     let chooses_rules = choose_rules(matches);
@@ -139,7 +139,7 @@ fn ignore(flags: Flags, matches: &ArgMatches<'_>) -> bool
 
 // The form with that name.
 fn form_named(name: &str) -> Option<RulesForm>
-    ensures { result ≡ form_named name.now }
+    ensures { result ≡ options.form_named name.now }
 {
     if name == "text" {
         Some(RulesForm::Text)
@@ -154,9 +154,9 @@ fn form_named(name: &str) -> Option<RulesForm>
 
 // What the program does.
 fn task_of(flags: Flags, matches: &ArgMatches<'_>) -> Result<Task, Misuse>
-    ensures task { IfOk result (λ task. Some task ≡ task_of flags
-        (first_of (codes "list-rules") (rows_of (found_of matches.now)))) }
-    ensures misuse { IfErr result (AreMisused (rows_of (found_of matches.now))) }
+    ensures task { IfOk result (λ task. Some task ≡ options.task_of flags
+        (options.first_of (codes "list-rules") (rows_of (found_of matches.now)))) }
+    ensures misuse { IfErr result (options.AreMisused (rows_of (found_of matches.now))) }
 {
     let Some(name) = text_of(matches, "list-rules") else {
         return Ok(module_task(flags));
@@ -169,7 +169,8 @@ fn task_of(flags: Flags, matches: &ArgMatches<'_>) -> Result<Task, Misuse>
 
 // Whether a plus stands before the number of the option, also behind `0x`.
 fn has_plus(matches: &ArgMatches<'_>, name: &str) -> bool
-    ensures { result ≡ has_plus (first_of name.now (rows_of (found_of matches.now))) }
+    ensures { result
+        ≡ options.has_plus (options.first_of name.now (rows_of (found_of matches.now))) }
 {
     let Some(text) = text_of(matches, name) else {
         return false;
@@ -181,7 +182,7 @@ fn has_plus(matches: &ArgMatches<'_>, name: &str) -> bool
 
 // Whether a plus stands before a number that is given.
 fn have_plus(matches: &ArgMatches<'_>) -> bool
-    ensures { result ≡ have_plus (rows_of (found_of matches.now)) }
+    ensures { result ≡ options.have_plus (rows_of (found_of matches.now)) }
 {
     let seed = has_plus(matches, "seed");
     let count = has_plus(matches, "count");
@@ -192,7 +193,7 @@ fn have_plus(matches: &ArgMatches<'_>) -> bool
 
 // The number that a text writes, in decimal digits, or behind `0x` in hexadecimal ones.
 fn seed_from(text: &str) -> Option<u64>
-    ensures { IsSeedOf text.now result }
+    ensures { options.IsSeedOf text.now result }
 {
     if let Ok(seed) = text.parse::<u64>() {
         return Some(seed);
@@ -208,8 +209,9 @@ fn seed_from(text: &str) -> Option<u64>
 
 // The seed.
 fn seed_of(matches: &ArgMatches<'_>) -> Result<u64, Misuse>
-    ensures seed { IfOk result (IsSeed (first_of (codes "seed") (rows_of (found_of matches.now)))) }
-    ensures misuse { IfErr result (AreMisused (rows_of (found_of matches.now))) }
+    ensures seed { IfOk result (options.IsSeed
+        (options.first_of (codes "seed") (rows_of (found_of matches.now)))) }
+    ensures misuse { IfErr result (options.AreMisused (rows_of (found_of matches.now))) }
 {
     let Some(text) = text_of(matches, "seed") else {
         return Ok(0);
@@ -227,7 +229,7 @@ fn file_of(
     name: &str,
 ) -> Result<Option<String>, AllocError>
     ensures { IfOk result (λ file. option_map string_bytes file
-        ≡ file_of (first_of name.now (rows_of (found_of matches.now)))) }
+        ≡ options.file_of (options.first_of name.now (rows_of (found_of matches.now)))) }
 {
     let Some(text) = text_of(matches, name) else {
         return Ok(None);
@@ -240,7 +242,7 @@ fn file_of(
 
 // The number that an option has.
 fn size_of(matches: &ArgMatches<'_>, name: &str) -> Option<usize>
-    ensures { IsNumberOf (one_of name.now (rows_of (found_of matches.now))) result }
+    ensures { options.IsNumberOf (one_of name.now (rows_of (found_of matches.now))) result }
 {
     matches.get_one::<usize>(name)
 }
@@ -249,7 +251,7 @@ fn size_of(matches: &ArgMatches<'_>, name: &str) -> Option<usize>
 fn named_rules(alloc: Global, names: &[&str]) -> Result<Vec<Rule>, Misuse>
     ensures named { IfOk result (λ rules. map rule_name rules.items ≡ texts names.now) }
     ensures unknown { IfErr result (λ e. e ≡ Misuse.Memory ⊎ (e ≡ Misuse.UnknownRule
-        × NamesNone (texts names.now))) }
+        × options.NamesNone (texts names.now))) }
 {
     let mut rules = Vec::new(alloc);
     for name in names {
@@ -263,9 +265,9 @@ fn named_rules(alloc: Global, names: &[&str]) -> Result<Vec<Rule>, Misuse>
 
 // The rules that are named, or all where none is.
 fn rules_of(alloc: Global, matches: &ArgMatches<'_>) -> Result<Vec<Rule>, Misuse>
-    ensures rules { IfOk result (λ rules. AreNamed
+    ensures rules { IfOk result (λ rules. options.AreNamed
         (all_of (codes "rule") (rows_of (found_of matches.now))) rules.items) }
-    ensures unknown { IfErr result (AreMisused (rows_of (found_of matches.now))) }
+    ensures unknown { IfErr result (options.AreMisused (rows_of (found_of matches.now))) }
 {
     match matches.get_strs("rule") {
         Some(names) => named_rules(alloc, names),
@@ -275,7 +277,7 @@ fn rules_of(alloc: Global, matches: &ArgMatches<'_>) -> Result<Vec<Rule>, Misuse
 
 // Whether one of the names is the rule's.
 fn is_named(names: &[&str], rule: Rule) -> bool
-    ensures { result ≡ is_named (texts names.now) rule }
+    ensures { result ≡ options.is_named (texts names.now) rule }
 {
     // A rule's name is looked up in the table: not where there is none to compare it with.
     if names.is_empty() {
@@ -292,7 +294,7 @@ fn is_named(names: &[&str], rule: Rule) -> bool
 
 // Whether what does so leaves fewer instructions.
 fn is_shrinking(growth: Growth) -> bool
-    ensures { result ≡ is_shrinking growth }
+    ensures { result ≡ options.is_shrinking growth }
 {
     match growth {
         Growth::Shrinks => true,
@@ -303,7 +305,7 @@ fn is_shrinking(growth: Growth) -> bool
 
 // Whether each rewrite by the row with the number leaves fewer instructions; also where there is no such row.
 fn row_makes_smaller(number: usize) -> bool
-    ensures { IsTrue result ↔ RowMakesSmaller number }
+    ensures { IsTrue result ↔ options.RowMakesSmaller number }
 {
     table_is_right();
     match row_at(number) {
@@ -316,7 +318,7 @@ fn row_makes_smaller(number: usize) -> bool
 fn row_fits(rows: &[u16], rule: Rule, number: usize) -> bool
     requires rows { (n : ℕ) → slice_get rows.now n ≡ rule_of n }
     requires inside { number < length rows.now }
-    ensures { IsTrue result ↔ (IsOfRule rule number → RowMakesSmaller number) }
+    ensures { IsTrue result ↔ (IsOfRule rule number → options.RowMakesSmaller number) }
 {
     if rows[number] as usize != rule.number() {
         return true;
@@ -327,7 +329,7 @@ fn row_fits(rows: &[u16], rule: Rule, number: usize) -> bool
 // Whether each rewrite by a row of the rule does.
 fn makes_smaller(rows: &[u16], rule: Rule) -> bool
     requires { (n : ℕ) → slice_get rows.now n ≡ rule_of n }
-    ensures { IsTrue result ↔ IsShrinking rule }
+    ensures { IsTrue result ↔ options.IsShrinking rule }
 {
     for number in 0..rows.len() {
         if !row_fits(rows, rule, number) {
@@ -340,7 +342,7 @@ fn makes_smaller(rows: &[u16], rule: Rule) -> bool
 // Whether the rule is none of the others, and makes code smaller, where that is asked for.
 fn is_wanted(rows: &[u16], others: &[&str], shrink: bool, rule: Rule) -> bool
     requires { (n : ℕ) → slice_get rows.now n ≡ rule_of n }
-    ensures { IsTrue result ↔ IsWanted (texts others.now) shrink rule }
+    ensures { IsTrue result ↔ options.IsWanted (texts others.now) shrink rule }
 {
     if is_named(others, rule) {
         return false;
@@ -359,7 +361,7 @@ fn wanted_of(
     shrink: bool,
 ) -> Result<Vec<Rule>, AllocError>
     ensures { IfOk result (λ wanted.
-        AreThose (IsWanted (texts others.now) shrink) rules.now wanted.items) }
+        AreThose (options.IsWanted (texts others.now) shrink) rules.now wanted.items) }
 {
     let rows = rules_of_rows(alloc)?;
     let mut wanted = Vec::new(alloc);
@@ -373,11 +375,11 @@ fn wanted_of(
 
 // The rules that the options name, or all, without those that they exclude.
 fn wanted_rules(alloc: Global, matches: &ArgMatches<'_>) -> Result<Vec<Rule>, Misuse>
-    ensures rules { IfOk result (λ rules. AreRules
+    ensures rules { IfOk result (λ rules. options.AreRules
         (all_of (codes "rule") (rows_of (found_of matches.now)))
         (all_of (codes "not-rule") (rows_of (found_of matches.now)))
-        (is_set (codes "shrink") (rows_of (found_of matches.now))) rules.items) }
-    ensures unknown { IfErr result (AreMisused (rows_of (found_of matches.now))) }
+        (options.is_set (codes "shrink") (rows_of (found_of matches.now))) rules.items) }
+    ensures unknown { IfErr result (options.AreMisused (rows_of (found_of matches.now))) }
 {
     let given = rules_of(alloc, matches)?;
     let shrink = is_set(matches, "shrink");
@@ -389,14 +391,15 @@ fn wanted_rules(alloc: Global, matches: &ArgMatches<'_>) -> Result<Vec<Rule>, Mi
 
 // How many rewrites are made where no number is given.
 fn default_count(shrink: bool) -> usize
-    ensures { result ≡ default_count shrink }
+    ensures { result ≡ options.default_count shrink }
 {
     if shrink { usize::MAX } else { 1 }
 }
 
 // How many rewrites are made.
 fn count_of(matches: &ArgMatches<'_>) -> usize
-    ensures { IsNumberOr (default_count (is_set (codes "shrink") (rows_of (found_of matches.now))))
+    ensures { options.IsNumberOr
+        (options.default_count (options.is_set (codes "shrink") (rows_of (found_of matches.now))))
         (one_of (codes "count") (rows_of (found_of matches.now))) result }
 {
     let other = default_count(is_set(matches, "shrink"));
@@ -405,8 +408,8 @@ fn count_of(matches: &ArgMatches<'_>) -> usize
 
 /// The options that the matches of a command line are.
 pub fn options_from(alloc: Global, matches: &ArgMatches<'_>) -> Result<Options, Misuse>
-    ensures options { IfOk result (AreOptions (rows_of (found_of matches.now))) }
-    ensures misuse { IfErr result (AreMisused (rows_of (found_of matches.now))) }
+    ensures options { IfOk result (options.AreOptions (rows_of (found_of matches.now))) }
+    ensures misuse { IfErr result (options.AreMisused (rows_of (found_of matches.now))) }
 {
     let flags = flags_of(matches);
     if exclude(flags) {
@@ -446,7 +449,7 @@ pub fn options_from(alloc: Global, matches: &ArgMatches<'_>) -> Result<Options, 
 
 // The kind of error that clap has for it.
 fn kind_for(misuse: Misuse) -> ErrorKind
-    ensures { result ≡ kind_for misuse }
+    ensures { result ≡ options.kind_for misuse }
 {
     match misuse {
         Misuse::Conflict => ErrorKind::ArgumentConflict,
@@ -515,9 +518,9 @@ pub fn options_of<'a, S: AsStr>(
     words: &'a [S],
 ) -> Result<Options, Error>
     ensures options { IfOk result
-        (SayOptions (command_line names.entry) (map S.text words.entry.now)) }
+        (options.SayOptions (command_line names.entry) (map S.text words.entry.now)) }
     ensures refused { IfErr result (λ e.
-        AreRefused (command_line names.entry) (map S.text words.entry.now) (kind_of e)) }
+        options.AreRefused (command_line names.entry) (map S.text words.entry.now) (kind_of e)) }
 {
     let mut command = command(alloc, names)?;
     let matches = match command.try_get_matches_from_mut(words) {
