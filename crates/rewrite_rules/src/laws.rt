@@ -10,7 +10,7 @@ ghost use Rattle.rewrite_rules.specs.Operands.{TypesAreTold};
 ghost use Rattle.rewrite_rules.specs.Holes.{HolesAreTold};
 ghost use Rattle.rewrite_rules.specs.Beside.{BesidesKeepCode};
 
-use peephole_programs::validity::typed_rows_check;
+use peephole_programs::validity::{typed_rows_check, validity_goes_by_types};
 
 /// What a line asks of the operands in its holes is computed once from its two sides.
 pub fn needs_are_enough()
@@ -59,6 +59,7 @@ pub fn besides_keep_code()
     ensures { BesidesKeepCode }
 {
     typed_rows_check();
+    validity_goes_by_types();
     lines_keep_code();
 }
 

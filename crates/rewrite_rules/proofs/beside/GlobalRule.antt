@@ -15,12 +15,11 @@ use Rattle.peephole_machine.specs.OutcomeLemmas.{length_types, run_append, run_o
 use Rattle.peephole_machine.specs.StateLemmas.{context_more, with_more, Follows}
 use Rattle.peephole_machine.specs.SameLemmas.{run_follows}
 use Rattle.peephole_programs.specs.control.Wider.{wider}
-use Rattle.peephole_programs.specs.validation.StaysValid.{TypedCodePushes, PushesOnFrames, RowTypesStay}
-use Rattle.peephole_programs.proofs.validation.RowChecks.{check_code_wider}
+use Rattle.peephole_programs.specs.validation.StaysValid.{MoreGlobalsCheckAlike, TypedCodePushes, PushesOnFrames, RowTypesStay}
 use Rattle.rewrite_rules.specs.Code.{Leaves}
 use Rattle.rewrite_rules.specs.Beside.{get_global, set_global, through_code, StandsWith}
 use Rattle.rewrite_rules.proofs.CodeLemmas.{leaves_typed, leaves_above}
-use Rattle.rewrite_rules.proofs.beside.StandLemmas.{get_global_row, set_global_row, step_bare, pushes_there}
+use Rattle.rewrite_rules.proofs.beside.StandLemmas.{get_global_row, set_global_row, step_bare, pushes_there, code_wider}
 
 -- ---- behind a list
 
@@ -91,8 +90,8 @@ through_follows context t more stack requested (u ∷ others) Stuck typed e k = 
 
 -- ---- the rule
 
-module _ (push : TypedCodePushes) (frames : PushesOnFrames) (stay : RowTypesStay) (context : Context) (t : PrimitiveTypeInfo) (x : List Instruction)
-    (leaves : Leaves context x t) where
+module _ (push : TypedCodePushes) (frames : PushesOnFrames) (stay : RowTypesStay) (wide : MoreGlobalsCheckAlike) (context : Context)
+    (t : PrimitiveTypeInfo) (x : List Instruction) (leaves : Leaves context x t) where
   pub through_global : StandsWith context (t ∷ []) x (x ++ through_code context)
   through_global = record {
     runs = λ more stack requested s hs h e n.
@@ -115,5 +114,5 @@ module _ (push : TypedCodePushes) (frames : PushesOnFrames) (stay : RowTypesStay
         let through = push.follow all (set_global n ∷ []) (get_global n ∷ []) (t ∷ []) [] (t ∷ []) sets gets in
         frames all (x ++ through_code context) (t ∷ [])
         (push.follow all x (through_code context) [] (t ∷ []) (t ∷ []) own through) f
-        ∙ (sym (frames all x (t ∷ []) own f) ∙ check_code_wider input (t ∷ more) context x f g e);
+        ∙ (sym (frames all x (t ∷ []) own f) ∙ code_wider wide input (t ∷ more) context x f g e);
   }

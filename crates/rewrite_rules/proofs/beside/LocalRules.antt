@@ -12,10 +12,9 @@ use Rattle.peephole_machine.specs.RowLemmas.{act_is}
 use Rattle.peephole_machine.specs.OutcomeLemmas.{run_one}
 use Rattle.peephole_programs.specs.control.Wider.{wider}
 use Rattle.peephole_programs.specs.validation.Algorithm.{Entry, may_be, known, row_entries, Frame, can_pop, popped, with_pushed, check_row, check_code}
-use Rattle.peephole_programs.specs.validation.StaysValid.{with_types, TypedCodePushes, PushesOnFrames}
-use Rattle.peephole_programs.proofs.validation.RowChecks.{check_code_wider}
+use Rattle.peephole_programs.specs.validation.StaysValid.{with_types, MoreGlobalsCheckAlike, TypedCodePushes, PushesOnFrames}
 use Rattle.rewrite_rules.specs.Beside.{get_local, set_local, tee_local, StandsWith}
-use Rattle.rewrite_rules.proofs.beside.StandLemmas.{get_local_row, set_local_row, tee_local_row, step_bare, runs_alike}
+use Rattle.rewrite_rules.proofs.beside.StandLemmas.{get_local_row, set_local_row, tee_local_row, step_bare, runs_alike, code_wider}
 
 -- ---- runs
 
@@ -111,12 +110,12 @@ module _ (push : TypedCodePushes) (frames : PushesOnFrames) (context : Context) 
 
 -- ---- the rules
 
-module _ (push : TypedCodePushes) (frames : PushesOnFrames) (context : Context) (n : ℕ) where
+module _ (push : TypedCodePushes) (frames : PushesOnFrames) (wide : MoreGlobalsCheckAlike) (context : Context) (n : ℕ) where
   pub tee_to_set : StandsWith context [] (tee_local n ∷ []) (set_local n ∷ get_local n ∷ [])
   tee_to_set = record {
     runs = runs_alike context (tee_local n ∷ []) (set_local n ∷ get_local n ∷ []) (λ stack s hs h k. sym (same_runs n stack s));
     checks = λ input more f g e.
-        same_checks push frames (wider input more context) n f ∙ check_code_wider input more context (tee_local n ∷ []) f g e;
+        same_checks push frames (wider input more context) n f ∙ code_wider wide input more context (tee_local n ∷ []) f g e;
   }
 
   pub set_to_tee : StandsWith context [] (set_local n ∷ get_local n ∷ []) (tee_local n ∷ [])
@@ -124,5 +123,5 @@ module _ (push : TypedCodePushes) (frames : PushesOnFrames) (context : Context) 
     runs = runs_alike context (set_local n ∷ get_local n ∷ []) (tee_local n ∷ []) (λ stack s hs h k. same_runs n stack s);
     checks = λ input more f g e.
         sym (same_checks push frames (wider input more context) n f)
-        ∙ check_code_wider input more context (set_local n ∷ get_local n ∷ []) f g e;
+        ∙ code_wider wide input more context (set_local n ∷ get_local n ∷ []) f g e;
   }

@@ -1,25 +1,24 @@
 -- A nop before any code, a nop alone, and a drop of what neither writes nor traps.
-use Rattle.std.proofs.Common.{◌≡◌, false, List, [], ◌∷◌, ◌++◌, Some, refl, sym, ap, ◌∙◌}
+use Rattle.std.proofs.Common.{◌≡◌, false, List, [], ◌∷◌, ◌++◌, Option, Some, None, refl, sym, ap, ◌∙◌}
 use Rattle.std.specs.Prelude.{option_and_then}
 use Rattle.std.proofs.lemmas.List.{append-nil}
 use Rattle.wasm_code.specs.Instruction.{Instruction}
 use Rattle.mutate_base.specs.declared.types.PrimitiveTypeInfo.{PrimitiveTypeInfo}
 use Rattle.peephole_machine.specs.Values.{Value, Context, State, HasTypes, Outcome, Ends, Traps, Stuck, then_run, above}
 use Rattle.peephole_machine.specs.IntegerRow as row
-use Rattle.peephole_machine.specs.IntegerRow.{row_types}
+use Rattle.peephole_machine.specs.IntegerRow.{row_types, integer_row}
 use Rattle.peephole_machine.specs.Machine.{run}
 use Rattle.peephole_machine.specs.Agreement.{EndsTyped}
 use Rattle.peephole_machine.specs.RowLemmas.{step_at}
 use Rattle.peephole_machine.specs.OutcomeLemmas.{run_append, run_one, run_cons}
 use Rattle.peephole_programs.specs.control.Wider.{wider}
-use Rattle.peephole_programs.specs.validation.Algorithm.{Frame, check_code}
-use Rattle.peephole_programs.specs.validation.StaysValid.{Pushes, TypedCodePushes, PushesOnFrames, RowTypesStay}
-use Rattle.peephole_programs.proofs.validation.RowChecks.{check_append, check_code_wider, none_on}
+use Rattle.peephole_programs.specs.validation.Algorithm.{Frame, check_row, check_code}
+use Rattle.peephole_programs.specs.validation.StaysValid.{Pushes, MoreGlobalsCheckAlike, TypedCodePushes, PushesOnFrames, RowTypesStay}
 use Rattle.rewrite_rules.specs.Code.{Leaves, writes, traps}
 use Rattle.rewrite_rules.specs.Beside.{nop_code, drop_code, StandsWith}
 use Rattle.rewrite_rules.proofs.CodeLemmas.{leaves_typed, leaves_above}
 use Rattle.rewrite_rules.proofs.EffectLemmas.{IsStill, still_code, HasEnded, code_ends}
-use Rattle.rewrite_rules.proofs.beside.StandLemmas.{nop_row, drop_row, step_bare, runs_alike, pushes_there}
+use Rattle.rewrite_rules.proofs.beside.StandLemmas.{nop_row, drop_row, step_bare, runs_alike, pushes_there, code_wider}
 
 -- ---- a nop
 
@@ -27,18 +26,24 @@ nop_runs : (x : List Instruction) (stack : List Value) (s : State) → run (nop_
 nop_runs x stack s =
     run_cons nop_code x row.nop stack stack s s nop_row (step_bare row.nop stack [] s s refl refl ∙ ap (λ l. Ends l s) (append-nil stack))
 
-module _ (push : TypedCodePushes) (frames : PushesOnFrames) (context : Context) where
+-- no code behind
+none_behind : (context : Context) (o : Option Frame) → option_and_then (check_code context []) o ≡ o
+none_behind context (Some f) = refl
+none_behind context None = refl
+
+module _ (push : TypedCodePushes) (frames : PushesOnFrames) (wide : MoreGlobalsCheckAlike) (context : Context) where
   nop_checks : (all : Context) (f : Frame) → check_code all (nop_code ∷ []) f ≡ Some f
   nop_checks all f =
-      frames all (nop_code ∷ []) [] (push.row all nop_code [] [] (ap (λ r. row_types all r []) nop_row)) f ∙ ap (λ g. Some g) (none_on f)
+      frames all (nop_code ∷ []) [] (push.row all nop_code [] [] (ap (λ r. row_types all r []) nop_row)) f
+      ∙ sym (frames all [] [] (push.nothing all []) f)
 
   pub with_nop : (x : List Instruction) → StandsWith context [] x (nop_code ∷ x)
   with_nop x = record {
     runs = runs_alike context x (nop_code ∷ x) (λ stack s hs h n. sym (nop_runs x stack s));
     checks = λ input more f g e.
         let all = wider input more context in
-        check_append all (nop_code ∷ []) x f
-        ∙ (ap (option_and_then (check_code all x)) (nop_checks all f) ∙ check_code_wider input more context x f g e);
+        ap (option_and_then (check_code all x)) (sym (none_behind all (check_row all (integer_row nop_code) f)) ∙ nop_checks all f)
+        ∙ code_wider wide input more context x f g e;
   }
 
   pub drop_nop : StandsWith context [] (nop_code ∷ []) []
@@ -63,8 +68,8 @@ dropped context t stack s (Ends (v ∷ w ∷ vs) m) typed still ended = absurd c
 dropped context t stack s (Traps c gs r) typed still ended = absurd ended
 dropped context t stack s Stuck typed still ended = absurd ended
 
-module _ (push : TypedCodePushes) (frames : PushesOnFrames) (stay : RowTypesStay) (context : Context) (t : PrimitiveTypeInfo) (x : List Instruction)
-    (leaves : Leaves context x t) (still : writes x ≡ false) (ends : traps x ≡ false) where
+module _ (push : TypedCodePushes) (frames : PushesOnFrames) (stay : RowTypesStay) (wide : MoreGlobalsCheckAlike) (context : Context)
+    (t : PrimitiveTypeInfo) (x : List Instruction) (leaves : Leaves context x t) (still : writes x ≡ false) (ends : traps x ≡ false) where
   forgotten_runs : (stack : List Value) (s : State) → HasTypes context s → run (x ++ drop_code ∷ []) stack s ≡ Ends stack s
   forgotten_runs stack s h =
       run_append x (drop_code ∷ []) stack s
@@ -80,6 +85,6 @@ module _ (push : TypedCodePushes) (frames : PushesOnFrames) (stay : RowTypesStay
         let none : Pushes all (x ++ drop_code ∷ []) [] [] =
         push.follow all x (drop_code ∷ []) [] (t ∷ []) [] (pushes_there push stay context input more x [] (t ∷ []) leaves)
         (push.row all drop_code (t ∷ []) [] (ap (λ r. row_types all r (t ∷ [])) drop_row)) in
-        ap (λ f. Some f) (sym (none_on f))
-        ∙ (sym (frames all (x ++ drop_code ∷ []) [] none f) ∙ check_code_wider input more context (x ++ drop_code ∷ []) f g e);
+        frames all [] [] (push.nothing all []) f
+        ∙ (sym (frames all (x ++ drop_code ∷ []) [] none f) ∙ code_wider wide input more context (x ++ drop_code ∷ []) f g e);
   }

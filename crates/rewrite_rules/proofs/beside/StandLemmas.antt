@@ -1,22 +1,24 @@
 -- Code in the place of other code: what runs alike and what is valid alike, and the rows of the instructions that rules beside the table write.
-use Rattle.std.proofs.Common.{◌≡◌, ℕ, List, [], ◌∷◌, ◌++◌, Some, refl, sym, ap, ◌∙◌, subst}
-use Rattle.std.specs.Prelude.{◌≢◌}
+use Rattle.std.proofs.Common.{◌≡◌, ℕ, List, [], ◌∷◌, ◌++◌, Option, Some, None, refl, sym, ap, ◌∙◌, subst}
+use Rattle.std.specs.Prelude.{◌≢◌, map, option_map, option_and_then}
 use Rattle.std.specs.List.{All}
 use Rattle.std.proofs.lemmas.List.{append-nil}
 use Rattle.wasm_code.specs.Instruction.{Instruction}
 use Rattle.wasm_code.specs.Table.{table, row_at}
+use Rattle.wasm_code.specs.declared.operator.Operator.TheVariants.{Instr}
 use Rattle.mutate_base.specs.declared.types.PrimitiveTypeInfo.{PrimitiveTypeInfo}
 use Rattle.peephole_machine.specs.Values.{Value, IsValue, Context, State, HasTypes, Ends, Stuck, local, global, above}
 use Rattle.peephole_machine.specs.IntegerRow as row
 use Rattle.peephole_machine.specs.IntegerRow.{IntegerRow, operand_count, integer_row}
 use Rattle.peephole_machine.specs.Machine.{act, step, run}
 use Rattle.peephole_machine.specs.Agreement.{with_globals}
-use Rattle.peephole_machine.specs.RowLemmas.{and_then_some, step_at}
+use Rattle.peephole_machine.specs.RowLemmas.{and_then_some, map_some, step_at}
 use Rattle.peephole_machine.specs.StateLemmas.{Follows}
 use Rattle.peephole_machine.specs.SameLemmas.{run_follows}
 use Rattle.peephole_programs.specs.control.Function.{RunsAs}
 use Rattle.peephole_programs.specs.control.Wider.{wider}
-use Rattle.peephole_programs.specs.validation.StaysValid.{Pushes, TypedCodePushes, RowTypesStay}
+use Rattle.peephole_programs.specs.validation.Algorithm.{Frame, check_row, check_code, Structural, check}
+use Rattle.peephole_programs.specs.validation.StaysValid.{Pushes, MoreGlobalsCheckAlike, TypedCodePushes, RowTypesStay}
 use Rattle.rewrite_rules.specs.Code.{types_behind, types_after}
 use Rattle.rewrite_rules.specs.Instance.{StandsFor}
 use Rattle.rewrite_rules.specs.Beside.{nop_code, drop_code, get_local, set_local, tee_local, get_global, set_global, StandsWith}
@@ -86,6 +88,31 @@ pushes_there push stay context input more (i ∷ code) ts us e =
     push.follow all (i ∷ []) code ts ms us
     (subst (λ x. Pushes all (i ∷ []) x ms) (sym b.parts) (subst (Pushes all (i ∷ []) (b.below ++ b.operands)) (sym b.gives) one))
     (pushes_there push stay context input more code ms us l)
+
+-- a body of these instructions alone, on one frame
+check_alone : (context : Context) (steps : Structural) (k : ℕ) (code : List Instruction) (f : Frame) →
+    check context steps k (map (λ (i : Instruction). Instr i) code) (f ∷ []) ≡ option_map (λ g. g ∷ []) (check_code context code f)
+check_alone context steps k [] f = refl
+check_alone context steps k (i ∷ code) f = go (check_row context (integer_row i) f) (check_alone context steps k code)
+  where
+    go : (o : Option Frame) →
+        ((g : Frame) → check context steps k (map (λ (i : Instruction). Instr i) code) (g ∷ []) ≡ option_map (λ g. g ∷ []) (check_code context code g)) →
+        option_and_then (check context steps k (map (λ (i : Instruction). Instr i) code)) (option_map (λ g. g ∷ []) o)
+        ≡ option_map (λ g. g ∷ []) (option_and_then (check_code context code) o)
+    go (Some g) next = next g
+    go None next = refl
+
+-- code that is valid stays so with further globals
+pub code_wider : MoreGlobalsCheckAlike → (input : List ℕ) (more : List PrimitiveTypeInfo) (context : Context) (code : List Instruction) (f g : Frame) →
+    check_code context code f ≡ Some g → check_code (wider input more context) code f ≡ Some g
+code_wider law input more context code f g e =
+    let all = wider input more context in
+    let steps : Structural = λ k frames. None in
+    let body = map (λ (i : Instruction). Instr i) code in
+    let old : check context steps 0 body (f ∷ []) ≡ Some (g ∷ []) = check_alone context steps 0 code f ∙ ap (option_map (λ g. g ∷ [])) e in
+    let new = sym (check_alone all steps 0 code f) ∙ (law context input more body).checks steps 0 (f ∷ []) (g ∷ []) old in
+    let (h, there, same) = map_some (λ (g : Frame). g ∷ []) (check_code all code f) (g ∷ []) new in
+    there ∙ ap (λ (g : Frame). Some g) (let is : h ≡ g = cc in is)
 
 -- ---- nothing asked
 
