@@ -17,7 +17,7 @@ use Rattle.body_rewrites.specs.Listing.{AreThose, AreFound, AddsFound}
 use Rattle.body_rewrites.specs.Asking.{asked_as, asked_for, asked_from, all_asked, rewrite_of, rewrites_of, is_candidate, numbers_from, candidates, listed, picked, IsUsed, AreLists, AreAsked, IsAskedSo}
 use Rattle.body_rewrites.proofs.StandsLemmas.{Operators}
 use Rattle.body_rewrites.proofs.ListingLemmas.{adds_more}
-use Rattle.body_rewrites.proofs.ThoseLemmas.{those_with, those_without}
+use Rattle.body_rewrites.specs.ThoseLemmas.{those_with, those_without}
 
 -- what is known of an answer
 pub if_ok : {X E : Type 0} {P Q : X → Type 0} (r : Result X E) → ((x : X) → P x → Q x) → IfOk r P → IfOk r Q

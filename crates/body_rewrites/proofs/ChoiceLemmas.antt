@@ -13,7 +13,7 @@ use Rattle.body_rewrites.specs.Rewrites.{growth_of, asked_below}
 use Rattle.body_rewrites.specs.Listing.{AreThose, IsBy, HasGrowth}
 use Rattle.body_rewrites.specs.Choice.{after_word, growths, IsOf, IsOpen, HasOpen, Chooses}
 use Rattle.body_rewrites.specs.Counting.{HasCount, AreCounts, IsOpenBy, HasOpenBy}
-use Rattle.body_rewrites.proofs.ThoseLemmas.{those_as, none_of, none_are, one_of, some_of, head_contained, tail_contained}
+use Rattle.body_rewrites.specs.ThoseLemmas.{those_as, none_of, none_are, one_of, some_of, head_contained, tail_contained}
 
 pub contains_growth : (kind : Growth) → Contains growths kind
 contains_growth Shrinks = head_contained Shrinks (Keeps ∷ Grows ∷ [])

@@ -27,7 +27,7 @@ use Rattle.body_rewrites.specs.Rewrites.{IsMade, asked_widths, by_rows, asked_be
 use Rattle.body_rewrites.specs.Listing.{AreThose, HasGrowth, OneChange, found_as, AreFound, passing}
 use Rattle.body_rewrites.specs.Choice.{IsOf}
 use Rattle.body_rewrites.specs.Counting.{slot_of, is_slot, is_in_slot, AddsCounts, count_in, CountsFound, HaveRoom, alone_slot, alone_slots, slots_in, is_number, is_of, asked_of, AreCounts, FindsIn}
-use Rattle.body_rewrites.proofs.ThoseLemmas.{those_append, those_parts, those_first, those_same}
+use Rattle.body_rewrites.specs.ThoseLemmas.{those_append, those_parts, those_first, those_same}
 use Rattle.body_rewrites.proofs.AskingLemmas.{few_asked, rewrites_are}
 use Rattle.body_rewrites.proofs.ListingLemmas.{growth_one, found_append, found_few, found_passing, asked_more}
 

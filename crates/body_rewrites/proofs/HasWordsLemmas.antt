@@ -35,7 +35,7 @@ use Rattle.body_rewrites.specs.Rewrites.{MakesBy, IsMade, asked_widths, by_rows,
 use Rattle.body_rewrites.specs.Listing.{AreThose, IsBy, HasGrowth}
 use Rattle.body_rewrites.specs.Choice.{Draws, IsOf, IsOpen, HasOpen, Chooses, after_word, growths}
 use Rattle.body_rewrites.specs.HasWords.{HasWords}
-use Rattle.body_rewrites.proofs.ThoseLemmas.{contained_cases, those_bounded, those_same}
+use Rattle.body_rewrites.specs.ThoseLemmas.{contained_cases, those_bounded, those_same}
 use Rattle.body_rewrites.proofs.CountingLemmas.{asked_few}
 use Rattle.body_rewrites.proofs.ChoiceLemmas.{contains_growth}
 

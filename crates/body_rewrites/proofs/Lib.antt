@@ -33,7 +33,6 @@ pub mod OwnFoldLemmas
 pub mod OwnCodeLemmas
 pub mod PartsLemmas
 pub mod OwnGrowthLemmas
-pub mod ThoseLemmas
 pub mod ListingLemmas
 pub mod ReachedLemmas
 pub mod CountingLemmas

@@ -18,7 +18,7 @@ use Rattle.body_rewrites.specs.declared.rewrite.Rewrite.{Rewrite}
 use Rattle.body_rewrites.specs.Changes.{Change}
 use Rattle.body_rewrites.specs.Rewrites.{Makes, IsAsked, IsMade, by_rows, asked_below, growth_of}
 use Rattle.body_rewrites.specs.Listing.{AreThose, IsBy, HasGrowth, LineGrows, OneChange, found_as, AreFound, AddsFound, passing, AreRules, has_number, has_some, is_by}
-use Rattle.body_rewrites.proofs.ThoseLemmas.{head_contained, tail_contained, contained_cases, those_append}
+use Rattle.body_rewrites.specs.ThoseLemmas.{head_contained, tail_contained, contained_cases, those_append}
 
 -- ---- lines
 

@@ -15,7 +15,7 @@ use Rattle.body_rewrites.specs.declared.rewrite.Rewrite.{Rewrite}
 use Rattle.body_rewrites.specs.Rewrites.{IsMade, asked_widths, by_rows}
 use Rattle.body_rewrites.specs.Listing.{IsBy, AreFound, AreRules, found_as, is_by}
 use Rattle.body_rewrites.specs.Reached.{IsReached, IsMarked, AreReachedBelow, has_by}
-use Rattle.body_rewrites.proofs.ThoseLemmas.{head_contained, tail_contained, contained_cases}
+use Rattle.body_rewrites.specs.ThoseLemmas.{head_contained, tail_contained, contained_cases}
 use Rattle.body_rewrites.proofs.ListingLemmas.{is_by_to, is_by_from}
 use Rattle.body_rewrites.proofs.HasWordsLemmas.{made_is_here}
 

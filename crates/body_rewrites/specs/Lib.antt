@@ -14,6 +14,7 @@ pub mod MadeLaws
 pub mod Differing
 pub mod LineMaking
 pub mod Listing
+pub mod ThoseLemmas
 pub mod Reached
 pub mod Choice
 pub mod HasWords

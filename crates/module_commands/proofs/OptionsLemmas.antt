@@ -39,7 +39,7 @@ use Rattle.rewrite_rules.specs.declared.table.Row.{Row as TableRow}
 use Rattle.rewrite_rules.specs.declared.table.Widths.{Widths}
 use Rattle.rewrite_rules.specs.declared.table.Widths.TheVariants.{Both, Only, Any, Own}
 use Rattle.body_rewrites.specs.Listing.{AreThose, IsOfRule}
-use Rattle.body_rewrites.proofs.ThoseLemmas.{those_with, those_without}
+use Rattle.body_rewrites.specs.ThoseLemmas.{those_with, those_without}
 use Rattle.module_commands.specs.Arguments.{command_line}
 use Rattle.module_commands.specs.Options.{AreMisused, AreNamed, AreOptions, AreRefused, AreRules, IsNumberOf, IsShrinking, IsWanted, MakesSmaller, NamesNone, RowMakesSmaller, SayOptions, WritesSeed, first_of, is_named, is_shrinking, kind_for, names_or_none}
 use Rattle.module_commands.specs.Options.WritesSeed.{in_hexadecimal}

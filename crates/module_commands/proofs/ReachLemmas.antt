@@ -12,7 +12,7 @@ use Rattle.peephole_machine.specs.Values.{Context, context_in}
 use Rattle.rewrite_rules.specs.declared.rule.Rule.{Rule}
 use Rattle.body_rewrites.specs.Listing.{AreThose}
 use Rattle.body_rewrites.specs.Reached.{AreReached, IsMarked, IsReached}
-use Rattle.body_rewrites.proofs.ThoseLemmas.{those_with, those_without, those_as}
+use Rattle.body_rewrites.specs.ThoseLemmas.{those_with, those_without, those_as}
 use Rattle.module_rewrites.specs.Function.{IsFunction}
 use Rattle.module_commands.specs.Blocks.{HasNoDelimiter, IsBlock, IsBlockIn, delimits, is_delimiter_of}
 use Rattle.module_commands.specs.Reach.{AreCounted, AreCountedAt, AreOfBody, AreOfEntries, AreOfEntry, Counts, EndsBlock, EndsReached, HoldsReached, IsIntegerAt, IsOneIf, Told, nothing, number_of, numbers_below, part_in_64_bits, part_of, part_sum, reach_in_64_bits, sum_of}

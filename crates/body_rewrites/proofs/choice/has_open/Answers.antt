@@ -2,7 +2,7 @@
 use Rattle.std.proofs.Common.{refl, sym, ◌∙◌}
 use Rattle.std.proofs.lemmas.Bool.{false≢true}
 use Rattle.body_rewrites.specs.Counting.{IsOpenBy}
-use Rattle.body_rewrites.proofs.ThoseLemmas.{none_start, none_next, none_of_all}
+use Rattle.body_rewrites.specs.ThoseLemmas.{none_start, none_next, none_of_all}
 use Rattle.body_rewrites.proofs.choice.has_open.Goals as goal
 
 pub returns-then-is_open : goal.returns-then-is_open

@@ -6,7 +6,7 @@ use Rattle.body_rewrites.specs.declared.growth.Growth.{Growth}
 use Rattle.body_rewrites.specs.Listing.{AreThose}
 use Rattle.body_rewrites.specs.Choice.{growths}
 use Rattle.body_rewrites.specs.Counting.{HasOpenBy}
-use Rattle.body_rewrites.proofs.ThoseLemmas.{next_with, next_without, those_of_all}
+use Rattle.body_rewrites.specs.ThoseLemmas.{next_with, next_without, those_of_all}
 use Rattle.body_rewrites.proofs.choice.open_growths.Goals.{then-has_open+in_ok-push, else-has_open}
 use Rattle.body_rewrites.proofs.choice.open_growths.Goals as goal
 

@@ -5,7 +5,7 @@ use Rattle.std.proofs.lemmas.Bool.{false≢true}
 use Rattle.rewrite_rules.specs.declared.rule.Rule.{Rule}
 use Rattle.body_rewrites.specs.Listing.{AreThose}
 use Rattle.body_rewrites.specs.Counting.{IsOpenBy}
-use Rattle.body_rewrites.proofs.ThoseLemmas.{next_with, next_without, those_of_all}
+use Rattle.body_rewrites.specs.ThoseLemmas.{next_with, next_without, those_of_all}
 use Rattle.body_rewrites.proofs.choice.open_rules.Goals.{then-is_open+in_ok-push, else-is_open}
 use Rattle.body_rewrites.proofs.choice.open_rules.Goals as goal
 

@@ -1,11 +1,10 @@
 -- Copies of zero are zeros.
 use Rattle.std.proofs.Common.{◌*◌, replicate, ap, ◌∙◌, arith}
-use Rattle.rewrite_rules.proofs.NameLemmas.{few_names}
 use Rattle.body_rewrites.proofs.CountingLemmas.{ok_map}
 use Rattle.body_rewrites.proofs.counts.zeros.Goals as goal
 
 pub overflow_mul-rule_count : goal.overflow_mul-rule_count
-overflow_mul-rule_count c = let few = few_names in let is = c.rule_count.ensures in omega arith
+overflow_mul-rule_count c = let few = c.rows_are_few.ensures.names in let is = c.rule_count.ensures in omega arith
 
 pub returns : goal.returns
 returns c =

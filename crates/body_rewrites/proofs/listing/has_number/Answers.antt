@@ -3,7 +3,7 @@ use Rattle.std.proofs.Common.{◌≡◌, refl, sym, ◌∙◌}
 use Rattle.rewrite_rules.specs.declared.rule.Rule.{Rule}
 use Rattle.rewrite_rules.specs.Rule.{rule_number}
 use Rattle.body_rewrites.specs.Listing.{has_number}
-use Rattle.body_rewrites.proofs.ThoseLemmas.{none_next, none_of_all, none_start}
+use Rattle.body_rewrites.specs.ThoseLemmas.{none_next, none_of_all, none_start}
 use Rattle.body_rewrites.proofs.ListingLemmas.{number_had, none_had}
 use Rattle.body_rewrites.proofs.listing.has_number.Goals as goal
 
