@@ -8,11 +8,10 @@ use Rattle.std.specs.Str.{IsAscii}
 use Rattle.std.proofs.lemmas.Bool.{and_parts, ltb-true}
 use Rattle.std.proofs.lemmas.Option.{same_Some, slice_get-get_or, unwrap_or-slice_get}
 use Rattle.std.proofs.lemmas.Str.{IsUtf8-from_ascii}
-use Rattle.rewrite_rules.specs.Names.{names}
+use Rattle.rewrite_rules.specs.Names.{names, AreFew}
 use Rattle.rewrite_rules.specs.Rule.{rule_name, rule_number}
 use Rattle.rewrite_rules.specs.Table.{parts}
 use Rattle.rewrite_rules.specs.declared.rule.Rule.{Rule}
-use Rattle.rewrite_rules.proofs.NameLemmas.{few_names}
 use Rattle.teddertempo_c.specs.Naming.{HoldsName, HoldsNone, WritesName}
 
 pub holds_name : (name old new : List ℕ) (count result : ℕ) → count ≡ min (length name) (length old) → new ≡ take count name ++ drop count old →
@@ -68,5 +67,5 @@ module _ (rule : Rule) (number : ℕ) (is : number ≡ rule_number rule) where
   pub number_names : (name : List ℕ) → rule_name rule ≡ name → slice_get names number ≡ Some name
   number_names name e = ap (slice_get names) is ∙ at_number rule ∙ ap (λ t. Some t) e
 
-  pub is_number : number ≢ 18446744073709551615
-  is_number most = let few = few_names in let below = rule.is_there in omega (arith, few, below, is, most)
+  pub is_number : AreFew → number ≢ 18446744073709551615
+  is_number law most = let few = law.names in let below = rule.is_there in omega (arith, few, below, is, most)

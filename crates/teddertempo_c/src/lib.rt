@@ -22,6 +22,7 @@ mod rules;
 use mutating::{mutate_in, mutate_with_in};
 pub use options::Options;
 pub use report::Report;
+use rewrite_rules::laws::rows_are_few;
 use rewrite_rules::{Rule, rule_count};
 use std::alloc::Global;
 
@@ -142,6 +143,7 @@ pub extern "C" fn teddertempo_rule_number(name: &[u8]) -> u64
     ensures known { result ≢ u64.MAX → slice_get names result ≡ Some name.now }
     ensures unknown { result ≡ u64.MAX → (rule : Rule) → rule_name rule ≢ name.now }
 {
+    rows_are_few();
     match rule_by_name(name) {
         Some(rule) => rule.number() as u64,
         None => u64::MAX,
