@@ -29,7 +29,7 @@ for crate in crates/*/; do
     done
 done
 cp benches/main.rt.in "$work/crates/calls/src/main.rt"
-{ cat crates.txt; echo "calls: mutate_base device_tally peephole_script peephole_terms peephole_examples"; } > "$work/crates.txt"
+{ cat crates.txt; echo "calls: given_words mutate_base wasm_types device_tally peephole_script peephole_terms peephole_examples"; } > "$work/crates.txt"
 if ! (cd "$work/crates/calls" && rt run < /dev/null) > "$work/log" 2>&1 && [ ! -x "$work/crates/calls/out/calls" ]; then
     cat "$work/log"
     exit 1

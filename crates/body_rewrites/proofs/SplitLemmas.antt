@@ -9,7 +9,7 @@ use Rattle.std.proofs.lemmas.List.{length-append, length-map, map-append, revers
 use Rattle.wasm_code.specs.Instruction.{Instruction}
 use Rattle.wasm_code.specs.declared.operator.Operator.{Operator}
 use Rattle.wasm_code.specs.declared.operator.Operator.TheVariants.{Instr}
-use Rattle.mutate_base.specs.declared.types.PrimitiveTypeInfo.{PrimitiveTypeInfo}
+use Rattle.wasm_types.specs.declared.types.PrimitiveTypeInfo.{PrimitiveTypeInfo}
 use mir.Val.{bits}
 use Rattle.peephole_machine.specs.Values.{width_of, Context}
 use Rattle.rewrite_rules.specs.declared.pattern.Part.{Part}

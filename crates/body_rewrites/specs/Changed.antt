@@ -1,7 +1,7 @@
 -- A body with a change in it: its bytes, how it is read again, and that it does what the body did (this project).
 use Rattle.std.specs.Prelude.{◌≡◌, ℕ, ◌+◌, ◌<◌, List, ◌++◌, length}
 use Rattle.wasm_code.specs.declared.operator.Operator.{Operator}
-use Rattle.mutate_base.specs.declared.types.PrimitiveTypeInfo.{PrimitiveTypeInfo}
+use Rattle.wasm_types.specs.declared.types.PrimitiveTypeInfo.{PrimitiveTypeInfo}
 use Rattle.body_splices.specs.OwnBytes.{own_bytes, structural_bytes, without_offsets}
 use Rattle.body_splices.specs.Splice.{AppendsSpliced}
 use Rattle.peephole_machine.specs.Values.{Context}

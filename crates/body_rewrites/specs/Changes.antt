@@ -4,7 +4,7 @@ use Rattle.std.specs.List.{All}
 use Rattle.std.specs.Prelude.{option_to_list}
 use Rattle.wasm_code.specs.Instruction.{Instruction}
 use Rattle.wasm_code.specs.declared.operator.Operator.{Operator}
-use Rattle.mutate_base.specs.declared.types.PrimitiveTypeInfo.{PrimitiveTypeInfo}
+use Rattle.wasm_types.specs.declared.types.PrimitiveTypeInfo.{PrimitiveTypeInfo}
 use Rattle.body_splices.specs.declared.piece.Piece.{Piece}
 use Rattle.body_splices.specs.OwnBytes.{without_offsets}
 use Rattle.body_splices.specs.Splice.{IsPieceIn}

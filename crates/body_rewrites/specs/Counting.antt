@@ -7,7 +7,7 @@ use Rattle.peephole_machine.specs.Values.{Context}
 use Rattle.rewrite_rules.specs.declared.rule.Rule.{Rule}
 use Rattle.rewrite_rules.specs.Names.{names, rule_of}
 use Rattle.rewrite_rules.specs.Rule.{rule_number}
-use Rattle.mutate_base.specs.declared.types.PrimitiveTypeInfo.{PrimitiveTypeInfo}
+use Rattle.wasm_types.specs.declared.types.PrimitiveTypeInfo.{PrimitiveTypeInfo}
 use Rattle.body_rewrites.specs.declared.asked.Asked.{Asked}
 use Rattle.body_rewrites.specs.declared.asked.Form.{Form}
 use Rattle.body_rewrites.specs.declared.asked.Form.TheVariants.{Alone}

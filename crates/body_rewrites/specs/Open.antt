@@ -4,7 +4,7 @@ use Rattle.std.specs.Option.{unwrap_or}
 use Rattle.wasm_code.specs.Instruction.{Instruction}
 use Rattle.wasm_code.specs.declared.operator.Operator.{Operator}
 use Rattle.wasm_code.specs.declared.operator.Operator.TheVariants.{Instr}
-use Rattle.mutate_base.specs.declared.types.PrimitiveTypeInfo.{PrimitiveTypeInfo}
+use Rattle.wasm_types.specs.declared.types.PrimitiveTypeInfo.{PrimitiveTypeInfo}
 use Rattle.peephole_machine.specs.Values.{Context}
 use Rattle.peephole_machine.specs.IntegerRow.{integer_row, is_other}
 use Rattle.peephole_machine.specs.Row.{instruction_types, instruction_count}

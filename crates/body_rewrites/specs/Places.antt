@@ -3,7 +3,7 @@ use Rattle.std.specs.Prelude.{◌≡◌, ℕ, ◌≤◌, ◌<◌, Bool, true, fa
 use Rattle.std.specs.Option.{option_flatten}
 use Rattle.wasm_code.specs.Instruction.{Instruction}
 use Rattle.wasm_code.specs.declared.operator.Operator.{Operator}
-use Rattle.mutate_base.specs.declared.types.PrimitiveTypeInfo.{PrimitiveTypeInfo}
+use Rattle.wasm_types.specs.declared.types.PrimitiveTypeInfo.{PrimitiveTypeInfo}
 use Rattle.peephole_machine.specs.Values.{Context, context_in}
 use Rattle.rewrite_rules.specs.declared.order.Effects.{Effects}
 use Rattle.rewrite_rules.specs.declared.pattern.Part.{Part}

@@ -6,9 +6,9 @@ ghost use Rattle.body_rewrites.specs.Alone.{are_alone, doubles, form_of, takes, 
 use crate::asked::Form;
 use crate::growth::Growth;
 use crate::trees::Tree;
-use mutate_base::PrimitiveTypeInfo;
 use peephole_machine::IntegerType;
 use rewrite_rules::{Row, Side, Step, Widths, holes_of};
+use wasm_types::PrimitiveTypeInfo;
 
 // Whether the side is an operand alone.
 fn are_alone(side: &Side) -> bool

@@ -2,7 +2,7 @@
 
 use arrayvec::ArrayVec;
 use body_splices::Piece;
-use mutate_base::PrimitiveTypeInfo;
+use wasm_types::PrimitiveTypeInfo;
 
 /// New code for an operator and operators right before it.
 #[derive(Drop)]

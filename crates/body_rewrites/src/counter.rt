@@ -1,6 +1,6 @@
 //! The lines of the table, laid out for counting what they make of the operators of a body.
 ghost use Rattle.std.specs.Prelude.{◌≡◌, ◌++◌, ◌<◌, ◌||◌, [], ℕ, true, length, option_to_list, slice_get, IfOk, IfSome, IfNone, OnOk};
-ghost use Rattle.mutate_base.specs.declared.types.PrimitiveTypeInfo.TheVariants as PrimitiveTypeInfo;
+ghost use Rattle.wasm_types.specs.declared.types.PrimitiveTypeInfo.TheVariants as PrimitiveTypeInfo;
 ghost use Rattle.rewrite_rules.specs.Names.{rule_of};
 ghost use Rattle.body_rewrites.specs.Listing.{AreRules};
 ghost use Rattle.body_rewrites.specs.Asking.{all_asked, is_candidate, numbers_from, candidates, IsUsed, AreLists};
@@ -12,11 +12,11 @@ use crate::counts::slot_of;
 use crate::growth::Growth;
 use crate::roots::{class_at, fits};
 use crate::trees::Tree;
-use mutate_base::PrimitiveTypeInfo;
 use rewrite_rules::rules_of_rows;
 use std::alloc::{AllocError, Global};
 use std::marker::Model;
 use wasm_code::OperatorAndByteOffset;
+use wasm_types::PrimitiveTypeInfo;
 
 /// The lines of the table, laid out for counting what they make of the operators of a body.
 #[derive(Drop)]
@@ -37,7 +37,7 @@ pub(crate) struct Counter {
 
 impl Model for Counter {
     ghost use Rattle.std.specs.Prelude.{◌≡◌, List, Bool, true, false, length};
-    ghost use Rattle.mutate_base.specs.declared.types.PrimitiveTypeInfo.TheVariants.{I32, I64};
+    ghost use Rattle.wasm_types.specs.declared.types.PrimitiveTypeInfo.TheVariants.{I32, I64};
     ghost use Rattle.body_rewrites.specs.Listing.{AreRules};
     ghost use Rattle.body_rewrites.specs.Asking.{all_asked, AreLists};
     ghost use Rattle.body_rewrites.specs.Counting.{sample, alone_slots};

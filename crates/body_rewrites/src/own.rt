@@ -13,8 +13,8 @@ pub(crate) mod unfold;
 pub(crate) mod with_nop;
 pub(crate) mod writing;
 
-use mutate_base::PrimitiveTypeInfo;
 use peephole_machine::IntegerType;
+use wasm_types::PrimitiveTypeInfo;
 
 /// What is made of code, whatever word is drawn.
 #[derive(Clone, Copy, Debug, PartialEq, Eq)]

@@ -2,11 +2,11 @@
 
 use crate::{Body, Growth, own_code, own_growth, trees_of};
 use body_splices::Piece;
-use mutate_base::{ModuleInfo, PrimitiveTypeInfo};
 use rewrite_rules::Own;
 use std::alloc::Global;
 use std::test::Fail;
 use wasm_code::{Imm, read_body};
+use wasm_types::{ModuleInfo, PrimitiveTypeInfo};
 
 /// With a local of i32: `nop`, `i32.const 5`, `i32.const 7`, `i32.add`, `drop`, `i32.const 1`, `local.tee 0`, `local.set 0`,
 /// `local.get 0`, `drop`, `end`.

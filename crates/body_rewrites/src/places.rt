@@ -11,11 +11,11 @@ use crate::laws::lefts_are_instances;
 use crate::matching::{find, operand, operand_at};
 use crate::parts::Parts;
 use crate::trees::Tree;
-use mutate_base::{ModuleInfo, PrimitiveTypeInfo};
 use peephole_machine::IntegerType;
 use rewrite_rules::laws::{holes_are_told, parts_are_the_code, sides_are_parts, table_is_right};
 use rewrite_rules::{Effects, Found, Row};
 use wasm_code::OperatorAndByteOffset;
+use wasm_types::{ModuleInfo, PrimitiveTypeInfo};
 
 /// A line of the table: a row, for one of its widths.
 #[derive(Clone, Copy, Debug, PartialEq, Eq)]

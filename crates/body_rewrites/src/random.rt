@@ -8,11 +8,11 @@ use crate::choice::choose;
 use crate::places::Body;
 use crate::rewrite::Rewrite;
 use crate::rewriting::rewrite_body;
-use mutate_base::PrimitiveTypeInfo;
 use rand_core::Rng;
 use rewrite_rules::Rule;
 use std::alloc::Global;
 use wasm_code::{Function, SinkError};
+use wasm_types::PrimitiveTypeInfo;
 
 /// A rewrite that was made, and the types of the globals that the new code asks for.
 #[derive(Drop)]

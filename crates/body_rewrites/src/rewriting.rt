@@ -13,11 +13,11 @@ use crate::making::made;
 use crate::places::{Body, Line};
 use crate::rewrite::Rewrite;
 use body_splices::splice;
-use mutate_base::PrimitiveTypeInfo;
 use peephole_machine::IntegerType;
 use rewrite_rules::{Widths, row_at};
 use std::alloc::{AllocError, Global};
 use wasm_code::{Function, SinkError};
+use wasm_types::PrimitiveTypeInfo;
 
 // Whether a row of these widths is asked for the width.
 fn is_asked(widths: Widths, width: IntegerType) -> bool

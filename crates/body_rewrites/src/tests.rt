@@ -1,10 +1,10 @@
 //! The trees of a small body, and what rewrites by rows of the table make of small bodies.
 
 use crate::{Body, Rewrite, Tree, rewrite_body, trees_of};
-use mutate_base::{ModuleInfo, PrimitiveTypeInfo};
 use peephole_machine::IntegerType;
 use std::test::Fail;
 use wasm_code::{Function, read_body};
+use wasm_types::{ModuleInfo, PrimitiveTypeInfo};
 
 /// With a local of i32: `local.get 0`, `i32.const 5`, `i32.add`, `i32.const 7`, `local.tee 0`, `i32.div_u`, `drop`, `end`.
 const BODY: &[u8] = b"\x20\0\x41\x05\x6a\x41\x07\x22\0\x6e\x1a\x0b";

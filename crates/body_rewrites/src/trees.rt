@@ -8,11 +8,11 @@ ghost use Rattle.peephole_machine.specs.Row.{instruction_types};
 ghost use Rattle.body_rewrites.specs.Trees.{one_type, IsTreeAt, AreTrees};
 ghost use Rattle.body_rewrites.specs.Open.{start_of, behind_if, AreOpen, HasEffectsOf, HasInstruction, HasNoted, IsNext};
 
-use mutate_base::{ModuleInfo, PrimitiveTypeInfo};
 use peephole_machine::{asks_world, instruction_types, operand_count};
 use rewrite_rules::{traps, writes};
 use std::alloc::{AllocError, Global};
 use wasm_code::{Instr, Operator, OperatorAndByteOffset};
+use wasm_types::{ModuleInfo, PrimitiveTypeInfo};
 
 /// An operator's tree: where it begins, the type of the value that it leaves, and whether its code may write, trap, or ask the
 /// world.

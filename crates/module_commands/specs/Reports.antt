@@ -1,7 +1,7 @@
 -- What `--stats` reports (this project).
 use Rattle.std.specs.Prelude.{◌≡◌, ◌⊎◌, ℕ, zero, suc, ◌+◌, nat_lt, if◌then◌else◌, Bool, true, false, List, [], ◌∷◌, ◌++◌, length, codes, Option, Some, None}
 use Rattle.std.specs.Io.KnownBytes.{Appends}
-use Rattle.mutate_base.specs.Module.{Module}
+use Rattle.wasm_types.specs.Module.{Module}
 use Rattle.wasm_module.specs.Module.{Layout, IsModule}
 use Rattle.rewrite_rules.specs.declared.rule.Rule.{Rule}
 use Rattle.module_rewrites.specs.Attempt.{CanRead}

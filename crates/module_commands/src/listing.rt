@@ -17,12 +17,12 @@ use crate::objects::write_value;
 use crate::options::Options;
 use body_rewrites::{Body, Rewrite, rewrites_of_body, trees_of};
 use module_rewrites::{FunctionBody, chosen_entries, index_of, read_function};
-use mutate_base::ModuleInfo;
 use rewrite_rules::Rule;
 use serde_json::{Value, json};
 use std::alloc::{AllocError, Global};
 use std::io::Write;
 use wasm_module::Module;
+use wasm_types::ModuleInfo;
 
 // Writes the text of a rewrite of the function with the index.
 fn write_text<W: Write>(

@@ -1,6 +1,6 @@
 //! How much of a module rules reach.
 ghost use Rattle.std.specs.Prelude.{◌≡◌, ◌↔◌, ◌+◌, ◌<◌, length, slice_get, is_some, IfOk, IfErr, IsTrue};
-ghost use Rattle.mutate_base.specs.declared.types.PrimitiveTypeInfo.{PrimitiveTypeInfo};
+ghost use Rattle.wasm_types.specs.declared.types.PrimitiveTypeInfo.{PrimitiveTypeInfo};
 ghost use Rattle.peephole_machine.specs.IntegerRow.{bare_operator};
 ghost use Rattle.peephole_machine.specs.Row.{instruction_byte};
 ghost use Rattle.peephole_machine.specs.Values.{context_in};
@@ -14,12 +14,12 @@ use crate::blocks::{block_ending, delimits};
 use crate::failure::Failure;
 use body_rewrites::{Body, reached_operators, trees_of};
 use module_rewrites::read_function;
-use mutate_base::{ModuleInfo, PrimitiveTypeInfo};
 use peephole_machine::{Operation, opcode_byte};
 use rewrite_rules::Rule;
 use std::alloc::Global;
 use wasm_code::{Instr, Operator, OperatorAndByteOffset};
 use wasm_module::Layout;
+use wasm_types::{ModuleInfo, PrimitiveTypeInfo};
 
 /// How many there are of something, and how many of those rules reach.
 #[derive(Clone, Copy, Debug, PartialEq, Eq)]

@@ -1,6 +1,6 @@
 -- Why nothing of a module is rewritten.
 use Rattle.std.proofs.Common.{◌≡◌, ◌⊎◌, ◌↔◌, ◌<◌, ◌≤◌, ◌+◌, ℕ, List, length, Option, None, inl, inr, subst, sym, arith}
-use Rattle.mutate_base.specs.Module.{Module}
+use Rattle.wasm_types.specs.Module.{Module}
 use Rattle.wasm_module.specs.Module.{Layout, IsModule}
 use Rattle.module_rewrites.specs.Attempt.{IsFirstChosen, IsForSize, IsReason, RefusesIndex}
 use Rattle.module_rewrites.specs.Mutated.{IsChosen}

@@ -1,7 +1,7 @@
 -- The function and the rewrite that words choose.
 use Rattle.std.proofs.Common.{◌≡◌, inl, inr, ℕ, zero, suc, ◌+◌, ◌<◌, List, length, Some, None, sym, subst, ◌∙◌, arith}
 use Rattle.rand_core.specs.Stream.{Stream}
-use Rattle.mutate_base.specs.Module.{Module}
+use Rattle.wasm_types.specs.Module.{Module}
 use Rattle.wasm_module.specs.Module.{Layout}
 use Rattle.body_rewrites.specs.Choice.{after_word}
 use Rattle.body_rewrites.specs.declared.rewrite.Rewrite.{Rewrite}

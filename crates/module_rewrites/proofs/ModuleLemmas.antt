@@ -2,7 +2,7 @@
 use Rattle.std.proofs.Common.{◌≡◌, inl, inr, ℕ, ◌+◌, ◌-◌, ◌<◌, ◌≤◌, List, length, Option, Some, None, Result, Ok, Err, sym, subst, arith}
 use Rattle.std.specs.Prelude.{IfOk, IfErr, IfNone, IfSome}
 use Rattle.std.proofs.lemmas.Bool.{cases_eq, cases_lt}
-use Rattle.mutate_base.specs.Module.{Module}
+use Rattle.wasm_types.specs.Module.{Module}
 use Rattle.wasm_module.specs.Module.{Layout, IsModule}
 use Rattle.rewrite_rules.specs.declared.rule.Rule.{Rule}
 use Rattle.body_rewrites.specs.declared.rewrite.Rewrite.{Rewrite}

@@ -5,8 +5,8 @@ use Rattle.std.proofs.lemmas.List.{drop-drop, take_all, take-append-drop, take-t
 use Rattle.std.proofs.lemmas.Option.{same_Some}
 use Rattle.wasm_code.specs.Body.{SpellsAll, SpellsCode, ends, is_end}
 use Rattle.wasm_code.specs.declared.operator.Operator.{Operator}
-use Rattle.mutate_base.specs.Module.{Module, merged}
-use Rattle.mutate_base.specs.declared.types.PrimitiveTypeInfo.{PrimitiveTypeInfo}
+use Rattle.wasm_types.specs.Module.{Module, merged}
+use Rattle.wasm_types.specs.declared.types.PrimitiveTypeInfo.{PrimitiveTypeInfo}
 use Rattle.wasm_declarations.specs.declared.entries.Entry.{Entry}
 use Rattle.wasm_declarations.specs.Locals.{SpellsLocals}
 use Rattle.wasm_module.specs.Module.{IsModule, Layout}

@@ -3,8 +3,8 @@ use Rattle.std.proofs.Common.{◌≡◌, ℕ, ◌+◌, List, [], ◌++◌, Some,
 use Rattle.std.specs.Prelude.{slice_get, slice_range}
 use Rattle.std.proofs.lemmas.Option.{same_Some}
 use Rattle.wasm_code.specs.declared.operator.Operator.{Operator}
-use Rattle.mutate_base.specs.Module.{Module}
-use Rattle.mutate_base.specs.declared.types.PrimitiveTypeInfo.{PrimitiveTypeInfo}
+use Rattle.wasm_types.specs.Module.{Module}
+use Rattle.wasm_types.specs.declared.types.PrimitiveTypeInfo.{PrimitiveTypeInfo}
 use Rattle.wasm_sections.specs.Debug.{IsWithoutDebug}
 use Rattle.wasm_sections.specs.Section.{SpellsModule}
 use Rattle.wasm_sections.specs.declared.section.Section.{Section}

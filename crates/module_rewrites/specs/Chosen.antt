@@ -1,7 +1,7 @@
 -- Which operator of a module is rewritten, by which rule, and what the new bytes are, as words of the generator choose (this project).
 use Rattle.std.specs.Prelude.{◌≡◌, ◌⊎◌, ℕ, ◌+◌, ◌<◌, List, length, Option, Some, None}
 use Rattle.rand_core.specs.Stream.{Stream}
-use Rattle.mutate_base.specs.Module.{Module}
+use Rattle.wasm_types.specs.Module.{Module}
 use Rattle.wasm_module.specs.Module.{Layout, IsModule}
 use Rattle.body_rewrites.specs.declared.rewrite.Rewrite.{Rewrite}
 use Rattle.module_rewrites.specs.Drawing.{DrawsEntry, EachInVain, IsFirstBefore, IsFirstBehind, NamesInVain}

@@ -6,10 +6,10 @@ use Rattle.wasm_code.specs.declared.operator.Operator.{Operator}
 use Rattle.wasm_code.specs.declared.fault.ReadError.{ReadError}
 use Rattle.wasm_code.specs.declared.fault.ReadKind.{ReadKind}
 use Rattle.wasm_code.specs.declared.fault.ReadKind.TheVariants as kinds
-use Rattle.mutate_base.specs.Module.{Module, function_type}
-use Rattle.mutate_base.specs.declared.types.PrimitiveTypeInfo.{PrimitiveTypeInfo}
-use Rattle.mutate_base.specs.declared.types.TypeInfo.{TypeInfo}
-use Rattle.mutate_base.specs.declared.types.TypeInfo.TheVariants.{Func, Other}
+use Rattle.wasm_types.specs.Module.{Module, function_type}
+use Rattle.wasm_types.specs.declared.types.PrimitiveTypeInfo.{PrimitiveTypeInfo}
+use Rattle.wasm_types.specs.declared.types.TypeInfo.{TypeInfo}
+use Rattle.wasm_types.specs.declared.types.TypeInfo.TheVariants.{Func, Other}
 use Rattle.wasm_declarations.specs.declared.entries.Entry.{Entry}
 use Rattle.wasm_declarations.specs.Locals.{SpellsLocals, IsLocalsFault}
 use Rattle.wasm_sections.specs.declared.fault.ModuleError.{ModuleError}

@@ -1,8 +1,8 @@
 -- A rewritten module read again: its functions are those of the old one, of which one has another body (this project).
 use Rattle.std.specs.Prelude.{◌≡◌, ◌≢◌, ◌↔◌, ℕ, List, length, Some, slice_get, slice_range}
 use Rattle.wasm_code.specs.declared.operator.Operator.{Operator}
-use Rattle.mutate_base.specs.Module.{Module}
-use Rattle.mutate_base.specs.declared.types.PrimitiveTypeInfo.{PrimitiveTypeInfo}
+use Rattle.wasm_types.specs.Module.{Module}
+use Rattle.wasm_types.specs.declared.types.PrimitiveTypeInfo.{PrimitiveTypeInfo}
 use Rattle.wasm_declarations.specs.declared.entries.Entry.{Entry}
 use Rattle.wasm_module.specs.Module.{Layout, IsModule}
 use Rattle.wasm_module.specs.Reread.{HasContents}

@@ -16,13 +16,13 @@ use crate::mutation::MutationError;
 use crate::scope::Scope;
 use crate::times::{RewrittenModule, watch_times};
 use crate::watch::{Unwatched, Watch};
-use mutate_base::ModuleInfo;
 use rand::rngs::StdRng;
 use rand_core::SeedableRng;
 use std::alloc::Global;
 use std::ops::Range;
 use thiserror::Error as ErrorTexts;
 use wasm_module::{Layout, ModuleError, read_module};
+use wasm_types::ModuleInfo;
 
 /// Why nothing of a module is rewritten.
 #[derive(Clone, Copy, Debug, PartialEq, Eq, ErrorTexts)]

@@ -1,19 +1,19 @@
 //! A function of a module: the types of its parameters and locals, and its body.
 ghost use Rattle.std.specs.Prelude.{◌≡◌, ◌↔◌, ◌<◌, ◌+◌, ℕ, List, length, Some, option_copied, option_map, slice_get, slice_range, IfOk, IfErr, IfNone, IfSome, IsTrue, MatchResult};
 ghost use Rattle.wasm_code.specs.declared.operator.Operator.{Operator};
-ghost use Rattle.mutate_base.specs.declared.types.PrimitiveTypeInfo.{PrimitiveTypeInfo};
-ghost use Rattle.mutate_base.specs.Module.{Module, function_type};
+ghost use Rattle.wasm_types.specs.declared.types.PrimitiveTypeInfo.{PrimitiveTypeInfo};
+ghost use Rattle.wasm_types.specs.Module.{Module, function_type};
 ghost use Rattle.module_rewrites.specs.Function.{HasNoType, IsFunction, IsFunctionFault, IsUnknown, IsWantOfMemory, KnowsIndices, operator_at_fault, parameters_of};
 ghost use Rattle.wasm_module.specs.Inside.{IsInside};
 ghost use Rattle.wasm_module.specs.Module.{IsModule};
 
 use crate::operator_code::{OperatorCode, code_at};
-use mutate_base::{ModuleInfo, PrimitiveTypeInfo, TypeInfo};
 use std::alloc::Global;
 use thiserror::Error;
 use wasm_code::{OperatorAndByteOffset, ReadError, ReadKind, read_code};
 use wasm_module::laws::entries_are_inside;
 use wasm_module::{Entry, Layout, ModuleError, ModuleFault, read_locals};
+use wasm_types::{ModuleInfo, PrimitiveTypeInfo, TypeInfo};
 
 /// Why a function can't be read.
 #[derive(Clone, Copy, Debug, PartialEq, Eq, Error)]

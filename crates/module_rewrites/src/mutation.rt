@@ -17,7 +17,6 @@ use crate::laws::rewritten_modules_do_as_before;
 use crate::scope::Scope;
 use body_rewrites::{Body, Rewrite, Rewritten, rewrite_at_random, trees_of};
 use body_splices::laws::own_bytes_stay;
-use mutate_base::ModuleInfo;
 use rand_core::Rng;
 use rewrite_rules::Rule;
 use std::alloc::{AllocError, Global};
@@ -25,6 +24,7 @@ use thiserror::Error as ErrorTexts;
 use wasm_code::Function;
 use wasm_module::laws::{entries_are_inside, rewritten_bytes_are_a_module};
 use wasm_module::{Entry, Layout, ModuleError, WriteError, read_module, with_body};
+use wasm_types::ModuleInfo;
 
 // The most rewrites that are drawn, one after another, before all functions are tried in order.
 const MOST_DRAWS: usize = 16;

@@ -2,10 +2,10 @@
 
 use crate::texts::Text;
 use body_rewrites::{Tree, trees_of};
-use mutate_base::{ModuleInfo, PrimitiveTypeInfo};
 use peephole_machine::operand_count;
 use std::alloc::{AllocError, Global};
 use wasm_code::{Operator, OperatorAndByteOffset};
+use wasm_types::{ModuleInfo, PrimitiveTypeInfo};
 
 // The most operators that are drawn: a deep tree's drawing grows with the square of its depth.
 const MOST_DRAWN: usize = 256;

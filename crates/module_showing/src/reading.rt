@@ -4,9 +4,9 @@ ghost use Rattle.wasm_module.specs.Module.{IsModule};
 
 use crate::error::ShowError;
 use module_rewrites::{FunctionBody, read_function};
-use mutate_base::ModuleInfo;
 use std::alloc::Global;
 use wasm_module::{Layout, Module, ModuleFault, read_module};
+use wasm_types::ModuleInfo;
 
 /// The module; none where the bytes are none.
 pub(crate) fn module_of<'a>(alloc: Global, bytes: &'a [u8]) -> Result<Option<Module<'a>>, ShowError>

@@ -11,13 +11,13 @@ use crate::range::range_of;
 use crate::reading::{function_of, module_of};
 use body_rewrites::{Body, trees_of};
 use module_rewrites::{FunctionBody, MadeRewrite};
-use mutate_base::ModuleInfo;
 use rewrite_rules::Rule;
 use std::alloc::Global;
 use std::io::Write;
 use wasm_code::OperatorAndByteOffset;
 use wasm_module::Section;
 use wasm_names::function_name;
+use wasm_types::ModuleInfo;
 
 // A function of a module.
 #[derive(Clone, Copy)]

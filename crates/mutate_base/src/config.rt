@@ -4,8 +4,8 @@ ghost use Rattle.std.specs.Option.Follows.{option_follows_value};
 
 mod taking;
 
-use crate::module::ModuleInfo;
 use std::marker::Model;
+use wasm_types::ModuleInfo;
 
 /// What a mutation goes by: whether the meaning is preserved, and, once it is set up, the module and the generator
 /// that random constants are drawn from.

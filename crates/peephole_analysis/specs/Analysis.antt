@@ -14,15 +14,15 @@ use Rattle.wasm_code.specs.declared.immediate.ValType.TheVariants as value
 use Rattle.wasm_code.specs.declared.table.ResultKind.{ResultKind}
 use Rattle.wasm_code.specs.declared.table.ResultKind.TheVariants as by
 use Rattle.wasm_code.specs.declared.table.RowInfo.{RowInfo}
-use Rattle.mutate_base.specs.Module.{Module, function_type}
+use Rattle.wasm_types.specs.Module.{Module, function_type}
 use Rattle.mutate_base.specs.declared.error.Error.{Error}
 use Rattle.mutate_base.specs.declared.error.Error.TheVariants.{NoMutationsApplicable, UnknownFunction, UnknownLocal, UnknownGlobal, UnknownTable, UnknownMemory, UnknownOperand}
-use Rattle.mutate_base.specs.declared.types.ElementType.{ElementType}
-use Rattle.mutate_base.specs.declared.types.ElementType.TheVariants as element
-use Rattle.mutate_base.specs.declared.types.PrimitiveTypeInfo.{PrimitiveTypeInfo}
-use Rattle.mutate_base.specs.declared.types.PrimitiveTypeInfo.TheVariants.{I32, I64, F32, F64, V128, FuncRef, ExternRef, Empty}
-use Rattle.mutate_base.specs.declared.types.TypeInfo.{TypeInfo}
-use Rattle.mutate_base.specs.declared.types.TypeInfo.TheVariants.{Func, Other}
+use Rattle.wasm_types.specs.declared.types.ElementType.{ElementType}
+use Rattle.wasm_types.specs.declared.types.ElementType.TheVariants as element
+use Rattle.wasm_types.specs.declared.types.PrimitiveTypeInfo.{PrimitiveTypeInfo}
+use Rattle.wasm_types.specs.declared.types.PrimitiveTypeInfo.TheVariants.{I32, I64, F32, F64, V128, FuncRef, ExternRef, Empty}
+use Rattle.wasm_types.specs.declared.types.TypeInfo.{TypeInfo}
+use Rattle.wasm_types.specs.declared.types.TypeInfo.TheVariants.{Func, Other}
 use Rattle.peephole_lang.specs.Lang.{ids_of, payload_of}
 use Rattle.peephole_lang.specs.Node.{head_of}
 use Rattle.peephole_lang.specs.declared.lang.Head.{Head}

@@ -1,14 +1,15 @@
 //! The type of a node's result.
 
 ghost use Rattle.std.specs.Prelude.{◌≡◌, ◌<◌, ℕ, Option, slice_get, IfOk, IfErr};
-ghost use Rattle.mutate_base.specs.declared.types.PrimitiveTypeInfo.{PrimitiveTypeInfo};
+ghost use Rattle.wasm_types.specs.declared.types.PrimitiveTypeInfo.{PrimitiveTypeInfo};
 ghost use Rattle.peephole_analysis.specs.Analysis.{value_type, reference_type, element_type, address_type, one_result, index_type, immediate_type, immediate_index, kind_type, rowless_types, or_empty, first_type, returning_type};
 
-use mutate_base::{ElementType, Error, ModuleInfo, PrimitiveTypeInfo, TypeInfo};
+use mutate_base::Error;
 use peephole_lang::{Id, Lang};
 use std::alloc::AllocError;
 use std::marker::Model;
 use wasm_code::{AbstractHeapType, HeapType, Imm, ResultKind, ValType, row_info};
+use wasm_types::{ElementType, ModuleInfo, PrimitiveTypeInfo, TypeInfo};
 
 /// What tells the types of operands by their ids.
 pub trait OperandTypes {

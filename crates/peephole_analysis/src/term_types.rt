@@ -8,9 +8,10 @@ ghost use Rattle.peephole_analysis.specs.Deciding.{first_place, deciding_operand
 ghost use Rattle.peephole_analysis.specs.TermTypes.{term_type, known_type};
 
 use crate::analysis::{OperandTypes, PeepholeMutationAnalysis};
-use mutate_base::{Error, PrimitiveTypeInfo};
+use mutate_base::Error;
 use peephole_lang::{Id, Lang, RecExpr};
 use wasm_code::{ResultKind, row_info};
+use wasm_types::PrimitiveTypeInfo;
 
 // Nothing is known of any operand.
 #[derive(Clone, Copy)]

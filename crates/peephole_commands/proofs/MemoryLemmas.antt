@@ -14,13 +14,13 @@ use Rattle.wasm_code.specs.declared.operator.Operator.{Operator}
 use Rattle.wasm_code.specs.declared.table.ResultKind.{ResultKind}
 use Rattle.wasm_code.specs.declared.table.ResultKind.TheVariants as by
 use Rattle.wasm_code.specs.declared.table.RowInfo.{RowInfo}
-use Rattle.mutate_base.specs.Module.{function_type}
+use Rattle.wasm_types.specs.Module.{function_type}
 use Rattle.mutate_base.specs.declared.error.Error.{Error}
 use Rattle.mutate_base.specs.declared.error.Error.TheVariants as error
 use Rattle.node_payloads.specs.declared.term_error.TermError.{TermError}
-use Rattle.mutate_base.specs.declared.types.PrimitiveTypeInfo.{PrimitiveTypeInfo}
-use Rattle.mutate_base.specs.declared.types.TypeInfo.{TypeInfo}
-use Rattle.mutate_base.specs.declared.types.TypeInfo.TheVariants.{Func, Other}
+use Rattle.wasm_types.specs.declared.types.PrimitiveTypeInfo.{PrimitiveTypeInfo}
+use Rattle.wasm_types.specs.declared.types.TypeInfo.{TypeInfo}
+use Rattle.wasm_types.specs.declared.types.TypeInfo.TheVariants.{Func, Other}
 use Rattle.peephole_lang.specs.declared.lang.Head.{Head}
 use Rattle.peephole_lang.specs.Term.{Term, Node, tree_at}
 use Rattle.peephole_lang.specs.Text.{reads}

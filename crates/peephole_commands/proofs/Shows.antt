@@ -5,7 +5,7 @@ use Rattle.std.specs.Prelude.{◌↔◌, IsTrue, Result, MatchResult, slice_rang
 use Rattle.std.specs.Bool.{one_answer}
 use Rattle.std.proofs.lemmas.Option.{slice_get_within}
 use Rattle.wasm_code.specs.declared.operator.Operator.{Operator}
-use Rattle.mutate_base.specs.Module.{Module}
+use Rattle.wasm_types.specs.Module.{Module}
 use Rattle.mutate_base.specs.declared.error.Error.{Error}
 use Rattle.mutate_base.specs.declared.error.Error.TheVariants.{Memory}
 use Rattle.peephole_graphs.specs.declared.dfg.MiniDFG.{MiniDFG}

@@ -4,7 +4,7 @@ use Rattle.std.specs.Prelude.{◌||◌, ◌==◌, if◌then◌else◌}
 use Rattle.std.proofs.lemmas.Bool.{ne_eqb}
 use Rattle.std.proofs.lemmas.List.{length-reverse}
 use Rattle.wasm_code.specs.declared.operator.Operator.{Operator}
-use Rattle.mutate_base.specs.Module.{Module}
+use Rattle.wasm_types.specs.Module.{Module}
 use Rattle.peephole_graphs.specs.declared.shape.Shape.{Shape}
 use Rattle.peephole_graphs.specs.declared.shape.Judged.{Judged}
 use Rattle.peephole_graphs.specs.declared.shape.Judged.TheVariants.{Fits}

@@ -6,9 +6,9 @@ use Rattle.hex.specs.Hex.{decode_of, encode_lower}
 use Rattle.wasm_code.specs.declared.fault.ReadKind.{ReadKind}
 use Rattle.node_payloads.specs.declared.term_error.TermError.{TermError}
 use Rattle.mutate_base.specs.Error.{error_name}
-use Rattle.mutate_base.specs.Types.{type_name}
-use Rattle.mutate_base.specs.declared.types.PrimitiveTypeInfo.{PrimitiveTypeInfo}
-use Rattle.mutate_base.specs.Words.{word_stream}
+use Rattle.wasm_types.specs.Types.{type_name}
+use Rattle.wasm_types.specs.declared.types.PrimitiveTypeInfo.{PrimitiveTypeInfo}
+use Rattle.given_words.specs.Words.{word_stream}
 use Rattle.peephole_lang.specs.declared.lang.Head.{Head}
 use Rattle.peephole_nodes.specs.Payload.{is_writable}
 use Rattle.peephole_lang.specs.Term.{Node}

@@ -3,8 +3,8 @@ use Rattle.std.specs.Prelude.{◌≡◌, ◌⊎◌, ℕ, ◌<◌, MatchResult, B
 use Rattle.std.specs.Result.{result_map_both}
 use Rattle.mutate_base.specs.declared.error.Error.TheVariants.{Memory, TooLarge, UnknownFunction}
 use Rattle.mutate_base.specs.Config.{Config, info_of, generator_of}
-use Rattle.mutate_base.specs.Module.{Module, module_of}
-use Rattle.mutate_base.specs.Words.{word_stream}
+use Rattle.wasm_types.specs.Module.{Module, module_of}
+use Rattle.given_words.specs.Words.{word_stream}
 use Rattle.peephole_graphs.specs.Block.{IsBlockOf}
 use Rattle.peephole_graphs.specs.declared.shape.Shape.{Shape}
 use Rattle.peephole_graphs.specs.declared.dfg.MiniDFG.{MiniDFG}

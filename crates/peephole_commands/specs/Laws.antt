@@ -3,7 +3,7 @@
 use Rattle.std.specs.Prelude.{◌≡◌, ◌≢◌, ℕ, Bool, List, Err}
 use Rattle.wasm_code.specs.declared.fault.ReadKind.TheVariants as kinds
 use Rattle.mutate_base.specs.declared.error.Error.TheVariants.{Memory}
-use Rattle.mutate_base.specs.Module.{Module}
+use Rattle.wasm_types.specs.Module.{Module}
 use Rattle.peephole_lang.specs.declared.lang.Head.{Head}
 use Rattle.peephole_lang.specs.Term.{Node}
 use Rattle.peephole_analysis.specs.Analysis.{Analysis}

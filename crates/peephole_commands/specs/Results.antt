@@ -2,8 +2,8 @@
 use Rattle.std.specs.Prelude.{Bool, Option, None, Result, Ok}
 use Rattle.std.specs.Result.{result_ok, result_map_both}
 use Rattle.mutate_base.specs.declared.error.Error.{Error}
-use Rattle.mutate_base.specs.declared.types.PrimitiveTypeInfo.{PrimitiveTypeInfo}
-use Rattle.mutate_base.specs.declared.types.PrimitiveTypeInfo.TheVariants.{Empty}
+use Rattle.wasm_types.specs.declared.types.PrimitiveTypeInfo.{PrimitiveTypeInfo}
+use Rattle.wasm_types.specs.declared.types.PrimitiveTypeInfo.TheVariants.{Empty}
 use Rattle.peephole_analysis.specs.Analysis.{Analysis, instruction_type}
 use Rattle.peephole_graphs.specs.declared.dfg.MiniDFG.{MiniDFG}
 use Rattle.peephole_graphs.specs.Forest.{forest}

@@ -1,6 +1,6 @@
 -- What the command `show` tells of a block (this project's rules).
 use Rattle.std.specs.Prelude.{◌≡◌, ℕ, Bool, true, false, List, ◌++◌, codes, Result, Ok}
-use Rattle.mutate_base.specs.Module.{Module}
+use Rattle.wasm_types.specs.Module.{Module}
 use Rattle.peephole_graphs.specs.declared.dfg.MiniDFG.{MiniDFG}
 use Rattle.peephole_graphs.specs.declared.shape.Shape.{Shape}
 use Rattle.peephole_graphs.specs.Color.{color_at}

@@ -6,10 +6,12 @@ ghost use Rattle.peephole_commands.specs.declared.graphs.Refusal.TheVariants.{Re
 ghost use Rattle.peephole_commands.specs.Graphs.{shapes_or_refusal, site_of, IsPlace, IsGraphIn};
 
 use crate::place::Place;
-use mutate_base::{Error, LentWords, ModuleInfo, WasmMutate};
+use given_words::LentWords;
+use mutate_base::{Error, WasmMutate};
 use peephole_terms::laws::faults_are_found;
 use peephole_terms::{DFGBuilder, MiniDFG};
 use std::alloc::Global;
+use wasm_types::ModuleInfo;
 
 /// Why a command has no answer.
 #[derive(Clone, Copy, Debug, PartialEq, Eq)]

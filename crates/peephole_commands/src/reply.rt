@@ -9,12 +9,13 @@ ghost use Rattle.peephole_commands.specs.Writing.{output};
 
 use crate::graphs::Refusal;
 use crate::writing::Written;
-use mutate_base::{Error, PrimitiveTypeInfo};
+use mutate_base::Error;
 use peephole_script::{Fault, write_digits};
 use peephole_terms::ResourceRequest;
 use std::alloc::Global;
 use std::ops::Range;
 use wasm_code::Function;
+use wasm_types::PrimitiveTypeInfo;
 
 /// The line that `at` prints of the range of the point's block. `Memory` where an allocation was refused.
 pub fn block_line(alloc: Global, range: Option<Range<usize>>) -> Result<Vec<u8>, Fault>

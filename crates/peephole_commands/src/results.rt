@@ -11,13 +11,14 @@ ghost use Rattle.peephole_commands.specs.Results.{Tells};
 
 use crate::graphs::Refusal;
 use crate::place::Place;
-use mutate_base::{Error, PrimitiveTypeInfo};
+use mutate_base::Error;
 use peephole_analysis::PeepholeMutationAnalysis;
 use peephole_terms::MiniDFG;
 use peephole_terms::laws::{
     entries_have_trees, faults_are_found, own_trees_are_kept, terms_stand_for_trees,
 };
 use std::alloc::Global;
+use wasm_types::PrimitiveTypeInfo;
 
 // The type of the result of the tree of an operator of a graph.
 fn own_type(

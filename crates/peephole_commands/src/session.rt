@@ -19,7 +19,8 @@ use crate::reply::{block_line, refusal_line, told_line, written_lines};
 use crate::results::point_type;
 use crate::show::show_graph;
 use crate::writing::write_nodes;
-use mutate_base::{Error, LentWords, ModuleInfo, PrimitiveTypeInfo, WasmMutate};
+use given_words::LentWords;
+use mutate_base::{Error, WasmMutate};
 use peephole_analysis::PeepholeMutationAnalysis;
 use peephole_lang::{Id, Lang, RecExpr};
 use peephole_script::{
@@ -32,6 +33,7 @@ use std::alloc::Global;
 use std::marker::Model;
 use std::mem;
 use wasm_code::ReadKind;
+use wasm_types::{ModuleInfo, PrimitiveTypeInfo};
 
 /// What the program keeps between two lines: the module and the mode, the words to be drawn, the body, the operator that is
 /// the point, and the term.

@@ -12,7 +12,8 @@ ghost use Rattle.peephole_commands.specs.Writing.{output, term_output, written_o
 
 use crate::graphs::Refusal;
 use crate::place::Place;
-use mutate_base::{Error, LentWords, WasmMutate};
+use given_words::LentWords;
+use mutate_base::{Error, WasmMutate};
 use peephole_lang::{Lang, RecExpr};
 use peephole_terms::laws::{faults_are_found, order_is_decided, own_trees_are_kept};
 use peephole_terms::{Encoder, MiniDFG, ResourceRequest};

@@ -6,7 +6,7 @@ use Rattle.wasm_code.specs.Body.{SpellsBody}
 use Rattle.rand_core.specs.Stream.{Stream}
 use Rattle.wasm_code.specs.declared.operator.Operator.{Operator}
 use Rattle.mutate_base.specs.Config.{Setup}
-use Rattle.mutate_base.specs.Module.{Module}
+use Rattle.wasm_types.specs.Module.{Module}
 use Rattle.mutate_base.specs.declared.error.Error.{Error}
 use Rattle.mutate_base.specs.declared.error.Error.TheVariants.{Memory, NoMutationsApplicable, UnknownFunction, UnknownLocal, UnknownGlobal, UnknownTable, UnknownMemory, UnknownOperand, CannotUnfold, GlobalIndex, TooLarge}
 use Rattle.peephole_lang.specs.declared.lang.Head.{Head}

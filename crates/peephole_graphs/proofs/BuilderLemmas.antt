@@ -15,10 +15,10 @@ use Rattle.wasm_code.specs.declared.immediate.Imm.TheVariants.{Index}
 use Rattle.wasm_code.specs.declared.operator.Operator.{Operator}
 use Rattle.wasm_code.specs.declared.operator.Operator.TheVariants.{Instr}
 use Rattle.wasm_code.specs.declared.table.RowInfo.{RowInfo}
-use Rattle.mutate_base.specs.Module.{Module, function_type}
-use Rattle.mutate_base.specs.declared.types.PrimitiveTypeInfo.{PrimitiveTypeInfo}
-use Rattle.mutate_base.specs.declared.types.TypeInfo.{TypeInfo}
-use Rattle.mutate_base.specs.declared.types.TypeInfo.TheVariants.{Func, Other}
+use Rattle.wasm_types.specs.Module.{Module, function_type}
+use Rattle.wasm_types.specs.declared.types.PrimitiveTypeInfo.{PrimitiveTypeInfo}
+use Rattle.wasm_types.specs.declared.types.TypeInfo.{TypeInfo}
+use Rattle.wasm_types.specs.declared.types.TypeInfo.TheVariants.{Func, Other}
 use Rattle.peephole_graphs.specs.Shape.{Shape, Judged, Fits, Unfit, IsFit, AreFit, and_shape, operator_shapes, shapes_of_block, has_result, call_shape}
 use Rattle.peephole_graphs.specs.Shape.{judge_callee, judge_call, judge_row, judge_found, judge_instruction, judge}
 use Rattle.peephole_graphs.specs.Color.{color_after}

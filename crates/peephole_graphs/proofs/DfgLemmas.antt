@@ -21,7 +21,7 @@ use Rattle.peephole_graphs.specs.Entries.{graph_entries}
 use Rattle.peephole_graphs.specs.Growing.{missing_subtree}
 use Rattle.peephole_graphs.specs.declared.subtree.Subtree.{Subtree}
 use Rattle.peephole_lang.specs.Node.{children_of}
-use Rattle.mutate_base.specs.Module.{Module}
+use Rattle.wasm_types.specs.Module.{Module}
 use Rattle.peephole_graphs.proofs.graph.StackGraph.{IsGraph}
 use Rattle.peephole_graphs.proofs.Lists.{sum_by-reverse}
 use Rattle.peephole_graphs.proofs.graph.Sizes.{sizes_length, flags_length, size_at, flag_at, alike_reverse}

@@ -2,7 +2,7 @@
 use Rattle.std.specs.Prelude.{ℕ, ◌≡◌, ◌↔◌, nat_le, nat_lt, Bool, ◌&&◌, List, [], ◌∷◌, reverse, Option, Some, None, Result, Ok, Err, if◌then◌else◌}
 use Rattle.std.specs.Option.{option_or}
 use Rattle.wasm_code.specs.declared.operator.Operator.{Operator}
-use Rattle.mutate_base.specs.Module.{Module}
+use Rattle.wasm_types.specs.Module.{Module}
 use Rattle.peephole_graphs.specs.Shape.{Shape, Judged, Fits, Unfit, Unknown, judge, AreFit, shapes_of_block}
 use Rattle.peephole_graphs.specs.Tree.{full_size}
 use Rattle.peephole_graphs.specs.Forest.{forest}

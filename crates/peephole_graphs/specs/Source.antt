@@ -1,7 +1,7 @@
 -- What a graph is made of: operators, and what they are judged by. This project's rule.
 use Rattle.std.specs.Prelude.{ℕ, Bool, List, slice_range}
 use Rattle.wasm_code.specs.declared.operator.Operator.{Operator}
-use Rattle.mutate_base.specs.Module.{Module}
+use Rattle.wasm_types.specs.Module.{Module}
 use Rattle.peephole_graphs.specs.Block.{BlockRange}
 use Rattle.peephole_graphs.specs.Shape.{Shape, shapes_of_block}
 

@@ -12,10 +12,11 @@ use crate::block::BBlock;
 use crate::dfg::MiniDFG;
 use crate::growing::{Growing, add_operator, start_graph};
 use crate::shape::{Judged, judge_operator};
-use mutate_base::{Error, ModuleInfo, WasmMutate};
+use mutate_base::{Error, WasmMutate};
 use std::alloc::Global;
 use std::marker::Model;
 use wasm_code::OperatorAndByteOffset;
+use wasm_types::ModuleInfo;
 
 /// What finds blocks and makes their graphs. It keeps the mode alone: whether the order of effects is to be preserved.
 #[derive(Drop)]

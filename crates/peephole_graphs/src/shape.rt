@@ -4,8 +4,8 @@ ghost use Rattle.std.specs.Prelude.{◌≡◌, ◌↔◌, IsTrue, length};
 ghost use Rattle.wasm_code.specs.Table.{row_info_of};
 ghost use Rattle.peephole_graphs.specs.Shape.{IsFit, has_result, call_shape, judge_call, judge_found, judge};
 
-use mutate_base::{FuncInfo, ModuleInfo, TypeInfo};
 use wasm_code::{Imm, Instr, Operator, ResultKind, row_info};
+use wasm_types::{FuncInfo, ModuleInfo, TypeInfo};
 
 /// An instruction with what counts of it in a graph: the number of its operands, whether it has a result, and by how much it raises the colour.
 #[derive(Clone, Copy)]

@@ -4,9 +4,9 @@ use Rattle.wasm_code.specs.declared.immediate.Imm.{Imm}
 use Rattle.wasm_code.specs.declared.immediate.Imm.TheVariants as imm
 use Rattle.wasm_code.specs.Instruction.{Instruction}
 use Rattle.wasm_code.specs.Table.{row_at, table}
-use Rattle.mutate_base.specs.Module.{Module, module_of}
-use Rattle.mutate_base.specs.declared.types.PrimitiveTypeInfo.{PrimitiveTypeInfo}
-use Rattle.mutate_base.specs.declared.types.PrimitiveTypeInfo.TheVariants as primitive
+use Rattle.wasm_types.specs.Module.{Module, module_of}
+use Rattle.wasm_types.specs.declared.types.PrimitiveTypeInfo.{PrimitiveTypeInfo}
+use Rattle.wasm_types.specs.declared.types.PrimitiveTypeInfo.TheVariants as primitive
 use Rattle.peephole_machine.specs.ExactRow.{exact_row}
 use Rattle.peephole_machine.specs.OtherRow.{other_type}
 use Rattle.peephole_machine.specs.Values.{bytes_of, same_type, State, Outcome, Ends, Traps, met}

@@ -6,8 +6,8 @@ use Rattle.std.proofs.lemmas.List.Elements.{All-nil, All-cons, All-head, All-tai
 use Rattle.std.proofs.lemmas.Nat.{div-mul-add, mod-mul-add}
 use Rattle.std.proofs.Math.Nat.{mod-lt}
 use Rattle.wasm_code.specs.Instruction.{Instruction}
-use Rattle.mutate_base.specs.Module.{Module}
-use Rattle.mutate_base.specs.declared.types.PrimitiveTypeInfo.{PrimitiveTypeInfo}
+use Rattle.wasm_types.specs.Module.{Module}
+use Rattle.wasm_types.specs.declared.types.PrimitiveTypeInfo.{PrimitiveTypeInfo}
 use Rattle.peephole_machine.specs.ExactRow.{ExactRow, exact_row}
 use Rattle.peephole_machine.specs.Values.{asked_types, Value, IsValue, types, Answer, Gives, World, IsAnswer, IsSound, IsExact, Memories, little, bytes_of, numbered, exactly}
 use Rattle.peephole_machine.specs.Laws.{RowsEndTyped, SoundWorldsExist, ExactWorldsExist}

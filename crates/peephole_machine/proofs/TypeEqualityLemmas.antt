@@ -2,7 +2,7 @@
 use Rattle.std.proofs.Common.{◌≡◌, Bool, List, [], ◌∷◌, refl, ap₂}
 use Rattle.std.specs.Prelude.{◌&&◌}
 use lib.Pointwise.{pointwise}
-use Rattle.mutate_base.specs.declared.types.PrimitiveTypeInfo.{PrimitiveTypeInfo}
+use Rattle.wasm_types.specs.declared.types.PrimitiveTypeInfo.{PrimitiveTypeInfo}
 use Rattle.peephole_machine.specs.Values.{same_type, same_types}
 
 pub pointwise_is : (f : PrimitiveTypeInfo → PrimitiveTypeInfo → Bool) → ((t u : PrimitiveTypeInfo) → f t u ≡ same_type t u) →

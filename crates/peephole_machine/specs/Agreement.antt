@@ -2,7 +2,7 @@
 -- types (this project).
 use Rattle.std.specs.Prelude.{◌≡◌, List, ◌++◌}
 use Rattle.std.specs.List.{All}
-use Rattle.mutate_base.specs.declared.types.PrimitiveTypeInfo.{PrimitiveTypeInfo}
+use Rattle.wasm_types.specs.declared.types.PrimitiveTypeInfo.{PrimitiveTypeInfo}
 use Rattle.peephole_machine.specs.Values.{Value, IsValue, types, Context, State, own_globals, HasTypes, Outcome, Ends, Traps, Stuck}
 
 -- the state with further globals behind those that are there

@@ -2,7 +2,7 @@
 use Rattle.std.specs.Prelude.{ℕ, ◌%◌, ◌^◌, List, ◌∷◌, Option, option_map, ⊤}
 use Rattle.std.specs.Int.{Width}
 use mir.Val.{bits}
-use Rattle.mutate_base.specs.declared.types.PrimitiveTypeInfo.{PrimitiveTypeInfo}
+use Rattle.wasm_types.specs.declared.types.PrimitiveTypeInfo.{PrimitiveTypeInfo}
 use Rattle.peephole_machine.specs.Values.{width_of, IsOfType}
 use Rattle.peephole_machine.specs.Integer.{IntegerOperator}
 

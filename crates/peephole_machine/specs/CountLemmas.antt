@@ -4,8 +4,8 @@ use Rattle.std.specs.Prelude.{IfSome}
 use Rattle.wasm_code.specs.Instruction.{Instruction}
 use Rattle.wasm_code.specs.Table.{row_at}
 use Rattle.wasm_code.specs.declared.table.Row.{Row as TableRow}
-use Rattle.mutate_base.specs.Module.{Module}
-use Rattle.mutate_base.specs.declared.types.PrimitiveTypeInfo.{PrimitiveTypeInfo}
+use Rattle.wasm_types.specs.Module.{Module}
+use Rattle.wasm_types.specs.declared.types.PrimitiveTypeInfo.{PrimitiveTypeInfo}
 use Rattle.peephole_machine.specs.OtherRow.{Named, Operand, OtherType, names_in, operands_in, column_in, results_by, both_of, type_by_row, other_type}
 use Rattle.peephole_machine.specs.Values.{Context, context_in, results_on}
 use Rattle.peephole_machine.specs.IntegerRow.{IntegerRow, constant, operation, get, set, tee, discard, select, nop, other, count_of, operand_count, row_or_other, row_types, integer_row}

@@ -12,9 +12,9 @@ use Rattle.wasm_code.specs.declared.table.Opcode.{Opcode}
 use Rattle.wasm_code.specs.declared.table.Opcode.TheVariants.{Byte, Fd}
 use Rattle.wasm_code.specs.Instruction.{Instruction}
 use Rattle.wasm_code.specs.Table.{row_at, opcode_in}
-use Rattle.mutate_base.specs.Module.{Module}
-use Rattle.mutate_base.specs.declared.types.PrimitiveTypeInfo.{PrimitiveTypeInfo}
-use Rattle.mutate_base.specs.declared.types.PrimitiveTypeInfo.TheVariants as primitive
+use Rattle.wasm_types.specs.Module.{Module}
+use Rattle.wasm_types.specs.declared.types.PrimitiveTypeInfo.{PrimitiveTypeInfo}
+use Rattle.wasm_types.specs.declared.types.PrimitiveTypeInfo.TheVariants as primitive
 use Rattle.peephole_machine.specs.ExactRow.{Loading, ExactRow, computes, loads, stores, find, byte_values, vector_values, lane_values, byte_loads, byte_stores, vector_loads, vector_stores, accessing, exact_by, exact_row}
 use Rattle.peephole_machine.specs.OtherRow.{opcode_changes, opcode_fails, changes, may_trap}
 use Rattle.peephole_machine.specs.Values.{Value, IsValue, IsOfType, of_bits, types, Gives, Fails, met, IsAnswer, Memories, numbered, within, exactly}

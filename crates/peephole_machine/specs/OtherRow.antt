@@ -15,15 +15,15 @@ use Rattle.wasm_code.specs.declared.table.Opcode.TheVariants.{Byte, Fc, Fd}
 use Rattle.wasm_code.specs.declared.table.ResultKind.{ResultKind}
 use Rattle.wasm_code.specs.declared.table.ResultKind.TheVariants as by
 use Rattle.wasm_code.specs.declared.table.Row.{Row}
-use Rattle.mutate_base.specs.Module.{Module, merged}
-use Rattle.mutate_base.specs.declared.types.ElementType.{ElementType}
-use Rattle.mutate_base.specs.declared.types.ElementType.TheVariants as elements
-use Rattle.mutate_base.specs.declared.types.PrimitiveTypeInfo.{PrimitiveTypeInfo}
-use Rattle.mutate_base.specs.declared.types.PrimitiveTypeInfo.TheVariants.{I32, I64, F32, F64, V128, FuncRef, ExternRef, Empty}
-use Rattle.mutate_base.specs.declared.types.MemoryType.{MemoryType}
-use Rattle.mutate_base.specs.declared.types.TableType.{TableType}
-use Rattle.mutate_base.specs.declared.types.TypeInfo.{TypeInfo}
-use Rattle.mutate_base.specs.declared.types.TypeInfo.TheVariants.{Func, Other}
+use Rattle.wasm_types.specs.Module.{Module, merged}
+use Rattle.wasm_types.specs.declared.types.ElementType.{ElementType}
+use Rattle.wasm_types.specs.declared.types.ElementType.TheVariants as elements
+use Rattle.wasm_types.specs.declared.types.PrimitiveTypeInfo.{PrimitiveTypeInfo}
+use Rattle.wasm_types.specs.declared.types.PrimitiveTypeInfo.TheVariants.{I32, I64, F32, F64, V128, FuncRef, ExternRef, Empty}
+use Rattle.wasm_types.specs.declared.types.MemoryType.{MemoryType}
+use Rattle.wasm_types.specs.declared.types.TableType.{TableType}
+use Rattle.wasm_types.specs.declared.types.TypeInfo.{TypeInfo}
+use Rattle.wasm_types.specs.declared.types.TypeInfo.TheVariants.{Func, Other}
 use Rattle.peephole_machine.specs.declared.operand.OperandKind.{OperandKind}
 use Rattle.peephole_machine.specs.declared.operand.OperandKind.TheVariants as kind
 use Rattle.peephole_machine.specs.declared.operand.OperandColumn.{OperandColumn}

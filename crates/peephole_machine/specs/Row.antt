@@ -4,11 +4,11 @@ use Rattle.wasm_code.specs.declared.table.Opcode.{Opcode}
 use Rattle.wasm_code.specs.declared.table.Opcode.TheVariants.{Byte, Fc, Fd}
 use Rattle.wasm_code.specs.Instruction.{Instruction}
 use Rattle.wasm_code.specs.Table.{row_at, opcode_in}
-use Rattle.mutate_base.specs.Module.{Module, module_of}
-use Rattle.mutate_base.specs.declared.types.PrimitiveTypeInfo.{PrimitiveTypeInfo}
-use Rattle.mutate_base.specs.declared.types.TableType.{TableType}
-use Rattle.mutate_base.specs.declared.types.TypeInfo.{TypeInfo}
-use Rattle.mutate_base.specs.declared.types.TypeInfo.TheVariants.{Func, Other}
+use Rattle.wasm_types.specs.Module.{Module, module_of}
+use Rattle.wasm_types.specs.declared.types.PrimitiveTypeInfo.{PrimitiveTypeInfo}
+use Rattle.wasm_types.specs.declared.types.TableType.{TableType}
+use Rattle.wasm_types.specs.declared.types.TypeInfo.{TypeInfo}
+use Rattle.wasm_types.specs.declared.types.TypeInfo.TheVariants.{Func, Other}
 use Rattle.peephole_machine.specs.declared.operand.OperandColumn.{OperandColumn}
 use Rattle.peephole_machine.specs.OtherRow.{element_type, Named, Operand, names_in, operands_in, column_in}
 use Rattle.peephole_machine.specs.declared.row.Variable.{Variable as CodeVariable}

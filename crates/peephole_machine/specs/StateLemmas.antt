@@ -3,8 +3,8 @@ use Rattle.std.proofs.Common.{◌≡◌, ℕ, zero, suc, List, [], ◌∷◌, �
 use Rattle.std.specs.Prelude.{slice_get, set as slice_set}
 use Rattle.std.proofs.lemmas.List.{take_all, take_at, drop_all, drop_at}
 use Rattle.wasm_code.specs.Instruction.{Instruction}
-use Rattle.mutate_base.specs.Module.{Module}
-use Rattle.mutate_base.specs.declared.types.PrimitiveTypeInfo.{PrimitiveTypeInfo}
+use Rattle.wasm_types.specs.Module.{Module}
+use Rattle.wasm_types.specs.declared.types.PrimitiveTypeInfo.{PrimitiveTypeInfo}
 use Rattle.peephole_machine.specs.Values.{Value, types, Context, State, own_globals, further_globals, HasTypes, Outcome, Ends, Traps, Stuck, above}
 use Rattle.peephole_machine.specs.Machine.{context_of}
 use Rattle.peephole_machine.specs.Agreement.{with_globals}

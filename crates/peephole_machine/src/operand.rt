@@ -8,7 +8,7 @@ use OperandKind::{
     Address, Element, Index, Named, OtherAddress, OtherIndex, Reference, SmallerAddress,
     SmallerIndex,
 };
-use mutate_base::PrimitiveTypeInfo;
+use wasm_types::PrimitiveTypeInfo;
 
 /// What decides the type of an operand.
 #[derive(Clone, Copy, Debug, PartialEq, Eq)]

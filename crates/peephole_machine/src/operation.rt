@@ -6,7 +6,7 @@ ghost use Rattle.peephole_machine.specs.Operation.{operator_of};
 ghost use Rattle.peephole_machine.specs.Opcode.{by_type, unary_opcodes, binary_opcodes, comparison_opcodes, opcode, at_opcode, operation_of};
 
 use crate::integer::IntegerType;
-use mutate_base::PrimitiveTypeInfo;
+use wasm_types::PrimitiveTypeInfo;
 
 /// An operator on one number that counts bits.
 #[derive(Clone, Copy, Debug, PartialEq, Eq)]

@@ -1,7 +1,7 @@
 //! What the instructions take and give that are no integer rows.
 ghost use Rattle.std.specs.Prelude.{◌≡◌, Some, option_map, option_and_then, option_copied};
 ghost use Rattle.wasm_code.specs.Table.{row_at};
-ghost use Rattle.mutate_base.specs.Module.{merged};
+ghost use Rattle.wasm_types.specs.Module.{merged};
 ghost use Rattle.peephole_machine.specs.declared.operand.OperandColumn.{OperandColumn};
 ghost use Rattle.peephole_machine.specs.declared.operand.OperandColumn.TheVariants as column;
 ghost use Rattle.peephole_machine.specs.OtherRow.{address_in, address_type, column_in, element_type, first_index, index_in, named_type, names_in, operand_by, operands_in, parameters, reference_type, results_by, returned, second_index, smaller, typed, value_type};
@@ -10,8 +10,8 @@ ghost use Rattle.peephole_machine.specs.Row.{accept_in, accept_parameters, at_mo
 
 use crate::operand::{OperandColumn, OperandKind, operand_column};
 use crate::row::{same_type, same_types};
-use mutate_base::{ElementType, MemoryType, ModuleInfo, PrimitiveTypeInfo, TableType, TypeInfo};
 use wasm_code::{AbstractHeapType, HeapType, Imm, Instr, ResultKind, ValType, row_info};
+use wasm_types::{ElementType, MemoryType, ModuleInfo, PrimitiveTypeInfo, TableType, TypeInfo};
 
 fn value_type(t: ValType) -> PrimitiveTypeInfo
     ensures { result ≡ value_type t }

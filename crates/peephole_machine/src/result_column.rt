@@ -6,8 +6,8 @@ ghost use Rattle.peephole_machine.specs.Row.{list_of};
 ghost use Rattle.peephole_machine.specs.Values.{context_in};
 
 use crate::other_types::{first_index, results};
-use mutate_base::{ModuleInfo, PrimitiveTypeInfo};
 use wasm_code::{Imm, Instr, ResultKind, row_info};
+use wasm_types::{ModuleInfo, PrimitiveTypeInfo};
 
 // The type of the variable that the immediate names.
 fn variable_at(types: &[PrimitiveTypeInfo], imm: Imm) -> Option<PrimitiveTypeInfo>

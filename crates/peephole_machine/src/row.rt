@@ -1,7 +1,7 @@
 //! What an instruction is to the machine, and the types that it takes and gives.
 ghost use Rattle.std.specs.Prelude.{◌≡◌, ◌&&◌, [], ◌∷◌, IfSome, option_map};
-ghost use Rattle.mutate_base.specs.Module.{Module};
-ghost use Rattle.mutate_base.specs.declared.types.PrimitiveTypeInfo.TheVariants.{I32};
+ghost use Rattle.wasm_types.specs.Module.{Module};
+ghost use Rattle.wasm_types.specs.declared.types.PrimitiveTypeInfo.TheVariants.{I32};
 ghost use Rattle.peephole_machine.specs.Values.{context_in, type_of, same_type, same_types};
 ghost use Rattle.peephole_machine.specs.Integer.{select_operator};
 ghost use Rattle.peephole_machine.specs.IntegerRow.{bare_row, variable_row, typed_select, byte_row, row_or_other, integer_row, is_other, if_typed, variable_type, is_numeric, operand_count, row_types};
@@ -10,8 +10,8 @@ ghost use Rattle.peephole_machine.specs.Row.{HasOperandCount, instruction_count,
 use crate::integer::IntegerType;
 use crate::operation::Operation;
 use crate::other_types::{other_count, other_types};
-use mutate_base::{ModuleInfo, PrimitiveTypeInfo};
 use wasm_code::{Imm, Instr, ValType};
+use wasm_types::{ModuleInfo, PrimitiveTypeInfo};
 
 /// A variable, by its number.
 #[derive(Clone, Copy, Debug, PartialEq, Eq)]

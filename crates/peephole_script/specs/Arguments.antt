@@ -2,11 +2,11 @@
 use Rattle.std.specs.Prelude.{◌≡◌, ◌⊎◌, MatchResult, Vec, ℕ, Bool, true, false, List, [], ◌∷◌, length, codes, nat_lt, Option, Some, None, Result, if◌then◌else◌}
 use Rattle.std.specs.List.{before_first, after_first, position_or_len}
 use Rattle.std.specs.Str.{bytes_eq}
-use Rattle.mutate_base.specs.Types.{type_name}
-use Rattle.mutate_base.specs.declared.types.PrimitiveTypeInfo.{PrimitiveTypeInfo}
-use Rattle.mutate_base.specs.declared.types.PrimitiveTypeInfo.TheVariants.{I32, I64, F32, F64, V128, FuncRef, ExternRef}
-use Rattle.mutate_base.specs.declared.types.ElementType.{ElementType}
-use Rattle.mutate_base.specs.declared.types.ElementType.TheVariants.{Func, Extern}
+use Rattle.wasm_types.specs.Types.{type_name}
+use Rattle.wasm_types.specs.declared.types.PrimitiveTypeInfo.{PrimitiveTypeInfo}
+use Rattle.wasm_types.specs.declared.types.PrimitiveTypeInfo.TheVariants.{I32, I64, F32, F64, V128, FuncRef, ExternRef}
+use Rattle.wasm_types.specs.declared.types.ElementType.{ElementType}
+use Rattle.wasm_types.specs.declared.types.ElementType.TheVariants.{Func, Extern}
 use Rattle.peephole_script.specs.declared.fault.Fault.{Fault}
 use Rattle.peephole_script.specs.declared.fault.Fault.TheVariants as fault
 

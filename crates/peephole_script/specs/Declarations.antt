@@ -1,7 +1,7 @@
 -- What lines say of the module that the body comes from (this project's rules).
 use Rattle.std.specs.Prelude.{◌≡◌, ◌⊎◌, ◌^◌, ◌&&◌, MatchResult, ℕ, List, [], ◌∷◌, ◌++◌, length, nat_lt, Option, Some, None, Result, if◌then◌else◌}
-use Rattle.mutate_base.specs.Module.{Module}
-use Rattle.mutate_base.specs.declared.types.TypeInfo.TheVariants.{Func}
+use Rattle.wasm_types.specs.Module.{Module}
+use Rattle.wasm_types.specs.declared.types.TypeInfo.TheVariants.{Func}
 use Rattle.peephole_script.specs.declared.fault.Fault.{Fault}
 use Rattle.peephole_script.specs.declared.fault.Fault.TheVariants as fault
 use Rattle.peephole_script.specs.declared.declarations.Declaration.{Declaration}

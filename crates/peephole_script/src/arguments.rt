@@ -6,8 +6,8 @@ ghost use Rattle.peephole_script.specs.Text.{texts};
 ghost use Rattle.peephole_script.specs.Arguments.{all_of, type_of, is_64, element_of, is_yes, is_arrow, parts_of, Argument};
 
 use crate::fault::Fault;
-use mutate_base::{ElementType, PrimitiveTypeInfo};
 use std::alloc::{AllocError, Global};
+use wasm_types::{ElementType, PrimitiveTypeInfo};
 
 /// The type of a name, where it is a value's: `empty` is none.
 pub fn type_of(word: &str) -> Option<PrimitiveTypeInfo>

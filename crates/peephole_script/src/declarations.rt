@@ -6,8 +6,8 @@ ghost use Rattle.peephole_script.specs.Declarations.{with_global, with_memory, w
 use crate::arguments::{element_of, is_64, parts_of, type_of, types_of};
 use crate::fault::Fault;
 use crate::text::number_of;
-use mutate_base::{FuncInfo, MemoryType, ModuleInfo, TableType, TypeInfo};
 use std::alloc::Global;
+use wasm_types::{FuncInfo, MemoryType, ModuleInfo, TableType, TypeInfo};
 
 /// What a line adds to the module.
 #[derive(Clone, Copy, Debug, PartialEq, Eq)]

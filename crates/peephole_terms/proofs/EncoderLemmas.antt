@@ -8,7 +8,7 @@ use Rattle.std.proofs.lemmas.List.Elements.{All-append}
 use Rattle.rand_core.specs.Stream.{Stream}
 use Rattle.mutate_base.specs.declared.error.Error.{Error}
 use Rattle.mutate_base.specs.declared.error.Error.TheVariants.{NoMutationsApplicable}
-use Rattle.mutate_base.specs.Module.{Module}
+use Rattle.wasm_types.specs.Module.{Module}
 use Rattle.peephole_lang.specs.declared.lang.Head.{Head}
 use Rattle.peephole_lang.specs.Term.{Term, tree_at}
 use Rattle.peephole_graphs.specs.declared.dfg.StackEntry.{StackEntry}

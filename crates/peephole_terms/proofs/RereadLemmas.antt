@@ -12,7 +12,7 @@ use Rattle.wasm_code.specs.Operator.{is_delimiter}
 use Rattle.wasm_code.specs.Body.{bytes_of, with_offsets, SpellsCode}
 use Rattle.wasm_code.specs.declared.operator.Operator.{Operator}
 use Rattle.wasm_code.specs.declared.operator.Operator.TheVariants.{Instr}
-use Rattle.mutate_base.specs.Module.{Module}
+use Rattle.wasm_types.specs.Module.{Module}
 use Rattle.peephole_graphs.specs.Block.{BlockRange, HasNoDelimiter, IsBlockIn, IsBlockOf}
 use Rattle.peephole_graphs.specs.declared.shape.Shape.{Shape}
 use Rattle.peephole_graphs.specs.declared.shape.Judged.{Judged}

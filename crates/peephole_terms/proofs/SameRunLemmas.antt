@@ -7,8 +7,8 @@ use Rattle.std.proofs.lemmas.List.{reverse-reverse}
 use Rattle.std.proofs.lemmas.List.Elements.{All-head, All-tail}
 use Rattle.wasm_code.specs.Instruction.{Instruction}
 use Rattle.wasm_code.specs.declared.operator.Operator.{Operator}
-use Rattle.mutate_base.specs.Module.{Module}
-use Rattle.mutate_base.specs.declared.types.PrimitiveTypeInfo.{PrimitiveTypeInfo}
+use Rattle.wasm_types.specs.Module.{Module}
+use Rattle.wasm_types.specs.declared.types.PrimitiveTypeInfo.{PrimitiveTypeInfo}
 use Rattle.peephole_lang.specs.declared.lang.Head.{Head}
 use Rattle.peephole_lang.specs.Term.{Term, tree_at}
 use Rattle.peephole_graphs.specs.Entries.{Graph, entry_tree}

@@ -5,7 +5,7 @@ use Rattle.std.specs.Prelude.{nat_le, slice_get, set as slice_set, option_map}
 use Rattle.std.specs.List.{All}
 use Rattle.std.proofs.lemmas.List.{drop_at, drop-drop, length-map, map-append}
 use Rattle.wasm_code.specs.Instruction.{Instruction}
-use Rattle.mutate_base.specs.declared.types.PrimitiveTypeInfo.{PrimitiveTypeInfo}
+use Rattle.wasm_types.specs.declared.types.PrimitiveTypeInfo.{PrimitiveTypeInfo}
 use Rattle.mutate_base.specs.declared.error.Error.{Error}
 use Rattle.mutate_base.specs.declared.error.Error.TheVariants.{GlobalIndex}
 use Rattle.peephole_lang.specs.declared.lang.Head.{Head}

@@ -4,7 +4,7 @@ use Rattle.std.proofs.Common.{◌≡◌, ℕ, ℤ, ◌+◌, List, [], ◌∷◌,
 use Rattle.std.specs.Prelude.{slice_get, option_map, option_and_then}
 use Rattle.wasm_code.specs.Instruction.{Instruction}
 use Rattle.wasm_code.specs.Table.{row_at, table}
-use Rattle.mutate_base.specs.declared.types.PrimitiveTypeInfo.{PrimitiveTypeInfo}
+use Rattle.wasm_types.specs.declared.types.PrimitiveTypeInfo.{PrimitiveTypeInfo}
 use Rattle.peephole_lang.specs.declared.lang.Head.{Head}
 use Rattle.peephole_lang.specs.Term.{Term, Terms, absent, node, no_terms, ◌▸◌}
 use Rattle.peephole_machine.specs.declared.integer.IntegerType.TheVariants as integer

@@ -1,6 +1,6 @@
 -- When two terms agree: they have the same types, and mean the same in every state of the context's types; and terms with a hole (this project).
 use Rattle.std.specs.Prelude.{◌≡◌, ℕ, List, [], Some, ⊤}
-use Rattle.mutate_base.specs.declared.types.PrimitiveTypeInfo.{PrimitiveTypeInfo}
+use Rattle.wasm_types.specs.declared.types.PrimitiveTypeInfo.{PrimitiveTypeInfo}
 use Rattle.peephole_lang.specs.declared.lang.Head.{Head}
 use Rattle.peephole_lang.specs.Term.{Term, Terms, absent, node, no_terms, ◌▸◌}
 use Rattle.peephole_machine.specs.Values.{Context, State, HasTypes}

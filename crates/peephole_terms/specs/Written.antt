@@ -5,7 +5,7 @@ use Rattle.wasm_code.specs.Instruction.{Instruction}
 use Rattle.wasm_code.specs.Code.{codes}
 use Rattle.wasm_code.specs.Body.{SpellsCode}
 use Rattle.wasm_code.specs.declared.operator.Operator.{Operator}
-use Rattle.mutate_base.specs.Module.{Module}
+use Rattle.wasm_types.specs.Module.{Module}
 use Rattle.mutate_base.specs.declared.error.Error.{Error}
 use Rattle.mutate_base.specs.declared.error.Error.TheVariants.{NoMutationsApplicable}
 use Rattle.peephole_lang.specs.declared.lang.Head.{Head}

@@ -9,11 +9,10 @@ pub use encoder::expr2wasm::expr2wasm;
 pub use encoder::node_kind::NumberType;
 pub use encoder::request::ResourceRequest;
 pub use encoder::splice::splice_term;
+pub use given_words;
+pub use given_words::Words;
 pub use mutate_base;
-pub use mutate_base::{
-    ElementType, Error, FuncInfo, MemoryType, ModuleInfo, PrimitiveTypeInfo, TableType, TypeInfo,
-    WasmMutate, Words,
-};
+pub use mutate_base::{Error, WasmMutate};
 pub use node_payloads;
 pub use node_payloads::{
     F32, F64, MemArg, MemArgLane, MemoryCopy, MemoryInit, RefType, Shuffle, TableCopy, TableInit,
@@ -34,4 +33,8 @@ pub use wasm_code::{
     AbstractHeapType, BlockType, Function, HeapType, Imm, Instr, MemArg as MemoryArgument, Opcode,
     Operator, OperatorAndByteOffset, Other, ReadError, ReadKind, ResultKind, RowInfo, SinkError,
     ValType, read_body, read_code, row_info, row_of,
+};
+pub use wasm_types;
+pub use wasm_types::{
+    ElementType, FuncInfo, MemoryType, ModuleInfo, PrimitiveTypeInfo, TableType, TypeInfo,
 };

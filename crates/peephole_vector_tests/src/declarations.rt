@@ -1,7 +1,6 @@
 //! Sections by hand, with values from the standard.
 
 use crate::table::{bytes_of, fields_of};
-use mutate_base::PrimitiveTypeInfo;
 use std::alloc::Global;
 use std::fmt::Debug;
 use std::process::Abort;
@@ -11,6 +10,7 @@ use wasm_declarations::{
     read_entries, read_known, read_list, read_locals,
 };
 use wasm_sections::ModuleError;
+use wasm_types::PrimitiveTypeInfo;
 
 /// What a section lists, the offset of its contents, these, and what they are read as; in brackets, what it is.
 const SECTIONS: &str = "

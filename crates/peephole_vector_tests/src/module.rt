@@ -1,12 +1,12 @@
 //! Small modules by hand, in bytes as the standard gives them.
 
 use crate::table::{bytes_of, fields_of};
-use mutate_base::{ModuleInfo, PrimitiveTypeInfo};
 use peephole_script::type_of;
 use std::alloc::{AllocError, Global};
 use std::process::Abort;
 use std::test::Fail;
 use wasm_module::{Layout, WriteError, read_module, with_body};
+use wasm_types::{ModuleInfo, PrimitiveTypeInfo};
 
 /// Types, an import of each kind, a function of either type, a table, a memory, a global, the code, and a custom section.
 const EACH_KIND: &str = "0061736d 01000000 0109 0260017f017f600000 \

@@ -1,15 +1,15 @@
 //! What each row takes and gives, as V8's validator found it.
 
 use crate::table::{bytes_of, fields_of};
-use mutate_base::{
-    ElementType, FuncInfo, MemoryType, ModuleInfo, PrimitiveTypeInfo, TableType, TypeInfo,
-};
 use peephole_machine::instruction_types;
 use peephole_script::type_of;
 use std::alloc::Global;
 use std::process::Abort;
 use std::test::Fail;
 use wasm_code::{Instr, Operator, read_body};
+use wasm_types::{
+    ElementType, FuncInfo, MemoryType, ModuleInfo, PrimitiveTypeInfo, TableType, TypeInfo,
+};
 
 /// An immediate, the types of the operands, the type of the result, and the opcodes; a hyphen where there is nothing. `any` stands
 /// for each type, `reference` for those of references. The module has a local and a global of each type, in the order of `VALUES`,

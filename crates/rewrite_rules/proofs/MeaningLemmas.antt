@@ -11,8 +11,8 @@ use Rattle.std.proofs.Math.Nat.{mod-lt, mod-mod}
 use mir.Val.{bits}
 use Rattle.wasm_code.specs.Instruction.{Instruction}
 use Rattle.wasm_code.specs.Table.{table, row_at}
-use Rattle.mutate_base.specs.Module.{Module}
-use Rattle.mutate_base.specs.declared.types.PrimitiveTypeInfo.{PrimitiveTypeInfo}
+use Rattle.wasm_types.specs.Module.{Module}
+use Rattle.wasm_types.specs.declared.types.PrimitiveTypeInfo.{PrimitiveTypeInfo}
 use Rattle.peephole_machine.specs.declared.integer.IntegerType.{IntegerType}
 use Rattle.peephole_machine.specs.declared.integer.IntegerType.TheVariants as integer
 use Rattle.peephole_machine.specs.Values.{type_of, width_of, Value, IsValue, types, Context, State, HasTypes, Outcome, Ends, then_run, above}

@@ -4,8 +4,8 @@ use Rattle.std.specs.Prelude.{◌==◌, ◌&&◌, ◌||◌, ◌⊎◌, not, if�
 use Rattle.std.specs.List.{All}
 use Rattle.std.proofs.lemmas.Bool.{eqb-true, eq-eqb, and_parts, or_parts, false≢true}
 use Rattle.std.proofs.lemmas.List.Elements.{All-head}
-use Rattle.mutate_base.specs.declared.types.PrimitiveTypeInfo.{PrimitiveTypeInfo}
-use Rattle.mutate_base.specs.declared.types.PrimitiveTypeInfo.TheVariants as primitive
+use Rattle.wasm_types.specs.declared.types.PrimitiveTypeInfo.{PrimitiveTypeInfo}
+use Rattle.wasm_types.specs.declared.types.PrimitiveTypeInfo.TheVariants as primitive
 use Rattle.peephole_machine.specs.Values.{Value, IsValue, IsOfType, types, Context, Cause, State, HasTypes, own_globals, Outcome, Ends, Traps, Stuck, then_run, above}
 use Rattle.rewrite_rules.specs.Order.{is_in, Doing, every, at_most_one, is_twice, are_free, in_neither, back, before_end, may_move}
 use Rattle.peephole_machine.specs.Agreement.{EndsTyped}

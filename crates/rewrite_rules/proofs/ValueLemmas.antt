@@ -1,8 +1,8 @@
 -- The value of a pattern, by the values of its holes one after another.
 use Rattle.std.proofs.Common.{◌≡◌, ℕ, true, List, [], ◌∷◌, ◌++◌, length, map, take, drop, refl, ap, ap₂, ◌∙◌}
 use Rattle.std.proofs.lemmas.Bool.{and_parts}
-use Rattle.mutate_base.specs.declared.types.PrimitiveTypeInfo.{PrimitiveTypeInfo}
-use Rattle.mutate_base.specs.declared.types.PrimitiveTypeInfo.TheVariants as primitive
+use Rattle.wasm_types.specs.declared.types.PrimitiveTypeInfo.{PrimitiveTypeInfo}
+use Rattle.wasm_types.specs.declared.types.PrimitiveTypeInfo.TheVariants as primitive
 use Rattle.peephole_machine.specs.Values.{type_of, Value, types, State, Outcome, Ends}
 use Rattle.peephole_machine.specs.RowLemmas.{same_type_is}
 use Rattle.rewrite_rules.specs.Pattern.{Kind, fixed, any, kind_at, result_of, Pattern, Patterns, hole, constant, drawn, apply, none, ◌▹◌, holes, holes_in, draws_by, kind_of, kind_in, kinds_in, same_kind, same_kinds}

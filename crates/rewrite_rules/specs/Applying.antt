@@ -1,7 +1,7 @@
 -- Whether a row's line applies, by what is known of what stands in its holes and of its constants (this project).
 use Rattle.std.specs.Prelude.{◌≡◌, ℕ, Bool, true, Option, List}
 use Rattle.wasm_code.specs.Instruction.{Instruction}
-use Rattle.mutate_base.specs.declared.types.PrimitiveTypeInfo.{PrimitiveTypeInfo}
+use Rattle.wasm_types.specs.declared.types.PrimitiveTypeInfo.{PrimitiveTypeInfo}
 use Rattle.peephole_machine.specs.declared.integer.IntegerType.{IntegerType}
 use Rattle.peephole_machine.specs.Values.{Context}
 use Rattle.rewrite_rules.specs.declared.order.Effects.{Effects}

@@ -9,8 +9,8 @@ use crate::holes::holes_of;
 use crate::laws::{holes_are_told, types_are_told};
 use crate::order::{Effects, may_move};
 use crate::table::Row;
-use mutate_base::PrimitiveTypeInfo;
 use peephole_machine::IntegerType;
+use wasm_types::PrimitiveTypeInfo;
 
 /// What is known of what stands in a row's left side.
 #[derive(Clone, Copy)]

@@ -7,8 +7,8 @@ ghost use Rattle.rewrite_rules.specs.Table.{kinds_for};
 ghost use Rattle.rewrite_rules.specs.Operands.{fixed_in, select_type, has_type, have_types, types_fit};
 
 use crate::table::{Row, Widths};
-use mutate_base::PrimitiveTypeInfo;
 use peephole_machine::IntegerType;
+use wasm_types::PrimitiveTypeInfo;
 
 // A number's or a vector's.
 fn is_numeric(t: PrimitiveTypeInfo) -> bool

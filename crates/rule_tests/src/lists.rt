@@ -2,7 +2,7 @@
 
 use crate::notation::{LOCALS, body_of, fields_of, module_of};
 use body_rewrites::{Body, Rewrite, choose, reached_operators, rewrites_of_body, trees_of};
-use mutate_base::Words;
+use given_words::Words;
 use rewrite_rules::Rule;
 use std::alloc::Global;
 use std::process::Abort;

@@ -1,10 +1,10 @@
 //! Bodies as texts: the names of their operators, with semicolons between them, and immediates in decimal digits.
 
-use mutate_base::{FuncInfo, MemoryType, ModuleInfo, PrimitiveTypeInfo, TypeInfo};
 use std::alloc::{AllocError, Global};
 use std::process::Abort;
 use std::test::Fail;
 use wasm_code::{Function, Imm, Instr, MemArg, Opcode, ValType, row_of};
+use wasm_types::{FuncInfo, MemoryType, ModuleInfo, PrimitiveTypeInfo, TypeInfo};
 
 /// The types of the function's parameters and locals.
 pub const LOCALS: [PrimitiveTypeInfo; 7] = [

@@ -7,12 +7,13 @@ ghost use Rattle.body_rewrites.specs.Places.{HasItsTrees};
 use body_rewrites::{
     Body, Rewrite, choose, reached_operators, rewrite_body, rewrites_of_body, trees_of,
 };
-use mutate_base::{LentWords, ModuleInfo, PrimitiveTypeInfo};
+use given_words::LentWords;
 use peephole_machine::IntegerType;
 use rewrite_rules::Rule;
 use std::alloc::Global;
 use std::process::Abort;
 use wasm_code::{Function, OperatorAndByteOffset, read_body};
+use wasm_types::{ModuleInfo, PrimitiveTypeInfo};
 
 /// The types of the function's locals.
 const LOCALS: [PrimitiveTypeInfo; 1] = [PrimitiveTypeInfo::I32];

@@ -5,13 +5,13 @@ ghost use Rattle.body_rewrites.specs.Places.{HasItsTrees};
 
 use crate::notation::{LOCALS, body_of, fields_of, module_of};
 use body_rewrites::{Body, Rewrite, rewrite_body, trees_of};
-use mutate_base::PrimitiveTypeInfo;
 use peephole_machine::IntegerType;
 use rewrite_rules::{Rule, rule_names, rules_of_rows};
 use std::alloc::Global;
 use std::process::Abort;
 use std::test::Fail;
 use wasm_code::{Function, read_body};
+use wasm_types::PrimitiveTypeInfo;
 
 /// A rule, a body, the operator that is rewritten, the width, and the body with that rewrite, which is the only one that the rule makes
 /// there, or a hyphen where it makes none; then the type of the global that is asked for, where one is. A line with the letter T is two,

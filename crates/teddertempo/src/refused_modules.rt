@@ -2,11 +2,11 @@
 //! request in turn.
 
 use module_rewrites::{MutationError, Reason, RewrittenModule, Scope, rewrite_with_seed};
-use mutate_base::PrimitiveTypeInfo;
 use rewrite_rules::Rule;
 use std::alloc::Global;
 use std::process::Abort;
 use wasm_module::{ModuleFault, WriteError, read_module, with_body};
+use wasm_types::PrimitiveTypeInfo;
 
 /// A function of two i32 that answers their sum.
 pub const SUM: [u8; 32] = [

@@ -1,8 +1,8 @@
 //! Rewrites of small modules, one after another, and the functions that are drawn.
 
 use crate::refused_modules::{SUM, TURNED, rule_of};
+use given_words::Words;
 use module_rewrites::{MutationError, Scope, mutate_times, mutate_with_seed};
-use mutate_base::Words;
 use rand::rngs::StdRng;
 use rand_core::SeedableRng;
 use rewrite_rules::{Rule, all_rules};

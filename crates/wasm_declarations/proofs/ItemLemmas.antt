@@ -1,7 +1,7 @@
 -- The items are read exactly.
 use Rattle.std.proofs.Common.{◌≡◌, ℕ, eqb, Bool, true, false, List, [], ◌∷◌, Option, Some, None, Ok, Err, refl}
-use Rattle.mutate_base.specs.declared.types.TypeInfo.TheVariants.{Func, Other}
-use Rattle.mutate_base.specs.declared.types.ElementType.TheVariants as elements
+use Rattle.wasm_types.specs.declared.types.TypeInfo.TheVariants.{Func, Other}
+use Rattle.wasm_types.specs.declared.types.ElementType.TheVariants as elements
 use Rattle.wasm_code.specs.declared.fault.Cause.{Cause}
 use Rattle.wasm_code.specs.declared.fault.Cause.TheVariants.{Truncated, BadImmediate}
 use Rattle.wasm_code.specs.laws.GrammarLemmas.{Reader, Exact, exact_ends, exact_of, exact_then, exact_choose, exact_code, exact_never, exact_times, exact_at, byte_exact, bytes_exact}

@@ -1,7 +1,7 @@
 -- Globals: their types and their initialisers (WebAssembly Core Specification 3.0, Binary Format, Types, Global Types; Modules,
 -- Global Section).
 use Rattle.std.specs.Prelude.{ℕ, List}
-use Rattle.mutate_base.specs.declared.types.PrimitiveTypeInfo.{PrimitiveTypeInfo}
+use Rattle.wasm_types.specs.declared.types.PrimitiveTypeInfo.{PrimitiveTypeInfo}
 use Rattle.wasm_code.specs.declared.fault.Cause.{Cause}
 use Rattle.wasm_code.specs.Grammar.{IsCode, FailsCode, Of, Then, FailsThen}
 use Rattle.wasm_declarations.specs.Constants.{SpellsInitialiser, FailsInitialiser}

@@ -1,7 +1,7 @@
 -- The locals of a function: its parameters, and those that its code entry lists in groups (WebAssembly Core Specification 3.0,
 -- Binary Format, Modules, Code Section), of which there are at most 50,000 (this project).
 use Rattle.std.specs.Prelude.{◌≡◌, ◌⊎◌, ℕ, ◌+◌, ◌<◌, ◌≤◌, List, [], ◌∷◌, ◌++◌, length, replicate}
-use Rattle.mutate_base.specs.declared.types.PrimitiveTypeInfo.{PrimitiveTypeInfo}
+use Rattle.wasm_types.specs.declared.types.PrimitiveTypeInfo.{PrimitiveTypeInfo}
 use Rattle.wasm_code.specs.declared.fault.Cause.{Cause}
 use Rattle.wasm_code.specs.declared.fault.Cause.TheVariants.{Truncated, BadInteger, BadImmediate}
 use Rattle.wasm_code.specs.Grammar.{Of, Then, FailsThen}

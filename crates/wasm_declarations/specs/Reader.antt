@@ -1,11 +1,11 @@
 -- Reading lists and their items as functions (this project): for proofs. The contracts of public calls go by the grammar.
 use Rattle.std.specs.Prelude.{◌≡◌, ◌⊎◌, ℕ, zero, suc, ◌+◌, ◌-◌, ◌<◌, ◌==◌, if◌then◌else◌, Bool, true, false, List, [], ◌∷◌, ◌++◌, length, Option, Some, None, Result, Ok, Err}
-use Rattle.mutate_base.specs.declared.types.PrimitiveTypeInfo.{PrimitiveTypeInfo}
-use Rattle.mutate_base.specs.declared.types.ElementType.TheVariants as elements
-use Rattle.mutate_base.specs.declared.types.TableType.{TableType}
-use Rattle.mutate_base.specs.declared.types.MemoryType.{MemoryType}
-use Rattle.mutate_base.specs.declared.types.TypeInfo.{TypeInfo}
-use Rattle.mutate_base.specs.declared.types.TypeInfo.TheVariants as kinds
+use Rattle.wasm_types.specs.declared.types.PrimitiveTypeInfo.{PrimitiveTypeInfo}
+use Rattle.wasm_types.specs.declared.types.ElementType.TheVariants as elements
+use Rattle.wasm_types.specs.declared.types.TableType.{TableType}
+use Rattle.wasm_types.specs.declared.types.MemoryType.{MemoryType}
+use Rattle.wasm_types.specs.declared.types.TypeInfo.{TypeInfo}
+use Rattle.wasm_types.specs.declared.types.TypeInfo.TheVariants as kinds
 use Rattle.wasm_code.specs.declared.fault.Cause.{Cause}
 use Rattle.wasm_code.specs.declared.fault.Cause.TheVariants.{BadImmediate}
 use Rattle.wasm_code.specs.Reader.{◌>>=◌, byte_at, bytes_at, named_at, times_at, unsigned_at}

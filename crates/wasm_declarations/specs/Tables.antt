@@ -1,9 +1,9 @@
 -- Limits, memory types, table types and tables (WebAssembly Core Specification 3.0, Binary Format, Types, Limits, Memory Types
 -- and Table Types; Modules, Table Section).
 use Rattle.std.specs.Prelude.{ℕ, ◌+◌, ◌==◌, List, Bool, true, false, Option, Some, None, is_some, if◌then◌else◌}
-use Rattle.mutate_base.specs.declared.types.TableType.{TableType}
-use Rattle.mutate_base.specs.declared.types.ElementType.TheVariants.{Other}
-use Rattle.mutate_base.specs.declared.types.MemoryType.{MemoryType}
+use Rattle.wasm_types.specs.declared.types.TableType.{TableType}
+use Rattle.wasm_types.specs.declared.types.ElementType.TheVariants.{Other}
+use Rattle.wasm_types.specs.declared.types.MemoryType.{MemoryType}
 use Rattle.wasm_code.specs.declared.fault.Cause.{Cause}
 use Rattle.wasm_code.specs.Grammar.{IsCode, FailsCode, Of, Then, FailsThen, Times, FailsTimes}
 use Rattle.wasm_code.specs.Number.{SpellsUnsigned, FailsUnsigned}

@@ -1,8 +1,8 @@
 -- The types that a module declares: functions, structures and arrays, alone or in groups (WebAssembly Core Specification 3.0,
 -- Binary Format, Types, Composite Types and Recursive Types).
 use Rattle.std.specs.Prelude.{ℕ, ◌==◌, ◌||◌, Bool, List, [], ◌∷◌, ◌++◌, Option, Some, None}
-use Rattle.mutate_base.specs.declared.types.TypeInfo.{TypeInfo}
-use Rattle.mutate_base.specs.declared.types.TypeInfo.TheVariants.{Func, Other}
+use Rattle.wasm_types.specs.declared.types.TypeInfo.{TypeInfo}
+use Rattle.wasm_types.specs.declared.types.TypeInfo.TheVariants.{Func, Other}
 use Rattle.wasm_code.specs.declared.fault.Cause.{Cause}
 use Rattle.wasm_code.specs.Grammar.{IsCode, FailsCode, NoBytes, NeverFails, Never, NamesNothing, Of, Then, FailsThen, Times, FailsTimes}
 use Rattle.wasm_code.specs.Number.{SpellsUnsigned, FailsUnsigned}

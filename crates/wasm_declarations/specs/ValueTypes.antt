@@ -1,8 +1,8 @@
 -- Heap types, reference types and value types (WebAssembly Core Specification 3.0, Binary Format, Types, Heap Types, Reference
 -- Types and Value Types).
 use Rattle.std.specs.Prelude.{◌≡◌, ◌⊎◌, ℕ, pos, ◌==◌, nat_le, ◌&&◌, if◌then◌else◌, Bool, true, false, List, ◌++◌}
-use Rattle.mutate_base.specs.declared.types.PrimitiveTypeInfo.{PrimitiveTypeInfo}
-use Rattle.mutate_base.specs.declared.types.PrimitiveTypeInfo.TheVariants as primitives
+use Rattle.wasm_types.specs.declared.types.PrimitiveTypeInfo.{PrimitiveTypeInfo}
+use Rattle.wasm_types.specs.declared.types.PrimitiveTypeInfo.TheVariants as primitives
 use Rattle.wasm_code.specs.declared.fault.Cause.{Cause}
 use Rattle.wasm_code.specs.declared.fault.Cause.TheVariants.{BadImmediate}
 use Rattle.wasm_code.specs.Grammar.{NoBytes, NeverFails, Never, NamesNothing, Of}

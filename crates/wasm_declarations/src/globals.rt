@@ -7,10 +7,10 @@ use crate::constants::past_initialiser;
 use crate::item::Item;
 use crate::refusal::Refusal;
 use crate::value_types::{mutable_from, primitive_from};
-use mutate_base::PrimitiveTypeInfo;
 use std::alloc::Global;
 use wasm_code::Cause;
 use wasm_code::laws::parts_are_read;
+use wasm_types::PrimitiveTypeInfo;
 
 /// A global type, and what follows it.
 #[tactic(auto, unfolding(crate::specs::Reader::global_type_at))]

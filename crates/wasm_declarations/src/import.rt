@@ -1,5 +1,5 @@
 //! What a module imports.
-use mutate_base::{MemoryType, PrimitiveTypeInfo, TableType};
+use wasm_types::{MemoryType, PrimitiveTypeInfo, TableType};
 
 /// What a module imports.
 #[derive(Clone, Copy, Debug, PartialEq, Eq)]

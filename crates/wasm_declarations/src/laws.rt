@@ -1,9 +1,9 @@
 //! Laws on what sections list: functions that do nothing, and whose contracts hold for all values.
 ghost use Rattle.std.specs.Prelude.{◌≡◌, ℕ, List};
-ghost use Rattle.mutate_base.specs.declared.types.MemoryType.{MemoryType};
-ghost use Rattle.mutate_base.specs.declared.types.PrimitiveTypeInfo.{PrimitiveTypeInfo};
-ghost use Rattle.mutate_base.specs.declared.types.TableType.{TableType};
-ghost use Rattle.mutate_base.specs.declared.types.TypeInfo.{TypeInfo};
+ghost use Rattle.wasm_types.specs.declared.types.MemoryType.{MemoryType};
+ghost use Rattle.wasm_types.specs.declared.types.PrimitiveTypeInfo.{PrimitiveTypeInfo};
+ghost use Rattle.wasm_types.specs.declared.types.TableType.{TableType};
+ghost use Rattle.wasm_types.specs.declared.types.TypeInfo.{TypeInfo};
 ghost use Rattle.wasm_code.specs.Number.{SpellsUnsigned, FailsUnsigned};
 ghost use Rattle.wasm_code.specs.Reader.{unsigned_at};
 ghost use Rattle.wasm_code.specs.laws.GrammarLemmas.{Exact};

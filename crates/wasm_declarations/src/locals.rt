@@ -1,6 +1,6 @@
 //! The locals of functions.
 ghost use Rattle.std.specs.Prelude.{◌≡◌, ◌≤◌, ◌+◌, ◌-◌, ℕ, List, length, IfOk, IfErr, MatchResult, vec_len};
-ghost use Rattle.mutate_base.specs.declared.types.PrimitiveTypeInfo.{PrimitiveTypeInfo};
+ghost use Rattle.wasm_types.specs.declared.types.PrimitiveTypeInfo.{PrimitiveTypeInfo};
 ghost use Rattle.wasm_code.specs.Reader.{Gives};
 ghost use Rattle.wasm_declarations.specs.Locals.{SpellsLocals, IsLocalsFault};
 ghost use Rattle.wasm_declarations.specs.Reader.{group_at, ReadsGroups, StopsGroups, left_of, group_error_at};
@@ -9,10 +9,10 @@ ghost use Rattle.wasm_sections.specs.declared.fault.ModuleFault.TheVariants.{Mem
 use crate::list::{Stop, error_of};
 use crate::refusal::{Refusal, fault};
 use crate::value_types::primitive_from;
-use mutate_base::PrimitiveTypeInfo;
 use std::alloc::Global;
 use wasm_code::{Cause, u32_of};
 use wasm_sections::{ModuleError, ModuleFault};
+use wasm_types::PrimitiveTypeInfo;
 
 /// A function has at most so many parameters and locals.
 const MOST_LOCALS: usize = 50_000;

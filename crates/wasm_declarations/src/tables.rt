@@ -8,10 +8,10 @@ use crate::constants::past_initialiser;
 use crate::item::Item;
 use crate::refusal::Refusal;
 use crate::value_types::{past_mark, past_reference_type};
-use mutate_base::{ElementType, MemoryType, TableType};
 use std::alloc::Global;
 use wasm_code::laws::parts_are_read;
 use wasm_code::{Cause, byte_of, u64_of};
+use wasm_types::{ElementType, MemoryType, TableType};
 
 /// Whether 64 bits index, and, where a maximum follows the minimum, whether the limits are shared.
 fn flag(b: u8) -> Option<(bool, Option<bool>)>

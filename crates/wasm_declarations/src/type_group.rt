@@ -1,9 +1,9 @@
 //! Groups of declared types.
 ghost use Rattle.std.specs.Prelude.{◌≡◌, ◌++◌, [], ◌∷◌, OnOk};
 
-use mutate_base::TypeInfo;
 use std::alloc::{AllocError, Global};
 use std::marker::Model;
+use wasm_types::TypeInfo;
 
 /// Declared types that may name one another: one, for which no memory is taken, or a list. A contract sees a list.
 #[derive(Debug, Drop)]
@@ -14,7 +14,7 @@ pub struct TypeGroup {
 
 impl Model for TypeGroup {
     ghost use Rattle.std.specs.Prelude.{List};
-    ghost use Rattle.mutate_base.specs.declared.types.TypeInfo.{TypeInfo};
+    ghost use Rattle.wasm_types.specs.declared.types.TypeInfo.{TypeInfo};
     ghost use Rattle.wasm_declarations.specs.Types.{stored};
 
     ghost Value = { List TypeInfo };

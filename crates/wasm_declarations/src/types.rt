@@ -10,9 +10,9 @@ use crate::list::list_of;
 use crate::refusal::Refusal;
 use crate::type_group::TypeGroup;
 use crate::value_types::{ValueTypes, mutable_from, primitive_from};
-use mutate_base::{FuncInfo, TypeInfo};
 use std::alloc::Global;
 use wasm_code::{Cause, byte_of, u32_of};
+use wasm_types::{FuncInfo, TypeInfo};
 
 /// The byte that begins a group.
 const GROUP: u8 = 0x4e;

@@ -6,9 +6,9 @@ ghost use Rattle.wasm_declarations.specs.ValueTypes.{is_abstract, is_plain, plai
 
 use crate::item::Item;
 use crate::refusal::Refusal;
-use mutate_base::PrimitiveTypeInfo;
 use std::alloc::Global;
 use wasm_code::{Cause, byte_of, u32_of};
+use wasm_types::PrimitiveTypeInfo;
 
 /// A number whose last byte is of this size or more is negative where it is read as signed.
 const NEGATIVE: u8 = 64;

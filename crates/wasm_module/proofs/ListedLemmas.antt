@@ -6,7 +6,7 @@ use Rattle.wasm_sections.specs.declared.id.SectionId.{SectionId}
 use Rattle.wasm_sections.specs.declared.fault.ModuleError.{ModuleError}
 use Rattle.wasm_sections.specs.declared.fault.ModuleFault.TheVariants.{Memory}
 use Rattle.wasm_code.specs.Number.{SpellsUnsigned}
-use Rattle.mutate_base.specs.Module.{Module}
+use Rattle.wasm_types.specs.Module.{Module}
 use Rattle.wasm_sections.specs.declared.id.SectionId.TheVariants as ids
 use Rattle.wasm_declarations.specs.List.{SpellsList}
 use Rattle.wasm_declarations.specs.Entries.{SpellsEntries}

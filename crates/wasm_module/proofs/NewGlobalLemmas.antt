@@ -18,9 +18,9 @@ use Rattle.wasm_code.specs.declared.table.Opcode.{Opcode}
 use Rattle.wasm_code.specs.declared.table.Opcode.TheVariants.{Byte, Fd}
 use Rattle.wasm_code.specs.declared.table.Row.{Row}
 use Rattle.wasm_code.specs.laws.NumberExact.{unsigned_exact}
-use Rattle.mutate_base.specs.declared.types.PrimitiveTypeInfo.{PrimitiveTypeInfo}
-use Rattle.mutate_base.specs.declared.types.PrimitiveTypeInfo.TheVariants as primitives
-use Rattle.mutate_base.specs.Module.{merged}
+use Rattle.wasm_types.specs.declared.types.PrimitiveTypeInfo.{PrimitiveTypeInfo}
+use Rattle.wasm_types.specs.declared.types.PrimitiveTypeInfo.TheVariants as primitives
+use Rattle.wasm_types.specs.Module.{merged}
 use Rattle.wasm_declarations.specs.ValueTypes.{SpellsPrimitive}
 use Rattle.wasm_declarations.specs.Constants.{SpellsConstant}
 use Rattle.wasm_declarations.specs.Globals.{SpellsGlobal}

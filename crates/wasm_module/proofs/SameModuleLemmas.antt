@@ -4,7 +4,7 @@ use Rattle.std.specs.Prelude.{◌↔◌, slice_get, slice_range}
 use Rattle.std.proofs.lemmas.List.{take-append-drop, length-take-le}
 use Rattle.wasm_code.specs.declared.fault.Cause.{Cause}
 use Rattle.wasm_code.specs.Number.{SpellsUnsigned}
-use Rattle.mutate_base.specs.Module.{Module}
+use Rattle.wasm_types.specs.Module.{Module}
 use Rattle.wasm_sections.specs.declared.id.SectionId.{SectionId}
 use Rattle.wasm_sections.specs.declared.id.SectionId.TheVariants as ids
 use Rattle.wasm_sections.specs.declared.section.Section.{Section}

@@ -1,6 +1,6 @@
 -- What the sections of a module contain, with another code entry and with more globals (this project).
 use Rattle.std.specs.Prelude.{◌≡◌, ◌⊎◌, ℕ, List, [], ◌∷◌, ◌++◌, Some, slice_get, slice_range}
-use Rattle.mutate_base.specs.declared.types.PrimitiveTypeInfo.{PrimitiveTypeInfo}
+use Rattle.wasm_types.specs.declared.types.PrimitiveTypeInfo.{PrimitiveTypeInfo}
 use Rattle.wasm_sections.specs.declared.section.Section.{Section}
 use Rattle.wasm_sections.specs.declared.id.SectionId.{SectionId}
 use Rattle.wasm_sections.specs.declared.id.SectionId.TheVariants as ids

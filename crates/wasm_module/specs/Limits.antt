@@ -1,6 +1,6 @@
 -- Modules that can't be written, since 32 bits don't hold a size or a number (this project).
 use Rattle.std.specs.Prelude.{◌≡◌, ℕ, ◌+◌, ◌≤◌, ◌^◌, List, length, Some, slice_get, slice_range}
-use Rattle.mutate_base.specs.declared.types.PrimitiveTypeInfo.{PrimitiveTypeInfo}
+use Rattle.wasm_types.specs.declared.types.PrimitiveTypeInfo.{PrimitiveTypeInfo}
 use Rattle.wasm_sections.specs.declared.section.Section.{Section}
 use Rattle.wasm_sections.specs.declared.id.SectionId.TheVariants as ids
 use Rattle.wasm_sections.specs.Find.{IsFirstWith, LackId}

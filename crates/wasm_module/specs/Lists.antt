@@ -1,10 +1,10 @@
 -- What the sections of a module list (this project): for proofs.
 use Rattle.std.specs.Prelude.{ℕ, List}
 use Rattle.wasm_code.specs.Number.{SpellsUnsigned}
-use Rattle.mutate_base.specs.declared.types.PrimitiveTypeInfo.{PrimitiveTypeInfo}
-use Rattle.mutate_base.specs.declared.types.TypeInfo.{TypeInfo}
-use Rattle.mutate_base.specs.declared.types.TableType.{TableType}
-use Rattle.mutate_base.specs.declared.types.MemoryType.{MemoryType}
+use Rattle.wasm_types.specs.declared.types.PrimitiveTypeInfo.{PrimitiveTypeInfo}
+use Rattle.wasm_types.specs.declared.types.TypeInfo.{TypeInfo}
+use Rattle.wasm_types.specs.declared.types.TableType.{TableType}
+use Rattle.wasm_types.specs.declared.types.MemoryType.{MemoryType}
 use Rattle.wasm_sections.specs.declared.section.Section.{Section}
 use Rattle.wasm_sections.specs.declared.id.SectionId.TheVariants as ids
 use Rattle.wasm_declarations.specs.declared.import.Import.{Import}

@@ -1,6 +1,6 @@
 -- Where globals may be appended before an offset of a module, and where an entry of its code stands (this project): for proofs.
 use Rattle.std.specs.Prelude.{◌≡◌, ℕ, ◌≤◌, ◌+◌, ◌-◌, List, ◌++◌, length, Some, slice_get, slice_range}
-use Rattle.mutate_base.specs.declared.types.PrimitiveTypeInfo.{PrimitiveTypeInfo}
+use Rattle.wasm_types.specs.declared.types.PrimitiveTypeInfo.{PrimitiveTypeInfo}
 use Rattle.wasm_declarations.specs.declared.entries.Entry.{Entry}
 use Rattle.wasm_module.specs.Rewritten.{globals_code}
 use Rattle.wasm_code.specs.Code.{shortest}

@@ -13,12 +13,12 @@ use crate::contents::contents_of;
 use crate::globals::{globals_size, put_globals};
 use crate::layout::Layout;
 use crate::sizes::{section_size, sum};
-use mutate_base::PrimitiveTypeInfo;
 use std::alloc::{AllocError, Global};
 use wasm_code::u32_of;
 use wasm_sections::{
     Section, SectionId, WriteError as SectionError, find_section, place_of, put_head,
 };
+use wasm_types::PrimitiveTypeInfo;
 
 /// What follows the number that begins the bytes.
 fn past_count(bytes: &[u8]) -> &[u8]

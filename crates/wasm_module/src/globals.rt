@@ -1,15 +1,15 @@
 //! Globals that are written: what a global section contains with more of them.
 ghost use Rattle.std.specs.Prelude.{◌≡◌, ◌↔◌, ◌≤◌, ◌^◌, ◌++◌, length, Contains, IfOk, IfErr, IsTrue, OnOk};
-ghost use Rattle.mutate_base.specs.declared.types.PrimitiveTypeInfo.TheVariants.{Empty};
+ghost use Rattle.wasm_types.specs.declared.types.PrimitiveTypeInfo.TheVariants.{Empty};
 ghost use Rattle.wasm_module.specs.Rewritten.{global_code, globals_code};
 ghost use Rattle.wasm_module.specs.Room.{globals_with};
 ghost use Rattle.wasm_sections.specs.declared.writing.WriteError.TheVariants.{TooLarge};
 
 use crate::sizes::{number_size, sum};
-use mutate_base::PrimitiveTypeInfo;
 use std::alloc::AllocError;
 use wasm_code::put_unsigned;
 use wasm_sections::WriteError as SectionError;
+use wasm_types::PrimitiveTypeInfo;
 
 /// The global of the type: it may be written, and starts as zero, or null. Nothing for `Empty`, which no global has.
 fn global_of(tpe: PrimitiveTypeInfo) -> &'static [u8]

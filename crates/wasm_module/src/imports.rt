@@ -2,9 +2,9 @@
 ghost use Rattle.std.specs.Prelude.{◌≡◌, IfOk};
 ghost use Rattle.wasm_module.specs.Module.{functions_of, tables_of, memories_of, globals_of};
 
-use mutate_base::{MemoryType, PrimitiveTypeInfo, TableType};
 use std::alloc::{AllocError, Global};
 use wasm_declarations::Import;
+use wasm_types::{MemoryType, PrimitiveTypeInfo, TableType};
 
 /// Of each imported function the index of its type.
 pub fn imported_functions(alloc: Global, imports: &[Import]) -> Result<Vec<u32>, AllocError>

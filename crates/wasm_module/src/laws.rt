@@ -1,15 +1,15 @@
 //! Laws on modules: functions that do nothing, and whose contracts hold for all values.
 ghost use Rattle.std.specs.Prelude.{◌≡◌, ◌≢◌, ℕ, List, All, Some, None, slice_get};
-ghost use Rattle.mutate_base.specs.Module.{Module};
+ghost use Rattle.wasm_types.specs.Module.{Module};
 ghost use Rattle.wasm_declarations.specs.declared.entries.Entry.{Entry};
 ghost use Rattle.wasm_module.specs.Module.{Layout, IsModule};
-ghost use Rattle.mutate_base.specs.declared.types.PrimitiveTypeInfo.{PrimitiveTypeInfo};
+ghost use Rattle.wasm_types.specs.declared.types.PrimitiveTypeInfo.{PrimitiveTypeInfo};
 ghost use Rattle.wasm_sections.specs.declared.fault.ModuleFault.{ModuleFault};
 ghost use Rattle.wasm_sections.specs.declared.fault.ModuleFault.TheVariants.{Memory};
 ghost use Rattle.wasm_module.specs.Fault.{IsModuleFault};
 ghost use Rattle.wasm_module.specs.Inside.{IsInside};
 ghost use Rattle.wasm_module.specs.Rewritten.{IsRewritten};
-ghost use Rattle.mutate_base.specs.declared.types.PrimitiveTypeInfo.TheVariants as primitives;
+ghost use Rattle.wasm_types.specs.declared.types.PrimitiveTypeInfo.TheVariants as primitives;
 ghost use Rattle.wasm_module.specs.Reread.{IsReread};
 ghost use Rattle.wasm_module.specs.Again.{AreSectionsAgain};
 ghost use Rattle.wasm_sections.specs.declared.section.Section.{Section};

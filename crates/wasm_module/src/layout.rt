@@ -1,10 +1,10 @@
 //! Where things stand in a module.
 
 use crate::unknown::Unknown;
-use mutate_base::ModuleInfo;
 use std::marker::Model;
 use wasm_declarations::Entry;
 use wasm_sections::Section;
+use wasm_types::ModuleInfo;
 
 /// Where things stand in a module, how many come from outside, and what isn't known.
 #[derive(Drop)]

@@ -2,7 +2,7 @@
 ghost use Rattle.std.specs.Prelude.{◌≡◌, length, IfOk, IfErr, IsOk, OnOk, MatchResult};
 ghost use Rattle.wasm_sections.specs.Section.{SpellsModule};
 ghost use Rattle.wasm_module.specs.Module.{Layout as Place, IsModule};
-ghost use Rattle.mutate_base.specs.Module.{Module as Info};
+ghost use Rattle.wasm_types.specs.Module.{Module as Info};
 ghost use Rattle.wasm_module.specs.Lists.{AreListed};
 ghost use Rattle.wasm_module.specs.Fault.{IsCodeStart, IsModuleFault};
 ghost use Rattle.wasm_sections.specs.declared.fault.ModuleFault.TheVariants.{CodeCount, Memory};
@@ -14,10 +14,10 @@ use crate::lists::read_lists;
 use crate::spaces::{
     function_space, global_count, global_space, memory_space, table_space, type_space, unknown_of,
 };
-use mutate_base::ModuleInfo;
 use std::alloc::{AllocError, Global};
 use wasm_declarations::laws::one_list;
 use wasm_sections::{ModuleError, ModuleFault, Section, SectionId, find_section, read_sections};
+use wasm_types::ModuleInfo;
 
 /// The start of the code section, or the end of the bytes where there is none.
 fn code_start(bytes: &[u8], sections: &[Section]) -> usize

@@ -7,9 +7,9 @@ ghost use Rattle.wasm_module.specs.Module.{functions_of, tables_of, memories_of,
 use crate::imports::{imported_functions, imported_globals, imported_memories, imported_tables};
 use crate::listed::Listed;
 use crate::unknown::Unknown;
-use mutate_base::{MemoryType, PrimitiveTypeInfo, TableType, TypeInfo};
 use std::alloc::{AllocError, Global};
 use wasm_declarations::{Import, Known, TypeGroup};
+use wasm_types::{MemoryType, PrimitiveTypeInfo, TableType, TypeInfo};
 
 /// Whether every import is of a form that is known, so that the indices behind them are.
 fn are_known(imports: &Known<Import>) -> bool

@@ -1,7 +1,7 @@
 //! A module with another body and more globals.
 ghost use Rattle.std.specs.Prelude.{◌≡◌, ◌↔◌, ◌≤◌, ◌<◌, ◌^◌, ◌++◌, ℕ, List, length, drop, Contains, Err, IfOk, IfErr, OnOk};
-ghost use Rattle.mutate_base.specs.Module.{Module};
-ghost use Rattle.mutate_base.specs.declared.types.PrimitiveTypeInfo.TheVariants.{Empty};
+ghost use Rattle.wasm_types.specs.Module.{Module};
+ghost use Rattle.wasm_types.specs.declared.types.PrimitiveTypeInfo.TheVariants.{Empty};
 ghost use Rattle.wasm_module.specs.declared.refusal.WriteError.TheVariants.{EmptyType, TooLarge};
 ghost use Rattle.wasm_module.specs.Module.{IsModule};
 ghost use Rattle.wasm_module.specs.Rewritten.{code_with, IsRewritten};
@@ -13,12 +13,12 @@ use crate::globals::has_empty;
 use crate::layout::Layout;
 use crate::refusal::WriteError;
 use crate::sizes::{number_size, section_size, sum};
-use mutate_base::PrimitiveTypeInfo;
 use std::alloc::{AllocError, Global};
 use wasm_code::put_unsigned;
 use wasm_declarations::Entry;
 use wasm_sections::laws::sections_fill_the_module;
 use wasm_sections::{Section, SectionId, WriteError as SectionError, find_section, put_head};
+use wasm_types::PrimitiveTypeInfo;
 
 /// How many bytes the code section contains where the entry's contents have so many.
 fn code_size(code: Section, entry: Entry, size: u32) -> Result<u32, SectionError>

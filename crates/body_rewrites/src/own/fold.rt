@@ -1,7 +1,7 @@
 //! An operator on constants → the constant of its value.
 ghost use Rattle.std.specs.Prelude.{◌≡◌, ◌↔◌, ◌<◌, ◌^◌, ℕ, [], ◌∷◌, IsTrue, IfSome, IfNone};
 ghost use mir.Val.{bits};
-ghost use Rattle.mutate_base.specs.declared.types.PrimitiveTypeInfo.{PrimitiveTypeInfo as ValueType};
+ghost use Rattle.wasm_types.specs.declared.types.PrimitiveTypeInfo.{PrimitiveTypeInfo as ValueType};
 ghost use Rattle.peephole_machine.specs.declared.operation.Operation.{Operation as WholeOperation};
 ghost use Rattle.peephole_machine.specs.Values.{Context, type_of, width_of};
 ghost use Rattle.rewrite_rules.specs.declared.pattern.Operator.TheVariants.{Whole};
@@ -12,9 +12,9 @@ ghost use Rattle.body_rewrites.specs.OwnSites.{IsSiteOf, HasOperation, IsValueOn
 use crate::instructions::constant_at;
 use crate::own::{Made, Site};
 use crate::trees::instr_at;
-use mutate_base::PrimitiveTypeInfo;
 use peephole_machine::{IntegerType, Operation};
 use wasm_code::{Imm, Instr, OperatorAndByteOffset};
+use wasm_types::PrimitiveTypeInfo;
 
 // The operator that the instruction is.
 fn operation_in(instr: &Instr) -> Option<Operation>

@@ -10,7 +10,7 @@ ghost use Rattle.body_rewrites.specs.OwnSites.{IsSiteOf};
 use crate::cutting::tree_at;
 use crate::own::{Made, Site};
 use crate::trees::Tree;
-use mutate_base::{ModuleInfo, PrimitiveTypeInfo};
+use wasm_types::{ModuleInfo, PrimitiveTypeInfo};
 
 // Whether its values are numbers, and no vectors.
 fn is_number(t: PrimitiveTypeInfo) -> bool

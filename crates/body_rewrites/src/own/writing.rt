@@ -18,9 +18,9 @@ use crate::instructions::{constant, instr};
 use crate::own::{Made, Site};
 use arrayvec::ArrayVec;
 use body_splices::Piece;
-use mutate_base::PrimitiveTypeInfo;
 use peephole_machine::IntegerType;
 use wasm_code::{Imm, Instr};
+use wasm_types::PrimitiveTypeInfo;
 
 #[tactic(auto, using(crate::proofs::OwnRowLemmas::nop_row))]
 fn nop() -> Instr

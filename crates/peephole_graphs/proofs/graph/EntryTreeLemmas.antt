@@ -7,7 +7,7 @@ use Rattle.std.proofs.lemmas.Bool.{cond-true, cond-false, eq-eqb, ne_eqb}
 use Rattle.std.proofs.lemmas.List.{length-reverse, get_or-map, append-nil, reverse-append, take_all, take_more, length-take-le}
 use Rattle.std.proofs.lemmas.List.Elements.{All-nil, All-head, All-tail, All-weaker}
 use Rattle.std.proofs.lemmas.Option.{slice_get_within, slice_get-get_or, get_or_from_slice_get}
-use Rattle.mutate_base.specs.Module.{Module}
+use Rattle.wasm_types.specs.Module.{Module}
 use Rattle.peephole_lang.specs.Node.{instr_of, children_of}
 use Rattle.peephole_lang.specs.Term.{Node, node, AreBelow, pick, tree_at, nodes_of}
 use Rattle.peephole_lang.specs.laws.PlaceLemmas.{last_or_before, at_place, tree_is}

@@ -8,7 +8,7 @@ use Rattle.std.proofs.lemmas.Bool.Decides.{nat_tests}
 use Rattle.std.proofs.lemmas.List.{reverse-append, reverse-reverse}
 use Rattle.std.proofs.lemmas.List.Elements.{All-head, All-nil, All-push}
 use Rattle.wasm_code.specs.declared.operator.Operator.{Operator}
-use Rattle.mutate_base.specs.Module.{Module}
+use Rattle.wasm_types.specs.Module.{Module}
 use Rattle.peephole_graphs.specs.Shape.{Shape, Judged, Fits, Unfit, Unknown, judge, IsFit, AreFit, shapes_of_block}
 use Rattle.peephole_graphs.specs.GraphOf.{IsSmall, FirstFault, IsLarge}
 use Rattle.peephole_graphs.specs.Faults.{Fault, held_by_none, calls_unknown, too_large, has_room, fault_behind, fault_among, fault_of, HasNoFault}

@@ -1,7 +1,7 @@
 -- What a sample of an exact row expects: a value computed, a value loaded, or bytes stored.
 use Rattle.std.specs.Prelude.{ℕ, ◌==◌, ◌&&◌, Bool, true, false, List, [], ◌∷◌, length, take, Option, Some}
 use Rattle.wasm_code.specs.declared.immediate.MemArg.{MemArg}
-use Rattle.mutate_base.specs.declared.types.PrimitiveTypeInfo.{PrimitiveTypeInfo}
+use Rattle.wasm_types.specs.declared.types.PrimitiveTypeInfo.{PrimitiveTypeInfo}
 use Rattle.peephole_machine.specs.ExactRow.{ExactRow, computes, loads, stores}
 use Rattle.peephole_machine.specs.Values.{of_bits, little, bytes_of}
 

@@ -2,7 +2,7 @@
 use Rattle.std.specs.Prelude.{◌≡◌, refl, true, [], ◌∷◌, Some}
 use Rattle.wasm_code.specs.declared.immediate.Imm.TheVariants as imm
 use Rattle.wasm_code.specs.declared.table.Opcode.TheVariants.{Fd}
-use Rattle.mutate_base.specs.declared.types.PrimitiveTypeInfo.TheVariants as primitive
+use Rattle.wasm_types.specs.declared.types.PrimitiveTypeInfo.TheVariants as primitive
 use Rattle.peephole_machine.specs.Lanes.{each_lane, each_pair, shuffled}
 use Rattle.peephole_machine.specs.ExactRow.{exact_by}
 use Rattle.peephole_machine.proofs.exact_samples.Expected.{all_are}

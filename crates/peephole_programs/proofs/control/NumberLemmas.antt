@@ -3,8 +3,8 @@ use Rattle.std.proofs.Common.{◌≡◌, ℕ, Bool, true, List, [], ◌∷◌, r
 use Rattle.std.specs.Prelude.{◌&&◌, ◌^◌}
 use Rattle.std.specs.List.{All}
 use Rattle.std.proofs.lemmas.List.Elements.{All-nil, All-cons, All-head, All-tail}
-use Rattle.mutate_base.specs.declared.types.PrimitiveTypeInfo.{PrimitiveTypeInfo}
-use Rattle.mutate_base.specs.declared.types.PrimitiveTypeInfo.TheVariants as primitive
+use Rattle.wasm_types.specs.declared.types.PrimitiveTypeInfo.{PrimitiveTypeInfo}
+use Rattle.wasm_types.specs.declared.types.PrimitiveTypeInfo.TheVariants as primitive
 use Rattle.peephole_machine.specs.Values.{same_type, same_types, Value, IsValue, IsOfType}
 use Rattle.peephole_machine.specs.RowLemmas.{same_type_self}
 use Rattle.std.proofs.lemmas.Bool.{and_parts, ltb-true, lt-ltb}

@@ -4,7 +4,7 @@ use Rattle.std.specs.Prelude.{◌≢◌, map}
 use Rattle.wasm_code.specs.Instruction.{Instruction}
 use Rattle.wasm_code.specs.declared.operator.Operator.{Operator}
 use Rattle.wasm_code.specs.declared.operator.Operator.TheVariants.{Instr}
-use Rattle.mutate_base.specs.declared.types.PrimitiveTypeInfo.{PrimitiveTypeInfo}
+use Rattle.wasm_types.specs.declared.types.PrimitiveTypeInfo.{PrimitiveTypeInfo}
 use Rattle.peephole_machine.specs.Values.{Context, Outcome, Ends, Traps, Stuck, then_run, Value, types}
 use Rattle.peephole_machine.specs.Machine.{run}
 use Rattle.peephole_machine.specs.Agreement.{with_globals}

@@ -4,8 +4,8 @@ use Rattle.std.specs.Prelude.{◌||◌}
 use Rattle.std.specs.List.{All}
 use Rattle.wasm_code.specs.Instruction.{Instruction}
 use Rattle.wasm_code.specs.Table.{row_at, opcode_in}
-use Rattle.mutate_base.specs.Module.{Module}
-use Rattle.mutate_base.specs.declared.types.PrimitiveTypeInfo.{PrimitiveTypeInfo}
+use Rattle.wasm_types.specs.Module.{Module}
+use Rattle.wasm_types.specs.declared.types.PrimitiveTypeInfo.{PrimitiveTypeInfo}
 use Rattle.peephole_machine.specs.ExactRow.{ExactRow, exact_row}
 use Rattle.peephole_machine.specs.OtherRow.{changes, may_trap, opcode_fails}
 use Rattle.peephole_machine.specs.Values.{asked_types, Value, IsValue, types, unfinished, Answer, Gives, Fails, IsAnswer, IsSound}

@@ -7,9 +7,9 @@ use Rattle.wasm_code.specs.declared.operator.Operator.{Operator}
 use Rattle.wasm_code.specs.declared.operator.Operator.TheVariants as op
 use Rattle.wasm_code.specs.Instruction.{Instruction}
 use Rattle.wasm_code.specs.Table.{row_at, table}
-use Rattle.mutate_base.specs.Module.{Module, module_of}
-use Rattle.mutate_base.specs.declared.types.PrimitiveTypeInfo.TheVariants as primitive
-use Rattle.mutate_base.specs.declared.types.TypeInfo.TheVariants.{Func}
+use Rattle.wasm_types.specs.Module.{Module, module_of}
+use Rattle.wasm_types.specs.declared.types.PrimitiveTypeInfo.TheVariants as primitive
+use Rattle.wasm_types.specs.declared.types.TypeInfo.TheVariants.{Func}
 use Rattle.peephole_machine.specs.OtherRow.{other_type}
 use Rattle.peephole_machine.specs.Values.{unfinished, Gives, Fails, context_in}
 use Rattle.peephole_machine.specs.IntegerRow.{integer_row}

@@ -5,8 +5,8 @@ use Rattle.std.specs.List.{All}
 use Rattle.std.proofs.lemmas.List.{take_at, drop_at, take-map, drop-map, take-append-drop}
 use Rattle.std.proofs.lemmas.List.Elements.{All-take, All-drop, All-append}
 use Rattle.wasm_code.specs.Instruction.{Instruction}
-use Rattle.mutate_base.specs.Module.{Module}
-use Rattle.mutate_base.specs.declared.types.PrimitiveTypeInfo.{PrimitiveTypeInfo}
+use Rattle.wasm_types.specs.Module.{Module}
+use Rattle.wasm_types.specs.declared.types.PrimitiveTypeInfo.{PrimitiveTypeInfo}
 use Rattle.peephole_machine.specs.ExactRow.{ExactRow, computes, loads, stores}
 use Rattle.peephole_machine.specs.Values.{Value, IsValue, types, Answer, Gives, Fails, World, IsAnswer, IsSound, Memories, within, exactly}
 use Rattle.peephole_machine.specs.Laws.{SoundWorldsExist}

@@ -1,7 +1,7 @@
 -- No harness tells a module from one that does more.
 use Rattle.std.proofs.Common.{◌≡◌, [], refl, ap, ◌∙◌, subst}
 use Rattle.std.proofs.lemmas.List.Elements.{All-nil}
-use Rattle.mutate_base.specs.Module.{Module}
+use Rattle.wasm_types.specs.Module.{Module}
 use Rattle.peephole_machine.specs.Values.{IsValue, IsSound}
 use Rattle.peephole_programs.specs.control.Wider.{wider_module, IsMoreWorld}
 use Rattle.peephole_programs.specs.hosts.EmbedderLaws.{HarnessesDoMore}

@@ -3,8 +3,8 @@ use Rattle.std.proofs.Common.{◌≡◌, ℕ, List, [], ◌++◌, Option, Some, 
 use Rattle.std.specs.Prelude.{◌≢◌, ◌==◌, if◌then◌else◌, option_map}
 use Rattle.std.proofs.lemmas.Bool.{eqb-true}
 use Rattle.wasm_code.specs.declared.operator.Operator.{Operator}
-use Rattle.mutate_base.specs.Module.{Module}
-use Rattle.mutate_base.specs.declared.types.PrimitiveTypeInfo.{PrimitiveTypeInfo}
+use Rattle.wasm_types.specs.Module.{Module}
+use Rattle.wasm_types.specs.declared.types.PrimitiveTypeInfo.{PrimitiveTypeInfo}
 use Rattle.peephole_machine.specs.Values.{context_in, IsSound, Ends, Traps, Stuck}
 use Rattle.peephole_programs.specs.control.Function.{structural, Reached, At, Done, Control, runs, IsSoundControl}
 use Rattle.peephole_programs.specs.modules.Program.{Body, context_for, IsSoundBody, AreSound, BothRewritten, AreRewritten}

@@ -4,8 +4,8 @@ use Rattle.std.specs.Prelude.{if◌then◌else◌}
 use Rattle.std.proofs.lemmas.List.{drop_at, drop-map}
 use Rattle.std.proofs.lemmas.List.Elements.{All-append}
 use Rattle.wasm_code.specs.Instruction.{Instruction}
-use Rattle.mutate_base.specs.Module.{Module}
-use Rattle.mutate_base.specs.declared.types.PrimitiveTypeInfo.{PrimitiveTypeInfo}
+use Rattle.wasm_types.specs.Module.{Module}
+use Rattle.wasm_types.specs.declared.types.PrimitiveTypeInfo.{PrimitiveTypeInfo}
 use Rattle.peephole_machine.specs.Values.{same_types, asked_types, Value, IsValue, types, Context, unfinished, stuck, Answer, Gives, Fails, World, State, own_globals, further_globals, IsAnswer, IsSound, HasTypes, Ends, Traps, Stuck}
 use Rattle.peephole_machine.specs.RowLemmas.{same_types_is}
 use Rattle.peephole_machine.specs.OutcomeLemmas.{types_append, length_types}

@@ -4,8 +4,8 @@ use Rattle.std.specs.List.{All}
 use Rattle.std.proofs.lemmas.List.{drop_at}
 use Rattle.std.proofs.lemmas.List.Elements.{All-head, All-tail, All-drop, All-append}
 use Rattle.wasm_code.specs.Instruction.{Instruction}
-use Rattle.mutate_base.specs.Module.{Module}
-use Rattle.mutate_base.specs.declared.types.PrimitiveTypeInfo.{PrimitiveTypeInfo}
+use Rattle.wasm_types.specs.Module.{Module}
+use Rattle.wasm_types.specs.declared.types.PrimitiveTypeInfo.{PrimitiveTypeInfo}
 use Rattle.peephole_machine.specs.Values.{asked_types, Value, IsValue, types, Cause, divide_by_zero, overflow, unreachable, unfinished, stuck, met, Answer, Gives, Fails, World, IsAnswer, IsSound}
 use Rattle.peephole_machine.specs.OutcomeLemmas.{types_append}
 use Rattle.peephole_programs.specs.control.Wider.{wider_module, Begins, IsMore}

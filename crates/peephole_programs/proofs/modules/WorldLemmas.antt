@@ -9,8 +9,8 @@ use Rattle.wasm_code.specs.declared.immediate.Imm.{Imm}
 use Rattle.wasm_code.specs.declared.immediate.Imm.TheVariants as imm
 use Rattle.wasm_code.specs.Instruction.{Instruction}
 use Rattle.wasm_code.specs.Table.{row_at, opcode_in}
-use Rattle.mutate_base.specs.declared.types.PrimitiveTypeInfo.{PrimitiveTypeInfo}
-use Rattle.mutate_base.specs.declared.types.PrimitiveTypeInfo.TheVariants as primitive
+use Rattle.wasm_types.specs.declared.types.PrimitiveTypeInfo.{PrimitiveTypeInfo}
+use Rattle.wasm_types.specs.declared.types.PrimitiveTypeInfo.TheVariants as primitive
 use Rattle.peephole_machine.specs.ExactRow.{ExactRow, exact_by, exact_row}
 use Rattle.peephole_machine.specs.OtherRow.{changes, may_trap, opcode_changes, opcode_fails}
 use Rattle.peephole_machine.specs.Values.{same_types, asked_types, Value, IsValue, IsOfType, types, Context, Cause, unfinished, stuck, Gives, Fails, World, State, own_globals, IsAnswer, IsSound, HasTypes, Outcome, Ends, Traps, Stuck}

@@ -6,7 +6,7 @@ use Rattle.wasm_code.specs.declared.immediate.BlockType.{BlockType}
 use Rattle.wasm_code.specs.declared.other.Other.{Other}
 use Rattle.wasm_code.specs.declared.operator.Operator.{Operator}
 use Rattle.wasm_code.specs.declared.operator.Operator.TheVariants as op
-use Rattle.mutate_base.specs.declared.types.PrimitiveTypeInfo.{PrimitiveTypeInfo}
+use Rattle.wasm_types.specs.declared.types.PrimitiveTypeInfo.{PrimitiveTypeInfo}
 use Rattle.peephole_machine.specs.Values.{Context}
 use Rattle.peephole_programs.specs.control.Blocks.{catches, role_of, Nesting, opens, parts, closes, stays, nesting, closing_at, closing, other_part_at, other_part, parts_at, parts_from}
 use Rattle.peephole_programs.specs.control.Standard.{Beyond, handler_arity}

@@ -6,8 +6,8 @@ use Rattle.std.proofs.lemmas.List.Elements.{All-nil}
 use Rattle.wasm_code.specs.Instruction.{Instruction}
 use Rattle.wasm_code.specs.declared.operator.Operator.{Operator}
 use Rattle.wasm_code.specs.declared.operator.Operator.TheVariants as op
-use Rattle.mutate_base.specs.Module.{Module}
-use Rattle.mutate_base.specs.declared.types.PrimitiveTypeInfo.{PrimitiveTypeInfo}
+use Rattle.wasm_types.specs.Module.{Module}
+use Rattle.wasm_types.specs.declared.types.PrimitiveTypeInfo.{PrimitiveTypeInfo}
 use Rattle.peephole_machine.specs.Values.{Value, IsValue, Context, State, HasTypes, Outcome, Ends, Traps, Stuck}
 use Rattle.peephole_machine.specs.Machine.{run}
 use Rattle.peephole_machine.specs.RowLemmas.{and_then_some, map_some}

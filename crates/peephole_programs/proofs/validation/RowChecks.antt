@@ -5,11 +5,11 @@ use Rattle.std.proofs.lemmas.Bool.{le-leb}
 use Rattle.std.proofs.lemmas.List.{take_at, drop_at, map-append, length-map}
 use Rattle.wasm_code.specs.Instruction.{Instruction}
 use Rattle.wasm_code.specs.Table.{row_at, table}
-use Rattle.mutate_base.specs.Module.{Module}
-use Rattle.mutate_base.specs.declared.types.PrimitiveTypeInfo.{PrimitiveTypeInfo}
-use Rattle.mutate_base.specs.declared.types.PrimitiveTypeInfo.TheVariants as primitive
-use Rattle.mutate_base.specs.declared.types.TypeInfo.{TypeInfo}
-use Rattle.mutate_base.specs.declared.types.TypeInfo.TheVariants.{Func, Other}
+use Rattle.wasm_types.specs.Module.{Module}
+use Rattle.wasm_types.specs.declared.types.PrimitiveTypeInfo.{PrimitiveTypeInfo}
+use Rattle.wasm_types.specs.declared.types.PrimitiveTypeInfo.TheVariants as primitive
+use Rattle.wasm_types.specs.declared.types.TypeInfo.{TypeInfo}
+use Rattle.wasm_types.specs.declared.types.TypeInfo.TheVariants.{Func, Other}
 use Rattle.peephole_machine.specs.OtherRow.{Operand, OtherType, names_in, other_type}
 use Rattle.peephole_machine.specs.Values.{type_of, same_type, same_types, accepts, accept, results_on, foreign_call, function_results, asked_types, Context, Variable, local, global}
 use Rattle.peephole_machine.specs.IntegerRow.{IntegerRow, constant, operation, get, set, tee, discard, select, nop, other, operand_count, if_typed, row_types, variable_type, is_numeric, integer_row}
@@ -223,12 +223,6 @@ module _ (input : List ℕ) (more : List PrimitiveTypeInfo) (context : Context) 
       ap (λ (k : ℕ). if can_pop k f then option_map (with_pushed k f) (row_entries (wider input more context) row (popped k f)) else None)
       (sym (count_alike input more context.info row)) ∙
       pop_wider row (operand_count context.info row) f g (can_pop (operand_count context.info row) f) e
-
-  pub check_code_wider : (code : List Instruction) (f g : Frame) → check_code context code f ≡ Some g → check_code (wider input more context) code f ≡ Some g
-  check_code_wider [] f g e = e
-  check_code_wider (i ∷ code) f g e =
-      let (h, a, b) = and_then_some (check_code context code) (check_row context (integer_row i) f) g e in
-      ap (option_and_then (check_code (wider input more context) code)) (check_row_wider (integer_row i) f h a) ∙ check_code_wider code h g b
 
 -- ---- typed code
 

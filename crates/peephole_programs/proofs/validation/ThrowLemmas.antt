@@ -7,8 +7,8 @@ use Rattle.std.proofs.lemmas.List.Elements.{All-append}
 use Rattle.wasm_code.specs.declared.operator.Operator.{Operator}
 use Rattle.wasm_code.specs.declared.operator.Operator.TheVariants as op
 use Rattle.wasm_code.specs.Instruction.{Instruction}
-use Rattle.mutate_base.specs.Module.{Module}
-use Rattle.mutate_base.specs.declared.types.PrimitiveTypeInfo.{PrimitiveTypeInfo}
+use Rattle.wasm_types.specs.Module.{Module}
+use Rattle.wasm_types.specs.declared.types.PrimitiveTypeInfo.{PrimitiveTypeInfo}
 use Rattle.peephole_machine.specs.Values.{asked_types, Value, IsValue, types, State, own_globals, further_globals, HasTypes, met, Answer, Gives, Fails, Stuck}
 use Rattle.peephole_machine.specs.Machine.{answered}
 use Rattle.peephole_machine.specs.Agreement.{EndsTyped}

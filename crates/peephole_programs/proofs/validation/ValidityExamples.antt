@@ -5,10 +5,10 @@ use Rattle.wasm_code.specs.declared.immediate.Imm.TheVariants as imm
 use Rattle.wasm_code.specs.declared.operator.Operator.{Operator}
 use Rattle.wasm_code.specs.declared.operator.Operator.TheVariants as op
 use Rattle.wasm_code.specs.Table.{row_at, table}
-use Rattle.mutate_base.specs.Module.{Module, module_of}
-use Rattle.mutate_base.specs.declared.types.ElementType.TheVariants as element
-use Rattle.mutate_base.specs.declared.types.PrimitiveTypeInfo.TheVariants as primitive
-use Rattle.mutate_base.specs.declared.types.TypeInfo.TheVariants.{Func}
+use Rattle.wasm_types.specs.Module.{Module, module_of}
+use Rattle.wasm_types.specs.declared.types.ElementType.TheVariants as element
+use Rattle.wasm_types.specs.declared.types.PrimitiveTypeInfo.TheVariants as primitive
+use Rattle.wasm_types.specs.declared.types.TypeInfo.TheVariants.{Func}
 use Rattle.peephole_machine.specs.OtherRow.{other_type}
 use Rattle.peephole_machine.specs.declared.integer.IntegerType.TheVariants as integer
 use Rattle.peephole_machine.specs.Values.{whole, context_in, World, State, Ends}

@@ -7,12 +7,12 @@ use Rattle.wasm_code.specs.declared.operator.Operator.{Operator}
 use Rattle.wasm_code.specs.declared.operator.Operator.TheVariants as op
 use Rattle.wasm_code.specs.declared.other.Other.{Other}
 use Rattle.wasm_code.specs.declared.other.Other.TheVariants as others
-use Rattle.mutate_base.specs.Module.{Module, merged}
-use Rattle.mutate_base.specs.declared.types.PrimitiveTypeInfo.{PrimitiveTypeInfo}
-use Rattle.mutate_base.specs.declared.types.PrimitiveTypeInfo.TheVariants as primitive
-use Rattle.mutate_base.specs.declared.types.TypeInfo.{TypeInfo}
-use Rattle.mutate_base.specs.declared.types.TypeInfo.TheVariants as declared
-use Rattle.mutate_base.specs.declared.types.TableType.{TableType}
+use Rattle.wasm_types.specs.Module.{Module, merged}
+use Rattle.wasm_types.specs.declared.types.PrimitiveTypeInfo.{PrimitiveTypeInfo}
+use Rattle.wasm_types.specs.declared.types.PrimitiveTypeInfo.TheVariants as primitive
+use Rattle.wasm_types.specs.declared.types.TypeInfo.{TypeInfo}
+use Rattle.wasm_types.specs.declared.types.TypeInfo.TheVariants as declared
+use Rattle.wasm_types.specs.declared.types.TableType.{TableType}
 use Rattle.peephole_machine.specs.OtherRow.{value_type, address_type}
 
 -- ---- block types

@@ -1,6 +1,6 @@
 -- What holds of the standard's control and of replaced code: this project's laws.
 use Rattle.std.specs.Prelude.{ℕ, List}
-use Rattle.mutate_base.specs.declared.types.PrimitiveTypeInfo.{PrimitiveTypeInfo}
+use Rattle.wasm_types.specs.declared.types.PrimitiveTypeInfo.{PrimitiveTypeInfo}
 use Rattle.peephole_machine.specs.Values.{Context}
 use Rattle.wasm_code.specs.declared.operator.Operator.{Operator}
 use Rattle.peephole_programs.specs.control.Function.{IsSoundControl, RunsPieceByPiece, ReplacesCode}

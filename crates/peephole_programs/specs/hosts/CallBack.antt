@@ -2,8 +2,8 @@
 -- functions).
 use Rattle.std.specs.Prelude.{◌≡◌, ℕ, true, List, Option, Some, None}
 use Rattle.wasm_code.specs.Instruction.{Instruction}
-use Rattle.mutate_base.specs.Module.{Module}
-use Rattle.mutate_base.specs.declared.types.PrimitiveTypeInfo.{PrimitiveTypeInfo}
+use Rattle.wasm_types.specs.Module.{Module}
+use Rattle.wasm_types.specs.declared.types.PrimitiveTypeInfo.{PrimitiveTypeInfo}
 use Rattle.peephole_machine.specs.ExactRow.{exact_row}
 use Rattle.peephole_machine.specs.OtherRow.{changes}
 use Rattle.peephole_machine.specs.Values.{asked_types, Value, unfinished, Answer, Fails}

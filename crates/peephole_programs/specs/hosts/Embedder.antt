@@ -1,8 +1,8 @@
 -- What runs modules, whichever module it is given: a host for each; and modules of valid functions that run in it (this project).
 use Rattle.std.specs.Prelude.{◌≡◌, ℕ, List, ◌++◌, take, drop, length, slice_get, Option, Some, None, option_map, option_and_then, if◌then◌else◌, ◌==◌, ⊤}
 use Rattle.wasm_code.specs.declared.operator.Operator.{Operator}
-use Rattle.mutate_base.specs.Module.{Module}
-use Rattle.mutate_base.specs.declared.types.PrimitiveTypeInfo.{PrimitiveTypeInfo}
+use Rattle.wasm_types.specs.Module.{Module}
+use Rattle.wasm_types.specs.declared.types.PrimitiveTypeInfo.{PrimitiveTypeInfo}
 use Rattle.peephole_machine.specs.Values.{Value, Answer, Gives, Fails, World}
 use Rattle.peephole_programs.specs.control.Function.{structural, EndsAlike}
 use Rattle.peephole_programs.specs.modules.Program.{Body, Answering, Host, IsSoundHost, context_for}

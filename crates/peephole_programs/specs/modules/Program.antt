@@ -7,8 +7,8 @@ use Rattle.wasm_code.specs.declared.immediate.Imm.TheVariants as imm
 use Rattle.wasm_code.specs.declared.operator.Operator.{Operator}
 use Rattle.wasm_code.specs.Instruction.{Instruction}
 use Rattle.wasm_code.specs.Table.{row_at, opcode_in}
-use Rattle.mutate_base.specs.Module.{Module}
-use Rattle.mutate_base.specs.declared.types.PrimitiveTypeInfo.{PrimitiveTypeInfo}
+use Rattle.wasm_types.specs.Module.{Module}
+use Rattle.wasm_types.specs.declared.types.PrimitiveTypeInfo.{PrimitiveTypeInfo}
 use Rattle.peephole_machine.specs.Values.{same_types, asked_types, Value, types, Context, context_in, Answer, Gives, Fails, unfinished, stuck, World, State, IsSound, own_globals, HasTypes, Ends, Traps, Stuck}
 use Rattle.peephole_programs.specs.control.Numbers.{are_values}
 use Rattle.peephole_programs.specs.control.Function.{structural, Reached, At, Done, Control, runs, IsSoundControl, EndsAlike}

@@ -2,8 +2,8 @@
 use Rattle.std.specs.Prelude.{◌≡◌, ℕ, List, [], ◌∷◌, ◌++◌, Some, ⊤}
 use Rattle.std.specs.List.{All}
 use Rattle.wasm_code.specs.Instruction.{Instruction}
-use Rattle.mutate_base.specs.Module.{Module}
-use Rattle.mutate_base.specs.declared.types.PrimitiveTypeInfo.{PrimitiveTypeInfo}
+use Rattle.wasm_types.specs.Module.{Module}
+use Rattle.wasm_types.specs.declared.types.PrimitiveTypeInfo.{PrimitiveTypeInfo}
 use Rattle.peephole_machine.specs.Values.{asked_types, Value, IsValue, types, Cause, unfinished, stuck, Answer, Gives, Fails, World, IsSound}
 use Rattle.peephole_programs.specs.control.Function.{structural}
 use Rattle.peephole_programs.specs.modules.Program.{Body, Program, Controls, Answering, world_with, world, context_for, AreSound, AreRewritten, Host, IsSoundHost}

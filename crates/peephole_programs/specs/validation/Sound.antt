@@ -5,8 +5,8 @@ use Rattle.wasm_code.specs.Instruction.{Instruction}
 use Rattle.wasm_code.specs.declared.operator.Operator.{Operator}
 use Rattle.wasm_code.specs.declared.other.Other.{Other}
 use Rattle.wasm_code.specs.declared.operator.Operator.TheVariants as op
-use Rattle.mutate_base.specs.Module.{Module}
-use Rattle.mutate_base.specs.declared.types.PrimitiveTypeInfo.{PrimitiveTypeInfo}
+use Rattle.wasm_types.specs.Module.{Module}
+use Rattle.wasm_types.specs.declared.types.PrimitiveTypeInfo.{PrimitiveTypeInfo}
 use Rattle.peephole_machine.specs.Values.{asked_types, Value, IsValue, types, Context, State, HasTypes, Outcome, Ends, Traps, Stuck}
 use Rattle.peephole_machine.specs.Machine.{run}
 use Rattle.peephole_programs.specs.control.Function.{structural, Reached, At, Done, Control, runs, passes}

@@ -4,12 +4,12 @@ use Rattle.std.specs.Prelude.{ℕ, ◌==◌, ◌&&◌, if◌then◌else◌, Bool
 use Rattle.wasm_code.specs.declared.operator.Operator.{Operator}
 use Rattle.wasm_code.specs.declared.operator.Operator.TheVariants as op
 use Rattle.wasm_code.specs.declared.other.Other.{Other}
-use Rattle.mutate_base.specs.Module.{Module}
-use Rattle.mutate_base.specs.declared.types.PrimitiveTypeInfo.{PrimitiveTypeInfo}
-use Rattle.mutate_base.specs.declared.types.PrimitiveTypeInfo.TheVariants as primitive
-use Rattle.mutate_base.specs.declared.types.ElementType.{ElementType}
-use Rattle.mutate_base.specs.declared.types.ElementType.TheVariants as element
-use Rattle.mutate_base.specs.declared.types.TableType.{TableType}
+use Rattle.wasm_types.specs.Module.{Module}
+use Rattle.wasm_types.specs.declared.types.PrimitiveTypeInfo.{PrimitiveTypeInfo}
+use Rattle.wasm_types.specs.declared.types.PrimitiveTypeInfo.TheVariants as primitive
+use Rattle.wasm_types.specs.declared.types.ElementType.{ElementType}
+use Rattle.wasm_types.specs.declared.types.ElementType.TheVariants as element
+use Rattle.wasm_types.specs.declared.types.TableType.{TableType}
 use Rattle.peephole_machine.specs.Values.{same_types}
 use Rattle.peephole_programs.specs.control.Blocks.{Arity, arity_of, is_arity, has_arity, call_arity, Role, handles, tries, catches, delegates, does, role_of}
 use Rattle.peephole_programs.specs.control.Standard.{Beyond, handler_arity}

@@ -2,7 +2,7 @@
 
 ghost use Rattle.std.specs.Prelude.{◌≡◌};
 
-use mutate_base::PrimitiveTypeInfo;
+use wasm_types::PrimitiveTypeInfo;
 
 /// A type of numbers (WebAssembly Core Specification 3.0, Structure, Types, Number Types).
 #[derive(Clone, Copy)]

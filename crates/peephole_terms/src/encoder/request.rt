@@ -1,6 +1,6 @@
 //! What written instructions need from outside the function.
 
-use mutate_base::PrimitiveTypeInfo;
+use wasm_types::PrimitiveTypeInfo;
 
 /// What written instructions need from outside the function.
 #[derive(Clone, Debug, Drop)]

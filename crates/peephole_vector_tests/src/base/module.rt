@@ -1,12 +1,13 @@
 //! Modules, configurations, and the words that are drawn.
 
-use mutate_base::{
-    ElementType, FuncInfo, MemoryType, ModuleInfo, PrimitiveTypeInfo, TableType, TypeInfo,
-    WasmMutate, Words,
-};
+use given_words::Words;
+use mutate_base::WasmMutate;
 use rand_core::Rng;
 use std::process::Abort;
 use std::test::Fail;
+use wasm_types::{
+    ElementType, FuncInfo, MemoryType, ModuleInfo, PrimitiveTypeInfo, TableType, TypeInfo,
+};
 
 #[test]
 fn modules(rt: HostRuntime) -> Result<(), Fail> {

@@ -6,8 +6,8 @@ use Rattle.std.proofs.Math.Nat.{mod-lt, mod-mod, add-mod-mod, add-mod_right}
 use Rattle.std.proofs.lemmas.Nat.{pow_pos}
 use mir.Val.{bits}
 use Rattle.wasm_code.specs.Instruction.{Instruction}
-use Rattle.mutate_base.specs.declared.types.PrimitiveTypeInfo.{PrimitiveTypeInfo}
-use Rattle.mutate_base.specs.declared.types.PrimitiveTypeInfo.TheVariants as primitive
+use Rattle.wasm_types.specs.declared.types.PrimitiveTypeInfo.{PrimitiveTypeInfo}
+use Rattle.wasm_types.specs.declared.types.PrimitiveTypeInfo.TheVariants as primitive
 use Rattle.peephole_machine.specs.declared.integer.IntegerType.{IntegerType}
 use Rattle.peephole_machine.specs.declared.operation.Binary.TheVariants.{Add}
 use Rattle.peephole_machine.specs.declared.operation.Operation.{Operation}

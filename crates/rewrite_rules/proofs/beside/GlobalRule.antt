@@ -4,7 +4,7 @@ use Rattle.std.specs.Prelude.{set as slice_set, slice_get, option_and_then}
 use Rattle.std.proofs.lemmas.List.{append-nil}
 use Rattle.std.proofs.Math.Seq.{set-append_seam}
 use Rattle.wasm_code.specs.Instruction.{Instruction}
-use Rattle.mutate_base.specs.declared.types.PrimitiveTypeInfo.{PrimitiveTypeInfo}
+use Rattle.wasm_types.specs.declared.types.PrimitiveTypeInfo.{PrimitiveTypeInfo}
 use Rattle.peephole_machine.specs.Values.{same_type, Value, types, Context, State, HasTypes, Outcome, Ends, Traps, Stuck, global, then_run, above}
 use Rattle.peephole_machine.specs.IntegerRow as row
 use Rattle.peephole_machine.specs.IntegerRow.{if_typed, row_types}

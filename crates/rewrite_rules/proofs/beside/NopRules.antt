@@ -3,7 +3,7 @@ use Rattle.std.proofs.Common.{◌≡◌, false, List, [], ◌∷◌, ◌++◌, O
 use Rattle.std.specs.Prelude.{option_and_then}
 use Rattle.std.proofs.lemmas.List.{append-nil}
 use Rattle.wasm_code.specs.Instruction.{Instruction}
-use Rattle.mutate_base.specs.declared.types.PrimitiveTypeInfo.{PrimitiveTypeInfo}
+use Rattle.wasm_types.specs.declared.types.PrimitiveTypeInfo.{PrimitiveTypeInfo}
 use Rattle.peephole_machine.specs.Values.{Value, Context, State, HasTypes, Outcome, Ends, Traps, Stuck, then_run, above}
 use Rattle.peephole_machine.specs.IntegerRow as row
 use Rattle.peephole_machine.specs.IntegerRow.{row_types, integer_row}

@@ -1,6 +1,6 @@
 -- The lines that rules share, by an operator and a width, and the words that they are written in.
 use Rattle.std.specs.Prelude.{ℕ, List, [], ◌∷◌}
-use Rattle.mutate_base.specs.declared.types.PrimitiveTypeInfo.TheVariants as primitive
+use Rattle.wasm_types.specs.declared.types.PrimitiveTypeInfo.TheVariants as primitive
 use Rattle.peephole_machine.specs.declared.integer.IntegerType.{IntegerType}
 use Rattle.peephole_machine.specs.declared.integer.IntegerType.TheVariants as integer
 use Rattle.peephole_machine.specs.declared.operation.Binary.{Binary}

@@ -1,5 +1,5 @@
 use Rattle.std.proofs.Common.{ap}
-use Rattle.mutate_base.specs.laws.Equality.{types_equal}
+use Rattle.wasm_types.specs.laws.Equality.{types_equal}
 use Rattle.peephole_analysis.specs.declared.analysis.ClassData.{ClassData}
 use Rattle.peephole_analysis.proofs.laws.equal_class_data.Goals as goal
 

@@ -1,7 +1,7 @@
 use Rattle.std.proofs.Common.{◌≡◌, ℕ, Bool, List, get_or, sym, ap, ◌∙◌}
 use Rattle.std.proofs.lemmas.Result.{err_from_is_err_and}
 use Rattle.wasm_code.specs.declared.operator.Operator.{Operator}
-use Rattle.mutate_base.specs.Module.{Module}
+use Rattle.wasm_types.specs.Module.{Module}
 use Rattle.peephole_graphs.specs.Shape.{Judged, Unfit, Unknown, judge}
 use Rattle.peephole_graphs.proofs.BuilderLemmas.{shape_makes, kept_consistent, kept_next, refused, fault}
 use Rattle.peephole_graphs.proofs.graph.BuilderGraph.{kept_all}

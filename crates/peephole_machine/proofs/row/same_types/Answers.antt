@@ -1,6 +1,6 @@
 use Rattle.std.proofs.Common.{◌≡◌, rules, ◌∙◌}
-use Rattle.mutate_base.specs.declared.types.PrimitiveTypeInfo.{PrimitiveTypeInfo}
-use Rattle.mutate_base.specs.contracts.types.PrimitiveTypeInfoPartialEq.TheImpl.{eq-value}
+use Rattle.wasm_types.specs.declared.types.PrimitiveTypeInfo.{PrimitiveTypeInfo}
+use Rattle.wasm_types.specs.contracts.types.PrimitiveTypeInfoPartialEq.TheImpl.{eq-value}
 use Rattle.peephole_machine.specs.Values.{same_type}
 use Rattle.peephole_machine.proofs.TypeEqualityLemmas.{pointwise_is}
 use Rattle.peephole_machine.proofs.row.same_types.Goals as goal
