@@ -5,7 +5,6 @@
 mod drawing;
 mod error;
 mod floats;
-mod names;
 mod range;
 mod reading;
 mod shown;

@@ -1,7 +1,7 @@
 //! The texts of operators, as WebAssembly's text format has them.
 
 use crate::floats::Float;
-use crate::names::instruction_name;
+use instruction_names::instruction_name;
 use std::fmt;
 use wasm_code::{AbstractHeapType, HeapType, Imm, Instr, MemArg, Operator};
 

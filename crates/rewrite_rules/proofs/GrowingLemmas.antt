@@ -59,6 +59,7 @@ of_steps t (step.Compare f ∷ steps) = ap (λ k. k + 1) (of_steps t steps)
 of_steps t (step.Eqz ∷ steps) = ap (λ k. k + 1) (of_steps t steps)
 of_steps t (step.Select ∷ steps) = ap (λ k. k + 1) (of_steps t steps)
 of_steps t (step.Whole f ∷ steps) = ap (λ k. k + 1) (of_steps t steps)
+of_steps t (step.Exact n i ∷ steps) = ap (λ k. k + 1) (of_steps t steps)
 
 -- The growth of a row's line that is well formed is told by its steps.
 pub by_steps : HolesAreTold → (row : Row) (t : IntegerType) → IsFormed row t →

@@ -49,6 +49,7 @@ of_steps t (step.Compare f ∷ steps) = of_steps t steps
 of_steps t (step.Eqz ∷ steps) = of_steps t steps
 of_steps t (step.Select ∷ steps) = of_steps t steps
 of_steps t (step.Whole f ∷ steps) = of_steps t steps
+of_steps t (step.Exact n i ∷ steps) = of_steps t steps
 
 pub holes_are_told : HolesAreTold
 holes_are_told row t formed =

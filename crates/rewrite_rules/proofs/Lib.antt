@@ -6,6 +6,7 @@ pub mod RuleLemmas
 pub mod GrowthSamples
 pub mod identities
 pub mod CodeLemmas
+pub mod ExactLemmas
 pub mod EffectLemmas
 pub mod TypesLemmas
 pub mod RunLemmas
@@ -20,6 +21,7 @@ pub mod SideLemmas
 pub mod MovingLemmas
 pub mod ToldLemmas
 pub mod HoleLemmas
+pub mod ExactStepLemmas
 pub mod GrowingLemmas
 pub mod ApplyingLemmas
 pub mod beside

@@ -1,7 +1,7 @@
 -- Where a line that is well formed and right applies, what it writes may stand in the place of what it is an instance of.
 use Rattle.std.proofs.Common.{◌≡◌, ℕ, true, List, [], ◌∷◌, ◌++◌, map, Some, sym, ap, ap₂, ◌∙◌, subst}
-use Rattle.std.specs.Prelude.{◌==◌, ◌&&◌, option_and_then}
-use Rattle.std.proofs.lemmas.Bool.{and_parts}
+use Rattle.std.specs.Prelude.{◌==◌, ◌&&◌, ◌||◌, option_and_then}
+use Rattle.std.proofs.lemmas.Bool.{and_parts, or_right}
 use Rattle.wasm_code.specs.Instruction.{Instruction}
 use Rattle.wasm_types.specs.declared.types.PrimitiveTypeInfo.{PrimitiveTypeInfo}
 use Rattle.peephole_machine.specs.Values.{Value, IsOfType, Context, State, HasTypes, above}
@@ -14,7 +14,7 @@ use Rattle.peephole_machine.specs.SameLemmas.{run_follows}
 use Rattle.peephole_programs.specs.control.Wider.{wider}
 use Rattle.peephole_programs.specs.validation.StaysValid.{Pushes, TypedCodePushes, PushesOnFrames, RowTypesStay}
 use Rattle.rewrite_rules.specs.Code.{types_behind, types_after, Leaves}
-use Rattle.rewrite_rules.specs.Pattern.{Kind, fixed, any, kind_at, holes, draws_by, kind_of, kind_in, same_kind, fits, traps_at_root}
+use Rattle.rewrite_rules.specs.Pattern.{Kind, fixed, any, kind_at, holes, draws_by, kind_of, kind_in, same_kind, fits, uses_exact, traps_at_root}
 use Rattle.rewrite_rules.specs.Order.{is_in, every}
 use Rattle.rewrite_rules.specs.Line.{Line, is_formed, IsOfKind, IsRight}
 use Rattle.rewrite_rules.specs.Instance.{code_of, doing, Applies, StandsFor}
@@ -108,11 +108,12 @@ module _ (push : TypedCodePushes) (frames : PushesOnFrames) (stay : RowTypesStay
   same_run : (stack : List Value) (s : State) → HasTypes context s → run old stack s ≡ run new stack s
   same_run stack s h =
       let τ = hole_type u l.kinds c in
-      pattern_runs context u a.numeric l.kinds x c l.left parts.left_root parts.left_fits left_good [] stack s h
+      pattern_runs context u a.numeric l.kinds x c l.left (λ e. a.exact (ap (λ b. b || uses_exact l.right) e)) parts.left_root parts.left_fits left_good [] stack s h
       ∙ (moved context (does context u a.numeric l.kinds x c) (doing x) τ (holes l.left) (holes l.right) a.moves within
       (all_good context u a.numeric l.kinds x c (holes l.left) left_good)
       (λ vs m. above stack (ends u l.kinds c [] l.left vs m)) (λ vs m. above stack (ends u l.kinds c words l.right vs m)) alike s h
-      ∙ sym (pattern_runs context u a.numeric l.kinds x c l.right parts.right_root parts.right_fits right_good words stack s h))
+      ∙ sym (pattern_runs context u a.numeric l.kinds x c l.right (λ e. a.exact (or_right (uses_exact l.left) (uses_exact l.right) e)) parts.right_root
+      parts.right_fits right_good words stack s h))
     where
       alike : (h : ℕ → ℕ) → ((n : ℕ) → IsOfType (hole_type u l.kinds c n) (h n)) → (m : State) → HasTypes context m →
           above stack (ends u l.kinds c [] l.left (map (λ n. record { type = hole_type u l.kinds c n; number = h n }) (holes l.left)) m)

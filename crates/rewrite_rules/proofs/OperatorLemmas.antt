@@ -1,9 +1,14 @@
 -- The operators that patterns name: their rows, and what these do with values.
-use Rattle.std.proofs.Common.{◌≡◌, ℕ, suc, ◌%◌, ◌^◌, arith, Bool, true, false, List, [], ◌∷◌, length, map, Option, Some, None, refl, ap, ◌∙◌}
-use Rattle.std.specs.Prelude.{not, ◌==◌, if◌then◌else◌, Result, Ok, Err}
+use Rattle.std.proofs.Common.{◌≡◌, ℕ, suc, ◌%◌, ◌^◌, arith, Bool, true, false, List, [], ◌∷◌, length, map, Option, Some, None, refl, sym, ap, ◌∙◌, subst, true≢false}
+use Rattle.std.specs.Prelude.{not, ◌==◌, is_some, if◌then◌else◌, Result, Ok, Err}
+use Rattle.std.specs.List.{All}
 use Rattle.std.proofs.lemmas.Bool.{false≢true}
+use Rattle.std.proofs.lemmas.List.Elements.{All-head, All-tail}
+use Rattle.std.proofs.lemmas.Nat.{pow_pos}
+use Rattle.std.proofs.Math.Nat.{mod-lt}
 use mir.Val.{bits}
 use Rattle.wasm_code.specs.Table.{table, row_at}
+use Rattle.wasm_code.specs.declared.immediate.Imm.{Imm}
 use Rattle.wasm_types.specs.declared.types.PrimitiveTypeInfo.{PrimitiveTypeInfo}
 use Rattle.peephole_machine.specs.declared.integer.IntegerType.{IntegerType}
 use Rattle.peephole_machine.specs.declared.integer.IntegerType.TheVariants as integer
@@ -14,20 +19,23 @@ use Rattle.peephole_machine.specs.declared.operation.Binary.TheVariants.{Add, Su
 use Rattle.peephole_machine.specs.declared.operation.Comparison.{Comparison}
 use Rattle.peephole_machine.specs.declared.operation.Comparison.TheVariants.{Eq, Ne, LtS, LtU, GtS, GtU, LeS, LeU, GeS, GeU}
 use Rattle.peephole_machine.specs.declared.operation.Operation.TheVariants as operation
-use Rattle.peephole_machine.specs.Values.{type_of, width_of, same_types, Value, types, Context, Cause, State, own_globals, Outcome, Ends, Traps}
+use Rattle.peephole_machine.specs.Values.{type_of, width_of, same_types, Value, IsValue, IsOfType, types, Context, Cause, State, HasTypes, own_globals, Outcome, Ends, Traps}
 use Rattle.peephole_machine.specs.IntegerRow as row
 use Rattle.peephole_machine.specs.IntegerRow.{IntegerRow, row_types, integer_row, is_numeric}
 use Rattle.peephole_machine.specs.Machine.{cause_of, given, effect, context_of, act}
 use Rattle.peephole_machine.specs.Computed.{kept}
 use Rattle.peephole_machine.specs.Operation.{operator_of}
 use Rattle.peephole_machine.specs.RowLemmas.{if_typed_is, same_type_self, act_is}
+use Rattle.peephole_machine.specs.ExactLemmas.{of_bits_fits}
 use Rattle.rewrite_rules.specs.declared.pattern.Operator.{Operator}
-use Rattle.rewrite_rules.specs.declared.pattern.Operator.TheVariants.{Whole, Select}
+use Rattle.rewrite_rules.specs.declared.pattern.Operator.TheVariants.{Whole, Select, Exact}
 use Rattle.rewrite_rules.specs.Code.{operation_traps}
-use Rattle.rewrite_rules.specs.Pattern.{is_total, Kind, fixed, kind_at, operands_of, result_of}
-use Rattle.rewrite_rules.specs.Numbers.{or_cause, value_on}
+use Rattle.rewrite_rules.specs.Exact.{ExactOperator, exact_at}
+use Rattle.rewrite_rules.specs.Pattern.{is_total, is_known, is_exact, Kind, fixed, kind_at, operands_told, result_told, operands_of, result_of}
+use Rattle.rewrite_rules.specs.Numbers.{or_cause, or_zero, exact_value, value_on}
 use Rattle.rewrite_rules.specs.Instance.{operator_code}
 use Rattle.rewrite_rules.proofs.EffectLemmas.{has_value}
+use Rattle.rewrite_rules.proofs.ExactLemmas.{IsExactOperator, exact_is, exact_typed, exact_acts}
 
 -- ---- rows
 
@@ -35,6 +43,15 @@ use Rattle.rewrite_rules.proofs.EffectLemmas.{has_value}
 abbrev pub row_for : Operator → IntegerRow
 row_for (Whole f) = row.operation (operator_of f)
 row_for Select = row.select
+row_for (Exact n i) = row.other (record { row = n; imm = i })
+
+-- the exact row that is known
+known : (n : ℕ) (i : Imm) → is_known (Exact n i) ≡ true → (o : ExactOperator) × (exact_at n i ≡ Some o)
+known n i e = there (exact_at n i) e
+  where
+    there : (m : Option ExactOperator) → is_some m ≡ true → (o : ExactOperator) × (m ≡ Some o)
+    there None e = absurd (false≢true e)
+    there (Some o) e = (o, refl)
 
 -- its instruction is that row
 abbrev IsRow : Operator → Type 0
@@ -91,19 +108,23 @@ unfolding integer_row table row_at
 extend_row integer.I32 = (refl, refl)
 extend_row integer.I64 = (refl, refl)
 
-pub row_is : (o : Operator) → integer_row (operator_code o) ≡ row_for o
+exact_row : (n : ℕ) (i : Imm) → is_known (Exact n i) ≡ true → IsRow (Exact n i)
+exact_row n i e = let (o, told) = known n i e in (exact_is (record { row = n; imm = i }) o told).other_is
+
+pub row_is : (o : Operator) → is_known o ≡ true → integer_row (operator_code o) ≡ row_for o
 unfolding integer_row table row_at
-row_is (Whole (operation.Eqz t)) = eqz_row t
-row_is (Whole (operation.Compare t c)) = compare_row c t
-row_is (Whole (operation.Unary t u)) = unary_row u t
-row_is (Whole (operation.Binary t b)) = binary_row b t
-row_is (Whole operation.WrapI64) = refl
-row_is (Whole operation.ExtendI32S) = refl
-row_is (Whole operation.ExtendI32U) = refl
-row_is (Whole (operation.Extend8S t)) = (extend_row t).0
-row_is (Whole (operation.Extend16S t)) = (extend_row t).1
-row_is (Whole operation.Extend32S) = refl
-row_is Select = refl
+row_is (Whole (operation.Eqz t)) e = eqz_row t
+row_is (Whole (operation.Compare t c)) e = compare_row c t
+row_is (Whole (operation.Unary t u)) e = unary_row u t
+row_is (Whole (operation.Binary t b)) e = binary_row b t
+row_is (Whole operation.WrapI64) e = refl
+row_is (Whole operation.ExtendI32S) e = refl
+row_is (Whole operation.ExtendI32U) e = refl
+row_is (Whole (operation.Extend8S t)) e = (extend_row t).0
+row_is (Whole (operation.Extend16S t)) e = (extend_row t).1
+row_is (Whole operation.Extend32S) e = refl
+row_is Select e = refl
+row_is (Exact n i) e = exact_row n i e
 
 -- ---- types
 
@@ -117,15 +138,22 @@ same_at u (t ∷ ts) = ap (λ xs. t ∷ xs) (same_at u ts)
 
 module _ (u : PrimitiveTypeInfo) (numeric : is_numeric u ≡ true) where
   -- the row on operands of its types
-  pub types_on : (context : Context) (o : Operator) → row_types context (row_for o) (types_at u (operands_of o)) ≡ Some (kind_at u (result_of o) ∷ [])
-  types_on context (Whole f) =
+  pub types_on : (context : Context) (o : Operator) → is_known o ≡ true →
+      row_types context (row_for o) (types_at u (operands_of o)) ≡ Some (kind_at u (result_of o) ∷ [])
+  types_on context (Whole f) e =
       ap (row_types context (row.operation (operator_of f))) (same_at u (operator_of f).operands)
       ∙ if_typed_is (same_types (operator_of f).operands (operator_of f).operands) (type_of (operator_of f).result ∷ []) (all (operator_of f).operands)
     where
       all : (ts : List PrimitiveTypeInfo) → same_types ts ts ≡ true
       all [] = refl
       all (t ∷ ts) = rw (same_type_self t) (all ts)
-  types_on context Select = rw (numeric, same_type_self u) refl
+  types_on context Select e = rw (numeric, same_type_self u) refl
+  types_on context (Exact n i) e =
+      let (o, told) = known n i e in
+      ap (row_types context (row_for (Exact n i)))
+      (same_at u (operands_told (exact_at n i)) ∙ ap operands_told told)
+      ∙ (exact_typed (record { row = n; imm = i }) o (exact_is (record { row = n; imm = i }) o told) context
+      ∙ ap (λ m. Some (result_told m ∷ [])) (sym told))
 
 -- ---- what it does
 
@@ -134,12 +162,16 @@ abbrev pub finished : PrimitiveTypeInfo → Result ℕ Cause → State → Outco
 finished t (Ok n) s = Ends (record { type = t; number = n } ∷ []) s
 finished t (Err cause) s = Traps cause (own_globals s) s.rest
 
-module _ (u : PrimitiveTypeInfo) (numeric : is_numeric u ≡ true) where
-  -- on values of its operands' types
-  pub act_on : (o : Operator) (vs : List Value) (s : State) → types vs ≡ types_at u (operands_of o) →
+-- what runs the module is exact, where the operator is an exact row
+abbrev pub IsReady : Context → Operator → Type 0
+IsReady context o = is_exact o ≡ true → context.info.exact ≡ true
+
+module _ (context : Context) (u : PrimitiveTypeInfo) (numeric : is_numeric u ≡ true) where
+  -- one that the machine says itself, on values of its operands' types
+  acts : (o : Operator) → is_known o ≡ true → is_exact o ≡ false → (vs : List Value) (s : State) → types vs ≡ types_at u (operands_of o) →
       act (row_for o) vs s ≡ finished (kind_at u (result_of o)) (value_on o (map (λ v. v.number) vs)) s
-  act_on o vs s typed = act_is (row_for o) vs (kind_at u (result_of o) ∷ []) s
-      (ap (row_types (context_of s) (row_for o)) typed ∙ types_on u numeric (context_of s) o) ∙ effect_on o vs typed
+  acts o k x vs s typed = act_is (row_for o) vs (kind_at u (result_of o) ∷ []) s
+      (ap (row_types (context_of s) (row_for o)) typed ∙ types_on u numeric (context_of s) o k) ∙ effect_on o x vs typed
     where
       value : (t : IntegerType) (cause : Cause) (n : Option ℕ) → given t n cause s ≡ finished (type_of t) (or_cause (kept (width_of t) n) cause) s
       value t cause (Some n) = refl
@@ -150,23 +182,80 @@ module _ (u : PrimitiveTypeInfo) (numeric : is_numeric u ≡ true) where
       chosen true v w e f = ap (λ (t : PrimitiveTypeInfo). Ends (record { type = t; number = w.number } ∷ []) s) f
       chosen false v w e f = ap (λ (t : PrimitiveTypeInfo). Ends (record { type = t; number = v.number } ∷ []) s) e
 
-      effect_on : (o : Operator) (vs : List Value) → types vs ≡ types_at u (operands_of o) →
+      effect_on : (o : Operator) → is_exact o ≡ false → (vs : List Value) → types vs ≡ types_at u (operands_of o) →
           effect (row_for o) vs s ≡ finished (kind_at u (result_of o)) (value_on o (map (λ v. v.number) vs)) s
-      effect_on (Whole f) vs e =
+      effect_on (Exact n i) x vs e = absurd (true≢false x)
+      effect_on (Whole f) x vs e =
           value (operator_of f).result (cause_of (map (λ v. v.number) vs)) ((operator_of f).value (map (λ v. v.number) vs))
-      effect_on Select [] e = absurd cc
-      effect_on Select (v ∷ []) e = absurd cc
-      effect_on Select (v ∷ w ∷ []) e = absurd cc
-      effect_on Select (v ∷ w ∷ c ∷ []) e = chosen (c.number == 0) v w (cc) (cc)
-      effect_on Select (v ∷ w ∷ c ∷ x ∷ vs) e = absurd cc
+      effect_on Select x [] e = absurd cc
+      effect_on Select x (v ∷ []) e = absurd cc
+      effect_on Select x (v ∷ w ∷ []) e = absurd cc
+      effect_on Select x (v ∷ w ∷ c ∷ []) e = chosen (c.number == 0) v w (cc) (cc)
+      effect_on Select x (v ∷ w ∷ c ∷ d ∷ vs) e = absurd cc
+
+  -- any of them
+  pub act_on : (o : Operator) → is_known o ≡ true → IsReady context o → (vs : List Value) (s : State) → HasTypes context s →
+      types vs ≡ types_at u (operands_of o) → All IsValue vs →
+      act (row_for o) vs s ≡ finished (kind_at u (result_of o)) (value_on o (map (λ v. v.number) vs)) s
+  act_on (Whole f) k r vs s h t hv = acts (Whole f) k refl vs s t
+  act_on Select k r vs s h t hv = acts Select k refl vs s t
+  act_on (Exact n i) k r vs s h t hv =
+      let (o, told) = known n i k in
+      let is = exact_is (record { row = n; imm = i }) o told in
+      exact_acts (record { row = n; imm = i }) o is context vs s (r refl) h
+      (t ∙ (same_at u (operands_told (exact_at n i)) ∙ ap operands_told told)) hv
+      ∙ ap (λ m. finished (result_told m) (exact_value m (map (λ v. v.number) vs)) s) (sym told)
+
+-- ---- numbers of their types
+
+pub low_fits : (t : IntegerType) (n : ℕ) → IsOfType (type_of t) (n % 2 ^ bits (width_of t))
+low_fits integer.I32 n = mod-lt n (pow_pos 32)
+low_fits integer.I64 n = mod-lt n (pow_pos 64)
+
+zero_fits : (t : IntegerType) → IsOfType (type_of t) 0
+zero_fits integer.I32 = pow_pos 32
+zero_fits integer.I64 = pow_pos 64
+
+-- an operator's value on values of its operands' types, or 0 where it traps
+pub value_fits : (u : PrimitiveTypeInfo) (o : Operator) → is_known o ≡ true → (vs : List Value) → types vs ≡ types_at u (operands_of o) →
+    All IsValue vs → IsOfType (kind_at u (result_of o)) (or_zero (value_on o (map (λ v. v.number) vs)))
+value_fits u (Whole f) k vs e h = go ((operator_of f).value (map (λ v. v.number) vs))
+  where
+    go : (m : Option ℕ) → IsOfType (type_of (operator_of f).result)
+        (or_zero (or_cause (kept (width_of (operator_of f).result) m) (cause_of (map (λ v. v.number) vs))))
+    go (Some n) = low_fits (operator_of f).result n
+    go None = zero_fits (operator_of f).result
+value_fits u Select k [] e h = absurd cc
+value_fits u Select k (v ∷ []) e h = absurd cc
+value_fits u Select k (v ∷ w ∷ []) e h = absurd cc
+value_fits u Select k (v ∷ w ∷ c ∷ []) e h =
+    let first : v.type ≡ u = cc in
+    let second : w.type ≡ u = cc in
+    chosen (c.number == 0)
+    (subst (λ t. IsOfType t v.number) first (All-head IsValue v (w ∷ c ∷ []) h))
+    (subst (λ t. IsOfType t w.number) second (All-head IsValue w (c ∷ []) (All-tail IsValue v (w ∷ c ∷ []) h)))
+  where
+    chosen : (b : Bool) → IsOfType u v.number → IsOfType u w.number → IsOfType u (if b then w.number else v.number)
+    chosen true p q = q
+    chosen false p q = p
+value_fits u Select k (v ∷ w ∷ c ∷ d ∷ vs) e h = absurd cc
+value_fits u (Exact n i) k vs e h =
+    let (o, told) = known n i k in
+    let is = exact_is (record { row = n; imm = i }) o told in
+    let ns = map (λ (v : Value). v.number) vs in
+    subst (λ m. IsOfType (result_told m) (or_zero (exact_value m ns))) (sym told)
+    (subst (λ m. IsOfType o.result m) (sym (is.value_is ns)) (of_bits_fits o.result (is.value ns)))
 
 -- it has a number
 abbrev pub HasNumber : Result ℕ Cause → Type 0
 HasNumber r = (n : ℕ) × (r ≡ Ok n)
 
 -- an operator that doesn't trap
-pub total_on : (o : Operator) (ns : List ℕ) → is_total o ≡ true → length ns ≡ length (operands_of o) → HasNumber (value_on o ns)
-total_on (Whole f) ns e l =
+pub total_on : (o : Operator) → is_known o ≡ true → (ns : List ℕ) → is_total o ≡ true → length ns ≡ length (operands_of o) → HasNumber (value_on o ns)
+total_on (Exact n i) k ns e l =
+    let (o, told) = known n i k in
+    (o.value ns, ap (λ m. exact_value m ns) told)
+total_on (Whole f) k ns e l =
     let (n, a) = has_value f ns (is_not (operation_traps f) e) (l ∙ same (operator_of f).operands) in
     (n % 2 ^ bits (width_of (operator_of f).result), ap (λ m. or_cause (kept (width_of (operator_of f).result) m) (cause_of ns)) a)
   where
@@ -177,8 +266,8 @@ total_on (Whole f) ns e l =
     same : (ts : List PrimitiveTypeInfo) → length (map fixed ts) ≡ length ts
     same [] = refl
     same (t ∷ ts) = ap suc (same ts)
-total_on Select [] e l = absurd (omega arith)
-total_on Select (a ∷ []) e l = absurd (omega arith)
-total_on Select (a ∷ b ∷ []) e l = absurd (omega arith)
-total_on Select (a ∷ b ∷ c ∷ []) e l = (if c == 0 then b else a, refl)
-total_on Select (a ∷ b ∷ c ∷ d ∷ ns) e l = absurd (omega arith)
+total_on Select k [] e l = absurd (omega arith)
+total_on Select k (a ∷ []) e l = absurd (omega arith)
+total_on Select k (a ∷ b ∷ []) e l = absurd (omega arith)
+total_on Select k (a ∷ b ∷ c ∷ []) e l = (if c == 0 then b else a, refl)
+total_on Select k (a ∷ b ∷ c ∷ d ∷ ns) e l = absurd (omega arith)

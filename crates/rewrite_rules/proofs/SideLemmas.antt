@@ -9,12 +9,13 @@ use Rattle.rewrite_rules.specs.declared.pattern.Operator.{Operator}
 use Rattle.rewrite_rules.specs.declared.pattern.Part.{Part}
 use Rattle.rewrite_rules.specs.declared.pattern.Part.TheVariants.{Apply}
 use Rattle.rewrite_rules.specs.declared.table.Step.{Step}
-use Rattle.rewrite_rules.specs.declared.table.Step.TheVariants.{Operand, Constant, Drawn, Binary, Compare, Eqz, Select, Whole, End}
+use Rattle.rewrite_rules.specs.declared.table.Step.TheVariants.{Operand, Constant, Drawn, Binary, Compare, Eqz, Select, Whole, Exact, End}
 use Rattle.rewrite_rules.specs.Pattern.{Kind, operands_of, Pattern, Patterns, none, ◌▹◌, fits, fit}
 use Rattle.rewrite_rules.specs.Parts.{parts_of, parts_in}
 use Rattle.rewrite_rules.specs.Line.{is_formed}
 use Rattle.rewrite_rules.specs.Laws.{TableIsRight}
 use Rattle.rewrite_rules.specs.Table.{applied, behind, after_step, after_steps, single, pattern_of, part_for, parts_for, widths_in, line_of, SidesAreParts}
+use Rattle.rewrite_rules.proofs.ValueLemmas.{operator_parts}
 
 -- the parts of patterns, the last one of which stands first
 abbrev parts_on : List Pattern → List Part
@@ -42,7 +43,7 @@ module _ (kinds : List Kind) where
       Applied o qs ps (applied o ks qs ps)
   applies o [] qs ps e =
       let (root, below) = and_parts _ (all_fit ps) e in
-      record { fit_before = below; fit_taken = (and_parts _ (fit kinds qs) root).1; parts = refl }
+      record { fit_before = below; fit_taken = (operator_parts kinds o qs root).rest; parts = refl }
   applies o (k ∷ ks) qs [] e = absurd cc
   applies o (k ∷ ks) qs (p ∷ ps) e =
       let a = applies o ks (p ▹ qs) ps e in
@@ -73,6 +74,7 @@ module _ (kinds : List Kind) where
   adds t Eqz p ps is e = subst (λ q. Adds ps (after_step t Eqz ps) q) (same_Some _ _ is) (adds_operator _ ps e)
   adds t Select p ps is e = subst (λ q. Adds ps (after_step t Select ps) q) (same_Some _ _ is) (adds_operator _ ps e)
   adds t (Whole f) p ps is e = subst (λ q. Adds ps (after_step t (Whole f) ps) q) (same_Some _ _ is) (adds_operator _ ps e)
+  adds t (Exact n i) p ps is e = subst (λ q. Adds ps (after_step t (Exact n i) ps) q) (same_Some _ _ is) (adds_operator _ ps e)
   adds t End p ps is e = absurd cc
 
   -- A step more before others.
@@ -102,6 +104,7 @@ module _ (kinds : List Kind) where
   all_add t (Eqz ∷ steps) ps e = one_more t Eqz steps _ ps refl refl e (all_add t steps)
   all_add t (Select ∷ steps) ps e = one_more t Select steps _ ps refl refl e (all_add t steps)
   all_add t (Whole f ∷ steps) ps e = one_more t (Whole f) steps _ ps refl refl e (all_add t steps)
+  all_add t (Exact n i ∷ steps) ps e = one_more t (Exact n i) steps _ ps refl refl e (all_add t steps)
 
 -- of a pattern that is well formed, all its side's
 pub side_parts : (kinds : List Kind) (t : IntegerType) (steps : List Step) → fits kinds (pattern_of t steps) ≡ true →

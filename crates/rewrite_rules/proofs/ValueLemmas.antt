@@ -1,13 +1,17 @@
 -- The value of a pattern, by the values of its holes one after another.
 use Rattle.std.proofs.Common.{◌≡◌, ℕ, true, List, [], ◌∷◌, ◌++◌, length, map, take, drop, refl, ap, ap₂, ◌∙◌}
+use Rattle.std.specs.Prelude.{◌&&◌}
+use Rattle.std.specs.List.{All}
 use Rattle.std.proofs.lemmas.Bool.{and_parts}
+use Rattle.std.proofs.lemmas.List.Elements.{All-nil, All-cons, All-head, All-take, All-drop}
+use Rattle.rewrite_rules.specs.declared.pattern.Operator.{Operator}
 use Rattle.wasm_types.specs.declared.types.PrimitiveTypeInfo.{PrimitiveTypeInfo}
 use Rattle.wasm_types.specs.declared.types.PrimitiveTypeInfo.TheVariants as primitive
-use Rattle.peephole_machine.specs.Values.{type_of, Value, types, State, Outcome, Ends}
+use Rattle.peephole_machine.specs.Values.{type_of, Value, IsValue, types, State, Outcome, Ends}
 use Rattle.peephole_machine.specs.RowLemmas.{same_type_is}
-use Rattle.rewrite_rules.specs.Pattern.{Kind, fixed, any, kind_at, result_of, Pattern, Patterns, hole, constant, drawn, apply, none, ◌▹◌, holes, holes_in, draws_by, kind_of, kind_in, kinds_in, same_kind, same_kinds}
+use Rattle.rewrite_rules.specs.Pattern.{Kind, fixed, any, kind_at, is_known, operands_of, result_of, Pattern, Patterns, hole, constant, drawn, apply, none, ◌▹◌, holes, holes_in, draws_by, kind_of, kind_in, kinds_in, same_kind, same_kinds, fits, fit}
 use Rattle.rewrite_rules.specs.Numbers.{first_word, value_on, number_of, low, or_zero, number_in, numbers_in, value_of}
-use Rattle.rewrite_rules.proofs.OperatorLemmas.{types_at, finished}
+use Rattle.rewrite_rules.proofs.OperatorLemmas.{types_at, finished, low_fits, value_fits}
 
 -- ---- kinds
 
@@ -43,6 +47,20 @@ cut_types τ (n ∷ ns) ms (v ∷ vs) e =
     let k = cut_types τ ns ms vs (cc) in
     let h : v.type ≡ τ n = cc in
     (ap₂ (λ x y. x ∷ y) h k.0, k.1)
+
+-- ---- an operator behind its operands
+
+-- it is known, and has operands of its types, which are well formed
+pub record HasOperands (kinds : List Kind) (o : Operator) (ps : Patterns) : Type 0 where
+  pub known : is_known o ≡ true
+  pub kinds_are : same_kinds (kinds_in kinds ps) (operands_of o) ≡ true
+  pub rest : fit kinds ps ≡ true
+
+pub operator_parts : (kinds : List Kind) (o : Operator) (ps : Patterns) → fits kinds (apply o ps) ≡ true → HasOperands kinds o ps
+operator_parts kinds o ps f =
+    let k = and_parts (is_known o) (same_kinds (kinds_in kinds ps) (operands_of o) && fit kinds ps) f in
+    let j = and_parts (same_kinds (kinds_in kinds ps) (operands_of o)) (fit kinds ps) k.1 in
+    record { known = k.0; kinds_are = j.0; rest = j.1 }
 
 -- ---- values
 
@@ -88,6 +106,30 @@ module _ (u : PrimitiveTypeInfo) (kinds : List Kind) (c : ℕ → ℕ) where
       let k = cut_types hole_type (holes p) (holes_in ps) vs e in
       ap₂ (λ x y. x ∷ y) (val_typed words p (take (length (holes p)) vs) k.0)
       (vals_typed (drop (draws_by p) words) ps (drop (length (holes p)) vs) k.1)
+
+  -- ---- numbers of their types
+
+  mutual
+    pub val_value : (words : List ℕ) (p : Pattern) → fits kinds p ≡ true → (vs : List Value) → types vs ≡ map hole_type (holes p) → All IsValue vs →
+        IsValue (val words p vs)
+    val_value words (hole n) f [] e h = absurd cc
+    val_value words (hole n) f (v ∷ vs) e h = All-head IsValue v vs h
+    val_value words (constant t e) f vs k h = low_fits t (number_of t c e)
+    val_value words (drawn t) f vs k h = low_fits t (first_word words)
+    val_value words (apply o ps) f vs e h =
+        let k = operator_parts kinds o ps f in
+        value_fits u o k.known (vals words ps vs) (vals_typed words ps vs e ∙ ap (types_at u) (same_kinds_are (kinds_in kinds ps) (operands_of o) k.kinds_are))
+        (vals_values words ps k.rest vs e h)
+
+    pub vals_values : (words : List ℕ) (ps : Patterns) → fit kinds ps ≡ true → (vs : List Value) → types vs ≡ map hole_type (holes_in ps) → All IsValue vs →
+        All IsValue (vals words ps vs)
+    vals_values words none f vs e h = All-nil IsValue
+    vals_values words (p ▹ ps) f vs e h =
+        let k = cut_types hole_type (holes p) (holes_in ps) vs e in
+        let j = and_parts (fits kinds p) (fit kinds ps) f in
+        All-cons IsValue (val words p (take (length (holes p)) vs)) (vals (drop (draws_by p) words) ps (drop (length (holes p)) vs))
+        (val_value words p j.0 (take (length (holes p)) vs) k.0 (All-take IsValue (length (holes p)) vs h))
+        (vals_values (drop (draws_by p) words) ps j.1 (drop (length (holes p)) vs) k.1 (All-drop IsValue (length (holes p)) vs h))
 
   -- ---- by numbers of the holes
 

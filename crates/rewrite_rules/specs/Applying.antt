@@ -23,16 +23,18 @@ IsFormed row t = is_formed (line_of row t) ≡ true
 abbrev pub effects_of : List Instruction → Effects
 effects_of code = record { writes = writes code; traps = traps code; asks = asks code }
 
--- The lists have of what stands in each hole of the row's left side the type that it leaves, and what it may do.
+-- The lists have of what stands in each hole of the row's left side the type that it leaves, and what it may do; and it is told whether what runs the module is
+-- exact.
 pub record AreFound (context : Context) (x : ℕ → List Instruction) (row : Row) (t : IntegerType) (types : List (Option PrimitiveTypeInfo))
-    (effects : List Effects) : Type 0 where
+    (effects : List Effects) (exact : Bool) : Type 0 where
   pub types_are : AreTypes context x (is_in (holes (line_of row t).left)) types
   pub effects_are : (n : ℕ) → effect_at effects n ≡ effects_of (x n)
+  pub exact_is : exact ≡ context.info.exact
 
 -- What is answered is whether the row's line applies to what these are told of, and constants of these numbers.
-pub record IsTold (row : Row) (t : IntegerType) (types : List (Option PrimitiveTypeInfo)) (effects : List Effects) (numbers : List ℕ)
+pub record IsTold (row : Row) (t : IntegerType) (types : List (Option PrimitiveTypeInfo)) (effects : List Effects) (exact : Bool) (numbers : List ℕ)
     (answer : Bool) : Type 0 where
-  pub same : answer ≡ true → (context : Context) (x : ℕ → List Instruction) → AreFound context x row t types effects →
+  pub same : answer ≡ true → (context : Context) (x : ℕ → List Instruction) → AreFound context x row t types effects exact →
       Applies context (line_of row t) x (constant_at numbers)
-  pub only : (context : Context) (x : ℕ → List Instruction) → AreFound context x row t types effects →
+  pub only : (context : Context) (x : ℕ → List Instruction) → AreFound context x row t types effects exact →
       Applies context (line_of row t) x (constant_at numbers) → answer ≡ true

@@ -2,6 +2,7 @@
 use Rattle.std.specs.Prelude.{◌≡◌, ℕ, ◌-◌, true, List, [], ◌∷◌, ◌++◌, drop}
 use Rattle.std.specs.Int.{cast_signed}
 use Rattle.wasm_code.specs.Instruction.{Instruction}
+use Rattle.wasm_code.specs.declared.immediate.Imm.{Imm}
 use Rattle.wasm_code.specs.declared.immediate.Imm.TheVariants as imm
 use Rattle.wasm_types.specs.declared.types.PrimitiveTypeInfo.{PrimitiveTypeInfo}
 use Rattle.peephole_machine.specs.declared.integer.IntegerType.{IntegerType}
@@ -13,12 +14,12 @@ use Rattle.peephole_programs.specs.control.Function.{RunsAs}
 use Rattle.peephole_programs.specs.control.Wider.{wider}
 use Rattle.peephole_programs.specs.validation.StaysValid.{ChecksAs}
 use Rattle.rewrite_rules.specs.declared.pattern.Operator.{Operator}
-use Rattle.rewrite_rules.specs.declared.pattern.Operator.TheVariants.{Whole, Select}
+use Rattle.rewrite_rules.specs.declared.pattern.Operator.TheVariants.{Whole, Select, Exact}
 use Rattle.rewrite_rules.specs.Code.{Leaves, writes, traps, asks}
 use Rattle.rewrite_rules.specs.Pattern.{kind_at, Pattern, Patterns, hole, constant, drawn, apply, none, ◌▹◌, holes, draws_by, kind_of}
 use Rattle.rewrite_rules.specs.Numbers.{number_of, low, first_word}
 use Rattle.rewrite_rules.specs.Order.{is_in, Doing, may_move}
-use Rattle.rewrite_rules.specs.Line.{Line, all_hold}
+use Rattle.rewrite_rules.specs.Line.{Line, all_hold, is_exact_line}
 
 -- ---- instructions
 
@@ -31,10 +32,16 @@ constant_code integer.I64 n = record { row = 37; imm = imm.I64 (cast_signed (wid
 abbrev pub row_number : Operator → ℕ
 row_number (Whole f) = opcode f - 29
 row_number Select = 3
+row_number (Exact row i) = row
+
+-- its immediate
+abbrev pub immediate_of : Operator → Imm
+immediate_of (Exact row i) = i
+immediate_of o = imm.Nothing
 
 -- the instruction of an operator
 abbrev pub operator_code : Operator → Instruction
-operator_code o = record { row = row_number o; imm = imm.Nothing }
+operator_code o = record { row = row_number o; imm = immediate_of o }
 
 -- ---- code
 
@@ -57,13 +64,14 @@ abbrev pub doing : (x : ℕ → List Instruction) → Doing
 doing x = record { write = λ n. writes (x n); trap = λ n. traps (x n); ask = λ n. asks (x n) }
 
 -- Each operand of the left side needs nothing from what stands before it and leaves one value of its hole's type, a select is of a number or a vector, the
--- constants are as the line asks, and the operands may move to their places on the right side.
+-- constants are as the line asks, and the operands may move to their places on the right side. Where the line has an exact row, what runs the module is exact.
 pub record Applies (context : Context) (l : Line) (x : ℕ → List Instruction) (c : ℕ → ℕ) : Type 0 where
   pub type : PrimitiveTypeInfo
   pub numeric : is_numeric type ≡ true
   pub leave : (n : ℕ) → is_in (holes l.left) n ≡ true → Leaves context (x n) (kind_at type (kind_of l.kinds n))
   pub as_asked : all_hold c l.conditions ≡ true
   pub moves : may_move (doing x) (holes l.left) (holes l.right) ≡ true
+  pub exact : is_exact_line l ≡ true → context.info.exact ≡ true
 
 -- The new code may stand in the place of the old one, in every body: with any globals behind the module's it does the same, and it is valid wherever the old
 -- one is.

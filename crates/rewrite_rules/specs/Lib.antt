@@ -1,4 +1,5 @@
 pub mod Code
+pub mod Exact
 pub mod Order
 pub mod Pattern
 pub mod Numbers

@@ -1,9 +1,9 @@
 -- Lines of rules: two patterns, and what is asked of the constants; when one is well formed, and when it is right (this project).
-use Rattle.std.specs.Prelude.{◌≡◌, ℕ, ◌+◌, ◌-◌, ◌^◌, ◌==◌, ◌&&◌, nat_lt, Bool, true, List, [], ◌∷◌, ⊤}
+use Rattle.std.specs.Prelude.{◌≡◌, ℕ, ◌+◌, ◌-◌, ◌^◌, ◌==◌, ◌&&◌, ◌||◌, nat_lt, Bool, true, List, [], ◌∷◌, ⊤}
 use mir.Val.{bits}
 use Rattle.peephole_machine.specs.declared.integer.IntegerType.{IntegerType}
 use Rattle.peephole_machine.specs.Values.{width_of, IsOfType}
-use Rattle.rewrite_rules.specs.Pattern.{Kind, fixed, any, Pattern, holes, draws_by, kind_of, kind_in, same_kind, fits, traps_at_root}
+use Rattle.rewrite_rules.specs.Pattern.{Kind, fixed, any, Pattern, holes, draws_by, kind_of, kind_in, same_kind, fits, uses_exact, traps_at_root}
 use Rattle.rewrite_rules.specs.Numbers.{lowest_bit, low, value_of}
 use Rattle.rewrite_rules.specs.Order.{is_in, every}
 
@@ -31,6 +31,10 @@ pub record Line : Type 0 where
   pub right : Pattern
   pub kinds : List Kind
   pub conditions : List Condition
+
+-- one of its sides has an exact row
+abbrev pub is_exact_line : Line → Bool
+is_exact_line l = uses_exact l.left || uses_exact l.right
 
 -- It is well formed: the sides have the same type and operands of their operators' types, operators below the root do not trap, the left side draws nothing,
 -- and the right side has no other holes.

@@ -8,7 +8,8 @@ use Rattle.peephole_machine.specs.Machine.{cause_of}
 use Rattle.peephole_machine.specs.Computed.{computed}
 use Rattle.peephole_machine.specs.Operation.{operator_of}
 use Rattle.rewrite_rules.specs.declared.pattern.Operator.{Operator}
-use Rattle.rewrite_rules.specs.declared.pattern.Operator.TheVariants.{Whole, Select}
+use Rattle.rewrite_rules.specs.declared.pattern.Operator.TheVariants.{Whole, Select, Exact}
+use Rattle.rewrite_rules.specs.Exact.{ExactOperator, exact_at}
 use Rattle.rewrite_rules.specs.declared.pattern.Number.{Number}
 use Rattle.rewrite_rules.specs.declared.pattern.Number.TheVariants.{Literal, Ones, Slot, Turned, Next, Previous, Negated, Power, Place, Sum}
 use Rattle.rewrite_rules.specs.Pattern.{Pattern, Patterns, hole, constant, drawn, apply, none, ◌▹◌, draws_by}
@@ -20,11 +21,17 @@ abbrev pub or_cause : Option ℕ → Cause → Result ℕ Cause
 or_cause (Some n) cause = Ok n
 or_cause None cause = Err cause
 
+-- that of an exact row that is known
+abbrev pub exact_value : Option ExactOperator → List ℕ → Result ℕ Cause
+exact_value None ns = Err stuck
+exact_value (Some o) ns = Ok (o.value ns)
+
 -- an operator's value on the numbers of its operands, or why it traps
 abbrev pub value_on : Operator → List ℕ → Result ℕ Cause
 value_on (Whole f) ns = or_cause (computed (operator_of f) ns) (cause_of ns)
 value_on Select (n ∷ m ∷ c ∷ []) = Ok (if c == 0 then m else n)
 value_on Select ns = Err stuck
+value_on (Exact row i) ns = exact_value (exact_at row i) ns
 
 -- ---- numbers
 

@@ -1,15 +1,16 @@
 -- What rules are written in: patterns of code, with holes for operands and constants for numbers; and what a reader of one sees at once: its holes, its
 -- types, whether it is well formed (this project).
-use Rattle.std.specs.Prelude.{ℕ, ◌+◌, ◌&&◌, not, Bool, true, false, List, [], ◌∷◌, ◌++◌, map, get_or}
+use Rattle.std.specs.Prelude.{ℕ, ◌+◌, ◌&&◌, ◌||◌, not, Bool, true, false, List, [], ◌∷◌, ◌++◌, map, get_or, Option, Some, None, is_some}
 use Rattle.wasm_types.specs.declared.types.PrimitiveTypeInfo.{PrimitiveTypeInfo}
 use Rattle.wasm_types.specs.declared.types.PrimitiveTypeInfo.TheVariants as primitive
 use Rattle.peephole_machine.specs.declared.integer.IntegerType.{IntegerType}
 use Rattle.peephole_machine.specs.Values.{type_of, same_type}
 use Rattle.peephole_machine.specs.Operation.{operator_of}
 use Rattle.rewrite_rules.specs.declared.pattern.Operator.{Operator}
-use Rattle.rewrite_rules.specs.declared.pattern.Operator.TheVariants.{Whole, Select}
+use Rattle.rewrite_rules.specs.declared.pattern.Operator.TheVariants.{Whole, Select, Exact}
 use Rattle.rewrite_rules.specs.declared.pattern.Number.{Number}
 use Rattle.rewrite_rules.specs.Code.{operation_traps}
+use Rattle.rewrite_rules.specs.Exact.{ExactOperator, exact_at}
 
 -- ---- operators
 
@@ -17,6 +18,17 @@ use Rattle.rewrite_rules.specs.Code.{operation_traps}
 abbrev pub is_total : Operator → Bool
 is_total (Whole f) = not (operation_traps f)
 is_total Select = true
+is_total (Exact row i) = true
+
+-- it is one that is known: a row and an immediate may be none that is exact
+abbrev pub is_known : Operator → Bool
+is_known (Exact row i) = is_some (exact_at row i)
+is_known o = true
+
+-- it is an exact row, which does as it does in exact worlds alone
+abbrev pub is_exact : Operator → Bool
+is_exact (Exact row i) = true
+is_exact o = false
 
 -- ---- types
 
@@ -30,14 +42,25 @@ abbrev pub kind_at : (u : PrimitiveTypeInfo) → Kind → PrimitiveTypeInfo
 kind_at u (fixed t) = t
 kind_at u any = u
 
+-- those of an exact row that is known
+abbrev pub operands_told : Option ExactOperator → List PrimitiveTypeInfo
+operands_told None = []
+operands_told (Some o) = o.operands
+
+abbrev pub result_told : Option ExactOperator → PrimitiveTypeInfo
+result_told None = primitive.I32
+result_told (Some o) = o.result
+
 -- the types of an operator's operands, and of its result
 abbrev pub operands_of : Operator → List Kind
 operands_of (Whole f) = map fixed (operator_of f).operands
 operands_of Select = any ∷ any ∷ fixed primitive.I32 ∷ []
+operands_of (Exact row i) = map fixed (operands_told (exact_at row i))
 
 abbrev pub result_of : Operator → Kind
 result_of (Whole f) = fixed (type_of (operator_of f).result)
 result_of Select = any
+result_of (Exact row i) = fixed (result_told (exact_at row i))
 
 -- ---- patterns
 
@@ -107,17 +130,29 @@ same_kinds [] [] = true
 same_kinds (k ∷ ks) (l ∷ ls) = same_kind k l && same_kinds ks ls
 same_kinds ks ls = false
 
--- each operator has operands of its types
+-- each operator is known, and has operands of its types
 abbrev mutual
   pub fits : (kinds : List Kind) → Pattern → Bool
   fits kinds (hole n) = true
   fits kinds (constant t e) = true
   fits kinds (drawn t) = true
-  fits kinds (apply o ps) = same_kinds (kinds_in kinds ps) (operands_of o) && fit kinds ps
+  fits kinds (apply o ps) = is_known o && (same_kinds (kinds_in kinds ps) (operands_of o) && fit kinds ps)
 
   pub fit : (kinds : List Kind) → Patterns → Bool
   fit kinds none = true
   fit kinds (p ▹ ps) = fits kinds p && fit kinds ps
+
+-- one of its operators is an exact row
+abbrev mutual
+  pub uses_exact : Pattern → Bool
+  uses_exact (hole n) = false
+  uses_exact (constant t e) = false
+  uses_exact (drawn t) = false
+  uses_exact (apply o ps) = is_exact o || some_exact ps
+
+  pub some_exact : Patterns → Bool
+  some_exact none = false
+  some_exact (p ▹ ps) = uses_exact p || some_exact ps
 
 -- all its operators have values on all numbers
 abbrev mutual

@@ -1,5 +1,6 @@
 -- The table of rules, which stands in the code: the lines of each row (this project).
-use Rattle.std.specs.Prelude.{◌≡◌, ℕ, List, [], ◌∷◌, ◌++◌, map, Option, Some, None, slice_get, get_or}
+use Rattle.std.specs.Prelude.{◌≡◌, ℕ, Bool, true, false, ◌||◌, List, [], ◌∷◌, ◌++◌, map, Option, Some, None, slice_get, get_or}
+use Rattle.wasm_types.specs.declared.types.PrimitiveTypeInfo.{PrimitiveTypeInfo}
 use Rattle.wasm_types.specs.declared.types.PrimitiveTypeInfo.TheVariants as primitive
 use Rattle.peephole_machine.specs.declared.integer.IntegerType.{IntegerType}
 use Rattle.peephole_machine.specs.declared.integer.IntegerType.TheVariants as integer
@@ -10,9 +11,9 @@ use Rattle.rewrite_rules.specs.declared.pattern.Operator.TheVariants as operator
 use Rattle.rewrite_rules.specs.declared.pattern.Part.{Part}
 use Rattle.rewrite_rules.specs.declared.pattern.Part.TheVariants as part
 use Rattle.rewrite_rules.specs.declared.table.Step.{Step}
-use Rattle.rewrite_rules.specs.declared.table.Step.TheVariants.{Operand, Constant, Drawn, Binary, Compare, Eqz, Select, Whole, End}
+use Rattle.rewrite_rules.specs.declared.table.Step.TheVariants.{Operand, Constant, Drawn, Binary, Compare, Eqz, Select, Whole, Exact, End}
 use Rattle.rewrite_rules.specs.declared.table.Widths.{Widths}
-use Rattle.rewrite_rules.specs.declared.table.Widths.TheVariants.{Both, Only, Any, Own}
+use Rattle.rewrite_rules.specs.declared.table.Widths.TheVariants.{Both, Only, Any, Operands, Own}
 use Rattle.rewrite_rules.specs.declared.table.Condition as asked
 use Rattle.rewrite_rules.specs.declared.table.Condition.TheVariants.{BelowWidth, Power, Mask}
 use Rattle.rewrite_rules.specs.declared.table.Row.{Row}
@@ -47,6 +48,7 @@ after_step t (Compare f) ps = behind (operator.Whole (operation.Compare t f)) ps
 after_step t Eqz ps = behind (operator.Whole (operation.Eqz t)) ps
 after_step t Select ps = behind operator.Select ps
 after_step t (Whole f) ps = behind (operator.Whole f) ps
+after_step t (Exact n i) ps = behind (operator.Exact n i) ps
 after_step t End ps = ps
 
 -- behind the steps before the end
@@ -76,6 +78,7 @@ part_for t (Compare f) = Some (part.Apply (operator.Whole (operation.Compare t f
 part_for t Eqz = Some (part.Apply (operator.Whole (operation.Eqz t)))
 part_for t Select = Some (part.Apply operator.Select)
 part_for t (Whole f) = Some (part.Apply (operator.Whole f))
+part_for t (Exact n i) = Some (part.Apply (operator.Exact n i))
 part_for t End = None
 
 -- those up to the one before the first that is none
@@ -88,11 +91,26 @@ up_to_none (Some p ∷ os) = p ∷ up_to_none os
 abbrev pub parts_for : IntegerType → List Step → List Part
 parts_for t steps = up_to_none (map (part_for t) steps)
 
+-- one of the steps before the end is an exact row
+abbrev pub is_exact_step : Step → Bool
+is_exact_step (Exact n i) = true
+is_exact_step s = false
+
+abbrev pub has_exact : List Step → Bool
+has_exact [] = false
+has_exact (End ∷ steps) = false
+has_exact (s ∷ steps) = is_exact_step s || has_exact steps
+
 -- ---- rows
+
+-- one of its sides has one
+abbrev pub needs_exact : Row → Bool
+needs_exact row = has_exact row.left || has_exact row.right
 
 -- the types of the operands
 abbrev pub kinds_for : Widths → IntegerType → List Kind
 kinds_for Any t = any ∷ any ∷ fixed primitive.I32 ∷ []
+kinds_for (Operands a b c) t = fixed a ∷ fixed b ∷ fixed c ∷ []
 kinds_for w t = fixed (type_of t) ∷ fixed (type_of t) ∷ fixed (type_of t) ∷ []
 
 -- what is asked of a constant of the width
@@ -114,11 +132,18 @@ line_of r t = record {
   conditions = conditions_for t r.condition;
 }
 
--- the widths; a row of any operands is read for one, and a rule that is no row for none
+-- the width of the integers with as many bits as a number of the type, or 32
+abbrev pub width_by : PrimitiveTypeInfo → IntegerType
+width_by primitive.I64 = integer.I64
+width_by primitive.F64 = integer.I64
+width_by t = integer.I32
+
+-- the widths; a row of any operands is read for one, and so is one whose operands' types are told, and a rule that is no row for none
 abbrev pub widths_in : Widths → List IntegerType
 widths_in Both = integer.I32 ∷ integer.I64 ∷ []
 widths_in (Only t) = t ∷ []
 widths_in Any = integer.I32 ∷ []
+widths_in (Operands a b c) = width_by a ∷ []
 widths_in (Own o) = []
 
 abbrev pub lines_of : Row → List Line

@@ -1,14 +1,14 @@
 //! Whether a row applies to what stands in its holes.
-ghost use Rattle.std.specs.Prelude.{◌≡◌, ◌&&◌};
+ghost use Rattle.std.specs.Prelude.{◌≡◌, ◌&&◌, ◌||◌, not};
 ghost use Rattle.rewrite_rules.specs.Numbers.{constant_at};
 ghost use Rattle.rewrite_rules.specs.Line.{all_hold};
-ghost use Rattle.rewrite_rules.specs.Table.{conditions_for};
+ghost use Rattle.rewrite_rules.specs.Table.{conditions_for, has_exact, needs_exact};
 ghost use Rattle.rewrite_rules.specs.Applying.{IsFormed, IsTold};
 
 use crate::holes::holes_of;
 use crate::laws::{holes_are_told, types_are_told};
 use crate::order::{Effects, may_move};
-use crate::table::Row;
+use crate::table::{Row, Side, Step};
 use peephole_machine::IntegerType;
 use wasm_types::PrimitiveTypeInfo;
 
@@ -21,13 +21,29 @@ pub struct Found<'a> {
     pub effects: &'a [Effects],
     /// The numbers of the constants.
     pub numbers: &'a [u64],
+    /// Whether what runs the module does what the standard says on the exact rows.
+    pub exact: bool,
 }
 
-// Whether all three hold.
-fn all_three(one: bool, two: bool, three: bool) -> bool
-    ensures { result ≡ (one && (two && three)) }
+// Whether all four hold.
+fn all_four(one: bool, two: bool, three: bool, four: bool) -> bool
+    ensures { result ≡ (one && (two && (three && four))) }
 {
-    one && two && three
+    one && two && three && four
+}
+
+// Whether one of the side's steps is an exact row.
+fn has_exact(side: &Side) -> bool
+    ensures { result ≡ has_exact side.now }
+{
+    for i in 0..side.len() {
+        match side[i] {
+            Step::Exact(_, _) => return true,
+            Step::End => return false,
+            _ => {}
+        }
+    }
+    false
 }
 
 impl Row {
@@ -42,12 +58,27 @@ impl Row {
         }
     }
 
+    /// Whether the row has an exact row, so that its rewrites do as before only where what runs the module is exact.
+    pub fn needs_exact(&self) -> bool
+        ensures { result ≡ needs_exact self.now }
+    {
+        has_exact(&self.left) || has_exact(&self.right)
+    }
+
+    // Whether what runs the module is as the row asks.
+    fn is_ready(&self, exact: bool) -> bool
+        ensures { result ≡ (exact || not (needs_exact self.now)) }
+    {
+        exact || !self.needs_exact()
+    }
+
     /// Whether the line that the row is for the width applies to what is found: the constants are as it asks, what stands in its holes
-    /// leaves their types, and may move from its place on the left side to those on the right.
+    /// leaves their types, and may move from its place on the left side to those on the right; and where it has an exact row, what runs
+    /// the module is exact.
     pub fn applies(&self, width: IntegerType, found: &Found<'_>) -> bool
         requires { IsFormed self.now width }
         ensures { IsTold self.now width
-            found.now.types.now found.now.effects.now found.now.numbers.now result }
+            found.now.types.now found.now.effects.now found.now.exact found.now.numbers.now result }
     {
         types_are_told();
         holes_are_told();
@@ -56,6 +87,7 @@ impl Row {
         let asked = self.is_asked(width, found.numbers);
         let fit = self.types_fit(width, found.types);
         let moves = may_move(found.effects, &left, &right);
-        all_three(asked, fit, moves)
+        let ready = self.is_ready(found.exact);
+        all_four(ready, asked, fit, moves)
     }
 }

@@ -39,6 +39,9 @@ fn fixed_type(widths: Widths, width: IntegerType, index: usize) -> Option<Primit
     match (widths, index) {
         (Widths::Any, 2) => Some(PrimitiveTypeInfo::I32),
         (Widths::Any, _) => None,
+        (Widths::Operands(t, _, _), 0) => Some(t),
+        (Widths::Operands(_, t, _), 1) => Some(t),
+        (Widths::Operands(_, _, t), 2) => Some(t),
         (_, 0 | 1 | 2) => Some(type_of(width)),
         _ => None,
     }

@@ -1,6 +1,7 @@
 //! What rules are written in: operators, and numbers of constants.
 
 use peephole_machine::{IntegerType, Operation};
+use wasm_code::Imm;
 
 /// An operator that patterns name.
 #[derive(Clone, Copy, Debug, PartialEq, Eq)]
@@ -9,6 +10,8 @@ pub enum Operator {
     Whole(Operation),
     /// The select whose type isn't written.
     Select,
+    /// One on floats or vectors that is exact on bits: a row of the instruction table, by its number, and its immediate.
+    Exact(u16, Imm),
 }
 
 /// A number that goes by a pattern's constants and by the width, N bits; its low bits count.
@@ -51,7 +54,7 @@ pub enum Part {
 
 impl Operator {
     ghost use Rattle.std.specs.Prelude.{◌≡◌};
-    ghost use Rattle.rewrite_rules.specs.Instance.{row_number};
+    ghost use Rattle.rewrite_rules.specs.Instance.{row_number, immediate_of};
 
     /// The number of the operator's row in the instruction table.
     pub fn row(self) -> u16
@@ -60,6 +63,18 @@ impl Operator {
         match self {
             Operator::Whole(operation) => operation.opcode() as u16 - 29,
             Operator::Select => 3,
+            Operator::Exact(row, _) => row,
+        }
+    }
+
+    /// The immediate of the operator's instruction.
+    pub fn immediate(self) -> Imm
+        ensures { result ≡ immediate_of self }
+    {
+        match self {
+            Operator::Whole(_) => Imm::Nothing,
+            Operator::Select => Imm::Nothing,
+            Operator::Exact(_, immediate) => immediate,
         }
     }
 }

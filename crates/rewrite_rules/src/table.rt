@@ -8,6 +8,8 @@ ghost use Rattle.rewrite_rules.specs.Table.{part_for};
 
 use crate::pattern::{Number, Operator, Part};
 use peephole_machine::{Binary, Comparison, IntegerType, Operation};
+use wasm_code::Imm;
+use wasm_types::PrimitiveTypeInfo;
 
 /// A step of a side.
 #[derive(Clone, Copy, Debug, PartialEq, Eq)]
@@ -28,6 +30,8 @@ pub enum Step {
     Select,
     /// An operator with types of its own.
     Whole(Operation),
+    /// One on floats or vectors that is exact on bits: a row of the instruction table, by its number, and its immediate.
+    Exact(u16, Imm),
     /// No more steps.
     End,
 }
@@ -46,6 +50,7 @@ impl Step {
             Step::Eqz => Operation::Eqz(width),
             Step::Whole(operation) => operation,
             Step::Select => return Some(Part::Apply(Operator::Select)),
+            Step::Exact(row, immediate) => return Some(Part::Apply(Operator::Exact(row, immediate))),
             Step::End => return None,
         };
         Some(Part::Apply(Operator::Whole(operation)))
@@ -64,6 +69,8 @@ pub enum Widths {
     Only(IntegerType),
     /// For none: it has no step of the width, and operands of any type, but for the third one, which is an `i32`.
     Any,
+    /// For none: its operands are of these types, and its constants are integers of as many bits as the first operand, or of 32.
+    Operands(PrimitiveTypeInfo, PrimitiveTypeInfo, PrimitiveTypeInfo),
     /// For none: it is no row, but a rule that stands beside the table.
     Own(Own),
 }

@@ -5,7 +5,9 @@ ghost use Rattle.rewrite_rules.specs.Texts.{slot_text, number_text, condition_te
 use crate::operator_names::{binary_name, comparison_name, name_behind, type_in_front, type_name};
 use crate::pattern::Number;
 use crate::table::{Condition, Own, Row, Side, Step, Widths};
+use instruction_names::instruction_name;
 use std::fmt;
+use wasm_code::{Imm, row_info};
 
 /// A side as a term. Its text has each operator in front of its operands, and operators among these in parentheses, such as
 /// `add x (mul y 2)`. `x`, `y` and `z` are any operands, `c` and `d` the constants on the left side, `N` is the width in bits, and `r`
@@ -28,6 +30,10 @@ struct Leaf(Step);
 // The name of an operator.
 #[derive(Clone, Copy)]
 struct Name(Step);
+
+// The lane that an immediate names, behind a space.
+#[derive(Clone, Copy)]
+struct Lane(Imm);
 
 // The operators of a side whose operands begin with the step at that place, the outermost first: their names, each behind a parenthesis
 // if it is an operand of another one, and in front of its own operands.
@@ -92,6 +98,15 @@ impl fmt::Display for Leaf {
     }
 }
 
+impl fmt::Display for Lane {
+    fn fmt<W: fmt::Write>(&self, f: &mut fmt::Formatter<W>) -> fmt::Result {
+        match self.0 {
+            Imm::Lane(lane) => write!(f, " {lane}"),
+            _ => Ok(()),
+        }
+    }
+}
+
 impl fmt::Display for Name {
     fn fmt<W: fmt::Write>(&self, f: &mut fmt::Formatter<W>) -> fmt::Result {
         match self.0 {
@@ -99,6 +114,10 @@ impl fmt::Display for Name {
             Step::Compare(comparison) => f.write_str(comparison_name(comparison)),
             Step::Eqz => f.write_str("eqz"),
             Step::Select => f.write_str("select"),
+            Step::Exact(row, immediate) => {
+                let name = instruction_name(row);
+                write!(f, "{name}{}", Lane(immediate))
+            }
             Step::Whole(operation) => {
                 let width = type_name(type_in_front(operation));
                 let name = name_behind(operation);
@@ -106,6 +125,16 @@ impl fmt::Display for Name {
             }
             _ => Ok(()),
         }
+    }
+}
+
+// How many operands the row of the instruction table has, at most three.
+fn operands_of_row(row: u16) -> usize
+    ensures { result ≤ 3 }
+{
+    match row_info(row) {
+        Some(info) => (info.operands.unwrap_or(0) as usize).min(3),
+        None => 0,
     }
 }
 
@@ -118,6 +147,7 @@ fn operand_count(step: Step) -> usize
         Step::Eqz => 1,
         Step::Select => 3,
         Step::Whole(operation) => operation.operands().len().min(3),
+        Step::Exact(row, _) => operands_of_row(row),
         _ => 0,
     }
 }
@@ -253,6 +283,7 @@ impl fmt::Display for Row {
                 write!(f, "{width}: {sides}")
             }
             Widths::Any => write!(f, "any: {sides}"),
+            Widths::Operands(first, _, _) => write!(f, "{}: {sides}", first.name()),
             Widths::Own(own) => write!(f, "{own}"),
         }
     }

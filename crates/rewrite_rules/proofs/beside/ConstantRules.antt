@@ -1,6 +1,6 @@
 -- An operator on constants, and a constant as a sum: each is a line of its own numbers, well formed and right.
-use Rattle.std.proofs.Common.{◌≡◌, ℕ, ◌+◌, ◌-◌, ◌%◌, ◌^◌, ◌<◌, Bool, true, List, [], ◌∷◌, ◌++◌, map, Some, refl, sym, ap, ap₂, ◌∙◌, subst, arith}
-use Rattle.std.specs.Prelude.{◌&&◌, ◌==◌}
+use Rattle.std.proofs.Common.{◌≡◌, ℕ, ◌+◌, ◌-◌, ◌%◌, ◌^◌, ◌<◌, Bool, true, false, List, [], ◌∷◌, ◌++◌, map, Some, refl, sym, ap, ap₂, ◌∙◌, subst, arith}
+use Rattle.std.specs.Prelude.{◌&&◌, ◌||◌, ◌==◌}
 use Rattle.std.proofs.lemmas.Bool.{false≢true}
 use Rattle.std.proofs.Math.Nat.{mod-lt, mod-mod, add-mod-mod, add-mod_right}
 use Rattle.std.proofs.lemmas.Nat.{pow_pos}
@@ -21,10 +21,10 @@ use Rattle.peephole_machine.specs.RowLemmas.{map_some, same_type_self}
 use Rattle.rewrite_rules.specs.declared.pattern.Number.TheVariants.{Literal}
 use Rattle.rewrite_rules.specs.declared.pattern.Operator.TheVariants.{Whole}
 use Rattle.rewrite_rules.specs.Pattern.{fixed, operands_of, Pattern, Patterns, constant, apply, none, ◌▹◌}
-use Rattle.rewrite_rules.specs.Pattern.{holes, holes_in, draws_all, kinds_in, same_kinds, fit, none_traps}
+use Rattle.rewrite_rules.specs.Pattern.{holes, holes_in, draws_all, some_exact, kinds_in, same_kinds, fit, none_traps}
 use Rattle.rewrite_rules.specs.Numbers.{or_cause, value_on, low, numbers_in}
 use Rattle.rewrite_rules.specs.Order.{is_in, may_move}
-use Rattle.rewrite_rules.specs.Line.{Line, is_formed, IsRight}
+use Rattle.rewrite_rules.specs.Line.{Line, is_exact_line, is_formed, IsRight}
 use Rattle.rewrite_rules.specs.Instance.{constant_code, operator_code, codes_of, doing, Applies, StandsFor}
 use Rattle.rewrite_rules.specs.Laws.{LinesKeepCode}
 use Rattle.rewrite_rules.proofs.identities.WidthLemmas.{ok}
@@ -52,6 +52,10 @@ no_draws : (cs : List (IntegerType × ℕ)) → draws_all (literals cs) ≡ 0
 no_draws [] = refl
 no_draws (c ∷ cs) = let e = no_draws cs in omega arith
 
+no_exact : (cs : List (IntegerType × ℕ)) → some_exact (literals cs) ≡ false
+no_exact [] = refl
+no_exact (c ∷ cs) = no_exact cs
+
 no_holes : (cs : List (IntegerType × ℕ)) → holes_in (literals cs) ≡ []
 no_holes [] = refl
 no_holes (c ∷ cs) = no_holes cs
@@ -70,13 +74,15 @@ abbrev bare : (left right : Pattern) → Line
 bare left right = record { left = left; right = right; kinds = []; conditions = [] }
 
 -- such a line applies anywhere
-applies : (context : Context) (left right : Pattern) → holes left ≡ [] → holes right ≡ [] → Applies context (bare left right) (λ n. []) (λ n. 0)
-applies context left right e f = record {
+applies : (context : Context) (left right : Pattern) → holes left ≡ [] → holes right ≡ [] → is_exact_line (bare left right) ≡ false →
+    Applies context (bare left right) (λ n. []) (λ n. 0)
+applies context left right e f x = record {
   type = primitive.I32;
   numeric = refl;
   leave = λ n i. absurd (false≢true (ap (λ ns. is_in ns n) (sym e) ∙ i));
   as_asked = refl;
   moves = ap₂ (may_move (doing (λ n. []))) e f;
+  exact = λ y. absurd (false≢true (sym x ∙ y));
 }
 
 -- ---- an operator on constants
@@ -119,7 +125,7 @@ module _ (f : Operation) (cs : List (IntegerType × ℕ)) (n : ℕ) (typed : typ
   fold law context =
       subst (λ code. StandsFor context (code ++ operator_code (Whole f) ∷ []) (constant_code (operator_of f).result n ∷ []))
       (codes_are (λ n. []) (λ n. 0) [] cs)
-      (law folded formed right context (λ n. []) (λ n. 0) [] (applies context folded.left folded.right (no_holes cs) refl))
+      (law folded formed right context (λ n. []) (λ n. 0) [] (applies context folded.left folded.right (no_holes cs) refl (ap (λ b. b || false) (no_exact cs))))
 
 -- ---- a constant as a sum
 
@@ -143,4 +149,4 @@ module _ (t : IntegerType) (n word : ℕ) where
   sum_right h c us vs a e = ap ok (sym (parts_add (2 ^ bits (width_of t)) n word (pow_pos (bits (width_of t)))))
 
   pub as_a_sum : LinesKeepCode → (context : Context) → StandsFor context (constant_code t n ∷ []) (sum_code t n word)
-  as_a_sum law context = law sum sum_formed sum_right context (λ n. []) (λ n. 0) [] (applies context sum.left sum.right refl refl)
+  as_a_sum law context = law sum sum_formed sum_right context (λ n. []) (λ n. 0) [] (applies context sum.left sum.right refl refl refl)

@@ -13,10 +13,10 @@ use Rattle.peephole_machine.specs.Operation.{comparison_of}
 use Rattle.rewrite_rules.specs.declared.pattern.Number.{Number}
 use Rattle.rewrite_rules.specs.declared.pattern.Number.TheVariants.{Literal, Ones}
 use Rattle.rewrite_rules.specs.declared.table.Widths.{Widths}
-use Rattle.rewrite_rules.specs.declared.table.Widths.TheVariants.{Both, Only, Any, Own}
+use Rattle.rewrite_rules.specs.declared.table.Widths.TheVariants.{Both, Only, Any, Operands, Own}
 use Rattle.rewrite_rules.specs.declared.table.Row.{Row}
 use Rattle.rewrite_rules.specs.Line.{Line, is_formed, IsRight}
-use Rattle.rewrite_rules.specs.Table.{parts, ROWS, line_of, widths_in, lines_of, OfEachLine}
+use Rattle.rewrite_rules.specs.Table.{parts, ROWS, width_by, line_of, widths_in, lines_of, OfEachLine}
 use Rattle.rewrite_rules.specs.Laws.{LinesKeepCode, TableIsRight}
 use Rattle.rewrite_rules.proofs.identities.Words as line
 use Rattle.rewrite_rules.proofs.identities.ExtensionNumbers as number
@@ -55,6 +55,7 @@ abbrev AtWidths : (Line → Type 0) → Widths → (IntegerType → Line) → Ty
 AtWidths P Both l = (t : IntegerType) → P (l t)
 AtWidths P (Only t) l = P (l t)
 AtWidths P Any l = P (l integer.I32)
+AtWidths P (Operands a b c) l = P (l (width_by a))
 AtWidths P (Own o) l = ⊤
 
 abbrev AtRows : (Line → Type 0) → List Row → Type 0
@@ -245,6 +246,8 @@ at_width P (Only t) l h zero m e = let is : l t ≡ m = cc in subst P is h
 at_width P (Only t) l h (suc k) m e = absurd cc
 at_width P Any l h zero m e = let is : l integer.I32 ≡ m = cc in subst P is h
 at_width P Any l h (suc k) m e = absurd cc
+at_width P (Operands a b c) l h zero m e = let is : l (width_by a) ≡ m = cc in subst P is h
+at_width P (Operands a b c) l h (suc k) m e = absurd cc
 at_width P (Own o) l h k m e = absurd cc
 
 at_row : (P : Line → Type 0) (rs : List Row) → AtRows P rs → (i : ℕ) (row : Row) → slice_get rs i ≡ Some row → AtWidths P row.widths (line_of row)

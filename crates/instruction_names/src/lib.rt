@@ -1,4 +1,5 @@
 //! The names of instructions, as WebAssembly's text format has them.
+#![tactic(auto)]
 
 // The names, by the number of the row in the table of instructions.
 static NAMES: [&str; 446] = [
@@ -450,7 +451,7 @@ static NAMES: [&str; 446] = [
     "select",
 ];
 
-/// The name of the instruction in the row with that number.
-pub(crate) fn instruction_name(row: u16) -> &'static str {
+/// The name of the instruction in the row with that number of the instruction table; the empty one where the table has no such row.
+pub fn instruction_name(row: u16) -> &'static str {
     NAMES.get(row as usize).copied().unwrap_or("")
 }
