@@ -51,7 +51,7 @@ pub(crate) fn constant_of(t: IntegerType, number: u64) -> Instr
 pub(crate) fn operator_of(operator: Operator) -> Instr
     ensures { result ≡ operator_code operator }
 {
-    match Instr::new(operator.row(), Imm::Nothing) {
+    match Instr::new(operator.row(), operator.immediate()) {
         Some(instr) => instr,
         None => unreachable!(),
     }

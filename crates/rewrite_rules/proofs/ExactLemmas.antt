@@ -3,7 +3,8 @@ use Rattle.std.proofs.Common.{◌≡◌, ℕ, Bool, true, false, List, [], ◌�
 use Rattle.std.specs.Prelude.{◌&&◌, ◌==◌, is_some, option_and_then, if◌then◌else◌}
 use Rattle.std.specs.List.{All}
 use Rattle.std.proofs.lemmas.List.{append-nil}
-use Rattle.wasm_code.specs.Instruction.{Instruction}
+use Rattle.std.proofs.lemmas.Bool.{and_parts}
+use Rattle.wasm_code.specs.Instruction.{Instruction, fits_row}
 use Rattle.wasm_code.specs.Table.{row_at, opcode_in}
 use Rattle.wasm_code.specs.declared.immediate.Imm.{Imm}
 use Rattle.wasm_code.specs.declared.immediate.Imm.TheVariants as imm
@@ -28,7 +29,7 @@ use Rattle.peephole_machine.specs.Machine.{answered, act}
 use Rattle.peephole_machine.specs.RowLemmas.{if_typed_is, same_type_self}
 use Rattle.peephole_machine.specs.StateLemmas.{own_types_are, own_is, others_none}
 use Rattle.peephole_machine.specs.TypeLemmas.{act_at}
-use Rattle.rewrite_rules.specs.Exact.{ExactOperator, written_operands, number_type, written_result, operands_by, result_by, with_value, unless_integer, exact_operator}
+use Rattle.rewrite_rules.specs.Exact.{ExactOperator, written_operands, number_type, written_result, operands_by, result_by, with_value, exact_operator}
 
 -- ---- instructions of which the machine says nothing itself
 
@@ -95,6 +96,7 @@ other_self i (Some row) h e = absurd (true≢false (sym e ∙ h row refl))
 -- What is known of it.
 pub record IsExactOperator (i : Instruction) (o : ExactOperator) : Type 0 where
   pub value : List ℕ → ℕ
+  pub fits : fits_row (row_at i.row) i.imm ≡ true
   pub other_is : integer_row i ≡ other i
   pub row_is : exact_row i ≡ Some (computes value)
   pub operands_are : operands_by (row_at i.row) ≡ Some o.operands
@@ -104,16 +106,20 @@ pub record IsExactOperator (i : Instruction) (o : ExactOperator) : Type 0 where
 pub exact_is : (i : Instruction) (o : ExactOperator) → exact_operator i ≡ Some o → IsExactOperator i o
 unfolding exact_operator integer_row
 exact_is i o e =
-    known (is_other (integer_row i)) (exact_row i) (operands_by (row_at i.row)) (result_by (row_at i.row)) refl refl refl refl e
+    known (fits_row (row_at i.row) i.imm && is_other (integer_row i)) (exact_row i) (operands_by (row_at i.row)) (result_by (row_at i.row))
+    refl refl refl refl e
   where
-    known : (b : Bool) (row : Option ExactRow) (ts : Option (List PrimitiveTypeInfo)) (t : Option PrimitiveTypeInfo) → is_other (integer_row i) ≡ b →
-        exact_row i ≡ row → operands_by (row_at i.row) ≡ ts → result_by (row_at i.row) ≡ t → unless_integer b (with_value row ts t) ≡ Some o →
+    known : (b : Bool) (row : Option ExactRow) (ts : Option (List PrimitiveTypeInfo)) (t : Option PrimitiveTypeInfo) →
+        (fits_row (row_at i.row) i.imm && is_other (integer_row i)) ≡ b →
+        exact_row i ≡ row → operands_by (row_at i.row) ≡ ts → result_by (row_at i.row) ≡ t → (if b then with_value row ts t else None) ≡ Some o →
         IsExactOperator i o
     known true (Some (computes f)) (Some ts) (Some t) a b c d e =
+        let both = and_parts (fits_row (row_at i.row) i.imm) (is_other (integer_row i)) a in
         let same : record { operands = ts; result = t; value = λ ns. of_bits t (f ns) } ≡ o = cc in
         record {
           value = f;
-          other_is = other_self i (opcode_row (opcode_in (row_at i.row)) i.imm) (own (opcode_in (row_at i.row)) i.imm) a;
+          fits = both.0;
+          other_is = other_self i (opcode_row (opcode_in (row_at i.row)) i.imm) (own (opcode_in (row_at i.row)) i.imm) both.1;
           row_is = b;
           operands_are = c ∙ ap (λ (x : ExactOperator). Some x.operands) same;
           result_is = d ∙ ap (λ (x : ExactOperator). Some x.result) same;

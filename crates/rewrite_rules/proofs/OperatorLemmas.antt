@@ -46,7 +46,7 @@ row_for Select = row.select
 row_for (Exact n i) = row.other (record { row = n; imm = i })
 
 -- the exact row that is known
-known : (n : ℕ) (i : Imm) → is_known (Exact n i) ≡ true → (o : ExactOperator) × (exact_at n i ≡ Some o)
+pub known : (n : ℕ) (i : Imm) → is_known (Exact n i) ≡ true → (o : ExactOperator) × (exact_at n i ≡ Some o)
 known n i e = there (exact_at n i) e
   where
     there : (m : Option ExactOperator) → is_some m ≡ true → (o : ExactOperator) × (m ≡ Some o)

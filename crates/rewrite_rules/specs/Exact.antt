@@ -1,7 +1,7 @@
 -- Operators that are exact rows of the instruction table: what they take and give, and their value, by the row and its immediate
 -- (WebAssembly Core Specification 3.0, Validation, Instructions, and Execution, Numerics; which rows are exact: this project).
-use Rattle.std.specs.Prelude.{ℕ, Bool, true, false, ◌&&◌, is_some, List, [], ◌∷◌, map, Option, Some, None, option_and_then}
-use Rattle.wasm_code.specs.Instruction.{Instruction}
+use Rattle.std.specs.Prelude.{ℕ, ◌&&◌, if◌then◌else◌, List, [], ◌∷◌, Option, Some, None}
+use Rattle.wasm_code.specs.Instruction.{Instruction, fits_row}
 use Rattle.wasm_code.specs.Table.{row_at}
 use Rattle.wasm_code.specs.declared.immediate.Imm.{Imm}
 use Rattle.wasm_code.specs.declared.immediate.ValType.{ValType}
@@ -61,15 +61,11 @@ abbrev pub with_value : Option ExactRow → Option (List PrimitiveTypeInfo) → 
 with_value (Some (computes f)) (Some ts) (Some t) = Some (record { operands = ts; result = t; value = λ ns. of_bits t (f ns) })
 with_value row ts t = None
 
--- where the machine says itself what a row does, it is no exact one
-abbrev pub unless_integer : (is_other : Bool) → Option ExactOperator → Option ExactOperator
-unless_integer true o = o
-unless_integer false o = None
-
--- the operator that an instruction is, where it is an exact row that computes
+-- the operator that an instruction is, where it is an exact row that computes: its row takes its immediate, and the machine doesn't say itself what it does
 unfoldable pub exact_operator : Instruction → Option ExactOperator
 exact_operator i =
-    unless_integer (is_other (integer_row i)) (with_value (exact_row i) (operands_by (row_at i.row)) (result_by (row_at i.row)))
+    if fits_row (row_at i.row) i.imm && is_other (integer_row i)
+    then with_value (exact_row i) (operands_by (row_at i.row)) (result_by (row_at i.row)) else None
 
 -- the same of a row and an immediate
 abbrev pub exact_at : (row : ℕ) → Imm → Option ExactOperator

@@ -1,5 +1,8 @@
 -- The table of rules, which stands in the code: the lines of each row (this project).
-use Rattle.std.specs.Prelude.{◌≡◌, ℕ, Bool, true, false, ◌||◌, List, [], ◌∷◌, ◌++◌, map, Option, Some, None, slice_get, get_or}
+use Rattle.std.specs.Prelude.{◌≡◌, ℕ, Bool, true, false, ◌||◌, ⊤, List, [], ◌∷◌, ◌++◌, map, Option, Some, None, slice_get, get_or}
+use Rattle.std.specs.List.{All}
+use Rattle.wasm_code.specs.Instruction.{fits_row}
+use Rattle.wasm_code.specs.Table.{row_at}
 use Rattle.wasm_types.specs.declared.types.PrimitiveTypeInfo.{PrimitiveTypeInfo}
 use Rattle.wasm_types.specs.declared.types.PrimitiveTypeInfo.TheVariants as primitive
 use Rattle.peephole_machine.specs.declared.integer.IntegerType.{IntegerType}
@@ -20,6 +23,7 @@ use Rattle.rewrite_rules.specs.declared.table.Row.{Row}
 use Rattle.rewrite_rules.specs.declared.table.TheConstants.{ORDERS, GROUPS, LONGER, FORMS, NEUTRAL, POWERS, TWICE}
 use Rattle.rewrite_rules.specs.declared.table.TheConstants.{ALONE, TESTS, OPPOSITES, PARTS, SHORTER, BACK}
 use Rattle.rewrite_rules.specs.Pattern.{Kind, fixed, any, operands_of, Pattern, Patterns, hole, constant, drawn, apply, none, ◌▹◌}
+use Rattle.rewrite_rules.specs.Instance.{row_number, immediate_of}
 use Rattle.rewrite_rules.specs.Parts.{parts_of}
 use Rattle.rewrite_rules.specs.Line.{Line, Condition, is_below_width, is_power, is_mask}
 
@@ -186,6 +190,11 @@ rows_of es = map row_in es
 abbrev pub ROWS : List Row
 ROWS = rows_of entries
 
+-- the part's operator is an instruction of the standard, of which the row and the immediate go together
+abbrev pub IsInstruction : Part → Type 0
+IsInstruction (part.Apply o) = fits_row (row_at (row_number o)) (immediate_of o) ≡ true
+IsInstruction p = ⊤
+
 -- It holds of each line of each row of the table.
 abbrev pub OfEachLine : (Line → Type 0) → Type 0
 OfEachLine P = (i : ℕ) (row : Row) → slice_get ROWS i ≡ Some row → (k : ℕ) (l : Line) → slice_get (lines_of row) k ≡ Some l → P l
@@ -195,3 +204,9 @@ abbrev pub SidesAreParts : Type 0
 SidesAreParts =
     (i : ℕ) (row : Row) → slice_get ROWS i ≡ Some row → (k : ℕ) (t : IntegerType) → slice_get (widths_in row.widths) k ≡ Some t →
     (parts_of (line_of row t).left ≡ parts_for t row.left) × (parts_of (line_of row t).right ≡ parts_for t row.right)
+
+-- So are all operators on the right sides.
+abbrev pub PartsAreInstructions : Type 0
+PartsAreInstructions =
+    (i : ℕ) (row : Row) → slice_get ROWS i ≡ Some row → (k : ℕ) (t : IntegerType) → slice_get (widths_in row.widths) k ≡ Some t →
+    All IsInstruction (parts_for t row.right)

@@ -5,7 +5,7 @@ ghost use Rattle.rewrite_rules.specs.Names.{NamesDiffer, AreFew};
 ghost use Rattle.rewrite_rules.specs.Needs.{NeedsAreEnough};
 ghost use Rattle.rewrite_rules.specs.Parts.{PartsAreTheCode};
 ghost use Rattle.rewrite_rules.specs.Rule.{RulesAreNamed};
-ghost use Rattle.rewrite_rules.specs.Table.{SidesAreParts};
+ghost use Rattle.rewrite_rules.specs.Table.{SidesAreParts, PartsAreInstructions};
 ghost use Rattle.rewrite_rules.specs.Operands.{TypesAreTold};
 ghost use Rattle.rewrite_rules.specs.Holes.{HolesAreTold};
 ghost use Rattle.rewrite_rules.specs.Beside.{BesidesKeepCode};
@@ -42,6 +42,14 @@ pub fn sides_are_parts()
     ensures { SidesAreParts }
 {
     table_is_right();
+}
+
+/// The operators on the right sides of the table's rows are instructions of the standard.
+pub fn parts_are_instructions()
+    ensures { PartsAreInstructions }
+{
+    table_is_right();
+    sides_are_parts();
 }
 
 /// `Row::types_fit` tells exactly whether operands leave the types of their holes.
