@@ -19,7 +19,7 @@ use Rattle.rewrite_rules.specs.declared.table.Row.{Row}
 use Rattle.rewrite_rules.specs.declared.table.Step.{Step}
 use Rattle.rewrite_rules.specs.declared.table.Step.TheVariants as step
 use Rattle.rewrite_rules.specs.declared.table.Widths.{Widths}
-use Rattle.rewrite_rules.specs.declared.table.Widths.TheVariants.{Both, Only, Any, Own}
+use Rattle.rewrite_rules.specs.declared.table.Widths.TheVariants.{Both, Only, Any, Operands, Own}
 use Rattle.rewrite_rules.specs.Code.{Leaves, writes, traps, asks}
 use Rattle.rewrite_rules.specs.Holes.{holes_for, HolesAreTold}
 use Rattle.rewrite_rules.specs.Instance.{doing, Applies}
@@ -86,10 +86,14 @@ abbrev asks_nothing : Option asked.Condition → Bool
 asks_nothing None = true
 asks_nothing (Some k) = false
 
+-- its line for the width has an exact row
+abbrev is_exact_for : IntegerType → Row → Bool
+is_exact_for t row = lines.is_exact_line (table.line_of row t)
+
 abbrev alone_row : Row → Bool
 alone_row row =
     not (are_alone row.left)
-    || ((of_width row.widths && asks_nothing row.condition)
+    || ((of_width row.widths && (asks_nothing row.condition && (not (is_exact_for integer.I32 row) && not (is_exact_for integer.I64 row))))
     && (one_or_two (holes_for row.right) && (is_longer (parts_for integer.I32 row.right) && is_longer (parts_for integer.I64 row.right))))
 
 abbrev alone_rows : List Row → Bool
@@ -111,6 +115,7 @@ at_row (r ∷ rs) e (suc i) row at = at_row rs (and_parts (alone_row r) (alone_r
 record IsAloneRow (row : Row) (t : IntegerType) : Type 0 where
   width : of_width row.widths ≡ true
   nothing : asks_nothing row.condition ≡ true
+  always : is_exact_for t row ≡ false
   few : one_or_two (holes_for row.right) ≡ true
   longer : is_longer (parts_for t row.right) ≡ true
 
@@ -118,19 +123,31 @@ or_other : (a b : Bool) → a ≡ true → (not a || b) ≡ true → b ≡ true
 or_other true b e h = h
 or_other false b e h = absurd (false≢true e)
 
+not_true : (b : Bool) → not b ≡ true → b ≡ false
+not_true true e = absurd (false≢true e)
+not_true false e = refl
+
 alone_is : (line : Line) → IsLine line → are_alone line.row.left ≡ true → IsAloneRow line.row line.width
 alone_is line is e =
     let row = line.row in
     let h = or_other (are_alone row.left) _ e (at_row ROWS all_rows is.number row is.row_is) in
-    let (a, b) = and_parts (of_width row.widths && asks_nothing row.condition) _ h in
+    let (a, b) = and_parts (of_width row.widths && (asks_nothing row.condition && (not (is_exact_for integer.I32 row) && not (is_exact_for integer.I64 row)))) _ h in
+    let (w, k) = and_parts (of_width row.widths) _ a in
+    let (n, x) = and_parts (asks_nothing row.condition) _ k in
     let (c, d) = and_parts (one_or_two (holes_for row.right)) _ b in
     record {
-      width = (and_parts (of_width row.widths) _ a).0;
-      nothing = (and_parts (of_width row.widths) _ a).1;
+      width = w;
+      nothing = n;
+      always = always_for line.width (and_parts (not (is_exact_for integer.I32 row)) _ x);
       few = c;
       longer = for line.width (and_parts (is_longer (parts_for integer.I32 row.right)) _ d);
     }
   where
+    always_for : (t : IntegerType) → (not (is_exact_for integer.I32 line.row) ≡ true) × (not (is_exact_for integer.I64 line.row) ≡ true) →
+        is_exact_for t line.row ≡ false
+    always_for integer.I32 h = not_true (is_exact_for integer.I32 line.row) h.0
+    always_for integer.I64 h = not_true (is_exact_for integer.I64 line.row) h.1
+
     for : (t : IntegerType) →
         (is_longer (parts_for integer.I32 line.row.right) ≡ true) × (is_longer (parts_for integer.I64 line.row.right) ≡ true) →
         is_longer (parts_for t line.row.right) ≡ true
@@ -150,6 +167,7 @@ alone_left t (step.Operand zero ∷ step.Compare f ∷ steps) e = absurd (false�
 alone_left t (step.Operand zero ∷ step.Eqz ∷ steps) e = absurd (false≢true e)
 alone_left t (step.Operand zero ∷ step.Select ∷ steps) e = absurd (false≢true e)
 alone_left t (step.Operand zero ∷ step.Whole f ∷ steps) e = absurd (false≢true e)
+alone_left t (step.Operand zero ∷ step.Exact n i ∷ steps) e = absurd (false≢true e)
 alone_left t (step.Operand (suc n) ∷ steps) e = absurd (false≢true e)
 alone_left t (step.End ∷ steps) e = absurd (false≢true e)
 alone_left t (step.Constant n ∷ steps) e = absurd (false≢true e)
@@ -159,6 +177,7 @@ alone_left t (step.Compare f ∷ steps) e = absurd (false≢true e)
 alone_left t (step.Eqz ∷ steps) e = absurd (false≢true e)
 alone_left t (step.Select ∷ steps) e = absurd (false≢true e)
 alone_left t (step.Whole f ∷ steps) e = absurd (false≢true e)
+alone_left t (step.Exact n i ∷ steps) e = absurd (false≢true e)
 
 -- ---- where a line applies
 
@@ -176,6 +195,7 @@ fit_is (Only u) t gives e = with_true (same_type gives (type_of t))
     with_true true = refl
     with_true false = refl
 fit_is Any t gives e = absurd (false≢true e)
+fit_is (Operands a b c) t gives e = absurd (false≢true e)
 fit_is (Own o) t gives e = absurd (false≢true e)
 
 -- it may move where it is not doubled, or neither writes nor asks
@@ -251,6 +271,7 @@ module _ (types : TypesAreTold) (holes_are : HolesAreTold) (right : TableIsRight
           leave = have.leave;
           as_asked = nothing_asked c line.row.condition row_is.nothing;
           moves = same_moves ∙ moves_to x (holes_for line.row.right) row_is.few free;
+          exact = λ e. absurd (false≢true (sym row_is.always ∙ e));
         }
 
     applies_alone : (c : ℕ → ℕ) → Applies context (meant line) x c →
@@ -317,6 +338,7 @@ no_other : (w : Widths) → of_width w ≡ true → IsNotOwn w
 no_other Both e = tt
 no_other (Only t) e = tt
 no_other Any e = tt
+no_other (Operands a b c) e = tt
 no_other (Own o) e = false≢true e
 
 module _ (types : TypesAreTold) (holes_are : HolesAreTold) (right : TableIsRight) (line : Line) (is : IsLine line)

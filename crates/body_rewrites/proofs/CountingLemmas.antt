@@ -12,7 +12,7 @@ use Rattle.peephole_machine.specs.declared.integer.IntegerType.{IntegerType}
 use Rattle.rewrite_rules.specs.declared.rule.Rule.{Rule}
 use Rattle.rewrite_rules.specs.declared.table.Row.{Row}
 use Rattle.rewrite_rules.specs.declared.table.Widths.{Widths}
-use Rattle.rewrite_rules.specs.declared.table.Widths.TheVariants.{Both, Only, Any, Own}
+use Rattle.rewrite_rules.specs.declared.table.Widths.TheVariants.{Both, Only, Any, Operands, Own}
 use Rattle.rewrite_rules.specs.Names.{rule_of}
 use Rattle.rewrite_rules.specs.Rule.{rule_number}
 use Rattle.rewrite_rules.specs.Table.{ROWS}
@@ -219,6 +219,7 @@ by_rows_few at number (row ∷ rows) =
     widths_few Both = omega arith
     widths_few (Only t) = omega arith
     widths_few Any = omega arith
+    widths_few (Operands a b c) = omega arith
     widths_few (Own o) = omega arith
 
 pub asked_few : length ROWS < 65535 → (end : ℕ) → length (asked_below end) ≤ 131070 * end

@@ -7,7 +7,7 @@ use Rattle.peephole_machine.specs.Values.{Context}
 use Rattle.rewrite_rules.specs.declared.table.Own as own_rules
 use Rattle.rewrite_rules.specs.declared.table.Row.{Row}
 use Rattle.rewrite_rules.specs.declared.table.Widths.{Widths}
-use Rattle.rewrite_rules.specs.declared.table.Widths.TheVariants.{Both, Only, Any, Own}
+use Rattle.rewrite_rules.specs.declared.table.Widths.TheVariants.{Both, Only, Any, Operands, Own}
 use Rattle.rewrite_rules.specs.Table.{widths_in}
 use Rattle.body_rewrites.specs.declared.asked.Form.TheVariants as form
 use Rattle.body_rewrites.specs.declared.growth.Growth.{Growth}
@@ -33,6 +33,7 @@ pub makes_by : (context : Context) (operators : Operators) (line : Line) (at : �
 makes_by context operators line at change Both e h = h
 makes_by context operators line at change (Only t) e h = h
 makes_by context operators line at change Any e h = h
+makes_by context operators line at change (Operands a b c) e h = h
 makes_by context operators line at change (Own o) e h = absurd e
 
 pub made_by : (context : Context) (operators : Operators) (line : Line) (at : ℕ) (change : Change) (w : Widths) → IsNotOwn w →
@@ -40,12 +41,14 @@ pub made_by : (context : Context) (operators : Operators) (line : Line) (at : �
 made_by context operators line at change Both e h = h
 made_by context operators line at change (Only t) e h = h
 made_by context operators line at change Any e h = h
+made_by context operators line at change (Operands a b c) e h = h
 made_by context operators line at change (Own o) e h = absurd e
 
 same_widths : (w : Widths) → IsNotOwn w → widths_in w ≡ asked_widths w
 same_widths Both e = refl
 same_widths (Only t) e = refl
 same_widths Any e = refl
+same_widths (Operands a b c) e = refl
 same_widths (Own o) e = absurd e
 
 pub is_line : (number : ℕ) (line : Line) → IsAsked number line → IsNotOwn line.row.widths → IsLine line
@@ -70,6 +73,7 @@ module _ (row : Row) where
       go : (b : Bool) → form.Own o ≡ (if b then form.Alone (doubles row) else form.Other) → Only t ≡ Own o
       go true e = absurd cc
       go false e = absurd cc
+  form_own (Operands a b c) o e = absurd cc
   form_own Any o e = go (are_alone row.left) e
     where
       go : (b : Bool) → form.Own o ≡ (if b then form.Alone (doubles row) else form.Other) → Any ≡ Own o
@@ -85,6 +89,7 @@ module _ (row : Row) where
   pub form_alone : (w : Widths) (d : Bool) → form.Alone d ≡ form_by row w → IsNotOwn w × (are_alone row.left ≡ true) × (d ≡ doubles row)
   form_alone Both d e = let (a, b) = alone_cases d (are_alone row.left) refl e in (tt, a, b)
   form_alone (Only t) d e = let (a, b) = alone_cases d (are_alone row.left) refl e in (tt, a, b)
+  form_alone (Operands a b c) d e = absurd cc
   form_alone Any d e = let (a, b) = alone_cases d (are_alone row.left) refl e in (tt, a, b)
   form_alone (Own o) d e = absurd cc
 

@@ -118,6 +118,7 @@ makes_inside context operators line at change (widths.Own own) h = own_inside co
 makes_inside context operators line at change widths.Both h = let inside = h.is.is.inside in omega arith
 makes_inside context operators line at change (widths.Only t) h = let inside = h.is.is.inside in omega arith
 makes_inside context operators line at change widths.Any h = let inside = h.is.is.inside in omega arith
+makes_inside context operators line at change (widths.Operands a b c) h = let inside = h.is.is.inside in omega arith
 
 -- a rewrite that makes something is one of those that may be asked of its operator
 pub made_is_here : (context : Context) (operators : List (Operator × ℕ)) (r : Rewrite) → IsMade context operators r → Contains (by_rows r.operator 0 ROWS) r

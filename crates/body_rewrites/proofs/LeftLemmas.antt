@@ -8,7 +8,7 @@ use Rattle.std.proofs.lemmas.List.Elements.{All-nil, All-cons, All-head, All-tai
 use Rattle.peephole_machine.specs.declared.integer.IntegerType.{IntegerType}
 use Rattle.rewrite_rules.specs.declared.pattern.Part.{Part}
 use Rattle.rewrite_rules.specs.declared.table.Step.{Step}
-use Rattle.rewrite_rules.specs.declared.table.Step.TheVariants.{Operand, Constant, Drawn, Binary, Compare, Eqz, Select, Whole, End}
+use Rattle.rewrite_rules.specs.declared.table.Step.TheVariants.{Operand, Constant, Drawn, Binary, Compare, Eqz, Select, Whole, Exact, End}
 use Rattle.rewrite_rules.specs.declared.table.Row.{Row}
 use Rattle.rewrite_rules.specs.Numbers.{constant_at}
 use Rattle.rewrite_rules.specs.Parts.{parts_code, PartsAreTheCode}
@@ -55,6 +55,7 @@ module _ (t : IntegerType) where
   own_parts (Eqz ∷ steps) e = All-cons (IsOwn t) _ (parts_for t steps) tt (own_parts steps e)
   own_parts (Select ∷ steps) e = All-cons (IsOwn t) _ (parts_for t steps) tt (own_parts steps e)
   own_parts (Whole f ∷ steps) e = All-cons (IsOwn t) _ (parts_for t steps) tt (own_parts steps e)
+  own_parts (Exact m i ∷ steps) e = All-cons (IsOwn t) _ (parts_for t steps) tt (own_parts steps e)
 
   all_split : (xs ys : List Part) → All (IsOwn t) (xs ++ ys) → All (IsOwn t) xs × All (IsOwn t) ys
   all_split [] ys a = (All-nil (IsOwn t), a)

@@ -11,7 +11,7 @@ use Rattle.rewrite_rules.specs.declared.pattern.Number.TheVariants.{Literal, One
 use Rattle.rewrite_rules.specs.declared.pattern.Part.{Part}
 use Rattle.rewrite_rules.specs.declared.pattern.Part.TheVariants as part
 use Rattle.rewrite_rules.specs.declared.table.Step.{Step}
-use Rattle.rewrite_rules.specs.declared.table.Step.TheVariants.{Operand, Constant, Drawn, Binary, Compare, Eqz, Select, Whole, End}
+use Rattle.rewrite_rules.specs.declared.table.Step.TheVariants.{Operand, Constant, Drawn, Binary, Compare, Eqz, Select, Whole, Exact, End}
 use Rattle.rewrite_rules.specs.declared.table.Condition as asked
 use Rattle.rewrite_rules.specs.declared.table.Condition.TheVariants.{BelowWidth, Power, Mask}
 use Rattle.rewrite_rules.specs.declared.table.Row.{Row}
@@ -107,6 +107,7 @@ module _ (t : IntegerType) where
   hole_in_parts n (Eqz ∷ steps) = hole_in_parts n steps
   hole_in_parts n (Select ∷ steps) = hole_in_parts n steps
   hole_in_parts n (Whole f ∷ steps) = hole_in_parts n steps
+  hole_in_parts n (Exact m i ∷ steps) = hole_in_parts n steps
 
   slot_in_parts : (n : ℕ) (steps : List Step) → slot_in n steps ≡ some_is (λ p. is_slot p n) (parts_for t steps)
   slot_in_parts n [] = refl
@@ -119,6 +120,7 @@ module _ (t : IntegerType) where
   slot_in_parts n (Eqz ∷ steps) = slot_in_parts n steps
   slot_in_parts n (Select ∷ steps) = slot_in_parts n steps
   slot_in_parts n (Whole f ∷ steps) = slot_in_parts n steps
+  slot_in_parts n (Exact m i ∷ steps) = slot_in_parts n steps
 
   drawn_in_parts : (steps : List Step) → plain_steps steps ≡ true → some_is is_drawn (parts_for t steps) ≡ false
   drawn_in_parts [] e = refl
@@ -131,6 +133,7 @@ module _ (t : IntegerType) where
   drawn_in_parts (Eqz ∷ steps) e = drawn_in_parts steps e
   drawn_in_parts (Select ∷ steps) e = drawn_in_parts steps e
   drawn_in_parts (Whole f ∷ steps) e = drawn_in_parts steps e
+  drawn_in_parts (Exact m i ∷ steps) e = drawn_in_parts steps e
 
 few_holes : (n : ℕ) (steps : List Step) → plain_steps steps ≡ true → is_in (holes_for steps) n ≡ true → n < 3
 few_holes n [] e i = absurd (false≢true i)
@@ -148,6 +151,7 @@ few_holes n (Compare f ∷ steps) e i = few_holes n steps e i
 few_holes n (Eqz ∷ steps) e i = few_holes n steps e i
 few_holes n (Select ∷ steps) e i = few_holes n steps e i
 few_holes n (Whole f ∷ steps) e i = few_holes n steps e i
+few_holes n (Exact m j ∷ steps) e i = few_holes n steps e i
 
 -- ---- the last one first
 

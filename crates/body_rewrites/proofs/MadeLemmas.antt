@@ -125,6 +125,8 @@ module _ (lines : LineChangesMayStand) (owns : OwnChangesMayStand) where
   stand context operators number line at change (widths.Only t) asked e is =
       stand_by context operators number line at change (widths.Only t) asked refl e is
   stand context operators number line at change widths.Any asked e is = stand_by context operators number line at change widths.Any asked refl e is
+  stand context operators number line at change (widths.Operands a b c) asked e is =
+      stand_by context operators number line at change (widths.Operands a b c) asked refl e is
   stand context operators number line at change (widths.Own own) asked e is = owns.stand context operators own at change is
 
   inside_by : (context : Context) (operators : Operators) (line : Line) (at : ℕ) (change : Change) (w : Widths) → MakesBy context operators line at change w →
@@ -132,6 +134,7 @@ module _ (lines : LineChangesMayStand) (owns : OwnChangesMayStand) where
   inside_by context operators line at change widths.Both is = line_inside context operators line at change is
   inside_by context operators line at change (widths.Only t) is = line_inside context operators line at change is
   inside_by context operators line at change widths.Any is = line_inside context operators line at change is
+  inside_by context operators line at change (widths.Operands a b c) is = line_inside context operators line at change is
   inside_by context operators line at change (widths.Own own) is = own_inside context operators own is.site.start at is.site.made is.rewrites
 
   one_by : (context : Context) (operators : Operators) (line : Line) (at : ℕ) (change other : Change) (w : Widths) →
@@ -139,6 +142,7 @@ module _ (lines : LineChangesMayStand) (owns : OwnChangesMayStand) where
   one_by context operators line at change other widths.Both a b = one_line_change context operators line at change other a b
   one_by context operators line at change other (widths.Only t) a b = one_line_change context operators line at change other a b
   one_by context operators line at change other widths.Any a b = one_line_change context operators line at change other a b
+  one_by context operators line at change other (widths.Operands a b c) d e = one_line_change context operators line at change other d e
   one_by context operators line at change other (widths.Own own) a b = owns.one context operators own at change other a b
 
   pub changes_may_stand : ChangesMayStand

@@ -7,7 +7,7 @@ use Rattle.peephole_machine.specs.declared.integer.IntegerType.{IntegerType}
 use Rattle.rewrite_rules.specs.declared.pattern.Part.{Part}
 use Rattle.rewrite_rules.specs.declared.pattern.Part.TheVariants.{Hole}
 use Rattle.rewrite_rules.specs.declared.table.Step.{Step}
-use Rattle.rewrite_rules.specs.declared.table.Step.TheVariants.{Operand, Constant, Drawn, Binary, Compare, Eqz, Select, Whole, End}
+use Rattle.rewrite_rules.specs.declared.table.Step.TheVariants.{Operand, Constant, Drawn, Binary, Compare, Eqz, Select, Whole, Exact, End}
 use Rattle.rewrite_rules.specs.Table.{part_for, parts_for}
 
 module _ (t : IntegerType) where
@@ -22,6 +22,7 @@ module _ (t : IntegerType) where
   few_parts (Eqz ∷ steps) = let l = few_parts steps in omega arith
   few_parts (Select ∷ steps) = let l = few_parts steps in omega arith
   few_parts (Whole f ∷ steps) = let l = few_parts steps in omega arith
+  few_parts (Exact m i ∷ steps) = let l = few_parts steps in omega arith
 
   part_there : (steps : List Step) (k : ℕ) (d : Step) → k < length (parts_for t steps) → slice_get (parts_for t steps) k ≡ part_for t (slice_index_or steps k d)
   part_there [] k d l = absurd (omega arith)
@@ -34,6 +35,7 @@ module _ (t : IntegerType) where
   part_there (Eqz ∷ steps) zero d l = refl
   part_there (Select ∷ steps) zero d l = refl
   part_there (Whole f ∷ steps) zero d l = refl
+  part_there (Exact m i ∷ steps) zero d l = refl
   part_there (Operand n ∷ steps) (suc k) d l = part_there steps k d (omega arith)
   part_there (Constant e ∷ steps) (suc k) d l = part_there steps k d (omega arith)
   part_there (Drawn ∷ steps) (suc k) d l = part_there steps k d (omega arith)
@@ -42,6 +44,7 @@ module _ (t : IntegerType) where
   part_there (Eqz ∷ steps) (suc k) d l = part_there steps k d (omega arith)
   part_there (Select ∷ steps) (suc k) d l = part_there steps k d (omega arith)
   part_there (Whole f ∷ steps) (suc k) d l = part_there steps k d (omega arith)
+  part_there (Exact m i ∷ steps) (suc k) d l = part_there steps k d (omega arith)
 
 reversed_at : (ps : List Part) (n : ℕ) → n < length ps → slice_get (reverse ps) n ≡ slice_get ps (length ps - 1 - n)
 reversed_at ps n l =

@@ -125,6 +125,7 @@ module _ (right : TableIsRight) (holes_are : HolesAreTold) (line : Line) (is : I
                 ∙ number_found context operators line.width y nums n parts starts end cut alike plain.own (plain.slots n there))
                 ∙ there.as_asked;
             moves = there.moves;
+            exact = there.exact;
           }
 
   module _ (context : Context) (operators : Operators) (starts : List ℕ) (end : ℕ) (cut : AreCut context operators parts starts end) where
@@ -167,10 +168,11 @@ module _ (right : TableIsRight) (holes_are : HolesAreTold) (line : Line) (is : I
       anywhere (suc (suc zero)) = inside 2 (omega arith)
       anywhere (suc (suc (suc n))) = outside (suc (suc (suc n))) (omega arith)
 
-      pub are_found : AreFound context x line.row line.width types effects
-      are_found = record {
+      pub are_found : (exact : Bool) → exact ≡ context.info.exact → AreFound context x line.row line.width types effects exact
+      are_found exact is = record {
         types_are = λ n. subst (λ b. IsTypeIn context (x n) b (option_flatten (slice_get types n))) (sym (has n)) (anywhere n).0;
         effects_are = λ n. (anywhere n).1;
+        exact_is = is;
       }
 
     -- ---- the place

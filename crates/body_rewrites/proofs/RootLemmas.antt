@@ -12,7 +12,7 @@ use Rattle.rewrite_rules.specs.declared.pattern.Operator.TheVariants.{Whole}
 use Rattle.rewrite_rules.specs.declared.table.Own as own_rules
 use Rattle.rewrite_rules.specs.declared.table.Own.TheVariants.{Unfold, ThroughGlobal, WithNop, Fold, Forget, TeeToSet, DropNop, SetToTee}
 use Rattle.rewrite_rules.specs.declared.table.Widths.{Widths}
-use Rattle.rewrite_rules.specs.declared.table.Widths.TheVariants.{Both, Only, Any, Own}
+use Rattle.rewrite_rules.specs.declared.table.Widths.TheVariants.{Both, Only, Any, Operands, Own}
 use Rattle.rewrite_rules.specs.Instance.{row_number, constant_code, operator_code}
 use Rattle.rewrite_rules.specs.Beside.{nop_code, drop_code, get_local, tee_local}
 use Rattle.body_rewrites.specs.declared.own.Made.{Made}
@@ -103,6 +103,7 @@ module _ (context : Context) (operators : Operators) (at : ℕ) where
   makes_by line change Both h = line_at line change h
   makes_by line change (Only t) h = line_at line change h
   makes_by line change Any h = line_at line change h
+  makes_by line change (Operands a b c) h = line_at line change h
 
   both_true : (a b : Bool) → a ≡ true → b ≡ true → (a && b) ≡ true
   both_true true b e h = h

@@ -6,7 +6,7 @@ use Rattle.rewrite_rules.specs.declared.table.Row.{Row}
 use Rattle.rewrite_rules.specs.declared.table.Step.{Step}
 use Rattle.rewrite_rules.specs.declared.table.Step.TheVariants.{Operand, End}
 use Rattle.rewrite_rules.specs.declared.table.Widths.{Widths}
-use Rattle.rewrite_rules.specs.declared.table.Widths.TheVariants.{Own}
+use Rattle.rewrite_rules.specs.declared.table.Widths.TheVariants.{Operands, Own}
 use Rattle.rewrite_rules.specs.Holes.{holes_for}
 use Rattle.body_rewrites.specs.declared.asked.Form.{Form}
 use Rattle.body_rewrites.specs.declared.asked.Form.TheVariants as form
@@ -26,6 +26,7 @@ doubles row = nat_lt 1 (length (holes_for row.right))
 -- what a row's lines are
 abbrev pub form_by : Row → Widths → Form
 form_by row (Own o) = form.Own o
+form_by row (Operands a b c) = form.Other
 form_by row widths = if are_alone row.left then form.Alone (doubles row) else form.Other
 
 abbrev pub form_of : Row → Form

@@ -34,6 +34,9 @@ pub(crate) fn form_of(row: &Row) -> Form
     if let Widths::Own(own) = row.widths {
         return Form::Own(own);
     }
+    if let Widths::Operands(_, _, _) = row.widths {
+        return Form::Other;
+    }
     if are_alone(&row.left) {
         return Form::Alone(doubles(row));
     }

@@ -10,7 +10,7 @@ use crate::rewrite::Rewrite;
 use crate::root::Root;
 use crate::roots::root_of;
 use peephole_machine::IntegerType;
-use rewrite_rules::{Own, Row, Widths, row_at, row_count};
+use rewrite_rules::{Own, Row, Widths, row_at, row_count, width_by};
 use std::alloc::{AllocError, Global};
 
 /// What a line is, by which it is asked.
@@ -57,6 +57,7 @@ fn widths_of(widths: Widths) -> (IntegerType, Option<IntegerType>)
         Widths::Both => (IntegerType::I32, Some(IntegerType::I64)),
         Widths::Only(width) => (width, None),
         Widths::Any => (IntegerType::I32, None),
+        Widths::Operands(first, _, _) => (width_by(first), None),
         Widths::Own(_) => (IntegerType::I32, None),
     }
 }

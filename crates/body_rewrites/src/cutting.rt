@@ -32,11 +32,9 @@ fn number_of(instr: &Instr, t: IntegerType) -> Option<u64>
 fn is_operator(instr: &Instr, operator: Operator) -> bool
     ensures { IsTrue result ↔ (instr.now ≡ operator_code operator) }
 {
-    let row = instr.row();
-    match instr.imm() {
-        Imm::Nothing => row == operator.row(),
-        _ => false,
-    }
+    let same_row = instr.row() == operator.row();
+    let same_immediate = instr.imm() == operator.immediate();
+    same_row && same_immediate
 }
 
 // The tree of the operator at the index, if it has one.

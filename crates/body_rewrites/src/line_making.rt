@@ -18,7 +18,8 @@ pub(crate) fn changes(
     end: usize,
     place: &Place,
 ) -> bool
-    requires { IsSomePlaceOf operators.now line.now end place.now }
+    requires line { IsLine line.now }
+    requires place { IsSomePlaceOf operators.now line.now end place.now }
     ensures { IsTrue result
         ↔ Differ operators.now place.now.start end ((by_line line.now place.now).pieces 0) }
 {

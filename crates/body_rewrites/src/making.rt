@@ -22,5 +22,6 @@ pub fn made(body: &Body<'_>, line: &Line, at: usize, word: u64) -> Option<NewCod
         Widths::Both => line_made(body, line, at, word),
         Widths::Only(_) => line_made(body, line, at, word),
         Widths::Any => line_made(body, line, at, word),
+        Widths::Operands(_, _, _) => line_made(body, line, at, word),
     }
 }

@@ -118,6 +118,14 @@ fn start_of(starts: &[usize], end: usize) -> usize
     }
 }
 
+// Whether what runs the body's module is exact.
+fn is_exact(body: &Body<'_>) -> bool
+    ensures { result ≡ (context_of body.now).info.exact }
+{
+    let info = body.info;
+    info.exact
+}
+
 /// Where the line stands in the body before `end`, and applies; none where it doesn't. The operands in its holes are trees.
 ///
 /// It takes time linear in what stands in a hole that stands twice, and else none that depends on the body.
@@ -145,6 +153,7 @@ pub fn place_of(body: &Body<'_>, line: &Line, end: usize) -> Option<Place>
         types: &known.types,
         effects: &known.effects,
         numbers: &found.numbers,
+        exact: is_exact(body),
     };
     if !line.row.applies(line.width, &told) {
         return None;

@@ -14,7 +14,7 @@ use crate::places::{Body, Line};
 use crate::rewrite::Rewrite;
 use body_splices::splice;
 use peephole_machine::IntegerType;
-use rewrite_rules::{Widths, row_at};
+use rewrite_rules::{Widths, row_at, width_by};
 use std::alloc::{AllocError, Global};
 use wasm_code::{Function, SinkError};
 use wasm_types::PrimitiveTypeInfo;
@@ -28,6 +28,7 @@ fn is_asked(widths: Widths, width: IntegerType) -> bool
         (Widths::Both, _) => true,
         (Widths::Only(one), _) => one == width,
         (Widths::Any, _) => width == IntegerType::I32,
+        (Widths::Operands(first, _, _), _) => width == width_by(first),
         (Widths::Own(_), _) => width == IntegerType::I32,
     }
 }

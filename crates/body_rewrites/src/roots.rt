@@ -104,6 +104,7 @@ pub(crate) fn root_of(line: &Line) -> Root
         Widths::Both => left_root(line),
         Widths::Only(_) => left_root(line),
         Widths::Any => left_root(line),
+        Widths::Operands(_, _, _) => left_root(line),
     }
 }
 

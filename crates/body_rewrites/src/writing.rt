@@ -4,7 +4,10 @@ ghost use Rattle.peephole_machine.specs.declared.integer.IntegerType.TheVariants
 ghost use Rattle.rewrite_rules.specs.Instance.{constant_code, operator_code};
 ghost use Rattle.rewrite_rules.specs.Numbers.{constant_at, first_word};
 ghost use Rattle.rewrite_rules.specs.Parts.{draws};
-ghost use Rattle.rewrite_rules.specs.Table.{parts_for};
+ghost use Rattle.rewrite_rules.specs.Table.{parts_for, IsInstruction};
+ghost use Rattle.rewrite_rules.specs.declared.pattern.Part.TheVariants.{Apply};
+ghost use Rattle.std.specs.List.{All};
+ghost use Rattle.body_rewrites.specs.Places.{IsLine};
 ghost use Rattle.body_rewrites.specs.Changes.{IsWritten};
 ghost use Rattle.body_rewrites.specs.Writing.{piece_for, side_pieces, by_line};
 
@@ -13,6 +16,7 @@ use crate::places::{Line, Place};
 use arrayvec::ArrayVec;
 use body_splices::Piece;
 use peephole_machine::IntegerType;
+use rewrite_rules::laws::parts_are_instructions;
 use rewrite_rules::{Operator, Part, Side};
 use wasm_code::{Imm, Instr};
 
@@ -48,7 +52,8 @@ pub(crate) fn constant_of(t: IntegerType, number: u64) -> Instr
 }
 
 // The operator's instruction.
-pub(crate) fn operator_of(operator: Operator) -> Instr
+fn operator_of(operator: Operator) -> Instr
+    requires { IsInstruction (Apply operator) }
     ensures { result ≡ operator_code operator }
 {
     match Instr::new(operator.row(), operator.immediate()) {
@@ -77,6 +82,7 @@ fn first_of(words: &[u64]) -> u64
 
 // The piece that a part of the right side is.
 fn piece_of(part: Part, place: &Place, words: &[u64]) -> Piece
+    requires { IsInstruction part }
     ensures { result ≡ piece_for place.now.operands (constant_at place.now.numbers) words.now part }
 {
     match part {
@@ -102,6 +108,7 @@ fn words_after(part: Part, words: &[u64]) -> &[u64]
 
 // The pieces of a side for the width.
 fn pieces_of(side: &Side, width: IntegerType, place: &Place, word: u64) -> ArrayVec<Piece, 7>
+    requires { All IsInstruction (parts_for width side.now) }
     ensures { result.items ≡ side_pieces place.now.operands
         (constant_at place.now.numbers) (word ∷ []) (parts_for width side.now) }
 {
@@ -120,8 +127,10 @@ fn pieces_of(side: &Side, width: IntegerType, place: &Place, word: u64) -> Array
 
 /// What the line writes in its place, by the word.
 pub(crate) fn line_code(line: &Line, place: &Place, word: u64) -> NewCode
+    requires { IsLine line.now }
     ensures { IsWritten (by_line line.now place.now) word result }
 {
+    parts_are_instructions();
     NewCode {
         start: place.start,
         pieces: pieces_of(&line.row.right, line.width, place, word),

@@ -30,5 +30,5 @@ pub use names::{all_rules, rule_count, rule_names, rules_of_rows};
 pub use order::{Effects, may_move};
 pub use pattern::{Number, Operator, Part};
 pub use rule::{Rule, UnknownRule};
-pub use table::{Condition, Own, Row, Side, Step, Widths};
+pub use table::{Condition, Own, Row, Side, Step, Widths, width_by};
 pub use texts::Term;

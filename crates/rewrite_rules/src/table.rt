@@ -4,7 +4,7 @@
 //! on numbers for each.
 
 ghost use Rattle.std.specs.Prelude.{◌≡◌};
-ghost use Rattle.rewrite_rules.specs.Table.{part_for};
+ghost use Rattle.rewrite_rules.specs.Table.{part_for, width_by};
 
 use crate::pattern::{Number, Operator, Part};
 use peephole_machine::{Binary, Comparison, IntegerType, Operation};
@@ -73,6 +73,16 @@ pub enum Widths {
     Operands(PrimitiveTypeInfo, PrimitiveTypeInfo, PrimitiveTypeInfo),
     /// For none: it is no row, but a rule that stands beside the table.
     Own(Own),
+}
+
+/// The type of the integers with as many bits as a number of the type, or with 32 where there are none.
+pub fn width_by(t: PrimitiveTypeInfo) -> IntegerType
+    ensures { result ≡ width_by t }
+{
+    match t {
+        PrimitiveTypeInfo::I64 | PrimitiveTypeInfo::F64 => IntegerType::I64,
+        _ => IntegerType::I32,
+    }
 }
 
 /// A rule that stands beside the table: it is no row, since what it asks of numbers, or what it writes, is none of a row's.

@@ -8,12 +8,12 @@ use Rattle.body_rewrites.proofs.line_making.changes.Goals as goal
 
 pub differ-requires-clause-code : goal.differ-requires-clause-code
 differ-requires-clause-code c =
-    let (context, found) = c.requires in
+    let (context, found) = c.requires.place in
     subst (λ s. AreInstructions c.args.operators.now s c.args.end) (sym c.line_code-code.ensures.start_is)
     (instructions_there context c.args.operators.now c.args.line.now c.args.end c.args.place.now found)
 
 pub differ-requires-clause-pieces : goal.differ-requires-clause-pieces
 differ-requires-clause-pieces c =
-    let (context, found) = c.requires in
+    let (context, found) = c.requires.place in
     subst (All (IsKept c.args.operators.now)) (sym (c.deref.ensures.0 ∙ c.line_code-code.ensures.pieces_are))
     (line_pieces_kept context c.args.operators.now c.args.line.now c.args.end c.args.place.now 0 found)

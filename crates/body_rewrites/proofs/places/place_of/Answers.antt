@@ -48,7 +48,7 @@ returns-then-not-applies-clause-none c = λ (start, x, numbers, is).
     let match = subst (λ l. HasMatch context operators parts l c.args.end c.in-Some.found.numbers) (sym c.as_slice-starts.ensures.value) (some context trees) in
     let known = c.known_of-known.ensures context operators trees match.0.cut in
     let found = place.are_found c.table_is_right.ensures c.holes_are_told.ensures c.args.line.now line parts parts_are context operators starts c.args.end
-    match.0.cut c.known_of-known.result.types c.known_of-known.result.effects known in
+    match.0.cut c.known_of-known.result.types c.known_of-known.result.effects known c.is_exact.result c.is_exact.ensures in
     let applies = place.applies_to c.table_is_right.ensures c.holes_are_told.ensures c.args.line.now line parts parts_are context operators
     c.sides_are_parts.ensures c.parts_are_the_code.ensures c.args.end start x numbers is starts match.0.cut c.in-Some.found.numbers match.0 in
     absurd (false≢true (sym c.if-not-applies.true ∙ c.applies.ensures.only context (operand_code operators parts starts c.args.end) found applies))
@@ -74,7 +74,7 @@ returns-clause-some c =
     let match = subst (λ l. HasMatch context operators parts l c.args.end c.in-Some.found.numbers) (sym c.as_slice-starts.ensures.value) (some context trees) in
     let known = c.known_of-known.ensures context operators trees match.0.cut in
     let found = place.are_found c.table_is_right.ensures c.holes_are_told.ensures c.args.line.now line parts parts_are context operators starts c.args.end
-    match.0.cut c.known_of-known.result.types c.known_of-known.result.effects known in
+    match.0.cut c.known_of-known.result.types c.known_of-known.result.effects known c.is_exact.result c.is_exact.ensures in
     let applies = c.applies.ensures.same c.if-not-applies.false context (operand_code operators parts starts c.args.end) found in
     place.is_place c.table_is_right.ensures c.holes_are_told.ensures c.args.line.now line parts parts_are context operators starts c.args.end
     match.0.cut c.lefts_are_instances.ensures c.requires.inside
