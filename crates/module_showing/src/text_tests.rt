@@ -1,6 +1,6 @@
 //! Texts of operators, as the standard's text format has them.
 
-use crate::names::instruction_name;
+use instruction_names::instruction_name;
 use crate::texts::Text;
 use std::alloc::{AllocError, Global};
 use std::test::Fail;

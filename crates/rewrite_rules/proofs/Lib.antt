@@ -22,6 +22,7 @@ pub mod MovingLemmas
 pub mod ToldLemmas
 pub mod HoleLemmas
 pub mod ExactStepLemmas
+pub mod ExactSamples
 pub mod InstructionLemmas
 pub mod GrowingLemmas
 pub mod ApplyingLemmas

@@ -50,7 +50,9 @@ impl Step {
             Step::Eqz => Operation::Eqz(width),
             Step::Whole(operation) => operation,
             Step::Select => return Some(Part::Apply(Operator::Select)),
-            Step::Exact(row, immediate) => return Some(Part::Apply(Operator::Exact(row, immediate))),
+            Step::Exact(row, immediate) => return Some(Part::Apply(Operator::Exact(
+                row, immediate,
+            ))),
             Step::End => return None,
         };
         Some(Part::Apply(Operator::Whole(operation)))

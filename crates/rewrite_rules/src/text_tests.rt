@@ -1,7 +1,10 @@
 //! The texts of rows, and what they do to the number of instructions.
 
-use crate::{Growth, row_at};
+use crate::{Growth, Number, Row, Step, Widths, row_at};
+use peephole_machine::{Binary, IntegerType, Operation};
 use std::test::Fail;
+use wasm_code::Imm;
+use wasm_types::PrimitiveTypeInfo;
 
 /// Numbers of rows, and their texts.
 const TEXTS: [(usize, &str); 33] = [
@@ -77,6 +80,85 @@ fn tells_growths(rt: HostRuntime) -> Result<(), Fail> {
     for (number, expected) in GROWTHS {
         let row = row_at(number).expect(&rt, "it is a row's number");
         assert!(rt; row.growth() == expected, "row {number}");
+    }
+    Ok(())
+}
+
+// The row for operands of two types, with sides of at most four steps.
+fn exact_row(
+    types: (PrimitiveTypeInfo, PrimitiveTypeInfo),
+    left: [Step; 4],
+    right: [Step; 4],
+) -> Row {
+    let end = Step::End;
+    let [a, b, c, d] = left;
+    let [e, f, g, h] = right;
+    Row {
+        widths: Widths::Operands(types.0, types.1, types.1),
+        condition: None,
+        left: [a, b, c, d, end, end, end],
+        right: [e, f, g, h, end, end, end],
+    }
+}
+
+/// Rows with operators on floats and vectors, which the table doesn't have: their texts, what they do to the number of instructions.
+#[test]
+fn prints_exact_rows(rt: HostRuntime) -> Result<(), Fail> {
+    let x = Step::Operand(0);
+    let end = Step::End;
+    let f32_neg = Step::Exact(111, Imm::Nothing);
+    let bits = Step::Exact(159, Imm::Nothing);
+    let float = Step::Exact(161, Imm::Nothing);
+    let sign = Step::Constant(Number::Literal(0x8000_0000));
+    let xor = Step::Whole(Operation::Binary(IntegerType::I32, Binary::Xor));
+    let f32 = (PrimitiveTypeInfo::F32, PrimitiveTypeInfo::F32);
+    let lane = (PrimitiveTypeInfo::V128, PrimitiveTypeInfo::I32);
+    let rows = [
+        (
+            exact_row(f32, [x, f32_neg, f32_neg, end], [x, end, end, end]),
+            "f32: f32.neg (f32.neg x) → x",
+            Growth::Shrinks,
+        ),
+        (
+            exact_row(f32, [x, bits, sign, xor], [x, f32_neg, bits, end]),
+            "f32: i32.xor (i32.reinterpret_f32 x) 2147483648 → i32.reinterpret_f32 (f32.neg x)",
+            Growth::Shrinks,
+        ),
+        (
+            exact_row(f32, [x, bits, float, end], [x, f32_neg, f32_neg, end]),
+            "f32: f32.reinterpret_i32 (i32.reinterpret_f32 x) → f32.neg (f32.neg x)",
+            Growth::Keeps,
+        ),
+        (
+            exact_row(
+                lane,
+                [
+                    x,
+                    Step::Operand(1),
+                    Step::Exact(212, Imm::Lane(3)),
+                    Step::Exact(211, Imm::Lane(3)),
+                ],
+                [Step::Operand(1), end, end, end],
+            ),
+            "v128: i8x16.extract_lane_u 3 (i8x16.replace_lane 3 x y) → y",
+            Growth::Shrinks,
+        ),
+    ];
+    for (row, expected, growth) in rows {
+        let text = format!(in rt.alloc(); "{row}")?;
+        assert!(rt; text.as_str() == expected, "{row}");
+        assert!(rt; row.growth() == growth, "{row}");
+        assert!(rt; row.needs_exact(), "{row}");
+    }
+    Ok(())
+}
+
+/// No row of the table has such an operator.
+#[test]
+fn no_row_needs_exact_rows(rt: HostRuntime) -> Result<(), Fail> {
+    for number in 0..crate::row_count() {
+        let row = row_at(number).expect(&rt, "it is a row's number");
+        assert!(rt; !row.needs_exact(), "row {number}");
     }
     Ok(())
 }

@@ -22,9 +22,9 @@ loop-i-preserved c =
     let here = c.loop-i.invariant ∙ ap (select_type kinds i) (drop-cons types i None c.loop-i-test.true) in
     let next : suc i ≡ i + 1 = omega arith in
     subst (λ k. select_type kinds 0 types ≡ select_type kinds k (drop k types)) next (elim c.match-types-i.branch [
-      in-Some+else-is_none w ↦
-        here
-        ∙ (ap (λ o. select_type kinds i (o ∷ drop (suc i) types)) w.in-Some.is
-        ∙ has_own kinds i w.in-Some.t (drop (suc i) types) w.fixed_type.result w.fixed_type.ensures (w.is_none.ensures ∙ ap not w.if-is_none.false))
+      | in-Some+else-is_none w ↦
+          here
+          ∙ (ap (λ o. select_type kinds i (o ∷ drop (suc i) types)) w.in-Some.is
+          ∙ has_own kinds i w.in-Some.t (drop (suc i) types) w.fixed_type.result w.fixed_type.ensures (w.is_none.ensures ∙ ap not w.if-is_none.false))
       | in_default w ↦ here ∙ ap (λ o. select_type kinds i (o ∷ drop (suc i) types)) w.in_default.is
     ])
