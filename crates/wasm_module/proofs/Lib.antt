@@ -13,6 +13,7 @@ pub mod AgainLemmas
 pub mod AgainPieces
 pub mod RereadLemmas
 pub mod OneLemmas
+pub mod OneTextLemmas
 pub mod ListedLemmas
 pub mod SizeLemmas
 pub mod StaysLemmas

@@ -8,6 +8,7 @@ ghost use Rattle.wasm_sections.specs.declared.fault.ModuleFault.{ModuleFault};
 ghost use Rattle.wasm_sections.specs.declared.fault.ModuleFault.TheVariants.{Memory};
 ghost use Rattle.wasm_module.specs.Fault.{IsModuleFault};
 ghost use Rattle.wasm_module.specs.Inside.{IsInside};
+ghost use Rattle.wasm_module.specs.Limits.{IsTooLarge};
 ghost use Rattle.wasm_module.specs.Rewritten.{IsRewritten};
 ghost use Rattle.wasm_types.specs.declared.types.PrimitiveTypeInfo.TheVariants as primitives;
 ghost use Rattle.wasm_module.specs.Reread.{IsReread};
@@ -21,7 +22,8 @@ ghost use Rattle.wasm_module.specs.Instance.{Making, IsMadeOf, with_more_globals
 use wasm_code::laws::shortest_is_a_spelling;
 use wasm_declarations::laws::{lists_have_no_fault, one_list};
 use wasm_sections::laws::{
-    modules_have_no_section_fault, one_module, other_sections_stay, sections_fill_the_module,
+    modules_have_no_section_fault, one_module, one_place, other_sections_stay,
+    sections_fill_the_module,
 };
 
 /// Each entry of a module's code lies inside its bytes.
@@ -53,6 +55,20 @@ pub fn rewritten_bytes_are_a_module()
         → IsReread bytes info layout n contents more new }
 {
     shortest_is_a_spelling();
+}
+
+/// A module with other contents of a code entry and with more globals is one text, or it is too large to be written.
+pub fn one_rewritten_module()
+    ensures one { (bytes : List ℕ) (layout : Layout) (n : ℕ) (contents : List ℕ)
+        (more : List PrimitiveTypeInfo) (new other : List ℕ)
+        → IsRewritten bytes layout n contents more new
+        → IsRewritten bytes layout n contents more other → new ≡ other }
+    ensures fits { (bytes : List ℕ) (info : Module) (layout : Layout) (n : ℕ)
+        (contents : List ℕ) (more : List PrimitiveTypeInfo) (new : List ℕ)
+        → IsModule bytes info layout → IsRewritten bytes layout n contents more new
+        → ¬ (IsTooLarge bytes layout n contents more) }
+{
+    one_place();
 }
 
 /// Bytes are one module at most: what is known of it, and where things stand in it, follow from them.
