@@ -28,6 +28,7 @@ pub mod DifferingLemmas
 pub mod LineMakingLemmas
 pub mod GrowingLemmas
 pub mod RandomLemmas
+pub mod OneBodyLemmas
 pub mod OwnFindLemmas
 pub mod OwnFoldLemmas
 pub mod OwnCodeLemmas

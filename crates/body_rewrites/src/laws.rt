@@ -3,6 +3,7 @@
 ghost use Rattle.std.specs.Prelude.{◌≡◌, ◌<◌, ◌^◌, ℕ, List, Contains, length};
 ghost use Rattle.rand_core.specs.Stream.{Stream};
 ghost use Rattle.wasm_code.specs.declared.operator.Operator.{Operator};
+ghost use Rattle.wasm_types.specs.declared.types.PrimitiveTypeInfo.{PrimitiveTypeInfo};
 ghost use Rattle.peephole_machine.specs.Values.{Context};
 ghost use Rattle.rewrite_rules.specs.declared.rule.Rule.{Rule};
 ghost use Rattle.body_rewrites.specs.declared.growth.Growth.{Growth};
@@ -14,6 +15,7 @@ ghost use Rattle.body_rewrites.specs.Changed.{ChangedBodiesDoAsBefore};
 ghost use Rattle.body_rewrites.specs.MadeLaws.{ChangesMayStand};
 ghost use Rattle.body_rewrites.specs.Listing.{AreThose, IsBy, OneChange};
 ghost use Rattle.body_rewrites.specs.LineChanges.{LineChangesMayStand};
+ghost use Rattle.body_rewrites.specs.Random.{AppendsByWords, HasNoRewrite};
 ghost use Rattle.body_rewrites.specs.Trees.{TreesLeave};
 ghost use Rattle.body_rewrites.specs.Matching.{MatchesAreTheCode, LeftsAreInstances};
 
@@ -110,6 +112,23 @@ pub fn words_choose_one_rewrite()
         → Chooses context stream rules operators r → Chooses context stream rules operators q
         → r ≡ q }
 {}
+
+/// A generator's words write one body at most: with one rewrite, one text and one list of globals that it asks for, and they leave the
+/// generator at one place (`one`). Where there is no rewrite of a body, no words choose one (`none`).
+pub fn words_write_one_body()
+    ensures one { (context : Context) (stream : Stream) (rules : List Rule) (input : List ℕ)
+        (operators : List (Operator × ℕ)) (r q : Rewrite) (old new other : List ℕ)
+        (asks others : List PrimitiveTypeInfo) (after later : Stream)
+        → AppendsByWords context stream rules input operators r old new asks after
+        → AppendsByWords context stream rules input operators q old other others later
+        → (r ≡ q) × (new ≡ other) × (asks ≡ others) × (after ≡ later) }
+    ensures none { (context : Context) (stream : Stream) (rules : List Rule)
+        (operators : List (Operator × ℕ)) (r : Rewrite) → HasNoRewrite context rules operators
+        → ¬ (Chooses context stream rules operators r) }
+{
+    one_change();
+    words_choose_one_rewrite();
+}
 
 /// Every rewrite that makes something is among those that may be asked of the body.
 pub fn rewrites_are_asked()

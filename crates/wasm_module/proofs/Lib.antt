@@ -4,6 +4,7 @@ pub mod HeldLemmas
 pub mod FindLemmas
 pub mod NewGlobalLemmas
 pub mod InsideLemmas
+pub mod EntrySumLemmas
 pub mod CountLemmas
 pub mod ModuleLemmas
 pub mod RoomLemmas

@@ -1,5 +1,6 @@
 //! Laws on modules: functions that do nothing, and whose contracts hold for all values.
-ghost use Rattle.std.specs.Prelude.{◌≡◌, ◌≢◌, ℕ, List, All, Some, None, slice_get};
+ghost use Rattle.std.specs.Prelude.{◌≡◌, ◌≢◌, ◌-◌, ◌≤◌, ℕ, List, All, Some, None, length, slice_get};
+ghost use Rattle.std.specs.List.{sum_by};
 ghost use Rattle.wasm_types.specs.Module.{Module};
 ghost use Rattle.wasm_declarations.specs.declared.entries.Entry.{Entry};
 ghost use Rattle.wasm_module.specs.Module.{Layout, IsModule};
@@ -31,6 +32,14 @@ pub fn entries_are_inside()
     ensures { (bytes : List ℕ) (info : Module) (layout : Layout) (n : ℕ) (entry : Entry)
         → IsModule bytes info layout → slice_get layout.entries n ≡ Some entry
         → IsInside bytes entry }
+{
+    sections_fill_the_module();
+}
+
+/// The entries of a module's code contain no more bytes than it has.
+pub fn entries_fit_the_module()
+    ensures { (bytes : List ℕ) (info : Module) (layout : Layout) → IsModule bytes info layout
+        → sum_by (λ (entry : Entry). entry.end - entry.contents) layout.entries ≤ length bytes }
 {
     sections_fill_the_module();
 }
