@@ -15,7 +15,7 @@ use Rattle.body_rewrites.specs.declared.rewrite.Rewrite.{Rewrite}
 use Rattle.module_rewrites.specs.Chosen.{ChoosesBy, ChoosesOfModule, FindsEntry, GivesUp, GivesUpInOrder, GivesUpOn, TriesInVain}
 use Rattle.module_rewrites.specs.ChosenTimes.{ChoosesEach, ChoosesTimes}
 use Rattle.module_rewrites.specs.Drawing.{EachInVain, IsFirstBefore, IsFirstBehind, NamesEntry, by_word, contents_length, in_order}
-use Rattle.module_rewrites.specs.Mutated.{CannotMutate, HasNoMutation, IsChosen, IsOfSize}
+use Rattle.module_rewrites.specs.Mutated.{CannotMutate, HasNoMutation, IsChosen, IsOfSize, RefusesChosenEntry, RefusesEntry, RefusesMutation}
 use Rattle.module_rewrites.specs.Mutates.{EndsFor, Mutates}
 use Rattle.module_rewrites.specs.Scope.{Scope}
 use Rattle.module_rewrites.specs.Stopped.{HadMemory}
@@ -130,6 +130,20 @@ module _ (one : OneWriting) (scope : Scope) (bytes : List ℕ) (info : Module) (
       lacks one scope.rules bytes info layout c.found c.n r c.makes.contents c.makes.more after
       (none c.n (inside c.found c.n (ends c.found c.n r new after c.makes)) (found_is_chosen only s c.n c.found c.finds)) c.makes.writes
 
+module _ (one : OneWriting) (scope : Scope) (bytes : List ℕ) (info : Module) (layout : Layout) where
+  -- nor is one that doesn't fit
+  pub written_apart : (e : MutationError) (n : ℕ) → n < length layout.entries → IsChosen scope.function (layout.imported_functions + n) → IsOfSize e →
+      RefusesEntry scope bytes info layout n e →
+      ((n : ℕ) → n < length layout.entries → IsChosen scope.function (layout.imported_functions + n) → HasNoMutation scope.rules bytes info layout n) → ⊥
+  written_apart (mutations.Read e) n inside chosen size w none = size
+  written_apart mutations.Memory n inside chosen size w none = size
+  written_apart (mutations.Write writes.TooLarge) n inside chosen size w none =
+      lacks one scope.rules bytes info layout w.s n w.rewrite w.contents w.more w.after (none n inside chosen) w.writes
+  written_apart (mutations.Write writes.EmptyType) n inside chosen size w none = size
+  written_apart (mutations.Write writes.Memory) n inside chosen size w none = size
+  written_apart mutations.TooLong n inside chosen size w none =
+      lacks one scope.rules bytes info layout w.s n w.rewrite w.contents w.more w.after (none n inside chosen) w.writes
+
 -- ---- of a module
 
 abbrev pub OneModule : Type 0
@@ -170,6 +184,18 @@ module _ (one : OneWriting) (reading : OneModule) (fit : EntriesFit) (scope : Sc
       let there = subst (λ (p : Module × Layout). (n : ℕ) → n < length p.1.entries → IsChosen scope.function (p.1.imported_functions + n) →
       HasNoMutation scope.rules bytes p.0 p.1 n) (alike bytes c.info g.info c.layout g.layout c.is g.is) g.none in
       cannot_apart one scope bytes c.info c.layout c.is (few_bytes bytes c.info c.layout c.is few) scope.function s f r new after c.chooses there
+
+  chosen_apart : (bytes : List ℕ) (e : MutationError) → IsOfSize e → RefusesChosenEntry scope bytes e → CannotMutate scope bytes → ⊥
+  chosen_apart bytes e size r g =
+      let there = subst (λ (p : Module × Layout). (n : ℕ) → n < length p.1.entries → IsChosen scope.function (p.1.imported_functions + n) →
+      HasNoMutation scope.rules bytes p.0 p.1 n) (alike bytes r.info g.info r.layout g.layout r.is g.is) g.none in
+      written_apart one scope bytes r.info r.layout e r.n r.inside r.chosen size r.refuses there
+
+  pub refused_apart : (bytes : List ℕ) (e : MutationError) → IsOfSize e → RefusesMutation scope bytes e → CannotMutate scope bytes → ⊥
+  refused_apart bytes (mutations.Read e) size r g = size
+  refused_apart bytes mutations.Memory size r g = size
+  refused_apart bytes (mutations.Write e) size r g = chosen_apart bytes (mutations.Write e) size r g
+  refused_apart bytes mutations.TooLong size r g = chosen_apart bytes mutations.TooLong size r g
 
   -- ---- one after another
 

@@ -22,7 +22,7 @@ ghost use Rattle.module_rewrites.specs.DoesAsBefore.{DoesAsBefore};
 ghost use Rattle.module_rewrites.specs.Drawing.{contents_length};
 ghost use Rattle.module_rewrites.specs.EntryWords.{DrawsRewrite, HasEntryWords};
 ghost use Rattle.module_rewrites.specs.Function.{IsFunction};
-ghost use Rattle.module_rewrites.specs.Mutated.{CannotMutate, IsMutated};
+ghost use Rattle.module_rewrites.specs.Mutated.{CannotMutate, IsMutated, IsOfSize, RefusesMutation};
 ghost use Rattle.module_rewrites.specs.Mutates.{Mutates};
 ghost use Rattle.module_rewrites.specs.Scope.{Scope};
 ghost use Rattle.module_rewrites.specs.Stopped.{HadMemory};
@@ -110,8 +110,8 @@ pub fn words_draw_one_rewrite()
     words_choose_one_rewrite();
 }
 
-/// Equal modules, scopes and words give equal rewrites and equal bytes. Words choose one rewrite of a module, with one text (`one`),
-/// and where they do, there is a rewrite that fits (`none`). Of two lists of rewrites that words choose one after another, the shorter
+/// Equal modules, scopes and words give equal rewrites and equal bytes. Words choose one rewrite of a module, with one text (`one`);
+/// where they do, one fits (`none`), and where one is refused for a size, there is one (`refused`). Of two lists of rewrites that words choose one after another, the shorter
 /// one begins the longer, which goes on from where that ends (`times`); those that are as long are the same, with the same bytes
 /// (`same`). Two answers for at most `count` rewrites, neither of which was stopped for want of memory, are the same (`answers`).
 /// A module has fewer than 2^64 bytes, and so has a new one.
@@ -123,6 +123,8 @@ pub fn equal_words_give_equal_bytes()
     ensures none { (scope : Scope) (bytes new : List ℕ) (s after : Stream) (f : ℕ) (r : Rewrite)
         → length bytes < 2 ^ 64 → ChoosesOfModule scope bytes s f r new after
         → ¬ (GivesUp scope bytes s) × ¬ (CannotMutate scope bytes) }
+    ensures refused { (scope : Scope) (bytes : List ℕ) (e : MutationError) → IsOfSize e
+        → RefusesMutation scope bytes e → ¬ (CannotMutate scope bytes) }
     ensures times { (scope : Scope) (made others : List MadeRewrite) (bytes new other : List ℕ)
         (s after later : Stream) → length bytes < 2 ^ 64 → scope.most < 2 ^ 64
         → length made ≤ length others → ChoosesEach scope bytes s made new after

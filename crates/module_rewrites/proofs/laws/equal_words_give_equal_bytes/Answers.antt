@@ -1,6 +1,6 @@
 use Rattle.module_rewrites.proofs.DoesAsBeforeLemmas.{OneReading}
 use Rattle.module_rewrites.proofs.OneAttemptLemmas.{OneWriting}
-use Rattle.module_rewrites.proofs.OneChoiceLemmas.{answers_same, cannot_none, each_begins, each_same, gives_up_none, module_one}
+use Rattle.module_rewrites.proofs.OneChoiceLemmas.{answers_same, cannot_none, each_begins, each_same, gives_up_none, module_one, refused_apart}
 use Rattle.module_rewrites.proofs.laws.equal_words_give_equal_bytes.Goals as goal
 
 pub returns : goal.returns
@@ -21,6 +21,7 @@ returns c =
         gives_up_none writing module_is fit scope bytes new s after f r few chosen,
         cannot_none writing module_is fit scope bytes new s after f r few chosen,
       );
+      refused = refused_apart writing module_is fit;
       times = each_begins writing module_is fit;
       same = each_same writing module_is fit;
       answers = answers_same writing module_is fit;
