@@ -42,3 +42,4 @@ pub mod HasWordsLemmas
 pub mod RootLemmas
 pub mod AskingLemmas
 pub mod CounterLemmas
+pub mod ToldGrowthLemmas
