@@ -1,6 +1,6 @@
 -- What is told of a row's size is so of its rewrites.
-use Rattle.std.proofs.Common.{◌≡◌, ◌⊎◌, inl, inr, ℕ, ◌+◌, ◌-◌, ◌<◌, ◌≤◌, Bool, true, false, List, [], ◌∷◌, ◌++◌, length, drop, Option, Some, None, refl, sym, ap, ap₂, subst, ◌∙◌, arith}
-use Rattle.std.specs.Prelude.{◌==◌, ◌&&◌, nat_lt, if◌then◌else◌, get_or, option_and_then, option_map, slice_get}
+use Rattle.std.proofs.Common.{◌≡◌, ◌⊎◌, inl, inr, ℕ, ◌+◌, ◌-◌, ◌<◌, ◌≤◌, Bool, true, false, List, [], ◌∷◌, ◌++◌, length, drop, Option, Some, None, refl, sym, ap, subst, ◌∙◌, arith}
+use Rattle.std.specs.Prelude.{◌==◌, ◌&&◌, if◌then◌else◌, option_and_then, option_map, slice_get}
 use Rattle.std.proofs.lemmas.Bool.{and_parts, cases_lt, eq-eqb, eqb-true, le-ltb, lt-ltb}
 use Rattle.std.proofs.lemmas.List.{length-append, length-map}
 use Rattle.std.proofs.lemmas.Option.{same_Some}
@@ -18,7 +18,7 @@ use Rattle.rewrite_rules.specs.declared.table.Widths.{Widths}
 use Rattle.rewrite_rules.specs.declared.table.Widths.TheVariants as widths
 use Rattle.rewrite_rules.specs.Beside.{BesidesKeepCode}
 use Rattle.rewrite_rules.specs.Growing.{GrowsAs, own_growth, shown}
-use Rattle.rewrite_rules.specs.Growth.{Growth as LineGrowth, shrinks, keeps, grows, growth_by, is_empty, left_over, own_size, own_sizes, without}
+use Rattle.rewrite_rules.specs.Growth.{shrinks, keeps, grows, growth_by, is_empty, left_over, own_size, own_sizes, without}
 use Rattle.rewrite_rules.specs.Holes.{HolesAreTold}
 use Rattle.rewrite_rules.specs.Instance.{code_of, codes_of, operator_code}
 use Rattle.rewrite_rules.specs.Laws.{TableIsRight}
@@ -28,7 +28,6 @@ use Rattle.rewrite_rules.specs.Parts.{PartsAreTheCode, parts_code}
 use Rattle.rewrite_rules.specs.Pattern.{Pattern, Patterns, hole, constant, drawn, apply, none, ◌▹◌, draws_by, holes, holes_in}
 use Rattle.rewrite_rules.specs.Table.{ROWS, SidesAreParts, parts_for}
 use Rattle.body_rewrites.specs.declared.growth.Growth.{Growth}
-use Rattle.body_rewrites.specs.declared.growth.Growth.TheVariants as body
 use Rattle.body_rewrites.specs.declared.own.Made.{Made}
 use Rattle.body_rewrites.specs.declared.own.Made.TheVariants as made
 use Rattle.body_rewrites.specs.declared.places.Line.{Line}
@@ -36,13 +35,13 @@ use Rattle.body_rewrites.specs.declared.places.Place.{Place}
 use Rattle.body_rewrites.specs.declared.rewrite.Rewrite.{Rewrite}
 use Rattle.body_rewrites.specs.Changes.{Change}
 use Rattle.body_rewrites.specs.Listing.{HasGrowth}
-use Rattle.body_rewrites.specs.Own.{IsOwnChange, Rewrites, change_of, made_pieces}
+use Rattle.body_rewrites.specs.Own.{Rewrites, made_pieces}
 use Rattle.body_rewrites.specs.Places.{IsLine, IsPlaceOf, IsTreeCode, meant, operands_in}
 use Rattle.body_rewrites.specs.Rewrites.{IsLineChange, IsMadeBy, MakesBy, growth_of}
 use Rattle.body_rewrites.specs.Rewrites as bodies
 use Rattle.body_rewrites.specs.ToldGrowth.{IsAsTold}
-use Rattle.body_rewrites.specs.Writing.{by_line, side_pieces}
-use Rattle.body_rewrites.proofs.FormLemmas.{IsNotOwn, is_line, made_by}
+use Rattle.body_rewrites.specs.Writing.{by_line}
+use Rattle.body_rewrites.proofs.FormLemmas.{IsNotOwn, is_line}
 use Rattle.body_rewrites.proofs.FoundLemmas.{or_first, or_second}
 use Rattle.body_rewrites.proofs.GrowingLemmas as counted
 use Rattle.body_rewrites.proofs.OwnGrowthLemmas.{growth_at}
@@ -124,9 +123,9 @@ without_is : (x : ℕ → List Instruction) (n : ℕ) (ms rest : List ℕ) → w
 without_is x n [] rest e = absurd cc
 without_is x n (m ∷ ms) rest e = elim (without_step n m ms rest e) [
   | inl h ↦ (
-      ap (λ k. length (x k) + in_holes x ms) (sym h.0) ∙ ap (λ ks. length (x n) + in_holes x ks) (sym h.1),
-      λ some. subst (λ ks. AllSome x ks) (sym h.1) some.1,
-    )
+    ap (λ k. length (x k) + in_holes x ms) (sym h.0) ∙ ap (λ ks. length (x n) + in_holes x ks) (sym h.1),
+    λ some. subst (λ ks. AllSome x ks) (sym h.1) some.1,
+  )
   | inr h ↦
       let more = without_is x n ms h.0 h.1 in
       let size : in_holes x rest ≡ length (x m) + in_holes x h.0 = ap (in_holes x) h.2 in
@@ -285,9 +284,9 @@ module _ (right : TableIsRight) (holes_are : HolesAreTold) (sides : SidesArePart
   change_as_told context operators number line at change told asked h widths.Any e made =
       by_place context operators number line at change told asked h (subst IsNotOwn (sym e) tt) made
 
-  pub growths_are_told : (context : Context) (operators : Operators) (r : Rewrite) (row : Row) (told : told.Growth) (growth : Growth) →
-      slice_get ROWS r.row ≡ Some row → GrowsAs row told → HasGrowth context operators growth r → IsAsTold told growth
-  growths_are_told context operators r row told growth at h has =
+  pub growths_are_told : (context : Context) (operators : Operators) (r : Rewrite) (row : Row) (told : told.Growth) (kind : Growth) →
+      slice_get ROWS r.row ≡ Some row → GrowsAs row told → HasGrowth context operators kind r → IsAsTold told kind
+  growths_are_told context operators r row told kind at h has =
       let by = has.made in
       let same : row ≡ by.line.row = same_Some row by.line.row (sym at ∙ by.asked.row_is) in
       subst (λ k. IsAsTold told k) has.growth_is

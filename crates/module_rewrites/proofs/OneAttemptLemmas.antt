@@ -1,9 +1,8 @@
 -- An attempt at a code entry comes to one thing.
-use Rattle.std.proofs.Common.{◌≡◌, inl, inr, ℕ, ◌+◌, ◌<◌, ◌≤◌, List, [], ◌++◌, length, Some, sym, ap, ap₂, subst, ◌∙◌, arith}
-use Rattle.std.specs.Prelude.{slice_get, slice_range}
+use Rattle.std.proofs.Common.{◌≡◌, inl, inr, ℕ, List, [], ◌++◌, length, sym, ap, ap₂, subst, ◌∙◌, arith}
+use Rattle.std.specs.Prelude.{slice_range}
 use Rattle.std.proofs.lemmas.Option.{same_Some}
 use Rattle.rand_core.specs.Stream.{Stream}
-use Rattle.wasm_code.specs.Body.{SpellsAll}
 use Rattle.wasm_code.specs.declared.operator.Operator.{Operator}
 use Rattle.wasm_types.specs.Module.{Module}
 use Rattle.wasm_types.specs.declared.types.PrimitiveTypeInfo.{PrimitiveTypeInfo}
@@ -22,7 +21,7 @@ use Rattle.module_rewrites.specs.Chosen.TriesInVain.{by_lack, by_size}
 use Rattle.module_rewrites.specs.Function.{IsFunction}
 use Rattle.module_rewrites.specs.Mutated.{HasNoMutation}
 use Rattle.module_rewrites.specs.Scope.{Scope}
-use Rattle.module_rewrites.specs.Writing.{DoesNotFit, Exceeds, MakesAt, WritesAt}
+use Rattle.module_rewrites.specs.Writing.{MakesAt, WritesAt}
 use Rattle.module_rewrites.proofs.DoesAsBeforeLemmas.{OneReading, one_body}
 use Rattle.module_rewrites.proofs.OneSearchLemmas.{AreApart}
 

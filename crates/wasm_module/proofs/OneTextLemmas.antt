@@ -1,6 +1,6 @@
 -- A module with other contents of a code entry and with more globals is one text.
-use Rattle.std.proofs.Common.{◌≡◌, inl, inr, ℕ, ◌+◌, ◌<◌, ◌≤◌, ◌^◌, List, [], ◌∷◌, ◌++◌, length, take, drop, Some, sym, ap, ap₂, subst, ◌∙◌, arith}
-use Rattle.std.specs.Prelude.{slice_get, slice_range}
+use Rattle.std.proofs.Common.{◌≡◌, inl, inr, ℕ, ◌+◌, ◌<◌, List, [], ◌∷◌, ◌++◌, length, take, drop, sym, ap, ap₂, subst, ◌∙◌, arith}
+use Rattle.std.specs.Prelude.{slice_range}
 use Rattle.std.proofs.lemmas.Option.{same_Some}
 use Rattle.wasm_code.specs.Code.{shortest}
 use Rattle.wasm_types.specs.Module.{Module}
@@ -13,7 +13,7 @@ use Rattle.wasm_sections.specs.Writing.{section_code}
 use Rattle.wasm_declarations.specs.declared.entries.Entry.{Entry}
 use Rattle.wasm_declarations.specs.Globals.{SpellsGlobal, FailsGlobal}
 use Rattle.wasm_declarations.specs.Known.{Known, nothing, SpellsKnown}
-use Rattle.wasm_module.specs.Limits.{GrowsTooLarge, HasTooManyGlobals, IsTooLarge}
+use Rattle.wasm_module.specs.Limits.{HasTooManyGlobals, IsTooLarge}
 use Rattle.wasm_module.specs.Limits.HasTooManyGlobals.{by_growth, by_number, from_nothing}
 use Rattle.wasm_module.specs.Limits.IsTooLarge.{by_code, by_entry, by_globals}
 use Rattle.wasm_module.specs.Module.{Layout, IsModule}
