@@ -44,7 +44,7 @@ rest_is old (suc left) parts e = sym (shrinks (suc left) 0 (omega arith)) ∙ sh
 -- ---- a line's right side
 
 -- how many operators the pieces of some parts are
-parts_counted : (operators : Operators) (operands : List (ℕ × ℕ)) (c : ℕ → ℕ) (words : List ℕ) (ps : List Part) →
+pub parts_counted : (operators : Operators) (operands : List (ℕ × ℕ)) (c : ℕ → ℕ) (words : List ℕ) (ps : List Part) →
     length (pieces_operators (without_offsets operators) (side_pieces operands c words ps)) ≡ parts_count operators operands ps
 parts_counted operators operands c words [] = refl
 parts_counted operators operands c words (Hole n ∷ ps) =

@@ -28,6 +28,7 @@ pub mod DifferingLemmas
 pub mod LineMakingLemmas
 pub mod GrowingLemmas
 pub mod RandomLemmas
+pub mod OneBodyLemmas
 pub mod OwnFindLemmas
 pub mod OwnFoldLemmas
 pub mod OwnCodeLemmas
@@ -41,3 +42,4 @@ pub mod HasWordsLemmas
 pub mod RootLemmas
 pub mod AskingLemmas
 pub mod CounterLemmas
+pub mod ToldGrowthLemmas

@@ -32,7 +32,7 @@ module _ (context : Context) (operators : Operators) (at : ℕ) where
       length-append (slice_range (without_offsets operators) start (at + 1)) more
       ∙ ap (λ n. n + length more) (ap length kept ∙ length_in operators start (at + 1) (omega (arith, l)))
 
-  growth_at : (own : Own) (start : ℕ) (m : Made) → Rewrites context operators own start at m → (word : ℕ) →
+  pub growth_at : (own : Own) (start : ℕ) (m : Made) → Rewrites context operators own start at m → (word : ℕ) →
       IsGrowth (growth_of m) (length (pieces_operators (without_offsets operators) (made_pieces start at m word))) (at + 1 - start)
   growth_at Unfold start (made.Sum t n) (e, c) word = (let l : at + 1 - start < 3 = omega (arith, e) in l)
   growth_at ThroughGlobal start (made.Global t g) (tree, number, index, small) word =

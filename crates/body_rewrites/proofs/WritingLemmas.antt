@@ -67,7 +67,7 @@ module _ (operators : Operators) (end : ℕ) (operands : List (ℕ × ℕ)) (x :
   piece_is words (Drawn t) there = refl
   piece_is words (Apply o) there = refl
 
-  pieces_are : (words : List ℕ) (ps : List Part) → ((n : ℕ) → has_hole ps n ≡ true → StandsIn operators end (get_or operands n (0, 0)) (x n)) →
+  pub pieces_are : (words : List ℕ) (ps : List Part) → ((n : ℕ) → has_hole ps n ≡ true → StandsIn operators end (get_or operands n (0, 0)) (x n)) →
       pieces_operators (without_offsets operators) (side_pieces operands c words ps) ≡ map instr_of (parts_code x c words ps)
   pieces_are words [] there = refl
   pieces_are words (p ∷ ps) there =
@@ -108,7 +108,7 @@ module _ (operators : Operators) (end : ℕ) (operands : List (ℕ × ℕ)) (x :
 
 -- ---- code isn't empty
 
-tree_some : (context : Context) (code : List Instruction) → IsTreeCode context code → 0 < length code
+pub tree_some : (context : Context) (code : List Instruction) → IsTreeCode context code → 0 < length code
 tree_some context [] (t, e) = absurd cc
 tree_some context (i ∷ code) e = omega arith
 
@@ -162,14 +162,14 @@ module _ (right : TableIsRight) (holes_are : HolesAreTold) (sides : SidesArePart
       let last = (and_parts (same_kind (kind_in l.kinds l.left) (kind_in l.kinds l.right)) _ behind).1 in
       every_at (is_in (holes l.left)) (holes l.right) n (and_parts (draws_by l.left == 0) _ last).1 e
 
-  there : (n : ℕ) → has_hole parts n ≡ true → StandsIn operators (at + 1) (get_or place.operands n (0, 0)) (x n)
-  there n e =
+  pub stands_there : (n : ℕ) → has_hole parts n ≡ true → StandsIn operators (at + 1) (get_or place.operands n (0, 0)) (x n)
+  stands_there n e =
       operand_found right holes_are context operators line (at + 1) place is found n (right_in_left n (ap (λ ns. is_in ns n) (holes_are line.row line.width (formed right line is)).1
       ∙ (hole_in_parts line.width n line.row.right ∙ e)))
 
   written : (word : ℕ) → pieces_code operators ((by_line line place).pieces word) ≡ code_of x c (word ∷ []) (meant line).right
   written word =
-      ap instructions (pieces_are operators (at + 1) place.operands x c (word ∷ []) parts there)
+      ap instructions (pieces_are operators (at + 1) place.operands x c (word ∷ []) parts stands_there)
       ∙ (instructions_back (parts_code x c (word ∷ []) parts)
       ∙ sym (codes x c (word ∷ []) (meant line).right
       ∙ ap (parts_code x c (word ∷ [])) (sides is.number line.row is.row_is is.place line.width is.width_is).1))
@@ -198,8 +198,8 @@ module _ (right : TableIsRight) (holes_are : HolesAreTold) (sides : SidesArePart
     ordered = before;
     old = old;
     stands = found.is.stands;
-    within = λ word l. all_within operators (at + 1) place.operands x c (word ∷ []) parts l there;
-    keep = λ word. all_keep operators (at + 1) place.operands x c (word ∷ []) parts there;
+    within = λ word l. all_within operators (at + 1) place.operands x c (word ∷ []) parts l stands_there;
+    keep = λ word. all_keep operators (at + 1) place.operands x c (word ∷ []) parts stands_there;
     same = λ word. subst (λ code. StandsWith context [] old code) (sym (written word))
         (besides.unasked context [] old (code_of x c (word ∷ []) (meant line).right) (keeps word));
   }

@@ -20,6 +20,7 @@ pub mod Choice
 pub mod HasWords
 pub mod Random
 pub mod Growth
+pub mod ToldGrowth
 pub mod OwnSites
 pub mod Alone
 pub mod Asking

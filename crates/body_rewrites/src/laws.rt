@@ -1,19 +1,29 @@
 //! What holds of trees and matches. A function here does nothing: its contract is the law.
 
-ghost use Rattle.std.specs.Prelude.{◌≡◌, ◌<◌, ◌^◌, ℕ, List, Contains, length};
+ghost use Rattle.std.specs.Prelude.{◌≡◌, ◌<◌, ◌^◌, ℕ, List, Contains, Some, length, slice_get};
 ghost use Rattle.rand_core.specs.Stream.{Stream};
 ghost use Rattle.wasm_code.specs.declared.operator.Operator.{Operator};
+ghost use Rattle.wasm_types.specs.declared.types.PrimitiveTypeInfo.{PrimitiveTypeInfo};
 ghost use Rattle.peephole_machine.specs.Values.{Context};
+ghost use Rattle.rewrite_rules.specs.declared.growth.Growth.{Growth as RowGrowth};
 ghost use Rattle.rewrite_rules.specs.declared.rule.Rule.{Rule};
+ghost use Rattle.rewrite_rules.specs.declared.table.Row.{Row};
+ghost use Rattle.rewrite_rules.specs.Growing.{GrowsAs};
+ghost use Rattle.rewrite_rules.specs.Table.{ROWS};
+ghost use Rattle.body_splices.specs.Laws.{pieces_operators};
+ghost use Rattle.body_splices.specs.OwnBytes.{without_offsets};
 ghost use Rattle.body_rewrites.specs.declared.growth.Growth.{Growth};
 ghost use Rattle.body_rewrites.specs.declared.rewrite.Rewrite.{Rewrite};
-ghost use Rattle.body_rewrites.specs.Rewrites.{IsMade, asked_below};
+ghost use Rattle.body_rewrites.specs.Rewrites.{IsMade, IsMadeBy, asked_below};
 ghost use Rattle.body_rewrites.specs.Choice.{IsOf, IsOpen, HasOpen, Chooses, growths};
 ghost use Rattle.body_rewrites.specs.HasWords.{HasWords};
 ghost use Rattle.body_rewrites.specs.Changed.{ChangedBodiesDoAsBefore};
+ghost use Rattle.body_rewrites.specs.Changes.{Change};
 ghost use Rattle.body_rewrites.specs.MadeLaws.{ChangesMayStand};
-ghost use Rattle.body_rewrites.specs.Listing.{AreThose, IsBy, OneChange};
+ghost use Rattle.body_rewrites.specs.Listing.{AreThose, HasGrowth, IsBy, OneChange};
 ghost use Rattle.body_rewrites.specs.LineChanges.{LineChangesMayStand};
+ghost use Rattle.body_rewrites.specs.Random.{AppendsByWords, HasNoRewrite};
+ghost use Rattle.body_rewrites.specs.ToldGrowth.{IsAsTold};
 ghost use Rattle.body_rewrites.specs.Trees.{TreesLeave};
 ghost use Rattle.body_rewrites.specs.Matching.{MatchesAreTheCode, LeftsAreInstances};
 
@@ -111,8 +121,43 @@ pub fn words_choose_one_rewrite()
         → r ≡ q }
 {}
 
+/// A generator's words write one body at most: with one rewrite, one text and one list of globals that it asks for, and they leave the
+/// generator at one place (`one`). Where there is no rewrite of a body, no words choose one (`none`).
+pub fn words_write_one_body()
+    ensures one { (context : Context) (stream : Stream) (rules : List Rule) (input : List ℕ)
+        (operators : List (Operator × ℕ)) (r q : Rewrite) (old new other : List ℕ)
+        (asks others : List PrimitiveTypeInfo) (after later : Stream)
+        → AppendsByWords context stream rules input operators r old new asks after
+        → AppendsByWords context stream rules input operators q old other others later
+        → (r ≡ q) × (new ≡ other) × (asks ≡ others) × (after ≡ later) }
+    ensures none { (context : Context) (stream : Stream) (rules : List Rule)
+        (operators : List (Operator × ℕ)) (r : Rewrite) → HasNoRewrite context rules operators
+        → ¬ (Chooses context stream rules operators r) }
+{
+    one_change();
+    words_choose_one_rewrite();
+}
+
 /// Every rewrite that makes something is among those that may be asked of the body.
 pub fn rewrites_are_asked()
     ensures { (context : Context) (operators : List (Operator × ℕ)) (r : Rewrite)
         → IsMade context operators r → Contains (asked_below (length operators)) r }
 {}
+
+/// What `Row::growth` tells of a row is so of its rewrites: by one that shrinks there are fewer operators, by one that keeps as many
+/// (`told`). How many there are doesn't go by the word that is drawn (`any_word`).
+pub fn growths_are_told()
+    ensures told { (context : Context) (operators : List (Operator × ℕ)) (r : Rewrite) (row : Row)
+        (told : RowGrowth) (growth : Growth) → slice_get ROWS r.row ≡ Some row
+        → GrowsAs row told → HasGrowth context operators growth r → IsAsTold told growth }
+    ensures any_word { (context : Context) (operators : List (Operator × ℕ)) (r : Rewrite)
+        (change : Change) (word : ℕ) → IsMadeBy context operators r change
+        → length (pieces_operators (without_offsets operators) (change.pieces word))
+        ≡ length (pieces_operators (without_offsets operators) (change.pieces 0)) }
+{
+    table_is_right();
+    holes_are_told();
+    sides_are_parts();
+    parts_are_the_code();
+    besides_keep_code();
+}

@@ -59,7 +59,7 @@ body_takes start text (x ∷ operators) s =
     omega (arith, one, parts, sum)
 
 -- a code entry that is read contains a byte
-entry_takes : (bytes : List ℕ) (info : Module) (layout : Layout) (n : ℕ) (locals : List PrimitiveTypeInfo) (expression : ℕ)
+pub entry_takes : (bytes : List ℕ) (info : Module) (layout : Layout) (n : ℕ) (locals : List PrimitiveTypeInfo) (expression : ℕ)
     (operators : List (Operator × ℕ)) (f : IsFunction bytes info layout n locals expression operators) → f.entry.contents < f.entry.end
 entry_takes bytes info layout n locals expression operators f =
     let some = body_takes expression (slice_range bytes expression f.entry.end) operators f.body in

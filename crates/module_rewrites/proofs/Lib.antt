@@ -8,5 +8,8 @@ pub mod SameModuleLemmas
 mod StructureExamples
 pub mod MutatesLemmas
 pub mod EntryWordsLemmas
+pub mod OneSearchLemmas
+pub mod OneAttemptLemmas
+pub mod OneChoiceLemmas
 pub mod AttemptLemmas
 pub mod OperatorCodeLemmas

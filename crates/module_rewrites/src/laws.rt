@@ -1,5 +1,5 @@
 //! What holds of rewritten modules. A function here does nothing: its contract is the law.
-ghost use Rattle.std.specs.Prelude.{◌≡◌, ◌<◌, ◌^◌, ℕ, List, Option, length};
+ghost use Rattle.std.specs.Prelude.{◌≡◌, ◌<◌, ◌≤◌, ◌^◌, ◌++◌, ℕ, List, Option, length};
 ghost use Rattle.std.specs.List.{sum_by};
 ghost use Rattle.rand_core.specs.Stream.{Stream};
 ghost use Rattle.wasm_code.specs.declared.operator.Operator.{Operator};
@@ -16,17 +16,20 @@ ghost use Rattle.peephole_machine.specs.Values.{context_in};
 ghost use Rattle.rewrite_rules.specs.declared.rule.Rule.{Rule};
 ghost use Rattle.body_rewrites.specs.Listing.{IsBy};
 ghost use Rattle.body_rewrites.specs.declared.rewrite.Rewrite.{Rewrite};
+ghost use Rattle.module_rewrites.specs.Chosen.{ChoosesOfModule, GivesUp};
+ghost use Rattle.module_rewrites.specs.ChosenTimes.{ChoosesEach, ChoosesTimes};
 ghost use Rattle.module_rewrites.specs.DoesAsBefore.{DoesAsBefore};
 ghost use Rattle.module_rewrites.specs.Drawing.{contents_length};
 ghost use Rattle.module_rewrites.specs.EntryWords.{DrawsRewrite, HasEntryWords};
 ghost use Rattle.module_rewrites.specs.Function.{IsFunction};
-ghost use Rattle.module_rewrites.specs.Mutated.{IsMutated};
+ghost use Rattle.module_rewrites.specs.Mutated.{CannotMutate, IsMutated, IsOfSize, RefusesMutation};
 ghost use Rattle.module_rewrites.specs.Mutates.{Mutates};
 ghost use Rattle.module_rewrites.specs.Scope.{Scope};
+ghost use Rattle.module_rewrites.specs.Stopped.{HadMemory};
 ghost use Rattle.module_rewrites.specs.declared.mutation.MutationError.{MutationError};
 ghost use Rattle.module_rewrites.specs.declared.times.MadeRewrite.{MadeRewrite};
 
-use body_rewrites::laws::{each_rewrite_has_words, words_choose_one_rewrite};
+use body_rewrites::laws::{each_rewrite_has_words, words_choose_one_rewrite, words_write_one_body};
 use body_splices::laws::own_bytes_stay;
 use peephole_programs::laws::{
     embedders_are_sound, one_function_is_rewritten, pieces_do_as_before, rewritten_modules_do_more,
@@ -35,8 +38,8 @@ use peephole_programs::laws::{
 use wasm_code::laws::one_list as one_list_of_operators;
 use wasm_declarations::laws::one_list;
 use wasm_module::laws::{
-    modules_have_no_fault, modules_without_debug_are_the_same, one_reading,
-    rewritten_modules_are_made_alike,
+    entries_fit_the_module, modules_have_no_fault, modules_without_debug_are_the_same, one_reading,
+    one_rewritten_module, rewritten_modules_are_made_alike,
 };
 use wasm_sections::laws::one_module;
 
@@ -105,4 +108,47 @@ pub fn words_draw_one_rewrite()
     one_list();
     one_list_of_operators();
     words_choose_one_rewrite();
+}
+
+/// Equal modules, scopes and words give equal rewrites and equal bytes. Words choose one rewrite of a module, with one text (`one`);
+/// where they do, one fits (`none`), and where one is refused for a size, there is one (`refused`). Of two lists of rewrites that words choose one after another, the shorter
+/// one begins the longer, which goes on from where that ends (`times`); those that are as long are the same, with the same bytes
+/// (`same`). Two answers for at most `count` rewrites, neither of which was stopped for want of memory, are the same (`answers`).
+/// A module has fewer than 2^64 bytes, and so has a new one.
+pub fn equal_words_give_equal_bytes()
+    ensures one { (scope : Scope) (bytes new other : List ℕ) (s after later : Stream) (f g : ℕ)
+        (r q : Rewrite) → length bytes < 2 ^ 64 → ChoosesOfModule scope bytes s f r new after
+        → ChoosesOfModule scope bytes s g q other later
+        → (f ≡ g) × (r ≡ q) × (new ≡ other) × (after ≡ later) }
+    ensures none { (scope : Scope) (bytes new : List ℕ) (s after : Stream) (f : ℕ) (r : Rewrite)
+        → length bytes < 2 ^ 64 → ChoosesOfModule scope bytes s f r new after
+        → ¬ (GivesUp scope bytes s) × ¬ (CannotMutate scope bytes) }
+    ensures refused { (scope : Scope) (bytes : List ℕ) (e : MutationError) → IsOfSize e
+        → RefusesMutation scope bytes e → ¬ (CannotMutate scope bytes) }
+    ensures times { (scope : Scope) (made others : List MadeRewrite) (bytes new other : List ℕ)
+        (s after later : Stream) → length bytes < 2 ^ 64 → scope.most < 2 ^ 64
+        → length made ≤ length others → ChoosesEach scope bytes s made new after
+        → ChoosesEach scope bytes s others other later
+        → (rest : List MadeRewrite) × (others ≡ made ++ rest)
+        × ChoosesEach scope new after rest other later }
+    ensures same { (scope : Scope) (made others : List MadeRewrite) (bytes new other : List ℕ)
+        (s after later : Stream) → length bytes < 2 ^ 64 → scope.most < 2 ^ 64
+        → length made ≡ length others → ChoosesEach scope bytes s made new after
+        → ChoosesEach scope bytes s others other later
+        → (made ≡ others) × (new ≡ other) × (after ≡ later) }
+    ensures answers { (scope : Scope) (count : ℕ) (bytes new other : List ℕ) (s : Stream)
+        (made others : List MadeRewrite) (stopped halted : Option MutationError)
+        → length bytes < 2 ^ 64 → scope.most < 2 ^ 64
+        → Mutates scope count bytes made new stopped
+        → ChoosesTimes scope bytes s made new stopped → HadMemory stopped
+        → Mutates scope count bytes others other halted
+        → ChoosesTimes scope bytes s others other halted → HadMemory halted
+        → (made ≡ others) × (new ≡ other) }
+{
+    one_list();
+    one_list_of_operators();
+    words_write_one_body();
+    one_rewritten_module();
+    one_reading();
+    entries_fit_the_module();
 }

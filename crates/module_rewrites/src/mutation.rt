@@ -474,7 +474,8 @@ pub(crate) fn mutate_with<R: Rng>(
 /// what becomes of the number of operators, the rule, the rewrite; a fourth one is for a number that the new code draws. Where no
 /// rule applies there, or the new module would be too large, one is drawn again, at most 16 times in all; then the functions are
 /// tried in order, once each, from the one that was drawn last on, and behind the last one those before it. Where the scope names
-/// the function, at most 16 rewrites of it are drawn. So equal modules, generators and scopes give equal bytes.
+/// the function, at most 16 rewrites of it are drawn. So equal modules, generators and scopes give equal bytes (law
+/// `equal_words_give_equal_bytes`).
 ///
 /// The new bytes are a module again, of at most as many bytes as the scope says. It is valid where the old one was, and each of its
 /// functions, called with any arguments in any memory, tables and globals, does what it did, through loops, branches, recursion,

@@ -15,7 +15,7 @@ use rand_core::SeedableRng;
 use std::alloc::Global;
 
 /// The same as `mutate_times`, with a generator that is made from a seed (`StdRng::seed_from_u64` of the crate `rand`). So equal
-/// modules, seeds, scopes and `count` give equal bytes. Condition: `count` is not 0.
+/// modules, seeds, scopes and `count` give equal bytes (law `equal_words_give_equal_bytes`). Condition: `count` is not 0.
 pub fn mutate_with_seed(
     alloc: Global,
     bytes: &[u8],

@@ -27,7 +27,7 @@ pub record IsSizedText (text : List ℕ) (x : ℕ × ℕ) : Type 0 where
   pub long : 0 < x.1
   pub whole : length text ≡ x.1 + x.0
 
-sized_text : (text : List ℕ) (x : ℕ × ℕ) → SpellsSized text x → IsSizedText text x
+pub sized_text : (text : List ℕ) (x : ℕ × ℕ) → SpellsSized text x → IsSizedText text x
 sized_text text x p =
     let long : 0 < length p.front = group_long p.front p.first.spells.group in
     let at : length p.front ≡ p.value.1 = p.first.bytes in

@@ -4,6 +4,7 @@ pub mod HeldLemmas
 pub mod FindLemmas
 pub mod NewGlobalLemmas
 pub mod InsideLemmas
+pub mod EntrySumLemmas
 pub mod CountLemmas
 pub mod ModuleLemmas
 pub mod RoomLemmas
@@ -13,6 +14,7 @@ pub mod AgainLemmas
 pub mod AgainPieces
 pub mod RereadLemmas
 pub mod OneLemmas
+pub mod OneTextLemmas
 pub mod ListedLemmas
 pub mod SizeLemmas
 pub mod StaysLemmas

@@ -1,5 +1,5 @@
 -- Modules that can't be written, since 32 bits don't hold a size or a number (this project).
-use Rattle.std.specs.Prelude.{◌≡◌, ℕ, ◌+◌, ◌≤◌, ◌^◌, List, length, Some, slice_get, slice_range}
+use Rattle.std.specs.Prelude.{◌≡◌, ℕ, ◌+◌, ◌<◌, ◌≤◌, ◌^◌, List, length, Some, slice_get, slice_range}
 use Rattle.wasm_types.specs.declared.types.PrimitiveTypeInfo.{PrimitiveTypeInfo}
 use Rattle.wasm_sections.specs.declared.section.Section.{Section}
 use Rattle.wasm_sections.specs.declared.id.SectionId.TheVariants as ids
@@ -35,8 +35,8 @@ pub data HasTooManyGlobals (bytes : List ℕ) (layout : Layout) (more : List Pri
   by_growth : GrowsTooLarge bytes layout more → HasTooManyGlobals bytes layout more
   from_nothing : StartsTooLarge layout more → HasTooManyGlobals bytes layout more
 
--- The module with those contents of its n-th code entry and with more globals can't be written.
+-- The module with those contents of its n-th code entry and with more globals, if there are any, can't be written.
 pub data IsTooLarge (bytes : List ℕ) (layout : Layout) (n : ℕ) (contents : List ℕ) (more : List PrimitiveTypeInfo) : Type 0 where
   by_entry : 2 ^ 32 ≤ length contents → IsTooLarge bytes layout n contents more
   by_code : HasLargeCode bytes layout n contents → IsTooLarge bytes layout n contents more
-  by_globals : HasTooManyGlobals bytes layout more → IsTooLarge bytes layout n contents more
+  by_globals : 0 < length more → HasTooManyGlobals bytes layout more → IsTooLarge bytes layout n contents more

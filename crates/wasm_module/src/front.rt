@@ -135,7 +135,7 @@ pub fn front_with(
     requires room { HasRoom bytes.now layout.now to }
     ensures written { IfOk result (λ v. IsFront bytes.now layout.now globals.now to v.items) }
     ensures too_large { result ≡ Err TooLarge
-        → HasTooManyGlobals bytes.now layout.now globals.now }
+        → (0 < length globals.now) × HasTooManyGlobals bytes.now layout.now globals.now }
 {
     if globals.is_empty() {
         return Ok(copied(alloc, &bytes[..to], spare)?);

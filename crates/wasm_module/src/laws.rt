@@ -1,5 +1,6 @@
 //! Laws on modules: functions that do nothing, and whose contracts hold for all values.
-ghost use Rattle.std.specs.Prelude.{◌≡◌, ◌≢◌, ℕ, List, All, Some, None, slice_get};
+ghost use Rattle.std.specs.Prelude.{◌≡◌, ◌≢◌, ◌-◌, ◌≤◌, ℕ, List, All, Some, None, length, slice_get};
+ghost use Rattle.std.specs.List.{sum_by};
 ghost use Rattle.wasm_types.specs.Module.{Module};
 ghost use Rattle.wasm_declarations.specs.declared.entries.Entry.{Entry};
 ghost use Rattle.wasm_module.specs.Module.{Layout, IsModule};
@@ -8,6 +9,7 @@ ghost use Rattle.wasm_sections.specs.declared.fault.ModuleFault.{ModuleFault};
 ghost use Rattle.wasm_sections.specs.declared.fault.ModuleFault.TheVariants.{Memory};
 ghost use Rattle.wasm_module.specs.Fault.{IsModuleFault};
 ghost use Rattle.wasm_module.specs.Inside.{IsInside};
+ghost use Rattle.wasm_module.specs.Limits.{IsTooLarge};
 ghost use Rattle.wasm_module.specs.Rewritten.{IsRewritten};
 ghost use Rattle.wasm_types.specs.declared.types.PrimitiveTypeInfo.TheVariants as primitives;
 ghost use Rattle.wasm_module.specs.Reread.{IsReread};
@@ -21,7 +23,8 @@ ghost use Rattle.wasm_module.specs.Instance.{Making, IsMadeOf, with_more_globals
 use wasm_code::laws::shortest_is_a_spelling;
 use wasm_declarations::laws::{lists_have_no_fault, one_list};
 use wasm_sections::laws::{
-    modules_have_no_section_fault, one_module, other_sections_stay, sections_fill_the_module,
+    modules_have_no_section_fault, one_module, one_place, other_sections_stay,
+    sections_fill_the_module,
 };
 
 /// Each entry of a module's code lies inside its bytes.
@@ -29,6 +32,14 @@ pub fn entries_are_inside()
     ensures { (bytes : List ℕ) (info : Module) (layout : Layout) (n : ℕ) (entry : Entry)
         → IsModule bytes info layout → slice_get layout.entries n ≡ Some entry
         → IsInside bytes entry }
+{
+    sections_fill_the_module();
+}
+
+/// The entries of a module's code contain no more bytes than it has.
+pub fn entries_fit_the_module()
+    ensures { (bytes : List ℕ) (info : Module) (layout : Layout) → IsModule bytes info layout
+        → sum_by (λ (entry : Entry). entry.end - entry.contents) layout.entries ≤ length bytes }
 {
     sections_fill_the_module();
 }
@@ -53,6 +64,20 @@ pub fn rewritten_bytes_are_a_module()
         → IsReread bytes info layout n contents more new }
 {
     shortest_is_a_spelling();
+}
+
+/// A module with other contents of a code entry and with more globals is one text, or it is too large to be written.
+pub fn one_rewritten_module()
+    ensures one { (bytes : List ℕ) (layout : Layout) (n : ℕ) (contents : List ℕ)
+        (more : List PrimitiveTypeInfo) (new other : List ℕ)
+        → IsRewritten bytes layout n contents more new
+        → IsRewritten bytes layout n contents more other → new ≡ other }
+    ensures fits { (bytes : List ℕ) (info : Module) (layout : Layout) (n : ℕ)
+        (contents : List ℕ) (more : List PrimitiveTypeInfo) (new : List ℕ)
+        → IsModule bytes info layout → IsRewritten bytes layout n contents more new
+        → ¬ (IsTooLarge bytes layout n contents more) }
+{
+    one_place();
 }
 
 /// Bytes are one module at most: what is known of it, and where things stand in it, follow from them.

@@ -32,8 +32,14 @@ abbrev pub AreBehind : ℕ → List Section → Type 0
 AreBehind rank [] = Unit {0}
 AreBehind rank (s ∷ ss) = (0 < rank_of s.id → rank < rank_of s.id) × AreBehind rank ss
 
--- A section of the id may stand at the offset: behind the preamble and some sections of smaller ranks, and before all others,
--- whose ranks are greater.
+-- the last of them is no custom section, or there is none
+abbrev pub EndsRanked : List Section → Type 0
+EndsRanked [] = Unit {0}
+EndsRanked (s ∷ []) = 0 < rank_of s.id
+EndsRanked (s ∷ t ∷ ss) = EndsRanked (t ∷ ss)
+
+-- A section of the id has this place: behind the preamble and some sections of smaller ranks, of which the last one is no custom section, and before all
+-- others, whose ranks are greater. So it has one (a law).
 pub record IsPlaceOf (sections : List Section) (id : SectionId) (place : ℕ) : Type 0 where
   pub before : List Section
   pub behind : List Section
@@ -41,3 +47,4 @@ pub record IsPlaceOf (sections : List Section) (id : SectionId) (place : ℕ) : 
   pub at : place ≡ end_of 8 before
   pub smaller : AreBefore (rank_of id) before
   pub greater : AreBehind (rank_of id) behind
+  pub last : EndsRanked before

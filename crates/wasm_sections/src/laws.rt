@@ -55,6 +55,12 @@ pub fn places_are_in_order()
         → All (IsInOrderAt place id) sections }
 {}
 
+/// A section that isn't there has one place at most.
+pub fn one_place()
+    ensures { (sections : List Section) (id : SectionId) (place other : ℕ)
+        → IsPlaceOf sections id place → IsPlaceOf sections id other → place ≡ other }
+{}
+
 /// A module in which one section is written anew, with other contents, is a module with these contents in place of the old ones.
 /// The section isn't custom, since other contents of a custom section might make the module a linkable object.
 pub fn replaced_section()
