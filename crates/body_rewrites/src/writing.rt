@@ -124,7 +124,7 @@ pub(crate) fn line_code(line: &Line, place: &Place, word: u64) -> NewCode
 {
     NewCode {
         start: place.start,
-        pieces: pieces_of(&line.row.right, line.width, place, word),
+        pieces: pieces_of(line.row.right(), line.width, place, word),
         asks: None,
     }
 }

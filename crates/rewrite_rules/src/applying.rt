@@ -8,7 +8,7 @@ ghost use Rattle.rewrite_rules.specs.Applying.{IsFormed, IsTold};
 use crate::holes::holes_of;
 use crate::laws::{holes_are_told, types_are_told};
 use crate::order::{Effects, may_move};
-use crate::table::Row;
+use crate::standing::TableRow;
 use peephole_machine::IntegerType;
 use wasm_types::PrimitiveTypeInfo;
 
@@ -30,13 +30,13 @@ fn all_three(one: bool, two: bool, three: bool) -> bool
     one && two && three
 }
 
-impl Row {
+impl TableRow {
     // Whether the constants with these numbers are as the row asks, for the width.
     fn is_asked(&self, width: IntegerType, numbers: &[u64]) -> bool
         ensures { result ≡ all_hold (constant_at numbers.now)
             (conditions_for width self.now.condition) }
     {
-        match self.condition {
+        match self.condition() {
             Some(condition) => condition.holds(width, numbers),
             None => true,
         }
@@ -51,8 +51,8 @@ impl Row {
     {
         types_are_told();
         holes_are_told();
-        let left = holes_of(&self.left);
-        let right = holes_of(&self.right);
+        let left = holes_of(self.left());
+        let right = holes_of(self.right());
         let asked = self.is_asked(width, found.numbers);
         let fit = self.types_fit(width, found.types);
         let moves = may_move(found.effects, &left, &right);

@@ -44,7 +44,7 @@ pub fn sides_are_parts()
     table_is_right();
 }
 
-/// `Row::types_fit` tells exactly whether operands leave the types of their holes.
+/// `TableRow::types_fit` tells exactly whether operands leave the types of their holes.
 pub fn types_are_told()
     ensures { TypesAreTold }
 {}
