@@ -85,7 +85,7 @@ module _ {A : Type 0} (test : A → Bool) where
 
 -- ---- the lists
 
-last_cases : {A : Type 0} (xs : List A) (x : A) (n : ℕ) (y : A) → slice_get (xs ++ x ∷ []) n ≡ Some y → (slice_get xs n ≡ Some y) ⊎ ((n ≡ length xs) × (x ≡ y))
+pub last_cases : {A : Type 0} (xs : List A) (x : A) (n : ℕ) (y : A) → slice_get (xs ++ x ∷ []) n ≡ Some y → (slice_get xs n ≡ Some y) ⊎ ((n ≡ length xs) × (x ≡ y))
 last_cases [] x zero y e = inr (refl, same_Some x y e)
 last_cases [] x (suc n) y e = absurd cc
 last_cases (z ∷ xs) x zero y e = inl e
@@ -93,19 +93,6 @@ last_cases (z ∷ xs) x (suc n) y e = elim (last_cases xs x n y e) [
   | inl h ↦ inl h
   | inr h ↦ inr (ap (λ k. suc k) h.0, h.1)
 ]
-
-pub one_list_more : (used : List Bool) (count : ℕ) (lists more : List (Vec ℕ)) (v : Vec ℕ) → AreLists used count lists →
-    more ≡ lists ++ v ∷ [] → (IsUsed used count → v.items ≡ candidates count) → AreLists used (count + 1) more
-one_list_more used count lists more v are is list_is =
-    let long = are.long in
-    subst (AreLists used (count + 1)) (sym is) (record {
-      long = length-append lists (v ∷ []) ∙ ap (λ n. n + 1) long;
-      each = λ class w e marked. elim (last_cases lists v class w e) [
-        | inl h ↦ are.each class w h marked
-        | inr h ↦ (let same : class ≡ count = h.0 ∙ long in
-            ap (λ (u : Vec ℕ). u.items) (sym h.1) ∙ list_is (subst (IsUsed used) same marked) ∙ ap candidates (sym same))
-      ];
-    })
 
 pub few_asked : length all_asked < 65536
 unfolding parts

@@ -18,6 +18,7 @@ pub mod FormLemmas
 pub mod AloneLineLemmas
 pub mod OperatorLemmas
 pub mod WritingLemmas
+pub mod CandidateLemmas
 pub mod ChangedLemmas
 pub mod OperationCodeLemmas
 pub mod OwnRowLemmas

@@ -1,5 +1,5 @@
 -- What stands in a hole.
-use Rattle.std.proofs.Common.{◌≡◌, ℕ, suc, ◌+◌, ◌-◌, ◌<◌, ◌≤◌, Bool, true, false, List, [], ◌∷◌, Option, Some, None, refl, sym, ap, subst, ◌∙◌, arith}
+use Rattle.std.proofs.Common.{◌≡◌, ℕ, suc, ◌+◌, ◌-◌, ◌<◌, ◌≤◌, inl, inr, Bool, true, false, List, [], ◌∷◌, length, Option, Some, None, refl, sym, ap, subst, ◌∙◌, arith}
 use Rattle.std.specs.Prelude.{◌||◌, if◌then◌else◌, slice_get}
 use Rattle.std.specs.Option.{option_flatten}
 use Rattle.wasm_code.specs.Instruction.{Instruction}
@@ -11,13 +11,16 @@ use Rattle.rewrite_rules.specs.Code.{Leaves, writes, traps, asks}
 use Rattle.body_rewrites.specs.declared.trees.Tree.{Tree}
 use Rattle.body_rewrites.specs.Trees.{tree_after, Stands, IsTree, HasTree, AreTrees}
 use Rattle.body_rewrites.specs.Cutting.{HasPart, AreCut}
-use Rattle.body_rewrites.specs.Matching.{is_hole, operand_at, operand_code, instructions, operators_in}
+use Rattle.body_rewrites.specs.Matching.{is_hole, operand_at, operand_code, instructions, operators_in, HaveSameCode}
+use Rattle.body_rewrites.specs.Differing.{IsTreeIn}
 use Rattle.body_rewrites.specs.Operands.{has_hole, IsOperand, IsOperandOf}
 use Rattle.body_rewrites.specs.Places.{IsTreeCode}
 use Rattle.body_rewrites.proofs.StandsLemmas.{Operators}
 use Rattle.body_rewrites.proofs.CutLemmas.{one_start, no_item}
 use Rattle.body_rewrites.proofs.CodeLemmas.{part_ordered}
 use Rattle.body_rewrites.proofs.AlikeLemmas.{code_there}
+use Rattle.body_rewrites.proofs.AloneLemmas.{one_code}
+use Rattle.body_rewrites.proofs.MatchingLemmas.{same_length}
 use Rattle.body_rewrites.proofs.LeavesLemmas.{trees_leave}
 
 -- that code stands there, before `end`
@@ -164,3 +167,39 @@ module _ (context : Context) (operators : Operators) where
         inside = before_end n ps ks end c;
         stands = subst (Stands operators place.0 place.1) (sym (code_there operators place.0 place.1 h.is.code there)) there;
       }
+
+  -- wherever a tree's code stands it is one by the list of trees
+  tree_told : (trees : List (Option Tree)) (place : ℕ × ℕ) (start end : ℕ) → AreTrees context operators trees → HasTreeThere context operators place →
+      start ≤ end → end ≤ length operators → HaveSameCode operators (start, end) place → IsTreeIn trees start end
+  tree_told trees place start end a h l k same =
+      let inside = h.is.inside in
+      let ordered = h.is.ordered in
+      let long = same_length operators (start, end) place k (omega (arith, h.ends, inside)) same in
+      let last : end - 1 + 1 ≡ end = omega (arith, h.ends, ordered, long) in
+      let ends : h.at + 1 ≡ place.1 = omega (arith, h.ends) in
+      let whole = subst (λ m. Stands operators place.0 m h.is.code) ends h.is.stands in
+      let code : same.0 ≡ h.is.code = one_code operators place.0 place.1 same.0 h.is.code same.2 whole in
+      let is : IsTree context operators start (end - 1) h.gives = record {
+        inside = omega (arith, last, k);
+        ordered = omega (arith, h.ends, ordered, long);
+        code = h.is.code;
+        stands = subst (Stands operators start (end - 1 + 1)) code (subst (λ m. Stands operators start m same.0) (sym last) same.1);
+        typed = h.is.typed;
+      } in
+      let (tree, at, has) = kept trees start (end - 1) h.gives a is in
+      inr (tree, at, one_start context operators tree.start start (end - 1) tree.gives h.gives has.is is)
+
+  -- so it is with what stands in a hole
+  pub operand_told : (trees : List (Option Tree)) (n : ℕ) (ps : List Part) (ks : List ℕ) (end : ℕ) → AreTrees context operators trees →
+      AreCut context operators ps ks end → (start behind : ℕ) → start ≤ behind → behind ≤ length operators →
+      HaveSameCode operators (start, behind) (operand_at ps ks end n) → IsTreeIn trees start behind
+  unfolding Told
+  operand_told trees n ps ks end a c start behind l k same = go (has_hole ps n) (operand_at ps ks end n) (told n ps ks end c) same
+    where
+      go : (b : Bool) (place : ℕ × ℕ) → Told b place → HaveSameCode operators (start, behind) place → IsTreeIn trees start behind
+      go true place h same = tree_told trees place start behind a h l k same
+      go false place h same = inl (
+          let e : place.0 ≡ 0 = ap (λ (q : ℕ × ℕ). q.0) h in
+          let f : place.1 ≡ 0 = ap (λ (q : ℕ × ℕ). q.1) h in
+          let long = same_length operators (start, behind) place k (omega (arith, f)) same in
+          omega (arith, e, f, long, l))

@@ -1,5 +1,5 @@
 -- The lines of the table, as operators are asked for them: for private functions (this project).
-use Rattle.std.specs.Prelude.{◌≡◌, ℕ, suc, ◌<◌, ◌++◌, Bool, true, false, if◌then◌else◌, List, [], ◌∷◌, map, length, Option, Some, None, slice_get}
+use Rattle.std.specs.Prelude.{◌≡◌, ◌⊎◌, ◌↔◌, ℕ, suc, ◌≤◌, ◌<◌, ◌++◌, Bool, true, false, if◌then◌else◌, List, [], ◌∷◌, map, length, Option, Some, None, slice_get}
 use Rattle.std.specs.Global.{Vec}
 use Rattle.wasm_code.specs.declared.operator.Operator.{Operator}
 use Rattle.peephole_machine.specs.declared.integer.IntegerType.{IntegerType}
@@ -11,6 +11,7 @@ use Rattle.body_rewrites.specs.declared.asked.Form.{Form}
 use Rattle.body_rewrites.specs.declared.asked.Form.TheVariants.{Alone}
 use Rattle.body_rewrites.specs.declared.here.Here.{Here}
 use Rattle.body_rewrites.specs.declared.rewrite.Rewrite.{Rewrite}
+use Rattle.body_rewrites.specs.declared.root.Root.{Root}
 use Rattle.body_rewrites.specs.Alone.{form_of}
 use Rattle.body_rewrites.specs.Cutting.{IsTreeTold}
 use Rattle.body_rewrites.specs.Rewrites.{asked_widths, IsAsked}
@@ -96,6 +97,25 @@ picked list (n ∷ ns) = listed (slice_get list n) ++ picked list ns
 -- the class is marked
 abbrev pub IsUsed : (used : List Bool) → (class : ℕ) → Type 0
 IsUsed used class = slice_get used class ≡ Some true
+
+-- From the first to before the second are the classes where a line with the root may apply, and where the line is a candidate.
+abbrev pub AreRootClasses : Root → (classes : ℕ × ℕ) → Type 0
+AreRootClasses root classes = (class : ℕ) → class < 169 → (fits class true root ≡ true) ↔ ((classes.0 ≤ class) × (class < classes.1))
+
+abbrev pub AreCandidateClasses : Asked → (classes : ℕ × ℕ) → Type 0
+AreCandidateClasses asked classes = (class : ℕ) → class < 169 → (is_candidate class asked ≡ true) ↔ ((classes.0 ≤ class) × (class < classes.1))
+
+-- there are so many lists, all of them empty
+pub record AreEmpty (count : ℕ) (lists : List (Vec ℕ)) : Type 0 where
+  pub long : length lists ≡ count
+  pub each : (class : ℕ) (v : Vec ℕ) → slice_get lists class ≡ Some v → v.items ≡ []
+
+-- The lists of marked classes, from the first to before the second of these, have the number more, and others are as they were.
+pub record AddsNumber (number : ℕ) (used : List Bool) (classes : ℕ × ℕ) (old new : List (Vec ℕ)) : Type 0 where
+  pub long : length new ≡ length old
+  pub within : (class : ℕ) (v : Vec ℕ) → classes.0 ≤ class → class < classes.1 → IsUsed used class → slice_get new class ≡ Some v →
+      (w : Vec ℕ) × (slice_get old class ≡ Some w) × (v.items ≡ w.items ++ number ∷ [])
+  pub beyond : (class : ℕ) → (class < classes.0) ⊎ (classes.1 ≤ class) → slice_get new class ≡ slice_get old class
 
 -- There is a list for each class, with the numbers of its candidates where the class is marked.
 pub record AreLists (used : List Bool) (count : ℕ) (lists : List (Vec ℕ)) : Type 0 where

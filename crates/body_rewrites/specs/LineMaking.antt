@@ -26,7 +26,3 @@ pub record LineChangeGrows (context : Context) (operators : List (Operator × �
   pub change : Change
   pub makes : IsLineChange context operators line at change
   pub growth_is : growth_of operators at change ≡ growth
-
--- it is a place of the line before `end`, by some module and locals (for a private function)
-abbrev pub IsSomePlaceOf : List (Operator × ℕ) → Line → (end : ℕ) → Place → Type 0
-IsSomePlaceOf operators line end place = (context : Context) × IsPlaceOf context operators line end place

@@ -7,7 +7,7 @@ use crate::asked::Form;
 use crate::growth::Growth;
 use crate::trees::Tree;
 use peephole_machine::IntegerType;
-use rewrite_rules::{Row, Side, Step, Widths, holes_of};
+use rewrite_rules::{Side, Step, TableRow, Widths, holes_of};
 use wasm_types::PrimitiveTypeInfo;
 
 // Whether the side is an operand alone.
@@ -21,23 +21,23 @@ fn are_alone(side: &Side) -> bool
 }
 
 // Whether the row's right side has an operand more than once, where it has one alone.
-fn doubles(row: &Row) -> bool
+fn doubles(row: &TableRow) -> bool
     ensures { result ≡ doubles row.now }
 {
-    holes_of(&row.right).len() > 1
+    holes_of(row.right()).len() > 1
 }
 
 /// What the row's lines are.
-pub(crate) fn form_of(row: &Row) -> Form
+pub(crate) fn form_of(row: &TableRow) -> Form
     ensures { result ≡ form_of row.now }
 {
-    if let Widths::Own(own) = row.widths {
+    if let Widths::Own(own) = row.widths() {
         return Form::Own(own);
     }
-    if let Widths::Operands(_, _, _) = row.widths {
+    if let Widths::Operands(_, _, _) = row.widths() {
         return Form::Other;
     }
-    if are_alone(&row.left) {
+    if are_alone(row.left()) {
         return Form::Alone(doubles(row));
     }
     Form::Other

@@ -1,5 +1,6 @@
 //! Lines of the table, as operators are asked for them.
 ghost use Rattle.std.specs.Prelude.{◌≡◌, ◌++◌, OnOk, IfOk};
+ghost use Rattle.body_rewrites.specs.Alone.{form_of};
 ghost use Rattle.body_rewrites.specs.Rewrites.{asked_widths};
 ghost use Rattle.body_rewrites.specs.Asking.{asked_as, asked_for, all_asked};
 ghost use Rattle.body_rewrites.specs.Listing.{widths_told};
@@ -10,7 +11,7 @@ use crate::rewrite::Rewrite;
 use crate::root::Root;
 use crate::roots::root_of;
 use peephole_machine::IntegerType;
-use rewrite_rules::{Own, Row, Widths, row_at, row_count, width_by};
+use rewrite_rules::{Own, TableRow, Widths, row_count, width_by};
 use std::alloc::{AllocError, Global};
 
 /// What a line is, by which it is asked.
@@ -25,7 +26,7 @@ pub(crate) enum Form {
 }
 
 /// A line, with the number of its row, and what has to stand where it applies.
-#[derive(Clone, Copy)]
+#[derive(Drop)]
 pub(crate) struct Asked {
     pub(crate) number: usize,
     pub(crate) form: Form,
@@ -36,6 +37,21 @@ pub(crate) struct Asked {
 impl Asked {
     ghost use Rattle.std.specs.Prelude.{◌≡◌};
     ghost use Rattle.body_rewrites.specs.Asking.{rewrite_of};
+
+    /// The same one again.
+    pub(crate) fn again(&self) -> Asked
+        ensures { result ≡ self.now }
+    {
+        Asked {
+            number: self.number,
+            form: self.form,
+            root: self.root,
+            line: Line {
+                row: self.line.row.again(),
+                width: self.line.width,
+            },
+        }
+    }
 
     /// The rewrite of the operator that it is asked for.
     pub(crate) fn rewrite_at(&self, at: usize) -> Rewrite
@@ -63,27 +79,29 @@ fn widths_of(widths: Widths) -> (IntegerType, Option<IntegerType>)
 }
 
 // The line of the row with the number for the width.
-fn asked_as(number: usize, row: Row, width: IntegerType) -> Asked
+fn asked_as(number: usize, row: TableRow, form: Form, width: IntegerType) -> Asked
+    requires { form ≡ form_of row }
     ensures { result ≡ asked_as number row width }
 {
     let line = Line { row, width };
     Asked {
         number,
-        form: form_of(&row),
+        form,
         root: root_of(&line),
         line,
     }
 }
 
 // Adds the lines of the row with the number.
-fn add_asked(number: usize, row: Row, list: &mut Vec<Asked>) -> Result<(), AllocError>
+fn add_asked(number: usize, row: TableRow, list: &mut Vec<Asked>) -> Result<(), AllocError>
     ensures { OnOk result (list.new.items ≡ list.old.items ++ asked_for number row) }
 {
-    let (width, more) = widths_of(row.widths);
-    list.push(asked_as(number, row, width))?;
+    let (width, more) = widths_of(row.widths());
+    let form = form_of(&row);
+    list.push(asked_as(number, row.again(), form, width))?;
     match more {
         Some(width) => {
-            list.push(asked_as(number, row, width))?;
+            list.push(asked_as(number, row, form, width))?;
             Ok(())
         }
         None => Ok(()),
@@ -96,7 +114,7 @@ pub(crate) fn all_asked(alloc: Global) -> Result<Vec<Asked>, AllocError>
 {
     let mut list = Vec::new(alloc);
     for number in 0..row_count() {
-        if let Some(row) = row_at(number) {
+        if let Some(row) = TableRow::numbered(number) {
             add_asked(number, row, &mut list)?;
         }
     }

@@ -1,16 +1,18 @@
 //! The lines of the table, laid out for counting what they make of the operators of a body.
-ghost use Rattle.std.specs.Prelude.{◌≡◌, ◌++◌, ◌<◌, ◌||◌, [], ℕ, true, length, option_to_list, slice_get, IfOk, IfSome, IfNone, OnOk};
+ghost use Rattle.std.specs.Prelude.{◌≡◌, ◌++◌, ◌<◌, ◌≤◌, ◌||◌, [], ℕ, true, length, option_to_list, slice_get, IfOk, IfSome, IfNone, OnOk};
+ghost use Rattle.std.specs.List.{filter};
 ghost use Rattle.wasm_types.specs.declared.types.PrimitiveTypeInfo.TheVariants as PrimitiveTypeInfo;
 ghost use Rattle.rewrite_rules.specs.Names.{rule_of};
 ghost use Rattle.body_rewrites.specs.Listing.{AreRules};
-ghost use Rattle.body_rewrites.specs.Asking.{all_asked, is_candidate, numbers_from, candidates, IsUsed, AreLists};
-ghost use Rattle.body_rewrites.specs.Counting.{sample, alone_slot, alone_slots, AreUsed};
+ghost use Rattle.body_rewrites.specs.Asking.{all_asked, candidates, AddsNumber, AreRootClasses, AreCandidateClasses, AreEmpty, IsUsed, AreLists};
+ghost use Rattle.body_rewrites.specs.Counting.{sample, is_alone, alone_slot, alone_slots, AreUsed};
 
 use crate::alone::takes;
 use crate::asked::{Asked, Form, all_asked};
 use crate::counts::slot_of;
 use crate::growth::Growth;
-use crate::roots::{class_at, fits};
+use crate::root::Root;
+use crate::roots::class_at;
 use crate::trees::Tree;
 use rewrite_rules::rules_of_rows;
 use std::alloc::{AllocError, Global};
@@ -73,58 +75,80 @@ fn mark_classes(operators: &[OperatorAndByteOffset], used: &mut [bool])
     }
 }
 
-// Whether the line may apply where an instruction of that class stands, and its left side is no operand alone.
-fn is_candidate(asked: &Asked, class: usize) -> bool
-    ensures { result ≡ is_candidate class asked.now }
+// The class behind the last one, of which there are 169.
+fn behind_class(last: usize) -> usize
+    ensures same { (class : ℕ) → class < 169 → class ≤ last → class < result }
+    ensures only { (class : ℕ) → class < result → class ≤ last }
+    ensures inside { result ≤ 169 }
+{
+    if last < 168 { last + 1 } else { 169 }
+}
+
+// The first class and the one behind the last of the instructions where a line with the root may apply.
+fn classes_of_root(root: Root) -> (usize, usize)
+    ensures are { AreRootClasses root result }
+    ensures inside { result.1 ≤ 169 }
+{
+    match root {
+        Root::Classes(first, last) => (first, behind_class(last)),
+        Root::Tree => (0, 169),
+        Root::Any => (0, 169),
+    }
+}
+
+// The same of the line; none where its left side is an operand alone.
+fn classes_of(asked: &Asked) -> (usize, usize)
+    ensures are { AreCandidateClasses asked.now result }
+    ensures inside { result.1 ≤ 169 }
 {
     match asked.form {
-        Form::Alone(_) => false,
-        Form::Own(_) => fits(asked.root, class, true),
-        Form::Other => fits(asked.root, class, true),
+        Form::Own(_) => classes_of_root(asked.root),
+        Form::Alone(_) => (0, 0),
+        Form::Other => classes_of_root(asked.root),
     }
 }
 
-// The numbers of those that do.
-fn candidates_of(alloc: Global, lines: &[Asked], class: usize) -> Result<Vec<u16>, AllocError>
-    requires { length lines.now < 65536 }
-    ensures { IfOk result (λ list. list.items ≡ numbers_from (is_candidate class) 0 lines.now) }
+// Adds the number to the list of each used class, from the first one to before the end.
+fn add_number(
+    number: usize,
+    classes: (usize, usize),
+    used: &[bool],
+    lists: &mut [Vec<u16>],
+) -> Result<(), AllocError>
+    requires number { number < 65536 }
+    requires used { classes.1 ≤ length used.now }
+    requires lists { classes.1 ≤ length lists.old }
+    ensures { OnOk result (AddsNumber number used.now classes lists.old lists.new) }
 {
-    let mut list = Vec::new(alloc);
-    for number in 0..lines.len() {
-        if is_candidate(&lines[number], class) {
-            list.push(number as u16)?;
+    for class in classes.0..classes.1 {
+        if used[class] {
+            lists[class].push(number as u16)?;
         }
     }
-    Ok(list)
+    Ok(())
 }
 
-// The same where the class is used, and else none.
-fn list_of(
-    alloc: Global,
-    lines: &[Asked],
-    class: usize,
-    is_used: bool,
-) -> Result<Vec<u16>, AllocError>
-    requires { length lines.now < 65536 }
-    ensures { IfOk result (λ list. is_used ≡ true
-        → list.items ≡ numbers_from (is_candidate class) 0 lines.now) }
+// An empty list for each class.
+fn empty_lists(alloc: Global) -> Result<Vec<Vec<u16>>, AllocError>
+    ensures { IfOk result (λ lists. AreEmpty 169 lists.items) }
 {
-    if !is_used {
-        return Ok(Vec::new(alloc));
+    let mut lists = Vec::new(alloc);
+    for _ in 0..169usize {
+        lists.push(Vec::new(alloc))?;
     }
-    candidates_of(alloc, lines, class)
+    Ok(lists)
 }
 
-// The same for each class.
+// The numbers of the lines that may apply where an instruction of each used class stands, but those of an operand alone.
 fn lists_of(alloc: Global, lines: &[Asked], used: &[bool]) -> Result<Vec<Vec<u16>>, AllocError>
     requires lines { lines.now ≡ all_asked }
     requires used { length used.now ≡ 169 }
     ensures { IfOk result (λ lists. AreLists used.now 169 lists.items) }
 {
-    let mut lists = Vec::new(alloc);
-    for class in 0..used.len() {
-        let list = list_of(alloc, lines, class, used[class])?;
-        lists.push(list)?;
+    let mut lists = empty_lists(alloc)?;
+    for number in 0..lines.len() {
+        let classes = classes_of(&lines[number]);
+        add_number(number, classes, used, &mut lists)?;
     }
     Ok(lists)
 }
@@ -179,15 +203,40 @@ fn add_slot(
     }
 }
 
-// The places of the counts for what lines of an operand alone make of such a tree.
+// Whether the line's left side is an operand alone.
+fn is_alone(asked: &Asked) -> bool
+    ensures { result ≡ is_alone asked.now }
+{
+    match asked.form {
+        Form::Alone(_) => true,
+        Form::Own(_) => false,
+        Form::Other => false,
+    }
+}
+
+// Those lines.
+fn alone_lines(alloc: Global, lines: &[Asked]) -> Result<Vec<Asked>, AllocError>
+    ensures { IfOk result (λ list. list.items ≡ filter is_alone lines.now) }
+{
+    let mut list = Vec::new(alloc);
+    for asked in lines {
+        if is_alone(asked) {
+            list.push(asked.again())?;
+        }
+    }
+    Ok(list)
+}
+
+// The places of the counts for what lines of an operand alone make of such a tree; `lines` are those lines.
 fn alone_slots(
     alloc: Global,
     rules: &[u16],
     lines: &[Asked],
     tree: Tree,
 ) -> Result<Vec<usize>, AllocError>
-    requires { AreRules rules.now }
-    ensures { IfOk result (λ list. list.items ≡ alone_slots tree lines.now) }
+    requires rules { AreRules rules.now }
+    requires lines { lines.now ≡ filter is_alone all_asked }
+    ensures { IfOk result (λ list. list.items ≡ alone_slots tree all_asked) }
 {
     let mut list = Vec::new(alloc);
     for i in 0..lines.len() {
@@ -223,12 +272,13 @@ impl Counter {
         let rules = rules_of_rows(alloc)?;
         let used = used_classes(alloc, operators)?;
         let lists = lists_of(alloc, lines.as_slice(), used.as_slice())?;
-        let all = lines.as_slice();
+        let lone = alone_lines(alloc, lines.as_slice())?;
+        let alone = lone.as_slice();
         let rows = rules.as_slice();
-        let calm_i32 = alone_slots(alloc, rows, all, sample(PrimitiveTypeInfo::I32, false))?;
-        let busy_i32 = alone_slots(alloc, rows, all, sample(PrimitiveTypeInfo::I32, true))?;
-        let calm_i64 = alone_slots(alloc, rows, all, sample(PrimitiveTypeInfo::I64, false))?;
-        let busy_i64 = alone_slots(alloc, rows, all, sample(PrimitiveTypeInfo::I64, true))?;
+        let calm_i32 = alone_slots(alloc, rows, alone, sample(PrimitiveTypeInfo::I32, false))?;
+        let busy_i32 = alone_slots(alloc, rows, alone, sample(PrimitiveTypeInfo::I32, true))?;
+        let calm_i64 = alone_slots(alloc, rows, alone, sample(PrimitiveTypeInfo::I64, false))?;
+        let busy_i64 = alone_slots(alloc, rows, alone, sample(PrimitiveTypeInfo::I64, true))?;
         Ok(Counter {
             lines,
             rules,

@@ -251,7 +251,7 @@ fn lines_of(alloc: Global, counter: &Counter, rule: Rule) -> Result<Vec<Asked>, 
     let mut list = Vec::new(alloc);
     for asked in counter.lines() {
         if is_of(counter.rules(), asked, rule) {
-            list.push(*asked)?;
+            list.push(asked.again())?;
         }
     }
     Ok(list)

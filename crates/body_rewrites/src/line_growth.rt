@@ -95,10 +95,10 @@ fn other_growth(body: &Body<'_>, line: &Line, at: usize) -> Option<Growth>
         return None;
     };
     let old = (at + 1).saturating_sub(place.start);
-    match side_growth(body.operators, &line.row.right, line.width, &place, old) {
+    match side_growth(body.operators, line.row.right(), line.width, &place, old) {
         Growth::Shrinks => Some(Growth::Shrinks),
         Growth::Keeps => {
-            if !changes(body.operators, line, at + 1, &place) {
+            if !changes(body, line, at + 1, &place) {
                 return None;
             }
             Some(Growth::Keeps)

@@ -1,30 +1,26 @@
 //! What a line of the table makes of an operator.
 ghost use Rattle.std.specs.Prelude.{◌↔◌, ◌<◌, length, IfSome, IfNone, IsTrue};
-ghost use Rattle.body_rewrites.specs.Places.{HasItsTrees, IsLine};
+ghost use Rattle.body_rewrites.specs.Places.{context_of, HasItsTrees, IsLine, IsPlaceOf};
 ghost use Rattle.body_rewrites.specs.Rewrites.{Differ};
 ghost use Rattle.body_rewrites.specs.Writing.{by_line};
-ghost use Rattle.body_rewrites.specs.LineMaking.{IsSomePlaceOf, IsLineCodeOf, LineMakesNothing};
+ghost use Rattle.body_rewrites.specs.LineMaking.{IsLineCodeOf, LineMakesNothing};
 
 use crate::changes::NewCode;
 use crate::differing::differ;
 use crate::places::{Body, Line, Place, place_of};
 use crate::writing::line_code;
-use wasm_code::OperatorAndByteOffset;
 
 /// Whether the line writes other operators in its place, which ends before `end`, than stand there.
-pub(crate) fn changes(
-    operators: &[OperatorAndByteOffset],
-    line: &Line,
-    end: usize,
-    place: &Place,
-) -> bool
+pub(crate) fn changes(body: &Body<'_>, line: &Line, end: usize, place: &Place) -> bool
+    requires trees { HasItsTrees body.now }
     requires line { IsLine line.now }
-    requires place { IsSomePlaceOf operators.now line.now end place.now }
-    ensures { IsTrue result
-        ↔ Differ operators.now place.now.start end ((by_line line.now place.now).pieces 0) }
+    requires place { IsPlaceOf
+        (context_of body.now) body.now.operators.now line.now end place.now }
+    ensures { IsTrue result ↔ Differ body.now.operators.now place.now.start end
+        ((by_line line.now place.now).pieces 0) }
 {
     let code = line_code(line, place, 0);
-    differ(operators, code.start, end, &code.pieces)
+    differ(body.operators, body.trees, code.start, end, &code.pieces)
 }
 
 // What the line makes at the operator, by the word; none where it makes nothing.
@@ -38,7 +34,7 @@ pub(crate) fn line_made(body: &Body<'_>, line: &Line, at: usize, word: u64) -> O
     let Some(place) = place_of(body, line, at + 1) else {
         return None;
     };
-    if !changes(body.operators, line, at + 1, &place) {
+    if !changes(body, line, at + 1, &place) {
         return None;
     }
     Some(line_code(line, &place, word))

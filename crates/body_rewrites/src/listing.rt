@@ -104,7 +104,8 @@ fn add_by(
 /// Every rewrite of a body by one of the rules, in the order of the operators, the rows and the widths.
 ///
 /// It takes time linear in the body, times the lines of the table, but for operands that are compared: in a hole that stands twice, and
-/// where they change places. The only error is that memory was refused.
+/// where they change places. These are only compared where both are of one length, which adds no more than the logarithm of the body's
+/// length as a factor. The only error is that memory was refused.
 pub fn rewrites_of_body(
     alloc: Global,
     body: &Body<'_>,

@@ -17,7 +17,7 @@ pub fn made(body: &Body<'_>, line: &Line, at: usize, word: u64) -> Option<NewCod
     ensures some { IfSome result (λ code. IsCodeOf body.now line.now at word code) }
     ensures none { IfNone result (MakesNothing body.now line.now at) }
 {
-    match line.row.widths {
+    match line.row.widths() {
         Widths::Own(own) => own_code(body, own, at, word),
         Widths::Both => line_made(body, line, at, word),
         Widths::Only(_) => line_made(body, line, at, word),

@@ -13,14 +13,14 @@ use crate::parts::Parts;
 use crate::trees::Tree;
 use peephole_machine::IntegerType;
 use rewrite_rules::laws::{holes_are_told, parts_are_the_code, sides_are_parts, table_is_right};
-use rewrite_rules::{Effects, Found, Row};
+use rewrite_rules::{Effects, Found, TableRow};
 use wasm_code::OperatorAndByteOffset;
 use wasm_types::{ModuleInfo, PrimitiveTypeInfo};
 
 /// A line of the table: a row, for one of its widths.
-#[derive(Clone, Copy, Debug, PartialEq, Eq)]
+#[derive(Drop)]
 pub struct Line {
-    pub row: Row,
+    pub row: TableRow,
     pub width: IntegerType,
 }
 
@@ -143,7 +143,7 @@ pub fn place_of(body: &Body<'_>, line: &Line, end: usize) -> Option<Place>
     sides_are_parts();
     parts_are_the_code();
     lefts_are_instances();
-    let parts = Parts::new(&line.row.left, line.width);
+    let parts = Parts::new(line.row.left(), line.width);
     let Some(found) = find(body.operators, body.trees, &parts, end) else {
         return None;
     };

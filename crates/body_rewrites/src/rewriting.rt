@@ -14,7 +14,7 @@ use crate::places::{Body, Line};
 use crate::rewrite::Rewrite;
 use body_splices::splice;
 use peephole_machine::IntegerType;
-use rewrite_rules::{Widths, row_at, width_by};
+use rewrite_rules::{TableRow, Widths, width_by};
 use std::alloc::{AllocError, Global};
 use wasm_code::{Function, SinkError};
 use wasm_types::PrimitiveTypeInfo;
@@ -38,9 +38,9 @@ fn line_of(rewrite: Rewrite) -> Option<Line>
     ensures some { IfSome result (λ line. IsLineOf rewrite line) }
     ensures none { IfNone result ((line : Line) → ¬ (IsLineOf rewrite line)) }
 {
-    let row = row_at(rewrite.row)?;
+    let row = TableRow::numbered(rewrite.row)?;
     let width = rewrite.width;
-    is_asked(row.widths, width).then_some(Line { row, width })
+    is_asked(row.widths(), width).then_some(Line { row, width })
 }
 
 // The type of the global that is asked for, as a list.

@@ -92,14 +92,14 @@ fn own_root(own: Own) -> Root
 fn left_root(line: &Line) -> Root
     ensures { result ≡ first_root (left_parts line.now) }
 {
-    first_root(&Parts::new(&line.row.left, line.width))
+    first_root(&Parts::new(line.row.left(), line.width))
 }
 
 /// Where the line applies.
 pub(crate) fn root_of(line: &Line) -> Root
     ensures { result ≡ root_of line.now }
 {
-    match line.row.widths {
+    match line.row.widths() {
         Widths::Own(own) => own_root(own),
         Widths::Both => left_root(line),
         Widths::Only(_) => left_root(line),

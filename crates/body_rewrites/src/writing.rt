@@ -133,7 +133,7 @@ pub(crate) fn line_code(line: &Line, place: &Place, word: u64) -> NewCode
     parts_are_instructions();
     NewCode {
         start: place.start,
-        pieces: pieces_of(&line.row.right, line.width, place, word),
+        pieces: pieces_of(line.row.right(), line.width, place, word),
         asks: None,
     }
 }

@@ -4,7 +4,8 @@ use Rattle.std.specs.Borrow.{Bor}
 use Rattle.rewrite_rules.specs.declared.table.Condition.{Condition}
 use Rattle.rewrite_rules.specs.declared.table.Step.{Step}
 use Rattle.rewrite_rules.specs.declared.table.Widths.{Widths}
-use Rattle.rewrite_rules.specs.Table.{Text, Entry}
+use Rattle.rewrite_rules.specs.declared.table.Row.{Row}
+use Rattle.rewrite_rules.specs.Table.{Text, Entry, row_in}
 
 -- a text that it refers to
 abbrev pub text_of : Bor (List ℕ) → Text
@@ -21,3 +22,7 @@ shown l = (option_map text_of l.0, l.1, l.2, l.3, l.4)
 -- one that is referred to
 abbrev pub shown_at : Option (Bor Held) → Option Entry
 shown_at o = option_map (λ (l : Bor Held). shown l.now) o
+
+-- the row of one
+abbrev pub row_shown : Held → Row
+row_shown l = row_in (shown l)

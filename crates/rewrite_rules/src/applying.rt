@@ -8,7 +8,8 @@ ghost use Rattle.rewrite_rules.specs.Applying.{IsFormed, IsTold};
 use crate::holes::holes_of;
 use crate::laws::{holes_are_told, types_are_told};
 use crate::order::{Effects, may_move};
-use crate::table::{Row, Side, Step};
+use crate::standing::TableRow;
+use crate::table::{Side, Step};
 use peephole_machine::IntegerType;
 use wasm_types::PrimitiveTypeInfo;
 
@@ -46,13 +47,13 @@ fn has_exact(side: &Side) -> bool
     false
 }
 
-impl Row {
+impl TableRow {
     // Whether the constants with these numbers are as the row asks, for the width.
     fn is_asked(&self, width: IntegerType, numbers: &[u64]) -> bool
         ensures { result ≡ all_hold (constant_at numbers.now)
             (conditions_for width self.now.condition) }
     {
-        match self.condition {
+        match self.condition() {
             Some(condition) => condition.holds(width, numbers),
             None => true,
         }
@@ -62,7 +63,7 @@ impl Row {
     pub fn needs_exact(&self) -> bool
         ensures { result ≡ needs_exact self.now }
     {
-        has_exact(&self.left) || has_exact(&self.right)
+        has_exact(self.left()) || has_exact(self.right())
     }
 
     // Whether what runs the module is as the row asks.
@@ -82,8 +83,8 @@ impl Row {
     {
         types_are_told();
         holes_are_told();
-        let left = holes_of(&self.left);
-        let right = holes_of(&self.right);
+        let left = holes_of(self.left());
+        let right = holes_of(self.right());
         let asked = self.is_asked(width, found.numbers);
         let fit = self.types_fit(width, found.types);
         let moves = may_move(found.effects, &left, &right);

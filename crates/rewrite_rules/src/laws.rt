@@ -52,7 +52,7 @@ pub fn parts_are_instructions()
     sides_are_parts();
 }
 
-/// `Row::types_fit` tells exactly whether operands leave the types of their holes.
+/// `TableRow::types_fit` tells exactly whether operands leave the types of their holes.
 pub fn types_are_told()
     ensures { TypesAreTold }
 {}

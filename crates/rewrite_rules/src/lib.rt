@@ -14,6 +14,7 @@ mod operator_names;
 mod order;
 mod pattern;
 mod rule;
+mod standing;
 mod table;
 #[cfg(test)]
 mod tests;
@@ -30,5 +31,6 @@ pub use names::{all_rules, rule_count, rule_names, rules_of_rows};
 pub use order::{Effects, may_move};
 pub use pattern::{Number, Operator, Part};
 pub use rule::{Rule, UnknownRule};
+pub use standing::TableRow;
 pub use table::{Condition, Own, Row, Side, Step, Widths, width_by};
 pub use texts::Term;

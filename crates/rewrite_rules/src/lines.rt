@@ -162,7 +162,7 @@ const COUNTS: [usize; 13] = [
 ];
 
 // The line with that number in the table.
-fn line_at(number: usize) -> Option<&'static TableLine>
+pub(crate) fn line_at(number: usize) -> Option<&'static TableLine>
     ensures { shown_at result ≡ slice_get entries number }
 {
     let mut rest = number;

@@ -6,7 +6,8 @@ ghost use Rattle.rewrite_rules.specs.Pattern.{kind_of};
 ghost use Rattle.rewrite_rules.specs.Table.{kinds_for};
 ghost use Rattle.rewrite_rules.specs.Operands.{fixed_in, select_type, has_type, have_types, types_fit};
 
-use crate::table::{Row, Widths};
+use crate::standing::TableRow;
+use crate::table::Widths;
 use peephole_machine::IntegerType;
 use wasm_types::PrimitiveTypeInfo;
 
@@ -101,13 +102,14 @@ fn have_types(
     true
 }
 
-impl Row {
+impl TableRow {
     /// Whether operands of these types have those of the row's holes, for the width; `types` has for each hole the type of the operand in
     /// it, or none where the row has no such hole.
     pub fn types_fit(&self, width: IntegerType, types: &[Option<PrimitiveTypeInfo>]) -> bool
         ensures { result ≡ types_fit (kinds_for self.now.widths width) types.now }
     {
-        let select = select_type(self.widths, width, types);
-        is_numeric(select) && have_types(self.widths, width, types, select)
+        let widths = self.widths();
+        let select = select_type(widths, width, types);
+        is_numeric(select) && have_types(widths, width, types, select)
     }
 }

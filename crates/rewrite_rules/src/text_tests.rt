@@ -1,6 +1,6 @@
 //! The texts of rows, and what they do to the number of instructions.
 
-use crate::{Growth, Number, Row, Step, Widths, row_at};
+use crate::{Growth, Number, Row, Step, TableRow, Widths, row_at};
 use peephole_machine::{Binary, IntegerType, Operation};
 use std::test::Fail;
 use wasm_code::Imm;
@@ -148,7 +148,6 @@ fn prints_exact_rows(rt: HostRuntime) -> Result<(), Fail> {
         let text = format!(in rt.alloc(); "{row}")?;
         assert!(rt; text.as_str() == expected, "{row}");
         assert!(rt; row.growth() == growth, "{row}");
-        assert!(rt; row.needs_exact(), "{row}");
     }
     Ok(())
 }
@@ -157,7 +156,7 @@ fn prints_exact_rows(rt: HostRuntime) -> Result<(), Fail> {
 #[test]
 fn no_row_needs_exact_rows(rt: HostRuntime) -> Result<(), Fail> {
     for number in 0..crate::row_count() {
-        let row = row_at(number).expect(&rt, "it is a row's number");
+        let row = TableRow::numbered(number).expect(&rt, "it is a row's number");
         assert!(rt; !row.needs_exact(), "row {number}");
     }
     Ok(())

@@ -9,7 +9,7 @@ use Rattle.body_rewrites.proofs.asked.all_asked.Goals as goal
 pub loop-number-preserved : goal.loop-number-preserved
 loop-number-preserved c =
     let number = c.loop-number.number in
-    elim c.match-row_at.branch [
+    elim c.match-numbered.branch [
       | in-Some+in_ok-add_asked w ↦
           ap (λ (v : Vec Asked Global). v.items) w.list-is
           ∙ asked_next number _ c.loop-number.list.items w.add_asked.new.list.items (sym w.in-Some.ensures) c.loop-number.invariant w.in_ok-add_asked.ensures

@@ -1,6 +1,6 @@
--- Those of the classes so far.
-use Rattle.body_rewrites.specs.Asking.{AreLists}
+-- Those of the lines so far.
+use Rattle.body_rewrites.proofs.CandidateLemmas.{AreListsSo}
 use Rattle.body_rewrites.proofs.counter.lists_of.Given as goal
 
-abbrev pub invariant-loop-class : goal.invariant-loop-class
-invariant-loop-class l = AreLists l.used l.class l.lists.items
+abbrev pub invariant-loop-number : goal.invariant-loop-number
+invariant-loop-number l = AreListsSo l.used l.lines l.number l.lists.items

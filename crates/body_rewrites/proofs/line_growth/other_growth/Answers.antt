@@ -16,7 +16,9 @@ returns-in-Shrinks-clause-some c =
     let place = c.in-Some.place in
     let found = rw c.in-Some.is at c.place_of.ensures.some in
     place_grows (context_of c.args.body.now) operators line c.args.at place found _ (λ e. cc)
-    (sym c.in-Shrinks.is ∙ (c.side_growth.ensures ∙ ap (λ old. growth_by old (parts_count operators place.operands (parts_for line.width line.row.right))) c.saturating_sub-old.ensures))
+    (sym c.in-Shrinks.is ∙ (c.side_growth.ensures
+    ∙ ap (λ side. growth_by c.saturating_sub-old.result (parts_count operators place.operands (parts_for line.width side))) c.right.ensures
+    ∙ ap (λ old. growth_by old (parts_count operators place.operands (parts_for line.width line.row.right))) c.saturating_sub-old.ensures))
 
 pub returns-in-Grows-clause-some : goal.returns-in-Grows-clause-some
 returns-in-Grows-clause-some c =
@@ -25,7 +27,9 @@ returns-in-Grows-clause-some c =
     let place = c.in-Some.place in
     let found = rw c.in-Some.is at c.place_of.ensures.some in
     place_grows (context_of c.args.body.now) operators line c.args.at place found _ (λ e. cc)
-    (sym c.in-Grows.is ∙ (c.side_growth.ensures ∙ ap (λ old. growth_by old (parts_count operators place.operands (parts_for line.width line.row.right))) c.saturating_sub-old.ensures))
+    (sym c.in-Grows.is ∙ (c.side_growth.ensures
+    ∙ ap (λ side. growth_by c.saturating_sub-old.result (parts_count operators place.operands (parts_for line.width side))) c.right.ensures
+    ∙ ap (λ old. growth_by old (parts_count operators place.operands (parts_for line.width line.row.right))) c.saturating_sub-old.ensures))
 
 pub returns-else-not-changes-clause-some : goal.returns-else-not-changes-clause-some
 returns-else-not-changes-clause-some c =
@@ -35,7 +39,9 @@ returns-else-not-changes-clause-some c =
     let found = rw c.in-Some.is at c.place_of.ensures.some in
     place_keeps (context_of c.args.body.now) operators line c.args.at place found _
     (c.changes.ensures.0 c.if-not-changes.false)
-    (sym c.in-Keeps.is ∙ (c.side_growth.ensures ∙ ap (λ old. growth_by old (parts_count operators place.operands (parts_for line.width line.row.right))) c.saturating_sub-old.ensures))
+    (sym c.in-Keeps.is ∙ (c.side_growth.ensures
+    ∙ ap (λ side. growth_by c.saturating_sub-old.result (parts_count operators place.operands (parts_for line.width side))) c.right.ensures
+    ∙ ap (λ old. growth_by old (parts_count operators place.operands (parts_for line.width line.row.right))) c.saturating_sub-old.ensures))
 
 pub returns-then-not-changes-clause-none : goal.returns-then-not-changes-clause-none
 returns-then-not-changes-clause-none c = λ change is.

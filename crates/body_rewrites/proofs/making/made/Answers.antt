@@ -1,5 +1,5 @@
 -- By what the row is.
-use Rattle.std.proofs.Common.{refl, sym, subst}
+use Rattle.std.proofs.Common.{refl, sym, subst, ◌∙◌}
 use Rattle.rewrite_rules.specs.declared.table.Widths.{Widths}
 use Rattle.body_rewrites.specs.Places.{context_of}
 use Rattle.body_rewrites.specs.Rewrites.{MakesBy}
@@ -13,6 +13,6 @@ returns-in-Own-clause-some c =
     let (change, own, written) = is (context_of c.args.body.now) refl c.requires.trees in
     record {
       change = change;
-      makes = subst (λ (w : Widths). MakesBy (context_of c.args.body.now) c.args.body.now.operators.now c.args.line.now c.args.at change w) (sym c.in-Own.is) own;
+      makes = subst (λ (w : Widths). MakesBy (context_of c.args.body.now) c.args.body.now.operators.now c.args.line.now c.args.at change w) (sym c.in-Own.is ∙ c.widths.ensures) own;
       written = written;
     }) c.own_code.ensures.some

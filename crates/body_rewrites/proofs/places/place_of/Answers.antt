@@ -17,7 +17,8 @@ returns-in_default-clause-none c = λ (start, x, numbers, is).
     let trees = c.requires.trees in
     let line = c.requires.line in
     let parts = c.new-parts.result in
-    let parts_are = ap reverse c.new-parts.ensures ∙ reverse-reverse (parts_for c.args.line.now.width c.args.line.now.row.left) in
+    let parts_are = ap reverse c.new-parts.ensures ∙ reverse-reverse (parts_for c.args.line.now.width c.left.result.now)
+    ∙ ap (parts_for c.args.line.now.width) c.left.ensures in
     let own = c.lefts_are_instances.ensures.own line.number c.args.line.now.row line.row_is line.place c.args.line.now.width line.width_is parts parts_are in
     let none = rw c.in_default.is at c.find.ensures.none in
     none context trees own
@@ -43,7 +44,8 @@ returns-then-not-applies-clause-none c = λ (start, x, numbers, is).
     let operators = c.args.body.now.operators.now in
     let parts = c.new-parts.result in
     let starts = c.as_slice-starts.result.now in
-    let parts_are = ap reverse c.new-parts.ensures ∙ reverse-reverse (parts_for c.args.line.now.width c.args.line.now.row.left) in
+    let parts_are = ap reverse c.new-parts.ensures ∙ reverse-reverse (parts_for c.args.line.now.width c.left.result.now)
+    ∙ ap (parts_for c.args.line.now.width) c.left.ensures in
     let some = rw c.in-Some.is at c.find.ensures.some in
     let match = subst (λ l. HasMatch context operators parts l c.args.end c.in-Some.found.numbers) (sym c.as_slice-starts.ensures.value) (some context trees) in
     let known = c.known_of-known.ensures context operators trees match.0.cut in
@@ -69,7 +71,8 @@ returns-clause-some c =
     let operators = c.args.body.now.operators.now in
     let parts = c.new-parts.result in
     let starts = c.as_slice-starts.result.now in
-    let parts_are = ap reverse c.new-parts.ensures ∙ reverse-reverse (parts_for c.args.line.now.width c.args.line.now.row.left) in
+    let parts_are = ap reverse c.new-parts.ensures ∙ reverse-reverse (parts_for c.args.line.now.width c.left.result.now)
+    ∙ ap (parts_for c.args.line.now.width) c.left.ensures in
     let some = rw c.in-Some.is at c.find.ensures.some in
     let match = subst (λ l. HasMatch context operators parts l c.args.end c.in-Some.found.numbers) (sym c.as_slice-starts.ensures.value) (some context trees) in
     let known = c.known_of-known.ensures context operators trees match.0.cut in
