@@ -10,6 +10,7 @@ pub mod Writing
 pub mod EntryWords
 pub mod Mutated
 pub mod Mutates
+pub mod Smaller
 pub mod Watched
 pub mod Seeded
 pub mod DoesAsBefore
