@@ -10,7 +10,7 @@ use Rattle.body_rewrites.specs.declared.growth.Growth.{Growth}
 use Rattle.body_rewrites.specs.declared.growth.Growth.TheVariants.{Shrinks, Keeps, Grows}
 use Rattle.body_rewrites.specs.declared.rewrite.Rewrite.{Rewrite}
 use Rattle.body_rewrites.specs.Rewrites.{growth_of, asked_below}
-use Rattle.body_rewrites.specs.Listing.{AreThose, IsBy, IsWantedBy, HasGrowth}
+use Rattle.body_rewrites.specs.Listing.{AreThose, IsBy, IsWantedBy}
 use Rattle.body_rewrites.specs.Choice.{after_word, growths, IsOf, IsOpen, HasOpen, Chooses}
 use Rattle.body_rewrites.specs.Counting.{HasCount, AreCounts, IsOpenBy, HasOpenBy}
 use Rattle.body_rewrites.specs.ThoseLemmas.{those_as, none_of, none_are, one_of, some_of, head_contained, tail_contained}

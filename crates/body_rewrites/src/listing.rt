@@ -137,13 +137,7 @@ pub fn rewrites_of_body(
     let mut list = Vec::new(alloc);
     for at in 0..body.operators.len() {
         let found = rewrites_at(alloc, body, lines.as_slice(), at)?;
-        add_wanted(
-            rows.as_slice(),
-            rules,
-            wanted,
-            found.as_slice(),
-            &mut list,
-        )?;
+        add_wanted(rows.as_slice(), rules, wanted, found.as_slice(), &mut list)?;
     }
     Ok(list)
 }

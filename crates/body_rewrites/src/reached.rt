@@ -44,12 +44,7 @@ pub fn reached_operators(
     let mut marks = Vec::new(alloc);
     for at in 0..body.operators.len() {
         let found = rewrites_at(alloc, body, lines.as_slice(), at)?;
-        marks.push(has_wanted(
-            rows.as_slice(),
-            rules,
-            wanted,
-            found.as_slice(),
-        ))?;
+        marks.push(has_wanted(rows.as_slice(), rules, wanted, found.as_slice()))?;
     }
     Ok(marks)
 }

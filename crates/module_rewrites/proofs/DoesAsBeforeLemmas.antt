@@ -28,7 +28,6 @@ use Rattle.peephole_programs.specs.control.Standard.{by_asked}
 use Rattle.peephole_programs.specs.validation.StaysValid.{StaysValid}
 use Rattle.peephole_programs.specs.control.Wider.{wider_module, wider}
 use Rattle.body_rewrites.specs.Changed.{DoesAsBody}
-use Rattle.rewrite_rules.specs.declared.rule.Rule.{Rule}
 use Rattle.body_rewrites.specs.declared.rewrite.Rewrite.{Rewrite}
 use Rattle.body_splices.specs.OwnBytes.{own_bytes, structural_bytes, without_offsets}
 use Rattle.module_rewrites.specs.Structure.{HasStructure, HasLabels, AreLabelled, asking_bytes}

@@ -14,7 +14,7 @@ use Rattle.body_rewrites.specs.declared.growth.Growth.TheVariants.{Shrinks}
 use Rattle.body_rewrites.specs.declared.rewrite.Rewrite.{Rewrite}
 use Rattle.module_rewrites.specs.Mutated.{IsMutated}
 use Rattle.module_rewrites.specs.Mutates.{RewritesEach}
-use Rattle.module_rewrites.specs.Scope.{Scope, most_of, wanted_of}
+use Rattle.module_rewrites.specs.Scope.{Scope, wanted_of}
 use Rattle.module_rewrites.specs.Smaller.{MakesSmaller}
 use Rattle.module_rewrites.specs.declared.times.MadeRewrite.{MadeRewrite}
 

@@ -50,7 +50,7 @@ fn says_why_nothing_is_rewritten(rt: HostRuntime) -> Result<(), Fail> {
         rules: &rules,
         function: None,
         max_size: 1_000,
-            shrinking: false,
+        shrinking: false,
     };
     match rewrite_with_seed(alloc, MODULE, 1, &scope, 1) {
         Ok(_) => assert!(rt; false),

@@ -1,5 +1,5 @@
 -- At the function that was read.
-use Rattle.std.proofs.Common.{Err, ◌≡◌, ◌<◌, ◌≤◌, List, ◌++◌, length, inr, ap, refl, subst, arith}
+use Rattle.std.proofs.Common.{Err, ◌≡◌, ◌<◌, ◌≤◌, ◌++◌, length, inr, ap, refl, arith}
 use Rattle.std.proofs.lemmas.Grind.{common_steps}
 use Rattle.peephole_machine.specs.Values.{context_in}
 use Rattle.body_rewrites.specs.Random.{AppendsByWords}
