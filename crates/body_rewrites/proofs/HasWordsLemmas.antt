@@ -31,13 +31,12 @@ use Rattle.body_rewrites.specs.Changes.{Change}
 use Rattle.body_rewrites.specs.Open.{HasInstruction}
 use Rattle.body_rewrites.specs.Own.{Rewrites}
 use Rattle.body_rewrites.specs.Trees.{Stands}
-use Rattle.body_rewrites.specs.Rewrites.{MakesBy, IsMade, asked_widths, by_rows, asked_below, growth_of}
-use Rattle.body_rewrites.specs.Listing.{AreThose, IsBy, HasGrowth}
-use Rattle.body_rewrites.specs.Choice.{Draws, IsOf, IsOpen, HasOpen, Chooses, after_word, growths}
+use Rattle.body_rewrites.specs.Rewrites.{MakesBy, IsMade, asked_widths, by_rows, asked_below}
+use Rattle.body_rewrites.specs.Listing.{AreThose, IsWantedBy}
+use Rattle.body_rewrites.specs.Choice.{Draws, IsOf, IsOpen, HasOpen, Chooses, after_word}
 use Rattle.body_rewrites.specs.HasWords.{HasWords}
 use Rattle.body_rewrites.specs.ThoseLemmas.{contained_cases, those_bounded, those_same}
 use Rattle.body_rewrites.proofs.CountingLemmas.{asked_few}
-use Rattle.body_rewrites.proofs.ChoiceLemmas.{contains_growth}
 
 within : (i n : ℕ) → i < n → i % n ≡ i
 within i n less =
@@ -179,10 +178,10 @@ draws_one P stream items x y d e =
     let same = those_same P items d.those e.those d.are e.are in
     same_Some x y (sym d.is ∙ ap (λ zs. slice_get zs ((next_u64 stream).0 % length zs)) same ∙ e.is)
 
-pub chooses_one : (context : Context) (stream : Stream) (rules : List Rule) (operators : List (Operator × ℕ)) (r q : Rewrite) →
-    Chooses context stream rules operators r → Chooses context stream rules operators q → r ≡ q
-chooses_one context stream rules operators r q a b =
-    let kind = draws_one (HasOpen context operators rules) stream growths a.growth b.growth a.draws_growth b.draws_growth in
+pub chooses_one : (context : Context) (stream : Stream) (rules : List Rule) (wanted : List Growth) (operators : List (Operator × ℕ)) (r q : Rewrite) →
+    Chooses context stream rules wanted operators r → Chooses context stream rules wanted operators q → r ≡ q
+chooses_one context stream rules wanted operators r q a b =
+    let kind = draws_one (HasOpen context operators rules) stream wanted a.growth b.growth a.draws_growth b.draws_growth in
     let rule = draws_one (IsOpen context operators a.growth) (after_word stream) rules a.rule b.rule a.draws_rule
     (subst (λ (k : Growth). Draws (after_word stream) (IsOpen context operators k) rules b.rule) (sym kind) b.draws_rule) in
     draws_one (IsOf context operators a.growth a.rule) (after_word (after_word stream)) (asked_below (length operators)) r q a.draws_rewrite
@@ -192,20 +191,20 @@ chooses_one context stream rules operators r q a b =
 
 -- ---- a rewrite of a body
 
-module _ (table : length ROWS < 65535) (context : Context) (rules : List Rule) (operators : List (Operator × ℕ)) (r : Rewrite) (few : length rules < 2 ^ 64)
-    (short : length operators < 2 ^ 32) where
-  words_among : (kind : Growth) (rule : Rule) → Contains rules rule → Contains (asked_below (length operators)) r → IsOf context operators kind rule r →
-      (kinds : List Growth) → AreThose (HasOpen context operators rules) growths kinds →
+module _ (table : length ROWS < 65535) (context : Context) (rules : List Rule) (wanted : List Growth) (operators : List (Operator × ℕ)) (r : Rewrite)
+    (few : length rules < 2 ^ 64) (kinds_few : length wanted < 2 ^ 64) (short : length operators < 2 ^ 32) where
+  words_among : (kind : Growth) (rule : Rule) → Contains wanted kind → Contains rules rule → Contains (asked_below (length operators)) r → IsOf context operators kind rule r →
+      (kinds : List Growth) → AreThose (HasOpen context operators rules) wanted kinds →
       (ways : List Rule) → AreThose (IsOpen context operators kind) rules ways →
       (places : List Rewrite) → AreThose (IsOf context operators kind rule) (asked_below (length operators)) places →
-      HasWords context rules operators r
-  words_among kind rule listed among of kinds kinds_are ways open_are places places_are =
+      HasWords context rules wanted operators r
+  words_among kind rule kind_listed listed among of kinds kinds_are ways open_are places places_are =
       let is_open : IsOpen context operators kind rule = (r, among, of) in
       let has_open : HasOpen context operators rules kind = (rule, listed, is_open) in
-      let (i, i_less, i_is) = number_of (HasOpen context operators rules) growths kinds kind kinds_are (contains_growth kind) has_open in
+      let (i, i_less, i_is) = number_of (HasOpen context operators rules) wanted kinds kind kinds_are kind_listed has_open in
       let (j, j_less, j_is) = number_of (IsOpen context operators kind) rules ways rule open_are listed is_open in
       let (k, k_less, k_is) = number_of (IsOf context operators kind rule) (asked_below (length operators)) places r places_are among of in
-      let i_few = those_bounded (HasOpen context operators rules) growths kinds kinds_are in
+      let i_few = those_bounded (HasOpen context operators rules) wanted kinds kinds_are in
       let j_few = those_bounded (IsOpen context operators kind) rules ways open_are in
       let k_few = those_bounded (IsOf context operators kind rule) (asked_below (length operators)) places places_are in
       let size = asked_few table (length operators) in
@@ -213,33 +212,31 @@ module _ (table : length ROWS < 65535) (context : Context) (rules : List Rule) (
         one = i;
         two = j;
         three = k;
-        one_fits = omega (arith, i_less, i_few);
+        one_fits = omega (arith, i_less, i_few, kinds_few);
         two_fits = omega (arith, j_less, j_few, few);
         three_fits = omega (arith, k_less, k_few, size, short);
         choose = λ stream begins. record {
           growth = kind;
           rule = rule;
-          draws_growth = drawn (HasOpen context operators rules) stream growths kinds kind kinds_are i i_less i_is begins.0;
+          draws_growth = drawn (HasOpen context operators rules) stream wanted kinds kind kinds_are i i_less i_is begins.0;
           draws_rule = drawn (IsOpen context operators kind) (after_word stream) rules ways rule open_are j j_less j_is begins.1.0;
           draws_rewrite = drawn (IsOf context operators kind rule) (after_word (after_word stream)) (asked_below (length operators)) places r places_are k
               k_less k_is begins.1.1.0;
         };
       }
 
-  pub words_of : (kind : Growth) (rule : Rule) → Contains rules rule → IsOf context operators kind rule r →
-      (kinds : List Growth) → AreThose (HasOpen context operators rules) growths kinds →
+  pub words_of : (kind : Growth) (rule : Rule) → Contains wanted kind → Contains rules rule → IsOf context operators kind rule r →
+      (kinds : List Growth) → AreThose (HasOpen context operators rules) wanted kinds →
       (ways : List Rule) → AreThose (IsOpen context operators kind) rules ways →
       (places : List Rewrite) → AreThose (IsOf context operators kind rule) (asked_below (length operators)) places →
-      HasWords context rules operators r
-  words_of kind rule listed of = words_among kind rule listed (made_is_asked context operators r (of.0.change, of.0.made)) of
+      HasWords context rules wanted operators r
+  words_of kind rule kind_listed listed of = words_among kind rule kind_listed listed (made_is_asked context operators r (of.0.change, of.0.made)) of
 
-  pub never_without : IsBy context operators rules r → (HasWords context rules operators r → ⊥) → ⊥
-  never_without by none =
-      let (change, makes) = by.0 in
-      let (rule, listed, is) = by.1 in
-      let kind = growth_of operators r.operator change in
-      let has : HasGrowth context operators kind r = record { change = change; made = makes; growth_is = refl } in
-      never_none (HasOpen context operators rules) growths (λ kinds kinds_are.
+  pub never_without : IsWantedBy context operators rules wanted r → (HasWords context rules wanted operators r → ⊥) → ⊥
+  never_without is none =
+      let (rule, listed, of) = is.of_rule in
+      let kind = is.growth in
+      never_none (HasOpen context operators rules) wanted (λ kinds kinds_are.
       never_none (IsOpen context operators kind) rules (λ ways open_are.
       never_none (IsOf context operators kind rule) (asked_below (length operators)) (λ places places_are.
-      none (words_of kind rule listed (has, is) kinds kinds_are ways open_are places places_are))))
+      none (words_of kind rule is.listed listed (is.has, of) kinds kinds_are ways open_are places places_are))))

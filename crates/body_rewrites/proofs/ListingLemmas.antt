@@ -1,5 +1,5 @@
 -- The rewrites of a body, as they are listed.
-use Rattle.std.proofs.Common.{◌≡◌, ℕ, suc, ◌+◌, ◌<◌, ◌≤◌, ◌⊎◌, inl, inr, Bool, true, false, cond, List, [], ◌∷◌, ◌++◌, length, map, Option, Some, None, refl, sym, ap, ap₂, subst, ◌∙◌, arith, append-nil, append_assoc}
+use Rattle.std.proofs.Common.{◌≡◌, ℕ, zero, suc, ◌+◌, ◌<◌, ◌≤◌, ◌⊎◌, inl, inr, Bool, true, false, cond, List, [], ◌∷◌, ◌++◌, length, map, get_or, Option, Some, None, refl, sym, ap, ap₂, subst, ◌∙◌, arith, append-nil, append_assoc}
 use Rattle.std.specs.Prelude.{Contains, slice_get, ◌==◌, if◌then◌else◌}
 use Rattle.std.specs.List.{filter}
 use Rattle.std.proofs.lemmas.Bool.{eqb-true, eq-eqb, false≢true}
@@ -13,11 +13,13 @@ use Rattle.rewrite_rules.specs.Rule.{rule_number}
 use Rattle.rewrite_rules.specs.Table.{ROWS}
 use Rattle.body_rewrites.specs.declared.found.Found.{Found}
 use Rattle.body_rewrites.specs.declared.growth.Growth.{Growth}
+use Rattle.body_rewrites.specs.declared.growth.Growth.TheVariants.{Shrinks, Keeps, Grows}
 use Rattle.body_rewrites.specs.declared.places.Line.{Line}
 use Rattle.body_rewrites.specs.declared.rewrite.Rewrite.{Rewrite}
 use Rattle.body_rewrites.specs.Changes.{Change}
+use Rattle.body_rewrites.specs.Growth.{has_growth, same_growth}
 use Rattle.body_rewrites.specs.Rewrites.{Makes, IsAsked, IsMade, by_rows, asked_below, growth_of}
-use Rattle.body_rewrites.specs.Listing.{AreThose, IsBy, HasGrowth, LineGrows, OneChange, found_as, AreFound, AddsFound, passing, AreRules, has_number, has_some, is_by}
+use Rattle.body_rewrites.specs.Listing.{AreThose, HasGrowth, IsWantedBy, LineGrows, OneChange, found_as, AreFound, AddsFound, passing, AreRules, has_number, has_some, is_by, is_wanted}
 use Rattle.body_rewrites.specs.ThoseLemmas.{head_contained, tail_contained, contained_cases, those_append}
 
 -- ---- lines
@@ -134,26 +136,88 @@ pub none_had : (rules : List Rule) (n : ℕ) (b : Bool) → has_number rules n �
 none_had rules n true h none = let (rule, among, is) = has_number_of rules n h in absurd (none rule among is)
 none_had rules n false h none = refl
 
-module _ (context : Context) (operators : List (Operator × ℕ)) (rows : List ℕ) (are : AreRules rows) (rules : List Rule) where
+-- ---- what they do to the number of operators
+
+the_same : (one other : Growth) → same_growth one other ≡ true → one ≡ other
+the_same Shrinks Shrinks h = refl
+the_same Keeps Keeps h = refl
+the_same Grows Grows h = refl
+the_same one other h = absurd (false≢true h)
+
+is_itself : (one : Growth) → same_growth one one ≡ true
+is_itself Shrinks = refl
+is_itself Keeps = refl
+is_itself Grows = refl
+
+growth_cases : (one kind : Growth) (b rest : Bool) → same_growth one kind ≡ b → (if same_growth one kind then true else rest) ≡ true →
+    (one ≡ kind) ⊎ (rest ≡ true)
+growth_cases one kind true rest e h = inl (the_same one kind e)
+growth_cases one kind false rest e h = inr (ap (λ c. if c then true else rest) (sym e) ∙ h)
+
+is_later : (one kind : Growth) (b rest : Bool) → same_growth one kind ≡ b → rest ≡ true → (if same_growth one kind then true else rest) ≡ true
+is_later one kind true rest e h = ap (λ c. if c then true else rest) e
+is_later one kind false rest e h = ap (λ c. if c then true else rest) e ∙ h
+
+pub has_growth_of : (wanted : List Growth) (kind : Growth) → has_growth wanted kind ≡ true → Contains wanted kind
+has_growth_of [] kind h = absurd (false≢true h)
+has_growth_of (one ∷ more) kind h = elim (growth_cases one kind (same_growth one kind) (has_growth more kind) refl h) [
+  | inl same ↦ subst (Contains (one ∷ more)) same (head_contained one more)
+  | inr later ↦ tail_contained one more kind (has_growth_of more kind later)
+]
+
+pub growth_had : (wanted : List Growth) (kind other : Growth) → Contains wanted other → other ≡ kind → has_growth wanted kind ≡ true
+growth_had [] kind other h e = absurd (let l : h.0 < 0 = h.1 in omega arith)
+growth_had (one ∷ more) kind other h e = elim (contained_cases one more other h) [
+  | inl same ↦ ap (λ c. if c then true else has_growth more kind)
+      (subst (λ (k : Growth). same_growth one k ≡ true) (same ∙ e) (is_itself one))
+  | inr c ↦ is_later one kind (same_growth one kind) (has_growth more kind) refl (growth_had more kind other c e)
+]
+
+pub item_contained : (wanted : List Growth) (i : ℕ) (d : Growth) → i < length wanted → Contains wanted (get_or wanted i d)
+item_contained [] i d l = absurd (omega arith)
+item_contained (one ∷ more) zero d l = head_contained one more
+item_contained (one ∷ more) (suc i) d l = tail_contained one more (get_or more i d) (item_contained more i d (omega arith))
+
+pub no_growth : (wanted : List Growth) (kind : Growth) (b : Bool) → has_growth wanted kind ≡ b →
+    ((other : Growth) → Contains wanted other → other ≡ kind → ⊥) → false ≡ b
+no_growth wanted kind true h none = absurd (none kind (has_growth_of wanted kind h) refl)
+no_growth wanted kind false h none = refl
+
+module _ (context : Context) (operators : List (Operator × ℕ)) (rows : List ℕ) (are : AreRules rows) (rules : List Rule) (wanted : List Growth) where
   some_of_rule : (o : Option ℕ) → has_some rules o ≡ true → (rule : Rule) × Contains rules rule × (o ≡ Some (rule_number rule))
   some_of_rule None h = absurd (false≢true h)
   some_of_rule (Some n) h = let (rule, among, is) = has_number_of rules n h in (rule, among, ap (λ k. Some k) (sym is))
 
-  pub is_by_to : (r : Rewrite) (kind : Growth) → HasGrowth context operators kind r → is_by rows rules (found_as r kind) ≡ true → IsBy context operators rules r
-  is_by_to r kind has e =
-      let (rule, among, is) = some_of_rule (slice_get rows r.row) e in
-      ((has.change, has.made), (rule, among, sym (are r.row) ∙ is))
+  both_true : (b c : Bool) → (if b then c else false) ≡ true → (b ≡ true) × (c ≡ true)
+  both_true true c h = (refl, h)
+  both_true false c h = absurd (false≢true h)
 
-  pub is_by_from : (r : Rewrite) (kind : Growth) → HasGrowth context operators kind r → IsBy context operators rules r → is_by rows rules (found_as r kind) ≡ true
-  is_by_from r kind has p =
-      let (rule, among, is) = p.1 in
-      ap (has_some rules) (are r.row ∙ is) ∙ number_had rules (rule_number rule) rule among refl
+  are_both : (b c : Bool) → b ≡ true → c ≡ true → (if b then c else false) ≡ true
+  are_both true c e h = h
+  are_both false c e h = absurd (false≢true e)
 
-  -- those by the rules, of one operator more
-  pub by_more : (at : ℕ) (list : List Rewrite) (found : List Found) → AreThose (IsBy context operators rules) (asked_below at) list →
-      AreFound context operators (by_rows at 0 ROWS) found →
-      AreThose (IsBy context operators rules) (asked_below (at + 1)) (list ++ passing (is_by rows rules) found)
-  by_more at list found are_before are_here =
-      subst (λ items. AreThose (IsBy context operators rules) items (list ++ passing (is_by rows rules) found)) (sym (asked_more at))
-      (those_append (IsBy context operators rules) (asked_below at) (by_rows at 0 ROWS) list (passing (is_by rows rules) found) are_before
-      (found_passing context operators (IsBy context operators rules) (is_by rows rules) (λ r p. p.0) is_by_to is_by_from (by_rows at 0 ROWS) found are_here))
+  pub is_wanted_to : (r : Rewrite) (kind : Growth) → HasGrowth context operators kind r → is_wanted rows rules wanted (found_as r kind) ≡ true →
+      IsWantedBy context operators rules wanted r
+  is_wanted_to r kind has e =
+      let (one, by) = both_true (has_growth wanted kind) (is_by rows rules (found_as r kind)) e in
+      let (rule, among, is) = some_of_rule (slice_get rows r.row) by in
+      record { growth = kind; listed = has_growth_of wanted kind one; has = has; of_rule = (rule, among, sym (are r.row) ∙ is) }
+
+  pub is_wanted_from : OneChange → (r : Rewrite) (kind : Growth) → HasGrowth context operators kind r → IsWantedBy context operators rules wanted r →
+      is_wanted rows rules wanted (found_as r kind) ≡ true
+  is_wanted_from law r kind has p =
+      let (rule, among, is) = p.of_rule in
+      are_both (has_growth wanted kind) (is_by rows rules (found_as r kind))
+      (growth_had wanted kind p.growth p.listed (growth_one context operators law r p.growth kind p.has has))
+      (ap (has_some rules) (are r.row ∙ is) ∙ number_had rules (rule_number rule) rule among refl)
+
+  -- those that are wanted, of one operator more
+  pub by_more : OneChange → (at : ℕ) (list : List Rewrite) (found : List Found) →
+      AreThose (IsWantedBy context operators rules wanted) (asked_below at) list → AreFound context operators (by_rows at 0 ROWS) found →
+      AreThose (IsWantedBy context operators rules wanted) (asked_below (at + 1)) (list ++ passing (is_wanted rows rules wanted) found)
+  by_more law at list found are_before are_here =
+      let P = IsWantedBy context operators rules wanted in
+      let test = is_wanted rows rules wanted in
+      subst (λ items. AreThose P items (list ++ passing test found)) (sym (asked_more at))
+      (those_append P (asked_below at) (by_rows at 0 ROWS) list (passing test found) are_before
+      (found_passing context operators P test (λ r p. (p.has.change, p.has.made)) is_wanted_to (is_wanted_from law) (by_rows at 0 ROWS) found are_here))

@@ -8,16 +8,18 @@ use Rattle.body_splices.specs.OwnBytes.{own_bytes}
 use Rattle.body_splices.specs.Splice.{pieces_bytes}
 use Rattle.peephole_machine.specs.Values.{Context}
 use Rattle.rewrite_rules.specs.declared.rule.Rule.{Rule}
+use Rattle.body_rewrites.specs.declared.growth.Growth.{Growth}
 use Rattle.body_rewrites.specs.declared.places.Line.{Line}
 use Rattle.body_rewrites.specs.declared.rewrite.Rewrite.{Rewrite}
 use Rattle.body_rewrites.specs.Changed.{AppendsChanged}
 use Rattle.body_rewrites.specs.Changes.{Change}
-use Rattle.body_rewrites.specs.Choice.{Chooses, IsOf, IsOpen, after_choice, after_word}
-use Rattle.body_rewrites.specs.Listing.{IsBy, OneChange}
+use Rattle.body_rewrites.specs.Choice.{Chooses, IsOf, after_choice, after_word}
+use Rattle.body_rewrites.specs.Listing.{IsWantedBy, OneChange}
 use Rattle.body_rewrites.specs.Random.{AppendsByWords, HasNoRewrite}
 use Rattle.body_rewrites.specs.Rewrites.{AppendsRewritten, IsMadeBy, Makes, asked_below}
 use Rattle.body_rewrites.specs.ThoseLemmas.{none_of, one_of}
 use Rattle.body_rewrites.proofs.MadeLemmas.{same_line}
+use Rattle.body_rewrites.proofs.RandomLemmas.{chosen_is_wanted}
 
 -- a rewrite makes one change
 one_change_of : OneChange → (context : Context) (operators : List (Operator × ℕ)) (r : Rewrite) (change other : Change) →
@@ -49,26 +51,23 @@ rewritten_one one context input operators r word old new other asks others a b =
       a.asks_are ∙ ap (λ (change : Change). change.asks) same ∙ sym b.asks_are,
     )
 
-pub one_body : OneChange → ((context : Context) (stream : Stream) (rules : List Rule) (operators : List (Operator × ℕ)) (r q : Rewrite) →
-    Chooses context stream rules operators r → Chooses context stream rules operators q → r ≡ q) → (context : Context) (stream : Stream) (rules : List Rule)
-    (input : List ℕ) (operators : List (Operator × ℕ)) (r q : Rewrite) (old new other : List ℕ) (asks others : List PrimitiveTypeInfo)
-    (after later : Stream) → AppendsByWords context stream rules input operators r old new asks after →
-    AppendsByWords context stream rules input operators q old other others later →
+pub one_body : OneChange → ((context : Context) (stream : Stream) (rules : List Rule) (wanted : List Growth) (operators : List (Operator × ℕ))
+    (r q : Rewrite) → Chooses context stream rules wanted operators r → Chooses context stream rules wanted operators q → r ≡ q) → (context : Context)
+    (stream : Stream) (rules : List Rule) (wanted : List Growth) (input : List ℕ) (operators : List (Operator × ℕ)) (r q : Rewrite) (old new other : List ℕ) (asks others : List PrimitiveTypeInfo)
+    (after later : Stream) → AppendsByWords context stream rules wanted input operators r old new asks after →
+    AppendsByWords context stream rules wanted input operators q old other others later →
     (r ≡ q) × (new ≡ other) × (asks ≡ others) × (after ≡ later)
-one_body one law context stream rules input operators r q old new other asks others after later a b =
-    let same = law context stream rules operators r q a.chooses b.chooses in
+one_body one law context stream rules wanted input operators r q old new other asks others after later a b =
+    let same = law context stream rules wanted operators r q a.chooses b.chooses in
     let there = subst (λ (k : Rewrite). AppendsRewritten context input operators k (next_u64 (after_choice stream)).0 old other others) (sym same) b.appends in
     let text = rewritten_one one context input operators r (next_u64 (after_choice stream)).0 old new other asks others a.appends there in
     (same, text.0, text.1, a.after_is ∙ sym b.after_is)
 
 -- none is chosen where there is none
-pub none_chosen : (context : Context) (stream : Stream) (rules : List Rule) (operators : List (Operator × ℕ)) (r : Rewrite) →
-    HasNoRewrite context rules operators → Chooses context stream rules operators r → ⊥
-none_chosen context stream rules operators r none c =
-    let ways = c.draws_rule in
+pub none_chosen : (context : Context) (stream : Stream) (rules : List Rule) (wanted : List Growth) (operators : List (Operator × ℕ)) (r : Rewrite) →
+    HasNoRewrite context rules wanted operators → Chooses context stream rules wanted operators r → ⊥
+none_chosen context stream rules wanted operators r none c =
     let places = c.draws_rewrite in
-    let (listed, open_here) = one_of (IsOpen context operators c.growth) rules ways.those ways.are
-    ((next_u64 (after_word stream)).0 % length ways.those) c.rule ways.is in
     let (asked, of) = one_of (IsOf context operators c.growth c.rule) (asked_below (length operators)) places.those places.are
     ((next_u64 (after_word (after_word stream))).0 % length places.those) r places.is in
-    none_of (IsBy context operators rules) (asked_below (length operators)) none r asked ((of.0.change, of.0.made), (c.rule, listed, of.1))
+    none_of (IsWantedBy context operators rules wanted) (asked_below (length operators)) none r asked (chosen_is_wanted context stream rules wanted operators r c)

@@ -25,7 +25,7 @@ pub record Draws {A : Type 0} (stream : Stream) (P : A → Type 0) (items : List
 
 -- ---- a rewrite
 
--- what may become of the number of operators
+-- all that may become of the number of operators
 abbrev pub growths : List Growth
 growths = Shrinks ∷ Keeps ∷ Grows ∷ []
 
@@ -41,12 +41,13 @@ IsOpen context operators growth rule = (r : Rewrite) × Contains (asked_below (l
 abbrev pub HasOpen : Context → List (Operator × ℕ) → List Rule → Growth → Type 0
 HasOpen context operators rules growth = (rule : Rule) × Contains rules rule × IsOpen context operators growth rule
 
--- Of what rewrites of the body by one of the rules do to the number of operators, one is drawn, fewer, as many and more being as likely; of the rules that
--- have a rewrite that does that one is drawn, and of that rule's rewrites that do one.
-pub record Chooses (context : Context) (stream : Stream) (rules : List Rule) (operators : List (Operator × ℕ)) (r : Rewrite) : Type 0 where
+-- Of what rewrites of the body by one of the rules do to the number of operators, one of the wanted ones is drawn, each as likely as any other; of the rules
+-- that have a rewrite that does that one is drawn, and of that rule's rewrites that do one.
+pub record Chooses (context : Context) (stream : Stream) (rules : List Rule) (wanted : List Growth) (operators : List (Operator × ℕ)) (r : Rewrite) :
+    Type 0 where
   pub growth : Growth
   pub rule : Rule
-  pub draws_growth : Draws stream (HasOpen context operators rules) growths growth
+  pub draws_growth : Draws stream (HasOpen context operators rules) wanted growth
   pub draws_rule : Draws (after_word stream) (IsOpen context operators growth) rules rule
   pub draws_rewrite : Draws (after_word (after_word stream)) (IsOf context operators growth rule) (asked_below (length operators)) r
 

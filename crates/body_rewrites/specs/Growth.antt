@@ -1,5 +1,5 @@
 -- What a change does to the number of a body's operators (this project).
-use Rattle.std.specs.Prelude.{◌≡◌, ℕ, ◌+◌, ◌-◌, ◌<◌, List, length}
+use Rattle.std.specs.Prelude.{◌≡◌, ℕ, ◌+◌, ◌-◌, ◌<◌, Bool, true, false, if◌then◌else◌, List, [], ◌∷◌, length}
 use Rattle.wasm_code.specs.declared.operator.Operator.{Operator}
 use Rattle.body_splices.specs.OwnBytes.{without_offsets}
 use Rattle.body_splices.specs.Laws.{pieces_operators}
@@ -17,3 +17,17 @@ IsGrowth Grows new old = old < new
 abbrev pub HasGrowth : List (Operator × ℕ) → (at : ℕ) → Change → Growth → Type 0
 HasGrowth operators at change growth =
     (word : ℕ) → IsGrowth growth (length (pieces_operators (without_offsets operators) (change.pieces word))) (at + 1 - change.start)
+
+-- ---- as code has it (for private functions)
+
+-- whether it is the same thing that becomes of the number of operators
+abbrev pub same_growth : Growth → Growth → Bool
+same_growth Shrinks Shrinks = true
+same_growth Keeps Keeps = true
+same_growth Grows Grows = true
+same_growth one other = false
+
+-- whether it is one of these
+abbrev pub has_growth : List Growth → Growth → Bool
+has_growth [] kind = false
+has_growth (one ∷ more) kind = if same_growth one kind then true else has_growth more kind

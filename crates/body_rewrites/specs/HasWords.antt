@@ -5,6 +5,7 @@ use Rattle.wasm_code.specs.declared.operator.Operator.{Operator}
 use Rattle.peephole_machine.specs.Values.{Context}
 use Rattle.rewrite_rules.specs.declared.rule.Rule.{Rule}
 use Rattle.body_rewrites.specs.Choice.{Chooses}
+use Rattle.body_rewrites.specs.declared.growth.Growth.{Growth}
 use Rattle.body_rewrites.specs.declared.rewrite.Rewrite.{Rewrite}
 
 -- these words of 64 bits come next
@@ -12,12 +13,13 @@ abbrev pub BeginsWith : (words : List ℕ) → Stream → Type 0
 BeginsWith [] s = Unit {0}
 BeginsWith (word ∷ words) s = ((next_u64 s).0 ≡ word) × BeginsWith words (next_u64 s).1
 
--- Three words of 64 bits with which every generator that begins with them chooses the rewrite, of those of the body by one of the rules.
-pub record HasWords (context : Context) (rules : List Rule) (operators : List (Operator × ℕ)) (r : Rewrite) : Type 0 where
+-- Three words of 64 bits with which every generator that begins with them chooses the rewrite, of those of the body by one of the rules that do one of the
+-- wanted things to the number of operators.
+pub record HasWords (context : Context) (rules : List Rule) (wanted : List Growth) (operators : List (Operator × ℕ)) (r : Rewrite) : Type 0 where
   pub one : ℕ
   pub two : ℕ
   pub three : ℕ
   pub one_fits : one < 2 ^ 64
   pub two_fits : two < 2 ^ 64
   pub three_fits : three < 2 ^ 64
-  pub choose : (stream : Stream) → BeginsWith (one ∷ two ∷ three ∷ []) stream → Chooses context stream rules operators r
+  pub choose : (stream : Stream) → BeginsWith (one ∷ two ∷ three ∷ []) stream → Chooses context stream rules wanted operators r

@@ -12,6 +12,7 @@ use Rattle.body_rewrites.specs.declared.growth.Growth.{Growth}
 use Rattle.body_rewrites.specs.declared.places.Line.{Line}
 use Rattle.body_rewrites.specs.declared.rewrite.Rewrite.{Rewrite}
 use Rattle.body_rewrites.specs.Changes.{Change}
+use Rattle.body_rewrites.specs.Growth.{has_growth}
 use Rattle.body_rewrites.specs.Rewrites.{Makes, IsMadeBy, IsMade, growth_of}
 
 -- ---- those of some items
@@ -40,6 +41,13 @@ pub record HasGrowth (context : Context) (operators : List (Operator × ℕ)) (g
   pub change : Change
   pub made : IsMadeBy context operators r change
   pub growth_is : growth_of operators r.operator change ≡ growth
+
+-- The rewrite is by one of the rules, and makes something that does one of these to the number of operators.
+pub record IsWantedBy (context : Context) (operators : List (Operator × ℕ)) (rules : List Rule) (wanted : List Growth) (r : Rewrite) : Type 0 where
+  pub growth : Growth
+  pub listed : Contains wanted growth
+  pub has : HasGrowth context operators growth r
+  pub of_rule : IsOfSome rules r.row
 
 -- A line makes one thing at an operator at most.
 abbrev pub OneChange : Type 0
@@ -97,3 +105,7 @@ has_some rules (Some n) = has_number rules n
 -- whether what is found is by one of the rules
 abbrev pub is_by : (rows : List ℕ) → List Rule → Found → Bool
 is_by rows rules found = has_some rules (slice_get rows found.rewrite.row)
+
+-- whether what is found is by one of the rules, and does one of these
+abbrev pub is_wanted : (rows : List ℕ) → List Rule → List Growth → Found → Bool
+is_wanted rows rules wanted found = if has_growth wanted found.growth then is_by rows rules found else false

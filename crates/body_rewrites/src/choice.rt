@@ -4,8 +4,8 @@ ghost use Rattle.rand_core.specs.Stream.{next_u64};
 ghost use Rattle.rewrite_rules.specs.Names.{names};
 ghost use Rattle.body_rewrites.specs.Places.{context_of, HasItsTrees};
 ghost use Rattle.body_rewrites.specs.Rewrites.{asked_below};
-ghost use Rattle.body_rewrites.specs.Listing.{AreThose, IsBy};
-ghost use Rattle.body_rewrites.specs.Choice.{after_word, growths, Chooses, after_choice, IsBegun};
+ghost use Rattle.body_rewrites.specs.Listing.{AreThose, IsWantedBy};
+ghost use Rattle.body_rewrites.specs.Choice.{after_word, Chooses, after_choice, IsBegun};
 ghost use Rattle.body_rewrites.specs.Counting.{IsOpenBy, HasOpenBy};
 
 use crate::counter::Counter;
@@ -16,9 +16,6 @@ use crate::rewrite::Rewrite;
 use rand_core::Rng;
 use rewrite_rules::Rule;
 use std::alloc::{AllocError, Global};
-
-// What may become of the number of operators.
-const GROWTHS: [Growth; 3] = [Growth::Shrinks, Growth::Keeps, Growth::Grows];
 
 // Whether a rewrite by the rule is counted that does that to the number of operators.
 fn is_open(rule: Rule, growth: Growth, counts: &[u128]) -> bool
@@ -41,16 +38,21 @@ fn has_open(rules: &[Rule], growth: Growth, counts: &[u128]) -> bool
     false
 }
 
-// What the rewrites that are counted for the rules do to the number of operators.
-fn open_growths(alloc: Global, rules: &[Rule], counts: &[u128]) -> Result<Vec<Growth>, AllocError>
+// What the rewrites that are counted for the rules do to the number of operators, of what is wanted.
+fn open_growths(
+    alloc: Global,
+    rules: &[Rule],
+    wanted: &[Growth],
+    counts: &[u128],
+) -> Result<Vec<Growth>, AllocError>
     requires { length counts.now ≡ 3 * length names }
     ensures { IfOk result (λ list.
-        AreThose (HasOpenBy counts.now rules.now) growths list.items) }
+        AreThose (HasOpenBy counts.now rules.now) wanted.now list.items) }
 {
     let mut list = Vec::new(alloc);
-    for growth in GROWTHS {
-        if has_open(rules, growth, counts) {
-            list.push(growth)?;
+    for growth in wanted {
+        if has_open(rules, *growth, counts) {
+            list.push(*growth)?;
         }
     }
     Ok(list)
@@ -97,11 +99,12 @@ fn draw_below<R: Rng>(generator: &mut R, count: u128) -> u128
     word as u128 % count
 }
 
-/// The rewrite of the body by one of the rules that the generator's next three words choose. The first one names what becomes of the
-/// number of operators, of what some rewrite does: there are fewer, as many or more. The second one names a rule, of those that have a
-/// rewrite that does that, in the order of `rules`; the third one a rewrite, of all of that rule that do that, in the order of the
-/// operators, the rows and the widths. So, as far as words are even and no rule stands twice, each rule has the same chance as any other
-/// that does the same, and each of its rewrites the same as any other. None only where there is no rewrite, and then nothing is drawn.
+/// The rewrite of the body by one of the rules that the generator's next three words choose, of those that do one of the wanted things
+/// to the number of operators. The first one names what becomes of that number, of what is wanted and some rewrite does, in the order of
+/// `wanted`. The second one names a rule, of those that have a rewrite that does that, in the order of `rules`; the third one a rewrite,
+/// of all of that rule that do that, in the order of the operators, the rows and the widths. So, as far as words are even and no rule
+/// stands twice, each rule has the same chance as any other that does the same, and each of its rewrites the same as any other. None
+/// only where there is no such rewrite, and then nothing is drawn.
 ///
 /// It asks the operators of the body for all rewrites, and once more for those of one rule, and keeps none. The only error is that memory was refused; then up to
 /// three words may have been drawn.
@@ -110,14 +113,15 @@ pub fn choose<R: Rng>(
     generator: &mut R,
     body: &Body<'_>,
     rules: &[Rule],
+    wanted: &[Growth],
 ) -> Result<Option<Rewrite>, AllocError>
     requires trees { HasItsTrees body.now }
     ensures chosen { IfOk result (λ o. IfSome o (λ r. Chooses (context_of body.now)
-        (R.stream generator.old) rules.now body.now.operators.now r)) }
+        (R.stream generator.old) rules.now wanted.now body.now.operators.now r)) }
     ensures after { IfOk result (λ o. IfSome o (λ r.
         R.stream generator.new ≡ after_choice (R.stream generator.old))) }
     ensures none { IfOk result (λ o. IfNone o (AreThose
-        (IsBy (context_of body.now) body.now.operators.now rules.now)
+        (IsWantedBy (context_of body.now) body.now.operators.now rules.now wanted.now)
         (asked_below (length body.now.operators.now)) [])) }
     ensures kept { IfOk result (λ o. IfNone o (generator.new ≡ generator.old)) }
     ensures refused { OnErr result (IsBegun (R.stream generator.old) (R.stream generator.new)) }
@@ -125,7 +129,7 @@ pub fn choose<R: Rng>(
     let counter = Counter::new(alloc, body.operators)?;
     let counted = counts_of_body(alloc, body, &counter)?;
     let counts = counted.as_slice();
-    let kinds = open_growths(alloc, rules, counts)?;
+    let kinds = open_growths(alloc, rules, wanted, counts)?;
     if kinds.is_empty() {
         return Ok(None);
     }

@@ -16,7 +16,7 @@ use crate::asked::Asked;
 use crate::counter::Counter;
 use crate::cutting::tree_at;
 use crate::found::Found;
-use crate::growth::Growth;
+use crate::growth::{Growth, same_growth};
 use crate::here::{Here, here_at};
 use crate::laws::{lefts_are_instances, one_change, trees_leave};
 use crate::line_growth::growth_here;
@@ -255,18 +255,6 @@ fn lines_of(alloc: Global, counter: &Counter, rule: Rule) -> Result<Vec<Asked>, 
         }
     }
     Ok(list)
-}
-
-// Whether both are the same.
-fn same_growth(one: Growth, other: Growth) -> bool
-    ensures { IsTrue result ↔ (one ≡ other) }
-{
-    match (one, other) {
-        (Growth::Shrinks, Growth::Shrinks) => true,
-        (Growth::Keeps, Growth::Keeps) => true,
-        (Growth::Grows, Growth::Grows) => true,
-        _ => false,
-    }
 }
 
 // Whether the line makes something at the operator that does that to the number of operators.

@@ -1,6 +1,6 @@
 //! What holds of trees and matches. A function here does nothing: its contract is the law.
 
-ghost use Rattle.std.specs.Prelude.{◌≡◌, ◌<◌, ◌^◌, ℕ, List, Contains, Some, length, slice_get};
+ghost use Rattle.std.specs.Prelude.{◌≡◌, ◌↔◌, ◌<◌, ◌^◌, ℕ, List, Contains, Some, length, slice_get};
 ghost use Rattle.rand_core.specs.Stream.{Stream};
 ghost use Rattle.wasm_code.specs.declared.operator.Operator.{Operator};
 ghost use Rattle.wasm_types.specs.declared.types.PrimitiveTypeInfo.{PrimitiveTypeInfo};
@@ -20,7 +20,7 @@ ghost use Rattle.body_rewrites.specs.HasWords.{HasWords};
 ghost use Rattle.body_rewrites.specs.Changed.{ChangedBodiesDoAsBefore};
 ghost use Rattle.body_rewrites.specs.Changes.{Change};
 ghost use Rattle.body_rewrites.specs.MadeLaws.{ChangesMayStand};
-ghost use Rattle.body_rewrites.specs.Listing.{AreThose, HasGrowth, IsBy, OneChange};
+ghost use Rattle.body_rewrites.specs.Listing.{AreThose, HasGrowth, IsBy, IsWantedBy, OneChange};
 ghost use Rattle.body_rewrites.specs.LineChanges.{LineChangesMayStand};
 ghost use Rattle.body_rewrites.specs.Random.{AppendsByWords, HasNoRewrite};
 ghost use Rattle.body_rewrites.specs.ToldGrowth.{IsAsTold};
@@ -92,47 +92,65 @@ pub fn one_change()
     changes_may_stand();
 }
 
-/// Every rewrite of a body by one of the rules is chosen by three words: there is none that no words choose (`never_without`), and
-/// where it is known which growths, rules and rewrites there are, these are the words (`listed`). There are fewer than 2^64 rules and
-/// 2^32 operators.
+/// Every rewrite of a body by one of the rules that does one of the wanted things to the number of operators is chosen by three words:
+/// there is none that no words choose (`never_without`), and where it is known which growths, rules and rewrites there are, these are
+/// the words (`listed`). There are fewer than 2^64 rules and wanted things, and 2^32 operators.
 pub fn each_rewrite_has_words()
-    ensures never_without { (context : Context) (rules : List Rule)
+    ensures never_without { (context : Context) (rules : List Rule) (wanted : List Growth)
         (operators : List (Operator × ℕ)) (r : Rewrite) → length rules < 2 ^ 64
-        → length operators < 2 ^ 32 → IsBy context operators rules r
-        → ¬ (¬ (HasWords context rules operators r)) }
-    ensures listed { (context : Context) (rules : List Rule)
+        → length wanted < 2 ^ 64 → length operators < 2 ^ 32
+        → IsWantedBy context operators rules wanted r
+        → ¬ (¬ (HasWords context rules wanted operators r)) }
+    ensures listed { (context : Context) (rules : List Rule) (wanted : List Growth)
         (operators : List (Operator × ℕ)) (r : Rewrite) → length rules < 2 ^ 64
-        → length operators < 2 ^ 32 → (growth : Growth) (rule : Rule) → Contains rules rule
+        → length wanted < 2 ^ 64 → length operators < 2 ^ 32
+        → (growth : Growth) (rule : Rule) → Contains wanted growth → Contains rules rule
         → IsOf context operators growth rule r
-        → (kinds : List Growth) → AreThose (HasOpen context operators rules) growths kinds
+        → (kinds : List Growth) → AreThose (HasOpen context operators rules) wanted kinds
         → (ways : List Rule) → AreThose (IsOpen context operators growth) rules ways
         → (places : List Rewrite)
         → AreThose (IsOf context operators growth rule) (asked_below (length operators)) places
-        → HasWords context rules operators r }
+        → HasWords context rules wanted operators r }
 {
     rows_are_few();
 }
 
 /// A generator's words choose one rewrite of a body at most.
 pub fn words_choose_one_rewrite()
-    ensures { (context : Context) (stream : Stream) (rules : List Rule)
+    ensures { (context : Context) (stream : Stream) (rules : List Rule) (wanted : List Growth)
         (operators : List (Operator × ℕ)) (r q : Rewrite)
-        → Chooses context stream rules operators r → Chooses context stream rules operators q
-        → r ≡ q }
+        → Chooses context stream rules wanted operators r
+        → Chooses context stream rules wanted operators q → r ≡ q }
+{}
+
+/// What words choose is by one of the rules, and does one of the wanted things to the number of operators.
+pub fn chosen_rewrites_are_wanted()
+    ensures { (context : Context) (stream : Stream) (rules : List Rule) (wanted : List Growth)
+        (operators : List (Operator × ℕ)) (r : Rewrite)
+        → Chooses context stream rules wanted operators r
+        → IsWantedBy context operators rules wanted r }
+{}
+
+/// There are three things that a rewrite may do to the number of operators: where all of them are wanted, every rewrite is.
+pub fn every_rewrite_is_wanted()
+    ensures { (context : Context) (operators : List (Operator × ℕ)) (rules : List Rule)
+        (r : Rewrite) → IsBy context operators rules r
+        ↔ IsWantedBy context operators rules growths r }
 {}
 
 /// A generator's words write one body at most: with one rewrite, one text and one list of globals that it asks for, and they leave the
 /// generator at one place (`one`). Where there is no rewrite of a body, no words choose one (`none`).
 pub fn words_write_one_body()
-    ensures one { (context : Context) (stream : Stream) (rules : List Rule) (input : List ℕ)
-        (operators : List (Operator × ℕ)) (r q : Rewrite) (old new other : List ℕ)
+    ensures one { (context : Context) (stream : Stream) (rules : List Rule) (wanted : List Growth)
+        (input : List ℕ) (operators : List (Operator × ℕ)) (r q : Rewrite) (old new other : List ℕ)
         (asks others : List PrimitiveTypeInfo) (after later : Stream)
-        → AppendsByWords context stream rules input operators r old new asks after
-        → AppendsByWords context stream rules input operators q old other others later
+        → AppendsByWords context stream rules wanted input operators r old new asks after
+        → AppendsByWords context stream rules wanted input operators q old other others later
         → (r ≡ q) × (new ≡ other) × (asks ≡ others) × (after ≡ later) }
-    ensures none { (context : Context) (stream : Stream) (rules : List Rule)
-        (operators : List (Operator × ℕ)) (r : Rewrite) → HasNoRewrite context rules operators
-        → ¬ (Chooses context stream rules operators r) }
+    ensures none { (context : Context) (stream : Stream) (rules : List Rule) (wanted : List Growth)
+        (operators : List (Operator × ℕ)) (r : Rewrite)
+        → HasNoRewrite context rules wanted operators
+        → ¬ (Chooses context stream rules wanted operators r) }
 {
     one_change();
     words_choose_one_rewrite();

@@ -4,11 +4,13 @@ ghost use Rattle.rewrite_rules.specs.Table.{ROWS};
 ghost use Rattle.body_rewrites.specs.Places.{context_of, HasItsTrees};
 ghost use Rattle.body_rewrites.specs.Rewrites.{by_rows, asked_below};
 ghost use Rattle.body_rewrites.specs.Asking.{all_asked, rewrite_of, IsAskedSo, IsHere};
-ghost use Rattle.body_rewrites.specs.Listing.{AreThose, IsBy, AreFound, AddsFound, passing, has_number, is_by};
+ghost use Rattle.body_rewrites.specs.Listing.{AreThose, IsWantedBy, AreFound, AddsFound, passing, has_number, is_by, is_wanted};
 
 use crate::asked::{Asked, all_asked};
 use crate::found::Found;
+use crate::growth::{Growth, has_growth};
 use crate::here::{Here, here_at};
+use crate::laws::one_change;
 use crate::line_growth::growth_here;
 use crate::places::Body;
 use crate::rewrite::Rewrite;
@@ -74,7 +76,7 @@ fn has_number(rules: &[Rule], number: usize) -> bool
 }
 
 // Whether what is found is by one of the rules; `rows` are the rules of the rows.
-pub(crate) fn is_by(rows: &[u16], rules: &[Rule], found: Found) -> bool
+fn is_by(rows: &[u16], rules: &[Rule], found: Found) -> bool
     ensures { result ≡ is_by rows.now rules.now found }
 {
     match rows.get(found.rewrite.row).copied() {
@@ -83,25 +85,38 @@ pub(crate) fn is_by(rows: &[u16], rules: &[Rule], found: Found) -> bool
     }
 }
 
-// Adds those that are by one of the rules.
-fn add_by(
+/// Whether what is found is by one of the rules, and does one of the wanted things; `rows` are the rules of the rows.
+pub(crate) fn is_wanted(rows: &[u16], rules: &[Rule], wanted: &[Growth], found: Found) -> bool
+    ensures { result ≡ is_wanted rows.now rules.now wanted.now found }
+{
+    if has_growth(wanted, found.growth) {
+        is_by(rows, rules, found)
+    } else {
+        false
+    }
+}
+
+// Adds those that are so.
+fn add_wanted(
     rows: &[u16],
     rules: &[Rule],
+    wanted: &[Growth],
     found: &[Found],
     list: &mut Vec<Rewrite>,
 ) -> Result<(), AllocError>
     ensures { OnOk result (list.new.items ≡ list.old.items
-        ++ passing (is_by rows.now rules.now) found.now) }
+        ++ passing (is_wanted rows.now rules.now wanted.now) found.now) }
 {
     for found in found {
-        if is_by(rows, rules, *found) {
+        if is_wanted(rows, rules, wanted, *found) {
             list.push(found.rewrite)?;
         }
     }
     Ok(())
 }
 
-/// Every rewrite of a body by one of the rules, in the order of the operators, the rows and the widths.
+/// Every rewrite of a body by one of the rules that does one of the wanted things to the number of operators, in the order of the
+/// operators, the rows and the widths.
 ///
 /// It takes time linear in the body, times the lines of the table, but for operands that are compared: in a hole that stands twice, and
 /// where they change places. These are only compared where both are of one length, which adds no more than the logarithm of the body's
@@ -110,18 +125,20 @@ pub fn rewrites_of_body(
     alloc: Global,
     body: &Body<'_>,
     rules: &[Rule],
+    wanted: &[Growth],
 ) -> Result<Vec<Rewrite>, AllocError>
     requires trees { HasItsTrees body.now }
     ensures { IfOk result (λ list. AreThose
-        (IsBy (context_of body.now) body.now.operators.now rules.now)
+        (IsWantedBy (context_of body.now) body.now.operators.now rules.now wanted.now)
         (asked_below (length body.now.operators.now)) list.items) }
 {
+    one_change();
     let lines = all_asked(alloc)?;
     let rows = rules_of_rows(alloc)?;
     let mut list = Vec::new(alloc);
     for at in 0..body.operators.len() {
         let found = rewrites_at(alloc, body, lines.as_slice(), at)?;
-        add_by(rows.as_slice(), rules, found.as_slice(), &mut list)?;
+        add_wanted(rows.as_slice(), rules, wanted, found.as_slice(), &mut list)?;
     }
     Ok(list)
 }

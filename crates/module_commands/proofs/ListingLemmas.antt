@@ -8,9 +8,9 @@ use Rattle.wasm_types.specs.Module.{Module}
 use Rattle.wasm_types.specs.declared.types.PrimitiveTypeInfo.{PrimitiveTypeInfo}
 use Rattle.wasm_module.specs.Module.{Layout}
 use Rattle.peephole_machine.specs.Values.{context_in}
-use Rattle.rewrite_rules.specs.declared.rule.Rule.{Rule}
 use Rattle.body_rewrites.specs.declared.rewrite.Rewrite.{Rewrite}
 use Rattle.module_rewrites.specs.Function.{IsFunction}
+use Rattle.module_rewrites.specs.Scope.{Scope}
 use Rattle.module_commands.specs.Lines.{rewrite_line, rewrite_lines}
 use Rattle.module_commands.specs.Lists.{AreTheRewrites, ListsFunction}
 use Rattle.module_commands.specs.declared.form.Form.{Form}
@@ -39,27 +39,27 @@ abbrev Operators : Type 0
 Operators = List (Operator × ℕ)
 
 -- the lines of a function that was read
-pub lists_function : (form : Form) (rules lent_rules : List Rule) (bytes : List ℕ) (info : Module) (layout : Layout) (n : ℕ) (locals : Types)
-    (expression : ℕ) (operators : Operators) (list : List Rewrite) (index : ℕ) (text : List ℕ) → lent_rules ≡ rules →
+pub lists_function : (form : Form) (scope lent : Scope) (bytes : List ℕ) (info : Module) (layout : Layout) (n : ℕ) (locals : Types)
+    (expression : ℕ) (operators : Operators) (list : List Rewrite) (index : ℕ) (text : List ℕ) → lent ≡ scope →
     IsFunction bytes info layout n locals expression operators →
     ((l : Types) (x : ℕ) (o : Operators) → IsFunction bytes info layout n l x o → (locals ≡ l) × (operators ≡ o)) →
-    AreTheRewrites (context_in info locals) lent_rules operators list → (layout.imported_functions + n < 2 ^ 64 → index ≡ layout.imported_functions + n) →
-    text ≡ rewrite_lines form index list → ListsFunction form rules bytes info layout n text
-lists_function form rules lent_rules bytes info layout n locals expression operators list index text rules_are f only are at is = record {
+    AreTheRewrites (context_in info locals) lent operators list → (layout.imported_functions + n < 2 ^ 64 → index ≡ layout.imported_functions + n) →
+    text ≡ rewrite_lines form index list → ListsFunction form scope bytes info layout n text
+lists_function form scope lent bytes info layout n locals expression operators list index text scope_is f only are at is = record {
   list = list;
   are = λ l x o k.
       let s = only l x o k in
-      subst (λ (rs : List Rule). AreTheRewrites (context_in info l) rs o list) rules_are
-      (subst (λ (ts : Types). AreTheRewrites (context_in info ts) lent_rules o list) s.0
-      (subst (λ (os : Operators). AreTheRewrites (context_in info locals) lent_rules os list) s.1 are));
+      subst (λ (s : Scope). AreTheRewrites (context_in info l) s o list) scope_is
+      (subst (λ (ts : Types). AreTheRewrites (context_in info ts) lent o list) s.0
+      (subst (λ (os : Operators). AreTheRewrites (context_in info locals) lent os list) s.1 are));
   none = λ never. absurd (never (record { locals = locals; expression = expression; operators = operators; is = f }));
   lines = λ l. is ∙ ap (λ i. rewrite_lines form i list) (at l);
 }
 
 -- the lines of one that can't be read: none
-pub lists_nothing : (form : Form) (rules : List Rule) (bytes : List ℕ) (info : Module) (layout : Layout) (n : ℕ) →
-    ((l : Types) (x : ℕ) (o : Operators) → IsFunction bytes info layout n l x o → ⊥) → ListsFunction form rules bytes info layout n []
-lists_nothing form rules bytes info layout n never = record {
+pub lists_nothing : (form : Form) (scope : Scope) (bytes : List ℕ) (info : Module) (layout : Layout) (n : ℕ) →
+    ((l : Types) (x : ℕ) (o : Operators) → IsFunction bytes info layout n l x o → ⊥) → ListsFunction form scope bytes info layout n []
+lists_nothing form scope bytes info layout n never = record {
   list = [];
   are = λ l x o f. absurd (never l x o f);
   none = λ _. refl;

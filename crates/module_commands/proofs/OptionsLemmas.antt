@@ -41,7 +41,7 @@ use Rattle.rewrite_rules.specs.declared.table.Widths.TheVariants.{Both, Only, An
 use Rattle.body_rewrites.specs.Listing.{AreThose, IsOfRule}
 use Rattle.body_rewrites.specs.ThoseLemmas.{those_with, those_without}
 use Rattle.module_commands.specs.Arguments.{command_line}
-use Rattle.module_commands.specs.Options.{AreMisused, AreNamed, AreOptions, AreRefused, AreRules, IsNumberOf, IsShrinking, IsWanted, MakesSmaller, NamesNone, RowMakesSmaller, SayOptions, WritesSeed, first_of, is_named, is_shrinking, kind_for, names_or_none}
+use Rattle.module_commands.specs.Options.{AreMisused, AreNamed, AreOptions, AreRefused, AreRules, IsNumberOf, IsWanted, NamesNone, SayOptions, WritesSeed, first_of, is_named, kind_for, names_or_none}
 use Rattle.module_commands.specs.Options.WritesSeed.{in_hexadecimal}
 use Rattle.module_commands.specs.Options.AreRefused.{by_matches, by_memory, by_words}
 use Rattle.module_commands.specs.declared.options.Misuse.{Misuse}
@@ -165,14 +165,13 @@ names_given found option given get o is =
     sym (raw_values-rows found option) ∙ (sym get ∙ ap (option_map (λ (s : Bor (List (Bor Text))). texts s.now)) is)
 
 -- those of the rules that are wanted
-pub rules_wanted : (named others : Option (List Text)) (shrink set : Bool) (given lent wanted : List Rule) (names : List Text) → AreNamed named given →
-    lent ≡ given → names ≡ names_or_none others → set ≡ shrink → AreThose (IsWanted names set) lent wanted → AreRules named others shrink wanted
-rules_wanted named others shrink set given lent wanted names are lent_is names_are set_is is = record {
+pub rules_wanted : (named others : Option (List Text)) (given lent wanted : List Rule) (names : List Text) → AreNamed named given → lent ≡ given →
+    names ≡ names_or_none others → AreThose (IsWanted names) lent wanted → AreRules named others wanted
+rules_wanted named others given lent wanted names are lent_is names_are is = record {
   given = given;
   are_named = are;
-  are = subst (λ (rs : List Rule). AreThose (IsWanted (names_or_none others) shrink) rs wanted) lent_is
-      (subst (λ (ns : List Text). AreThose (IsWanted ns shrink) lent wanted) names_are
-      (subst (λ (b : Bool). AreThose (IsWanted names b) lent wanted) set_is is));
+  are = subst (λ (rs : List Rule). AreThose (IsWanted (names_or_none others)) rs wanted) lent_is
+      (subst (λ (ns : List Text). AreThose (IsWanted ns) lent wanted) names_are is);
 }
 
 pub misused_name : (rows : List Row) (names : List Text) (e : Misuse) → all_of (codes "rule") rows ≡ Some names →
@@ -180,69 +179,6 @@ pub misused_name : (rows : List Row) (names : List Text) (e : Misuse) → all_of
 misused_name rows names e is (inl memory) = subst (AreMisused rows) (sym memory) tt
 misused_name rows names e is (inr unknown) =
     subst (AreMisused rows) (sym unknown.0) (subst (λ (o : Option (List Text)). IfSome o NamesNone) (sym is) unknown.1)
-
--- ---- rules that make code smaller
-
-shrinking_is : (g : Growth) → is_shrinking g ≡ true → g ≡ Shrinks
-shrinking_is Shrinks h = refl
-shrinking_is Keeps h = absurd (false≢true h)
-shrinking_is Grows h = absurd (false≢true h)
-
-shown_shrinking : (g : Growth) → shown g ≡ shrinks → is_shrinking g ≡ true
-shown_shrinking Shrinks h = refl
-shown_shrinking Keeps h = absurd cc
-shown_shrinking Grows h = absurd cc
-
--- a row is a rule beside the table, or has a width
-some_width : (w : Widths) → ((own : beside.Own) × (w ≡ Own own)) ⊎ ((t : IntegerType) × (slice_get (widths_in w) 0 ≡ Some t))
-some_width Both = inr (integer.I32, refl)
-some_width (Only t) = inr (t, refl)
-some_width Any = inr (integer.I32, refl)
-some_width (Own own) = inl (own, refl)
-
--- what a row of the table does is told by its growth
-pub row_smaller : (number : ℕ) (row : TableRow) (growth : Growth) → TableIsRight → slice_get ROWS number ≡ Some row → GrowsAs row growth →
-    IsTrue (is_shrinking growth) ↔ RowMakesSmaller number
-row_smaller number row growth right at grows = (forth, back)
-  where
-    formed : (k : ℕ) (t : IntegerType) → slice_get (widths_in row.widths) k ≡ Some t → IsFormed row t
-    formed k t is = right.formed number row at k (line_of row t) (slice_get-map (line_of row) (widths_in row.widths) k ∙ ap (option_map (line_of row)) is)
-
-    does : is_shrinking growth ≡ true → MakesSmaller row
-    does h = record {
-      of_lines = λ k t is. sym (grows.of_lines k t is (formed k t is)) ∙ ap shown (shrinking_is growth h);
-      of_own = λ own is. sym (grows.of_own own is) ∙ shrinking_is growth h;
-    }
-
-    forth : IsTrue (is_shrinking growth) → RowMakesSmaller number
-    forth h other is = subst MakesSmaller (same_Some row other (sym at ∙ is)) (does h)
-
-    back : RowMakesSmaller number → IsTrue (is_shrinking growth)
-    back h = elim (some_width row.widths) [
-      | inl o ↦ ap is_shrinking (grows.of_own o.0 o.1 ∙ (h row at).of_own o.0 o.1)
-      | inr w ↦ shown_shrinking growth (grows.of_lines 0 w.0 w.1 (formed 0 w.0 w.1) ∙ (h row at).of_lines 0 w.0 w.1)
-    ]
-
--- the rows of the rule below the number make code smaller
-abbrev pub SmallerBelow : Rule → (end : ℕ) → Type 0
-SmallerBelow rule end = (k : ℕ) → k < end → IsOfRule rule k → RowMakesSmaller k
-
-pub smaller_more : (rule : Rule) (n : ℕ) → SmallerBelow rule n → (IsOfRule rule n → RowMakesSmaller n) → SmallerBelow rule (n + 1)
-smaller_more rule n h own k l = elim (cases_eq k n) [
-  | inl e ↦ subst (λ (m : ℕ). IsOfRule rule m → RowMakesSmaller m) (sym e) own
-  | inr other ↦ h k (omega (arith, l, other))
-]
-
--- all of them
-pub all_smaller : (rows : List ℕ) (rule : Rule) → ((n : ℕ) → slice_get rows n ≡ rule_of n) → (end : ℕ) → length rows ≤ end → SmallerBelow rule end →
-    IsTrue true ↔ IsShrinking rule
-all_smaller rows rule told end whole h = (
-  λ t n is. elim (slice_get_cases rows n).1 [
-    | inl x ↦ h n (omega (arith, x.1, whole)) is
-    | inr past ↦ absurd (let none : Some (rule_number rule) ≡ None = sym is ∙ (sym (told n) ∙ past.1) in cc)
-  ],
-  λ all. refl,
-)
 
 -- ---- rules that are wanted
 

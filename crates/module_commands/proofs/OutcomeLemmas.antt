@@ -1,5 +1,5 @@
 -- What is written of a module, rewritten or as it is.
-use Rattle.std.proofs.Common.{◌≡◌, ℕ, List, [], Bool, true, false, Option, None, inl, inr, sym, subst}
+use Rattle.std.proofs.Common.{◌≡◌, ℕ, List, [], Bool, true, false, Option, inl, inr, sym, subst}
 use Rattle.module_rewrites.specs.Attempt.{IsForSize, IsReason}
 use Rattle.module_rewrites.specs.Chosen.{GivesUp}
 use Rattle.module_rewrites.specs.ChosenTimes.{ChoosesTimes}
@@ -10,10 +10,10 @@ use Rattle.module_rewrites.specs.Seeded.{seeded}
 use Rattle.module_rewrites.specs.declared.attempt.Reason.{Reason}
 use Rattle.module_rewrites.specs.declared.mutation.MutationError.{MutationError}
 use Rattle.module_rewrites.specs.declared.times.MadeRewrite.{MadeRewrite}
-use Rattle.module_commands.specs.Failures.{leaves}
+use Rattle.module_commands.specs.Failures.{leaves_by}
 use Rattle.module_commands.specs.Scope.{scope_of}
 use Rattle.module_commands.specs.Shown.{IsShown}
-use Rattle.module_commands.specs.Writes.{IsOutcome, IsWrittenAs}
+use Rattle.module_commands.specs.Writes.{IsOutcome, IsWrittenAs, stopped_by}
 use Rattle.module_commands.specs.declared.options.Options.{Options}
 
 -- of a module that was rewritten
@@ -36,15 +36,17 @@ rewritten_outcome options scope bytes module_bytes written made given stopped to
 
 -- of one that is left as it is
 pub left_outcome : (options : Options) (bytes module_bytes written : List ℕ) (reason : Reason) (made given : List MadeRewrite)
-    (stopped told : Option MutationError) → IsReason (scope_of options) bytes reason → leaves options.shrink reason ≡ true → module_bytes ≡ bytes →
-    made ≡ [] → stopped ≡ None → given ≡ made → told ≡ stopped → IsWrittenAs options.strip_debug module_bytes written →
+    (stopped told : Option MutationError) → IsReason (scope_of options) bytes reason →
+    (IsForSize reason → GivesUp (scope_of options) bytes (seeded options.seed)) → leaves_by options bytes reason ≡ true → module_bytes ≡ bytes →
+    made ≡ [] → stopped ≡ stopped_by reason → given ≡ made → told ≡ stopped → IsWrittenAs options.strip_debug module_bytes written →
     ((start : List ℕ) → DoesAsBefore start module_bytes → DoesAsBefore start written) → DoesAsBefore bytes module_bytes →
     IsOutcome options bytes given told written
-left_outcome options bytes module_bytes written reason made given stopped told is left same none not_stopped made_is stopped_is as_written after does =
+left_outcome options bytes module_bytes written reason made given stopped told is gives_up left same none stopped_for made_is stopped_is as_written after does =
     subst (λ (s : Option MutationError). IsOutcome options bytes given s written) (sym stopped_is)
     (subst (λ (ms : List MadeRewrite). IsOutcome options bytes ms stopped written) (sym made_is) (record {
       module_bytes = module_bytes;
-      is_made = inr (record { reason = reason; is = is; leaves = left; none = none; not_stopped = not_stopped; same = same });
+      is_made =
+          inr (record { reason = reason; is = is; leaves = left; gives_up = gives_up; none = none; stopped_is = stopped_for; same = same });
       is_written = as_written;
       does = after bytes does;
     }))

@@ -9,11 +9,11 @@ use Rattle.wasm_types.specs.Module.{Module}
 use Rattle.wasm_types.specs.declared.types.PrimitiveTypeInfo.{PrimitiveTypeInfo}
 use Rattle.wasm_module.specs.Module.{Layout}
 use Rattle.peephole_machine.specs.Values.{Context, context_in}
-use Rattle.rewrite_rules.specs.declared.rule.Rule.{Rule}
 use Rattle.body_rewrites.specs.Listing.{AreThose}
 use Rattle.body_rewrites.specs.Reached.{AreReached, IsMarked, IsReached}
 use Rattle.body_rewrites.specs.ThoseLemmas.{those_with, those_without, those_as}
 use Rattle.module_rewrites.specs.Function.{IsFunction}
+use Rattle.module_rewrites.specs.Scope.{Scope, wanted_of}
 use Rattle.module_commands.specs.Blocks.{HasNoDelimiter, IsBlock, IsBlockIn, delimits, is_delimiter_of}
 use Rattle.module_commands.specs.Reach.{AreCounted, AreCountedAt, AreOfBody, AreOfEntries, AreOfEntry, Counts, EndsBlock, EndsReached, HoldsReached, IsIntegerAt, IsOneIf, Told, nothing, number_of, numbers_below, part_in_64_bits, part_of, part_sum, reach_in_64_bits, sum_of}
 use Rattle.module_commands.specs.declared.reach.Part.{Part}
@@ -259,9 +259,9 @@ counted_as P Q operators end reach same h = record {
 }
 
 -- a mark tells whether the operator is reached; behind the last one there is neither a mark nor an operator
-marked_as : (context : Context) (rules : List Rule) (operators : Operators) (marks : List Bool) → AreReached context operators rules marks → (at : ℕ) →
-    IsMarked marks at ↔ IsReached context operators rules at
-marked_as context rules operators marks h at = elim (cases_lt at (length operators)) [
+marked_as : (context : Context) (scope : Scope) (operators : Operators) (marks : List Bool) → AreReached context operators scope.rules (wanted_of scope) marks → (at : ℕ) →
+    IsMarked marks at ↔ IsReached context operators scope.rules (wanted_of scope) at
+marked_as context scope operators marks h at = elim (cases_lt at (length operators)) [
   | inl less ↦ h.each at less
   | inr past ↦
       let past_marks : length marks ≤ at = rw h.count past in (
@@ -272,12 +272,12 @@ marked_as context rules operators marks h at = elim (cases_lt at (length operato
       )
 ]
 
-pub told_body : (context : Context) (rules : List Rule) (operators : Operators) (marks : List Bool) (reach : Reach) →
-    AreReached context operators rules marks → Told (AreCounted (IsMarked marks) operators (length operators)) reach →
-    Told (AreOfBody context rules operators) reach
-told_body context rules operators marks reach h t = record {
+pub told_body : (context : Context) (scope : Scope) (operators : Operators) (marks : List Bool) (reach : Reach) →
+    AreReached context operators scope.rules (wanted_of scope) marks → Told (AreCounted (IsMarked marks) operators (length operators)) reach →
+    Told (AreOfBody context scope operators) reach
+told_body context scope operators marks reach h t = record {
   exact = t.exact;
-  are = counted_as (IsMarked marks) (IsReached context operators rules) operators (length operators) t.exact (marked_as context rules operators marks h)
+  are = counted_as (IsMarked marks) (IsReached context operators scope.rules (wanted_of scope)) operators (length operators) t.exact (marked_as context scope operators marks h)
       t.are;
   as_told = t.as_told;
 }
@@ -287,19 +287,19 @@ told_body context rules operators marks reach h t = record {
 abbrev Types : Type 0
 Types = List PrimitiveTypeInfo
 
-module _ (rules : List Rule) (bytes : List ℕ) (info : Module) (layout : Layout) (n : ℕ) where
+module _ (scope : Scope) (bytes : List ℕ) (info : Module) (layout : Layout) (n : ℕ) where
   -- of one that was read
   pub told_read : (locals lent : Types) (expression : ℕ) (operators given : Operators) (reach : Reach) → lent ≡ locals → given ≡ operators →
       IsFunction bytes info layout n locals expression operators →
       ((l : Types) (x : ℕ) (o : Operators) → IsFunction bytes info layout n l x o → (locals ≡ l) × (operators ≡ o)) →
-      Told (AreOfBody (context_in info lent) rules given) reach → Told (AreOfEntry rules bytes info layout n) reach
+      Told (AreOfBody (context_in info lent) scope given) reach → Told (AreOfEntry scope bytes info layout n) reach
   told_read locals lent expression operators given reach lent_is given_is f only t = record {
     exact = t.exact;
     are = record {
       read = λ l x o k.
           let s = only l x o k in
-          subst (λ (ts : Types). AreOfBody (context_in info ts) rules o t.exact) (lent_is ∙ s.0)
-          (subst (λ (os : Operators). AreOfBody (context_in info lent) rules os t.exact) (given_is ∙ s.1) t.are);
+          subst (λ (ts : Types). AreOfBody (context_in info ts) scope o t.exact) (lent_is ∙ s.0)
+          (subst (λ (os : Operators). AreOfBody (context_in info lent) scope os t.exact) (given_is ∙ s.1) t.are);
       unread = λ never. absurd (never (record { locals = locals; expression = expression; operators = operators; is = f }));
     };
     as_told = t.as_told;
@@ -307,7 +307,7 @@ module _ (rules : List Rule) (bytes : List ℕ) (info : Module) (layout : Layout
 
   -- of one that can't be
   pub told_unread : (reach : Reach) → ((l : Types) (x : ℕ) (o : Operators) → IsFunction bytes info layout n l x o → ⊥) → reach ≡ nothing →
-      Told (AreOfEntry rules bytes info layout n) reach
+      Told (AreOfEntry scope bytes info layout n) reach
   told_unread reach never is = record {
     exact = nothing;
     are = record { read = λ l x o f. absurd (never l x o f); unread = λ _. refl };
@@ -315,13 +315,13 @@ module _ (rules : List Rule) (bytes : List ℕ) (info : Module) (layout : Layout
   }
 
   -- one more
-  pub told_more : (before own new : Reach) → Told (AreOfEntries rules bytes info layout n) before → Told (AreOfEntry rules bytes info layout n) own →
-      new ≡ reach_in_64_bits (sum_of before own) → Told (AreOfEntries rules bytes info layout (n + 1)) new
+  pub told_more : (before own new : Reach) → Told (AreOfEntries scope bytes info layout n) before → Told (AreOfEntry scope bytes info layout n) own →
+      new ≡ reach_in_64_bits (sum_of before own) → Told (AreOfEntries scope bytes info layout (n + 1)) new
   told_more before own new h k is =
       let next : suc n ≡ n + 1 = omega arith in
       record {
         exact = sum_of h.exact k.exact;
-        are = subst (λ (m : ℕ). AreOfEntries rules bytes info layout m (sum_of h.exact k.exact)) next (h.exact, k.exact, refl, h.are, k.are);
+        are = subst (λ (m : ℕ). AreOfEntries scope bytes info layout m (sum_of h.exact k.exact)) next (h.exact, k.exact, refl, h.are, k.are);
         as_told = is ∙ (ap (λ r. reach_in_64_bits (sum_of r own)) h.as_told
             ∙ (ap (λ r. reach_in_64_bits (sum_of (reach_in_64_bits h.exact) r)) k.as_told ∙ both_sums h.exact k.exact));
       }

@@ -1,12 +1,12 @@
 -- Why a run has no success (this project).
-use Rattle.std.specs.Prelude.{◌≡◌, ℕ, ◌<◌, Bool, true, false, List, length, Option, IfSome}
+use Rattle.std.specs.Prelude.{◌≡◌, ℕ, ◌<◌, nat_le, ◌&&◌, Bool, true, false, List, length, Option, IfSome}
 use Rattle.wasm_module.specs.Fault.{IsModuleFault}
 use Rattle.module_rewrites.specs.Attempt.{IsForSize, IsReason, RefusesIndexOf}
 use Rattle.module_rewrites.specs.Chosen.{GivesUp}
 use Rattle.module_rewrites.specs.Seeded.{seeded}
 use Rattle.module_rewrites.specs.declared.attempt.Reason.{Reason}
 use Rattle.module_rewrites.specs.declared.attempt.Reason.TheVariants.{NoRule, NoOwnFunction, Unreadable, NoFunction, UnknownImport, Refused}
-use Rattle.module_rewrites.specs.declared.mutation.MutationError.TheVariants.{Read}
+use Rattle.module_rewrites.specs.declared.mutation.MutationError.TheVariants.{Read, TooLong as LongerModule}
 use Rattle.module_commands.specs.Front.{is_component, is_text}
 use Rattle.module_commands.specs.Scope.{scope_of}
 use Rattle.module_commands.specs.declared.failure.Failure.{Failure}
@@ -38,17 +38,23 @@ FailsToTake input TooLong = IfSome input (λ bytes. 1073741824 < length bytes)
 FailsToTake input Memory = Unit {0}
 FailsToTake input e = ⊥
 
--- no rule applies: where rules are to make code smaller alone, the module is written as it is
-abbrev pub leaves : (shrink : Bool) → Reason → Bool
-leaves shrink NoRule = shrink
-leaves shrink NoOwnFunction = shrink
-leaves shrink reason = false
+-- The module is written as it is for that reason, where rewrites are to make it smaller: no rule applies, or it would have more bytes with each rewrite that is
+-- drawn, and has no more than it may (`fits`).
+abbrev pub leaves : (shrink fits : Bool) → Reason → Bool
+leaves shrink fits NoRule = shrink
+leaves shrink fits NoOwnFunction = shrink
+leaves shrink fits (Refused LongerModule) = shrink && fits
+leaves shrink fits reason = false
+
+-- the same by the options
+abbrev pub leaves_by : Options → (bytes : List ℕ) → Reason → Bool
+leaves_by options bytes reason = leaves options.shrink (nat_le (length bytes) options.max_size) reason
 
 -- nothing of the module is rewritten for that reason, and it isn't written as it is; for a size only where the words that the seed gives choose no rewrite
 -- that fits
 pub record IsReasonFor (options : Options) (bytes : List ℕ) (reason : Reason) : Type 0 where
   pub is : IsReason (scope_of options) bytes reason
-  pub left : leaves options.shrink reason ≡ false
+  pub left : leaves_by options bytes reason ≡ false
   pub gives_up : IsForSize reason → GivesUp (scope_of options) bytes (seeded options.seed)
 
 -- no rewritten module is made: for a reason why nothing of it is rewritten, or no memory is left

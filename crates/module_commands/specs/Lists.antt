@@ -6,13 +6,13 @@ use Rattle.wasm_types.specs.Module.{Module}
 use Rattle.wasm_types.specs.declared.types.PrimitiveTypeInfo.{PrimitiveTypeInfo}
 use Rattle.wasm_module.specs.Module.{Layout, IsModule}
 use Rattle.peephole_machine.specs.Values.{Context, context_in}
-use Rattle.rewrite_rules.specs.declared.rule.Rule.{Rule}
 use Rattle.body_rewrites.specs.declared.rewrite.Rewrite.{Rewrite}
-use Rattle.body_rewrites.specs.Listing.{AreThose, IsBy}
+use Rattle.body_rewrites.specs.Listing.{AreThose, IsWantedBy}
 use Rattle.body_rewrites.specs.Rewrites.{asked_below}
 use Rattle.module_rewrites.specs.Attempt.{CanRead}
 use Rattle.module_rewrites.specs.Function.{IsFunction}
 use Rattle.module_rewrites.specs.Mutated.{IsChosen}
+use Rattle.module_rewrites.specs.Scope.{Scope, wanted_of}
 use Rattle.module_commands.specs.Lines.{rewrite_lines}
 use Rattle.module_commands.specs.declared.form.Form.{Form}
 
@@ -40,19 +40,20 @@ pub record WritesOfFunctions (Tells : Module → Layout → ℕ → List ℕ →
 
 -- ---- the rewrites that there are
 
--- those of a body by one of the rules, in the order of the operators, the rows and the widths
-abbrev pub AreTheRewrites : Context → List Rule → List (Operator × ℕ) → List Rewrite → Type 0
-AreTheRewrites context rules operators list = AreThose (IsBy context operators rules) (asked_below (length operators)) list
+-- those of a body by one of the rules, where they are to make the module smaller those that leave fewer operators, in the order of the operators, the rows and
+-- the widths
+abbrev pub AreTheRewrites : Context → Scope → List (Operator × ℕ) → List Rewrite → Type 0
+AreTheRewrites context scope operators list = AreThose (IsWantedBy context operators scope.rules (wanted_of scope)) (asked_below (length operators)) list
 
--- The text has a line for each rewrite that there is by one of the rules of the function of the n-th code entry, and no other; none where that can't be
+-- The text has a line for each such rewrite that there is of the function of the n-th code entry, and no other; none where that can't be
 -- read. (An index has 64 bits.)
-pub record ListsFunction (form : Form) (rules : List Rule) (bytes : List ℕ) (info : Module) (layout : Layout) (n : ℕ) (text : List ℕ) : Type 0 where
+pub record ListsFunction (form : Form) (scope : Scope) (bytes : List ℕ) (info : Module) (layout : Layout) (n : ℕ) (text : List ℕ) : Type 0 where
   pub list : List Rewrite
   pub are : (locals : List PrimitiveTypeInfo) (expression : ℕ) (operators : List (Operator × ℕ)) →
-      IsFunction bytes info layout n locals expression operators → AreTheRewrites (context_in info locals) rules operators list
+      IsFunction bytes info layout n locals expression operators → AreTheRewrites (context_in info locals) scope operators list
   pub none : ¬ (CanRead bytes info layout n) → list ≡ []
   pub lines : layout.imported_functions + n < 2 ^ 64 → text ≡ rewrite_lines form (layout.imported_functions + n) list
 
 -- A device has grown by the lines of the functions that are looked at.
-abbrev pub WritesList : Form → List Rule → (only : Option ℕ) → (bytes : List ℕ) → (old new : Option (List ℕ)) → Type 0
-WritesList form rules only bytes old new = WritesOfFunctions (ListsFunction form rules bytes) only bytes old new
+abbrev pub WritesList : Form → Scope → (bytes : List ℕ) → (old new : Option (List ℕ)) → Type 0
+WritesList form scope bytes old new = WritesOfFunctions (ListsFunction form scope bytes) scope.function bytes old new

@@ -10,18 +10,9 @@ use Rattle.clap.specs.Kinds.{IsAmong}
 use Rattle.clap.specs.Faults.{fault_of}
 use Rattle.clap.specs.declared.error.kind.ErrorKind.{ErrorKind}
 use Rattle.clap.specs.declared.error.kind.ErrorKind.TheVariants.{ArgumentConflict, InvalidValue, MissingRequiredArgument, OutOfMemory, ValueValidation}
-use Rattle.rewrite_rules.specs.Growing.{own_growth}
-use Rattle.rewrite_rules.specs.Growth.{growth_of, shrinks}
 use Rattle.rewrite_rules.specs.Rule.{AreAllRules, rule_name}
-use Rattle.rewrite_rules.specs.Table.{ROWS, line_of, widths_in}
-use Rattle.rewrite_rules.specs.declared.growth.Growth.{Growth}
-use Rattle.rewrite_rules.specs.declared.growth.Growth.TheVariants as growths
 use Rattle.rewrite_rules.specs.declared.rule.Rule.{Rule}
-use Rattle.rewrite_rules.specs.declared.table.Own as beside
-use Rattle.rewrite_rules.specs.declared.table.Row.{Row as TableRow}
-use Rattle.rewrite_rules.specs.declared.table.Widths.TheVariants.{Own}
-use Rattle.body_rewrites.specs.Listing.{AreThose, IsOfRule}
-use Rattle.peephole_machine.specs.declared.integer.IntegerType.{IntegerType}
+use Rattle.body_rewrites.specs.Listing.{AreThose}
 use Rattle.module_commands.specs.Front.{begins_with}
 use Rattle.module_commands.specs.declared.options.Flags.{Flags}
 use Rattle.module_commands.specs.declared.options.Misuse.{Misuse}
@@ -122,7 +113,7 @@ have_plus rows =
 abbrev pub choose : List Row → Bool
 choose rows = is_given (codes "seed") rows || is_given (codes "count") rows || is_given (codes "max-size") rows
 
--- what chooses rules is given
+-- what chooses rules, or which of their rewrites are made, is given
 abbrev pub choose_rules : List Row → Bool
 choose_rules rows = is_given (codes "rule") rows || is_given (codes "not-rule") rows || is_set (codes "shrink") rows
 
@@ -165,39 +156,19 @@ AreNamed (Some names) rules = map rule_name rules ≡ names
 abbrev pub is_named : (names : List Text) → Rule → Bool
 is_named names rule = list_any (λ name. bytes_eq name (rule_name rule)) names
 
--- what does so leaves fewer instructions; what keeps their number doesn't
-abbrev pub is_shrinking : Growth → Bool
-is_shrinking growths.Shrinks = true
-is_shrinking growths.Keeps = false
-is_shrinking growths.Grows = false
-
--- Each rewrite by the row leaves fewer instructions: so do its lines, or the rule beside the table that it names.
-pub record MakesSmaller (row : TableRow) : Type 0 where
-  pub of_lines : (k : ℕ) (t : IntegerType) → slice_get (widths_in row.widths) k ≡ Some t → growth_of (line_of row t) ≡ shrinks
-  pub of_own : (own : beside.Own) → row.widths ≡ Own own → own_growth own ≡ growths.Shrinks
-
--- the row of the table with the number, where there is one, does
-abbrev pub RowMakesSmaller : (number : ℕ) → Type 0
-RowMakesSmaller number = (row : TableRow) → slice_get ROWS number ≡ Some row → MakesSmaller row
-
--- the rule makes code smaller: each of its rows does
-abbrev pub IsShrinking : Rule → Type 0
-IsShrinking rule = (number : ℕ) → IsOfRule rule number → RowMakesSmaller number
-
--- None of the names is the rule's, and where code is to become smaller alone, the rule makes it so.
-pub record IsWanted (others : List Text) (shrink : Bool) (rule : Rule) : Type 0 where
-  pub other : is_named others rule ≡ false
-  pub smaller : shrink ≡ true → IsShrinking rule
+-- none of the names is the rule's
+abbrev pub IsWanted : (others : List Text) → Rule → Type 0
+IsWanted others rule = is_named others rule ≡ false
 
 -- the names, none where none are given
 abbrev pub names_or_none : Option (List Text) → List Text
 names_or_none names = unwrap_or names []
 
 -- Those of the named rules, or of all, that are wanted, in their order.
-pub record AreRules (named others : Option (List Text)) (shrink : Bool) (rules : List Rule) : Type 0 where
+pub record AreRules (named others : Option (List Text)) (rules : List Rule) : Type 0 where
   pub given : List Rule
   pub are_named : AreNamed named given
-  pub are : AreThose (IsWanted (names_or_none others) shrink) given rules
+  pub are : AreThose (IsWanted (names_or_none others)) given rules
 
 -- one of the names is no rule's
 pub record NamesNone (names : List Text) : Type 0 where
@@ -206,7 +177,7 @@ pub record NamesNone (names : List Text) : Type 0 where
   pub at : slice_get names place ≡ Some name
   pub none : (rule : Rule) → rule_name rule ≢ name
 
--- how many rewrites are made where no number is given: one, or where code is to become smaller, as many as there are
+-- how many rewrites are made where no number is given: one, or where they are to make the module smaller, as many as there are
 abbrev pub default_count : (shrink : Bool) → ℕ
 default_count shrink = if shrink then 18446744073709551615 else 1
 
@@ -224,7 +195,7 @@ pub record AreOptions (rows : List Row) (options : Options) : Type 0 where
   pub seed : IsSeed (first_of (codes "seed") rows) options.seed
   pub count : IsNumberOr (default_count (is_set (codes "shrink") rows)) (one_of (codes "count") rows) options.count
   pub function : IsNumberOf (one_of (codes "function") rows) options.function
-  pub rules : AreRules (all_of (codes "rule") rows) (all_of (codes "not-rule") rows) (is_set (codes "shrink") rows) options.rules.items
+  pub rules : AreRules (all_of (codes "rule") rows) (all_of (codes "not-rule") rows) options.rules.items
   pub max_size : IsNumberOr 18446744073709551615 (one_of (codes "max-size") rows) options.max_size
   pub shrink : options.shrink ≡ is_set (codes "shrink") rows
   pub stats : options.stats ≡ reports (flags_of rows)

@@ -8,11 +8,11 @@ use Rattle.wasm_module.specs.Module.{Layout}
 use Rattle.peephole_machine.specs.Values.{Context, context_in}
 use Rattle.peephole_machine.specs.IntegerRow.{bare_operator}
 use Rattle.peephole_machine.specs.Row.{instruction_byte}
-use Rattle.rewrite_rules.specs.declared.rule.Rule.{Rule}
 use Rattle.body_rewrites.specs.Listing.{AreThose}
 use Rattle.body_rewrites.specs.Reached.{IsReached}
 use Rattle.module_rewrites.specs.Attempt.{CanRead}
 use Rattle.module_rewrites.specs.Function.{IsFunction}
+use Rattle.module_rewrites.specs.Scope.{Scope, wanted_of}
 use Rattle.module_commands.specs.Blocks.{HasNoDelimiter, IsBlock}
 use Rattle.module_commands.specs.declared.reach.Part.{Part}
 use Rattle.module_commands.specs.declared.reach.Reach.{Reach}
@@ -79,9 +79,9 @@ pub record AreCounted (Reached : ℕ → Type 0) (operators : List (Operator × 
   pub integers_all : Counts (IsIntegerAt operators) end reach.integers.all
   pub integers_within : Counts (λ at. IsIntegerAt operators at × Reached at) end reach.integers.within
 
--- so it is of all operators of the body, by the rules
-abbrev pub AreOfBody : Context → List Rule → List (Operator × ℕ) → Reach → Type 0
-AreOfBody context rules operators reach = AreCounted (IsReached context operators rules) operators (length operators) reach
+-- so it is of all operators of the body, by the rules, where they are to make the module smaller by rewrites that leave fewer operators
+abbrev pub AreOfBody : Context → Scope → List (Operator × ℕ) → Reach → Type 0
+AreOfBody context scope operators reach = AreCounted (IsReached context operators scope.rules (wanted_of scope)) operators (length operators) reach
 
 -- ---- the numbers of a module
 
@@ -106,17 +106,17 @@ sum_of r s = record {
 }
 
 -- The numbers of the function of the n-th code entry; it counts nothing where it can't be read.
-pub record AreOfEntry (rules : List Rule) (bytes : List ℕ) (info : Module) (layout : Layout) (n : ℕ) (reach : Reach) : Type 0 where
+pub record AreOfEntry (scope : Scope) (bytes : List ℕ) (info : Module) (layout : Layout) (n : ℕ) (reach : Reach) : Type 0 where
   pub read : (locals : List PrimitiveTypeInfo) (expression : ℕ) (operators : List (Operator × ℕ)) →
-      IsFunction bytes info layout n locals expression operators → AreOfBody (context_in info locals) rules operators reach
+      IsFunction bytes info layout n locals expression operators → AreOfBody (context_in info locals) scope operators reach
   pub unread : ¬ (CanRead bytes info layout n) → reach ≡ nothing
 
 -- the same of the first `count` code entries together
-abbrev pub AreOfEntries : List Rule → (bytes : List ℕ) → Module → Layout → (count : ℕ) → Reach → Type 0
-AreOfEntries rules bytes info layout zero reach = reach ≡ nothing
-AreOfEntries rules bytes info layout (suc n) reach =
-    (before : Reach) × (own : Reach) × (reach ≡ sum_of before own) × AreOfEntries rules bytes info layout n before
-    × AreOfEntry rules bytes info layout n own
+abbrev pub AreOfEntries : Scope → (bytes : List ℕ) → Module → Layout → (count : ℕ) → Reach → Type 0
+AreOfEntries scope bytes info layout zero reach = reach ≡ nothing
+AreOfEntries scope bytes info layout (suc n) reach =
+    (before : Reach) × (own : Reach) × (reach ≡ sum_of before own) × AreOfEntries scope bytes info layout n before
+    × AreOfEntry scope bytes info layout n own
 
 -- ---- the numbers as they are told
 
@@ -143,8 +143,8 @@ pub record Told (Are : Reach → Type 0) (reach : Reach) : Type 0 where
   pub as_told : reach ≡ reach_in_64_bits exact
 
 -- The numbers of all functions of the module that can be read.
-abbrev pub IsReach : List Rule → (bytes : List ℕ) → Module → Layout → Reach → Type 0
-IsReach rules bytes info layout reach = Told (AreOfEntries rules bytes info layout (length layout.entries)) reach
+abbrev pub IsReach : Scope → (bytes : List ℕ) → Module → Layout → Reach → Type 0
+IsReach scope bytes info layout reach = Told (AreOfEntries scope bytes info layout (length layout.entries)) reach
 
 -- ---- operator by operator, for private functions
 

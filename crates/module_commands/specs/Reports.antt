@@ -3,14 +3,15 @@ use Rattle.std.specs.Prelude.{◌≡◌, ◌⊎◌, ℕ, zero, suc, ◌+◌, nat
 use Rattle.std.specs.Io.KnownBytes.{Appends}
 use Rattle.wasm_types.specs.Module.{Module}
 use Rattle.wasm_module.specs.Module.{Layout, IsModule}
-use Rattle.rewrite_rules.specs.declared.rule.Rule.{Rule}
 use Rattle.module_rewrites.specs.Attempt.{CanRead}
+use Rattle.module_rewrites.specs.Scope.{Scope}
 use Rattle.module_rewrites.specs.declared.mutation.MutationError.{MutationError}
 use Rattle.module_rewrites.specs.declared.times.MadeRewrite.{MadeRewrite}
 use Rattle.module_commands.specs.Blocks.{TellsUnread}
 use Rattle.module_commands.specs.Form.{form_of}
 use Rattle.module_commands.specs.Lines.{functions_line, reach_lines, rewrite_line, sizes_line, stopped_name, stopped_part}
 use Rattle.module_commands.specs.Reach.{IsReach}
+use Rattle.module_commands.specs.Scope.{scope_of}
 use Rattle.module_commands.specs.Shown.{IsShown}
 use Rattle.module_commands.specs.Writes.{WritesMutated}
 use Rattle.module_commands.specs.declared.ending.Ending.{Ending}
@@ -40,9 +41,9 @@ pub record ReportsFunctions (form : Form) (bytes : List ℕ) (info : Module) (la
   pub written : Appends old new (lines ++ functions_line form (length layout.entries) unreadable)
 
 -- The text tells how much of the module the rules reach, where that is asked for; else there is none.
-abbrev pub TellsReach : (asked : Bool) → Form → List Rule → (bytes : List ℕ) → Module → Layout → (text : List ℕ) → Type 0
-TellsReach false form rules bytes info layout text = text ≡ []
-TellsReach true form rules bytes info layout text = (reach : Reach) × IsReach rules bytes info layout reach × (text ≡ reach_lines form reach)
+abbrev pub TellsReach : (asked : Bool) → Form → Scope → (bytes : List ℕ) → Module → Layout → (text : List ℕ) → Type 0
+TellsReach false form scope bytes info layout text = text ≡ []
+TellsReach true form scope bytes info layout text = (reach : Reach) × IsReach scope bytes info layout reach × (text ≡ reach_lines form reach)
 
 -- A device has grown by the lines of the functions of the module with these bytes, and by such a text.
 pub record ReportsModule (options : Options) (bytes : List ℕ) (old new : Option (List ℕ)) : Type 0 where
@@ -52,7 +53,7 @@ pub record ReportsModule (options : Options) (bytes : List ℕ) (old new : Optio
   pub between : Option (List ℕ)
   pub functions : ReportsFunctions (form_of options) bytes info layout old between
   pub text : List ℕ
-  pub tells : TellsReach options.reach (form_of options) options.rules.items bytes info layout text
+  pub tells : TellsReach options.reach (form_of options) (scope_of options) bytes info layout text
   pub reaches : Appends between new text
 
 -- ---- rewrites

@@ -1,19 +1,21 @@
 -- What a run writes (this project).
-use Rattle.std.specs.Prelude.{◌≡◌, ◌⊎◌, ℕ, List, [], Bool, true, false, Option, None}
+use Rattle.std.specs.Prelude.{◌≡◌, ◌⊎◌, ℕ, List, [], Bool, true, false, Option, Some, None}
 use Rattle.std.specs.Io.KnownBytes.{Appends}
 use Rattle.wasm_sections.specs.declared.section.Section.{Section}
 use Rattle.wasm_sections.specs.Section.{SpellsModule}
 use Rattle.wasm_sections.specs.Debug.{IsWithoutDebug}
-use Rattle.module_rewrites.specs.Attempt.{IsReason}
+use Rattle.module_rewrites.specs.Attempt.{IsForSize, IsReason}
+use Rattle.module_rewrites.specs.Chosen.{GivesUp}
 use Rattle.module_rewrites.specs.ChosenTimes.{ChoosesTimes}
 use Rattle.module_rewrites.specs.DoesAsBefore.{DoesAsBefore}
 use Rattle.module_rewrites.specs.Mutates.{Mutates}
 use Rattle.module_rewrites.specs.Seeded.{seeded}
 use Rattle.module_rewrites.specs.declared.attempt.Reason.{Reason}
+use Rattle.module_rewrites.specs.declared.attempt.Reason.TheVariants.{Refused}
 use Rattle.module_rewrites.specs.declared.mutation.MutationError.{MutationError}
 use Rattle.module_rewrites.specs.declared.times.MadeRewrite.{MadeRewrite}
 use Rattle.module_commands.specs.Ending.{ending_of}
-use Rattle.module_commands.specs.Failures.{leaves}
+use Rattle.module_commands.specs.Failures.{leaves_by}
 use Rattle.module_commands.specs.Scope.{scope_of}
 use Rattle.module_commands.specs.declared.ending.Ending.{Ending}
 use Rattle.module_commands.specs.declared.options.Options.{Options}
@@ -28,13 +30,20 @@ pub record IsRewrittenBy (options : Options) (bytes : List ℕ) (made : List Mad
   pub mutates : Mutates (scope_of options) options.count bytes made new stopped
   pub chosen : ChoosesTimes (scope_of options) bytes (seeded options.seed) made new stopped
 
--- The new bytes are the module as it is: rules are to make code smaller alone, and none applies.
+-- what refused the module with each rewrite, where something did
+abbrev pub stopped_by : Reason → Option MutationError
+stopped_by (Refused e) = Some e
+stopped_by reason = None
+
+-- The new bytes are the module as it is: rewrites are to make it smaller, and no rule applies, or the words that the seed gives choose no rewrite with which it
+-- has no more bytes.
 pub record IsLeft (options : Options) (bytes : List ℕ) (made : List MadeRewrite) (stopped : Option MutationError) (new : List ℕ) : Type 0 where
   pub reason : Reason
   pub is : IsReason (scope_of options) bytes reason
-  pub leaves : leaves options.shrink reason ≡ true
+  pub leaves : leaves_by options bytes reason ≡ true
+  pub gives_up : IsForSize reason → GivesUp (scope_of options) bytes (seeded options.seed)
   pub none : made ≡ []
-  pub not_stopped : stopped ≡ None
+  pub stopped_is : stopped ≡ stopped_by reason
   pub same : new ≡ bytes
 
 -- Bytes are written of the module rewritten, or as it is; they are valid where it was, and do what it did.

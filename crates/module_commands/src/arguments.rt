@@ -116,7 +116,7 @@ fn shrink_argument<'a>(alloc: Global) -> Arg<'a>
     flag_argument(
         alloc,
         "shrink",
-        "Only the rules that make the code smaller; the module is written as it is where none applies",
+        "Only rewrites that leave fewer instructions, and no more bytes; the module as it is where there is none",
     )
 }
 

@@ -6,6 +6,7 @@ ghost use Rattle.module_commands.specs.Failures.{FailsToList, FailsToReport};
 ghost use Rattle.module_commands.specs.Form.{form_of};
 ghost use Rattle.module_commands.specs.Lines.{rewrite_line, rewrite_lines, rewrite_object, rewrite_text};
 ghost use Rattle.module_commands.specs.Lists.{AreTheRewrites, ListsFunction, WritesList};
+ghost use Rattle.module_commands.specs.Scope.{scope_of};
 ghost use Rattle.peephole_machine.specs.Values.{context_in};
 ghost use Rattle.wasm_module.specs.Module.{IsModule};
 
@@ -16,8 +17,7 @@ use crate::names::RowNames;
 use crate::objects::write_value;
 use crate::options::Options;
 use body_rewrites::{Body, Rewrite, rewrites_of_body, trees_of};
-use module_rewrites::{FunctionBody, chosen_entries, index_of, read_function};
-use rewrite_rules::Rule;
+use module_rewrites::{FunctionBody, Scope, chosen_entries, index_of, read_function};
 use serde_json::{Value, json};
 use std::alloc::{AllocError, Global};
 use std::io::Write;
@@ -99,15 +99,15 @@ fn write_rewrites<W: Write>(
     Ok(())
 }
 
-// The rewrites that there are of the function by one of the rules.
+// The rewrites that there are of the function by one of the rules, of those that the scope allows.
 fn rewrites_of(
     alloc: Global,
     info: &ModuleInfo<'_>,
     function: &FunctionBody,
-    rules: &[Rule],
+    scope: &Scope<'_>,
 ) -> Result<Vec<Rewrite>, AllocError>
     ensures { IfOk result (λ list. AreTheRewrites
-        (context_in info.now function.now.locals.items) rules.now function.now.operators.items
+        (context_in info.now function.now.locals.items) scope.now function.now.operators.items
         list.items) }
 {
     let locals = function.locals.as_slice();
@@ -119,7 +119,7 @@ fn rewrites_of(
         operators,
         trees: &trees,
     };
-    rewrites_of_body(alloc, &body, rules)
+    rewrites_of_body(alloc, &body, scope.rules(), scope.wanted())
 }
 
 // Writes the lines of the n-th of the module's own functions, where that can be read.
@@ -135,7 +135,7 @@ fn list_function<W: Write>(
     requires inside { n < length wasm.now.layout.entries }
     ensures lines { OnOk result ((text : List ℕ)
         × Appends (W.contents output.old) (W.contents output.new) text
-        × ListsFunction (form_of options.now) options.now.rules.items bytes.now wasm.now.info
+        × ListsFunction (form_of options.now) (scope_of options.now) bytes.now wasm.now.info
         wasm.now.layout n text) }
     ensures fails { IfErr result FailsToReport }
 {
@@ -149,13 +149,13 @@ fn list_function<W: Write>(
             return Ok(());
         }
     };
-    let rewrites = rewrites_of(alloc, info, &function, &options.rules)?;
+    let rewrites = rewrites_of(alloc, info, &function, &options.scope())?;
     let index = index_of(&wasm.layout, n);
     write_rewrites(alloc, output, options.form(), index, &rewrites)
 }
 
 /// Writes a line for each rewrite by one of the rules that there is in a function of the module that can be read; where the options
-/// name a function, in that alone.
+/// name a function, in that alone, and where rewrites are to make it smaller, for those alone that leave fewer operators.
 ///
 /// Fails as the module can't be read, and as `chosen_entries` finds no such function.
 #[tactic(auto, using(crate::proofs::FaultsLemmas::read_fails, crate::proofs::FaultsLemmas::index_fails, crate::proofs::FaultsLemmas::report_fails))]
@@ -165,8 +165,8 @@ pub fn list_rewrites<W: Write>(
     options: &Options,
     output: &mut W,
 ) -> Result<(), Failure>
-    ensures lines { OnOk result (WritesList (form_of options.now) options.now.rules.items
-        options.now.function bytes.now (W.contents output.old) (W.contents output.new)) }
+    ensures lines { OnOk result (WritesList (form_of options.now) (scope_of options.now) bytes.now
+        (W.contents output.old) (W.contents output.new)) }
     ensures fails { IfErr result (FailsToList options.now.function bytes.now) }
 {
     let module = module_of(alloc, bytes)?;

@@ -1,5 +1,5 @@
 //! The module rewritten as the options say.
-ghost use Rattle.std.specs.Prelude.{◌≡◌, ℕ, List, [], true, None, IfOk, IfErr};
+ghost use Rattle.std.specs.Prelude.{◌≡◌, ℕ, List, [], true, length, nat_le, IfOk, IfErr};
 ghost use Rattle.module_rewrites.specs.Attempt.{IsForSize, IsReason};
 ghost use Rattle.module_rewrites.specs.Chosen.{GivesUp};
 ghost use Rattle.module_rewrites.specs.DoesAsBefore.{DoesAsBefore};
@@ -7,14 +7,14 @@ ghost use Rattle.module_rewrites.specs.Seeded.{seeded};
 ghost use Rattle.module_commands.specs.Failures.{FailsToMake, leaves};
 ghost use Rattle.module_commands.specs.Scope.{scope_of};
 ghost use Rattle.module_commands.specs.Shown.{IsShown};
-ghost use Rattle.module_commands.specs.Writes.{IsOutcome, IsWrittenAs};
+ghost use Rattle.module_commands.specs.Writes.{IsOutcome, IsWrittenAs, stopped_by};
 ghost use Rattle.module_commands.specs.declared.failure.Failure.TheVariants.{Memory};
 
 use crate::failure::Failure;
 use crate::options::Options;
 use crate::showing::Shower;
 use module_rewrites::laws::rewritten_modules_do_as_before;
-use module_rewrites::{Reason, RewrittenModule, Watch, rewrite_watched};
+use module_rewrites::{MutationError, Reason, RewrittenModule, Watch, rewrite_watched};
 use std::alloc::Global;
 use wasm_sections::{read_sections, without_debug};
 
@@ -53,12 +53,16 @@ fn finished(alloc: Global, strip: bool, new: RewrittenModule) -> Result<Rewritte
     })
 }
 
-// The module with no rewrite made.
-fn unchanged(alloc: Global, bytes: &[u8]) -> Result<RewrittenModule, Failure>
+// The module with no rewrite made, and what refused it with each rewrite.
+fn unchanged(
+    alloc: Global,
+    bytes: &[u8],
+    stopped: Option<MutationError>,
+) -> Result<RewrittenModule, Failure>
     ensures bytes { IfOk result (λ m. m.bytes.items ≡ bytes.now) }
     ensures does { IfOk result (λ m. DoesAsBefore bytes.now m.bytes.items) }
     ensures made { IfOk result (λ m. m.made.items ≡ []) }
-    ensures stopped { IfOk result (λ m. m.stopped ≡ None) }
+    ensures stopped { IfOk result (λ m. m.stopped ≡ stopped) }
     ensures memory { IfErr result (λ e. e ≡ Memory) }
 {
     rewritten_modules_do_as_before();
@@ -67,18 +71,37 @@ fn unchanged(alloc: Global, bytes: &[u8]) -> Result<RewrittenModule, Failure>
     Ok(RewrittenModule {
         bytes: copy,
         made: Vec::new(alloc),
-        stopped: None,
+        stopped,
     })
 }
 
-// Whether the module is written as it is for that reason: no rule applies, where rules are to make code smaller alone.
-fn leaves(shrink: bool, reason: &Reason) -> bool
-    ensures { result ≡ leaves shrink reason.now }
+// Whether the module is written as it is for that reason, where rewrites are to make it smaller. `fits`: it has no more bytes than
+// it may.
+fn leaves(shrink: bool, fits: bool, reason: &Reason) -> bool
+    ensures { result ≡ leaves shrink fits reason.now }
 {
     match reason {
         Reason::NoRule => shrink,
         Reason::NoOwnFunction => shrink,
+        Reason::Refused(MutationError::TooLong) => shrink && fits,
         _ => false,
+    }
+}
+
+// Whether it has no more bytes than it may.
+fn fits(bytes: &[u8], most: usize) -> bool
+    ensures { result ≡ nat_le (length bytes.now) most }
+{
+    bytes.len() <= most
+}
+
+// What refused it with each rewrite, where something did.
+fn stopped_by(reason: &Reason) -> Option<MutationError>
+    ensures { result ≡ stopped_by reason.now }
+{
+    match reason {
+        Reason::Refused(e) => Some(*e),
+        _ => None,
     }
 }
 
@@ -101,10 +124,11 @@ fn left(alloc: Global, bytes: &[u8], options: &Options, reason: Reason) -> Resul
         IsShown options.now.show o.module.made.items o.shown.items) }
     ensures fails { IfErr result (FailsToMake options.now bytes.now) }
 {
-    if !leaves(options.shrink, &reason) {
+    let fitting = fits(bytes, options.max_size);
+    if !leaves(options.shrink, fitting, &reason) {
         return Err(Failure::Nothing(reason));
     }
-    let module = unchanged(alloc, bytes)?;
+    let module = unchanged(alloc, bytes, stopped_by(&reason))?;
     let module = finished(alloc, options.strip_debug, module)?;
     Ok(Outcome {
         module,
@@ -113,8 +137,8 @@ fn left(alloc: Global, bytes: &[u8], options: &Options, reason: Reason) -> Resul
 }
 
 /// What is written of the module, rewritten as many times as the options say, by their rules, with a generator made from their seed:
-/// it is valid where it was, and does what it did. Where rules are to make it smaller alone, and none applies, it is the module as it
-/// is. Where the options say so, its custom sections that name places in the code are dropped then. What is shown of the rewrites
+/// it is valid where it was, and does what it did. Where rewrites are to make it smaller, and no rule applies, or none that is drawn
+/// leaves no more bytes, it is the module as it is. Where the options say so, its custom sections that name places in the code are dropped then. What is shown of the rewrites
 /// where the options ask for it; `watch` sees each of them, too.
 ///
 /// `Nothing` as `rewrite_watched` refuses, but where the module is written as it is.

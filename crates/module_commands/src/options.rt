@@ -39,7 +39,8 @@ pub struct Options {
     pub rules: Vec<Rule>,
     /// The most bytes that a rewritten module may have.
     pub max_size: usize,
-    /// Whether only rules that make code smaller rewrite, and a module where none applies is written as it is.
+    /// Whether each rewrite makes the module smaller: it leaves fewer operators, and no more bytes than there were. A module of which
+    /// none does is written as it is.
     pub shrink: bool,
     /// Whether the functions, the rewrites and the sizes are reported.
     pub stats: bool,
@@ -69,6 +70,7 @@ impl Options {
             rules: &self.rules,
             function: self.function,
             max_size: self.max_size,
+            shrinking: self.shrink,
         }
     }
 

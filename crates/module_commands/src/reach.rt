@@ -13,9 +13,8 @@ ghost use Rattle.wasm_module.specs.Module.{IsModule};
 use crate::blocks::{block_ending, delimits};
 use crate::failure::Failure;
 use body_rewrites::{Body, reached_operators, trees_of};
-use module_rewrites::read_function;
+use module_rewrites::{Scope, read_function};
 use peephole_machine::{Operation, opcode_byte};
-use rewrite_rules::Rule;
 use std::alloc::Global;
 use wasm_code::{Instr, Operator, OperatorAndByteOffset};
 use wasm_module::Layout;
@@ -208,11 +207,11 @@ fn reach_of_body(
     alloc: Global,
     locals: &[PrimitiveTypeInfo],
     info: &ModuleInfo<'_>,
-    rules: &[Rule],
+    scope: &Scope<'_>,
     operators: &[OperatorAndByteOffset],
 ) -> Result<Reach, Failure>
     ensures reach { IfOk result (Told (AreOfBody (context_in info.now locals.now)
-        rules.now operators.now)) }
+        scope.now operators.now)) }
     ensures fails { IfErr result (λ e. e ≡ Memory) }
 {
     let trees = trees_of(alloc, locals, info, operators)?;
@@ -222,7 +221,7 @@ fn reach_of_body(
         operators,
         trees: &trees,
     };
-    let marks = reached_operators(alloc, &body, rules)?;
+    let marks = reached_operators(alloc, &body, scope.rules(), scope.wanted())?;
     Ok(reach_of_marked(operators, &marks))
 }
 
@@ -233,12 +232,12 @@ fn reach_of_function(
     info: &ModuleInfo<'_>,
     layout: &Layout,
     n: usize,
-    rules: &[Rule],
+    scope: &Scope<'_>,
 ) -> Result<Reach, Failure>
     requires module { IsModule bytes.now info.now layout.now }
     requires inside { n < length layout.now.entries }
     ensures reach { IfOk result (Told
-        (AreOfEntry rules.now bytes.now info.now layout.now n)) }
+        (AreOfEntry scope.now bytes.now info.now layout.now n)) }
     ensures fails { IfErr result (λ e. e ≡ Memory) }
 {
     let function = match read_function(alloc, bytes, info, layout, n) {
@@ -250,12 +249,12 @@ fn reach_of_function(
             return Ok(nothing());
         }
     };
-    reach_of_body(alloc, &function.locals, info, rules, &function.operators)
+    reach_of_body(alloc, &function.locals, info, scope, &function.operators)
 }
 
 /// How much of a module the rules reach: of the operators, the blocks and the integer instructions of all its functions that can be
-/// read, how many there are, and how many one of the rules rewrites, or hold an operator that one rewrites. A function that can't be
-/// read counts nothing. A number that 64 bits don't hold is the greatest that they hold.
+/// read, how many there are, and how many one of the rules rewrites, or hold an operator that one rewrites; where rewrites are to make
+/// the module smaller, those that leave fewer operators. A function that can't be read counts nothing. A number that 64 bits don't hold is the greatest that they hold.
 ///
 /// It takes time linear in the module, but as `reached_operators` says. The only error is `Memory`: an allocation was refused.
 pub fn reach_of(
@@ -263,15 +262,15 @@ pub fn reach_of(
     bytes: &[u8],
     info: &ModuleInfo<'_>,
     layout: &Layout,
-    rules: &[Rule],
+    scope: &Scope<'_>,
 ) -> Result<Reach, Failure>
     requires { IsModule bytes.now info.now layout.now }
-    ensures reach { IfOk result (IsReach rules.now bytes.now info.now layout.now) }
+    ensures reach { IfOk result (IsReach scope.now bytes.now info.now layout.now) }
     ensures fails { IfErr result (λ e. e ≡ Memory) }
 {
     let mut reach = nothing();
     for n in 0..layout.entries.len() {
-        let own = reach_of_function(alloc, bytes, info, layout, n, rules)?;
+        let own = reach_of_function(alloc, bytes, info, layout, n, scope)?;
         reach = reach.plus(own);
     }
     Ok(reach)

@@ -8,6 +8,7 @@ ghost use Rattle.module_commands.specs.Form.{form_of};
 ghost use Rattle.module_commands.specs.Lists.{WritesList};
 ghost use Rattle.module_commands.specs.Reports.{ReportsModule, ReportsMutated, TellsReach};
 ghost use Rattle.module_commands.specs.Rules.{WritesRules};
+ghost use Rattle.module_commands.specs.Scope.{scope_of};
 ghost use Rattle.module_commands.specs.Shown.{ShowsMutated};
 ghost use Rattle.module_commands.specs.Writes.{WritesMutated};
 ghost use Rattle.rule_listing.specs.declared.form.Form.{Form as RulesForm};
@@ -42,14 +43,14 @@ fn report_reach_asked<E: Write>(
     requires { IsModule bytes.now wasm.now.info wasm.now.layout }
     ensures reports { OnOk result ((text : List ℕ)
         × Appends (E.contents notes.old) (E.contents notes.new) text
-        × TellsReach options.now.reach (form_of options.now) options.now.rules.items bytes.now
+        × TellsReach options.now.reach (form_of options.now) (scope_of options.now) bytes.now
         wasm.now.info wasm.now.layout text) }
     ensures fails { IfErr result FailsToReport }
 {
     if !options.reach {
         return Ok(());
     }
-    let reach = reach_of(alloc, bytes, &wasm.info, &wasm.layout, &options.rules)?;
+    let reach = reach_of(alloc, bytes, &wasm.info, &wasm.layout, &options.scope())?;
     report_reach(alloc, notes, options.form(), reach)
 }
 
@@ -205,15 +206,14 @@ pub fn run<R: Read, W: Write, E: Write, P: Watch + Drop>(
 ) -> Result<Ending, Failure>
     // What is written is the input rewritten as the seed chooses, valid where that was; what stands round each rewrite runs as
     // before, and its functions do what they did. Where the options say so, custom sections that name places in the code are dropped.
-    // Where rules are to make it smaller alone, and none applies, it is the input as it is. The answer tells whether memory ran out.
+    // Where rewrites are to make it smaller, and none does, it is the input as it is. The answer tells whether memory ran out.
     ensures written { options.now.task ≡ Task.Rewrite → IfOk result (λ ending.
         IfSome (R.remaining input.old.device) (λ bytes. WritesMutated options.now bytes ending
         (W.contents output.old) (W.contents output.new))) }
     // A list has a line for each rewrite that there is in the functions that are looked at, and no other.
     ensures listed { options.now.task ≡ Task.List → OnOk result
         (IfSome (R.remaining input.old.device) (λ bytes. WritesList (form_of options.now)
-        options.now.rules.items options.now.function bytes (W.contents output.old)
-        (W.contents output.new))) }
+        (scope_of options.now) bytes (W.contents output.old) (W.contents output.new))) }
     // The blocks have a line each, of the functions that are looked at.
     ensures blocks { options.now.task ≡ Task.Blocks → OnOk result
         (IfSome (R.remaining input.old.device) (λ bytes. WritesBlocks (form_of options.now)

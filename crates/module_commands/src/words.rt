@@ -1,11 +1,10 @@
 //! Reads the options from the words of the command line.
-ghost use Rattle.std.specs.Prelude.{◌≡◌, ◌⊎◌, ◌↔◌, ◌<◌, ℕ, codes, length, map, option_map, slice_get, string_bytes, IfOk, IfErr, IsTrue, Some};
+ghost use Rattle.std.specs.Prelude.{◌≡◌, ◌⊎◌, ◌↔◌, codes, map, option_map, string_bytes, IfOk, IfErr, IsTrue, Some};
 ghost use Rattle.clap.specs.Matches.{found_of};
 ghost use Rattle.clap.specs.Values.{kind_of};
 ghost use Rattle.clap.specs.Walk.{all_of, one_of, rows_of, texts};
-ghost use Rattle.rewrite_rules.specs.Names.{rule_of};
 ghost use Rattle.rewrite_rules.specs.Rule.{rule_name};
-ghost use Rattle.body_rewrites.specs.Listing.{AreThose, IsOfRule};
+ghost use Rattle.body_rewrites.specs.Listing.{AreThose};
 ghost use Rattle.module_commands.specs.Arguments.{command_line};
 ghost use Rattle.module_commands.specs.Options as options;
 
@@ -15,8 +14,7 @@ use crate::nearest::{sentence_on, unknown_name};
 use crate::options::{Flags, Misuse, Options, Task};
 use clap::error::ErrorKind;
 use clap::{ArgMatches, Command, Error};
-use rewrite_rules::laws::table_is_right;
-use rewrite_rules::{Growth, Rule, all_rules, row_at, rules_of_rows};
+use rewrite_rules::{Rule, all_rules};
 use rule_listing::Form as RulesForm;
 use std::alloc::{AllocError, Global};
 use std::convert::AsStr;
@@ -106,7 +104,7 @@ fn choose(matches: &ArgMatches<'_>) -> bool
     seed || count || size
 }
 
-// Whether what chooses rules is given.
+// Whether what chooses rules, or which of their rewrites are made, is given.
 fn choose_rules(matches: &ArgMatches<'_>) -> bool
     ensures { result ≡ options.choose_rules (rows_of (found_of matches.now)) }
 {
@@ -292,81 +290,21 @@ fn is_named(names: &[&str], rule: Rule) -> bool
     false
 }
 
-// Whether what does so leaves fewer instructions.
-fn is_shrinking(growth: Growth) -> bool
-    ensures { result ≡ options.is_shrinking growth }
+// Whether none of the names is the rule's.
+fn is_wanted(others: &[&str], rule: Rule) -> bool
+    ensures { IsTrue result ↔ options.IsWanted (texts others.now) rule }
 {
-    match growth {
-        Growth::Shrinks => true,
-        Growth::Keeps => false,
-        Growth::Grows => false,
-    }
+    !is_named(others, rule)
 }
 
-// Whether each rewrite by the row with the number leaves fewer instructions; also where there is no such row.
-fn row_makes_smaller(number: usize) -> bool
-    ensures { IsTrue result ↔ options.RowMakesSmaller number }
-{
-    table_is_right();
-    match row_at(number) {
-        Some(row) => is_shrinking(row.growth()),
-        None => true,
-    }
-}
-
-// Whether the row with the number is none of the rule's, or each rewrite by it does; `rows` are the rules of the rows.
-fn row_fits(rows: &[u16], rule: Rule, number: usize) -> bool
-    requires rows { (n : ℕ) → slice_get rows.now n ≡ rule_of n }
-    requires inside { number < length rows.now }
-    ensures { IsTrue result ↔ (IsOfRule rule number → options.RowMakesSmaller number) }
-{
-    if rows[number] as usize != rule.number() {
-        return true;
-    }
-    row_makes_smaller(number)
-}
-
-// Whether each rewrite by a row of the rule does.
-fn makes_smaller(rows: &[u16], rule: Rule) -> bool
-    requires { (n : ℕ) → slice_get rows.now n ≡ rule_of n }
-    ensures { IsTrue result ↔ options.IsShrinking rule }
-{
-    for number in 0..rows.len() {
-        if !row_fits(rows, rule, number) {
-            return false;
-        }
-    }
-    true
-}
-
-// Whether the rule is none of the others, and makes code smaller, where that is asked for.
-fn is_wanted(rows: &[u16], others: &[&str], shrink: bool, rule: Rule) -> bool
-    requires { (n : ℕ) → slice_get rows.now n ≡ rule_of n }
-    ensures { IsTrue result ↔ options.IsWanted (texts others.now) shrink rule }
-{
-    if is_named(others, rule) {
-        return false;
-    }
-    if !shrink {
-        return true;
-    }
-    makes_smaller(rows, rule)
-}
-
-// Those of the rules that are.
-fn wanted_of(
-    alloc: Global,
-    rules: &[Rule],
-    others: &[&str],
-    shrink: bool,
-) -> Result<Vec<Rule>, AllocError>
+// The rules of which that is so.
+fn wanted_of(alloc: Global, rules: &[Rule], others: &[&str]) -> Result<Vec<Rule>, AllocError>
     ensures { IfOk result (λ wanted.
-        AreThose (options.IsWanted (texts others.now) shrink) rules.now wanted.items) }
+        AreThose (options.IsWanted (texts others.now)) rules.now wanted.items) }
 {
-    let rows = rules_of_rows(alloc)?;
     let mut wanted = Vec::new(alloc);
     for rule in rules {
-        if is_wanted(&rows, others, shrink, *rule) {
+        if is_wanted(others, *rule) {
             wanted.push(*rule)?;
         }
     }
@@ -377,15 +315,13 @@ fn wanted_of(
 fn wanted_rules(alloc: Global, matches: &ArgMatches<'_>) -> Result<Vec<Rule>, Misuse>
     ensures rules { IfOk result (λ rules. options.AreRules
         (all_of (codes "rule") (rows_of (found_of matches.now)))
-        (all_of (codes "not-rule") (rows_of (found_of matches.now)))
-        (options.is_set (codes "shrink") (rows_of (found_of matches.now))) rules.items) }
+        (all_of (codes "not-rule") (rows_of (found_of matches.now))) rules.items) }
     ensures unknown { IfErr result (options.AreMisused (rows_of (found_of matches.now))) }
 {
     let given = rules_of(alloc, matches)?;
-    let shrink = is_set(matches, "shrink");
     match matches.get_strs("not-rule") {
-        Some(others) => Ok(wanted_of(alloc, &given, others, shrink)?),
-        None => Ok(wanted_of(alloc, &given, &[], shrink)?),
+        Some(others) => Ok(wanted_of(alloc, &given, others)?),
+        None => Ok(wanted_of(alloc, &given, &[])?),
     }
 }
 

@@ -28,7 +28,6 @@ use Rattle.peephole_programs.specs.control.Standard.{by_asked}
 use Rattle.peephole_programs.specs.validation.StaysValid.{StaysValid}
 use Rattle.peephole_programs.specs.control.Wider.{wider_module, wider}
 use Rattle.body_rewrites.specs.Changed.{DoesAsBody}
-use Rattle.rewrite_rules.specs.declared.rule.Rule.{Rule}
 use Rattle.body_rewrites.specs.declared.rewrite.Rewrite.{Rewrite}
 use Rattle.body_splices.specs.OwnBytes.{own_bytes, structural_bytes, without_offsets}
 use Rattle.module_rewrites.specs.Structure.{HasStructure, HasLabels, AreLabelled, asking_bytes}
@@ -261,8 +260,8 @@ one_structure one bytes info layout n xs ys f g =
 
 -- ---- a rewritten function among the others
 
-module _ (one : OneReading) (law : OfPrograms) (alike : MadeAlike) {rules : List Rule} {bytes : List ℕ} {info : Module} {layout : Layout} {n : ℕ}
-    {rewrite : Rewrite} {new : List ℕ} (known : IsModule bytes info layout) (m : MutatesEntry rules bytes info layout n rewrite new) where
+module _ (one : OneReading) (law : OfPrograms) (alike : MadeAlike) {scope : Scope} {bytes : List ℕ} {info : Module} {layout : Layout} {n : ℕ}
+    {rewrite : Rewrite} {new : List ℕ} (known : IsModule bytes info layout) (m : MutatesEntry scope bytes info layout n rewrite new) where
   abbrev more : List PrimitiveTypeInfo
   more = m.more
 
@@ -384,8 +383,8 @@ mutated_does one law unique scope bytes function rewrite new m = record { functi
         IsModuleAfter bytes info layout old new
     go info layout old is are =
         let (infos, layouts) = unique.one bytes info m.info layout m.layout is m.is in
-        let entry : MutatesEntry scope.rules bytes info layout m.mutates.0 rewrite new =
-        subst (λ (p : Module × Layout). MutatesEntry scope.rules bytes p.0 p.1 m.mutates.0 rewrite new)
+        let entry : MutatesEntry scope bytes info layout m.mutates.0 rewrite new =
+        subst (λ (p : Module × Layout). MutatesEntry scope bytes p.0 p.1 m.mutates.0 rewrite new)
         (ap₂ (λ (i : Module) (l : Layout). (i, l)) (sym infos) (sym layouts)) m.mutates.2 in
         module_after one law unique.made is entry old are
 

@@ -1,6 +1,6 @@
 -- Words that name a code entry.
 use Rattle.std.proofs.Common.{◌≡◌, inl, inr, Bool, true, false, ℕ, zero, suc, ◌+◌, ◌-◌, ◌*◌, ◌%◌, ◌^◌, ◌<◌, ◌≤◌, List, [], ◌∷◌, length, take, drop, Some, ap, subst, sym, ◌∙◌, arith}
-use Rattle.std.specs.Prelude.{IsTrue, slice_get, slice_range}
+use Rattle.std.specs.Prelude.{IsTrue, if◌then◌else◌, slice_get, slice_range}
 use Rattle.std.specs.List.{sum_by}
 use Rattle.std.proofs.lemmas.Bool.{cases_eq, cases_lt}
 use Rattle.std.proofs.lemmas.List.{length-append, length-take}
@@ -17,12 +17,15 @@ use Rattle.wasm_declarations.specs.declared.entries.Entry.{Entry}
 use Rattle.wasm_module.specs.Module.{Layout}
 use Rattle.peephole_machine.specs.Values.{Context, context_in}
 use Rattle.rewrite_rules.specs.declared.rule.Rule.{Rule}
-use Rattle.body_rewrites.specs.Choice.{Chooses, after_word}
+use Rattle.body_rewrites.specs.Choice.{Chooses, after_word, growths}
 use Rattle.body_rewrites.specs.HasWords.{HasWords}
+use Rattle.body_rewrites.specs.declared.growth.Growth.{Growth}
+use Rattle.body_rewrites.specs.declared.growth.Growth.TheVariants.{Shrinks}
 use Rattle.body_rewrites.specs.declared.rewrite.Rewrite.{Rewrite}
 use Rattle.module_rewrites.specs.Drawing.{ContainsByte, contents_length}
 use Rattle.module_rewrites.specs.EntryWords.{DrawsRewrite, HasEntryWords}
 use Rattle.module_rewrites.specs.Function.{IsFunction}
+use Rattle.module_rewrites.specs.Scope.{Scope, wanted_of}
 use Rattle.module_rewrites.proofs.DoesAsBeforeLemmas.{OneReading, one_body}
 
 -- an operator takes a byte or more
@@ -90,10 +93,10 @@ module _ (entries : List Entry) (n : ℕ) (entry : Entry) where
       let same = within (sum_by contents_length (take n entries)) (sum_by contents_length entries) (omega (arith, less, most)) in
       subst (ContainsByte entries n) (sym same) (record { inside = slice_get_within entries n entry at; from = omega arith; to = less })
 
-module _ (rules : List Rule) (bytes : List ℕ) (info : Module) (layout : Layout) (n : ℕ) (locals : List PrimitiveTypeInfo) (expression : ℕ)
+module _ (scope : Scope) (bytes : List ℕ) (info : Module) (layout : Layout) (n : ℕ) (locals : List PrimitiveTypeInfo) (expression : ℕ)
     (operators : List (Operator × ℕ)) (r : Rewrite) (f : IsFunction bytes info layout n locals expression operators) where
-  pub entry_words : sum_by contents_length layout.entries < 2 ^ 64 → HasWords (context_in info locals) rules operators r →
-      HasEntryWords rules bytes info layout n r
+  pub entry_words : sum_by contents_length layout.entries < 2 ^ 64 → HasWords (context_in info locals) scope.rules (wanted_of scope) operators r →
+      HasEntryWords scope bytes info layout n r
   entry_words few w =
       let some = entry_takes bytes info layout n locals expression operators f in
       let less = first_byte layout.entries n f.entry f.is.at some in
@@ -150,17 +153,25 @@ named_one entries n m byte a b = elim (cases_lt n m) [
   ]
 ]
 
-pub draws_one : OneReading → ((context : Context) (s : Stream) (rules : List Rule) (operators : List (Operator × ℕ)) (r q : Rewrite) →
-    Chooses context s rules operators r → Chooses context s rules operators q → r ≡ q) → (rules : List Rule) (bytes : List ℕ) (info : Module)
+pub draws_one : OneReading → ((context : Context) (s : Stream) (rules : List Rule) (wanted : List Growth) (operators : List (Operator × ℕ))
+    (r q : Rewrite) → Chooses context s rules wanted operators r → Chooses context s rules wanted operators q → r ≡ q) → (scope : Scope) (bytes : List ℕ) (info : Module)
     (layout : Layout) (s : Stream) (n m : ℕ) (r q : Rewrite) → 0 < sum_by contents_length layout.entries → sum_by contents_length layout.entries < 2 ^ 64 →
-    DrawsRewrite rules bytes info layout s n r → DrawsRewrite rules bytes info layout s m q → (n ≡ m) × (r ≡ q)
-draws_one one law rules bytes info layout s n m r q some few a b =
+    DrawsRewrite scope bytes info layout s n r → DrawsRewrite scope bytes info layout s m q → (n ≡ m) × (r ≡ q)
+draws_one one law scope bytes info layout s n m r q some few a b =
     let same : n ≡ m = named_one layout.entries n m ((next_u64 s).0 % sum_by contents_length layout.entries) (a.names.contains some few)
     (b.names.contains some few) in
     let there : IsFunction bytes info layout n b.locals b.expression b.operators =
     subst (λ k. IsFunction bytes info layout k b.locals b.expression b.operators) (sym same) b.function in
     let alike = one_body one bytes info layout n a.locals b.locals a.expression b.expression a.operators b.operators a.function there in
-    let chooses : Chooses (context_in info a.locals) (after_word s) rules a.operators q =
-    subst (λ (ts : List PrimitiveTypeInfo). Chooses (context_in info ts) (after_word s) rules a.operators q) (sym alike.0)
-    (subst (λ (os : List (Operator × ℕ)). Chooses (context_in info b.locals) (after_word s) rules os q) (sym alike.1) b.chooses) in
-    (same, law (context_in info a.locals) (after_word s) rules a.operators r q a.chooses chooses)
+    let chooses : Chooses (context_in info a.locals) (after_word s) scope.rules (wanted_of scope) a.operators q =
+    subst (λ (ts : List PrimitiveTypeInfo). Chooses (context_in info ts) (after_word s) scope.rules (wanted_of scope) a.operators q) (sym alike.0)
+    (subst (λ (os : List (Operator × ℕ)). Chooses (context_in info b.locals) (after_word s) scope.rules (wanted_of scope) os q) (sym alike.1) b.chooses) in
+    (same, law (context_in info a.locals) (after_word s) scope.rules (wanted_of scope) a.operators r q a.chooses chooses)
+
+-- few things are wanted
+wanted_few : (b : Bool) → length (if b then (Shrinks ∷ []) else growths) < 2 ^ 64
+wanted_few true = omega arith
+wanted_few false = omega arith
+
+pub few_wanted : (scope : Scope) → length (wanted_of scope) < 2 ^ 64
+few_wanted scope = wanted_few scope.shrinking

@@ -7,6 +7,7 @@ pub mod DoesAsBeforeLemmas
 pub mod SameModuleLemmas
 mod StructureExamples
 pub mod MutatesLemmas
+pub mod SmallerLemmas
 pub mod EntryWordsLemmas
 pub mod OneSearchLemmas
 pub mod OneAttemptLemmas

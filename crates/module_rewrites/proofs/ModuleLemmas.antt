@@ -4,44 +4,43 @@ use Rattle.std.specs.Prelude.{IfOk, IfErr, IfNone, IfSome}
 use Rattle.std.proofs.lemmas.Bool.{cases_eq, cases_lt}
 use Rattle.wasm_types.specs.Module.{Module}
 use Rattle.wasm_module.specs.Module.{Layout, IsModule}
-use Rattle.rewrite_rules.specs.declared.rule.Rule.{Rule}
 use Rattle.body_rewrites.specs.declared.rewrite.Rewrite.{Rewrite}
 use Rattle.module_rewrites.specs.Mutated.{CannotMutate, HasNoMutation, IsChosen, IsInVain, IsMutated, IsOfSize, IsRefusedForSize, MutatesOne, RefusesChosenEntry, RefusesEntry, RefusesMutation, last_of}
-use Rattle.module_rewrites.specs.Scope.{Scope}
+use Rattle.module_rewrites.specs.Scope.{Scope, most_of}
 use Rattle.module_rewrites.specs.declared.mutation.MutationError.{MutationError}
 use Rattle.module_rewrites.specs.declared.mutation.MutationError.TheVariants.{Read, Memory, TooLong, Write}
 
 -- ---- no rule applies in some of the entries
 
 -- in those from `from` on, before `to`
-abbrev pub NoneWithin : (rules : List Rule) (bytes : List ℕ) (info : Module) (layout : Layout) (from to : ℕ) → Type 0
-NoneWithin rules bytes info layout from to = (n : ℕ) → from ≤ n → n < to → HasNoMutation rules bytes info layout n
+abbrev pub NoneWithin : (scope : Scope) (bytes : List ℕ) (info : Module) (layout : Layout) (from to : ℕ) → Type 0
+NoneWithin scope bytes info layout from to = (n : ℕ) → from ≤ n → n < to → HasNoMutation scope bytes info layout n
 
-pub none_next : (rules : List Rule) (bytes : List ℕ) (info : Module) (layout : Layout) (from k : ℕ) →
-    NoneWithin rules bytes info layout from k → HasNoMutation rules bytes info layout k → NoneWithin rules bytes info layout from (k + 1)
-none_next rules bytes info layout from k before here = λ n low high. elim (cases_eq n k) [
-  | inl same ↦ subst (λ m. HasNoMutation rules bytes info layout m) (sym same) here
+pub none_next : (scope : Scope) (bytes : List ℕ) (info : Module) (layout : Layout) (from k : ℕ) →
+    NoneWithin scope bytes info layout from k → HasNoMutation scope bytes info layout k → NoneWithin scope bytes info layout from (k + 1)
+none_next scope bytes info layout from k before here = λ n low high. elim (cases_eq n k) [
+  | inl same ↦ subst (λ m. HasNoMutation scope bytes info layout m) (sym same) here
   | inr other ↦ before n low (omega arith)
 ]
 
-pub none_to : (rules : List Rule) (bytes : List ℕ) (info : Module) (layout : Layout) (from k to : ℕ) → to ≤ k →
-    NoneWithin rules bytes info layout from k → NoneWithin rules bytes info layout from to
-none_to rules bytes info layout from k to past before = λ n low high. before n low (omega (arith, past, high))
+pub none_to : (scope : Scope) (bytes : List ℕ) (info : Module) (layout : Layout) (from k to : ℕ) → to ≤ k →
+    NoneWithin scope bytes info layout from k → NoneWithin scope bytes info layout from to
+none_to scope bytes info layout from k to past before = λ n low high. before n low (omega (arith, past, high))
 
-pub none_in_all : (rules : List Rule) (bytes : List ℕ) (info : Module) (layout : Layout) (first count : ℕ) → count ≡ length layout.entries →
-    NoneWithin rules bytes info layout first count → NoneWithin rules bytes info layout 0 first →
-    (n : ℕ) → n < length layout.entries → HasNoMutation rules bytes info layout n
-none_in_all rules bytes info layout first count is behind before = λ n inside. elim (cases_lt n first) [
+pub none_in_all : (scope : Scope) (bytes : List ℕ) (info : Module) (layout : Layout) (first count : ℕ) → count ≡ length layout.entries →
+    NoneWithin scope bytes info layout first count → NoneWithin scope bytes info layout 0 first →
+    (n : ℕ) → n < length layout.entries → HasNoMutation scope bytes info layout n
+none_in_all scope bytes info layout first count is behind before = λ n inside. elim (cases_lt n first) [
   | inl lt ↦ before n (omega arith) lt
   | inr le ↦ behind n le (omega (arith, is, inside))
 ]
 
-pub none_at : (rules : List Rule) (bytes : List ℕ) (info : Module) (layout : Layout) (function imported k : ℕ) →
-    imported ≡ layout.imported_functions → k ≡ function - imported → HasNoMutation rules bytes info layout k →
-    (n : ℕ) → n < length layout.entries → layout.imported_functions + n ≡ function → HasNoMutation rules bytes info layout n
-none_at rules bytes info layout function imported k is at here = λ n inside e.
+pub none_at : (scope : Scope) (bytes : List ℕ) (info : Module) (layout : Layout) (function imported k : ℕ) →
+    imported ≡ layout.imported_functions → k ≡ function - imported → HasNoMutation scope bytes info layout k →
+    (n : ℕ) → n < length layout.entries → layout.imported_functions + n ≡ function → HasNoMutation scope bytes info layout n
+none_at scope bytes info layout function imported k is at here = λ n inside e.
     let same : k ≡ n = omega (arith, is, at, e) in
-    subst (λ m. HasNoMutation rules bytes info layout m) same here
+    subst (λ m. HasNoMutation scope bytes info layout m) same here
 
 -- ---- one of the entries is refused
 
@@ -117,7 +116,7 @@ module _ (scope : Scope) (bytes : List ℕ) (info : Module) (layout : Layout) (k
   })
 
   pub mutated_any : scope.function ≡ None → (function : ℕ) (rewrite : Rewrite) (new : List ℕ) →
-      MutatesOne scope.rules bytes info layout function rewrite new → length new ≤ scope.most → IsMutated scope bytes function rewrite new
+      MutatesOne scope bytes info layout function rewrite new → length new ≤ most_of scope bytes → IsMutated scope bytes function rewrite new
   mutated_any any function rewrite new h fits = record {
     info = info;
     layout = layout;
@@ -127,7 +126,7 @@ module _ (scope : Scope) (bytes : List ℕ) (info : Module) (layout : Layout) (k
     mutates = h;
   }
 
-  pub cannot_any : ((n : ℕ) → n < length layout.entries → HasNoMutation scope.rules bytes info layout n) → CannotMutate scope bytes
+  pub cannot_any : ((n : ℕ) → n < length layout.entries → HasNoMutation scope bytes info layout n) → CannotMutate scope bytes
   cannot_any h = record { info = info; layout = layout; is = known; none = λ n inside chosen. h n inside }
 
   -- the function that is named
@@ -145,7 +144,7 @@ module _ (scope : Scope) (bytes : List ℕ) (info : Module) (layout : Layout) (k
   })
 
   pub mutated_one : (named : ℕ) → scope.function ≡ Some named → (function : ℕ) (rewrite : Rewrite) (new : List ℕ) →
-      (function ≡ named) × MutatesOne scope.rules bytes info layout function rewrite new → length new ≤ scope.most →
+      (function ≡ named) × MutatesOne scope bytes info layout function rewrite new → length new ≤ most_of scope bytes →
       IsMutated scope bytes function rewrite new
   mutated_one named one function rewrite new h fits = record {
     info = info;
@@ -157,7 +156,7 @@ module _ (scope : Scope) (bytes : List ℕ) (info : Module) (layout : Layout) (k
   }
 
   pub cannot_one : (named : ℕ) → scope.function ≡ Some named →
-      ((n : ℕ) → n < length layout.entries → layout.imported_functions + n ≡ named → HasNoMutation scope.rules bytes info layout n) →
+      ((n : ℕ) → n < length layout.entries → layout.imported_functions + n ≡ named → HasNoMutation scope bytes info layout n) →
       CannotMutate scope bytes
   cannot_one named one h = record {
     info = info;

@@ -33,6 +33,7 @@ use Rattle.body_rewrites.specs.Changes.{Change}
 use Rattle.body_rewrites.specs.Own.{Rewrites, is_number, made_asks}
 use Rattle.body_rewrites.specs.Random.{AppendsByWords, HasNoRewrite}
 use Rattle.body_rewrites.specs.Rewrites.{MakesBy}
+use Rattle.body_rewrites.specs.declared.growth.Growth.{Growth}
 use Rattle.body_rewrites.specs.declared.own.Made.{Made}
 use Rattle.body_rewrites.specs.declared.own.Made.TheVariants as made
 use Rattle.body_rewrites.specs.declared.places.Line.{Line}
@@ -40,7 +41,7 @@ use Rattle.body_rewrites.specs.declared.rewrite.Rewrite.{Rewrite}
 use Rattle.module_rewrites.specs.Function.{IsFunction}
 use Rattle.module_rewrites.specs.Chosen.{TriesInVain, by_size}
 use Rattle.module_rewrites.specs.Mutated.{HasNoMutation, IsBehindLocals, IsOfSize, MutatesEntry, RefusesEntry}
-use Rattle.module_rewrites.specs.Scope.{Scope}
+use Rattle.module_rewrites.specs.Scope.{Scope, wanted_of}
 use Rattle.module_rewrites.specs.Writing.{WritesAt}
 use Rattle.module_rewrites.specs.declared.mutation.MutationError.TheVariants.{Write}
 use Rattle.module_rewrites.proofs.ReadAgainLemmas.{read_again}
@@ -122,13 +123,13 @@ behind_locals bytes info layout n locals expression operators entry f inside at 
 
 -- ---- nothing to rewrite
 
-pub nothing_here : (rules : List Rule) (bytes : List ℕ) (info : Module) (layout : Layout) (n : ℕ) (locals : Types) (operators : Operators) →
+pub nothing_here : (scope : Scope) (bytes : List ℕ) (info : Module) (layout : Layout) (n : ℕ) (locals : Types) (operators : Operators) →
     ((l : Types) (x : ℕ) (o : Operators) → IsFunction bytes info layout n l x o → (locals ≡ l) × (operators ≡ o)) →
-    HasNoRewrite (context_in info locals) rules operators → HasNoMutation rules bytes info layout n
-nothing_here rules bytes info layout n locals operators only none l x o f =
+    HasNoRewrite (context_in info locals) scope.rules (wanted_of scope) operators → HasNoMutation scope bytes info layout n
+nothing_here scope bytes info layout n locals operators only none l x o f =
     let same = only l x o f in
-    subst (λ (ts : Types). HasNoRewrite (context_in info ts) rules o) same.0
-    (subst (λ (os : Operators). HasNoRewrite (context_in info locals) rules os) same.1 none)
+    subst (λ (ts : Types). HasNoRewrite (context_in info ts) scope.rules (wanted_of scope) o) same.0
+    (subst (λ (os : Operators). HasNoRewrite (context_in info locals) scope.rules (wanted_of scope) os) same.1 none)
 
 -- ---- the globals that are asked for
 
@@ -161,8 +162,8 @@ row_asks context operators line at change widths.Both h = inl (ap (λ (c : Chang
 row_asks context operators line at change (widths.Only t) h = inl (ap (λ (c : Change). c.asks) h.change_is)
 row_asks context operators line at change widths.Any h = inl (ap (λ (c : Change). c.asks) h.change_is)
 
-asks_for_numbers : {context : Context} {s : Stream} {rules : List Rule} {input : List ℕ} {operators : Operators} {r : Rewrite} {old new : List ℕ}
-    {asks : Types} {after : Stream} → AppendsByWords context s rules input operators r old new asks after → AsksForNumbers asks
+asks_for_numbers : {context : Context} {s : Stream} {rules : List Rule} {wanted : List Growth} {input : List ℕ} {operators : Operators} {r : Rewrite} {old new : List ℕ}
+    {asks : Types} {after : Stream} → AppendsByWords context s rules wanted input operators r old new asks after → AsksForNumbers asks
 asks_for_numbers {context = context} {operators = operators} {r = r} w =
     let m = w.appends.made in
     subst AsksForNumbers (sym w.appends.asks_are)
@@ -195,10 +196,10 @@ plain_types ts (inr (t, h, e)) =
 
 -- ---- what was written
 
-module _ (rules : List Rule) (bytes : List ℕ) (info : Module) (layout : Layout) (n : ℕ) (locals : Types) (expression : ℕ) (operators : Operators)
+module _ (scope : Scope) (bytes : List ℕ) (info : Module) (layout : Layout) (n : ℕ) (locals : Types) (expression : ℕ) (operators : Operators)
     (entry : Entry) (rewrite : Rewrite) (old body : List ℕ) (more : Types) (s after : Stream) (front written : List ℕ) (globals : Types)
     (f : IsFunction bytes info layout n locals expression operators) (empty : old ≡ [])
-    (appended : AppendsByWords (context_in info locals) s rules bytes operators rewrite old body more after) (at : slice_get layout.entries n ≡ Some entry)
+    (appended : AppendsByWords (context_in info locals) s scope.rules (wanted_of scope) bytes operators rewrite old body more after) (at : slice_get layout.entries n ≡ Some entry)
     (front_is : front ≡ slice_range bytes entry.contents expression) (written_is : written ≡ body) (globals_are : globals ≡ more) where
   contents_is : front ++ written ≡ slice_range bytes f.entry.contents expression ++ body
   contents_is =
@@ -207,13 +208,13 @@ module _ (rules : List Rule) (bytes : List ℕ) (info : Module) (layout : Layout
       front_is ∙ ap (λ (e : Entry). slice_range bytes e.contents expression) same in
       ap (λ xs. xs ++ written) start ∙ ap (λ ys. slice_range bytes f.entry.contents expression ++ ys) written_is
 
-  appends : AppendsByWords (context_in info locals) s rules bytes operators rewrite [] body globals after
+  appends : AppendsByWords (context_in info locals) s scope.rules (wanted_of scope) bytes operators rewrite [] body globals after
   appends =
-      subst (λ (ts : Types). AppendsByWords (context_in info locals) s rules bytes operators rewrite [] body ts after) (sym globals_are)
-      (subst (λ (o : List ℕ). AppendsByWords (context_in info locals) s rules bytes operators rewrite o body more after) empty appended)
+      subst (λ (ts : Types). AppendsByWords (context_in info locals) s scope.rules (wanted_of scope) bytes operators rewrite [] body ts after) (sym globals_are)
+      (subst (λ (o : List ℕ). AppendsByWords (context_in info locals) s scope.rules (wanted_of scope) bytes operators rewrite o body more after) empty appended)
 
   -- by these words
-  pub writes_here : WritesAt rules bytes info layout s n rewrite (front ++ written) globals after
+  pub writes_here : WritesAt scope bytes info layout s n rewrite (front ++ written) globals after
   writes_here = record {
     locals = locals;
     expression = expression;
@@ -226,7 +227,7 @@ module _ (rules : List Rule) (bytes : List ℕ) (info : Module) (layout : Layout
 
   -- the new module
   pub mutates : OwnBytesStay → RewrittenBytesAreAModule → (new : List ℕ) → IsModule bytes info layout →
-      IsRewritten bytes layout n (front ++ written) globals new → MutatesEntry rules bytes info layout n rewrite new
+      IsRewritten bytes layout n (front ++ written) globals new → MutatesEntry scope bytes info layout n rewrite new
   mutates stay law new known rewritten =
       let is : IsRewritten bytes layout n (slice_range bytes f.entry.contents expression ++ body) globals new =
       subst (λ (contents : List ℕ). IsRewritten bytes layout n contents globals new) contents_is rewritten in
@@ -253,13 +254,13 @@ module _ (rules : List Rule) (bytes : List ℕ) (info : Module) (layout : Layout
       }
 
 -- no global that is asked for has the type `Empty`
-asks_for_none : {rules : List Rule} {bytes : List ℕ} {info : Module} {layout : Layout} {s : Stream} {n : ℕ} {rewrite : Rewrite} {contents : List ℕ}
-    {more : Types} {after : Stream} → WritesAt rules bytes info layout s n rewrite contents more after → Contains more Empty → ⊥
+asks_for_none : {scope : Scope} {bytes : List ℕ} {info : Module} {layout : Layout} {s : Stream} {n : ℕ} {rewrite : Rewrite} {contents : List ℕ}
+    {more : Types} {after : Stream} → WritesAt scope bytes info layout s n rewrite contents more after → Contains more Empty → ⊥
 asks_for_none {more = more} w has =
     All-contains (λ (t : PrimitiveTypeInfo). t ≢ Empty) more Empty (some_types more (asks_for_numbers w.writes)) has refl
 
 module _ (scope : Scope) (bytes : List ℕ) (info : Module) (layout : Layout) (n : ℕ) (s after : Stream) (rewrite : Rewrite) (contents : List ℕ) (more : Types)
-    (w : WritesAt scope.rules bytes info layout s n rewrite contents more after) where
+    (w : WritesAt scope bytes info layout s n rewrite contents more after) where
   -- the same where 32 bits don't hold it
   pub refuses_writing : (e : WriteError) → (e ≡ TooLarge → IsTooLarge bytes layout n contents more) → (e ≡ EmptyType → Contains more Empty) →
       RefusesEntry scope bytes info layout n (Write e)

@@ -20,7 +20,8 @@ use Rattle.module_rewrites.specs.Chosen.{TriesInVain}
 use Rattle.module_rewrites.specs.Chosen.TriesInVain.{by_lack, by_size}
 use Rattle.module_rewrites.specs.Function.{IsFunction}
 use Rattle.module_rewrites.specs.Mutated.{HasNoMutation}
-use Rattle.module_rewrites.specs.Scope.{Scope}
+use Rattle.body_rewrites.specs.declared.growth.Growth.{Growth}
+use Rattle.module_rewrites.specs.Scope.{Scope, wanted_of}
 use Rattle.module_rewrites.specs.Writing.{MakesAt, WritesAt}
 use Rattle.module_rewrites.proofs.DoesAsBeforeLemmas.{OneReading, one_body}
 use Rattle.module_rewrites.proofs.OneSearchLemmas.{AreApart}
@@ -28,12 +29,12 @@ use Rattle.module_rewrites.proofs.OneSearchLemmas.{AreApart}
 -- What is said of bodies and modules that are written: each is one text, where it is one at all.
 pub record OneWriting : Type 0 where
   pub reading : OneReading
-  pub body : (context : Context) (stream : Stream) (rules : List Rule) (input : List ℕ) (operators : List (Operator × ℕ)) (r q : Rewrite)
+  pub body : (context : Context) (stream : Stream) (rules : List Rule) (wanted : List Growth) (input : List ℕ) (operators : List (Operator × ℕ)) (r q : Rewrite)
       (old new other : List ℕ) (asks others : List PrimitiveTypeInfo) (after later : Stream) →
-      AppendsByWords context stream rules input operators r old new asks after → AppendsByWords context stream rules input operators q old other others later →
+      AppendsByWords context stream rules wanted input operators r old new asks after → AppendsByWords context stream rules wanted input operators q old other others later →
       (r ≡ q) × (new ≡ other) × (asks ≡ others) × (after ≡ later)
-  pub none : (context : Context) (stream : Stream) (rules : List Rule) (operators : List (Operator × ℕ)) (r : Rewrite) →
-      HasNoRewrite context rules operators → Chooses context stream rules operators r → ⊥
+  pub none : (context : Context) (stream : Stream) (rules : List Rule) (wanted : List Growth) (operators : List (Operator × ℕ)) (r : Rewrite) →
+      HasNoRewrite context rules wanted operators → Chooses context stream rules wanted operators r → ⊥
   pub text : (bytes : List ℕ) (layout : Layout) (n : ℕ) (contents : List ℕ) (more : List PrimitiveTypeInfo) (new other : List ℕ) →
       IsRewritten bytes layout n contents more new → IsRewritten bytes layout n contents more other → new ≡ other
   pub fits : (bytes : List ℕ) (info : Module) (layout : Layout) (n : ℕ) (contents : List ℕ) (more : List PrimitiveTypeInfo) (new : List ℕ) →
@@ -55,16 +56,16 @@ one_place one bytes info layout n locals types expression other operators locate
 module _ (one : OneWriting) where
   -- ---- what is written
 
-  pub writes_one : (rules : List Rule) (bytes : List ℕ) (info : Module) (layout : Layout) (s : Stream) (n : ℕ) (r q : Rewrite) (contents others : List ℕ)
-      (more globals : List PrimitiveTypeInfo) (after later : Stream) → WritesAt rules bytes info layout s n r contents more after →
-      WritesAt rules bytes info layout s n q others globals later → (r ≡ q) × (contents ≡ others) × (more ≡ globals) × (after ≡ later)
-  writes_one rules bytes info layout s n r q contents others more globals after later a b =
+  pub writes_one : (scope : Scope) (bytes : List ℕ) (info : Module) (layout : Layout) (s : Stream) (n : ℕ) (r q : Rewrite) (contents others : List ℕ)
+      (more globals : List PrimitiveTypeInfo) (after later : Stream) → WritesAt scope bytes info layout s n r contents more after →
+      WritesAt scope bytes info layout s n q others globals later → (r ≡ q) × (contents ≡ others) × (more ≡ globals) × (after ≡ later)
+  writes_one scope bytes info layout s n r q contents others more globals after later a b =
       let alike = one_body one.reading bytes info layout n a.locals b.locals a.expression b.expression a.operators b.operators a.function b.function in
       let place = one_place one.reading bytes info layout n a.locals b.locals a.expression b.expression a.operators b.operators a.function b.function in
-      let there : AppendsByWords (context_in info a.locals) s rules bytes a.operators q [] b.body globals later =
-      subst (λ (ts : List PrimitiveTypeInfo). AppendsByWords (context_in info ts) s rules bytes a.operators q [] b.body globals later) (sym alike.0)
-      (subst (λ (os : List (Operator × ℕ)). AppendsByWords (context_in info b.locals) s rules bytes os q [] b.body globals later) (sym alike.1) b.writes) in
-      let same = one.body (context_in info a.locals) s rules bytes a.operators r q [] a.body b.body more globals after later a.writes there in
+      let there : AppendsByWords (context_in info a.locals) s scope.rules (wanted_of scope) bytes a.operators q [] b.body globals later =
+      subst (λ (ts : List PrimitiveTypeInfo). AppendsByWords (context_in info ts) s scope.rules (wanted_of scope) bytes a.operators q [] b.body globals later) (sym alike.0)
+      (subst (λ (os : List (Operator × ℕ)). AppendsByWords (context_in info b.locals) s scope.rules (wanted_of scope) bytes os q [] b.body globals later) (sym alike.1) b.writes) in
+      let same = one.body (context_in info a.locals) s scope.rules (wanted_of scope) bytes a.operators r q [] a.body b.body more globals after later a.writes there in
       let text =
       ap₂ (λ (e : Entry) (x : ℕ). slice_range bytes e.contents x ++ a.body) place.0 place.1
       ∙ ap (λ (t : List ℕ). slice_range bytes b.function.entry.contents b.expression ++ t) same.1 in
@@ -82,33 +83,33 @@ module _ (one : OneWriting) where
       (after later : Stream) → MakesAt scope bytes info layout s n r new after → MakesAt scope bytes info layout s n q other later →
       (r ≡ q) × (new ≡ other) × (after ≡ later)
   makes_one scope bytes info layout s n r q new other after later a b =
-      let same = writes_one scope.rules bytes info layout s n r q a.contents b.contents a.more b.more after later a.writes b.writes in
+      let same = writes_one scope bytes info layout s n r q a.contents b.contents a.more b.more after later a.writes b.writes in
       (same.0, module_one bytes layout n a.contents b.contents a.more b.more new other same.1 same.2 a.made b.made, same.3)
 
   -- ---- in vain
 
-  pub lacks : (rules : List Rule) (bytes : List ℕ) (info : Module) (layout : Layout) (s : Stream) (n : ℕ) (r : Rewrite) (contents : List ℕ)
-      (more : List PrimitiveTypeInfo) (after : Stream) → HasNoMutation rules bytes info layout n → WritesAt rules bytes info layout s n r contents more after →
+  pub lacks : (scope : Scope) (bytes : List ℕ) (info : Module) (layout : Layout) (s : Stream) (n : ℕ) (r : Rewrite) (contents : List ℕ)
+      (more : List PrimitiveTypeInfo) (after : Stream) → HasNoMutation scope bytes info layout n → WritesAt scope bytes info layout s n r contents more after →
       ⊥
-  lacks rules bytes info layout s n r contents more after lack w =
-      one.none (context_in info w.locals) s rules w.operators r (lack w.locals w.expression w.operators w.function) w.writes.chooses
+  lacks scope bytes info layout s n r contents more after lack w =
+      one.none (context_in info w.locals) s scope.rules (wanted_of scope) w.operators r (lack w.locals w.expression w.operators w.function) w.writes.chooses
 
   vain_one : (scope : Scope) (bytes : List ℕ) (info : Module) (layout : Layout) (s : Stream) (n : ℕ) (a b : Stream) →
       TriesInVain scope bytes info layout s n a → TriesInVain scope bytes info layout s n b → a ≡ b
   vain_one scope bytes info layout s n a b (by_lack none e) (by_lack nor f) = e ∙ sym f
   vain_one scope bytes info layout s n a b (by_lack none e) (by_size d) =
-      absurd (lacks scope.rules bytes info layout s n d.rewrite d.contents d.more b none d.writes)
+      absurd (lacks scope bytes info layout s n d.rewrite d.contents d.more b none d.writes)
   vain_one scope bytes info layout s n a b (by_size c) (by_lack none f) =
-      absurd (lacks scope.rules bytes info layout s n c.rewrite c.contents c.more a none c.writes)
+      absurd (lacks scope bytes info layout s n c.rewrite c.contents c.more a none c.writes)
   vain_one scope bytes info layout s n a b (by_size c) (by_size d) =
-      (writes_one scope.rules bytes info layout s n c.rewrite d.rewrite c.contents d.contents c.more d.more a b c.writes d.writes).3
+      (writes_one scope bytes info layout s n c.rewrite d.rewrite c.contents d.contents c.more d.more a b c.writes d.writes).3
 
   vain_apart : (scope : Scope) (bytes : List ℕ) (info : Module) (layout : Layout) → IsModule bytes info layout → (s : Stream) (n : ℕ) (r : Rewrite)
       (new : List ℕ) (a after : Stream) → TriesInVain scope bytes info layout s n a → MakesAt scope bytes info layout s n r new after → ⊥
   vain_apart scope bytes info layout is s n r new a after (by_lack none e) m =
-      lacks scope.rules bytes info layout s n r m.contents m.more after none m.writes
+      lacks scope bytes info layout s n r m.contents m.more after none m.writes
   vain_apart scope bytes info layout is s n r new a after (by_size d) m =
-      let same = writes_one scope.rules bytes info layout s n d.rewrite r d.contents m.contents d.more m.more a after d.writes m.writes in
+      let same = writes_one scope bytes info layout s n d.rewrite r d.contents m.contents d.more m.more a after d.writes m.writes in
       elim d.large [
         | inl large ↦
             one.fits bytes info layout n m.contents m.more new is m.made

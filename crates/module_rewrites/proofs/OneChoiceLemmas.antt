@@ -125,7 +125,7 @@ module _ (one : OneWriting) (scope : Scope) (bytes : List ℕ) (info : Module) (
 
   pub cannot_apart : (only : Option ℕ) (s : Stream) (f : ℕ) (r : Rewrite) (new : List ℕ) (after : Stream) →
       ChoosesBy scope bytes info layout only s f r new after →
-      ((n : ℕ) → n < length layout.entries → IsChosen only (layout.imported_functions + n) → HasNoMutation scope.rules bytes info layout n) → ⊥
+      ((n : ℕ) → n < length layout.entries → IsChosen only (layout.imported_functions + n) → HasNoMutation scope bytes info layout n) → ⊥
   cannot_apart only s f r new after c none =
       lacks one scope.rules bytes info layout c.found c.n r c.makes.contents c.makes.more after
       (none c.n (inside c.found c.n (ends c.found c.n r new after c.makes)) (found_is_chosen only s c.n c.found c.finds)) c.makes.writes
@@ -134,7 +134,7 @@ module _ (one : OneWriting) (scope : Scope) (bytes : List ℕ) (info : Module) (
   -- nor is one that doesn't fit
   pub written_apart : (e : MutationError) (n : ℕ) → n < length layout.entries → IsChosen scope.function (layout.imported_functions + n) → IsOfSize e →
       RefusesEntry scope bytes info layout n e →
-      ((n : ℕ) → n < length layout.entries → IsChosen scope.function (layout.imported_functions + n) → HasNoMutation scope.rules bytes info layout n) → ⊥
+      ((n : ℕ) → n < length layout.entries → IsChosen scope.function (layout.imported_functions + n) → HasNoMutation scope bytes info layout n) → ⊥
   written_apart (mutations.Read e) n inside chosen size w none = size
   written_apart mutations.Memory n inside chosen size w none = size
   written_apart (mutations.Write writes.TooLarge) n inside chosen size w none =
@@ -182,13 +182,13 @@ module _ (one : OneWriting) (reading : OneModule) (fit : EntriesFit) (scope : Sc
       CannotMutate scope bytes → ⊥
   cannot_none bytes new s after f r few c g =
       let there = subst (λ (p : Module × Layout). (n : ℕ) → n < length p.1.entries → IsChosen scope.function (p.1.imported_functions + n) →
-      HasNoMutation scope.rules bytes p.0 p.1 n) (alike bytes c.info g.info c.layout g.layout c.is g.is) g.none in
+      HasNoMutation scope bytes p.0 p.1 n) (alike bytes c.info g.info c.layout g.layout c.is g.is) g.none in
       cannot_apart one scope bytes c.info c.layout c.is (few_bytes bytes c.info c.layout c.is few) scope.function s f r new after c.chooses there
 
   chosen_apart : (bytes : List ℕ) (e : MutationError) → IsOfSize e → RefusesChosenEntry scope bytes e → CannotMutate scope bytes → ⊥
   chosen_apart bytes e size r g =
       let there = subst (λ (p : Module × Layout). (n : ℕ) → n < length p.1.entries → IsChosen scope.function (p.1.imported_functions + n) →
-      HasNoMutation scope.rules bytes p.0 p.1 n) (alike bytes r.info g.info r.layout g.layout r.is g.is) g.none in
+      HasNoMutation scope bytes p.0 p.1 n) (alike bytes r.info g.info r.layout g.layout r.is g.is) g.none in
       written_apart one scope bytes r.info r.layout e r.n r.inside r.chosen size r.refuses there
 
   pub refused_apart : (bytes : List ℕ) (e : MutationError) → IsOfSize e → RefusesMutation scope bytes e → CannotMutate scope bytes → ⊥

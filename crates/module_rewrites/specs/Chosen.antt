@@ -11,7 +11,7 @@ use Rattle.module_rewrites.specs.Writing.{DoesNotFit, MakesAt}
 
 -- An attempt at the n-th code entry is in vain: there is no rewrite, and no word is drawn; or the module with the one that words choose is too large.
 pub data TriesInVain (scope : Scope) (bytes : List ℕ) (info : Module) (layout : Layout) (s : Stream) (n : ℕ) (after : Stream) : Type 0 where
-  by_lack : HasNoMutation scope.rules bytes info layout n → after ≡ s → TriesInVain scope bytes info layout s n after
+  by_lack : HasNoMutation scope bytes info layout n → after ≡ s → TriesInVain scope bytes info layout s n after
   by_size : DoesNotFit scope bytes info layout s n after → TriesInVain scope bytes info layout s n after
 
 -- The entry whose function is named, if one is, behind fewer than 16 attempts there in vain; or else the one that words draw. `after` is what the generator

@@ -11,6 +11,7 @@ pub mod EntryWords
 pub mod Mutated
 pub mod Mutates
 pub mod Stopped
+pub mod Smaller
 pub mod Watched
 pub mod Seeded
 pub mod DoesAsBefore

@@ -12,12 +12,11 @@ use Rattle.wasm_module.specs.Rewritten.{IsRewritten}
 use Rattle.wasm_module.specs.declared.refusal.WriteError.TheVariants as writes
 use Rattle.peephole_machine.specs.Values.{context_in}
 use Rattle.body_splices.specs.OwnBytes.{without_offsets}
-use Rattle.rewrite_rules.specs.declared.rule.Rule.{Rule}
 use Rattle.body_rewrites.specs.declared.rewrite.Rewrite.{Rewrite}
 use Rattle.body_rewrites.specs.Random.{AppendsByWords, HasNoRewrite}
 use Rattle.module_rewrites.specs.Function.{IsFunction}
 use Rattle.module_rewrites.specs.ReadAgain.{IsReadAgain}
-use Rattle.module_rewrites.specs.Scope.{Scope}
+use Rattle.module_rewrites.specs.Scope.{Scope, most_of, wanted_of}
 use Rattle.module_rewrites.specs.Writing.{Exceeds, IsWritten}
 use Rattle.module_rewrites.specs.declared.mutation.MutationError.{MutationError}
 use Rattle.module_rewrites.specs.declared.mutation.MutationError.TheVariants as mutations
@@ -28,8 +27,9 @@ IsChosen None index = Unit {0}
 IsChosen (Some function) index = index ≡ function
 
 -- The new bytes are the module with an operator of its n-th code entry rewritten in its place by one of the rules, as some words choose: its locals stand as
--- they stood, what stands round the new code runs as before, and the globals that it asks for are appended. They are read again so.
-pub record MutatesEntry (rules : List Rule) (bytes : List ℕ) (info : Module) (layout : Layout) (n : ℕ) (rewrite : Rewrite) (new : List ℕ) : Type 0 where
+-- they stood, what stands round the new code runs as before, and the globals that it asks for are appended. They are read again so. Where it is to make the
+-- module smaller, it leaves fewer operators.
+pub record MutatesEntry (scope : Scope) (bytes : List ℕ) (info : Module) (layout : Layout) (n : ℕ) (rewrite : Rewrite) (new : List ℕ) : Type 0 where
   pub locals : List PrimitiveTypeInfo
   pub expression : ℕ
   pub operators : List (Operator × ℕ)
@@ -38,29 +38,31 @@ pub record MutatesEntry (rules : List Rule) (bytes : List ℕ) (info : Module) (
   pub more : List PrimitiveTypeInfo
   pub stream : Stream
   pub after : Stream
-  pub rewritten : AppendsByWords (context_in info locals) stream rules bytes operators rewrite [] body more after
+  pub rewritten : AppendsByWords (context_in info locals) stream scope.rules (wanted_of scope) bytes operators rewrite [] body more after
   pub written : IsRewritten bytes layout n (slice_range bytes function.entry.contents expression ++ body) more new
   pub again : IsReadAgain bytes info layout n locals (without_offsets rewritten.appends.written.spliced.again) more new
 
 -- The same of one of its code entries, that of the function with this index among all functions.
-abbrev pub MutatesOne : List Rule → (bytes : List ℕ) → Module → Layout → (function : ℕ) → Rewrite → (new : List ℕ) → Type 0
-MutatesOne rules bytes info layout function rewrite new =
-    (n : ℕ) × (function ≡ layout.imported_functions + n) × MutatesEntry rules bytes info layout n rewrite new
+abbrev pub MutatesOne : Scope → (bytes : List ℕ) → Module → Layout → (function : ℕ) → Rewrite → (new : List ℕ) → Type 0
+MutatesOne scope bytes info layout function rewrite new =
+    (n : ℕ) × (function ≡ layout.imported_functions + n) × MutatesEntry scope bytes info layout n rewrite new
 
--- The same of the bytes of a module, at a function that may be rewritten, and with no more bytes than a new module may have.
+-- The same of the bytes of a module, at a function that may be rewritten, and with no more bytes than it may have then: where it is to be made smaller, no more
+-- than it had.
 pub record IsMutated (scope : Scope) (bytes : List ℕ) (function : ℕ) (rewrite : Rewrite) (new : List ℕ) : Type 0 where
   pub info : Module
   pub layout : Layout
   pub is : IsModule bytes info layout
   pub chosen : IsChosen scope.function function
-  pub fits : length new ≤ scope.most
-  pub mutates : MutatesOne scope.rules bytes info layout function rewrite new
+  pub fits : length new ≤ most_of scope bytes
+  pub mutates : MutatesOne scope bytes info layout function rewrite new
 
--- No rewrite can be made in the n-th code entry: it spells no function that can be read, or one of whose operators no rule rewrites any.
-abbrev pub HasNoMutation : List Rule → (bytes : List ℕ) → Module → Layout → (n : ℕ) → Type 0
-HasNoMutation rules bytes info layout n =
+-- No rewrite can be made in the n-th code entry: it spells no function that can be read, or one of whose operators no rule rewrites any; where rewrites are to
+-- make the module smaller, so that fewer are left.
+abbrev pub HasNoMutation : Scope → (bytes : List ℕ) → Module → Layout → (n : ℕ) → Type 0
+HasNoMutation scope bytes info layout n =
     (locals : List PrimitiveTypeInfo) (expression : ℕ) (operators : List (Operator × ℕ)) → IsFunction bytes info layout n locals expression operators →
-    HasNoRewrite (context_in info locals) rules operators
+    HasNoRewrite (context_in info locals) scope.rules (wanted_of scope) operators
 
 -- No rewrite can be made in any function that may be rewritten.
 pub record CannotMutate (scope : Scope) (bytes : List ℕ) : Type 0 where
@@ -68,7 +70,7 @@ pub record CannotMutate (scope : Scope) (bytes : List ℕ) : Type 0 where
   pub layout : Layout
   pub is : IsModule bytes info layout
   pub none : (n : ℕ) → n < length layout.entries → IsChosen scope.function (layout.imported_functions + n) →
-      HasNoMutation scope.rules bytes info layout n
+      HasNoMutation scope bytes info layout n
 
 -- for a private function: the offset lies in the bytes, at or behind the start of the entry's contents
 pub record IsBehindLocals (bytes : List ℕ) (entry : Entry) (expression : ℕ) : Type 0 where
@@ -80,10 +82,10 @@ pub record IsBehindLocals (bytes : List ℕ) (entry : Entry) (expression : ℕ) 
 abbrev pub RefusesEntry : Scope → (bytes : List ℕ) → Module → Layout → (n : ℕ) → MutationError → Type 0
 RefusesEntry scope bytes info layout n (mutations.Read e) = ⊥
 RefusesEntry scope bytes info layout n mutations.Memory = Unit {0}
-RefusesEntry scope bytes info layout n (mutations.Write writes.TooLarge) = IsWritten scope.rules bytes info layout n (IsTooLarge bytes layout n)
+RefusesEntry scope bytes info layout n (mutations.Write writes.TooLarge) = IsWritten scope bytes info layout n (IsTooLarge bytes layout n)
 RefusesEntry scope bytes info layout n (mutations.Write writes.EmptyType) = ⊥
 RefusesEntry scope bytes info layout n (mutations.Write writes.Memory) = Unit {0}
-RefusesEntry scope bytes info layout n mutations.TooLong = IsWritten scope.rules bytes info layout n (Exceeds scope.most bytes layout n)
+RefusesEntry scope bytes info layout n mutations.TooLong = IsWritten scope bytes info layout n (Exceeds (most_of scope bytes) bytes layout n)
 
 -- The same of the bytes of a module, at a function that may be rewritten.
 pub record RefusesChosenEntry (scope : Scope) (bytes : List ℕ) (e : MutationError) : Type 0 where

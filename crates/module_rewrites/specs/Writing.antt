@@ -8,22 +8,21 @@ use Rattle.wasm_module.specs.Module.{Layout}
 use Rattle.wasm_module.specs.Limits.{IsTooLarge}
 use Rattle.wasm_module.specs.Rewritten.{IsRewritten}
 use Rattle.peephole_machine.specs.Values.{context_in}
-use Rattle.rewrite_rules.specs.declared.rule.Rule.{Rule}
 use Rattle.body_rewrites.specs.declared.rewrite.Rewrite.{Rewrite}
 use Rattle.body_rewrites.specs.Random.{AppendsByWords}
 use Rattle.module_rewrites.specs.Function.{IsFunction}
-use Rattle.module_rewrites.specs.Scope.{Scope}
+use Rattle.module_rewrites.specs.Scope.{Scope, most_of, wanted_of}
 
--- By these words the n-th code entry contains its locals as they stood, and its body with the rewrite that they choose, of those by one of the rules; it asks
--- for more globals of these types. `after` is what the generator gives behind the words.
-pub record WritesAt (rules : List Rule) (bytes : List ℕ) (info : Module) (layout : Layout) (s : Stream) (n : ℕ) (rewrite : Rewrite) (contents : List ℕ)
+-- By these words the n-th code entry contains its locals as they stood, and its body with the rewrite that they choose, of those by one of the rules that
+-- do what is wanted to the number of operators; it asks for more globals of these types. `after` is what the generator gives behind the words.
+pub record WritesAt (scope : Scope) (bytes : List ℕ) (info : Module) (layout : Layout) (s : Stream) (n : ℕ) (rewrite : Rewrite) (contents : List ℕ)
     (more : List PrimitiveTypeInfo) (after : Stream) : Type 0 where
   pub locals : List PrimitiveTypeInfo
   pub expression : ℕ
   pub operators : List (Operator × ℕ)
   pub function : IsFunction bytes info layout n locals expression operators
   pub body : List ℕ
-  pub writes : AppendsByWords (context_in info locals) s rules bytes operators rewrite [] body more after
+  pub writes : AppendsByWords (context_in info locals) s scope.rules (wanted_of scope) bytes operators rewrite [] body more after
   pub contents_are : contents ≡ slice_range bytes function.entry.contents expression ++ body
 
 -- The new bytes are the module with that, and no more than they may be.
@@ -31,9 +30,9 @@ pub record MakesAt (scope : Scope) (bytes : List ℕ) (info : Module) (layout : 
     (after : Stream) : Type 0 where
   pub contents : List ℕ
   pub more : List PrimitiveTypeInfo
-  pub writes : WritesAt scope.rules bytes info layout s n rewrite contents more after
+  pub writes : WritesAt scope bytes info layout s n rewrite contents more after
   pub made : IsRewritten bytes layout n contents more new
-  pub fits : length new ≤ scope.most
+  pub fits : length new ≤ most_of scope bytes
 
 -- the module with that has more bytes than these
 pub record Exceeds (most : ℕ) (bytes : List ℕ) (layout : Layout) (n : ℕ) (contents : List ℕ) (more : List PrimitiveTypeInfo) : Type 0 where
@@ -46,16 +45,16 @@ pub record DoesNotFit (scope : Scope) (bytes : List ℕ) (info : Module) (layout
   pub rewrite : Rewrite
   pub contents : List ℕ
   pub more : List PrimitiveTypeInfo
-  pub writes : WritesAt scope.rules bytes info layout s n rewrite contents more after
-  pub large : IsTooLarge bytes layout n contents more ⊎ Exceeds scope.most bytes layout n contents more
+  pub writes : WritesAt scope bytes info layout s n rewrite contents more after
+  pub large : IsTooLarge bytes layout n contents more ⊎ Exceeds (most_of scope bytes) bytes layout n contents more
 
 -- Some words write the n-th code entry of the module such that this holds of what it contains and the globals that it asks for.
-pub record IsWritten (rules : List Rule) (bytes : List ℕ) (info : Module) (layout : Layout) (n : ℕ)
+pub record IsWritten (scope : Scope) (bytes : List ℕ) (info : Module) (layout : Layout) (n : ℕ)
     (P : (contents : List ℕ) → (more : List PrimitiveTypeInfo) → Type 0) : Type 0 where
   pub s : Stream
   pub rewrite : Rewrite
   pub contents : List ℕ
   pub more : List PrimitiveTypeInfo
   pub after : Stream
-  pub writes : WritesAt rules bytes info layout s n rewrite contents more after
+  pub writes : WritesAt scope bytes info layout s n rewrite contents more after
   pub holds : P contents more

@@ -1,5 +1,5 @@
 //! What holds of rewritten modules. A function here does nothing: its contract is the law.
-ghost use Rattle.std.specs.Prelude.{◌≡◌, ◌<◌, ◌≤◌, ◌^◌, ◌++◌, ℕ, List, Option, length};
+ghost use Rattle.std.specs.Prelude.{◌≡◌, ◌<◌, ◌≤◌, ◌^◌, ◌++◌, ℕ, List, Option, length, true};
 ghost use Rattle.std.specs.List.{sum_by};
 ghost use Rattle.rand_core.specs.Stream.{Stream};
 ghost use Rattle.wasm_code.specs.declared.operator.Operator.{Operator};
@@ -13,8 +13,7 @@ ghost use Rattle.wasm_sections.specs.declared.section.Section.{Section};
 ghost use Rattle.wasm_module.specs.Fault.{IsModuleFault};
 ghost use Rattle.wasm_module.specs.Module.{Layout};
 ghost use Rattle.peephole_machine.specs.Values.{context_in};
-ghost use Rattle.rewrite_rules.specs.declared.rule.Rule.{Rule};
-ghost use Rattle.body_rewrites.specs.Listing.{IsBy};
+ghost use Rattle.body_rewrites.specs.Listing.{IsWantedBy};
 ghost use Rattle.body_rewrites.specs.declared.rewrite.Rewrite.{Rewrite};
 ghost use Rattle.module_rewrites.specs.Chosen.{ChoosesOfModule, GivesUp};
 ghost use Rattle.module_rewrites.specs.ChosenTimes.{ChoosesEach, ChoosesTimes};
@@ -24,12 +23,16 @@ ghost use Rattle.module_rewrites.specs.EntryWords.{DrawsRewrite, HasEntryWords};
 ghost use Rattle.module_rewrites.specs.Function.{IsFunction};
 ghost use Rattle.module_rewrites.specs.Mutated.{CannotMutate, IsMutated, IsOfSize, RefusesMutation};
 ghost use Rattle.module_rewrites.specs.Mutates.{Mutates};
-ghost use Rattle.module_rewrites.specs.Scope.{Scope};
+ghost use Rattle.module_rewrites.specs.Scope.{Scope, wanted_of};
+ghost use Rattle.module_rewrites.specs.Smaller.{MakesSmaller};
 ghost use Rattle.module_rewrites.specs.Stopped.{HadMemory};
 ghost use Rattle.module_rewrites.specs.declared.mutation.MutationError.{MutationError};
 ghost use Rattle.module_rewrites.specs.declared.times.MadeRewrite.{MadeRewrite};
 
-use body_rewrites::laws::{each_rewrite_has_words, words_choose_one_rewrite, words_write_one_body};
+use body_rewrites::laws::{
+    chosen_rewrites_are_wanted, each_rewrite_has_words, words_choose_one_rewrite,
+    words_write_one_body,
+};
 use body_splices::laws::own_bytes_stay;
 use peephole_programs::laws::{
     embedders_are_sound, one_function_is_rewritten, pieces_do_as_before, rewritten_modules_do_more,
@@ -82,16 +85,16 @@ pub fn rewritten_modules_do_as_before()
     valid_modules_do_more();
 }
 
-/// Every rewrite that there is of a code entry's function by one of the rules is drawn by four words, the first of which names the
-/// entry: there is none that no words draw. There are fewer than 2^64 rules and bytes of entries, and than 2^32 operators.
+/// Every rewrite that there is of a code entry's function by one of the rules that the scope allows is drawn by four words, the first
+/// of which names the entry: there is none that no words draw. There are fewer than 2^64 rules and bytes of entries, and than 2^32 operators.
 pub fn each_rewrite_is_drawn()
-    ensures { (rules : List Rule) (bytes : List ℕ) (info : Module) (layout : Layout) (n : ℕ)
+    ensures { (scope : Scope) (bytes : List ℕ) (info : Module) (layout : Layout) (n : ℕ)
         (locals : List PrimitiveTypeInfo) (expression : ℕ) (operators : List (Operator × ℕ))
         (r : Rewrite) → IsFunction bytes info layout n locals expression operators
-        → length rules < 2 ^ 64 → length operators < 2 ^ 32
+        → length scope.rules < 2 ^ 64 → length operators < 2 ^ 32
         → sum_by contents_length layout.entries < 2 ^ 64
-        → IsBy (context_in info locals) operators rules r
-        → ¬ (¬ (HasEntryWords rules bytes info layout n r)) }
+        → IsWantedBy (context_in info locals) operators scope.rules (wanted_of scope) r
+        → ¬ (¬ (HasEntryWords scope bytes info layout n r)) }
 {
     each_rewrite_has_words();
 }
@@ -99,11 +102,11 @@ pub fn each_rewrite_is_drawn()
 /// A word names one code entry at most, and the words behind it choose one rewrite of its function at most, where the entries
 /// contain any byte, and fewer than 2^64.
 pub fn words_draw_one_rewrite()
-    ensures { (rules : List Rule) (bytes : List ℕ) (info : Module) (layout : Layout) (s : Stream)
+    ensures { (scope : Scope) (bytes : List ℕ) (info : Module) (layout : Layout) (s : Stream)
         (n m : ℕ) (r q : Rewrite) → 0 < sum_by contents_length layout.entries
         → sum_by contents_length layout.entries < 2 ^ 64
-        → DrawsRewrite rules bytes info layout s n r
-        → DrawsRewrite rules bytes info layout s m q → (n ≡ m) × (r ≡ q) }
+        → DrawsRewrite scope bytes info layout s n r
+        → DrawsRewrite scope bytes info layout s m q → (n ≡ m) × (r ≡ q) }
 {
     one_list();
     one_list_of_operators();
@@ -151,4 +154,17 @@ pub fn equal_words_give_equal_bytes()
     one_rewritten_module();
     one_reading();
     entries_fit_the_module();
+}
+
+/// Where rewrites are to make a module smaller, each is one that leaves fewer operators, and the module has no more bytes with it than
+/// before (`one`); so after several, one after another, it has no more than at first (`each`).
+pub fn shrinking_rewrites_make_smaller()
+    ensures one { (scope : Scope) (bytes new : List ℕ) (function : ℕ) (rewrite : Rewrite)
+        → scope.shrinking ≡ true → IsMutated scope bytes function rewrite new
+        → MakesSmaller bytes function rewrite new }
+    ensures each { (scope : Scope) (count : ℕ) (bytes new : List ℕ) (made : List MadeRewrite)
+        (stopped : Option MutationError) → scope.shrinking ≡ true
+        → Mutates scope count bytes made new stopped → length new ≤ length bytes }
+{
+    chosen_rewrites_are_wanted();
 }

@@ -8,6 +8,7 @@ ghost use Rattle.body_rewrites.specs.Random.{AppendsByWords, HasNoRewrite};
 ghost use Rattle.module_rewrites.specs.Chosen.{AllInVain, ChoosesAgain, ChoosesBy, ChoosesFrom, ChoosesOfModule, ChoosesWithin, GivesUp, GivesUpAgain, GivesUpInOrder, GivesUpOn, TriesInVain};
 ghost use Rattle.module_rewrites.specs.DoesAsBefore.{DoesAsBefore};
 ghost use Rattle.module_rewrites.specs.Mutated.{CannotMutate, HasNoMutation, IsBehindLocals, IsInVain, IsMutated, IsOfSize, IsRefusedForSize, MutatesEntry, MutatesOne, RefusesEntry, RefusesMutation, last_of};
+ghost use Rattle.module_rewrites.specs.Scope.{most_of, wanted_of};
 ghost use Rattle.module_rewrites.specs.Writing.{MakesAt};
 ghost use Rattle.module_rewrites.specs.declared.mutation.MutationError.TheVariants.{Memory, Write};
 
@@ -18,7 +19,6 @@ use crate::scope::Scope;
 use body_rewrites::{Body, Rewrite, Rewritten, rewrite_at_random, trees_of};
 use body_splices::laws::own_bytes_stay;
 use rand_core::Rng;
-use rewrite_rules::Rule;
 use std::alloc::{AllocError, Global};
 use thiserror::Error as ErrorTexts;
 use wasm_code::Function;
@@ -133,23 +133,25 @@ fn last(
     }
 }
 
-// Writes the function's body behind what the sink holds, with a rewrite in it that words choose; none where no rule applies.
+// Writes the function's body behind what the sink holds, with a rewrite in it that words choose; none where there is none that the
+// scope allows.
 fn rewrite_function<R: Rng>(
     alloc: Global,
     info: &ModuleInfo<'_>,
     generator: &mut R,
-    rules: &[Rule],
+    scope: &Scope<'_>,
     bytes: &[u8],
     function: &FunctionBody,
     sink: &mut Function,
 ) -> Result<Option<Rewritten>, MutationError>
     requires body { IsBodyIn bytes.now function.now.operators.items }
     ensures rewritten { IfOk result (λ o. IfSome o (λ made. AppendsByWords
-        (context_in info.now function.now.locals.items) (R.stream generator.old) rules.now
-        bytes.now function.now.operators.items made.rewrite sink.old sink.new made.asks.items
-        (R.stream generator.new))) }
+        (context_in info.now function.now.locals.items) (R.stream generator.old) scope.now.rules
+        (wanted_of scope.now) bytes.now function.now.operators.items made.rewrite sink.old
+        sink.new made.asks.items (R.stream generator.new))) }
     ensures none { IfOk result (λ o. IfNone o (HasNoRewrite
-        (context_in info.now function.now.locals.items) rules.now function.now.operators.items)) }
+        (context_in info.now function.now.locals.items) scope.now.rules (wanted_of scope.now)
+        function.now.operators.items)) }
     ensures kept { IfOk result (λ o. IfNone o
         (R.stream generator.new ≡ R.stream generator.old)) }
     ensures memory { IfErr result (λ e. e ≡ Memory) }
@@ -163,7 +165,8 @@ fn rewrite_function<R: Rng>(
         operators,
         trees: &trees,
     };
-    match rewrite_at_random(alloc, generator, &body, bytes, rules, sink) {
+    let (rules, wanted) = (scope.rules(), scope.wanted());
+    match rewrite_at_random(alloc, generator, &body, bytes, rules, wanted, sink) {
         Ok(made) => Ok(made),
         Err(_) => Err(MutationError::Memory),
     }
@@ -183,14 +186,15 @@ fn mutate_entry<R: Rng>(
     requires inside { n < length layout.now.entries }
     ensures mutated { IfOk result (λ o. IfSome o (λ m.
         (m.function ≡ layout.now.imported_functions + n) × MutatesEntry
-        scope.now.rules bytes.now info.now layout.now n m.rewrite m.bytes.items)) }
+        scope.now bytes.now info.now layout.now n m.rewrite m.bytes.items)) }
     ensures function { IfOk result (λ o. IfSome o (λ m.
         m.function ≡ layout.now.imported_functions + n)) }
-    ensures fits { IfOk result (λ o. IfSome o (λ m. length m.bytes.items ≤ scope.now.most)) }
+    ensures fits { IfOk result (λ o. IfSome o (λ m.
+        length m.bytes.items ≤ most_of scope.now bytes.now)) }
     ensures chosen { IfOk result (λ o. IfSome o (λ m. MakesAt scope.now bytes.now info.now
         layout.now (R.stream generator.old) n m.rewrite m.bytes.items (R.stream generator.new))) }
     ensures none { IfOk result (λ o. IfNone o
-        (HasNoMutation scope.now.rules bytes.now info.now layout.now n)) }
+        (HasNoMutation scope.now bytes.now info.now layout.now n)) }
     ensures refused { IfErr result (RefusesEntry scope.now bytes.now info.now layout.now n) }
     ensures tried { IsInVain result → TriesInVain scope.now bytes.now info.now layout.now
         (R.stream generator.old) n (R.stream generator.new) }
@@ -208,8 +212,7 @@ fn mutate_entry<R: Rng>(
         }
     };
     let mut body = Function::new(alloc);
-    let rules = scope.rules;
-    let made = match rewrite_function(alloc, info, generator, rules, bytes, &function, &mut body) {
+    let made = match rewrite_function(alloc, info, generator, scope, bytes, &function, &mut body) {
         Ok(Some(made)) => made,
         Ok(None) => return Ok(None),
         Err(e) => return Err(e),
@@ -217,7 +220,7 @@ fn mutate_entry<R: Rng>(
     let locals = locals_of(bytes, entry_at(layout, n), function.expression);
     match with_body(alloc, bytes, layout, n, locals, body.bytes(), &made.asks) {
         Ok(new) => {
-            if new.len() > scope.max_size {
+            if new.len() > scope.most(bytes) {
                 return Err(MutationError::TooLong);
             }
             Ok(Some(Mutated {
@@ -244,14 +247,15 @@ fn mutate_first<R: Rng>(
     requires module { IsModule bytes.now info.now layout.now }
     requires inside { to ≤ length layout.now.entries }
     requires ordered { from ≤ to }
-    ensures mutated { IfOk result (λ o. IfSome o (λ m. MutatesOne scope.now.rules bytes.now
+    ensures mutated { IfOk result (λ o. IfSome o (λ m. MutatesOne scope.now bytes.now
         info.now layout.now m.function m.rewrite m.bytes.items)) }
-    ensures fits { IfOk result (λ o. IfSome o (λ m. length m.bytes.items ≤ scope.now.most)) }
+    ensures fits { IfOk result (λ o. IfSome o (λ m.
+        length m.bytes.items ≤ most_of scope.now bytes.now)) }
     ensures chosen { IfOk result (λ o. IfSome o (λ m. ChoosesWithin
         scope.now bytes.now info.now layout.now from to (R.stream generator.old)
         m.function m.rewrite m.bytes.items (R.stream generator.new))) }
     ensures none { IfOk result (λ o. IfNone o ((n : ℕ) → from ≤ n → n < to
-        → HasNoMutation scope.now.rules bytes.now info.now layout.now n)) }
+        → HasNoMutation scope.now bytes.now info.now layout.now n)) }
     ensures refused { IfErr result (λ e. (n : ℕ) × (from ≤ n) × (n < to)
         × RefusesEntry scope.now bytes.now info.now layout.now n e) }
     ensures tried { IsInVain result → AllInVain scope.now bytes.now info.now layout.now from to
@@ -280,14 +284,15 @@ fn mutate_in_order<R: Rng>(
 ) -> Result<Option<Mutated>, MutationError>
     requires module { IsModule bytes.now info.now layout.now }
     requires inside { first ≤ length layout.now.entries }
-    ensures mutated { IfOk result (λ o. IfSome o (λ m. MutatesOne scope.now.rules bytes.now
+    ensures mutated { IfOk result (λ o. IfSome o (λ m. MutatesOne scope.now bytes.now
         info.now layout.now m.function m.rewrite m.bytes.items)) }
-    ensures fits { IfOk result (λ o. IfSome o (λ m. length m.bytes.items ≤ scope.now.most)) }
+    ensures fits { IfOk result (λ o. IfSome o (λ m.
+        length m.bytes.items ≤ most_of scope.now bytes.now)) }
     ensures chosen { IfOk result (λ o. IfSome o (λ m. ChoosesFrom
         scope.now bytes.now info.now layout.now first (R.stream generator.old)
         m.function m.rewrite m.bytes.items (R.stream generator.new))) }
     ensures none { IfOk result (λ o. IfNone o ((n : ℕ) → n < length layout.now.entries
-        → HasNoMutation scope.now.rules bytes.now info.now layout.now n)) }
+        → HasNoMutation scope.now bytes.now info.now layout.now n)) }
     ensures refused { IfErr result (λ e. (n : ℕ) × (n < length layout.now.entries)
         × RefusesEntry scope.now bytes.now info.now layout.now n e) }
     ensures tried { IsInVain result → GivesUpInOrder scope.now bytes.now info.now layout.now first
@@ -316,14 +321,15 @@ fn mutate_any<R: Rng>(
     layout: &Layout,
 ) -> Result<Option<Mutated>, MutationError>
     requires module { IsModule bytes.now info.now layout.now }
-    ensures mutated { IfOk result (λ o. IfSome o (λ m. MutatesOne scope.now.rules bytes.now
+    ensures mutated { IfOk result (λ o. IfSome o (λ m. MutatesOne scope.now bytes.now
         info.now layout.now m.function m.rewrite m.bytes.items)) }
-    ensures fits { IfOk result (λ o. IfSome o (λ m. length m.bytes.items ≤ scope.now.most)) }
+    ensures fits { IfOk result (λ o. IfSome o (λ m.
+        length m.bytes.items ≤ most_of scope.now bytes.now)) }
     ensures chosen { IfOk result (λ o. IfSome o (λ m. ChoosesBy
         scope.now bytes.now info.now layout.now None (R.stream generator.old)
         m.function m.rewrite m.bytes.items (R.stream generator.new))) }
     ensures none { IfOk result (λ o. IfNone o ((n : ℕ) → n < length layout.now.entries
-        → HasNoMutation scope.now.rules bytes.now info.now layout.now n)) }
+        → HasNoMutation scope.now bytes.now info.now layout.now n)) }
     ensures refused { IfErr result (λ e. (n : ℕ) × (n < length layout.now.entries)
         × RefusesEntry scope.now bytes.now info.now layout.now n e) }
     ensures gives_up { IfErr result (λ e. IsOfSize e → GivesUpOn scope.now bytes.now info.now
@@ -357,13 +363,14 @@ fn mutate_again<R: Rng>(
     requires inside { n < length layout.now.entries }
     ensures mutated { IfOk result (λ o. IfSome o (λ m.
         (m.function ≡ layout.now.imported_functions + n) × MutatesEntry
-        scope.now.rules bytes.now info.now layout.now n m.rewrite m.bytes.items)) }
-    ensures fits { IfOk result (λ o. IfSome o (λ m. length m.bytes.items ≤ scope.now.most)) }
+        scope.now bytes.now info.now layout.now n m.rewrite m.bytes.items)) }
+    ensures fits { IfOk result (λ o. IfSome o (λ m.
+        length m.bytes.items ≤ most_of scope.now bytes.now)) }
     ensures chosen { IfOk result (λ o. IfSome o (λ m. ChoosesAgain
         scope.now bytes.now info.now layout.now n (R.stream generator.old)
         m.function m.rewrite m.bytes.items (R.stream generator.new))) }
     ensures none { IfOk result (λ o. IfNone o
-        (HasNoMutation scope.now.rules bytes.now info.now layout.now n)) }
+        (HasNoMutation scope.now bytes.now info.now layout.now n)) }
     ensures refused { IfErr result (RefusesEntry scope.now bytes.now info.now layout.now n) }
     ensures gives_up { IfErr result (λ e. IsOfSize e → GivesUpAgain scope.now bytes.now info.now
         layout.now n (R.stream generator.old) (R.stream generator.new)) }
@@ -389,14 +396,15 @@ fn mutate_function<R: Rng>(
 ) -> Result<Option<Mutated>, MutationError>
     requires module { IsModule bytes.now info.now layout.now }
     ensures mutated { IfOk result (λ o. IfSome o (λ m. (m.function ≡ function) × MutatesOne
-        scope.now.rules bytes.now info.now layout.now m.function m.rewrite m.bytes.items)) }
-    ensures fits { IfOk result (λ o. IfSome o (λ m. length m.bytes.items ≤ scope.now.most)) }
+        scope.now bytes.now info.now layout.now m.function m.rewrite m.bytes.items)) }
+    ensures fits { IfOk result (λ o. IfSome o (λ m.
+        length m.bytes.items ≤ most_of scope.now bytes.now)) }
     ensures chosen { IfOk result (λ o. IfSome o (λ m. ChoosesBy
         scope.now bytes.now info.now layout.now (Some function) (R.stream generator.old)
         m.function m.rewrite m.bytes.items (R.stream generator.new))) }
     ensures none { IfOk result (λ o. IfNone o ((n : ℕ) → n < length layout.now.entries
         → layout.now.imported_functions + n ≡ function
-        → HasNoMutation scope.now.rules bytes.now info.now layout.now n)) }
+        → HasNoMutation scope.now bytes.now info.now layout.now n)) }
     ensures refused { IfErr result (λ e. (n : ℕ) × (n < length layout.now.entries)
         × (layout.now.imported_functions + n ≡ function)
         × RefusesEntry scope.now bytes.now info.now layout.now n e) }
@@ -467,7 +475,9 @@ pub(crate) fn mutate_with<R: Rng>(
 /// The module with an operator of one of its functions, and what stands right before it, rewritten in its place by one of the rules:
 /// whatever stands before that and behind it, wherever its run with the old code ends or traps that with the new code does the same,
 /// apart from the globals that are appended (see `rewrite_body`). None where no rule applies in any of its functions that may be
-/// rewritten. A function that can't be read, since it has operators or forms that aren't known here, is left alone.
+/// rewritten. A function that can't be read, since it has operators or forms that aren't known here, is left alone. Where the scope
+/// says that rewrites are to make the module smaller, only those are made that leave fewer operators, a rule applies only where it
+/// leaves fewer, and the new module has no more bytes than the old one.
 ///
 /// A function is drawn by its size: the generator's next word, modulo the number of bytes that all code entries contain, names one of
 /// these bytes, and so the function whose entry contains it. The next three words choose the rewrite, as `rewrite_at_random` says:
@@ -477,7 +487,8 @@ pub(crate) fn mutate_with<R: Rng>(
 /// the function, at most 16 rewrites of it are drawn. So equal modules, generators and scopes give equal bytes (law
 /// `equal_words_give_equal_bytes`).
 ///
-/// The new bytes are a module again, of at most as many bytes as the scope says. It is valid where the old one was, and each of its
+/// The new bytes are a module again, of at most as many bytes as the scope says (`max_size`, and the old module's where it is to be
+/// smaller). It is valid where the old one was, and each of its
 /// functions, called with any arguments in any memory, tables and globals, does what it did, through loops, branches, recursion,
 /// calls of imports and calls through tables.
 ///

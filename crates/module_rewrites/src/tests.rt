@@ -29,6 +29,7 @@ fn makes_what_a_rule_says(rt: HostRuntime) -> Result<(), Fail> {
             rules: &rules,
             function: None,
             max_size: 1_000,
+            shrinking: false,
         };
         for seed in 0..3 {
             let made = mutate_with_seed(alloc, MODULE, seed, &scope, 1)?;
@@ -49,6 +50,7 @@ fn says_why_nothing_is_rewritten(rt: HostRuntime) -> Result<(), Fail> {
         rules: &rules,
         function: None,
         max_size: 1_000,
+        shrinking: false,
     };
     match rewrite_with_seed(alloc, MODULE, 1, &scope, 1) {
         Ok(_) => assert!(rt; false),

@@ -1,13 +1,16 @@
 //! Every rewrite that there is of a body by rules, which operators they reach, and which rewrite words choose.
 
 use crate::notation::{LOCALS, body_of, fields_of, module_of};
-use body_rewrites::{Body, Rewrite, choose, reached_operators, rewrites_of_body, trees_of};
+use body_rewrites::{Body, Growth, Rewrite, choose, reached_operators, rewrites_of_body, trees_of};
 use given_words::Words;
 use rewrite_rules::Rule;
 use std::alloc::Global;
 use std::process::Abort;
 use std::test::Fail;
 use wasm_code::read_body;
+
+/// All that a rewrite may do to the number of operators.
+const ALL: [Growth; 3] = [Growth::Shrinks, Growth::Keeps, Growth::Grows];
 
 /// A body, rules, and every rewrite by them: in the order of operators, and then of the rules in the table.
 const LISTS: &str = "
@@ -51,12 +54,39 @@ fn text_of(rt: &impl Abort, alloc: Global, rewrite: Rewrite) -> Result<String, F
     Ok(format!(in alloc; "{operator} {rule}")?)
 }
 
-/// The line's rewrites are listed, and the rules reach their operators alone.
-fn is_list(rt: &impl Abort, alloc: Global, line: &str) -> Result<(), Fail> {
-    let fields = fields_of(alloc, line)?;
-    let [text, rules, wanted] = fields.as_slice() else {
-        panic!(rt; "{line}");
-    };
+/// A body, rules, what is wanted to become of the number of operators, and every rewrite by them that does so.
+const WANTED_LISTS: &str = "
+# A sum of an operand that is longer than an instruction with itself is made shorter, one of an instruction isn't.
+local.get 0; local.get 0; i32.add; local.get 0; i32.eqz; local.get 0; i32.eqz; i32.add; i32.eq; drop | double_to_product commute | shrinks | 7 double_to_product;
+local.get 0; local.get 0; i32.add; local.get 0; i32.eqz; local.get 0; i32.eqz; i32.add; i32.eq; drop | double_to_product commute | keeps | 2 double_to_product; 8 commute;
+local.get 0; local.get 0; i32.add; local.get 0; i32.eqz; local.get 0; i32.eqz; i32.add; i32.eq; drop | double_to_product commute | grows |
+local.get 0; local.get 0; i32.add; local.get 0; i32.eqz; local.get 0; i32.eqz; i32.add; i32.eq; drop | double_to_product commute | keeps shrinks | 2 double_to_product; 7 double_to_product; 8 commute;
+local.get 0; local.get 0; i32.add; local.get 0; i32.eqz; local.get 0; i32.eqz; i32.add; i32.eq; drop | double_to_product commute | |
+";
+
+/// What becomes of the number of operators, of these names.
+fn growths_of(rt: &impl Abort, alloc: Global, names: &str) -> Result<Vec<Growth>, Fail> {
+    let mut growths = Vec::new(alloc);
+    for name in names.split_whitespace() {
+        growths.push(match name {
+            "shrinks" => Growth::Shrinks,
+            "keeps" => Growth::Keeps,
+            "grows" => Growth::Grows,
+            _ => panic!(rt; "{name}"),
+        })?;
+    }
+    Ok(growths)
+}
+
+/// The line's rewrites are listed, of those that do what is wanted, and the rules reach their operators alone.
+fn is_list(
+    rt: &impl Abort,
+    alloc: Global,
+    line: &str,
+    fields: [&str; 3],
+    growths: &[Growth],
+) -> Result<(), Fail> {
+    let [text, rules, wanted] = fields;
     let bytes = body_of(rt, alloc, text)?;
     let rules = rules_of(alloc, rules)?;
     let info = module_of(alloc)?;
@@ -68,15 +98,15 @@ fn is_list(rt: &impl Abort, alloc: Global, line: &str) -> Result<(), Fail> {
         operators: &operators,
         trees: &trees,
     };
-    let list = rewrites_of_body(alloc, &body, &rules)?;
-    let marks = reached_operators(alloc, &body, &rules)?;
+    let list = rewrites_of_body(alloc, &body, &rules, growths)?;
+    let marks = reached_operators(alloc, &body, &rules, growths)?;
     let mut found = String::new(alloc);
     for rewrite in &list {
         let text = text_of(rt, alloc, *rewrite)?;
         let text = format!(in alloc; "{text}; ")?;
         found.push_str(&text)?;
     }
-    assert!(rt; found.as_str().trim() == *wanted, "{line}: {found}");
+    assert!(rt; found.as_str().trim() == wanted, "{line}: {found}");
     assert!(rt; marks.len() == operators.len(), "{line}");
     for (operator, mark) in marks.iter().enumerate() {
         let is_listed = list.iter().any(|one| one.operator == operator);
@@ -87,9 +117,30 @@ fn is_list(rt: &impl Abort, alloc: Global, line: &str) -> Result<(), Fail> {
 
 #[test]
 fn lists_are_told(rt: HostRuntime) -> Result<(), Fail> {
+    let alloc = rt.alloc();
     for line in LISTS.trim().lines() {
         if !line.starts_with('#') {
-            is_list(&rt, rt.alloc(), line)?;
+            let fields = fields_of(alloc, line)?;
+            let [text, rules, wanted] = fields.as_slice() else {
+                panic!(rt; "{line}");
+            };
+            is_list(&rt, alloc, line, [*text, *rules, *wanted], &ALL)?;
+        }
+    }
+    Ok(())
+}
+
+#[test]
+fn wanted_lists_are_told(rt: HostRuntime) -> Result<(), Fail> {
+    let alloc = rt.alloc();
+    for line in WANTED_LISTS.trim().lines() {
+        if !line.starts_with('#') {
+            let fields = fields_of(alloc, line)?;
+            let [text, rules, growths, wanted] = fields.as_slice() else {
+                panic!(rt; "{line}");
+            };
+            let growths = growths_of(&rt, alloc, growths)?;
+            is_list(&rt, alloc, line, [*text, *rules, *wanted], &growths)?;
         }
     }
     Ok(())
@@ -118,12 +169,29 @@ local.get 0; i32.const 2; i32.add; local.get 0; i32.mul; local.set 0 | commute a
 local.get 0; i32.const 2; i32.add; local.get 0; i32.mul; local.set 0 | turn_comparison | 1 2 3 |
 ";
 
-/// The words choose the line's rewrite.
-fn is_choice(rt: &impl Abort, alloc: Global, line: &str) -> Result<(), Fail> {
-    let fields = fields_of(alloc, line)?;
-    let [text, rules, words, wanted] = fields.as_slice() else {
-        panic!(rt; "{line}");
-    };
+/// The same, with what is wanted to become of the number of operators behind the rules; the first word is of that, in its order.
+const WANTED_CHOICES: &str = "
+local.get 0; i32.const 0; i32.add; drop | add_zero drop_add_zero sub_zero commute | shrinks | 7 7 7 | 2 drop_add_zero
+local.get 0; i32.const 0; i32.add; drop | add_zero drop_add_zero sub_zero commute | keeps | 7 7 7 | 2 commute
+local.get 0; i32.const 0; i32.add; drop | add_zero drop_add_zero sub_zero commute | grows keeps | 0 1 4 | 1 sub_zero
+local.get 0; i32.const 0; i32.add; drop | add_zero drop_add_zero sub_zero commute | grows keeps | 1 1 4 | 2 commute
+local.get 0; i32.const 0; i32.add; drop | add_zero sub_zero commute | shrinks | 0 0 0 |
+local.get 0; i32.const 0; i32.add; drop | add_zero sub_zero commute | shrinks keeps | 5 5 5 | 2 commute
+local.get 0; i32.const 0; i32.add; drop | add_zero drop_add_zero | | 0 0 0 |
+# The second sum alone is made shorter.
+local.get 0; local.get 0; i32.add; local.get 0; i32.eqz; local.get 0; i32.eqz; i32.add; i32.eq; drop | double_to_product | shrinks | 0 0 1 | 7 double_to_product
+local.get 0; local.get 0; i32.add; local.get 0; i32.eqz; local.get 0; i32.eqz; i32.add; i32.eq; drop | double_to_product | keeps | 0 0 1 | 2 double_to_product
+";
+
+/// The words choose the line's rewrite, of those that do what is wanted.
+fn is_choice(
+    rt: &impl Abort,
+    alloc: Global,
+    line: &str,
+    fields: [&str; 4],
+    growths: &[Growth],
+) -> Result<(), Fail> {
+    let [text, rules, words, wanted] = fields;
     let mut numbers = Vec::new(alloc);
     for word in words.split_whitespace() {
         numbers.push(word.parse()?)?;
@@ -140,18 +208,39 @@ fn is_choice(rt: &impl Abort, alloc: Global, line: &str) -> Result<(), Fail> {
     };
     let rules = rules_of(alloc, rules)?;
     let mut found = String::new(alloc);
-    if let Some(rewrite) = choose(alloc, &mut Words::new(numbers), &body, &rules)? {
+    if let Some(rewrite) = choose(alloc, &mut Words::new(numbers), &body, &rules, growths)? {
         found = text_of(rt, alloc, rewrite)?;
     }
-    assert!(rt; found.as_str() == *wanted, "{line}: {found}");
+    assert!(rt; found.as_str() == wanted, "{line}: {found}");
     Ok(())
 }
 
 #[test]
 fn choices_are_told(rt: HostRuntime) -> Result<(), Fail> {
+    let alloc = rt.alloc();
     for line in CHOICES.trim().lines() {
         if !line.starts_with('#') {
-            is_choice(&rt, rt.alloc(), line)?;
+            let fields = fields_of(alloc, line)?;
+            let [text, rules, words, wanted] = fields.as_slice() else {
+                panic!(rt; "{line}");
+            };
+            is_choice(&rt, alloc, line, [*text, *rules, *words, *wanted], &ALL)?;
+        }
+    }
+    Ok(())
+}
+
+#[test]
+fn wanted_choices_are_told(rt: HostRuntime) -> Result<(), Fail> {
+    let alloc = rt.alloc();
+    for line in WANTED_CHOICES.trim().lines() {
+        if !line.starts_with('#') {
+            let fields = fields_of(alloc, line)?;
+            let [text, rules, growths, words, wanted] = fields.as_slice() else {
+                panic!(rt; "{line}");
+            };
+            let growths = growths_of(&rt, alloc, growths)?;
+            is_choice(&rt, alloc, line, [*text, *rules, *words, *wanted], &growths)?;
         }
     }
     Ok(())

@@ -5,7 +5,7 @@ ghost use Rattle.body_splices.specs.OwnBytes.{IsBodyIn};
 ghost use Rattle.body_rewrites.specs.Places.{HasItsTrees};
 
 use body_rewrites::{
-    Body, Rewrite, choose, reached_operators, rewrite_body, rewrites_of_body, trees_of,
+    Body, Growth, Rewrite, choose, reached_operators, rewrite_body, rewrites_of_body, trees_of,
 };
 use given_words::LentWords;
 use peephole_machine::IntegerType;
@@ -14,6 +14,9 @@ use std::alloc::Global;
 use std::process::Abort;
 use wasm_code::{Function, OperatorAndByteOffset, read_body};
 use wasm_types::{ModuleInfo, PrimitiveTypeInfo};
+
+/// All that a rewrite may do to the number of operators.
+const ALL: [Growth; 3] = [Growth::Shrinks, Growth::Keeps, Growth::Grows];
 
 /// The types of the function's locals.
 const LOCALS: [PrimitiveTypeInfo; 1] = [PrimitiveTypeInfo::I32];
@@ -62,7 +65,7 @@ fn refused_on(rt: &impl Abort, alloc: Global, body: &Body<'_>, call: &str) -> Op
     match call {
         "trees_of" => Some(false),
         "rewrites_of_body" => {
-            let list = rewrites_of_body(alloc, body, &rules);
+            let list = rewrites_of_body(alloc, body, &rules, &ALL);
             assert!(rt;
                 list.as_ref()
                     .is_ok_and(|list| list.as_slice() == [SWAP].as_slice())
@@ -71,7 +74,7 @@ fn refused_on(rt: &impl Abort, alloc: Global, body: &Body<'_>, call: &str) -> Op
             Some(list.is_err())
         }
         "reached_operators" => {
-            let marks = reached_operators(alloc, body, &rules);
+            let marks = reached_operators(alloc, body, &rules, &ALL);
             let wanted = [false, false, true, false, false];
             assert!(rt;
                 marks
@@ -82,7 +85,7 @@ fn refused_on(rt: &impl Abort, alloc: Global, body: &Body<'_>, call: &str) -> Op
             Some(marks.is_err())
         }
         "choose" => {
-            let choice = choose(alloc, &mut LentWords::new(&[]), body, &rules);
+            let choice = choose(alloc, &mut LentWords::new(&[]), body, &rules, &ALL);
             assert!(rt; choice == Ok(Some(SWAP)) || choice.is_err());
             Some(choice.is_err())
         }

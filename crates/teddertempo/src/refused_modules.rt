@@ -90,6 +90,7 @@ fn rewrite(alloc: Global, rule: Rule) -> Result<RewrittenModule, Reason> {
         rules: &rules,
         function: None,
         max_size: SUM.len(),
+        shrinking: false,
     };
     rewrite_with_seed(alloc, &SUM, 0, &scope, 1)
 }

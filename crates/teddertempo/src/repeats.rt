@@ -18,6 +18,7 @@ fn any<'a>(rules: &'a [Rule], max_size: usize) -> Scope<'a> {
         rules,
         function: None,
         max_size,
+        shrinking: false,
     }
 }
 
@@ -48,6 +49,7 @@ fn turns_operands(rt: HostRuntime) -> Result<(), Fail> {
         rules: &rules,
         function: Some(0),
         max_size: 32,
+        shrinking: false,
     };
     let thrice = mutate_with_seed(alloc, &SUM, 0, &named, 3)?.ok_or("a rewrite")?;
     assert_eq!(rt; thrice.bytes.as_slice(), TURNED.as_slice());
@@ -117,6 +119,7 @@ fn draws_another_that_fits(rt: HostRuntime) -> Result<(), Fail> {
                 rules: &rules,
                 function: only,
                 max_size,
+                shrinking: false,
             };
             let new = mutate_times(alloc, &SUM, Words::new(list), &scope, 1)?;
             let new = new.ok_or("a rewrite")?;

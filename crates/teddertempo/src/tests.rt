@@ -58,6 +58,22 @@ const DEBUG: &[u8] = b"\0asm\x01\0\0\0\x01\x07\x01\x60\x02\x7f\x7f\x01\x7f\x03\x
 /// A module with nothing in it.
 const EMPTY: &[u8] = b"\0asm\x01\0\0\0";
 
+/// A function that gives `i64.shl (i64.const 1) (i64.const 63)`: the constant in its place takes more bytes. It is exported.
+const LONG_VALUE: &[u8] = b"\0asm\x01\0\0\0\x01\x05\x01\x60\0\x01\x7e\x03\x02\x01\0\
+    \x07\x05\x01\x01\x61\0\0\x0a\x09\x01\x07\0\x42\x01\x42\x3f\x86\x0b";
+
+/// The same with the constant.
+const LONG_VALUE_FOLDED: &[u8] = b"\0asm\x01\0\0\0\x01\x05\x01\x60\0\x01\x7e\x03\x02\x01\0\
+    \x07\x05\x01\x01\x61\0\0\x0a\x0f\x01\x0d\0\x42\x80\x80\x80\x80\x80\x80\x80\x80\x80\x7f\x0b";
+
+/// A function on an i32 that compares the double of it with the double of whether it is 0, each written as a sum, and drops that.
+const DOUBLES: &[u8] = b"\0asm\x01\0\0\0\x01\x05\x01\x60\x01\x7f\0\x03\x02\x01\0\
+    \x0a\x12\x01\x10\0\x20\0\x20\0\x6a\x20\0\x45\x20\0\x45\x6a\x46\x1a\x0b";
+
+/// The same with the second double as a product.
+const DOUBLES_SHORT: &[u8] = b"\0asm\x01\0\0\0\x01\x05\x01\x60\x01\x7f\0\x03\x02\x01\0\
+    \x0a\x11\x01\x0f\0\x20\0\x20\0\x6a\x20\0\x45\x41\x02\x6c\x46\x1a\x0b";
+
 /// The front of a component.
 const COMPONENT: &[u8] = b"\0asm\x0d\0\x01\0";
 
@@ -124,7 +140,9 @@ a.wasm --list-rules | ArgumentConflict
 --rule fold --rule commute --not-rule fold | Rewrite 0 1 None 1 commute commute
 --rule fold --not-rule fold | Rewrite 0 1 None 0 none none
 --not-rule melt | InvalidValue
---rule commute --rule drop_add_zero --rule add_zero --shrink | Rewrite 0 18446744073709551615 None shrink 1 drop_add_zero drop_add_zero
+--shrink | Rewrite 0 18446744073709551615 None shrink all
+--rule commute --rule drop_add_zero --rule add_zero --shrink | Rewrite 0 18446744073709551615 None shrink 3 commute add_zero
+--shrink --rule fold --rule commute --not-rule fold | Rewrite 0 18446744073709551615 None shrink 1 commute commute
 --shrink --count 5 --rule drop_add_zero | Rewrite 0 5 None shrink 1 drop_add_zero drop_add_zero
 --rule melt | InvalidValue
 --rule fold --rule melt --rule commute | InvalidValue
@@ -343,6 +361,40 @@ const RUNS: &str = r#"
 ! stopped NoRule
 ! bytes      28         new 28
 
+--rule fold | LONG_VALUE | Ok(Whole)
+> LONG_VALUE_FOLDED
+
+--shrink | LONG_VALUE | Ok(Whole)
+> LONG_VALUE
+
+--shrink --function 0 --rule fold --stats | LONG_VALUE | Ok(Whole)
+> LONG_VALUE
+! functions  1          unreadable 0
+! stopped TooLong
+! bytes      37         new 37
+
+--shrink --max-size 36 | LONG_VALUE | Err(Nothing(Refused(TooLong)))
+
+--list --shrink | LONG_VALUE | Ok(Whole)
+> function 0      operator 2      rule fold
+
+--list --rule double_to_product | DOUBLES | Ok(Whole)
+> function 0      operator 2      rule double_to_product
+> function 0      operator 7      rule double_to_product
+
+--list --shrink --rule double_to_product | DOUBLES | Ok(Whole)
+> function 0      operator 7      rule double_to_product
+
+--shrink --rule double_to_product --reach | DOUBLES | Ok(Whole)
+> DOUBLES_SHORT
+! functions  1          unreadable 0
+! operators  11         rewritable 1
+! blocks     1          rewritable 1
+! integers   5          rewritable 1
+! function 0      operator 7      rule double_to_product
+! stopped NoRule
+! bytes      39         new 38
+
 --shrink --strip-debug --rule drop_add_zero | DEBUG | Ok(Whole)
 > SUM
 
@@ -397,6 +449,10 @@ fn module_of(name: &str) -> Option<&'static [u8]> {
         "SAME_AND_ZERO" => Some(SAME_AND_ZERO),
         "DEBUG" => Some(DEBUG),
         "EMPTY" => Some(EMPTY),
+        "LONG_VALUE" => Some(LONG_VALUE),
+        "LONG_VALUE_FOLDED" => Some(LONG_VALUE_FOLDED),
+        "DOUBLES" => Some(DOUBLES),
+        "DOUBLES_SHORT" => Some(DOUBLES_SHORT),
         "COMPONENT" => Some(COMPONENT),
         "TEXT" => Some(TEXT),
         "NO_ATOMIC" => Some(NO_ATOMIC),

@@ -48,7 +48,7 @@ refused_so asked bytes (Err e) a b = record { is = a; gives_up = b }
 -- ---- once
 
 abbrev pub once_with : (seed : ℕ) → List Rule → (room : ℕ) → Asked
-once_with seed rules room = record { seed = seed; scope = record { rules = rules; function = None; most = room }; count = 1 }
+once_with seed rules room = record { seed = seed; scope = record { rules = rules; function = None; most = room; shrinking = false }; count = 1 }
 
 pub once_same : (seed : ℕ) (rules : List Rule) (room : ℕ) → rules ≡ every_rule → once_with seed rules room ≡ once seed room
 once_same seed rules room e = ap (λ r. once_with seed r room) e
@@ -58,7 +58,7 @@ once_same seed rules room e = ap (λ r. once_with seed r room) e
 abbrev pub asked_with : Options → List Rule → Option ℕ → (most count : ℕ) → Asked
 asked_with options rules function most count = record {
   seed = options.seed;
-  scope = record { rules = rules; function = function; most = most };
+  scope = record { rules = rules; function = function; most = most; shrinking = false };
   count = count;
 }
 

@@ -14,7 +14,7 @@ use Rattle.teddertempo_c.specs.declared.report.Report.{Report}
 abbrev pub asked_of : Options → (size room : ℕ) → Asked
 asked_of options size room = record {
   seed = options.seed;
-  scope = record { rules = rules_of options; function = function_of options; most = most_of options size room };
+  scope = record { rules = rules_of options; function = function_of options; most = most_of options size room; shrinking = false };
   count = count_of options;
 }
 

@@ -42,7 +42,7 @@ pub record WritesFront (old : List ℕ) (result : ℕ) (new : List ℕ) : Type 0
 
 -- one rewrite, by any rule in any function, in so many bytes
 abbrev pub once : (seed room : ℕ) → Asked
-once seed room = record { seed = seed; scope = record { rules = every_rule; function = None; most = room }; count = 1 }
+once seed room = record { seed = seed; scope = record { rules = every_rule; function = None; most = room; shrinking = false }; count = 1 }
 
 -- The first `size` bytes were a module, and the first ones now, the result says how many, are that module rewritten once.
 pub record IsRewrittenOnce (seed size : ℕ) (old : List ℕ) (result : ℕ) (new : List ℕ) : Type 0 where

@@ -48,6 +48,7 @@ pub fn rewritten_once(
         rules,
         function: None,
         max_size: room,
+        shrinking: false,
     };
     rewritten(alloc, bytes, seed, &scope, 1)
 }
@@ -80,6 +81,7 @@ fn rewritten_by(
         rules,
         function: function_of(options),
         max_size: most_of(options, bytes.len(), room),
+        shrinking: false,
     };
     rewritten(alloc, bytes, options.seed, &scope, count_of(options))
 }

@@ -7,4 +7,4 @@ pub unreachable-requires : goal.unreachable-requires
 unreachable-requires g c =
     let chosen = rw c.in-Some.is at c.in_ok-rewrite.ensures.chosen in
     let none = rw c.in-None.is at c.in_ok-asks.ensures.none in
-    absurd (none (chosen_is_made (context_of c.args.body.now) _ c.args.rules.now c.args.body.now.operators.now c.in-Some.rewrite chosen))
+    absurd (none (chosen_is_made (context_of c.args.body.now) _ c.args.rules.now c.args.wanted.now c.args.body.now.operators.now c.in-Some.rewrite chosen))

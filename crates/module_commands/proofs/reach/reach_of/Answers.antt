@@ -7,11 +7,11 @@ use Rattle.module_commands.proofs.reach.reach_of.Goals as goal
 
 pub loop-n-init : goal.loop-n-init
 loop-n-init c =
-    told_nothing (AreOfEntries c.args.rules.now c.args.bytes.now c.args.info.now c.args.layout.now 0) c.nothing-reach.result refl c.nothing-reach.ensures
+    told_nothing (AreOfEntries c.args.scope.now c.args.bytes.now c.args.info.now c.args.layout.now 0) c.nothing-reach.result refl c.nothing-reach.ensures
 
 pub loop-n-preserved : goal.loop-n-preserved
 loop-n-preserved c =
-    told_more c.args.rules.now c.args.bytes.now c.args.info.now c.args.layout.now c.loop-n.n c.loop-n.reach c.in_ok-own.own c.plus-reach.result
+    told_more c.args.scope.now c.args.bytes.now c.args.info.now c.args.layout.now c.loop-n.n c.loop-n.reach c.in_ok-own.own c.plus-reach.result
     c.loop-n.invariant c.in_ok-own.ensures.reach c.plus-reach.ensures
 
 pub returns-clause-reach : goal.returns-clause-reach
@@ -20,4 +20,4 @@ returns-clause-reach c =
     let past : length entries ≤ c.loop-n.n = grind (arith, common_steps) in
     let within : c.loop-n.n ≤ length entries = grind (arith, common_steps) in
     let end : c.loop-n.n ≡ length entries = omega (arith, past, within) in
-    subst (λ (n : ℕ). Told (AreOfEntries c.args.rules.now c.args.bytes.now c.args.info.now c.args.layout.now n) c.loop-n.reach) end c.loop-n.invariant
+    subst (λ (n : ℕ). Told (AreOfEntries c.args.scope.now c.args.bytes.now c.args.info.now c.args.layout.now n) c.loop-n.reach) end c.loop-n.invariant

@@ -10,11 +10,11 @@ pub loop-rule-preserved : goal.loop-rule-preserved
 loop-rule-preserved c =
     elim c.if-is_wanted.branch [
       | then-is_wanted+in_ok-push w ↦
-          wanted_with (IsWanted (texts c.args.others.now) c.args.shrink) c.args.rules.now c.loop-rule.rule-index _ c.rule-item.result
+          wanted_with (IsWanted (texts c.args.others.now)) c.args.rules.now c.loop-rule.rule-index _ c.rule-item.result
           c.loop-rule.wanted.items c.if-is_wanted.wanted.items c.is_wanted.result c.loop-rule-test.true c.rule-item.is c.loop-rule.invariant
           c.is_wanted.ensures w.if-is_wanted.true (ap (λ v. v.items) w.wanted-is ∙ w.in_ok-push.ensures.items)
       | else-is_wanted w ↦
-          wanted_without (IsWanted (texts c.args.others.now) c.args.shrink) c.args.rules.now c.loop-rule.rule-index _ c.rule-item.result
+          wanted_without (IsWanted (texts c.args.others.now)) c.args.rules.now c.loop-rule.rule-index _ c.rule-item.result
           c.loop-rule.wanted.items c.if-is_wanted.wanted.items c.is_wanted.result c.loop-rule-test.true c.rule-item.is c.loop-rule.invariant
           c.is_wanted.ensures w.if-is_wanted.false (ap (λ v. v.items) w.wanted-is)
     ]

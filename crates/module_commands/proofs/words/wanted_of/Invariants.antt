@@ -6,4 +6,4 @@ use Rattle.module_commands.specs.Options.{IsWanted}
 use Rattle.module_commands.proofs.words.wanted_of.Given as goal
 
 abbrev pub invariant-loop-rule : goal.invariant-loop-rule
-invariant-loop-rule l = AreThose (IsWanted (texts l.others) l.shrink) (take l.rule-index l.rules) l.wanted.items
+invariant-loop-rule l = AreThose (IsWanted (texts l.others)) (take l.rule-index l.rules) l.wanted.items

@@ -1,12 +1,10 @@
 -- At the function that was read.
-use Rattle.std.proofs.Common.{Err, ◌≡◌, ◌<◌, ◌≤◌, List, ◌++◌, length, inr, ap, refl, subst, arith}
+use Rattle.std.proofs.Common.{Err, ◌≡◌, ◌<◌, ◌≤◌, ◌++◌, length, inr, ap, refl, arith}
 use Rattle.std.proofs.lemmas.Grind.{common_steps}
 use Rattle.peephole_machine.specs.Values.{context_in}
-use Rattle.rewrite_rules.specs.declared.rule.Rule.{Rule}
 use Rattle.body_rewrites.specs.Random.{AppendsByWords}
 use Rattle.module_rewrites.specs.Chosen.{by_lack, by_size}
-use Rattle.module_rewrites.specs.Mutated.{HasNoMutation}
-use Rattle.module_rewrites.specs.Scope.{Scope}
+use Rattle.module_rewrites.specs.Scope.{most_of, wanted_of}
 use Rattle.module_rewrites.specs.Writing.{WritesAt}
 use Rattle.module_rewrites.proofs.MutationLemmas.{behind_locals, body_in, mutates, nothing_here, refuses_writing, tried_writing, writes_here}
 use Rattle.module_rewrites.proofs.mutation.mutate_entry.Goals as goal
@@ -35,17 +33,13 @@ rewrite_function-requires g c =
 
 pub returns-in-Ok-None-clause-none : goal.returns-in-Ok-None-clause-none
 returns-in-Ok-None-clause-none g c =
-    let same : c.scope.inside.rules.now ≡ c.args.scope.now.rules = ap (λ (s : Scope). s.rules) c.scope.view_is in
-    subst (λ (rs : List Rule). HasNoMutation rs c.args.bytes.now c.args.info.now c.args.layout.now c.args.n) same
-    (nothing_here c.scope.inside.rules.now c.args.bytes.now c.args.info.now c.args.layout.now c.args.n c.in-Ok.function.locals.items
-    c.in-Ok.function.operators.items c.in-Ok.ensures.only (rw c.in-Ok-None.field-0-is at c.in-Ok-None.ensures.none))
+    nothing_here c.args.scope.now c.args.bytes.now c.args.info.now c.args.layout.now c.args.n c.in-Ok.function.locals.items
+    c.in-Ok.function.operators.items c.in-Ok.ensures.only (rw c.in-Ok-None.field-0-is at c.in-Ok-None.ensures.none)
 
 pub returns-in-Ok-None-clause-tried : goal.returns-in-Ok-None-clause-tried
 returns-in-Ok-None-clause-tried g c vain =
-    let same : c.scope.inside.rules.now ≡ c.args.scope.now.rules = ap (λ (s : Scope). s.rules) c.scope.view_is in
-    by_lack (subst (λ (rs : List Rule). HasNoMutation rs c.args.bytes.now c.args.info.now c.args.layout.now c.args.n) same
-    (nothing_here c.scope.inside.rules.now c.args.bytes.now c.args.info.now c.args.layout.now c.args.n c.in-Ok.function.locals.items
-    c.in-Ok.function.operators.items c.in-Ok.ensures.only (rw c.in-Ok-None.field-0-is at c.in-Ok-None.ensures.none)))
+    by_lack (nothing_here c.args.scope.now c.args.bytes.now c.args.info.now c.args.layout.now c.args.n c.in-Ok.function.locals.items
+    c.in-Ok.function.operators.items c.in-Ok.ensures.only (rw c.in-Ok-None.field-0-is at c.in-Ok-None.ensures.none))
     (rw c.in-Ok-None.field-0-is at c.in-Ok-None.ensures.kept)
 
 pub locals_of-locals-requires : goal.locals_of-locals-requires
@@ -66,13 +60,10 @@ returns-in-Ok-with_body-clause-mutated g c =
     let after = g.R.Rng.stream c.rewrite_function.new.generator in
     let contents = c.locals_of-locals.result.now ++ c.bytes.result.now in
     let more = c.deref.result.now in
-    let same : c.scope.inside.rules.now ≡ c.args.scope.now.rules = ap (λ (s : Scope). s.rules) c.scope.view_is in
-    let appended : AppendsByWords (context_in info f.locals.items) s c.args.scope.now.rules bytes f.operators.items made.rewrite c.new-body.result
-    c.rewrite_function.new.sink made.asks.items after =
-    subst (λ (rs : List Rule). AppendsByWords (context_in info f.locals.items) s rs bytes f.operators.items made.rewrite c.new-body.result
-    c.rewrite_function.new.sink made.asks.items after) same (rw c.in-Ok-Some.field-0-is at c.in-Ok-Some.ensures.rewritten) in (
+    let appended : AppendsByWords (context_in info f.locals.items) s c.args.scope.now.rules (wanted_of c.args.scope.now) bytes f.operators.items
+    made.rewrite c.new-body.result c.rewrite_function.new.sink made.asks.items after = rw c.in-Ok-Some.field-0-is at c.in-Ok-Some.ensures.rewritten in (
       c.function_index.ensures,
-      mutates c.args.scope.now.rules bytes info layout c.args.n f.locals.items f.expression f.operators.items c.entry_at.result
+      mutates c.args.scope.now bytes info layout c.args.n f.locals.items f.expression f.operators.items c.entry_at.result
           made.rewrite c.new-body.result c.rewrite_function.new.sink made.asks.items s after c.locals_of-locals.result.now c.bytes.result.now more
           c.in-Ok.ensures.read c.new-body.ensures appended c.entry_at.ensures c.locals_of-locals.ensures c.bytes.ensures c.deref.ensures.value
           c.own_bytes_stay.ensures c.rewritten_bytes_are_a_module.ensures c.in-Ok-with_body.new.items c.requires.module c.in-Ok-with_body.ensures.written,
@@ -89,22 +80,18 @@ returns-in-Ok-with_body-clause-chosen g c =
     let after = g.R.Rng.stream c.rewrite_function.new.generator in
     let contents = c.locals_of-locals.result.now ++ c.bytes.result.now in
     let more = c.deref.result.now in
-    let same : c.scope.inside.rules.now ≡ c.args.scope.now.rules = ap (λ (s : Scope). s.rules) c.scope.view_is in
-    let appended : AppendsByWords (context_in info f.locals.items) s c.args.scope.now.rules bytes f.operators.items made.rewrite c.new-body.result
-    c.rewrite_function.new.sink made.asks.items after =
-    subst (λ (rs : List Rule). AppendsByWords (context_in info f.locals.items) s rs bytes f.operators.items made.rewrite c.new-body.result
-    c.rewrite_function.new.sink made.asks.items after) same (rw c.in-Ok-Some.field-0-is at c.in-Ok-Some.ensures.rewritten) in
-    let writes : WritesAt c.args.scope.now.rules bytes info layout s c.args.n made.rewrite contents more after =
-    writes_here c.args.scope.now.rules bytes info layout c.args.n f.locals.items f.expression f.operators.items c.entry_at.result
+    let appended : AppendsByWords (context_in info f.locals.items) s c.args.scope.now.rules (wanted_of c.args.scope.now) bytes f.operators.items
+    made.rewrite c.new-body.result c.rewrite_function.new.sink made.asks.items after = rw c.in-Ok-Some.field-0-is at c.in-Ok-Some.ensures.rewritten in
+    let writes : WritesAt c.args.scope.now bytes info layout s c.args.n made.rewrite contents more after =
+    writes_here c.args.scope.now bytes info layout c.args.n f.locals.items f.expression f.operators.items c.entry_at.result
     made.rewrite c.new-body.result c.rewrite_function.new.sink made.asks.items s after c.locals_of-locals.result.now c.bytes.result.now more
     c.in-Ok.ensures.read c.new-body.ensures appended c.entry_at.ensures c.locals_of-locals.ensures c.bytes.ensures c.deref.ensures.value in
     let sized : c.len.result ≡ length c.in-Ok-with_body.new.items = grind (arith, common_steps) in
-    let most = ap (λ (s : Scope). s.most) c.scope.view_is in
-    let fits : length c.in-Ok-with_body.new.items ≤ c.args.scope.now.most = omega (arith, sized, most, c.if-len-scope.false) in
+    let fits : length c.in-Ok-with_body.new.items ≤ most_of c.args.scope.now bytes = omega (arith, sized, c.most.ensures, c.if-len-most.false) in
     record { contents = contents; more = more; writes = writes; made = c.in-Ok-with_body.ensures.written; fits = fits }
 
-pub returns-then-len-scope-clause-refused : goal.returns-then-len-scope-clause-refused
-returns-then-len-scope-clause-refused g c =
+pub returns-then-len-most-clause-refused : goal.returns-then-len-most-clause-refused
+returns-then-len-most-clause-refused g c =
     let bytes = c.args.bytes.now in
     let info = c.args.info.now in
     let layout = c.args.layout.now in
@@ -114,18 +101,14 @@ returns-then-len-scope-clause-refused g c =
     let after = g.R.Rng.stream c.rewrite_function.new.generator in
     let contents = c.locals_of-locals.result.now ++ c.bytes.result.now in
     let more = c.deref.result.now in
-    let same : c.scope.inside.rules.now ≡ c.args.scope.now.rules = ap (λ (s : Scope). s.rules) c.scope.view_is in
-    let appended : AppendsByWords (context_in info f.locals.items) s c.args.scope.now.rules bytes f.operators.items made.rewrite c.new-body.result
-    c.rewrite_function.new.sink made.asks.items after =
-    subst (λ (rs : List Rule). AppendsByWords (context_in info f.locals.items) s rs bytes f.operators.items made.rewrite c.new-body.result
-    c.rewrite_function.new.sink made.asks.items after) same (rw c.in-Ok-Some.field-0-is at c.in-Ok-Some.ensures.rewritten) in
-    let writes : WritesAt c.args.scope.now.rules bytes info layout s c.args.n made.rewrite contents more after =
-    writes_here c.args.scope.now.rules bytes info layout c.args.n f.locals.items f.expression f.operators.items c.entry_at.result
+    let appended : AppendsByWords (context_in info f.locals.items) s c.args.scope.now.rules (wanted_of c.args.scope.now) bytes f.operators.items
+    made.rewrite c.new-body.result c.rewrite_function.new.sink made.asks.items after = rw c.in-Ok-Some.field-0-is at c.in-Ok-Some.ensures.rewritten in
+    let writes : WritesAt c.args.scope.now bytes info layout s c.args.n made.rewrite contents more after =
+    writes_here c.args.scope.now bytes info layout c.args.n f.locals.items f.expression f.operators.items c.entry_at.result
     made.rewrite c.new-body.result c.rewrite_function.new.sink made.asks.items s after c.locals_of-locals.result.now c.bytes.result.now more
     c.in-Ok.ensures.read c.new-body.ensures appended c.entry_at.ensures c.locals_of-locals.ensures c.bytes.ensures c.deref.ensures.value in
     let sized : c.len.result ≡ length c.in-Ok-with_body.new.items = grind (arith, common_steps) in
-    let most = ap (λ (s : Scope). s.most) c.scope.view_is in
-    let long : c.args.scope.now.most < length c.in-Ok-with_body.new.items = omega (arith, sized, most, c.if-len-scope.true) in
+    let long : most_of c.args.scope.now bytes < length c.in-Ok-with_body.new.items = omega (arith, sized, c.most.ensures, c.if-len-most.true) in
     record {
       s = s;
       rewrite = made.rewrite;
@@ -136,8 +119,8 @@ returns-then-len-scope-clause-refused g c =
       holds = record { new = c.in-Ok-with_body.new.items; is = c.in-Ok-with_body.ensures.written; long = long };
     }
 
-pub returns-then-len-scope-clause-tried : goal.returns-then-len-scope-clause-tried
-returns-then-len-scope-clause-tried g c vain =
+pub returns-then-len-most-clause-tried : goal.returns-then-len-most-clause-tried
+returns-then-len-most-clause-tried g c vain =
     let bytes = c.args.bytes.now in
     let info = c.args.info.now in
     let layout = c.args.layout.now in
@@ -147,18 +130,14 @@ returns-then-len-scope-clause-tried g c vain =
     let after = g.R.Rng.stream c.rewrite_function.new.generator in
     let contents = c.locals_of-locals.result.now ++ c.bytes.result.now in
     let more = c.deref.result.now in
-    let same : c.scope.inside.rules.now ≡ c.args.scope.now.rules = ap (λ (s : Scope). s.rules) c.scope.view_is in
-    let appended : AppendsByWords (context_in info f.locals.items) s c.args.scope.now.rules bytes f.operators.items made.rewrite c.new-body.result
-    c.rewrite_function.new.sink made.asks.items after =
-    subst (λ (rs : List Rule). AppendsByWords (context_in info f.locals.items) s rs bytes f.operators.items made.rewrite c.new-body.result
-    c.rewrite_function.new.sink made.asks.items after) same (rw c.in-Ok-Some.field-0-is at c.in-Ok-Some.ensures.rewritten) in
-    let writes : WritesAt c.args.scope.now.rules bytes info layout s c.args.n made.rewrite contents more after =
-    writes_here c.args.scope.now.rules bytes info layout c.args.n f.locals.items f.expression f.operators.items c.entry_at.result
+    let appended : AppendsByWords (context_in info f.locals.items) s c.args.scope.now.rules (wanted_of c.args.scope.now) bytes f.operators.items
+    made.rewrite c.new-body.result c.rewrite_function.new.sink made.asks.items after = rw c.in-Ok-Some.field-0-is at c.in-Ok-Some.ensures.rewritten in
+    let writes : WritesAt c.args.scope.now bytes info layout s c.args.n made.rewrite contents more after =
+    writes_here c.args.scope.now bytes info layout c.args.n f.locals.items f.expression f.operators.items c.entry_at.result
     made.rewrite c.new-body.result c.rewrite_function.new.sink made.asks.items s after c.locals_of-locals.result.now c.bytes.result.now more
     c.in-Ok.ensures.read c.new-body.ensures appended c.entry_at.ensures c.locals_of-locals.ensures c.bytes.ensures c.deref.ensures.value in
     let sized : c.len.result ≡ length c.in-Ok-with_body.new.items = grind (arith, common_steps) in
-    let most = ap (λ (s : Scope). s.most) c.scope.view_is in
-    let long : c.args.scope.now.most < length c.in-Ok-with_body.new.items = omega (arith, sized, most, c.if-len-scope.true) in
+    let long : most_of c.args.scope.now bytes < length c.in-Ok-with_body.new.items = omega (arith, sized, c.most.ensures, c.if-len-most.true) in
     by_size (record {
       rewrite = made.rewrite;
       contents = contents;
@@ -178,13 +157,10 @@ returns-clause-refused g c =
     let after = g.R.Rng.stream c.rewrite_function.new.generator in
     let contents = c.locals_of-locals.result.now ++ c.bytes.result.now in
     let more = c.deref.result.now in
-    let same : c.scope.inside.rules.now ≡ c.args.scope.now.rules = ap (λ (s : Scope). s.rules) c.scope.view_is in
-    let appended : AppendsByWords (context_in info f.locals.items) s c.args.scope.now.rules bytes f.operators.items made.rewrite c.new-body.result
-    c.rewrite_function.new.sink made.asks.items after =
-    subst (λ (rs : List Rule). AppendsByWords (context_in info f.locals.items) s rs bytes f.operators.items made.rewrite c.new-body.result
-    c.rewrite_function.new.sink made.asks.items after) same (rw c.in-Ok-Some.field-0-is at c.in-Ok-Some.ensures.rewritten) in
-    let writes : WritesAt c.args.scope.now.rules bytes info layout s c.args.n made.rewrite contents more after =
-    writes_here c.args.scope.now.rules bytes info layout c.args.n f.locals.items f.expression f.operators.items c.entry_at.result
+    let appended : AppendsByWords (context_in info f.locals.items) s c.args.scope.now.rules (wanted_of c.args.scope.now) bytes f.operators.items
+    made.rewrite c.new-body.result c.rewrite_function.new.sink made.asks.items after = rw c.in-Ok-Some.field-0-is at c.in-Ok-Some.ensures.rewritten in
+    let writes : WritesAt c.args.scope.now bytes info layout s c.args.n made.rewrite contents more after =
+    writes_here c.args.scope.now bytes info layout c.args.n f.locals.items f.expression f.operators.items c.entry_at.result
     made.rewrite c.new-body.result c.rewrite_function.new.sink made.asks.items s after c.locals_of-locals.result.now c.bytes.result.now more
     c.in-Ok.ensures.read c.new-body.ensures appended c.entry_at.ensures c.locals_of-locals.ensures c.bytes.ensures c.deref.ensures.value in
     refuses_writing c.args.scope.now bytes info layout c.args.n s after made.rewrite contents more writes c.in-Err-with_body.e
@@ -201,13 +177,10 @@ returns-clause-tried g c vain =
     let after = g.R.Rng.stream c.rewrite_function.new.generator in
     let contents = c.locals_of-locals.result.now ++ c.bytes.result.now in
     let more = c.deref.result.now in
-    let same : c.scope.inside.rules.now ≡ c.args.scope.now.rules = ap (λ (s : Scope). s.rules) c.scope.view_is in
-    let appended : AppendsByWords (context_in info f.locals.items) s c.args.scope.now.rules bytes f.operators.items made.rewrite c.new-body.result
-    c.rewrite_function.new.sink made.asks.items after =
-    subst (λ (rs : List Rule). AppendsByWords (context_in info f.locals.items) s rs bytes f.operators.items made.rewrite c.new-body.result
-    c.rewrite_function.new.sink made.asks.items after) same (rw c.in-Ok-Some.field-0-is at c.in-Ok-Some.ensures.rewritten) in
-    let writes : WritesAt c.args.scope.now.rules bytes info layout s c.args.n made.rewrite contents more after =
-    writes_here c.args.scope.now.rules bytes info layout c.args.n f.locals.items f.expression f.operators.items c.entry_at.result
+    let appended : AppendsByWords (context_in info f.locals.items) s c.args.scope.now.rules (wanted_of c.args.scope.now) bytes f.operators.items
+    made.rewrite c.new-body.result c.rewrite_function.new.sink made.asks.items after = rw c.in-Ok-Some.field-0-is at c.in-Ok-Some.ensures.rewritten in
+    let writes : WritesAt c.args.scope.now bytes info layout s c.args.n made.rewrite contents more after =
+    writes_here c.args.scope.now bytes info layout c.args.n f.locals.items f.expression f.operators.items c.entry_at.result
     made.rewrite c.new-body.result c.rewrite_function.new.sink made.asks.items s after c.locals_of-locals.result.now c.bytes.result.now more
     c.in-Ok.ensures.read c.new-body.ensures appended c.entry_at.ensures c.locals_of-locals.ensures c.bytes.ensures c.deref.ensures.value in
     tried_writing c.args.scope.now bytes info layout c.args.n s after made.rewrite contents more writes c.in-Err-with_body.e

@@ -28,20 +28,20 @@ returns-then-not-is_in_vain-clause-mutated g c =
 pub loop-n-preserved : goal.loop-n-preserved
 loop-n-preserved g c =
     let Outcome : Type 0 = Result (Option Mutated) MutationError in
-    let rules = c.args.scope.now.rules in
+    let scope = c.args.scope.now in
     let bytes = c.args.bytes.now in
     let info = c.args.info.now in
     let layout = c.args.layout.now in
     let old = c.loop-n.vain in
     let made = c.mutate_entry-made.result in
     let vain : IsInVain made = c.is_in_vain.ensures.0 c.if-not-is_in_vain.false in
-    let none = subst (λ (r : Outcome). IfOk r (λ o. IfNone o (NoneWithin rules bytes info layout c.args.from c.loop-n.n
-    × HasNoMutation rules bytes info layout c.loop-n.n))) (sym c.last-vain.ensures)
-    (none_of_last old made (NoneWithin rules bytes info layout c.args.from c.loop-n.n) (HasNoMutation rules bytes info layout c.loop-n.n)
+    let none = subst (λ (r : Outcome). IfOk r (λ o. IfNone o (NoneWithin scope bytes info layout c.args.from c.loop-n.n
+    × HasNoMutation scope bytes info layout c.loop-n.n))) (sym c.last-vain.ensures)
+    (none_of_last old made (NoneWithin scope bytes info layout c.args.from c.loop-n.n) (HasNoMutation scope bytes info layout c.loop-n.n)
     c.loop-n.invariant.2 c.mutate_entry-made.ensures.none) in (
       omega (arith, c.loop-n-test.true),
       subst (λ (r : Outcome). IsInVain r) (sym c.last-vain.ensures) (vain_of_last old made c.loop-n.invariant.1 vain),
-      none_map c.last-vain.result (λ both. none_next rules bytes info layout c.args.from c.loop-n.n both.0 both.1) none,
+      none_map c.last-vain.result (λ both. none_next scope bytes info layout c.args.from c.loop-n.n both.0 both.1) none,
       subst (λ (r : Outcome). IfErr r (RefusesWithin c.args.scope.now bytes info layout c.args.from (c.loop-n.n + 1))) (sym c.last-vain.ensures)
           (refused_of_last old made (RefusesWithin c.args.scope.now bytes info layout c.args.from c.loop-n.n)
           (RefusesEntry c.args.scope.now bytes info layout c.loop-n.n) (RefusesWithin c.args.scope.now bytes info layout c.args.from (c.loop-n.n + 1))
@@ -55,5 +55,5 @@ pub returns-clause-none : goal.returns-clause-none
 returns-clause-none g c =
     let past : c.args.to ≤ c.loop-n.n = grind (arith, common_steps) in
     none_map c.loop-n.vain
-    (none_to c.args.scope.now.rules c.args.bytes.now c.args.info.now c.args.layout.now c.args.from c.loop-n.n c.args.to past)
+    (none_to c.args.scope.now c.args.bytes.now c.args.info.now c.args.layout.now c.args.from c.loop-n.n c.args.to past)
     c.loop-n.invariant.2

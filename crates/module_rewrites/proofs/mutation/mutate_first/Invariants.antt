@@ -10,6 +10,6 @@ abbrev pub invariant-loop-n : goal.invariant-loop-n
 invariant-loop-n g l =
     (l.n ≤ l.to)
     × IsInVain l.vain
-    × IfOk l.vain (λ o. IfNone o (NoneWithin l.scope.rules l.bytes l.info l.layout l.from l.n))
+    × IfOk l.vain (λ o. IfNone o (NoneWithin l.scope l.bytes l.info l.layout l.from l.n))
     × IfErr l.vain (RefusesWithin l.scope l.bytes l.info l.layout l.from l.n)
     × AllInVain l.scope l.bytes l.info l.layout l.from l.n (g.R.Rng.stream l.initial.generator) (g.R.Rng.stream l.generator)

@@ -9,7 +9,7 @@ use Rattle.module_rewrites.proofs.mutation.mutate_function.Goals as goal
 pub returns-clause-none : goal.returns-clause-none
 returns-clause-none g c =
     none_map c.mutate_again.result
-    (none_at c.args.scope.now.rules c.args.bytes.now c.args.info.now c.args.layout.now c.args.function c.layout.inside.imported_functions
+    (none_at c.args.scope.now c.args.bytes.now c.args.info.now c.args.layout.now c.args.function c.layout.inside.imported_functions
     (c.args.function - c.layout.inside.imported_functions) (ap (λ (l : Layout). l.imported_functions) c.layout.view_is) refl)
     c.mutate_again.ensures.none
 

@@ -31,10 +31,10 @@ pub returns-clause-none : goal.returns-clause-none
 returns-clause-none g c =
     let sized : c.len-count.result ≡ length c.layout.inside.entries.items = grind (arith, common_steps) in
     let counted = sized ∙ ap (λ (l : Layout). length l.entries) c.layout.view_is in
-    let Behind = NoneWithin c.args.scope.now.rules c.args.bytes.now c.args.info.now c.args.layout.now c.args.first c.len-count.result in
-    let Before = NoneWithin c.args.scope.now.rules c.args.bytes.now c.args.info.now c.args.layout.now 0 c.args.first in
+    let Behind = NoneWithin c.args.scope.now c.args.bytes.now c.args.info.now c.args.layout.now c.args.first c.len-count.result in
+    let Before = NoneWithin c.args.scope.now c.args.bytes.now c.args.info.now c.args.layout.now 0 c.args.first in
     none_map c.last.result (λ both.
-    none_in_all c.args.scope.now.rules c.args.bytes.now c.args.info.now c.args.layout.now c.args.first c.len-count.result counted both.0 both.1)
+    none_in_all c.args.scope.now c.args.bytes.now c.args.info.now c.args.layout.now c.args.first c.len-count.result counted both.0 both.1)
     (subst (λ (r : Result (Option Mutated) MutationError). IfOk r (λ o. IfNone o (Behind × Before))) (sym c.last.ensures)
     (none_of_last c.mutate_first-behind.result c.mutate_first-before.result Behind Before c.mutate_first-behind.ensures.none
     c.mutate_first-before.ensures.none))
@@ -44,7 +44,7 @@ returns-clause-mutated g c =
     let vain = vain_of_last c.mutate_first-behind.result c.mutate_first-before.result (c.is_in_vain.ensures.0 c.if-not-is_in_vain.false)
     (c.is_in_vain-2.ensures.0 c.if-not-is_in_vain-2.false) in
     nothing_made c.last.result (λ (m : Mutated).
-    MutatesOne c.args.scope.now.rules c.args.bytes.now c.args.info.now c.args.layout.now m.function m.rewrite m.bytes.items)
+    MutatesOne c.args.scope.now c.args.bytes.now c.args.info.now c.args.layout.now m.function m.rewrite m.bytes.items)
     (subst (λ (r : Result (Option Mutated) MutationError). IsInVain r) (sym c.last.ensures) vain)
 
 pub returns-clause-refused : goal.returns-clause-refused

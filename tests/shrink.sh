@@ -1,0 +1,122 @@
+#!/usr/bin/env bash
+# Makes modules larger, and smaller again by --shrink. Fails where a module of tests/modules with one rewrite by a rule isn't shrunk to
+# at most the bytes that it had, or to one that wasm-validate doesn't accept; so of each rule, of each module where it applies, as it
+# is and as --shrink leaves it (so that nothing else that is shrunk makes up for the rewrite), under some seeds (3, or the number that
+# is given). Rules that nothing turns back are named below; one that is named and left no larger module is a failure too.
+#
+# With a number of rewrites behind that, each module is rewritten so often by all rules but through_global and then shrunk, and a line
+# says its bytes at first, behind the rewrites and shrunk, the last as a part of the first, how many rewrites shrank it and in how
+# many seconds, and why there are no more. It fails where the shrunk one isn't accepted, or gives another answer than the module as it
+# was. The last line is `N passed, N failed`.
+#
+# Usage: shrink.sh [SEEDS [REWRITES [PROGRAM]]]. No rewrites where no number is given; with 0 seeds the rules are left out. The program
+# is teddertempo; where neither an argument nor the variable TEDDERTEMPO names one, it is the one that tests/modules.sh built. Needs
+# wabt (spectest-interp, wasm-interp, wasm-validate).
+set -euo pipefail
+seeds=${1:-3}
+rewrites=${2:-0}
+program=${3:-${TEDDERTEMPO:-crates/teddertempo/out/teddertempo}}
+cd "$(dirname "$0")/.."
+program=$(realpath "$program")
+source tests/modules/calls.sh
+
+# The rules that no rule turns back, each with the reason.
+declare -A kept=()
+
+work=$(mktemp -d)
+trap 'rm -rf "$work"' EXIT
+passed=0
+failed=0
+
+pass() { passed=$((passed + 1)); }
+
+fail() {
+    failed=$((failed + 1))
+    echo "$1: $2" >&2
+}
+
+size_of() { stat -c %s "$1"; }
+
+# Shrinks a module to shrunk.wasm. Whether wasm-validate accepts that.
+shrink() {
+    local case=$1 path=$2
+    if ! "$program" --shrink --stats < "$path" > "$work/shrunk.wasm" 2> "$work/notes"; then
+        fail "$case" "$(tail -1 "$work/notes" | head -c 300)"
+        return 1
+    fi
+    if ! wasm-validate --enable-threads "$work/shrunk.wasm" > "$work/message" 2>&1; then
+        fail "$case" "not valid: $(head -c 300 "$work/message")"
+        return 1
+    fi
+}
+
+# Rewrites the module of the path once by the rule, shrinks that, and compares the bytes.
+try_rule() {
+    local case=$1 path=$2 rule=$3 seed=$4 status=0 old new
+    "$program" --seed "$seed" --rule "$rule" < "$path" > "$work/one.wasm" 2> "$work/message" || status=$?
+    if [ "$status" -eq 2 ]; then return; fi
+    if [ "$status" -ne 0 ]; then
+        fail "$case" "status $status: $(head -c 300 "$work/message")"
+        return
+    fi
+    if ! shrink "$case" "$work/one.wasm"; then return; fi
+    old=$(size_of "$path")
+    new=$(size_of "$work/shrunk.wasm")
+    if [ "$new" -le "$old" ]; then
+        pass
+    elif [ -n "${kept[$rule]:-}" ]; then
+        larger[$rule]=1
+        pass
+    else
+        fail "$case" "$new bytes, where $old were"
+    fi
+}
+
+modules=$(cd tests/modules && echo *.wasm)
+modules=${modules//.wasm/}
+declare -A larger=()
+if [ "$seeds" -gt 0 ]; then
+    for name in $modules; do
+        shrink "$name" "tests/modules/$name.wasm"
+        mv "$work/shrunk.wasm" "$work/$name-shrunk.wasm"
+        for rule in $("$program" --list-rules | sed -n 's/^[0-9]* *\([a-z_0-9]*\) .*/\1/p'); do
+            for seed in $(seq 0 $((seeds - 1))); do
+                try_rule "$name-$rule-$seed" "tests/modules/$name.wasm" "$rule" "$seed"
+                try_rule "$name-shrunk-$rule-$seed" "$work/$name-shrunk.wasm" "$rule" "$seed"
+            done
+        done
+    done
+    for rule in "${!kept[@]}"; do
+        if [ -n "${larger[$rule]:-}" ]; then pass; else fail "$rule" "left no larger module"; fi
+    done
+fi
+
+if [ "$rewrites" -gt 0 ]; then
+    for name in $modules; do
+        commands_of "tests/modules/$(source_of "$name").calls" > "$work/calls.json"
+        cp "tests/modules/$name.wasm" "$work/module.wasm"
+        answers_of "$work" > "$work/wanted"
+        if ! "$program" --seed 1 --count "$rewrites" --not-rule through_global < "tests/modules/$name.wasm" > "$work/many.wasm" 2> "$work/message"
+        then
+            fail "$name" "$(tail -1 "$work/message" | head -c 300)"
+            continue
+        fi
+        start=$(date +%s.%N)
+        if ! shrink "$name" "$work/many.wasm"; then continue; fi
+        seconds=$(echo "$(date +%s.%N) - $start" | bc)
+        cp "$work/shrunk.wasm" "$work/module.wasm"
+        answers_of "$work" > "$work/answers"
+        if cmp -s "$work/answers" "$work/wanted"; then
+            pass
+        else
+            fail "$name" "other answers: $(diff "$work/wanted" "$work/answers" | head -3 | tr '\n' ' ')"
+        fi
+        old=$(size_of "tests/modules/$name.wasm")
+        new=$(size_of "$work/shrunk.wasm")
+        made=$(grep -c '^function [0-9]* *operator [0-9]* *rule ' "$work/notes" || true)
+        stopped=$(sed -n 's/^stopped //p' "$work/notes")
+        echo "$name: bytes $old $(size_of "$work/many.wasm") $new, $(echo "scale=2; $new / $old" | bc), $made in $seconds s, $stopped"
+    done
+fi
+echo "$passed passed, $failed failed"
+[ "$failed" -eq 0 ]
