@@ -14,7 +14,9 @@ use crate::failure::Failure;
 use crate::options::Options;
 use crate::showing::Shower;
 use module_rewrites::laws::rewritten_modules_do_as_before;
-use module_rewrites::{Reason, RewrittenModule, Watch, rewrite_watched};
+use module_rewrites::{Reason, RewrittenModule, Watch, rewrite_module};
+use rand::rngs::StdRng;
+use rand_core::SeedableRng;
 use std::alloc::Global;
 use wasm_sections::{read_sections, without_debug};
 
@@ -117,7 +119,7 @@ fn left(alloc: Global, bytes: &[u8], options: &Options, reason: Reason) -> Resul
 /// is. Where the options say so, its custom sections that name places in the code are dropped then. What is shown of the rewrites
 /// where the options ask for it; `watch` sees each of them, too.
 ///
-/// `Nothing` as `rewrite_watched` refuses, but where the module is written as it is.
+/// `Nothing` as `rewrite_module` refuses, but where the module is written as it is.
 #[tactic(auto, using(crate::proofs::OutcomeLemmas::rewritten_outcome, crate::proofs::OutcomeLemmas::reason_in, crate::proofs::OutcomeLemmas::gives_up_in))]
 pub fn rewritten<P: Watch + Drop>(
     alloc: Global,
@@ -132,10 +134,11 @@ pub fn rewritten<P: Watch + Drop>(
     ensures fails { IfErr result (FailsToMake options.now bytes.now) }
 {
     let mut shower = Shower::new(alloc, options.show, watch);
-    match rewrite_watched(
+    let mut generator = StdRng::seed_from_u64(options.seed);
+    match rewrite_module(
         alloc,
         bytes,
-        options.seed,
+        &mut generator,
         &options.scope(),
         options.count,
         &mut shower,

@@ -7,11 +7,13 @@ ghost use Rattle.teddertempo_c.specs.Writes.{Fits, IsRefusedFor, IsRewrittenBy, 
 
 use crate::options::{Options, are_bad, count_of, function_of, most_of, rules_of};
 use crate::outcome::{Outcome, Refusal, refusal_by};
-use module_rewrites::{Reason, RewrittenModule, Scope, rewrite_with_seed};
+use module_rewrites::{Reason, RewrittenModule, Scope, Unwatched, rewrite_module};
+use rand::rngs::StdRng;
+use rand_core::SeedableRng;
 use rewrite_rules::Rule;
 use std::alloc::Global;
 
-// The module rewritten as `rewrite_with_seed` rewrites it: it has bytes, and no more than it may. Condition: `count` is not 0.
+// The module rewritten with the generator of the seed: it has bytes, and no more than it may. Condition: `count` is not 0.
 fn rewritten(
     alloc: Global,
     bytes: &[u8],
@@ -27,7 +29,9 @@ fn rewritten(
     ensures refused { IfErr result (IsRefusedFor
         (record { seed = seed; scope = scope.now; count = count }) bytes.now) }
 {
-    rewrite_with_seed(alloc, bytes, seed, scope, count)
+    let mut generator = StdRng::seed_from_u64(seed);
+    let mut unwatched = Unwatched;
+    rewrite_module(alloc, bytes, &mut generator, scope, count, &mut unwatched)
 }
 
 /// The module rewritten once by these rules, in any function, to at most `room` bytes.
