@@ -9,4 +9,5 @@ mod StructureExamples
 pub mod MutatesLemmas
 pub mod EntryWordsLemmas
 pub mod AttemptLemmas
+pub mod DoseLemmas
 pub mod OperatorCodeLemmas

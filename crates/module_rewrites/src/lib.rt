@@ -3,6 +3,7 @@
 #![tactic(auto)]
 
 mod attempt;
+mod dose;
 mod drawing;
 mod function;
 pub mod laws;
@@ -15,6 +16,7 @@ mod times;
 mod watch;
 
 pub use attempt::{Reason, chosen_entries, index_of};
+pub use dose::{Dose, count_of_dose};
 pub use function::{BodyError, FunctionBody, FunctionError, read_function};
 pub use mutation::MutationError;
 pub use operator_code::{Family, OperatorCode};
