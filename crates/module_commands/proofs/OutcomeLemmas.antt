@@ -88,6 +88,7 @@ counting_fails options scope bytes reason is h reading = record {
     kept (NoFunction f) w = refl
     kept (UnknownImport e) w = refl
     kept (Refused e) w = refl
+
     other : (r : Reason) → IsOfReading r → IsForSize r → ⊥
     other NoRule w size = size
     other NoOwnFunction w size = size

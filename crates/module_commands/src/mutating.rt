@@ -151,14 +151,7 @@ pub fn rewritten<P: Watch + Drop>(
     };
     let mut shower = Shower::new(alloc, options.show, watch);
     let mut generator = StdRng::seed_from_u64(options.seed);
-    match rewrite_module(
-        alloc,
-        bytes,
-        &mut generator,
-        &scope,
-        count,
-        &mut shower,
-    ) {
+    match rewrite_module(alloc, bytes, &mut generator, &scope, count, &mut shower) {
         Ok(new) => {
             let shown = shower.shown()?;
             let module = finished(alloc, options.strip_debug, new)?;

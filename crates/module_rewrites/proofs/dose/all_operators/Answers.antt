@@ -11,7 +11,7 @@ returns-in-Ok-operators_of-clause-all c =
     let start = c.in-Ok-chosen_entries.entries.start in
     let end = c.in-Ok-chosen_entries.entries.end in
     let may : AreChosen c.scope.inside.function layout start end =
-        record { chosen = c.in-Ok-chosen_entries.ensures.chosen; named = c.in-Ok-chosen_entries.ensures.named } in
+    record { chosen = c.in-Ok-chosen_entries.ensures.chosen; named = c.in-Ok-chosen_entries.ensures.named } in
     record {
       info = c.in-Ok.module.info;
       layout = layout;

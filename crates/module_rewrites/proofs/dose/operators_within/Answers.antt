@@ -24,9 +24,9 @@ returns-in-Ok-clause-own c only are =
 pub returns-else-is_memory-clause-own : goal.returns-else-is_memory-clause-own
 returns-else-is_memory-clause-own c only are =
     let cannot : ¬ (CanRead c.args.bytes.now c.args.info.now c.args.layout.now c.args.n) = λ can.
-        let memory = c.is_memory.ensures.1 (c.in-Err.ensures.only can.locals can.expression can.operators can.is) in
-        let other = c.if-is_memory.false in
-        absurd cc in
+    let memory = c.is_memory.ensures.1 (c.in-Err.ensures.only can.locals can.expression can.operators can.is) in
+    let other = c.if-is_memory.false in
+    absurd cc in
     record {
       read = λ chosen locals expression operators is.
           absurd (cannot (record { locals = locals; expression = expression; operators = operators; is = is }));
