@@ -70,6 +70,8 @@ struct teddertempo_options {
     uint64_t function;    /* the only function that is rewritten, imported ones counted first; or TEDDERTEMPO_ANY_FUNCTION */
     uint64_t count;       /* at most so many rewrites, one after another, each of which takes time; 0 counts as 1 */
     uint64_t max_growth;  /* the new module has at most so many bytes more than the old one; or TEDDERTEMPO_ANY_GROWTH */
+    uint64_t percent;     /* where it isn't 0, in place of count: at most so many rewrites as this percentage of the operators, each
+                             end counted, of the functions that may be rewritten and can be read, rounded down, at least 1 */
 };
 
 struct teddertempo_report {
@@ -77,7 +79,7 @@ struct teddertempo_report {
     uint32_t outcome;     /* one of the values above */
     uint32_t rule;        /* the rule of the last rewrite; 0 where none was made, which is a rule too: see made */
     uint64_t function;    /* the function of it, imported ones counted first; 0 where none was made */
-    uint64_t made;        /* how many rewrites were made: fewer than count where no rule applies any more, or none fits */
+    uint64_t made;        /* how many rewrites were made: fewer than asked for where no rule applies any more, or none fits */
     uint64_t offset;      /* where the module is at fault, where it is no module or an object file; else 0 */
 };
 

@@ -1,7 +1,7 @@
 /*
  * Rewrites a module and says what was done, or why nothing was:
  *
- *     mutate [--seed N] [--count N] [--function N] [--growth N] [--rule NAME].. MODULE NEW
+ *     mutate [--seed N] [--count N] [--percent N] [--function N] [--growth N] [--rule NAME].. MODULE NEW
  *
  * Numbers are decimal. Without --rule all rules are meant; --growth is how many bytes NEW may have more than MODULE. The status
  * is 2 where the library writes no module, and 1 where the options can't be read, or a file can't be read or written.
@@ -93,6 +93,9 @@ static int read_option(const char *option, const char *value, struct teddertempo
     if (strcmp(option, "--count") == 0) {
         return read_number(value, &options->count);
     }
+    if (strcmp(option, "--percent") == 0) {
+        return read_number(value, &options->percent);
+    }
     if (strcmp(option, "--function") == 0) {
         return read_number(value, &options->function);
     }
@@ -121,7 +124,7 @@ static void tell(const struct teddertempo_report *report, size_t size, size_t ne
 
 int main(int count, char **arguments)
 {
-    struct teddertempo_options options = {sizeof options, 0, {0}, TEDDERTEMPO_ANY_FUNCTION, 1, TEDDERTEMPO_ANY_GROWTH};
+    struct teddertempo_options options = {sizeof options, 0, {0}, TEDDERTEMPO_ANY_FUNCTION, 1, TEDDERTEMPO_ANY_GROWTH, 0};
     struct teddertempo_report report = {sizeof report, 0, 0, 0, 0, 0};
     uint8_t *data;
     size_t size = 0, new_size;
@@ -131,7 +134,7 @@ int main(int count, char **arguments)
         at += 2;
     }
     if (count - at != 2) {
-        fprintf(stderr, "usage: mutate [--seed N] [--count N] [--function N] [--growth N] [--rule NAME].. MODULE NEW\n");
+        fprintf(stderr, "usage: mutate [--seed N] [--count N] [--percent N] [--function N] [--growth N] [--rule NAME].. MODULE NEW\n");
         return 1;
     }
     data = read_file(arguments[at], &size);

@@ -5,7 +5,7 @@ use Rattle.std.specs.Borrow.{Bor}
 use Rattle.std.specs.Option.{option_map_or}
 use Rattle.std.specs.Str.{bytes_eq}
 use Rattle.std.specs.Str.Parse.{ParsesBool, ParsesUnsigned, false_text, true_text}
-use Rattle.std.proofs.lemmas.Bool.{both_ways, cases_eq, false≢true}
+use Rattle.std.proofs.lemmas.Bool.{both_ways, cases_eq, false≢true, true≢false}
 use Rattle.std.proofs.lemmas.List.{get_or-map, length-map, map-append, map_more, take_more}
 use Rattle.std.proofs.lemmas.List.Folds.{list_any_at}
 use Rattle.std.proofs.lemmas.Option.{same_Some, slice_get-get_or, slice_get-map, slice_get_cases}
@@ -24,6 +24,8 @@ use Rattle.clap.specs.declared.error.kind.ErrorKind.{ErrorKind}
 use Rattle.clap.specs.declared.parser.matches.ArgMatches.{ArgMatches}
 use Rattle.peephole_machine.specs.declared.integer.IntegerType.{IntegerType}
 use Rattle.peephole_machine.specs.declared.integer.IntegerType.TheVariants as integer
+use Rattle.module_rewrites.specs.declared.dose.Dose.{Dose}
+use Rattle.module_rewrites.specs.declared.dose.Dose.TheVariants.{Times}
 use Rattle.rewrite_rules.specs.Applying.{IsFormed}
 use Rattle.rewrite_rules.specs.Growing.{GrowsAs, shown}
 use Rattle.rewrite_rules.specs.Growth.{shrinks}
@@ -41,7 +43,8 @@ use Rattle.rewrite_rules.specs.declared.table.Widths.TheVariants.{Both, Only, An
 use Rattle.body_rewrites.specs.Listing.{AreThose, IsOfRule}
 use Rattle.body_rewrites.specs.ThoseLemmas.{those_with, those_without}
 use Rattle.module_commands.specs.Arguments.{command_line}
-use Rattle.module_commands.specs.Options.{AreMisused, AreNamed, AreOptions, AreRefused, AreRules, IsNumberOf, IsWanted, NamesNone, SayOptions, WritesSeed, first_of, is_named, kind_for, names_or_none}
+use Rattle.module_commands.specs.Options.{AreMisused, AreNamed, AreOptions, AreRefused, AreRules, IsNumberOf, IsWanted, NamesNone, SayOptions, WritesSeed, first_of, is_named, kind_for, names_or_none, IsDoseOf, IsPercentageOf, WritesDose, WritesPercentage}
+use Rattle.module_commands.specs.Options.WritesDose.{as_number, as_percentage, as_each}
 use Rattle.module_commands.specs.Options.WritesSeed.{in_hexadecimal}
 use Rattle.module_commands.specs.Options.AreRefused.{by_matches, by_memory, by_words}
 use Rattle.module_commands.specs.declared.options.Misuse.{Misuse}
@@ -197,3 +200,24 @@ wanted_without P rs i d x ws next wanted l x_is h same is next_is =
     subst (AreThose P (take (i + 1) rs)) (sym next_is)
     (subst (λ (l : List Rule). AreThose P l ws) (sym (take_more rs i d l ∙ ap (λ (r : Rule). take i rs ++ r ∷ []) (sym x_is)))
     (those_without P (take i rs) x ws h (λ p. both_ways wanted is (same.1 p))))
+
+-- ---- how many rewrites are made
+
+-- a number
+pub dose_in_digits : (text : Text) (n : ℕ) → ParsesUnsigned {E = Text} 64 10 text (Ok n) → WritesDose text (Times n)
+dose_in_digits text n is =
+    as_number n refl (record { digits = is.0.0; value = is.1; fits = subst (λ (k : ℕ). k < 2 ^ 64) (sym is.1) is.0.1 })
+
+-- neither a number nor each
+writes_none : (text : Text) (e : Text) → bytes_eq text (codes "each") ≡ false → ParsesUnsigned {E = Text} 64 10 text (Err e) →
+    ((dose : Dose) → ¬ (WritesPercentage text dose)) → (dose : Dose) → WritesDose text dose → ⊥
+writes_none text e other fails is dose (as_number n same w) = fails (w.digits, subst (λ (k : ℕ). k < 2 ^ 64) w.value w.fits)
+writes_none text e other fails is dose (as_percentage w) = is dose w
+writes_none text e other fails is dose (as_each same w) =
+    let wrong : true ≡ false = subst (λ (t : Text). bytes_eq t (codes "each") ≡ false) w other in
+    absurd (true≢false wrong)
+
+pub dose_otherwise : (text : Text) (e : Text) (found : Option Dose) → bytes_eq text (codes "each") ≡ false →
+    ParsesUnsigned {E = Text} 64 10 text (Err e) → IsPercentageOf text found → IsDoseOf text found
+dose_otherwise text e (Some dose) other fails is = as_percentage is
+dose_otherwise text e None other fails is = writes_none text e other fails is

@@ -35,6 +35,10 @@ output_rule = record (texted (codes "output")) { short = Some 111 }
 abbrev pub seed_rule : Rule
 seed_rule = texted (codes "seed")
 
+-- how many rewrites are made; a text, since it may be a percentage
+abbrev pub count_rule : Rule
+count_rule = texted (codes "count")
+
 -- in which form the rules are listed: a text, `text` where none is given
 abbrev pub rules_rule : Rule
 rules_rule = record (texted (codes "list-rules")) {
@@ -49,7 +53,7 @@ naming name names = record (valued name (Names names)) { action = Some Append }
 -- all that the command line takes: the file of the module, options with a value, and flags
 abbrev pub arguments : (names : Bor (List (Bor Text))) → List Rule
 arguments names =
-    input_rule ∷ output_rule ∷ seed_rule ∷ valued (codes "count") number ∷ valued (codes "function") number ∷ naming (codes "rule") names
+    input_rule ∷ output_rule ∷ seed_rule ∷ count_rule ∷ valued (codes "function") number ∷ naming (codes "rule") names
     ∷ naming (codes "not-rule") names ∷ flag (codes "shrink") ∷ valued (codes "max-size") number ∷ flag (codes "list")
     ∷ flag (codes "blocks") ∷ rules_rule ∷ flag (codes "stats") ∷ flag (codes "reach") ∷ flag (codes "json") ∷ flag (codes "show")
     ∷ flag (codes "strip-debug") ∷ flag (codes "quiet") ∷ []

@@ -13,6 +13,9 @@ use Rattle.clap.specs.declared.error.kind.ErrorKind.TheVariants.{ArgumentConflic
 use Rattle.rewrite_rules.specs.Rule.{AreAllRules, rule_name}
 use Rattle.rewrite_rules.specs.declared.rule.Rule.{Rule}
 use Rattle.body_rewrites.specs.Listing.{AreThose}
+use Rattle.module_rewrites.specs.Dose.{IsOneOrMore}
+use Rattle.module_rewrites.specs.declared.dose.Dose.{Dose}
+use Rattle.module_rewrites.specs.declared.dose.Dose.TheVariants.{Times, Percent}
 use Rattle.module_commands.specs.Front.{begins_with}
 use Rattle.module_commands.specs.declared.options.Flags.{Flags}
 use Rattle.module_commands.specs.declared.options.Misuse.{Misuse}
@@ -177,9 +180,42 @@ pub record NamesNone (names : List Text) : Type 0 where
   pub at : slice_get names place ≡ Some name
   pub none : (rule : Rule) → rule_name rule ≢ name
 
--- how many rewrites are made where no number is given: one, or where they are to make the module smaller, as many as there are
-abbrev pub default_count : (shrink : Bool) → ℕ
-default_count shrink = if shrink then 18446744073709551615 else 1
+-- how many rewrites are made where no count is given: one, or where they are to make the module smaller, as many as there are
+abbrev pub default_dose : (shrink : Bool) → Dose
+default_dose shrink = if shrink then Times 18446744073709551615 else Times 1
+
+-- the text writes that percentage
+pub record WritesPercentage (text : Text) (dose : Dose) : Type 0 where
+  pub digits : Text
+  pub number : ℕ
+  pub text_is : text ≡ digits ++ codes "%"
+  pub writes : Writes 10 digits number
+  pub dose_is : dose ≡ Percent number
+
+-- The text says how many rewrites are made: a number, a percentage of the operators that there are, or `each`, which is as many as there are operators.
+pub data WritesDose (text : Text) (dose : Dose) : Type 0 where
+  as_number : (n : ℕ) → dose ≡ Times n → Writes 10 text n → WritesDose text dose
+  as_percentage : WritesPercentage text dose → WritesDose text dose
+  as_each : dose ≡ Percent 100 → text ≡ codes "each" → WritesDose text dose
+
+-- the percentage that it writes, if it writes one
+abbrev pub IsPercentageOf : Text → Option Dose → Type 0
+IsPercentageOf text (Some dose) = WritesPercentage text dose
+IsPercentageOf text None = (dose : Dose) → ¬ (WritesPercentage text dose)
+
+-- what it says, if it says anything
+abbrev pub IsDoseOf : Text → Option Dose → Type 0
+IsDoseOf text (Some dose) = WritesDose text dose
+IsDoseOf text None = (dose : Dose) → ¬ (WritesDose text dose)
+
+-- how many rewrites are made
+abbrev pub IsDose : (shrink : Bool) → Option Text → Dose → Type 0
+IsDose shrink None dose = dose ≡ default_dose shrink
+IsDose shrink (Some text) dose = WritesDose text dose
+
+-- the text doesn't say so, or it says that none are
+abbrev pub IsNoDose : Text → Type 0
+IsNoDose text = (found : Option Dose) × IsDoseOf text found × IfSome found (λ dose. ¬ (IsOneOrMore dose))
 
 -- ---- options
 
@@ -193,7 +229,7 @@ pub record AreOptions (rows : List Row) (options : Options) : Type 0 where
   pub input : option_map string_bytes options.input ≡ file_of (first_of (codes "input") rows)
   pub output : option_map string_bytes options.output ≡ file_of (first_of (codes "output") rows)
   pub seed : IsSeed (first_of (codes "seed") rows) options.seed
-  pub count : IsNumberOr (default_count (is_set (codes "shrink") rows)) (one_of (codes "count") rows) options.count
+  pub dose : IsDose (is_set (codes "shrink") rows) (first_of (codes "count") rows) options.dose
   pub function : IsNumberOf (one_of (codes "function") rows) options.function
   pub rules : AreRules (all_of (codes "rule") rows) (all_of (codes "not-rule") rows) options.rules.items
   pub max_size : IsNumberOr 18446744073709551615 (one_of (codes "max-size") rows) options.max_size
@@ -212,7 +248,7 @@ AreMisused rows Ignored = ignore (flags_of rows) rows ≡ true
 AreMisused rows NothingToTell = tell_nothing (flags_of rows) ≡ true
 AreMisused rows Plus = have_plus rows ≡ true
 AreMisused rows NoSeed = IfSome (first_of (codes "seed") rows) (λ text. IsSeedOf text None)
-AreMisused rows NoCount = IsNumberOr (default_count (is_set (codes "shrink") rows)) (one_of (codes "count") rows) 0
+AreMisused rows NoCount = IfSome (first_of (codes "count") rows) IsNoDose
 AreMisused rows NoForm = IfSome (first_of (codes "list-rules") rows) (λ name. form_named name ≡ None)
 AreMisused rows UnknownRule = IfSome (all_of (codes "rule") rows) NamesNone
 AreMisused rows Memory = Unit {0}

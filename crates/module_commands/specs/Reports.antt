@@ -82,4 +82,4 @@ pub record ReportsMutated (options : Options) (bytes : List ℕ) (ending : Endin
   pub shown : List ℕ
   pub is_shown : IsShown options.show writes.made shown
   pub rewrites : Appends between notes_new
-      (shown ++ rewrites_report (form_of options) options.count bytes writes.made writes.stopped writes.written_bytes)
+      (shown ++ rewrites_report (form_of options) writes.count bytes writes.made writes.stopped writes.written_bytes)

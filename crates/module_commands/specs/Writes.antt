@@ -8,6 +8,7 @@ use Rattle.module_rewrites.specs.Attempt.{IsForSize, IsReason}
 use Rattle.module_rewrites.specs.Chosen.{GivesUp}
 use Rattle.module_rewrites.specs.ChosenTimes.{ChoosesTimes}
 use Rattle.module_rewrites.specs.DoesAsBefore.{DoesAsBefore}
+use Rattle.module_rewrites.specs.Dose.{IsDoseOf}
 use Rattle.module_rewrites.specs.Mutates.{Mutates}
 use Rattle.module_rewrites.specs.Seeded.{seeded}
 use Rattle.module_rewrites.specs.declared.attempt.Reason.{Reason}
@@ -25,9 +26,10 @@ abbrev pub IsWrittenAs : (strip : Bool) → (module_bytes written : List ℕ) �
 IsWrittenAs false module_bytes written = written ≡ module_bytes
 IsWrittenAs true module_bytes written = (sections : List Section) × SpellsModule module_bytes sections × IsWithoutDebug module_bytes sections written
 
--- The new bytes are the module with one rewrite or more made, at most as many as the options say, as their seed chooses them.
-pub record IsRewrittenBy (options : Options) (bytes : List ℕ) (made : List MadeRewrite) (stopped : Option MutationError) (new : List ℕ) : Type 0 where
-  pub mutates : Mutates (scope_of options) options.count bytes made new stopped
+-- The new bytes are the module with one rewrite or more made, at most `count`, as the seed of the options chooses them.
+pub record IsRewrittenBy (options : Options) (count : ℕ) (bytes : List ℕ) (made : List MadeRewrite) (stopped : Option MutationError) (new : List ℕ) :
+    Type 0 where
+  pub mutates : Mutates (scope_of options) count bytes made new stopped
   pub chosen : ChoosesTimes (scope_of options) bytes (seeded options.seed) made new stopped
 
 -- what refused the module with each rewrite, where something did
@@ -46,10 +48,13 @@ pub record IsLeft (options : Options) (bytes : List ℕ) (made : List MadeRewrit
   pub stopped_is : stopped ≡ stopped_by reason
   pub same : new ≡ bytes
 
--- Bytes are written of the module rewritten, or as it is; they are valid where it was, and do what it did.
-pub record IsOutcome (options : Options) (bytes : List ℕ) (made : List MadeRewrite) (stopped : Option MutationError) (written : List ℕ) : Type 0 where
+-- Bytes are written of the module rewritten, at most as often as the options say, which is `count`, or as it is; they are valid where it was, and do what it
+-- did.
+pub record IsOutcome (options : Options) (count : ℕ) (bytes : List ℕ) (made : List MadeRewrite) (stopped : Option MutationError) (written : List ℕ) :
+    Type 0 where
+  pub count_is : IsDoseOf options.dose options.function bytes count
   pub module_bytes : List ℕ
-  pub is_made : IsRewrittenBy options bytes made stopped module_bytes ⊎ IsLeft options bytes made stopped module_bytes
+  pub is_made : IsRewrittenBy options count bytes made stopped module_bytes ⊎ IsLeft options bytes made stopped module_bytes
   pub is_written : IsWrittenAs options.strip_debug module_bytes written
   pub does : DoesAsBefore bytes written
 
@@ -58,6 +63,7 @@ pub record WritesMutated (options : Options) (bytes : List ℕ) (ending : Ending
   pub made : List MadeRewrite
   pub stopped : Option MutationError
   pub written_bytes : List ℕ
-  pub outcome : IsOutcome options bytes made stopped written_bytes
+  pub count : ℕ
+  pub outcome : IsOutcome options count bytes made stopped written_bytes
   pub written : Appends old new written_bytes
   pub ending_is : ending ≡ ending_of stopped

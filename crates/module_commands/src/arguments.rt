@@ -2,7 +2,7 @@
 ghost use Rattle.std.specs.Prelude.{◌≡◌, codes, false, IfOk};
 ghost use Rattle.clap.specs.Simple.{app_of};
 ghost use Rattle.clap.specs.Walk.{rule_of};
-ghost use Rattle.module_commands.specs.Arguments.{command_line, flag, input_rule, naming, number, output_rule, rules_rule, seed_rule, valued};
+ghost use Rattle.module_commands.specs.Arguments.{command_line, count_rule, flag, input_rule, naming, number, output_rule, rules_rule, seed_rule, valued};
 
 use clap::{Arg, ArgAction, Command, value_parser};
 use std::alloc::{AllocError, Global};
@@ -37,16 +37,12 @@ fn seed_argument<'a>(alloc: Global) -> Arg<'a>
 }
 
 fn count_argument<'a>(alloc: Global) -> Arg<'a>
-    ensures rule { rule_of result ≡ valued (codes "count") number }
+    ensures rule { rule_of result ≡ count_rule }
     ensures local { result.global ≡ false }
 {
-    Arg::new(alloc, "count")
-        .long("count")
-        .value_name("K")
-        .value_parser(value_parser!(usize))
-        .help(
-            "How many rewrites are made, one after another; fewer where no rule applies any more [default: 1; with --shrink as many as there are]",
-        )
+    Arg::new(alloc, "count").long("count").value_name("K").help(
+        "How many rewrites are made, one after another: a number, a percentage of the operators as 20%, or each, which is 100%; fewer where no rule applies any more [default: 1; with --shrink as many as there are]",
+    )
 }
 
 fn function_argument<'a>(alloc: Global) -> Arg<'a>

@@ -3,6 +3,7 @@ ghost use Rattle.std.specs.Prelude.{◌≡◌, ℕ, List, [], true, length, nat_
 ghost use Rattle.module_rewrites.specs.Attempt.{IsForSize, IsReason};
 ghost use Rattle.module_rewrites.specs.Chosen.{GivesUp};
 ghost use Rattle.module_rewrites.specs.DoesAsBefore.{DoesAsBefore};
+ghost use Rattle.module_rewrites.specs.Dose.{IsDoseOf};
 ghost use Rattle.module_rewrites.specs.Seeded.{seeded};
 ghost use Rattle.module_commands.specs.Failures.{FailsToMake, leaves};
 ghost use Rattle.module_commands.specs.Scope.{scope_of};
@@ -14,7 +15,11 @@ use crate::failure::Failure;
 use crate::options::Options;
 use crate::showing::Shower;
 use module_rewrites::laws::rewritten_modules_do_as_before;
-use module_rewrites::{MutationError, Reason, RewrittenModule, Watch, rewrite_watched};
+use module_rewrites::{
+    MutationError, Reason, RewrittenModule, Watch, count_of_dose, rewrite_module,
+};
+use rand::rngs::StdRng;
+use rand_core::SeedableRng;
 use std::alloc::Global;
 use wasm_sections::{read_sections, without_debug};
 
@@ -110,16 +115,25 @@ fn stopped_by(reason: &Reason) -> Option<MutationError>
 pub struct Outcome {
     pub module: RewrittenModule,
     pub shown: Vec<u8>,
+    /// How many rewrites there were to be.
+    pub count: usize,
 }
 
-// What is written where nothing of the module is rewritten, for that reason.
+// What is written where nothing of the module is rewritten, for that reason, and `count` rewrites were to be.
 #[tactic(auto, using(crate::proofs::OutcomeLemmas::left_outcome, crate::proofs::OutcomeLemmas::none_shown))]
-fn left(alloc: Global, bytes: &[u8], options: &Options, reason: Reason) -> Result<Outcome, Failure>
+fn left(
+    alloc: Global,
+    bytes: &[u8],
+    options: &Options,
+    count: usize,
+    reason: Reason,
+) -> Result<Outcome, Failure>
+    requires count { IsDoseOf options.now.dose options.now.function bytes.now count }
     requires reason { IsReason (scope_of options.now) bytes.now reason }
     requires for_size { IsForSize reason
         → GivesUp (scope_of options.now) bytes.now (seeded options.now.seed) }
-    ensures outcome { IfOk result (λ o. IsOutcome options.now bytes.now o.module.made.items
-        o.module.stopped o.module.bytes.items) }
+    ensures outcome { IfOk result (λ o. IsOutcome options.now o.count bytes.now
+        o.module.made.items o.module.stopped o.module.bytes.items) }
     ensures shown { IfOk result (λ o.
         IsShown options.now.show o.module.made.items o.shown.items) }
     ensures fails { IfErr result (FailsToMake options.now bytes.now) }
@@ -133,6 +147,7 @@ fn left(alloc: Global, bytes: &[u8], options: &Options, reason: Reason) -> Resul
     Ok(Outcome {
         module,
         shown: Vec::new(alloc),
+        count,
     })
 }
 
@@ -141,34 +156,37 @@ fn left(alloc: Global, bytes: &[u8], options: &Options, reason: Reason) -> Resul
 /// leaves no more bytes, it is the module as it is. Where the options say so, its custom sections that name places in the code are dropped then. What is shown of the rewrites
 /// where the options ask for it; `watch` sees each of them, too.
 ///
-/// `Nothing` as `rewrite_watched` refuses, but where the module is written as it is.
-#[tactic(auto, using(crate::proofs::OutcomeLemmas::rewritten_outcome, crate::proofs::OutcomeLemmas::reason_in, crate::proofs::OutcomeLemmas::gives_up_in))]
+/// `Nothing` as `count_of_dose` and `rewrite_module` refuse, but where the module is written as it is.
+#[tactic(auto, using(crate::proofs::OutcomeLemmas::rewritten_outcome, crate::proofs::OutcomeLemmas::reason_in, crate::proofs::OutcomeLemmas::gives_up_in, crate::proofs::OutcomeLemmas::counting_fails))]
 pub fn rewritten<P: Watch + Drop>(
     alloc: Global,
     bytes: &[u8],
     options: &Options,
     watch: P,
 ) -> Result<Outcome, Failure>
-    ensures outcome { IfOk result (λ o. IsOutcome options.now bytes.now o.module.made.items
-        o.module.stopped o.module.bytes.items) }
+    ensures outcome { IfOk result (λ o. IsOutcome options.now o.count bytes.now
+        o.module.made.items o.module.stopped o.module.bytes.items) }
     ensures shown { IfOk result (λ o.
         IsShown options.now.show o.module.made.items o.shown.items) }
     ensures fails { IfErr result (FailsToMake options.now bytes.now) }
 {
+    let scope = options.scope();
+    let count = match count_of_dose(alloc, bytes, &scope, options.dose) {
+        Ok(count) => count,
+        Err(reason) => return Err(Failure::Nothing(reason)),
+    };
     let mut shower = Shower::new(alloc, options.show, watch);
-    match rewrite_watched(
-        alloc,
-        bytes,
-        options.seed,
-        &options.scope(),
-        options.count,
-        &mut shower,
-    ) {
+    let mut generator = StdRng::seed_from_u64(options.seed);
+    match rewrite_module(alloc, bytes, &mut generator, &scope, count, &mut shower) {
         Ok(new) => {
             let shown = shower.shown()?;
             let module = finished(alloc, options.strip_debug, new)?;
-            Ok(Outcome { module, shown })
+            Ok(Outcome {
+                module,
+                shown,
+                count,
+            })
         }
-        Err(reason) => left(alloc, bytes, options, reason),
+        Err(reason) => left(alloc, bytes, options, count, reason),
     }
 }

@@ -1,8 +1,8 @@
 //! The options of the command line.
-ghost use Rattle.std.specs.Prelude.{◌<◌};
+ghost use Rattle.module_rewrites.specs.Dose.{IsOneOrMore};
 
 use crate::form::Form;
-use module_rewrites::Scope;
+use module_rewrites::{Dose, Scope};
 use rewrite_rules::Rule;
 use rule_listing::Form as RulesForm;
 use std::alloc::{AllocError, AllocFailed};
@@ -32,7 +32,7 @@ pub struct Options {
     /// What the generator is made from.
     pub seed: u64,
     /// How many rewrites are made, one after another.
-    pub count: usize,
+    pub dose: Dose,
     /// The only function that is looked at, by its index among all functions, imported ones first.
     pub function: Option<usize>,
     /// The rules that rewrite.
@@ -54,7 +54,7 @@ pub struct Options {
     pub strip_debug: bool,
     /// Whether nothing is told that isn't asked for, but why the run fails.
     pub quiet: bool,
-    pub ghost some: { 0 < count },
+    pub ghost some: { IsOneOrMore dose },
 }
 
 impl Options {
@@ -95,7 +95,7 @@ pub enum Misuse {
     Plus,
     /// The seed is no number.
     NoSeed,
-    /// The count is 0.
+    /// The count is none, or 0.
     NoCount,
     /// There is no list of the rules in a form of that name.
     NoForm,

@@ -136,7 +136,7 @@ fn write_reported<W: Write, E: Write, P: Watch + Drop>(
 {
     report_module(alloc, bytes, options, notes)?;
     let new = rewritten(alloc, bytes, options, watch)?;
-    let report = rewrites_report(alloc, bytes, &new.module, options.form(), options.count)?;
+    let report = rewrites_report(alloc, bytes, &new.module, options.form(), new.count)?;
     write_bytes(output, &new.module.bytes)?;
     notes.write_all(&new.shown)?;
     notes.write_all(&report)?;

@@ -6,6 +6,7 @@ ghost use Rattle.clap.specs.Walk.{all_of, one_of, rows_of, texts};
 ghost use Rattle.rewrite_rules.specs.Rule.{rule_name};
 ghost use Rattle.body_rewrites.specs.Listing.{AreThose};
 ghost use Rattle.module_commands.specs.Arguments.{command_line};
+ghost use Rattle.module_rewrites.specs.Dose.{IsOneOrMore};
 ghost use Rattle.module_commands.specs.Options as options;
 
 use crate::arguments::command;
@@ -14,6 +15,7 @@ use crate::nearest::{sentence_on, unknown_name};
 use crate::options::{Flags, Misuse, Options, Task};
 use clap::error::ErrorKind;
 use clap::{ArgMatches, Command, Error};
+use module_rewrites::Dose;
 use rewrite_rules::{Rule, all_rules};
 use rule_listing::Form as RulesForm;
 use std::alloc::{AllocError, Global};
@@ -325,21 +327,71 @@ fn wanted_rules(alloc: Global, matches: &ArgMatches<'_>) -> Result<Vec<Rule>, Mi
     }
 }
 
-// How many rewrites are made where no number is given.
-fn default_count(shrink: bool) -> usize
-    ensures { result ≡ options.default_count shrink }
+// How many rewrites are made where no count is given.
+fn default_dose(shrink: bool) -> Dose
+    ensures { result ≡ options.default_dose shrink }
 {
-    if shrink { usize::MAX } else { 1 }
+    if shrink {
+        Dose::Times(usize::MAX)
+    } else {
+        Dose::Times(1)
+    }
+}
+
+// The percentage that a text writes.
+fn percentage_from(text: &str) -> Option<Dose>
+    ensures { options.IsPercentageOf text.now result }
+{
+    let Some(digits) = text.strip_suffix("%") else {
+        return None;
+    };
+    match digits.parse::<usize>() {
+        Ok(percent) => Some(Dose::Percent(percent)),
+        Err(_) => None,
+    }
+}
+
+// The dose that a text writes.
+fn dose_from(text: &str) -> Option<Dose>
+    ensures { options.IsDoseOf text.now result }
+{
+    if text == "each" {
+        return Some(Dose::Percent(100));
+    }
+    if let Ok(count) = text.parse::<usize>() {
+        return Some(Dose::Times(count));
+    }
+    percentage_from(text)
+}
+
+// Whether it is one rewrite at least.
+fn is_one_or_more(dose: Dose) -> bool
+    ensures { IsTrue result ↔ IsOneOrMore dose }
+{
+    match dose {
+        Dose::Times(count) => count > 0,
+        Dose::Percent(percent) => percent > 0,
+    }
 }
 
 // How many rewrites are made.
-fn count_of(matches: &ArgMatches<'_>) -> usize
-    ensures { options.IsNumberOr
-        (options.default_count (options.is_set (codes "shrink") (rows_of (found_of matches.now))))
-        (one_of (codes "count") (rows_of (found_of matches.now))) result }
+fn dose_of(matches: &ArgMatches<'_>) -> Result<Dose, Misuse>
+    ensures dose { IfOk result (options.IsDose
+        (options.is_set (codes "shrink") (rows_of (found_of matches.now)))
+        (options.first_of (codes "count") (rows_of (found_of matches.now)))) }
+    ensures some { IfOk result IsOneOrMore }
+    ensures misuse { IfErr result (options.AreMisused (rows_of (found_of matches.now))) }
 {
-    let other = default_count(is_set(matches, "shrink"));
-    size_of(matches, "count").unwrap_or(other)
+    let Some(text) = text_of(matches, "count") else {
+        return Ok(default_dose(is_set(matches, "shrink")));
+    };
+    let Some(dose) = dose_from(text) else {
+        return Err(Misuse::NoCount);
+    };
+    if !is_one_or_more(dose) {
+        return Err(Misuse::NoCount);
+    }
+    Ok(dose)
 }
 
 /// The options that the matches of a command line are.
@@ -360,16 +412,13 @@ pub fn options_from(alloc: Global, matches: &ArgMatches<'_>) -> Result<Options, 
     if have_plus(matches) {
         return Err(Misuse::Plus);
     }
-    let count = count_of(matches);
-    if count == 0 {
-        return Err(Misuse::NoCount);
-    }
+    let dose = dose_of(matches)?;
     Ok(Options {
         task: task_of(flags, matches)?,
         input: file_of(alloc, matches, "input")?,
         output: file_of(alloc, matches, "output")?,
         seed: seed_of(matches)?,
-        count,
+        dose,
         function: size_of(matches, "function"),
         rules: wanted_rules(alloc, matches)?,
         max_size: size_of(matches, "max-size").unwrap_or(usize::MAX),
@@ -413,7 +462,8 @@ fn text_for(misuse: Misuse) -> &'static str {
         Misuse::Plus => "a plus stands before a number: leave it out",
         Misuse::NoSeed =>
             "--seed is no number below 2^64 in decimal digits, or behind 0x in hexadecimal ones",
-        Misuse::NoCount => "--count is 0",
+        Misuse::NoCount =>
+            "--count is no number from 1 to 2^64 - 1, no percentage of 1% or more, as in 20%, and not each",
         Misuse::NoForm =>
             "--list-rules has the forms text, json and markdown, as in --list-rules=json",
         Misuse::UnknownRule => "--rule names no rule",
@@ -446,7 +496,7 @@ fn told_anew<S: AsStr>(
 /// The options that the words of the command line say, the program's own name first. `names` are those of the rules.
 ///
 /// An error where they say none, with clap's text: an unknown rule is told with the nearest three names; and for `--help` and
-/// `--version`, with what is to be printed. A count of 0 is an error too, and so are flags that exclude each other, options that
+/// `--version`, with what is to be printed. A count that is none, or 0, is an error too, and so are flags that exclude each other, options that
 /// the task ignores, a plus before a number, and `--json` where nothing is written in it.
 pub fn options_of<'a, S: AsStr>(
     alloc: Global,

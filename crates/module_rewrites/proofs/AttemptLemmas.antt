@@ -1,5 +1,7 @@
 -- Why nothing of a module is rewritten.
-use Rattle.std.proofs.Common.{◌≡◌, ◌⊎◌, ◌↔◌, ◌<◌, ◌≤◌, ◌+◌, ℕ, List, length, Option, None, inl, inr, subst, sym, arith}
+use Rattle.std.proofs.Common.{◌≡◌, ◌⊎◌, ◌↔◌, ◌<◌, ◌≤◌, ◌+◌, ℕ, List, [], length, Option, None, inl, inr, subst, sym, arith}
+use Rattle.std.proofs.lemmas.Bool.{cases_lt}
+use Rattle.std.proofs.lemmas.List.{nil_from_length}
 use Rattle.wasm_types.specs.Module.{Module}
 use Rattle.wasm_module.specs.Module.{Layout, IsModule}
 use Rattle.module_rewrites.specs.Attempt.{IsFirstChosen, IsForSize, IsReason, RefusesIndex}
@@ -36,12 +38,18 @@ index_not_for_size layout only (Refused e) h size = h
 
 module _ (only : Option ℕ) (layout : Layout) (start end : ℕ)
     (chosen : (n : ℕ) → ((start ≤ n) × (n < end)) ↔ ((n < length layout.entries) × IsChosen only (layout.imported_functions + n))) where
-  pub some_chosen : (only ≡ None) ⊎ (start < end) → 0 < length layout.entries → start < end
-  some_chosen (inl none) some =
-      let any : IsChosen only (layout.imported_functions + 0) = subst (λ (o : Option ℕ). IsChosen o (layout.imported_functions + 0)) (sym none) tt in
-      let within = (chosen 0).1 (some, any) in
-      omega (arith, within.0, within.1)
-  some_chosen (inr some) _ = some
+  pub no_function : (only ≡ None) ⊎ (start < end) → end ≤ start → (only ≡ None) × (layout.entries ≡ [])
+  no_function (inl none) past = (
+    none,
+    nil_from_length layout.entries (elim (cases_lt 0 (length layout.entries)) [
+      | inl some ↦
+          let any : IsChosen only (layout.imported_functions + 0) = subst (λ (o : Option ℕ). IsChosen o (layout.imported_functions + 0)) (sym none) tt in
+          let within = (chosen 0).1 (some, any) in
+          absurd (omega (arith, within.0, within.1, past))
+      | inr few ↦ omega (arith, few)
+    ]),
+  )
+  no_function (inr some) past = absurd (omega (arith, some, past))
 
   pub first_chosen : start < end → IsFirstChosen only layout start
   first_chosen some =

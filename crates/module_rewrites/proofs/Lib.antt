@@ -13,4 +13,5 @@ pub mod OneSearchLemmas
 pub mod OneAttemptLemmas
 pub mod OneChoiceLemmas
 pub mod AttemptLemmas
+pub mod DoseLemmas
 pub mod OperatorCodeLemmas

@@ -155,3 +155,40 @@ no_room scope bytes function rewrite new m = record {
   chosen = subst (IsChosen scope.function) m.mutates.1 m.chosen;
   refuses = tt;
 }
+
+-- ---- rewrites, and others from where they left the module and the generator
+
+each_join : (scope : Scope) (bytes : List ℕ) (first : List MadeRewrite) (between : List ℕ) (second : List MadeRewrite) (new : List ℕ) →
+    RewritesEach scope bytes first between → RewritesEach scope between second new → RewritesEach scope bytes (first ++ second) new
+each_join scope bytes [] between second new e rest = subst (λ (b : List ℕ). RewritesEach scope b second new) e rest
+each_join scope bytes (x ∷ first) between second new each rest = (each.0, each.1, each_join scope each.0 first between second new each.2 rest)
+
+pub chooses_join : (scope : Scope) (bytes : List ℕ) (stream : Stream) (first : List MadeRewrite) (between : List ℕ) (middle : Stream)
+    (second : List MadeRewrite) (new : List ℕ) (after : Stream) → ChoosesEach scope bytes stream first between middle →
+    ChoosesEach scope between middle second new after → ChoosesEach scope bytes stream (first ++ second) new after
+chooses_join scope bytes stream [] between middle second new after e rest =
+    subst (λ (b : List ℕ). ChoosesEach scope b stream second new after) e.0
+    (subst (λ (s : Stream). ChoosesEach scope between s second new after) e.1 rest)
+chooses_join scope bytes stream (x ∷ first) between middle second new after each rest =
+    (each.0, each.1, each.2, chooses_join scope each.0 each.1 first between middle second new after each.3 rest)
+
+pub chooses_split : (scope : Scope) (bytes new : List ℕ) (stream after : Stream) (first second : List MadeRewrite) →
+    ChoosesEach scope bytes stream (first ++ second) new after →
+    (between : List ℕ) × (middle : Stream) × ChoosesEach scope bytes stream first between middle × ChoosesEach scope between middle second new after
+chooses_split scope bytes new stream after [] second each = (bytes, stream, (refl, refl), each)
+chooses_split scope bytes new stream after (x ∷ first) second each =
+    let rest = chooses_split scope each.0 new each.1 after first second each.3 in
+    (rest.0, rest.1, (each.0, each.1, each.2, rest.2), rest.3)
+
+pub mutates_join : (scope : Scope) (count more : ℕ) (bytes between new : List ℕ) (first second : List MadeRewrite) (stopped : Option MutationError) →
+    Mutates scope count bytes first between None → length first ≡ count → Mutates scope more between second new stopped →
+    Mutates scope (count + more) bytes (first ++ second) new stopped
+mutates_join scope count more bytes between new first second stopped one whole rest =
+    let sum : length (first ++ second) ≡ length first + length second = length-append first second in
+    record {
+      some = omega (arith, sum, one.some);
+      most = omega (arith, sum, whole, rest.most);
+      each = each_join scope bytes first between second new one.each rest.each;
+      fewer = λ below. rest.fewer (omega (arith, sum, whole, below));
+      all = λ all. rest.all (omega (arith, sum, whole, all));
+    }

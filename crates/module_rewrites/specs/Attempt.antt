@@ -1,5 +1,5 @@
 -- Why nothing of a module is rewritten; which of its functions may be, and can be read (this project).
-use Rattle.std.specs.Prelude.{◌≡◌, ◌≢◌, ℕ, ◌+◌, ◌<◌, List, [], length, Option, Some, None}
+use Rattle.std.specs.Prelude.{◌≡◌, ◌≢◌, ◌⊎◌, ◌↔◌, ℕ, ◌+◌, ◌<◌, ◌≤◌, List, [], length, Option, Some, None}
 use Rattle.wasm_code.specs.declared.operator.Operator.{Operator}
 use Rattle.wasm_types.specs.Module.{Module}
 use Rattle.wasm_types.specs.declared.types.PrimitiveTypeInfo.{PrimitiveTypeInfo}
@@ -100,3 +100,15 @@ IsReason scope bytes (Refused e) = RefusesMutation scope bytes e
 abbrev pub IsForSize : Reason → Type 0
 IsForSize (Refused e) = IsOfSize e
 IsForSize e = ⊥
+
+-- ---- for private functions
+
+-- these of the code entries are those of the functions that may be rewritten, and there are some where one is named
+pub record AreChosen (only : Option ℕ) (layout : Layout) (start end : ℕ) : Type 0 where
+  pub chosen : (n : ℕ) → ((start ≤ n) × (n < end)) ↔ ((n < length layout.entries) × IsChosen only (layout.imported_functions + n))
+  pub named : (only ≡ None) ⊎ (start < end)
+
+-- That is why nothing of the module is rewritten, by any scope by which nothing of it can be, and these of its code entries may be.
+abbrev pub IsReasonWithin : (bytes : List ℕ) → Layout → (start end : ℕ) → Reason → Type 0
+IsReasonWithin bytes layout start end reason =
+    (scope : Scope) → CannotMutate scope bytes → AreChosen scope.function layout start end → IsReason scope bytes reason

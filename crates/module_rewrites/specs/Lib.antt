@@ -16,3 +16,4 @@ pub mod Watched
 pub mod Seeded
 pub mod DoesAsBefore
 pub mod Attempt
+pub mod Dose

@@ -1,24 +1,16 @@
-//! A module rewritten several times over, or why nothing of it is; the functions of a module that may be rewritten.
-ghost use Rattle.std.specs.Prelude.{◌≡◌, ◌⊎◌, ◌↔◌, ◌≤◌, ◌<◌, ◌+◌, ◌^◌, ℕ, length, None, IfOk, IfErr, IfNone, IfSome, OnErr, IsTrue, false};
-ghost use Rattle.module_rewrites.specs.Attempt.{CanRead, IsForSize, IsKnownFault, IsReason, RefusesIndex};
-ghost use Rattle.module_rewrites.specs.Chosen.{GivesUp};
-ghost use Rattle.module_rewrites.specs.ChosenTimes.{ChoosesTimes};
-ghost use Rattle.module_rewrites.specs.DoesAsBefore.{DoesAsBefore};
-ghost use Rattle.module_rewrites.specs.Mutated.{CannotMutate, IsChosen};
-ghost use Rattle.module_rewrites.specs.Mutates.{Mutates};
-ghost use Rattle.module_rewrites.specs.Seeded.{seeded};
-ghost use Rattle.module_rewrites.specs.Watched.{SeesAll};
+//! A module's first rewrite, or why nothing of it is rewritten; the functions of a module that may be rewritten.
+ghost use Rattle.std.specs.Prelude.{◌≡◌, ◌⊎◌, ◌↔◌, ◌≤◌, ◌<◌, ◌+◌, ◌^◌, ℕ, length, None, IfOk, IfErr, IfNone, IfSome, IsTrue, false};
+ghost use Rattle.module_rewrites.specs.Attempt.{CanRead, IsForSize, IsKnownFault, IsReason, IsReasonWithin, RefusesIndex};
+ghost use Rattle.module_rewrites.specs.Chosen.{ChoosesOfModule, GivesUp};
+ghost use Rattle.module_rewrites.specs.Mutated.{IsChosen, IsMutated};
 ghost use Rattle.module_rewrites.specs.declared.mutation.MutationError.TheVariants.{Memory};
 ghost use Rattle.wasm_module.specs.Module.{IsModule};
 
 use crate::function::{FunctionError, read_function};
-use crate::mutation::MutationError;
+use crate::mutation::{Mutated, MutationError, mutate_chosen};
 use crate::scope::Scope;
-use crate::times::{RewrittenModule, watch_times};
-use crate::watch::{Unwatched, Watch};
-use rand::rngs::StdRng;
-use rand_core::SeedableRng;
-use std::alloc::Global;
+use rand_core::Rng;
+use std::alloc::{AllocError, Global};
 use std::ops::Range;
 use thiserror::Error as ErrorTexts;
 use wasm_module::{Layout, ModuleError, read_module};
@@ -45,6 +37,18 @@ pub enum Reason {
     /// The module, or a rewrite of it, is refused.
     #[error("{0}")]
     Refused(MutationError),
+}
+
+impl From<AllocError> for Reason {
+    ghost use Rattle.std.specs.Prelude.{◌≡◌};
+    ghost use Rattle.module_rewrites.specs.declared.attempt.Reason.TheVariants.{Refused};
+    ghost use Rattle.module_rewrites.specs.declared.mutation.MutationError.TheVariants.{Memory};
+
+    ghost from_gives = { λ _ e. e ≡ Refused Memory };
+
+    fn from(_e: AllocError) -> Reason {
+        Reason::Refused(MutationError::Memory)
+    }
 }
 
 /// The index, among all functions, of the one whose code is the n-th entry. It has one only where all imports are known.
@@ -148,89 +152,55 @@ fn first_unread(
     Ok(Some(first))
 }
 
-// Why nothing of a module is rewritten in which nothing can be.
-fn without_rewrite(alloc: Global, bytes: &[u8], scope: &Scope<'_>) -> Reason
-    ensures reason { CannotMutate scope.now bytes.now → IsReason scope.now bytes.now result }
+// Why nothing of a module is rewritten in which nothing can be, and of which these code entries may be.
+fn without_rewrite(
+    alloc: Global,
+    bytes: &[u8],
+    info: &ModuleInfo<'_>,
+    layout: &Layout,
+    entries: Range<usize>,
+) -> Reason
+    requires module { IsModule bytes.now info.now layout.now }
+    requires inside { entries.end ≤ length layout.now.entries }
+    ensures reason { IsReasonWithin bytes.now layout.now entries.start entries.end result }
     ensures size { ¬ (IsForSize result) }
 {
-    let module = match read_module(alloc, bytes) {
-        Ok(module) => module,
-        Err(e) => return Reason::Refused(MutationError::Read(e)),
-    };
-    let layout = module.layout;
-    let entries = match chosen_entries(&layout, scope.function) {
-        Ok(entries) => entries,
-        Err(reason) => return reason,
-    };
-    if layout.entries.is_empty() {
+    if entries.start >= entries.end {
         return Reason::NoOwnFunction;
     }
-    match first_unread(alloc, bytes, &module.info, &layout, entries) {
+    match first_unread(alloc, bytes, info, layout, entries) {
         Ok(None) => Reason::NoRule,
         Ok(Some(error)) => Reason::Unreadable(error),
         Err(e) => Reason::Refused(e),
     }
 }
 
-/// The module rewritten as `mutate_with_seed` rewrites it, or why nothing of it is. Condition: `count` is not 0.
-///
-/// `NoRule` only where no rule applies in any of the functions that may be rewritten and can be read, of which there is one;
-/// `NoOwnFunction` only where the module has none; `Unreadable` only where there is one that may be rewritten, and none of them can
-/// be read, with the error of the first one; `NoFunction` and `UnknownImport` as `chosen_entries` refuses; `Refused` as
-/// `mutate_with_seed` refuses. The module is read once more for the reason: where no memory is left for that, it is `Refused` too.
-pub fn rewrite_with_seed(
+/// The module with one rewrite made, by a generator that then stands behind its words, or why nothing of it is rewritten.
+pub(crate) fn rewrite_first<R: Rng>(
     alloc: Global,
     bytes: &[u8],
-    seed: u64,
+    generator: &mut R,
     scope: &Scope<'_>,
-    count: usize,
-) -> Result<RewrittenModule, Reason>
-    requires some { 0 < count }
-    // The new module is the old one rewritten once or more, at most `count` times, and what stands round each rewrite runs as before.
+) -> Result<Mutated, Reason>
     ensures mutated { IfOk result (λ m.
-        Mutates scope.now count bytes.now m.made.items m.bytes.items m.stopped) }
-    // It is valid where the old one was, and its functions do what they did, in every sound embedder.
-    ensures does_as_before { IfOk result (λ m. DoesAsBefore bytes.now m.bytes.items) }
-    // Each rewrite is the one that the words of the seed's generator choose from where the last one left it.
-    ensures chosen { IfOk result (λ m. ChoosesTimes
-        scope.now bytes.now (seeded seed) m.made.items m.bytes.items m.stopped) }
-    // Why nothing is rewritten; for a size only where the words choose no rewrite that fits.
+        IsMutated scope.now bytes.now m.function m.rewrite m.bytes.items) }
+    ensures chosen { IfOk result (λ m. ChoosesOfModule scope.now bytes.now
+        (R.stream generator.old) m.function m.rewrite m.bytes.items (R.stream generator.new)) }
     ensures fails { IfErr result (IsReason scope.now bytes.now) }
     ensures gives_up { IfErr result (λ e. IsForSize e
-        → GivesUp scope.now bytes.now (seeded seed)) }
+        → GivesUp scope.now bytes.now (R.stream generator.old)) }
 {
-    let mut unwatched = Unwatched;
-    rewrite_watched(alloc, bytes, seed, scope, count, &mut unwatched)
-}
-
-/// The same as `rewrite_with_seed`, watched: each rewrite is shown once it stands in `made`. Condition: `count` is not 0.
-pub fn rewrite_watched<W: Watch>(
-    alloc: Global,
-    bytes: &[u8],
-    seed: u64,
-    scope: &Scope<'_>,
-    count: usize,
-    watch: &mut W,
-) -> Result<RewrittenModule, Reason>
-    requires some { 0 < count }
-    ensures mutated { IfOk result (λ m.
-        Mutates scope.now count bytes.now m.made.items m.bytes.items m.stopped) }
-    ensures does_as_before { IfOk result (λ m. DoesAsBefore bytes.now m.bytes.items) }
-    ensures chosen { IfOk result (λ m. ChoosesTimes
-        scope.now bytes.now (seeded seed) m.made.items m.bytes.items m.stopped) }
-    ensures fails { IfErr result (IsReason scope.now bytes.now) }
-    ensures gives_up { IfErr result (λ e. IsForSize e
-        → GivesUp scope.now bytes.now (seeded seed)) }
-    // Each rewrite that is made is seen, once and in order, between the bytes before it and those with it.
-    ensures seen { IfOk result (λ m. SeesAll W.saw scope.now bytes.now (seeded seed)
-        m.made.items m.bytes.items watch.old watch.new) }
-    // Nothing is seen where none is made.
-    ensures unseen { OnErr result (watch.new ≡ watch.old) }
-{
-    let generator = StdRng::seed_from_u64(seed);
-    match watch_times(alloc, bytes, generator, scope, count, watch) {
-        Ok(Some(module)) => Ok(module),
-        Ok(None) => Err(without_rewrite(alloc, bytes, scope)),
+    let module = match read_module(alloc, bytes) {
+        Ok(module) => module,
+        Err(e) => return Err(Reason::Refused(MutationError::Read(e))),
+    };
+    let entries = match chosen_entries(&module.layout, scope.function) {
+        Ok(entries) => entries,
+        Err(reason) => return Err(reason),
+    };
+    match mutate_chosen(alloc, &module.info, generator, scope, bytes, &module.layout) {
+        Ok(Some(made)) => Ok(made),
+        Ok(None) => Err(without_rewrite(alloc, bytes, &module.info, &module.layout, entries)),
         Err(e) => Err(Reason::Refused(e)),
     }
 }

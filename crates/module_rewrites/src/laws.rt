@@ -1,5 +1,5 @@
 //! What holds of rewritten modules. A function here does nothing: its contract is the law.
-ghost use Rattle.std.specs.Prelude.{◌≡◌, ◌<◌, ◌≤◌, ◌^◌, ◌++◌, ℕ, List, Option, length, true};
+ghost use Rattle.std.specs.Prelude.{◌≡◌, ◌<◌, ◌≤◌, ◌+◌, ◌^◌, ◌++◌, ℕ, List, Option, None, length, true};
 ghost use Rattle.std.specs.List.{sum_by};
 ghost use Rattle.rand_core.specs.Stream.{Stream};
 ghost use Rattle.wasm_code.specs.declared.operator.Operator.{Operator};
@@ -84,6 +84,27 @@ pub fn rewritten_modules_do_as_before()
     sessions_do_more();
     valid_modules_do_more();
 }
+
+/// Rewrites go on where others left the module and the generator: as many as one count says, and then those of another count from
+/// there, are those of both counts together, as the words choose them (`mutated`, `chosen`). So the first ones of any are chosen
+/// without those behind them (`front`).
+pub fn rewrites_go_on()
+    ensures mutated { (scope : Scope) (count more : ℕ) (bytes between new : List ℕ)
+        (first second : List MadeRewrite) (stopped : Option MutationError)
+        → Mutates scope count bytes first between None → length first ≡ count
+        → Mutates scope more between second new stopped
+        → Mutates scope (count + more) bytes (first ++ second) new stopped }
+    ensures chosen { (scope : Scope) (bytes between new : List ℕ) (stream middle : Stream)
+        (first second : List MadeRewrite) (stopped : Option MutationError)
+        → ChoosesEach scope bytes stream first between middle
+        → ChoosesTimes scope between middle second new stopped
+        → ChoosesTimes scope bytes stream (first ++ second) new stopped }
+    ensures front { (scope : Scope) (bytes new : List ℕ) (stream after : Stream)
+        (first second : List MadeRewrite) → ChoosesEach scope bytes stream (first ++ second) new after
+        → (between : List ℕ) × (middle : Stream)
+        × ChoosesEach scope bytes stream first between middle
+        × ChoosesEach scope between middle second new after }
+{}
 
 /// Every rewrite that there is of a code entry's function by one of the rules that the scope allows is drawn by four words, the first
 /// of which names the entry: there is none that no words draw. There are fewer than 2^64 rules and bytes of entries, and than 2^32 operators.

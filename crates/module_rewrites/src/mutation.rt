@@ -1,12 +1,10 @@
 //! A module with an operator of one of its functions rewritten by a rule, in its place.
 ghost use Rattle.std.specs.Prelude.{◌≡◌, ◌↔◌, ◌<◌, ◌≤◌, ◌+◌, ℕ, length, Some, None, slice_range, IfOk, IfErr, IfNone, IfSome, IsTrue};
-ghost use Rattle.rand_core.specs.Stream.{Stream};
 ghost use Rattle.body_splices.specs.OwnBytes.{IsBodyIn};
 ghost use Rattle.wasm_module.specs.Module.{IsModule};
 ghost use Rattle.peephole_machine.specs.Values.{context_in};
 ghost use Rattle.body_rewrites.specs.Random.{AppendsByWords, HasNoRewrite};
 ghost use Rattle.module_rewrites.specs.Chosen.{AllInVain, ChoosesAgain, ChoosesBy, ChoosesFrom, ChoosesOfModule, ChoosesWithin, GivesUp, GivesUpAgain, GivesUpInOrder, GivesUpOn, TriesInVain};
-ghost use Rattle.module_rewrites.specs.DoesAsBefore.{DoesAsBefore};
 ghost use Rattle.module_rewrites.specs.Mutated.{CannotMutate, HasNoMutation, IsBehindLocals, IsInVain, IsMutated, IsOfSize, IsRefusedForSize, MutatesEntry, MutatesOne, RefusesEntry, RefusesMutation, last_of};
 ghost use Rattle.module_rewrites.specs.Scope.{most_of, wanted_of};
 ghost use Rattle.module_rewrites.specs.Writing.{MakesAt};
@@ -14,7 +12,6 @@ ghost use Rattle.module_rewrites.specs.declared.mutation.MutationError.TheVarian
 
 use crate::drawing::draw_entry;
 use crate::function::{FunctionBody, entry_at, function_index, read_function};
-use crate::laws::rewritten_modules_do_as_before;
 use crate::scope::Scope;
 use body_rewrites::{Body, Rewrite, Rewritten, rewrite_at_random, trees_of};
 use body_splices::laws::own_bytes_stay;
@@ -422,8 +419,8 @@ fn mutate_function<R: Rng>(
     mutate_again(alloc, info, generator, scope, bytes, layout, n)
 }
 
-// The same at the function that the scope names, or else at any.
-fn mutate_chosen<R: Rng>(
+/// The same at the function that the scope names, or else at any.
+pub(crate) fn mutate_chosen<R: Rng>(
     alloc: Global,
     info: &ModuleInfo<'_>,
     generator: &mut R,
@@ -448,7 +445,8 @@ fn mutate_chosen<R: Rng>(
     }
 }
 
-/// As `mutate_module`, by a generator that then stands behind the words that were drawn.
+/// The module with an operator of one of its functions rewritten, by a generator that then stands behind the words that were drawn; none
+/// where no rule applies in any of its functions that may be rewritten.
 pub(crate) fn mutate_with<R: Rng>(
     alloc: Global,
     bytes: &[u8],
@@ -470,59 +468,4 @@ pub(crate) fn mutate_with<R: Rng>(
         Err(e) => return Err(MutationError::Read(e)),
     };
     mutate_chosen(alloc, &module.info, generator, scope, bytes, &module.layout)
-}
-
-/// The module with an operator of one of its functions, and what stands right before it, rewritten in its place by one of the rules:
-/// whatever stands before that and behind it, wherever its run with the old code ends or traps that with the new code does the same,
-/// apart from the globals that are appended (see `rewrite_body`). None where no rule applies in any of its functions that may be
-/// rewritten. A function that can't be read, since it has operators or forms that aren't known here, is left alone. Where the scope
-/// says that rewrites are to make the module smaller, only those are made that leave fewer operators, a rule applies only where it
-/// leaves fewer, and the new module has no more bytes than the old one.
-///
-/// A function is drawn by its size: the generator's next word, modulo the number of bytes that all code entries contain, names one of
-/// these bytes, and so the function whose entry contains it. The next three words choose the rewrite, as `rewrite_at_random` says:
-/// what becomes of the number of operators, the rule, the rewrite; a fourth one is for a number that the new code draws. Where no
-/// rule applies there, or the new module would be too large, one is drawn again, at most 16 times in all; then the functions are
-/// tried in order, once each, from the one that was drawn last on, and behind the last one those before it. Where the scope names
-/// the function, at most 16 rewrites of it are drawn. So equal modules, generators and scopes give equal bytes (law
-/// `equal_words_give_equal_bytes`).
-///
-/// The new bytes are a module again, of at most as many bytes as the scope says (`max_size`, and the old module's where it is to be
-/// smaller). It is valid where the old one was, and each of its
-/// functions, called with any arguments in any memory, tables and globals, does what it did, through loops, branches, recursion,
-/// calls of imports and calls through tables.
-///
-/// The new bytes differ from the old ones in the place of the old code, the globals that are appended, and the sizes and numbers that
-/// stand before them. It takes time linear in the module, and for each rewrite that is drawn or tried as `rewrite_at_random` does in
-/// the function, and linear in the module where it is too large.
-///
-/// Refused with `Read` as `read_module` refuses; `Memory` for want of memory; `Write` as `with_body` refuses, but never with
-/// `EmptyType`; `TooLong` where the module would have more bytes than it may: with `Write` of `TooLarge` or `TooLong` only where all
-/// attempts were in vain, and then as the last one of them that was refused.
-pub fn mutate_module<R: Rng + Drop>(
-    alloc: Global,
-    bytes: &[u8],
-    generator: R,
-    scope: &Scope<'_>,
-) -> Result<Option<Mutated>, MutationError>
-    // The new module is the old one with an operator rewritten in its place, and what stands round it runs as before.
-    ensures mutated { IfOk result (λ o. IfSome o (λ m.
-        IsMutated scope.now bytes.now m.function m.rewrite m.bytes.items)) }
-    // It is valid where the old one was, and its functions do what they did, in every sound embedder.
-    ensures does_as_before { IfOk result (λ o. IfSome o (λ m.
-        DoesAsBefore bytes.now m.bytes.items)) }
-    // The function, the rewrite and the bytes are those that the generator's words choose.
-    ensures chosen { IfOk result (λ o. IfSome o (λ m. (after : Stream) × ChoosesOfModule
-        scope.now bytes.now (R.stream generator) m.function m.rewrite m.bytes.items after)) }
-    // None only where no rewrite can be made.
-    ensures none { IfOk result (λ o. IfNone o (CannotMutate scope.now bytes.now)) }
-    // Refused only as the module can't be read, or, at a function that may be rewritten, for want of memory or as its writing is.
-    ensures refused { IfErr result (RefusesMutation scope.now bytes.now) }
-    // Refused for a size only where the words choose no rewrite that fits, as often as may be drawn, and in order.
-    ensures gives_up { IfErr result (λ e. IsOfSize e
-        → GivesUp scope.now bytes.now (R.stream generator)) }
-{
-    rewritten_modules_do_as_before();
-    let mut generator = generator;
-    mutate_with(alloc, bytes, &mut generator, scope)
 }

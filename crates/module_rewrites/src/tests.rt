@@ -1,7 +1,10 @@
 //! A small module, rewritten by one rule where it makes one thing, under several seeds.
 
-use crate::{Scope, mutate_with_seed, rewrite_with_seed};
+use crate::{Reason, RewrittenModule, Scope, Unwatched, rewrite_module};
+use rand::rngs::StdRng;
+use rand_core::SeedableRng;
 use rewrite_rules::Rule;
+use std::alloc::Global;
 use std::test::Fail;
 
 /// A module of one function, of type [] → []: `i32.const 5`, `i32.const 7`, `i32.add`, `drop`.
@@ -20,22 +23,28 @@ const CASES: [(&str, &[u8]); 5] = [
     ("drop_or_self", b""),
 ];
 
+/// The module rewritten once by the rules, under the seed.
+fn rewritten(alloc: Global, rules: &[Rule], seed: u64) -> Result<RewrittenModule, Reason> {
+    let scope = Scope {
+        rules,
+        function: None,
+        max_size: 1_000,
+        shrinking: false,
+    };
+    let mut generator = StdRng::seed_from_u64(seed);
+    let mut unwatched = Unwatched;
+    rewrite_module(alloc, MODULE, &mut generator, &scope, 1, &mut unwatched)
+}
+
 #[test]
 fn makes_what_a_rule_says(rt: HostRuntime) -> Result<(), Fail> {
     let alloc = rt.alloc();
     for (name, code) in CASES {
         let rules = [Rule::from_name(name).expect(&rt, "it is a rule's name")];
-        let scope = Scope {
-            rules: &rules,
-            function: None,
-            max_size: 1_000,
-            shrinking: false,
-        };
         for seed in 0..3 {
-            let made = mutate_with_seed(alloc, MODULE, seed, &scope, 1)?;
-            match made {
-                Some(module) => assert!(rt; module.bytes.ends_with(code) && code.len() > 0),
-                None => assert!(rt; code.len() == 0),
+            match rewritten(alloc, &rules, seed) {
+                Ok(module) => assert!(rt; module.bytes.ends_with(code) && code.len() > 0),
+                Err(reason) => assert!(rt; reason == Reason::NoRule && code.len() == 0),
             }
         }
     }
@@ -46,13 +55,7 @@ fn makes_what_a_rule_says(rt: HostRuntime) -> Result<(), Fail> {
 fn says_why_nothing_is_rewritten(rt: HostRuntime) -> Result<(), Fail> {
     let alloc = rt.alloc();
     let rules = [Rule::from_name("drop_or_self").expect(&rt, "it is a rule's name")];
-    let scope = Scope {
-        rules: &rules,
-        function: None,
-        max_size: 1_000,
-        shrinking: false,
-    };
-    match rewrite_with_seed(alloc, MODULE, 1, &scope, 1) {
+    match rewritten(alloc, &rules, 1) {
         Ok(_) => assert!(rt; false),
         Err(reason) => {
             let text = format!(in alloc; "{reason}")?;

@@ -1,16 +1,17 @@
-//! A module rewritten several times over.
-ghost use Rattle.std.specs.Prelude.{◌≡◌, ◌<◌, [], ◌∷◌, ◌++◌, Some, IfOk, OnOk, OnErr, IfErr, IfNone, IfSome};
+//! A module rewritten several times over, and watched.
+ghost use Rattle.std.specs.Prelude.{◌≡◌, ◌<◌, [], ◌∷◌, ◌++◌, Some, length, IfOk, OnOk, OnErr, IfErr};
+ghost use Rattle.module_rewrites.specs.Attempt.{IsForSize, IsReason};
 ghost use Rattle.module_rewrites.specs.Chosen.{GivesUp};
-ghost use Rattle.module_rewrites.specs.ChosenTimes.{ChoosesTimes};
+ghost use Rattle.module_rewrites.specs.ChosenTimes.{ChoosesEach, ChoosesTimes};
 ghost use Rattle.module_rewrites.specs.DoesAsBefore.{DoesAsBefore};
-ghost use Rattle.module_rewrites.specs.Mutated.{CannotMutate, IsOfSize, RefusesMutation};
 ghost use Rattle.module_rewrites.specs.Mutates.{Mutates};
 ghost use Rattle.module_rewrites.specs.Watched.{SeesAll};
 
+use crate::attempt::{Reason, rewrite_first};
 use crate::laws::{rewritten_modules_are_read_again, rewritten_modules_do_as_before};
 use crate::mutation::{Mutated, MutationError, mutate_with};
 use crate::scope::Scope;
-use crate::watch::{Unwatched, Watch};
+use crate::watch::Watch;
 use body_rewrites::Rewrite;
 use rand_core::Rng;
 use std::alloc::{AllocError, Global};
@@ -72,34 +73,74 @@ fn stopped(rewritten: RewrittenModule, e: MutationError) -> RewrittenModule
     }
 }
 
-// As `watch_times`, by a generator that then stands behind the words that were drawn.
-fn mutate_repeatedly<R: Rng, W: Watch>(
+/// The module rewritten `count` times, with the generator going on from rewrite to rewrite: each of the module that the last one left.
+/// Fewer times only where no rule applies any more, or where a further rewrite is refused: then the module is answered as the rewrites
+/// before left it, and `stopped` says why. Or why nothing of it is rewritten. Condition: `count` is not 0.
+///
+/// A rewrite takes an operator of one of the functions that may be rewritten, and what stands right before it, and writes other code in
+/// their place by one of the rules: whatever stands before that and behind it, wherever its run with the old code ends or traps that
+/// with the new code does the same, apart from the globals that are appended (see `rewrite_body`). A function that can't be read, since
+/// it has operators or forms that aren't known here, is left alone.
+///
+/// A function is drawn by its size: the generator's next word, modulo the number of bytes that all code entries contain, names one of
+/// these bytes, and so the function whose entry contains it. The next three words choose the rewrite, as `rewrite_at_random` says:
+/// what becomes of the number of operators, the rule, the rewrite; a fourth one is for a number that the new code draws. Where no
+/// rule applies there, or the new module would be too large, one is drawn again, at most 16 times in all; then the functions are
+/// tried in order, once each, from the one that was drawn last on, and behind the last one those before it. Where the scope names
+/// the function, at most 16 rewrites of it are drawn. So equal modules, generators, scopes and counts give equal bytes.
+///
+/// The new bytes are a module again, of at most as many bytes as the scope says. It is valid where the old one was, and each of its
+/// functions, called with any arguments in any memory, tables and globals, does what it did, through loops, branches, recursion,
+/// calls of imports and calls through tables. They differ from the old ones in the places of the old code, the globals that are
+/// appended, and the sizes and numbers that stand before them.
+///
+/// Each rewrite is shown to the watcher once it stands in `made`; one for which no memory was left there is not shown.
+///
+/// Each rewrite takes time linear in the module, and for each one that is drawn or tried as `rewrite_at_random` does in the function,
+/// and linear in the module where it is too large. Where nothing is rewritten the module is read once.
+///
+/// `NoRule` only where no rule applies in any of the functions that may be rewritten and can be read, of which there is one;
+/// `NoOwnFunction` only where the module has none; `Unreadable` only where there is one that may be rewritten, and none of them can
+/// be read, with the error of the first one; `NoFunction` and `UnknownImport` as `chosen_entries` refuses; `Refused` with `Read` as
+/// `read_module` refuses, with `Memory` for want of memory, with `Write` as `with_body` refuses, but never with `EmptyType`, with
+/// `TooLong` where the module would have more bytes than it may: with `Write` of `TooLarge` or `TooLong` only where all attempts were
+/// in vain, and then as the last one of them that was refused. Once it has been rewritten it is a module again, so that `stopped` holds
+/// `Read` only for want of memory.
+pub fn rewrite_module<R: Rng, W: Watch>(
     alloc: Global,
     bytes: &[u8],
     generator: &mut R,
     scope: &Scope<'_>,
     count: usize,
     watch: &mut W,
-) -> Result<Option<RewrittenModule>, MutationError>
+) -> Result<RewrittenModule, Reason>
     requires some { 0 < count }
-    ensures mutated { IfOk result (λ o. IfSome o (λ m.
-        Mutates scope.now count bytes.now m.made.items m.bytes.items m.stopped)) }
-    ensures chosen { IfOk result (λ o. IfSome o (λ m. ChoosesTimes scope.now bytes.now
-        (R.stream generator.old) m.made.items m.bytes.items m.stopped)) }
-    ensures none { IfOk result (λ o. IfNone o (CannotMutate scope.now bytes.now)) }
-    ensures refused { IfErr result (RefusesMutation scope.now bytes.now) }
-    ensures gives_up { IfErr result (λ e. IsOfSize e
+    // The new module is the old one rewritten once or more, at most `count` times, and what stands round each rewrite runs as before.
+    ensures mutated { IfOk result (λ m.
+        Mutates scope.now count bytes.now m.made.items m.bytes.items m.stopped) }
+    // It is valid where the old one was, and its functions do what they did, in every sound embedder.
+    ensures does_as_before { IfOk result (λ m. DoesAsBefore bytes.now m.bytes.items) }
+    // Each rewrite is the one that the generator's words choose from where the last one left it.
+    ensures chosen { IfOk result (λ m. ChoosesTimes scope.now bytes.now
+        (R.stream generator.old) m.made.items m.bytes.items m.stopped) }
+    // Where as many are made, the generator is left behind their words: a further call goes on as a larger count would have.
+    ensures goes_on { IfOk result (λ m. length m.made.items ≡ count → ChoosesEach scope.now
+        bytes.now (R.stream generator.old) m.made.items m.bytes.items (R.stream generator.new)) }
+    // Why nothing is rewritten; for a size only where the words choose no rewrite that fits.
+    ensures fails { IfErr result (IsReason scope.now bytes.now) }
+    ensures gives_up { IfErr result (λ e. IsForSize e
         → GivesUp scope.now bytes.now (R.stream generator.old)) }
-    ensures seen { IfOk result (λ o. IfSome o (λ m. SeesAll W.saw scope.now bytes.now
-        (R.stream generator.old) m.made.items m.bytes.items watch.old watch.new)) }
-    ensures unseen_none { IfOk result (λ o. IfNone o (watch.new ≡ watch.old)) }
-    ensures unseen_refused { OnErr result (watch.new ≡ watch.old) }
+    // Each rewrite that is made is seen, once and in order, between the bytes before it and those with it.
+    ensures seen { IfOk result (λ m. SeesAll W.saw scope.now bytes.now (R.stream generator.old)
+        m.made.items m.bytes.items watch.old watch.new) }
+    // Nothing is seen where none is made.
+    ensures unseen { OnErr result (watch.new ≡ watch.old) }
 {
     rewritten_modules_are_read_again();
-    let first = match mutate_with(alloc, bytes, generator, scope) {
-        Ok(Some(first)) => first,
-        Ok(None) => return Ok(None),
-        Err(e) => return Err(e),
+    rewritten_modules_do_as_before();
+    let first = match rewrite_first(alloc, bytes, generator, scope) {
+        Ok(first) => first,
+        Err(reason) => return Err(reason),
     };
     let mut made = Vec::new(alloc);
     add_made(alloc, &mut made, bytes, &first, watch)?;
@@ -111,82 +152,13 @@ fn mutate_repeatedly<R: Rng, W: Watch>(
     'rewrites: for _ in 1..count {
         let next = match mutate_with(alloc, &module.bytes, generator, scope) {
             Ok(Some(next)) => next,
-            Ok(None) => return Ok(Some(module)),
-            Err(e) => return Ok(Some(stopped(module, e))),
+            Ok(None) => return Ok(module),
+            Err(e) => return Ok(stopped(module, e)),
         };
         if add_made(alloc, &mut module.made, &module.bytes, &next, watch).is_err() {
-            return Ok(Some(stopped(module, MutationError::Memory)));
+            return Ok(stopped(module, MutationError::Memory));
         }
         module.bytes = next.bytes;
     }
-    Ok(Some(module))
-}
-
-/// The module rewritten `count` times, each time as `mutate_module` rewrites the module that the last rewrite left, with the same
-/// generator going on. Fewer times only where no rule applies any more, or where a further rewrite is refused: then the module is
-/// answered as the rewrites before left it, and `stopped` says why. None where no rule applies at all.
-///
-/// Each rewrite takes time linear in the module, but for operands that are compared, as `rewrites_of_body` has it. Refused as
-/// `mutate_module` refuses the module. Once it has been rewritten it is a module again, so that `stopped` holds `Read` only for want of
-/// memory; for want of memory it may also hold `Memory`.
-/// Condition: `count` is not 0.
-pub fn mutate_times<R: Rng + Drop>(
-    alloc: Global,
-    bytes: &[u8],
-    generator: R,
-    scope: &Scope<'_>,
-    count: usize,
-) -> Result<Option<RewrittenModule>, MutationError>
-    requires some { 0 < count }
-    // The new module is the old one rewritten once or more, at most `count` times, and what stands round each rewrite runs as before.
-    ensures mutated { IfOk result (λ o. IfSome o (λ m.
-        Mutates scope.now count bytes.now m.made.items m.bytes.items m.stopped)) }
-    // It is valid where the old one was, and its functions do what they did, in every sound embedder.
-    ensures does_as_before { IfOk result (λ o. IfSome o (λ m.
-        DoesAsBefore bytes.now m.bytes.items)) }
-    // Each rewrite is the one that the generator's words choose from where the last one left it.
-    ensures chosen { IfOk result (λ o. IfSome o (λ m. ChoosesTimes
-        scope.now bytes.now (R.stream generator) m.made.items m.bytes.items m.stopped)) }
-    // None only where no rule applies.
-    ensures none { IfOk result (λ o. IfNone o (CannotMutate scope.now bytes.now)) }
-    // Refused only as the module is refused; for a size only where the words choose no rewrite that fits.
-    ensures refused { IfErr result (RefusesMutation scope.now bytes.now) }
-    ensures gives_up { IfErr result (λ e. IsOfSize e
-        → GivesUp scope.now bytes.now (R.stream generator)) }
-{
-    let mut unwatched = Unwatched;
-    watch_times(alloc, bytes, generator, scope, count, &mut unwatched)
-}
-
-/// The same as `mutate_times`, watched: each rewrite is shown once it stands in `made`. One for which no memory was left there is not
-/// shown. Condition: `count` is not 0.
-pub fn watch_times<R: Rng + Drop, W: Watch>(
-    alloc: Global,
-    bytes: &[u8],
-    generator: R,
-    scope: &Scope<'_>,
-    count: usize,
-    watch: &mut W,
-) -> Result<Option<RewrittenModule>, MutationError>
-    requires some { 0 < count }
-    ensures mutated { IfOk result (λ o. IfSome o (λ m.
-        Mutates scope.now count bytes.now m.made.items m.bytes.items m.stopped)) }
-    ensures does_as_before { IfOk result (λ o. IfSome o (λ m.
-        DoesAsBefore bytes.now m.bytes.items)) }
-    ensures chosen { IfOk result (λ o. IfSome o (λ m. ChoosesTimes
-        scope.now bytes.now (R.stream generator) m.made.items m.bytes.items m.stopped)) }
-    ensures none { IfOk result (λ o. IfNone o (CannotMutate scope.now bytes.now)) }
-    ensures refused { IfErr result (RefusesMutation scope.now bytes.now) }
-    ensures gives_up { IfErr result (λ e. IsOfSize e
-        → GivesUp scope.now bytes.now (R.stream generator)) }
-    // Each rewrite that is made is seen, once and in order, between the bytes before it and those with it.
-    ensures seen { IfOk result (λ o. IfSome o (λ m. SeesAll W.saw scope.now bytes.now
-        (R.stream generator) m.made.items m.bytes.items watch.old watch.new)) }
-    // Nothing is seen where none is made.
-    ensures unseen_none { IfOk result (λ o. IfNone o (watch.new ≡ watch.old)) }
-    ensures unseen_refused { OnErr result (watch.new ≡ watch.old) }
-{
-    rewritten_modules_do_as_before();
-    let mut generator = generator;
-    mutate_repeatedly(alloc, bytes, &mut generator, scope, count, watch)
+    Ok(module)
 }

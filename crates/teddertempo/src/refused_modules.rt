@@ -1,7 +1,9 @@
 //! The calls on modules, where a request for memory may be refused: then they say so. `tests/refused_memory.sh` refuses each
 //! request in turn.
 
-use module_rewrites::{MutationError, Reason, RewrittenModule, Scope, rewrite_with_seed};
+use module_rewrites::{MutationError, Reason, RewrittenModule, Scope, Unwatched, rewrite_module};
+use rand::rngs::StdRng;
+use rand_core::SeedableRng;
 use rewrite_rules::Rule;
 use std::alloc::Global;
 use std::process::Abort;
@@ -92,7 +94,9 @@ fn rewrite(alloc: Global, rule: Rule) -> Result<RewrittenModule, Reason> {
         max_size: SUM.len(),
         shrinking: false,
     };
-    rewrite_with_seed(alloc, &SUM, 0, &scope, 1)
+    let mut generator = StdRng::seed_from_u64(0);
+    let mut unwatched = Unwatched;
+    rewrite_module(alloc, &SUM, &mut generator, &scope, 1, &mut unwatched)
 }
 
 /// Whether memory was refused, where the outcome isn't the wanted reason.
@@ -114,7 +118,7 @@ fn is_refused(rt: &impl Abort, reason: Reason, wanted: Option<Reason>) -> bool {
     true
 }
 
-/// Whether memory was refused to `rewrite_with_seed`, where a rule applies, and where none does.
+/// Whether memory was refused to `rewrite_module`, where a rule applies, and where none does.
 pub fn rewrites(rt: &impl Abort, alloc: Global) -> bool {
     match rewrite(alloc, rule_of(rt, "commute")) {
         Ok(new) => {

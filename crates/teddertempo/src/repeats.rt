@@ -1,11 +1,13 @@
 //! Rewrites of small modules, one after another, and the functions that are drawn.
+ghost use Rattle.std.specs.Prelude.{◌<◌};
 
 use crate::refused_modules::{SUM, TURNED, rule_of};
 use given_words::Words;
-use module_rewrites::{MutationError, Scope, mutate_times, mutate_with_seed};
+use module_rewrites::{MutationError, Reason, RewrittenModule, Scope, Unwatched, rewrite_module};
 use rand::rngs::StdRng;
-use rand_core::SeedableRng;
+use rand_core::{Rng, SeedableRng};
 use rewrite_rules::{Rule, all_rules};
+use std::alloc::Global;
 use std::test::Fail;
 
 /// Functions whose entries contain 7, 10 and 4 bytes. The first two add their parameters, the last one answers its first one.
@@ -20,6 +22,34 @@ fn any<'a>(rules: &'a [Rule], max_size: usize) -> Scope<'a> {
         max_size,
         shrinking: false,
     }
+}
+
+/// The module rewritten so many times, and not watched.
+fn rewritten<R: Rng>(
+    alloc: Global,
+    bytes: &[u8],
+    generator: &mut R,
+    scope: &Scope<'_>,
+    count: usize,
+) -> Result<RewrittenModule, Reason>
+    requires { 0 < count }
+{
+    let mut unwatched = Unwatched;
+    rewrite_module(alloc, bytes, generator, scope, count, &mut unwatched)
+}
+
+/// The same by a seed.
+fn rewritten_by_seed(
+    alloc: Global,
+    bytes: &[u8],
+    seed: u64,
+    scope: &Scope<'_>,
+    count: usize,
+) -> Result<RewrittenModule, Reason>
+    requires { 0 < count }
+{
+    let mut generator = StdRng::seed_from_u64(seed);
+    rewritten(alloc, bytes, &mut generator, scope, count)
 }
 
 /// Words, and the function whose operands they turn: the first word whose remainder by 21 names a byte of one that adds says
@@ -43,7 +73,7 @@ fn turns_operands(rt: HostRuntime) -> Result<(), Fail> {
     let alloc = rt.alloc();
     let rules = [rule_of(&rt, "commute")];
     let scope = any(&rules, 32);
-    let once = mutate_with_seed(alloc, &SUM, 0, &scope, 1)?.ok_or("a rewrite")?;
+    let once = rewritten_by_seed(alloc, &SUM, 0, &scope, 1)?;
     assert_eq!(rt; once.bytes.as_slice(), TURNED.as_slice());
     let named = Scope {
         rules: &rules,
@@ -51,13 +81,15 @@ fn turns_operands(rt: HostRuntime) -> Result<(), Fail> {
         max_size: 32,
         shrinking: false,
     };
-    let thrice = mutate_with_seed(alloc, &SUM, 0, &named, 3)?.ok_or("a rewrite")?;
+    let thrice = rewritten_by_seed(alloc, &SUM, 0, &named, 3)?;
     assert_eq!(rt; thrice.bytes.as_slice(), TURNED.as_slice());
     assert_eq!(rt; thrice.made.len(), 3);
     assert!(rt; thrice.stopped.is_none());
     let folding = [rule_of(&rt, "fold")];
-    let none = mutate_with_seed(alloc, &SUM, 0, &any(&folding, 32), 3)?;
-    assert!(rt; none.is_none());
+    match rewritten_by_seed(alloc, &SUM, 0, &any(&folding, 32), 3) {
+        Ok(_) => assert!(rt; false, "a sum of constants"),
+        Err(reason) => assert!(rt; reason == Reason::NoRule),
+    }
     Ok(())
 }
 
@@ -69,12 +101,9 @@ fn rewrites_twice(rt: HostRuntime) -> Result<(), Fail> {
     let all = any(&rules, usize::MAX);
     for seed in 0..4u64 {
         let mut generator = StdRng::seed_from_u64(seed);
-        let once = mutate_times(alloc, &SUM, &mut generator, &all, 1)?;
-        let once = once.ok_or("a rewrite")?;
-        let again = mutate_times(alloc, &once.bytes, &mut generator, &all, 1)?;
-        let again = again.ok_or("a rewrite")?;
-        let both = mutate_with_seed(alloc, &SUM, seed, &all, 2)?;
-        let both = both.ok_or("two rewrites")?;
+        let once = rewritten(alloc, &SUM, &mut generator, &all, 1)?;
+        let again = rewritten(alloc, &once.bytes, &mut generator, &all, 1)?;
+        let both = rewritten_by_seed(alloc, &SUM, seed, &all, 2)?;
         assert!(rt; both.bytes == again.bytes, "seed {seed}");
         assert!(rt; both.made.len() == 2);
     }
@@ -93,9 +122,8 @@ fn draws_functions_by_their_sizes(rt: HostRuntime) -> Result<(), Fail> {
             list.push(word.parse::<u64>()?)?;
         }
         let function = function.trim().parse::<usize>()?;
-        let generator = Words::new(list);
-        let new = mutate_times(alloc, THREE, generator, &scope, 1)?;
-        let new = new.ok_or("a rewrite")?;
+        let mut generator = Words::new(list);
+        let new = rewritten(alloc, THREE, &mut generator, &scope, 1)?;
         let made = new.made.first().ok_or("no rewrite")?;
         assert!(rt; made.function == function, "{case}");
     }
@@ -121,8 +149,8 @@ fn draws_another_that_fits(rt: HostRuntime) -> Result<(), Fail> {
                 max_size,
                 shrinking: false,
             };
-            let new = mutate_times(alloc, &SUM, Words::new(list), &scope, 1)?;
-            let new = new.ok_or("a rewrite")?;
+            let mut generator = Words::new(list);
+            let new = rewritten(alloc, &SUM, &mut generator, &scope, 1)?;
             let turned = new.bytes.as_slice() == TURNED.as_slice();
             let size = if max_size == 35 { 35usize } else { 32 };
             assert!(rt; new.bytes.len() == size, "{max_size}");
@@ -139,12 +167,11 @@ fn keeps_what_was_made(rt: HostRuntime) -> Result<(), Fail> {
     let rules = [rule_of(&rt, "add_zero")];
     for made in 0..4usize {
         let scope = any(&rules, 32 + 3 * made);
-        match mutate_with_seed(alloc, &SUM, 0, &scope, 3) {
-            Err(e) => {
-                assert!(rt; made == 0 && e == MutationError::TooLong);
+        match rewritten_by_seed(alloc, &SUM, 0, &scope, 3) {
+            Err(reason) => {
+                assert!(rt; made == 0 && reason == Reason::Refused(MutationError::TooLong));
             }
             Ok(new) => {
-                let new = new.ok_or("a rewrite")?;
                 assert!(rt; new.made.len() == made, "{made}");
                 assert!(rt; new.bytes.len() == 32 + 3 * made, "{made}");
                 let stopped = new.stopped == Some(MutationError::TooLong);

@@ -1,10 +1,11 @@
 //! Options, and runs on small modules and with devices that fail.
 
 use crate::refused_modules::{SUM, TURNED};
+use clap::error::ErrorKind;
 use device_tally::Tally;
 use failing_devices::{FailingReader, FailingWriter};
 use module_commands::{Ending, Failure, Options, options_of, run};
-use module_rewrites::{Reason, Unwatched};
+use module_rewrites::{Dose, Reason, Unwatched};
 use rewrite_rules::{Rule, all_rules, rule_names};
 use std::alloc::{AllocError, Global};
 use std::io::Write;
@@ -148,6 +149,25 @@ a.wasm --list-rules | ArgumentConflict
 --rule fold --rule melt --rule commute | InvalidValue
 --rule fold --rule fold | Rewrite 0 1 None 2 fold fold
 --count 0 | ValueValidation
+--count 20% | Rewrite 0 20% None all
+--count each | Rewrite 0 100% None all
+--count 250% --function 2 | Rewrite 0 250% Some(2) all
+--count=18446744073709551615% | Rewrite 0 18446744073709551615% None all
+--shrink --count each --rule drop_add_zero | Rewrite 0 100% None shrink 1 drop_add_zero drop_add_zero
+--count 0% | ValueValidation
+--count=-1 | ValueValidation
+--count=-1% | ValueValidation
+--count x | ValueValidation
+--count= | ValueValidation
+--count % | ValueValidation
+--count 20%% | ValueValidation
+--count 2.5% | ValueValidation
+--count 20x | ValueValidation
+--count each% | ValueValidation
+--count Each | ValueValidation
+--count 18446744073709551616 | ValueValidation
+--count 18446744073709551616% | ValueValidation
+--count +20% | ValueValidation
 --list --blocks | ArgumentConflict
 --list --stats | ArgumentConflict
 --stats --blocks | ArgumentConflict
@@ -201,6 +221,35 @@ const RUNS: &str = r#"
 
 --rule commute --count 2 | SUM | Ok(Whole)
 > SUM
+
+--rule commute --count each --stats | SUM | Ok(Whole)
+> SUM
+! functions  1          unreadable 0
+! function 0      operator 2      rule commute
+! function 0      operator 2      rule commute
+! function 0      operator 2      rule commute
+! function 0      operator 2      rule commute
+! bytes      32         new 32
+
+--rule commute --count 99% --stats | SUM | Ok(Whole)
+> TURNED
+! functions  1          unreadable 0
+! function 0      operator 2      rule commute
+! function 0      operator 2      rule commute
+! function 0      operator 2      rule commute
+! bytes      32         new 32
+
+--rule commute --count 1% --stats | SUM | Ok(Whole)
+> TURNED
+! functions  1          unreadable 0
+! function 0      operator 2      rule commute
+! bytes      32         new 32
+
+--rule commute --count 150% --function 0 | SUM | Ok(Whole)
+> SUM
+
+--rule commute --count each | STRUCTURE | Ok(Whole)
+> STRUCTURE
 
 --rule commute --count 2 --show | SUM | Ok(Whole)
 > SUM
@@ -506,6 +555,14 @@ fn flags_text(alloc: Global, options: &Options) -> Result<String, AllocError> {
     format!(in alloc; "{shrink}{stats}{reach}{json}{show}{strip}{quiet}")
 }
 
+/// A dose as the command line has it.
+fn dose_text(alloc: Global, dose: Dose) -> Result<String, AllocError> {
+    match dose {
+        Dose::Times(count) => format!(in alloc; "{count}"),
+        Dose::Percent(percent) => format!(in alloc; "{percent}%"),
+    }
+}
+
 #[test]
 fn reads_options(rt: HostRuntime) -> Result<(), Fail> {
     let alloc = rt.alloc();
@@ -515,15 +572,21 @@ fn reads_options(rt: HostRuntime) -> Result<(), Fail> {
             Ok(found) => {
                 let flags = flags_text(alloc, &found)?;
                 let rules = rules_text(alloc, &found.rules)?;
+                let dose = dose_text(alloc, found.dose)?;
                 format!(in alloc;
                     "{:?} {} {} {:?} {flags}{rules}",
-                    found.task, found.seed, found.count, found.function
+                    found.task, found.seed, dose, found.function
                 )?
             }
             Err(error) => format!(in alloc; "{:?}", error.kind())?,
         };
         assert!(rt; text.as_str() == wanted.trim(), "{case}");
     }
+    let words = ["teddertempo", "--count", "20 %"];
+    let Err(error) = options_of(alloc, &rule_names(alloc)?, &words) else {
+        panic!(rt; "a percentage with a blank");
+    };
+    assert!(rt; error.kind() == ErrorKind::ValueValidation);
     let Err(error) = options(alloc, "--rule ad_zero") else {
         panic!(rt; "a rule of no name");
     };

@@ -7,37 +7,41 @@ use Rattle.module_rewrites.specs.Attempt.{IsForSize, IsReason}
 use Rattle.module_rewrites.specs.Chosen.{GivesUp}
 use Rattle.module_rewrites.specs.ChosenTimes.{ChoosesTimes}
 use Rattle.module_rewrites.specs.DoesAsBefore.{DoesAsBefore}
+use Rattle.module_rewrites.specs.Dose.{IsDoseOf, IsOfReading}
 use Rattle.module_rewrites.specs.Mutates.{Mutates}
 use Rattle.module_rewrites.specs.Seeded.{seeded}
 use Rattle.module_rewrites.specs.declared.attempt.Reason.{Reason}
+use Rattle.module_rewrites.specs.declared.attempt.Reason.TheVariants.{NoRule, NoOwnFunction, Unreadable, NoFunction, UnknownImport, Refused}
+use Rattle.module_rewrites.specs.declared.dose.Dose.{Dose}
+use Rattle.module_rewrites.specs.declared.dose.Dose.TheVariants.{Times}
 use Rattle.module_rewrites.specs.declared.times.RewrittenModule.{RewrittenModule}
-use Rattle.teddertempo_c.specs.Options.{rules_of, function_of, count_of, most_of}
+use Rattle.teddertempo_c.specs.Options.{rules_of, function_of, dose_of, most_of}
 use Rattle.teddertempo_c.specs.Reports.{asked_of}
 use Rattle.teddertempo_c.specs.Rules.{every_rule}
 use Rattle.teddertempo_c.specs.Writes.{Asked, Fits, IsRefusedFor, IsRewrittenBy, once}
 use Rattle.teddertempo_c.specs.declared.options.Options.{Options}
 use Rattle.teddertempo_c.proofs.FitsLemmas.{fits_mutated}
 
-module _ (asked : Asked) (bytes : List ℕ) (result : Result RewrittenModule Reason)
-    (mutates : IfOk result (λ m. Mutates asked.scope asked.count bytes m.made.items m.bytes.items m.stopped)) where
-  pub rewritten_so : IfOk result (λ m. DoesAsBefore bytes m.bytes.items) →
+module _ (asked : Asked) (count : ℕ) (bytes : List ℕ) (result : Result RewrittenModule Reason)
+    (mutates : IfOk result (λ m. Mutates asked.scope count bytes m.made.items m.bytes.items m.stopped)) where
+  pub rewritten_so : IsDoseOf asked.dose asked.scope.function bytes count → IfOk result (λ m. DoesAsBefore bytes m.bytes.items) →
       IfOk result (λ m. ChoosesTimes asked.scope bytes (seeded asked.seed) m.made.items m.bytes.items m.stopped) →
       IfOk result (λ m. IsRewrittenBy asked bytes m.made.items m.bytes.items)
-  rewritten_so does chosen = each result mutates does chosen
+  rewritten_so counted does chosen = each result mutates does chosen
     where
-      each : (r : Result RewrittenModule Reason) → IfOk r (λ m. Mutates asked.scope asked.count bytes m.made.items m.bytes.items m.stopped) →
+      each : (r : Result RewrittenModule Reason) → IfOk r (λ m. Mutates asked.scope count bytes m.made.items m.bytes.items m.stopped) →
           IfOk r (λ m. DoesAsBefore bytes m.bytes.items) →
           IfOk r (λ m. ChoosesTimes asked.scope bytes (seeded asked.seed) m.made.items m.bytes.items m.stopped) →
           IfOk r (λ m. IsRewrittenBy asked bytes m.made.items m.bytes.items)
-      each (Ok m) a b c = record { stopped = m.stopped; mutates = a; chosen = c; does_as_before = b }
+      each (Ok m) a b c = record { count = count; count_is = counted; stopped = m.stopped; mutates = a; chosen = c; does_as_before = b }
       each (Err e) a b c = tt
 
   pub fits_so : IfOk result (λ m. Fits asked.scope.most m.made.items m.bytes.items)
   fits_so = each result mutates
     where
-      each : (r : Result RewrittenModule Reason) → IfOk r (λ m. Mutates asked.scope asked.count bytes m.made.items m.bytes.items m.stopped) →
+      each : (r : Result RewrittenModule Reason) → IfOk r (λ m. Mutates asked.scope count bytes m.made.items m.bytes.items m.stopped) →
           IfOk r (λ m. Fits asked.scope.most m.made.items m.bytes.items)
-      each (Ok m) a = fits_mutated asked.scope asked.count bytes m.made.items m.bytes.items m.stopped a
+      each (Ok m) a = fits_mutated asked.scope count bytes m.made.items m.bytes.items m.stopped a
       each (Err e) a = tt
 
 pub refused_so : (asked : Asked) (bytes : List ℕ) (r : Result RewrittenModule Reason) → IfErr r (IsReason asked.scope bytes) →
@@ -45,29 +49,42 @@ pub refused_so : (asked : Asked) (bytes : List ℕ) (r : Result RewrittenModule 
 refused_so asked bytes (Ok m) a b = tt
 refused_so asked bytes (Err e) a b = record { is = a; gives_up = b }
 
+-- how many rewrites are asked for isn't known
+pub uncounted : (asked : Asked) (bytes : List ℕ) (reason : Reason) → IsReason asked.scope bytes reason → IsOfReading reason →
+    IsRefusedFor asked bytes reason
+uncounted asked bytes reason is reading = record { is = is; gives_up = λ size. absurd (other reason reading size) }
+  where
+    other : (r : Reason) → IsOfReading r → IsForSize r → ⊥
+    other NoRule w size = size
+    other NoOwnFunction w size = size
+    other (Unreadable e) w size = size
+    other (NoFunction f) w size = size
+    other (UnknownImport e) w size = size
+    other (Refused e) w size = w size
+
 -- ---- once
 
 abbrev pub once_with : (seed : ℕ) → List Rule → (room : ℕ) → Asked
-once_with seed rules room = record { seed = seed; scope = record { rules = rules; function = None; most = room; shrinking = false }; count = 1 }
+once_with seed rules room = record { seed = seed; scope = record { rules = rules; function = None; most = room; shrinking = false }; dose = Times 1 }
 
 pub once_same : (seed : ℕ) (rules : List Rule) (room : ℕ) → rules ≡ every_rule → once_with seed rules room ≡ once seed room
 once_same seed rules room e = ap (λ r. once_with seed r room) e
 
 -- ---- by options
 
-abbrev pub asked_with : Options → List Rule → Option ℕ → (most count : ℕ) → Asked
-asked_with options rules function most count = record {
+abbrev pub asked_with : Options → List Rule → Option ℕ → (most : ℕ) → Dose → Asked
+asked_with options rules function most dose = record {
   seed = options.seed;
   scope = record { rules = rules; function = function; most = most; shrinking = false };
-  count = count;
+  dose = dose;
 }
 
-pub asked_same : (options : Options) (size room : ℕ) (rules : List Rule) (function : Option ℕ) (most count : ℕ) → rules ≡ rules_of options →
-    function ≡ function_of options → most ≡ most_of options size room → count ≡ count_of options →
-    asked_with options rules function most count ≡ asked_of options size room
-asked_same options size room rules function most count a b c d =
-    ap (λ r. asked_with options r function most count) a ∙ ap (λ f. asked_with options (rules_of options) f most count) b
-    ∙ ap (λ m. asked_with options (rules_of options) (function_of options) m count) c
+pub asked_same : (options : Options) (size room : ℕ) (rules : List Rule) (function : Option ℕ) (most : ℕ) (dose : Dose) → rules ≡ rules_of options →
+    function ≡ function_of options → most ≡ most_of options size room → dose ≡ dose_of options →
+    asked_with options rules function most dose ≡ asked_of options size room
+asked_same options size room rules function most dose a b c d =
+    ap (λ r. asked_with options r function most dose) a ∙ ap (λ f. asked_with options (rules_of options) f most dose) b
+    ∙ ap (λ m. asked_with options (rules_of options) (function_of options) m dose) c
     ∙ ap (λ n. asked_with options (rules_of options) (function_of options) (most_of options size room) n) d
 
 pub fits_room : (options : Options) (size room : ℕ) (r : Result RewrittenModule Reason) →

@@ -4,6 +4,8 @@ use Rattle.std.specs.List.{filter, list_all}
 use Rattle.std.specs.Option.{unwrap_or}
 use Rattle.rewrite_rules.specs.Rule.{rule_number}
 use Rattle.rewrite_rules.specs.declared.rule.Rule.{Rule}
+use Rattle.module_rewrites.specs.declared.dose.Dose.{Dose}
+use Rattle.module_rewrites.specs.declared.dose.Dose.TheVariants.{Times, Percent}
 use Rattle.teddertempo_c.specs.Rules.{every_rule}
 use Rattle.teddertempo_c.specs.declared.options.Options.{Options}
 use Rattle.teddertempo_c.specs.declared.options.TheConstants.{OPTIONS_SIZE}
@@ -45,9 +47,10 @@ AreBad options report_size size room = AreSmall options report_size ⊎ ((room <
 abbrev pub function_of : Options → Option ℕ
 function_of options = if eqb options.function 18446744073709551615 then None else Some options.function
 
--- how many rewrites are made
-abbrev pub count_of : Options → ℕ
-count_of options = if eqb options.count 0 then 1 else options.count
+-- how many rewrites are made: where a percentage is given, which is another one than 0, as many as that says
+abbrev pub dose_of : Options → Dose
+dose_of options =
+    if eqb options.percent 0 then (if eqb options.count 0 then Times 1 else Times options.count) else Percent options.percent
 
 -- the most bytes that the new module of one of `size` bytes may have in a buffer with that much room
 abbrev pub most_of : Options → (size room : ℕ) → ℕ

@@ -5,24 +5,30 @@ use Rattle.module_rewrites.specs.Attempt.{IsForSize, IsReason}
 use Rattle.module_rewrites.specs.Chosen.{GivesUp}
 use Rattle.module_rewrites.specs.ChosenTimes.{ChoosesTimes}
 use Rattle.module_rewrites.specs.DoesAsBefore.{DoesAsBefore}
+use Rattle.module_rewrites.specs.Dose.{IsDoseOf}
 use Rattle.module_rewrites.specs.Mutates.{Mutates}
 use Rattle.module_rewrites.specs.Scope.{Scope}
 use Rattle.module_rewrites.specs.Seeded.{seeded}
 use Rattle.module_rewrites.specs.declared.attempt.Reason.{Reason}
+use Rattle.module_rewrites.specs.declared.dose.Dose.{Dose}
+use Rattle.module_rewrites.specs.declared.dose.Dose.TheVariants.{Times}
 use Rattle.module_rewrites.specs.declared.mutation.MutationError.{MutationError}
 use Rattle.module_rewrites.specs.declared.times.MadeRewrite.{MadeRewrite}
 use Rattle.teddertempo_c.specs.Rules.{every_rule}
 
--- What is asked for: the generator's seed, what of the module may be rewritten, and how many rewrites at most.
+-- What is asked for: the generator's seed, what of the module may be rewritten, and how many rewrites.
 pub record Asked : Type 0 where
   pub seed : ℕ
   pub scope : Scope
-  pub count : ℕ
+  pub dose : Dose
 
--- The new bytes are the module with these rewrites made, which the seed chooses; it is valid where the old one was, and does what that did.
+-- The new bytes are the module with these rewrites made, at most as many as are asked for, which the seed chooses; it is valid where the old one was, and
+-- does what that did.
 pub record IsRewrittenBy (asked : Asked) (bytes : List ℕ) (made : List MadeRewrite) (new : List ℕ) : Type 0 where
+  pub count : ℕ
+  pub count_is : IsDoseOf asked.dose asked.scope.function bytes count
   pub stopped : Option MutationError
-  pub mutates : Mutates asked.scope asked.count bytes made new stopped
+  pub mutates : Mutates asked.scope count bytes made new stopped
   pub chosen : ChoosesTimes asked.scope bytes (seeded asked.seed) made new stopped
   pub does_as_before : DoesAsBefore bytes new
 
@@ -42,7 +48,7 @@ pub record WritesFront (old : List ℕ) (result : ℕ) (new : List ℕ) : Type 0
 
 -- one rewrite, by any rule in any function, in so many bytes
 abbrev pub once : (seed room : ℕ) → Asked
-once seed room = record { seed = seed; scope = record { rules = every_rule; function = None; most = room; shrinking = false }; count = 1 }
+once seed room = record { seed = seed; scope = record { rules = every_rule; function = None; most = room; shrinking = false }; dose = Times 1 }
 
 -- The first `size` bytes were a module, and the first ones now, the result says how many, are that module rewritten once.
 pub record IsRewrittenOnce (seed size : ℕ) (old : List ℕ) (result : ℕ) (new : List ℕ) : Type 0 where

@@ -1,33 +1,44 @@
 //! A module rewritten, or why nothing of it is.
-ghost use Rattle.std.specs.Prelude.{◌≡◌, ◌<◌, length, IfOk, IfErr};
+ghost use Rattle.std.specs.Prelude.{◌≡◌, length, IfOk, IfErr};
+ghost use Rattle.module_rewrites.specs.Dose.{IsOneOrMore};
 ghost use Rattle.teddertempo_c.specs.Options.{rules_of};
 ghost use Rattle.teddertempo_c.specs.Reports.{IsAttempt, IsRefusal, asked_of};
 ghost use Rattle.teddertempo_c.specs.Rules.{every_rule};
 ghost use Rattle.teddertempo_c.specs.Writes.{Fits, IsRefusedFor, IsRewrittenBy, once};
 
-use crate::options::{Options, are_bad, count_of, function_of, most_of, rules_of};
+use crate::options::{Options, are_bad, dose_of, function_of, most_of, rules_of};
 use crate::outcome::{Outcome, Refusal, refusal_by};
-use module_rewrites::{Reason, RewrittenModule, Scope, rewrite_with_seed};
+use module_rewrites::{
+    Dose, Reason, RewrittenModule, Scope, Unwatched, count_of_dose, rewrite_module,
+};
+use rand::rngs::StdRng;
+use rand_core::SeedableRng;
 use rewrite_rules::Rule;
 use std::alloc::Global;
 
-// The module rewritten as `rewrite_with_seed` rewrites it: it has bytes, and no more than it may. Condition: `count` is not 0.
+// The module rewritten with the generator of the seed: it has bytes, and no more than it may. Condition: the dose is more than none.
 fn rewritten(
     alloc: Global,
     bytes: &[u8],
     seed: u64,
     scope: &Scope<'_>,
-    count: usize,
+    dose: Dose,
 ) -> Result<RewrittenModule, Reason>
-    requires some { 0 < count }
+    requires some { IsOneOrMore dose }
     ensures rewritten { IfOk result (λ m. IsRewrittenBy
-        (record { seed = seed; scope = scope.now; count = count })
+        (record { seed = seed; scope = scope.now; dose = dose })
         bytes.now m.made.items m.bytes.items) }
     ensures fits { IfOk result (λ m. Fits scope.now.most m.made.items m.bytes.items) }
     ensures refused { IfErr result (IsRefusedFor
-        (record { seed = seed; scope = scope.now; count = count }) bytes.now) }
+        (record { seed = seed; scope = scope.now; dose = dose }) bytes.now) }
 {
-    rewrite_with_seed(alloc, bytes, seed, scope, count)
+    let count = match count_of_dose(alloc, bytes, scope, dose) {
+        Ok(count) => count,
+        Err(reason) => return Err(reason),
+    };
+    let mut generator = StdRng::seed_from_u64(seed);
+    let mut unwatched = Unwatched;
+    rewrite_module(alloc, bytes, &mut generator, scope, count, &mut unwatched)
 }
 
 /// The module rewritten once by these rules, in any function, to at most `room` bytes.
@@ -50,7 +61,7 @@ pub fn rewritten_once(
         max_size: room,
         shrinking: false,
     };
-    rewritten(alloc, bytes, seed, &scope, 1)
+    rewritten(alloc, bytes, seed, &scope, Dose::Times(1))
 }
 
 // An outcome that no place in the module belongs to.
@@ -83,7 +94,7 @@ fn rewritten_by(
         max_size: most_of(options, bytes.len(), room),
         shrinking: false,
     };
-    rewritten(alloc, bytes, options.seed, &scope, count_of(options))
+    rewritten(alloc, bytes, options.seed, &scope, dose_of(options))
 }
 
 /// The module that the first `size` bytes of the buffer are, rewritten as the options say, or why nothing of it is. The caller's report

@@ -30,7 +30,7 @@ use std::alloc::Global;
 /// seed, and writes the new module over them. Answers the new module's size, which is `max_size` at most.
 ///
 /// Answers 0, and leaves the bytes as they were, where `size` is above `max_size`, or for one of the reasons for which
-/// `rewrite_with_seed` refuses. One of these is that no memory is left, which may be so at any time: so no contract can tell this
+/// `rewrite_module` refuses. One of these is that no memory is left, which may be so at any time: so no contract can tell this
 /// call from one that always answers 0.
 ///
 /// The new module is valid where the old one was, and its functions do what they did. Equal modules, seeds and `max_size` give

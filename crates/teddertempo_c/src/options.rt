@@ -1,10 +1,12 @@
 //! What a caller asks for.
 ghost use Rattle.std.specs.Prelude.{◌≡◌, ◌≢◌, ◌↔◌, ◌<◌, [], IfOk, IsTrue};
 ghost use Rattle.std.specs.List.{filter};
-ghost use Rattle.teddertempo_c.specs.Options.{AreBad, allows, allows_number, count_of, function_of, has_bit, most_of, names_none, rules_of, word_of};
+ghost use Rattle.module_rewrites.specs.Dose.{IsOneOrMore};
+ghost use Rattle.teddertempo_c.specs.Options.{AreBad, allows, allows_number, dose_of, function_of, has_bit, most_of, names_none, rules_of, word_of};
 
 use crate::report::REPORT_SIZE;
 use crate::rules::every_rule;
+use module_rewrites::Dose;
 use rewrite_rules::{Rule, rule_count};
 use std::alloc::{AllocError, Global};
 use std::mem::size_of;
@@ -25,12 +27,15 @@ pub struct Options {
     pub count: u64,
     /// How many bytes more than the old module a new one may have at most; `u64::MAX`: as many as the buffer has room for.
     pub max_growth: u64,
+    /// Where it isn't 0, as many rewrites are made as this percentage of the operators of the functions that may be rewritten and can be
+    /// read, at least one, in place of `count`.
+    pub percent: u64,
 }
 
 /// How many bytes they have.
-pub const OPTIONS_SIZE: u64 = 168;
+pub const OPTIONS_SIZE: u64 = 176;
 
-const _: () = prove!(size_of::<Options>() == 168);
+const _: () = prove!(size_of::<Options>() == 176);
 
 // Whether no bit is set.
 fn names_none(words: &[u64]) -> bool
@@ -120,14 +125,16 @@ pub fn function_of(options: &Options) -> Option<usize>
 }
 
 /// How many rewrites are made.
-pub fn count_of(options: &Options) -> usize
-    ensures is { result ≡ count_of options.now }
-    ensures some { 0 < result }
+pub fn dose_of(options: &Options) -> Dose
+    ensures is { result ≡ dose_of options.now }
+    ensures some { IsOneOrMore result }
 {
-    if options.count == 0 {
-        1
+    if options.percent != 0 {
+        Dose::Percent(options.percent as usize)
+    } else if options.count == 0 {
+        Dose::Times(1)
     } else {
-        options.count as usize
+        Dose::Times(options.count as usize)
     }
 }
 

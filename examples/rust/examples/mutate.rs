@@ -1,7 +1,7 @@
 //! Rewrites a module and says what was done, or why nothing was, as `examples/c/mutate.c` does:
 //!
 //! ```text
-//! mutate [--seed N] [--count N] [--function N] [--growth N] [--rule NAME].. MODULE NEW
+//! mutate [--seed N] [--count N] [--percent N] [--function N] [--growth N] [--rule NAME].. MODULE NEW
 //! ```
 //!
 //! The status is 2 where the library writes no module, and 1 where the options can't be read, or a file can't be read or written.
@@ -19,6 +19,7 @@ fn with_option(options: Options, name: &str, value: &str) -> Option<Options> {
         "--seed" => options.seed(value.parse().ok()?),
         "--count" => options.count(value.parse().ok()?),
         "--function" => options.function(value.parse().ok()?),
+        "--percent" => options.percent(value.parse().ok()?),
         "--growth" => options.max_growth(value.parse().ok()?),
         "--rule" => options.rule(value.parse().ok()?),
         _ => return None,
@@ -67,7 +68,7 @@ fn main() -> ExitCode {
     let words: Vec<String> = env::args().skip(1).collect();
     let Some((options, old, new)) = read_arguments(&words) else {
         eprintln!(
-            "usage: mutate [--seed N] [--count N] [--function N] [--growth N] [--rule NAME].. MODULE NEW"
+            "usage: mutate [--seed N] [--count N] [--percent N] [--function N] [--growth N] [--rule NAME].. MODULE NEW"
         );
         return ExitCode::from(1);
     };

@@ -17,6 +17,8 @@ pub struct Options {
     function: Option<u64>,
     count: u64,
     max_growth: Option<u64>,
+    // 0 where the count holds.
+    percent: u64,
 }
 
 impl Default for Options {
@@ -27,6 +29,7 @@ impl Default for Options {
             function: None,
             count: 1,
             max_growth: None,
+            percent: 0,
         }
     }
 }
@@ -94,6 +97,14 @@ impl Options {
         self
     }
 
+    /// As many rewrites as this percentage of the operators of the functions that may be rewritten and can be read, but one at least, in
+    /// place of a count; 0 is no percentage.
+    #[must_use]
+    pub fn percent(mut self, percent: u64) -> Options {
+        self.percent = percent;
+        self
+    }
+
     /// The new module has at most so many bytes more than the old one.
     #[must_use]
     pub fn max_growth(mut self, bytes: u64) -> Options {
@@ -113,6 +124,7 @@ impl Options {
             function: self.function.unwrap_or(raw::ANY),
             count: self.count,
             max_growth: self.max_growth.unwrap_or(raw::ANY),
+            percent: self.percent,
         })
     }
 }

@@ -13,6 +13,7 @@ pub struct Options {
     pub function: u64,
     pub count: u64,
     pub max_growth: u64,
+    pub percent: u64,
 }
 
 #[repr(C)]
@@ -25,7 +26,7 @@ pub struct Report {
     pub offset: u64,
 }
 
-const _: () = assert!(size_of::<Options>() == 168 && size_of::<Report>() == 40);
+const _: () = assert!(size_of::<Options>() == 176 && size_of::<Report>() == 40);
 
 impl Report {
     /// One to be written.
@@ -86,6 +87,7 @@ mod tests {
                 function: ANY,
                 count: 1,
                 max_growth: ANY,
+                percent: 0,
             },
             more: [u64::MAX; 4],
         };

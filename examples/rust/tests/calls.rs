@@ -119,6 +119,10 @@ fn options_choose_functions_and_counts() {
     let (report, _) = by_options(&Options::new().function(function).count(5)).unwrap();
     assert_eq!(report.last.unwrap().function, function);
     assert_eq!(report.made, 5);
+    let few = Options::new().function(function).percent(1);
+    let (report, _) = by_options(&few).unwrap();
+    let (twice, _) = by_options(&few.percent(200)).unwrap();
+    assert!(report.made < twice.made);
     let (_, new) = by_options(&Options::new().count(2).max_growth(20)).unwrap();
     assert!(new.len() <= module().len() + 20);
 }

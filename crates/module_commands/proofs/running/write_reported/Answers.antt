@@ -13,13 +13,14 @@ returns-clause-reported g c =
     let between = g.E.Write.contents c.report_module.new.notes in
     let middle = g.E.Write.contents c.write_all.new.self in
     let behind = g.E.Write.contents c.write_all-2.new.self in
-    let count = c.args.options.now.count in
+    let count = new.count in
     let report = rewrites_report (form_of c.args.options.now) count c.args.bytes.now new.module.made.items new.module.stopped new.module.bytes.items in
     record {
       writes = record {
         made = new.module.made.items;
         stopped = new.module.stopped;
         written_bytes = new.module.bytes.items;
+        count = count;
         outcome = c.in_ok-new.ensures.outcome;
         written = subst (λ (text : List ℕ). Appends (g.W.Write.contents c.args.output.now) (g.W.Write.contents c.write_bytes.new.output) text)
             c.deref.ensures.value c.in_ok-write_bytes.ensures.written;

@@ -14,6 +14,7 @@ returns-clause-shown g c =
         made = new.module.made.items;
         stopped = new.module.stopped;
         written_bytes = new.module.bytes.items;
+        count = new.count;
         outcome = c.in_ok-new.ensures.outcome;
         written = subst (λ (text : List ℕ). Appends (g.W.Write.contents c.args.output.now) (g.W.Write.contents c.write_bytes.new.output) text)
             c.deref.ensures.value c.in_ok-write_bytes.ensures.written;

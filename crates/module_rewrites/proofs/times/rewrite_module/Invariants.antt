@@ -1,8 +1,9 @@
--- Each rewrite so far is of the module that the last one left, by the words behind those of the last one, and was seen so.
+-- Each rewrite so far is of the module that the last one left, by the words behind those of the last one, and was seen so; the module does as before.
 use Rattle.std.proofs.Common.{◌≡◌, None}
+use Rattle.module_rewrites.specs.DoesAsBefore.{DoesAsBefore}
 use Rattle.module_rewrites.specs.Watched.{SeesEach}
 use Rattle.module_rewrites.proofs.MutatesLemmas.{SoFar}
-use Rattle.module_rewrites.proofs.times.mutate_repeatedly.Given as goal
+use Rattle.module_rewrites.proofs.times.rewrite_module.Given as goal
 
 abbrev pub invariant-rewrites : goal.invariant-rewrites
 invariant-rewrites g l =
@@ -11,3 +12,4 @@ invariant-rewrites g l =
     × (l.«module».stopped ≡ None)
     × SeesEach g.W.Watch.saw l.scope (record { bytes = l.bytes; stream = g.R.Rng.stream l.fn.generator; watcher = l.fn.watch })
     l.«module».made.items (record { bytes = l.«module».bytes.items; stream = g.R.Rng.stream l.generator; watcher = l.watch })
+    × DoesAsBefore l.bytes l.«module».bytes.items
