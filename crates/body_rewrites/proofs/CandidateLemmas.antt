@@ -186,6 +186,7 @@ one_added number used classes class old now new v w l there items is so = record
   where
     here : slice_get new class ≡ Some w
     here = ap (λ xs. slice_get xs class) is ∙ get_set_same now class w (slice_get_within now class v there)
+
     elsewhere : (k : ℕ) → (k ≢ class) → slice_get new k ≡ slice_get now k
     elsewhere k other = ap (λ xs. slice_get xs k) is ∙ get_set_other now class k w other
 

@@ -1,5 +1,5 @@
 -- Class by class.
-use Rattle.std.proofs.Common.{◌+◌, ◌∷◌, true, subst, sym, ap, ◌∙◌, arith}
+use Rattle.std.proofs.Common.{◌+◌, true, subst, sym, ◌∙◌, arith}
 use Rattle.std.proofs.lemmas.Bool.{false≢true}
 use Rattle.std.proofs.lemmas.Option.{slice_get-get_or}
 use Rattle.body_rewrites.proofs.AllAlikeLemmas.{item_is}

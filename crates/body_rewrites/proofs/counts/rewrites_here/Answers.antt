@@ -12,7 +12,7 @@ use Rattle.body_rewrites.proofs.counts.rewrites_here.Goals.{then-makes+in_ok-pus
 use Rattle.body_rewrites.proofs.counts.rewrites_here.Goals as goal
 
 pub makes-requires-clause-asked : goal.makes-requires-clause-asked
-makes-requires-clause-asked c = 
+makes-requires-clause-asked c =
     let asked = c.asked-item.result in
     subst IsAskedSo (sym c.asked-item.is) (asked_at c.args.lines.now c.requires.lines c.loop-asked.asked-index asked c.loop-asked-test.true)
 
