@@ -83,17 +83,6 @@ module _ {A : Type 0} (test : A → Bool) where
       items ≡ numbers_from test 0 (take number xs) → items ≡ numbers_from test 0 (take (number + 1) xs)
   no_number_more xs number d items l e is = is ∙ sym (append-nil (numbers_from test 0 (take number xs))) ∙ sym (numbers_more xs number d l false e)
 
--- ---- the lists
-
-pub last_cases : {A : Type 0} (xs : List A) (x : A) (n : ℕ) (y : A) → slice_get (xs ++ x ∷ []) n ≡ Some y → (slice_get xs n ≡ Some y) ⊎ ((n ≡ length xs) × (x ≡ y))
-last_cases [] x zero y e = inr (refl, same_Some x y e)
-last_cases [] x (suc n) y e = absurd cc
-last_cases (z ∷ xs) x zero y e = inl e
-last_cases (z ∷ xs) x (suc n) y e = elim (last_cases xs x n y e) [
-  | inl h ↦ inl h
-  | inr h ↦ inr (ap (λ k. suc k) h.0, h.1)
-]
-
 pub few_asked : length all_asked < 65536
 unfolding parts
 few_asked = lit< tt

@@ -5,25 +5,21 @@ use Rattle.std.specs.Global.{Vec}
 use Rattle.std.specs.List.{filter}
 use Rattle.std.proofs.lemmas.Bool.{cases_lt, false≢true, le-leb, leb-true}
 use Rattle.std.proofs.Math.Seq.{take-append_seam}
-use Rattle.std.proofs.lemmas.List.{length-append, take_all}
 use Rattle.std.proofs.lemmas.Option.{same_Some, slice_get_within}
 use Rattle.body_rewrites.specs.declared.asked.Asked.{Asked}
 use Rattle.body_rewrites.specs.declared.asked.Form.{Form}
 use Rattle.body_rewrites.specs.declared.asked.Form.TheVariants.{Own, Alone, Other}
 use Rattle.body_rewrites.specs.declared.root.Root.TheVariants as root
 use Rattle.body_rewrites.specs.declared.trees.Tree.{Tree}
-use Rattle.body_rewrites.specs.Asking.{all_asked, is_candidate, numbers_from, AddsNumber, AreRootClasses, AreCandidateClasses, AreEmpty, AreLists, IsUsed}
+use Rattle.body_rewrites.specs.Asking.{is_candidate, numbers_from, AddsNumber, AreRootClasses, AreCandidateClasses, IsUsed}
 use Rattle.body_rewrites.specs.Counting.{is_alone, alone_slot, alone_slots, by_alone, form_alone}
-use Rattle.body_rewrites.proofs.AskingLemmas.{last_cases, number_more, no_number_more}
+use Rattle.body_rewrites.proofs.AskingLemmas.{number_more, no_number_more}
 
 -- There is a list for each class, with the candidates among the lines so far where the class is marked.
 pub record AreListsSo (used : List Bool) (lines : List Asked) (number : ℕ) (lists : List (Vec ℕ)) : Type 0 where
   pub long : length lists ≡ 169
   pub each : (class : ℕ) (v : Vec ℕ) → slice_get lists class ≡ Some v → IsUsed used class →
       v.items ≡ numbers_from (is_candidate class) 0 (take number lines)
-
-pub none_yet : (used : List Bool) (lines : List Asked) (lists : List (Vec ℕ)) → AreEmpty 169 lists → AreListsSo used lines 0 lists
-none_yet used lines lists empty = record { long = empty.long; each = λ class v e marked. empty.each class v e }
 
 pub one_line_more : (used : List Bool) (lines : List Asked) (i : ℕ) (x : Asked) (old new : List (Vec ℕ)) (classes : ℕ × ℕ) → i < length lines →
     x ≡ get_or lines i x → AreCandidateClasses x classes → AddsNumber i used classes old new → AreListsSo used lines i old →
@@ -52,13 +48,6 @@ one_line_more used lines i x old new classes l is are adds so = record {
           ]
         ]) in
         no_number_more (is_candidate class) lines i x v.items l (ap (is_candidate class) (sym is) ∙ off) (so.each class v (sym same ∙ e) marked)
-
-pub all_lists : (used : List Bool) (lines : List Asked) (i : ℕ) (lists : List (Vec ℕ)) → length lines ≤ i → lines ≡ all_asked →
-    AreListsSo used lines i lists → AreLists used 169 lists
-all_lists used lines i lists past are so = record {
-  long = so.long;
-  each = λ class v e marked. so.each class v e marked ∙ ap (numbers_from (is_candidate class) 0) (take_all i lines past ∙ are);
-}
 
 -- ---- classes
 
@@ -115,34 +104,11 @@ module _ {A : Type 0} where
   pub written_back : (xs ys : List A) (n : ℕ) → n ≡ length ys → length xs ≡ length ys → take n (xs ++ drop (length xs) ys) ≡ xs
   written_back xs ys n e f = ap (λ k. take k (xs ++ drop (length xs) ys)) (e ∙ sym f) ∙ take-append_seam xs (drop (length xs) ys)
 
-pub one_empty_more : (count : ℕ) (lists more : List (Vec ℕ)) (v : Vec ℕ) → AreEmpty count lists → more ≡ lists ++ v ∷ [] → v.items ≡ [] →
-    AreEmpty (count + 1) more
-one_empty_more count lists more v are is none =
-    let long = are.long in
-    subst (AreEmpty (count + 1)) (sym is) (record {
-      long = length-append lists (v ∷ []) ∙ ap (λ n. n + 1) long;
-      each = λ class w e. elim (last_cases lists v class w e) [
-        | inl h ↦ are.each class w h
-        | inr h ↦ ap (λ (u : Vec ℕ). u.items) (sym h.1) ∙ none
-      ];
-    })
-
 -- So it is of the classes so far.
 pub record IsAdding (number : ℕ) (used : List Bool) (classes : ℕ × ℕ) (class : ℕ) (old new : List (Vec ℕ)) : Type 0 where
   pub adds : AddsNumber number used (classes.0, class) old new
   pub from : classes.0 ≤ class
   pub most : (class ≡ classes.0) ⊎ (class ≤ classes.1)
-
-pub nothing_added : (number : ℕ) (used : List Bool) (classes : ℕ × ℕ) (lists : List (Vec ℕ)) → IsAdding number used classes classes.0 lists lists
-nothing_added number used classes lists = record {
-  adds = record {
-    long = refl;
-    within = λ class v l k marked e. absurd (omega (arith, l, k));
-    beyond = λ class outside. refl;
-  };
-  from = omega arith;
-  most = inl refl;
-}
 
 pub none_added : (number : ℕ) (used : List Bool) (classes : ℕ × ℕ) (class : ℕ) (old new : List (Vec ℕ)) → class < classes.1 →
     (IsUsed used class → ⊥) → IsAdding number used classes class old new → IsAdding number used classes (class + 1) old new
@@ -190,9 +156,9 @@ one_added number used classes class old now new v w l there items is so = record
     elsewhere : (k : ℕ) → (k ≢ class) → slice_get new k ≡ slice_get now k
     elsewhere k other = ap (λ xs. slice_get xs k) is ∙ get_set_other now class k w other
 
-pub all_added : (number : ℕ) (used : List Bool) (classes : ℕ × ℕ) (class : ℕ) (old new : List (Vec ℕ)) → classes.1 ≤ class →
+pub all_classes_added : (number : ℕ) (used : List Bool) (classes : ℕ × ℕ) (class : ℕ) (old new : List (Vec ℕ)) → classes.1 ≤ class →
     IsAdding number used classes class old new → AddsNumber number used classes old new
-all_added number used classes class old new l so = record {
+all_classes_added number used classes class old new l so = record {
   long = so.adds.long;
   within = λ k v from before marked e. so.adds.within k v from (omega (arith, before, l)) marked e;
   beyond = λ k outside. so.adds.beyond k (elim outside [

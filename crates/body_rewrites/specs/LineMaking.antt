@@ -5,8 +5,7 @@ use Rattle.peephole_machine.specs.Values.{Context}
 use Rattle.body_rewrites.specs.declared.changes.NewCode.{NewCode}
 use Rattle.body_rewrites.specs.declared.places.Body.{Body}
 use Rattle.body_rewrites.specs.declared.places.Line.{Line}
-use Rattle.body_rewrites.specs.declared.places.Place.{Place}
-use Rattle.body_rewrites.specs.Places.{context_of, IsPlaceOf}
+use Rattle.body_rewrites.specs.Places.{context_of}
 use Rattle.body_rewrites.specs.Changes.{Change, IsWritten}
 use Rattle.body_rewrites.specs.declared.growth.Growth.{Growth}
 use Rattle.body_rewrites.specs.Rewrites.{growth_of, IsLineChange}

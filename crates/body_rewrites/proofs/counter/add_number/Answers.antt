@@ -1,9 +1,9 @@
 -- Class by class.
-use Rattle.std.proofs.Common.{◌+◌, ◌∷◌, true, subst, sym, ap, ◌∙◌, arith}
+use Rattle.std.proofs.Common.{◌+◌, true, subst, sym, ◌∙◌, arith}
 use Rattle.std.proofs.lemmas.Bool.{false≢true}
 use Rattle.std.proofs.lemmas.Option.{slice_get-get_or}
 use Rattle.body_rewrites.proofs.AllAlikeLemmas.{item_is}
-use Rattle.body_rewrites.proofs.CandidateLemmas.{IsAdding, none_added, one_added, all_added}
+use Rattle.body_rewrites.proofs.CandidateLemmas.{IsAdding, none_added, one_added, all_classes_added}
 use Rattle.body_rewrites.proofs.counter.add_number.Goals.{then-used-class+in_ok-push, else-used-class}
 use Rattle.body_rewrites.proofs.counter.add_number.Goals as goal
 
@@ -26,5 +26,5 @@ loop-class-preserved c =
 
 pub returns : goal.returns
 returns c =
-    all_added c.args.number c.args.used.now c.args.classes c.loop-class.class c.args.lists.now c.loop-class.lists (omega (arith, c.loop-class-test.false))
+    all_classes_added c.args.number c.args.used.now c.args.classes c.loop-class.class c.args.lists.now c.loop-class.lists (omega (arith, c.loop-class-test.false))
     c.loop-class.invariant

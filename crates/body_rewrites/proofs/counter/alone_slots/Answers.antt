@@ -1,5 +1,5 @@
 -- The others have none.
-use Rattle.std.proofs.Common.{◌≡◌, ◌++◌, sym, ap, ◌∙◌, arith, append-nil}
+use Rattle.std.proofs.Common.{◌++◌, sym, ap, ◌∙◌, arith, append-nil}
 use Rattle.std.proofs.lemmas.List.{drop_all}
 use Rattle.body_rewrites.specs.Asking.{all_asked}
 use Rattle.body_rewrites.specs.Counting.{alone_slots}

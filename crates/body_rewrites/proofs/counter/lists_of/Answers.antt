@@ -1,8 +1,8 @@
 -- Line by line.
-use Rattle.std.proofs.Common.{◌≡◌, ℕ, Vec, ◌<◌, ◌+◌, List, length, sym, subst, ap, ◌∙◌, arith}
+use Rattle.std.proofs.Common.{◌<◌, ◌+◌, length, sym, subst, arith}
 use Rattle.body_rewrites.specs.Asking.{AddsNumber}
 use Rattle.body_rewrites.proofs.AskingLemmas.{few_asked}
-use Rattle.body_rewrites.proofs.CandidateLemmas.{AreListsSo, none_yet, one_line_more, written_back, all_lists}
+use Rattle.body_rewrites.proofs.CandidateLemmas.{AreListsSo, one_line_more, written_back}
 use Rattle.body_rewrites.proofs.counter.lists_of.Goals as goal
 
 pub add_number-requires-clause-number : goal.add_number-requires-clause-number
