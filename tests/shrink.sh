@@ -2,7 +2,7 @@
 # Makes modules larger, and smaller again by --shrink. Fails where a module of tests/modules with one rewrite by a rule isn't shrunk to
 # at most the bytes that it had, or to one that wasm-validate doesn't accept; so of each rule, of each module where it applies, as it
 # is and as --shrink leaves it (so that nothing else that is shrunk makes up for the rewrite), under some seeds (3, or the number that
-# is given). Rules that nothing turns back are named below; one that is named and left no larger module is a failure too.
+# is given). Rules that needn't be turned back are named below; a line says of each that wasn't how many bytes more it left at most.
 #
 # With a number of rewrites behind that, each module is rewritten so often by all rules but through_global and then shrunk, and a line
 # says its bytes at first, behind the rewrites and shrunk, the last as a part of the first, how many rewrites shrank it and in how
@@ -20,8 +20,20 @@ cd "$(dirname "$0")/.."
 program=$(realpath "$program")
 source tests/modules/calls.sh
 
-# The rules that no rule turns back, each with the reason.
-declare -A kept=()
+# The rules that --shrink needn't turn back, each with the reason.
+longer="its constant may be longer, and what turns it back leaves as many operators"
+declare -A kept=(
+    [through_global]="the global that it appends stays"
+    [shift_to_product]=$longer
+    [shift_to_quotient]=$longer
+    [mask_to_remainder]=$longer
+    [sum_to_difference]=$longer
+    [difference_to_sum]=$longer
+    [rotl_to_rotr]=$longer
+    [rotr_to_rotl]=$longer
+    [tests_to_difference]="ne x 0 takes a byte more than eqz (eqz x), and what turns it back leaves as many operators"
+    [test_to_comparison]="of eqz (eqz x) it makes eqz (eq x 0), and drop_negation of that ne x 0, with as many operators as at first"
+)
 
 work=$(mktemp -d)
 trap 'rm -rf "$work"' EXIT
@@ -37,13 +49,22 @@ fail() {
 
 size_of() { stat -c %s "$1"; }
 
-# Shrinks a module to shrunk.wasm. Whether wasm-validate accepts that.
+# Shrinks a module to shrunk.wasm: where rewrites that are left make it longer, and those were drawn, by the next seed once more, up to
+# four in all. `made` is how many rewrites there were, `stopped` why there are no more. Whether wasm-validate accepts the module.
 shrink() {
-    local case=$1 path=$2
-    if ! "$program" --shrink --stats < "$path" > "$work/shrunk.wasm" 2> "$work/notes"; then
-        fail "$case" "$(tail -1 "$work/notes" | head -c 300)"
-        return 1
-    fi
+    local case=$1 path=$2 seed
+    cp "$path" "$work/shrunk.wasm"
+    made=0
+    for seed in 0 1 2 3; do
+        mv "$work/shrunk.wasm" "$work/before.wasm"
+        if ! "$program" --shrink --seed "$seed" --stats < "$work/before.wasm" > "$work/shrunk.wasm" 2> "$work/notes"; then
+            fail "$case" "$(tail -1 "$work/notes" | head -c 300)"
+            return 1
+        fi
+        made=$((made + $(grep -c '^function [0-9]* *operator [0-9]* *rule ' "$work/notes" || true)))
+        stopped=$(sed -n 's/^stopped //p' "$work/notes")
+        if [ "$stopped" = NoRule ]; then break; fi
+    done
     if ! wasm-validate --enable-threads "$work/shrunk.wasm" > "$work/message" 2>&1; then
         fail "$case" "not valid: $(head -c 300 "$work/message")"
         return 1
@@ -65,7 +86,7 @@ try_rule() {
     if [ "$new" -le "$old" ]; then
         pass
     elif [ -n "${kept[$rule]:-}" ]; then
-        larger[$rule]=1
+        larger[$rule]="${larger[$rule]:-} $((new - old))"
         pass
     else
         fail "$case" "$new bytes, where $old were"
@@ -79,16 +100,16 @@ if [ "$seeds" -gt 0 ]; then
     for name in $modules; do
         shrink "$name" "tests/modules/$name.wasm"
         mv "$work/shrunk.wasm" "$work/$name-shrunk.wasm"
-        for rule in $("$program" --list-rules | sed -n 's/^[0-9]* *\([a-z_0-9]*\) .*/\1/p'); do
+        for rule in $("$program" --list-rules | sed -n 's/^[0-9][0-9]* *\([a-z_0-9]*\) .*/\1/p'); do
             for seed in $(seq 0 $((seeds - 1))); do
                 try_rule "$name-$rule-$seed" "tests/modules/$name.wasm" "$rule" "$seed"
                 try_rule "$name-shrunk-$rule-$seed" "$work/$name-shrunk.wasm" "$rule" "$seed"
             done
         done
     done
-    for rule in "${!kept[@]}"; do
-        if [ -n "${larger[$rule]:-}" ]; then pass; else fail "$rule" "left no larger module"; fi
-    done
+    for rule in "${!larger[@]}"; do
+        echo "$rule: $(tr ' ' '\n' <<< "${larger[$rule]}" | sort -n | tail -1) bytes more at most: ${kept[$rule]}"
+    done | sort
 fi
 
 if [ "$rewrites" -gt 0 ]; then
@@ -113,8 +134,6 @@ if [ "$rewrites" -gt 0 ]; then
         fi
         old=$(size_of "tests/modules/$name.wasm")
         new=$(size_of "$work/shrunk.wasm")
-        made=$(grep -c '^function [0-9]* *operator [0-9]* *rule ' "$work/notes" || true)
-        stopped=$(sed -n 's/^stopped //p' "$work/notes")
         echo "$name: bytes $old $(size_of "$work/many.wasm") $new, $(echo "scale=2; $new / $old" | bc), $made in $seconds s, $stopped"
     done
 fi

@@ -1,5 +1,5 @@
 -- What a call with options leaves in the buffer, and what it reports (this project).
-use Rattle.std.specs.Prelude.{◌≡◌, ◌≢◌, ◌↔◌, ℕ, ◌≤◌, List, [], ◌∷◌, ◌++◌, Some, length, take}
+use Rattle.std.specs.Prelude.{◌≡◌, ◌≢◌, ◌↔◌, ℕ, ◌≤◌, List, [], ◌∷◌, ◌++◌, Some, false, length, take}
 use Rattle.rewrite_rules.specs.Names.{rule_of}
 use Rattle.module_rewrites.specs.declared.times.MadeRewrite.{MadeRewrite}
 use Rattle.teddertempo_c.specs.Options.{AreBad, rules_of, function_of, dose_of, most_of}

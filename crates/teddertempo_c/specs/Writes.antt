@@ -1,5 +1,5 @@
 -- What a call leaves in the buffer that it was given (this project).
-use Rattle.std.specs.Prelude.{◌≡◌, ◌≢◌, ◌⊎◌, ℕ, ◌<◌, ◌≤◌, List, ◌++◌, length, take, drop, Option, Some, None, All}
+use Rattle.std.specs.Prelude.{◌≡◌, ◌≢◌, ◌⊎◌, ℕ, ◌<◌, ◌≤◌, List, ◌++◌, length, take, drop, Option, Some, None, All, false}
 use Rattle.rewrite_rules.specs.Names.{rule_of}
 use Rattle.module_rewrites.specs.Attempt.{IsForSize, IsReason}
 use Rattle.module_rewrites.specs.Chosen.{GivesUp}
