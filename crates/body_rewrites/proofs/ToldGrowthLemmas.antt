@@ -179,7 +179,8 @@ told_keeping l r (Some rest) e = elim (cases_lt r (l + length rest)) [
       (ap (λ (ks : List ℕ). Some ks) (nothing_left rest both.1), eqb-true r l both.0)
 ]
 
-module _ (x : ℕ → List Instruction) (l r : ℕ) (left right : List ℕ) (old new : ℕ) (old_is : old ≡ l + in_holes x left) (new_is : new ≡ r + in_holes x right) where
+module _ (x : ℕ → List Instruction) (l r : ℕ) (left right : List ℕ) (old new : ℕ) (old_is : old ≡ l + in_holes x left)
+    (new_is : new ≡ r + in_holes x right) where
   are_fewer : AllSome x left → shrinks ≡ growth_by l r (left_over right left) → new < old
   are_fewer all e =
       let t = told_shrinking l r (left_over right left) e in

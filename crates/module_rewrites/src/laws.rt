@@ -135,10 +135,10 @@ pub fn words_draw_one_rewrite()
 }
 
 /// Equal modules, scopes and words give equal rewrites and equal bytes. Words choose one rewrite of a module, with one text (`one`);
-/// where they do, one fits (`none`), and where one is refused for a size, there is one (`refused`). Of two lists of rewrites that words choose one after another, the shorter
-/// one begins the longer, which goes on from where that ends (`times`); those that are as long are the same, with the same bytes
-/// (`same`). Two answers for at most `count` rewrites, neither of which was stopped for want of memory, are the same (`answers`).
-/// A module has fewer than 2^64 bytes, and so has a new one.
+/// where they do, one fits (`none`), and where one is refused for a size, there is one (`refused`). Of two lists of rewrites that
+/// words choose one after another, the shorter one begins the longer, which goes on from where that ends (`times`); those that are
+/// as long are the same, with the same bytes (`same`). Two answers for at most `count` rewrites, neither of which was stopped for
+/// want of memory, are the same (`answers`). A module has fewer than 2^64 bytes, and so has a new one.
 pub fn equal_words_give_equal_bytes()
     ensures one { (scope : Scope) (bytes new other : List ℕ) (s after later : Stream) (f g : ℕ)
         (r q : Rewrite) → length bytes < 2 ^ 64 → ChoosesOfModule scope bytes s f r new after
