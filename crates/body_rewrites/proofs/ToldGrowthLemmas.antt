@@ -284,6 +284,8 @@ module _ (right : TableIsRight) (holes_are : HolesAreTold) (sides : SidesArePart
       by_place context operators number line at change told asked h (subst IsNotOwn (sym e) tt) made
   change_as_told context operators number line at change told asked h widths.Any e made =
       by_place context operators number line at change told asked h (subst IsNotOwn (sym e) tt) made
+  change_as_told context operators number line at change told asked h (widths.Operands a b c) e made =
+      by_place context operators number line at change told asked h (subst IsNotOwn (sym e) tt) made
 
   pub growths_are_told : (context : Context) (operators : Operators) (r : Rewrite) (row : Row) (told : told.Growth) (kind : Growth) →
       slice_get ROWS r.row ≡ Some row → GrowsAs row told → HasGrowth context operators kind r → IsAsTold told kind
@@ -327,6 +329,9 @@ word_by context operators line at change word (widths.Only t) h =
     subst (λ (k : Change). length (pieces_operators (without_offsets operators) (k.pieces word))
     ≡ length (pieces_operators (without_offsets operators) (k.pieces 0))) (sym h.change_is) (line_word operators line h.place word)
 word_by context operators line at change word widths.Any h =
+    subst (λ (k : Change). length (pieces_operators (without_offsets operators) (k.pieces word))
+    ≡ length (pieces_operators (without_offsets operators) (k.pieces 0))) (sym h.change_is) (line_word operators line h.place word)
+word_by context operators line at change word (widths.Operands a b c) h =
     subst (λ (k : Change). length (pieces_operators (without_offsets operators) (k.pieces word))
     ≡ length (pieces_operators (without_offsets operators) (k.pieces 0))) (sym h.change_is) (line_word operators line h.place word)
 
