@@ -161,6 +161,7 @@ row_asks context operators line at change (widths.Own o) h =
 row_asks context operators line at change widths.Both h = inl (ap (λ (c : Change). c.asks) h.change_is)
 row_asks context operators line at change (widths.Only t) h = inl (ap (λ (c : Change). c.asks) h.change_is)
 row_asks context operators line at change widths.Any h = inl (ap (λ (c : Change). c.asks) h.change_is)
+row_asks context operators line at change (widths.Operands a b c) h = inl (ap (λ (k : Change). k.asks) h.change_is)
 
 asks_for_numbers : {context : Context} {s : Stream} {rules : List Rule} {wanted : List Growth} {input : List ℕ} {operators : Operators} {r : Rewrite} {old new : List ℕ}
     {asks : Types} {after : Stream} → AppendsByWords context s rules wanted input operators r old new asks after → AsksForNumbers asks

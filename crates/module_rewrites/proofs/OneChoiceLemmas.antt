@@ -1,6 +1,6 @@
 -- Words choose one rewrite of a module, and one after another.
-use Rattle.std.proofs.Common.{◌≡◌, ◌⊎◌, ◌%◌, ◌^◌, inl, inr, ℕ, ◌+◌, ◌-◌, ◌<◌, ◌≤◌, List, [], ◌∷◌, ◌++◌, length, Option, Some, None, refl, sym, ap, ap₂, subst, ◌∙◌, arith}
-use Rattle.std.specs.Prelude.{IfSome}
+use Rattle.std.proofs.Common.{◌≡◌, ◌⊎◌, ◌%◌, ◌^◌, inl, inr, ℕ, Bool, true, false, ◌+◌, ◌-◌, ◌<◌, ◌≤◌, List, [], ◌∷◌, ◌++◌, length, Option, Some, None, refl, sym, ap, ap₂, subst, ◌∙◌, arith}
+use Rattle.std.specs.Prelude.{IfSome, min, if◌then◌else◌}
 use Rattle.std.specs.List.{sum_by}
 use Rattle.std.proofs.lemmas.Bool.{cases_eq, cases_lt}
 use Rattle.std.proofs.lemmas.List.{append-nil, length-append}
@@ -17,7 +17,7 @@ use Rattle.module_rewrites.specs.ChosenTimes.{ChoosesEach, ChoosesTimes}
 use Rattle.module_rewrites.specs.Drawing.{EachInVain, IsFirstBefore, IsFirstBehind, NamesEntry, by_word, contents_length, in_order}
 use Rattle.module_rewrites.specs.Mutated.{CannotMutate, HasNoMutation, IsChosen, IsOfSize, RefusesChosenEntry, RefusesEntry, RefusesMutation}
 use Rattle.module_rewrites.specs.Mutates.{EndsFor, Mutates}
-use Rattle.module_rewrites.specs.Scope.{Scope}
+use Rattle.module_rewrites.specs.Scope.{Scope, most_of}
 use Rattle.module_rewrites.specs.Stopped.{HadMemory}
 use Rattle.module_rewrites.specs.Writing.{MakesAt}
 use Rattle.module_rewrites.specs.declared.mutation.MutationError.{MutationError}
@@ -127,7 +127,7 @@ module _ (one : OneWriting) (scope : Scope) (bytes : List ℕ) (info : Module) (
       ChoosesBy scope bytes info layout only s f r new after →
       ((n : ℕ) → n < length layout.entries → IsChosen only (layout.imported_functions + n) → HasNoMutation scope bytes info layout n) → ⊥
   cannot_apart only s f r new after c none =
-      lacks one scope.rules bytes info layout c.found c.n r c.makes.contents c.makes.more after
+      lacks one scope bytes info layout c.found c.n r c.makes.contents c.makes.more after
       (none c.n (inside c.found c.n (ends c.found c.n r new after c.makes)) (found_is_chosen only s c.n c.found c.finds)) c.makes.writes
 
 module _ (one : OneWriting) (scope : Scope) (bytes : List ℕ) (info : Module) (layout : Layout) where
@@ -138,11 +138,19 @@ module _ (one : OneWriting) (scope : Scope) (bytes : List ℕ) (info : Module) (
   written_apart (mutations.Read e) n inside chosen size w none = size
   written_apart mutations.Memory n inside chosen size w none = size
   written_apart (mutations.Write writes.TooLarge) n inside chosen size w none =
-      lacks one scope.rules bytes info layout w.s n w.rewrite w.contents w.more w.after (none n inside chosen) w.writes
+      lacks one scope bytes info layout w.s n w.rewrite w.contents w.more w.after (none n inside chosen) w.writes
   written_apart (mutations.Write writes.EmptyType) n inside chosen size w none = size
   written_apart (mutations.Write writes.Memory) n inside chosen size w none = size
   written_apart mutations.TooLong n inside chosen size w none =
-      lacks one scope.rules bytes info layout w.s n w.rewrite w.contents w.more w.after (none n inside chosen) w.writes
+      lacks one scope bytes info layout w.s n w.rewrite w.contents w.more w.after (none n inside chosen) w.writes
+
+-- a module that is made smaller may have no more bytes than any other
+most_fits : (scope : Scope) (bytes : List ℕ) (n : ℕ) → n ≤ most_of scope bytes → n ≤ scope.most
+most_fits scope bytes n l = go scope.shrinking l
+  where
+    go : (b : Bool) → n ≤ (if b then min scope.most (length bytes) else scope.most) → n ≤ scope.most
+    go true l = omega (arith, l)
+    go false l = l
 
 -- ---- of a module
 
@@ -216,7 +224,7 @@ module _ (one : OneWriting) (reading : OneModule) (fit : EntriesFit) (scope : Sc
       let same = module_one bytes a.0 b.0 s a.1 b.1 m.function o.function m.rewrite o.rewrite few a.2 b.2 in
       let there = subst (λ (x : List ℕ). ChoosesEach scope x a.1 os other later) (sym same.2)
       (subst (λ (x : Stream). ChoosesEach scope b.0 x os other later) (sym same.3) b.3) in
-      let fits : length a.0 ≤ scope.most = a.2.chooses.makes.fits in
+      let fits = most_fits scope bytes (length a.0) a.2.chooses.makes.fits in
       let (rest, e, more) = each_begins ms os a.0 new other a.1 after later (omega (arith, fits, most)) most (omega (arith, less)) a.3 there in
       (rest, ap₂ (λ (x : MadeRewrite) (xs : List MadeRewrite). x ∷ xs) (sym (made_is m o same.0 same.1)) e, more)
 
@@ -250,7 +258,7 @@ module _ (one : OneWriting) (reading : OneModule) (fit : EntriesFit) (scope : Sc
       ChoosesEach scope bytes s made new after → length new < 2 ^ 64
   each_fits [] bytes new s after few most a = omega (arith, few, ap length a.0)
   each_fits (m ∷ ms) bytes new s after few most a =
-      let fits : length a.0 ≤ scope.most = a.2.chooses.makes.fits in
+      let fits = most_fits scope bytes (length a.0) a.2.chooses.makes.fits in
       each_fits ms a.0 new a.1 after (omega (arith, fits, most)) most a.3
 
   more_apart : (rest made others : List MadeRewrite) (stopped : Option MutationError) (new other : List ℕ) (after later : Stream) → length new < 2 ^ 64 →
