@@ -11,6 +11,7 @@ use Rattle.module_rewrites.specs.Seeded.{seeded}
 use Rattle.module_rewrites.specs.declared.attempt.Reason.{Reason}
 use Rattle.module_rewrites.specs.declared.attempt.Reason.TheVariants.{NoRule, NoOwnFunction, Unreadable, NoFunction, UnknownImport, Refused}
 use Rattle.module_rewrites.specs.declared.mutation.MutationError.{MutationError}
+use Rattle.module_rewrites.specs.declared.mutation.MutationError.TheVariants as mutations
 use Rattle.module_rewrites.specs.declared.times.MadeRewrite.{MadeRewrite}
 use Rattle.module_commands.specs.Failures.{IsReasonFor, leaves_by}
 use Rattle.module_commands.specs.Scope.{scope_of}
@@ -83,13 +84,16 @@ counting_fails options scope bytes reason is h reading = record {
   gives_up = λ size. absurd (other reason reading size);
 }
   where
-    kept : (r : Reason) → IsOfReading r → leaves options.shrink r ≡ false
+    kept : (r : Reason) → IsOfReading r → leaves_by options bytes r ≡ false
     kept NoRule w = absurd w
     kept NoOwnFunction w = absurd w
     kept (Unreadable e) w = refl
     kept (NoFunction f) w = refl
     kept (UnknownImport e) w = refl
-    kept (Refused e) w = refl
+    kept (Refused (mutations.Read e)) w = refl
+    kept (Refused mutations.Memory) w = refl
+    kept (Refused (mutations.Write e)) w = refl
+    kept (Refused mutations.TooLong) w = absurd (w tt)
 
     other : (r : Reason) → IsOfReading r → IsForSize r → ⊥
     other NoRule w size = size

@@ -1,7 +1,7 @@
 //! Texts of operators, as the standard's text format has them.
 
-use instruction_names::instruction_name;
 use crate::texts::Text;
+use instruction_names::instruction_name;
 use std::alloc::{AllocError, Global};
 use std::test::Fail;
 use wasm_code::{
