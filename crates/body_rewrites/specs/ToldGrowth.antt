@@ -7,6 +7,6 @@ use Rattle.body_rewrites.specs.declared.growth.Growth.TheVariants.{Shrinks, Keep
 
 -- By a row that is told to shrink there are fewer operators, by one that is told to keep as many; of others nothing is told.
 abbrev pub IsAsTold : told.Growth → Growth → Type 0
-IsAsTold rows.Shrinks growth = growth ≡ Shrinks
-IsAsTold rows.Keeps growth = growth ≡ Keeps
-IsAsTold rows.Grows growth = Unit {0}
+IsAsTold rows.Shrinks kind = kind ≡ Shrinks
+IsAsTold rows.Keeps kind = kind ≡ Keeps
+IsAsTold rows.Grows kind = Unit {0}
