@@ -1,7 +1,12 @@
 -- The function and the rewrite that words choose.
-use Rattle.std.proofs.Common.{◌≡◌, inl, inr, ℕ, zero, suc, ◌+◌, ◌<◌, List, length, Some, None, sym, subst, ◌∙◌, arith}
+use Rattle.std.proofs.Common.{◌≡◌, inl, inr, ℕ, zero, suc, ◌+◌, ◌<◌, ◌≤◌, List, length, get_or, Some, None, sym, subst, ◌∙◌, arith}
+use Rattle.std.specs.Prelude.{slice_get}
+use Rattle.std.specs.List.{All}
+use Rattle.std.proofs.lemmas.Option.{slice_get-get_or}
 use Rattle.rand_core.specs.Stream.{Stream}
 use Rattle.wasm_types.specs.Module.{Module}
+use Rattle.wasm_declarations.specs.declared.entries.Entry.{Entry}
+use Rattle.wasm_module.specs.Inside.{IsInside}
 use Rattle.wasm_module.specs.Module.{Layout}
 use Rattle.body_rewrites.specs.Choice.{after_word}
 use Rattle.body_rewrites.specs.declared.rewrite.Rewrite.{Rewrite}
@@ -9,6 +14,11 @@ use Rattle.module_rewrites.specs.Chosen.{AllInVain, ChoosesAgain, ChoosesBy, Cho
 use Rattle.module_rewrites.specs.Drawing.{EachInVain, IsFirstBehind, NamesEntry, NamesInVain, by_word, in_order}
 use Rattle.module_rewrites.specs.Scope.{Scope}
 use Rattle.module_rewrites.specs.Writing.{MakesAt}
+
+-- the entries of a module are in order
+pub all_ordered : (bytes : List ℕ) (entries : List Entry) → ((n : ℕ) (entry : Entry) → slice_get entries n ≡ Some entry → IsInside bytes entry) →
+    All (λ (e : Entry). e.contents ≤ e.end) entries
+all_ordered bytes entries inside = λ k d lt. (inside k (get_or entries k d) (slice_get-get_or entries k d lt)).ordered
 
 module _ (scope : Scope) (bytes : List ℕ) (info : Module) (layout : Layout) where
   -- ---- in order

@@ -40,7 +40,7 @@ use Rattle.body_rewrites.specs.declared.places.Line.{Line}
 use Rattle.body_rewrites.specs.declared.rewrite.Rewrite.{Rewrite}
 use Rattle.module_rewrites.specs.Function.{IsFunction}
 use Rattle.module_rewrites.specs.Chosen.{TriesInVain, by_size}
-use Rattle.module_rewrites.specs.Mutated.{HasNoMutation, IsBehindLocals, IsOfSize, MutatesEntry, RefusesEntry}
+use Rattle.module_rewrites.specs.Mutated.{HasNoMutation, IsBehindLocals, IsMutated, IsOfSize, MutatesEntry, RefusesEntry, WasRewrittenAt}
 use Rattle.module_rewrites.specs.Scope.{Scope, wanted_of}
 use Rattle.module_rewrites.specs.Writing.{WritesAt}
 use Rattle.module_rewrites.specs.declared.mutation.MutationError.TheVariants.{Write}
@@ -58,6 +58,12 @@ RewrittenBytesAreAModule =
     (bytes : List ℕ) (info : Module) (layout : Layout) (n : ℕ) (contents : List ℕ) (more : Types) (new : List ℕ) → IsModule bytes info layout →
     IsRewritten bytes layout n contents more new → layout.unknown.imports ≡ None → layout.unknown.globals ≡ None →
     All (λ (t : PrimitiveTypeInfo). t ≢ Empty) more → IsReread bytes info layout n contents more new
+
+-- bytes are one module at most
+abbrev pub OneReading : Type 0
+OneReading =
+    (bytes : List ℕ) (info other : Module) (layout place : Layout) → IsModule bytes info layout → IsModule bytes other place →
+    (info ≡ other) × (layout ≡ place)
 
 -- ---- what calls answer
 
@@ -253,6 +259,31 @@ module _ (scope : Scope) (bytes : List ℕ) (info : Module) (layout : Layout) (n
             (law bytes info layout n (slice_range bytes f.entry.contents expression ++ body) globals new known is
             f.is.indices.imports f.is.indices.globals (some_types globals numbers));
       }
+
+-- what was read of a module that was rewritten, but for its bytes
+pub was_rewritten : (scope : Scope) (bytes : List ℕ) (info : Module) (layout : Layout) (function : ℕ) (rewrite : Rewrite) (new : List ℕ) (read : Module)
+    (place : Layout) → OneReading → IsModule bytes info layout → read ≡ record info { input = [] } → place ≡ layout →
+    IsMutated scope bytes function rewrite new → WasRewrittenAt read place function new
+was_rewritten scope bytes info layout function rewrite new read place one is read_is place_is m =
+    let same = one bytes m.info info m.layout layout m.is is in
+    let k = m.mutates.2 in
+    let input : m.info ≡ record m.info { input = bytes } = ap (λ (b : List ℕ). record m.info { input = b }) m.is.input in
+    let mine : WasRewrittenAt (record m.info { input = [] }) m.layout function new = (
+      m.mutates.0,
+      m.mutates.1,
+      record {
+        bytes = bytes;
+        is = subst (λ (i : Module). IsModule bytes i m.layout) input m.is;
+        contents = slice_range bytes k.function.entry.contents k.expression ++ k.body;
+        more = k.more;
+        rewritten = k.written;
+        imports = k.function.is.indices.imports;
+        globals = k.function.is.indices.globals;
+        some = some_types k.more (asks_for_numbers k.rewritten);
+      },
+    ) in
+    subst (λ (l : Layout). WasRewrittenAt read l function new) (same.1 ∙ sym place_is)
+    (subst (λ (i : Module). WasRewrittenAt i m.layout function new) (ap (λ (i : Module). record i { input = [] }) same.0 ∙ sym read_is) mine)
 
 -- no global that is asked for has the type `Empty`
 asks_for_none : {scope : Scope} {bytes : List ℕ} {info : Module} {layout : Layout} {s : Stream} {n : ℕ} {rewrite : Rewrite} {contents : List ℕ}

@@ -8,6 +8,7 @@ use Rattle.wasm_declarations.specs.declared.entries.Entry.{Entry}
 use Rattle.wasm_module.specs.Module.{Layout, IsModule}
 use Rattle.wasm_module.specs.Fault.{IsModuleFault}
 use Rattle.wasm_module.specs.Limits.{IsTooLarge}
+use Rattle.wasm_module.specs.Reread.{WasRewritten}
 use Rattle.wasm_module.specs.Rewritten.{IsRewritten}
 use Rattle.wasm_module.specs.declared.refusal.WriteError.TheVariants as writes
 use Rattle.peephole_machine.specs.Values.{context_in}
@@ -103,6 +104,10 @@ RefusesMutation scope bytes (mutations.Read e) = IsModuleFault bytes e.kind e.of
 RefusesMutation scope bytes e = RefusesChosenEntry scope bytes e
 
 -- ---- for private functions
+
+-- the new bytes are a module rewritten at the function with the index, of which this was read but for its bytes
+abbrev pub WasRewrittenAt : Module → Layout → (function : ℕ) → (new : List ℕ) → Type 0
+WasRewrittenAt info layout function new = (n : ℕ) × (function ≡ layout.imported_functions + n) × WasRewritten info layout n new
 
 -- the rewrite's module is too large: another rewrite may fit
 abbrev pub IsOfSize : MutationError → Type 0

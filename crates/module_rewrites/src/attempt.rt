@@ -2,17 +2,18 @@
 ghost use Rattle.std.specs.Prelude.{◌≡◌, ◌⊎◌, ◌↔◌, ◌≤◌, ◌<◌, ◌+◌, ◌^◌, ℕ, length, None, IfOk, IfErr, IfNone, IfSome, IsTrue, false};
 ghost use Rattle.module_rewrites.specs.Attempt.{CanRead, IsForSize, IsKnownFault, IsReason, IsReasonWithin, RefusesIndex};
 ghost use Rattle.module_rewrites.specs.Chosen.{ChoosesOfModule, GivesUp};
-ghost use Rattle.module_rewrites.specs.Mutated.{IsChosen, IsMutated};
+ghost use Rattle.module_rewrites.specs.Mutated.{IsChosen, IsMutated, WasRewrittenAt};
 ghost use Rattle.module_rewrites.specs.declared.mutation.MutationError.TheVariants.{Memory};
 ghost use Rattle.wasm_module.specs.Module.{IsModule};
 
 use crate::function::{FunctionError, read_function};
-use crate::mutation::{Mutated, MutationError, mutate_chosen};
+use crate::mutation::{MutationError, Step, mutate_chosen};
 use crate::scope::Scope;
 use rand_core::Rng;
 use std::alloc::{AllocError, Global};
 use std::ops::Range;
 use thiserror::Error as ErrorTexts;
+use wasm_module::laws::one_reading;
 use wasm_module::{Layout, ModuleError, read_module};
 use wasm_types::ModuleInfo;
 
@@ -181,15 +182,19 @@ pub(crate) fn rewrite_first<R: Rng>(
     bytes: &[u8],
     generator: &mut R,
     scope: &Scope<'_>,
-) -> Result<Mutated, Reason>
-    ensures mutated { IfOk result (λ m.
-        IsMutated scope.now bytes.now m.function m.rewrite m.bytes.items) }
+) -> Result<Step, Reason>
+    ensures mutated { IfOk result (λ m. IsMutated scope.now bytes.now
+        m.mutated.function m.mutated.rewrite m.mutated.bytes.items) }
     ensures chosen { IfOk result (λ m. ChoosesOfModule scope.now bytes.now
-        (R.stream generator.old) m.function m.rewrite m.bytes.items (R.stream generator.new)) }
+        (R.stream generator.old) m.mutated.function m.mutated.rewrite m.mutated.bytes.items
+        (R.stream generator.new)) }
+    ensures read { IfOk result (λ m. WasRewrittenAt
+        m.read.info m.read.layout m.mutated.function m.mutated.bytes.items) }
     ensures fails { IfErr result (IsReason scope.now bytes.now) }
     ensures gives_up { IfErr result (λ e. IsForSize e
         → GivesUp scope.now bytes.now (R.stream generator.old)) }
 {
+    one_reading();
     let module = match read_module(alloc, bytes) {
         Ok(module) => module,
         Err(e) => return Err(Reason::Refused(MutationError::Read(e))),
@@ -199,7 +204,10 @@ pub(crate) fn rewrite_first<R: Rng>(
         Err(reason) => return Err(reason),
     };
     match mutate_chosen(alloc, &module.info, generator, scope, bytes, &module.layout) {
-        Ok(Some(made)) => Ok(made),
+        Ok(Some(mutated)) => Ok(Step {
+            mutated,
+            read: module.without_bytes(),
+        }),
         Ok(None) => Err(without_rewrite(alloc, bytes, &module.info, &module.layout, entries)),
         Err(e) => Err(Reason::Refused(e)),
     }

@@ -1,7 +1,8 @@
 //! A code entry, drawn by its size.
-ghost use Rattle.std.specs.Prelude.{◌≡◌, ◌<◌, ◌≤◌, ◌%◌, ◌^◌, length, IfNone, IfSome};
+ghost use Rattle.std.specs.Prelude.{◌≡◌, ◌<◌, ◌≤◌, ◌%◌, ◌^◌, All, length, IfNone, IfSome};
 ghost use Rattle.std.specs.List.{sum_by};
 ghost use Rattle.rand_core.specs.Stream.{next_u64};
+ghost use Rattle.wasm_declarations.specs.declared.entries.Entry.{Entry as Place};
 ghost use Rattle.body_rewrites.specs.Choice.{after_word};
 ghost use Rattle.module_rewrites.specs.Drawing.{ContainsByte, NamesEntry, contents_length};
 
@@ -10,25 +11,28 @@ use wasm_module::{Entry, Layout};
 
 // How many bytes the entry contains.
 fn size_of_entry(entry: &Entry) -> usize
+    requires { entry.now.contents ≤ entry.now.end }
     ensures { result ≡ contents_length entry.now }
 {
-    entry.end.saturating_sub(entry.contents)
+    entry.end - entry.contents
 }
 
 // How many bytes the entries contain.
 fn size_of_entries(entries: &[Entry]) -> usize
-    ensures { sum_by contents_length entries.now < 2 ^ 64
-        → result ≡ sum_by contents_length entries.now }
+    requires ordered { All (λ (e : Place). e.contents ≤ e.end) entries.now }
+    requires few { sum_by contents_length entries.now < 2 ^ 64 }
+    ensures { result ≡ sum_by contents_length entries.now }
 {
-    let mut size: usize = 0;
+    let mut size = 0;
     for entry in entries {
-        size = size.saturating_add(size_of_entry(entry));
+        size += size_of_entry(entry);
     }
     size
 }
 
 // The index of the entry that contains the byte with this number, of all bytes that entries contain; none where there are fewer.
 fn entry_of_byte(entries: &[Entry], byte: usize) -> Option<usize>
+    requires ordered { All (λ (e : Place). e.contents ≤ e.end) entries.now }
     ensures contains { IfSome result (λ n. ContainsByte entries.now n byte) }
     ensures none { IfNone result (sum_by contents_length entries.now ≤ byte) }
 {
@@ -55,9 +59,11 @@ fn draw_below<R: Rng>(generator: &mut R, count: usize) -> usize
 
 /// The index of a code entry that is drawn by its size: the generator's next word, modulo the number of bytes that all entries
 /// contain, names one of these bytes, and so the entry that contains it. The first one where no entry contains any. Condition:
-/// there is an entry.
+/// there is an entry, and they are those of a module, which has fewer than 2^64 bytes.
 pub(crate) fn draw_entry<R: Rng>(generator: &mut R, layout: &Layout) -> usize
     requires some { 0 < length layout.now.entries }
+    requires ordered { All (λ (e : Place). e.contents ≤ e.end) layout.now.entries }
+    requires few { sum_by contents_length layout.now.entries < 2 ^ 64 }
     ensures named { NamesEntry (R.stream generator.old) layout.now.entries result }
     ensures inside { result < length layout.now.entries }
     ensures after { R.stream generator.new ≡ after_word (R.stream generator.old) }

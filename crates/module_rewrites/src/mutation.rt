@@ -5,7 +5,7 @@ ghost use Rattle.wasm_module.specs.Module.{IsModule};
 ghost use Rattle.peephole_machine.specs.Values.{context_in};
 ghost use Rattle.body_rewrites.specs.Random.{AppendsByWords, HasNoRewrite};
 ghost use Rattle.module_rewrites.specs.Chosen.{AllInVain, ChoosesAgain, ChoosesBy, ChoosesFrom, ChoosesOfModule, ChoosesWithin, GivesUp, GivesUpAgain, GivesUpInOrder, GivesUpOn, TriesInVain};
-ghost use Rattle.module_rewrites.specs.Mutated.{CannotMutate, HasNoMutation, IsBehindLocals, IsInVain, IsMutated, IsOfSize, IsRefusedForSize, MutatesEntry, MutatesOne, RefusesEntry, RefusesMutation, last_of};
+ghost use Rattle.module_rewrites.specs.Mutated.{CannotMutate, HasNoMutation, IsBehindLocals, IsInVain, IsMutated, IsOfSize, IsRefusedForSize, MutatesEntry, MutatesOne, RefusesEntry, RefusesMutation, WasRewrittenAt, last_of};
 ghost use Rattle.module_rewrites.specs.Scope.{most_of, wanted_of};
 ghost use Rattle.module_rewrites.specs.Writing.{MakesAt};
 ghost use Rattle.module_rewrites.specs.declared.mutation.MutationError.TheVariants.{Memory, Write};
@@ -19,8 +19,10 @@ use rand_core::Rng;
 use std::alloc::{AllocError, Global};
 use thiserror::Error as ErrorTexts;
 use wasm_code::Function;
-use wasm_module::laws::{entries_are_inside, rewritten_bytes_are_a_module};
-use wasm_module::{Entry, Layout, ModuleError, WriteError, read_module, with_body};
+use wasm_module::laws::{
+    entries_are_inside, entries_fit_the_module, one_reading, rewritten_bytes_are_a_module,
+};
+use wasm_module::{Entry, Layout, Module, ModuleError, WriteError, read_again, with_body};
 use wasm_types::ModuleInfo;
 
 // The most rewrites that are drawn, one after another, before all functions are tried in order.
@@ -65,6 +67,15 @@ pub struct Mutated {
     pub function: usize,
     /// The operator of its body that is rewritten, the row of the table, and the width.
     pub rewrite: Rewrite,
+}
+
+/// A module with an operator rewritten, and what was read of the module before it, but for its bytes.
+#[derive(Drop)]
+pub(crate) struct Step {
+    /// The new module.
+    pub(crate) mutated: Mutated,
+    /// What the old one declares, and where it does.
+    pub(crate) read: Module<'static>,
 }
 
 impl From<AllocError> for MutationError {
@@ -332,6 +343,8 @@ fn mutate_any<R: Rng>(
     ensures gives_up { IfErr result (λ e. IsOfSize e → GivesUpOn scope.now bytes.now info.now
         layout.now None (R.stream generator.old) (R.stream generator.new)) }
 {
+    entries_are_inside();
+    entries_fit_the_module();
     if layout.entries.is_empty() {
         return Ok(None);
     }
@@ -446,26 +459,42 @@ pub(crate) fn mutate_chosen<R: Rng>(
 }
 
 /// The module with an operator of one of its functions rewritten, by a generator that then stands behind the words that were drawn; none
-/// where no rule applies in any of its functions that may be rewritten.
+/// where no rule applies in any of its functions that may be rewritten. It is the module of which `read` was read, but for its bytes, with
+/// the function rewritten.
 pub(crate) fn mutate_with<R: Rng>(
     alloc: Global,
     bytes: &[u8],
+    read: Module<'static>,
+    function: usize,
     generator: &mut R,
     scope: &Scope<'_>,
-) -> Result<Option<Mutated>, MutationError>
-    ensures mutated { IfOk result (λ o. IfSome o (λ m.
-        IsMutated scope.now bytes.now m.function m.rewrite m.bytes.items)) }
+) -> Result<Option<Step>, MutationError>
+    requires { WasRewrittenAt read.info read.layout function bytes.now }
+    ensures mutated { IfOk result (λ o. IfSome o (λ m. IsMutated scope.now bytes.now
+        m.mutated.function m.mutated.rewrite m.mutated.bytes.items)) }
     ensures chosen { IfOk result (λ o. IfSome o (λ m. ChoosesOfModule
-        scope.now bytes.now (R.stream generator.old) m.function m.rewrite m.bytes.items
-        (R.stream generator.new))) }
+        scope.now bytes.now (R.stream generator.old) m.mutated.function m.mutated.rewrite
+        m.mutated.bytes.items (R.stream generator.new))) }
+    ensures read { IfOk result (λ o. IfSome o (λ m. WasRewrittenAt
+        m.read.info m.read.layout m.mutated.function m.mutated.bytes.items)) }
     ensures none { IfOk result (λ o. IfNone o (CannotMutate scope.now bytes.now)) }
     ensures refused { IfErr result (RefusesMutation scope.now bytes.now) }
     ensures gives_up { IfErr result (λ e. IsOfSize e
         → GivesUp scope.now bytes.now (R.stream generator.old)) }
 {
-    let module = match read_module(alloc, bytes) {
+    one_reading();
+    let n = function - read.layout.imported_functions;
+    let module = match read_again(alloc, bytes, read, n) {
         Ok(module) => module,
         Err(e) => return Err(MutationError::Read(e)),
     };
-    mutate_chosen(alloc, &module.info, generator, scope, bytes, &module.layout)
+    let made = mutate_chosen(alloc, &module.info, generator, scope, bytes, &module.layout);
+    match made {
+        Ok(Some(mutated)) => Ok(Some(Step {
+            mutated,
+            read: module.without_bytes(),
+        })),
+        Ok(None) => Ok(None),
+        Err(e) => Err(e),
+    }
 }

@@ -96,8 +96,9 @@ fn stopped(rewritten: RewrittenModule, e: MutationError) -> RewrittenModule
 ///
 /// Each rewrite is shown to the watcher once it stands in `made`; one for which no memory was left there is not shown.
 ///
-/// Each rewrite takes time linear in the module, and for each one that is drawn or tried as `rewrite_at_random` does in the function,
-/// and linear in the module where it is too large. Where nothing is rewritten the module is read once.
+/// The module is read once; again only behind a rewrite that appends globals. Each rewrite takes time linear in the module, for its bytes
+/// and its entries, and for each one that is drawn or tried as `rewrite_at_random` does in the function, and linear in the module where
+/// it is too large.
 ///
 /// `NoRule` only where no rule applies in any of the functions that may be rewritten and can be read, of which there is one;
 /// `NoOwnFunction` only where the module has none; `Unreadable` only where there is one that may be rewritten, and none of them can
@@ -143,22 +144,26 @@ pub fn rewrite_module<R: Rng, W: Watch>(
         Err(reason) => return Err(reason),
     };
     let mut made = Vec::new(alloc);
-    add_made(alloc, &mut made, bytes, &first, watch)?;
+    add_made(alloc, &mut made, bytes, &first.mutated, watch)?;
+    let mut read = first.read;
+    let mut function = first.mutated.function;
     let mut module = RewrittenModule {
-        bytes: first.bytes,
+        bytes: first.mutated.bytes,
         made,
         stopped: None,
     };
     'rewrites: for _ in 1..count {
-        let next = match mutate_with(alloc, &module.bytes, generator, scope) {
+        let next = match mutate_with(alloc, &module.bytes, read, function, generator, scope) {
             Ok(Some(next)) => next,
             Ok(None) => return Ok(module),
             Err(e) => return Ok(stopped(module, e)),
         };
-        if add_made(alloc, &mut module.made, &module.bytes, &next, watch).is_err() {
+        if add_made(alloc, &mut module.made, &module.bytes, &next.mutated, watch).is_err() {
             return Ok(stopped(module, MutationError::Memory));
         }
-        module.bytes = next.bytes;
+        read = next.read;
+        function = next.mutated.function;
+        module.bytes = next.mutated.bytes;
     }
     Ok(module)
 }

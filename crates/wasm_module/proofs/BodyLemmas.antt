@@ -1,13 +1,15 @@
 -- The code section as a list of bodies, one of which is written anew: sizes as they are spelled, and contents; the places of the entries follow.
-use Rattle.std.proofs.Common.{◌≡◌, ℕ, zero, suc, ◌+◌, List, [], ◌∷◌, ◌++◌, length, Some, refl, sym, ap, subst, ◌∙◌, append_assoc, arith}
-use Rattle.std.specs.Prelude.{slice_get, slice_range}
+use Rattle.std.proofs.Common.{◌≡◌, ℕ, zero, suc, ◌+◌, ◌-◌, ◌≤◌, List, [], ◌∷◌, ◌++◌, length, Some, refl, sym, ap, ap₂, subst, ◌∙◌, append_assoc, arith}
+use Rattle.std.specs.Prelude.{map, slice_get, slice_range}
 use Rattle.std.proofs.lemmas.List.{length-append}
 use Rattle.wasm_code.specs.Number.{SpellsUnsigned}
 use Rattle.wasm_code.specs.Code.{shortest}
+use Rattle.wasm_sections.specs.declared.section.Section.{Section}
 use Rattle.wasm_sections.specs.lemmas.PieceLemmas.{range_is}
 use Rattle.wasm_declarations.specs.declared.entries.Entry.{Entry}
 use Rattle.wasm_declarations.specs.List.{Each}
 use Rattle.wasm_declarations.specs.Entries.{SpellsSized, entries_from, SpellsEntries}
+use Rattle.wasm_module.specs.Moved.{moved, AreMoved}
 use Rattle.wasm_module.specs.Reread.{HasContents}
 
 record Body : Type 0 where
@@ -209,13 +211,51 @@ abbrev pub text_with : (bytes : List ℕ) (start : ℕ) (entry : Entry) (end : �
 text_with bytes start entry end contents =
     slice_range bytes start entry.start ++ shortest (length contents) ++ contents ++ slice_range bytes entry.end end
 
-pub record AreEntriesAgain (bytes : List ℕ) (entries : List Entry) (n : ℕ) (contents new text : List ℕ) (start : ℕ) : Type 0 where
+-- ---- entries elsewhere
+
+entry_is : (start start' contents contents' end end' : ℕ) → start ≡ start' → contents ≡ contents' → end ≡ end' →
+    ◌≡◌ {A = Entry} (record { start = start; contents = contents; end = end }) (record { start = start'; contents = contents'; end = end' })
+entry_is start start' contents contents' end end' p q r =
+    ap (λ (m : ℕ). record { start = m; contents = contents; end = end }) p ∙ ap (λ (m : ℕ). record { start = start'; contents = m; end = end }) q
+    ∙ ap (λ (m : ℕ). record { start = start'; contents = contents'; end = m }) r
+
+moved_placed : (bs : List Body) (start from to : ℕ) → from ≤ start → map (moved from to) (placed start bs) ≡ placed (to + (start - from)) bs
+moved_placed [] start from to le = refl
+moved_placed (b ∷ bs) start from to le =
+    let rest = moved_placed bs (start + length b.size + length b.contents) from to (omega (arith, le)) in
+    let next : to + (start + length b.size + length b.contents - from) ≡ to + (start - from) + length b.size + length b.contents = omega (arith, le) in
+    ap₂ (λ (e : Entry) (es : List Entry). e ∷ es) (entry_is _ _ _ _ _ _ refl (omega (arith, le)) (omega (arith, le)))
+    (rest ∙ ap (λ (m : ℕ). placed m bs) next)
+
+placed-append : (before behind : List Body) (start : ℕ) →
+    placed start (before ++ behind) ≡ placed start before ++ placed (start + length (glued before)) behind
+placed-append [] behind start = ap (λ (m : ℕ). placed m behind) (omega arith)
+placed-append (x ∷ before) behind start =
+    let end : ℕ = start + length x.size + length x.contents in
+    ap (λ (es : List Entry). entry_at start x ∷ es)
+    (placed-append before behind end ∙ ap (λ (m : ℕ). placed end before ++ placed m behind) (glued_length start x before))
+
+-- the entries of the text, whose first byte has the offset `start`; those of the old one began at `from`, and it ended at `end`
+pub record AreEntriesAgain (bytes : List ℕ) (entries : List Entry) (n from end : ℕ) (contents new text : List ℕ) (start : ℕ) : Type 0 where
   pub entries_again : List Entry
   pub spells : SpellsEntries start text entries_again
+  pub move : (code place : Section) → code.contents ≡ from → code.end ≡ end → place.contents ≡ start → place.end ≡ start + length text →
+      AreMoved entries n contents code place new entries_again
   pub count : length entries_again ≡ length entries
   pub entry : HasContents new entries_again n contents
   pub others : (k : ℕ) (old : Entry) → (k ≡ n → ⊥) → slice_get entries k ≡ Some old →
       HasContents new entries_again k (slice_range bytes old.contents old.end)
+
+-- the bodies from one on, joined
+tail_length : (before behind : List Body) (b : Body) →
+    length (glued (before ++ b ∷ behind)) ≡ length (glued before) + (length b.size + (length b.contents + length (glued behind)))
+tail_length before behind b = omega (
+  arith,
+  ap length (glued-append before (b ∷ behind)),
+  length-append (glued before) (glued (b ∷ behind)),
+  length-append b.size (b.contents ++ glued behind),
+  length-append b.contents (glued behind),
+)
 
 text_is : (bytes pre post count text : List ℕ) (start : ℕ) (before behind : List Body) (b : Body) (entry : Entry) (contents : List ℕ) →
     bytes ≡ pre ++ (text ++ post) → length pre ≡ start → text ≡ count ++ glued (before ++ b ∷ behind)
@@ -232,13 +272,7 @@ text_is bytes pre post count text start before behind b entry contents e f t is 
     let start_is : entry.start ≡ start + length count + length (glued before) = ap (λ (x : Entry). x.start) is in
     let end_is : entry.end ≡ start + length count + length (glued before) + length b.size + length b.contents = ap (λ (x : Entry). x.end) is in
     let long = length-append count (glued (before ++ b ∷ behind)) in
-    let inner : length (glued (before ++ b ∷ behind)) ≡ length (glued before) + (length b.size + (length b.contents + length (glued behind))) = omega (
-      arith,
-      ap length (glued-append before (b ∷ behind)),
-      length-append (glued before) (glued (b ∷ behind)),
-      length-append b.size (b.contents ++ glued behind),
-      length-append b.contents (glued behind),
-    ) in
+    let inner = tail_length before behind b in
     let front : slice_range bytes start entry.start ≡ count ++ glued before = range_is bytes pre (count ++ glued before)
     ((b.size ++ (b.contents ++ glued behind)) ++ post) start entry.start one f (omega (arith, start_is, length-append count (glued before))) in
     let front_len : length ((((pre ++ count) ++ glued before) ++ b.size) ++ b.contents) ≡ entry.end = omega (
@@ -261,11 +295,58 @@ text_is bytes pre post count text start before behind b entry contents e f t is 
     assoc5 : (a b c d e : List ℕ) → (((a ++ b) ++ c) ++ d) ++ e ≡ a ++ (b ++ (c ++ (d ++ e)))
     assoc5 a b c d e = simp append_assoc
 
+moved_bodies : (new pre post text count : List ℕ) (start start' : ℕ) (before behind : List Body) (b : Body) (entries : List Entry) (n : ℕ)
+    (contents : List ℕ) → entries ≡ placed (start + length count) (before ++ b ∷ behind) → n ≡ length before → new ≡ pre ++ (text ++ post) → length pre ≡ start'
+    → text ≡ count ++ glued (before ++ record { size = shortest (length contents); contents = contents } ∷ behind)
+    → (code place : Section) → code.contents ≡ start → code.end ≡ start + length (count ++ glued (before ++ b ∷ behind)) → place.contents ≡ start'
+    → place.end ≡ start' + length text
+    → AreMoved entries n contents code place new
+    (placed (start' + length count) (before ++ record { size = shortest (length contents); contents = contents } ∷ behind))
+moved_bodies new pre post text count start start' before behind b entries n contents is at e f t code place code_at code_to place_at place_to =
+    let x : Body = record { size = shortest (length contents); contents = contents } in
+    let from : ℕ = start + length count in
+    let to : ℕ = start' + length count in
+    let old = entry_at (from + length (glued before)) b in
+    let here = entry_at (to + length (glued before)) x in
+    let was = placed from before in
+    let front : map (moved code.contents place.contents) was ≡ placed to before =
+    moved_placed before from code.contents place.contents (omega (arith, code_at))
+    ∙ ap (λ (m : ℕ). placed m before) (omega (arith, code_at, place_at)) in
+    let back : map (moved old.end here.end) (placed old.end behind) ≡ placed here.end behind =
+    moved_placed behind old.end old.end here.end (omega arith) ∙ ap (λ (m : ℕ). placed m behind) (omega arith) in
+    let whole : new ≡ ((pre ++ count) ++ glued before) ++ ((x.size ++ x.contents) ++ (glued behind ++ post)) = glued_in new pre post text count
+    (before ++ x ∷ behind) e t
+    ∙ ap (λ (l : List ℕ). (pre ++ count) ++ (l ++ post)) (glued-append before (x ∷ behind)) ∙ simp append_assoc in
+    record {
+      before = was;
+      old = old;
+      behind = placed old.end behind;
+      here = here;
+      entries_are = is ∙ placed-append before (b ∷ behind) from;
+      at = at ∙ sym (entries_length before from);
+      again_are = placed-append before (x ∷ behind) to
+          ∙ ap₂ (λ (us ws : List Entry). us ++ here ∷ ws) (sym front) (sym back);
+      starts = omega (arith, code_at, place_at);
+      ends = omega (
+        arith,
+        code_to,
+        place_to,
+        ap length t,
+        length-append count (glued (before ++ b ∷ behind)),
+        length-append count (glued (before ++ x ∷ behind)),
+        tail_length before behind b,
+        tail_length before behind x,
+      );
+      contents_at = refl;
+      spelled = range_is new ((pre ++ count) ++ glued before) (x.size ++ x.contents) (glued behind ++ post) here.start here.end whole
+          (omega (arith, f, length-append (pre ++ count) (glued before), length-append pre count)) (omega (arith, length-append x.size x.contents));
+    }
+
 pub entries_again : (bytes pre post text new pre' post' : List ℕ) (start start' n : ℕ) (entries : List Entry) (entry : Entry) (contents : List ℕ) →
     bytes ≡ pre ++ (text ++ post) → length pre ≡ start → SpellsEntries start text entries → slice_get entries n ≡ Some entry
     → new ≡ pre' ++ (text_with bytes start entry (start + length text) contents ++ post') → length pre' ≡ start'
     → SpellsUnsigned 32 (shortest (length contents)) (length contents)
-    → AreEntriesAgain bytes entries n contents new (text_with bytes start entry (start + length text) contents) start'
+    → AreEntriesAgain bytes entries n start (start + length text) contents new (text_with bytes start entry (start + length text) contents) start'
 entries_again bytes pre post text new pre' post' start start' n entries entry contents e f s at e' f' counts =
     let l = s.list in
     let v = bodies_in l.value l.back s.sizes l.second in
@@ -301,6 +382,10 @@ entries_again bytes pre post text new pre' post' start start' n entries entry co
         };
         placed = refl;
       };
+      move = λ code place code_at code_to.
+          moved_bodies new pre' post' (text_with bytes start entry (start + length text) contents) l.front start start' c.before c.behind c.body entries n
+          contents (placed_is ∙ ap (placed from) c.parts) c.at e' f' with_is code place code_at
+          (code_to ∙ ap (λ (t : List ℕ). start + length t) text_parts);
       count = entries_length bodies (start' + length l.front) ∙ same_count ∙ sym (entries_length v.bodies from) ∙ ap length (sym placed_is);
       entry = has_contents new (pre' ++ l.front) post' (start' + length l.front) c.before c.behind b bodies n refl c.at new_bytes new_len;
       others = λ k old differ there.

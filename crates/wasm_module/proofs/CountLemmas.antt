@@ -20,6 +20,12 @@ pub rest_is : (bytes count items behind : List ℕ) (m n : ℕ) → unsigned_at 
     behind ≡ items
 rest_is bytes count items behind m n r e s = one_rest (unsigned_at 32 bytes) m n behind items r (reads bytes count items n e s)
 
+one_number : (r : Result (ℕ × List ℕ) Cause) (m n : ℕ) (a b : List ℕ) → r ≡ Ok (m, a) → r ≡ Ok (n, b) → m ≡ n
+one_number r m n a b p q = ap (λ (z : ℕ × List ℕ). z.0) (ok_is (m, a) (n, b) (sym p ∙ q))
+
+pub number_is : (bytes behind : List ℕ) (m n : ℕ) → unsigned_at 32 bytes ≡ Ok (m, behind) → HasCount bytes n → m ≡ n
+number_is bytes behind m n r h = one_number (unsigned_at 32 bytes) m n behind h.items r (reads bytes h.count h.items n h.parts h.counts)
+
 -- a text begins with one number at most
 pub one_count : (bytes count items size rest : List ℕ) (m n : ℕ) → bytes ≡ count ++ items → SpellsUnsigned 32 count m → bytes ≡ size ++ rest →
     SpellsUnsigned 32 size n → ◌≡◌ {A = ℕ × List ℕ} (m, items) (n, rest)

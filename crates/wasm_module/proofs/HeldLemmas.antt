@@ -5,7 +5,7 @@ use Rattle.wasm_sections.specs.declared.id.SectionId.{SectionId}
 use Rattle.wasm_sections.specs.declared.section.Section.{Section}
 use Rattle.wasm_sections.specs.Id.{rank_of}
 use Rattle.wasm_sections.specs.Section.{parts_of}
-use Rattle.wasm_sections.specs.Find.{LackId}
+use Rattle.wasm_sections.specs.Find.{LackId, IsFirstWith}
 use Rattle.wasm_sections.specs.lemmas.PieceLemmas.{Piece, joined, AreSorted, contents_at, end_at, placed, all_placed, part, parts, last_of, sorted_cut, end_is}
 use Rattle.wasm_module.specs.Module.{Holds}
 
@@ -117,6 +117,24 @@ module _ {X : Type 0} (none : X) (Spells : ℕ → List ℕ → X → Type 0) (b
     lack.0,
     held_there u w p (end_at start q) is lack.1 (subst (λ (n : ℕ). Spells (contents_at n p) p.contents x) (sym (end_is start q u)) s),
   )
+
+-- where the first piece with the id is placed
+pub first_placed : (id : SectionId) (u w : List Piece) (p : Piece) (start : ℕ) → p.id ≡ id → LackPiece u id →
+    IsFirstWith (all_placed start (u ++ p ∷ w)) id (placed (start + length (joined u)) p)
+first_placed id [] w p start is lack =
+    let same : start + length (joined []) ≡ start = omega arith in
+    subst (λ (n : ℕ). IsFirstWith (all_placed start (p ∷ w)) id (placed n p)) (sym same)
+    (record { before = []; behind = all_placed (end_at start p) w; parts = refl; has = is; none = tt })
+first_placed id (q ∷ u) w p start is lack =
+    let r = subst (λ (n : ℕ). IsFirstWith (all_placed (end_at start q) (u ++ p ∷ w)) id (placed n p)) (end_is start q u)
+    (first_placed id u w p (end_at start q) is lack.1) in
+    record {
+      before = placed start q ∷ r.before;
+      behind = r.behind;
+      parts = ap (λ (l : List Section). placed start q ∷ l) r.parts;
+      has = r.has;
+      none = (lack.0, r.none);
+    }
 
 -- ---- pieces in their order
 

@@ -13,6 +13,7 @@ pub mod PieceLemmas
 pub mod AgainLemmas
 pub mod AgainPieces
 pub mod RereadLemmas
+pub mod MovedLemmas
 pub mod OneLemmas
 pub mod OneTextLemmas
 pub mod ListedLemmas

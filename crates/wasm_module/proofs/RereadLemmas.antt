@@ -10,7 +10,8 @@ use Rattle.wasm_sections.specs.declared.section.Section.{Section}
 use Rattle.wasm_sections.specs.declared.fault.ModuleError.{ModuleError}
 use Rattle.wasm_sections.specs.Id.{rank_of}
 use Rattle.wasm_sections.specs.Section.{SpellsModule, preamble, parts_of}
-use Rattle.wasm_sections.specs.lemmas.PieceLemmas.{Piece, joined, AreSorted, contents_at, all_placed, parts, of_pieces, module_parts}
+use Rattle.wasm_sections.specs.Find.{IsFirstWith}
+use Rattle.wasm_sections.specs.lemmas.PieceLemmas.{Piece, joined, AreSorted, contents_at, placed, all_placed, parts, of_pieces, module_parts}
 use Rattle.wasm_declarations.specs.Known.{nothing, SpellsKnown}
 use Rattle.wasm_declarations.specs.List.{SpellsList}
 use Rattle.wasm_declarations.specs.Types.{SpellsTypeGroup, FailsTypeGroup}
@@ -20,12 +21,14 @@ use Rattle.wasm_declarations.specs.Globals.{SpellsGlobal, FailsGlobal}
 use Rattle.wasm_declarations.specs.Entries.{SpellsEntries}
 use Rattle.wasm_module.specs.Module.{Layout, Holds, Lists, space, globals_of, IsModule}
 use Rattle.wasm_module.specs.Rewritten.{code_with, IsRewritten}
+use Rattle.wasm_module.specs.Moved.{AreMoved}
 use Rattle.wasm_module.specs.Reread.{IsReread}
 use Rattle.wasm_module.proofs.PieceLemmas.{written}
 use Rattle.wasm_module.proofs.AgainLemmas.{Short}
 use Rattle.wasm_module.proofs.AgainPieces.{ArePiecesAgain, AreSome, pieces_again, is_placed}
 use Rattle.wasm_module.proofs.BodyLemmas.{AreEntriesAgain, text_with, entries_again}
-use Rattle.wasm_module.proofs.HeldLemmas.{HeldBy, LackPiece, held, holds, held_before, held_at, held_there, lacks_before}
+use Rattle.wasm_module.proofs.FindLemmas.{first_unique}
+use Rattle.wasm_module.proofs.HeldLemmas.{HeldBy, LackPiece, held, holds, held_before, held_at, held_there, lacks_before, first_placed}
 use Rattle.wasm_module.proofs.NewGlobalLemmas.{grown}
 
 wider_space : {A : Type 0} (all imported own more : List A) (o : Option ModuleError) → o ≡ None → all ≡ space imported o own →
@@ -65,8 +68,10 @@ module _ (bytes : List ℕ) (sections : List Section) (own : ℕ) (more : List P
 code_again : (bytes : List ℕ) (info : Module) (layout : Layout) (n : ℕ) (contents : List ℕ) (more : List PrimitiveTypeInfo) (new : List ℕ) → Short →
     (m : IsModule bytes info layout) (r : IsRewritten bytes layout n contents more new)
     (k : ArePiecesAgain bytes layout.sections layout.own_globals more r.code (code_with bytes r.code r.entry contents) new)
-    → (e : AreEntriesAgain bytes layout.entries n contents new (code_with bytes r.code r.entry contents)
+    → (e : AreEntriesAgain bytes layout.entries n r.code.contents r.code.end contents new (code_with bytes r.code r.entry contents)
     (contents_at (8 + length (joined (k.first ++ k.fresh))) (written ids.Code (code_with bytes r.code r.entry contents))))
+    × IsFirstWith (all_placed 8 (k.first ++ (k.fresh ++ written ids.Code (code_with bytes r.code r.entry contents) ∷ k.second))) ids.Code
+    (placed (8 + length (joined (k.first ++ k.fresh))) (written ids.Code (code_with bytes r.code r.entry contents)))
     × Lists SpellsEntries new (all_placed 8 (k.first ++ (k.fresh ++ written ids.Code (code_with bytes r.code r.entry contents) ∷ k.second)))
     ids.Code e.entries_again
 code_again bytes info layout n contents more new short m r k =
@@ -95,8 +100,16 @@ code_again bytes info layout n contents more new short m r k =
     let again = entries_again bytes here.before (joined k.second) k.x.contents new there.before (joined k.second) start start' n layout.entries r.entry
     contents here.parts here.at spelled r.entry_is (there.parts ∙ ap (λ (l : List ℕ). there.before ++ (l ++ joined k.second)) c_is) there.at
     (short (length contents) r.entry_sized) in
-    let e = subst (λ (l : List ℕ). AreEntriesAgain bytes layout.entries n contents new l start') (sym c_is) again in (
+    let code_at : r.code.contents ≡ start = ap (λ (z : Section). z.contents) k.code_is in
+    let code_to : r.code.end ≡ start + length k.x.contents = ap (λ (z : Section). z.end) k.code_is in
+    let moved = subst (λ (m : ℕ). AreEntriesAgain bytes layout.entries n m (start + length k.x.contents) contents new
+    (text_with bytes start r.entry (start + length k.x.contents) contents) start') (sym code_at) again in
+    let ended = subst (λ (m : ℕ). AreEntriesAgain bytes layout.entries n r.code.contents m contents new
+    (text_with bytes start r.entry (start + length k.x.contents) contents) start') (sym code_to) moved in
+    let e = subst (λ (l : List ℕ). AreEntriesAgain bytes layout.entries n r.code.contents r.code.end contents new l start') (sym c_is) ended in (
       e,
+      subst (λ (l : List Piece). IsFirstWith (all_placed 8 l) ids.Code (placed (8 + length (joined u')) y)) now_is
+          (first_placed ids.Code u' k.second y 8 refl lack'),
       holds [] SpellsEntries new ids.Code e.entries_again (k.first ++ (k.fresh ++ y ∷ k.second)) 8 parts_are
           (subst (λ (l : List Piece). HeldBy [] SpellsEntries 8 l ids.Code e.entries_again) now_is
           (held_there [] SpellsEntries new ids.Code e.entries_again u' k.second y 8 refl lack' e.spells)),
@@ -146,7 +159,7 @@ reread bytes info layout n contents more new short m r imports globals some =
         memories_are = kept bytes layout.sections own more r.code c new k nothing (SpellsKnown SpellsMemoryType FailsMemoryType) ids.Memory m.memories
             (omega arith) (omega arith) m.memories_are;
         globals_are = holds nothing (SpellsKnown SpellsGlobal FailsGlobal) new ids.Global (grown m.globals more) after 8 parts_are wider;
-        entries_are = code.1;
+        entries_are = code.2;
         all_types = m.all_types;
         all_functions = m.all_functions;
         all_tables = m.all_tables;
@@ -170,4 +183,11 @@ reread bytes info layout n contents more new short m r imports globals some =
       count = e.count;
       entry = e.entry;
       others = e.others;
+      moves = λ old place was is.
+          let there : Section = placed (8 + length (joined (k.first ++ k.fresh))) y in
+          let m = e.move r.code there refl refl refl refl in
+          let m' = subst (λ (z : Section). AreMoved layout.entries n contents r.code z new e.entries_again)
+          (first_unique (all_placed 8 after) ids.Code there place code.1 is) m in
+          subst (λ (z : Section). AreMoved layout.entries n contents z place new e.entries_again)
+          (first_unique layout.sections ids.Code r.code old r.code_is was) m';
     }

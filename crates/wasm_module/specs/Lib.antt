@@ -8,6 +8,7 @@ pub mod Contents
 pub mod Lists
 pub mod Room
 pub mod Again
+pub mod Moved
 pub mod Reread
 pub mod SameModule
 pub mod Instance

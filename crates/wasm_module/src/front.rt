@@ -21,7 +21,7 @@ use wasm_sections::{
 use wasm_types::PrimitiveTypeInfo;
 
 /// What follows the number that begins the bytes.
-fn past_count(bytes: &[u8]) -> &[u8]
+pub fn past_count(bytes: &[u8]) -> &[u8]
     requires { (n : ℕ) × HasCount bytes.now n }
     ensures { (count items : List ℕ) (n : ℕ) → bytes.now ≡ count ++ items
         → SpellsUnsigned 32 count n → result.now ≡ items }

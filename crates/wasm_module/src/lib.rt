@@ -11,6 +11,7 @@ mod layout;
 mod listed;
 mod lists;
 mod module;
+mod moved;
 mod refusal;
 mod sizes;
 mod spaces;
@@ -19,6 +20,7 @@ mod writing;
 
 pub use layout::{Layout, Module};
 pub use module::read_module;
+pub use moved::read_again;
 pub use refusal::WriteError;
 pub use unknown::Unknown;
 pub use wasm_declarations::{Entry, Locals, read_locals};

@@ -58,7 +58,7 @@ fn put_code(
 }
 
 /// The code section, and the n-th of its entries.
-fn code_place(layout: &Layout, n: usize) -> (Section, Entry)
+pub fn code_place(layout: &Layout, n: usize) -> (Section, Entry)
     requires module { (bytes : List ℕ) × (info : Module) × IsModule bytes info layout.now }
     requires inside { n < length layout.now.entries }
     ensures { (bytes : List ℕ) (info : Module) → IsModule bytes info layout.now

@@ -6,6 +6,7 @@ use Rattle.module_rewrites.specs.Mutated.{CannotMutate}
 use Rattle.module_rewrites.specs.Scope.{Scope}
 use Rattle.module_rewrites.specs.declared.mutation.Mutated.{Mutated}
 use Rattle.module_rewrites.proofs.AttemptLemmas.{index_not_for_size, index_reason}
+use Rattle.module_rewrites.proofs.MutationLemmas.{was_rewritten}
 use Rattle.module_rewrites.proofs.attempt.rewrite_first.Goals as goal
 
 pub returns-in-Err-chosen_entries-clause-fails : goal.returns-in-Err-chosen_entries-clause-fails
@@ -27,3 +28,9 @@ returns-in-Ok-None-clause-fails g c =
     c.without_rewrite.ensures.reason c.args.scope.now
     (subst (λ (o : Option Mutated). IfNone o (CannotMutate c.args.scope.now c.args.bytes.now)) c.in-Ok-None.field-0-is c.in-Ok-None.ensures.none)
     (subst (λ (o : Option ℕ). AreChosen o layout start end) (ap (λ (s : Scope). s.function) c.scope.view_is) may)
+
+pub returns-in-Ok-Some-clause-read : goal.returns-in-Ok-Some-clause-read
+returns-in-Ok-Some-clause-read g c =
+    was_rewritten c.args.scope.now c.args.bytes.now c.in-Ok.module.info c.in-Ok.module.layout c.in-Ok-Some.mutated.function c.in-Ok-Some.mutated.rewrite
+    c.in-Ok-Some.mutated.bytes.items c.without_bytes.result.info c.without_bytes.result.layout c.one_reading.ensures c.in-Ok.ensures.read
+    c.without_bytes.ensures.info c.without_bytes.ensures.layout (rw c.in-Ok-Some.field-0-is at c.in-Ok-Some.ensures.mutated)

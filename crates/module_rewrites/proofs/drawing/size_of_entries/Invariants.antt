@@ -1,10 +1,8 @@
--- The bytes so far, where their number has 64 bits.
-use Rattle.std.proofs.Common.{◌≡◌, ◌<◌, ◌^◌, take}
+-- The bytes so far.
+use Rattle.std.proofs.Common.{◌≡◌, take}
 use Rattle.std.specs.List.{sum_by}
 use Rattle.module_rewrites.specs.Drawing.{contents_length}
 use Rattle.module_rewrites.proofs.drawing.size_of_entries.Given as goal
 
 abbrev pub invariant-loop-entry : goal.invariant-loop-entry
-invariant-loop-entry l =
-    let sum = sum_by contents_length (take l.entry-index l.entries) in
-    sum < 2 ^ 64 → l.size ≡ sum
+invariant-loop-entry l = l.size ≡ sum_by contents_length (take l.entry-index l.entries)

@@ -1,16 +1,29 @@
 -- Word by word.
-use Rattle.std.proofs.Common.{rules, ◌≡◌, ◌+◌, arith, refl}
+use Rattle.std.proofs.Common.{rules, ◌≡◌, ◌+◌, ◌≤◌, length, arith, refl}
+use Rattle.std.specs.List.{sum_by}
 use Rattle.module_rewrites.specs.Chosen.{GivesUpOn}
+use Rattle.module_rewrites.specs.Drawing.{contents_length}
 use Rattle.module_rewrites.specs.Writing.{MakesAt}
 use Rattle.module_rewrites.specs.declared.mutation.Mutated.{Mutated}
 use Rattle.std.specs.Prelude.{None}
-use Rattle.module_rewrites.proofs.DrawnLemmas.{drawn_here, drawn_in_order, gives_up_by_words, vain_more}
+use Rattle.module_rewrites.proofs.DrawnLemmas.{all_ordered, drawn_here, drawn_in_order, gives_up_by_words, vain_more}
 use Rattle.module_rewrites.proofs.ModuleLemmas.{vain_of_size}
 use Rattle.module_rewrites.proofs.MutationLemmas.{some_both, some_map}
 use Rattle.module_rewrites.proofs.mutation.mutate_any.Goals as goal
 
 pub draws-init : goal.draws-init
 draws-init g c = (search rules, (refl, refl))
+
+pub draw_entry-n-requires-clause-ordered : goal.draw_entry-n-requires-clause-ordered
+draw_entry-n-requires-clause-ordered g c =
+    all_ordered c.args.bytes.now c.args.layout.now.entries
+    (λ n entry at. c.entries_are_inside.ensures c.args.bytes.now c.args.info.now c.args.layout.now n entry c.requires.module at)
+
+pub draw_entry-n-requires-clause-few : goal.draw_entry-n-requires-clause-few
+draw_entry-n-requires-clause-few g c =
+    let fits : sum_by contents_length c.args.layout.now.entries ≤ length c.args.bytes.now =
+    c.entries_fit_the_module.ensures c.args.bytes.now c.args.info.now c.args.layout.now c.requires.module in
+    omega (arith, fits, c.well_formed)
 
 pub draws-preserved : goal.draws-preserved
 draws-preserved g c = (
